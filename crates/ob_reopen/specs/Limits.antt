@@ -8,6 +8,7 @@ use Rattle.ob_base.specs.declared.schema.Kind.{Kind}
 use Rattle.ob_base.specs.declared.schema.Kind.TheVariants.{Int, Varchar}
 use Rattle.ob_base.specs.declared.schema.Column.{Column}
 use Rattle.ob_base.specs.declared.schema.Heading.{Heading}
+use Rattle.ob_base.specs.declared.schema.Shape.TheVariants.{Flat}
 use Rattle.ob_base.specs.Lists.{has_repeats}
 use Rattle.ob_base.specs.Numbers.{blocks_for}
 use Rattle.ob_base.specs.Schemas.{width}
@@ -29,7 +30,7 @@ is_kind (Varchar n) = is_in_range 1 255 n
 abbrev pub is_column : Column → Bool
 is_column c = nat_le (length c.name) 32 && is_kind c.kind
 
--- a table's schema and capacity are within their limits, and its columns have distinct names and name it
+-- a table is flat, its schema and capacity are within their limits, and its columns have distinct names and name it
 pub record IsStored (h : Heading) : Type 0 where
   pub some : 1 ≤ length h.schema
   pub few : length h.schema ≤ 16
@@ -38,6 +39,7 @@ pub record IsStored (h : Heading) : Type 0 where
   pub most : h.capacity ≤ 1048576
   pub names : has_repeats bytes_eq (map (λ (c : Column). c.name) h.schema) ≡ false
   pub table : NamesTable h
+  pub flat : h.shape ≡ Flat
 
 -- the same, each column is within its limits, and at most one of them is the primary key
 pub record IsHeading (h : Heading) : Type 0 where

@@ -5,6 +5,7 @@ use Rattle.std.specs.List.{All}
 use Rattle.ob_base.specs.declared.schema.Kind.{Kind}
 use Rattle.ob_base.specs.declared.schema.Kind.TheVariants.{Int, Varchar}
 use Rattle.ob_base.specs.declared.schema.Column.{Column}
+use Rattle.ob_base.specs.declared.schema.Shape.TheVariants.{Flat}
 use Rattle.ob_base.specs.Schemas.{Columns}
 use Rattle.ob_reopen.specs.declared.listed.Listed.{Listed}
 
@@ -50,7 +51,7 @@ pub record FitsColumn (table : List ℕ) (c : Column) : Type 0 where
   pub name : length c.name ≤ 32
   pub table_is : c.table ≡ table
 
--- a table each of whose parts fits its bytes
+-- a flat table each of whose parts fits its bytes
 pub record FitsText (t : Listed) : Type 0 where
   pub name : length t.table.heading.name ≤ 32
   pub few : length t.table.heading.schema ≤ 16
@@ -58,3 +59,4 @@ pub record FitsText (t : Listed) : Type 0 where
   pub region : t.table.region < 2 ^ 64
   pub capacity : t.table.heading.capacity < 2 ^ 32
   pub number : t.number < 2 ^ 64
+  pub flat : t.table.heading.shape ≡ Flat

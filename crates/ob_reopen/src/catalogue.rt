@@ -36,6 +36,7 @@ fn copied(table: &Table) -> Table
             name: table.heading.name.copied(),
             schema: table.heading.schema.copied(),
             capacity: table.heading.capacity,
+            shape: table.heading.shape,
         },
         region: table.region,
     }

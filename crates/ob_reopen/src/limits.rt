@@ -5,6 +5,7 @@ ghost use Rattle.std.specs.List.{All, list_all, list_any};
 ghost use Rattle.ob_base.specs.declared.schema.Column.{Column as TableColumn};
 ghost use Rattle.ob_base.specs.Lists.{has_repeats};
 ghost use Rattle.ob_base.specs.Schemas.{width};
+ghost use Rattle.ob_base.specs.declared.schema.Shape.TheVariants.{Flat};
 ghost use Rattle.ob_base.specs.Stored.{NamesTable};
 ghost use Rattle.ob_reopen.specs.declared.listed.Listed.{Listed as Entry};
 ghost use Rattle.ob_reopen.specs.Limits.{is_kind, is_column, IsMarked, IsHeading, IsListed, GoesOn, AreListed, blocks_of, end_of, are_apart};
@@ -92,6 +93,7 @@ fn has_columns(heading: &Heading) -> bool
 
 fn is_heading(heading: &Heading) -> bool
     requires table { NamesTable heading.now }
+    requires flat { heading.now.shape ≡ Flat }
     ensures yes { OnTrue result (IsHeading heading.now) }
     ensures no { OnFalse result (IsHeading heading.now → ⊥) }
 {
@@ -118,6 +120,7 @@ fn end_of(pack: u8, listed: &Listed) -> u64
 fn is_listed(closing: Closing, listed: &Listed) -> bool
     requires marked { IsMarked closing }
     requires table { NamesTable listed.now.table.heading }
+    requires flat { listed.now.table.heading.shape ≡ Flat }
     ensures yes { OnTrue result (IsListed closing listed.now) }
     ensures no { OnFalse result (IsListed closing listed.now → ⊥) }
 {
@@ -162,6 +165,7 @@ pub(crate) fn goes_on(closing: Closing, before: &[Listed], listed: &Listed) -> b
     requires marked { IsMarked closing }
     requires before { AreListed closing before.now }
     requires table { NamesTable listed.now.table.heading }
+    requires flat { listed.now.table.heading.shape ≡ Flat }
     ensures yes { OnTrue result (GoesOn closing before.now listed.now) }
     ensures no { OnFalse result (GoesOn closing before.now listed.now → ⊥) }
 {

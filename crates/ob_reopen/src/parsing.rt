@@ -6,6 +6,7 @@ ghost use Rattle.std.specs.List.{All};
 ghost use Rattle.ob_base.specs.Schemas.{Columns};
 ghost use Rattle.ob_base.specs.declared.schema.Column.{Column as TableColumn};
 ghost use Rattle.ob_base.specs.declared.schema.Kind.{Kind as ColumnKind};
+ghost use Rattle.ob_base.specs.declared.schema.Shape.TheVariants.{Flat};
 ghost use Rattle.ob_base.specs.Stored.{NamesTable};
 ghost use Rattle.ob_reopen.specs.declared.listed.Listed.{Listed as Entry};
 ghost use Rattle.ob_reopen.specs.Spelling.{FitsColumn, FitsText, name_text, kind_text, column_text, columns_text, table_text, head_text};
@@ -15,7 +16,7 @@ use crate::closing::Closing;
 use crate::limits::goes_on;
 use crate::listed::Listed;
 use crate::spelling::{TEXT_LEN, put_head, put_table};
-use ob_base::{Column, Heading, Kind, Name, Schema, Table};
+use ob_base::{Column, Heading, Kind, Name, Schema, Shape, Table};
 
 // The number that these bytes spell, the highest first.
 fn long_in(field: &[u8]) -> u64
@@ -123,6 +124,7 @@ fn parsed(text: &[u8]) -> Option<Listed>
     requires { length text.now ≡ 1024 }
     ensures few { IfSome result (λ t. length t.table.heading.schema ≤ 16) }
     ensures table { IfSome result (λ t. NamesTable t.table.heading) }
+    ensures flat { IfSome result (λ t. t.table.heading.shape ≡ Flat) }
     ensures told { (t : Entry) → FitsText t → text.now ≡ table_text t → result ≡ Some t }
 {
     let (name, rest) = text.split_at(33);
@@ -138,6 +140,7 @@ fn parsed(text: &[u8]) -> Option<Listed>
                 name,
                 schema,
                 capacity: int_in(capacity),
+                shape: Shape::Flat,
             },
             region: long_in(region),
         },
@@ -149,6 +152,7 @@ fn parsed(text: &[u8]) -> Option<Listed>
 fn table_in(text: &[u8]) -> Option<Listed>
     requires { length text.now ≡ 1024 }
     ensures table { IfSome result (λ t. NamesTable t.table.heading) }
+    ensures flat { IfSome result (λ t. t.table.heading.shape ≡ Flat) }
     ensures spelled { IfSome result (λ t. text.now ≡ table_text t) }
     ensures told { (t : Entry) → FitsText t → text.now ≡ table_text t → result ≡ Some t }
 {

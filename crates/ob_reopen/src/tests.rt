@@ -9,7 +9,7 @@ use crate::memory::MemKeeper;
 use crate::reading::read_closing;
 use crate::spelling::{put_head, put_table};
 use crate::writing::write_closing;
-use ob_base::{Column, Failed, Heading, Items, Kind, Mark, Name, Schema, Table};
+use ob_base::{Column, Failed, Heading, Items, Kind, Mark, Name, Schema, Shape, Table};
 use ob_room::Room;
 use ob_seal::Keys;
 use ob_store::{BlockStore, MemStore};
@@ -50,6 +50,7 @@ fn notes(capacity: u32, region: u64, number: u64) -> Listed
                 name: Name::from_bytes(b"notes"),
                 schema,
                 capacity,
+                shape: Shape::Flat,
             },
             region,
         },

@@ -30,4 +30,4 @@ returns-clause-told c = λ t fits is.
     let region : c.long_in.result ≡ t.table.region = c.long_in.ensures t.table.region fits.region parts.region_is in
     let capacity : c.int_in.result ≡ t.table.heading.capacity = c.int_in.ensures t.table.heading.capacity fits.capacity parts.capacity_is in
     let number : c.long_in-2.result ≡ t.number = c.long_in-2.ensures t.number fits.number parts.number_is in
-    λ i. Some (record { table = record { heading = record { name = name i; schema = schema i; capacity = capacity i }; region = region i }; number = number i })
+    λ i. Some (record { table = record { heading = record { name = name i; schema = schema i; capacity = capacity i; shape = sym fits.flat i }; region = region i }; number = number i })
