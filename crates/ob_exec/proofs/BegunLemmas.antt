@@ -3,8 +3,8 @@ use Rattle.std.proofs.Common.{◌≡◌, false, List, [], ◌++◌, drop, None, 
 use Rattle.std.proofs.lemmas.List.{append-nil, take-append-drop}
 use Rattle.ob_base.specs.declared.access.Access.{Access}
 use Rattle.ob_base.specs.declared.config.Public.{Public}
-use Rattle.ob_base.specs.declared.refusal.Stop.{Stop}
-use Rattle.ob_base.specs.declared.refusal.Stop.TheVariants as Stops
+use Rattle.ob_exec.specs.declared.stop.RunStop.{RunStop}
+use Rattle.ob_exec.specs.declared.stop.RunStop.TheVariants as Stops
 use Rattle.ob_base.specs.declared.seen.Seen.{Seen}
 use Rattle.ob_base.specs.declared.seen.End.{End}
 use Rattle.ob_base.specs.declared.seen.End.TheVariants.{Static, Whole, AfterCount, Cut}
@@ -25,13 +25,11 @@ use Rattle.ob_exec.specs.Agreeing.{world_of, count_of}
 use Rattle.ob_exec.specs.Running.{RanStatement, RunCause}
 use Rattle.ob_exec.specs.Telling.{meant_script}
 
-run_reads : (result : Result Outcome Stop) (old new : World) (lie : Lie) → RunCause result old new → old.store.lie ≡ None → new.store.lie ≡ Some lie → ReadsIn lie new.store.asked
+run_reads : (result : Result Outcome RunStop) (old new : World) (lie : Lie) → RunCause result old new → old.store.lie ≡ None → new.store.lie ≡ Some lie → ReadsIn lie new.store.asked
 run_reads (Ok outcome) old new lie cause none told = calm_reads old new lie cause.1 none told
 run_reads (Err (Stops.Tampered q x)) old new lie cause none told = ends_reads old new lie cause.2 none told
 run_reads (Err Stops.SinkFault) old new lie cause none told = calm_reads old new lie cause.1 none told
 run_reads (Err Stops.NoMemory) old new lie cause none told = calm_reads old new lie cause.1 none told
-run_reads (Err Stops.SourceFault) old new lie cause none told = absurd cause
-run_reads (Err Stops.InputLimit) old new lie cause none told = absurd cause
 
 -- ---- a statement whose accesses follow from what is public
 until_part : (end : End) (all : List Access) → (rest : List Access) × (until_end end all ++ rest ≡ all)
@@ -49,7 +47,7 @@ plain_script p (DropTable table) a b plain = refl
 plain_script p (RowsStmt s) a b plain = absurd (cc plain)
 plain_script p (TotalsStmt s) a b plain = refl
 
-pub begun_plain : {R : Type 0} (state : R → RevState) (stmt : Stmt) (result : Result Outcome Stop) (old : Engine R) (s : StoreState) (new : Engine R) (t : StoreState) (tables : Tables)
+pub begun_plain : {R : Type 0} (state : R → RevState) (stmt : Stmt) (result : Result Outcome RunStop) (old : Engine R) (s : StoreState) (new : Engine R) (t : StoreState) (tables : Tables)
     → is_counted stmt ≡ false → RanStatement state (skeleton stmt) result old s new t → seen old.public (count_of old s) tables stmt ≡ seen_to Whole → s.lie ≡ None
     → (lie : Lie) → t.lie ≡ Some lie → ReadsIn lie (s.asked ++ meant_script old.public (count_of old s) tables stmt)
 begun_plain state stmt result old s new t tables plain ran whole none lie told =

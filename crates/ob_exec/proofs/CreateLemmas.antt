@@ -12,7 +12,7 @@ use Rattle.std.proofs.lemmas.Bool.{cases_eq}
 use Rattle.ob_base.specs.declared.access.Access.{Access}
 use Rattle.ob_base.specs.declared.config.Public.{Public}
 use Rattle.ob_base.specs.declared.refusal.Refusal.{Refusal}
-use Rattle.ob_base.specs.declared.refusal.Stop.{Stop}
+use Rattle.ob_exec.specs.declared.stop.RunStop.{RunStop}
 use Rattle.ob_base.specs.declared.schema.Column.{Column}
 use Rattle.ob_base.specs.declared.schema.Table.{Table}
 use Rattle.ob_base.specs.declared.seen.End.{End}
@@ -247,7 +247,7 @@ module _ {R : Type 0} (state : R → RevState) (old : Engine R) (s s1 : StoreSta
       ))
 
   -- the table was made
-  pub created : length table ≤ 32 → All IsShort columns → (flat : Flat) (new : Engine R) (result : Result Outcome Stop) → Creates Round old.room.pack fresh (Ok flat) before done → old.ended ≡ false
+  pub created : length table ≤ 32 → All IsShort columns → (flat : Flat) (new : Engine R) (result : Result Outcome RunStop) → Creates Round old.room.pack fresh (Ok flat) before done → old.ended ≡ false
       → result ≡ Ok Created → new ≡ engine_after old v room (old.public.tables ++ new_table ∷ []) Whole old.ended → ServesSilently state (CreateStmt table columns capacity) result old s new t
   created short names flat new result creates lives answered is =
       serves_as state (CreateStmt table columns capacity) old s t _ _ _ _ answered is
@@ -256,7 +256,7 @@ module _ {R : Type 0} (state : R → RevState) (old : Engine R) (s s1 : StoreSta
       creates.makes.seals lives)
 
   -- it was not
-  pub not_created : (e : OpErr) (n : ℕ) (new : Engine R) (result : Result Outcome Stop) → Creates Round old.room.pack fresh (Err e) before done
+  pub not_created : (e : OpErr) (n : ℕ) (new : Engine R) (result : Result Outcome RunStop) → Creates Round old.room.pack fresh (Err e) before done
       → n ≡ length t.asked - length s.asked → result ≡ answer_of e → new ≡ engine_after old v room old.public.tables (Cut n) (is_stop (answer_of e))
       → ServesSilently state (CreateStmt table columns capacity) result old s new t
   not_created e n new result creates count answered is =

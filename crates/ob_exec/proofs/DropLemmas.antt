@@ -7,7 +7,7 @@ use Rattle.std.specs.Option.{option_map_or}
 use Rattle.std.proofs.lemmas.Bool.{cases_eq}
 use Rattle.std.proofs.lemmas.Slice.Eq.{bytes_eq-Decides}
 use Rattle.ob_base.specs.declared.refusal.Refusal.{Refusal}
-use Rattle.ob_base.specs.declared.refusal.Stop.{Stop}
+use Rattle.ob_exec.specs.declared.stop.RunStop.{RunStop}
 use Rattle.ob_base.specs.declared.schema.Heading.{Heading}
 use Rattle.ob_base.specs.declared.schema.Table.{Table}
 use Rattle.ob_base.specs.declared.seen.End.{End}
@@ -239,7 +239,7 @@ module _ {R : Type 0} (state : R → RevState) (old : Engine R) (s s1 : StoreSta
       (stored_found name old.public.tables i table agrees.tables.names here.get here.named)
 
   -- the table was dropped, whatever the store answered
-  pub dropped : (region : ℕ) (answer : Result Unit OpErr) (new : Engine R) (result : Result Outcome Stop) → region ≡ table.region
+  pub dropped : (region : ℕ) (answer : Result Unit OpErr) (new : Engine R) (result : Result Outcome RunStop) → region ≡ table.region
       → Discards region answer (at state old.vault s1) (at state v t) → old.ended ≡ false → result ≡ Ok Dropped
       → new ≡ engine_after old v old.room (remove old.public.tables i) Whole old.ended → ServesSilently state (DropTable name) result old s new t
   dropped region answer new result region_is discards lives answered is =

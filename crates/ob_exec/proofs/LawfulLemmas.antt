@@ -6,7 +6,7 @@ use Rattle.ob_base.specs.declared.access.Access.{Access}
 use Rattle.ob_base.specs.declared.config.Public.{Public}
 use Rattle.ob_base.specs.declared.refusal.Refusal.{Refusal}
 use Rattle.ob_base.specs.declared.refusal.Refusal.TheVariants.{Syntax, NoTable, NameTaken, NoColumn, WrongType, ValueRange, Limit, KeyRule, JoinKey, Duplicate, Full, TooManyGroups, NotConsecutive, Overflow, StoreFault, PadPassed}
-use Rattle.ob_base.specs.declared.refusal.Stop.{Stop}
+use Rattle.ob_exec.specs.declared.stop.RunStop.{RunStop}
 use Rattle.ob_base.specs.declared.seen.End.{End}
 use Rattle.ob_base.specs.declared.seen.End.TheVariants.{Static, Whole, AfterCount, Cut}
 use Rattle.ob_base.specs.declared.seen.Seen.{Seen}
@@ -41,7 +41,7 @@ refused_cut (Overflow i) k n is = absurd (cc is)
 refused_cut PadPassed k n is = absurd (cc is)
 
 -- it is cut off after the accesses that it asked
-ends_cut : (result : Result Outcome Stop) (k n : ℕ) → Cut k ≡ result_end result n → k ≡ n
+ends_cut : (result : Result Outcome RunStop) (k n : ℕ) → Cut k ≡ result_end result n → k ≡ n
 ends_cut (Ok (Refused r)) k n is = refused_cut r k n is
 ends_cut (Ok Created) k n is = absurd (cc is)
 ends_cut (Ok Inserted) k n is = absurd (cc is)
@@ -55,7 +55,7 @@ ends_cut (Err stop) k n is = cc is
 take_short : (n : ℕ) (xs : List Access) → length (take n xs) ≤ length xs
 take_short n xs = let is = length-take n xs in omega (arith, is)
 
-within : (p : Public) (sk : Skeleton) (result : Result Outcome Stop) (end : End) (before after : List Access) → after ≡ before ++ script p sk (ended end)
+within : (p : Public) (sk : Skeleton) (result : Result Outcome RunStop) (end : End) (before after : List Access) → after ≡ before ++ script p sk (ended end)
     → end ≡ result_end result (length after - length before) → CutUpTo (length (whole_script p sk (ended end))) end
 within p sk result Static before after asked ends = tt
 within p sk result Whole before after asked ends = tt
@@ -68,7 +68,7 @@ within p sk result (Cut k) before after asked ends =
     omega (arith, is, sum, parts, few)
 
 -- refused before any access exactly where it is seen so
-static_as : (o : Option Refusal) (result : Result Outcome Stop) (now : Seen) → RefusedEarly o result now → (now.end ≡ Static → IsSome o) × (IsSome o → now.end ≡ Static)
+static_as : (o : Option Refusal) (result : Result Outcome RunStop) (now : Seen) → RefusedEarly o result now → (now.end ≡ Static → IsSome o) × (IsSome o → now.end ≡ Static)
 static_as None result now early = (λ is. absurd (early is), λ some. absurd (cc some))
 static_as (Some r) result now early = (λ is. refl, λ some. ap (λ (x : Seen). x.end) early.1)
 
@@ -79,7 +79,7 @@ held_nothing p stmt Whole uncounted after = inl uncounted
 held_nothing p stmt AfterCount uncounted after = after refl
 held_nothing p stmt (Cut n) uncounted after = tt
 
-plain : (p : Public) (m : ℕ) (stmt : Stmt) (result : Result Outcome Stop) (end : End) (before after : List Access) → is_counted stmt ≡ false → (end ≡ AfterCount → ⊥)
+plain : (p : Public) (m : ℕ) (stmt : Stmt) (result : Result Outcome RunStop) (end : End) (before after : List Access) → is_counted stmt ≡ false → (end ≡ AfterCount → ⊥)
     → RefusedEarly (refusal_now p m stmt) result (ended end) → after ≡ before ++ script p (skeleton stmt) (ended end) → end ≡ result_end result (length after - length before)
     → Lawful p m stmt (ended end)
 plain p m stmt result end before after uncounted whole early asked ends = record {
@@ -89,7 +89,7 @@ plain p m stmt result end before after uncounted whole early asked ends = record
 }
 
 -- what is seen of a statement of which nothing is counted
-pub lawful_now : (p : Public) (m : ℕ) (stmt : Stmt) (result : Result Outcome Stop) (now : Seen) (before after : List Access) → is_counted stmt ≡ false → now ≡ ended now.end
+pub lawful_now : (p : Public) (m : ℕ) (stmt : Stmt) (result : Result Outcome RunStop) (now : Seen) (before after : List Access) → is_counted stmt ≡ false → now ≡ ended now.end
     → (now.end ≡ AfterCount → ⊥) → RefusedEarly (refusal_now p m stmt) result now → after ≡ before ++ script p (skeleton stmt) now
     → now.end ≡ result_end result (length after - length before) → Lawful p m stmt now
 lawful_now p m stmt result now before after uncounted is whole early asked ends =

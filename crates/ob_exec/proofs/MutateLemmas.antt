@@ -5,7 +5,7 @@ use Rattle.std.specs.Prelude.{IsTrue}
 use Rattle.std.proofs.lemmas.Bool.{cases_eq}
 use Rattle.ob_base.specs.declared.access.Access.{Access}
 use Rattle.ob_base.specs.declared.config.Public.{Public}
-use Rattle.ob_base.specs.declared.refusal.Stop.{Stop}
+use Rattle.ob_exec.specs.declared.stop.RunStop.{RunStop}
 use Rattle.ob_base.specs.declared.schema.Heading.{Heading}
 use Rattle.ob_base.specs.declared.schema.Table.{Table}
 use Rattle.ob_base.specs.declared.seen.End.{End}
@@ -166,7 +166,7 @@ module _ {R T : Type 0} (state : R → RevState) (stmt : Stmt) (name : List ℕ)
       (λ good accepts. mutates.seals.seals good (accepts _ _))
 
   -- the table was changed
-  pub mutated : (y : T) (new : Engine R) (result : Result Outcome Stop) → Mutates old.room.pack flat left (asks flat) answer after (Ok y) before done → old.ended ≡ false
+  pub mutated : (y : T) (new : Engine R) (result : Result Outcome RunStop) → Mutates old.room.pack flat left (asks flat) answer after (Ok y) before done → old.ended ≡ false
       → result ≡ Ok (outcome y) → new ≡ engine_after old v room (slice_set old.public.tables i (record table { region = left.region })) Whole old.ended
       → ServesSilently state stmt result old s new t
   mutated y new result mutates lives answered is =
@@ -176,7 +176,7 @@ module _ {R T : Type 0} (state : R → RevState) (stmt : Stmt) (name : List ℕ)
       (is ∙ ap (λ (n : ℕ). engine_after old v room (slice_set old.public.tables i (record table { region = n })) Whole old.ended) region) (changed y all lives)
 
   -- it was not
-  pub unmutated : (e : OpErr) (n : ℕ) (new : Engine R) (result : Result Outcome Stop) → Mutates old.room.pack flat left (asks flat) answer after (Err e) before done
+  pub unmutated : (e : OpErr) (n : ℕ) (new : Engine R) (result : Result Outcome RunStop) → Mutates old.room.pack flat left (asks flat) answer after (Err e) before done
       → n ≡ length t.asked - length s.asked → result ≡ answer_of e → new ≡ engine_after old v room old.public.tables (Cut n) (is_stop (answer_of e))
       → ServesSilently state stmt result old s new t
   unmutated e n new result mutates count answered is =

@@ -2,8 +2,8 @@
 use Rattle.std.proofs.Common.{◌≡◌, ◌⊎◌, inl, inr, ◌≤◌, ◌-◌, if◌then◌else◌, ℕ, Bool, true, false, List, [], ◌∷◌, ◌++◌, length, Option, Some, None, Err, Result, refl, sym, ◌∙◌, ap, subst, arith, length-append}
 use Rattle.std.specs.Prelude.{IfOk, IfErr}
 use Rattle.ob_base.specs.declared.config.Public.{Public}
-use Rattle.ob_base.specs.declared.refusal.Stop.{Stop}
-use Rattle.ob_base.specs.declared.refusal.Stop.TheVariants as Stops
+use Rattle.ob_exec.specs.declared.stop.RunStop.{RunStop}
+use Rattle.ob_exec.specs.declared.stop.RunStop.TheVariants as Stops
 use Rattle.ob_base.specs.declared.seen.Seen.{Seen}
 use Rattle.ob_base.specs.declared.seen.End.TheVariants.{Static, Cut}
 use Rattle.ob_base.specs.Events.{Event, Head, Leads, row_events}
@@ -112,7 +112,7 @@ stops_halted {grew = grew} {cut = cut} {p = p} {select = select} {error = error}
   begun = is.begun;
 }
 
-pub early_none : (p : Public) (m : ℕ) (select : SelectRows) (result : Result Outcome Stop) (now : Seen) → refusal_now p m (RowsStmt select) ≡ None → (now.end ≡ Static → ⊥)
+pub early_none : (p : Public) (m : ℕ) (select : SelectRows) (result : Result Outcome RunStop) (now : Seen) → refusal_now p m (RowsStmt select) ≡ None → (now.end ≡ Static → ⊥)
     → RefusedEarly (refusal_now p m (RowsStmt select)) result now
 early_none p m select result now none started = subst (λ o. RefusedEarly o result now) (sym none) started
 
@@ -245,7 +245,7 @@ module _ {R : Type 0} (state : R → RevState) (old : Engine R) (s : StoreState)
     abbrev All : SourceToHalt old.public before after → List Event
     All x = answer_events (selection old.public select) (slots_of old.public select x.tables) ++ closing (selection_answer (selection old.public select) (slots_of old.public select x.tables))
 
-    stop_partly : (e : OpErr) (stop : Stop) (events : List Event) → EndsWithin grew cut stop out_old out_new events → ((x : SourceToHalt old.public before after) → (rest : List Event) × (events ++ rest ≡ All x))
+    stop_partly : (e : OpErr) (stop : RunStop) (events : List Event) → EndsWithin grew cut stop out_old out_new events → ((x : SourceToHalt old.public before after) → (rest : List Event) × (events ++ rest ≡ All x))
         → Stopped state grew cut (RowsStmt select) stop old s (stopped_engine e) t out_old out_new
     stop_partly e stop events ends told = record {
       events = events;

@@ -2,8 +2,8 @@
 use Rattle.std.proofs.Common.{IsTrue, ◌≡◌, ◌≤◌, ◌+◌, ◌-◌, max, ℕ, Bool, true, false, List, [], ◌++◌, length, take, Ok, Err, OnOk, Result, refl, sym, ◌∙◌, ap, subst, arith, append-nil}
 use Rattle.ob_base.specs.declared.access.Access.{Access}
 use Rattle.ob_base.specs.declared.refusal.Refusal.{Refusal}
-use Rattle.ob_base.specs.declared.refusal.Stop.{Stop}
-use Rattle.ob_base.specs.declared.refusal.Stop.TheVariants as Stops
+use Rattle.ob_exec.specs.declared.stop.RunStop.{RunStop}
+use Rattle.ob_exec.specs.declared.stop.RunStop.TheVariants as Stops
 use Rattle.ob_base.specs.declared.seen.End.{End}
 use Rattle.ob_base.specs.declared.seen.End.TheVariants.{Static, Whole, Cut}
 use Rattle.ob_base.specs.declared.skeleton.Skeleton.{Skeleton}
@@ -214,7 +214,7 @@ module _ {R : Type 0} (state : R → RevState) (skeleton : Skeleton) (old : Engi
 -- what ends the session behind some accesses asks nothing of the tables
 module _ {R : Type 0} (state : R → RevState) (skeleton : Skeleton) (old : Engine R) (s : StoreState) (v : Vault R) (room : RoomState) (t : StoreState)
     (free : IsFree old.public room) where
-  pub ran_ended : (some : ℕ → Type 0) (n : ℕ) (x : List Access) (stop : Stop) → Opens (script old.public skeleton (seen_to (Cut n))) old.room.high room.high
+  pub ran_ended : (some : ℕ → Type 0) (n : ℕ) (x : List Access) (stop : RunStop) → Opens (script old.public skeleton (seen_to (Cut n))) old.room.high room.high
       → Lasts some (world_of state old s) (at state v t) → Began x s t → RunCause (Err stop) (world_of state old s) (at state v t)
       → whole_script old.public skeleton (seen_to (Cut n)) ≡ x → n ≡ length t.asked - length s.asked
       → RanStatement state skeleton (Err stop) old s (engine_after old v room old.public.tables (Cut n) true) t
@@ -255,10 +255,10 @@ module _ {R : Type 0} (state : R → RevState) (skeleton : Skeleton) (old : Engi
   ran_cut some n x e cut is count are = ran_stopped state skeleton old s v room t agrees free some n x e (opened _) cut is count are
 
 -- the same, of an equal answer and an equal engine
-pub ran_as : {R : Type 0} (state : R → RevState) (skeleton : Skeleton) (old : Engine R) (s : StoreState) (t : StoreState) (r q : Result Outcome Stop) (new same : Engine R)
+pub ran_as : {R : Type 0} (state : R → RevState) (skeleton : Skeleton) (old : Engine R) (s : StoreState) (t : StoreState) (r q : Result Outcome RunStop) (new same : Engine R)
     → r ≡ q → new ≡ same → RanStatement state skeleton q old s same t → RanStatement state skeleton r old s new t
 ran_as {R} state skeleton old s t r q new same answer is ran =
-    subst (λ (e : Engine R). RanStatement state skeleton r old s e t) (sym is) (subst (λ (a : Result Outcome Stop). RanStatement state skeleton a old s same t) (sym answer) ran)
+    subst (λ (e : Engine R). RanStatement state skeleton r old s e t) (sym is) (subst (λ (a : Result Outcome RunStop). RanStatement state skeleton a old s same t) (sym answer) ran)
 
 -- a statement that is not late begins below the last access of a pass
 pub early_few : (m n : ℕ) → is_late m ≡ false → n ≡ m → n < 9799832789158199296

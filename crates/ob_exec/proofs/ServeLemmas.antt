@@ -2,8 +2,8 @@
 use Rattle.std.proofs.Common.{◌≡◌, inl, ℕ, Bool, true, false, List, [], Option, Some, None, Result, Ok, Err, refl, sym, ◌∙◌, ap, subst}
 use Rattle.std.specs.Prelude.{IfOk, IfErr}
 use Rattle.ob_base.specs.declared.refusal.Refusal.{Refusal}
-use Rattle.ob_base.specs.declared.refusal.Stop.{Stop}
-use Rattle.ob_base.specs.declared.refusal.Stop.TheVariants as Stops
+use Rattle.ob_exec.specs.declared.stop.RunStop.{RunStop}
+use Rattle.ob_exec.specs.declared.stop.RunStop.TheVariants as Stops
 use Rattle.ob_base.specs.declared.seen.End.TheVariants.{Static}
 use Rattle.ob_base.specs.Events.{Event}
 use Rattle.ob_base.specs.Refusals.{is_store_fault}
@@ -37,10 +37,10 @@ use Rattle.ob_exec.proofs.ToldLemmas.{early_held, early_is, refused_none}
 
 -- the same, of an equal answer and an equal engine
 pub serves_same : {R E : Type 0} (state : R → RevState) (grew cut : E → E → List Event → Type 0) (faults : E → ℕ) (stmt : Stmt) (old : Engine R) (s t : StoreState) (out_old out_new : E)
-    (r q : Result Outcome Stop) (new same : Engine R) → r ≡ q → new ≡ same → Serves state grew cut faults stmt q old s same t out_old out_new → Serves state grew cut faults stmt r old s new t out_old out_new
+    (r q : Result Outcome RunStop) (new same : Engine R) → r ≡ q → new ≡ same → Serves state grew cut faults stmt q old s same t out_old out_new → Serves state grew cut faults stmt r old s new t out_old out_new
 serves_same {R} {E} state grew cut faults stmt old s t out_old out_new r q new same answer is serves =
     subst (λ (e : Engine R). Serves state grew cut faults stmt r old s e t out_old out_new) (sym is)
-    (subst (λ (a : Result Outcome Stop). Serves state grew cut faults stmt a old s same t out_old out_new) (sym answer) serves)
+    (subst (λ (a : Result Outcome RunStop). Serves state grew cut faults stmt a old s same t out_old out_new) (sym answer) serves)
 
 -- ---- nothing is emitted
 -- an answer that is no rows
@@ -91,33 +91,29 @@ silent_emits stmt labels Dropped silent = refl
 silent_emits stmt labels (Rows k) silent = absurd silent
 
 -- an emitter did not fail where nothing was emitted
-silent_sink : (r : Result Outcome Stop) (n : ℕ) → IsSilent r → SinkStops r n n
+silent_sink : (r : Result Outcome RunStop) (n : ℕ) → IsSilent r → SinkStops r n n
 silent_sink (Ok outcome) n silent = refl
 silent_sink (Err Stops.SinkFault) n silent = absurd silent
 silent_sink (Err (Stops.Tampered region place)) n silent = refl
 silent_sink (Err Stops.NoMemory) n silent = refl
-silent_sink (Err Stops.SourceFault) n silent = absurd silent
-silent_sink (Err Stops.InputLimit) n silent = absurd silent
 
-silent_meets : {P : Type 0} (r : Result Outcome Stop) → IsSilent r → r ≡ Err Stops.SinkFault → P
-silent_meets r silent is = absurd (subst (λ (x : Result Outcome Stop). IsSilent x) is silent)
+silent_meets : {P : Type 0} (r : Result Outcome RunStop) → IsSilent r → r ≡ Err Stops.SinkFault → P
+silent_meets r silent is = absurd (subst (λ (x : Result Outcome RunStop). IsSilent x) is silent)
 
-silent_answered : {P : Outcome → Type 0} (r : Result Outcome Stop) → IsSilent r → ((o : Outcome) → HasNoRows o → P o) → IfOk r P
+silent_answered : {P : Outcome → Type 0} (r : Result Outcome RunStop) → IsSilent r → ((o : Outcome) → HasNoRows o → P o) → IfOk r P
 silent_answered (Ok o) silent h = h o silent
 silent_answered (Err e) silent h = tt
 
-silent_stopped : {E : Type 0} (grew cut : E → E → List Event → Type 0) (P : Stop → Type 0) (out : E) → grew out out [] → (r : Result Outcome Stop) → IsSilent r
-    → ((stop : Stop) → EndsWithin grew cut stop out out [] → P stop) → IfErr r P
+silent_stopped : {E : Type 0} (grew cut : E → E → List Event → Type 0) (P : RunStop → Type 0) (out : E) → grew out out [] → (r : Result Outcome RunStop) → IsSilent r
+    → ((stop : RunStop) → EndsWithin grew cut stop out out [] → P stop) → IfErr r P
 silent_stopped grew cut P out starts (Ok x) silent h = tt
 silent_stopped grew cut P out starts (Err Stops.SinkFault) silent h = absurd silent
 silent_stopped grew cut P out starts (Err (Stops.Tampered region place)) silent h = h (Stops.Tampered region place) starts
 silent_stopped grew cut P out starts (Err Stops.NoMemory) silent h = h Stops.NoMemory (inl starts)
-silent_stopped grew cut P out starts (Err Stops.SourceFault) silent h = absurd silent
-silent_stopped grew cut P out starts (Err Stops.InputLimit) silent h = absurd silent
 
 module _ {R E : Type 0} (state : R → RevState) (grew cut : E → E → List Event → Type 0) (faults : E → ℕ) (stmt : Stmt) (old : Engine R) (s : StoreState) (out : E) (starts : grew out out []) where
   -- a statement that emits nothing and of which nothing is counted
-  pub serves_silently : (result : Result Outcome Stop) (new : Engine R) (t : StoreState) → refusal_now old.public (count_of old s) stmt ≡ None → is_counted stmt ≡ false
+  pub serves_silently : (result : Result Outcome RunStop) (new : Engine R) (t : StoreState) → refusal_now old.public (count_of old s) stmt ≡ None → is_counted stmt ≡ false
       → ((tables : Tables) → IsBare (accepted_answer (database tables) stmt)) → ServesSilently state stmt result old s new t
       → Serves state grew cut faults stmt result old s new t out out
   serves_silently result new t now uncounted bare serves =
@@ -188,7 +184,7 @@ module _ {R E : Type 0} (state : R → RevState) (grew cut : E → E → List Ev
       }
 
 -- a statement by what its kind says of it
-pub served_as : {R E : Type 0} (state : R → RevState) (grew cut : E → E → List Event → Type 0) (faults : E → ℕ) (stmt other : Stmt) (old : Engine R) (s : StoreState) (out : E) (result : Result Outcome Stop)
+pub served_as : {R E : Type 0} (state : R → RevState) (grew cut : E → E → List Event → Type 0) (faults : E → ℕ) (stmt other : Stmt) (old : Engine R) (s : StoreState) (out : E) (result : Result Outcome RunStop)
     (new : Engine R) (t : StoreState) → grew out out [] → other ≡ stmt → refusal_now old.public (count_of old s) stmt ≡ None → is_counted other ≡ false
     → ((tables : Tables) → IsBare (accepted_answer (database tables) other)) → ServesSilently state other result old s new t → Serves state grew cut faults stmt result old s new t out out
 served_as state grew cut faults stmt other old s out result new t starts is now uncounted bare serves =

@@ -3,8 +3,8 @@ use Rattle.ob_exec.specs.Engines.{others_of, indexes_of}
 use Rattle.std.proofs.Common.{◌≡◌, inl, inr, ◌-◌, max, ℕ, Bool, true, false, List, [], ◌++◌, length, Ok, Err, Result, None, refl, sym, ◌∙◌, ap, subst, arith, append-nil}
 use Rattle.std.specs.Prelude.{Some, slice_get}
 use Rattle.ob_base.specs.declared.access.Access.{Access}
-use Rattle.ob_base.specs.declared.refusal.Stop.{Stop}
-use Rattle.ob_base.specs.declared.refusal.Stop.TheVariants as Stops
+use Rattle.ob_exec.specs.declared.stop.RunStop.{RunStop}
+use Rattle.ob_exec.specs.declared.stop.RunStop.TheVariants as Stops
 use Rattle.ob_base.specs.declared.schema.Table.{Table}
 use Rattle.ob_base.specs.declared.seen.End.{End}
 use Rattle.ob_base.specs.declared.seen.End.TheVariants.{Whole, Cut}
@@ -46,11 +46,11 @@ use Rattle.ob_exec.proofs.TableLemmas.{beside_below, region_below, tables_kept}
 use Rattle.ob_exec.proofs.ToldLemmas.{IsFault, cut_seen, early_held, told_whole}
 
 -- the same, of an equal answer and an equal engine
-pub serves_as : {R : Type 0} (state : R → RevState) (stmt : Stmt) (old : Engine R) (s t : StoreState) (r q : Result Outcome Stop) (new same : Engine R)
+pub serves_as : {R : Type 0} (state : R → RevState) (stmt : Stmt) (old : Engine R) (s t : StoreState) (r q : Result Outcome RunStop) (new same : Engine R)
     → r ≡ q → new ≡ same → ServesSilently state stmt q old s same t → ServesSilently state stmt r old s new t
 serves_as {R} state stmt old s t r q new same answer is serves =
     subst (λ (e : Engine R). ServesSilently state stmt r old s e t) (sym is)
-    (subst (λ (a : Result Outcome Stop). ServesSilently state stmt a old s same t) (sym answer) serves)
+    (subst (λ (a : Result Outcome RunStop). ServesSilently state stmt a old s same t) (sym answer) serves)
 
 -- ---- where want of memory comes
 module _ {R : Type 0} (state : R → RevState) (stmt : Stmt) (old : Engine R) (s : StoreState) (agrees : Agrees state old s)

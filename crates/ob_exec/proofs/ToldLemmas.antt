@@ -6,7 +6,7 @@ use Rattle.std.specs.Prelude.{◌<◌, nat_le, ⊤, ◌∷◌}
 use Rattle.ob_base.specs.declared.config.Public.{Public}
 use Rattle.ob_base.specs.declared.refusal.Refusal.{Refusal}
 use Rattle.ob_base.specs.declared.refusal.Refusal.TheVariants.{NoTable, NameTaken, NoColumn, WrongType, ValueRange, Limit, KeyRule, JoinKey}
-use Rattle.ob_base.specs.declared.refusal.Stop.{Stop}
+use Rattle.ob_exec.specs.declared.stop.RunStop.{RunStop}
 use Rattle.ob_base.specs.declared.schema.Heading.{Heading}
 use Rattle.ob_base.specs.declared.seen.Seen.{Seen}
 use Rattle.ob_base.specs.declared.seen.End.{End}
@@ -131,12 +131,12 @@ early_is p m stmt r is = holding_early (early_conditions (is_late m) (limits_of 
   ),
 ) is
 
-pub refused_none : (o : Option Refusal) (result : Result Outcome Stop) (now : Seen) → o ≡ None → (now.end ≡ Static → ⊥) → RefusedEarly o result now
+pub refused_none : (o : Option Refusal) (result : Result Outcome RunStop) (now : Seen) → o ≡ None → (now.end ≡ Static → ⊥) → RefusedEarly o result now
 refused_none None result now is started = started
 refused_none (Some r) result now is started = absurd (cc is)
 
 -- a refusal that was found is the answer
-pub refused_some : (o : Option Refusal) (r : Refusal) (result : Result Outcome Stop) (now : Seen) → o ≡ Some r → result ≡ Ok (Refused r) → now ≡ seen_to Static → RefusedEarly o result now
+pub refused_some : (o : Option Refusal) (r : Refusal) (result : Result Outcome RunStop) (now : Seen) → o ≡ Some r → result ≡ Ok (Refused r) → now ≡ seen_to Static → RefusedEarly o result now
 refused_some o r result now is answer seen = subst (λ (x : Option Refusal). RefusedEarly x result now) (sym is) (answer, seen)
 
 -- a refusal that was found is that of the statement

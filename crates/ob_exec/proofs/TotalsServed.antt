@@ -5,8 +5,8 @@ use Rattle.std.specs.Option.{option_map, option_map_or, option_or}
 use Rattle.ob_base.specs.declared.config.Public.{Public}
 use Rattle.ob_base.specs.declared.refusal.Refusal.{Refusal}
 use Rattle.ob_base.specs.declared.refusal.Refusal.TheVariants.{TooManyGroups, StoreFault}
-use Rattle.ob_base.specs.declared.refusal.Stop.{Stop}
-use Rattle.ob_base.specs.declared.refusal.Stop.TheVariants as Stops
+use Rattle.ob_exec.specs.declared.stop.RunStop.{RunStop}
+use Rattle.ob_exec.specs.declared.stop.RunStop.TheVariants as Stops
 use Rattle.ob_base.specs.declared.schema.Heading.{Heading}
 use Rattle.ob_base.specs.declared.schema.Table.{Table}
 use Rattle.ob_base.specs.declared.seen.End.TheVariants.{Whole, Cut}
@@ -104,8 +104,8 @@ if_failed P (OpErrs.Tampered q x) h = tt
 if_failed P OpErrs.Sink h = tt
 if_failed P OpErrs.NoMemory h = tt
 
-on_stop : {E : Type 0} (grew cut : E → E → List Event → Type 0) (P : Stop → Type 0) (events : List Event) (a b : E) → grew a a [] → (e : OpErr) → Leads grew (ends_by grew cut e) a b events
-    → ((stop : Stop) → EndsWithin grew cut stop a b events → P stop) → IfErr (answer_of e) P
+on_stop : {E : Type 0} (grew cut : E → E → List Event → Type 0) (P : RunStop → Type 0) (events : List Event) (a b : E) → grew a a [] → (e : OpErr) → Leads grew (ends_by grew cut e) a b events
+    → ((stop : RunStop) → EndsWithin grew cut stop a b events → P stop) → IfErr (answer_of e) P
 on_stop grew cut P events a b starts OpErrs.Failed leads h = tt
 on_stop grew cut P events a b starts (OpErrs.Tampered q x) leads h = h (Stops.Tampered q x) (leads a [] starts)
 on_stop grew cut P events a b starts OpErrs.Sink leads h = h Stops.SinkFault (leads a [] starts)
@@ -118,7 +118,7 @@ given_up grew cut events a b starts (OpErrs.Tampered q x) is leads = absurd (cc 
 given_up grew cut events a b starts OpErrs.Sink is leads = absurd (cc is)
 given_up grew cut events a b starts OpErrs.NoMemory is leads = record { events = events; ends = leads a [] starts }
 
-if_stop : (P : Stop → Type 0) (e : OpErr) → ((stop : Stop) → P stop) → IfErr (answer_of e) P
+if_stop : (P : RunStop → Type 0) (e : OpErr) → ((stop : RunStop) → P stop) → IfErr (answer_of e) P
 if_stop P OpErrs.Failed h = tt
 if_stop P (OpErrs.Tampered q x) h = h (Stops.Tampered q x)
 if_stop P OpErrs.Sink h = h Stops.SinkFault

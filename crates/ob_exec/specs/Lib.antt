@@ -1,3 +1,4 @@
+pub mod Stops
 pub mod Schemas
 pub mod Engines
 pub mod Refusals

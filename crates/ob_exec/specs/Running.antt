@@ -2,8 +2,8 @@
 use Rattle.std.specs.Prelude.{◌≡◌, ◌⊎◌, ◌-◌, ◌<◌, ◌^◌, ℕ, Bool, true, false, List, [], ◌∷◌, ◌++◌, length, IsTrue, Result, Ok, Err, Option, Some, None}
 use Rattle.std.specs.List.{list_all}
 use Rattle.ob_base.specs.declared.refusal.Refusal.{Refusal}
-use Rattle.ob_base.specs.declared.refusal.Stop.{Stop}
-use Rattle.ob_base.specs.declared.refusal.Stop.TheVariants.{Tampered, SourceFault, SinkFault, NoMemory, InputLimit}
+use Rattle.ob_exec.specs.declared.stop.RunStop.{RunStop}
+use Rattle.ob_exec.specs.declared.stop.RunStop.TheVariants.{Tampered, SinkFault, NoMemory}
 use Rattle.ob_base.specs.declared.seen.Seen.{Seen}
 use Rattle.ob_base.specs.declared.seen.End.{End}
 use Rattle.ob_base.specs.declared.seen.End.TheVariants.{Static, Whole, Cut}
@@ -37,7 +37,7 @@ use Rattle.ob_exec.specs.Opening.{Opens}
 use Rattle.ob_exec.specs.Refusals.{refused_end, by_fault}
 
 -- the answer, or the stop, that an error of a pass makes
-abbrev pub answer_of : OpErr → Result Outcome Stop
+abbrev pub answer_of : OpErr → Result Outcome RunStop
 answer_of OpErrs.Failed = Ok (Refused Refusal.StoreFault)
 answer_of (OpErrs.Tampered region place) = Err (Tampered region place)
 answer_of OpErrs.Sink = Err SinkFault
@@ -54,7 +54,7 @@ abbrev pub refusal_now : Public → (m : ℕ) → Stmt → Option Refusal
 refusal_now p m stmt = early_refusal (is_late m) (limits_of p) (headings_of p.tables) stmt
 
 -- a statement is refused before any access exactly where the meaning says so
-abbrev pub RefusedEarly : Option Refusal → Result Outcome Stop → Seen → Type 0
+abbrev pub RefusedEarly : Option Refusal → Result Outcome RunStop → Seen → Type 0
 RefusedEarly (Some r) result seen = (result ≡ Ok (Refused r)) × (seen ≡ seen_to Static)
 RefusedEarly None result seen = seen.end ≡ Static → ⊥
 
@@ -73,23 +73,21 @@ abbrev pub outcome_end : Outcome → (n : ℕ) → End
 outcome_end (Refused r) n = refused_end r n
 outcome_end _ n = Whole
 
-abbrev pub result_end : Result Outcome Stop → (n : ℕ) → End
+abbrev pub result_end : Result Outcome RunStop → (n : ℕ) → End
 result_end (Ok outcome) n = outcome_end outcome n
 result_end (Err stop) n = Cut n
 
 -- the store's faults rose exactly where the answer is that it failed; a session that ends as tampered ends with the
 -- read of that place, and a changed block was read only there, or its tag fits
-abbrev pub RunCause : Result Outcome Stop → World → World → Type 0
+abbrev pub RunCause : Result Outcome RunStop → World → World → Type 0
 RunCause (Ok outcome) old new =
     by_fault (is_fault outcome) (Rises old.store.faults new.store.faults) (new.store.faults ≡ old.store.faults) × (Calm old → Calm new)
 RunCause (Err (Tampered q x)) old new = (new.store.faults ≡ old.store.faults) × EndsRead q x new × (Calm old → Calm new ⊎ EndsAt q x new)
 RunCause (Err SinkFault) old new = (new.store.faults ≡ old.store.faults) × (Calm old → Calm new)
 RunCause (Err NoMemory) old new = (new.store.faults ≡ old.store.faults) × (Calm old → Calm new)
-RunCause (Err SourceFault) old new = ⊥
-RunCause (Err InputLimit) old new = ⊥
 
 -- the answer is that the store failed
-abbrev pub IsFaulted : Result Outcome Stop → Type 0
+abbrev pub IsFaulted : Result Outcome RunStop → Type 0
 IsFaulted (Ok outcome) = IsTrue (is_fault outcome)
 IsFaulted (Err stop) = ⊥
 
@@ -100,13 +98,13 @@ pub record GoesOn {R : Type 0} (state : R → RevState) (skeleton : Skeleton) (o
   pub public : new.public ≡ next old.public skeleton new.seen
   pub lives : new.ended ≡ false
 
-abbrev pub Continues : {R : Type 0} → (R → RevState) → Skeleton → Result Outcome Stop → Engine R → Engine R → StoreState → Type 0
+abbrev pub Continues : {R : Type 0} → (R → RevState) → Skeleton → Result Outcome RunStop → Engine R → Engine R → StoreState → Type 0
 Continues state skeleton (Ok outcome) old new t = GoesOn state skeleton old new t
 Continues state skeleton (Err stop) old new t = new.ended ≡ true
 
 -- what a statement did: exactly the accesses of what is seen of it; all rows of the room are free again, and one at least
 -- was open where a block was read or written
-pub record RanStatement {R : Type 0} (state : R → RevState) (skeleton : Skeleton) (result : Result Outcome Stop)
+pub record RanStatement {R : Type 0} (state : R → RevState) (skeleton : Skeleton) (result : Result Outcome RunStop)
     (old : Engine R) (s : StoreState) (new : Engine R) (t : StoreState) : Type 0 where
   pub asked : t.asked ≡ s.asked ++ script old.public skeleton new.seen
   pub later : Later s t
@@ -151,13 +149,11 @@ Emits stmt labels (Refused r) events = by_fault (is_store_fault r) (EmitsUntilFa
 Emits stmt labels _ events = events ≡ []
 
 -- a stop by the sink comes only where a call of the emitter failed, and always where one did
-abbrev pub SinkStops : Result Outcome Stop → ℕ → ℕ → Type 0
+abbrev pub SinkStops : Result Outcome RunStop → ℕ → ℕ → Type 0
 SinkStops (Ok outcome) old new = new ≡ old
 SinkStops (Err SinkFault) old new = Rises old new
 SinkStops (Err (Tampered region place)) old new = new ≡ old
 SinkStops (Err NoMemory) old new = new ≡ old
-SinkStops (Err SourceFault) old new = ⊥
-SinkStops (Err InputLimit) old new = ⊥
 
 -- a statement whose answer may be rows
 abbrev pub MayEmit : Stmt → Type 0
@@ -171,10 +167,8 @@ HasNoRows (Rows k) = ⊥
 HasNoRows _ = Unit {0}
 
 -- what a statement may answer that emits nothing, and meets no emitter
-abbrev pub IsSilent : Result Outcome Stop → Type 0
+abbrev pub IsSilent : Result Outcome RunStop → Type 0
 IsSilent (Ok outcome) = HasNoRows outcome
 IsSilent (Err SinkFault) = ⊥
 IsSilent (Err (Tampered region place)) = Unit {0}
 IsSilent (Err NoMemory) = Unit {0}
-IsSilent (Err SourceFault) = ⊥
-IsSilent (Err InputLimit) = ⊥

@@ -1,7 +1,7 @@
 -- What a call of the engine does.
 use Rattle.std.specs.Prelude.{◌≡◌, ◌⊎◌, ℕ, List, ◌++◌, Some, Result, Err, IfOk, IfErr}
-use Rattle.ob_base.specs.declared.refusal.Stop.{Stop}
-use Rattle.ob_base.specs.declared.refusal.Stop.TheVariants.{NoMemory, SinkFault, Tampered}
+use Rattle.ob_exec.specs.declared.stop.RunStop.{RunStop}
+use Rattle.ob_exec.specs.declared.stop.RunStop.TheVariants.{NoMemory, SinkFault, Tampered}
 use Rattle.ob_base.specs.declared.seen.End.TheVariants.{Static, AfterCount}
 use Rattle.ob_base.specs.Events.{Event}
 use Rattle.ob_store.specs.State.{Lie, StoreState}
@@ -29,14 +29,14 @@ pub record Answered {R E : Type 0} (state : R → RevState) (grew : E → E → 
       → Emitted stmt old.public (count_of old s) tables outcome events
 
 -- until a stop the emitter took these events, and its output ends within them where it failed
-abbrev pub EndsWithin : {E : Type 0} → (grew cut : E → E → List Event → Type 0) → Stop → (out_old out_new : E) → List Event → Type 0
+abbrev pub EndsWithin : {E : Type 0} → (grew cut : E → E → List Event → Type 0) → RunStop → (out_old out_new : E) → List Event → Type 0
 EndsWithin grew cut SinkFault out_old out_new events = cut out_old out_new events
 EndsWithin grew cut (Tampered region place) out_old out_new events = grew out_old out_new events
-EndsWithin grew cut _ out_old out_new events = grew out_old out_new events ⊎ cut out_old out_new events
+EndsWithin grew cut NoMemory out_old out_new events = grew out_old out_new events ⊎ cut out_old out_new events
 
 -- what was emitted until a stop
 pub record Stopped {R E : Type 0} (state : R → RevState) (grew cut : E → E → List Event → Type 0)
-    (stmt : Stmt) (stop : Stop) (old : Engine R) (s : StoreState) (new : Engine R) (t : StoreState)
+    (stmt : Stmt) (stop : RunStop) (old : Engine R) (s : StoreState) (new : Engine R) (t : StoreState)
     (out_old out_new : E) : Type 0 where
   pub events : List Event
   pub ends : EndsWithin grew cut stop out_old out_new events
@@ -44,7 +44,7 @@ pub record Stopped {R E : Type 0} (state : R → RevState) (grew cut : E → E �
       → Partly (answer_labels stmt old.public) (verdict old.public (count_of old s) tables stmt) events
 
 -- what is known of a statement by its meaning
-pub record Means {R : Type 0} (state : R → RevState) (stmt : Stmt) (result : Result Outcome Stop)
+pub record Means {R : Type 0} (state : R → RevState) (stmt : Stmt) (result : Result Outcome RunStop)
     (old : Engine R) (s : StoreState) (new : Engine R) (t : StoreState) : Type 0 where
   -- the answer, what is seen and the tables afterwards are those of the statement over the tables before
   pub told : (tables : Tables) → ReadsTrue state old s t tables
@@ -59,7 +59,7 @@ pub record Means {R : Type 0} (state : R → RevState) (stmt : Stmt) (result : R
 
 -- a statement was carried out
 pub record Serves {R E : Type 0} (state : R → RevState) (grew cut : E → E → List Event → Type 0)
-    (faults : E → ℕ) (stmt : Stmt) (result : Result Outcome Stop)
+    (faults : E → ℕ) (stmt : Stmt) (result : Result Outcome RunStop)
     (old : Engine R) (s : StoreState) (new : Engine R) (t : StoreState)
     (out_old out_new : E) : Type 0 where
   -- whatever the store answers, its accesses are those of what is public, its skeleton and what is seen of it
@@ -80,7 +80,7 @@ pub record Serves {R E : Type 0} (state : R → RevState) (grew cut : E → E �
   pub means : Means state stmt result old s new t
 
 -- the same of a statement that emits nothing and of which nothing is counted, once it isn't refused before any access
-pub record ServesSilently {R : Type 0} (state : R → RevState) (stmt : Stmt) (result : Result Outcome Stop)
+pub record ServesSilently {R : Type 0} (state : R → RevState) (stmt : Stmt) (result : Result Outcome RunStop)
     (old : Engine R) (s : StoreState) (new : Engine R) (t : StoreState) : Type 0 where
   pub ran : RanStatement state (skeleton stmt) result old s new t
   pub started : new.seen.end ≡ Static → ⊥

@@ -3,8 +3,8 @@ use Rattle.std.specs.Prelude.{Bool, true, false, ◌≡◌, ◌-◌, ⊤, ℕ, L
 use Rattle.ob_base.specs.declared.access.Access.{Access}
 use Rattle.ob_base.specs.declared.config.Public.{Public}
 use Rattle.ob_exec.specs.Refusals.{by_fault}
-use Rattle.ob_base.specs.declared.refusal.Stop.{Stop}
-use Rattle.ob_base.specs.declared.refusal.Stop.TheVariants.{Tampered}
+use Rattle.ob_exec.specs.declared.stop.RunStop.{RunStop}
+use Rattle.ob_exec.specs.declared.stop.RunStop.TheVariants.{Tampered}
 use Rattle.ob_base.specs.declared.schema.Table.{Table}
 use Rattle.ob_base.specs.Events.{Event}
 use Rattle.ob_store.specs.State.{StoreState}
@@ -106,12 +106,12 @@ abbrev pub Told : {R : Type 0} → (R → RevState) → Stmt → Tables → Outc
 Told state stmt tables outcome old s new t = by_fault (is_fault outcome) (Kept state stmt tables old s new t) (Meant state stmt (count_of old s) tables outcome old new t)
 
 -- whether the access that a statement was stopped at is the last, and was not carried out
-abbrev pub is_refused : Stop → Bool
+abbrev pub is_refused : RunStop → Bool
 is_refused (Tampered region place) = true
 is_refused _ = false
 
 -- a read that gave what was written is not refused as tampered
-abbrev pub IsNotTampered : Stop → Type 0
+abbrev pub IsNotTampered : RunStop → Type 0
 IsNotTampered stop = is_refused stop ≡ false
 
 -- ---- what was emitted

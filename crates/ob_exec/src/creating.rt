@@ -7,7 +7,8 @@ ghost use Rattle.ob_exec.specs.Serving.{ServesSilently};
 
 use crate::engine::Engine;
 use crate::outcome::Outcome;
-use ob_base::{Heading, Name, NewColumn, Schema, Stop, Table};
+use crate::stop::RunStop;
+use ob_base::{Heading, Name, NewColumn, Schema, Table};
 use ob_flat::OpErr;
 use ob_mean::new_schema;
 use ob_store::BlockStore;
@@ -39,7 +40,7 @@ impl<R: Revisions> Engine<R> {
         table: &Name,
         columns: &[NewColumn],
         capacity: u32,
-    ) -> Result<Outcome, Stop>
+    ) -> Result<Outcome, RunStop>
         requires agrees { Agrees R.state self.old (S.state store.old) }
         requires lives { has_ended self.old ≡ false }
         requires allowed { refusal_now (public_of self.old) (count_of self.old (S.state store.old))

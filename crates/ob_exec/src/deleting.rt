@@ -7,7 +7,8 @@ ghost use Rattle.ob_exec.specs.Serving.{ServesSilently};
 
 use crate::engine::Engine;
 use crate::outcome::Outcome;
-use ob_base::{Name, Stop};
+use crate::stop::RunStop;
+use ob_base::Name;
 use ob_flat::OpErr;
 use ob_mean::where_at;
 use ob_sql::Cond;
@@ -21,7 +22,7 @@ impl<R: Revisions> Engine<R> {
         store: &mut S,
         table: &Name,
         cond: &Option<Cond>,
-    ) -> Result<Outcome, Stop>
+    ) -> Result<Outcome, RunStop>
         requires agrees { Agrees R.state self.old (S.state store.old) }
         requires lives { has_ended self.old ≡ false }
         requires allowed { refusal_now (public_of self.old) (count_of self.old (S.state store.old))

@@ -7,7 +7,8 @@ ghost use Rattle.ob_exec.specs.Serving.{ServesSilently};
 
 use crate::engine::Engine;
 use crate::outcome::Outcome;
-use ob_base::{Name, Stop};
+use crate::stop::RunStop;
+use ob_base::Name;
 use ob_flat::OpErr;
 use ob_store::BlockStore;
 use ob_vault::Revisions;
@@ -18,7 +19,7 @@ impl<R: Revisions> Engine<R> {
         &mut self,
         store: &mut S,
         table: &Name,
-    ) -> Result<Outcome, Stop>
+    ) -> Result<Outcome, RunStop>
         requires agrees { Agrees R.state self.old (S.state store.old) }
         requires lives { has_ended self.old ≡ false }
         requires allowed { refusal_now (public_of self.old) (count_of self.old (S.state store.old))

@@ -10,7 +10,8 @@ ghost use Rattle.ob_exec.specs.Agreeing.{Agrees, public_of, seen_of, engine_keys
 ghost use Rattle.ob_exec.specs.Running.{answer_of, is_stop};
 
 use crate::outcome::Outcome;
-use ob_base::{Config, End, Items, NoMemory, Public, Refusal, Seen, Stop};
+use crate::stop::RunStop;
+use ob_base::{Config, End, Items, NoMemory, Public, Refusal, Seen};
 use ob_flat::OpErr;
 use ob_room::Room;
 use ob_seal::Keys;
@@ -150,7 +151,7 @@ impl<R: Revisions> Engine<R> {
         seen: Seen,
         accesses: u64,
         error: OpErr,
-    ) -> Result<Outcome, Stop>
+    ) -> Result<Outcome, RunStop>
         ensures answer { result ≡ answer_of error }
         ensures seen { self.new ≡ record self.old {
           seen = record seen { end = Cut accesses };
@@ -165,16 +166,16 @@ impl<R: Revisions> Engine<R> {
         self.public.next_region = self.vault.next_region();
         let answer = match error {
             OpErr::Failed => Ok(Outcome::Refused(Refusal::StoreFault)),
-            OpErr::Tampered { region, place } => Err(Stop::Tampered { region, place }),
-            OpErr::Sink => Err(Stop::SinkFault),
-            OpErr::NoMemory => Err(Stop::NoMemory),
+            OpErr::Tampered { region, place } => Err(RunStop::Tampered { region, place }),
+            OpErr::Sink => Err(RunStop::SinkFault),
+            OpErr::NoMemory => Err(RunStop::NoMemory),
         };
         self.ended = answer.is_err();
         answer
     }
 
     // A statement of which nothing was counted, that a pass gave up after so many accesses.
-    pub(crate) fn cut(&mut self, accesses: u64, error: OpErr) -> Result<Outcome, Stop>
+    pub(crate) fn cut(&mut self, accesses: u64, error: OpErr) -> Result<Outcome, RunStop>
         ensures answer { result ≡ answer_of error }
         ensures seen { self.new ≡ record self.old {
           seen = seen_to (Cut accesses);

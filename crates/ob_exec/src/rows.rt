@@ -17,7 +17,8 @@ ghost use Rattle.ob_exec.specs.Sources.{SelectsRows, UsesRoomFor, IsFew, closing
 
 use crate::engine::{Engine, seen_to_end};
 use crate::outcome::Outcome;
-use ob_base::{Emit, EmitErr, End, Name, Public, Seen, Source, Stop};
+use crate::stop::RunStop;
+use ob_base::{Emit, EmitErr, End, Name, Public, Seen, Source};
 use ob_flat::{Flat, OpErr};
 use ob_mean::{left_place, right_place, where_at};
 use ob_order::Order;
@@ -269,7 +270,7 @@ impl<R: Revisions> Engine<R> {
         store: &mut S,
         select: &SelectRows,
         out: &mut E,
-    ) -> Result<Outcome, Stop>
+    ) -> Result<Outcome, RunStop>
         requires agrees { Agrees R.state self.old (S.state store.old) }
         requires lives { has_ended self.old ≡ false }
         requires allowed { refusal_now (public_of self.old) (count_of self.old (S.state store.old))

@@ -5,7 +5,8 @@ ghost use Rattle.ob_exec.specs.Serving.{Serves};
 
 use crate::engine::{Engine, LATE};
 use crate::outcome::Outcome;
-use ob_base::{Emit, Refusal, Stop};
+use crate::stop::RunStop;
+use ob_base::{Emit, Refusal};
 use ob_mean::early_refusal;
 use ob_sql::Stmt;
 use ob_store::BlockStore;
@@ -18,7 +19,7 @@ impl<R: Revisions> Engine<R> {
         store: &mut S,
         stmt: &Stmt,
         out: &mut E,
-    ) -> Result<Outcome, Stop>
+    ) -> Result<Outcome, RunStop>
         requires agrees { Agrees R.state self.old (S.state store.old) }
         requires lives { has_ended self.old ≡ false }
         ensures serves { Serves R.state E.grew E.cut E.faults stmt.now result
@@ -70,7 +71,7 @@ impl<R: Revisions> Engine<R> {
         store: &mut S,
         stmt: &Stmt,
         out: &mut E,
-    ) -> Result<Outcome, Stop>
+    ) -> Result<Outcome, RunStop>
         requires agrees { Agrees R.state self.old (S.state store.old) }
         requires lives { has_ended self.old ≡ false }
         ensures serves { Serves R.state E.grew E.cut E.faults stmt.now result

@@ -7,8 +7,9 @@ ghost use Rattle.ob_exec.specs.Serving.{Serves};
 
 use crate::engine::Engine;
 use crate::outcome::Outcome;
+use crate::stop::RunStop;
 use crate::totalling::{answer_totals, buckets_for};
-use ob_base::{Emit, Stop};
+use ob_base::Emit;
 use ob_flat::OpErr;
 use ob_mean::where_at;
 use ob_sql::SelectTotals;
@@ -22,7 +23,7 @@ impl<R: Revisions> Engine<R> {
         store: &mut S,
         select: &SelectTotals,
         out: &mut E,
-    ) -> Result<Outcome, Stop>
+    ) -> Result<Outcome, RunStop>
         requires agrees { Agrees R.state self.old (S.state store.old) }
         requires lives { has_ended self.old ≡ false }
         requires allowed { refusal_now (public_of self.old) (count_of self.old (S.state store.old))

@@ -10,7 +10,8 @@ ghost use Rattle.std.specs.List.{All};
 
 use crate::engine::Engine;
 use crate::outcome::Outcome;
-use ob_base::{Column, Name, NoMemory, Stop};
+use crate::stop::RunStop;
+use ob_base::{Column, Name, NoMemory};
 use ob_flat::OpErr;
 use ob_mean::{set_cell, where_at};
 use ob_row::Cell;
@@ -42,7 +43,7 @@ impl<R: Revisions> Engine<R> {
         table: &Name,
         sets: &[Set],
         cond: &Option<Cond>,
-    ) -> Result<Outcome, Stop>
+    ) -> Result<Outcome, RunStop>
         requires agrees { Agrees R.state self.old (S.state store.old) }
         requires lives { has_ended self.old ≡ false }
         requires allowed { refusal_now (public_of self.old) (count_of self.old (S.state store.old))

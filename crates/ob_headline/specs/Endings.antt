@@ -2,7 +2,6 @@
 use Rattle.std.specs.Prelude.{ℕ, Bool, true, false, List, [], codes, Result, Ok, Err}
 use Rattle.ob_base.specs.declared.refusal.Stop.{Stop}
 use Rattle.ob_base.specs.declared.refusal.Stop.TheVariants.{Tampered, SourceFault, SinkFault, NoMemory, InputLimit}
-use Rattle.ob_exec.specs.Telling.{is_refused}
 use Rattle.ob_headline.specs.declared.ending.Ending.{Ending}
 use Rattle.ob_headline.specs.declared.ending.Ending.TheVariants.{Usage, BadKey, Ran}
 use Rattle.ob_print.specs.Lines.{stop_line}
@@ -34,13 +33,5 @@ last_line (Ran ran) = ran_line ran
 abbrev pub is_tampered : Ending → Bool
 is_tampered Usage = false
 is_tampered BadKey = false
-is_tampered (Ran (Ok refused)) = false
-is_tampered (Ran (Err stop)) = is_refused stop
-
--- it is a sink's fault
-abbrev pub IsSinkFault : Stop → Type 0
-IsSinkFault (Tampered region place) = ⊥
-IsSinkFault SourceFault = ⊥
-IsSinkFault SinkFault = Unit {0}
-IsSinkFault NoMemory = ⊥
-IsSinkFault InputLimit = ⊥
+is_tampered (Ran (Err (Tampered region place))) = true
+is_tampered (Ran _) = false

@@ -1,13 +1,17 @@
 -- The first changed block that is read ends the run, or its tag fits.
 use Rattle.std.proofs.Common.{◌≡◌, ℕ, Bool, List, [], ◌∷◌, None, Ok, Err, Result, ◌⊎◌, inl, inr, sym, subst}
 use Rattle.ob_base.specs.declared.refusal.Stop.{Stop}
-use Rattle.ob_base.specs.declared.refusal.Stop.TheVariants.{Tampered, SourceFault, SinkFault, NoMemory, InputLimit}
+use Rattle.ob_base.specs.declared.refusal.Stop.TheVariants.{Tampered}
 use Rattle.ob_exec.specs.Agreeing.{world_of}
 use Rattle.ob_exec.specs.Running.{RunCause}
+use Rattle.ob_exec.specs.Stops.{session_stop}
 use Rattle.ob_exec.specs.declared.engine.Engine.{Engine}
+use Rattle.ob_exec.specs.declared.stop.RunStop.{RunStop}
+use Rattle.ob_exec.specs.declared.stop.RunStop.TheVariants as Runs
 use Rattle.ob_headline.specs.Words.{Answer}
+use Rattle.ob_shell.proofs.StepLemmas.{by_last}
 use Rattle.ob_shell.specs.Running.{LastPart}
-use Rattle.ob_shell.specs.Steps.{Machine, Step, Steps}
+use Rattle.ob_shell.specs.Steps.{Machine, PartlyAt, Step, Steps}
 use Rattle.ob_store.specs.State.{StoreState}
 use Rattle.ob_vault.specs.State.{RevState, World}
 use Rattle.ob_vault.specs.Tied.{Calm, EndsAt}
@@ -18,19 +22,15 @@ MeetsChange (Err (Tampered region place)) w = Calm w ⊎ EndsAt region place w
 MeetsChange _ w = Calm w
 
 -- after a stop
-met : (stop : Stop) (w : World) → Calm w → MeetsChange (Err stop) w
-met (Tampered region place) w calm = inl calm
-met SourceFault w calm = calm
-met SinkFault w calm = calm
-met NoMemory w calm = calm
-met InputLimit w calm = calm
+met : (run : RunStop) (w : World) → Calm w → MeetsChange (Err (session_stop run)) w
+met (Runs.Tampered region place) w calm = inl calm
+met Runs.SinkFault w calm = calm
+met Runs.NoMemory w calm = calm
 
-stop_met : (stop : Stop) (a b : World) → RunCause (Err stop) a b → Calm a → MeetsChange (Err stop) b
-stop_met (Tampered region place) a b cause calm = cause.2 calm
-stop_met SinkFault a b cause calm = cause.1 calm
-stop_met NoMemory a b cause calm = cause.1 calm
-stop_met SourceFault a b cause calm = absurd cause
-stop_met InputLimit a b cause calm = absurd cause
+stop_met : (run : RunStop) (a b : World) → RunCause (Err run) a b → Calm a → MeetsChange (Err (session_stop run)) b
+stop_met (Runs.Tampered region place) a b cause calm = cause.2 calm
+stop_met Runs.SinkFault a b cause calm = cause.1 calm
+stop_met Runs.NoMemory a b cause calm = cause.1 calm
 
 module _ {R : Type 0} (state : R → RevState) where
   abbrev IsCalm : Machine R → Type 0
@@ -47,13 +47,21 @@ module _ {R : Type 0} (state : R → RevState) where
   steps_calm m0 m2 [] answers steps calm = subst (λ (m : Machine R). IsCalm m) (sym steps.0) calm
   steps_calm m0 m2 (text ∷ texts) answers steps calm = steps_calm steps.0 m2 texts steps.2 steps.5 (step_calm m0 steps.0 text steps.1 steps.4 calm)
 
+  rests_met : (m1 m2 : Machine R) → m2 ≡ m1 → IsCalm m1 → IsCalm m2
+  rests_met m1 m2 same calm = subst (λ (m : Machine R). IsCalm m) (sym same) calm
+
+  part_met : (m1 m2 : Machine R) (more : List (List ℕ)) (run : RunStop) (part : List ℕ) → PartlyAt state m1 m2 more run part → IsCalm m1 → MeetsChange (Err (session_stop run)) (world_of state m2.engine m2.store)
+  part_met m1 m2 [] run part idle calm = met run _ (rests_met m1 m2 idle.rests.machine calm)
+  part_met m1 m2 (text ∷ more) run part (inl idle) calm = met run _ (rests_met m1 m2 idle.rests.machine calm)
+  part_met m1 m2 (text ∷ more) run part (inr (inl cut)) calm = stop_met run _ _ cut.does.ran.cause calm
+  part_met m1 m2 (text ∷ more) run part (inr (inr done)) calm = met run _ (step_calm m1 m2 text done.answer done.step calm)
+
   pub last_met : (m1 m2 : Machine R) (more : List (List ℕ)) (part : List ℕ) (result : Result Bool Stop) → LastPart state m1 m2 more part result → IsCalm m1
       → MeetsChange result (world_of state m2.engine m2.store)
-  last_met m1 m2 more part (Ok flag) rests calm = subst (λ (m : Machine R). IsCalm m) (sym rests.machine) calm
-  last_met m1 m2 [] part (Err stop) rests calm = met stop _ (subst (λ (m : Machine R). IsCalm m) (sym rests.rests.machine) calm)
-  last_met m1 m2 (text ∷ more) part (Err stop) (inl rests) calm = met stop _ (subst (λ (m : Machine R). IsCalm m) (sym rests.rests.machine) calm)
-  last_met m1 m2 (text ∷ more) part (Err stop) (inr (inl cut)) calm = stop_met stop _ _ cut.does.ran.cause calm
-  last_met m1 m2 (text ∷ more) part (Err stop) (inr (inr done)) calm = met stop _ (step_calm m1 m2 text done.answer done.step calm)
+  last_met m1 m2 more part (Ok flag) rests calm = rests_met m1 m2 rests.machine calm
+  last_met m1 m2 more part (Err stop) last calm =
+      by_last state m1 m2 more part (λ (s : Stop). MeetsChange (Err s) (world_of state m2.engine m2.store)) stop last (λ run partly. part_met m1 m2 more run part partly calm)
+      (λ rests. rests_met m1 m2 rests.machine calm) (λ rests. rests_met m1 m2 rests.machine calm)
 
 -- no block was read yet
 pub first_calm : {R : Type 0} (state : R → RevState) (e : Engine R) (s : StoreState) → s.lie ≡ None → Calm (world_of state e s)

@@ -3,6 +3,9 @@ use Rattle.std.proofs.Common.{◌≡◌, ℕ, ◌≤◌, Bool, true, false, Resu
 use Rattle.ob_base.specs.Counts.{Rises}
 use Rattle.ob_base.specs.declared.refusal.Stop.{Stop}
 use Rattle.ob_base.specs.declared.refusal.Stop.TheVariants.{Tampered, SourceFault, SinkFault, NoMemory, InputLimit}
+use Rattle.ob_exec.specs.Stops.{session_stop}
+use Rattle.ob_exec.specs.declared.stop.RunStop.{RunStop}
+use Rattle.ob_exec.specs.declared.stop.RunStop.TheVariants as Runs
 use Rattle.ob_headline.specs.Words.{Faults, SinksRose, faults_of}
 use Rattle.ob_shell.specs.Running.{OutFailed, Silenced, StopCause}
 
@@ -33,16 +36,12 @@ pub lost_since : {quiet : Bool} {k0 k1 k2 : ℕ} → k1 ≡ k0 → OutFailed qui
 lost_since {k2 = k2} same lost = (lost.0, subst (λ (n : ℕ). Rises n k2) same lost.1)
 
 -- a stop, and what was traced after it
-pub traced_cause : {A : Type 0} (told stop : Stop) (out0 out1 trace0 trace1 : ℕ) → told ≡ stop → StopCause {T = A} (faults_of 0 out0 0) (faults_of 0 out1 0) (Err told)
-    → (◌≡◌ {A = Result A Stop} (Err told) (Err InputLimit) → ⊥) → (◌≡◌ {A = Result A Stop} (Err told) (Err SourceFault) → ⊥) → trace0 ≤ trace1
-    → StopCause {T = A} (faults_of 0 out0 trace0) (faults_of 0 out1 trace1) (Err stop)
-traced_cause {A} told stop out0 out1 trace0 trace1 is cause limit source later =
-    subst (λ (s : Stop). StopCause {T = A} (faults_of 0 out0 trace0) (faults_of 0 out1 trace1) (Err s)) is (go told cause limit source)
+pub traced_cause : {A : Type 0} (told stop : RunStop) (out0 out1 trace0 trace1 : ℕ) → told ≡ stop → StopCause {T = A} (faults_of 0 out0 0) (faults_of 0 out1 0) (Err (session_stop told)) → trace0 ≤ trace1
+    → StopCause {T = A} (faults_of 0 out0 trace0) (faults_of 0 out1 trace1) (Err (session_stop stop))
+traced_cause {A} told stop out0 out1 trace0 trace1 is cause later =
+    subst (λ (s : RunStop). StopCause {T = A} (faults_of 0 out0 trace0) (faults_of 0 out1 trace1) (Err (session_stop s))) is (go told cause)
   where
-    go : (s : Stop) → StopCause {T = A} (faults_of 0 out0 0) (faults_of 0 out1 0) (Err s) → (◌≡◌ {A = Result A Stop} (Err s) (Err InputLimit) → ⊥) → (◌≡◌ {A = Result A Stop} (Err s) (Err SourceFault) → ⊥)
-        → StopCause {T = A} (faults_of 0 out0 trace0) (faults_of 0 out1 trace1) (Err s)
-    go (Tampered region place) cause limit source = (cause.0, cause.1, later)
-    go NoMemory cause limit source = (cause.0, cause.1, later)
-    go SinkFault cause limit source = (cause.0, elim cause.1 [ inl rose ↦ inl rose | inr none ↦ absurd (omega (arith, none)) ])
-    go SourceFault cause limit source = absurd (source refl)
-    go InputLimit cause limit source = absurd (limit refl)
+    go : (s : RunStop) → StopCause {T = A} (faults_of 0 out0 0) (faults_of 0 out1 0) (Err (session_stop s)) → StopCause {T = A} (faults_of 0 out0 trace0) (faults_of 0 out1 trace1) (Err (session_stop s))
+    go (Runs.Tampered region place) cause = (cause.0, cause.1, later)
+    go Runs.NoMemory cause = (cause.0, cause.1, later)
+    go Runs.SinkFault cause = (cause.0, elim cause.1 [ inl rose ↦ inl rose | inr none ↦ absurd (omega (arith, none)) ])

@@ -6,12 +6,12 @@ use Rattle.std.proofs.lemmas.List.{length-append, take-append-drop, take-append-
 use Rattle.std.specs.List.{list_all}
 use Rattle.ob_base.specs.declared.access.Access.{Access}
 use Rattle.ob_base.specs.declared.access.Access.TheVariants.{Read}
-use Rattle.ob_base.specs.declared.refusal.Stop.{Stop}
-use Rattle.ob_base.specs.declared.refusal.Stop.TheVariants.{Tampered, SourceFault, SinkFault, NoMemory, InputLimit}
 use Rattle.ob_exec.specs.Agreeing.{public_of, seen_of, world_of}
 use Rattle.ob_exec.specs.Running.{RunCause}
 use Rattle.ob_exec.specs.Telling.{Represents, meant_script}
 use Rattle.ob_exec.specs.declared.outcome.Outcome.{Outcome}
+use Rattle.ob_exec.specs.declared.stop.RunStop.{RunStop}
+use Rattle.ob_exec.specs.declared.stop.RunStop.TheVariants.{Tampered, SinkFault, NoMemory}
 use Rattle.ob_headline.specs.Words.{Begins}
 use Rattle.ob_mean.specs.Verdict.{Tables}
 use Rattle.ob_script.specs.Script.{script}
@@ -79,15 +79,13 @@ ends_in q x w lie is ends =
     let same : ends.lie ≡ lie = cc (sym ends.told ∙ is) in
     subst (λ (l : Lie). ReadsIn l w.store.asked) same (record { rest = []; is = sym ends.asked })
 
-lie_within : (result : Result Outcome Stop) (old new : World) (lie : Lie) → RunCause result old new → Calm old → new.store.lie ≡ Some lie → ReadsIn lie new.store.asked
+lie_within : (result : Result Outcome RunStop) (old new : World) (lie : Lie) → RunCause result old new → Calm old → new.store.lie ≡ Some lie → ReadsIn lie new.store.asked
 lie_within (Ok outcome) old new lie cause calm is = (cause.1 calm).within lie is
 lie_within (Err (Tampered q x)) old new lie cause calm is = elim (cause.2 calm) [ inl still ↦ still.within lie is | inr ends ↦ ends_in q x new lie is ends ]
 lie_within (Err SinkFault) old new lie cause calm is = (cause.1 calm).within lie is
 lie_within (Err NoMemory) old new lie cause calm is = (cause.1 calm).within lie is
-lie_within (Err SourceFault) old new lie cause calm is = absurd cause
-lie_within (Err InputLimit) old new lie cause calm is = absurd cause
 
-module _ {R : Type 0} (state : R → RevState) (m0 m1 : Machine R) (tables : Tables) (stmt : Stmt) (result : Result Outcome Stop) (does : Does state m0 m1 stmt result)
+module _ {R : Type 0} (state : R → RevState) (m0 m1 : Machine R) (tables : Tables) (stmt : Stmt) (result : Result Outcome RunStop) (does : Does state m0 m1 stmt result)
     (tells : IsTrue m0.store.tells) (steady : IsSteady m0.store) (held : Represents state m0.engine m0.store tables) (n : ℕ) (before : IsBefore m0.store.disturbed n)
     (few : length m0.store.asked ≤ n) where
   abbrev pub all_meant : List Access

@@ -12,7 +12,6 @@ use Rattle.ob_base.specs.declared.config.Plan.{Plan}
 use Rattle.ob_base.specs.declared.config.Plan.TheVariants.{Small, Large, Continuous, Hash}
 use Rattle.ob_base.specs.declared.config.Public.{Public}
 use Rattle.ob_base.specs.declared.refusal.Refusal.{Refusal}
-use Rattle.ob_base.specs.declared.refusal.Stop.{Stop}
 use Rattle.ob_base.specs.declared.schema.Heading.{Heading}
 use Rattle.ob_base.specs.declared.schema.Table.{Table}
 use Rattle.ob_base.specs.declared.seen.Seen.{Seen}
@@ -22,6 +21,7 @@ use Rattle.ob_exec.specs.Agreeing.{Agrees, count_of, public_of, seen_of}
 use Rattle.ob_exec.specs.Running.{RefusedEarly, refusal_now}
 use Rattle.ob_exec.specs.declared.engine.Engine.{Engine}
 use Rattle.ob_exec.specs.declared.outcome.Outcome.{Outcome}
+use Rattle.ob_exec.specs.declared.stop.RunStop.{RunStop}
 use Rattle.ob_gen.specs.declared.tally.Tally.{Tally}
 use Rattle.ob_headline.specs.Words.{Answer}
 use Rattle.ob_mean.proofs.EarlyLemmas.{allowed, within}
@@ -189,7 +189,7 @@ late_or_not : (m : ℕ) (late : Bool) → is_late m ≡ late → late ≡ false 
 late_or_not m true is not = absurd (cc not)
 late_or_not m false is not = grind (arith, nat_tests)
 
-does_few : {R : Type 0} (state : R → RevState) (m0 m1 : Machine R) (stmt : Stmt) (result : Result Outcome Stop) → Agrees state m0.engine m0.store → Does state m0 m1 stmt result
+does_few : {R : Type 0} (state : R → RevState) (m0 m1 : Machine R) (stmt : Stmt) (result : Result Outcome RunStop) → Agrees state m0.engine m0.store → Does state m0 m1 stmt result
     → asked_of m0 < 2 ^ 63 + 2 ^ 59 → asked_of m1 < 2 ^ 63 + 2 ^ 59
 does_few state m0 m1 stmt result agrees does few = go (refusal_now p (asked_of m0) stmt) refl
   where

@@ -6,7 +6,6 @@ use Rattle.ob_base.specs.declared.access.Access.{Access}
 use Rattle.ob_base.specs.declared.config.Plan.{Plan}
 use Rattle.ob_base.specs.declared.config.Plan.TheVariants.{Small, Large, Continuous, Hash}
 use Rattle.ob_base.specs.declared.config.Public.{Public}
-use Rattle.ob_base.specs.declared.refusal.Stop.{Stop}
 use Rattle.ob_base.specs.declared.seen.End.{End}
 use Rattle.ob_base.specs.declared.seen.End.TheVariants.{Static, Whole, AfterCount, Cut}
 use Rattle.ob_base.specs.declared.seen.Seen.{Seen}
@@ -15,6 +14,7 @@ use Rattle.ob_exec.specs.Agreeing.{public_of, seen_of, world_of}
 use Rattle.ob_exec.specs.Running.{is_fault}
 use Rattle.ob_exec.specs.Telling.{ReadsTrueUntil, Told, is_refused}
 use Rattle.ob_exec.specs.declared.outcome.Outcome.{Outcome}
+use Rattle.ob_exec.specs.declared.stop.RunStop.{RunStop}
 use Rattle.ob_headline.proofs.CutLemmas.{cut_begins}
 use Rattle.ob_headline.specs.Words.{Begins}
 use Rattle.ob_mean.proofs.VerdictLemmas.{seen_late}
@@ -91,7 +91,7 @@ module _ {R : Type 0} (state : R → RevState) (m0 m1 : Machine R) (tables : Tab
   as_meant : seen_of m1.engine ≡ meant → IsFirstPart
   as_meant is = subst (λ (x : Seen). Begins (script (public_of m0.engine) (skeleton stmt) x) (script (public_of m0.engine) (skeleton stmt) meant)) (sym is) (begins_all _)
 
-  module _ (result : Result Outcome Stop) (does : Does state m0 m1 stmt result) (reads : ReadsTrueUntil state m0.engine m0.store m1.engine m1.store tables) where
+  module _ (result : Result Outcome RunStop) (does : Does state m0 m1 stmt result) (reads : ReadsTrueUntil state m0.engine m0.store m1.engine m1.store tables) where
     as_cut : (failed : Bool) (n : ℕ) → seen_of m1.engine ≡ cut_at failed n (public_of m0.engine) (skeleton stmt) meant → IsFirstPart
     as_cut failed n is =
         let p = public_of m0.engine in
@@ -104,7 +104,7 @@ module _ {R : Type 0} (state : R → RevState) (m0 m1 : Machine R) (tables : Tab
   as_told true outcome does reads e told = as_cut (Ok outcome) does reads true _ (rw e at told).seen
   as_told false outcome does reads e told = as_meant (rw e at told).seen
 
-  pub begins_truly : (result : Result Outcome Stop) → Does state m0 m1 stmt result → ReadsTrueUntil state m0.engine m0.store m1.engine m1.store tables → IsFirstPart
+  pub begins_truly : (result : Result Outcome RunStop) → Does state m0 m1 stmt result → ReadsTrueUntil state m0.engine m0.store m1.engine m1.store tables → IsFirstPart
   begins_truly (Ok outcome) does reads =
       let none = unfit_none (world_of state m1.engine m1.store) (does.ran.cause.1 reads.calm) reads.unfit in
       as_told (is_fault outcome) outcome does reads refl (does.means.told tables (record { tells = reads.tells; held = reads.held; nolie = none }))

@@ -6,7 +6,6 @@ use Rattle.ob_base.specs.Stored.{headings}
 use Rattle.ob_base.specs.declared.access.Access.{Access}
 use Rattle.ob_base.specs.declared.refusal.Refusal.{Refusal}
 use Rattle.ob_base.specs.declared.refusal.Refusal.TheVariants.{StoreFault}
-use Rattle.ob_base.specs.declared.refusal.Stop.{Stop}
 use Rattle.ob_base.specs.declared.schema.Heading.{Heading}
 use Rattle.ob_base.specs.declared.seen.End.TheVariants.{Cut}
 use Rattle.ob_base.specs.declared.seen.Seen.{Seen}
@@ -17,6 +16,7 @@ use Rattle.ob_exec.specs.Running.{RefusedEarly, is_fault}
 use Rattle.ob_exec.specs.Telling.{Represents}
 use Rattle.ob_exec.specs.declared.outcome.Outcome.{Outcome}
 use Rattle.ob_exec.specs.declared.outcome.Outcome.TheVariants.{Created, Inserted, Changed, Deleted, Dropped, Rows, Refused}
+use Rattle.ob_exec.specs.declared.stop.RunStop.{RunStop}
 use Rattle.ob_headline.proofs.CutLemmas.{cut_shorter}
 use Rattle.ob_headline.specs.Words.{Answer}
 use Rattle.ob_mean.specs.Lawful.{CutUpTo}
@@ -88,11 +88,11 @@ stands_after state m0 m1 tables text one did how after_it seen_is settles =
     λ i. record { public = public_is i; tables = settles i; asked = asked_is i }
 
 -- ---- a statement that was cut off wasn't refused before its first access, and no more than all of it was asked
-not_refused : (o : Option Refusal) (result : Result Outcome Stop) (here : Seen) (n : ℕ) → RefusedEarly o result here → here.end ≡ Cut n → o ≡ None
+not_refused : (o : Option Refusal) (result : Result Outcome RunStop) (here : Seen) (n : ℕ) → RefusedEarly o result here → here.end ≡ Cut n → o ≡ None
 not_refused None result here n early is = refl
 not_refused (Some r) result here n early is = absurd (cc (is, ap (λ (x : Seen). x.end) early.1))
 
-module _ {R : Type 0} (state : R → RevState) (m0 m1 : Machine R) (tables : Tables) (stmt : Stmt) (result : Result Outcome Stop)
+module _ {R : Type 0} (state : R → RevState) (m0 m1 : Machine R) (tables : Tables) (stmt : Stmt) (result : Result Outcome RunStop)
     (does : Does state m0 m1 stmt result) (failed : Bool) (n : ℕ)
     (seen_is : seen_of m1.engine ≡ cut_at failed n (public_of m0.engine) (skeleton stmt) (seen_now (session_of m0 tables) stmt)) where
   pub cut_within : n ≤ length (whole_script (public_of m0.engine) (skeleton stmt) (seen_now (session_of m0 tables) stmt))

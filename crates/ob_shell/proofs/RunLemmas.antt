@@ -7,6 +7,9 @@ use Rattle.std.specs.Io.KnownBytes.{Appends, IsAtEnd}
 use Rattle.ob_base.specs.declared.access.Access.{Access}
 use Rattle.ob_base.specs.declared.refusal.Stop.{Stop}
 use Rattle.ob_base.specs.declared.refusal.Stop.TheVariants.{Tampered, SourceFault, SinkFault, NoMemory, InputLimit}
+use Rattle.ob_exec.specs.Stops.{session_stop}
+use Rattle.ob_exec.specs.declared.stop.RunStop.{RunStop}
+use Rattle.ob_exec.specs.declared.stop.RunStop.TheVariants as Runs
 use Rattle.ob_gen.specs.Tally.{empty_tally}
 use Rattle.ob_gen.specs.declared.tally.Tally.{Tally}
 use Rattle.ob_headline.proofs.PromptLemmas.{prompt_all, prompt_by}
@@ -18,14 +21,14 @@ use Rattle.ob_print.proofs.CutLemmas.{Outputs-after, Outputs-whole}
 use Rattle.ob_print.specs.Cuts.{Outputs}
 use Rattle.ob_shell.proofs.CountLemmas.{lost_since}
 use Rattle.ob_shell.proofs.FeedLemmas.{Fed-none, Fed-then}
-use Rattle.ob_shell.proofs.StepLemmas.{Steps-none, Steps-append, printed-append, printed-nil, PartlyAt-none, PartlyAt-more, stops_by}
+use Rattle.ob_shell.proofs.StepLemmas.{Steps-none, Steps-append, printed-append, printed-nil, PartlyAt-more, last_stopped, stops_by}
 use Rattle.ob_shell.proofs.TallyLemmas.{tally_after-nil, tally_more}
 use Rattle.ob_shell.proofs.TraceLemmas.{traced_then, traced_cut, traced_whole}
 use Rattle.ob_shell.specs.Feeding.{Fetch, Fed}
-use Rattle.ob_shell.specs.Running.{SoFar, SessionRan, EndsBy, OutFailed, stop_of, IsQuiet, is_quiet}
-use Rattle.ob_shell.specs.Steps.{Machine, Steps, AnswersAll, StopsIn, IsUntampered}
+use Rattle.ob_shell.specs.Running.{SoFar, SessionRan, EndsBy, LastPart, OutFailed, StoppedBy, halted_of, stop_of, IsQuiet, is_quiet}
+use Rattle.ob_shell.specs.Steps.{Machine, Steps, AnswersAll, IsUndone, StopsIn}
 use Rattle.ob_shell.specs.Traces.{TracedAll, Traced, Traces}
-use Rattle.ob_shell.specs.declared.session.Halted.{Halted}
+use Rattle.ob_shell.specs.declared.session.TextHalted.{TextHalted}
 use Rattle.ob_vault.specs.State.{RevState}
 
 -- ---- what a sink took
@@ -123,14 +126,14 @@ pub at_limit_is_over : (new rest : List ℕ) → new ≡ rest → length new ≡
 at_limit_is_over new rest e h = rw (← e) (grind arith)
 
 -- it stopped at the source's fault or at a limit, with every text served that had come whole
-pub ran_halt : {R : Type 0} {state : R → RevState} {Lost : Type 0} {on : Bool} {t0 t2 : Option (List ℕ)} {f0 f2 : Fetch} {gave : ℕ} {l0 l2 w0 w2 : Option (List ℕ)} {p : List ℕ} {r : Tally} {m0 m1 : Machine R} (stop : Stop) → IsUntampered stop
-    → (so : SoFar state f0 f2 l0 l2 w0 w2 p r m0 m1)
+pub ran_halt : {R : Type 0} {state : R → RevState} {Lost : Type 0} {on : Bool} {t0 t2 : Option (List ℕ)} {f0 f2 : Fetch} {gave : ℕ} {l0 l2 w0 w2 : Option (List ℕ)} {p : List ℕ} {r : Tally} {m0 m1 : Machine R} (stop : Stop)
+    → (IsUndone m1 m1 [] → LastPart state m1 m1 [] [] (Err stop)) → (so : SoFar state f0 f2 l0 l2 w0 w2 p r m0 m1)
     → texts_of p f2.unread ≡ []
     → length f2.unread ≤ gave
     → EndsBy f2 false (so.passed ++ f2.unread) [] [] (Err stop)
     → Traces on t0 t2 m0.store.asked m1.store.asked
     → SessionRan state on f0 f2 l0 l2 gave w0 w2 t0 t2 m0 m1 Lost (Err stop)
-ran_halt {state = state} {Lost} {f0 = f0} {f2 = f2} {gave = gave} {w0 = w0} {w2 = w2} {m1 = m1} stop fine so none late ends traces = record {
+ran_halt {state = state} {Lost} {f0 = f0} {f2 = f2} {gave = gave} {w0 = w0} {w2 = w2} {m1 = m1} stop undone so none late ends traces = record {
   piece = so.fed.piece;
   consumed = so.fed.consumed;
   taken = so.fed.taken;
@@ -146,7 +149,7 @@ ran_halt {state = state} {Lost} {f0 = f0} {f2 = f2} {gave = gave} {w0 = w0} {w2 
   answers = so.answers;
   steps = so.steps;
   part = [];
-  last = PartlyAt-none state m1 [] stop fine;
+  last = undone (record { machine = refl; none = refl });
   cut = subst (λ (l : List ℕ). Outputs w0 w2 Lost l) (sym (append-nil (printed so.answers))) (Outputs-whole w0 w2 Lost (printed so.answers) so.appends);
   whole = took_whole so.appends;
   traced = traces;
@@ -154,21 +157,17 @@ ran_halt {state = state} {Lost} {f0 = f0} {f2 = f2} {gave = gave} {w0 = w0} {w2 
   ends = subst (λ (l : List ℕ). EndsBy f2 false l [] [] (Err stop)) (sym so.fed.joined) ends;
 }
 
-other_stop : (f : Fetch) (ended : Bool) (bytes : List ℕ) (more : List (List ℕ)) (part : List ℕ) (stop : Stop)
-    → (stop ≡ SourceFault → ⊥) → (stop ≡ InputLimit → ⊥) → EndsBy f ended bytes more part (Err stop)
-other_stop f ended bytes more part (Tampered region place) x y = tt
-other_stop f ended bytes more part SinkFault x y = tt
-other_stop f ended bytes more part NoMemory x y = tt
-other_stop f ended bytes more part SourceFault x y = absurd (x refl)
-other_stop f ended bytes more part InputLimit x y = absurd (y refl)
+run_ends : (f : Fetch) (ended : Bool) (bytes : List ℕ) (more : List (List ℕ)) (part : List ℕ) (run : RunStop) → EndsBy f ended bytes more part (Err (session_stop run))
+run_ends f ended bytes more part (Runs.Tampered region place) = tt
+run_ends f ended bytes more part Runs.SinkFault = tt
+run_ends f ended bytes more part Runs.NoMemory = tt
 
 -- it stopped while it served the text that a byte had ended
-pub ran_stop : {R : Type 0} {state : R → RevState} {Lost : Type 0} {on : Bool} {t0 t2 : Option (List ℕ)} {f0 f1 f2 : Fetch} {gave : ℕ} {l0 l1 l2 w0 w1 w2 : Option (List ℕ)} {p : List ℕ} {r : Tally} {b : ℕ} {m0 m1 m2 : Machine R} (stop : Stop)
+pub ran_stop : {R : Type 0} {state : R → RevState} {Lost : Type 0} {on : Bool} {t0 t2 : Option (List ℕ)} {f0 f1 f2 : Fetch} {gave : ℕ} {l0 l1 l2 w0 w1 w2 : Option (List ℕ)} {p : List ℕ} {r : Tally} {b : ℕ} {m0 m1 m2 : Machine R} (run : RunStop)
     → SoFar state f0 f1 l0 l1 w0 w1 p r m0 m1 → Fed f1 f2 l1 l2 (b ∷ []) → length f2.unread < gave
-    → StopsIn state w1 w2 Lost (texts_at p b) stop m1 m2
-    → (stop ≡ SourceFault → ⊥) → (stop ≡ InputLimit → ⊥) → Traces on t0 t2 m0.store.asked m1.store.asked
-    → SessionRan state on f0 f2 l0 l2 gave w0 w2 t0 t2 m0 m2 Lost (Err stop)
-ran_stop {f0 = f0} {f2 = f2} {gave = gave} {w1 = w1} {p = p} {b = b} {m1 = m1} stop so fed late st no_fault no_limit traces =
+    → StopsIn state w1 w2 Lost (texts_at p b) run m1 m2 → Traces on t0 t2 m0.store.asked m1.store.asked
+    → SessionRan state on f0 f2 l0 l2 gave w0 w2 t0 t2 m0 m2 Lost (Err (session_stop run))
+ran_stop {f0 = f0} {f2 = f2} {gave = gave} {w1 = w1} {p = p} {b = b} {m1 = m1} run so fed late st traces =
     let all = Fed-then so.fed fed in
     record {
       piece = all.piece;
@@ -189,12 +188,12 @@ ran_stop {f0 = f0} {f2 = f2} {gave = gave} {w1 = w1} {p = p} {b = b} {m1 = m1} s
       answers = so.answers;
       steps = so.steps;
       part = st.bytes;
-      last = PartlyAt-more _ _ _ _ _ _ _ st.partly;
+      last = last_stopped _ _ _ _ _ run (PartlyAt-more _ _ _ _ _ run _ st.partly);
       cut = Outputs-after _ so.appends st.cut;
       whole = took_then w1 st.cut.grown so.appends st.cut.appends;
       traced = traces;
       counted = tt;
-      ends = other_stop f2 false _ _ _ stop no_fault no_limit;
+      ends = run_ends f2 false _ _ _ run;
     }
 
 -- the input ended, and the rest was served, too
@@ -230,12 +229,11 @@ ran_done {state = state} {Lost} {f0 = f0} {f2 = f2} {gave = gave} {w0 = w0} {w2 
     }
 
 -- the input ended, and it stopped while it served the rest
-pub ran_cut : {R : Type 0} {state : R → RevState} {Lost : Type 0} {on : Bool} {t0 t2 : Option (List ℕ)} {f0 f2 : Fetch} {gave : ℕ} {l0 l2 w0 w1 w2 : Option (List ℕ)} {p : List ℕ} {r : Tally} {m0 m1 m2 : Machine R} (stop : Stop)
+pub ran_cut : {R : Type 0} {state : R → RevState} {Lost : Type 0} {on : Bool} {t0 t2 : Option (List ℕ)} {f0 f2 : Fetch} {gave : ℕ} {l0 l2 w0 w1 w2 : Option (List ℕ)} {p : List ℕ} {r : Tally} {m0 m1 m2 : Machine R} (run : RunStop)
     → SoFar state f0 f2 l0 l2 w0 w1 p r m0 m1 → f2.unread ≡ [] → IsAtEnd l2
-    → StopsIn state w1 w2 Lost (tail_text p) stop m1 m2
-    → (stop ≡ SourceFault → ⊥) → (stop ≡ InputLimit → ⊥) → Traces on t0 t2 m0.store.asked m1.store.asked
-    → SessionRan state on f0 f2 l0 l2 gave w0 w2 t0 t2 m0 m2 Lost (Err stop)
-ran_cut {f0 = f0} {f2 = f2} {gave = gave} {w1 = w1} {p = p} {m1 = m1} stop so none at_end st no_fault no_limit traces =
+    → StopsIn state w1 w2 Lost (tail_text p) run m1 m2 → Traces on t0 t2 m0.store.asked m1.store.asked
+    → SessionRan state on f0 f2 l0 l2 gave w0 w2 t0 t2 m0 m2 Lost (Err (session_stop run))
+ran_cut {f0 = f0} {f2 = f2} {gave = gave} {w1 = w1} {p = p} {m1 = m1} run so none at_end st traces =
     let bytes : f0.unread ++ so.fed.piece ≡ so.passed = so.fed.joined ∙ rw none (append-nil so.passed) in
     record {
       piece = so.fed.piece;
@@ -252,44 +250,39 @@ ran_cut {f0 = f0} {f2 = f2} {gave = gave} {w1 = w1} {p = p} {m1 = m1} stop so no
       answers = so.answers;
       steps = so.steps;
       part = st.bytes;
-      last = st.partly;
+      last = last_stopped _ _ _ _ _ run st.partly;
       cut = Outputs-after _ so.appends st.cut;
       whole = took_then w1 st.cut.grown so.appends st.cut.appends;
       traced = traces;
       counted = tt;
-      ends = other_stop f2 true _ _ _ stop no_fault no_limit;
+      ends = run_ends f2 true _ _ _ run;
     }
 
-pub ran_finish : {R : Type 0} {state : R → RevState} {k0 k1 k2 : ℕ} {on : Bool} {t0 t2 : Option (List ℕ)} {f0 f2 : Fetch} {gave : ℕ} {l0 l2 w0 w1 w2 : Option (List ℕ)} {p : List ℕ} {r : Tally} {m0 m1 m2 : Machine R} (result : Result Tally Halted)
+pub ran_finish : {R : Type 0} {state : R → RevState} {k0 k1 k2 : ℕ} {on : Bool} {t0 t2 : Option (List ℕ)} {f0 f2 : Fetch} {gave : ℕ} {l0 l2 w0 w1 w2 : Option (List ℕ)} {p : List ℕ} {r : Tally} {m0 m1 m2 : Machine R} (result : Result Tally TextHalted)
     → SoFar state f0 f2 l0 l2 w0 w1 p r m0 m1 → f2.unread ≡ [] → IsAtEnd l2 → f2.taken < f2.limit → length p < text_max
     → IfOk result (λ tally. AnswersAll state w1 w2 (tail_text p) r tally m1 m2)
     → IfErr result (λ halted. StopsIn state w1 w2 (OutFailed halted.quiet k1 k2) (tail_text p) halted.stop m1 m2) → k1 ≡ k0
-    → (stop_of result ≡ Err SourceFault → ⊥) → (stop_of result ≡ Err InputLimit → ⊥)
     → (t1 : Option (List ℕ)) → TracedAll on m0.store.asked m1.store.asked t0 t1 → OnOk result (TracedAll on m1.store.asked m2.store.asked t1 t2)
-    → OnErr result (Traced on m1.store.asked m2.store.asked t1 t2 (IsQuiet result))
-    → SessionRan state on f0 f2 l0 l2 gave w0 w2 t0 t2 m0 m2 (OutFailed (is_quiet result) k0 k2) (stop_of result)
-ran_finish (Ok tally) so none at_end below short answered stopped same no_fault no_limit t1 before all cut =
+    → OnErr result (Traced on m1.store.asked m2.store.asked t1 t2 (IsQuiet (halted_of result)))
+    → SessionRan state on f0 f2 l0 l2 gave w0 w2 t0 t2 m0 m2 (OutFailed (is_quiet (halted_of result)) k0 k2) (stop_of (halted_of result))
+ran_finish (Ok tally) so none at_end below short answered stopped same t1 before all cut =
     ran_done tally so none at_end below short answered (traces_all (traced_then before all))
-ran_finish (Err halted) so none at_end below short answered stopped same no_fault no_limit t1 before all cut =
-    ran_cut halted.stop so none at_end (stops_by (lost_since same) stopped)
-    (λ h. no_fault (rw h)) (λ h. no_limit (rw h)) (traces_more before cut)
+ran_finish (Err halted) so none at_end below short answered stopped same t1 before all cut =
+    ran_cut halted.stop so none at_end (stops_by (lost_since same) stopped) (traces_more before cut)
 
 -- a byte brought a stop
-pub ran_turn : {R : Type 0} {state : R → RevState} {Lost : Type 0} {on : Bool} {t0 t2 : Option (List ℕ)} {f0 f1 f2 : Fetch} {gave : ℕ} {l0 l1 l2 w0 w1 w2 : Option (List ℕ)} {p : List ℕ} {r : Tally} {b : ℕ} {m0 m1 m2 : Machine R} (stop : Stop)
+pub ran_turn : {R : Type 0} {state : R → RevState} {k0 k1 k2 : ℕ} {on : Bool} {t0 t2 : Option (List ℕ)} {f0 f1 f2 : Fetch} {gave : ℕ} {l0 l1 l2 w0 w1 w2 : Option (List ℕ)} {p : List ℕ} {r : Tally} {b : ℕ} {m0 m1 m2 : Machine R} (quiet : Bool) (stop : Stop)
     → SoFar state f0 f1 l0 l1 w0 w1 p r m0 m1 → Fed f1 f2 l1 l2 (b ∷ []) → length f2.unread < gave
-    → StopsIn state w1 w2 Lost (texts_at p b) stop m1 m2
-    → (◌≡◌ {A = Result (Unit {0}) Stop} (Err stop) (Err SourceFault) → ⊥)
-    → (◌≡◌ {A = Result (Unit {0}) Stop} (Err stop) (Err InputLimit) → (texts_at p b ≡ []) × (is_over (rest_after p b) ≡ true) × AnswersAll state w1 w2 [] r r m1 m2)
+    → StoppedBy (λ run. StopsIn state w1 w2 (OutFailed quiet k1 k2) (texts_at p b) run m1 m2) ⊥ ((texts_at p b ≡ []) × (is_over (rest_after p b) ≡ true) × AnswersAll state w1 w2 [] r r m1 m2) stop → k1 ≡ k0
     → (t1 : Option (List ℕ)) {F : Type 0} → TracedAll on m0.store.asked m1.store.asked t0 t1 → Traced on m1.store.asked m2.store.asked t1 t2 F
-    → SessionRan state on f0 f2 l0 l2 gave w0 w2 t0 t2 m0 m2 Lost (Err stop)
-ran_turn (Tampered region place) so fed late st no_fault limit t1 before cut = ran_stop (Tampered region place) so fed late st (λ h. cc) (λ h. cc) (traces_more before cut)
-ran_turn SinkFault so fed late st no_fault limit t1 before cut = ran_stop SinkFault so fed late st (λ h. cc) (λ h. cc) (traces_more before cut)
-ran_turn NoMemory so fed late st no_fault limit t1 before cut = ran_stop NoMemory so fed late st (λ h. cc) (λ h. cc) (traces_more before cut)
-ran_turn SourceFault so fed late st no_fault limit t1 before cut = absurd (no_fault refl)
-ran_turn {f2 = f2} {p = p} {b = b} {m1 = m1} {m2 = m2} InputLimit so fed late st no_fault limit t1 before cut =
-    let h = limit refl in
+    → SessionRan state on f0 f2 l0 l2 gave w0 w2 t0 t2 m0 m2 (OutFailed quiet k0 k2) (Err stop)
+ran_turn quiet (Tampered region place) so fed late st same t1 before cut = ran_stop (Runs.Tampered region place) so fed late (stops_by (lost_since same) st) (traces_more before cut)
+ran_turn quiet SinkFault so fed late st same t1 before cut = ran_stop Runs.SinkFault so fed late (stops_by (lost_since same) st) (traces_more before cut)
+ran_turn quiet NoMemory so fed late st same t1 before cut = ran_stop Runs.NoMemory so fed late (stops_by (lost_since same) st) (traces_more before cut)
+ran_turn quiet SourceFault so fed late none same t1 before cut = absurd none
+ran_turn {f2 = f2} {p = p} {b = b} {m1 = m1} {m2 = m2} quiet InputLimit so fed late h same t1 before cut =
     let now = so_far_turn so fed refl (sym h.0) h.2 in
-    ran_halt InputLimit tt now (texts_of-over _ _ h.1) (omega (arith, late))
+    ran_halt InputLimit (λ undone. undone) now (texts_of-over _ _ h.1) (omega (arith, late))
     (refl, refl, refl, inl (rw (rest_of-append, ← now.pending_is, rest_of-over (rest_after p b) f2.unread h.1) h.1))
     (traces_same (ap (λ (m : Machine _). m.store.asked) (no_steps h.2)) (traces_more before cut))
 
@@ -297,15 +290,15 @@ pub ran_source_fault : {R : Type 0} {state : R → RevState} {Lost : Type 0} {on
     → SoFar state f0 f2 l0 l2 w0 w2 p r m0 m1 → f2.unread ≡ [] → length p < text_max → TracedAll on m0.store.asked m1.store.asked t0 t2
     → SessionRan state on f0 f2 l0 l2 gave w0 w2 t0 t2 m0 m1 Lost (Err SourceFault)
 ran_source_fault {p = p} so none short traced =
-    ran_halt SourceFault tt so (rw none (texts_of-nil p)) (rw none (omega arith)) (refl, refl, refl, rw (none, append-nil, ← so.pending_is) (below_is_not_over p short)) (traces_all traced)
+    ran_halt SourceFault (λ undone. undone) so (rw none (texts_of-nil p)) (rw none (omega arith)) (refl, refl, refl, rw (none, append-nil, ← so.pending_is) (below_is_not_over p short)) (traces_all traced)
 
 pub ran_input_limit : {R : Type 0} {state : R → RevState} {Lost : Type 0} {on : Bool} {t0 t2 : Option (List ℕ)} {f0 f2 : Fetch} {gave : ℕ} {l0 l2 w0 w2 : Option (List ℕ)} {p : List ℕ} {r : Tally} {m0 m1 : Machine R}
     → SoFar state f0 f2 l0 l2 w0 w2 p r m0 m1 → f2.unread ≡ [] → f2.taken ≡ f2.limit → TracedAll on m0.store.asked m1.store.asked t0 t2
     → SessionRan state on f0 f2 l0 l2 gave w0 w2 t0 t2 m0 m1 Lost (Err InputLimit)
-ran_input_limit {p = p} so none full traced = ran_halt InputLimit tt so (rw none (texts_of-nil p)) (rw none (omega arith)) (refl, refl, refl, inr full) (traces_all traced)
+ran_input_limit {p = p} so none full traced = ran_halt InputLimit (λ undone. undone) so (rw none (texts_of-nil p)) (rw none (omega arith)) (refl, refl, refl, inr full) (traces_all traced)
 
 -- the trace of all that was asked, and then of what was asked until the end
-pub traced_by : {tracing : Bool} {a0 a1 a2 : List Access} {w0 w1 w2 : Option (List ℕ)} (result : Result Tally Halted) → TracedAll tracing a0 a1 w0 w1
-    → OnOk result (TracedAll tracing a1 a2 w1 w2) → OnErr result (Traced tracing a1 a2 w1 w2 (IsQuiet result)) → Traced tracing a0 a2 w0 w2 (IsQuiet result)
+pub traced_by : {tracing : Bool} {a0 a1 a2 : List Access} {w0 w1 w2 : Option (List ℕ)} (result : Result Tally TextHalted) → TracedAll tracing a0 a1 w0 w1
+    → OnOk result (TracedAll tracing a1 a2 w1 w2) → OnErr result (Traced tracing a1 a2 w1 w2 (IsQuiet (halted_of result))) → Traced tracing a0 a2 w0 w2 (IsQuiet (halted_of result))
 traced_by (Ok flag) p all stop = traced_whole _ (traced_then p all)
 traced_by (Err halted) p all stop = traced_cut p stop

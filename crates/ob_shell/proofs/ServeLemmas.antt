@@ -6,13 +6,14 @@ use Rattle.std.specs.Io.KnownBytes.{Appends}
 use Rattle.std.specs.Result.{is_err}
 use Rattle.ob_base.specs.Events.{Event}
 use Rattle.ob_base.specs.declared.refusal.Refusal.TheVariants.{Syntax}
-use Rattle.ob_base.specs.declared.refusal.Stop.{Stop}
-use Rattle.ob_base.specs.declared.refusal.Stop.TheVariants.{InputLimit, NoMemory, SinkFault, SourceFault, Tampered}
 use Rattle.ob_exec.specs.Agreeing.{seen_of}
 use Rattle.ob_exec.specs.Running.{SinkStops}
 use Rattle.ob_exec.specs.Serving.{Serves}
+use Rattle.ob_exec.specs.Stops.{session_stop}
 use Rattle.ob_exec.specs.declared.outcome.Outcome.{Outcome}
 use Rattle.ob_exec.specs.declared.outcome.Outcome.TheVariants.{Refused}
+use Rattle.ob_exec.specs.declared.stop.RunStop.{RunStop}
+use Rattle.ob_exec.specs.declared.stop.RunStop.TheVariants.{NoMemory, SinkFault, Tampered}
 use Rattle.ob_headline.specs.Closing.{closing_line}
 use Rattle.ob_headline.specs.Words.{faults_of}
 use Rattle.ob_headline.specs.Statements.{Spells}
@@ -29,11 +30,11 @@ use Rattle.ob_vault.specs.State.{RevState}
 
 module _ {R E : Type 0} (state : R → RevState) (grew cut : E → E → List Event → Type 0) (faults : E → ℕ)
     (m0 m1 : Machine R) (out_old out_new : E) (stmt : Stmt) where
-  abbrev pub Called : Result Outcome Stop → Type 0
+  abbrev pub Called : Result Outcome RunStop → Type 0
   Called result = Serves state grew cut faults stmt result m0.engine m0.store m1.engine m1.store out_old out_new
 
   -- what a call of the engine did
-  done : (result : Result Outcome Stop) → Called result → Does state m0 m1 stmt result
+  done : (result : Result Outcome RunStop) → Called result → Does state m0 m1 stmt result
   done result serves = record {
     ran = serves.ran;
     early = serves.early;
@@ -91,13 +92,13 @@ module _ {R E : Type 0} (state : R → RevState) (grew cut : E → E → List Ev
               answer = record { outcome = outcome; bytes = text_of ++ closing_line outcome; plan = (seen_of m1.engine).plan };
               step = record { done = inr (served_by text spells outcome serves) };
               whole = refl;
-              fault = tt;
+              fault = refl;
             }));
             cut = Outputs-more (closing_line outcome) (Outputs-fault lost (began answer.events answer.took)) lost;
           }
 
       -- the engine was stopped, and of the text of these events this was printed
-      cut_short : (stop : Stop) (serves : Called (Err stop)) (bytes : List ℕ) → PrintsUntil stop bytes (events_text serves.stopped.events) → Outputs w0 w1 Lost bytes → StopsIn state w0 w1 Lost (text ∷ []) stop m0 m1
+      cut_short : (stop : RunStop) (serves : Called (Err stop)) (bytes : List ℕ) → PrintsUntil (session_stop stop) bytes (events_text serves.stopped.events) → Outputs w0 w1 Lost bytes → StopsIn state w0 w1 Lost (text ∷ []) stop m0 m1
       cut_short stop serves bytes printed cut = record {
         bytes = bytes;
         partly = inr (inl (record {
@@ -116,12 +117,10 @@ module _ {R E : Type 0} (state : R → RevState) (grew cut : E → E → List Ev
       failed_by serves lost began = cut_short SinkFault serves (events_text serves.stopped.events) refl (Outputs-fault lost (began serves.stopped.events serves.stopped.ends))
 
       -- the sink took them, unless it failed; or memory was wanting for the last of them
-      pub stopped_by : (stop : Stop) → (stop ≡ SinkFault → ⊥) → Called (Err stop) → ((events : List Event) → grew out_old out_new events → Outputs w0 w1 Lost (events_text events))
+      pub stopped_by : (stop : RunStop) → (stop ≡ SinkFault → ⊥) → Called (Err stop) → ((events : List Event) → grew out_old out_new events → Outputs w0 w1 Lost (events_text events))
           → ((events : List Event) → cut out_old out_new events → Outputs w0 w1 (Unit {0}) (events_text events)) → StopsIn state w0 w1 Lost (text ∷ []) stop m0 m1
       stopped_by (Tampered region place) other serves whole began = cut_short (Tampered region place) serves (events_text serves.stopped.events) refl (whole serves.stopped.events serves.stopped.ends)
       stopped_by SinkFault other serves whole began = absurd (other refl)
-      stopped_by SourceFault other serves whole began = absurd serves.ran.cause
-      stopped_by InputLimit other serves whole began = absurd serves.ran.cause
       stopped_by NoMemory other serves whole began = elim serves.stopped.ends [
         | inl took ↦ cut_short NoMemory serves (events_text serves.stopped.events) (record { lost = []; whole = sym (append-nil (events_text serves.stopped.events)) }) (whole serves.stopped.events took)
         | inr ends ↦ let printed = began serves.stopped.events ends in cut_short NoMemory serves printed.grown printed.prefix (Outputs-whole _ _ _ _ printed.appends)
@@ -137,23 +136,19 @@ misspelt state w m text at spells = record {
 }
 
 -- of the emitter's stop alone the count rises
-stop_keeps : (stop : Stop) (out0 out1 : ℕ) → (stop ≡ SinkFault → ⊥) → SinkStops (Err stop) out0 out1 → out1 ≡ out0
+stop_keeps : (stop : RunStop) (out0 out1 : ℕ) → (stop ≡ SinkFault → ⊥) → SinkStops (Err stop) out0 out1 → out1 ≡ out0
 stop_keeps (Tampered region place) out0 out1 not cause = cause
 stop_keeps NoMemory out0 out1 not cause = cause
 stop_keeps SinkFault out0 out1 not cause = absurd (not refl)
-stop_keeps SourceFault out0 out1 not cause = absurd cause
-stop_keeps InputLimit out0 out1 not cause = absurd cause
 
 -- a stop of the engine, and what waited was flushed after it
-pub stop_cause : (T : Type 0) (stop : Stop) (out0 out1 out2 : ℕ) → SinkStops (Err stop) out0 out1 → out1 ≤ out2 → StopCause {T = T} (faults_of 0 out0 0) (faults_of 0 out2 0) (Err stop)
+pub stop_cause : (T : Type 0) (stop : RunStop) (out0 out1 out2 : ℕ) → SinkStops (Err stop) out0 out1 → out1 ≤ out2 → StopCause {T = T} (faults_of 0 out0 0) (faults_of 0 out2 0) (Err (session_stop stop))
 stop_cause T (Tampered region place) out0 out1 out2 cause later = (refl, omega arith, omega arith)
 stop_cause T NoMemory out0 out1 out2 cause later = (refl, omega arith, omega arith)
 stop_cause T SinkFault out0 out1 out2 cause later = (refl, inl (rises_later out0 out1 out2 cause later))
-stop_cause T SourceFault out0 out1 out2 cause later = absurd cause
-stop_cause T InputLimit out0 out1 out2 cause later = absurd cause
 
 -- whether what waited could be flushed after it
-pub flush_silences : {T E : Type 0} (stop : Stop) (r : Result T E) (quiet : Bool) (out0 out1 out2 : ℕ) → (stop ≡ SinkFault → ⊥) → SinkStops (Err stop) out0 out1 → quiet ≡ is_err r → HasCause out1 out2 r
+pub flush_silences : {T E : Type 0} (stop : RunStop) (r : Result T E) (quiet : Bool) (out0 out1 out2 : ℕ) → (stop ≡ SinkFault → ⊥) → SinkStops (Err stop) out0 out1 → quiet ≡ is_err r → HasCause out1 out2 r
     → Silenced quiet (faults_of 0 out0 0) (faults_of 0 out2 0)
 flush_silences stop (Ok x) quiet out0 out1 out2 not cause is flushed = rw is (flushed.kept ∙ stop_keeps stop out0 out1 not cause, refl)
 flush_silences stop (Err e) quiet out0 out1 out2 not cause is flushed =
@@ -161,7 +156,7 @@ flush_silences stop (Err e) quiet out0 out1 out2 not cause is flushed =
     rw is (inl (rises_earlier out0 out1 out2 (omega (arith, same)) flushed.failed))
 
 -- where the flush after it fails, what waited may be lost
-pub flush_loses : {T E : Type 0} (stop : Stop) (r : Result T E) (quiet : Bool) (out0 out1 out2 : ℕ) → (stop ≡ SinkFault → ⊥) → SinkStops (Err stop) out0 out1 → quiet ≡ is_err r → HasCause out1 out2 r → IsErr r
+pub flush_loses : {T E : Type 0} (stop : RunStop) (r : Result T E) (quiet : Bool) (out0 out1 out2 : ℕ) → (stop ≡ SinkFault → ⊥) → SinkStops (Err stop) out0 out1 → quiet ≡ is_err r → HasCause out1 out2 r → IsErr r
     → OutFailed quiet out0 out2
 flush_loses stop (Ok x) quiet out0 out1 out2 not cause is flushed failed = absurd (cc failed)
 flush_loses stop (Err e) quiet out0 out1 out2 not cause is flushed failed =

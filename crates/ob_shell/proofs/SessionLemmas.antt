@@ -160,10 +160,10 @@ meets (Err InputLimit) w lie calm is unfit = absurd (unfit (calm.calm lie is))
 -- a session that ends as tampered ends with the read of that place
 last_read : {R : Type 0} (state : R → RevState) (m1 m2 : Machine R) (more : List (List ℕ)) (part : List ℕ) (region place : ℕ) → LastPart state m1 m2 more part (Err (Tampered region place))
     → EndsAtRead region place m2.store.asked
-last_read state m1 m2 [] part region place idle = absurd idle.untampered
-last_read state m1 m2 (text ∷ more) part region place (inl idle) = absurd idle.untampered
+last_read state m1 m2 [] part region place idle = absurd (cc idle.untampered)
+last_read state m1 m2 (text ∷ more) part region place (inl idle) = absurd (cc idle.untampered)
 last_read state m1 m2 (text ∷ more) part region place (inr (inl cut)) = record { before = cut.does.ran.cause.1.before; is = cut.does.ran.cause.1.asked }
-last_read state m1 m2 (text ∷ more) part region place (inr (inr done)) = absurd done.fault
+last_read state m1 m2 (text ∷ more) part region place (inr (inr done)) = absurd (cc done.fault)
 
 -- what is said of a closing
 writes_by : {R : Type 0} {state : R → RevState} {e : Engine R} {s t : StoreState} (r : Result Mark CloseErr) → ClosesEngine state r e s t → Writes (next_closing e s) (closing_script e s) r s t

@@ -1,14 +1,20 @@
 -- Texts that are answered one after the other.
-use Rattle.std.proofs.Common.{◌≡◌, ℕ, List, [], ◌∷◌, ◌++◌, Option, refl, sym, ap, ◌∙◌, subst, inl, inr, append_assoc, append-nil}
+use Rattle.std.proofs.Common.{◌≡◌, ℕ, List, [], ◌∷◌, ◌++◌, Option, Err, refl, sym, ap, ◌∙◌, subst, inl, inr, append_assoc, append-nil}
 use Rattle.std.proofs.KnownBytes.{Appends-nil}
 use Rattle.std.specs.Io.KnownBytes.{Appends}
 use Rattle.ob_base.specs.declared.refusal.Stop.{Stop}
+use Rattle.ob_base.specs.declared.refusal.Stop.TheVariants.{SourceFault, InputLimit}
+use Rattle.ob_exec.specs.Stops.{session_stop}
+use Rattle.ob_exec.specs.Telling.{IsNotTampered}
+use Rattle.ob_exec.specs.declared.stop.RunStop.{RunStop}
+use Rattle.ob_exec.specs.declared.stop.RunStop.TheVariants as Runs
 use Rattle.ob_gen.specs.declared.tally.Tally.{Tally}
-use Rattle.ob_headline.specs.Endings.{IsSinkFault}
 use Rattle.ob_headline.specs.Words.{Answer, printed}
 use Rattle.ob_print.proofs.CutLemmas.{Outputs-by, Outputs-whole}
+use Rattle.ob_shell.proofs.StopLemmas.{by_stop, stopped_as}
 use Rattle.ob_shell.proofs.TallyLemmas.{tally_after-nil, tally_after-one}
-use Rattle.ob_shell.specs.Steps.{Machine, Step, Steps, Idle, IsUntampered, PartlyAt, AnswersAll, StopsIn}
+use Rattle.ob_shell.specs.Running.{LastPart}
+use Rattle.ob_shell.specs.Steps.{Machine, Step, Steps, Idle, IsUndone, PartlyAt, AnswersAll, StopsIn}
 use Rattle.ob_shell.specs.Tallies.{tally_with}
 use Rattle.ob_vault.specs.State.{RevState}
 
@@ -65,21 +71,21 @@ answers_one text t answer step bytes = record {
   counted = sym (tally_after-one t answer);
 }
 
-pub PartlyAt-none : {R : Type 0} (state : R → RevState) (m : Machine R) (texts : List (List ℕ)) (stop : Stop) → IsUntampered stop → PartlyAt state m m texts stop []
+pub PartlyAt-none : {R : Type 0} (state : R → RevState) (m : Machine R) (texts : List (List ℕ)) (stop : RunStop) → IsNotTampered stop → PartlyAt state m m texts stop []
 PartlyAt-none state m [] stop fine = record { rests = record { machine = refl; none = refl }; untampered = fine }
 PartlyAt-none state m (t ∷ ts) stop fine = inl (record { rests = record { machine = refl; none = refl }; untampered = fine })
 
-pub PartlyAt-rests : {R : Type 0} (state : R → RevState) (m0 m1 : Machine R) (texts : List (List ℕ)) (stop : Stop) (bytes : List ℕ) → Idle m0 m1 stop bytes → PartlyAt state m0 m1 texts stop bytes
+pub PartlyAt-rests : {R : Type 0} (state : R → RevState) (m0 m1 : Machine R) (texts : List (List ℕ)) (stop : RunStop) (bytes : List ℕ) → Idle m0 m1 stop bytes → PartlyAt state m0 m1 texts stop bytes
 PartlyAt-rests state m0 m1 [] stop bytes r = r
 PartlyAt-rests state m0 m1 (t ∷ ts) stop bytes r = inl r
 
-pub PartlyAt-more : {R : Type 0} (state : R → RevState) (m0 m1 : Machine R) (texts more : List (List ℕ)) (stop : Stop) (bytes : List ℕ)
+pub PartlyAt-more : {R : Type 0} (state : R → RevState) (m0 m1 : Machine R) (texts more : List (List ℕ)) (stop : RunStop) (bytes : List ℕ)
     → PartlyAt state m0 m1 texts stop bytes → PartlyAt state m0 m1 (texts ++ more) stop bytes
 PartlyAt-more state m0 m1 [] more stop bytes p = PartlyAt-rests state m0 m1 more stop bytes p
 PartlyAt-more state m0 m1 (t ∷ ts) more stop bytes p = p
 
 -- nothing was done of the texts
-pub stops_before : {R : Type 0} {state : R → RevState} {Lost : Type 0} (w : Option (List ℕ)) (m : Machine R) (texts : List (List ℕ)) (stop : Stop) → IsUntampered stop → StopsIn state w w Lost texts stop m m
+pub stops_before : {R : Type 0} {state : R → RevState} {Lost : Type 0} (w : Option (List ℕ)) (m : Machine R) (texts : List (List ℕ)) (stop : RunStop) → IsNotTampered stop → StopsIn state w w Lost texts stop m m
 stops_before {state = state} w m texts stop fine = record { bytes = []; partly = PartlyAt-none state m texts stop fine; cut = Outputs-whole w w _ [] (Appends-nil w) }
 
 -- the only answer of a list
@@ -97,7 +103,7 @@ only_answer {R = R} state m0 m1 text answers p = record {
 }
 
 -- the whole answer was taken, and the stop came after it
-pub stops_after : {R : Type 0} {state : R → RevState} {Lost : Type 0} {w0 w1 : Option (List ℕ)} {text : List ℕ} {r0 r1 : Tally} {m0 m1 : Machine R} (stop : Stop) → IsSinkFault stop
+pub stops_after : {R : Type 0} {state : R → RevState} {Lost : Type 0} {w0 w1 : Option (List ℕ)} {text : List ℕ} {r0 r1 : Tally} {m0 m1 : Machine R} (stop : RunStop) → stop ≡ Runs.SinkFault
     → AnswersAll state w0 w1 (text ∷ []) r0 r1 m0 m1 → StopsIn state w0 w1 Lost (text ∷ []) stop m0 m1
 stops_after {state = state} {text = text} {m0 = m0} {m1 = m1} stop fault all =
     let one = only_answer state m0 m1 text all.answers all.steps in
@@ -108,6 +114,16 @@ stops_after {state = state} {text = text} {m0 = m0} {m1 = m1} stop fault all =
     }
 
 -- what was lost has a cause of its own
-pub stops_by : {R : Type 0} {state : R → RevState} {w0 w1 : Option (List ℕ)} {F G : Type 0} {texts : List (List ℕ)} {stop : Stop} {m0 m1 : Machine R} → (F → G) → StopsIn state w0 w1 F texts stop m0 m1
+pub stops_by : {R : Type 0} {state : R → RevState} {w0 w1 : Option (List ℕ)} {F G : Type 0} {texts : List (List ℕ)} {stop : RunStop} {m0 m1 : Machine R} → (F → G) → StopsIn state w0 w1 F texts stop m0 m1
     → StopsIn state w0 w1 G texts stop m0 m1
 stops_by by stops = record { bytes = stops.bytes; partly = stops.partly; cut = Outputs-by by stops.cut }
+
+-- ---- what was done after the last text that was served whole
+module _ {R : Type 0} (state : R → RevState) (m1 m2 : Machine R) (more : List (List ℕ)) (part : List ℕ) where
+  pub last_stopped : (run : RunStop) → PartlyAt state m1 m2 more run part → LastPart state m1 m2 more part (Err (session_stop run))
+  last_stopped = stopped_as (λ run. PartlyAt state m1 m2 more run part) (IsUndone m1 m2 part) (IsUndone m1 m2 part)
+
+  -- something was done of a text, or nothing before a stop by the source or a limit
+  pub by_last : (P : Stop → Type 0) (stop : Stop) → LastPart state m1 m2 more part (Err stop) → ((run : RunStop) → PartlyAt state m1 m2 more run part → P (session_stop run))
+      → (IsUndone m1 m2 part → P SourceFault) → (IsUndone m1 m2 part → P InputLimit) → P stop
+  by_last = by_stop (λ run. PartlyAt state m1 m2 more run part) (IsUndone m1 m2 part) (IsUndone m1 m2 part)

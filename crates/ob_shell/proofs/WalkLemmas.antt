@@ -10,7 +10,7 @@ use Rattle.ob_base.specs.declared.config.Public.{Public}
 use Rattle.ob_base.specs.declared.refusal.Refusal.{Refusal}
 use Rattle.ob_base.specs.declared.refusal.Refusal.TheVariants.{StoreFault}
 use Rattle.ob_base.specs.declared.refusal.Stop.{Stop}
-use Rattle.ob_base.specs.declared.refusal.Stop.TheVariants.{InputLimit, NoMemory, SinkFault, SourceFault, Tampered}
+use Rattle.ob_base.specs.declared.refusal.Stop.TheVariants.{NoMemory}
 use Rattle.ob_base.specs.declared.seen.End.{End}
 use Rattle.ob_base.specs.declared.seen.Seen.{Seen}
 use Rattle.ob_exec.proofs.EmitLemmas.{unfit_none}
@@ -18,19 +18,21 @@ use Rattle.ob_exec.specs.Agreeing.{engine_start, opened_from, public_of, seen_of
 use Rattle.ob_select.specs.Memory.{AtMake}
 use Rattle.ob_exec.specs.Refusals.{by_fault, refused_end}
 use Rattle.ob_exec.specs.Running.{Emits, RefusedEarly, RunCause, is_fault, outcome_end, refusal_now}
+use Rattle.ob_exec.specs.Stops.{session_stop}
 use Rattle.ob_exec.specs.Telling.{IsNotTampered, meant_script, ReadsTrue, ReadsTrueUntil, Represents, answer_labels, is_refused}
 use Rattle.ob_exec.specs.declared.outcome.Outcome.{Outcome}
 use Rattle.ob_exec.specs.declared.outcome.Outcome.TheVariants.{Created, Inserted, Changed, Deleted, Dropped, Rows, Refused}
+use Rattle.ob_exec.specs.declared.stop.RunStop.{RunStop}
+use Rattle.ob_exec.specs.declared.stop.RunStop.TheVariants as Runs
 use Rattle.ob_headline.specs.Closing.{closing_line}
 use Rattle.ob_headline.specs.Disturbed.{MeantUntil}
-use Rattle.ob_headline.specs.Endings.{IsSinkFault}
 use Rattle.ob_headline.specs.Words.{Answer, Begins, refused_at}
 use Rattle.ob_headline.specs.Statements.{SpellFirst, statements}
 use Rattle.ob_headline.specs.Accesses.{AreSeen, Says, StopsWithin, WantsMemory, any_cut, is_cut}
 use Rattle.ob_headline.specs.Meaning.{AnswersFrom, AnswersIn, BeginsAnswer}
 use Rattle.ob_headline.specs.declared.ending.Ending.{Ending}
 use Rattle.ob_headline.specs.declared.ending.Ending.TheVariants.{Usage, BadKey, Ran}
-use Rattle.ob_mean.specs.Replay.{Broken, IsCutOff, Session, Spelt, after, after_all, all_served, seen_now, seen_or_cut}
+use Rattle.ob_mean.specs.Replay.{Broken, IsCutOff, Session, Spelt, after, after_all, all_served, cut_at, seen_now, seen_or_cut}
 use Rattle.ob_mean.specs.Verdict.{Tables}
 use Rattle.ob_print.specs.Rows.{events_text}
 use Rattle.ob_script.specs.Script.{script, whole_script}
@@ -38,8 +40,10 @@ use Rattle.ob_script.specs.Trace.{Served as Entry, after_all as all_public, next
 use Rattle.ob_seal.specs.KeySet.{KeySet}
 use Rattle.ob_shell.proofs.DisturbLemmas.{before_less, begins_more, crosses, few_or_more, take_begins}
 use Rattle.ob_shell.proofs.ReplayLemmas.{counts_on, fault_is, cut_early, cut_within, outcome_cases, stands_after}
+use Rattle.ob_shell.proofs.StepLemmas.{by_last}
+use Rattle.ob_shell.proofs.StopLemmas.{only_memory, only_sink, stop_untampered, tampered_as}
 use Rattle.ob_shell.specs.Running.{LastPart}
-use Rattle.ob_shell.specs.Steps.{CutStep, Does, IsUntampered, Machine, Misspelt, ServedStatement, Steps, asked_of, session_of}
+use Rattle.ob_shell.specs.Steps.{CutStep, Does, Machine, Misspelt, PartlyAt, ServedStatement, Steps, asked_of, session_of}
 use Rattle.ob_shell.specs.Top.{EndsUntampered}
 use Rattle.ob_sql.specs.Skeleton.{skeleton}
 use Rattle.ob_sql.specs.declared.stmt.Stmt.{Stmt}
@@ -93,19 +97,8 @@ says (Some r) p stmt answer here events refused emits bytes same planned =
     λ i. record { outcome = is i; bytes = line i; plan = unplanned i }
 
 -- ---- a stop that is none by a block
-stop_untampered : (stop : Stop) → IsNotTampered stop → IsUntampered stop
-stop_untampered (Tampered region place) not = absurd (cc not)
-stop_untampered SourceFault not = tt
-stop_untampered SinkFault not = tt
-stop_untampered NoMemory not = tt
-stop_untampered InputLimit not = tt
-
-sink_untampered : (stop : Stop) → IsSinkFault stop → IsUntampered stop
-sink_untampered (Tampered region place) fault = fault
-sink_untampered SourceFault fault = tt
-sink_untampered SinkFault fault = tt
-sink_untampered NoMemory fault = tt
-sink_untampered InputLimit fault = tt
+sink_untampered : (run : RunStop) → run ≡ Runs.SinkFault → IsNotTampered run
+sink_untampered run fault = ap is_refused fault
 
 or_first : (a b : Bool) → (a || b) ≡ false → a ≡ false
 or_first true b is = is
@@ -153,7 +146,7 @@ module _ {R : Type 0} (state : R → RevState) where
   early_answered n s asked0 asked2 at spelt one answers seen is rest = record { meant = (is, rest.meant); begins = rest.begins; quiet = rest.quiet }
 
   -- a statement was begun
-  early_one : (m0 m2 : Machine R) (tables : Tables) (stmt : Stmt) (result : Result Outcome Stop) (n : ℕ) (seen : List Entry) → Does state m0 m2 stmt result → IsTrue m0.store.tells → IsSteady m0.store
+  early_one : (m0 m2 : Machine R) (tables : Tables) (stmt : Stmt) (result : Result Outcome RunStop) (n : ℕ) (seen : List Entry) → Does state m0 m2 stmt result → IsTrue m0.store.tells → IsSteady m0.store
       → Represents state m0.engine m0.store tables → IsBefore m0.store.disturbed n → length m0.store.asked ≤ n
       → EarlyFrom n (session_of m0 tables) m0.store.asked m2.store.asked (Ok stmt ∷ []) [] seen
   unfolding MeantUntil
@@ -222,10 +215,10 @@ module _ {R : Type 0} (state : R → RevState) where
   }
 
   -- a statement was stopped
-  wants : (m0 m2 : Machine R) (stmt : Stmt) (stop : Stop) → Does state m0 m2 stmt (Err stop) → Ran (Err stop) ≡ Ran (Err NoMemory)
+  wants : (m0 m2 : Machine R) (stmt : Stmt) (run : RunStop) → Does state m0 m2 stmt (Err run) → Ran (Err (session_stop run)) ≡ Ran (Err NoMemory)
       → WantsMemory (public_of m0.engine) stmt (seen_of m2.engine)
-  wants m0 m2 stmt stop does is =
-      let lacks = does.memory (cc is) in
+  wants m0 m2 stmt run does is =
+      let lacks = does.memory (only_memory run (cc is)) in
       let p = public_of m0.engine in
       let done : lacks.done ≡ script p (skeleton stmt) (seen_of m2.engine) = append_cancel_left m0.store.asked _ _ (sym lacks.asked ∙ does.ran.asked) in
       record {
@@ -237,26 +230,26 @@ module _ {R : Type 0} (state : R → RevState) where
         ];
       }
 
-  stopped_part : (m0 m2 : Machine R) (tables : Tables) (text : List ℕ) (stop : Stop) (part : List ℕ) → (cut : CutStep state m0 m2 text stop part)
+  stopped_part : (m0 m2 : Machine R) (tables : Tables) (text : List ℕ) (run : RunStop) (part : List ℕ) → (cut : CutStep state m0 m2 text run part)
       → ReadsTrueUntil state m0.engine m0.store m2.engine m2.store tables
-      → BeginsAnswer (Ran (Err stop)) (session_of m0 tables) (Ok cut.stmt) (record { skeleton = skeleton cut.stmt; seen = seen_of m2.engine } ∷ []) part
-  stopped_part m0 m2 tables text stop part cut reads =
+      → BeginsAnswer (Ran (Err (session_stop run))) (session_of m0 tables) (Ok cut.stmt) (record { skeleton = skeleton cut.stmt; seen = seen_of m2.engine } ∷ []) part
+  stopped_part m0 m2 tables text run part cut reads =
       let n = length m2.store.asked - length m0.store.asked in
       let seen_is = cut.does.means.held tables reads in
       inl (record {
-        started = cut_early state m0 m2 tables cut.stmt (Err stop) cut.does (is_refused stop) n seen_is reads.held;
+        started = cut_early state m0 m2 tables cut.stmt (Err run) cut.does (is_refused run) n seen_is reads.held;
         n = n;
-        within = cut_within state m0 m2 tables cut.stmt (Err stop) cut.does (is_refused stop) n seen_is;
-        seen = seen_is;
+        within = cut_within state m0 m2 tables cut.stmt (Err run) cut.does (is_refused run) n seen_is;
+        seen = subst (λ (failed : Bool). seen_of m2.engine ≡ cut_at failed n (public_of m0.engine) (skeleton cut.stmt) (seen_now (session_of m0 tables) cut.stmt)) (tampered_as run) seen_is;
         events = cut.events;
         begun = cut.emitted tables reads;
         printed = cut.printed;
       })
 
-  walked_cut : (Failed : Type 0) (m0 m2 : Machine R) (text : List ℕ) (more : List (List ℕ)) (stop : Stop) (part : List ℕ) → CutStep state m0 m2 text stop part
-      → Walked (Ran (Err stop)) Failed m0 m0 m2 [] (text ∷ more) [] part
+  walked_cut : (Failed : Type 0) (m0 m2 : Machine R) (text : List ℕ) (more : List (List ℕ)) (run : RunStop) (part : List ℕ) → CutStep state m0 m2 text run part
+      → Walked (Ran (Err (session_stop run))) Failed m0 m0 m2 [] (text ∷ more) [] part
   unfolding SpellFirst AreSeen AnswersFrom any_cut statements
-  walked_cut Failed m0 m2 text more stop part cut =
+  walked_cut Failed m0 m2 text more run part cut =
       let sk = skeleton cut.stmt in
       let here = seen_of m2.engine in
       record {
@@ -269,7 +262,7 @@ module _ {R : Type 0} (state : R → RevState) where
         last = record { skeleton = sk; seen = here } ∷ [];
         one_last = omega arith;
         each_seen = refl;
-        lawful = (refl, cut.does.lawful, ((λ is. wants m0 m2 cut.stmt stop cut.does is), (λ is off. inl (cut.does.emits (cc is)))), refl);
+        lawful = (refl, cut.does.lawful, ((λ is. wants m0 m2 cut.stmt run cut.does is), (λ is off. inl (cut.does.emits (only_sink run (cc is))))), refl);
         passed = sym (append-nil m0.store.asked);
         asked = cut.does.ran.asked ∙ ap (λ xs. m0.store.asked ++ xs) (sym (append-nil (script (public_of m0.engine) sk here)));
         keys = cut.does.ran.keys;
@@ -278,9 +271,9 @@ module _ {R : Type 0} (state : R → RevState) where
         public = refl;
         unfailed = λ not. absurd (cc (ap is_cut cut.does.ran.ends, or_first (is_cut here.end) false not));
         lie = cut.does.ran.later.lie;
-        meant = λ tells calm unfit tables held. ([], stopped_part m0 m2 tables text stop part cut (record { tells = tells; held = held; calm = calm; unfit = unfit }), λ whole. absurd whole);
-        untampered = λ tells tables held honest. stop_untampered stop (cut.does.means.honest tables (record { tells = tells; held = held; nolie = honest }));
-        early = λ tells steady tables held n before few. early_one m0 m2 tables cut.stmt (Err stop) n _ cut.does tells steady held before few;
+        meant = λ tells calm unfit tables held. ([], stopped_part m0 m2 tables text run part cut (record { tells = tells; held = held; calm = calm; unfit = unfit }), λ whole. absurd whole);
+        untampered = λ tells tables held honest. stop_untampered run (cut.does.means.honest tables (record { tells = tells; held = held; nolie = honest }));
+        early = λ tells steady tables held n before few. early_one m0 m2 tables cut.stmt (Err run) n _ cut.does tells steady held before few;
       }
 
   -- how the model answers a statement that was answered
@@ -321,13 +314,13 @@ module _ {R : Type 0} (state : R → RevState) where
   reads_true m0 m1 tables text one did tells held calm unfit = record { tells = tells; held = held; nolie = unfit_none (world m1) (did.does.ran.cause.1 calm) unfit }
 
   -- a text was answered, and a sink failed
-  not_memory : (stop : Stop) → IsSinkFault stop → Ran (Err stop) ≡ Ran (Err NoMemory) → ⊥
-  not_memory stop fault is = let same : stop ≡ NoMemory = cc is in subst (λ (s : Stop). IsSinkFault s) same fault
+  not_memory : (run : RunStop) → run ≡ Runs.SinkFault → Ran (Err (session_stop run)) ≡ Ran (Err NoMemory) → ⊥
+  not_memory run fault is = cc (ap session_stop fault, is)
 
-  walked_done : (Failed : Type 0) (m0 m2 : Machine R) → (Rises m0.store.faults m2.store.faults → Failed) → (text : List ℕ) (more : List (List ℕ)) (stop : Stop) (one : Answer) (part : List ℕ) → part ≡ one.bytes → IsSinkFault stop → ServedStatement state m0 m2 text one
-      → Walked (Ran (Err stop)) Failed m0 m0 m2 [] (text ∷ more) [] part
+  walked_done : (Failed : Type 0) (m0 m2 : Machine R) → (Rises m0.store.faults m2.store.faults → Failed) → (text : List ℕ) (more : List (List ℕ)) (run : RunStop) (one : Answer) (part : List ℕ) → part ≡ one.bytes → run ≡ Runs.SinkFault → ServedStatement state m0 m2 text one
+      → Walked (Ran (Err (session_stop run))) Failed m0 m0 m2 [] (text ∷ more) [] part
   unfolding SpellFirst AreSeen AnswersFrom any_cut statements
-  walked_done Failed m0 m2 rose text more stop one part is fault did =
+  walked_done Failed m0 m2 rose text more run one part is fault did =
       let sk = skeleton did.stmt in
       let here = seen_of m2.engine in
       record {
@@ -340,7 +333,7 @@ module _ {R : Type 0} (state : R → RevState) where
         last = record { skeleton = sk; seen = here } ∷ [];
         one_last = omega arith;
         each_seen = refl;
-        lawful = (refl, did.does.lawful, ((λ is. absurd (not_memory stop fault is)), (λ is off. inr (rose (rose_by one.outcome (world m0) (world m2) here.end _ did.does.ran.cause did.does.ran.ends off)))), refl);
+        lawful = (refl, did.does.lawful, ((λ is. absurd (not_memory run fault is)), (λ is off. inr (rose (rose_by one.outcome (world m0) (world m2) here.end _ did.does.ran.cause did.does.ran.ends off)))), refl);
         passed = sym (append-nil m0.store.asked);
         asked = did.does.ran.asked ∙ ap (λ xs. m0.store.asked ++ xs) (sym (append-nil (script (public_of m0.engine) sk here)));
         keys = did.does.ran.keys;
@@ -352,7 +345,7 @@ module _ {R : Type 0} (state : R → RevState) where
         meant = λ tells calm unfit tables held.
             let by = answered_by m0 m2 tables text one did (reads_true m0 m2 tables text one did tells held calm unfit) in
             ([], inr (record { broken = by.how; cuts = by.cuts; seen = by.seen; answer = one; answers = by.answer; whole = is }), λ whole. absurd whole);
-        untampered = λ tells tables held honest. sink_untampered stop fault;
+        untampered = λ tells tables held honest. stop_untampered run (sink_untampered run fault);
         early = λ tells steady tables held n before few. early_one m0 m2 tables did.stmt (Ok one.outcome) n _ did.does tells steady held before few;
       }
 
@@ -387,15 +380,21 @@ module _ {R : Type 0} (state : R → RevState) where
     early = λ tells steady tables held n before few. early_refused n (session_of m0 tables) m0.store.asked m2.store.asked bad.at [] [] refl (early_none n (session_of m0 tables) m0.store.asked m2.store.asked [] (ap (λ (m : Machine R). m.store.asked) bad.same) few);
   }
 
+  walked_part : (Failed : Type 0) (m1 m2 : Machine R) (more : List (List ℕ)) (run : RunStop) (part : List ℕ) → (Rises m1.store.faults m2.store.faults → Failed) → PartlyAt state m1 m2 more run part
+      → Walked (Ran (Err (session_stop run))) Failed m1 m1 m2 [] more [] part
+  walked_part Failed m1 m2 [] run part rose idle = walked_none _ Failed m1 m2 [] part idle.rests.machine idle.rests.none (stop_untampered run idle.untampered)
+  walked_part Failed m1 m2 (text ∷ more) run part rose (inl idle) = walked_none _ Failed m1 m2 (text ∷ more) part idle.rests.machine idle.rests.none (stop_untampered run idle.untampered)
+  walked_part Failed m1 m2 (text ∷ more) run part rose (inr (inl cut)) = walked_cut Failed m1 m2 text more run part cut
+  walked_part Failed m1 m2 (text ∷ more) run part rose (inr (inr done)) = elim done.step.done [
+    | inl bad ↦ walked_refused _ Failed m1 m2 text more done.answer part done.whole bad (stop_untampered run (sink_untampered run done.fault))
+    | inr did ↦ walked_done Failed m1 m2 rose text more run done.answer part done.whole done.fault did
+  ]
+
   pub walked_last : (Failed : Type 0) (m1 m2 : Machine R) (more : List (List ℕ)) (part : List ℕ) (result : Result Bool Stop) → (Rises m1.store.faults m2.store.faults → Failed) → LastPart state m1 m2 more part result → Walked (Ran result) Failed m1 m1 m2 [] more [] part
   walked_last Failed m1 m2 more part (Ok flag) rose rests = walked_none (Ran (Ok flag)) Failed m1 m2 more part rests.machine rests.none tt
-  walked_last Failed m1 m2 [] part (Err stop) rose idle = walked_none (Ran (Err stop)) Failed m1 m2 [] part idle.rests.machine idle.rests.none idle.untampered
-  walked_last Failed m1 m2 (text ∷ more) part (Err stop) rose (inl idle) = walked_none (Ran (Err stop)) Failed m1 m2 (text ∷ more) part idle.rests.machine idle.rests.none idle.untampered
-  walked_last Failed m1 m2 (text ∷ more) part (Err stop) rose (inr (inl cut)) = walked_cut Failed m1 m2 text more stop part cut
-  walked_last Failed m1 m2 (text ∷ more) part (Err stop) rose (inr (inr done)) = elim done.step.done [
-    | inl bad ↦ walked_refused (Ran (Err stop)) Failed m1 m2 text more done.answer part done.whole bad (sink_untampered stop done.fault)
-    | inr did ↦ walked_done Failed m1 m2 rose text more stop done.answer part done.whole done.fault did
-  ]
+  walked_last Failed m1 m2 more part (Err stop) rose last =
+      by_last state m1 m2 more part (λ (s : Stop). Walked (Ran (Err s)) Failed m1 m1 m2 [] more [] part) stop last (λ run partly. walked_part Failed m1 m2 more run part rose partly)
+      (λ rests. walked_none _ Failed m1 m2 more part rests.machine rests.none tt) (λ rests. walked_none _ Failed m1 m2 more part rests.machine rests.none tt)
 
   -- one text more
   more_refused : (ending : Ending) (Failed : Type 0) (m0 m1 m m2 : Machine R) (text : List ℕ) (texts more : List (List ℕ)) (one : Answer) (answers : List Answer) (part : List ℕ) → Misspelt m0 m1 text one

@@ -5,7 +5,10 @@ use Rattle.ob_base.specs.Counts.{Rises}
 use Rattle.ob_base.specs.declared.refusal.Stop.{Stop}
 use Rattle.ob_base.specs.declared.refusal.Stop.TheVariants.{Tampered, SourceFault, SinkFault, NoMemory, InputLimit}
 use Rattle.ob_exec.specs.Agreeing.{high_of}
+use Rattle.ob_exec.specs.Stops.{session_stop}
 use Rattle.ob_exec.specs.declared.engine.Engine.{Engine}
+use Rattle.ob_exec.specs.declared.stop.RunStop.{RunStop}
+use Rattle.ob_exec.specs.declared.stop.RunStop.TheVariants as Runs
 use Rattle.ob_gen.specs.declared.tally.Tally.{Tally}
 use Rattle.ob_headline.specs.Texts.{is_over, rest_of, texts_of, texts_in}
 use Rattle.ob_headline.specs.Words.{Answer, Begins, Faults, NoneRose, SinksRose, Took, any_refused, before_read, printed}
@@ -15,8 +18,25 @@ use Rattle.ob_shell.specs.Steps.{Machine, Steps, PartlyAt, IsUndone, machine_of}
 use Rattle.ob_shell.specs.Tallies.{TallyIs, flagged, tally_of}
 use Rattle.ob_shell.specs.Traces.{Traces}
 use Rattle.ob_shell.specs.declared.session.Halted.{Halted}
+use Rattle.ob_shell.specs.declared.session.TextHalted.{TextHalted}
 use Rattle.ob_store.specs.State.{StoreState}
 use Rattle.ob_vault.specs.State.{RevState}
+
+-- the stop of a text ends the session
+abbrev pub session_halted : TextHalted → Halted
+session_halted halted = record { stop = session_stop halted.stop; quiet = halted.quiet }
+
+abbrev pub halted_of : {T : Type 0} → Result T TextHalted → Result T Halted
+halted_of (Ok x) = Ok x
+halted_of (Err halted) = Err (session_halted halted)
+
+-- by what stopped a session: its engine, its source or a limit
+abbrev pub StoppedBy : (Run : RunStop → Type 0) (AtFault AtLimit : Type 0) → Stop → Type 0
+StoppedBy Run AtFault AtLimit (Tampered region place) = Run (Runs.Tampered region place)
+StoppedBy Run AtFault AtLimit SinkFault = Run Runs.SinkFault
+StoppedBy Run AtFault AtLimit NoMemory = Run Runs.NoMemory
+StoppedBy Run AtFault AtLimit SourceFault = AtFault
+StoppedBy Run AtFault AtLimit InputLimit = AtLimit
 
 -- the stop, whether or not its line may still be written
 abbrev pub stop_of : {T : Type 0} → Result T Halted → Result T Stop
@@ -84,7 +104,9 @@ EndsBy feed1 ended bytes more part (Err NoMemory) = Unit {0}
 abbrev pub LastPart : {R : Type 0} → (R → RevState) → Machine R → Machine R → List (List ℕ) → List ℕ
     → Result Bool Stop → Type 0
 LastPart state m1 m2 more part (Ok refused) = IsUndone m1 m2 part
-LastPart state m1 m2 more part (Err stop) = PartlyAt state m1 m2 more stop part
+LastPart state m1 m2 more part (Err stop) =
+    StoppedBy (λ run. PartlyAt state m1 m2 more run part) (IsUndone m1 m2 part)
+    (IsUndone m1 m2 part) stop
 
 -- the answer of a session that came to its end tells whether a text was refused
 abbrev pub FlagIs : List Answer → Result Bool Stop → Type 0

@@ -4,19 +4,19 @@ use Rattle.std.specs.Io.KnownBytes.{Appends}
 use Rattle.ob_base.specs.Events.{Event}
 use Rattle.ob_base.specs.declared.config.Plan.{Plan}
 use Rattle.ob_base.specs.declared.refusal.Refusal.TheVariants.{Syntax}
-use Rattle.ob_base.specs.declared.refusal.Stop.{Stop}
-use Rattle.ob_base.specs.declared.refusal.Stop.TheVariants.{Tampered, SourceFault, SinkFault, NoMemory, InputLimit}
 use Rattle.ob_exec.specs.Agreeing.{Agrees, count_of, has_ended, public_of, seen_of}
 use Rattle.ob_exec.specs.Memory.{LacksMemory}
 use Rattle.ob_exec.specs.Running.{RanStatement, RefusedEarly, Emits, MayEmit, refusal_now}
 use Rattle.ob_exec.specs.Serving.{Means}
-use Rattle.ob_exec.specs.Telling.{KeepsSealed, ReadsTrue, ReadsTrueUntil, Emitted, Partly, answer_labels}
+use Rattle.ob_exec.specs.Stops.{session_stop}
+use Rattle.ob_exec.specs.Telling.{IsNotTampered, KeepsSealed, ReadsTrue, ReadsTrueUntil, Emitted, Partly, answer_labels}
 use Rattle.ob_exec.specs.declared.engine.Engine.{Engine}
 use Rattle.ob_exec.specs.declared.outcome.Outcome.{Outcome}
 use Rattle.ob_exec.specs.declared.outcome.Outcome.TheVariants.{Refused}
+use Rattle.ob_exec.specs.declared.stop.RunStop.{RunStop}
+use Rattle.ob_exec.specs.declared.stop.RunStop.TheVariants.{SinkFault, NoMemory}
 use Rattle.ob_gen.specs.declared.tally.Tally.{Tally}
 use Rattle.ob_headline.specs.Closing.{closing_line}
-use Rattle.ob_headline.specs.Endings.{IsSinkFault}
 use Rattle.ob_headline.specs.Words.{Answer, printed}
 use Rattle.ob_headline.specs.Statements.{Spells}
 use Rattle.ob_headline.specs.Meaning.{PrintsUntil}
@@ -64,7 +64,7 @@ session_of m tables = record { public = public_of m.engine; tables = tables; ask
 
 -- the engine carried out a statement, whatever it answered
 pub record Does {R : Type 0} (state : R → RevState) (m0 m1 : Machine R) (stmt : Stmt)
-    (result : Result Outcome Stop) : Type 0 where
+    (result : Result Outcome RunStop) : Type 0 where
   pub ran : RanStatement state (skeleton stmt) result m0.engine m0.store m1.engine m1.store
   pub early : RefusedEarly (refusal_now (public_of m0.engine) (asked_of m0) stmt) result
       (seen_of m1.engine)
@@ -107,7 +107,7 @@ pub record HasBody {R : Type 0} (state : R → RevState) (written0 written1 : Op
 -- the engine was stopped in the statement of this text, of whose header and rows a first part was emitted, also where a
 -- changed block stopped it
 pub record CutStep {R : Type 0} (state : R → RevState) (m0 m1 : Machine R) (text : List ℕ)
-    (stop : Stop) (bytes : List ℕ) : Type 0 where
+    (stop : RunStop) (bytes : List ℕ) : Type 0 where
   pub stmt : Stmt
   pub spells : Spells text (Ok stmt)
   pub does : Does state m0 m1 stmt (Err stop)
@@ -116,7 +116,7 @@ pub record CutStep {R : Type 0} (state : R → RevState) (m0 m1 : Machine R) (te
       → ReadsTrueUntil state m0.engine m0.store m1.engine m1.store tables
       → Partly (answer_labels stmt (public_of m0.engine))
       (verdict (public_of m0.engine) (asked_of m0) tables stmt) events
-  pub printed : PrintsUntil stop bytes (events_text events)
+  pub printed : PrintsUntil (session_stop stop) bytes (events_text events)
 
 -- these texts were answered, in order
 unfoldable pub Steps : {R : Type 0} → (R → RevState) → Machine R → Machine R → List (List ℕ)
@@ -133,28 +133,20 @@ pub record IsUndone {R : Type 0} (m0 m1 : Machine R) (bytes : List ℕ) : Type 0
 
 -- it was answered, and a sink failed within its last line or after it
 pub record Finished {R : Type 0} (state : R → RevState) (m0 m1 : Machine R) (text : List ℕ)
-    (stop : Stop) (bytes : List ℕ) : Type 0 where
+    (stop : RunStop) (bytes : List ℕ) : Type 0 where
   pub answer : Answer
   pub step : Step state m0 m1 text answer
   pub whole : bytes ≡ answer.bytes
-  pub fault : IsSinkFault stop
-
--- it is no stop by a block
-abbrev pub IsUntampered : Stop → Type 0
-IsUntampered (Tampered region place) = ⊥
-IsUntampered SourceFault = Unit {0}
-IsUntampered SinkFault = Unit {0}
-IsUntampered NoMemory = Unit {0}
-IsUntampered InputLimit = Unit {0}
+  pub fault : stop ≡ SinkFault
 
 -- nothing was done before a stop, which is none by a block
-pub record Idle {R : Type 0} (m0 m1 : Machine R) (stop : Stop) (bytes : List ℕ) : Type 0 where
+pub record Idle {R : Type 0} (m0 m1 : Machine R) (stop : RunStop) (bytes : List ℕ) : Type 0 where
   pub rests : IsUndone m0 m1 bytes
-  pub untampered : IsUntampered stop
+  pub untampered : IsNotTampered stop
 
 -- what a stop left of the first of these texts
-abbrev pub PartlyAt : {R : Type 0} → (R → RevState) → Machine R → Machine R → List (List ℕ) → Stop
-    → List ℕ → Type 0
+abbrev pub PartlyAt : {R : Type 0} → (R → RevState) → Machine R → Machine R → List (List ℕ)
+    → RunStop → List ℕ → Type 0
 PartlyAt state m0 m1 [] stop bytes = Idle m0 m1 stop bytes
 PartlyAt state m0 m1 (text ∷ texts) stop bytes =
     Idle m0 m1 stop bytes ⊎ (CutStep state m0 m1 text stop bytes
@@ -170,7 +162,7 @@ pub record AnswersAll {R : Type 0} (state : R → RevState) (written0 written1 :
 
 -- a stop came within the first of these texts, or before it, and a sink took what was printed, or for this cause less
 pub record StopsIn {R : Type 0} (state : R → RevState) (written0 written1 : Option (List ℕ))
-    (Lost : Type 0) (texts : List (List ℕ)) (stop : Stop) (m0 m1 : Machine R) : Type 0 where
+    (Lost : Type 0) (texts : List (List ℕ)) (stop : RunStop) (m0 m1 : Machine R) : Type 0 where
   pub bytes : List ℕ
   pub partly : PartlyAt state m0 m1 texts stop bytes
   pub cut : Outputs written0 written1 Lost bytes

@@ -20,7 +20,6 @@ use Rattle.ob_print.specs.Cuts.{Outputs}
 use Rattle.ob_script.specs.Trace.{trace}
 use Rattle.ob_shell.specs.Feeding.{Fetch}
 use Rattle.ob_shell.specs.Running.{CountsRows, EndsBy, FlagIs, StopCause}
-use Rattle.ob_shell.specs.Steps.{IsUntampered}
 use Rattle.ob_shell.specs.Tallies.{TallyIs, flagged, tally_of}
 use Rattle.ob_store.specs.State.{StoreState}
 use Rattle.ob_vault.specs.State.{RevState}
@@ -38,8 +37,8 @@ use Rattle.ob_headline.specs.Tampering.{Tampering}
 abbrev pub EndsUntampered : Ending → Type 0
 EndsUntampered Usage = Unit {0}
 EndsUntampered BadKey = Unit {0}
-EndsUntampered (Ran (Ok refused)) = Unit {0}
-EndsUntampered (Ran (Err stop)) = IsUntampered stop
+EndsUntampered (Ran (Err (Tampered region place))) = ⊥
+EndsUntampered (Ran _) = Unit {0}
 
 -- a store of which nothing was asked
 pub record IsFresh (store : StoreState) : Type 0 where

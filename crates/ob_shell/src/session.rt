@@ -6,8 +6,8 @@ ghost use Rattle.ob_headline.specs.Texts.{text_max, is_over, rest_after, texts_a
 ghost use Rattle.ob_headline.specs.Words.{faults_of};
 ghost use Rattle.ob_headline.specs.Statements.{Spells};
 ghost use Rattle.ob_shell.specs.Feeding.{IsFedBy};
-ghost use Rattle.ob_shell.specs.Running.{IsQuiet, OutFailed, SessionRan, Silenced, StopCause, is_quiet, stop_of};
-ghost use Rattle.ob_shell.specs.Serving.{ServesTexts};
+ghost use Rattle.ob_shell.specs.Running.{IsQuiet, OutFailed, SessionRan, Silenced, StopCause, halted_of, is_quiet, stop_of};
+ghost use Rattle.ob_shell.specs.Serving.{ServesByte, ServesTexts};
 ghost use Rattle.ob_shell.specs.Steps.{machine_of, IsReady, HasBody, AnswersAll};
 ghost use Rattle.ob_shell.specs.Tallies;
 ghost use Rattle.ob_shell.specs.Traces.{TracedAll, Traced};
@@ -16,7 +16,7 @@ use crate::feed::{Feed, Halt};
 use crate::pending::{Grown, Pending, PushStop};
 use crate::trace::trace_from;
 use ob_base::{Failed, Plan, Refusal, Stop};
-use ob_exec::{Engine, Outcome};
+use ob_exec::{Engine, Outcome, RunStop};
 use ob_gen::Tally;
 use ob_io::{Sink, Source};
 use ob_parse::{ParseErr, parse};
@@ -33,9 +33,30 @@ pub struct Halted {
     pub quiet: bool,
 }
 
+/// The same of a stop in one text.
+#[derive(Clone, Copy, Debug, PartialEq, Eq)]
+pub struct TextHalted {
+    pub stop: RunStop,
+    pub quiet: bool,
+}
+
+impl From<TextHalted> for Halted {
+    ghost use Rattle.std.specs.Prelude.{◌≡◌};
+    ghost use Rattle.ob_shell.specs.Running.{session_halted};
+
+    ghost from_gives = { λ halted h. h ≡ session_halted halted };
+
+    fn from(halted: TextHalted) -> Halted {
+        Halted {
+            stop: Stop::from(halted.stop),
+            quiet: halted.quiet,
+        }
+    }
+}
+
 // The stop by a sink's fault.
-const SINK_FAILED: Halted = Halted {
-    stop: Stop::SinkFault,
+const SINK_FAILED: TextHalted = TextHalted {
+    stop: RunStop::SinkFault,
     quiet: true,
 };
 
@@ -99,14 +120,14 @@ fn run_stmt<R: Revisions, S: BlockStore, K: Sink>(
     text: &[u8],
     stmt: &Stmt,
     printer: &mut Printer<'_, K>,
-) -> Result<Answered, Halted>
+) -> Result<Answered, TextHalted>
     requires spells { Spells text.now (Ok stmt.now) }
     requires ready { IsReady R.state (machine_of engine.old (S.state store.old)) }
     requires none { printer.old.out.waiting.items ≡ [] }
     ensures same_sink { printer.new.out.out.ghost_name ≡ printer.old.out.out.ghost_name }
     ensures serves { ServesTexts R.state (text.now ∷ []) (λ a. HasBody R.state
         (K.written printer.old.out.out.now) (K.written printer.new.out.out.now) text.now
-        a.outcome a.plan) ⊥
+        a.outcome a.plan)
         (K.written printer.old.out.out.now) (K.written printer.new.out.out.now)
         (faults_of 0 (K.faults printer.old.out.out.now) 0)
         (faults_of 0 (K.faults printer.new.out.out.now) 0)
@@ -124,10 +145,10 @@ fn run_stmt<R: Revisions, S: BlockStore, K: Sink>(
             Err(Failed) => Err(SINK_FAILED),
         },
         Err(stop) => match stop {
-            Stop::SinkFault => Err(SINK_FAILED),
+            RunStop::SinkFault => Err(SINK_FAILED),
             _ => {
                 let quiet = printer.out.flush().is_err();
-                Err(Halted { stop, quiet })
+                Err(TextHalted { stop, quiet })
             }
         },
     }
@@ -140,11 +161,11 @@ fn run_text<R: Revisions, S: BlockStore, K: Sink>(
     store: &mut S,
     text: &[u8],
     out: &mut K,
-) -> Result<Answered, Halted>
+) -> Result<Answered, TextHalted>
     requires short { length text.now ≤ text_max }
     requires ready { IsReady R.state (machine_of engine.old (S.state store.old)) }
     ensures serves { ServesTexts R.state (text.now ∷ []) (λ a. HasBody R.state
-        (K.written out.old) (K.written out.new) text.now a.outcome a.plan) ⊥
+        (K.written out.old) (K.written out.new) text.now a.outcome a.plan)
         (K.written out.old) (K.written out.new)
         (faults_of 0 (K.faults out.old) 0) (faults_of 0 (K.faults out.new) 0)
         (machine_of engine.old (S.state store.old)) (machine_of engine.new (S.state store.new))
@@ -162,8 +183,8 @@ fn run_text<R: Revisions, S: BlockStore, K: Sink>(
                 });
             }
             ParseErr::NoMemory => {
-                return Err(Halted {
-                    stop: Stop::NoMemory,
+                return Err(TextHalted {
+                    stop: RunStop::NoMemory,
                     quiet: false,
                 });
             }
@@ -185,11 +206,11 @@ fn answer<R: Revisions, S: BlockStore, K: Sink>(
     store: &mut S,
     text: &[u8],
     out: &mut K,
-) -> Result<Tally, Halted>
+) -> Result<Tally, TextHalted>
     requires short { length text.now ≤ text_max }
     requires ready { IsReady R.state (machine_of engine.old (S.state store.old)) }
     ensures serves { ServesTexts R.state (text.now ∷ []) (λ counted. AnswersAll R.state
-        (K.written out.old) (K.written out.new) (text.now ∷ []) tally counted) ⊥
+        (K.written out.old) (K.written out.new) (text.now ∷ []) tally counted)
         (K.written out.old) (K.written out.new)
         (faults_of 0 (K.faults out.old) 0) (faults_of 0 (K.faults out.new) 0)
         (machine_of engine.old (S.state store.old)) (machine_of engine.new (S.state store.new))
@@ -216,11 +237,11 @@ fn answer_traced<R: Revisions, S: BlockStore, K: Sink, T: Sink>(
     text: &[u8],
     out: &mut K,
     trace: &mut T,
-) -> Result<Tally, Halted>
+) -> Result<Tally, TextHalted>
     requires short { length text.now ≤ text_max }
     requires ready { IsReady R.state (machine_of engine.old (S.state store.old)) }
     ensures serves { ServesTexts R.state (text.now ∷ []) (λ counted. AnswersAll R.state
-        (K.written out.old) (K.written out.new) (text.now ∷ []) tally counted) ⊥
+        (K.written out.old) (K.written out.new) (text.now ∷ []) tally counted)
         (K.written out.old) (K.written out.new)
         (faults_of 0 (K.faults out.old) (T.faults trace.old))
         (faults_of 0 (K.faults out.new) (T.faults trace.new))
@@ -229,7 +250,8 @@ fn answer_traced<R: Revisions, S: BlockStore, K: Sink, T: Sink>(
     ensures traced { OnOk result (TracedAll tracing (S.state store.old).asked
         (S.state store.new).asked (T.written trace.old) (T.written trace.new)) }
     ensures traced_stop { OnErr result (Traced tracing (S.state store.old).asked
-        (S.state store.new).asked (T.written trace.old) (T.written trace.new) (IsQuiet result)) }
+        (S.state store.new).asked (T.written trace.old) (T.written trace.new)
+        (IsQuiet (halted_of result))) }
 {
     let mark = store.count();
     match answer(alloc, tally, engine, store, text, out) {
@@ -237,10 +259,10 @@ fn answer_traced<R: Revisions, S: BlockStore, K: Sink, T: Sink>(
             Ok(()) => Ok(counted),
             Err(Failed) => Err(SINK_FAILED),
         },
-        Err(Halted { stop, quiet: true }) => Err(Halted { stop, quiet: true }),
-        Err(Halted { stop, quiet: false }) => {
+        Err(TextHalted { stop, quiet: true }) => Err(TextHalted { stop, quiet: true }),
+        Err(TextHalted { stop, quiet: false }) => {
             let quiet = trace_from(tracing, store, mark, trace).is_err();
-            Err(Halted { stop, quiet })
+            Err(TextHalted { stop, quiet })
         }
     }
 }
@@ -260,7 +282,7 @@ fn turn<R: Revisions, S: BlockStore, K: Sink, T: Sink>(
     requires ready { IsReady R.state (machine_of engine.old (S.state store.old)) }
     ensures pending { OnOk result ((session.new.pending ≡ rest_after session.old.pending b)
         × (length session.new.pending < text_max)) }
-    ensures serves { ServesTexts R.state (texts_at session.old.pending b)
+    ensures serves { ServesByte R.state (texts_at session.old.pending b)
         (λ served. AnswersAll R.state
         (K.written out.old) (K.written out.new) (texts_at session.old.pending b)
         session.old.tally session.new.tally)
@@ -292,7 +314,7 @@ fn turn<R: Revisions, S: BlockStore, K: Sink, T: Sink>(
                 out,
                 trace,
             ) {
-                Err(halted) => Err(halted),
+                Err(halted) => Err(Halted::from(halted)),
                 Ok(tally) => {
                     session.tally = tally;
                     session.pending.clear();
@@ -320,13 +342,13 @@ fn finish<R: Revisions, S: BlockStore, K: Sink, T: Sink>(
     store: &mut S,
     out: &mut K,
     trace: &mut T,
-) -> Result<Tally, Halted>
+) -> Result<Tally, TextHalted>
     requires short { length session.now.pending ≤ text_max }
     requires ready { IsReady R.state (machine_of engine.old (S.state store.old)) }
     ensures serves { ServesTexts R.state (tail_text session.now.pending)
         (λ counted. AnswersAll R.state
         (K.written out.old) (K.written out.new) (tail_text session.now.pending)
-        session.now.tally counted) ⊥
+        session.now.tally counted)
         (K.written out.old) (K.written out.new)
         (faults_of 0 (K.faults out.old) (T.faults trace.old))
         (faults_of 0 (K.faults out.new) (T.faults trace.new))
@@ -335,7 +357,8 @@ fn finish<R: Revisions, S: BlockStore, K: Sink, T: Sink>(
     ensures traced { OnOk result (TracedAll tracing (S.state store.old).asked
         (S.state store.new).asked (T.written trace.old) (T.written trace.new)) }
     ensures traced_stop { OnErr result (Traced tracing (S.state store.old).asked
-        (S.state store.new).asked (T.written trace.old) (T.written trace.new) (IsQuiet result)) }
+        (S.state store.new).asked (T.written trace.old) (T.written trace.new)
+        (IsQuiet (halted_of result))) }
 {
     if !session.pending.has_words() {
         return Ok(session.tally);
@@ -350,6 +373,16 @@ fn finish<R: Revisions, S: BlockStore, K: Sink, T: Sink>(
         out,
         trace,
     )
+}
+
+// The stop of a text ends the session.
+fn session_result(served: Result<Tally, TextHalted>) -> Result<Tally, Halted>
+    ensures { result ≡ halted_of served }
+{
+    match served {
+        Ok(tally) => Ok(tally),
+        Err(halted) => Err(Halted::from(halted)),
+    }
 }
 
 /// ServesTexts the texts that a feed brings, to its end or a stop. Tells what was counted of them.
@@ -400,7 +433,10 @@ pub fn serve<I: Source, R: Revisions, S: BlockStore, K: Sink, T: Sink>(
                     quiet: false,
                 });
             }
-            Ok(None) => return finish(alloc, tracing, &session, engine, store, out, trace),
+            Ok(None) => {
+                let served = finish(alloc, tracing, &session, engine, store, out, trace);
+                return session_result(served);
+            }
             Ok(Some(b)) => {
                 if let Err(halted) = turn(
                     alloc,

@@ -18,8 +18,6 @@ returns-in-Ok-write_all-clause-serves g c =
       stopped = tt;
       cause = search rules;
       quiet = search rules;
-      limit = search rules;
-      source = search rules;
     }
 
 pub returns-in-Err-write_all-clause-serves : goal.returns-in-Err-write_all-clause-serves
@@ -31,11 +29,9 @@ returns-in-Err-write_all-clause-serves g c =
       done = tt;
       stopped = record {
         bytes = body.body ++ closing_line c.in-Ok.answered.outcome;
-        partly = inr (inr (record { answer = record { outcome = c.in-Ok.answered.outcome; bytes = body.body ++ closing_line c.in-Ok.answered.outcome; plan = c.in-Ok.answered.plan }; step = body.step; whole = refl; fault = tt }));
+        partly = inr (inr (record { answer = record { outcome = c.in-Ok.answered.outcome; bytes = body.body ++ closing_line c.in-Ok.answered.outcome; plan = c.in-Ok.answered.plan }; step = body.step; whole = refl; fault = refl }));
         cut = Outputs-after _ body.appends (Outputs-fault (refl, rises_earlier _ _ _ (omega (arith, c.in-Ok.ensures.serves.cause.out)) c.in-Err-write_all.ensures.cause.failed) (rw line at c.in-Err-write_all.ensures.cut));
       };
       cause = search rules;
       quiet = search rules;
-      limit = search rules;
-      source = search rules;
     }

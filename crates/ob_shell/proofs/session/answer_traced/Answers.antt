@@ -1,5 +1,5 @@
 use Rattle.std.proofs.Common.{refl, rules}
-use Rattle.ob_base.specs.declared.refusal.Stop.TheVariants.{SinkFault}
+use Rattle.ob_exec.specs.declared.stop.RunStop.TheVariants.{SinkFault}
 use Rattle.ob_shell.proofs.CountLemmas.{traced_cause}
 use Rattle.ob_shell.proofs.StepLemmas.{stops_after}
 use Rattle.ob_shell.proofs.session.answer_traced.Goals as goal
@@ -9,11 +9,9 @@ returns-in-Err-clause-serves g c =
     record {
       ready = tt;
       done = tt;
-      stopped = stops_after SinkFault tt c.in-Ok.ensures.serves.done;
+      stopped = stops_after SinkFault refl c.in-Ok.ensures.serves.done;
       cause = search rules;
       quiet = search rules;
-      limit = search rules;
-      source = search rules;
     }
 
 pub returns-in-Err-false-clause-serves : goal.returns-in-Err-false-clause-serves
@@ -23,9 +21,6 @@ returns-in-Err-false-clause-serves g c =
       ready = tt;
       done = tt;
       stopped = search rules;
-      cause = traced_cause c.in-Err-false.field-0.stop c.in-Err-false.field-0.stop _ _ _ _ refl told.cause told.limit told.source
-          c.trace_from-in-Err-false.ensures.cause.later;
+      cause = traced_cause c.in-Err-false.field-0.stop c.in-Err-false.field-0.stop _ _ _ _ refl told.cause c.trace_from-in-Err-false.ensures.cause.later;
       quiet = search rules;
-      limit = search rules;
-      source = search rules;
     }

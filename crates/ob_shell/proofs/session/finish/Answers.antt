@@ -16,8 +16,6 @@ returns-then-not-has_words-clause-serves g c =
       stopped = tt;
       cause = search rules;
       quiet = search rules;
-      limit = search rules;
-      source = search rules;
     }
 
 pub returns-then-not-has_words-clause-traced : goal.returns-then-not-has_words-clause-traced

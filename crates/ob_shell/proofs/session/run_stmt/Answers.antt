@@ -18,8 +18,6 @@ returns-in-Ok-flush-clause-serves g c =
       stopped = tt;
       cause = search rules;
       quiet = search rules;
-      limit = search rules;
-      source = search rules;
     }
 
 pub returns-in-Err-flush-clause-serves : goal.returns-in-Err-flush-clause-serves
@@ -31,8 +29,6 @@ returns-in-Err-flush-clause-serves g c =
           (λ events took. flushed_cut (events_text events) c.requires.none took.0 c.flush.ensures.cut);
       cause = search rules;
       quiet = search rules;
-      limit = search rules;
-      source = search rules;
     }
 
 pub returns-in-SinkFault-clause-serves : goal.returns-in-SinkFault-clause-serves
@@ -44,8 +40,6 @@ returns-in-SinkFault-clause-serves g c =
       stopped = failed_by _ _ _ _ _ _ _ _ c.args.stmt.now _ _ c.args.text.now c.requires.spells serves (refl, serves.sink) (λ events began. Sends-cut (events_text events) c.requires.none began.0);
       cause = search rules;
       quiet = search rules;
-      limit = search rules;
-      source = search rules;
     }
 
 pub returns-in_default-clause-serves : goal.returns-in_default-clause-serves
@@ -59,6 +53,4 @@ returns-in_default-clause-serves g c =
           (λ events began. flushed_cut (events_text events) c.requires.none began.0 c.flush-in_default.ensures.cut);
       cause = stop_cause Answered c.in-Err.stop _ _ _ c.in-Err.ensures.serves.sink c.flush-in_default.ensures.cause.later;
       quiet = flush_silences c.in-Err.stop c.flush-in_default.result c.is_err-quiet.result _ _ _ c.in_default.not-SinkFault c.in-Err.ensures.serves.sink c.is_err-quiet.ensures.value c.flush-in_default.ensures.cause;
-      limit = search rules;
-      source = search rules;
     }

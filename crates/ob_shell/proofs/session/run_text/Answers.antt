@@ -15,6 +15,4 @@ returns-in-Syntax-clause-serves g c =
       stopped = tt;
       cause = search rules;
       quiet = search rules;
-      limit = search rules;
-      source = search rules;
     }

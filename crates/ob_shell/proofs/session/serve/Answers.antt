@@ -1,8 +1,6 @@
 use Rattle.std.proofs.Common.{arith, ◌∙◌, refl}
-use Rattle.ob_shell.proofs.CountLemmas.{lost_since}
 use Rattle.ob_shell.proofs.FeedLemmas.{fed_smaller}
 use Rattle.ob_shell.proofs.RunLemmas.{so_far_start, so_far_end, so_far_turn, ran_source_fault, ran_input_limit, ran_finish, ran_turn, traced_by}
-use Rattle.ob_shell.proofs.StepLemmas.{stops_by}
 use Rattle.ob_shell.proofs.TraceLemmas.{traced_none, traced_then, traced_cut}
 use Rattle.ob_shell.proofs.session.serve.Goals as goal
 
@@ -32,14 +30,14 @@ pub returns-in-Ok-None-clause-ran : goal.returns-in-Ok-None-clause-ran
 returns-in-Ok-None-clause-ran g c =
     let fetch = rw c.in-Ok-None.field-0-is at c.in-Ok-None.ensures in
     let done = c.finish.ensures in
-    ran_finish c.finish.result (so_far_end c.bytes.invariant.so_far fetch.fed) fetch.cause.1 fetch.cause.2 fetch.cause.3
-    c.bytes.invariant.short done.serves.done done.serves.stopped c.bytes.invariant.sink done.serves.source done.serves.limit _ c.bytes.invariant.traced done.traced done.traced_stop
+    rw c.session_result.ensures (ran_finish c.finish.result (so_far_end c.bytes.invariant.so_far fetch.fed) fetch.cause.1 fetch.cause.2 fetch.cause.3
+    c.bytes.invariant.short done.serves.done done.serves.stopped c.bytes.invariant.sink _ c.bytes.invariant.traced done.traced done.traced_stop)
 
 pub returns-in-Err-clause-ran : goal.returns-in-Err-clause-ran
 returns-in-Err-clause-ran g c =
     let fetch = rw c.in-Ok-Some.field-0-is at c.in-Ok-Some.ensures in
     let turn = c.in-Err.ensures in
-    ran_turn c.in-Err.halted.stop c.bytes.invariant.so_far fetch.fed fetch.cause.2 (stops_by (lost_since c.bytes.invariant.sink) turn.serves.stopped) turn.serves.source turn.serves.limit _ c.bytes.invariant.traced turn.traced_stop
+    ran_turn c.in-Err.halted.quiet c.in-Err.halted.stop c.bytes.invariant.so_far fetch.fed fetch.cause.2 turn.serves.stopped c.bytes.invariant.sink _ c.bytes.invariant.traced turn.traced_stop
 
 pub bytes-smaller : goal.bytes-smaller
 bytes-smaller g c =
@@ -62,7 +60,7 @@ bytes-preserved g c =
     }
 
 pub returns-in-Ok-None-clause-traced : goal.returns-in-Ok-None-clause-traced
-returns-in-Ok-None-clause-traced g c = traced_by c.finish.result c.bytes.invariant.traced c.finish.ensures.traced c.finish.ensures.traced_stop
+returns-in-Ok-None-clause-traced g c = rw c.session_result.ensures (traced_by c.finish.result c.bytes.invariant.traced c.finish.ensures.traced c.finish.ensures.traced_stop)
 
 pub returns-in-Err-clause-traced : goal.returns-in-Err-clause-traced
 returns-in-Err-clause-traced g c = traced_cut c.bytes.invariant.traced c.in-Err.ensures.traced_stop

@@ -1,4 +1,5 @@
-use Rattle.std.proofs.Common.{rules}
+use Rattle.std.proofs.Common.{refl, rules}
+use Rattle.ob_exec.specs.declared.stop.RunStop.TheVariants.{NoMemory}
 use Rattle.ob_shell.proofs.StepLemmas.{answers_none, stops_before}
 use Rattle.ob_shell.proofs.RunLemmas.{at_limit_is_over}
 use Rattle.ob_shell.proofs.TraceLemmas.{traced_none, traced_whole}
@@ -13,8 +14,6 @@ returns-in-Ok-More-clause-serves g c =
       stopped = tt;
       cause = search rules;
       quiet = search rules;
-      limit = search rules;
-      source = search rules;
     }
 
 pub returns-in-Err-InputLimit-clause-serves : goal.returns-in-Err-InputLimit-clause-serves
@@ -23,11 +22,9 @@ returns-in-Err-InputLimit-clause-serves g c =
     record {
       ready = tt;
       done = tt;
-      stopped = stops_before _ _ _ _ tt;
+      stopped = (pushed.0, at_limit_is_over _ _ pushed.1 pushed.2, answers_none _ _ _);
       cause = search rules;
       quiet = search rules;
-      limit = λ h. (pushed.0, at_limit_is_over _ _ pushed.1 pushed.2, answers_none _ _ _);
-      source = search rules;
     }
 
 pub returns-in-Ok-More-clause-traced : goal.returns-in-Ok-More-clause-traced
@@ -44,9 +41,7 @@ returns-in-Err-NoMemory-clause-serves g c =
     record {
       ready = tt;
       done = tt;
-      stopped = stops_before _ _ _ _ tt;
+      stopped = stops_before _ _ _ NoMemory refl;
       cause = search rules;
       quiet = search rules;
-      limit = search rules;
-      source = search rules;
     }

@@ -1,7 +1,7 @@
 use Rattle.std.proofs.Common.{◌≡◌, Ok, Result, sym, ◌∙◌, ap, subst}
 use Rattle.ob_base.specs.declared.refusal.Refusal.{Refusal}
 use Rattle.ob_base.specs.declared.refusal.Refusal.TheVariants.{StoreFault}
-use Rattle.ob_base.specs.declared.refusal.Stop.{Stop}
+use Rattle.ob_exec.specs.declared.stop.RunStop.{RunStop}
 use Rattle.ob_sql.specs.Skeleton.{skeleton}
 use Rattle.ob_store.specs.State.{StoreState}
 use Rattle.ob_exec.specs.declared.outcome.Outcome.{Outcome}
@@ -20,7 +20,7 @@ give_up-requires g c =
     let refused = rw fault.is at fault.field-0-is in
     let by_store = rw (fault.is, refused) at fault.field-0-0-is in
     let is : c.serve-answer.result ≡ Ok (Refused StoreFault) = fault.is ∙ ap (λ (o : Outcome). Ok o) (refused ∙ ap (λ (r : Refusal). Refused r) by_store) in
-    let ran = subst (λ (r : Result Outcome Stop). RanStatement g.R.Revisions.state (skeleton c.args.stmt.now) r old s c.serve-answer.new.self t) is c.serve-answer.ensures.serves.ran in
+    let ran = subst (λ (r : Result Outcome RunStop). RanStatement g.R.Revisions.state (skeleton c.args.stmt.now) r old s c.serve-answer.new.self t) is c.serve-answer.ensures.serves.ran in
     record { forgotten = none_left g.R.Revisions.state (skeleton c.args.stmt.now) old s c.serve-answer.new.self t c.requires.agrees ran }
 
 pub returns-in-Ok-Refused-StoreFault : goal.returns-in-Ok-Refused-StoreFault

@@ -1,0 +1,27 @@
+use ob_base::Stop;
+
+/// What ends a session in a statement.
+#[derive(Clone, Copy, Debug, PartialEq, Eq)]
+pub enum RunStop {
+    /// The block that was read there is not the one that was written there last.
+    Tampered { region: u64, place: u32 },
+    /// The emitter failed.
+    SinkFault,
+    /// Want of memory.
+    NoMemory,
+}
+
+impl From<RunStop> for Stop {
+    ghost use Rattle.std.specs.Prelude.{◌≡◌};
+    ghost use Rattle.ob_exec.specs.Stops.{session_stop};
+
+    ghost from_gives = { λ stop s. s ≡ session_stop stop };
+
+    fn from(stop: RunStop) -> Stop {
+        match stop {
+            RunStop::Tampered { region, place } => Stop::Tampered { region, place },
+            RunStop::SinkFault => Stop::SinkFault,
+            RunStop::NoMemory => Stop::NoMemory,
+        }
+    }
+}
