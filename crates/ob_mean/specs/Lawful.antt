@@ -91,5 +91,7 @@ pub record Lawful (p : Public) (m : ℕ) (stmt : Stmt) (seen : Seen) : Type 0 wh
   -- refused before any access
   pub static : (seen.end ≡ Static) ↔ IsSome (early_refusal (is_late m) (limits_of p) (headings_of p.tables) stmt)
   pub holds : Holds p stmt seen seen.k seen.plan seen.then
+  -- no leaf is read, as long as no index is made
+  pub leaf : seen.leaf ≡ None
   -- no more was asked than the statement asks
   pub cut : CutUpTo (length (whole_script p (skeleton stmt) seen)) seen.end

@@ -55,12 +55,13 @@ record Started (p : Public) (stmt : Stmt) (x : Seen) : Type 0 where
   pub not_static : x.end ≢ Static
   pub not_cut : NotCut x.end
   pub holds : Holds p stmt x x.k x.plan x.then
+  pub leaf : x.leaf ≡ None
 
 kind_alone : (p : Public) (stmt : Stmt) → is_counted stmt ≡ false → Started p stmt (ended Whole)
-kind_alone p stmt e = record { not_static = λ e. cc; not_cut = λ m. tt; holds = inl e }
+kind_alone p stmt e = record { not_static = λ e. cc; not_cut = λ m. tt; leaf = refl; holds = inl e }
 
 padded_alone : (p : Public) (stmt : Stmt) → IsSome p.pad → Started p stmt (ended Whole)
-padded_alone p stmt h = record { not_static = λ e. cc; not_cut = λ m. tt; holds = inr h }
+padded_alone p stmt h = record { not_static = λ e. cc; not_cut = λ m. tt; leaf = refl; holds = inr h }
 
 module _ (p : Public) (stmt : Stmt) (rows : is_counted stmt ≡ true) (unpadded : p.pad ≡ None) where
   abbrev n : ℕ
@@ -70,13 +71,13 @@ module _ (p : Public) (stmt : Stmt) (rows : is_counted stmt ≡ true) (unpadded 
   count_of k l = record { counted = rows; unpadded = unpadded; most = l }
 
   no_rows : Started p stmt (counted 0 None None Whole)
-  no_rows = record { not_static = λ e. cc; not_cut = λ m. tt; holds = (count_of 0 (omega arith), refl) }
+  no_rows = record { not_static = λ e. cc; not_cut = λ m. tt; leaf = refl; holds = (count_of 0 (omega arith), refl) }
 
   plan_of : (k : ℕ) (plan : Plan) (c : Bool) → 1 ≤ k → plan ≡ choose p.plan (buffered p.pack p.buffer) n k c → IsPlan p stmt k plan
   plan_of k plan c h e = record { some = h; chosen = (c, e) }
 
   stopped : (k : ℕ) → 1 ≤ k → k ≤ n → p.plan ≡ Some Continuous → Started p stmt (counted k None None AfterCount)
-  stopped k h l e = record { not_static = λ e. cc; not_cut = λ m. tt; holds = (count_of k l, (h, e)) }
+  stopped k h l e = record { not_static = λ e. cc; not_cut = λ m. tt; leaf = refl; holds = (count_of k l, (h, e)) }
 
   -- a plan after Hash is Small, where none is forced
   hash_holds : (k : ℕ) (forced : Option Plan) (left : Option ℕ) → p.plan ≡ forced → IsCount p stmt k → IsPlan p stmt k Hash
@@ -104,17 +105,17 @@ module _ (p : Public) (stmt : Stmt) (counts : is_counted stmt ≡ true) (unpadde
   with_plan : (plan : Plan) (places : List ℕ) → 1 ≤ length places → length places ≤ slots →
       choose p.plan (buffered p.pack p.buffer) slots (length places) (is_consecutive places) ≡ plan → Started p stmt (seen_with p plan places)
   with_plan Small places h l e =
-      let both = planned (length places) Small (is_consecutive places) h l e in record { not_static = λ e. cc; not_cut = λ m. tt; holds = (both.0, both.1, tt) }
+      let both = planned (length places) Small (is_consecutive places) h l e in record { not_static = λ e. cc; not_cut = λ m. tt; leaf = refl; holds = (both.0, both.1, tt) }
   with_plan Large places h l e =
-      let both = planned (length places) Large (is_consecutive places) h l e in record { not_static = λ e. cc; not_cut = λ m. tt; holds = (both.0, both.1, tt) }
+      let both = planned (length places) Large (is_consecutive places) h l e in record { not_static = λ e. cc; not_cut = λ m. tt; leaf = refl; holds = (both.0, both.1, tt) }
   with_plan Hash places h l e =
       let both = planned (length places) Hash (is_consecutive places) h l e in
-      record { not_static = λ e. cc; not_cut = λ m. tt; holds = hash_holds p stmt counts unpadded (length places) p.plan (first_unplaced p places) refl both.0 both.1 }
+      record { not_static = λ e. cc; not_cut = λ m. tt; leaf = refl; holds = hash_holds p stmt counts unpadded (length places) p.plan (first_unplaced p places) refl both.0 both.1 }
   with_plan Continuous places h l e = at_answer (is_consecutive places) e where
     at_answer : (b : Bool) → choose p.plan (buffered p.pack p.buffer) slots (length places) b ≡ Continuous →
         Started p stmt (cond b (counted (length places) (Some Continuous) None Whole) (counted (length places) None None AfterCount))
     at_answer true e =
-        let both = planned (length places) Continuous true h l e in record { not_static = λ e. cc; not_cut = λ m. tt; holds = (both.0, both.1, tt) }
+        let both = planned (length places) Continuous true h l e in record { not_static = λ e. cc; not_cut = λ m. tt; leaf = refl; holds = (both.0, both.1, tt) }
     at_answer false e = stopped p stmt counts unpadded (length places) h l (forced_only p.plan (buffered p.pack p.buffer) slots (length places) e)
 
   unpadded_started : (places : List ℕ) → length places ≤ slots → Started p stmt (seen_unpadded p slots places)
@@ -184,10 +185,11 @@ not_both h k = cc
 
 early_or_started : (p : Public) (m : ℕ) (stmt : Stmt) (r : Option Refusal) (x : Seen) → early_refusal (is_late m) (limits_of p) (headings_of p.tables) stmt ≡ r →
     Started p stmt x → Lawful p m stmt (cond (is_some r) (ended Static) x)
-early_or_started p m stmt (Some r) x e s = record { static = (λ _. ap is_some e, λ _. refl); holds = tt; cut = tt }
+early_or_started p m stmt (Some r) x e s = record { static = (λ _. ap is_some e, λ _. refl); holds = tt; leaf = refl; cut = tt }
 early_or_started p m stmt None x e s = record {
   static = (λ f. absurd (s.not_static f), λ f. absurd (not_both f (ap is_some e)));
   holds = s.holds;
+  leaf = s.leaf;
   cut = s.not_cut (length (whole_script p (skeleton stmt) x));
 }
 
@@ -406,15 +408,27 @@ done_within false n = (omega arith, omega arith)
 not_static : (n : ℕ) → Cut n ≡ Static → ⊥
 not_static n e = cc
 
+-- of what is held
+cut_held : (p : Public) (m : ℕ) (stmt : Stmt) (failed : Bool) (n : ℕ) (k : Option ℕ) (plan second : Option Plan) (end : End)
+    → early_refusal (is_late m) (limits_of p) (headings_of p.tables) stmt ≡ None → Holds p stmt (seen_of k plan second end) k plan second
+    → n ≤ length (whole_script p (skeleton stmt) (seen_of k plan second end)) → Lawful p m stmt (cut_at failed n p (skeleton stmt) (seen_of k plan second end))
+cut_held p m stmt failed n k plan second end none holds long =
+    let bounds = done_within failed n in
+    let both = cutting p stmt n (done_of failed n) bounds.0 bounds.1 (nat_le (count_end p (skeleton stmt)) (done_of failed n))
+    (nat_le (walk_end p (skeleton stmt) (seen_of k plan second end)) (done_of failed n)) k plan second end refl refl holds long in
+    record {
+      static = (λ f. absurd (not_static n f), λ f. absurd (not_both f (ap is_some none)));
+      holds = both.0;
+      leaf = refl;
+      cut = both.1;
+    }
+
 pub cut_is_lawful : CutIsLawful
 cut_is_lawful p m ts stmt failed n some e h early long =
     let x = seen p m ts stmt in
     let law = seen_is_lawful p m ts stmt some e h in
-    let bounds = done_within failed n in
+    let unread : x ≡ seen_of x.k x.plan x.then x.end = λ i. record { k = x.k; plan = x.plan; then = x.then; leaf = law.leaf i; end = x.end } in
     let none = sym (early-public p m ts stmt e) ∙ early in
-    let both = cutting p stmt n (done_of failed n) bounds.0 bounds.1 (nat_le (count_end p (skeleton stmt)) (done_of failed n)) (nat_le (walk_end p (skeleton stmt) x) (done_of failed n)) x.k x.plan x.then x.end refl refl law.holds long in
-    record {
-      static = (λ f. absurd (not_static n f), λ f. absurd (not_both f (ap is_some none)));
-      holds = both.0;
-      cut = both.1;
-    }
+    subst (λ (y : Seen). Lawful p m stmt (cut_at failed n p (skeleton stmt) y)) (sym unread)
+    (cut_held p m stmt failed n x.k x.plan x.then x.end none (subst (λ (y : Seen). Holds p stmt y x.k x.plan x.then) unread law.holds)
+    (subst (λ (y : Seen). n ≤ length (whole_script p (skeleton stmt) y)) unread long))
