@@ -58,6 +58,8 @@ fn settings(buffer: u32, pack: u8) -> Option<Config>
         pack,
         plan: None,
         pad: None,
+        stash: 32,
+        keep: false,
         max_input: 1_073_741_824,
     })
 }

@@ -39,7 +39,7 @@ until_part AfterCount all = ([], append-nil all)
 until_part (Cut n) all = (drop n all, take-append-drop n all)
 
 plain_script : (p : Public) (stmt : Stmt) (a b : Seen) → is_counted stmt ≡ false → whole_script p (skeleton stmt) a ≡ whole_script p (skeleton stmt) b
-plain_script p (Create table columns capacity) a b plain = refl
+plain_script p (Create table columns capacity shape) a b plain = refl
 plain_script p (Insert table columns values) a b plain = refl
 plain_script p (Update table sets cond) a b plain = refl
 plain_script p (Delete table cond) a b plain = refl

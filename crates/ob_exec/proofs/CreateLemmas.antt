@@ -9,6 +9,7 @@ use Rattle.std.specs.List.{All, list_all, list_any}
 use Rattle.std.specs.Prelude.{◌<◌, ◌≤◌, ◌&&◌, max, Bool, IsTrue, Option, None, MatchOption, count_by, map, nat_lt, not, sum_by, bytes_eq}
 use Rattle.std.proofs.lemmas.Slice.Eq.{bytes_eq-Decides}
 use Rattle.std.proofs.lemmas.Bool.{cases_eq}
+use Rattle.ob_base.specs.declared.schema.Shape.{Shape}
 use Rattle.ob_base.specs.declared.access.Access.{Access}
 use Rattle.ob_base.specs.declared.config.Public.{Public}
 use Rattle.ob_base.specs.declared.refusal.Refusal.{Refusal}
@@ -121,11 +122,11 @@ keys_few table (c ∷ cs) =
 at_most_one : (n : ℕ) → nat_lt 1 n ≡ false → n ≤ 1
 at_most_one n is = grind (arith, nat_tests)
 
-module _ (p : Public) (m : ℕ) (table : List ℕ) (columns : List NewColumn) (capacity : ℕ) (now : refusal_now p m (CreateStmt table columns capacity) ≡ None) where
-  pub new_stored : IsStored (record { name = table; schema = columns_of table columns; capacity = capacity })
+module _ (p : Public) (m : ℕ) (table : List ℕ) (columns : List NewColumn) (capacity : ℕ) (shape : Shape) (now : refusal_now p m (CreateStmt table columns capacity shape) ≡ None) where
+  pub new_stored : IsStored (record { name = table; schema = columns_of table columns; capacity = capacity; shape = shape })
   new_stored =
-      let free = allowed (is_late m) (limits_of p) (headings_of p.tables) (CreateStmt table columns capacity) now in
-      let size = within (headings_of p.tables) table columns capacity free.limits in
+      let free = allowed (is_late m) (limits_of p) (headings_of p.tables) (CreateStmt table columns capacity shape) now in
+      let size = within (headings_of p.tables) table columns capacity shape free.limits in
       let same = length-map columns (new_column table) in
       record {
         some = omega (arith, size.some, same);
@@ -135,12 +136,13 @@ module _ (p : Public) (m : ℕ) (table : List ℕ) (columns : List NewColumn) (c
         most = size.most;
         names = ap (has_repeats bytes_eq) (named_alike table columns) ∙ (neither (has_table table (headings_of p.tables)) _ free.names).1;
         table = names_table table columns;
+        flat = size.flat;
       }
 
-  pub new_heading : length table ≤ 32 → All IsShort columns → IsHeading (record { name = table; schema = columns_of table columns; capacity = capacity })
+  pub new_heading : length table ≤ 32 → All IsShort columns → IsHeading (record { name = table; schema = columns_of table columns; capacity = capacity; shape = shape })
   new_heading short names =
-      let free = allowed (is_late m) (limits_of p) (headings_of p.tables) (CreateStmt table columns capacity) now in
-      let size = within (headings_of p.tables) table columns capacity free.limits in
+      let free = allowed (is_late m) (limits_of p) (headings_of p.tables) (CreateStmt table columns capacity shape) now in
+      let size = within (headings_of p.tables) table columns capacity shape free.limits in
       record {
         stored = new_stored;
         name = short;
@@ -150,11 +152,11 @@ module _ (p : Public) (m : ℕ) (table : List ℕ) (columns : List NewColumn) (c
 
   pub new_name : (i : ℕ) (t : Table) → IsAt table i t p.tables → ⊥
   new_name i t is =
-      let free = allowed (is_late m) (limits_of p) (headings_of p.tables) (CreateStmt table columns capacity) now in
+      let free = allowed (is_late m) (limits_of p) (headings_of p.tables) (CreateStmt table columns capacity shape) now in
       no_table table p.tables i t (neither (has_table table (headings_of p.tables)) _ free.names).0 is
 
-  pub new_within : IsWithin (headings_of p.tables) table columns capacity
-  new_within = within (headings_of p.tables) table columns capacity (allowed (is_late m) (limits_of p) (headings_of p.tables) (CreateStmt table columns capacity) now).limits
+  pub new_within : IsWithin (headings_of p.tables) table columns capacity shape
+  new_within = within (headings_of p.tables) table columns capacity shape (allowed (is_late m) (limits_of p) (headings_of p.tables) (CreateStmt table columns capacity shape) now).limits
 
   pub new_place : length p.tables < 64
   new_place = let fewer = new_within.tables in let same = length-map p.tables (λ (t : Table). t.heading) in omega (arith, fewer, same)
@@ -163,7 +165,7 @@ module _ (p : Public) (m : ℕ) (table : List ℕ) (columns : List NewColumn) (c
   new_few = let few = new_within.few in omega (arith, few)
 
   pub new_asked : (n : ℕ) → n ≡ m → n < 9799832789158199296
-  new_asked n same = early_few m n (allowed (is_late m) (limits_of p) (headings_of p.tables) (CreateStmt table columns capacity) now).early same
+  new_asked n same = early_few m n (allowed (is_late m) (limits_of p) (headings_of p.tables) (CreateStmt table columns capacity shape) now).early same
 
   pub new_size : (schema : Columns) → schema ≡ columns_of table columns → IsSized schema capacity
   new_size schema is =
@@ -179,9 +181,9 @@ module _ (p : Public) (m : ℕ) (table : List ℕ) (columns : List NewColumn) (c
       subst (λ (cs : Columns). IsIdle (width cs) room) (sym is) (record { free = idle.free; shelf = idle.shelf; enough = idle.enough; wide = omega (arith, wide, wider) })
 
 module _ {R : Type 0} (state : R → RevState) (old : Engine R) (s s1 : StoreState) (v : Vault R) (room : RoomState) (t : StoreState)
-    (table : List ℕ) (columns : List NewColumn) (schema : Columns) (capacity : ℕ)
+    (table : List ℕ) (columns : List NewColumn) (schema : Columns) (capacity : ℕ) (shape : Shape)
     (agrees : Agrees state old s) (rests : ChangesNothing s s1) (room_is : room ≡ record old.room { high = max old.room.high old.room.pack }) (schema_is : schema ≡ columns_of table columns)
-    (now : refusal_now old.public (count_of old s) (CreateStmt table columns capacity) ≡ None) where
+    (now : refusal_now old.public (count_of old s) (CreateStmt table columns capacity shape) ≡ None) where
   abbrev before : World
   before = at state old.vault s1
 
@@ -191,30 +193,30 @@ module _ {R : Type 0} (state : R → RevState) (old : Engine R) (s s1 : StoreSta
   abbrev part : List Access
   part = create_part old.vault.next (blocks_for old.room.pack capacity) (old.room.pack * width schema)
 
-  script_is : (end : End) → whole_script old.public (Create table columns capacity) (seen_to end) ≡ part
+  script_is : (end : End) → whole_script old.public (Create table columns capacity shape) (seen_to end) ≡ part
   script_is end = λ i. create_part (agrees.next i) (blocks_for (sym agrees.room.pack i) capacity) (sym agrees.room.pack i * width (sym schema_is i))
 
   abbrev new_table : Table
-  new_table = record { heading = record { name = table; schema = schema; capacity = capacity }; region = old.public.next_region }
+  new_table = record { heading = record { name = table; schema = schema; capacity = capacity; shape = shape }; region = old.public.next_region }
 
   heading_is : length table ≤ 32 → All IsShort columns → IsHeading new_table.heading
   heading_is short names =
-      subst (λ (cs : Columns). IsHeading (record { name = table; schema = cs; capacity = capacity })) (sym schema_is)
-      (new_heading old.public (count_of old s) table columns capacity now short names)
+      subst (λ (cs : Columns). IsHeading (record { name = table; schema = cs; capacity = capacity; shape = shape })) (sym schema_is)
+      (new_heading old.public (count_of old s) table columns capacity shape now short names)
 
   abbrev fresh : Flat
   fresh = table_of schema capacity old.vault.next
 
-  no_refusal : (tables : Tables) → Represents state old s tables → refusal old.public (count_of old s) tables (CreateStmt table columns capacity) ≡ None
+  no_refusal : (tables : Tables) → Represents state old s tables → refusal old.public (count_of old s) tables (CreateStmt table columns capacity shape) ≡ None
   no_refusal tables held =
-      refused_late old.public (count_of old s) tables (CreateStmt table columns capacity) (early_held old.public (count_of old s) (CreateStmt table columns capacity) tables (world_of state old s) None held.held now)
+      refused_late old.public (count_of old s) tables (CreateStmt table columns capacity shape) (early_held old.public (count_of old s) (CreateStmt table columns capacity shape) tables (world_of state old s) None held.held now)
 
   made : length table ≤ 32 → All IsShort columns → Went part (one old.vault.next) before done → IsFlat old.room.pack fresh done
       → Lives old.vault.next (table_region Round old.room.pack schema capacity) done → (IsTrue s.tells → FlatRepresents old.room.pack fresh (empty_slots capacity) done)
       → SealsTable old.room.pack schema old.vault.next before done → old.ended ≡ false
-      → ServesSilently state (CreateStmt table columns capacity) (Ok Created) old s (engine_after old v room (old.public.tables ++ new_table ∷ []) Whole old.ended) t
+      → ServesSilently state (CreateStmt table columns capacity shape) (Ok Created) old s (engine_after old v room (old.public.tables ++ new_table ∷ []) Whole old.ended) t
   made short names went flat round told seals lives =
-      let stmt = CreateStmt table columns capacity in
+      let stmt = CreateStmt table columns capacity shape in
       let all = went_join (one old.vault.next) _ _ _ [] part (went_rests _ s s1 rests (one old.vault.next) agrees.ready) went in
       let is_table : IsTable old.public.pack new_table done = record {
         heading = heading_is short names;
@@ -223,12 +225,12 @@ module _ {R : Type 0} (state : R → RevState) (old : Engine R) (s s1 : StoreSta
         round = record { live = ap (state v.revs).live agrees.next ∙ round.live ∙ (λ i. Some (table_region Round (agrees.room.pack i) schema capacity)) };
       } in
       let answered : IsAnswered Created = record { whole = λ n. refl; own = refl } in
-      let unnamed = new_name old.public (count_of old s) table columns capacity now in
-      let ran = ran_done state (Create table columns capacity) old s v room t agrees room_is (one old.vault.next)
+      let unnamed = new_name old.public (count_of old s) table columns capacity shape now in
+      let ran = ran_done state (Create table columns capacity shape) old s v room t agrees room_is (one old.vault.next)
       (old.public.tables ++ new_table ∷ []) part Created lives answered all (script_is Whole)
-      (ap (λ (c : Columns). old.public.tables ++ record { heading = record { name = table; schema = c; capacity = capacity }; region = old.public.next_region } ∷ []) schema_is)
+      (ap (λ (c : Columns). old.public.tables ++ record { heading = record { name = table; schema = c; capacity = capacity; shape = shape }; region = old.public.next_region } ∷ []) schema_is)
       (tables_added old.public.pack old.vault.next old.public.tables (others_of old.closing) (indexes_of old.closing) new_table _ _ all.lasts agrees.ready refl agrees.tables
-      (new_place old.public (count_of old s) table columns capacity now) agrees.next is_table
+      (new_place old.public (count_of old s) table columns capacity shape now) agrees.next is_table
       (λ i u is same. unnamed i u (record { get = is; named = same })) (λ q. cases_eq q old.vault.next)) in
       finished state stmt old s agrees now refl v room t (old.public.tables ++ new_table ∷ []) Created answered tt ran
       (keeps_pass state old s s1 rests agrees (engine_after old v room (old.public.tables ++ new_table ∷ []) Whole old.ended) t done refl (λ good accepts. seals.seals good (accepts _ _)))
@@ -241,16 +243,16 @@ module _ {R : Type 0} (state : R → RevState) (old : Engine R) (s s1 : StoreSta
       let added = held_added old.public.pack old.public.tables tables new_table (empty_slots capacity) done kept slots in
       let settles : settle old.public (count_of old s) tables stmt ≡ tables ++ record { heading = new_table.heading; held = record { slots = empty_slots capacity; leaves = [] } } ∷ [] =
       ap (λ (o : Option Refusal). followed o (settled tables stmt) tables) none
-      ∙ (λ i. tables ++ record { heading = record { name = table; schema = sym schema_is i; capacity = capacity }; held = record { slots = empty_slots capacity; leaves = [] } } ∷ []) in (
+      ∙ (λ i. tables ++ record { heading = record { name = table; schema = sym schema_is i; capacity = capacity; shape = shape }; held = record { slots = empty_slots capacity; leaves = [] } } ∷ []) in (
         sym (ap (λ (o : Option Refusal). outcome_of stmt (answered_by o (accepted_answer (database tables) stmt))) none),
         subst (λ (ts : Tables). AreHeld old.public.pack (old.public.tables ++ new_table ∷ []) ts done) (sym settles) added,
       ))
 
   -- the table was made
   pub created : length table ≤ 32 → All IsShort columns → (flat : Flat) (new : Engine R) (result : Result Outcome RunStop) → Creates Round old.room.pack fresh (Ok flat) before done → old.ended ≡ false
-      → result ≡ Ok Created → new ≡ engine_after old v room (old.public.tables ++ new_table ∷ []) Whole old.ended → ServesSilently state (CreateStmt table columns capacity) result old s new t
+      → result ≡ Ok Created → new ≡ engine_after old v room (old.public.tables ++ new_table ∷ []) Whole old.ended → ServesSilently state (CreateStmt table columns capacity shape) result old s new t
   created short names flat new result creates lives answered is =
-      serves_as state (CreateStmt table columns capacity) old s t _ _ _ _ answered is
+      serves_as state (CreateStmt table columns capacity shape) old s t _ _ _ _ answered is
       (made short names creates.ran.ok (subst (λ (f : Flat). IsFlat old.room.pack f done) creates.makes.value creates.makes.flat)
       creates.makes.lives (λ tells. subst (λ (f : Flat). FlatRepresents old.room.pack f (empty_slots capacity) done) creates.makes.value (creates.told (subst (λ (b : Bool). IsTrue b) (sym rests.tells) tells)))
       creates.makes.seals lives)
@@ -258,10 +260,10 @@ module _ {R : Type 0} (state : R → RevState) (old : Engine R) (s s1 : StoreSta
   -- it was not
   pub not_created : (e : OpErr) (n : ℕ) (new : Engine R) (result : Result Outcome RunStop) → Creates Round old.room.pack fresh (Err e) before done
       → n ≡ length t.asked - length s.asked → result ≡ answer_of e → new ≡ engine_after old v room old.public.tables (Cut n) (is_stop (answer_of e))
-      → ServesSilently state (CreateStmt table columns capacity) result old s new t
+      → ServesSilently state (CreateStmt table columns capacity shape) result old s new t
   not_created e n new result creates count answered is =
-      serves_as state (CreateStmt table columns capacity) old s t _ _ _ _ answered is
-      (cut_off state (CreateStmt table columns capacity) old s agrees now refl s1 v room t rests room_is part _ _ _ n e script_is refl creates.ran.err count creates.makes.gone
+      serves_as state (CreateStmt table columns capacity shape) old s t _ _ _ _ answered is
+      (cut_off state (CreateStmt table columns capacity shape) old s agrees now refl s1 v room t rests room_is part _ _ _ n e script_is refl creates.ran.err count creates.makes.gone
       (λ is. creates.memory.did (ap (λ (z : OpErr). Err z) is)) (silent_fault e creates.never) (λ tables reads. fault_made e creates.never)
       (λ good accepts. creates.makes.seals.seals good (accepts _ _)))
 

@@ -5,7 +5,7 @@ use Rattle.std.proofs.lemmas.List.{length-append, length-take}
 use Rattle.ob_base.specs.declared.access.Access.{Access}
 use Rattle.ob_base.specs.declared.config.Public.{Public}
 use Rattle.ob_base.specs.declared.refusal.Refusal.{Refusal}
-use Rattle.ob_base.specs.declared.refusal.Refusal.TheVariants.{Syntax, NoTable, NameTaken, NoColumn, WrongType, ValueRange, Limit, KeyRule, JoinKey, Duplicate, Full, TooManyGroups, NotConsecutive, Overflow, StoreFault, PadPassed}
+use Rattle.ob_base.specs.declared.refusal.Refusal.TheVariants.{Syntax, NoTable, NameTaken, NoColumn, WrongType, ValueRange, Limit, KeyRule, JoinKey, Duplicate, Full, TooManyGroups, NotConsecutive, Overflow, StoreFault, PadPassed, KeyRange, NeedsKey}
 use Rattle.ob_exec.specs.declared.stop.RunStop.{RunStop}
 use Rattle.ob_base.specs.declared.seen.End.{End}
 use Rattle.ob_base.specs.declared.seen.End.TheVariants.{Static, Whole, AfterCount, Cut}
@@ -39,6 +39,8 @@ refused_cut TooManyGroups k n is = absurd (cc is)
 refused_cut NotConsecutive k n is = absurd (cc is)
 refused_cut (Overflow i) k n is = absurd (cc is)
 refused_cut PadPassed k n is = absurd (cc is)
+refused_cut KeyRange k n is = absurd (cc is)
+refused_cut NeedsKey k n is = absurd (cc is)
 
 -- it is cut off after the accesses that it asked
 ends_cut : (result : Result Outcome RunStop) (k n : ℕ) → Cut k ≡ result_end result n → k ≡ n
@@ -85,6 +87,7 @@ plain : (p : Public) (m : ℕ) (stmt : Stmt) (result : Result Outcome RunStop) (
 plain p m stmt result end before after uncounted whole early asked ends = record {
   static = static_as (refusal_now p m stmt) result (ended end) early;
   holds = held_nothing p stmt end uncounted whole;
+  leaf = refl;
   cut = within p (skeleton stmt) result end before after asked ends;
 }
 
@@ -102,5 +105,6 @@ pub lawful_refused : (p : Public) (m : ℕ) (stmt : Stmt) (r : Refusal) → refu
 lawful_refused p m stmt r now = record {
   static = (λ is. subst (λ (o : Option Refusal). IsSome o) (sym now) refl, λ some. refl);
   holds = tt;
+  leaf = refl;
   cut = tt;
 }

@@ -238,6 +238,7 @@ module _ (p : Public) (select : SelectRows) (g : ℕ) (x : List Access) (a b : W
       leaves = none_left;
       seals = λ good accepts. seals_join good a b d made.lasts.later (seals good accepts) (seals_join good b c d is.ran.err.lasts.later (is.seals good accepts) (kept good));
       holds = may_stated p select g 1 now.k now.plan now.then is.holds;
+      leaf = is.leaf;
       reached = record {
         count = λ some. let within = is.reached.count some in let long = length_is in omega (arith, within, long, count_is);
         walk = λ some.
@@ -285,12 +286,13 @@ module _ (p : Public) (select : SelectRows) (g : ℕ) (x : List Access) (a b : W
 
     pub behind_ends : EndsRows grew p select answer now a d out_old out_new
     behind_ends =
-        let counted = counted_some q answer now.k now.plan now.then now.end is.holds is.ended in
+        let counted = counted_some q answer now is.leaf is.holds is.ended in
         record {
           ran = subst (λ (n : ℕ). Went (rows_script p select now) (from n) a d) (sym next) (went_all counted);
           leaves = record { gone = λ r above. left_by r above (cases_eq r g) };
           seals = λ good accepts. seals_join good a b d made.lasts.later (seals good accepts) (seals_join good b c d is.ran.ok.lasts.later (is.seals good accepts) (discards.seals.seals good));
           holds = may_stated p select g 1 now.k now.plan now.then is.holds;
+          leaf = is.leaf;
           ended = ends_stated p select g 1 answer now is.ended;
           emitted = behind_emits answer is.emitted;
           told = λ y. is.told (at_end y);

@@ -131,7 +131,7 @@ module _ {R : Type 0} (state : R → RevState) (old : Engine R) (s : StoreState)
   serves_ended cut faults answer lives used is few closes sink = record {
     ran = rows_ran state old s v room t select agrees used answer now lives is;
     early = early_none old.public (count_of old s) select (Ok (selected_outcome answer)) now free (ended_late (selection old.public select) answer now is.ended);
-    lawful = lawful_ended old.public select (count_of old s) free answer now is.holds is.ended;
+    lawful = lawful_ended old.public select (count_of old s) free answer now is.holds is.leaf is.ended;
     memory = λ wanted. absurd (cc wanted);
     seals = λ good accepts single. is.seals good accepts;
     answered = answered_by answer is few closes;

@@ -3,6 +3,7 @@ use Rattle.std.proofs.Common.{◌≡◌, ◌≤◌, ◌<◌, ◌+◌, ◌*◌, �
 use Rattle.std.specs.Prelude.{IsSome, slice_get}
 use Rattle.std.specs.Int.{div_ceil}
 use Rattle.std.specs.Option.{option_map_or}
+use Rattle.ob_base.specs.declared.schema.Shape.TheVariants.{Flat as FlatShape}
 use Rattle.ob_base.specs.declared.access.Access.{Access}
 use Rattle.ob_base.specs.declared.config.Public.{Public}
 use Rattle.ob_base.specs.declared.schema.Heading.{Heading}
@@ -213,7 +214,7 @@ module _ {R : Type 0} {state : R → RevState} {old : Engine R} {s : StoreState}
       ∙ (λ k. option_map_or (λ (one : Stored ℕ). option_map_or (λ (two : Stored ℕ). join_script p now one two) (stored_found y.b old.public.tables y.j u y.agrees.tables.names y.two.here.get y.two.here.named k) [])
       (stored_found y.a old.public.tables y.i t y.agrees.tables.names y.one.here.get y.one.here.named k) [])
       ∙ (λ k. pass_script (record { pack = sym y.agrees.room.pack k; left = sym y.one.is k; lcol = lcol; right = sym y.two.is k; rcol = rcol; buffered = buffered_blocks (sym y.agrees.room.pack k) (sym y.agrees.room.rows k) }) (y.agrees.next k)
-      ++ select_part p now (y.agrees.next k + 1) (extent_of (record { heading = record { name = []; schema = table_schemas k; capacity = table_slots k }; held = y.agrees.next k })) (discard_at (y.agrees.next k)))
+      ++ select_part p now (y.agrees.next k + 1) (extent_of (record { heading = record { name = []; schema = table_schemas k; capacity = table_slots k; shape = FlatShape }; held = y.agrees.next k })) (discard_at (y.agrees.next k)))
       ∙ ap (λ (x : List Access). joins lcol rcol ++ x) (select_split p now (old.vault.next + 1) (region_of q) (discard_at old.vault.next))
 
   pub join_asks : (lcol rcol : ℕ) (now : Seen)

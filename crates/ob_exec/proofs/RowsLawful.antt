@@ -74,7 +74,11 @@ ended_uncut q (Refused r) seen m is = absurd is
 
 -- ---- what is held together
 abbrev pub seen_as : Option ℕ → (plan second : Option Plan) → End → Seen
-seen_as k plan second end = record { k = k; plan = plan; then = second; end = end }
+seen_as k plan second end = record { k = k; plan = plan; then = second; leaf = None; end = end }
+
+-- as it is, where no leaf was read
+pub unread : (seen : Seen) → seen.leaf ≡ None → seen ≡ seen_as seen.k seen.plan seen.then seen.end
+unread seen leaf = λ i. record { k = seen.k; plan = seen.plan; then = seen.then; leaf = leaf i; end = seen.end }
 
 -- without a count where results are padded alone
 pub uncounted : (q : Selection) (answer : Selected) (end : End) → EndsSelected q answer (seen_as None None None end) → EndsPadded q (seen_as None None None end)
@@ -173,21 +177,25 @@ module _ (p : Public) (select : SelectRows) where
     none_early : IsSome (refusal_now p m (RowsStmt select)) → ⊥
     none_early some = let is = subst (λ (o : Option Refusal). IsSome o) now some in cc is
 
-    pub lawful_ended : (answer : Selected) (seen : Seen) → MayHold (selection p select) seen.k seen.plan seen.then
+    pub lawful_ended : (answer : Selected) (seen : Seen) → MayHold (selection p select) seen.k seen.plan seen.then → seen.leaf ≡ None
         → EndsSelected (selection p select) answer seen → Lawful p m (RowsStmt select) seen
-    lawful_ended answer seen may is = record {
+    lawful_ended answer seen may leaf is = record {
       static = (λ static. absurd (ended_late (selection p select) answer seen is static), λ some. absurd (none_early some));
-      holds = holds_ended answer seen.k seen.plan seen.then seen.end may is;
+      holds = subst (λ (x : Seen). Holds p (RowsStmt select) x seen.k seen.plan seen.then) (sym (unread seen leaf))
+          (holds_ended answer seen.k seen.plan seen.then seen.end may (subst (EndsSelected (selection p select) answer) (unread seen leaf) is));
+      leaf = leaf;
       cut = ended_uncut (selection p select) answer seen _ is;
     }
 
     cut_static : (n : ℕ) → Cut n ≡ Static → ⊥
     cut_static n is = cc
 
-    pub lawful_cut : (seen : Seen) (n : ℕ) → MayHold (selection p select) seen.k seen.plan seen.then → ReachesRows p select seen n
+    pub lawful_cut : (seen : Seen) (n : ℕ) → MayHold (selection p select) seen.k seen.plan seen.then → seen.leaf ≡ None → ReachesRows p select seen n
         → n ≤ length (rows_script p select seen) → Lawful p m (RowsStmt select) (record seen { end = Cut n })
-    lawful_cut seen n may reached most = record {
+    lawful_cut seen n may leaf reached most = record {
       static = (λ static. absurd (cut_static n static), λ some. absurd (none_early some));
-      holds = holds_cut seen.k seen.plan seen.then seen.end n may reached;
+      holds = subst (λ (x : Seen). Holds p (RowsStmt select) x seen.k seen.plan seen.then) (sym (unread (record seen { end = Cut n }) leaf))
+          (holds_cut seen.k seen.plan seen.then seen.end n may (subst (λ (x : Seen). ReachesRows p select x n) (unread seen leaf) reached));
+      leaf = leaf;
       cut = subst (λ (l : List Access). n ≤ length l) (same_script p (rows_skeleton select) seen (Cut n)) most;
     }

@@ -130,6 +130,7 @@ module _ {E : Type 0} (grew cut : E → E → List Event → Type 0) (p : Public
         leaves = leaves_ready v s t ready;
         seals = λ good accepts. seals_rests v s t rests good;
         holds = subst (λ (x : Seen). Rattle.ob_select.specs.Selecting.MayHold (selection p select) x.k x.plan x.then) (sym fresh) tt;
+        leaf = ap (λ (x : Seen). x.leaf) fresh;
         reached = record {
           count = λ some. let is = subst (λ (x : Seen). IsSome x.k) fresh some in absurd (cc is);
           walk = λ some. let is = subst (λ (x : Seen). IsSome x.then) fresh some in absurd (cc is);

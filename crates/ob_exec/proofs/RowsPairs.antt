@@ -47,6 +47,7 @@ module _ {E : Type 0} (grew cut : E → E → List Event → Type 0) (p : Public
     leaves = leaves;
     seals = seals;
     holds = subst (λ (y : Seen). MayHold (selection p select) y.k y.plan y.then) (sym fresh) tt;
+    leaf = ap (λ (y : Seen). y.leaf) fresh;
     reached = record {
       count = λ some. let is = subst (λ (y : Seen). IsSome y.k) fresh some in absurd (cc is);
       walk = λ some. let is = subst (λ (y : Seen). IsSome y.then) fresh some in absurd (cc is);

@@ -3,6 +3,7 @@ use Rattle.std.proofs.Common.{◌≡◌, ◌⊎◌, inl, inr, ◌≤◌, ◌+◌
 use Rattle.std.specs.Prelude.{nat_le}
 use Rattle.std.specs.Option.{option_map_or}
 use Rattle.std.proofs.lemmas.Bool.Decides.{nat_tests}
+use Rattle.ob_base.specs.declared.schema.Shape.TheVariants.{Flat as FlatShape}
 use Rattle.ob_base.specs.declared.access.Access.{Access}
 use Rattle.ob_base.specs.declared.config.Plan.{Plan}
 use Rattle.ob_base.specs.declared.config.Public.{Public}
@@ -18,7 +19,7 @@ use Rattle.ob_base.specs.Joins.{joined_slots}
 use Rattle.ob_base.specs.Limits.{buffered_blocks}
 use Rattle.ob_base.specs.Stored.{Stored, stored_at, stored_regions}
 use Rattle.ob_script.specs.Parts.{count_part, join_part}
-use Rattle.ob_script.specs.Script.{behind_count, blocks_of, extent_of, join_script, joined_extent, result_part, rows_width, select_part, table_script}
+use Rattle.ob_script.specs.Script.{after_count, behind_count, blocks_of, extent_of, join_script, joined_extent, result_part, rows_width, select_part, table_script}
 use Rattle.ob_vault.specs.State.{World}
 use Rattle.ob_vault.specs.Tied.{Calm}
 use Rattle.ob_vault.proofs.WorldSteps.{calm_none}
@@ -35,7 +36,7 @@ use Rattle.ob_select.specs.declared.selecting.Selected.TheVariants.{Rows, Refuse
 use Rattle.ob_select.specs.Selecting.{EndsSelected, MayHold, Selection, answer_events, selection_answer, emitted_unless, selected_as, shown_rows}
 use Rattle.ob_exec.specs.Sources.{EndsRows, HoldsRows, SourceToEnd, SourceToHalt, closing, rows_script, rows_skeleton, selection, slots_of}
 use Rattle.ob_select.specs.Memory.{HasCounted}
-use Rattle.ob_exec.proofs.RowsLawful.{seen_as, uncounted}
+use Rattle.ob_exec.proofs.RowsLawful.{seen_as, uncounted, unread}
 use Rattle.ob_exec.proofs.RowsStops.{StopsRows}
 use Rattle.ob_exec.proofs.EmitLemmas.{unfit_none}
 
@@ -52,23 +53,27 @@ module _ (p : Public) (g : ℕ) (t : Stored ℕ) (pre ending : List Access) wher
       length-append pre (select_part p now g (extent_of t) ending)
       ∙ ap (λ (n : ℕ). length pre + n) (length-append count (behind_count p.pad p now g (extent_of t) ending))
 
-  behind_short : (pad k : Option ℕ) (plan second : Option Plan) (end : End)
-      → length (behind_count pad p (seen_as k plan None end) g (extent_of t) ending) ≤ length (behind_count pad p (seen_as k plan second end) g (extent_of t) ending)
-  behind_short (Some pad) k plan second end = omega arith
-  behind_short None None plan second end = omega arith
-  behind_short None (Some k) plan second end =
-      let first = result_part p plan k g (extent_of t) in
-      let next = result_part p second k (g + 1) (extent_of t) in
+  after_short : (now : Seen) (k : Option ℕ)
+      → length (after_count p (record now { then = None }) k g (extent_of t) ending) ≤ length (after_count p now k g (extent_of t) ending)
+  after_short now None = omega arith
+  after_short now (Some k) =
+      let first = result_part p now.plan k g (extent_of t) in
+      let next = result_part p now.then k (g + 1) (extent_of t) in
       let c = length-append first ending in
       let d = length-append first (next ++ ending) in
       let e = length-append next ending in
       omega (arith, c, d, e)
 
-  pub walk_short : (k : Option ℕ) (plan second : Option Plan) (end : End) → length (part (seen_as k plan None end)) ≤ length (part (seen_as k plan second end))
-  walk_short k plan second end =
-      let a = part_length (seen_as k plan None end) in
-      let b = part_length (seen_as k plan second end) in
-      let c = behind_short p.pad k plan second end in
+  behind_short : (pad : Option ℕ) (now : Seen)
+      → length (behind_count pad p (record now { then = None }) g (extent_of t) ending) ≤ length (behind_count pad p now g (extent_of t) ending)
+  behind_short (Some pad) now = omega arith
+  behind_short None now = after_short now now.k
+
+  pub walk_short : (now : Seen) → length (part (record now { then = None })) ≤ length (part now)
+  walk_short now =
+      let a = part_length (record now { then = None }) in
+      let b = part_length now in
+      let c = behind_short p.pad now in
       omega (arith, a, b, c)
 
 -- where results aren't padded
@@ -91,6 +96,7 @@ joined_stored p left right = record {
     name = [];
     schema = left.heading.schema ++ right.heading.schema;
     capacity = joined_slots p.pack p.buffer left.heading.capacity right.heading.capacity;
+    shape = FlatShape;
   };
   held = p.next_region;
 }
@@ -112,17 +118,17 @@ module _ (p : Public) (now : Seen) where
   join_count (Some left) (Some right) =
       count_short p (p.next_region + 1) (joined_stored p left right) (joined_part p left right) (discard_at p.next_region) now
 
-module _ (p : Public) (k : Option ℕ) (plan second : Option Plan) (end : End) where
-  table_walk : (o : Option (Stored ℕ)) → length (option_map_or (table_script p (seen_as k plan None end)) o []) ≤ length (option_map_or (table_script p (seen_as k plan second end)) o [])
+module _ (p : Public) (now : Seen) where
+  table_walk : (o : Option (Stored ℕ)) → length (option_map_or (table_script p (record now { then = None })) o []) ≤ length (option_map_or (table_script p now) o [])
   table_walk None = omega arith
-  table_walk (Some t) = walk_short p p.next_region t [] [] k plan second end
+  table_walk (Some t) = walk_short p p.next_region t [] [] now
 
-  join_walk : (o q : Option (Stored ℕ)) → length (option_map_or (λ left. option_map_or (λ right. join_script p (seen_as k plan None end) left right) q []) o [])
-      ≤ length (option_map_or (λ left. option_map_or (λ right. join_script p (seen_as k plan second end) left right) q []) o [])
+  join_walk : (o q : Option (Stored ℕ)) → length (option_map_or (λ left. option_map_or (λ right. join_script p (record now { then = None }) left right) q []) o [])
+      ≤ length (option_map_or (λ left. option_map_or (λ right. join_script p now left right) q []) o [])
   join_walk None q = omega arith
   join_walk (Some left) None = omega arith
   join_walk (Some left) (Some right) =
-      walk_short p (p.next_region + 1) (joined_stored p left right) (joined_part p left right) (discard_at p.next_region) k plan second end
+      walk_short p (p.next_region + 1) (joined_stored p left right) (joined_part p left right) (discard_at p.next_region) now
 
 counts_within : (p : Public) (select : SelectRows) (now : Seen) → count_end p (rows_skeleton select) ≤ length (rows_script p select now)
 counts_within p select now = go select.source
@@ -140,8 +146,8 @@ walks_within p select now = go select.source
   where
     go : (source : Source) → walk_end p (Rattle.ob_base.specs.declared.skeleton.Skeleton.TheVariants.Rows source select.list) now
         ≤ length (Rattle.ob_script.specs.Script.whole_script p (Rattle.ob_base.specs.declared.skeleton.Skeleton.TheVariants.Rows source select.list) now)
-    go (OneTable name) = less_than _ _ _ (table_walk p now.k now.plan now.then now.end (stored_at name (stored_regions p.tables)))
-    go (Join a b on equals) = less_than _ _ _ (join_walk p now.k now.plan now.then now.end (stored_at a (stored_regions p.tables)) (stored_at b (stored_regions p.tables)))
+    go (OneTable name) = less_than _ _ _ (table_walk p now (stored_at name (stored_regions p.tables)))
+    go (Join a b on equals) = less_than _ _ _ (join_walk p now (stored_at a (stored_regions p.tables)) (stored_at b (stored_regions p.tables)))
 
 -- ---- what is held of it
 held_all : {A : Type 0} (o : Option A) (m n : ℕ) → m ≤ n → o ≡ held_if (nat_le m n) o
@@ -150,12 +156,15 @@ held_all o m n within = sym (ap (λ (b : Bool). held_if b o) reached)
     reached : nat_le m n ≡ true
     reached = grind (arith, nat_tests)
 
-pub counted_some : (q : Selection) (answer : Selected) (k : Option ℕ) (plan second : Option Plan) (end : End) → MayHold q k plan second → EndsSelected q answer (seen_as k plan second end)
+counted_as : (q : Selection) (answer : Selected) (k : Option ℕ) (plan second : Option Plan) (end : End) → MayHold q k plan second → EndsSelected q answer (seen_as k plan second end)
     → HasCounted q.public (seen_as k plan second end)
-counted_some q answer (Some k) plan second end may is = inl refl
-counted_some q answer None (Some plan) second end may is = absurd may
-counted_some q answer None None (Some second) end may is = absurd may
-counted_some q answer None None None end may is = inr (uncounted q answer end is).padded
+counted_as q answer (Some k) plan second end may is = inl refl
+counted_as q answer None (Some plan) second end may is = absurd may
+counted_as q answer None None (Some second) end may is = absurd may
+counted_as q answer None None None end may is = inr (uncounted q answer end is).padded
+
+pub counted_some : (q : Selection) (answer : Selected) (now : Seen) → now.leaf ≡ None → MayHold q now.k now.plan now.then → EndsSelected q answer now → HasCounted q.public now
+counted_some q answer now leaf may is = counted_as q answer now.k now.plan now.then now.end may (subst (EndsSelected q answer) (unread now leaf) is)
 
 closing_cause : (e : OpErr) (a b : World) → (e ≡ OpErrs.Sink) ⊎ (e ≡ OpErrs.NoMemory) → b.store.faults ≡ a.store.faults → (Calm a → Calm b) → PassCause e a b
 closing_cause e a b never faults calm = elim never [
@@ -257,13 +266,14 @@ module _ {E : Type 0} (grew cut : E → E → List Event → Type 0) (p : Public
         leaves = is.leaves;
         seals = is.seals;
         holds = is.holds;
+        leaf = is.leaf;
         reached = record { count = λ some. omega (arith, asked, sum, counts); walk = λ some. omega (arith, asked, sum, walks) };
         memory = λ wanted. record {
           done = all;
           rest = [];
           split = append-nil all;
           asked = is.ran.did.asked;
-          place = inr (inr (counted_some (selection p select) answer now.k now.plan now.then now.end is.holds is.ended, refl, record { events = ends.events; ends = ends.ends }));
+          place = inr (inr (counted_some (selection p select) answer now is.leaf is.holds is.ended, refl, record { events = ends.events; ends = ends.ends }));
         };
         halted = until_given grew cut (header (selection p select).flat.schema (selection p select).cols) e All out_old out_new never ends;
         failed = λ failed. absurd (elim never [ inl is ↦ cc (is, failed) | inr is ↦ cc (is, failed) ]);

@@ -69,6 +69,7 @@ pub record StopsRows {E : Type 0} (grew cut : E → E → List Event → Type 0)
   pub leaves : LeavesNone old new
   pub seals : SealsRows p.pack old new
   pub holds : MayHold (selection p select) now.k now.plan now.then
+  pub leaf : now.leaf ≡ None
   pub reached : ReachesRows p select now (length new.store.asked - length old.store.asked)
   pub memory : error ≡ OpErrs.NoMemory → LacksRowMemory p select now old new (HasHalted (Leads grew cut) out_old out_new)
   pub halted : EmitsUntil grew cut error (header (selection p select).flat.schema (selection p select).cols)
@@ -102,6 +103,7 @@ stops_halted {grew = grew} {cut = cut} {p = p} {select = select} {error = error}
   leaves = is.leaves;
   seals = is.seals;
   holds = is.holds;
+  leaf = is.leaf;
   reached = is.reached;
   memory = is.memory;
   halted = until_more grew cut (header (selection p select).flat.schema (selection p select).cols) error (λ (s : SourceToHalt p old new). answer_events (selection p select) (slots_of p select s.tables))
@@ -172,11 +174,11 @@ module _ {R : Type 0} (state : R → RevState) (old : Engine R) (s : StoreState)
     pub rows_of : Same (source_rows select.source (database tables)) (rows (slots_of old.public select tables))
     rows_of = source.rows_are tables stands.in_place headed
 
-    seen_cut : (failed : Bool) (now : Seen) (n : ℕ) → n ≡ length t.asked - length s.asked
+    seen_cut : (failed : Bool) (now : Seen) (n : ℕ) → n ≡ length t.asked - length s.asked → now.leaf ≡ None
         → HoldsRows old.public select (slots_of old.public select tables) failed (length t.asked - length s.asked) now
         → record now { end = Cut n } ≡ cut_at failed (length t.asked - length s.asked) old.public (rows_skeleton select) (seen old.public (count_of old s) tables (RowsStmt select))
-    seen_cut failed now n count holds =
-        (λ i. record { k = holds.k i; plan = holds.plan i; then = holds.second i; end = Cut (count i) })
+    seen_cut failed now n count leaf holds =
+        (λ i. record { k = holds.k i; plan = holds.plan i; then = holds.second i; leaf = leaf i; end = Cut (count i) })
         ∙ ap (cut_at failed (length t.asked - length s.asked) old.public (rows_skeleton select))
         (sym (rows_seen old.public (count_of old s) select tables headed stands.in_place early agrees.settings.pack_least agrees.settings.blocks agrees.settings.padded source.labelled rows_of))
 
@@ -198,7 +200,7 @@ module _ {R : Type 0} (state : R → RevState) (old : Engine R) (s : StoreState)
     stop_told : (e : OpErr) → StopsRows grew cut old.public select e now before after out_old out_new → (tables : Tables) → ReadsTrue state old s t tables
         → IfOk (answer_of e) (λ outcome. Told state (RowsStmt select) tables outcome old s (stopped_engine e) t)
     stop_told OpErrs.Failed is tables reads = record {
-      seen = seen_cut tables reads.held true now n count (is.held (to_halt tables reads));
+      seen = seen_cut tables reads.held true now n count is.leaf (is.held (to_halt tables reads));
       held = still_held (record now { end = Cut n }) false tables reads.held;
     }
     stop_told (OpErrs.Tampered q x) is tables reads = tt
@@ -217,9 +219,9 @@ module _ {R : Type 0} (state : R → RevState) (old : Engine R) (s : StoreState)
     stop_held : (e : OpErr) → StopsRows grew cut old.public select e now before after out_old out_new → (tables : Tables) → ReadsTrueUntil state old s (stopped_engine e) t tables
         → IfErr (answer_of e) (λ stop. SeenCut (is_refused stop) (RowsStmt select) tables old s (stopped_engine e) t)
     stop_held OpErrs.Failed is tables reads = tt
-    stop_held (OpErrs.Tampered q x) is tables reads = seen_cut tables reads.held true now n count (is.held (until (record now { end = Cut n }) true tables reads))
-    stop_held OpErrs.Sink is tables reads = seen_cut tables reads.held false now n count (is.held (until (record now { end = Cut n }) true tables reads))
-    stop_held OpErrs.NoMemory is tables reads = seen_cut tables reads.held false now n count (is.held (until (record now { end = Cut n }) true tables reads))
+    stop_held (OpErrs.Tampered q x) is tables reads = seen_cut tables reads.held true now n count is.leaf (is.held (until (record now { end = Cut n }) true tables reads))
+    stop_held OpErrs.Sink is tables reads = seen_cut tables reads.held false now n count is.leaf (is.held (until (record now { end = Cut n }) true tables reads))
+    stop_held OpErrs.NoMemory is tables reads = seen_cut tables reads.held false now n count is.leaf (is.held (until (record now { end = Cut n }) true tables reads))
 
     stop_answered : (e : OpErr) → StopsRows grew cut old.public select e now before after out_old out_new
         → IfOk (answer_of e) (λ outcome. Answered state grew (RowsStmt select) outcome old s t out_old out_new)
@@ -280,7 +282,7 @@ module _ {R : Type 0} (state : R → RevState) (old : Engine R) (s : StoreState)
     serves_stopped e used is sink = record {
       ran = rows_cut state old s v room t select agrees used e now n count is.ran is.leaves;
       early = early_none old.public (count_of old s) select (answer_of e) (record now { end = Cut n }) free cut_static;
-      lawful = lawful_cut old.public select (count_of old s) free now n is.holds (subst (λ (k : ℕ). ReachesRows old.public select now k) (sym count) is.reached) (few e is.ran);
+      lawful = lawful_cut old.public select (count_of old s) free now n is.holds is.leaf (subst (λ (k : ℕ). ReachesRows old.public select now k) (sym count) is.reached) (few e is.ran);
       memory = λ wanted.
           let lacks = is.memory (only_memory e wanted) in
           record {

@@ -5,6 +5,7 @@ use Rattle.std.proofs.lemmas.Bool.Decides.{nat_tests}
 use Rattle.std.proofs.lemmas.List.{length-map}
 use Rattle.std.specs.Int.{div_ceil}
 use Rattle.std.specs.Option.{option_map_or}
+use Rattle.ob_base.specs.declared.schema.Shape.TheVariants.{Flat as FlatShape}
 use Rattle.ob_base.specs.declared.access.Access.{Access}
 use Rattle.ob_base.specs.declared.config.Public.{Public}
 use Rattle.ob_base.specs.declared.schema.Heading.{Heading}
@@ -121,7 +122,7 @@ module _ {R : Type 0} (state : R → RevState) (old : Engine R) (s s1 : StoreSta
   -- what is asked is what the statement asks
   script_by : (pad : Option ℕ) (now : Seen) → select_part (record old.public { pad = pad }) now old.vault.next (extent_of (region_of q)) [] ≡ rows_script (record old.public { pad = pad }) select now
   script_by pad now =
-      (λ j. select_part (record old.public { pad = pad }) now (sym agrees.next j) (extent_of (record { heading = record { name = []; schema = sym schema_is j; capacity = sym capacity_is j }; held = t.region })) [])
+      (λ j. select_part (record old.public { pad = pad }) now (sym agrees.next j) (extent_of (record { heading = record { name = []; schema = sym schema_is j; capacity = sym capacity_is j; shape = FlatShape }; held = t.region })) [])
       ∙ sym (ap (λ (o : Option (Stored ℕ)). option_map_or (table_script (record old.public { pad = pad }) now) o []) (stored_found name old.public.tables i t agrees.tables.names get named))
       ∙ sym (ap (source_script (record old.public { pad = pad }) now) of_table)
 
@@ -207,6 +208,7 @@ module _ {R : Type 0} (state : R → RevState) (old : Engine R) (s s1 : StoreSta
         leaves = record { gone = is.gone };
         seals = λ good accepts. seals_both good (is.seals good accepts);
         holds = may_stated old.public select t.region 0 now.k now.plan now.then is.holds;
+        leaf = is.leaf;
         ended = ends_stated old.public select t.region 0 answer now is.ended;
         emitted = table_emits answer is.emitted;
         told = λ x. is.told (to_end x);
@@ -227,6 +229,7 @@ module _ {R : Type 0} (state : R → RevState) (old : Engine R) (s s1 : StoreSta
         leaves = record { gone = is.gone };
         seals = λ good accepts. seals_both good (is.seals good accepts);
         holds = may_stated old.public select t.region 0 now.k now.plan now.then is.holds;
+        leaf = is.leaf;
         reached = record {
           count = λ some. let within = is.reached.count some in let same = count_is in let long = length_is in omega (arith, within, same, long);
           walk = λ some. let within = is.reached.walk some in let same = walk_is now in let long = length_is in omega (arith, within, same, long);

@@ -73,7 +73,7 @@ either false cut whole off is = is
 
 -- so is what an answer emits that is no rows, whatever its labels are
 none_until : (stmt : Stmt) (labels : List (List ℕ)) → EmitsUntilFault stmt labels []
-none_until (Create table columns capacity) labels = refl
+none_until (Create table columns capacity shape) labels = refl
 none_until (Insert table columns values) labels = refl
 none_until (Update table sets cond) labels = refl
 none_until (Delete table cond) labels = refl

@@ -65,6 +65,7 @@ cut_seen failed p s n k now whole same =
       k = held_empty (nat_le (count_end p s) (done_of failed k)) (seen_to (Cut k)).k refl i;
       plan = held_empty (nat_le (count_end p s) (done_of failed k)) (seen_to (Cut k)).plan refl i;
       then = held_empty (nat_le (walk_end p s (seen_to Whole)) (done_of failed k)) (seen_to (Cut k)).then refl i;
+      leaf = None;
       end = Cut (same i);
     })
     ∙ ap (cut_at failed k p s) (sym whole)

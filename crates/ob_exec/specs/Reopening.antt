@@ -44,6 +44,8 @@ opened_public config closing listed = record {
   pack = config.pack;
   plan = config.plan;
   pad = config.pad;
+  stash = config.stash;
+  keep = config.keep;
 }
 
 -- the number that a place was last written under, in the closing or a table that it lists

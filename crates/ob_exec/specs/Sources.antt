@@ -135,6 +135,7 @@ pub record EndsRows {E : Type 0} (grew : E → E → List Event → Type 0) (p :
   pub leaves : LeavesNone old new
   pub seals : SealsRows p.pack old new
   pub holds : MayHold (selection p select) seen.k seen.plan seen.then
+  pub leaf : seen.leaf ≡ None
   pub ended : EndsSelected (selection p select) answer seen
   pub emitted : EmitsRows grew p select answer old new out_old out_new
   pub told : (s : SourceToEnd p old new)
@@ -150,6 +151,7 @@ pub record HaltsRows {E : Type 0} (grew cut : E → E → List Event → Type 0)
   pub leaves : LeavesNone old new
   pub seals : SealsRows p.pack old new
   pub holds : MayHold (selection p select) seen.k seen.plan seen.then
+  pub leaf : seen.leaf ≡ None
   pub reached : ReachesRows p select seen (length new.store.asked - length old.store.asked)
   pub memory : error ≡ NoMemory
       → LacksRowMemory p select seen old new (HasHalted (Leads grew cut) out_old out_new)

@@ -66,7 +66,7 @@ meant_script p m tables stmt = script p (skeleton stmt) (seen p m tables stmt)
 -- ---- the answer
 -- the outcome of a statement's answer
 abbrev pub done_of : Stmt → Outcome
-done_of (Create table columns capacity) = Created
+done_of (Create table columns capacity shape) = Created
 done_of (Insert table columns values) = Inserted
 done_of (Update table sets cond) = Changed 0
 done_of (Delete table cond) = Deleted 0

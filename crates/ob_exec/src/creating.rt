@@ -8,16 +8,16 @@ ghost use Rattle.ob_exec.specs.Serving.{ServesSilently};
 use crate::engine::Engine;
 use crate::outcome::Outcome;
 use crate::stop::RunStop;
-use ob_base::{Heading, Name, NewColumn, Schema, Table};
+use ob_base::{Heading, Name, NewColumn, Schema, Shape, Table};
 use ob_flat::OpErr;
 use ob_mean::new_schema;
 use ob_store::BlockStore;
 use ob_vault::Revisions;
 
 // A new table as the engine keeps it.
-fn new_table(name: &Name, schema: &Schema, capacity: u32, region: u64) -> Table
+fn new_table(name: &Name, schema: &Schema, capacity: u32, shape: Shape, region: u64) -> Table
     ensures value { result ≡ record {
-      heading = record { name = name.now; schema = schema.now; capacity = capacity };
+      heading = record { name = name.now; schema = schema.now; capacity = capacity; shape = shape };
       region = region;
     } }
     ensures short { length name.now ≤ 32 }
@@ -27,6 +27,7 @@ fn new_table(name: &Name, schema: &Schema, capacity: u32, region: u64) -> Table
             name: Name::from_bytes(name.as_bytes()),
             schema: schema.copied(),
             capacity,
+            shape,
         },
         region,
     }
@@ -40,12 +41,13 @@ impl<R: Revisions> Engine<R> {
         table: &Name,
         columns: &[NewColumn],
         capacity: u32,
+        shape: Shape,
     ) -> Result<Outcome, RunStop>
         requires agrees { Agrees R.state self.old (S.state store.old) }
         requires lives { has_ended self.old ≡ false }
         requires allowed { refusal_now (public_of self.old) (count_of self.old (S.state store.old))
-            (Create table.now columns.now capacity) ≡ None }
-        ensures serves { ServesSilently R.state (Create table.now columns.now capacity) result
+            (Create table.now columns.now capacity shape) ≡ None }
+        ensures serves { ServesSilently R.state (Create table.now columns.now capacity shape) result
             self.old (S.state store.old) self.new (S.state store.new) }
     {
         let before = store.count();
@@ -54,7 +56,7 @@ impl<R: Revisions> Engine<R> {
         if store.room(1 + u64::from(blocks)).is_err() {
             return self.cut(0, OpErr::NoMemory);
         }
-        let new = new_table(table, &schema, capacity, self.public.next_region);
+        let new = new_table(table, &schema, capacity, shape, self.public.next_region);
         if self.public.tables.push(new).is_err() {
             return self.cut(0, OpErr::NoMemory);
         }

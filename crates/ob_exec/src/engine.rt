@@ -46,6 +46,7 @@ pub(crate) fn seen_to_end(end: End) -> Seen
         k: None,
         plan: None,
         then: None,
+        leaf: None,
         end,
     }
 }
@@ -76,6 +77,8 @@ impl<R: Revisions> Engine<R> {
                 pack: config.pack,
                 plan: config.plan,
                 pad: config.pad,
+                stash: config.stash,
+                keep: config.keep,
             },
             seen: seen_to_end(End::Whole),
             ended: false,

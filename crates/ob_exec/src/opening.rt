@@ -99,6 +99,8 @@ impl<R: Revisions> Engine<R> {
                 pack: config.pack,
                 plan: config.plan,
                 pad: config.pad,
+                stash: config.stash,
+                keep: config.keep,
             },
             seen: seen_to_end(End::Whole),
             ended: false,

@@ -33,7 +33,8 @@ impl<R: Revisions> Engine<R> {
                 table,
                 columns,
                 capacity,
-            } => self.create(store, table, columns.as_slice(), *capacity),
+                shape,
+            } => self.create(store, table, columns.as_slice(), *capacity, *shape),
             Stmt::Insert {
                 table,
                 columns,

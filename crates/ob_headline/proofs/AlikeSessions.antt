@@ -75,7 +75,7 @@ module _ (p : Public) (ts : Tables) where
   refusal_plain (Some pad) places = refl
 
   last_plain : (stmt : Stmt) → last_refusal (plain p) ts stmt ≡ last_refusal p ts stmt
-  last_plain (Create table columns capacity) = refl
+  last_plain (Create table columns capacity shape) = refl
   last_plain (Insert table columns values) = refl
   last_plain (Update table sets cond) = refl
   last_plain (Delete table cond) = refl
@@ -98,7 +98,7 @@ module _ (p : Public) (ts : Tables) where
   seen_plain (Some pad) n places = refl
 
   started_plain : (stmt : Stmt) → seen_started (plain p) ts stmt ≡ seen_started p ts stmt
-  started_plain (Create table columns capacity) = refl
+  started_plain (Create table columns capacity shape) = refl
   started_plain (Insert table columns values) = refl
   started_plain (Update table sets cond) = refl
   started_plain (Delete table cond) = refl
@@ -134,7 +134,7 @@ module _ (p q : Public) (settings : plain p ≡ plain q) (m n : ℕ) (late : is_
 
 -- ---- labels
 labels_same : (hs gs : List Heading) → SameHeadings hs gs → (stmt : Stmt) → labels_of stmt hs ≡ labels_of stmt gs
-labels_same hs gs same (Create table columns capacity) = refl
+labels_same hs gs same (Create table columns capacity shape) = refl
 labels_same hs gs same (Insert table columns values) = refl
 labels_same hs gs same (Update table sets cond) = refl
 labels_same hs gs same (Delete table cond) = refl

@@ -30,24 +30,28 @@ take_begins n part rest = record {
 take_all_begins : (n : ℕ) (all : List Access) → Begins (take n all) all
 take_all_begins n all = record { rest = drop n all; joined = sym (take-append-drop n all) }
 
+-- the leaf that was read, and how it ended
+abbrev Last : Type 0
+Last = Option ℕ × End
+
 -- what is held, and how it ended
-abbrev holding : Option ℕ → (plan second : Option Plan) → End → Seen
-holding k plan second end = record { k = k; plan = plan; then = second; end = end }
+abbrev holding : Option ℕ → (plan second : Option Plan) → Last → Seen
+holding k plan second last = record { k = k; plan = plan; then = second; leaf = last.0; end = last.1 }
 
 -- the accesses by what is held: the same whatever it is, or the count, the results of both plans, and an end of this size
-record ByCount (script : Option ℕ → Option Plan → Option Plan → End → List Access) (size : ℕ) : Type 0 where
+record ByCount (script : Option ℕ → Option Plan → Option Plan → Last → List Access) (size : ℕ) : Type 0 where
   front : List Access
   first : Option Plan → ℕ → List Access
   second : Option Plan → ℕ → List Access
   ending : List Access
   sized : length ending ≡ size
   unsecond : (k : ℕ) → second None k ≡ []
-  uncounted : (plan then : Option Plan) (end : End) → script None plan then end ≡ front
-  counted : (k : ℕ) (plan then : Option Plan) (end : End) → script (Some k) plan then end ≡ front ++ (first plan k ++ (second then k ++ ending))
+  uncounted : (plan then : Option Plan) (end : Last) → script None plan then end ≡ front
+  counted : (k : ℕ) (plan then : Option Plan) (end : Last) → script (Some k) plan then end ≡ front ++ (first plan k ++ (second then k ++ ending))
 
-record Fixed (script : Option ℕ → Option Plan → Option Plan → End → List Access) : Type 0 where
+record Fixed (script : Option ℕ → Option Plan → Option Plan → Last → List Access) : Type 0 where
   all : List Access
-  is : (k : Option ℕ) (plan then : Option Plan) (end : End) → script k plan then end ≡ all
+  is : (k : Option ℕ) (plan then : Option Plan) (end : Last) → script k plan then end ≡ all
 
 abbrev HasParts : Public → Skeleton → Type 0
 HasParts p sk =
@@ -90,12 +94,12 @@ join_parts p (Some left) (Some right) =
     select_parts p.pad p pairs (p.next_region + 1) from (discard_at p.next_region)
 
 parts : (p : Public) (sk : Skeleton) → HasParts p sk
-parts p (Create table cs n) = inl (record { all = whole_script p (Create table cs n) (holding None None None Whole); is = λ k plan then end. refl })
-parts p (Insert table cs) = inl (record { all = whole_script p (Insert table cs) (holding None None None Whole); is = λ k plan then end. refl })
-parts p (Update table cs) = inl (record { all = whole_script p (Update table cs) (holding None None None Whole); is = λ k plan then end. refl })
-parts p (Delete table) = inl (record { all = whole_script p (Delete table) (holding None None None Whole); is = λ k plan then end. refl })
-parts p (DropTable table) = inl (record { all = whole_script p (DropTable table) (holding None None None Whole); is = λ k plan then end. refl })
-parts p (Groups table cs key) = inl (record { all = whole_script p (Groups table cs key) (holding None None None Whole); is = λ k plan then end. refl })
+parts p (Create table cs n shape) = inl (record { all = whole_script p (Create table cs n shape) (holding None None None (None, Whole)); is = λ k plan then end. refl })
+parts p (Insert table cs) = inl (record { all = whole_script p (Insert table cs) (holding None None None (None, Whole)); is = λ k plan then end. refl })
+parts p (Update table cs) = inl (record { all = whole_script p (Update table cs) (holding None None None (None, Whole)); is = λ k plan then end. refl })
+parts p (Delete table) = inl (record { all = whole_script p (Delete table) (holding None None None (None, Whole)); is = λ k plan then end. refl })
+parts p (DropTable table) = inl (record { all = whole_script p (DropTable table) (holding None None None (None, Whole)); is = λ k plan then end. refl })
+parts p (Groups table cs key) = inl (record { all = whole_script p (Groups table cs key) (holding None None None (None, Whole)); is = λ k plan then end. refl })
 parts p (Rows (OneTable name) cs) = table_parts p (stored_at name (stored_regions p.tables))
 parts p (Rows (Join a b on equals) cs) = join_parts p (stored_at a (stored_regions p.tables)) (stored_at b (stored_regions p.tables))
 
@@ -124,29 +128,29 @@ cuts_within n part whole front mid rest a b few less = record {
   shorter = omega (arith, ap length a, ap length b, length-append front mid, length-append front rest, less);
 }
 
-module _ (script : Option ℕ → Option Plan → Option Plan → End → List Access) (size : ℕ) (by : ByCount script size) (n done : ℕ) (last : n ≤ done + 1) where
-  split : (k : ℕ) (plan then : Option Plan) (end : End) → script (Some k) plan then end ≡ (by.front ++ by.first plan k) ++ (by.second then k ++ by.ending)
+module _ (script : Option ℕ → Option Plan → Option Plan → Last → List Access) (size : ℕ) (by : ByCount script size) (n done : ℕ) (last : n ≤ done + 1) where
+  split : (k : ℕ) (plan then : Option Plan) (end : Last) → script (Some k) plan then end ≡ (by.front ++ by.first plan k) ++ (by.second then k ++ by.ending)
   split k plan then end = by.counted k plan then end ∙ sym (append_assoc by.front (by.first plan k) (by.second then k ++ by.ending))
 
   -- the result of the first plan was not read back
-  unwalked : (k : ℕ) (plan then : Option Plan) (end : End) → done < length (script (Some k) plan None end) - (size + 1) → CutsOff (script (Some k) plan None (Cut n)) (script (Some k) plan then end) n
+  unwalked : (k : ℕ) (plan then : Option Plan) (end : Last) → done < length (script (Some k) plan None end) - (size + 1) → CutsOff (script (Some k) plan None (None, Cut n)) (script (Some k) plan then end) n
   unwalked k plan then end less =
       let front = by.front ++ by.first plan k in
       let none : by.second None k ++ by.ending ≡ by.ending = ap (λ (l : List Access). l ++ by.ending) (by.unsecond k) in
       let long : length (script (Some k) plan None end) ≡ length front + size =
       ap length (split k plan None end ∙ ap (λ (l : List Access). front ++ l) none) ∙ length-append front by.ending ∙ ap (λ (m : ℕ). length front + m) by.sized in
-      cuts_within n (script (Some k) plan None (Cut n)) (script (Some k) plan then end) front (by.second None k ++ by.ending) (by.second then k ++ by.ending)
-      (split k plan None (Cut n)) (split k plan then end) (omega (arith, last, less, long))
+      cuts_within n (script (Some k) plan None (None, Cut n)) (script (Some k) plan then end) front (by.second None k ++ by.ending) (by.second then k ++ by.ending)
+      (split k plan None (None, Cut n)) (split k plan then end) (omega (arith, last, less, long))
       (omega (arith, ap length none, length-append (by.second then k) by.ending))
 
-  cutting : (held walked : Bool) (k : Option ℕ) (plan then : Option Plan) (end : End) → (walked ≡ false → done < length (script k plan None end) - (size + 1))
-      → CutsOff (script (held_if held k) (held_if held plan) (held_if walked then) (Cut n)) (script k plan then end) n
-  cutting false walked None plan then end short = cuts_same n _ _ by.front (by.uncounted None (held_if walked then) (Cut n)) (by.uncounted plan then end)
+  cutting : (held walked : Bool) (k : Option ℕ) (plan then : Option Plan) (end : Last) → (walked ≡ false → done < length (script k plan None end) - (size + 1))
+      → CutsOff (script (held_if held k) (held_if held plan) (held_if walked then) (None, Cut n)) (script k plan then end) n
+  cutting false walked None plan then end short = cuts_same n _ _ by.front (by.uncounted None (held_if walked then) (None, Cut n)) (by.uncounted plan then end)
   cutting false walked (Some k) plan then end short =
-      cuts_front n _ _ by.front (by.first plan k ++ (by.second then k ++ by.ending)) (by.uncounted None (held_if walked then) (Cut n)) (by.counted k plan then end)
-  cutting true walked None plan then end short = cuts_same n _ _ by.front (by.uncounted plan (held_if walked then) (Cut n)) (by.uncounted plan then end)
+      cuts_front n _ _ by.front (by.first plan k ++ (by.second then k ++ by.ending)) (by.uncounted None (held_if walked then) (None, Cut n)) (by.counted k plan then end)
+  cutting true walked None plan then end short = cuts_same n _ _ by.front (by.uncounted plan (held_if walked then) (None, Cut n)) (by.uncounted plan then end)
   cutting true true (Some k) plan then end short =
-      cuts_same n _ _ (by.front ++ (by.first plan k ++ (by.second then k ++ by.ending))) (by.counted k plan then (Cut n)) (by.counted k plan then end)
+      cuts_same n _ _ (by.front ++ (by.first plan k ++ (by.second then k ++ by.ending))) (by.counted k plan then (None, Cut n)) (by.counted k plan then end)
   cutting true false (Some k) plan then end short = unwalked k plan then end (short refl)
 
 above : (m done : ℕ) → nat_le m done ≡ false → done < m
@@ -158,9 +162,9 @@ last_done false n = omega arith
 
 cut_off : (failed : Bool) (n : ℕ) (p : Public) (sk : Skeleton) (x : Seen) → CutsOff (whole_script p sk (cut_at failed n p sk x)) (whole_script p sk x) n
 cut_off failed n p sk x = elim (parts p sk) [
-  | inl fixed ↦ cuts_same n _ _ fixed.all (fixed.is _ _ _ _) (fixed.is x.k x.plan x.then x.end)
+  | inl fixed ↦ cuts_same n _ _ fixed.all (fixed.is _ _ _ _) (fixed.is x.k x.plan x.then (x.leaf, x.end))
   | inr by ↦ cutting (λ k plan then end. whole_script p sk (holding k plan then end)) (ending_len sk) by n (done_of failed n) (last_done failed n)
-      (nat_le (count_end p sk) (done_of failed n)) (nat_le (walk_end p sk x) (done_of failed n)) x.k x.plan x.then x.end (λ short. above _ _ short)
+      (nat_le (count_end p sk) (done_of failed n)) (nat_le (walk_end p sk x) (done_of failed n)) x.k x.plan x.then (x.leaf, x.end) (λ short. above _ _ short)
 ]
 
 -- it asks a first part of what it asks whole, and would ask no more

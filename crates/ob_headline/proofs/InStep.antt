@@ -127,11 +127,11 @@ module _ (p : Public) (m : ℕ) (ts : Tables) (same : headings ts ≡ headings_o
           ∙ sym (ap (λ (x : Seen). headings_of (tables_then p (skeleton stmt) x.end)) (shows (Some r) early))
 
   steps : (stmt : Stmt) → AreApart (headings ts) → headings (settle p m ts stmt) ≡ headings_of (next p (skeleton stmt) (seen p m ts stmt)).tables
-  steps (Create table columns capacity) apart =
-      let heading : Heading = record { name = table; schema = columns_of table columns; capacity = capacity } in
+  steps (Create table columns capacity shape) apart =
+      let heading : Heading = record { name = table; schema = columns_of table columns; capacity = capacity; shape = shape } in
       let there : Table = record { heading = heading; region = p.next_region } in
       let here : Stored Held = record { heading = heading; held = record { slots = empty_slots capacity; leaves = [] } } in
-      changes (Create table columns capacity) refl refl refl
+      changes (Create table columns capacity shape) refl refl refl
       (map_push (λ (t : Stored Held). t.heading) ts here ∙ ap (λ (hs : List Heading). hs ++ heading ∷ []) same ∙ sym (map_push (λ (t : Table). t.heading) p.tables there))
   steps (Insert table columns values) apart = leaves (Insert table columns values) (changed_headings table _ ts) (moves table p.next_region p.tables).headings
   steps (Update table sets cond) apart = leaves (Update table sets cond) (changed_headings table _ ts) (moves table p.next_region p.tables).headings

@@ -36,7 +36,7 @@ use Rattle.ob_sql.specs.declared.stmt.Stmt.{Stmt}
 
 -- nothing but how it ended
 abbrev ended_so : End → Seen
-ended_so end = record { k = None; plan = None; then = None; end = end }
+ended_so end = record { k = None; plan = None; then = None; leaf = None; end = end }
 
 -- ---- all accesses of a statement of which nothing is held don't depend on how it ended
 behind_same : (pad : Option ℕ) (p : Public) (e f : End) (g : ℕ) (t : Stored ℕ) (ending : List Access) → behind_count pad p (ended_so e) g (extent_of t) ending ≡ behind_count pad p (ended_so f) g (extent_of t) ending
@@ -48,7 +48,7 @@ joined_same None p e f g left right ending = refl
 joined_same (Some pad) p e f g left right ending = refl
 
 whole_same : (p : Public) (s : Skeleton) (e f : End) → whole_script p s (ended_so e) ≡ whole_script p s (ended_so f)
-whole_same p (K.Create table cs n) e f = refl
+whole_same p (K.Create table cs n shape) e f = refl
 whole_same p (K.Insert table cs) e f = refl
 whole_same p (K.Update table cs) e f = refl
 whole_same p (K.Delete table) e f = refl
@@ -78,7 +78,7 @@ begins_cut : (p : Public) (m : ℕ) (stmt : Stmt) (here : Seen) (n : ℕ) → he
     → Begins (script p (skeleton stmt) here) (script p (skeleton stmt) (plainly p m stmt))
 begins_cut p m stmt here n is plain lawful =
     let held = holds_none p stmt here plain here.k here.plan here.then lawful.holds in
-    let so : here ≡ ended_so (Cut n) = λ i. record { k = held.no_k i; plan = held.no_plan i; then = held.no_second i; end = is i } in
+    let so : here ≡ ended_so (Cut n) = λ i. record { k = held.no_k i; plan = held.no_plan i; then = held.no_second i; leaf = lawful.leaf i; end = is i } in
     let not : is_some (refusal_now p m stmt) ≡ false = not_refused p m stmt here n (is_some (refusal_now p m stmt)) is refl lawful in
     let whole : plainly p m stmt ≡ ended_so Whole = ap seen_plainly not in
     subst (λ (x : Seen). Begins (script p (skeleton stmt) x) (script p (skeleton stmt) (plainly p m stmt))) (sym so)

@@ -3,6 +3,7 @@ use Rattle.std.specs.Prelude.{⊤, slice_get}
 use Rattle.std.proofs.Common.{◌≡◌, ◌+◌, ◌<◌, ◌-◌, ◌*◌, ◌/◌, ◌%◌, ◌≤◌, ◌++◌, ℕ, zero, suc, min, List, [], ◌∷◌, length, Option, Some, None, Ok, Err, take, refl, sym, subst, append_assoc, append-nil, arith}
 use Rattle.std.specs.Int.{div_ceil}
 use Rattle.std.specs.Option.{option_map_or}
+use Rattle.ob_base.specs.declared.schema.Shape.TheVariants.{Flat}
 use Rattle.ob_base.specs.Accesses.{discard_at, make_at, makes, read_at, write_at}
 use Rattle.ob_base.specs.Joins.{joined_slots}
 use Rattle.ob_base.specs.Limits.{buffered, buffered_blocks}
@@ -281,7 +282,7 @@ module _ (p : Public) (seen : Seen) (order : InOrder seen.plan seen.then) where
   joined : (left right : Stored ℕ) → InTurn p.next_region p.next_region (join_script p seen left right)
   joined left right =
       let t : Stored ℕ = record {
-        heading = record { name = []; schema = left.heading.schema ++ right.heading.schema; capacity = joined_slots p.pack p.buffer left.heading.capacity right.heading.capacity };
+        heading = record { name = []; schema = left.heading.schema ++ right.heading.schema; capacity = joined_slots p.pack p.buffer left.heading.capacity right.heading.capacity; shape = Flat };
         held = p.next_region;
       } in
       joins p.next_region p.next_region same (select_part p seen (p.next_region + 1) (extent_of t) (discard_at p.next_region))
@@ -294,7 +295,7 @@ module _ (p : Public) (seen : Seen) (order : InOrder seen.plan seen.then) where
       found p.next_region p.next_region (λ left. with_table b p (λ right. join_script p seen left right)) (λ left. found p.next_region p.next_region (λ right. join_script p seen left right) (joined left) b p) a p
 
   wholes : (s : Skeleton) → InTurn p.next_region p.next_region (whole_script p s seen)
-  wholes (Create table cs capacity) = ends p.next_region p.next_region _ (creates p.next_region p.next_region same [] none (blocks_for p.pack capacity) (p.pack * width (columns_of table cs)))
+  wholes (Create table cs capacity shape) = ends p.next_region p.next_region _ (creates p.next_region p.next_region same [] none (blocks_for p.pack capacity) (p.pack * width (columns_of table cs)))
   wholes (Insert table cs) =
       found p.next_region p.next_region (mutation_script p insert_part) (λ t. ends p.next_region p.next_region _ (inserts p.next_region p.next_region same [] none t.held (blocks_of p (extent_of t)) (rows_width p (extent_of t)))) table p
   wholes (Update table cs) =

@@ -89,14 +89,14 @@ end_is p m stmt here Whole false is now lawful uncut ends = is
 end_is p m stmt here AfterCount early is now lawful uncut ends = absurd ends
 end_is p m stmt here (Cut n) early is now lawful uncut ends = absurd (cc (uncut, ap is_cut is))
 
-plain_of : (refused : Bool) (here : Seen) → here.k ≡ None → here.plan ≡ None → here.then ≡ None → here.end ≡ end_by refused → here ≡ seen_plainly refused
-plain_of true here k plan second end = λ i. record { k = k i; plan = plan i; then = second i; end = end i }
-plain_of false here k plan second end = λ i. record { k = k i; plan = plan i; then = second i; end = end i }
+plain_of : (refused : Bool) (here : Seen) → here.k ≡ None → here.plan ≡ None → here.then ≡ None → here.leaf ≡ None → here.end ≡ end_by refused → here ≡ seen_plainly refused
+plain_of true here k plan second leaf end = λ i. record { k = k i; plan = plan i; then = second i; leaf = leaf i; end = end i }
+plain_of false here k plan second leaf end = λ i. record { k = k i; plan = plan i; then = second i; leaf = leaf i; end = end i }
 
 pub shows_plainly : (p : Public) (m : ℕ) (stmt : Stmt) (here : Seen) → Lawful p m stmt here → IsPlain p stmt → is_cut here.end ≡ false → here ≡ plainly p m stmt
 shows_plainly p m stmt here lawful plain uncut =
     let held = holds_none p stmt here plain here.k here.plan here.then lawful.holds in
-    plain_of (is_some (refusal_now p m stmt)) here held.no_k held.no_plan held.no_second
+    plain_of (is_some (refusal_now p m stmt)) here held.no_k held.no_plan held.no_second lawful.leaf
     (end_is p m stmt here here.end (is_some (refusal_now p m stmt)) refl refl lawful uncut held.ends)
 
 -- a SELECT of rows is one by its skeleton
@@ -105,7 +105,7 @@ is_rows (K.Rows source columns) = true
 is_rows _ = false
 
 counted_rows : (stmt : Stmt) → is_counted stmt ≡ is_rows (skeleton stmt)
-counted_rows (Create table columns capacity) = refl
+counted_rows (Create table columns capacity shape) = refl
 counted_rows (Insert table columns values) = refl
 counted_rows (Update table sets cond) = refl
 counted_rows (Delete table cond) = refl

@@ -1,5 +1,5 @@
 -- What the statements of a run go on from: no tables, or those that an earlier run left.
-use Rattle.std.specs.Prelude.{ℕ, ◌≡◌, ◌+◌, IsTrue, List, [], length, Option, Some, None}
+use Rattle.std.specs.Prelude.{false, ℕ, ◌≡◌, ◌+◌, IsTrue, List, [], length, Option, Some, None}
 use Rattle.ob_base.specs.Publics.{first_public}
 use Rattle.ob_base.specs.declared.access.Access.{Access}
 use Rattle.ob_base.specs.declared.config.Config.{Config}
@@ -16,7 +16,7 @@ use Rattle.ob_vault.specs.State.{Start, earlier, from_nothing}
 
 -- what is public before the first statement, where there are no tables; without settings none is served
 abbrev pub public_with : Option Config → Public
-public_with None = first_public (record { buffer = 0; depth = 0; pack = 0; plan = None; pad = None; max_input = 0 })
+public_with None = first_public (record { buffer = 0; depth = 0; pack = 0; plan = None; pad = None; stash = 0; keep = false; max_input = 0 })
 public_with (Some config) = first_public config
 
 -- the model's session without tables

@@ -82,8 +82,8 @@ pub record EndsWell (status : ℕ) (failures : ℕ) : Type 0 where
 -- what is seen of a statement that was not cut off, where it is no SELECT of rows or results are padded: whether it was
 -- refused before any access
 abbrev pub seen_plainly : (refused : Bool) → Seen
-seen_plainly true = record { k = None; plan = None; then = None; end = Static }
-seen_plainly false = record { k = None; plan = None; then = None; end = Whole }
+seen_plainly true = record { k = None; plan = None; then = None; leaf = None; end = Static }
+seen_plainly false = record { k = None; plan = None; then = None; leaf = None; end = Whole }
 
 abbrev pub plainly : Public → ℕ → Stmt → Seen
 plainly p m stmt = seen_plainly (is_some (refusal_now p m stmt))

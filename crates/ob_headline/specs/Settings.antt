@@ -53,8 +53,8 @@ may_pad (Some rows) (Some Hash) = false
 
 -- settings whose buffer holds three blocks and one row, and whose plan may be padded
 abbrev pub fitted : (buffer depth : ℕ) → Option Plan → (pack : ℕ) → (pad : Option ℕ)
-    → (max_input : ℕ) → Option Config
-fitted buffer depth plan pack pad max_input =
+    → (stash : ℕ) → (keep : Bool) → (max_input : ℕ) → Option Config
+fitted buffer depth plan pack pad stash keep max_input =
     if nat_le (3 * pack + 1) buffer && may_pad pad plan
     then Some (record {
       buffer = buffer;
@@ -62,28 +62,32 @@ fitted buffer depth plan pack pad max_input =
       pack = pack;
       plan = plan;
       pad = pad;
+      stash = stash;
+      keep = keep;
       max_input = max_input;
     })
     else None
 
 -- settings of which each value has its form and its range
 abbrev pub joined : (buffer depth : Option ℕ) → Option (Option Plan) → (pack : Option ℕ)
-    → (pad : Option (Option ℕ)) → (max_input : Option ℕ) → Option Config
-joined None depth plan pack pad max_input = None
-joined (Some buffer) None plan pack pad max_input = None
-joined (Some buffer) (Some depth) None pack pad max_input = None
-joined (Some buffer) (Some depth) (Some plan) None pad max_input = None
-joined (Some buffer) (Some depth) (Some plan) (Some pack) None max_input = None
-joined (Some buffer) (Some depth) (Some plan) (Some pack) (Some pad) None = None
-joined (Some buffer) (Some depth) (Some plan) (Some pack) (Some pad) (Some max_input) =
-    fitted buffer depth plan pack pad max_input
+    → (pad : Option (Option ℕ)) → (stash : Option ℕ) → (keep : Bool) → (max_input : Option ℕ) → Option Config
+joined None depth plan pack pad stash keep max_input = None
+joined (Some buffer) None plan pack pad stash keep max_input = None
+joined (Some buffer) (Some depth) None pack pad stash keep max_input = None
+joined (Some buffer) (Some depth) (Some plan) None pad stash keep max_input = None
+joined (Some buffer) (Some depth) (Some plan) (Some pack) None stash keep max_input = None
+joined (Some buffer) (Some depth) (Some plan) (Some pack) (Some pad) None keep max_input = None
+joined (Some buffer) (Some depth) (Some plan) (Some pack) (Some pad) (Some stash) keep None = None
+joined (Some buffer) (Some depth) (Some plan) (Some pack) (Some pad) (Some stash) keep (Some max_input) =
+    fitted buffer depth plan pack pad stash keep max_input
 
 -- the settings that these values spell, each under its name
 abbrev pub settings_in : (Text → Option Text) → Option Config
 settings_in value =
     joined (number_in 4 65536 64 (value (codes "buffer"))) (number_in 1 8 5 (value (codes "depth")))
     (plan_in (value (codes "plan"))) (number_in 1 16 1 (value (codes "pack")))
-    (pad_in (value (codes "pad")))
+    (pad_in (value (codes "pad"))) (number_in 1 1024 32 (value (codes "stash")))
+    (is_set (value (codes "keep")))
     (number_in 1024 1073741824 1073741824 (value (codes "max-input")))
 
 -- a place of the mark may be given with `--keep` alone

@@ -21,11 +21,12 @@ nameless a = record a { top = record a.top { no_binary_name = true } }
 -- the words of every program: whether the accesses are traced, the settings, and what is generated in place of the input
 abbrev pub common : Text → App
 common name =
-    with_rule (with_rule (with_rule (with_rule (with_rule (with_rule (with_rule (with_rule
+    with_rule (with_rule (with_rule (with_rule (with_rule (with_rule (with_rule (with_rule (with_rule
     (new_app name) (flag (codes "trace"))) (valued (codes "buffer"))) (valued (codes "depth")))
     (valued (codes "plan")))
     (valued (codes "pack")))
     (valued (codes "pad")))
+    (valued (codes "stash")))
     (valued (codes "max-input")))
     (valued (codes "gen"))
 

@@ -85,6 +85,7 @@ module _ {E : Type 0} (grew cut : E → E → List Event → Type 0) (faults : E
     gone = none_still old.vault.next old mid is.ran.err.lasts (none_above old may.ready);
     spare = tt;
     seals = λ good fine. is.seals.seals good;
+    leaf = refl;
     holds = tt;
     ended = tt;
     reached = record { count = λ some. absurd (cc some); walk = λ some. absurd (cc some) };
@@ -165,6 +166,7 @@ module _ {E : Type 0} (grew cut : E → E → List Event → Type 0) (faults : E
       gone = gone_alone;
       spare = omega (arith, may.spare, count.spare, length-count_part q.flat.region (counted_after q));
       seals = λ good fine. is.seals.seals good;
+      leaf = refl;
       holds = (is_count, inl empty);
       ended = subst (λ (a : Selected). EndsSelected q a (counted k None None Whole)) (sym head.ok.0) (inl (record { counted = k; count = refl; end = refl; none = λ same. empty }));
       reached = tt;
@@ -182,6 +184,7 @@ module _ {E : Type 0} (grew cut : E → E → List Event → Type 0) (faults : E
       gone = gone_alone;
       spare = tt;
       seals = λ good fine. is.seals.seals good;
+      leaf = refl;
       holds = (is_count, inl empty);
       ended = tt;
       reached = record { count = λ some. omega (arith, long); walk = λ some. absurd (cc some) };
@@ -209,6 +212,7 @@ module _ {E : Type 0} (grew cut : E → E → List Event → Type 0) (faults : E
       gone = gone_alone;
       spare = omega (arith, may.spare, count.spare, length-count_part q.flat.region (counted_after q));
       seals = λ good fine. is.seals.seals good;
+      leaf = refl;
       holds = (is_count, inr forced);
       ended = record { k = k; some = least; count = refl; forced = forced; plan = refl; end = refl };
       reached = tt;
@@ -249,6 +253,7 @@ module _ {E : Type 0} (grew cut : E → E → List Event → Type 0) (faults : E
             gone = none_again old.vault.next mid.vault.next mid new lasts by.gone gone_alone;
             spare = by.spare;
             seals = λ good fine. seals_join good old mid new count.lasts.later (is.seals.seals good) (by.seals good fine);
+            leaf = refl;
             holds = (is_count, record { some = least; consecutive = c; chosen = chosen });
             ended = first_ended result final by.may;
             reached = on_err_of result (record { count = λ some. omega (arith, long, ran_long result by.ran); walk = λ some. absurd (cc some) });
@@ -300,6 +305,7 @@ module _ {E : Type 0} (grew cut : E → E → List Event → Type 0) (faults : E
             gone = none_again old.vault.next late.vault.next late new lasts by.gone (none_again old.vault.next mid.vault.next mid late first.ran.ok.lasts first.gone gone_alone);
             spare = by.spare;
             seals = λ good fine. seals_join good old mid new count.lasts.later (is.seals.seals good) (seals_join good mid late new first.ran.ok.lasts.later (first.seals good fine) (by.seals good fine));
+            leaf = refl;
             holds = (is_count, record { some = least; consecutive = c; chosen = chosen }, free);
             ended = second_ended result by.may;
             reached = on_err_of result (record {

@@ -73,7 +73,7 @@ walked_hash q k settings unpadded =
 walked_same : (q : Selection) (seen : Seen) (n : ℕ) → IsHashed q.public.pad seen n → walked_after q seen ≡ walked_after q (counted n (Some Hash) (Some Small) Whole)
 walked_same q seen n is =
     ap (λ (xs : List Access). length xs - 1) (script_is q (record seen { then = None }) 0 is.unpadded)
-    ∙ (λ i. length (counts_of q ++ after_count q.public (record { k = is.k i; plan = is.plan i; then = None; end = seen.end }) (is.k i) 0 (extent_of (region_of q)) []) - 1)
+    ∙ (λ i. length (counts_of q ++ after_count q.public (record { k = is.k i; plan = is.plan i; then = None; leaf = seen.leaf; end = seen.end }) (is.k i) 0 (extent_of (region_of q)) []) - 1)
     ∙ sym (ap (λ (xs : List Access). length xs - 1) (script_is q (counted n (Some Hash) None Whole) 0 is.unpadded))
 
 walked_long : (q : Selection) (seen : Seen) (n : ℕ) → AreSettings q.public → IsHashed q.public.pad seen n → counted_after q + 1 ≤ walked_after q seen

@@ -206,6 +206,7 @@ module _ (q : Selection) (pad : ℕ) (is_pad : q.public.pad ≡ Some pad) where
           gone = none_again old.vault.next mid.vault.next mid new lasts by.gone (none_still old.vault.next old mid count.lasts (none_above old may.ready));
           spare = by.spare;
           seals = λ good fine. seals_join good old mid new count.lasts.later (is.seals.seals good) (by.seals good fine);
+          leaf = refl;
           holds = tt;
           ended = ended_padded grew cut faults new out_old out_new result by.may;
           reached = on_err_of result (record { count = λ some. absurd (cc some); walk = λ some. absurd (cc some) });

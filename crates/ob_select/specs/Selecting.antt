@@ -1,5 +1,6 @@
 -- A SELECT of rows from one region, a table's or a joined one: its count, its plans, and the rows that are emitted.
 use Rattle.std.specs.Prelude.{◌≡◌, ◌⊎◌, ◌<◌, ◌≤◌, ◌+◌, ◌-◌, ◌^◌, ⊤, ℕ, Bool, List, [], ◌∷◌, ◌++◌, map, length, IsTrue, IsSome, None, Some, Option, Result, Err, OnOk, OnErr, IfOk, IfErr, MatchResult, nat_le}
+use Rattle.ob_base.specs.declared.schema.Shape.TheVariants.{Flat as FlatShape}
 use Rattle.ob_base.specs.declared.access.Access.{Access}
 use Rattle.ob_base.specs.declared.config.Plan.{Plan}
 use Rattle.ob_base.specs.declared.config.Plan.TheVariants.{Small, Continuous, Hash}
@@ -64,7 +65,7 @@ selection_of public query = record {
 -- its region as a table's, whatever its name
 abbrev pub region_of : Selection → Stored ℕ
 region_of q = record {
-  heading = record { name = []; schema = q.flat.schema; capacity = q.flat.capacity };
+  heading = record { name = []; schema = q.flat.schema; capacity = q.flat.capacity; shape = FlatShape };
   held = q.flat.region;
 }
 
@@ -270,6 +271,7 @@ pub record SelectsFrom {E : Type 0} (grew cut : E → E → List Event → Type 
   pub spare : OnOk result (q.ending ≤ new.store.spare)
   pub seals : SealsRows q.public.pack old new
   pub holds : MayHold q seen.k seen.plan seen.then
+  pub leaf : seen.leaf ≡ None
   pub ended : IfOk result (λ answer. EndsSelected q answer seen)
   pub reached : OnErr result (Reaches q seen (length new.store.asked - length old.store.asked))
   pub memory : result ≡ Err NoMemory

@@ -58,7 +58,7 @@ rows_end None p n [] = tt
 rows_end None p n (i ∷ is) = with_ends p _ (i ∷ is)
 
 started_ends : (p : Public) (tables : Tables) (stmt : Stmt) → IsToEnd (seen_started p tables stmt).end
-started_ends p tables (Create table columns capacity) = tt
+started_ends p tables (Create table columns capacity shape) = tt
 started_ends p tables (Insert table columns values) = tt
 started_ends p tables (Update table sets cond) = tt
 started_ends p tables (Delete table cond) = tt

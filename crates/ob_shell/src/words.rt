@@ -88,6 +88,7 @@ fn common<'a>(alloc: Global, name: &'a str) -> Result<Command<'a>, AllocError>
         .arg(valued(alloc, "plan"))?
         .arg(valued(alloc, "pack"))?
         .arg(valued(alloc, "pad"))?
+        .arg(valued(alloc, "stash"))?
         .arg(valued(alloc, "max-input"))?
         .arg(valued(alloc, "gen"))
 }
@@ -264,6 +265,7 @@ fn settings_in(matches: &ArgMatches) -> Option<Config>
     let plan = plan_in(matches.get_str("plan"))?;
     let pack = number_in(1, 16, 1, matches.get_str("pack"))?;
     let pad = pad_in(matches.get_str("pad"))?;
+    let stash = number_in(1, 1024, 32, matches.get_str("stash"))?;
     let max_input = number_in(1024, INPUT_LIMIT, INPUT_LIMIT, matches.get_str("max-input"))?;
     if buffer < 3 * pack + 1 {
         return None;
@@ -277,6 +279,8 @@ fn settings_in(matches: &ArgMatches) -> Option<Config>
         pack: pack as u8,
         plan,
         pad,
+        stash,
+        keep: is_set(matches.get_str("keep")),
         max_input: max_input as u64,
     })
 }

@@ -24,7 +24,10 @@ returns c =
     let six : App = with_rule five (valued (codes "pad")) in
     let sixth : app_of c.in_ok-arg-6.field-0 ≡ six =
     c.in_ok-arg-6.ensures.shape c.valued-5.ensures.local ∙ ap₂ with_rule fifth c.valued-5.ensures.rule in
-    let seven : App = with_rule six (valued (codes "max-input")) in
+    let seven : App = with_rule six (valued (codes "stash")) in
     let seventh : app_of c.in_ok-arg-7.field-0 ≡ seven =
     c.in_ok-arg-7.ensures.shape c.valued-6.ensures.local ∙ ap₂ with_rule sixth c.valued-6.ensures.rule in
-    adds_last c.arg-8.result _ _ _ c.valued-7.ensures.local (ap₂ with_rule seventh c.valued-7.ensures.rule) c.arg-8.ensures
+    let eight : App = with_rule seven (valued (codes "max-input")) in
+    let eighth : app_of c.in_ok-arg-8.field-0 ≡ eight =
+    c.in_ok-arg-8.ensures.shape c.valued-7.ensures.local ∙ ap₂ with_rule seventh c.valued-7.ensures.rule in
+    adds_last c.arg-9.result _ _ _ c.valued-8.ensures.local (ap₂ with_rule eighth c.valued-8.ensures.rule) c.arg-9.ensures

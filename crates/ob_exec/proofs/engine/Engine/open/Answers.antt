@@ -128,6 +128,8 @@ returns g c =
       pack = c.args.config.pack;
       plan = c.args.config.plan;
       pad = c.args.config.pad;
+      stash = c.args.config.stash;
+      keep = c.args.config.keep;
     } in
     let e : Engine g.row.R.Denot = record {
       alloc = c.args.alloc;

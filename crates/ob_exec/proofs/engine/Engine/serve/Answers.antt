@@ -30,8 +30,8 @@ returns-in-Create g c =
     let now = now_is old.public (count_of old s) c.spent.result c.args.stmt.now c.early_refusal.result _ c.spent.ensures c.early_refusal.ensures c.in_default.is in
     record {
       serves =
-          served_as g.R.Revisions.state g.E.Emit.grew g.E.Emit.cut g.E.Emit.faults c.args.stmt.now (Create c.in-Create.table c.as_slice.result.now c.in-Create.capacity) old s c.args.out.now c.create.result c.create.new.self
-          (g.S.BlockStore.state c.create.new.store) (g.met.E.Emit.starts c.args.out.now) (ap (λ (cs : List NewColumn). Create c.in-Create.table cs c.in-Create.capacity) c.as_slice.ensures ∙ sym c.in-Create.is) now refl (λ tables. tt) c.create.ensures.serves;
+          served_as g.R.Revisions.state g.E.Emit.grew g.E.Emit.cut g.E.Emit.faults c.args.stmt.now (Create c.in-Create.table c.as_slice.result.now c.in-Create.capacity c.in-Create.shape) old s c.args.out.now c.create.result c.create.new.self
+          (g.S.BlockStore.state c.create.new.store) (g.met.E.Emit.starts c.args.out.now) (ap (λ (cs : List NewColumn). Create c.in-Create.table cs c.in-Create.capacity c.in-Create.shape) c.as_slice.ensures ∙ sym c.in-Create.is) now refl (λ tables. tt) c.create.ensures.serves;
     }
 
 pub returns-in-Insert : goal.returns-in-Insert
