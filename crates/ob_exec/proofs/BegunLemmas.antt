@@ -20,7 +20,7 @@ use Rattle.ob_mean.specs.Lawful.{is_counted}
 use Rattle.ob_mean.specs.Verdict.{Tables, seen, ended as seen_to}
 use Rattle.ob_select.proofs.LieLemmas.{calm_reads, ends_reads}
 use Rattle.ob_exec.specs.declared.engine.Engine.{Engine}
-use Rattle.ob_exec.specs.declared.outcome.Outcome.{Outcome}
+use Rattle.ob_verdict.specs.declared.outcome.Outcome.{Outcome}
 use Rattle.ob_exec.specs.Agreeing.{world_of, count_of}
 use Rattle.ob_exec.specs.Running.{RanStatement, RunCause}
 use Rattle.ob_exec.specs.Telling.{meant_script}

@@ -19,7 +19,7 @@ use Rattle.ob_reopen.specs.declared.listed.Listed.{Listed}
 use Rattle.ob_reopen.specs.Writings.{catalogue_of, listed_of}
 use Rattle.ob_reopen.proofs.InStep.{Beside, fold_beside}
 use Rattle.ob_exec.specs.Engines.{IsTable, flat_of}
-use Rattle.ob_exec.specs.Resting.{AreKept, KeepsTable, by_name, is_before, kept_block, placed}
+use Rattle.ob_reopen.specs.Resting.{AreKept, KeepsTable, by_name, is_before, kept_block, placed}
 use Rattle.ob_exec.specs.Telling.{AreHeld}
 use Rattle.ob_exec.proofs.ListedLemmas.{table_numbers}
 use Rattle.ob_verdict.specs.Laws.{AreInPlace, IsInPlace}

@@ -27,10 +27,9 @@ use Rattle.ob_mean.specs.Settle.{settled}
 use Rattle.ob_mean.proofs.VerdictLemmas.{headings-database, heading-stored, stored-database, refused_late}
 use Rattle.ob_mean.specs.Verdict.{Held, in_slots, Tables, database, is_late, refusal}
 use Rattle.ob_mean.specs.Refusals.{limits_of}
-use Rattle.ob_exec.specs.declared.outcome.Outcome.TheVariants.{Changed, Deleted}
-use Rattle.ob_exec.specs.Running.{refusal_now}
+use Rattle.ob_verdict.specs.declared.outcome.Outcome.TheVariants.{Changed, Deleted}
+use Rattle.ob_verdict.specs.Outcomes.{refusal_now, outcome_of}
 use Rattle.ob_exec.specs.Schemas.{IsSet}
-use Rattle.ob_exec.specs.Telling.{outcome_of}
 use Rattle.ob_exec.proofs.MutateLemmas.{Alters}
 
 -- the columns and the rows of a table in place

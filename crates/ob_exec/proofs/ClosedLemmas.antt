@@ -40,9 +40,10 @@ use Rattle.ob_reopen.specs.Writings.{HasBlock, WritesClosing, catalogue_of, next
 use Rattle.ob_reopen.proofs.CatalogueLaws.{catalogue_has, catalogue_is}
 use Rattle.ob_exec.specs.declared.engine.Engine.{Engine}
 use Rattle.ob_exec.specs.Agreeing.{Agrees, count_of, world_of}
-use Rattle.ob_exec.specs.Closing.{ClosesEngine, ClosingCause, DropsClosing, closing_script, drop_script, is_used_up, next_closing}
+use Rattle.ob_exec.specs.Closing.{ClosesEngine, DropsClosing, closing_script, next_closing}
+use Rattle.ob_reopen.specs.Closed.{ClosingCause, drop_script, is_used_up}
 use Rattle.ob_exec.specs.Engines.{flat_of, others_of}
-use Rattle.ob_exec.specs.Resting.{AcceptsClosings, Rests, by_name}
+use Rattle.ob_reopen.specs.Resting.{AcceptsClosings, Rests, by_name}
 use Rattle.ob_exec.specs.Telling.{Represents}
 use Rattle.ob_exec.proofs.ByNameLemmas.{named_in, named_kept, table_kept_as}
 use Rattle.ob_exec.proofs.ListedLemmas.{may_list, table_block}

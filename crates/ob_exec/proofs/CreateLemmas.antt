@@ -54,14 +54,15 @@ use Rattle.ob_mean.specs.Verdict.{Tables, database, is_late, refusal, ended as s
 use Rattle.ob_mean.proofs.EarlyLemmas.{allowed, within, neither, IsWithin}
 use Rattle.ob_mean.proofs.VerdictLemmas.{refused_late}
 use Rattle.ob_exec.specs.declared.engine.Engine.{Engine}
-use Rattle.ob_exec.specs.declared.outcome.Outcome.{Outcome}
-use Rattle.ob_exec.specs.declared.outcome.Outcome.TheVariants.{Created}
+use Rattle.ob_verdict.specs.declared.outcome.Outcome.{Outcome}
+use Rattle.ob_verdict.specs.declared.outcome.Outcome.TheVariants.{Created}
 use Rattle.ob_reopen.specs.Limits.{IsHeading, IsStored, is_column, is_kind}
 use Rattle.ob_exec.specs.Engines.{IsAt, IsTable, others_of, indexes_of}
 use Rattle.ob_exec.specs.Agreeing.{Agrees, world_of, count_of}
-use Rattle.ob_exec.specs.Running.{answer_of, is_stop, refusal_now}
+use Rattle.ob_exec.specs.Running.{answer_of, is_stop}
+use Rattle.ob_verdict.specs.Outcomes.{refusal_now, outcome_of}
 use Rattle.ob_exec.specs.Serving.{ServesSilently}
-use Rattle.ob_exec.specs.Telling.{AreHeld, Represents, outcome_of}
+use Rattle.ob_exec.specs.Telling.{AreHeld, Represents}
 use Rattle.ob_exec.proofs.TableLemmas.{tables_added, region_below}
 use Rattle.ob_exec.proofs.HeldLemmas.{held_kept, held_added}
 use Rattle.ob_exec.proofs.SealLemmas.{keeps_pass}

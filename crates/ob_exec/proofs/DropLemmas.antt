@@ -36,14 +36,14 @@ use Rattle.ob_mean.specs.Step.{accepted_answer, answered as answered_by, followe
 use Rattle.ob_mean.specs.Verdict.{Tables, database, refusal, ended as seen_to}
 use Rattle.ob_mean.proofs.VerdictLemmas.{refused_late}
 use Rattle.ob_exec.specs.declared.engine.Engine.{Engine}
-use Rattle.ob_exec.specs.declared.outcome.Outcome.{Outcome}
-use Rattle.ob_exec.specs.declared.outcome.Outcome.TheVariants.{Dropped}
+use Rattle.ob_verdict.specs.declared.outcome.Outcome.{Outcome}
+use Rattle.ob_verdict.specs.declared.outcome.Outcome.TheVariants.{Dropped}
 use Rattle.ob_exec.specs.Engines.{AreTables, IsAt, IsBeside, IsTable, IsTableRegion, flat_of, others_of, indexes_of, IsIndexIn}
-use Rattle.ob_exec.specs.Opening.{Opens}
+use Rattle.ob_select.specs.Opening.{Opens}
 use Rattle.ob_exec.specs.Agreeing.{Agrees, world_of, count_of}
-use Rattle.ob_exec.specs.Running.{refusal_now}
+use Rattle.ob_verdict.specs.Outcomes.{refusal_now, outcome_of}
 use Rattle.ob_exec.specs.Serving.{ServesSilently}
-use Rattle.ob_exec.specs.Telling.{AreHeld, outcome_of}
+use Rattle.ob_exec.specs.Telling.{AreHeld}
 use Rattle.ob_exec.proofs.HeldLemmas.{held_kept}
 use Rattle.ob_exec.proofs.RunLemmas.{IsAnswered, engine_after, ran_whole}
 use Rattle.ob_exec.proofs.SealLemmas.{keeps_pass}

@@ -10,7 +10,7 @@ use Rattle.ob_row.specs.Truth.{is_true}
 use Rattle.ob_store.specs.State.{Lie}
 use Rattle.ob_vault.specs.State.{World}
 use Rattle.ob_vault.specs.Tied.{Calm, IsUnfit, TagFits}
-use Rattle.ob_exec.specs.Running.{is_row}
+use Rattle.ob_verdict.specs.Outcomes.{is_row}
 use Rattle.ob_vault.specs.Calls.{Lasts}
 
 -- ---- a count

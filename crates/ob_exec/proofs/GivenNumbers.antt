@@ -14,7 +14,7 @@ use Rattle.ob_reopen.specs.declared.listed.Listed.{Listed}
 use Rattle.ob_reopen.specs.Limits.{blocks_of}
 use Rattle.ob_reopen.specs.Openings.{IsNumbered, IsOf, IsReopened}
 use Rattle.ob_reopen.proofs.TableLemmas.{is_of}
-use Rattle.ob_exec.specs.Reopening.{number_given, opened_start}
+use Rattle.ob_reopen.specs.Reopened.{number_given, opened_start}
 
 -- ---- the test of a place
 test_in : (q r x n a b : ℕ) → q ≡ r → x < n → (if (q == r) && ltb x n then a else b) ≡ a

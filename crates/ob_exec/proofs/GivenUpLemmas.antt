@@ -17,7 +17,7 @@ use Rattle.ob_exec.specs.Agreeing.{Agrees, world_of}
 use Rattle.ob_exec.specs.Engines.{others_of}
 use Rattle.ob_exec.specs.Running.{RanStatement}
 use Rattle.ob_exec.specs.declared.engine.Engine.{Engine}
-use Rattle.ob_exec.specs.declared.outcome.Outcome.TheVariants.{Refused}
+use Rattle.ob_verdict.specs.declared.outcome.Outcome.TheVariants.{Refused}
 use Rattle.ob_exec.proofs.TableLemmas.{beside_below, region_below}
 
 -- behind a statement that the store cut off it has the regions that it had before, at most

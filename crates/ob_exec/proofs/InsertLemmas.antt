@@ -24,9 +24,9 @@ use Rattle.ob_mean.specs.Step.{new_row, insert_refusal, answered, followed}
 use Rattle.ob_mean.specs.Settle.{settle, settled}
 use Rattle.ob_mean.proofs.VerdictLemmas.{heading-stored, stored-database, refused_late}
 use Rattle.ob_mean.specs.Verdict.{Held, in_slots, Tables, is_late, refusal, verdict}
-use Rattle.ob_exec.specs.declared.outcome.Outcome.TheVariants.{Inserted}
+use Rattle.ob_verdict.specs.declared.outcome.Outcome.TheVariants.{Inserted}
 use Rattle.ob_exec.specs.Running.{HasNoRows, inserted_as}
-use Rattle.ob_exec.specs.Telling.{done_of, outcome_of}
+use Rattle.ob_verdict.specs.Outcomes.{done_of, outcome_of}
 use Rattle.ob_exec.proofs.HeldLemmas.{changed_same}
 use Rattle.ob_exec.proofs.MutateLemmas.{Alters}
 use Rattle.ob_exec.proofs.RunLemmas.{IsAnswered}

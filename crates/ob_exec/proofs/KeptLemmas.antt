@@ -22,7 +22,7 @@ use Rattle.ob_reopen.specs.Limits.{blocks_of}
 use Rattle.ob_reopen.specs.Closings.{IsClosing, row_of}
 use Rattle.ob_reopen.specs.Openings.{IsReopened}
 use Rattle.ob_exec.specs.Engines.{flat_of}
-use Rattle.ob_exec.specs.Resting.{AcceptsClosings, AreKept, KeepsTable, kept_block}
+use Rattle.ob_reopen.specs.Resting.{AcceptsClosings, AreKept, KeepsTable, kept_block}
 use Rattle.ob_select.specs.Selecting.{AcceptsRows}
 use Rattle.ob_exec.specs.Telling.{AreHeld}
 

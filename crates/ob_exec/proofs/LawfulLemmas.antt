@@ -16,9 +16,10 @@ use Rattle.ob_sql.specs.declared.stmt.Stmt.{Stmt}
 use Rattle.ob_sql.specs.Skeleton.{skeleton}
 use Rattle.ob_mean.specs.Lawful.{Lawful, is_counted, EndsUncounted, CutUpTo}
 use Rattle.ob_mean.specs.Verdict.{ended}
-use Rattle.ob_exec.specs.declared.outcome.Outcome.{Outcome}
-use Rattle.ob_exec.specs.declared.outcome.Outcome.TheVariants.{Created, Inserted, Changed, Deleted, Dropped, Rows, Refused}
-use Rattle.ob_exec.specs.Running.{RefusedEarly, result_end, refusal_now}
+use Rattle.ob_verdict.specs.declared.outcome.Outcome.{Outcome}
+use Rattle.ob_verdict.specs.declared.outcome.Outcome.TheVariants.{Created, Inserted, Changed, Deleted, Dropped, Rows, Refused}
+use Rattle.ob_exec.specs.Running.{RefusedEarly, result_end}
+use Rattle.ob_verdict.specs.Outcomes.{refusal_now}
 use Rattle.ob_exec.specs.Refusals.{refused_end}
 
 -- ---- how it ends

@@ -39,11 +39,9 @@ pub mod RowsRoom
 pub mod RowsJoinEnd
 pub mod RowsJoinStart
 pub mod GivenNumbers
-pub mod RestsAgree
 pub mod KeptLemmas
 pub mod OpeningLemmas
 pub mod ListedLemmas
 pub mod ByNameLemmas
 pub mod ClosedLemmas
-pub mod ByNameAlike
-pub mod OutlastLemmas
+pub mod NamesApart

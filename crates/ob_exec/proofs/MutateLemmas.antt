@@ -40,12 +40,13 @@ use Rattle.ob_mean.specs.Settle.{settle}
 use Rattle.ob_mean.specs.Lawful.{is_counted}
 use Rattle.ob_mean.specs.Verdict.{Held, in_slots, Tables, is_late, verdict, ended as seen_to}
 use Rattle.ob_exec.specs.declared.engine.Engine.{Engine}
-use Rattle.ob_exec.specs.declared.outcome.Outcome.{Outcome}
+use Rattle.ob_verdict.specs.declared.outcome.Outcome.{Outcome}
 use Rattle.ob_exec.specs.Engines.{IsAt, IsTable, AreTables, flat_of, others_of, indexes_of}
 use Rattle.ob_exec.specs.Agreeing.{Agrees, world_of, count_of}
-use Rattle.ob_exec.specs.Running.{HasNoRows, answer_of, is_stop, refusal_now}
+use Rattle.ob_exec.specs.Running.{HasNoRows, answer_of, is_stop}
+use Rattle.ob_verdict.specs.Outcomes.{refusal_now, outcome_of}
 use Rattle.ob_exec.specs.Serving.{ServesSilently}
-use Rattle.ob_exec.specs.Telling.{AreHeld, ReadsTrue, Represents, outcome_of}
+use Rattle.ob_exec.specs.Telling.{AreHeld, ReadsTrue, Represents}
 use Rattle.ob_exec.proofs.HeldLemmas.{Beside, held_at, held_moved}
 use Rattle.ob_exec.proofs.RunLemmas.{IsAnswered, engine_after, ran_done}
 use Rattle.ob_exec.proofs.SealLemmas.{keeps_pass}

@@ -46,8 +46,9 @@ use Rattle.ob_exec.specs.declared.engine.Engine.{Engine}
 use Rattle.ob_exec.specs.Agreeing.{Agrees, world_of}
 use Rattle.ob_select.specs.Settings.{AreSettings, IsFree}
 use Rattle.ob_exec.specs.Engines.{AreTables, IsBeside, IsConfig, IsTable, others_of, indexes_of}
-use Rattle.ob_exec.specs.Reopening.{IsClosed, NotOpened, OpeningCause, OpensEngine, opened_public, opened_start, opening_script}
-use Rattle.ob_exec.specs.Resting.{AcceptsClosings, AreKept, Rests}
+use Rattle.ob_exec.specs.Reopening.{IsClosed, OpensEngine}
+use Rattle.ob_reopen.specs.Reopened.{NotOpened, OpeningCause, opened_public, opened_start, opening_script}
+use Rattle.ob_reopen.specs.Resting.{AcceptsClosings, AreKept, Rests}
 use Rattle.ob_select.specs.Selecting.{AcceptsRows}
 use Rattle.ob_exec.specs.Telling.{AreHeld, Represents}
 use Rattle.ob_exec.proofs.GivenNumbers.{fits_as, fits_listed, start_all, start_first}

@@ -28,11 +28,11 @@ use Rattle.ob_flat.specs.Passes.{PassCut}
 use Rattle.ob_flat.proofs.Runs.{pass_after}
 use Rattle.ob_mean.specs.Verdict.{Tables, ended as seen_to}
 use Rattle.ob_exec.specs.declared.engine.Engine.{Engine}
-use Rattle.ob_exec.specs.declared.outcome.Outcome.{Outcome}
+use Rattle.ob_verdict.specs.declared.outcome.Outcome.{Outcome}
 use Rattle.ob_exec.specs.Agreeing.{Agrees, world_of}
 use Rattle.ob_exec.specs.Engines.{IsAt, AreTables, flat_of, others_of, indexes_of}
 use Rattle.ob_select.specs.Settings.{IsFree}
-use Rattle.ob_exec.specs.Opening.{Opens}
+use Rattle.ob_select.specs.Opening.{Opens}
 use Rattle.ob_exec.specs.Running.{answer_of, is_stop, RanStatement}
 use Rattle.ob_select.specs.Selecting.{UsesRoom}
 use Rattle.ob_exec.specs.Telling.{AreHeld}

@@ -22,7 +22,7 @@ use Rattle.ob_sql.specs.declared.stmt.Stmt.TheVariants.{SelectRows as RowsStmt}
 use Rattle.ob_verdict.specs.Laws.{AreInPlace}
 use Rattle.ob_exec.specs.declared.engine.Engine.{Engine}
 use Rattle.ob_exec.specs.Agreeing.{Agrees, count_of}
-use Rattle.ob_exec.specs.Running.{refusal_now}
+use Rattle.ob_verdict.specs.Outcomes.{refusal_now}
 use Rattle.ob_exec.proofs.RowsSource.{AreStored, join_joined, join_same, labels_are, table_same, table_unjoined}
 use Rattle.ob_exec.proofs.RowsStops.{IsSource}
 use Rattle.ob_select.proofs.ResultParts.{some_buffered}

@@ -50,7 +50,7 @@ use Rattle.ob_blocks.specs.Idle.{IsIdle}
 use Rattle.ob_flat.specs.declared.flat.Flat.{Flat}
 use Rattle.ob_verdict.specs.Accepted.{JoinFits}
 use Rattle.ob_verdict.proofs.AcceptedProof.{joins_fit}
-use Rattle.ob_exec.specs.Running.{refusal_now}
+use Rattle.ob_verdict.specs.Outcomes.{refusal_now}
 use Rattle.ob_sql.specs.declared.stmt.SelectRows.{SelectRows}
 use Rattle.ob_sql.specs.declared.stmt.Stmt.TheVariants.{SelectRows as RowsStmt}
 use Rattle.ob_exec.specs.declared.engine.Engine.{Engine}

@@ -29,11 +29,12 @@ use Rattle.ob_mean.specs.Verdict.{Tables, database, is_late, refusal, verdict, s
 use Rattle.ob_mean.proofs.VerdictLemmas.{headings-database, refused_late, seen_late}
 use Rattle.ob_verdict.specs.Laws.{AreInPlace, printed_rows, selected_result}
 use Rattle.ob_verdict.proofs.AnswerProof.{prints_answer}
-use Rattle.ob_exec.specs.declared.outcome.Outcome.TheVariants.{Rows as RowsOut}
+use Rattle.ob_verdict.specs.declared.outcome.Outcome.TheVariants.{Rows as RowsOut}
 use Rattle.ob_select.specs.declared.selecting.Selected.TheVariants.{Rows}
 use Rattle.ob_select.specs.Selecting.{Selection, places, selection_answer, answer_events, emitted_unless, result_of, selection_seen, selected_as, shown_rows, shown_where}
 use Rattle.ob_exec.specs.Sources.{closing, selected_outcome, selection, slots_of}
-use Rattle.ob_exec.specs.Telling.{Partly, answer_labels, outcome_of}
+use Rattle.ob_exec.specs.Telling.{answer_labels}
+use Rattle.ob_verdict.specs.Outcomes.{outcome_of, Partly}
 use Rattle.ob_select.proofs.ResultRows.{length-bag, length-chosen}
 use Rattle.ob_select.proofs.UntilLemmas.{nothing}
 use Rattle.ob_select.proofs.ResultParts.{some_buffered}

@@ -27,7 +27,7 @@ use Rattle.ob_select.specs.declared.selecting.Selected.{Selected}
 use Rattle.ob_exec.specs.Agreeing.{Agrees, world_of}
 use Rattle.ob_select.specs.Settings.{IsFree}
 use Rattle.ob_exec.specs.Engines.{AreTables, others_of, indexes_of}
-use Rattle.ob_exec.specs.Opening.{Opens}
+use Rattle.ob_select.specs.Opening.{Opens}
 use Rattle.ob_exec.specs.Running.{RanStatement, RunCause, GoesOn, Continues, answer_of, is_fault, is_stop, result_end}
 use Rattle.ob_select.specs.Selecting.{from}
 use Rattle.ob_exec.specs.Sources.{EndsRows, LeavesNone, UsesRoomFor, rows_script, rows_skeleton, selected_outcome, selection}

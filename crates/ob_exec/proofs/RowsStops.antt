@@ -35,10 +35,11 @@ use Rattle.ob_mean.specs.Verdict.{Tables, database, is_late, plan_for, seen, see
 use Rattle.ob_verdict.specs.Laws.{AreInPlace}
 use Rattle.ob_verdict.proofs.LawfulProof.{same_script}
 use Rattle.ob_exec.specs.declared.engine.Engine.{Engine}
-use Rattle.ob_exec.specs.declared.outcome.Outcome.{Outcome}
+use Rattle.ob_verdict.specs.declared.outcome.Outcome.{Outcome}
 use Rattle.ob_select.specs.declared.selecting.Selected.{Selected}
 use Rattle.ob_exec.specs.Agreeing.{Agrees, world_of, count_of}
-use Rattle.ob_exec.specs.Running.{RefusedEarly, SinkStops, answer_of, is_stop, refusal_now}
+use Rattle.ob_exec.specs.Running.{RefusedEarly, SinkStops, answer_of, is_stop}
+use Rattle.ob_verdict.specs.Outcomes.{refusal_now}
 use Rattle.ob_select.specs.Selecting.{MayHold, SealsRows, answer_events, selection_answer, from, places, selection_seen}
 use Rattle.ob_exec.specs.Serving.{Answered, EndsWithin, Serves, Stopped}
 use Rattle.ob_select.specs.Halting.{EmitsUntil, TakesPart}

@@ -54,7 +54,7 @@ use Rattle.ob_mean.specs.Step.{printed_places}
 use Rattle.ob_mean.specs.Verdict.{Held, Tables, is_late, source_slots, ended as seen_to}
 use Rattle.ob_sql.specs.declared.stmt.SelectRows.{SelectRows}
 use Rattle.ob_sql.specs.declared.stmt.Stmt.TheVariants.{SelectRows as RowsStmt}
-use Rattle.ob_exec.specs.Running.{refusal_now}
+use Rattle.ob_verdict.specs.Outcomes.{refusal_now}
 use Rattle.ob_select.proofs.PlaceLemmas.{all_places}
 use Rattle.ob_exec.specs.declared.engine.Engine.{Engine}
 use Rattle.ob_select.specs.declared.selecting.Selected.{Selected}

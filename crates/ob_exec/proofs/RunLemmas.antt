@@ -31,14 +31,15 @@ use Rattle.ob_vault.specs.declared.vault.Vault.{Vault}
 use Rattle.ob_vault.specs.Places.{at, start_of}
 use Rattle.ob_mean.specs.Verdict.{is_late, ended as seen_to}
 use Rattle.ob_exec.specs.declared.engine.Engine.{Engine}
-use Rattle.ob_exec.specs.declared.outcome.Outcome.{Outcome}
-use Rattle.ob_exec.specs.declared.outcome.Outcome.TheVariants.{Refused}
+use Rattle.ob_verdict.specs.declared.outcome.Outcome.{Outcome}
+use Rattle.ob_verdict.specs.declared.outcome.Outcome.TheVariants.{Refused}
 use Rattle.ob_select.specs.Settings.{IsFree}
 use Rattle.ob_exec.specs.Engines.{AreTables, others_of, indexes_of}
-use Rattle.ob_exec.specs.Refusals.{IsNoFault, by_fault, refused_end}
+use Rattle.ob_exec.specs.Refusals.{IsNoFault, refused_end}
+use Rattle.ob_verdict.specs.Outcomes.{by_fault}
 use Rattle.ob_base.specs.Refusals.{is_store_fault}
 use Rattle.ob_exec.specs.Agreeing.{Agrees, world_of}
-use Rattle.ob_exec.specs.Opening.{Opens}
+use Rattle.ob_select.specs.Opening.{Opens}
 use Rattle.ob_exec.specs.Running.{answer_of, is_fault, is_stop, outcome_end, result_end, RunCause, GoesOn, Continues, RanStatement, IsFaulted}
 use Rattle.ob_select.proofs.RoomLemmas.{free_after}
 

@@ -22,14 +22,14 @@ use Rattle.ob_mean.specs.Verdict.{Tables, database, refusal, verdict, ended as s
 use Rattle.ob_mean.proofs.VerdictLemmas.{refused_early, seen_early}
 use Rattle.ob_verdict.specs.Laws.{AreInPlace}
 use Rattle.ob_exec.specs.declared.engine.Engine.{Engine}
-use Rattle.ob_exec.specs.declared.outcome.Outcome.{Outcome}
-use Rattle.ob_exec.specs.declared.outcome.Outcome.TheVariants.{Created, Inserted, Changed, Deleted, Dropped, Rows, Refused}
+use Rattle.ob_verdict.specs.declared.outcome.Outcome.{Outcome}
+use Rattle.ob_verdict.specs.declared.outcome.Outcome.TheVariants.{Created, Inserted, Changed, Deleted, Dropped, Rows, Refused}
 use Rattle.ob_exec.specs.Agreeing.{Agrees, world_of, count_of}
-use Rattle.ob_exec.specs.Refusals.{by_fault}
-use Rattle.ob_exec.specs.Running.{Emits, EmitsUntilFault, HasNoRows, IsSilent, RefusedEarly, SinkStops, is_fault, refusal_now}
+use Rattle.ob_exec.specs.Running.{HasNoRows, IsSilent, RefusedEarly, SinkStops, is_fault}
+use Rattle.ob_verdict.specs.Outcomes.{refusal_now, outcome_of, by_fault, Emits, EmitsUntilFault}
 use Rattle.ob_exec.specs.Serving.{EndsWithin, Serves, ServesSilently, Stopped}
 use Rattle.ob_exec.proofs.MemoryLemmas.{lacks_less}
-use Rattle.ob_exec.specs.Telling.{AreHeld, Represents, answer_labels, outcome_of}
+use Rattle.ob_exec.specs.Telling.{AreHeld, Represents, answer_labels}
 use Rattle.ob_exec.proofs.LawfulLemmas.{lawful_now, lawful_refused}
 use Rattle.ob_exec.proofs.RunLemmas.{of_other, ran_refused}
 use Rattle.ob_exec.proofs.SealLemmas.{keeps_none}

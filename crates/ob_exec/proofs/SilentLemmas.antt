@@ -33,11 +33,12 @@ use Rattle.ob_mean.specs.Verdict.{Tables, verdict, seen, ended as seen_to}
 use Rattle.ob_verdict.proofs.InPlaceProof.{keeps_in_place}
 use Rattle.ob_verdict.proofs.SeenProof.{shows_kind_alone}
 use Rattle.ob_exec.specs.declared.engine.Engine.{Engine}
-use Rattle.ob_exec.specs.declared.outcome.Outcome.{Outcome}
+use Rattle.ob_verdict.specs.declared.outcome.Outcome.{Outcome}
 use Rattle.ob_exec.specs.Agreeing.{Agrees, world_of, count_of}
-use Rattle.ob_exec.specs.Running.{RanStatement, HasNoRows, IsSilent, answer_of, is_stop, refusal_now}
+use Rattle.ob_exec.specs.Running.{RanStatement, HasNoRows, IsSilent, answer_of, is_stop}
+use Rattle.ob_verdict.specs.Outcomes.{refusal_now, outcome_of}
 use Rattle.ob_exec.specs.Serving.{Means, ServesSilently}
-use Rattle.ob_exec.specs.Telling.{AreHeld, KeepsSealed, ReadsTrue, outcome_of}
+use Rattle.ob_exec.specs.Telling.{AreHeld, KeepsSealed, ReadsTrue}
 use Rattle.ob_exec.proofs.BegunLemmas.{begun_plain}
 use Rattle.ob_exec.proofs.HeldLemmas.{held_kept}
 use Rattle.ob_exec.proofs.RunLemmas.{IsAnswered, engine_after, ran_cut, ran_no_room, only_memory}

@@ -26,11 +26,12 @@ use Rattle.ob_mean.specs.Replay.{done_of, cut_at, count_end, walk_end}
 use Rattle.ob_mean.specs.Verdict.{Tables, is_late, seen, seen_started, ended as seen_to}
 use Rattle.ob_flat.specs.declared.flat.Flat.{Flat}
 use Rattle.ob_flat.specs.Words.{TamperedIn}
-use Rattle.ob_exec.specs.declared.outcome.Outcome.{Outcome}
-use Rattle.ob_exec.specs.declared.outcome.Outcome.TheVariants.{Refused}
-use Rattle.ob_exec.specs.Refusals.{by_fault, refused_end}
+use Rattle.ob_verdict.specs.declared.outcome.Outcome.{Outcome}
+use Rattle.ob_verdict.specs.declared.outcome.Outcome.TheVariants.{Refused}
+use Rattle.ob_exec.specs.Refusals.{refused_end}
 use Rattle.ob_base.specs.Refusals.{is_store_fault}
-use Rattle.ob_exec.specs.Running.{answer_of, is_fault, refusal_now, RefusedEarly, IsSilent}
+use Rattle.ob_exec.specs.Running.{answer_of, is_fault, RefusedEarly, IsSilent}
+use Rattle.ob_verdict.specs.Outcomes.{refusal_now, by_fault}
 use Rattle.ob_exec.specs.Telling.{AreHeld}
 use Rattle.ob_exec.proofs.HeldLemmas.{held_headings}
 use Rattle.ob_exec.proofs.RunLemmas.{of_other, IsAnswered, IsEarly, early_few}

@@ -37,11 +37,10 @@ use Rattle.ob_mean.proofs.EarlyLemmas.{allowed, neither}
 use Rattle.ob_mean.specs.Refusals.{early_refusal}
 use Rattle.ob_verdict.specs.Accepted.{IsPlace, agg_places}
 use Rattle.ob_verdict.proofs.AcceptedProof.{totals_places_fit}
-use Rattle.ob_exec.specs.declared.outcome.Outcome.{Outcome}
-use Rattle.ob_exec.specs.declared.outcome.Outcome.TheVariants.{Rows, Refused}
-use Rattle.ob_exec.specs.Running.{IsAnswer}
+use Rattle.ob_verdict.specs.declared.outcome.Outcome.{Outcome}
+use Rattle.ob_verdict.specs.declared.outcome.Outcome.TheVariants.{Rows, Refused}
 use Rattle.ob_exec.proofs.EmitLemmas.{are_rows}
-use Rattle.ob_exec.specs.Telling.{Partly, outcome_of}
+use Rattle.ob_verdict.specs.Outcomes.{outcome_of, IsAnswer, Partly}
 use Rattle.ob_exec.specs.Totalling.{Gives, TotalsFit, agg_at, totalled_answer, totalled}
 
 -- ---- the items

@@ -50,16 +50,17 @@ use Rattle.ob_mean.specs.Step.{accepted_answer, answered, overgroups, rows_at, t
 use Rattle.ob_mean.specs.Verdict.{Held, Tables, database, is_late, refusal, verdict, seen, ended as seen_to}
 use Rattle.ob_mean.proofs.VerdictLemmas.{heading-stored, headings-database, stored-database, refused_late}
 use Rattle.ob_exec.specs.declared.engine.Engine.{Engine}
-use Rattle.ob_exec.specs.declared.outcome.Outcome.{Outcome}
-use Rattle.ob_exec.specs.declared.outcome.Outcome.TheVariants.{Refused}
+use Rattle.ob_verdict.specs.declared.outcome.Outcome.{Outcome}
+use Rattle.ob_verdict.specs.declared.outcome.Outcome.TheVariants.{Refused}
 use Rattle.ob_exec.specs.Agreeing.{Agrees, world_of, count_of}
 use Rattle.ob_exec.specs.Engines.{IsAt, flat_of}
-use Rattle.ob_exec.specs.Running.{Emits, SinkStops, answer_of, is_stop, refusal_now}
+use Rattle.ob_exec.specs.Running.{SinkStops, answer_of, is_stop}
+use Rattle.ob_verdict.specs.Outcomes.{refusal_now, outcome_of, Emits, Partly}
 use Rattle.ob_select.specs.Selecting.{UsesRoom}
 use Rattle.ob_exec.specs.Serving.{EndsWithin, Serves, Stopped}
 use Rattle.ob_select.specs.Memory.{HasHalted}
 use Rattle.ob_exec.proofs.BegunLemmas.{begun_plain}
-use Rattle.ob_exec.specs.Telling.{AreHeld, Represents, Partly, IsNotTampered, answer_labels, is_refused, outcome_of}
+use Rattle.ob_exec.specs.Telling.{AreHeld, Represents, IsNotTampered, answer_labels, is_refused}
 use Rattle.ob_exec.specs.Totalling.{IsTotalled, MayTotal, Totals, TotalsFit, ends_by, labels_at, totalled_answer}
 use Rattle.ob_exec.proofs.FoundLemmas.{heading_found}
 use Rattle.ob_exec.proofs.HeldLemmas.{Beside, held_at}

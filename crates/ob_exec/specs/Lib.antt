@@ -3,13 +3,11 @@ pub mod Schemas
 pub mod Engines
 pub mod Refusals
 pub mod Agreeing
-pub mod Opening
 pub mod Running
 pub mod Memory
 pub mod Telling
 pub mod Totalling
 pub mod Sources
 pub mod Serving
-pub mod Resting
 pub mod Reopening
 pub mod Closing

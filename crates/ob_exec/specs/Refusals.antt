@@ -1,5 +1,5 @@
 -- Refusals, and when they come.
-use Rattle.std.specs.Prelude.{◌≡◌, ℕ, Bool, true, false}
+use Rattle.std.specs.Prelude.{◌≡◌, ℕ, false}
 use Rattle.ob_base.specs.declared.refusal.Refusal.{Refusal}
 use Rattle.ob_base.specs.declared.refusal.Refusal.TheVariants.{Duplicate, Full, TooManyGroups, NotConsecutive, Overflow, StoreFault, PadPassed}
 use Rattle.ob_base.specs.declared.seen.End.{End}
@@ -21,8 +21,3 @@ refused_end TooManyGroups n = Whole
 refused_end (Overflow i) n = Whole
 refused_end PadPassed n = Whole
 refused_end _ n = Static
-
--- the first where the store failed, else the second
-abbrev pub by_fault : (failed : Bool) → (cut whole : Type 0) → Type 0
-by_fault true cut whole = cut
-by_fault false cut whole = whole

@@ -1,6 +1,5 @@
 -- What a statement does, whatever it is answered.
-use Rattle.std.specs.Prelude.{◌≡◌, ◌⊎◌, ◌-◌, ◌<◌, ◌^◌, ℕ, Bool, true, false, List, [], ◌∷◌, ◌++◌, length, IsTrue, Result, Ok, Err, Option, Some, None}
-use Rattle.std.specs.List.{list_all}
+use Rattle.std.specs.Prelude.{◌≡◌, ◌⊎◌, ◌-◌, ◌<◌, ℕ, Bool, true, false, ◌++◌, length, IsTrue, Result, Ok, Err, Option, Some, None}
 use Rattle.ob_base.specs.declared.refusal.Refusal.{Refusal}
 use Rattle.ob_exec.specs.declared.stop.RunStop.{RunStop}
 use Rattle.ob_exec.specs.declared.stop.RunStop.TheVariants.{Tampered, SinkFault, NoMemory}
@@ -10,31 +9,26 @@ use Rattle.ob_base.specs.declared.seen.End.TheVariants.{Static, Whole, Cut}
 use Rattle.ob_base.specs.declared.skeleton.Skeleton.{Skeleton}
 use Rattle.ob_base.specs.Counts.{Rises}
 use Rattle.ob_base.specs.Refusals.{is_store_fault}
-use Rattle.ob_base.specs.Events.{Event, Head, Row, Close}
 use Rattle.ob_store.specs.State.{StoreState}
 use Rattle.ob_store.specs.Runs.{Later}
 use Rattle.ob_vault.specs.State.{RevState, World}
 use Rattle.ob_vault.specs.Calls.{EndsRead}
 use Rattle.ob_vault.specs.Tied.{Calm, EndsAt}
 use Rattle.ob_script.specs.Script.{script}
-use Rattle.ob_mean.specs.Refusals.{early_refusal, limits_of}
-use Rattle.ob_mean.specs.Verdict.{is_late, ended as seen_to}
-use Rattle.ob_base.specs.Stored.{headings_of}
-use Rattle.ob_sql.specs.declared.stmt.Stmt.{Stmt}
-use Rattle.ob_sql.specs.declared.stmt.Stmt.TheVariants.{SelectRows as RowsStmt, SelectTotals as TotalsStmt}
-use Rattle.ob_base.specs.declared.config.Public.{Public}
+use Rattle.ob_mean.specs.Verdict.{ended as seen_to}
 use Rattle.ob_script.specs.Trace.{next}
 use Rattle.ob_flat.specs.declared.fault.OpErr.{OpErr}
 use Rattle.ob_flat.specs.declared.fault.OpErr.TheVariants as OpErrs
 use Rattle.ob_mutate.specs.declared.inserting.Inserted.{Inserted as InsertedAs}
 use Rattle.ob_mutate.specs.declared.inserting.Inserted.TheVariants.{Done, Duplicate, Full}
 use Rattle.ob_exec.specs.declared.engine.Engine.{Engine}
-use Rattle.ob_exec.specs.declared.outcome.Outcome.{Outcome}
-use Rattle.ob_exec.specs.declared.outcome.Outcome.TheVariants.{Inserted, Rows, Refused}
+use Rattle.ob_verdict.specs.declared.outcome.Outcome.{Outcome}
+use Rattle.ob_verdict.specs.declared.outcome.Outcome.TheVariants.{Inserted, Rows, Refused}
 use Rattle.ob_exec.specs.Agreeing.{Agrees, engine_start, opened_from, world_of}
 use Rattle.ob_select.specs.Settings.{IsFree}
-use Rattle.ob_exec.specs.Opening.{Opens}
-use Rattle.ob_exec.specs.Refusals.{refused_end, by_fault}
+use Rattle.ob_select.specs.Opening.{Opens}
+use Rattle.ob_exec.specs.Refusals.{refused_end}
+use Rattle.ob_verdict.specs.Outcomes.{by_fault}
 
 -- the answer, or the stop, that an error of a pass makes
 abbrev pub answer_of : OpErr → Result Outcome RunStop
@@ -48,10 +42,6 @@ abbrev pub inserted_as : InsertedAs → Outcome
 inserted_as Done = Inserted
 inserted_as Duplicate = Refused Refusal.Duplicate
 inserted_as Full = Refused Refusal.Full
-
--- the refusal of a statement before any access, where m were asked before
-abbrev pub refusal_now : Public → (m : ℕ) → Stmt → Option Refusal
-refusal_now p m stmt = early_refusal (is_late m) (limits_of p) (headings_of p.tables) stmt
 
 -- a statement is refused before any access exactly where the meaning says so
 abbrev pub RefusedEarly : Option Refusal → Result Outcome RunStop → Seen → Type 0
@@ -118,48 +108,12 @@ pub record RanStatement {R : Type 0} (state : R → RevState) (skeleton : Skelet
   pub opened : Opens (script old.public skeleton new.seen) old.room.high new.room.high
   pub goes_on : Continues state skeleton result old new t
 
--- an answer of rows is its header, its rows and their number
-abbrev pub is_row : Event → Bool
-is_row (Head labels) = false
-is_row (Row cells) = true
-is_row (Close k) = false
-
-pub record IsAnswer (labels : List (List ℕ)) (k : ℕ) (events : List Event) : Type 0 where
-  pub rows : List Event
-  pub are_rows : IsTrue (list_all is_row rows)
-  pub count : length rows ≡ k
-  pub few : k < 2 ^ 32
-  pub is : events ≡ Head labels ∷ (rows ++ Close k ∷ [])
-
--- one that was cut off is nothing, or its header and some rows
-pub record IsBegunAnswer (labels : List (List ℕ)) (events : List Event) : Type 0 where
-  pub rows : List Event
-  pub are_rows : IsTrue (list_all is_row rows)
-  pub is : (events ≡ []) ⊎ (events ≡ Head labels ∷ rows)
-
--- where the store fails, a SELECT of rows has begun its answer at most, and any other statement emitted nothing
-abbrev pub EmitsUntilFault : Stmt → (labels : List (List ℕ)) → List Event → Type 0
-EmitsUntilFault (RowsStmt s) labels events = IsBegunAnswer labels events
-EmitsUntilFault _ labels events = events ≡ []
-
--- what is emitted of an answer to a statement: nothing but of rows, and of rows that the store cut off
-abbrev pub Emits : (stmt : Stmt) (labels : List (List ℕ)) → Outcome → List Event → Type 0
-Emits stmt labels (Rows k) events = IsAnswer labels k events
-Emits stmt labels (Refused r) events = by_fault (is_store_fault r) (EmitsUntilFault stmt labels events) (events ≡ [])
-Emits stmt labels _ events = events ≡ []
-
 -- a stop by the sink comes only where a call of the emitter failed, and always where one did
 abbrev pub SinkStops : Result Outcome RunStop → ℕ → ℕ → Type 0
 SinkStops (Ok outcome) old new = new ≡ old
 SinkStops (Err SinkFault) old new = Rises old new
 SinkStops (Err (Tampered region place)) old new = new ≡ old
 SinkStops (Err NoMemory) old new = new ≡ old
-
--- a statement whose answer may be rows
-abbrev pub MayEmit : Stmt → Type 0
-MayEmit (RowsStmt s) = Unit {0}
-MayEmit (TotalsStmt s) = Unit {0}
-MayEmit _ = ⊥
 
 -- an answer that is no rows
 abbrev pub HasNoRows : Outcome → Type 0

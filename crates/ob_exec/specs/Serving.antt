@@ -12,12 +12,13 @@ use Rattle.ob_sql.specs.Skeleton.{skeleton}
 use Rattle.ob_mean.specs.Lawful.{Lawful}
 use Rattle.ob_mean.specs.Verdict.{Tables, verdict, ended as seen_to}
 use Rattle.ob_exec.specs.declared.engine.Engine.{Engine}
-use Rattle.ob_exec.specs.declared.outcome.Outcome.{Outcome}
+use Rattle.ob_verdict.specs.declared.outcome.Outcome.{Outcome}
 use Rattle.ob_exec.specs.Agreeing.{count_of}
-use Rattle.ob_exec.specs.Running.{RanStatement, RefusedEarly, Emits, SinkStops, IsSilent, MayEmit, refusal_now}
+use Rattle.ob_exec.specs.Running.{RanStatement, RefusedEarly, SinkStops, IsSilent}
+use Rattle.ob_verdict.specs.Outcomes.{refusal_now, Emits, MayEmit, Partly}
 use Rattle.ob_select.specs.Memory.{HasHalted}
 use Rattle.ob_exec.specs.Memory.{LacksMemory}
-use Rattle.ob_exec.specs.Telling.{KeepsSealed, ReadsTrue, ReadsTrueUntil, SeenCut, Told, is_refused, IsNotTampered, Partly, Emitted, answer_labels, meant_script}
+use Rattle.ob_exec.specs.Telling.{KeepsSealed, ReadsTrue, ReadsTrueUntil, SeenCut, Told, is_refused, IsNotTampered, Emitted, answer_labels, meant_script}
 
 -- what an answer emitted
 pub record Answered {R E : Type 0} (state : R → RevState) (grew : E → E → List Event → Type 0)

@@ -28,8 +28,8 @@ use Rattle.ob_mean.specs.Verdict.{Tables, source_slots}
 use Rattle.ob_verdict.specs.Laws.{AreInPlace}
 use Rattle.ob_select.specs.declared.selecting.Selected.{Selected}
 use Rattle.ob_select.specs.declared.selecting.Selected.TheVariants.{Rows, Refused}
-use Rattle.ob_exec.specs.declared.outcome.Outcome.{Outcome}
-use Rattle.ob_exec.specs.declared.outcome.Outcome.TheVariants.{Rows as RowsOut, Refused as RefusedOut}
+use Rattle.ob_verdict.specs.declared.outcome.Outcome.{Outcome}
+use Rattle.ob_verdict.specs.declared.outcome.Outcome.TheVariants.{Rows as RowsOut, Refused as RefusedOut}
 use Rattle.ob_select.specs.Halting.{EmitsUntil}
 use Rattle.ob_select.specs.Memory.{AtMake, BeforeResult, HasCounted, HasHalted, is_reading}
 use Rattle.ob_select.specs.Selecting.{Selection, SealsRows, MayHold, EndsSelected, from, shown_rows, selection_answer, answer_events, selection_seen}

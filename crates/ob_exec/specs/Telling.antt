@@ -2,7 +2,6 @@
 use Rattle.std.specs.Prelude.{Bool, true, false, ◌≡◌, ◌-◌, ⊤, ℕ, List, [], ◌∷◌, length, IsTrue, None}
 use Rattle.ob_base.specs.declared.access.Access.{Access}
 use Rattle.ob_base.specs.declared.config.Public.{Public}
-use Rattle.ob_exec.specs.Refusals.{by_fault}
 use Rattle.ob_exec.specs.declared.stop.RunStop.{RunStop}
 use Rattle.ob_exec.specs.declared.stop.RunStop.TheVariants.{Tampered}
 use Rattle.ob_base.specs.declared.schema.Table.{Table}
@@ -14,23 +13,21 @@ use Rattle.ob_vault.specs.Tied.{Calm, IsUnfit}
 use Rattle.ob_vault.specs.Calls.{Seals}
 use Rattle.ob_flat.specs.Flats as F
 use Rattle.ob_sql.specs.declared.stmt.Stmt.{Stmt}
-use Rattle.ob_sql.specs.declared.stmt.Stmt.TheVariants.{Create, Insert, Update, Delete, Drop as DropTable, SelectRows as RowsStmt, SelectTotals as TotalsStmt}
 use Rattle.ob_sql.specs.Skeleton.{skeleton}
 use Rattle.ob_mean.specs.declared.answer.Answer.{Answer}
-use Rattle.ob_mean.specs.declared.answer.Answer.TheVariants as A
 use Rattle.ob_mean.specs.Verdict.{Tables, verdict, seen}
 use Rattle.ob_mean.specs.Settle.{settle}
 use Rattle.ob_mean.specs.Replay.{cut_at}
-use Rattle.ob_mean.specs.Prints.{Prints, Unfinished, Begun, labels_of}
+use Rattle.ob_mean.specs.Prints.{Prints, Unfinished, labels_of}
 use Rattle.ob_base.specs.Stored.{headings_of}
 use Rattle.ob_select.specs.Selecting.{AcceptsRows}
 use Rattle.ob_exec.specs.declared.engine.Engine.{Engine}
-use Rattle.ob_exec.specs.declared.outcome.Outcome.{Outcome}
-use Rattle.ob_exec.specs.declared.outcome.Outcome.TheVariants.{Created, Inserted, Changed, Deleted, Dropped, Rows, Refused}
+use Rattle.ob_verdict.specs.declared.outcome.Outcome.{Outcome}
 use Rattle.ob_exec.specs.Engines.{flat_of}
 use Rattle.ob_exec.specs.Agreeing.{world_of, count_of}
 use Rattle.ob_exec.specs.Running.{is_fault}
 use Rattle.ob_verdict.specs.Laws.{AreInPlace}
+use Rattle.ob_verdict.specs.Outcomes.{outcome_of, by_fault}
 
 -- ---- the tables
 -- each table's region holds the slots of the table in place that stands beside it
@@ -62,27 +59,6 @@ pub record ReadsTrueUntil {R : Type 0} (state : R → RevState) (old : Engine R)
 -- those of a statement by its meaning, of which m were asked before
 abbrev pub meant_script : Public → (m : ℕ) → Tables → Stmt → List Access
 meant_script p m tables stmt = script p (skeleton stmt) (seen p m tables stmt)
-
--- ---- the answer
--- the outcome of a statement's answer
-abbrev pub done_of : Stmt → Outcome
-done_of (Create table columns capacity shape) = Created
-done_of (Insert table columns values) = Inserted
-done_of (Update table sets cond) = Changed 0
-done_of (Delete table cond) = Deleted 0
-done_of (DropTable table) = Dropped
-done_of (RowsStmt s) = Rows 0
-done_of (TotalsStmt s) = Rows 0
-
-abbrev pub changed_of : Stmt → ℕ → Outcome
-changed_of (Delete table cond) n = Deleted n
-changed_of _ n = Changed n
-
-abbrev pub outcome_of : Stmt → Answer → Outcome
-outcome_of stmt A.Done = done_of stmt
-outcome_of stmt (A.Changed n) = changed_of stmt n
-outcome_of stmt (A.Rows rows) = Rows (length rows)
-outcome_of stmt (A.Refused r) = Refused r
 
 -- a statement that went to its end, or was refused before: its answer is the verdict, and what is seen and what the tables are
 -- follows from the tables before, of which m accesses were asked
@@ -118,12 +94,6 @@ IsNotTampered stop = is_refused stop ≡ false
 -- the labels of a statement's answer
 abbrev pub answer_labels : Stmt → Public → List (List ℕ)
 answer_labels stmt p = labels_of stmt (headings_of p.tables)
-
--- a first part of what an answer emits
-pub record Partly (labels : List (List ℕ)) (answer : Answer) (events : List Event) : Type 0 where
-  pub whole : List Event
-  pub prints : Prints labels answer whole
-  pub begun : Begun events whole
 
 -- the events of an answer, or of one that the store cut off
 abbrev pub Emitted : Stmt → Public → (m : ℕ) → Tables → Outcome → List Event → Type 0

@@ -37,10 +37,9 @@ use Rattle.ob_mean.specs.Names.{place_of, where_at}
 use Rattle.ob_mean.specs.Prints.{Begun, Prints, item_label}
 use Rattle.ob_mean.specs.Refusals.{has_stray_column}
 use Rattle.ob_mean.specs.Step.{agg_of, answered, overgroups, totals_answer}
-use Rattle.ob_exec.specs.declared.outcome.Outcome.{Outcome}
-use Rattle.ob_exec.specs.declared.outcome.Outcome.TheVariants as Outcomes
-use Rattle.ob_exec.specs.Running.{Emits}
-use Rattle.ob_exec.specs.Telling.{Partly, outcome_of}
+use Rattle.ob_verdict.specs.declared.outcome.Outcome.{Outcome}
+use Rattle.ob_verdict.specs.declared.outcome.Outcome.TheVariants as Outcomes
+use Rattle.ob_verdict.specs.Outcomes.{outcome_of, Emits, Partly}
 
 -- the aggregate of an item; where it is a plain column, the rows are counted
 abbrev pub agg_at : Columns → Listed → Agg

@@ -2,17 +2,17 @@
 ghost use Rattle.std.specs.Prelude.{◌≡◌, ◌≤◌, None, false, length};
 ghost use Rattle.ob_sql.specs.declared.stmt.Stmt.TheVariants.{Create};
 ghost use Rattle.ob_exec.specs.Agreeing.{Agrees, has_ended, public_of, count_of};
-ghost use Rattle.ob_exec.specs.Running.{refusal_now};
+ghost use Rattle.ob_verdict.specs.Outcomes.{refusal_now};
 ghost use Rattle.ob_exec.specs.Serving.{ServesSilently};
 
 use crate::engine::Engine;
-use crate::outcome::Outcome;
 use crate::stop::RunStop;
 use ob_base::{Heading, Name, NewColumn, Schema, Shape, Table};
 use ob_flat::OpErr;
 use ob_mean::new_schema;
 use ob_store::BlockStore;
 use ob_vault::Revisions;
+use ob_verdict::Outcome;
 
 // A new table as the engine keeps it.
 fn new_table(name: &Name, schema: &Schema, capacity: u32, shape: Shape, region: u64) -> Table

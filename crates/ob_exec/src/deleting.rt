@@ -2,11 +2,10 @@
 ghost use Rattle.std.specs.Prelude.{◌≡◌, None, false};
 ghost use Rattle.ob_sql.specs.declared.stmt.Stmt.TheVariants.{Delete};
 ghost use Rattle.ob_exec.specs.Agreeing.{Agrees, has_ended, public_of, count_of};
-ghost use Rattle.ob_exec.specs.Running.{refusal_now};
+ghost use Rattle.ob_verdict.specs.Outcomes.{refusal_now};
 ghost use Rattle.ob_exec.specs.Serving.{ServesSilently};
 
 use crate::engine::Engine;
-use crate::outcome::Outcome;
 use crate::stop::RunStop;
 use ob_base::Name;
 use ob_flat::OpErr;
@@ -14,6 +13,7 @@ use ob_mean::where_at;
 use ob_sql::Cond;
 use ob_store::BlockStore;
 use ob_vault::Revisions;
+use ob_verdict::Outcome;
 
 impl<R: Revisions> Engine<R> {
     // The rows that make a condition true leave their table.

@@ -2,16 +2,16 @@
 ghost use Rattle.std.specs.Prelude.{◌≡◌, None, false};
 ghost use Rattle.ob_sql.specs.declared.stmt.Stmt.TheVariants.{Drop as DropTable};
 ghost use Rattle.ob_exec.specs.Agreeing.{Agrees, has_ended, public_of, count_of};
-ghost use Rattle.ob_exec.specs.Running.{refusal_now};
+ghost use Rattle.ob_verdict.specs.Outcomes.{refusal_now};
 ghost use Rattle.ob_exec.specs.Serving.{ServesSilently};
 
 use crate::engine::Engine;
-use crate::outcome::Outcome;
 use crate::stop::RunStop;
 use ob_base::Name;
 use ob_flat::OpErr;
 use ob_store::BlockStore;
 use ob_vault::Revisions;
+use ob_verdict::Outcome;
 
 impl<R: Revisions> Engine<R> {
     // A table leaves the catalogue, and its region is discarded, whatever the store answers.

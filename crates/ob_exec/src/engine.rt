@@ -9,13 +9,13 @@ ghost use Rattle.ob_base.specs.Publics.{first_public};
 ghost use Rattle.ob_exec.specs.Agreeing.{Agrees, public_of, seen_of, engine_keys, engine_start, has_ended, high_of, opened_from, rows_of};
 ghost use Rattle.ob_exec.specs.Running.{answer_of, is_stop};
 
-use crate::outcome::Outcome;
 use crate::stop::RunStop;
 use ob_base::{Config, End, Items, NoMemory, Public, Refusal, Seen};
 use ob_flat::OpErr;
 use ob_room::Room;
 use ob_seal::Keys;
 use ob_vault::{Revisions, Vault};
+use ob_verdict::Outcome;
 use std::alloc::Global;
 
 /// The width of an open row: every row of a table, or of a join, is at most so wide.

@@ -2,11 +2,11 @@
 ghost use Rattle.std.specs.Prelude.{◌≡◌, None, false};
 ghost use Rattle.ob_sql.specs.declared.stmt.Stmt.TheVariants.{Insert};
 ghost use Rattle.ob_exec.specs.Agreeing.{Agrees, has_ended, public_of, count_of};
-ghost use Rattle.ob_exec.specs.Running.{inserted_as, refusal_now};
+ghost use Rattle.ob_exec.specs.Running.{inserted_as};
+ghost use Rattle.ob_verdict.specs.Outcomes.{refusal_now};
 ghost use Rattle.ob_exec.specs.Serving.{ServesSilently};
 
 use crate::engine::Engine;
-use crate::outcome::Outcome;
 use crate::stop::RunStop;
 use ob_base::{Items, Name, Refusal};
 use ob_flat::OpErr;
@@ -15,6 +15,7 @@ use ob_mutate::Inserted;
 use ob_sql::Literal;
 use ob_store::BlockStore;
 use ob_vault::Revisions;
+use ob_verdict::Outcome;
 
 fn outcome_of(inserted: Inserted) -> Outcome
     ensures { result ≡ inserted_as inserted }

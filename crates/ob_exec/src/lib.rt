@@ -9,7 +9,6 @@ mod engine;
 mod inserting;
 mod laws;
 mod opening;
-mod outcome;
 mod rows;
 mod run;
 mod stop;
@@ -19,7 +18,7 @@ mod totals;
 mod updating;
 
 pub use engine::Engine;
-pub use laws::{names_are_apart, names_order_tables, rests_outlast, tables_keep_keys};
+pub use laws::names_are_apart;
 pub use ob_reopen::{CloseErr, Closing, Listed, OpenErr};
-pub use outcome::Outcome;
+pub use ob_verdict::Outcome;
 pub use stop::RunStop;

@@ -11,12 +11,11 @@ ghost use Rattle.ob_sql.specs.declared.stmt.Stmt.TheVariants.{SelectRows as Rows
 ghost use Rattle.ob_mean.specs.Prints.{is_join};
 ghost use Rattle.ob_mean.specs.Verdict.{ended as seen_to};
 ghost use Rattle.ob_exec.specs.Agreeing.{Agrees, has_ended, public_of, world_of, count_of};
-ghost use Rattle.ob_exec.specs.Running.{refusal_now};
+ghost use Rattle.ob_verdict.specs.Outcomes.{refusal_now};
 ghost use Rattle.ob_exec.specs.Serving.{Serves};
 ghost use Rattle.ob_exec.specs.Sources.{SelectsRows, UsesRoomFor, IsFew, closing, selected_outcome};
 
 use crate::engine::{Engine, seen_to_end};
-use crate::outcome::Outcome;
 use crate::stop::RunStop;
 use ob_base::{Emit, EmitErr, End, Name, Public, Seen, Source};
 use ob_flat::{Flat, OpErr};
@@ -26,6 +25,7 @@ use ob_select::{Query, Selected, padded_length, printed_places, select_from};
 use ob_sql::SelectRows;
 use ob_store::BlockStore;
 use ob_vault::Revisions;
+use ob_verdict::Outcome;
 
 // The number of the rows ends an answer; a refusal has none.
 fn close_answer<E: Emit>(out: &mut E, selected: Selected) -> Result<(), OpErr>

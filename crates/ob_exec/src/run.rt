@@ -4,13 +4,13 @@ ghost use Rattle.ob_exec.specs.Agreeing.{Agrees, has_ended};
 ghost use Rattle.ob_exec.specs.Serving.{Serves};
 
 use crate::engine::{Engine, LATE};
-use crate::outcome::Outcome;
 use crate::stop::RunStop;
 use ob_base::{Emit, Refusal};
 use ob_mean::early_refusal;
 use ob_sql::Stmt;
 use ob_store::BlockStore;
 use ob_vault::Revisions;
+use ob_verdict::Outcome;
 
 impl<R: Revisions> Engine<R> {
     // Carries out a statement, and leaves in the store what the vault forgot of it.

@@ -8,7 +8,6 @@ ghost use Rattle.ob_mean.specs.Step.{item_of};
 ghost use Rattle.ob_select.specs.Selecting.{UsesRoom};
 ghost use Rattle.ob_exec.specs.Totalling.{agg_at, error_of, Gives, MayTotal, Totals};
 
-use crate::outcome::Outcome;
 use ob_base::{Column, ColumnName, Emit, EmitErr, Label, NoMemory, Refusal, Schema, Shown};
 use ob_flat::{Flat, OpErr};
 use ob_group::{Grouped, agg_label, aggregate, group};
@@ -19,6 +18,7 @@ use ob_row::{Agg, Item, Pred};
 use ob_sql::{Listed, SelectTotals};
 use ob_store::BlockStore;
 use ob_vault::{Revisions, Vault};
+use ob_verdict::Outcome;
 use std::alloc::Global;
 use std::array;
 

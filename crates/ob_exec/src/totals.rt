@@ -2,11 +2,10 @@
 ghost use Rattle.std.specs.Prelude.{◌≡◌, None, false};
 ghost use Rattle.ob_sql.specs.declared.stmt.Stmt.TheVariants.{SelectTotals as TotalsStmt};
 ghost use Rattle.ob_exec.specs.Agreeing.{Agrees, has_ended, public_of, count_of};
-ghost use Rattle.ob_exec.specs.Running.{refusal_now};
+ghost use Rattle.ob_verdict.specs.Outcomes.{refusal_now};
 ghost use Rattle.ob_exec.specs.Serving.{Serves};
 
 use crate::engine::Engine;
-use crate::outcome::Outcome;
 use crate::stop::RunStop;
 use crate::totalling::{answer_totals, buckets_for};
 use ob_base::Emit;
@@ -15,6 +14,7 @@ use ob_mean::where_at;
 use ob_sql::SelectTotals;
 use ob_store::BlockStore;
 use ob_vault::Revisions;
+use ob_verdict::Outcome;
 
 impl<R: Revisions> Engine<R> {
     // Aggregates of a table's rows, or of each group of them.

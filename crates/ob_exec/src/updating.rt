@@ -3,13 +3,12 @@ ghost use Rattle.std.specs.Prelude.{◌≡◌, ◌≤◌, None, false, length, I
 ghost use Rattle.ob_sql.specs.declared.stmt.Stmt.TheVariants.{Update};
 ghost use Rattle.ob_mean.specs.Step.{set_cells};
 ghost use Rattle.ob_exec.specs.Agreeing.{Agrees, has_ended, public_of, count_of};
-ghost use Rattle.ob_exec.specs.Running.{refusal_now};
+ghost use Rattle.ob_verdict.specs.Outcomes.{refusal_now};
 ghost use Rattle.ob_exec.specs.Schemas.{IsSet};
 ghost use Rattle.ob_exec.specs.Serving.{ServesSilently};
 ghost use Rattle.std.specs.List.{All};
 
 use crate::engine::Engine;
-use crate::outcome::Outcome;
 use crate::stop::RunStop;
 use ob_base::{Column, Name, NoMemory};
 use ob_flat::OpErr;
@@ -18,6 +17,7 @@ use ob_row::Cell;
 use ob_sql::{Cond, Set};
 use ob_store::BlockStore;
 use ob_vault::Revisions;
+use ob_verdict::Outcome;
 use std::alloc::Global;
 
 // The places of the columns that are set, each with its cell.

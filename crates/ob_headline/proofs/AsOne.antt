@@ -7,9 +7,9 @@ use Rattle.ob_base.specs.declared.config.Config.{Config}
 use Rattle.ob_base.specs.declared.mark.Mark.{Mark}
 use Rattle.ob_base.specs.declared.mark.Mark.TheVariants.{Fresh, InUse, Closed}
 use Rattle.ob_base.specs.declared.refusal.Stop.TheVariants as Stops
-use Rattle.ob_exec.proofs.ByNameAlike.{named_alike}
-use Rattle.ob_exec.specs.Closing.{is_used_up}
-use Rattle.ob_exec.specs.Resting.{Rests, by_name}
+use Rattle.ob_reopen.proofs.ByNameAlike.{named_alike}
+use Rattle.ob_reopen.specs.Closed.{is_used_up}
+use Rattle.ob_reopen.specs.Resting.{Rests, by_name}
 use Rattle.ob_headline.proofs.AlikeSessions.{SessionsAlike, answers_on, keeps_plain, plain}
 use Rattle.ob_headline.proofs.InStep.{InStep}
 use Rattle.ob_headline.proofs.MarkLemmas.{marks_held}

@@ -6,7 +6,7 @@ use Rattle.std.specs.Option.{option_map_or}
 use Rattle.ob_base.specs.declared.config.Config.{Config}
 use Rattle.ob_base.specs.declared.mark.Mark.{Mark}
 use Rattle.ob_base.specs.declared.mark.Mark.TheVariants.{Fresh, InUse, Closed}
-use Rattle.ob_exec.specs.Reopening.{number_given}
+use Rattle.ob_reopen.specs.Reopened.{number_given}
 use Rattle.ob_headline.proofs.LeftLemmas.{shows_all}
 use Rattle.ob_headline.specs.Bases.{Base, fresh}
 use Rattle.ob_headline.specs.Keeping.{BeginsFrom, closing_named}

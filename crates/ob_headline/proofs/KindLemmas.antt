@@ -15,7 +15,7 @@ use Rattle.ob_base.specs.declared.seen.Seen.{Seen}
 use Rattle.ob_base.specs.declared.skeleton.Skeleton.{Skeleton}
 use Rattle.ob_base.specs.declared.skeleton.Skeleton.TheVariants as K
 use Rattle.ob_base.specs.declared.skeleton.Source.TheVariants.{Table as OneTable, Join}
-use Rattle.ob_exec.specs.Running.{refusal_now}
+use Rattle.ob_verdict.specs.Outcomes.{refusal_now}
 use Rattle.ob_headline.proofs.RerunLemmas.{first_plain, holds_none, not_cut, rest_plain, shows_plainly}
 use Rattle.ob_headline.specs.Bases.{Base}
 use Rattle.ob_headline.specs.Failures.{failures}

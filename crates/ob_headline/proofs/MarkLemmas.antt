@@ -7,7 +7,7 @@ use Rattle.ob_base.specs.declared.config.Config.{Config}
 use Rattle.ob_base.specs.declared.fault.Failed.{Failed}
 use Rattle.ob_base.specs.declared.mark.Mark.{Mark}
 use Rattle.ob_base.specs.declared.mark.Mark.TheVariants.{InUse}
-use Rattle.ob_exec.specs.Closing.{IsClosedAs, StaysInUse, is_used_up}
+use Rattle.ob_reopen.specs.Closed.{IsClosedAs, StaysInUse, is_used_up}
 use Rattle.ob_headline.proofs.StopLemmas.{closing_stops}
 use Rattle.ob_headline.specs.Bases.{Base}
 use Rattle.ob_headline.specs.Keeping.{EndsWith, NotBegun, Writes, closing_behind}

@@ -8,7 +8,7 @@ use Rattle.ob_base.specs.declared.access.Access.TheVariants as A
 use Rattle.ob_base.specs.declared.config.Config.{Config}
 use Rattle.ob_base.specs.declared.mark.Mark.{Mark}
 use Rattle.ob_base.specs.declared.mark.Mark.TheVariants.{Fresh, InUse, Closed}
-use Rattle.ob_exec.specs.Closing.{IsClosedAs, StaysInUse, drop_script, is_used_up}
+use Rattle.ob_reopen.specs.Closed.{IsClosedAs, StaysInUse, drop_script, is_used_up}
 use Rattle.ob_headline.proofs.MarkLemmas.{held_after}
 use Rattle.ob_headline.specs.Bases.{Base}
 use Rattle.ob_headline.specs.Keeping.{BeginsFrom, Writes, closing_behind, last_script}

@@ -10,10 +10,9 @@ use Rattle.ob_base.specs.declared.refusal.Stop.TheVariants.{SinkFault, NoMemory}
 use Rattle.ob_base.specs.declared.seen.End.{End}
 use Rattle.ob_base.specs.declared.seen.End.TheVariants.{Cut}
 use Rattle.ob_base.specs.declared.seen.Seen.{Seen}
-use Rattle.ob_select.specs.Memory.{AtMake}
-use Rattle.ob_exec.specs.Memory.{AtResult, AtEmission}
-use Rattle.ob_exec.specs.Running.{Emits, MayEmit, refusal_now}
-use Rattle.ob_exec.specs.declared.outcome.Outcome.TheVariants.{Refused}
+use Rattle.ob_select.specs.Memory.{AtMake, AtResult, AtEmission}
+use Rattle.ob_verdict.specs.Outcomes.{refusal_now, Emits, MayEmit}
+use Rattle.ob_verdict.specs.declared.outcome.Outcome.TheVariants.{Refused}
 use Rattle.ob_headline.specs.Closing.{closing_line}
 use Rattle.ob_headline.specs.declared.ending.Ending.{Ending}
 use Rattle.ob_headline.specs.declared.ending.Ending.TheVariants.{Ran}

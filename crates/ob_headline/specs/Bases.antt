@@ -4,8 +4,8 @@ use Rattle.ob_base.specs.Publics.{first_public}
 use Rattle.ob_base.specs.declared.access.Access.{Access}
 use Rattle.ob_base.specs.declared.config.Config.{Config}
 use Rattle.ob_base.specs.declared.config.Public.{Public}
-use Rattle.ob_exec.specs.Reopening.{opened_public, opened_start, opening_script}
-use Rattle.ob_exec.specs.Resting.{Rests}
+use Rattle.ob_reopen.specs.Reopened.{opened_public, opened_start, opening_script}
+use Rattle.ob_reopen.specs.Resting.{Rests}
 use Rattle.ob_mean.specs.Replay.{Session, first_session}
 use Rattle.ob_mean.specs.Verdict.{Tables}
 use Rattle.ob_reopen.specs.declared.closing.Closing.{Closing}

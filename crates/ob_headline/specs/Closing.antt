@@ -1,7 +1,7 @@
 -- The line that ends an answer.
 use Rattle.std.specs.Prelude.{ℕ, Bool, true, false, List, [], ◌++◌, codes, decimal}
-use Rattle.ob_exec.specs.declared.outcome.Outcome.{Outcome}
-use Rattle.ob_exec.specs.declared.outcome.Outcome.TheVariants.{Created, Inserted, Changed, Deleted, Dropped, Rows, Refused}
+use Rattle.ob_verdict.specs.declared.outcome.Outcome.{Outcome}
+use Rattle.ob_verdict.specs.declared.outcome.Outcome.TheVariants.{Created, Inserted, Changed, Deleted, Dropped, Rows, Refused}
 use Rattle.ob_print.specs.Lines.{refusal_line}
 
 -- the rows of a SELECT are ended by their number, which stands with them

@@ -11,9 +11,9 @@ use Rattle.ob_base.specs.declared.fault.Failed.{Failed}
 use Rattle.ob_base.specs.declared.mark.Mark.{Mark}
 use Rattle.ob_base.specs.declared.mark.Mark.TheVariants.{Fresh, InUse, Closed}
 use Rattle.ob_base.specs.declared.refusal.Stop.TheVariants.{NoMemory, SinkFault, Tampered}
-use Rattle.ob_exec.specs.Closing.{IsClosedAs, NotClosed, StaysInUse, drop_script, is_used_up}
-use Rattle.ob_exec.specs.Reopening.{NotOpened, opened_start, opening_script}
-use Rattle.ob_exec.specs.Resting.{Rests}
+use Rattle.ob_reopen.specs.Closed.{IsClosedAs, NotClosed, StaysInUse, drop_script, is_used_up}
+use Rattle.ob_reopen.specs.Reopened.{NotOpened, opened_start, opening_script}
+use Rattle.ob_reopen.specs.Resting.{Rests}
 use Rattle.ob_headline.specs.Bases.{Base, Opened, fresh, reopened}
 use Rattle.ob_headline.specs.Endings.{last_line, status_of}
 use Rattle.ob_headline.specs.Tracing.{traced}

@@ -4,8 +4,8 @@ use Rattle.std.specs.Io.KnownBytes.{Consumes}
 use Rattle.ob_base.specs.declared.config.Config.{Config}
 use Rattle.ob_base.specs.declared.mark.Mark.{Mark}
 use Rattle.ob_base.specs.declared.refusal.Stop.TheVariants.{Tampered, SourceFault, SinkFault, NoMemory, InputLimit}
-use Rattle.ob_exec.specs.Closing.{is_used_up}
-use Rattle.ob_exec.specs.Resting.{AcceptsClosings, Rests, by_name}
+use Rattle.ob_reopen.specs.Closed.{is_used_up}
+use Rattle.ob_reopen.specs.Resting.{AcceptsClosings, Rests, by_name}
 use Rattle.ob_headline.specs.Bases.{Base, FromEach, fresh}
 use Rattle.ob_headline.specs.Headline.{Headline}
 use Rattle.ob_headline.specs.Keeping.{BeganKept, Closes, NotBegun, closing_behind, kept_line, kept_status, region_opened}

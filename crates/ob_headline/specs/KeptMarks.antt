@@ -6,7 +6,7 @@ use Rattle.ob_base.specs.declared.config.Config.{Config}
 use Rattle.ob_base.specs.declared.mark.Mark.{Mark}
 use Rattle.ob_base.specs.declared.mark.Mark.TheVariants.{InUse}
 use Rattle.ob_base.specs.declared.refusal.Stop.{Stop}
-use Rattle.ob_exec.specs.Closing.{is_used_up}
+use Rattle.ob_reopen.specs.Closed.{is_used_up}
 use Rattle.ob_headline.specs.Keeping.{closing_behind}
 use Rattle.ob_headline.specs.KeptHeadline.{KeptHeadline, RunKept}
 use Rattle.ob_headline.specs.Settings.{IsTaken, settings_of}

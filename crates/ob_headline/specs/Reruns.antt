@@ -5,7 +5,7 @@ use Rattle.ob_base.specs.declared.access.Access.{Access}
 use Rattle.ob_base.specs.declared.config.Public.{Public}
 use Rattle.ob_base.specs.declared.seen.End.TheVariants.{Static, Whole}
 use Rattle.ob_base.specs.declared.seen.Seen.{Seen}
-use Rattle.ob_exec.specs.Running.{refusal_now}
+use Rattle.ob_verdict.specs.Outcomes.{refusal_now}
 use Rattle.ob_headline.specs.Bases.{Base, fresh}
 use Rattle.ob_headline.specs.Failures.{failures}
 use Rattle.ob_headline.specs.Headline.{Headline}

@@ -3,7 +3,7 @@ use Rattle.std.specs.Prelude.{ℕ, ◌≡◌, ◌≢◌, ◌≤◌, ◌+◌, ◌
 use Rattle.ob_base.specs.Accesses.{nth_write}
 use Rattle.ob_base.specs.Counts.{Rises}
 use Rattle.ob_base.specs.declared.access.Access.{Access}
-use Rattle.ob_exec.specs.Resting.{AcceptsClosings}
+use Rattle.ob_reopen.specs.Resting.{AcceptsClosings}
 use Rattle.ob_select.specs.Selecting.{AcceptsRows}
 use Rattle.ob_headline.specs.Bases.{Base, FromEach, Opened}
 use Rattle.ob_seal.specs.KeySet.{KeySet}

@@ -14,3 +14,6 @@ pub mod WriteLemmas
 pub mod CloseLemmas
 pub mod ListLemmas
 pub mod ReadsRekeyed
+pub mod ByNameAlike
+pub mod OutlastLemmas
+pub mod RestsAgree

@@ -4,3 +4,6 @@ pub mod Limits
 pub mod Closings
 pub mod Openings
 pub mod Writings
+pub mod Reopened
+pub mod Closed
+pub mod Resting

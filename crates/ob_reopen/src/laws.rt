@@ -1,7 +1,10 @@
-//! Laws of the list of an engine's tables, and of the keys of a closing.
-ghost use Rattle.std.specs.Prelude.{◌≡◌, ◌≢◌, ℕ, List, None, Result};
+//! Laws of the list of an engine's tables, of their order, of the keys of a closing, and of what rests under one.
+ghost use Rattle.std.specs.Prelude.{◌≡◌, ◌≢◌, ℕ, List, None, Option, Result, Some, slice_get};
 ghost use Rattle.ob_base.specs.declared.schema.Table.{Table};
+ghost use Rattle.ob_base.specs.Stored.{AreApart, headings};
+ghost use Rattle.ob_mean.specs.Verdict.{Tables};
 ghost use Rattle.ob_seal.specs.KeySet.{KeySet, pair_of};
+ghost use Rattle.ob_store.specs.State.{KeptRegion};
 ghost use Rattle.ob_vault.specs.Rekeying.{rekeyed};
 ghost use Rattle.ob_vault.specs.Resuming.{Unasked};
 ghost use Rattle.ob_vault.specs.State.{RevState, World};
@@ -10,7 +13,9 @@ ghost use Rattle.ob_reopen.specs.declared.fault.OpenErr.{OpenErr};
 ghost use Rattle.ob_reopen.specs.declared.listed.Listed.{Listed};
 ghost use Rattle.ob_reopen.specs.Limits.{IsCatalogue};
 ghost use Rattle.ob_reopen.specs.Openings.{ReadsClosing};
+ghost use Rattle.ob_reopen.specs.Resting.{IsNeeded, Rests, by_name};
 ghost use Rattle.ob_reopen.specs.Writings.{MayList, ListsAll, catalogue_of};
+ghost use Rattle.ob_verdict.specs.Alike.{AreAlike};
 
 /// In order of their names, tables that a closing may list are a catalogue, which has each of them and no other.
 pub fn lists_are_catalogues()
@@ -30,4 +35,27 @@ pub fn closings_keep_keys()
         → old.store.lie ≡ None → ((q : ℕ) → old.store.live q ≡ None)
         → ReadsClosing closing result old new
         → ReadsClosing closing result (rekeyed keys old) (rekeyed keys new) }
+{}
+
+/// In order of their names the tables are the same, where no two have one name.
+pub fn names_order_tables()
+    ensures { (tables : Tables) → AreApart (headings tables) → AreAlike tables (by_name tables) }
+{}
+
+/// What rests in a store for a mark outlasts whatever leaves the regions that the mark needs as they are kept.
+pub fn rests_outlast()
+    ensures { (keys : KeySet) (closing : Closing) (old new : ℕ → Option KeptRegion) (tables : Tables)
+        (rests : Rests keys closing old tables)
+        → ((q : ℕ) → IsNeeded closing rests.listed q → new q ≡ old q)
+        → Rests keys closing new tables }
+{}
+
+/// What rests under some keys rests under others that are the same for the closing's region and for those of its
+/// tables.
+pub fn tables_keep_keys()
+    ensures { (k l : KeySet) (kept : ℕ → Option KeptRegion) (closing : Closing) (tables : Tables)
+        (rests : Rests k closing kept tables)
+        → pair_of k closing.region ≡ pair_of l closing.region
+        → ((i : ℕ) (t : Listed) → slice_get rests.listed i ≡ Some t
+        → pair_of k t.table.region ≡ pair_of l t.table.region) → Rests l closing kept tables }
 {}

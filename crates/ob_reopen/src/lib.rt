@@ -22,7 +22,9 @@ pub use catalogue::list_tables;
 pub use closing::Closing;
 pub use fault::{CloseErr, OpenErr};
 pub use keeper::Keeper;
-pub use laws::{closings_keep_keys, lists_are_catalogues};
+pub use laws::{
+    closings_keep_keys, lists_are_catalogues, names_order_tables, rests_outlast, tables_keep_keys,
+};
 pub use listed::Listed;
 pub use memory::MemKeeper;
 pub use reading::read_closing;

@@ -3,3 +3,4 @@ pub mod Memory
 pub mod Halting
 pub mod Selecting
 pub mod Results
+pub mod Opening

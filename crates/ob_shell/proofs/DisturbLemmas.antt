@@ -9,7 +9,7 @@ use Rattle.ob_base.specs.declared.access.Access.TheVariants.{Read}
 use Rattle.ob_exec.specs.Agreeing.{public_of, seen_of, world_of}
 use Rattle.ob_exec.specs.Running.{RunCause}
 use Rattle.ob_exec.specs.Telling.{Represents, meant_script}
-use Rattle.ob_exec.specs.declared.outcome.Outcome.{Outcome}
+use Rattle.ob_verdict.specs.declared.outcome.Outcome.{Outcome}
 use Rattle.ob_exec.specs.declared.stop.RunStop.{RunStop}
 use Rattle.ob_exec.specs.declared.stop.RunStop.TheVariants.{Tampered, SinkFault, NoMemory}
 use Rattle.ob_headline.specs.Words.{Begins}

@@ -15,9 +15,11 @@ use Rattle.ob_base.specs.declared.mark.Mark.{Mark}
 use Rattle.ob_base.specs.declared.refusal.Stop.{Stop}
 use Rattle.ob_exec.proofs.HeldLemmas.{held_headings}
 use Rattle.ob_exec.specs.Agreeing.{Agrees, count_of, engine_keys, engine_start, has_ended, high_of, opened_from, public_of, rows_of, world_of}
-use Rattle.ob_exec.specs.Closing.{ClosesEngine, closing_script, is_used_up, next_closing}
-use Rattle.ob_exec.specs.Reopening.{IsOpened, NotOpened, OpensEngine, opened_start, opening_script}
-use Rattle.ob_exec.specs.Resting.{Rests}
+use Rattle.ob_exec.specs.Closing.{ClosesEngine, closing_script, next_closing}
+use Rattle.ob_reopen.specs.Closed.{is_used_up}
+use Rattle.ob_exec.specs.Reopening.{IsOpened, OpensEngine}
+use Rattle.ob_reopen.specs.Reopened.{NotOpened, opened_start, opening_script}
+use Rattle.ob_reopen.specs.Resting.{Rests}
 use Rattle.ob_exec.specs.declared.engine.Engine.{Engine}
 use Rattle.ob_gen.specs.declared.tally.Tally.{Tally}
 use Rattle.ob_headline.specs.Bases.{Opened, fresh, reopened}

@@ -18,9 +18,10 @@ use Rattle.ob_base.specs.declared.seen.Seen.{Seen}
 use Rattle.ob_base.specs.declared.skeleton.Source.{Source}
 use Rattle.ob_base.specs.declared.skeleton.Source.TheVariants.{Table as OneTable, Join}
 use Rattle.ob_exec.specs.Agreeing.{Agrees, count_of, public_of, seen_of}
-use Rattle.ob_exec.specs.Running.{RefusedEarly, refusal_now}
+use Rattle.ob_exec.specs.Running.{RefusedEarly}
+use Rattle.ob_verdict.specs.Outcomes.{refusal_now}
 use Rattle.ob_exec.specs.declared.engine.Engine.{Engine}
-use Rattle.ob_exec.specs.declared.outcome.Outcome.{Outcome}
+use Rattle.ob_verdict.specs.declared.outcome.Outcome.{Outcome}
 use Rattle.ob_exec.specs.declared.stop.RunStop.{RunStop}
 use Rattle.ob_gen.specs.declared.tally.Tally.{Tally}
 use Rattle.ob_headline.specs.Words.{Answer}

@@ -4,7 +4,7 @@ use Rattle.std.proofs.lemmas.List.Folds.{list_any-append}
 use Rattle.std.specs.List.{list_any}
 use Rattle.ob_base.specs.declared.access.Access.{Access}
 use Rattle.ob_base.specs.declared.refusal.Stop.{Stop}
-use Rattle.ob_exec.specs.Opening.{is_of_rows, Opens}
+use Rattle.ob_select.specs.Opening.{is_of_rows, Opens}
 use Rattle.ob_exec.specs.declared.stop.RunStop.{RunStop}
 use Rattle.ob_headline.specs.Words.{Answer}
 use Rattle.ob_shell.proofs.StepLemmas.{by_last}

@@ -10,8 +10,8 @@ use Rattle.ob_exec.specs.Agreeing.{seen_of}
 use Rattle.ob_exec.specs.Running.{SinkStops}
 use Rattle.ob_exec.specs.Serving.{Serves}
 use Rattle.ob_exec.specs.Stops.{session_stop}
-use Rattle.ob_exec.specs.declared.outcome.Outcome.{Outcome}
-use Rattle.ob_exec.specs.declared.outcome.Outcome.TheVariants.{Refused}
+use Rattle.ob_verdict.specs.declared.outcome.Outcome.{Outcome}
+use Rattle.ob_verdict.specs.declared.outcome.Outcome.TheVariants.{Refused}
 use Rattle.ob_exec.specs.declared.stop.RunStop.{RunStop}
 use Rattle.ob_exec.specs.declared.stop.RunStop.TheVariants.{NoMemory, SinkFault, Tampered}
 use Rattle.ob_headline.specs.Closing.{closing_line}

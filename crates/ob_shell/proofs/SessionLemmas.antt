@@ -15,9 +15,10 @@ use Rattle.ob_base.specs.declared.mark.Mark.{Mark}
 use Rattle.ob_base.specs.declared.refusal.Stop.{Stop}
 use Rattle.ob_base.specs.declared.refusal.Stop.TheVariants.{Tampered, SourceFault, SinkFault, NoMemory, InputLimit}
 use Rattle.ob_exec.specs.Agreeing.{count_of, engine_keys, engine_start, opened_from, public_of, high_of, rows_of, world_of}
-use Rattle.ob_exec.specs.Closing.{ClosesEngine, IsClosedAs, StaysInUse, closing_script, is_used_up, next_closing}
-use Rattle.ob_exec.specs.Opening.{is_of_rows}
-use Rattle.ob_exec.specs.Resting.{Rests, by_name}
+use Rattle.ob_exec.specs.Closing.{ClosesEngine, closing_script, next_closing}
+use Rattle.ob_reopen.specs.Closed.{IsClosedAs, StaysInUse, is_used_up}
+use Rattle.ob_select.specs.Opening.{is_of_rows}
+use Rattle.ob_reopen.specs.Resting.{Rests, by_name}
 use Rattle.ob_select.specs.Selecting.{AcceptsRows}
 use Rattle.ob_exec.specs.Telling.{AreHeld, Represents}
 use Rattle.ob_exec.specs.declared.engine.Engine.{Engine}

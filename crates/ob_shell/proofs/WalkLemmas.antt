@@ -16,12 +16,13 @@ use Rattle.ob_base.specs.declared.seen.Seen.{Seen}
 use Rattle.ob_exec.proofs.EmitLemmas.{unfit_none}
 use Rattle.ob_exec.specs.Agreeing.{engine_start, opened_from, public_of, seen_of, world_of}
 use Rattle.ob_select.specs.Memory.{AtMake}
-use Rattle.ob_exec.specs.Refusals.{by_fault, refused_end}
-use Rattle.ob_exec.specs.Running.{Emits, RefusedEarly, RunCause, is_fault, outcome_end, refusal_now}
+use Rattle.ob_exec.specs.Refusals.{refused_end}
+use Rattle.ob_exec.specs.Running.{RefusedEarly, RunCause, is_fault, outcome_end}
+use Rattle.ob_verdict.specs.Outcomes.{refusal_now, by_fault, Emits}
 use Rattle.ob_exec.specs.Stops.{session_stop}
 use Rattle.ob_exec.specs.Telling.{IsNotTampered, meant_script, ReadsTrue, ReadsTrueUntil, Represents, answer_labels, is_refused}
-use Rattle.ob_exec.specs.declared.outcome.Outcome.{Outcome}
-use Rattle.ob_exec.specs.declared.outcome.Outcome.TheVariants.{Created, Inserted, Changed, Deleted, Dropped, Rows, Refused}
+use Rattle.ob_verdict.specs.declared.outcome.Outcome.{Outcome}
+use Rattle.ob_verdict.specs.declared.outcome.Outcome.TheVariants.{Created, Inserted, Changed, Deleted, Dropped, Rows, Refused}
 use Rattle.ob_exec.specs.declared.stop.RunStop.{RunStop}
 use Rattle.ob_exec.specs.declared.stop.RunStop.TheVariants as Runs
 use Rattle.ob_headline.specs.Closing.{closing_line}

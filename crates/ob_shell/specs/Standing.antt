@@ -4,7 +4,7 @@ use Rattle.std.specs.List.{list_any}
 use Rattle.ob_base.specs.declared.access.Access.{Access}
 use Rattle.ob_base.specs.declared.config.Config.{Config}
 use Rattle.ob_exec.specs.Agreeing.{count_of, engine_keys, engine_start, high_of, public_of, rows_of, world_of}
-use Rattle.ob_exec.specs.Opening.{is_of_rows}
+use Rattle.ob_select.specs.Opening.{is_of_rows}
 use Rattle.ob_select.specs.Selecting.{AcceptsRows}
 use Rattle.ob_exec.specs.Telling.{Represents}
 use Rattle.ob_exec.specs.declared.engine.Engine.{Engine}

@@ -6,13 +6,14 @@ use Rattle.ob_base.specs.declared.config.Plan.{Plan}
 use Rattle.ob_base.specs.declared.refusal.Refusal.TheVariants.{Syntax}
 use Rattle.ob_exec.specs.Agreeing.{Agrees, count_of, has_ended, public_of, seen_of}
 use Rattle.ob_exec.specs.Memory.{LacksMemory}
-use Rattle.ob_exec.specs.Running.{RanStatement, RefusedEarly, Emits, MayEmit, refusal_now}
+use Rattle.ob_exec.specs.Running.{RanStatement, RefusedEarly}
+use Rattle.ob_verdict.specs.Outcomes.{refusal_now, Emits, MayEmit, Partly}
 use Rattle.ob_exec.specs.Serving.{Means}
 use Rattle.ob_exec.specs.Stops.{session_stop}
-use Rattle.ob_exec.specs.Telling.{IsNotTampered, KeepsSealed, ReadsTrue, ReadsTrueUntil, Emitted, Partly, answer_labels}
+use Rattle.ob_exec.specs.Telling.{IsNotTampered, KeepsSealed, ReadsTrue, ReadsTrueUntil, Emitted, answer_labels}
 use Rattle.ob_exec.specs.declared.engine.Engine.{Engine}
-use Rattle.ob_exec.specs.declared.outcome.Outcome.{Outcome}
-use Rattle.ob_exec.specs.declared.outcome.Outcome.TheVariants.{Refused}
+use Rattle.ob_verdict.specs.declared.outcome.Outcome.{Outcome}
+use Rattle.ob_verdict.specs.declared.outcome.Outcome.TheVariants.{Refused}
 use Rattle.ob_exec.specs.declared.stop.RunStop.{RunStop}
 use Rattle.ob_exec.specs.declared.stop.RunStop.TheVariants.{SinkFault, NoMemory}
 use Rattle.ob_gen.specs.declared.tally.Tally.{Tally}

@@ -3,3 +3,4 @@ pub mod Bagwise
 pub mod Accepted
 pub mod Moving
 pub mod Alike
+pub mod Outcomes

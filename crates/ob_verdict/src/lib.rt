@@ -2,9 +2,11 @@
 #![tactic(auto)]
 
 mod laws;
+mod outcome;
 
 pub use laws::{
     accepted_laws, alike_tables, bags_are_kept, joined_pairs, keeps_in_place, moving_laws,
     order_is_nothing, prints_answer, results_have_selected, seen_laws, sessions_are_bagwise,
     settles_as_step,
 };
+pub use outcome::Outcome;

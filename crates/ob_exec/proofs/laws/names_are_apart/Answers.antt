@@ -1,4 +1,4 @@
-use Rattle.ob_exec.proofs.ByNameAlike.{named_apart}
+use Rattle.ob_exec.proofs.NamesApart.{named_apart}
 use Rattle.ob_exec.proofs.laws.names_are_apart.Goals as goal
 
 pub returns : goal.returns

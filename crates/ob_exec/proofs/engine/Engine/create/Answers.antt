@@ -8,7 +8,7 @@ use Rattle.ob_vault.proofs.WordLemmas.{went_rests}
 use Rattle.ob_base.specs.declared.access.Access.{Access}
 use Rattle.ob_vault.specs.State.{earlier}
 use Rattle.ob_exec.specs.Agreeing.{count_of, engine_start}
-use Rattle.ob_exec.specs.declared.outcome.Outcome.{Outcome}
+use Rattle.ob_verdict.specs.declared.outcome.Outcome.{Outcome}
 use Rattle.ob_exec.specs.Running.{answer_of, is_stop}
 use Rattle.ob_exec.proofs.RunLemmas.{at_ok, count_rises, engine_after}
 use Rattle.ob_exec.proofs.SilentLemmas.{serves_as, unasked}

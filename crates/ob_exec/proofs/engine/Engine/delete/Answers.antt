@@ -11,8 +11,8 @@ use Rattle.ob_mean.specs.Names.{where_at}
 use Rattle.ob_mean.specs.Verdict.{ended as seen_to}
 use Rattle.ob_exec.specs.Agreeing.{count_of}
 use Rattle.ob_exec.specs.declared.engine.Engine.{Engine}
-use Rattle.ob_exec.specs.declared.outcome.Outcome.{Outcome}
-use Rattle.ob_exec.specs.declared.outcome.Outcome.TheVariants.{Deleted}
+use Rattle.ob_verdict.specs.declared.outcome.Outcome.{Outcome}
+use Rattle.ob_verdict.specs.declared.outcome.Outcome.TheVariants.{Deleted}
 use Rattle.ob_exec.proofs.ChangeLemmas.{delete_alters}
 use Rattle.ob_exec.proofs.MutateLemmas.{mutated, unmutated}
 use Rattle.ob_exec.proofs.SilentLemmas.{serves_as, unasked}

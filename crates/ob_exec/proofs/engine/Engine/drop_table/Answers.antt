@@ -5,7 +5,7 @@ use Rattle.ob_flat.specs.declared.flat.Flat.{Flat}
 use Rattle.ob_sql.specs.declared.stmt.Stmt.TheVariants.{Drop as DropTable}
 use Rattle.ob_mean.specs.Verdict.{ended as seen_to}
 use Rattle.ob_exec.specs.declared.engine.Engine.{Engine}
-use Rattle.ob_exec.specs.declared.outcome.Outcome.{Outcome}
+use Rattle.ob_verdict.specs.declared.outcome.Outcome.{Outcome}
 use Rattle.ob_exec.proofs.DropLemmas.{dropped, lives_found}
 use Rattle.ob_exec.proofs.SilentLemmas.{serves_as, unasked}
 use Rattle.ob_exec.proofs.engine.Engine.drop_table.Goals as goal

@@ -16,7 +16,7 @@ use Rattle.ob_mean.proofs.InsertLemmas.{insert_fits}
 use Rattle.ob_mean.specs.Refusals.{limits_of}
 use Rattle.ob_exec.specs.Agreeing.{count_of}
 use Rattle.ob_exec.specs.declared.engine.Engine.{Engine}
-use Rattle.ob_exec.specs.declared.outcome.Outcome.{Outcome}
+use Rattle.ob_verdict.specs.declared.outcome.Outcome.{Outcome}
 use Rattle.ob_exec.specs.Running.{inserted_as}
 use Rattle.ob_exec.proofs.FoundLemmas.{heading_found}
 use Rattle.ob_exec.proofs.InsertLemmas.{insert_alters}

@@ -4,8 +4,8 @@ use Rattle.ob_base.specs.declared.refusal.Refusal.TheVariants.{StoreFault}
 use Rattle.ob_exec.specs.declared.stop.RunStop.{RunStop}
 use Rattle.ob_sql.specs.Skeleton.{skeleton}
 use Rattle.ob_store.specs.State.{StoreState}
-use Rattle.ob_exec.specs.declared.outcome.Outcome.{Outcome}
-use Rattle.ob_exec.specs.declared.outcome.Outcome.TheVariants.{Refused}
+use Rattle.ob_verdict.specs.declared.outcome.Outcome.{Outcome}
+use Rattle.ob_verdict.specs.declared.outcome.Outcome.TheVariants.{Refused}
 use Rattle.ob_exec.specs.Running.{RanStatement}
 use Rattle.ob_exec.specs.Serving.{Serves}
 use Rattle.ob_exec.proofs.GivenUpLemmas.{none_left}

@@ -3,7 +3,7 @@ use Rattle.ob_base.specs.declared.seen.End.TheVariants.{Cut}
 use Rattle.ob_flat.specs.Passes.{SinkCause}
 use Rattle.ob_sql.specs.declared.stmt.Stmt.TheVariants.{SelectRows as RowsStmt}
 use Rattle.ob_exec.specs.declared.engine.Engine.{Engine}
-use Rattle.ob_exec.specs.declared.outcome.Outcome.{Outcome}
+use Rattle.ob_verdict.specs.declared.outcome.Outcome.{Outcome}
 use Rattle.ob_select.specs.declared.selecting.Selected.{Selected}
 use Rattle.ob_exec.specs.Running.{answer_of, is_stop}
 use Rattle.ob_exec.proofs.RowsEnds.{serves_ended}

@@ -10,7 +10,7 @@ use Rattle.ob_mean.specs.Verdict.{is_late}
 use Rattle.ob_mean.proofs.EarlyLemmas.{allowed}
 use Rattle.ob_mean.specs.Refusals.{limits_of}
 use Rattle.ob_exec.specs.Agreeing.{count_of}
-use Rattle.ob_exec.specs.declared.outcome.Outcome.{Outcome}
+use Rattle.ob_verdict.specs.declared.outcome.Outcome.{Outcome}
 use Rattle.ob_exec.specs.Totalling.{Totals}
 use Rattle.ob_exec.proofs.FoundLemmas.{is_there}
 use Rattle.ob_exec.proofs.RunLemmas.{at_ok, rests_refl}

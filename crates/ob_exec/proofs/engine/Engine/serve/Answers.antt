@@ -5,7 +5,7 @@ use Rattle.ob_sql.specs.declared.stmt.Set.{Set}
 use Rattle.ob_sql.specs.declared.stmt.Stmt.{Stmt}
 use Rattle.ob_sql.specs.declared.stmt.Stmt.TheVariants.{Create, Insert, Update, Delete, Drop as DropTable}
 use Rattle.ob_exec.specs.Agreeing.{count_of}
-use Rattle.ob_exec.specs.declared.outcome.Outcome.{Outcome}
+use Rattle.ob_verdict.specs.declared.outcome.Outcome.{Outcome}
 use Rattle.ob_exec.specs.Serving.{Serves}
 use Rattle.ob_exec.proofs.ServeLemmas.{served_as, serves_refused, serves_same}
 use Rattle.ob_exec.proofs.ToldLemmas.{now_is}

@@ -15,8 +15,8 @@ use Rattle.ob_mean.specs.Step.{set_cells}
 use Rattle.ob_mean.specs.Verdict.{ended as seen_to}
 use Rattle.ob_exec.specs.Agreeing.{count_of}
 use Rattle.ob_exec.specs.declared.engine.Engine.{Engine}
-use Rattle.ob_exec.specs.declared.outcome.Outcome.{Outcome}
-use Rattle.ob_exec.specs.declared.outcome.Outcome.TheVariants.{Changed}
+use Rattle.ob_verdict.specs.declared.outcome.Outcome.{Outcome}
+use Rattle.ob_verdict.specs.declared.outcome.Outcome.TheVariants.{Changed}
 use Rattle.ob_exec.specs.Schemas.{IsSet}
 use Rattle.ob_exec.proofs.ChangeLemmas.{sets_found, update_alters}
 use Rattle.ob_exec.proofs.FoundLemmas.{heading_found}

@@ -10,7 +10,7 @@ use Rattle.ob_vault.specs.Tied.{at_of}
 use Rattle.ob_reopen.specs.declared.closing.Closing.{Closing}
 use Rattle.ob_reopen.specs.declared.listed.Listed.{Listed}
 use Rattle.ob_reopen.proofs.ReadsRekeyed.{rows_agree}
-use Rattle.ob_exec.specs.Resting.{AreKept, KeepsTable, Rests, kept_block}
+use Rattle.ob_reopen.specs.Resting.{AreKept, KeepsTable, Rests, kept_block}
 
 module _ (k l : KeySet) (kept : ℕ → Option KeptRegion) where
   table_agree : (pack : ℕ) (t : Listed) (slots : Slots) → pair_of k t.table.region ≡ pair_of l t.table.region → KeepsTable k pack t slots kept → KeepsTable l pack t slots kept

@@ -1,7 +1,7 @@
 -- What rests in a store stays while the regions that it is read from do.
 use Rattle.std.proofs.Common.{◌≡◌, ◌∷◌, [], ℕ, suc, List, Option, Some, inl, inr, refl, ◌∙◌}
 use Rattle.std.specs.Prelude.{slice_get}
-use Rattle.ob_exec.specs.Resting.{AreKept, IsNeeded, KeepsTable, Rests}
+use Rattle.ob_reopen.specs.Resting.{AreKept, IsNeeded, KeepsTable, Rests}
 use Rattle.ob_mean.specs.Verdict.{Tables}
 use Rattle.ob_reopen.specs.declared.closing.Closing.{Closing}
 use Rattle.ob_reopen.specs.declared.listed.Listed.{Listed}

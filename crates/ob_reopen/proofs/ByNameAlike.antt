@@ -1,16 +1,14 @@
 -- Tables in order of their names are the same tables.
 use Rattle.std.proofs.Common.{◌≡◌, ℕ, zero, suc, ◌+◌, Bool, true, false, cond, List, [], ◌∷◌, length, Option, Some, None, refl, sym, ◌∙◌, ap, arith}
-use Rattle.std.specs.Prelude.{bytes_eq, fold, slice_get}
+use Rattle.std.specs.Prelude.{bytes_eq, fold}
 use Rattle.std.specs.List.{insert, list_any, prefix_len}
 use Rattle.std.specs.Option.{option_or}
 use Rattle.std.proofs.lemmas.Slice.Eq.{bytes_eq-Decides}
-use Rattle.ob_base.specs.declared.schema.Table.{Table}
 use Rattle.ob_base.specs.Lists.{has_repeats}
-use Rattle.ob_base.specs.Stored.{AreApart, Stored, headings, headings_of, stored_at}
+use Rattle.ob_base.specs.Stored.{AreApart, Stored, headings, stored_at}
 use Rattle.ob_mean.specs.Verdict.{Held, Tables}
 use Rattle.ob_mean.proofs.EarlyLemmas.{neither}
-use Rattle.ob_exec.specs.Resting.{by_name, is_before, placed}
-use Rattle.ob_exec.proofs.TableLemmas.{AreNamed}
+use Rattle.ob_reopen.specs.Resting.{by_name, is_before, placed}
 use Rattle.ob_verdict.proofs.AlikeTables.{any_found, names_of}
 use Rattle.ob_verdict.proofs.InPlaceProof.{none_either}
 use Rattle.ob_verdict.proofs.MovingProof.{other_name, same_name}
@@ -30,20 +28,6 @@ AreOff us (t ∷ ts) = IsOff t us × AreOff us ts
 all_off : (ts : Tables) → AreOff [] ts
 all_off [] = tt
 all_off (t ∷ ts) = (refl, all_off ts)
-
--- ---- the tables of an engine
-none_named : (name : List ℕ) (ts : List Table) → ((j : ℕ) (u : Table) → slice_get ts j ≡ Some u → name ≡ u.heading.name → ⊥) → list_any (bytes_eq name) (names_of (headings_of ts)) ≡ false
-none_named name [] off = refl
-none_named name (t ∷ ts) off =
-    none_either (bytes_eq name t.heading.name) (list_any (bytes_eq name) (names_of (headings_of ts))) (other_name name t.heading.name (off 0 t refl))
-    (none_named name ts (λ j u is. off (suc j) u is))
-
-pub named_apart : (ts : List Table) → AreNamed ts → AreApart (headings_of ts)
-named_apart [] names = refl
-named_apart (t ∷ ts) names =
-    none_either (list_any (bytes_eq t.heading.name) (names_of (headings_of ts))) (has_repeats bytes_eq (names_of (headings_of ts)))
-    (none_named t.heading.name ts (λ j u is same. omega (arith, names 0 (suc j) t u refl is same)))
-    (named_apart ts (λ j k u v js ks same. omega (arith, names (suc j) (suc k) u v js ks same)))
 
 -- ---- one more
 length-insert : (us : Tables) (n : ℕ) (t : Stored Held) → length (insert us n t) ≡ suc (length us)

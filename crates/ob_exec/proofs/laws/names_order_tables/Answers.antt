@@ -1,5 +1,0 @@
-use Rattle.ob_exec.proofs.ByNameAlike.{named_alike}
-use Rattle.ob_exec.proofs.laws.names_order_tables.Goals as goal
-
-pub returns : goal.returns
-returns c = named_alike

@@ -1,5 +1,0 @@
-use Rattle.ob_exec.proofs.RestsAgree.{rests_agree}
-use Rattle.ob_exec.proofs.laws.tables_keep_keys.Goals as goal
-
-pub returns : goal.returns
-returns c = rests_agree
