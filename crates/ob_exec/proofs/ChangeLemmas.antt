@@ -18,7 +18,8 @@ use Rattle.ob_row.specs.Truth.{is_true, updated}
 use Rattle.ob_sql.specs.declared.stmt.Set.{Set}
 use Rattle.ob_sql.specs.declared.stmt.Stmt.TheVariants.{Update, Delete}
 use Rattle.ob_sql.specs.Search.{Search}
-use Rattle.ob_mean.specs.Names.{columns_at, literal_cell, place_of, unqualified, where_at}
+use Rattle.ob_names.specs.Names.{columns_at, place_of, unqualified}
+use Rattle.ob_mean.specs.Conditions.{literal_cell, where_at}
 use Rattle.ob_mutate.specs.Changing.{FitsSets}
 use Rattle.ob_verdict.specs.Accepted.{SetFits}
 use Rattle.ob_verdict.proofs.AcceptedProof.{sets_fit}

@@ -11,7 +11,7 @@ use Rattle.ob_row.specs.Bags.{Same}
 use Rattle.ob_row.specs.Slots.{rows}
 use Rattle.ob_store.specs.State.{StoreState}
 use Rattle.ob_vault.specs.State.{RevState}
-use Rattle.ob_mean.specs.Names.{source_columns}
+use Rattle.ob_names.specs.Names.{source_columns}
 use Rattle.ob_mean.specs.Prints.{is_join}
 use Rattle.ob_mean.specs.Refusals.{joins_itself, joins_off_key_at, source_tables, limits_of}
 use Rattle.ob_mean.specs.Step.{source_rows}

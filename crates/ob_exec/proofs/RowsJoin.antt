@@ -29,11 +29,12 @@ use Rattle.ob_flat.proofs.Tables.{blocks_few}
 use Rattle.ob_join.proofs.Lengths.{product_least}
 use Rattle.ob_join.specs.Join.{Join as Pairing, Joins, MayJoin, TellsSlots, fill_length, join_in, join_script as pass_script, table}
 use Rattle.ob_mean.specs.Lawful.{counted_slots}
-use Rattle.ob_mean.specs.Names.{source_columns, where_at}
+use Rattle.ob_names.specs.Names.{source_columns, left_place, right_place}
+use Rattle.ob_mean.specs.Conditions.{where_at}
 use Rattle.ob_mean.specs.Step.{printed_places}
 use Rattle.ob_mean.specs.Replay.{count_end, ending_len, walk_end}
 use Rattle.ob_mean.specs.Verdict.{ended as seen_to}
-use Rattle.ob_mean.specs.Refusals.{early_refusal, left_place, right_place, limits_of}
+use Rattle.ob_mean.specs.Refusals.{early_refusal, limits_of}
 use Rattle.ob_store.specs.Calls.{ChangesNothing}
 use Rattle.ob_vault.specs.Places.{at}
 use Rattle.ob_vault.proofs.WordLemmas.{ready_rests, went_rests}

@@ -25,7 +25,7 @@ use Rattle.ob_flat.specs.declared.fault.OpErr.{OpErr}
 use Rattle.ob_flat.specs.declared.flat.Flat.{Flat}
 use Rattle.ob_flat.specs.Discards.{Discards}
 use Rattle.ob_flat.specs.Flats.{Accepts, Represents}
-use Rattle.ob_mean.specs.Refusals.{left_place, right_place}
+use Rattle.ob_names.specs.Names.{left_place, right_place}
 use Rattle.ob_mean.specs.Verdict.{Held, Tables, source_slots}
 use Rattle.ob_sql.specs.declared.stmt.SelectRows.{SelectRows}
 use Rattle.ob_exec.specs.declared.engine.Engine.{Engine}

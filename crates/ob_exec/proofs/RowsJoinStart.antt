@@ -36,7 +36,8 @@ use Rattle.ob_emit.specs.Emitting.{AreColumns}
 use Rattle.ob_join.specs.Join.{blocks, fill_script}
 use Rattle.ob_join.proofs.Lengths.{product_least}
 use Rattle.ob_join.proofs.Results.{whole_product}
-use Rattle.ob_mean.specs.Refusals.{left_place, right_place, limits_of}
+use Rattle.ob_names.specs.Names.{left_place, right_place}
+use Rattle.ob_mean.specs.Refusals.{limits_of}
 use Rattle.ob_mean.specs.Verdict.{is_late, ended as seen_to}
 use Rattle.ob_mean.proofs.EarlyLemmas.{allowed}
 use Rattle.ob_sql.specs.declared.stmt.SelectRows.{SelectRows}

@@ -22,7 +22,7 @@ use Rattle.ob_row.specs.Rows.{AreDistinct, Row, keys_repeat, pairs}
 use Rattle.ob_row.specs.Slots.{rows}
 use Rattle.ob_row.proofs.BagLemmas.{Same-refl}
 use Rattle.ob_emit.specs.Emitting.{is_joined, label_at, labels_of}
-use Rattle.ob_mean.specs.Names.{columns_at, place_of, source_columns}
+use Rattle.ob_names.specs.Names.{columns_at, place_of, source_columns}
 use Rattle.ob_mean.specs.Prints.{is_join, rows_labels, label_at as named_label}
 use Rattle.ob_mean.specs.Refusals.{joins_itself, joins_off_key_at, source_tables}
 use Rattle.ob_mean.specs.Step.{join_places, printed_places, rows_at, source_rows}

@@ -45,7 +45,8 @@ use Rattle.ob_flat.specs.Passes.{PassCut, is_of_access}
 use Rattle.ob_flat.proofs.Resting.{represents_rests}
 use Rattle.ob_flat.proofs.Runs.{pass_after}
 use Rattle.ob_mean.specs.Lawful.{counted_slots}
-use Rattle.ob_mean.specs.Names.{place_of, source_columns, where_at}
+use Rattle.ob_names.specs.Names.{place_of, source_columns}
+use Rattle.ob_mean.specs.Conditions.{where_at}
 use Rattle.ob_mean.specs.Refusals.{listed, limits_of}
 use Rattle.ob_mean.proofs.EarlyLemmas.{allowed}
 use Rattle.ob_verdict.proofs.AcceptedProof.{places_fit}

@@ -41,8 +41,9 @@ use Rattle.ob_group.specs.Grouping.{aggs_of}
 use Rattle.ob_sql.specs.declared.stmt.SelectTotals.{SelectTotals}
 use Rattle.ob_mean.specs.declared.answer.Answer.{Answer}
 use Rattle.ob_mean.specs.declared.answer.Answer.TheVariants as A
-use Rattle.ob_mean.specs.Kinds.{plain_columns}
-use Rattle.ob_mean.specs.Names.{place_of, where_at}
+use Rattle.ob_names.specs.Kinds.{plain_columns}
+use Rattle.ob_names.specs.Names.{place_of}
+use Rattle.ob_mean.specs.Conditions.{where_at}
 use Rattle.ob_mean.specs.Prints.{Prints, Begun}
 use Rattle.ob_mean.specs.Refusals.{is_group}
 use Rattle.ob_mean.specs.Step.{agg_of, answered, item_of}

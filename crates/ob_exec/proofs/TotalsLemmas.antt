@@ -28,13 +28,12 @@ use Rattle.ob_sql.specs.declared.stmt.SelectTotals.{SelectTotals}
 use Rattle.ob_sql.specs.declared.stmt.Stmt.TheVariants.{SelectTotals as TotalsStmt}
 use Rattle.ob_mean.specs.declared.answer.Answer.{Answer}
 use Rattle.ob_mean.specs.declared.answer.Answer.TheVariants as A
-use Rattle.ob_mean.specs.Kinds.{plain_columns}
-use Rattle.ob_mean.specs.Names.{place_of}
+use Rattle.ob_names.specs.Kinds.{plain_columns}
+use Rattle.ob_names.specs.Names.{place_of}
 use Rattle.ob_mean.specs.Prints.{Prints, Begun, item_label}
-use Rattle.ob_mean.specs.Refusals.{is_group, Limits}
+use Rattle.ob_mean.specs.Refusals.{is_group, Limits, early_refusal}
 use Rattle.ob_mean.specs.Step.{agg_of, item_of, answered, overgroups, total_rows, totals_columns}
 use Rattle.ob_mean.proofs.EarlyLemmas.{allowed, neither}
-use Rattle.ob_mean.specs.Refusals.{early_refusal}
 use Rattle.ob_verdict.specs.Accepted.{IsPlace, agg_places}
 use Rattle.ob_verdict.proofs.AcceptedProof.{totals_places_fit}
 use Rattle.ob_verdict.specs.declared.outcome.Outcome.{Outcome}

@@ -42,7 +42,8 @@ use Rattle.ob_sql.specs.Skeleton.{skeleton, named_by}
 use Rattle.std.specs.List.{flat_map}
 use Rattle.ob_mean.specs.declared.answer.Answer.{Answer}
 use Rattle.ob_mean.specs.declared.answer.Answer.TheVariants as A
-use Rattle.ob_mean.specs.Names.{columns_at, where_at}
+use Rattle.ob_names.specs.Names.{columns_at}
+use Rattle.ob_mean.specs.Conditions.{where_at}
 use Rattle.ob_mean.specs.Prints.{Prints, Unfinished}
 use Rattle.ob_mean.specs.Refusals.{early_refusal, limits_of}
 use Rattle.ob_mean.specs.Settle.{settle}

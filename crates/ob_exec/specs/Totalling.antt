@@ -33,7 +33,8 @@ use Rattle.ob_sql.specs.declared.stmt.SelectTotals.{SelectTotals}
 use Rattle.ob_sql.specs.declared.stmt.Stmt.TheVariants.{SelectTotals as TotalsStmt}
 use Rattle.ob_mean.specs.declared.answer.Answer.{Answer}
 use Rattle.ob_mean.specs.declared.answer.Answer.TheVariants.{Rows}
-use Rattle.ob_mean.specs.Names.{place_of, where_at}
+use Rattle.ob_names.specs.Names.{place_of}
+use Rattle.ob_mean.specs.Conditions.{where_at}
 use Rattle.ob_mean.specs.Prints.{Begun, Prints, item_label}
 use Rattle.ob_mean.specs.Refusals.{has_stray_column}
 use Rattle.ob_mean.specs.Step.{agg_of, answered, overgroups, totals_answer}

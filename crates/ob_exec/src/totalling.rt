@@ -11,7 +11,8 @@ ghost use Rattle.ob_exec.specs.Totalling.{agg_at, error_of, Gives, MayTotal, Tot
 use ob_base::{Column, ColumnName, Emit, EmitErr, Label, NoMemory, Refusal, Schema, Shown};
 use ob_flat::{Flat, OpErr};
 use ob_group::{Grouped, agg_label, aggregate, group};
-use ob_mean::{agg_of, item_of, place_of};
+use ob_mean::{agg_of, item_of};
+use ob_names::place_of;
 use ob_order::Buckets;
 use ob_room::Room;
 use ob_row::{Agg, Item, Pred};

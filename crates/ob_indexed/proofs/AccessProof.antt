@@ -23,7 +23,8 @@ use Rattle.ob_sql.specs.declared.stmt.Literal.TheVariants.{Int as IntLiteral, Ou
 use Rattle.ob_sql.specs.declared.stmt.Stmt.{Stmt}
 use Rattle.ob_sql.specs.declared.stmt.Stmt.TheVariants.{Create, Insert, Update, Delete, Drop as DropTable, SelectRows as RowsStmt, SelectTotals as TotalsStmt}
 use Rattle.ob_sql.specs.Search.{Search, Compare, Not, And, Or}
-use Rattle.ob_mean.specs.Names.{columns_at, place_of, where_at}
+use Rattle.ob_names.specs.Names.{columns_at, place_of}
+use Rattle.ob_mean.specs.Conditions.{where_at}
 use Rattle.ob_mean.specs.Refusals.{is_key}
 use Rattle.ob_mean.specs.Step.{Database, accepted_next, new_row, set_cells}
 use Rattle.ob_mean.specs.Verdict.{Held, Tables, database}

@@ -14,7 +14,7 @@ use Rattle.ob_sql.specs.declared.stmt.Literal.TheVariants.{Int as IntLiteral}
 use Rattle.ob_sql.specs.declared.stmt.Stmt.{Stmt}
 use Rattle.ob_sql.specs.declared.stmt.Stmt.TheVariants.{Insert, Update, Delete, SelectRows as RowsStmt}
 use Rattle.ob_sql.specs.Search.{Search, Compare}
-use Rattle.ob_mean.specs.Names.{place_of}
+use Rattle.ob_names.specs.Names.{place_of}
 use Rattle.ob_mean.specs.Refusals.{is_key}
 use Rattle.ob_mean.specs.Step.{new_row, set_cells}
 use Rattle.ob_mean.specs.Verdict.{Held, Tables}

@@ -5,7 +5,7 @@ use Rattle.std.specs.Prelude.{◌||◌, flat_map}
 use Rattle.std.specs.List.{list_any}
 use Rattle.std.proofs.lemmas.List.Folds.{list_any-append}
 use Rattle.std.proofs.lemmas.Grind.{flat_map-append}
-use Rattle.ob_mean.specs.Kinds.{Comparison, comparison_columns}
+use Rattle.ob_names.specs.Kinds.{Comparison, comparison_columns}
 
 pub any_append : {A : Type 0} (p : A → Bool) (xs ys : List A) → list_any p (xs ++ ys) ≡ (list_any p xs || list_any p ys)
 any_append p xs ys = list_any-append p xs ys

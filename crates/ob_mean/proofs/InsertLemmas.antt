@@ -22,9 +22,10 @@ use Rattle.ob_row.specs.Spelling.{FitsKind, IsCell, FitsColumns}
 use Rattle.ob_sql.specs.declared.stmt.Literal.{Literal}
 use Rattle.ob_sql.specs.declared.stmt.Literal.TheVariants.{Int as IntLiteral, OutOfRange, Text as TextLiteral, TooLong}
 use Rattle.ob_sql.specs.declared.stmt.Stmt.TheVariants.{Insert}
-use Rattle.ob_mean.specs.Names.{is_named, unqualified, literal_cell, columns_at}
-use Rattle.ob_mean.specs.Kinds.{is_of_kind, is_too_large_for, at_kind}
-use Rattle.ob_mean.specs.Refusals.{insert_columns, means_one, is_incomplete, early_refusal, Limits}
+use Rattle.ob_names.specs.Names.{is_named, unqualified, columns_at, means_one}
+use Rattle.ob_mean.specs.Conditions.{literal_cell}
+use Rattle.ob_names.specs.Kinds.{is_of_kind, is_too_large_for, at_kind}
+use Rattle.ob_mean.specs.Refusals.{insert_columns, is_incomplete, early_refusal, Limits}
 use Rattle.ob_mean.specs.Step.{given_cell, new_row}
 use Rattle.ob_mean.proofs.EarlyLemmas.{allowed, neither}
 

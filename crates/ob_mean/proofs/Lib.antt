@@ -1,4 +1,3 @@
-pub mod NameLemmas
 pub mod CondLemmas
 pub mod RefusalLemmas
 pub mod SourceLemmas

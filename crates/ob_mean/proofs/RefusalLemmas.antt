@@ -12,10 +12,10 @@ use Rattle.ob_base.specs.Schemas.{Columns}
 use Rattle.ob_sql.specs.declared.stmt.Set.{Set}
 use Rattle.ob_sql.specs.declared.stmt.Stmt.{Stmt}
 use Rattle.ob_sql.specs.declared.stmt.Stmt.TheVariants.{Create, Insert, Update, Delete, Drop as DropTable, SelectRows as RowsStmt, SelectTotals as TotalsStmt}
-use Rattle.ob_mean.specs.Names.{Scope, columns_in, columns_at, source_columns, unqualified}
-use Rattle.ob_mean.specs.Kinds.{comparison_columns, where_comparisons}
+use Rattle.ob_names.specs.Names.{Scope, columns_in, columns_at, source_columns, unqualified, lack_columns}
+use Rattle.ob_names.specs.Kinds.{comparison_columns, where_comparisons}
 use Rattle.ob_mean.specs.Parts.{parts_of}
-use Rattle.ob_mean.specs.Refusals.{Limits, scope_of, compared, named_columns, lack_columns, is_incomplete, joins_apart, joins_past, joins_off_key_at, has_stray_column, select_lacks_column, sets_key, lacks_table, takes_name, has_wrong_type, is_out_of_range, is_past_limit, breaks_key_rule, joins_off_key}
+use Rattle.ob_mean.specs.Refusals.{Limits, scope_of, compared, named_columns, is_incomplete, joins_apart, joins_past, joins_off_key_at, has_stray_column, select_lacks_column, sets_key, lacks_table, takes_name, has_wrong_type, is_out_of_range, is_past_limit, breaks_key_rule, joins_off_key}
 use Rattle.ob_mean.specs.Scopes.{source_scope, scope_in, missing_in, takes_in, joins_apart_in, named_in, select_lacks_in, lacks_in, mistypes_by, overflows_by, exceeds_in, breaks_key_in, off_key_in}
 
 alone : {a : Bool} → (a || false) ≡ a

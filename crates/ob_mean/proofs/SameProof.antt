@@ -23,7 +23,8 @@ use Rattle.ob_sql.specs.declared.stmt.Stmt.TheVariants.{Create, Insert, Update, 
 use Rattle.ob_sql.specs.Search.{Search}
 use Rattle.ob_mean.specs.declared.answer.Answer.{Answer}
 use Rattle.ob_mean.specs.declared.answer.Answer.TheVariants.{Changed}
-use Rattle.ob_mean.specs.Names.{columns_at, place_of, source_columns, where_at}
+use Rattle.ob_names.specs.Names.{columns_at, place_of, source_columns}
+use Rattle.ob_mean.specs.Conditions.{where_at}
 use Rattle.ob_mean.specs.Refusals.{early_refusal, limits_of, Limits}
 use Rattle.ob_mean.specs.SameMeaning.{SameTables, SameAnswer, MeaningIsOfBags}
 use Rattle.ob_mean.specs.Step.{Database, accepted_answer, accepted_next, agg_of, answered, followed, insert_refusal, item_of, join_places, late_refusal, new_row, overgroups, printed_places, refusal_of, rows_answer, rows_at, set_cells, source_rows, total_rows}

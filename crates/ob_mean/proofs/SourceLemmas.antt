@@ -5,7 +5,7 @@ use Rattle.std.proofs.lemmas.List.Sums.{sum_by-append}
 use Rattle.std.proofs.lemmas.Iterator.Adapters.{position_from-zero}
 use Rattle.ob_base.specs.declared.schema.Column.{Column}
 use Rattle.ob_base.specs.Schemas.{Columns, width, kind_width, key_place}
-use Rattle.ob_mean.proofs.NameLemmas.{first-places}
+use Rattle.ob_names.proofs.NameLemmas.{first-places}
 
 -- a joined row has one mark
 pub width_both : (a b : Columns) → width (a ++ b) ≡ width a + width b - 1

@@ -18,7 +18,7 @@ use Rattle.ob_sql.specs.declared.stmt.Stmt.{Stmt}
 use Rattle.ob_sql.specs.declared.stmt.Stmt.TheVariants.{SelectRows as RowsStmt, SelectTotals as TotalsStmt}
 use Rattle.ob_mean.specs.declared.answer.Answer.{Answer}
 use Rattle.ob_mean.specs.declared.answer.Answer.TheVariants.{Done, Changed, Rows, Refused}
-use Rattle.ob_mean.specs.Names.{columns_at, source_columns, place_of}
+use Rattle.ob_names.specs.Names.{columns_at, source_columns, place_of}
 
 -- ---- the labels
 abbrev pub is_join : Source → Bool

@@ -13,10 +13,10 @@ use Rattle.ob_base.specs.Stored.{has_table}
 use Rattle.ob_sql.specs.declared.stmt.Literal.{Literal}
 use Rattle.ob_sql.specs.declared.stmt.Set.{Set}
 use Rattle.ob_sql.specs.Skeleton.{named_by}
-use Rattle.ob_mean.specs.Names.{Scope, columns_in, columns_at, unqualified}
-use Rattle.ob_mean.specs.Kinds.{where_comparisons, comparison_columns, mistype_columns, overflow_columns, mistype_comparisons, overflow_comparisons, are_texts, number_columns, plain_columns}
+use Rattle.ob_names.specs.Names.{Scope, columns_in, columns_at, unqualified, left_place, lack_columns}
+use Rattle.ob_names.specs.Kinds.{where_comparisons, comparison_columns, mistype_columns, overflow_columns, mistype_comparisons, overflow_comparisons, are_texts, number_columns, plain_columns}
 use Rattle.ob_mean.specs.Parts.{Parts, NewTable, NewRow}
-use Rattle.ob_mean.specs.Refusals.{Limits, source_tables, join_columns, joins_itself, joins_kinds, joins_past, creates_past, is_indexed, insert_columns, is_incomplete, is_group, is_key, left_place, lack_columns, is_across, sets_key}
+use Rattle.ob_mean.specs.Refusals.{Limits, source_tables, join_columns, joins_itself, joins_kinds, joins_past, creates_past, is_indexed, insert_columns, is_incomplete, is_group, is_key, is_across, sets_key}
 
 abbrev pub source_scope : Source → List Heading → Scope
 source_scope (OneTable name) hs = record { left = columns_at name hs; right = [] }

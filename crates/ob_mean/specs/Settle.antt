@@ -8,7 +8,8 @@ use Rattle.ob_row.specs.Slots.{empty_slots, fill_first, emptied}
 use Rattle.ob_row.specs.Truth.{is_true, updated}
 use Rattle.ob_sql.specs.declared.stmt.Stmt.{Stmt}
 use Rattle.ob_sql.specs.declared.stmt.Stmt.TheVariants.{Create, Insert, Update, Delete, Drop as DropTable, SelectRows as RowsStmt, SelectTotals as TotalsStmt}
-use Rattle.ob_mean.specs.Names.{columns_at, where_at}
+use Rattle.ob_names.specs.Names.{columns_at}
+use Rattle.ob_mean.specs.Conditions.{where_at}
 use Rattle.ob_mean.specs.Step.{new_row, set_cells, followed}
 use Rattle.ob_mean.specs.Verdict.{Tables, in_slots, refusal}
 

@@ -2,10 +2,11 @@
 ghost use Rattle.std.specs.Prelude.{◌≡◌, ◌≤◌, ◌++◌, length, IfOk};
 ghost use Rattle.ob_row.specs.Spelling.{IsCell};
 ghost use Rattle.ob_sql.specs.Search.{search_of};
-ghost use Rattle.ob_mean.specs.Names.{columns_in, literal_cell, operand_at, condition_at, where_at};
+ghost use Rattle.ob_names.specs.Names.{columns_in};
+ghost use Rattle.ob_mean.specs.Conditions.{literal_cell, operand_at, condition_at, where_at};
 
-use crate::scope::Scope;
 use ob_base::{Column, Text};
+use ob_names::Scope;
 use ob_row::{Cell, Operand, Pred};
 use ob_sql::{Against, Cond, CondTree, Literal};
 use std::alloc::{AllocError, Global};

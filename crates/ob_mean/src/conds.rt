@@ -2,15 +2,12 @@
 ghost use Rattle.std.specs.Prelude.{◌≡◌, flat_map};
 ghost use Rattle.std.specs.Prelude.{Option};
 ghost use Rattle.ob_sql.specs.Search.{search_of};
-ghost use Rattle.ob_mean.specs.Names.{columns_in};
-ghost use Rattle.ob_mean.specs.Kinds.{comparisons, where_comparisons, comparison_columns, mistype_comparisons, overflow_comparisons};
+ghost use Rattle.ob_names.specs.Names.{columns_in, lack_columns};
+ghost use Rattle.ob_names.specs.Kinds.{comparisons, where_comparisons, comparison_columns, mistype_comparisons, overflow_comparisons};
 ghost use Rattle.ob_mean.specs.Parts.{behind};
-ghost use Rattle.ob_mean.specs.Refusals.{lack_columns};
 
-use crate::kinds::{is_against_too_large, is_wrong_comparison};
-use crate::names::means_one;
-use crate::scope::Scope;
 use ob_base::ColumnName;
+use ob_names::{Scope, is_against_too_large, is_wrong_comparison, means_one};
 use ob_sql::{Against, Cond, CondTree};
 
 fn comparison_lacks(name: &ColumnName, with: &Against, scope: &Scope<'_>) -> bool

@@ -5,22 +5,22 @@ ghost use Rattle.std.specs.List.{list_any};
 ghost use Rattle.ob_base.specs.declared.schema.Column.{Column};
 ghost use Rattle.ob_sql.specs.declared.stmt.Set.{Set};
 ghost use Rattle.ob_base.specs.Stored.{headings_of};
-ghost use Rattle.ob_mean.specs.Names.{columns_in, unqualified, place_of};
-ghost use Rattle.ob_mean.specs.Kinds.{mistype_columns, overflow_columns};
+ghost use Rattle.ob_names.specs.Names.{columns_in, unqualified, place_of, lack_columns};
+ghost use Rattle.ob_names.specs.Kinds.{mistype_columns, overflow_columns};
 ghost use Rattle.ob_mean.specs.Parts.{behind, created_in, given_in, parts_in};
-ghost use Rattle.ob_mean.specs.Refusals.{early_refusal, first_holding, insert_columns, is_incomplete, lack_columns, limits_of, sets_key};
+ghost use Rattle.ob_mean.specs.Refusals.{early_refusal, first_holding, insert_columns, is_incomplete, limits_of, sets_key};
 ghost use Rattle.ob_mean.specs.Scopes.{is_taken, given_names, takes_in, named_in, lacks_in, row_mistyped, mistypes_in, row_overflows, overflows_in, is_past, exceeds_in, has_more_keys, breaks_key_in};
 
 use crate::conds::{exceeds, lacks, mistypes};
 use crate::creates::{creates_past, has_more_keys, is_indexed};
-use crate::kinds::{overflows, takes};
 use crate::listed::{columns_lack, items_lack, items_mistype, items_stray};
-use crate::named::{Named, has_name, has_repeats, lack_column, mistype, overflow};
-use crate::names::{column_at, has_table, means_one, unqualified};
 use crate::parts::{Created, Given, Parts, parts_of};
-use crate::scope::Scope;
 use crate::sources;
 use ob_base::{Column, ColumnName, Name, Public, Refusal, Table};
+use ob_names::{
+    Named, Scope, column_at, has_name, has_repeats, has_table, lack_column, means_one, mistype,
+    overflow, overflows, takes, unqualified,
+};
 use ob_sql::{Set, Stmt};
 
 fn is_taken(tables: &[Table], created: &Option<Created<'_>>) -> bool

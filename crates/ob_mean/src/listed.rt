@@ -2,15 +2,13 @@
 ghost use Rattle.std.specs.Prelude.{◌≡◌, [], not, flat_map, unwrap_or};
 ghost use Rattle.std.specs.List.{list_any};
 ghost use Rattle.ob_sql.specs.Skeleton.{named_by};
-ghost use Rattle.ob_mean.specs.Names.{columns_in};
-ghost use Rattle.ob_mean.specs.Kinds.{are_texts, number_columns, plain_columns};
+ghost use Rattle.ob_names.specs.Names.{columns_in, lack_columns};
+ghost use Rattle.ob_names.specs.Kinds.{are_texts, number_columns, plain_columns};
 ghost use Rattle.ob_mean.specs.Parts.{behind};
-ghost use Rattle.ob_mean.specs.Refusals.{lack_columns, is_group};
+ghost use Rattle.ob_mean.specs.Refusals.{is_group};
 
-use crate::kinds::is_number;
-use crate::names::means_one;
-use crate::scope::Scope;
 use ob_base::{ColumnName, Items};
+use ob_names::{Scope, is_number, means_one};
 use ob_sql::Listed;
 
 /// The columns, none for `*`.

@@ -3,16 +3,14 @@ ghost use Rattle.std.specs.Prelude.{◌≡◌, ◌≤◌, ◌<◌, ◌+◌, ◌*
 ghost use Rattle.std.specs.Option.{option_map_or};
 ghost use Rattle.ob_base.specs.Joins.{joined_slots};
 ghost use Rattle.ob_base.specs.Stored.{headings_of};
-ghost use Rattle.ob_mean.specs.Names.{columns_in};
+ghost use Rattle.ob_names.specs.Names.{columns_in, left_place, right_place, lack_columns};
 ghost use Rattle.ob_mean.specs.Parts.{source_in};
-ghost use Rattle.ob_mean.specs.Refusals.{joins_itself, joins_kinds, joins_past, joins_past_at, join_columns, is_key, left_place, right_place, is_across, lack_columns, limits_of};
+ghost use Rattle.ob_mean.specs.Refusals.{joins_itself, joins_kinds, joins_past, joins_past_at, join_columns, is_key, is_across, limits_of};
 ghost use Rattle.ob_mean.specs.Scopes.{missing_in, scope_in, joins_apart_in, off_key_in};
 
-use crate::kinds::are_alike;
-use crate::names::{columns_at, has_table, heading_at, means_one};
 use crate::parts::Tables;
-use crate::scope::Scope;
 use ob_base::{Column, ColumnName, Heading, Public, Table};
+use ob_names::{Scope, are_alike, columns_at, has_table, heading_at, means_one};
 use ob_row::width;
 
 /// Whether a table that is to exist doesn't.
@@ -149,37 +147,6 @@ fn is_key(columns: &[Column], i: usize) -> bool
     match key_position(columns) {
         None => false,
         Some(j) => i == j,
-    }
-}
-
-impl Scope<'_> {
-    /// The place of the left table's column of ON, whichever side it stands on.
-    pub fn left_place(&self, on: &ColumnName, equals: &ColumnName) -> usize
-        ensures value { result
-            ≡ left_place (length self.now.left) (columns_in self.now) on.now equals.now }
-        ensures few { result < 64 }
-    {
-        let i = self.place_of(on);
-        if i < self.left().len() {
-            i
-        } else {
-            self.place_of(equals)
-        }
-    }
-
-    /// The place of the right table's column of ON, among that table's own.
-    pub fn right_place(&self, on: &ColumnName, equals: &ColumnName) -> usize
-        ensures value { result
-            ≡ right_place (length self.now.left) (columns_in self.now) on.now equals.now }
-        ensures few { result < 64 }
-    {
-        let n = self.left().len();
-        let i = self.place_of(on);
-        if i < n {
-            self.place_of(equals).saturating_sub(n)
-        } else {
-            i.saturating_sub(n)
-        }
     }
 }
 

@@ -3,15 +3,14 @@ ghost use Rattle.std.specs.Prelude.{◌≡◌, ◌≤◌, ◌<◌, ◌++◌, Opt
 ghost use Rattle.std.specs.List.{All};
 ghost use Rattle.ob_row.specs.Spelling.{IsCell};
 ghost use Rattle.ob_sql.specs.declared.stmt.Literal.{Literal};
-ghost use Rattle.ob_mean.specs.Names.{place_of, unqualified, literal_cell};
+ghost use Rattle.ob_names.specs.Names.{place_of, unqualified};
+ghost use Rattle.ob_mean.specs.Conditions.{literal_cell};
 ghost use Rattle.ob_mean.specs.Refusals.{insert_columns};
 ghost use Rattle.ob_mean.specs.Step.{given_cell, new_row};
 
 use crate::condition::literal_cell;
-use crate::named::Named;
-use crate::names::unqualified;
-use crate::scope::Scope;
 use ob_base::{Column, Items, Name, NoMemory, Schema};
+use ob_names::{Named, Scope, unqualified};
 use ob_row::Cell;
 use ob_sql::{Literal, Set};
 use std::alloc::Global;

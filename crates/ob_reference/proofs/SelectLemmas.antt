@@ -8,7 +8,7 @@ use Rattle.ob_row.specs.Rows.{Row}
 use Rattle.ob_row.specs.Totals.{totals, grouped, group_heads}
 use Rattle.ob_sql.specs.declared.stmt.SelectTotals.{SelectTotals}
 use Rattle.ob_mean.specs.declared.answer.Answer.TheVariants.{Rows}
-use Rattle.ob_mean.specs.Names.{place_of}
+use Rattle.ob_names.specs.Names.{place_of}
 use Rattle.ob_mean.specs.Step.{agg_of, item_of, total_rows, overgroups, answered}
 use Rattle.ob_reference.specs.Selected.{selected_answer}
 

@@ -3,7 +3,7 @@ use Rattle.std.proofs.Common.{◌≡◌, List, refl, append-nil}
 use Rattle.ob_base.specs.declared.schema.Heading.{Heading}
 use Rattle.ob_base.specs.declared.skeleton.Source.{Source}
 use Rattle.ob_base.specs.declared.skeleton.Source.TheVariants.{Table as OneTable, Join}
-use Rattle.ob_mean.specs.Names.{columns_in, columns_at, source_columns}
+use Rattle.ob_names.specs.Names.{columns_in, columns_at, source_columns}
 use Rattle.ob_mean.specs.Scopes.{source_scope}
 
 -- they are the left table's and the right one's

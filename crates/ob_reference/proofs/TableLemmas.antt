@@ -12,7 +12,8 @@ use Rattle.ob_sql.specs.declared.stmt.Cond.{Cond}
 use Rattle.ob_sql.specs.declared.stmt.Literal.{Literal}
 use Rattle.ob_sql.specs.declared.stmt.Stmt.TheVariants.{Insert}
 use Rattle.ob_mean.specs.declared.answer.Answer.TheVariants.{Changed}
-use Rattle.ob_mean.specs.Names.{columns_at, where_at}
+use Rattle.ob_names.specs.Names.{columns_at}
+use Rattle.ob_mean.specs.Conditions.{where_at}
 use Rattle.ob_mean.specs.Step.{Database, rows_at, new_row, insert_refusal, late_refusal, followed, accepted_next}
 
 -- what was compared is the table's name

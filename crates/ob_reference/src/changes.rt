@@ -4,7 +4,7 @@ ghost use Rattle.ob_row.specs.Rows.{with_cells};
 ghost use Rattle.ob_row.specs.Truth.{is_true, updated};
 ghost use Rattle.ob_sql.specs.declared.stmt.Stmt.TheVariants.{Update, Delete};
 ghost use Rattle.ob_mean.specs.declared.answer.Answer.TheVariants.{Changed};
-ghost use Rattle.ob_mean.specs.Names.{where_at};
+ghost use Rattle.ob_mean.specs.Conditions.{where_at};
 ghost use Rattle.ob_mean.specs.Step.{set_cells, accepted_answer, accepted_next};
 
 use crate::tables::{Database, Held, Tuple};

@@ -2,7 +2,7 @@
 ghost use Rattle.std.specs.Prelude.{◌≡◌, ◌++◌, ◌∷◌, not, filter, map, IfOk, OnOk};
 ghost use Rattle.ob_row.specs.Rows.{agree_at};
 ghost use Rattle.ob_row.specs.Totals.{group_heads, group_of, item_shown, grouped};
-ghost use Rattle.ob_mean.specs.Names.{columns_in};
+ghost use Rattle.ob_names.specs.Names.{columns_in};
 ghost use Rattle.ob_mean.specs.Step.{item_of};
 
 use crate::copies::{add_rows, copied};
@@ -11,7 +11,8 @@ use crate::tables::Tuple;
 use crate::totals::total;
 use crate::truth::agree_at;
 use ob_base::{Items, NoMemory, Shown};
-use ob_mean::Scope;
+use ob_mean::item_in;
+use ob_names::Scope;
 use ob_row::{Cell, Item};
 use ob_sql::Listed;
 use std::alloc::Global;
@@ -162,7 +163,7 @@ pub(crate) fn add_listed(
 {
     match listed.split_first() {
         None => Ok(()),
-        Some((item, listed)) => match items.push(scope.item_of(item)) {
+        Some((item, listed)) => match items.push(item_in(item, scope)) {
             Err(_) => Err(NoMemory),
             Ok(()) => add_listed(listed, scope, items),
         },

@@ -4,12 +4,12 @@ ghost use Rattle.ob_base.specs.Lists.{places_from};
 ghost use Rattle.ob_base.specs.declared.schema.Column.{Column};
 ghost use Rattle.ob_row.specs.Rows.{cell_at};
 ghost use Rattle.ob_row.specs.Totals.{shown, shown_at, printed};
-ghost use Rattle.ob_mean.specs.Names.{columns_in, place_of};
+ghost use Rattle.ob_names.specs.Names.{columns_in, place_of};
 ghost use Rattle.ob_mean.specs.Step.{printed_places, rows_answer};
 
 use crate::tables::Tuple;
 use ob_base::{Column, ColumnName, Items, NoMemory, Shown};
-use ob_mean::Scope;
+use ob_names::Scope;
 use ob_row::Cell;
 use ob_sql::SelectRows;
 use std::alloc::Global;

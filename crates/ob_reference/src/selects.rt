@@ -4,7 +4,7 @@ ghost use Rattle.ob_base.specs.declared.refusal.Refusal.TheVariants.{TooManyGrou
 ghost use Rattle.ob_row.specs.Totals.{totals, grouped, group_heads};
 ghost use Rattle.ob_sql.specs.declared.stmt.Stmt.TheVariants.{SelectRows as RowsStmt, SelectTotals as TotalsStmt};
 ghost use Rattle.ob_mean.specs.declared.answer.Answer.TheVariants.{Rows};
-ghost use Rattle.ob_mean.specs.Names.{columns_in};
+ghost use Rattle.ob_names.specs.Names.{columns_in};
 ghost use Rattle.ob_mean.specs.Step.{agg_of, item_of, answered, late_refusal, accepted_answer};
 ghost use Rattle.ob_reference.specs.Selected.{selected_answer};
 
@@ -14,7 +14,8 @@ use crate::sources::{scope_of, selected_rows, totalled_rows};
 use crate::tables::{Database, Tuple, columns_at};
 use crate::totals::add_totals;
 use ob_base::{Items, NoMemory, Refusal, Shown};
-use ob_mean::{Answer, Scope};
+use ob_mean::Answer;
+use ob_names::Scope;
 use ob_row::Item;
 use ob_sql::{Listed, SelectRows, SelectTotals};
 use std::alloc::Global;

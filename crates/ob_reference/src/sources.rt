@@ -3,7 +3,8 @@ ghost use Rattle.std.specs.Prelude.{◌≡◌, ◌++◌, filter, IfOk, OnOk};
 ghost use Rattle.ob_base.specs.Stored.{headings};
 ghost use Rattle.ob_base.specs.declared.skeleton.Source.TheVariants.{Join};
 ghost use Rattle.ob_row.specs.Truth.{is_true};
-ghost use Rattle.ob_mean.specs.Names.{columns_in, where_at};
+ghost use Rattle.ob_names.specs.Names.{columns_in};
+ghost use Rattle.ob_mean.specs.Conditions.{where_at};
 ghost use Rattle.ob_mean.specs.Scopes.{source_scope};
 ghost use Rattle.ob_mean.specs.Step.{source_rows, selected_rows, totalled_rows};
 
@@ -11,7 +12,7 @@ use crate::copies::{add_pairs, add_rows};
 use crate::tables::{Held, Tuple, columns_at, rows_at};
 use crate::truth::selects;
 use ob_base::{ColumnName, Name, NoMemory, Source};
-use ob_mean::Scope;
+use ob_names::Scope;
 use ob_sql::{Cond, SelectRows, SelectTotals};
 use std::alloc::Global;
 

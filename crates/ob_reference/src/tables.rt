@@ -1,7 +1,7 @@
 //! Tables with their rows in memory.
 ghost use Rattle.std.specs.Prelude.{◌≡◌, ◌≤◌, [], length};
 ghost use Rattle.ob_base.specs.Stored.{headings};
-ghost use Rattle.ob_mean.specs.Names.{columns_at};
+ghost use Rattle.ob_names.specs.Names.{columns_at};
 ghost use Rattle.ob_mean.specs.Step.{rows_at};
 
 use ob_base::{Column, Heading, Name};

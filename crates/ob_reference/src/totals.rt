@@ -1,13 +1,14 @@
 //! Aggregates over rows.
 ghost use Rattle.std.specs.Prelude.{◌≡◌, ◌≤◌, ◌<◌, ◌+◌, ◌*◌, ◌^◌, ◌++◌, Some, nat_abs, fold, filter_map, length, OnOk, slice_get};
 ghost use Rattle.ob_row.specs.Totals.{int_of, column_ints, combined, total, totals};
-ghost use Rattle.ob_mean.specs.Names.{columns_in};
+ghost use Rattle.ob_names.specs.Names.{columns_in};
 ghost use Rattle.ob_mean.specs.Step.{agg_of};
 ghost use Rattle.ob_reference.specs.Folds.{taken};
 
 use crate::tables::Tuple;
 use ob_base::{Items, NoMemory, Shown};
-use ob_mean::Scope;
+use ob_mean::agg_in;
+use ob_names::Scope;
 use ob_row::{Agg, Cell};
 use ob_sql::Listed;
 
@@ -104,7 +105,7 @@ pub(crate) fn add_totals(
 {
     match items.split_first() {
         None => Ok(()),
-        Some((item, items)) => match scope.agg_of(item) {
+        Some((item, items)) => match agg_in(item, scope) {
             None => add_totals(items, scope, rows, fields),
             Some(agg) => match fields.push(total(agg, rows)) {
                 Err(_) => Err(NoMemory),

@@ -3,11 +3,13 @@ ghost use Rattle.std.specs.Prelude.{◌≡◌, Some};
 ghost use Rattle.ob_row.specs.Rows.{agree_at};
 ghost use Rattle.ob_row.specs.Truth.{compare, is_true, operand_of};
 ghost use Rattle.ob_sql.specs.Search.{search_of};
-ghost use Rattle.ob_mean.specs.Names.{columns_in, operand_at, condition_at, where_at};
+ghost use Rattle.ob_names.specs.Names.{columns_in};
+ghost use Rattle.ob_mean.specs.Conditions.{operand_at, condition_at, where_at};
 
 use crate::tables::Tuple;
 use ob_base::{ComparisonOperator, Schema};
-use ob_mean::{Scope, literal_cell};
+use ob_mean::literal_cell;
+use ob_names::Scope;
 use ob_row::{Cell, compare_cells, same_cell};
 use ob_sql::{Against, Cond, CondTree};
 

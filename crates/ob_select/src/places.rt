@@ -1,13 +1,13 @@
 //! The places of the columns that a SELECT of rows prints.
 ghost use Rattle.std.specs.Prelude.{◌≡◌, ◌≤◌, ◌+◌, ◌++◌, length, map};
 ghost use Rattle.ob_base.specs.Lists.{tabulate};
-ghost use Rattle.ob_mean.specs.Names.{place_of};
+ghost use Rattle.ob_names.specs.Names.{place_of};
 ghost use Rattle.ob_mean.specs.Refusals.{listed};
 ghost use Rattle.ob_mean.specs.Step.{printed_places};
 
 use arrayvec::ArrayVec;
 use ob_base::{Column, ColumnName};
-use ob_mean::place_of;
+use ob_names::place_of;
 use ob_sql::SelectRows;
 
 fn first_places(n: usize) -> ArrayVec<u8, 32>

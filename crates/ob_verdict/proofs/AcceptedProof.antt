@@ -33,14 +33,15 @@ use Rattle.ob_sql.specs.declared.stmt.Set.{Set}
 use Rattle.ob_sql.specs.declared.stmt.Stmt.{Stmt}
 use Rattle.ob_sql.specs.declared.stmt.Stmt.TheVariants.{Create, Insert, Update, Delete, Drop as DropTable, SelectRows as RowsStmt, SelectTotals as TotalsStmt}
 use Rattle.ob_sql.specs.Skeleton.{named_by}
-use Rattle.ob_mean.specs.Names.{columns_at, is_named, literal_cell, meant_by, place_of, unqualified}
-use Rattle.ob_mean.specs.Kinds.{Comparison, against_kind, against_too_large, are_texts, at_kind, comparison_columns, is_of_kind, is_too_large_for, is_wrong_comparison, number_columns, mistype_columns, mistype_comparisons, overflow_columns, overflow_comparisons}
+use Rattle.ob_names.specs.Names.{columns_at, is_named, meant_by, place_of, unqualified, lack_columns, left_place, means_one, right_place}
+use Rattle.ob_mean.specs.Conditions.{literal_cell}
+use Rattle.ob_names.specs.Kinds.{Comparison, against_kind, against_too_large, are_texts, at_kind, comparison_columns, is_of_kind, is_too_large_for, is_wrong_comparison, number_columns, mistype_columns, mistype_comparisons, overflow_columns, overflow_comparisons}
 use Rattle.ob_mean.specs.Lawful.{capacity_at, counted_slots, statement_slots}
-use Rattle.ob_mean.specs.Refusals.{assignments, compared, early_refusal, has_wrong_type, is_across, is_badly_typed, is_key, is_out_of_range, items_of, join_columns, joins_past, joins_past_at, lack_columns, lacks_column, left_place, listed, means_one, named_columns, right_place, scope_of, select_lacks_column, source_tables, limits_of, Limits}
+use Rattle.ob_mean.specs.Refusals.{assignments, compared, early_refusal, has_wrong_type, is_across, is_badly_typed, is_key, is_out_of_range, items_of, join_columns, joins_past, joins_past_at, lacks_column, listed, named_columns, scope_of, select_lacks_column, source_tables, limits_of, Limits}
 use Rattle.ob_mean.specs.Step.{agg_of, select_columns, totals_columns}
 use Rattle.ob_mean.proofs.EarlyLemmas.{allowed, neither}
 use Rattle.ob_mean.proofs.InsertLemmas.{fits_kind}
-use Rattle.ob_mean.proofs.NameLemmas.{has_table_found}
+use Rattle.ob_names.proofs.NameLemmas.{has_table_found}
 use Rattle.ob_verdict.specs.Accepted.{IsPlace, agg_places, PlacesFit, TotalsPlacesFit, JoinsFit, SetFits, AgainstFits, ComparisonFits, SetsFit, ConditionsFit, BucketsFit}
 
 at_most : (n m : ℕ) → nat_lt n m ≡ false → m ≤ n

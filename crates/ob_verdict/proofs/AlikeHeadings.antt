@@ -15,9 +15,9 @@ use Rattle.ob_base.specs.Schemas.{Columns, columns_of, width}
 use Rattle.ob_base.specs.Stored.{Stored, has_table, heading_at, headings, stored_at}
 use Rattle.ob_sql.specs.declared.stmt.Stmt.{Stmt}
 use Rattle.ob_sql.specs.declared.stmt.Stmt.TheVariants.{Create, Insert, Update, Delete, Drop as DropTable, SelectRows as RowsStmt, SelectTotals as TotalsStmt}
-use Rattle.ob_mean.specs.Kinds.{are_texts, comparison_columns, mistype_columns, mistype_comparisons, number_columns, overflow_columns, overflow_comparisons}
-use Rattle.ob_mean.specs.Names.{columns_at, source_columns}
-use Rattle.ob_mean.specs.Refusals.{assignments, breaks_key_rule, compared, early_refusal, first_holding, has_stray_column, has_wrong_type, is_across, is_badly_typed, is_key, is_out_of_range, is_indexed, is_past_limit, is_size, items_of, joins_apart, joins_off_key, joins_off_key_at, joins_past, joins_past_at, lack_columns, lacks_column, left_place, listed, named_columns, scope_of, select_lacks_column, sets_key, tables_of, takes_name, Limits}
+use Rattle.ob_names.specs.Kinds.{are_texts, comparison_columns, mistype_columns, mistype_comparisons, number_columns, overflow_columns, overflow_comparisons}
+use Rattle.ob_names.specs.Names.{columns_at, source_columns, lack_columns, left_place}
+use Rattle.ob_mean.specs.Refusals.{assignments, breaks_key_rule, compared, early_refusal, first_holding, has_stray_column, has_wrong_type, is_across, is_badly_typed, is_key, is_out_of_range, is_indexed, is_past_limit, is_size, items_of, joins_apart, joins_off_key, joins_off_key_at, joins_past, joins_past_at, lacks_column, listed, named_columns, scope_of, select_lacks_column, sets_key, tables_of, takes_name, Limits}
 use Rattle.ob_mean.proofs.VerdictLemmas.{heading-stored}
 
 -- ---- headings that each name finds alike

@@ -24,8 +24,9 @@ use Rattle.ob_sql.specs.declared.stmt.SelectRows.{SelectRows}
 use Rattle.ob_sql.specs.declared.stmt.Stmt.{Stmt}
 use Rattle.ob_sql.specs.declared.stmt.Stmt.TheVariants.{Create, Insert, Update, Delete, Drop as DropTable, SelectRows as RowsStmt, SelectTotals as TotalsStmt}
 use Rattle.ob_mean.specs.declared.answer.Answer.TheVariants as A
-use Rattle.ob_mean.specs.Names.{columns_at, where_at}
-use Rattle.ob_mean.specs.Refusals.{early_refusal, left_place, right_place, limits_of}
+use Rattle.ob_names.specs.Names.{columns_at, left_place, right_place}
+use Rattle.ob_mean.specs.Conditions.{where_at}
+use Rattle.ob_mean.specs.Refusals.{early_refusal, limits_of}
 use Rattle.ob_mean.specs.Settle.{settled}
 use Rattle.ob_mean.specs.Step.{accepted_answer, answered, followed, insert_refusal, late_refusal, new_row, overgroups, rows_answer, rows_at, set_cells, source_rows, totals_answer}
 use Rattle.ob_mean.specs.Verdict.{Held, in_slots, Tables, database, ended, is_late, last_refusal, refusal, rows_refusal, seen, seen_rows, seen_started, selected_places, slots_at, source_slots}

@@ -27,7 +27,7 @@ use Rattle.ob_verdict.proofs.TurnLemmas.{rows-continuous_slots}
 use Rattle.ob_verdict.proofs.JoinLemmas.{rows-joined}
 use Rattle.ob_sql.specs.declared.stmt.SelectRows.{SelectRows}
 use Rattle.ob_sql.specs.declared.stmt.Stmt.TheVariants.{SelectRows as RowsStmt}
-use Rattle.ob_mean.specs.Names.{columns_at}
+use Rattle.ob_names.specs.Names.{columns_at}
 use Rattle.ob_mean.specs.Refusals.{early_refusal, is_key, joins_off_key_at, limits_of, Limits}
 use Rattle.ob_mean.proofs.EarlyLemmas.{allowed}
 use Rattle.ob_mean.proofs.VerdictLemmas.{headings-database}

@@ -27,7 +27,8 @@ use Rattle.ob_row.proofs.PairLemmas.{cell_eq-refl, options_eq-both}
 use Rattle.ob_sql.specs.declared.stmt.Set.{Set}
 use Rattle.ob_sql.specs.declared.stmt.Stmt.{Stmt}
 use Rattle.ob_sql.specs.declared.stmt.Stmt.TheVariants.{Create, Insert, Update, Delete, Drop as DropTable, SelectRows as RowsStmt, SelectTotals as TotalsStmt}
-use Rattle.ob_mean.specs.Names.{columns_at, place_of, unqualified, where_at}
+use Rattle.ob_names.specs.Names.{columns_at, place_of, unqualified}
+use Rattle.ob_mean.specs.Conditions.{where_at}
 use Rattle.ob_mean.specs.Refusals.{early_refusal, sets_key, limits_of}
 use Rattle.ob_mean.specs.Step.{insert_refusal, late_refusal, new_row, set_cells, followed}
 use Rattle.ob_mean.specs.Verdict.{Held, in_slots, Tables, database, is_late, last_refusal, refusal}

@@ -16,7 +16,8 @@ use Rattle.ob_sql.specs.declared.stmt.Stmt.{Stmt}
 use Rattle.ob_sql.specs.declared.stmt.Stmt.TheVariants.{Create, Insert, Update, Delete, Drop as DropTable, SelectRows as RowsStmt, SelectTotals as TotalsStmt}
 use Rattle.ob_mean.specs.SameMeaning.{SameTables}
 use Rattle.ob_mean.specs.Step.{Database, step_next, insert_refusal, refusal_of, followed, new_row, set_cells}
-use Rattle.ob_mean.specs.Names.{columns_at, where_at}
+use Rattle.ob_names.specs.Names.{columns_at}
+use Rattle.ob_mean.specs.Conditions.{where_at}
 use Rattle.ob_row.specs.Truth.{is_true, updated}
 use Rattle.ob_mean.specs.Verdict.{in_slots, Tables, database, is_late, last_refusal}
 use Rattle.ob_mean.specs.Settle.{settled}

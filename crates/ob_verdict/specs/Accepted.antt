@@ -21,10 +21,11 @@ use Rattle.ob_sql.specs.declared.stmt.Set.{Set}
 use Rattle.ob_sql.specs.declared.stmt.Stmt.{Stmt}
 use Rattle.ob_sql.specs.declared.stmt.Stmt.TheVariants.{Update, SelectRows as RowsStmt, SelectTotals as TotalsStmt}
 use Rattle.ob_sql.specs.Search.{Search}
-use Rattle.ob_mean.specs.Names.{columns_at, place_of, unqualified, literal_cell}
-use Rattle.ob_mean.specs.Kinds.{Comparison, is_of_kind, is_too_large}
+use Rattle.ob_names.specs.Names.{columns_at, place_of, unqualified, left_place, right_place}
+use Rattle.ob_mean.specs.Conditions.{literal_cell}
+use Rattle.ob_names.specs.Kinds.{Comparison, is_of_kind, is_too_large}
 use Rattle.ob_mean.specs.Lawful.{statement_slots}
-use Rattle.ob_mean.specs.Refusals.{early_refusal, compared, is_key, left_place, listed, right_place, scope_of, limits_of, Limits}
+use Rattle.ob_mean.specs.Refusals.{early_refusal, compared, is_key, listed, scope_of, limits_of, Limits}
 use Rattle.ob_mean.specs.Step.{agg_of, printed_places, select_columns, totals_columns}
 
 -- ---- the places of columns

@@ -2,7 +2,7 @@ use Rattle.std.proofs.Common.{length, map, take, Err, sym, ◌∙◌, ap, subst,
 use Rattle.ob_base.specs.Limits.{buffered}
 use Rattle.ob_vault.specs.Places.{at}
 use Rattle.ob_flat.specs.declared.fault.OpErr.{OpErr}
-use Rattle.ob_mean.specs.Names.{place_of}
+use Rattle.ob_names.specs.Names.{place_of}
 use Rattle.ob_mean.specs.Step.{item_of}
 use Rattle.ob_exec.specs.Totalling.{Totals}
 use Rattle.ob_exec.proofs.TotallingLemmas.{buffered_few, items_fit, totals_gave_up, totals_groups, totals_groups_cut, totals_many}

@@ -1,6 +1,6 @@
 use Rattle.std.proofs.Common.{map}
 use Rattle.ob_row.specs.Truth.{updated}
-use Rattle.ob_mean.specs.Names.{where_at}
+use Rattle.ob_mean.specs.Conditions.{where_at}
 use Rattle.ob_mean.specs.Step.{set_cells}
 use Rattle.ob_reference.proofs.TableLemmas.{same_name, counted_here, counted_behind, put_here, put_behind}
 use Rattle.ob_reference.proofs.changes.+update_at.Goals as goal

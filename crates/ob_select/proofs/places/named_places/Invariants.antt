@@ -1,6 +1,6 @@
 use Rattle.std.proofs.Common.{◌≡◌, ◌++◌, length, map, take}
 use Rattle.ob_base.specs.declared.skeleton.ColumnName.{ColumnName}
-use Rattle.ob_mean.specs.Names.{place_of}
+use Rattle.ob_names.specs.Names.{place_of}
 use Rattle.ob_select.proofs.places.named_places.Given as goal
 
 abbrev pub invariant-loop-name : goal.invariant-loop-name

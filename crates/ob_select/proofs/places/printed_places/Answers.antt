@@ -3,7 +3,7 @@ use Rattle.std.specs.Prelude.{Option}
 use Rattle.std.specs.Option.{option_map_or}
 use Rattle.ob_base.specs.declared.skeleton.ColumnName.{ColumnName}
 use Rattle.ob_base.specs.Lists.{tabulate, places_of}
-use Rattle.ob_mean.specs.Names.{place_of}
+use Rattle.ob_names.specs.Names.{place_of}
 use Rattle.ob_select.proofs.PlaceLemmas.{all_places}
 use Rattle.ob_select.proofs.places.printed_places.Goals as goal
 

@@ -7,7 +7,7 @@ use Rattle.ob_flat.specs.declared.flat.Flat.{Flat}
 use Rattle.ob_row.specs.Slots.{rows, emptied}
 use Rattle.ob_row.specs.Truth.{is_true}
 use Rattle.ob_sql.specs.declared.stmt.Stmt.TheVariants.{Delete}
-use Rattle.ob_mean.specs.Names.{where_at}
+use Rattle.ob_mean.specs.Conditions.{where_at}
 use Rattle.ob_mean.specs.Verdict.{ended as seen_to}
 use Rattle.ob_exec.specs.Agreeing.{count_of}
 use Rattle.ob_exec.specs.declared.engine.Engine.{Engine}

@@ -5,7 +5,8 @@ use Rattle.ob_base.specs.declared.skeleton.Source.{Source}
 use Rattle.ob_base.specs.Stored.{has_table, headings_of}
 use Rattle.ob_vault.specs.Places.{at}
 use Rattle.ob_sql.specs.declared.stmt.Stmt.TheVariants.{SelectRows as RowsStmt}
-use Rattle.ob_mean.specs.Refusals.{left_place, right_place, source_tables, limits_of}
+use Rattle.ob_names.specs.Names.{left_place, right_place}
+use Rattle.ob_mean.specs.Refusals.{source_tables, limits_of}
 use Rattle.ob_mean.specs.Verdict.{is_late}
 use Rattle.ob_mean.proofs.EarlyLemmas.{allowed}
 use Rattle.ob_exec.specs.Agreeing.{count_of}

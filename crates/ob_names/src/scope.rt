@@ -13,7 +13,7 @@ pub struct Scope<'a> {
 
 impl<'a> Model for Scope<'a> {
     ghost use Rattle.std.specs.Prelude.{◌≤◌, length};
-    ghost use Rattle.ob_mean.specs.Names.{Scope as ScopeHeld};
+    ghost use Rattle.ob_names.specs.Names.{Scope as ScopeHeld};
 
     ghost Value = { ScopeHeld };
 

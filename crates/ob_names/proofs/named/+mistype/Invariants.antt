@@ -1,5 +1,5 @@
 use Rattle.std.proofs.Common.{length}
-use Rattle.ob_mean.proofs.named.+mistype.Given as goal
+use Rattle.ob_names.proofs.named.+mistype.Given as goal
 
 abbrev pub decreases-mistype : goal.decreases-mistype
 decreases-mistype g l = length l.items.now

@@ -2,8 +2,8 @@
 ghost use Rattle.std.specs.Prelude.{◌≡◌};
 ghost use Rattle.ob_base.specs.Schemas.{same_kind};
 ghost use Rattle.ob_base.specs.declared.schema.Kind.TheVariants.{Int as IntKind};
-ghost use Rattle.ob_mean.specs.Names.{columns_in};
-ghost use Rattle.ob_mean.specs.Kinds.{is_of_kind, is_too_large, is_too_large_for, at_kind, against_too_large, is_wrong_comparison};
+ghost use Rattle.ob_names.specs.Names.{columns_in};
+ghost use Rattle.ob_names.specs.Kinds.{is_of_kind, is_too_large, is_too_large_for, at_kind, against_too_large, is_wrong_comparison};
 
 use crate::names::kind_meant;
 use crate::scope::Scope;
@@ -44,7 +44,7 @@ fn is_too_large_for(kind: Kind, literal: &Literal) -> bool
 }
 
 /// Whether the column that a name means has the kind of this literal.
-pub(crate) fn takes(name: &ColumnName, literal: &Literal, scope: &Scope<'_>) -> bool
+pub fn takes(name: &ColumnName, literal: &Literal, scope: &Scope<'_>) -> bool
     ensures { result ≡ at_kind (λ k. is_of_kind k literal.now) name.now (columns_in scope.now) }
 {
     match kind_meant(name, scope) {
@@ -54,7 +54,7 @@ pub(crate) fn takes(name: &ColumnName, literal: &Literal, scope: &Scope<'_>) -> 
 }
 
 /// Whether the column that a name means doesn't hold this literal.
-pub(crate) fn overflows(name: &ColumnName, literal: &Literal, scope: &Scope<'_>) -> bool
+pub fn overflows(name: &ColumnName, literal: &Literal, scope: &Scope<'_>) -> bool
     ensures { result
         ≡ at_kind (λ k. is_too_large_for k literal.now) name.now (columns_in scope.now) }
 {
@@ -65,7 +65,7 @@ pub(crate) fn overflows(name: &ColumnName, literal: &Literal, scope: &Scope<'_>)
 }
 
 /// Whether the column that a name means holds numbers.
-pub(crate) fn is_number(name: &ColumnName, scope: &Scope<'_>) -> bool
+pub fn is_number(name: &ColumnName, scope: &Scope<'_>) -> bool
     ensures { result ≡ at_kind (same_kind IntKind) name.now (columns_in scope.now) }
 {
     match kind_meant(name, scope) {
@@ -75,7 +75,7 @@ pub(crate) fn is_number(name: &ColumnName, scope: &Scope<'_>) -> bool
 }
 
 /// Whether the columns that two names mean are of one kind.
-pub(crate) fn are_alike(a: &ColumnName, b: &ColumnName, scope: &Scope<'_>) -> bool
+pub fn are_alike(a: &ColumnName, b: &ColumnName, scope: &Scope<'_>) -> bool
     ensures { result
         ≡ at_kind (λ k. at_kind (same_kind k) b.now (columns_in scope.now)) a.now
         (columns_in scope.now) }
@@ -87,7 +87,7 @@ pub(crate) fn are_alike(a: &ColumnName, b: &ColumnName, scope: &Scope<'_>) -> bo
 }
 
 /// Whether a column is compared with another kind than its own.
-pub(crate) fn is_wrong_comparison(name: &ColumnName, with: &Against, scope: &Scope<'_>) -> bool
+pub fn is_wrong_comparison(name: &ColumnName, with: &Against, scope: &Scope<'_>) -> bool
     ensures { result ≡ is_wrong_comparison (columns_in scope.now) (name.now, with.now) }
 {
     match with {
@@ -96,8 +96,9 @@ pub(crate) fn is_wrong_comparison(name: &ColumnName, with: &Against, scope: &Sco
     }
 }
 
-/// Whether it is compared with a literal that no cell holds.
-pub(crate) fn is_against_too_large(with: &Against) -> bool
+/// Whether a column is compared with a literal that no cell holds: an integer outside 64 bits, or a text of more
+/// than 255 bytes.
+pub fn is_against_too_large(with: &Against) -> bool
     ensures { result ≡ against_too_large with.now }
 {
     match with {

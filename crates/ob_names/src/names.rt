@@ -2,15 +2,14 @@
 ghost use Rattle.std.specs.Prelude.{◌≡◌, ◌≤◌, ◌<◌, Option, Some, None, length, slice_get, IfSome, IfNone, count_by, position};
 ghost use Rattle.ob_base.specs.Stored.{has_table, heading_at};
 ghost use Rattle.ob_base.specs.Stored.{headings_of};
-ghost use Rattle.ob_mean.specs.Names.{columns_in, columns_at, is_named, place_of, unqualified};
-ghost use Rattle.ob_mean.specs.Refusals.{means_one};
-ghost use Rattle.ob_mean.specs.Kinds.{kind_meant};
+ghost use Rattle.ob_names.specs.Names.{columns_in, columns_at, is_named, place_of, unqualified, means_one, left_place, right_place};
+ghost use Rattle.ob_names.specs.Kinds.{kind_meant};
 
 use crate::scope::Scope;
 use ob_base::{Column, ColumnName, Heading, Kind, Name, Table};
 
-// The heading of the table of this name, if there is one.
-pub(crate) fn heading_at<'a>(tables: &'a [Table], name: &Name) -> Option<&'a Heading>
+/// The heading of the table of this name, if there is one.
+pub fn heading_at<'a>(tables: &'a [Table], name: &Name) -> Option<&'a Heading>
     ensures none { IfNone result (heading_at name.now (headings_of tables.now) ≡ None) }
     ensures some { IfSome result (λ h. heading_at name.now (headings_of tables.now) ≡ Some h.now) }
 {
@@ -22,15 +21,16 @@ pub(crate) fn heading_at<'a>(tables: &'a [Table], name: &Name) -> Option<&'a Hea
     None
 }
 
+/// Whether there is a table of this name.
 #[tactic(auto, using(crate::proofs::NameLemmas::has_table_found))]
-pub(crate) fn has_table(tables: &[Table], name: &Name) -> bool
+pub fn has_table(tables: &[Table], name: &Name) -> bool
     ensures { result ≡ has_table name.now (headings_of tables.now) }
 {
     heading_at(tables, name).is_some()
 }
 
-// The columns of a table, or none.
-pub(crate) fn columns_at<'a>(tables: &'a [Table], name: &Name) -> &'a [Column]
+/// The columns of the table of this name, or none where there is no such table.
+pub fn columns_at<'a>(tables: &'a [Table], name: &Name) -> &'a [Column]
     ensures value { result.now ≡ columns_at name.now (headings_of tables.now) }
     ensures few { length result.now ≤ 32 }
 {
@@ -40,7 +40,8 @@ pub(crate) fn columns_at<'a>(tables: &'a [Table], name: &Name) -> &'a [Column]
     }
 }
 
-pub(crate) fn unqualified(name: &Name) -> ColumnName
+/// The name of a column, without a table's.
+pub fn unqualified(name: &Name) -> ColumnName
     ensures { result ≡ unqualified name.now }
 {
     ColumnName {
@@ -77,8 +78,8 @@ fn first_named(name: &ColumnName, columns: &[Column]) -> Option<usize>
     columns.iter().position(|column| is_named(name, column))
 }
 
-// Whether a name means one column, of these tables together.
-pub(crate) fn means_one(name: &ColumnName, scope: &Scope<'_>) -> bool
+/// Whether a name means one column of the scope, neither none nor more.
+pub fn means_one(name: &ColumnName, scope: &Scope<'_>) -> bool
     ensures { result ≡ means_one (columns_in scope.now) name.now }
 {
     let left = scope.left();
@@ -102,6 +103,35 @@ impl Scope<'_> {
             },
         }
     }
+
+    /// The place of the left table's column of ON, whichever side it stands on.
+    pub fn left_place(&self, on: &ColumnName, equals: &ColumnName) -> usize
+        ensures value { result
+            ≡ left_place (length self.now.left) (columns_in self.now) on.now equals.now }
+        ensures few { result < 64 }
+    {
+        let i = self.place_of(on);
+        if i < self.left().len() {
+            i
+        } else {
+            self.place_of(equals)
+        }
+    }
+
+    /// The place of the right table's column of ON, among that table's own.
+    pub fn right_place(&self, on: &ColumnName, equals: &ColumnName) -> usize
+        ensures value { result
+            ≡ right_place (length self.now.left) (columns_in self.now) on.now equals.now }
+        ensures few { result < 64 }
+    {
+        let n = self.left().len();
+        let i = self.place_of(on);
+        if i < n {
+            self.place_of(equals).saturating_sub(n)
+        } else {
+            i.saturating_sub(n)
+        }
+    }
 }
 
 // The kind of the column that a name means.
@@ -111,9 +141,9 @@ pub(crate) fn kind_meant(name: &ColumnName, scope: &Scope<'_>) -> Option<Kind>
     column_at(scope, scope.place_of(name)).map(|column| column.kind)
 }
 
-// The column at a place among those of two tables.
+/// The column at a place among those of two tables, if there are so many.
 #[tactic(auto, using(crate::proofs::NameLemmas::get_front, crate::proofs::NameLemmas::get_back))]
-pub(crate) fn column_at<'a>(scope: &'a Scope<'_>, i: usize) -> Option<&'a Column>
+pub fn column_at<'a>(scope: &'a Scope<'_>, i: usize) -> Option<&'a Column>
     ensures none { IfNone result (slice_get (columns_in scope.now) i ≡ None) }
     ensures some { IfSome result (λ c. slice_get (columns_in scope.now) i ≡ Some c.now) }
 {

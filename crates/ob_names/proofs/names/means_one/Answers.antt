@@ -1,7 +1,7 @@
 use Rattle.std.proofs.Common.{sym, ◌∙◌, ap, ◌+◌, nat_eq, count_by}
-use Rattle.ob_mean.specs.Names.{is_named}
-use Rattle.ob_mean.proofs.NameLemmas.{meant_length}
-use Rattle.ob_mean.proofs.names.means_one.Goals as goal
+use Rattle.ob_names.specs.Names.{is_named}
+use Rattle.ob_names.proofs.NameLemmas.{meant_length}
+use Rattle.ob_names.proofs.names.means_one.Goals as goal
 
 pub returns : goal.returns
 returns c =

@@ -3,9 +3,8 @@ ghost use Rattle.std.specs.Prelude.{◌≡◌, map, zip, bytes_eq};
 ghost use Rattle.std.specs.List.{list_any};
 ghost use Rattle.ob_base.specs.Lists.{has_repeats};
 ghost use Rattle.ob_sql.specs.declared.stmt.Literal.{Literal};
-ghost use Rattle.ob_mean.specs.Names.{columns_in, unqualified};
-ghost use Rattle.ob_mean.specs.Kinds.{mistype_columns, overflow_columns};
-ghost use Rattle.ob_mean.specs.Refusals.{lack_columns};
+ghost use Rattle.ob_names.specs.Names.{columns_in, unqualified, lack_columns};
+ghost use Rattle.ob_names.specs.Kinds.{mistype_columns, overflow_columns};
 
 use crate::kinds::{overflows, takes};
 use crate::names::{means_one, unqualified};
@@ -13,11 +12,13 @@ use crate::scope::Scope;
 use ob_base::{Column, Name, NewColumn};
 use ob_sql::{Literal, Set};
 
-pub(crate) trait Named {
+/// A thing of a statement that has a name.
+pub trait Named {
     ghost use Rattle.std.specs.Prelude.{◌≡◌, ℕ, List};
 
     ghost name_of: { Self → List ℕ };
 
+    /// Its name.
     fn name(&self) -> &Name
         ensures { result.now ≡ name_of self.now };
 }
@@ -54,8 +55,8 @@ impl Named for Set {
     }
 }
 
-/// Whether one of them has this name.
-pub(crate) fn has_name<T: Named>(items: &[T], name: &Name) -> bool
+/// Whether one of these things has this name.
+pub fn has_name<T: Named>(items: &[T], name: &Name) -> bool
     ensures { result ≡ list_any (bytes_eq name.now) (map T.name_of items.now) }
 {
     match items.split_first() {
@@ -66,8 +67,8 @@ pub(crate) fn has_name<T: Named>(items: &[T], name: &Name) -> bool
     }
 }
 
-/// Whether two of them have one name.
-pub(crate) fn has_repeats<T: Named>(items: &[T]) -> bool
+/// Whether two of these things have one name.
+pub fn has_repeats<T: Named>(items: &[T]) -> bool
     ensures { result ≡ has_repeats bytes_eq (map T.name_of items.now) }
 {
     match items.split_first() {
@@ -76,8 +77,8 @@ pub(crate) fn has_repeats<T: Named>(items: &[T]) -> bool
     }
 }
 
-/// Whether one of their names doesn't mean one column.
-pub(crate) fn lack_column<T: Named>(items: &[T], scope: &Scope<'_>) -> bool
+/// Whether the name of one of these things means no column, or more than one.
+pub fn lack_column<T: Named>(items: &[T], scope: &Scope<'_>) -> bool
     ensures { result
         ≡ lack_columns (columns_in scope.now) (map unqualified (map T.name_of items.now)) }
 {
@@ -89,8 +90,9 @@ pub(crate) fn lack_column<T: Named>(items: &[T], scope: &Scope<'_>) -> bool
     }
 }
 
-/// Whether a value is of another kind than the column that the name beside it means.
-pub(crate) fn mistype<T: Named>(items: &[T], values: &[Literal], scope: &Scope<'_>) -> bool
+/// Whether a value is of another kind than the column that the name beside it means; what has nothing beside it
+/// is left out.
+pub fn mistype<T: Named>(items: &[T], values: &[Literal], scope: &Scope<'_>) -> bool
     ensures { result
         ≡ mistype_columns (columns_in scope.now)
         (zip (map unqualified (map T.name_of items.now)) values.now) }
@@ -103,8 +105,8 @@ pub(crate) fn mistype<T: Named>(items: &[T], values: &[Literal], scope: &Scope<'
     }
 }
 
-/// Whether the column that the name beside it means doesn't hold a value.
-pub(crate) fn overflow<T: Named>(items: &[T], values: &[Literal], scope: &Scope<'_>) -> bool
+/// Whether the column that the name beside it means doesn't hold a value; what has nothing beside it is left out.
+pub fn overflow<T: Named>(items: &[T], values: &[Literal], scope: &Scope<'_>) -> bool
     ensures { result
         ≡ overflow_columns (columns_in scope.now)
         (zip (map unqualified (map T.name_of items.now)) values.now) }

@@ -1,5 +1,5 @@
 use Rattle.std.proofs.Common.{length}
-use Rattle.ob_mean.proofs.named.+has_repeats.Given as goal
+use Rattle.ob_names.proofs.named.+has_repeats.Given as goal
 
 abbrev pub decreases-has_repeats : goal.decreases-has_repeats
 decreases-has_repeats g l = length l.items.now
