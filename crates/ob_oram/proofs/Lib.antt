@@ -1,6 +1,7 @@
 pub mod Keys
 pub mod Heights
 pub mod Creates
+pub mod BothGone
 pub mod KeyedRows
 pub mod WalkRows
 pub mod SlotBlocks

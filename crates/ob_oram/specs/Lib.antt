@@ -11,3 +11,4 @@ pub mod Scripts
 pub mod Halves
 pub mod Accessing
 pub mod Short
+pub mod Discards

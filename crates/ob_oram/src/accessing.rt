@@ -15,7 +15,7 @@ ghost use Rattle.ob_oram.specs.Opens.{IsOpen, OpensIndex, leaves_with};
 ghost use Rattle.ob_oram.specs.Ops.{FitsOp};
 ghost use Rattle.ob_oram.specs.Scripts.{script_length};
 ghost use Rattle.ob_oram.specs.Halves.{ReadsIndex, WritesIndex, leaf_blocks, stash_blocks};
-ghost use Rattle.ob_oram.specs.Accessing.{Accesses, LeftBy, remap_of};
+ghost use Rattle.ob_oram.specs.Accessing.{Accesses, LeftBy, leaf_read, remap_of};
 
 use crate::fault::OramErr;
 use crate::held::{Held, Remap};
@@ -73,6 +73,16 @@ fn leaf_before(index: &Index, remap: Remap) -> u32
         index.leaves[remap.key as usize]
     } else {
         remap.leaf
+    }
+}
+
+impl Index {
+    /// The leaf that an access reads: the key's, or that of the draw where the index has no such key.
+    pub fn leaf_of(&self, op: &Op<'_>, draw: u64) -> u32
+        requires { IsShaped self.now }
+        ensures { result ≡ leaf_read self.now op.now draw }
+    {
+        leaf_before(self, remap_for(self, op, draw))
     }
 }
 

@@ -1,9 +1,10 @@
 //! An index of rows by their keys, after Path ORAM (Stefanov and others, CCS 2013): what it is in a store, how one
-//! with no row is made, and how a row of it is read, put in, changed or taken out.
+//! with no row is made, how a row of it is read, put in, changed or taken out, and how it is discarded.
 #![tactic(auto)]
 
 mod accessing;
 mod creating;
+mod discarding;
 mod fault;
 mod held;
 mod index;
@@ -18,6 +19,7 @@ mod writing;
 
 pub use accessing::access;
 pub use creating::create;
+pub use discarding::discard;
 pub use fault::OramErr;
 pub use held::Held;
 pub use index::Index;

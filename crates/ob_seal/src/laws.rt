@@ -1,5 +1,6 @@
-//! Laws of the keys of regions.
-ghost use Rattle.std.specs.Prelude.{◌≡◌, ◌≢◌, ℕ, List, Option, Some, slice_get};
+//! Laws of the keys of regions, and of draws.
+ghost use Rattle.std.specs.Prelude.{◌≡◌, ◌≢◌, ◌%◌, ◌^◌, ℕ, List, Option, Some, slice_get};
+ghost use Rattle.ob_seal.specs.Draws.{draw_at};
 ghost use Rattle.ob_seal.specs.KeySet.{KeySet, pair_of};
 ghost use Rattle.ob_seal.specs.Sealed.{IsSalt, cipher_label, draw_label, keys_salted, mac_label, pair_by, relisted, salt_at, sealed};
 ghost use Rattle.ob_seal.specs.declared.At.{At as Head};
@@ -30,4 +31,9 @@ pub fn labels_are_apart()
     ensures purposes { (s t : Option (List ℕ)) → IsSalt s → IsSalt t
         → (cipher_label s ≢ mac_label t) × (cipher_label s ≢ draw_label t)
         × (mac_label s ≢ draw_label t) }
+{}
+
+/// The draws of a seed repeat after 2^67 of them.
+pub fn draws_repeat()
+    ensures { (key : List ℕ) (n : ℕ) → draw_at key (n % 2 ^ 67) ≡ draw_at key n }
 {}
