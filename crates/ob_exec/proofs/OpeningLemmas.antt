@@ -63,11 +63,11 @@ cause_opening closing (Tampered q p) a b s same cause there = (cause.0 ∙ same,
 cause_opening closing NoMemory a b s same cause there = cause.0 ∙ same
 
 -- a changed block whose tag doesn't fit ended it
-record Cut (e : OpenErr) (lie : Lie) (asked : List Access) : Type 0 where
+record EndsAtLie (e : OpenErr) (lie : Lie) (asked : List Access) : Type 0 where
   is : e ≡ Tampered lie.region lie.place
   last : asked ≡ lie.before ++ Read lie.region lie.place ∷ []
 
-cut_by : (e : OpenErr) (a b : World) → OpenCause e a b → Calm a → (lie : Lie) → b.store.lie ≡ Some lie → (TagFits b.vault.keys b.vault.start lie → ⊥) → Cut e lie b.store.asked
+cut_by : (e : OpenErr) (a b : World) → OpenCause e a b → Calm a → (lie : Lie) → b.store.lie ≡ Some lie → (TagFits b.vault.keys b.vault.start lie → ⊥) → EndsAtLie e lie b.store.asked
 cut_by Failed a b cause calm lie told unfit = absurd (unfit ((cause.1 calm).calm lie told))
 cut_by (Tampered q p) a b cause calm lie told unfit = elim (cause.2 calm) [
   | inl is ↦ absurd (unfit (is.calm lie told))
@@ -267,7 +267,7 @@ module _ {R : Type 0} (state : R → RevState) (config : Config) (keys : KeySet)
             let place : p ≡ tampered.place = cc same in
             let below = tampered.below in (cc same, omega (arith, place, below))
 
-        cut_at : (lie : Lie) → s2.lie ≡ Some lie → (TagFits keys (opened_start closing []) lie → ⊥) → IsNumbered closing mid ⊎ (s2.lie ≡ s1.lie) → Cut e lie s2.asked
+        cut_at : (lie : Lie) → s2.lie ≡ Some lie → (TagFits keys (opened_start closing []) lie → ⊥) → IsNumbered closing mid ⊎ (s2.lie ≡ s1.lie) → EndsAtLie e lie s2.asked
         cut_at lie told unfit (inl numbered) =
             cut_by e first mid reads.opens.err.cause calm_first lie told
             (λ fits. unfit (fits_as v1.keys keys (start_of v1) (opened_start closing []) lie (keys_mid reads.opens.err.stays) (start_mid reads.opens.err.stays numbered) fits))

@@ -14,7 +14,6 @@ use Rattle.ob_vault.specs.Calls.{Seals}
 use Rattle.ob_flat.specs.Flats as F
 use Rattle.ob_sql.specs.declared.stmt.Stmt.{Stmt}
 use Rattle.ob_sql.specs.Skeleton.{skeleton}
-use Rattle.ob_mean.specs.declared.answer.Answer.{Answer}
 use Rattle.ob_mean.specs.Verdict.{Tables, verdict, seen}
 use Rattle.ob_mean.specs.Settle.{settle}
 use Rattle.ob_mean.specs.Replay.{cut_at}

@@ -28,11 +28,11 @@ length-column_text c few = omega (
 )
 
 -- ---- a list in two parts
-pub record Cut (n : ℕ) (whole xs ys : List ℕ) : Type 0 where
+pub record InTwo (n : ℕ) (whole xs ys : List ℕ) : Type 0 where
   pub front : take n whole ≡ xs
   pub back : drop n whole ≡ ys
 
-pub cut : (n : ℕ) (whole xs ys : List ℕ) → length xs ≡ n → whole ≡ xs ++ ys → Cut n whole xs ys
+pub cut : (n : ℕ) (whole xs ys : List ℕ) → length xs ≡ n → whole ≡ xs ++ ys → InTwo n whole xs ys
 cut n whole xs ys size is = record {
   front = ap (take n) is ∙ take_at xs ys n size;
   back = ap (drop n) is ∙ drop_at xs ys n size;

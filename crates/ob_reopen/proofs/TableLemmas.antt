@@ -142,7 +142,7 @@ pub same_region : {n m v : ℕ} (pack : ℕ) (t : Listed) → n ≡ blocks_of pa
 same_region pack t blocks each wide i = record { blocks = blocks i; width = each i * wide i; order = Round }
 
 -- ---- so many tables were opened
-pub record Opened (closing : Closing) (listed : List Listed) (i : ℕ) (old now : World) : Type 0 where
+pub record OpenedUpTo (closing : Closing) (listed : List Listed) (i : ℕ) (old now : World) : Type 0 where
   pub all : OpensAll (open_script closing.pack (take i listed)) (IsOf (take i listed)) old now
   pub lie : now.store.lie ≡ old.store.lie
   pub given : (j : ℕ) (t : Listed) → j < i → slice_get listed j ≡ Some t → (x : ℕ) → x < blocks_of closing.pack t
@@ -154,7 +154,7 @@ pub record Opened (closing : Closing) (listed : List Listed) (i : ℕ) (old now 
       → KeptSealed good t.table.region t.number old) → Seals good old now
 
 module _ (closing : Closing) (listed : List Listed) (catalogue : IsCatalogue closing listed) (old now : World) (awaits : AwaitsTables closing old) (i : ℕ) (t : Listed) (is : slice_get listed i ≡ Some t)
-    (opened : Opened closing listed i old now) where
+    (opened : OpenedUpTo closing listed i old now) where
   off_closing : t.table.region ≢ closing.region
   off_closing same = let within = (table_is closing listed catalogue i t is).region_most in absurd (omega (arith, within, same))
 
@@ -196,7 +196,7 @@ module _ (closing : Closing) (listed : List Listed) (catalogue : IsCatalogue clo
       }
 
 -- none was opened yet
-pub opened_none : (closing : Closing) (listed : List Listed) (w : World) → Ready w → Opened closing listed 0 w w
+pub opened_none : (closing : Closing) (listed : List Listed) (w : World) → Ready w → OpenedUpTo closing listed 0 w w
 opened_none closing listed w ready = record {
   all = opens_went [] (IsOf []) w w (went_none (IsOf []) w ready);
   lie = refl;
@@ -219,7 +219,7 @@ reopened_stays pack u some old now new stays off is = record {
 
 -- one more was opened
 module _ {T : Type 0} (value : T) (closing : Closing) (listed : List Listed) (catalogue : IsCatalogue closing listed) (old now new : World) (i : ℕ) (t : Listed) (is : slice_get listed i ≡ Some t)
-    (opened : Opened closing listed i old now) (resumes : ResumesRegion t.table.region (listed_region closing.pack t) t.number (Ok value) now new) where
+    (opened : OpenedUpTo closing listed i old now) (resumes : ResumesRegion t.table.region (listed_region closing.pack t) t.number (Ok value) now new) where
   off : IsOf (take i listed) t.table.region → ⊥
   off = not_before closing listed catalogue i t is
 
@@ -251,7 +251,7 @@ module _ {T : Type 0} (value : T) (closing : Closing) (listed : List Listed) (ca
         record { rows = s.rows; is = s.is ∙ ap (λ (keys : KeySet). sealed keys (at_of t.table.region x (t.number + x)) s.rows) (sym opened.all.stays.keys); fine = s.fine };
   }
 
-  pub opened_more : Opened closing listed (i + 1) old new
+  pub opened_more : OpenedUpTo closing listed (i + 1) old new
   opened_more = record {
     all = subst (λ (l : List Access). OpensAll l (IsOf (take (i + 1) listed)) old new) script
         (opens_join (IsOf (take (i + 1) listed)) old now new (open_script closing.pack (take i listed)) (open_table closing.pack t)
@@ -291,7 +291,7 @@ module _ {T : Type 0} (value : T) (closing : Closing) (listed : List Listed) (ca
 
 -- the next one stays shut
 module _ {T : Type 0} (e : VaultErr) (closing : Closing) (listed : List Listed) (old now new : World) (i : ℕ) (t : Listed) (is : slice_get listed i ≡ Some t)
-    (opened : Opened closing listed i old now) (resumes : ResumesRegion {T = T} t.table.region (listed_region closing.pack t) t.number (Err e) now new) where
+    (opened : OpenedUpTo closing listed i old now) (resumes : ResumesRegion {T = T} t.table.region (listed_region closing.pack t) t.number (Err e) now new) where
   early : (q : ℕ) → IsOf (take i listed) q → IsOf listed q
   early q of = record { place = of.place; table = of.table; is = (got_early listed i of.place of.table of.is).1; region = of.region }
 
@@ -315,11 +315,11 @@ module _ {T : Type 0} (e : VaultErr) (closing : Closing) (listed : List Listed) 
       (part_wider (one t.table.region) now new (IsOf listed) last (open_error e) (open_table closing.pack t) (opens_shut {T = T} t.table.region t.number (listed_region closing.pack t) now new e resumes))))
 
 -- all of them were opened
-pub opened_all : (closing : Closing) (listed : List Listed) (old new : World) (i : ℕ) → length listed ≤ i → Opened closing listed i old new → OpensAll (open_script closing.pack listed) (IsOf listed) old new
+pub opened_all : (closing : Closing) (listed : List Listed) (old new : World) (i : ℕ) → length listed ≤ i → OpenedUpTo closing listed i old new → OpensAll (open_script closing.pack listed) (IsOf listed) old new
 opened_all closing listed old new i end opened = subst (λ (l : List Listed). OpensAll (open_script closing.pack l) (IsOf l) old new) (take_all i listed end) opened.all
 
 -- ---- what may be asked
-module _ (closing : Closing) (listed : List Listed) (i : ℕ) (old now : World) (awaits : AwaitsTables closing old) (opened : Opened closing listed i old now) where
+module _ (closing : Closing) (listed : List Listed) (i : ℕ) (old now : World) (awaits : AwaitsTables closing old) (opened : OpenedUpTo closing listed i old now) where
   length-script : (pack : ℕ) (ts : List Listed) → length (open_script pack ts) ≡ length ts
   length-script pack [] = refl
   length-script pack (t ∷ ts) = ap suc (length-script pack ts)
@@ -338,7 +338,7 @@ module _ (closing : Closing) (listed : List Listed) (i : ℕ) (old now : World) 
 
 -- ---- what was done
 pub tables_cut : {T U : Type 0} (e : VaultErr) (closing : Closing) (listed : List Listed) (catalogue : IsCatalogue closing listed) (old now new : World) (i : ℕ) (t : Listed) (is : slice_get listed i ≡ Some t)
-    → Opened closing listed i old now → ResumesRegion {T = T} t.table.region (listed_region closing.pack t) t.number (Err e) now new → ReopensTables {T = U} closing listed (Err (open_error e)) old new
+    → OpenedUpTo closing listed i old now → ResumesRegion {T = T} t.table.region (listed_region closing.pack t) t.number (Err e) now new → ReopensTables {T = U} closing listed (Err (open_error e)) old new
 tables_cut {T} e closing listed catalogue old now new i t is opened resumes = record {
   opens = record { ok = tt; err = opened_part e closing listed old now new i t is opened resumes };
   never = elim resumes.never [
@@ -354,7 +354,7 @@ tables_cut {T} e closing listed catalogue old now new i t is opened resumes = re
   };
 }
 
-pub tables_all : {T : Type 0} (value : T) (closing : Closing) (listed : List Listed) (old new : World) (i : ℕ) → length listed ≤ i → Opened closing listed i old new → ReopensTables closing listed (Ok value) old new
+pub tables_all : {T : Type 0} (value : T) (closing : Closing) (listed : List Listed) (old new : World) (i : ℕ) → length listed ≤ i → OpenedUpTo closing listed i old new → ReopensTables closing listed (Ok value) old new
 tables_all value closing listed old new i end opened = record {
   opens = record { ok = opened_all closing listed old new i end opened; err = tt };
   never = tt;

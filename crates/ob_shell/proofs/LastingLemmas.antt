@@ -1,18 +1,17 @@
 -- What lasts while texts are served: the pack, the rows that may be open, and that no block lies in clear.
-use Rattle.std.proofs.Common.{◌≡◌, ◌≤◌, ℕ, Bool, IsTrue, List, [], ◌∷◌, None, Ok, Err, Result, inl, inr, sym, ◌∙◌, ap, subst, arith}
+use Rattle.std.proofs.Common.{◌≡◌, ◌≤◌, ℕ, Bool, IsTrue, List, [], ◌∷◌, None, Result, inl, inr, sym, ◌∙◌, ap, subst, arith}
 use Rattle.ob_base.specs.declared.config.Config.{Config}
 use Rattle.ob_base.specs.declared.config.Public.{Public}
 use Rattle.ob_base.specs.declared.refusal.Stop.{Stop}
 use Rattle.ob_exec.specs.Agreeing.{public_of, rows_of, world_of}
 use Rattle.ob_select.specs.Selecting.{AcceptsRows}
 use Rattle.ob_exec.specs.declared.engine.Engine.{Engine}
-use Rattle.ob_exec.specs.declared.stop.RunStop.{RunStop}
 use Rattle.ob_headline.specs.Words.{Answer}
 use Rattle.ob_shell.proofs.LaterLemmas.{step_later}
 use Rattle.ob_shell.proofs.ReplayLemmas.{step_goes}
-use Rattle.ob_shell.proofs.StepLemmas.{by_last}
+use Rattle.ob_shell.proofs.StepLemmas.{last_by}
 use Rattle.ob_shell.specs.Running.{LastPart}
-use Rattle.ob_shell.specs.Steps.{Machine, PartlyAt, Step, Steps}
+use Rattle.ob_shell.specs.Steps.{Machine, Step, Steps}
 use Rattle.ob_store.specs.State.{StoreState}
 use Rattle.ob_vault.specs.State.{RevState}
 use Rattle.ob_vault.specs.Tied.{AllSealed, Scope, next_fault}
@@ -39,20 +38,10 @@ module _ {R : Type 0} (state : R → RevState) (config : Config) where
   steps_sizes m0 m2 [] answers steps sizes = subst (λ (m : Machine R). HasSizes config m) (sym steps.0) sizes
   steps_sizes m0 m2 (text ∷ texts) answers steps sizes = steps_sizes steps.0 m2 texts steps.2 steps.5 (step_sizes m0 steps.0 text steps.1 steps.4 sizes)
 
-  rests_rows : (m1 m2 : Machine R) → m2 ≡ m1 → HasSizes config m1 → rows_of m2.engine ≡ config.buffer
-  rests_rows m1 m2 same sizes = ap (λ (m : Machine R). rows_of m.engine) same ∙ sizes.rows
-
-  part_rows : (m1 m2 : Machine R) (more : List (List ℕ)) (run : RunStop) (part : List ℕ) → PartlyAt state m1 m2 more run part → HasSizes config m1 → rows_of m2.engine ≡ config.buffer
-  part_rows m1 m2 [] run part idle sizes = rests_rows m1 m2 idle.rests.machine sizes
-  part_rows m1 m2 (text ∷ more) run part (inl idle) sizes = rests_rows m1 m2 idle.rests.machine sizes
-  part_rows m1 m2 (text ∷ more) run part (inr (inl cut)) sizes = cut.does.ran.room.rows ∙ sizes.buffer
-  part_rows m1 m2 (text ∷ more) run part (inr (inr done)) sizes = (step_sizes m1 m2 text done.answer done.step sizes).rows
-
   pub last_rows : (m1 m2 : Machine R) (more : List (List ℕ)) (part : List ℕ) (result : Result Bool Stop) → LastPart state m1 m2 more part result → HasSizes config m1 → rows_of m2.engine ≡ config.buffer
-  last_rows m1 m2 more part (Ok flag) rests sizes = rests_rows m1 m2 rests.machine sizes
-  last_rows m1 m2 more part (Err stop) last sizes =
-      by_last state m1 m2 more part (λ (s : Stop). rows_of m2.engine ≡ config.buffer) stop last (λ run partly. part_rows m1 m2 more run part partly sizes)
-      (λ rests. rests_rows m1 m2 rests.machine sizes) (λ rests. rests_rows m1 m2 rests.machine sizes)
+  last_rows m1 m2 more part result last sizes =
+      last_by state m1 m2 more part (rows_of m2.engine ≡ config.buffer) result last (λ is. ap (λ (m : Machine R). rows_of m.engine) is ∙ sizes.rows) (λ text run cut. cut.does.ran.room.rows ∙ sizes.buffer)
+      (λ text answer step. (step_sizes m1 m2 text answer step sizes).rows)
 
   -- ---- blocks
   module _ (good : ℕ → List ℕ → Bool) (scope : Scope) (accepts : AcceptsRows good config.pack) (single : AcceptsRows good 1) where
@@ -80,17 +69,10 @@ module _ {R : Type 0} (state : R → RevState) (config : Config) where
         steps_sealed m1 m2 texts steps.2 steps.5 (step_sizes m0 m1 text steps.1 steps.4 sizes) (omega (arith, few, later.faults))
         (subst (λ (b : Bool). IsTrue b) (sym later.tells) tells) (step_sealed m0 m1 text steps.1 steps.4 sizes few tells all)
 
-    part_sealed : (m1 m2 : Machine R) (more : List (List ℕ)) (run : RunStop) (part : List ℕ) → PartlyAt state m1 m2 more run part → HasSizes config m1 → IsBelow m1 → IsTrue m1.store.tells → IsSealed m1 → IsSealed m2
-    part_sealed m1 m2 [] run part idle sizes few tells all = subst (λ (m : Machine R). IsSealed m) (sym idle.rests.machine) all
-    part_sealed m1 m2 (text ∷ more) run part (inl idle) sizes few tells all = subst (λ (m : Machine R). IsSealed m) (sym idle.rests.machine) all
-    part_sealed m1 m2 (text ∷ more) run part (inr (inl cut)) sizes few tells all = (cut.does.seals good (accepts_at m1 sizes) single).seals scope few tells all
-    part_sealed m1 m2 (text ∷ more) run part (inr (inr done)) sizes few tells all = step_sealed m1 m2 text done.answer done.step sizes few tells all
-
     pub last_sealed : (m1 m2 : Machine R) (more : List (List ℕ)) (part : List ℕ) (result : Result Bool Stop) → LastPart state m1 m2 more part result → HasSizes config m1 → IsBelow m1 → IsTrue m1.store.tells → IsSealed m1 → IsSealed m2
-    last_sealed m1 m2 more part (Ok flag) rests sizes few tells all = subst (λ (m : Machine R). IsSealed m) (sym rests.machine) all
-    last_sealed m1 m2 more part (Err stop) last sizes few tells all =
-        by_last state m1 m2 more part (λ (s : Stop). IsSealed m2) stop last (λ run partly. part_sealed m1 m2 more run part partly sizes few tells all)
-        (λ rests. subst (λ (m : Machine R). IsSealed m) (sym rests.machine) all) (λ rests. subst (λ (m : Machine R). IsSealed m) (sym rests.machine) all)
+    last_sealed m1 m2 more part result last sizes few tells all =
+        last_by state m1 m2 more part (IsSealed m2) result last (λ is. subst (λ (m : Machine R). IsSealed m) (sym is) all) (λ text run cut. (cut.does.seals good (accepts_at m1 sizes) single).seals scope few tells all)
+        (λ text answer step. step_sealed m1 m2 text answer step sizes few tells all)
 
 module _ {R : Type 0} (state : R → RevState) where
   pub steps_tell : (m0 m2 : Machine R) (texts : List (List ℕ)) (answers : List Answer) → Steps state m0 m2 texts answers → IsTrue m0.store.tells → IsTrue m2.store.tells

@@ -1,11 +1,10 @@
 -- What lasts of a store while texts are served.
-use Rattle.std.proofs.Common.{◌≡◌, ℕ, Bool, List, [], ◌∷◌, Ok, Err, Result, inl, inr, sym, subst}
+use Rattle.std.proofs.Common.{◌≡◌, ℕ, Bool, List, [], ◌∷◌, Result, inl, inr, sym, subst}
 use Rattle.ob_base.specs.declared.refusal.Stop.{Stop}
-use Rattle.ob_exec.specs.declared.stop.RunStop.{RunStop}
 use Rattle.ob_headline.specs.Words.{Answer}
-use Rattle.ob_shell.proofs.StepLemmas.{by_last}
+use Rattle.ob_shell.proofs.StepLemmas.{last_by}
 use Rattle.ob_shell.specs.Running.{LastPart}
-use Rattle.ob_shell.specs.Steps.{Machine, PartlyAt, Step, Steps}
+use Rattle.ob_shell.specs.Steps.{Machine, Step, Steps}
 use Rattle.ob_store.proofs.Steps.{later_refl, later_trans}
 use Rattle.ob_store.specs.Runs.{Later}
 use Rattle.ob_vault.specs.State.{RevState}
@@ -23,13 +22,5 @@ module _ {R : Type 0} (state : R → RevState) where
   steps_later m0 m2 (text ∷ texts) answers steps =
       later_trans _ _ _ (step_later m0 steps.0 text steps.1 steps.4) (steps_later steps.0 m2 texts steps.2 steps.5)
 
-  part_later : (m1 m2 : Machine R) (more : List (List ℕ)) (run : RunStop) (part : List ℕ) → PartlyAt state m1 m2 more run part → Later m1.store m2.store
-  part_later m1 m2 [] run part idle = same m1 m2 idle.rests.machine
-  part_later m1 m2 (text ∷ more) run part (inl idle) = same m1 m2 idle.rests.machine
-  part_later m1 m2 (text ∷ more) run part (inr (inl cut)) = cut.does.ran.later
-  part_later m1 m2 (text ∷ more) run part (inr (inr done)) = step_later m1 m2 text done.answer done.step
-
   pub last_later : (m1 m2 : Machine R) (more : List (List ℕ)) (part : List ℕ) (result : Result Bool Stop) → LastPart state m1 m2 more part result → Later m1.store m2.store
-  last_later m1 m2 more part (Ok flag) rests = same m1 m2 rests.machine
-  last_later m1 m2 more part (Err stop) last =
-      by_last state m1 m2 more part (λ (s : Stop). Later m1.store m2.store) stop last (λ run partly. part_later m1 m2 more run part partly) (λ rests. same m1 m2 rests.machine) (λ rests. same m1 m2 rests.machine)
+  last_later m1 m2 more part result last = last_by state m1 m2 more part (Later m1.store m2.store) result last (same m1 m2) (λ text run cut. cut.does.ran.later) (step_later m1 m2)

@@ -1,16 +1,15 @@
 -- Rows were open where blocks were read or written.
-use Rattle.std.proofs.Common.{◌≡◌, ◌≤◌, ◌++◌, ◌||◌, ℕ, Bool, true, false, IsTrue, List, [], ◌∷◌, Ok, Err, Result, inl, inr, sym, ◌∙◌, ap, subst, refl, arith}
+use Rattle.std.proofs.Common.{◌≡◌, ◌≤◌, ◌++◌, ◌||◌, ℕ, Bool, true, false, IsTrue, List, [], ◌∷◌, Result, inl, inr, sym, ◌∙◌, ap, subst, refl, arith}
 use Rattle.std.proofs.lemmas.List.Folds.{list_any-append}
 use Rattle.std.specs.List.{list_any}
 use Rattle.ob_base.specs.declared.access.Access.{Access}
 use Rattle.ob_base.specs.declared.refusal.Stop.{Stop}
 use Rattle.ob_select.specs.Opening.{is_of_rows, Opens}
-use Rattle.ob_exec.specs.declared.stop.RunStop.{RunStop}
 use Rattle.ob_headline.specs.Words.{Answer}
-use Rattle.ob_shell.proofs.StepLemmas.{by_last}
+use Rattle.ob_shell.proofs.StepLemmas.{last_by}
 use Rattle.ob_shell.specs.Running.{LastPart}
 use Rattle.ob_shell.specs.Standing.{IsUsed}
-use Rattle.ob_shell.specs.Steps.{Machine, PartlyAt, Step, Steps}
+use Rattle.ob_shell.specs.Steps.{Machine, Step, Steps}
 use Rattle.ob_vault.specs.State.{RevState}
 
 either : (a b : Bool) (old new : ℕ) → old ≤ new → (IsTrue a → 1 ≤ old) → (IsTrue b → 1 ≤ new) → IsTrue (a || b) → 1 ≤ new
@@ -40,16 +39,9 @@ module _ {R : Type 0} (state : R → RevState) where
   steps_open m0 m2 [] answers steps used = same m0 m2 steps.0 used
   steps_open m0 m2 (text ∷ texts) answers steps used = steps_open steps.0 m2 texts steps.2 steps.5 (step_opens m0 steps.0 text steps.1 steps.4 used)
 
-  part_opens : (m1 m2 : Machine R) (more : List (List ℕ)) (run : RunStop) (part : List ℕ) → PartlyAt state m1 m2 more run part → Used m1 → Used m2
-  part_opens m1 m2 [] run part idle used = same m1 m2 idle.rests.machine used
-  part_opens m1 m2 (text ∷ more) run part (inl idle) used = same m1 m2 idle.rests.machine used
-  part_opens m1 m2 (text ∷ more) run part (inr (inl cut)) used = after _ _ _ _ _ cut.does.ran.asked cut.does.ran.opened used
-  part_opens m1 m2 (text ∷ more) run part (inr (inr done)) used = step_opens m1 m2 text done.answer done.step used
-
   last_opens : (m1 m2 : Machine R) (more : List (List ℕ)) (part : List ℕ) (result : Result Bool Stop) → LastPart state m1 m2 more part result → Used m1 → Used m2
-  last_opens m1 m2 more part (Ok flag) rests used = same m1 m2 rests.machine used
-  last_opens m1 m2 more part (Err stop) last used =
-      by_last state m1 m2 more part (λ (s : Stop). Used m2) stop last (λ run partly. part_opens m1 m2 more run part partly used) (λ rests. same m1 m2 rests.machine used) (λ rests. same m1 m2 rests.machine used)
+  last_opens m1 m2 more part result last used =
+      last_by state m1 m2 more part (Used m2) result last (λ is. same m1 m2 is used) (λ text run cut. after _ _ _ _ _ cut.does.ran.asked cut.does.ran.opened used) (λ text answer step. step_opens m1 m2 text answer step used)
 
   -- of the texts that were served, and what was done after them
   pub session_opens : (m0 m1 m2 : Machine R) (texts more : List (List ℕ)) (answers : List Answer) (part : List ℕ) (result : Result Bool Stop)

@@ -1,5 +1,5 @@
 -- Texts that are answered one after the other.
-use Rattle.std.proofs.Common.{◌≡◌, ℕ, List, [], ◌∷◌, ◌++◌, Option, Err, refl, sym, ap, ◌∙◌, subst, inl, inr, append_assoc, append-nil}
+use Rattle.std.proofs.Common.{◌≡◌, ℕ, List, [], ◌∷◌, ◌++◌, Bool, Option, Ok, Err, Result, refl, sym, ap, ◌∙◌, subst, inl, inr, append_assoc, append-nil}
 use Rattle.std.proofs.KnownBytes.{Appends-nil}
 use Rattle.std.specs.Io.KnownBytes.{Appends}
 use Rattle.ob_base.specs.declared.refusal.Stop.{Stop}
@@ -14,7 +14,7 @@ use Rattle.ob_print.proofs.CutLemmas.{Outputs-by, Outputs-whole}
 use Rattle.ob_shell.proofs.StopLemmas.{by_stop, stopped_as}
 use Rattle.ob_shell.proofs.TallyLemmas.{tally_after-nil, tally_after-one}
 use Rattle.ob_shell.specs.Running.{LastPart}
-use Rattle.ob_shell.specs.Steps.{Machine, Step, Steps, Idle, IsUndone, PartlyAt, AnswersAll, StopsIn}
+use Rattle.ob_shell.specs.Steps.{CutStep, Machine, Step, Steps, Idle, IsUndone, PartlyAt, AnswersAll, StopsIn}
 use Rattle.ob_shell.specs.Tallies.{tally_with}
 use Rattle.ob_vault.specs.State.{RevState}
 
@@ -127,3 +127,15 @@ module _ {R : Type 0} (state : R → RevState) (m1 m2 : Machine R) (more : List 
   pub by_last : (P : Stop → Type 0) (stop : Stop) → LastPart state m1 m2 more part (Err stop) → ((run : RunStop) → PartlyAt state m1 m2 more run part → P (session_stop run))
       → (IsUndone m1 m2 part → P SourceFault) → (IsUndone m1 m2 part → P InputLimit) → P stop
   by_last = by_stop (λ run. PartlyAt state m1 m2 more run part) (IsUndone m1 m2 part) (IsUndone m1 m2 part)
+
+  -- what was done to the machine alone: nothing, a part of a text, or a text
+  pub last_by : (P : Type 0) (result : Result Bool Stop) → LastPart state m1 m2 more part result → (m2 ≡ m1 → P) → ((text : List ℕ) (run : RunStop) → CutStep state m1 m2 text run part → P)
+      → ((text : List ℕ) (answer : Answer) → Step state m1 m2 text answer → P) → P
+  last_by P (Ok refused) rests none cut step = none rests.machine
+  last_by P (Err stop) last none cut step = by_last (λ (s : Stop). P) stop last (go more) (λ rests. none rests.machine) (λ rests. none rests.machine)
+    where
+      go : (texts : List (List ℕ)) (run : RunStop) → PartlyAt state m1 m2 texts run part → P
+      go [] run idle = none idle.rests.machine
+      go (text ∷ texts) run (inl idle) = none idle.rests.machine
+      go (text ∷ texts) run (inr (inl short)) = cut text run short
+      go (text ∷ texts) run (inr (inr done)) = step text done.answer done.step

@@ -1,5 +1,5 @@
 -- Stops of the engine, and of the session.
-use Rattle.std.proofs.Common.{◌≡◌, false, Err, refl}
+use Rattle.std.proofs.Common.{◌≡◌, Err, refl}
 use Rattle.ob_base.specs.declared.refusal.Stop.{Stop}
 use Rattle.ob_base.specs.declared.refusal.Stop.TheVariants.{Tampered, SourceFault, SinkFault, NoMemory, InputLimit}
 use Rattle.ob_exec.specs.Stops.{session_stop}

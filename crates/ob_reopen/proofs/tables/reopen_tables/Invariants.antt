@@ -1,9 +1,9 @@
 use Rattle.ob_vault.specs.Places.{at}
-use Rattle.ob_reopen.proofs.TableLemmas.{Opened}
+use Rattle.ob_reopen.proofs.TableLemmas.{OpenedUpTo}
 use Rattle.ob_reopen.proofs.tables.reopen_tables.Given as goal
 
 abbrev pub invariant-loop-i : goal.invariant-loop-i
 invariant-loop-i g l =
     let old = at g.R.Revisions.state l.initial.vault (g.S.BlockStore.state l.initial.store) in
     let now = at g.R.Revisions.state l.vault (g.S.BlockStore.state l.store) in
-    Opened l.closing l.listed l.i old now
+    OpenedUpTo l.closing l.listed l.i old now
