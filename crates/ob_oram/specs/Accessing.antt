@@ -25,7 +25,8 @@ use Rattle.ob_oram.specs.Buffers.{IsCrowded}
 use Rattle.ob_oram.specs.Heights.{leaf_of_draw, rows_open}
 use Rattle.ob_oram.specs.Ops.{key_of_op, op_in, got_in, put_in}
 use Rattle.ob_oram.specs.Indexes.{IsIndex, IsMap, IsStored, Lies, LiesAs, SealsIndex, leaves_of, key_of, tree_of, stash_of}
-use Rattle.ob_oram.specs.Opens.{AreKeyed, OpensIndex, last_slot, leaf_with, leaves_with}
+use Rattle.ob_oram.specs.Opens.{AreKeyed, last_slot, leaf_with, leaves_with}
+use Rattle.ob_oram.specs.Opened.{OpensIndex}
 use Rattle.ob_oram.specs.Scripts.{read_script, access_script}
 
 -- the key of an operation, and the leaf of its draw

@@ -58,24 +58,6 @@ pub record IsOpen (index : Index) (remap : Remap) (slots : Slots)
 abbrev pub last_slot : Index → ℕ
 last_slot index = path_blocks index.height + index.slots
 
--- they are those of a path and of the stash in a state, without the rows that have no key of the index
-pub record OpensSlots (index : Index) (leaf : ℕ) (slots : Slots) (s : State Row) : Type 0 where
-  pub path : (c : ℕ) → c < path_blocks index.height
-      → slice_index_or slots (path_slot index.height c) None
-      ≡ keyed_slot index (slice_index_or s.tree (path_place index.height leaf c) None)
-  pub stash : (i : ℕ) → i < index.slots
-      → slice_index_or slots (path_blocks index.height + i) None
-      ≡ keyed_slot index (slice_index_or s.stash i None)
-
--- a path and the stash lie open, as they lay in the store
-pub record OpensIndex (index : Index) (leaf : ℕ) (slots : Slots) (old new : World) : Type 0 where
-  pub spare : slice_index_or slots (last_slot index) None ≡ None
-  pub count : length slots ≡ rows_open index.height index.slots
-  pub lying : IsHonest old new → (s : State Row) → LiesAs index s old
-      → OpensSlots index leaf slots s
-  pub told : IsHonest old new → (s : State Row) → Lies index s old
-      → slots ≡ open_slots index.height leaf s
-
 -- the key of an operation in the model
 abbrev pub tree_key : Index → Op → ℕ
 tree_key index op = Tree.key_of (key_of index) (op_in index.capacity op)
