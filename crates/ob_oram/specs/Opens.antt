@@ -1,5 +1,5 @@
 -- The rows of an index that lie open in an access.
-use Rattle.std.specs.Prelude.{◌≡◌, ◌<◌, ◌≤◌, ◌+◌, ℕ, Bool, List, Option, Some, None, filter, length, slice_index_or, slice_set, nat_lt, if◌then◌else◌}
+use Rattle.std.specs.Prelude.{◌≡◌, ◌<◌, ◌≤◌, ◌+◌, ℕ, Bool, List, Option, Some, None, filter, length, map, slice_index_or, slice_set, nat_lt, if◌then◌else◌}
 use Rattle.std.specs.Option.{option_map}
 use Rattle.ob_vault.specs.State.{World}
 use Rattle.ob_row.specs.Rows.{Row}
@@ -20,7 +20,7 @@ use Rattle.ob_oram.specs.declared.op.Op.{Op}
 use Rattle.ob_oram.specs.declared.op.Got.{Got}
 use Rattle.ob_oram.specs.Heights.{path_blocks, rows_open}
 use Rattle.ob_oram.specs.Buffers.{Sees, held_of}
-use Rattle.ob_oram.specs.Ops.{op_in, got_in, put_in}
+use Rattle.ob_oram.specs.Ops.{op_in, got_in, keys_behind}
 use Rattle.ob_oram.specs.Indexes.{Lies, LiesAs, leaves_of, key_of}
 
 -- the leaves where one key has another, and the leaf of a row then
@@ -69,6 +69,6 @@ pub record ServesRows (index : Index) (op : Op) (slots after : Slots) (got : Got
   pub answer : Single (key_of index) (rows slots) → got_in got
       ≡ Tree.answer index.capacity (tree_key index op) (op_in index.capacity op)
       (first (with_key (key_of index) (tree_key index op) (rows slots)))
-  -- also where two rows have one key: no row is added but that of an insert, and none gets another key
-  pub most : (p : ℕ → Bool) → length (filter (λ row. p (key_of index row)) (rows after))
-      ≤ length (filter (λ row. p (key_of index row)) (rows slots)) + put_in op
+  -- also where two rows have one key, as many keys of each kind stand there
+  pub keys : (p : ℕ → Bool) → length (filter (λ row. p (key_of index row)) (rows after))
+      ≡ length (filter p (keys_behind index.capacity op (map (key_of index) (rows slots))))
