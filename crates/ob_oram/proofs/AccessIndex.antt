@@ -1,5 +1,5 @@
 -- What an access says of an index whose buffer was taken out meanwhile.
-use Rattle.std.proofs.Common.{◌≡◌, ◌⊎◌, ◌≤◌, ◌<◌, inl, inr, ℕ, true, false, List, [], Option, None, Result, Ok, Err, Global, length, replicate, get_or, set, refl, sym, ◌∙◌, ap, subst, arith}
+use Rattle.std.proofs.Common.{◌≡◌, ◌⊎◌, ◌≤◌, ◌<◌, inl, inr, ℕ, zero, suc, true, false, List, [], Option, None, Result, Ok, Err, Global, length, replicate, get_or, set, refl, sym, ◌∙◌, ap, subst, arith}
 use Rattle.std.specs.Prelude.{is_ok}
 use Rattle.std.specs.declared.vec.Vec.{Vec}
 use Rattle.std.specs.Vec.{with_items}
@@ -11,7 +11,7 @@ use Rattle.ob_room.specs.RoomState.{clear}
 use Rattle.ob_vault.specs.State.{World}
 use Rattle.ob_vault.specs.Rows.{row_at}
 use Rattle.ob_row.specs.Rows.{Row}
-use Rattle.ob_row.specs.Slots.{empty_slots}
+use Rattle.ob_row.specs.Slots.{Slots, empty_slots}
 use Rattle.ob_row.specs.Spelling.{Begins}
 use Rattle.ob_row.proofs.SpellingLemmas.{zeros-begin}
 use Rattle.ob_tree.specs.States.{State}
@@ -23,7 +23,12 @@ use Rattle.ob_oram.specs.declared.index.Index.{Index}
 use Rattle.ob_oram.specs.declared.op.Op.{Op}
 use Rattle.ob_oram.specs.declared.op.Got.{Got}
 use Rattle.ob_oram.specs.Buffers.{IsBuffer, held_of}
-use Rattle.ob_base.specs.Indexes.{rows_open}
+use Rattle.ob_oram.specs.declared.walk.Walk.{Walk}
+use Rattle.ob_oram.specs.declared.walk.Walk.TheVariants.{Stash, Path}
+use Rattle.ob_oram.specs.Walks.{slot_in}
+use Rattle.ob_oram.specs.Walking.{OpensBlock, OpensFirst}
+use Rattle.ob_oram.specs.Halves.{leaf_blocks, stash_blocks}
+use Rattle.ob_base.specs.Indexes.{path_blocks, rows_open}
 use Rattle.ob_oram.specs.Indexes.{LiesAs, IsStored, IsShaped, leaves_of, key_of}
 use Rattle.ob_oram.specs.Opens.{IsOpen, leaf_with, leaves_with}
 use Rattle.ob_oram.specs.Accessing.{Accesses, Answers, HasLeaves, LeftBy, ReadsTooMany, IndexStays, Stops, leaf_read, leaves_after, remap_of}
@@ -58,6 +63,14 @@ module _ (index : Index) (buffer : Vec (Option Held) Global) where
   answers_other : (left : Index) (op : Op) (draw : ℕ) (s : State Row) (got : Got) (new : World) → Answers other left op draw s got new → Answers index left op draw s got new
   answers_other left op draw s got new is = record { went = is.went; is = is.is; answer = is.answer; lies = is.lies }
 
+  block_other : (walk : Walk) (c : ℕ) (kept : Option Row) (old new : World) → OpensBlock other walk c kept old new → OpensBlock index walk c kept old new
+  block_other (Stash slots height) c kept old new is = record { went = is.went; gives = is.gives; slot = is.slot; fits = is.fits; opened = is.opened; is = is.is }
+  block_other (Path height leaf) c kept old new is = record { went = is.went; gives = is.gives; slot = is.slot; fits = is.fits; opened = is.opened; is = is.is }
+
+  blocks_other : (walk : Walk) (slots : Slots) (n : ℕ) (old new : World) → OpensFirst other walk slots n old new → OpensFirst index walk slots n old new
+  blocks_other walk slots zero old new is = is
+  blocks_other walk slots (suc n) old new is = (is.0, blocks_other walk slots n old is.0 is.1, block_other walk n (get_or slots (slot_in walk n) None) is.0 new is.2)
+
   many_other : (op : Op) (draw : ℕ) (old new : World) → ReadsTooMany other op draw old new → ReadsTooMany index op draw old new
   many_other op draw old new is = record {
     slots = is.slots;
@@ -65,6 +78,11 @@ module _ (index : Index) (buffer : Vec (Option Held) Global) where
     opens = record {
       spare = is.opens.spare;
       count = is.opens.count;
+      blocks = record {
+        mid = is.opens.blocks.mid;
+        stash = blocks_other (stash_blocks index) is.slots index.slots old is.opens.blocks.mid is.opens.blocks.stash;
+        path = blocks_other (leaf_blocks index (leaf_read index op draw)) is.slots (path_blocks index.height) is.opens.blocks.mid new is.opens.blocks.path;
+      };
       lying = λ honest s lies. let here = is.opens.lying honest s (lies_other s old lies) in record { path = here.path; stash = here.stash };
       told = λ honest s lies. is.opens.told honest s (record { lies = lies_other s old lies.lies; stands = lies.stands });
     };

@@ -8,6 +8,7 @@ pub mod SlotBlocks
 pub mod WalkScripts
 pub mod WalkReads
 pub mod WalkWrites
+pub mod KeysBehind
 pub mod OpRows
 pub mod IndexReads
 pub mod IndexWrites
