@@ -9,7 +9,7 @@ use Rattle.ob_tree.specs.Paths.{path_slot}
 use Rattle.ob_tree.specs.Slotwise.{open_slots}
 use Rattle.ob_tree.specs.States.{State}
 use Rattle.ob_oram.specs.declared.index.Index.{Index}
-use Rattle.ob_oram.specs.Heights.{path_blocks, rows_open}
+use Rattle.ob_base.specs.Indexes.{path_blocks, rows_open}
 use Rattle.ob_oram.specs.Indexes.{Lies, LiesAs}
 use Rattle.ob_oram.specs.Opens.{keyed_slot, last_slot}
 use Rattle.ob_oram.specs.Walking.{OpensFirst}
