@@ -1,9 +1,8 @@
 -- What an access says of an index whose buffer was taken out meanwhile.
-use Rattle.std.proofs.Common.{◌≡◌, ◌⊎◌, ◌≤◌, ◌<◌, inl, inr, ℕ, zero, suc, true, false, List, [], Option, None, Result, Ok, Err, Global, length, replicate, get_or, set, refl, sym, ◌∙◌, ap, subst, arith}
-use Rattle.std.specs.Prelude.{is_ok}
+use Rattle.std.proofs.Common.{◌≡◌, ◌⊎◌, ◌≤◌, ◌<◌, inl, inr, ℕ, zero, suc, List, [], Option, None, Result, Ok, Err, Global, length, replicate, get_or, set, refl, sym, ◌∙◌, ap, subst, arith}
 use Rattle.std.specs.declared.vec.Vec.{Vec}
 use Rattle.std.specs.Vec.{with_items}
-use Rattle.std.proofs.lemmas.Bool.{cases_lt, false≢true}
+use Rattle.std.proofs.lemmas.Bool.{cases_lt}
 use Rattle.std.proofs.lemmas.List.{length-replicate, get_or-replicate, get_or_past}
 use Rattle.std.specs.Option.{option_map}
 use Rattle.ob_base.specs.Schemas.{width}
@@ -28,7 +27,11 @@ use Rattle.ob_oram.specs.declared.walk.Walk.TheVariants.{Stash, Path}
 use Rattle.ob_oram.specs.Walks.{slot_in}
 use Rattle.ob_oram.specs.Walking.{OpensBlock, OpensFirst}
 use Rattle.ob_oram.specs.Halves.{leaf_blocks, stash_blocks}
+<<<<<<< HEAD
 use Rattle.ob_base.specs.Indexes.{path_blocks, rows_open}
+=======
+use Rattle.ob_oram.specs.Heights.{path_blocks}
+>>>>>>> 9f9a2d221f10e7a6c47b055a3da41698f526cec2
 use Rattle.ob_oram.specs.Indexes.{LiesAs, IsStored, IsShaped, leaves_of, key_of}
 use Rattle.ob_oram.specs.Opens.{IsOpen, leaf_with, leaves_with}
 use Rattle.ob_oram.specs.Accessing.{Accesses, Answers, HasLeaves, LeftBy, ReadsTooMany, IndexStays, Stops, leaf_read, leaves_after, remap_of}
@@ -90,8 +93,8 @@ module _ (index : Index) (buffer : Vec (Option Held) Global) where
   }
 
   pub left_other : (left : Index) (op : Op) (draw : ℕ) (r : Result Got OramErr) → LeftBy r index op draw left → LeftBy r other op draw left
-  left_other left op draw (Ok got) by = record { ok = record { same = by.ok.same; leaves = by.ok.leaves }; err = tt; buffer = by.buffer }
-  left_other left op draw (Err e) by = record { ok = tt; err = record { same = by.err.same; leaves = by.err.leaves }; buffer = tt }
+  left_other left op draw (Ok got) by = record { ok = record { same = by.ok.same; leaves = by.ok.leaves }; err = tt; ended = tt; buffer = by.buffer }
+  left_other left op draw (Err e) by = record { ok = tt; err = record { same = by.err.same; leaves = by.err.leaves }; ended = by.ended; buffer = tt }
 
   pub accesses_other : (left : Index) (op : Op) (draw : ℕ) (r : Result Got OramErr) (old new : World) → Accesses other left op draw r old new → Accesses index left op draw r old new
   accesses_other left op draw (Ok got) old new is = record {
@@ -100,6 +103,7 @@ module _ (index : Index) (buffer : Vec (Option Held) Global) where
     seals = record { seals = is.seals.seals };
     leaves = has_other (leaves_after index op draw) left is.leaves;
     stands = is.stands;
+    ended = tt;
     range = is.range;
     maps = λ honest m map.
         let answers = is.maps honest m (record { state = map.state; lies = lies_other map.state old map.lies; represents = map.represents }) in
@@ -113,20 +117,12 @@ module _ (index : Index) (buffer : Vec (Option Held) Global) where
     seals = record { seals = is.seals.seals };
     leaves = tt;
     stands = tt;
+    ended = is.ended;
     range = tt;
     maps = λ honest m map. tt;
     full = λ same. many_other op draw old new (is.full same);
     told = λ honest s lies. is.told honest s (record { lies = lies_other s old lies.lies; stands = lies.stands });
   }
-
--- what is left by an access that went whole, and by one that stopped
-pub left_ok : (index left : Index) (op : Op) (draw : ℕ) (r : Result Got OramErr) → is_ok r ≡ true → HasLeaves (leaves_after index op draw) index left → length left.buffer.items ≡ rows_open index.height index.slots → LeftBy r index op draw left
-left_ok index left op draw (Ok got) is has buffer = record { ok = has; err = tt; buffer = buffer }
-left_ok index left op draw (Err e) is has buffer = absurd (false≢true is)
-
-pub left_err : (index left : Index) (op : Op) (draw : ℕ) (r : Result Got OramErr) → is_ok r ≡ false → HasLeaves (leaves_of index) index left → LeftBy r index op draw left
-left_err index left op draw (Ok got) is has = absurd (false≢true (sym is))
-left_err index left op draw (Err e) is has = record { ok = tt; err = has; buffer = tt }
 
 -- zero rows are a buffer without a row
 module _ {rows : List (List ℕ)} (n wide : ℕ) (value : rows ≡ replicate n (clear wide)) where

@@ -16,6 +16,7 @@ pub mod Lasting
 pub mod AccessRuns
 pub mod AccessTold
 pub mod Overfull
+pub mod LeafDraws
 pub mod AccessIndex
 pub mod Crowding
 pub mod Seeing

@@ -25,7 +25,7 @@ use Rattle.ob_tree.specs.Keys.{key_number}
 use Rattle.ob_oram.specs.Buffers.{IsCrowded}
 use Rattle.ob_base.specs.Indexes.{leaf_of_draw, rows_open}
 use Rattle.ob_oram.specs.Ops.{key_of_op, op_in, got_in, keys_behind}
-use Rattle.ob_oram.specs.Indexes.{IsIndex, IsMap, IsStored, Lies, LiesAs, SealsIndex, leaves_of, key_of, tree_of, stash_of}
+use Rattle.ob_oram.specs.Indexes.{IsEnded, IsIndex, IsMap, IsStored, Lies, LiesAs, SealsIndex, leaves_of, key_of, tree_of, stash_of}
 use Rattle.ob_oram.specs.Opens.{AreKeyed, last_slot, leaves_with}
 use Rattle.ob_oram.specs.Opened.{OpensIndex}
 use Rattle.ob_oram.specs.Scripts.{read_script, access_script}
@@ -50,21 +50,20 @@ leaves_after index op draw = leaves_with index (remap_of index op draw)
 abbrev pub leaf_after : Index → Op → ℕ → ℕ → ℕ
 leaf_after index op draw k = slice_index_or (leaves_after index op draw) k 0
 
--- the same index with these leaves; its buffer has nothing that counts
+-- the same index with these leaves, whatever its buffer has
 pub record HasLeaves (list : List ℕ) (index left : Index) : Type 0 where
   pub same : left ≡ record index { leaves = left.leaves; buffer = left.buffer }
   pub leaves : leaves_of left ≡ list
 
--- the index that an access leaves: an error leaves the leaves, and maybe no buffer
+-- the index that an access leaves: an error leaves the leaves, and an index that has ended
 pub record LeftBy {T : Type 0} (result : Result T OramErr) (index : Index) (op : Op) (draw : ℕ)
     (left : Index) : Type 0 where
   pub ok : OnOk result (HasLeaves (leaves_after index op draw) index left)
   pub err : OnErr result (HasLeaves (leaves_of index) index left)
+  pub ended : OnErr result (IsEnded left)
   pub buffer : OnOk result (length left.buffer.items ≡ rows_open index.height index.slots)
 
--- an index that wasn't touched is stored still, and lies as it did. It may not be accessed again, for
--- nothing is said of its buffer: the key has the leaf that was read, and another access would read the
--- same path, from which a watcher could tell that the two are of one key
+-- an index that wasn't touched is stored still, and lies as it did
 pub record IndexStays (index left : Index) (old new : World) : Type 0 where
   pub same : HasLeaves (leaves_of index) index left
   pub stored : IsStored left new
@@ -129,6 +128,9 @@ pub record Accesses (index left : Index) (op : Op) (draw : ℕ)
   pub seals : SealsIndex index old new
   pub leaves : OnOk result (HasLeaves (leaves_after index op draw) index left)
   pub stands : OnOk result (IsIndex left new)
+  -- behind a stop it isn't accessed again: the key has the leaf that was read, and another access would read the same
+  -- path, from which a watcher could tell that the two are of one key
+  pub ended : OnErr result (IsEnded left)
   -- the key is none of the index
   pub range : IfOk result (λ got. (got ≡ Gots.OutOfRange)
       ↔ (key_number index.capacity (key_of_op op) ≡ index.capacity))

@@ -13,3 +13,4 @@ pub mod Opened
 pub mod Accessing
 pub mod Short
 pub mod Discards
+pub mod Sequences

@@ -1,27 +1,25 @@
 -- The rows of an index that lie open in an access.
-use Rattle.std.specs.Prelude.{◌≡◌, ◌<◌, ◌≤◌, ◌+◌, ℕ, Bool, List, Option, Some, None, filter, length, map, slice_index_or, slice_set, nat_lt, if◌then◌else◌}
+use Rattle.std.specs.Prelude.{◌≡◌, ◌<◌, ◌+◌, ℕ, Bool, List, Option, Some, None, filter, length, map, slice_index_or, slice_set, nat_lt, if◌then◌else◌}
 use Rattle.std.specs.Option.{option_map}
-use Rattle.ob_vault.specs.State.{World}
 use Rattle.ob_row.specs.Rows.{Row}
 use Rattle.ob_row.specs.Slots.{Slots}
 use Rattle.ob_row.specs.Spelling.{Begins}
 use Rattle.ob_row.specs.Bags.{Same}
-use Rattle.ob_vault.specs.Words.{IsHonest}
-use Rattle.ob_script.specs.Parts.{path_place}
-use Rattle.ob_tree.specs.Paths.{path_slot}
 use Rattle.ob_tree.specs.Rows.{rows, with_key, first, Single}
-use Rattle.ob_tree.specs.States.{State}
-use Rattle.ob_tree.specs.Slotwise.{open_slots}
 use Rattle.ob_tree.specs.Access as Tree
 use Rattle.ob_oram.specs.declared.held.Held.{Held}
 use Rattle.ob_oram.specs.declared.held.Remap.{Remap}
 use Rattle.ob_oram.specs.declared.index.Index.{Index}
 use Rattle.ob_oram.specs.declared.op.Op.{Op}
 use Rattle.ob_oram.specs.declared.op.Got.{Got}
+<<<<<<< HEAD
 use Rattle.ob_base.specs.Indexes.{path_blocks, rows_open}
+=======
+use Rattle.ob_oram.specs.Heights.{path_blocks}
+>>>>>>> 9f9a2d221f10e7a6c47b055a3da41698f526cec2
 use Rattle.ob_oram.specs.Buffers.{Sees, held_of}
 use Rattle.ob_oram.specs.Ops.{op_in, got_in, keys_behind}
-use Rattle.ob_oram.specs.Indexes.{Lies, LiesAs, leaves_of, key_of}
+use Rattle.ob_oram.specs.Indexes.{leaves_of, key_of}
 
 -- the leaves where one key has another, and the leaf of a row then
 abbrev pub leaves_with : Index → Remap → List ℕ
