@@ -27,11 +27,7 @@ use Rattle.ob_oram.specs.declared.walk.Walk.TheVariants.{Stash, Path}
 use Rattle.ob_oram.specs.Walks.{slot_in}
 use Rattle.ob_oram.specs.Walking.{OpensBlock, OpensFirst}
 use Rattle.ob_oram.specs.Halves.{leaf_blocks, stash_blocks}
-<<<<<<< HEAD
-use Rattle.ob_base.specs.Indexes.{path_blocks, rows_open}
-=======
-use Rattle.ob_oram.specs.Heights.{path_blocks}
->>>>>>> 9f9a2d221f10e7a6c47b055a3da41698f526cec2
+use Rattle.ob_base.specs.Indexes.{path_blocks}
 use Rattle.ob_oram.specs.Indexes.{LiesAs, IsStored, IsShaped, leaves_of, key_of}
 use Rattle.ob_oram.specs.Opens.{IsOpen, leaf_with, leaves_with}
 use Rattle.ob_oram.specs.Accessing.{Accesses, Answers, HasLeaves, LeftBy, ReadsTooMany, IndexStays, Stops, leaf_read, leaves_after, remap_of}

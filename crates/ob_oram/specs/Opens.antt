@@ -12,11 +12,7 @@ use Rattle.ob_oram.specs.declared.held.Remap.{Remap}
 use Rattle.ob_oram.specs.declared.index.Index.{Index}
 use Rattle.ob_oram.specs.declared.op.Op.{Op}
 use Rattle.ob_oram.specs.declared.op.Got.{Got}
-<<<<<<< HEAD
-use Rattle.ob_base.specs.Indexes.{path_blocks, rows_open}
-=======
-use Rattle.ob_oram.specs.Heights.{path_blocks}
->>>>>>> 9f9a2d221f10e7a6c47b055a3da41698f526cec2
+use Rattle.ob_base.specs.Indexes.{path_blocks}
 use Rattle.ob_oram.specs.Buffers.{Sees, held_of}
 use Rattle.ob_oram.specs.Ops.{op_in, got_in, keys_behind}
 use Rattle.ob_oram.specs.Indexes.{leaves_of, key_of}

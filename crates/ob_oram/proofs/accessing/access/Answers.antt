@@ -2,14 +2,10 @@ use Rattle.std.proofs.Common.{◌≡◌, ◌∙◌, Ok, Err, length, max, sym, a
 use Rattle.ob_base.specs.Schemas.{width}
 use Rattle.ob_flat.proofs.Rooms.{opened_wide, opened_closed}
 use Rattle.ob_oram.specs.declared.index.Index.{Index}
-<<<<<<< HEAD
-use Rattle.ob_base.specs.Indexes.{rows_open}
-=======
 use Rattle.ob_oram.specs.declared.op.Got.{Got}
 use Rattle.ob_oram.specs.Accessing.{LeftBy}
-use Rattle.ob_oram.specs.Heights.{rows_open}
+use Rattle.ob_base.specs.Indexes.{rows_open}
 use Rattle.ob_oram.specs.Indexes.{IsEnded}
->>>>>>> 9f9a2d221f10e7a6c47b055a3da41698f526cec2
 use Rattle.ob_oram.proofs.WalkRows.{height_few}
 use Rattle.ob_oram.proofs.AccessIndex.{accesses_other, buffer_size, has_buffer, has_remap, left_other, zero_buffer, zero_open}
 use Rattle.ob_oram.proofs.accessing.access.Goals as goal
