@@ -4,3 +4,7 @@ pub mod Counted
 pub mod Assigned
 pub mod Wiped
 pub mod Moving
+pub mod Noted
+pub mod Sought
+pub mod Filled
+pub mod BatchExamples

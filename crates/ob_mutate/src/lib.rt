@@ -5,6 +5,8 @@
 mod assigning;
 mod deleting;
 mod inserting;
+mod noting;
+mod putting;
 mod rewriting;
 mod searching;
 mod settling;
