@@ -117,13 +117,16 @@ done_spare columns row slots done = go (has_key (key_place columns) row (rows sl
 pub filled : (columns : Columns) (batch : List Row) (n : ℕ) (slots : Slots) → length batch ≤ n → map_at (put_into (take n (frees_from 0 slots)) (taken_all columns batch slots)) 0 slots ≡ inserted_all columns batch slots
 filled columns [] n slots most = put_none 0 (take n (frees_from 0 slots)) slots
 filled columns (row ∷ batch) zero slots most = absurd (omega (arith, most))
-filled columns (row ∷ batch) (suc n) slots most = go (insert_answer columns row slots) refl
+filled columns (row ∷ batch) (suc n) slots most =
+    go (insert_answer columns row slots) refl (filled columns batch (suc n) slots (omega (arith, most))) (λ next. filled columns batch n next (omega (arith, most)))
   where
     go : (a : Inserted) → insert_answer columns row slots ≡ a
+        → map_at (put_into (take (suc n) (frees_from 0 slots)) (taken_all columns batch slots)) 0 slots ≡ inserted_all columns batch slots
+        → ((next : Slots) → map_at (put_into (take n (frees_from 0 next)) (taken_all columns batch next)) 0 next ≡ inserted_all columns batch next)
         → map_at (put_into (take (suc n) (frees_from 0 slots)) (taken_one a row (taken_all columns batch (slots_after a row slots)))) 0 slots ≡ inserted_all columns batch (slots_after a row slots)
-    go Duplicate is = filled columns batch (suc n) slots (omega (arith, most))
-    go Full is = filled columns batch (suc n) slots (omega (arith, most))
-    go Done is =
+    go Duplicate is same rest = same
+    go Full is same rest = same
+    go Done is same rest =
         let free = has_free slots (done_spare columns row slots is) in
         let t = free.first in
         let fs = free.others in
@@ -132,4 +135,4 @@ filled columns (row ∷ batch) (suc n) slots most = go (insert_answer columns ro
         ap (λ (l : List ℕ). map_at (put_into (take (suc n) l) (row ∷ more)) 0 slots) free.is
         ∙ put_one 0 t fs (take n fs) row more slots free.is (take_from (t + 1) n fs (rest_from 0 t fs slots free.is))
         ∙ ap (λ (l : List ℕ). map_at (put_into (take n l) more) 0 next) (sym (frees_fill 0 t fs row slots free.is))
-        ∙ filled columns batch n next (omega (arith, most))
+        ∙ rest next

@@ -8,3 +8,5 @@ pub mod Noted
 pub mod Sought
 pub mod Filled
 pub mod BatchExamples
+pub mod Foreseen
+pub mod Served

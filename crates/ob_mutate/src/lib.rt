@@ -2,6 +2,7 @@
 //! which is the table's then.
 #![tactic(auto)]
 
+mod admitting;
 mod assigning;
 mod deleting;
 mod inserting;

@@ -1,12 +1,13 @@
 //! What the reading pass of a batch notes.
-ghost use Rattle.std.specs.Prelude.{◌≡◌, ◌≤◌, ◌<◌, ◌++◌, ◌^◌, [], ◌∷◌, ℕ, true, false, List, Some, IfOk, length, replicate, slice_index_or};
+ghost use Rattle.std.specs.Prelude.{◌≡◌, ◌≤◌, ◌<◌, ◌-◌, ◌++◌, ◌^◌, [], ◌∷◌, ℕ, true, false, List, Some, IfOk, length, replicate, slice_index_or};
 ghost use Rattle.ob_base.specs.Schemas.{width};
-ghost use Rattle.ob_order.specs.Orders.{Lists, is_marked, noted};
+ghost use Rattle.ob_order.specs.Orders.{KnowsKeys, Lists, admitted, field_at, is_marked, keys_after, noted};
+ghost use Rattle.ob_order.specs.declared.admitting.Admitted.TheVariants.{Done};
 ghost use Rattle.ob_mutate.specs.Batches.{AreNotes, note_free};
 
 use ob_base::NoMemory;
 use ob_flat::{Flat, Visit};
-use ob_order::{Order, note};
+use ob_order::{Admitted, Order, admit, note};
 use ob_room::ClearRow;
 use ob_row::{Malformed, field_of, offset, read};
 use std::alloc::{AllocError, Global};
@@ -86,6 +87,51 @@ impl Notes {
         ensures { result.now ≡ self.now.taken }
     {
         self.taken.as_slice()
+    }
+
+    /// How many of the free slots are left.
+    pub(crate) fn spare(&self) -> u32
+        requires { length self.now.taken ≤ length self.now.free }
+        ensures { result ≡ length self.now.free - length self.now.taken }
+    {
+        (self.free.len() - self.taken.len()) as u32
+    }
+
+    /// What kept row `i` is answered where so many slots are free, and notes that the table has its key then.
+    pub(crate) fn admit(
+        &mut self,
+        order: &Order,
+        kept: &[ClearRow],
+        at: usize,
+        len: usize,
+        i: u32,
+        free: u32,
+    ) -> Admitted
+        requires listed { Lists at len kept.now order.now.places }
+        requires marked { (q : ℕ) → q < length kept.now
+            → is_marked (slice_index_or kept.now q []) ≡ true }
+        requires wide { length (field_at at len kept.now i) ≡ len }
+        requires inside { i < length kept.now }
+        requires size { length self.old.there ≡ length kept.now }
+        ensures there { self.new ≡ record self.old { there = self.new.there } }
+        ensures size { length self.new.there ≡ length self.old.there }
+        ensures answer { (keys : List (List ℕ)) → KnowsKeys at len kept.now keys self.old.there
+            → result ≡ admitted (field_at at len kept.now i) keys free }
+        ensures knows { (keys : List (List ℕ)) → KnowsKeys at len kept.now keys self.old.there
+            → KnowsKeys at len kept.now (keys_after (field_at at len kept.now i) keys free)
+            self.new.there }
+        ensures spare { result ≡ Done → 0 < free }
+    {
+        admit(order, kept, at, len, i, free, self.there.as_mut_slice())
+    }
+
+    /// Notes that a row of the batch goes to the next free slot.
+    pub(crate) fn take(&mut self, i: u32)
+        requires spare { length self.old.taken < length self.old.free }
+        requires few { length self.old.free ≤ self.old.most }
+        ensures { self.new ≡ record self.old { taken = self.old.taken ++ i ∷ [] } }
+    {
+        self.taken.push_reserved(i);
     }
 
     // Notes a free slot, unless there are as many as rows.
