@@ -10,3 +10,4 @@ pub mod Filled
 pub mod BatchExamples
 pub mod Foreseen
 pub mod Served
+pub mod Scanned

@@ -58,3 +58,15 @@ pub place_inside : (n : ℕ) (is : List ℕ) → ArePlaces n is → (k : ℕ) �
 place_inside n [] places k inside = absurd (omega (arith, inside))
 place_inside n (i ∷ is) places zero inside = places.0
 place_inside n (i ∷ is) places (suc k) inside = place_inside n is places.1 k (omega (arith, inside))
+
+-- nothing is put past the slots
+ascending_room : (from below : ℕ) (is : List ℕ) → AreAscending from below is → from ≤ below
+ascending_room from below [] rise = rise
+ascending_room from below (i ∷ is) rise = omega (arith, rise.0, ascending_room (i + 1) below is rise.1)
+
+pub put_above : (from below i : ℕ) (slot : Option Row) (free : List ℕ) (rows : List Row) → AreAscending from below free → below ≤ i → put_into free rows i slot ≡ slot
+put_above from below i slot [] rows rise past = refl
+put_above from below i slot (s ∷ ss) [] rise past = refl
+put_above from below i slot (s ∷ ss) (row ∷ rows) rise past =
+    ap (λ (b : Bool). if b then Some row else put_into ss rows i slot) (eq_other i s (λ same. absurd (omega (arith, same, past, ascending_room (s + 1) below ss rise.1))))
+    ∙ put_above (s + 1) below i slot ss rows rise.1 past

@@ -1,12 +1,12 @@
 -- Rows that are inserted one after the other.
-use Rattle.std.specs.Prelude.{◌≡◌, ◌<◌, ◌≤◌, ◌+◌, ◌++◌, ⊤, ℕ, Bool, true, false, ◌&&◌, nat_lt, min, ◌==◌, List, [], ◌∷◌, length, take, map, slice_index_or, slice_get, Option, Some, None, IfSome, Result, Ok, Err, if◌then◌else◌}
+use Rattle.std.specs.Prelude.{◌≡◌, ◌<◌, ◌≤◌, ◌+◌, ◌^◌, ◌++◌, ⊤, ℕ, Bool, true, false, ◌&&◌, nat_lt, min, ◌==◌, List, [], ◌∷◌, length, take, map, replicate, slice_index_or, slice_get, Option, Some, None, IfSome, Result, Ok, Err, if◌then◌else◌}
 use Rattle.std.specs.List.{All, list_any}
 use Rattle.std.specs.Option.{option_map_or}
 use Rattle.ob_base.specs.Schemas.{Columns, key_place, kind_width, width}
 use Rattle.ob_order.specs.Orders.{OrderState, Lists, KnowsKeys, noted, has_key as holds_key}
 use Rattle.ob_order.specs.declared.admitting.Admitted.{Admitted}
 use Rattle.ob_order.specs.declared.admitting.Admitted.TheVariants as Admits
-use Rattle.ob_vault.specs.Rows.{row_at}
+use Rattle.ob_vault.specs.Rows.{row_at, Wide}
 use Rattle.ob_row.specs.declared.cell.Cell.{Cell}
 use Rattle.ob_row.specs.Rows.{Row, agree_at}
 use Rattle.ob_row.specs.Slots.{Slots, rows}
@@ -90,6 +90,19 @@ pub record AreNotes (kept : List (List ℕ)) (n : NotesState) : Type 0 where
   pub there : length n.there ≡ length kept
   pub most : n.most ≡ length kept
   pub few : length n.free ≤ n.most
+  pub fit : n.most < 2 ^ 32
+
+-- with nothing noted
+abbrev pub start_notes : ℕ → NotesState
+start_notes n = record { there = replicate n false; free = []; taken = []; most = n }
+
+-- rows that may keep a batch, and an order that may list them
+pub record MayKeep (columns : Columns) (batch : List Row) (kept : List (List ℕ)) (order : OrderState) : Type 0 where
+  pub fit : (j : ℕ) → j < length batch → FitsColumns columns (slice_index_or batch j [])
+  pub wide : Wide (width columns) kept
+  pub count : length kept ≡ length batch
+  pub places : length batch ≤ order.most
+  pub few : length batch < 2 ^ 32
 
 -- ---- the rows that are put, each into the slot that stands at its place
 abbrev pub put_into : List ℕ → List Row → ℕ → Option Row → Option Row

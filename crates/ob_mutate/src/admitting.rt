@@ -1,5 +1,5 @@
 //! What the rows of a batch are answered, one after the other.
-ghost use Rattle.std.specs.Prelude.{◌≡◌, ◌≤◌, ◌<◌, ◌^◌, [], ℕ, List, Some, IfSome, length, slice_index_or};
+ghost use Rattle.std.specs.Prelude.{◌≡◌, ◌≤◌, ◌<◌, [], ℕ, List, Some, IfSome, length, slice_index_or};
 ghost use Rattle.ob_base.specs.Schemas.{key_place};
 ghost use Rattle.ob_vault.specs.Rows.{row_at};
 ghost use Rattle.ob_row.specs.Rows.{Row};
@@ -101,7 +101,7 @@ fn admit_row(
     answer
 }
 
-/// What each row of a batch is answered, and notes where those go that are taken.
+/// What each row of a batch is answered, where there are as many answers, and notes where those go that are taken.
 pub(crate) fn admit_rows(
     notes: &mut Notes,
     key: Option<u8>,
@@ -115,17 +115,15 @@ pub(crate) fn admit_rows(
     requires listed { AreListed schema.now key kept.now order.now }
     requires notes { AreNotes kept.now notes.old }
     requires none { notes.old.taken ≡ [] }
-    requires few { length kept.now < 2 ^ 32 }
-    requires room { length out.old ≡ length kept.now }
     ensures free { notes.new.free ≡ notes.old.free }
     ensures taken { ArePlaces (length kept.now) notes.new.taken }
-    ensures room { length out.new ≡ length out.old }
+    ensures out { length out.new ≡ length out.old }
     ensures told { (batch : List Row) (slots : Slots) → AreKept schema.now batch kept.now
-        → Foresees schema.now kept.now notes.old slots
+        → length out.old ≡ length kept.now → Foresees schema.now kept.now notes.old slots
         → (out.new ≡ insert_answers schema.now batch slots)
         × (rows_of batch notes.new.taken ≡ taken_all schema.now batch slots) }
 {
-    for i in 0..kept.len() {
+    for i in 0..kept.len().min(out.len()) {
         out[i] = admit_row(notes, key, schema, order, kept, i as u32);
     }
 }

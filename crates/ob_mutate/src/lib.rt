@@ -4,6 +4,7 @@
 
 mod admitting;
 mod assigning;
+mod batch;
 mod deleting;
 mod inserting;
 mod noting;
@@ -13,6 +14,7 @@ mod searching;
 mod settling;
 mod updating;
 
+pub use batch::insert_all;
 pub use deleting::delete;
 pub use inserting::{Inserted, insert};
 pub use updating::update;

@@ -3,13 +3,13 @@ ghost use Rattle.std.specs.Prelude.{◌≡◌, ◌≤◌, ◌<◌, ◌-◌, ◌+
 ghost use Rattle.ob_base.specs.Schemas.{width};
 ghost use Rattle.ob_order.specs.Orders.{KnowsKeys, Lists, admitted, field_at, is_marked, keys_after, noted};
 ghost use Rattle.ob_order.specs.declared.admitting.Admitted.TheVariants.{Done};
-ghost use Rattle.ob_mutate.specs.Batches.{AreNotes, note_free};
+ghost use Rattle.ob_mutate.specs.Batches.{note_free, start_notes};
 
-use ob_base::NoMemory;
+use ob_base::{Items, NoMemory};
 use ob_flat::{Flat, Visit};
 use ob_order::{Admitted, Order, admit, note};
 use ob_room::ClearRow;
-use ob_row::{Malformed, field_of, offset, read};
+use ob_row::{Cell, Malformed, field_of, offset, read};
 use std::alloc::{AllocError, Global};
 use std::marker::Model;
 
@@ -45,12 +45,7 @@ impl Notes {
     /// With nothing noted, and with room for so many rows.
     pub(crate) fn new(alloc: Global, rows: usize) -> Result<Notes, NoMemory>
         requires { rows < 2 ^ 32 }
-        ensures { IfOk result (λ n. n ≡ record {
-          there = replicate rows false;
-          free = [];
-          taken = [];
-          most = rows;
-        }) }
+        ensures { IfOk result (λ n. n ≡ start_notes rows) }
     {
         match Notes::built(alloc, rows) {
             Ok(notes) => Ok(notes),
@@ -61,12 +56,7 @@ impl Notes {
     // The same, with the allocator's error.
     fn built(alloc: Global, rows: usize) -> Result<Notes, AllocError>
         requires { rows < 2 ^ 32 }
-        ensures { IfOk result (λ n. n ≡ record {
-          there = replicate rows false;
-          free = [];
-          taken = [];
-          most = rows;
-        }) }
+        ensures { IfOk result (λ n. n ≡ start_notes rows) }
     {
         Ok(Notes {
             there: Vec::from_elem(alloc, false, rows)?,
@@ -155,11 +145,12 @@ impl Notes {
     }
 }
 
-// Notes the first free slots below the capacity, and which of the kept rows have a key that the table has.
+// Notes the first free slots below the capacity, and which rows of a batch, which are kept, have a key that the table has.
 #[derive(Drop)]
 pub(crate) struct Noting<'a> {
     pub(crate) key: Option<u8>,
     pub(crate) order: &'a Order,
+    pub(crate) batch: &'a [Items<Cell>],
     pub(crate) kept: &'a [ClearRow],
     pub(crate) notes: Notes,
 }
@@ -167,15 +158,16 @@ pub(crate) struct Noting<'a> {
 impl<'a> Visit for Noting<'a> {
     ghost use Rattle.std.specs.Prelude.{◌≡◌, ◌≤◌, ℕ};
     ghost use Rattle.ob_base.specs.Schemas.{key_place};
-    ghost use Rattle.ob_mutate.specs.Batches.{AreListed, AreNotes, AreRows, MayRise, noted_slot};
+    ghost use Rattle.ob_mutate.specs.Batches.{AreFit, AreKept, AreListed, AreNotes, MayRise, noted_slot};
 
     ghost after = { λ flat s i slot. record s {
       notes = noted_slot flat.schema s.key s.kept.now flat.capacity s.notes i slot;
     } };
 
     ghost Suits = { λ flat s i. (s.key ≡ key_place flat.schema)
-        × AreRows flat.schema s.kept.now × AreListed flat.schema s.key s.kept.now s.order.now
-        × AreNotes s.kept.now s.notes × (s.notes.taken ≡ []) × MayRise i flat.capacity s.notes.free };
+        × AreFit flat.schema s.batch.now × AreKept flat.schema s.batch.now s.kept.now
+        × AreListed flat.schema s.key s.kept.now s.order.now × AreNotes s.kept.now s.notes
+        × (s.notes.taken ≡ []) × MayRise i flat.capacity s.notes.free };
 
     fn visit(&mut self, i: u32, flat: &Flat, row: &ClearRow) -> Result<(), Malformed> {
         if read(&flat.schema, row)? {
