@@ -1,21 +1,21 @@
 -- What is noted once all slots were seen.
-use Rattle.std.proofs.Common.{◌≡◌, ◌<◌, ◌≤◌, ◌+◌, ◌-◌, ◌==◌, ◌||◌, ◌++◌, ◌∙◌, ℕ, zero, suc, min, Bool, true, false, nat_lt, if◌then◌else◌, List, [], ◌∷◌, Option, Some, None, IfSome, length, take, replicate, slice_index_or, append_assoc, refl, sym, ap, subst, arith}
+use Rattle.std.proofs.Common.{◌≡◌, ◌<◌, ◌≤◌, ◌+◌, ◌-◌, ◌==◌, ◌||◌, ◌++◌, ◌∙◌, ℕ, zero, suc, min, Bool, true, false, nat_lt, if◌then◌else◌, List, [], ◌∷◌, Option, Some, None, IfSome, length, take, replicate, slice_index_or, length-append, append_assoc, refl, sym, ap, subst, arith}
 use Rattle.std.specs.Prelude.{bytes_eq}
 use Rattle.std.specs.List.{All, list_any}
 use Rattle.std.proofs.lemmas.Bool.Decides.{nat_tests}
 use Rattle.std.proofs.lemmas.List.{append-nil, get_or-replicate, length-replicate, length-take, take_all, take_at}
 use Rattle.ob_base.specs.Schemas.{Columns, key_place, kind_width, width}
-use Rattle.ob_order.specs.Orders.{IsFirstAlike, KnowsKeys, is_marked, has_key as holds_key}
+use Rattle.ob_order.specs.Orders.{KnowsKeys, OrderState, is_marked, has_key as holds_key}
 use Rattle.ob_order.proofs.NotingLemmas.{noted_knows}
-use Rattle.ob_blocks.specs.Blocks.{none_of, scanned, up_to}
+use Rattle.ob_blocks.specs.Blocks.{map_at, none_of, scanned, up_to}
 use Rattle.ob_blocks.proofs.Blocks.{scanned-append, scanned-same}
 use Rattle.ob_row.specs.Rows.{Row, agree_at}
 use Rattle.ob_row.specs.Slots.{Slots, rows}
 use Rattle.ob_row.specs.Spelling.{FitsColumns, kind_at}
 use Rattle.ob_flat.specs.Slots.{FitsSlot}
 use Rattle.ob_mutate.specs.declared.noting.Noting.{Noting}
-use Rattle.ob_mutate.specs.Batches.{AreKeys, AreRows, Foresees, KnowsSlots, NotesState, cell_field, frees_from, noted_slot, start_notes, told_key}
-use Rattle.ob_mutate.proofs.Filled.{count_frees}
+use Rattle.ob_mutate.specs.Batches.{AreKeys, AreListed, AreRows, Foresees, KnowsSlots, NotesState, cell_field, frees_from, inserted_all, noted_slot, put_into, rows_of, start_notes, taken_all, told_key}
+use Rattle.ob_mutate.proofs.Filled.{count_frees, filled}
 use Rattle.ob_mutate.proofs.Foreseen.{all_tail, field_long, fields_agree}
 use Rattle.ob_mutate.proofs.Noted.{rows_marked}
 
@@ -25,23 +25,26 @@ less i n below = grind (arith, nat_tests)
 past : (i n : ℕ) → n ≤ i → nat_lt i n ≡ false
 past i n beyond = grind (arith, nat_tests)
 
+test_less : (i n : ℕ) → nat_lt i n ≡ true → i < n
+test_less i n is = grind (arith, nat_tests)
+
 not_less : (i n : ℕ) → nat_lt i n ≡ false → n ≤ i
 not_less i n is = grind (arith, nat_tests)
 
 -- ---- the notes
-abbrev told_all : Columns → Option ℕ → List (List ℕ) → Slots → List Bool → List Bool
+abbrev pub told_all : Columns → Option ℕ → List (List ℕ) → Slots → List Bool → List Bool
 told_all columns key kept [] there = there
 told_all columns key kept (None ∷ slots) there = told_all columns key kept slots there
 told_all columns key kept (Some row ∷ slots) there = told_all columns key kept slots (told_key columns key kept row there)
 
-record AreSeen (columns : Columns) (key : Option ℕ) (kept : List (List ℕ)) (i : ℕ) (slots : Slots) (n m : NotesState) : Type 0 where
-  most : m.most ≡ n.most
-  taken : m.taken ≡ n.taken
-  free : m.free ≡ take n.most (n.free ++ frees_from i slots)
-  there : m.there ≡ told_all columns key kept slots n.there
+pub record AreSeen (columns : Columns) (key : Option ℕ) (kept : List (List ℕ)) (i : ℕ) (slots : Slots) (n m : NotesState) : Type 0 where
+  pub most : m.most ≡ n.most
+  pub taken : m.taken ≡ n.taken
+  pub free : m.free ≡ take n.most (n.free ++ frees_from i slots)
+  pub there : m.there ≡ told_all columns key kept slots n.there
 
 module _ (columns : Columns) (key : Option ℕ) (kept : List (List ℕ)) (capacity : ℕ) where
-  abbrev step : NotesState → ℕ → Option Row → NotesState
+  abbrev pub step : NotesState → ℕ → Option Row → NotesState
   step = noted_slot columns key kept capacity
 
   seen : (i : ℕ) (n : NotesState) (slots : Slots) → i + length slots ≤ capacity → length n.free ≤ n.most → AreSeen columns key kept i slots n (scanned step i n slots)
@@ -61,7 +64,7 @@ module _ (columns : Columns) (key : Option ℕ) (kept : List (List ℕ)) (capaci
           (record { most = rest.most; taken = rest.taken; free = rest.free ∙ ap (take n.most) (append_assoc n.free (i ∷ []) (frees_from (i + 1) slots)); there = rest.there })
         where
           longer : (free : List ℕ) (most : ℕ) → nat_lt (length free) most ≡ true → length (free ++ i ∷ []) ≤ most
-          longer free most is = grind (arith, nat_tests)
+          longer free most is = omega (arith, length-append free (i ∷ []), test_less (length free) most is)
       go false is more =
           let next : NotesState = record n { free = n.free ++ i ∷ [] } in
           let now : step n i None ≡ n = ap (λ (b : Bool). if b then (if nat_lt (length n.free) n.most then next else n) else n) (less i capacity (omega (arith, fits))) ∙ ap (λ (b : Bool). if b then next else n) is in
@@ -167,3 +170,39 @@ pub noting_all : (columns : Columns) (capacity : ℕ) (i : ℕ) (s : Noting) (sl
     ≡ record s { notes = scanned (noted_slot columns s.key s.kept.now capacity) i s.notes slots }
 noting_all columns capacity i s [] = refl
 noting_all columns capacity i s (slot ∷ slots) = noting_all columns capacity (i + 1) (record s { notes = noted_slot columns s.key s.kept.now capacity s.notes i slot }) slots
+
+-- the primary key is a column's
+pub listed_within : (columns : Columns) (key : Option ℕ) (kept : List (List ℕ)) (order : OrderState) → AreListed columns key kept order → IfSome key (λ place. place < length columns)
+listed_within columns None kept order listed = tt
+listed_within columns (Some place) kept order listed = listed.0
+
+-- what was noted at the end
+pub record IsNoted (columns : Columns) (start end : Noting) (slots : Slots) : Type 0 where
+  pub read : AreRead columns end.kept.now slots end.notes
+  pub batch : end.batch.now ≡ start.batch.now
+  pub kept : end.kept.now ≡ start.kept.now
+
+pub all_noted : (columns : Columns) (capacity m : ℕ) (start end : Noting) (slots : Slots) → start.key ≡ key_place columns → start.notes ≡ start_notes (length start.kept.now)
+    → AreListed columns (key_place columns) start.kept.now start.order.now → AreRows columns start.kept.now → All (FitsSlot columns) slots → length slots ≡ capacity
+    → end ≡ scanned (λ (t : Noting) (j : ℕ) (slot : Option Row). record t { notes = noted_slot columns t.key t.kept.now capacity t.notes j slot }) 0 start (up_to m slots)
+    → IsNoted columns start end slots
+all_noted columns capacity m start end slots key notes listed are fits size is =
+    let kept = start.kept.now in
+    let whole = up_to m slots in
+    let seen : end ≡ record start { notes = scanned (noted_slot columns start.key kept capacity) 0 start.notes whole } = is ∙ noting_all columns capacity 0 start whole in
+    let read = all_read columns kept capacity m slots (listed_within columns (key_place columns) kept start.order.now listed) are fits size in
+    let noted = subst (λ (n : NotesState). AreRead columns kept slots (scanned (noted_slot columns (key_place columns) kept capacity) 0 n whole)) (sym notes) read in
+    let keyed = subst (λ (k : Option ℕ). AreRead columns kept slots (scanned (noted_slot columns k kept capacity) 0 start.notes whole)) (sym key) noted in
+    record {
+      read = subst (λ (s : Noting). AreRead columns s.kept.now slots s.notes) (sym seen) keyed;
+      batch = ap (λ (s : Noting). s.batch.now) seen;
+      kept = ap (λ (s : Noting). s.kept.now) seen;
+    }
+
+-- and what is put then
+pub all_put : (columns : Columns) (batch : List Row) (kept : List (List ℕ)) (slots : Slots) (n : NotesState) (free taken : List ℕ) → AreRead columns kept slots n → length kept ≡ length batch → free ≡ n.free
+    → rows_of batch taken ≡ taken_all columns batch slots → map_at (put_into free (rows_of batch taken)) 0 slots ≡ inserted_all columns batch slots
+all_put columns batch kept slots n free taken read count is rows_are =
+    ap (λ (l : List Row). map_at (put_into free l) 0 slots) rows_are
+    ∙ ap (λ (l : List ℕ). map_at (put_into l (taken_all columns batch slots)) 0 slots) (is ∙ read.free)
+    ∙ filled columns batch (length kept) slots (omega (arith, count))
