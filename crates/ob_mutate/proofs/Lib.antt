@@ -11,3 +11,4 @@ pub mod BatchExamples
 pub mod Foreseen
 pub mod Served
 pub mod Scanned
+pub mod Shelved

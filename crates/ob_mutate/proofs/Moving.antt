@@ -141,7 +141,7 @@ module _ {T : Type 0} (pack : ℕ) (flat : Flat) (fill : List Access) (answer : 
           asks = λ is. absurd (cc is);
           cause = (refl, λ was. was);
         } in
-        let ended = cut_forgot Round pack fresh _ _ (make_script pack fresh) made makes.seals.seals NoMemory rest mid new (record { ok = tt; err = cut }) forgot same in
+        let ended = cut_forgot Round pack fresh _ _ (make_script pack fresh) made makes.seals.seals {T = T} NoMemory rest mid new (record { ok = tt; err = cut }) forgot same in
         let lasts = ended.lasts in
         record {
           ok = tt;

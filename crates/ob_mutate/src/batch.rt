@@ -246,6 +246,7 @@ pub fn insert_all<S: BlockStore, R: Revisions>(
         (at R.state vault.old (S.state store.old)) (at R.state vault.new (S.state store.new)) }
 {
     let pack = room.pack();
+    let _ = room.rows();
     let open = room.open(pack + batch.len() as u32);
     let (rows, kept) = open.split_at_mut(pack as usize);
     let result = insert_rows(store, vault, rows, kept, alloc, order, flat, batch, out);
