@@ -36,3 +36,8 @@ key_within columns row None is fits = tt
 key_within columns row (Some place) is fits =
     let found = position-Some is_key columns place (record { table = []; name = []; kind = Rattle.ob_base.specs.declared.schema.Kind.TheVariants.Int; key = false }) (key_position columns ∙ sym is) in
     (found.0, omega (arith, found.0, fits_length columns row fits))
+
+pub key_inside : (columns : Columns) (key : Option ℕ) → key ≡ key_place columns → IfSome key (λ place. place < length columns)
+key_inside columns None is = tt
+key_inside columns (Some place) is =
+    (position-Some is_key columns place (record { table = []; name = []; kind = Rattle.ob_base.specs.declared.schema.Kind.TheVariants.Int; key = false }) (key_position columns ∙ sym is)).0

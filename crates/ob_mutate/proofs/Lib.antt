@@ -4,3 +4,11 @@ pub mod Counted
 pub mod Assigned
 pub mod Wiped
 pub mod Moving
+pub mod Noted
+pub mod Sought
+pub mod Filled
+pub mod BatchExamples
+pub mod Foreseen
+pub mod Served
+pub mod Scanned
+pub mod Shelved

@@ -2,17 +2,22 @@
 use Rattle.std.proofs.Common.{◌≡◌, ◌++◌, ◌+◌, ◌*◌, ◌≤◌, inl, inr, ℕ, Bool, List, [], Option, None, Result, Ok, Err, length, length-append, append_assoc, ap, count_by, refl, sym, ◌∙◌, subst, arith}
 use Rattle.ob_base.specs.declared.access.Access.{Access}
 use Rattle.ob_base.specs.Accesses.{discard_at}
+use Rattle.ob_store.specs.Runs.{Did}
+use Rattle.ob_store.specs.State.{StoreState}
+use Rattle.std.proofs.lemmas.List.{append-nil}
 use Rattle.ob_script.specs.Parts.{count_part}
 use Rattle.ob_vault.specs.declared.region.Order.TheVariants.{Round}
 use Rattle.ob_vault.specs.State.{World}
 use Rattle.ob_vault.specs.Tied.{Ready}
 use Rattle.ob_vault.specs.Calls.{Went, Seals, one, two}
 use Rattle.ob_vault.specs.Words.{MayAsk, MayStart}
-use Rattle.ob_vault.proofs.Runs.{went_join, went_wider, lives_apart, lives_went, shape_lasts, tells_went}
+use Rattle.ob_vault.proofs.Runs.{went_join, went_none, went_wider, lives_apart, lives_went, shape_lasts, tells_went}
 use Rattle.ob_vault.proofs.WordLemmas.{asks_start, asks_after, honest_before, honest_after, honest_same}
 use Rattle.ob_row.specs.Slots.{Slots}
 use Rattle.ob_flat.specs.declared.flat.Flat.{Flat}
 use Rattle.ob_flat.specs.declared.fault.OpErr.{OpErr}
+use Rattle.ob_flat.specs.declared.fault.OpErr.TheVariants.{NoMemory}
+use Rattle.ob_flat.specs.Passes.{PassCut}
 use Rattle.ob_flat.specs.Flats.{Represents, table_region}
 use Rattle.ob_flat.specs.Words.{IsTable, HasSpare, blocks_of, moved}
 use Rattle.ob_flat.specs.Creates.{MakesTable, make_script}
@@ -120,6 +125,37 @@ module _ {T : Type 0} (pack : ℕ) (flat : Flat) (fill : List Access) (answer : 
           told = λ honest slots is.
               let there = represents_lasts pack flat (one next) _ _ makes.ran.ok.lasts off slots is in
               (inl (fills.told (honest_after makes.ran.ok (honest_same same honest)) slots there), represents_lasts pack flat (one next) _ _ lasts off slots is);
+        }
+
+    -- or there was no memory to fill it, and it is forgotten
+    pub mutates_full : (new : World) → Went [] (one old.vault.next) mid new → new.store ≡ mid.store → ((good : ℕ → List ℕ → Bool) → Seals good mid new)
+        → new.vault.revs.live old.vault.next ≡ None → Mutates pack flat flat whole answer after (Err NoMemory) old new
+    mutates_full new forgot same sealed gone =
+        let next = old.vault.next in
+        let fresh = moved flat next in
+        let made = makes.ran.ok in
+        let rest = fill ++ discard_at flat.region in
+        let cut : PassCut NoMemory rest (one next) mid mid = record {
+          lasts = (went_none (one next) mid made.lasts.ready).lasts;
+          began = record { done = []; rest = rest; split = refl; asked = sym (append-nil mid.store.asked) };
+          asks = λ is. absurd (cc is);
+          cause = (refl, λ was. was);
+        } in
+        let ended = cut_forgot Round pack fresh _ _ (make_script pack fresh) made makes.seals.seals {T = T} NoMemory rest mid new (record { ok = tt; err = cut }) forgot same in
+        let lasts = ended.lasts in
+        record {
+          ok = tt;
+          err = ended;
+          never = inr (inl refl);
+          memory = record { did = λ is. subst (λ (s : StoreState). Did (make_script pack fresh) old.store s) (sym same) made.did };
+          gone = gone;
+          seals = seals_after made.lasts (seals_any makes.seals.seals) (seals_any sealed);
+          moves = tt;
+          same = refl;
+          lives = tt;
+          table = flat_lasts pack flat (one next) _ _ lasts off table.written;
+          holds = rows_lasts pack flat (one next) _ _ lasts off;
+          told = λ honest slots is. (inr refl, represents_lasts pack flat (one next) _ _ lasts off slots is);
         }
 
     -- what may be asked to fill it

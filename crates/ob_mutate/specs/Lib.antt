@@ -1,4 +1,6 @@
 pub mod Searches
 pub mod Inserting
+pub mod Batches
+pub mod IsNotes
 pub mod Mutating
 pub mod Changing

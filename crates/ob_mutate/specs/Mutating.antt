@@ -24,6 +24,7 @@ use Rattle.ob_flat.specs.Words.{PassRan, TamperedIn, SealsTable, NoMemoryBehind,
 use Rattle.ob_flat.specs.Creates.{make_script}
 use Rattle.ob_mutate.specs.declared.inserting.Inserted.{Inserted}
 use Rattle.ob_mutate.specs.Inserting.{insert_answer, slots_after}
+use Rattle.ob_mutate.specs.Batches.{insert_answers, inserted_all, answered}
 
 -- what is asked to fill the fresh region: the table is read whole first where a row is inserted
 abbrev pub copy_script : ℕ → Flat → ℕ → List Access
@@ -115,3 +116,10 @@ abbrev pub Inserts : ℕ → Flat → Flat → Row → Result Inserted OpErr →
 Inserts pack flat left cells result old new =
     Mutates pack flat left (insert_script pack flat old.vault.next)
     (insert_answer flat.schema cells) (inserted_slots flat cells) result old new
+
+-- rows were inserted one after the other, and the answers are theirs
+abbrev pub InsertsAll : {T : Type 0} → ℕ → Flat → Flat → List Row → List Inserted → Result T OpErr → World → World → Type 0
+InsertsAll pack flat left batch answers result old new =
+    Mutates pack flat left (insert_script pack flat old.vault.next)
+    (insert_answers flat.schema batch) (inserted_all flat.schema batch)
+    (answered answers result) old new

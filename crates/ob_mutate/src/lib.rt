@@ -2,14 +2,19 @@
 //! which is the table's then.
 #![tactic(auto)]
 
+mod admitting;
 mod assigning;
+mod batch;
 mod deleting;
 mod inserting;
+mod noting;
+mod putting;
 mod rewriting;
 mod searching;
 mod settling;
 mod updating;
 
+pub use batch::insert_all;
 pub use deleting::delete;
 pub use inserting::{Inserted, insert};
 pub use updating::update;

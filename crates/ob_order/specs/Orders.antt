@@ -1,6 +1,6 @@
 -- Places of rows, in order of the field that each row has.
-use Rattle.std.specs.Prelude.{◌≡◌, ◌≢◌, ◌≤◌, ◌<◌, ◌-◌, ◌==◌, ◌&&◌, ◌||◌, ℕ, Bool, true, false, if◌then◌else◌, map, List, [], ◌∷◌, length, take, drop, slice_index_or, bytes_eq}
-use Rattle.std.specs.List.{Contains}
+use Rattle.std.specs.Prelude.{◌≡◌, ◌≢◌, ◌≤◌, ◌<◌, ◌-◌, ◌==◌, ◌&&◌, ◌||◌, ℕ, Bool, true, false, if◌then◌else◌, map, List, [], ◌∷◌, length, take, drop, slice_index_or, slice_set, bytes_eq, Option, Some, None}
+use Rattle.std.specs.List.{Contains, position}
 use Rattle.std.specs.List.Sorted.{IsSortedBy}
 use Rattle.std.specs.declared.cmp.Ordering.{Ordering}
 use Rattle.std.specs.Ordering.{is_lt, nat_cmp, ordering_then}
@@ -88,6 +88,14 @@ pub record KnowsKeys (at len : ℕ) (rows keys : List (List ℕ)) (there : List 
   pub size : length there ≡ length rows
   pub knows : (i j : ℕ) → i < length rows → IsFirstAlike at len rows i j
       → slice_index_or there j false ≡ has_key (field_at at len rows i) keys
+
+-- the first row with this key, if there is one, is told that the table has it
+abbrev pub mark_at : Option ℕ → List Bool → List Bool
+mark_at None there = there
+mark_at (Some place) there = slice_set there place true
+
+abbrev pub noted : (at : ℕ) → (key : List ℕ) → (rows : List (List ℕ)) → List Bool → List Bool
+noted at key rows there = mark_at (position (has_field at key) rows) there
 
 -- what a row with this key is answered, where so many slots are free, and the keys behind it
 abbrev pub admitted : (key : List ℕ) → (keys : List (List ℕ)) → (free : ℕ) → Admitted
