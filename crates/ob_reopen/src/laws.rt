@@ -44,8 +44,8 @@ pub fn names_order_tables()
 
 /// What rests in a store for a mark outlasts whatever leaves the regions that the mark needs as they are kept.
 pub fn rests_outlast()
-    ensures { (keys : KeySet) (closing : Closing) (old new : ℕ → Option KeptRegion) (tables : Tables)
-        (rests : Rests keys closing old tables)
+    ensures { (keys : KeySet) (closing : Closing) (old new : ℕ → Option KeptRegion)
+        (tables : Tables) (rests : Rests keys closing old tables)
         → ((q : ℕ) → IsNeeded closing rests.listed q → new q ≡ old q)
         → Rests keys closing new tables }
 {}
