@@ -1,9 +1,8 @@
 -- What an access says of an index whose buffer was taken out meanwhile.
-use Rattle.std.proofs.Common.{◌≡◌, ◌⊎◌, ◌≤◌, ◌<◌, inl, inr, ℕ, true, false, List, [], Option, None, Result, Ok, Err, Global, length, replicate, get_or, set, refl, sym, ◌∙◌, ap, subst, arith}
-use Rattle.std.specs.Prelude.{is_ok}
+use Rattle.std.proofs.Common.{◌≡◌, ◌⊎◌, ◌≤◌, ◌<◌, inl, inr, ℕ, zero, suc, List, [], Option, None, Result, Ok, Err, Global, length, replicate, get_or, set, refl, sym, ◌∙◌, ap, subst, arith}
 use Rattle.std.specs.declared.vec.Vec.{Vec}
 use Rattle.std.specs.Vec.{with_items}
-use Rattle.std.proofs.lemmas.Bool.{cases_lt, false≢true}
+use Rattle.std.proofs.lemmas.Bool.{cases_lt}
 use Rattle.std.proofs.lemmas.List.{length-replicate, get_or-replicate, get_or_past}
 use Rattle.std.specs.Option.{option_map}
 use Rattle.ob_base.specs.Schemas.{width}
@@ -11,7 +10,7 @@ use Rattle.ob_room.specs.RoomState.{clear}
 use Rattle.ob_vault.specs.State.{World}
 use Rattle.ob_vault.specs.Rows.{row_at}
 use Rattle.ob_row.specs.Rows.{Row}
-use Rattle.ob_row.specs.Slots.{empty_slots}
+use Rattle.ob_row.specs.Slots.{Slots, empty_slots}
 use Rattle.ob_row.specs.Spelling.{Begins}
 use Rattle.ob_row.proofs.SpellingLemmas.{zeros-begin}
 use Rattle.ob_tree.specs.States.{State}
@@ -23,7 +22,12 @@ use Rattle.ob_oram.specs.declared.index.Index.{Index}
 use Rattle.ob_oram.specs.declared.op.Op.{Op}
 use Rattle.ob_oram.specs.declared.op.Got.{Got}
 use Rattle.ob_oram.specs.Buffers.{IsBuffer, held_of}
-use Rattle.ob_base.specs.Indexes.{rows_open}
+use Rattle.ob_oram.specs.declared.walk.Walk.{Walk}
+use Rattle.ob_oram.specs.declared.walk.Walk.TheVariants.{Stash, Path}
+use Rattle.ob_oram.specs.Walks.{slot_in}
+use Rattle.ob_oram.specs.Walking.{OpensBlock, OpensFirst}
+use Rattle.ob_oram.specs.Halves.{leaf_blocks, stash_blocks}
+use Rattle.ob_base.specs.Indexes.{path_blocks}
 use Rattle.ob_oram.specs.Indexes.{LiesAs, IsStored, IsShaped, leaves_of, key_of}
 use Rattle.ob_oram.specs.Opens.{IsOpen, leaf_with, leaves_with}
 use Rattle.ob_oram.specs.Accessing.{Accesses, Answers, HasLeaves, LeftBy, ReadsTooMany, IndexStays, Stops, leaf_read, leaves_after, remap_of}
@@ -58,6 +62,14 @@ module _ (index : Index) (buffer : Vec (Option Held) Global) where
   answers_other : (left : Index) (op : Op) (draw : ℕ) (s : State Row) (got : Got) (new : World) → Answers other left op draw s got new → Answers index left op draw s got new
   answers_other left op draw s got new is = record { went = is.went; is = is.is; answer = is.answer; lies = is.lies }
 
+  block_other : (walk : Walk) (c : ℕ) (kept : Option Row) (old new : World) → OpensBlock other walk c kept old new → OpensBlock index walk c kept old new
+  block_other (Stash slots height) c kept old new is = record { went = is.went; gives = is.gives; slot = is.slot; fits = is.fits; opened = is.opened; is = is.is }
+  block_other (Path height leaf) c kept old new is = record { went = is.went; gives = is.gives; slot = is.slot; fits = is.fits; opened = is.opened; is = is.is }
+
+  blocks_other : (walk : Walk) (slots : Slots) (n : ℕ) (old new : World) → OpensFirst other walk slots n old new → OpensFirst index walk slots n old new
+  blocks_other walk slots zero old new is = is
+  blocks_other walk slots (suc n) old new is = (is.0, blocks_other walk slots n old is.0 is.1, block_other walk n (get_or slots (slot_in walk n) None) is.0 new is.2)
+
   many_other : (op : Op) (draw : ℕ) (old new : World) → ReadsTooMany other op draw old new → ReadsTooMany index op draw old new
   many_other op draw old new is = record {
     slots = is.slots;
@@ -65,6 +77,11 @@ module _ (index : Index) (buffer : Vec (Option Held) Global) where
     opens = record {
       spare = is.opens.spare;
       count = is.opens.count;
+      blocks = record {
+        mid = is.opens.blocks.mid;
+        stash = blocks_other (stash_blocks index) is.slots index.slots old is.opens.blocks.mid is.opens.blocks.stash;
+        path = blocks_other (leaf_blocks index (leaf_read index op draw)) is.slots (path_blocks index.height) is.opens.blocks.mid new is.opens.blocks.path;
+      };
       lying = λ honest s lies. let here = is.opens.lying honest s (lies_other s old lies) in record { path = here.path; stash = here.stash };
       told = λ honest s lies. is.opens.told honest s (record { lies = lies_other s old lies.lies; stands = lies.stands });
     };
@@ -72,8 +89,8 @@ module _ (index : Index) (buffer : Vec (Option Held) Global) where
   }
 
   pub left_other : (left : Index) (op : Op) (draw : ℕ) (r : Result Got OramErr) → LeftBy r index op draw left → LeftBy r other op draw left
-  left_other left op draw (Ok got) by = record { ok = record { same = by.ok.same; leaves = by.ok.leaves }; err = tt; buffer = by.buffer }
-  left_other left op draw (Err e) by = record { ok = tt; err = record { same = by.err.same; leaves = by.err.leaves }; buffer = tt }
+  left_other left op draw (Ok got) by = record { ok = record { same = by.ok.same; leaves = by.ok.leaves }; err = tt; ended = tt; buffer = by.buffer }
+  left_other left op draw (Err e) by = record { ok = tt; err = record { same = by.err.same; leaves = by.err.leaves }; ended = by.ended; buffer = tt }
 
   pub accesses_other : (left : Index) (op : Op) (draw : ℕ) (r : Result Got OramErr) (old new : World) → Accesses other left op draw r old new → Accesses index left op draw r old new
   accesses_other left op draw (Ok got) old new is = record {
@@ -82,6 +99,7 @@ module _ (index : Index) (buffer : Vec (Option Held) Global) where
     seals = record { seals = is.seals.seals };
     leaves = has_other (leaves_after index op draw) left is.leaves;
     stands = is.stands;
+    ended = tt;
     range = is.range;
     maps = λ honest m map.
         let answers = is.maps honest m (record { state = map.state; lies = lies_other map.state old map.lies; represents = map.represents }) in
@@ -95,20 +113,12 @@ module _ (index : Index) (buffer : Vec (Option Held) Global) where
     seals = record { seals = is.seals.seals };
     leaves = tt;
     stands = tt;
+    ended = is.ended;
     range = tt;
     maps = λ honest m map. tt;
     full = λ same. many_other op draw old new (is.full same);
     told = λ honest s lies. is.told honest s (record { lies = lies_other s old lies.lies; stands = lies.stands });
   }
-
--- what is left by an access that went whole, and by one that stopped
-pub left_ok : (index left : Index) (op : Op) (draw : ℕ) (r : Result Got OramErr) → is_ok r ≡ true → HasLeaves (leaves_after index op draw) index left → length left.buffer.items ≡ rows_open index.height index.slots → LeftBy r index op draw left
-left_ok index left op draw (Ok got) is has buffer = record { ok = has; err = tt; buffer = buffer }
-left_ok index left op draw (Err e) is has buffer = absurd (false≢true is)
-
-pub left_err : (index left : Index) (op : Op) (draw : ℕ) (r : Result Got OramErr) → is_ok r ≡ false → HasLeaves (leaves_of index) index left → LeftBy r index op draw left
-left_err index left op draw (Ok got) is has = absurd (false≢true (sym is))
-left_err index left op draw (Err e) is has = record { ok = tt; err = has; buffer = tt }
 
 -- zero rows are a buffer without a row
 module _ {rows : List (List ℕ)} (n wide : ℕ) (value : rows ≡ replicate n (clear wide)) where

@@ -128,6 +128,7 @@ module _ (index : Index) (op : Op) (draw : ℕ) (old : World) (stored : IsStored
       seals = record { seals = λ good fine other. reads.seals.seals good };
       leaves = tt;
       stands = tt;
+      ended = by.ended;
       range = tt;
       maps = λ honest m is. tt;
       full = λ is. let same : e ≡ StashFull = cc is in absurd (subst (λ (x : OramErr). RefusesIndex x index leaf old new) same reads.err);
@@ -144,6 +145,7 @@ module _ (index : Index) (op : Op) (draw : ℕ) (old : World) (stored : IsStored
         seals = record { seals = λ good fine other. sealed.seals good };
         leaves = tt;
         stands = tt;
+        ended = by.ended;
         range = tt;
         maps = λ honest m is. tt;
         full = λ is. many;
@@ -175,6 +177,7 @@ module _ (index : Index) (op : Op) (draw : ℕ) (old : World) (stored : IsStored
             seals = both_sealed {T = Unit {0}} (Err e) rows new writes;
             leaves = tt;
             stands = tt;
+            ended = by.ended;
             range = tt;
             maps = λ honest m is. tt;
             full = λ is. absurd (cc (is, writes.err.0));

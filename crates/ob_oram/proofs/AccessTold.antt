@@ -35,7 +35,8 @@ use Rattle.ob_oram.specs.Buffers.{IsBuffer, Places}
 use Rattle.ob_base.specs.Indexes.{path_blocks, leaf_of_draw, rows_open}
 use Rattle.ob_oram.specs.Indexes.{IsShaped, IsMap, Lies, LiesAs, leaves_of, key_of, tree_of, stash_of}
 use Rattle.ob_tree.specs.Keys.{key_number}
-use Rattle.ob_oram.specs.Opens.{AreKeyed, OpensIndex, ServesRows, leaf_with, tree_key}
+use Rattle.ob_oram.specs.Opens.{AreKeyed, ServesRows, leaf_with, tree_key}
+use Rattle.ob_oram.specs.Opened.{OpensIndex}
 use Rattle.ob_oram.specs.Ops.{FitsOp, key_of_op, op_in, got_in}
 use Rattle.ob_oram.specs.Scripts.{read_script}
 use Rattle.ob_oram.specs.Halves.{WritesIndex}

@@ -231,7 +231,7 @@ module _ {R : Type 0} (lf : R → ℕ) (leaf height i h : ℕ) (h_is : h ≡ min
   }
 
   -- all slots from there on have rows, and none may lie there
-  pub crowded_stuck : (n : ℕ) (slots now after : List (Option R)) → length now ≡ n + 1 → i < n → Piled lf leaf height i slots now → Stuck lf leaf h i now after → ((row : R) → lies_at lf leaf height row ≡ true) → IsCrowded lf leaf height n 0 slots
+  pub crowded_stuck : (n : ℕ) (slots now after : List (Option R)) → length now ≡ n + 1 → i < n → Piled lf leaf height i slots now → Stuck lf leaf h i now after → ((row : R) → lies_at lf leaf height row ≡ true) → IsCrowded lf leaf height n (rows slots)
   crowded_stuck n slots now after size less piled stuck rooted = elim at_height [
     | inl at ↦
         let all = many (lies_above lf leaf (suc h)) now i (λ k low high. let here = stuck.each k low high in (here.row, here.is, ap not (stuck.none.none k here.row low high here.is))) in
@@ -246,7 +246,7 @@ module _ {R : Type 0} (lf : R → ℕ) (leaf height i h : ℕ) (h_is : h ≡ min
 
 -- a row is left behind the last slot
 pub crowded_end : {R : Type 0} (lf : R → ℕ) (leaf height n i : ℕ) (slots now : List (Option R)) → i ≤ n → n ≤ i → length now ≡ n + 1 → Piled lf leaf height i slots now → (row : R) → get_or now n None ≡ Some row
-    → ((row : R) → lies_at lf leaf height row ≡ true) → IsCrowded lf leaf height n 0 slots
+    → ((row : R) → lies_at lf leaf height row ≡ true) → IsCrowded lf leaf height n (rows slots)
 crowded_end {R} lf leaf height n i slots now most least size piled row is rooted = elim (piled.pile rooted) [
   | inl clear ↦ absurd (clear n row most is)
   | inr pile ↦

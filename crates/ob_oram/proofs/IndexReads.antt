@@ -33,11 +33,13 @@ use Rattle.ob_oram.specs.declared.index.Index.{Index}
 use Rattle.ob_oram.specs.declared.walk.Walk.{Walk}
 use Rattle.ob_base.specs.Indexes.{path_blocks, rows_open}
 use Rattle.ob_oram.specs.Indexes.{IsShaped, Lies, key_of, tree_of}
-use Rattle.ob_oram.specs.Opens.{IsOpen, OpensIndex, keyed_slot, last_slot}
+use Rattle.ob_oram.specs.Opens.{IsOpen, keyed_slot, last_slot}
+use Rattle.ob_oram.specs.Opened.{OpensIndex}
 use Rattle.ob_oram.specs.Scripts.{access_in, read_script}
 use Rattle.ob_oram.specs.Walks.{blocks_in}
 use Rattle.ob_oram.specs.Walking.{OpensWalk, ReadsWalk, RefusesWalk, places_in, region_in, walk_reads}
 use Rattle.ob_oram.specs.Halves.{ReadsIndex, RefusesIndex, leaf_blocks, stash_blocks}
+use Rattle.ob_oram.proofs.WalkReads.{opens_same}
 use Rattle.ob_oram.proofs.WalkScripts.{length-places_in}
 
 -- the accesses of the model's two parts are those of the two walks
@@ -136,6 +138,11 @@ module _ (index : Index) (remap : Remap) (leaf : ℕ) (below : leaf < 2 ^ index.
     opens_index = record {
       spare = last_empty;
       count = count;
+      blocks = record {
+        mid = mid;
+        stash = opens_same index (stash_blocks index) slots after index.slots old mid (λ i within. path.others (path_blocks index.height + i) (no_slot (path_blocks index.height + i) (omega arith))) stash.blocks;
+        path = path.blocks;
+      };
       lying = λ honest s lies. record {
         path = λ c within. path.told s.tree (represents_lasts 1 (tree_of index) none old mid first.lasts (λ q. q) s.tree lies.tree) honest.nolie c within;
         stash = λ i within.

@@ -8,6 +8,7 @@ pub mod SlotBlocks
 pub mod WalkScripts
 pub mod WalkReads
 pub mod WalkWrites
+pub mod KeysBehind
 pub mod OpRows
 pub mod IndexReads
 pub mod IndexWrites
@@ -15,6 +16,7 @@ pub mod Lasting
 pub mod AccessRuns
 pub mod AccessTold
 pub mod Overfull
+pub mod LeafDraws
 pub mod AccessIndex
 pub mod Crowding
 pub mod Seeing

@@ -2,7 +2,7 @@
 use Rattle.std.proofs.Common.{◌≡◌, ◌≢◌, ◌≤◌, ◌<◌, inl, inr, ℕ, ℤ, Bool, Bor, List, [], ◌∷◌, ◌++◌, Option, Some, None, length, get_or, set, replicate, refl, sym, ◌∙◌, ap, subst, arith, get_or-set_same, get_or-set_other}
 use Rattle.std.specs.List.{All}
 use Rattle.std.specs.Option.{option_map}
-use Rattle.std.specs.Prelude.{filter}
+use Rattle.std.specs.Prelude.{filter, map, ◌==◌}
 use Rattle.std.proofs.lemmas.Bool.{cases_lt}
 use Rattle.std.proofs.lemmas.List.{set-get_or, length-set}
 use Rattle.std.proofs.lemmas.List.Elements.{All-head, All-tail}
@@ -18,7 +18,7 @@ use Rattle.ob_row.proofs.SpellingLemmas.{row_bytes-begin, zeros-begin}
 use Rattle.ob_row.proofs.BagLemmas.{Same-refl, Same-trans}
 use Rattle.ob_flat.proofs.Rows.{row_is}
 use Rattle.ob_tree.specs.Access as Tree
-use Rattle.ob_tree.specs.Rows.{rows, list_of}
+use Rattle.ob_tree.specs.Rows.{rows, list_of, but_firsts}
 use Rattle.ob_tree.specs.Runs.{KeepsKey}
 use Rattle.ob_tree.proofs.ServeLemmas.{rows-set_some, set_none-empty, applied_found, answer_found, applied_absent, answer_absent, applied_past, answer_past}
 use Rattle.ob_oram.specs.declared.held.Held.{Held}
@@ -31,9 +31,10 @@ use Rattle.ob_oram.specs.declared.op.Got.TheVariants as Gots
 use Rattle.ob_oram.specs.Buffers.{HasAt, NoneHas, held_of}
 use Rattle.ob_oram.specs.Indexes.{IsShaped, key_of, leaves_of}
 use Rattle.ob_tree.specs.Keys.{key_number, cell_number}
-use Rattle.ob_oram.specs.Opens.{IsOpen, OpensRow, ServesRows, leaf_with, leaves_with, tree_key}
-use Rattle.ob_oram.specs.Ops.{FitsOp, FitsSet, key_of_op, op_in, got_in, put_in}
-use Rattle.ob_oram.proofs.Crowding.{counts, tally_set, weigh, weigh_least}
+use Rattle.ob_oram.specs.Opens.{AreKeyed, IsOpen, OpensRow, ServesRows, leaf_with, leaves_with, tree_key}
+use Rattle.ob_oram.specs.Ops.{FitsOp, FitsSet, key_of_op, op_in, got_in, keys_behind, with_new}
+use Rattle.ob_oram.proofs.Crowding.{counts, tally_set, weigh}
+use Rattle.ob_oram.proofs.KeysBehind.{any_there, new_none, new_past, new_there, none_but, none_there, one_but, passing, passing_cons, passing_keys}
 use Rattle.ob_oram.proofs.WalkReads.{open_set}
 
 -- a cell elsewhere leaves that of the key
@@ -91,23 +92,33 @@ module _ (index : Index) (slots : Slots) where
   abbrev Absent : Op → Type 0
   Absent op = (j : ℕ) (row : Row) → get_or slots j None ≡ Some row → key_of index row ≡ tree_key index op → ⊥
 
-  serves_as : (op : Op) → tree_key index op < index.capacity → Absent op → Tree.after (op_in index.capacity op) None ≡ None → Tree.got (op_in index.capacity op) None ≡ Tree.Absent → ServesRows index op slots slots Gots.None
-  serves_as op within absent none answer = record {
+  abbrev keys : List ℕ
+  keys = map (key_of index) (rows slots)
+
+  -- the keys stand as they stood
+  keys_stand : (op : Op) → keys_behind index.capacity op keys ≡ keys → (p : ℕ → Bool)
+      → length (filter (λ (r : Row). p (key_of index r)) (rows slots)) ≡ length (filter p (keys_behind index.capacity op keys))
+  keys_stand op same p = sym (ap (passing p) same ∙ passing_keys (key_of index) p (rows slots))
+
+  serves_as : (op : Op) → tree_key index op < index.capacity → Absent op → Tree.after (op_in index.capacity op) None ≡ None → Tree.got (op_in index.capacity op) None ≡ Tree.Absent → keys_behind index.capacity op keys ≡ keys
+      → ServesRows index op slots slots Gots.None
+  serves_as op within absent none answer stand = record {
     bag = λ single. subst (λ o. Same (list_of o ++ rows slots) (Tree.applied (key_of index) index.capacity (op_in index.capacity op) (rows slots))) none
         (applied_absent (key_of index) index.capacity (op_in index.capacity op) slots absent within);
     answer = λ single. sym (answer_absent (key_of index) index.capacity (op_in index.capacity op) slots absent within ∙ answer);
-    most = λ p. omega arith;
+    keys = keys_stand op stand;
   }
 
   pub serves_absent : (op : Op) → ((key : ℤ) (cells : Bor (List Cell)) → op ≡ Insert key cells → ⊥) → tree_key index op < index.capacity → Absent op → ServesRows index op slots slots Gots.None
-  serves_absent (Get key) not within absent = serves_as (Get key) within absent refl refl
+  serves_absent (Get key) not within absent = serves_as (Get key) within absent refl refl refl
   serves_absent (Insert key cells) not within absent = absurd (not key cells refl)
-  serves_absent (Change key sets) not within absent = serves_as (Change key sets) within absent refl refl
+  serves_absent (Change key sets) not within absent = serves_as (Change key sets) within absent refl refl refl
   serves_absent (Remove key) not within absent = serves_as (Remove key) within absent refl refl
+      (none_but (key_number index.capacity key) keys (none_there (key_of index) (key_number index.capacity key) slots absent))
 
   pub serves_insert : (key : ℤ) (cells : Bor (List Cell)) (last : ℕ) → last < length slots → get_or slots last None ≡ None → tree_key index (Insert key cells) < index.capacity → Absent (Insert key cells)
-      → ServesRows index (Insert key cells) slots (set slots last (Some cells.now)) Gots.Done
-  serves_insert key cells last inside empty within absent =
+      → tree_key index (Insert key cells) ≡ key_number index.capacity key → ServesRows index (Insert key cells) slots (set slots last (Some cells.now)) Gots.Done
+  serves_insert key cells last inside empty within absent named =
       let op = Tree.Insert cells.now in
       let whole : rows (set slots last None) ≡ rows slots = ap rows (set_none-empty slots last empty) in
       record {
@@ -116,12 +127,15 @@ module _ (index : Index) (slots : Slots) where
             (subst (λ l. Same (rows (set slots last (Some cells.now))) (cells.now ∷ l)) whole (rows-set_some slots last cells.now inside))
             (applied_absent (key_of index) index.capacity op slots absent within);
         answer = λ single. sym (answer_absent (key_of index) index.capacity op slots absent within);
-        most = λ p.
+        keys = λ p.
             let q : Row → Bool = λ row. p (key_of index row) in
+            let k = key_number index.capacity key in
             let changed = tally_set q slots last (Some cells.now) inside in
-            let least = weigh_least q cells.now in
-            let one : put_in (Insert key cells) ≡ 1 = refl in
-            omega (arith, changed, least, one);
+            let none = ap (weigh q) empty in
+            let one : weigh q (Some cells.now) ≡ counts (p k) = ap (λ (j : ℕ). counts (p j)) named in
+            let behind : passing p (with_new index.capacity k keys) ≡ passing p (k ∷ keys) =
+            ap (passing p) (new_none index.capacity k keys (omega (arith, named, within)) (none_there (key_of index) k slots (λ j row is same. absent j row is (same ∙ sym named)))) in
+            omega (arith, changed, none, one, behind, passing_cons p k keys, passing_keys (key_of index) p (rows slots));
       }
 
 -- the row that is put in, as the buffer has it
@@ -147,24 +161,40 @@ module _ (index : Index) (slots : Slots) (i : ℕ) (row : Row) (is : get_or slot
   slot_rows None inside = Same-refl (rows (set slots i None))
   slot_rows (Some new) inside = rows-set_some slots i new inside
 
-  -- rows with its key stand there, or none
-  fewer : (p : ℕ → Bool) (o : Option Row) → ((new : Row) → o ≡ Some new → key_of index new ≡ key_of index row) → i < length slots
-      → length (filter (λ (r : Row). p (key_of index r)) (rows (set slots i o))) ≤ length (filter (λ (r : Row). p (key_of index r)) (rows slots))
-  fewer p None keeps inside =
-      let q : Row → Bool = λ r. p (key_of index r) in
-      let changed = tally_set q slots i None inside in
-      let none : weigh q None ≡ 0 = refl in
-      omega (arith, changed, none)
-  fewer p (Some new) keeps inside =
+  -- another row with its key stands there
+  as_many : (p : ℕ → Bool) (new : Row) → key_of index new ≡ key_of index row → i < length slots
+      → length (filter (λ (r : Row). p (key_of index r)) (rows (set slots i (Some new)))) ≡ passing p (map (key_of index) (rows slots))
+  as_many p new same inside =
       let q : Row → Bool = λ r. p (key_of index r) in
       let changed = tally_set q slots i (Some new) inside in
-      let same : weigh q (get_or slots i None) ≡ weigh q (Some new) = ap (weigh q) is ∙ ap (λ (k : ℕ). counts (p k)) (sym (keeps new refl)) in
-      omega (arith, changed, same)
+      let here : weigh q (get_or slots i None) ≡ weigh q (Some new) = ap (weigh q) is ∙ ap (λ (k : ℕ). counts (p k)) (sym same) in
+      omega (arith, changed, here, passing_keys (key_of index) p (rows slots))
 
-  pub serves_found : (op : Op) (got : Got) → i < length slots → key_of index row ≡ tree_key index op → tree_key index op < index.capacity → got_in got ≡ Tree.got (op_in index.capacity op) (Some row)
-      → ((new : Row) → Tree.after (op_in index.capacity op) (Some row) ≡ Some new → key_of index new ≡ key_of index row)
+  -- or none
+  one_less : (p : ℕ → Bool) (k : ℕ) → key_of index row ≡ k → i < length slots
+      → length (filter (λ (r : Row). p (key_of index r)) (rows (set slots i None))) ≡ passing p (but_firsts 1 (λ j. j == k) (map (key_of index) (rows slots)))
+  one_less p k mine inside =
+      let q : Row → Bool = λ r. p (key_of index r) in
+      let changed = tally_set q slots i None inside in
+      let here : weigh q (get_or slots i None) ≡ counts (p k) = ap (weigh q) is ∙ ap (λ (j : ℕ). counts (p j)) mine in
+      let none : weigh q None ≡ 0 = refl in
+      let one = one_but p k (map (key_of index) (rows slots)) (any_there (key_of index) k slots i row is mine) in
+      omega (arith, changed, here, none, one, passing_keys (key_of index) p (rows slots))
+
+  keys_found : (op : Op) → i < length slots → key_of index row ≡ key_number index.capacity (key_of_op op)
+      → ((new : Row) → Tree.after (op_in index.capacity op) (Some row) ≡ Some new → key_of index new ≡ key_of index row) → (p : ℕ → Bool)
+      → length (filter (λ (r : Row). p (key_of index r)) (rows (set slots i (Tree.after (op_in index.capacity op) (Some row))))) ≡ passing p (keys_behind index.capacity op (map (key_of index) (rows slots)))
+  keys_found (Get key) inside mine keeps p = as_many p row refl inside
+  keys_found (Insert key cells) inside mine keeps p =
+      as_many p row refl inside
+      ∙ sym (ap (passing p) (new_there index.capacity (key_number index.capacity key) (map (key_of index) (rows slots)) (any_there (key_of index) (key_number index.capacity key) slots i row is mine)))
+  keys_found (Change key sets) inside mine keeps p = as_many p (with_cells sets.now row) (keeps (with_cells sets.now row) refl) inside
+  keys_found (Remove key) inside mine keeps p = one_less p (key_number index.capacity key) mine inside
+
+  pub serves_found : (op : Op) (got : Got) → i < length slots → key_of index row ≡ tree_key index op → tree_key index op ≡ key_number index.capacity (key_of_op op) → tree_key index op < index.capacity
+      → got_in got ≡ Tree.got (op_in index.capacity op) (Some row) → ((new : Row) → Tree.after (op_in index.capacity op) (Some row) ≡ Some new → key_of index new ≡ key_of index row)
       → ServesRows index op slots (set slots i (Tree.after (op_in index.capacity op) (Some row))) got
-  serves_found op got inside mine within answer keeps =
+  serves_found op got inside mine named within answer keeps =
       let model = op_in index.capacity op in
       record {
         bag = λ single.
@@ -172,15 +202,15 @@ module _ (index : Index) (slots : Slots) (i : ℕ) (row : Row) (is : get_or slot
             (slot_rows (Tree.after model (Some row)) inside)
             (applied_found (key_of index) index.capacity model slots i row is mine single within);
         answer = λ single. answer ∙ sym (answer_found (key_of index) index.capacity model slots i row is mine single within);
-        most = λ p. let few = fewer p (Tree.after model (Some row)) keeps inside in omega (arith, few);
+        keys = keys_found op inside (mine ∙ named) keeps;
       }
 
   -- which stays
-  pub serves_kept : (op : Op) (got : Got) → i < length slots → key_of index row ≡ tree_key index op → tree_key index op < index.capacity → got_in got ≡ Tree.got (op_in index.capacity op) (Some row)
+  pub serves_kept : (op : Op) (got : Got) → i < length slots → key_of index row ≡ tree_key index op → tree_key index op ≡ key_number index.capacity (key_of_op op) → tree_key index op < index.capacity → got_in got ≡ Tree.got (op_in index.capacity op) (Some row)
       → Tree.after (op_in index.capacity op) (Some row) ≡ Some row → ServesRows index op slots slots got
-  serves_kept op got inside mine within answer stays =
+  serves_kept op got inside mine named within answer stays =
       let same : set slots i (Tree.after (op_in index.capacity op) (Some row)) ≡ slots = ap (set slots i) (stays ∙ sym is) ∙ set-get_or slots i None in
-      subst (λ after. ServesRows index op slots after got) same (serves_found op got inside mine within answer
+      subst (λ after. ServesRows index op slots after got) same (serves_found op got inside mine named within answer
       (λ new at. let one : Some row ≡ Some new = sym stays ∙ at in let e : row ≡ new = cc one in ap (key_of index) (sym e)))
 
   module _ (remap : Remap) (buffer : List (Option Held)) (list : List (List ℕ)) (opened : IsOpen index remap slots buffer list) (inside : i < length buffer) where
@@ -206,9 +236,18 @@ module _ (index : Index) (slots : Slots) (i : ℕ) (row : Row) (is : get_or slot
         (λ r at. absurd (cc at))
 
 -- there is no such key
-pub serves_past : (index : Index) (slots : Slots) (op : Op) → index.capacity ≤ tree_key index op → ServesRows index op slots slots Gots.OutOfRange
-serves_past index slots op past = record {
-  bag = λ single. applied_past (key_of index) index.capacity (op_in index.capacity op) slots past;
-  answer = λ single. sym (answer_past (key_of index) index.capacity (op_in index.capacity op) slots past);
-  most = λ p. omega arith;
-}
+module _ (index : Index) (slots : Slots) (keyed : AreKeyed index slots) where
+  stand_past : (op : Op) → index.capacity ≤ key_number index.capacity (key_of_op op) → keys_behind index.capacity op (map (key_of index) (rows slots)) ≡ map (key_of index) (rows slots)
+  stand_past (Get key) past = refl
+  stand_past (Insert key cells) past = new_past index.capacity (key_number index.capacity key) (map (key_of index) (rows slots)) past
+  stand_past (Change key sets) past = refl
+  stand_past (Remove key) past =
+      let k = key_number index.capacity key in
+      none_but k (map (key_of index) (rows slots)) (none_there (key_of index) k slots (λ j row is same. absurd (omega (arith, keyed.within j row is, same, past))))
+
+  pub serves_past : (op : Op) → index.capacity ≤ tree_key index op → tree_key index op ≡ key_number index.capacity (key_of_op op) → ServesRows index op slots slots Gots.OutOfRange
+  serves_past op past named = record {
+    bag = λ single. applied_past (key_of index) index.capacity (op_in index.capacity op) slots past;
+    answer = λ single. sym (answer_past (key_of index) index.capacity (op_in index.capacity op) slots past);
+    keys = keys_stand index slots op (stand_past op (omega (arith, past, named)));
+  }

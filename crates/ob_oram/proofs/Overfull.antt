@@ -53,9 +53,8 @@ module _ (index : Index) (op : Op) (draw : ℕ) (shaped : IsShaped index) where
   pub reads_too_many : (slots served placed : Slots) (got : Got) (old mid : World) → AreKeyed index slots → Arranged index op draw slots served placed got false old mid → ReadsTooMany index op draw old mid
   reads_too_many slots served placed got old mid keyed is =
       let crowd = is.places.crowded refl rooted in
-      let most = is.serves.most (lies_above leaf_of_key leaf crowd.heights) in
+      let keys = is.serves.keys (lies_above leaf_of_key leaf crowd.heights) in
       let after = ap length (above_keys crowd.heights (rows served)) in
-      let before = ap length (above_keys crowd.heights (rows slots)) in
       record {
         slots = slots;
         keyed = keyed;
@@ -63,6 +62,6 @@ module _ (index : Index) (op : Op) (draw : ℕ) (shaped : IsShaped index) where
         crowded = record {
           heights = crowd.heights;
           within = crowd.within;
-          over = omega (arith, crowd.over, most, after, before, is.count_is);
+          over = omega (arith, crowd.over, keys, after, is.count_is);
         };
       }

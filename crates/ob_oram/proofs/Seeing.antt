@@ -141,7 +141,7 @@ module _ (key lf : Row → ℕ) (leaf height n i : ℕ) (slots now : Slots) (mos
     crowded = λ no rooted. absurd (false≢true (sym no));
   }
 
-  pub placed_not : (row : Row) → get_or now n None ≡ Some row → (((row : Row) → lies_at lf leaf height row ≡ true) → IsCrowded lf leaf height n 0 slots) → Places key lf leaf height n slots now false
+  pub placed_not : (row : Row) → get_or now n None ≡ Some row → (((row : Row) → lies_at lf leaf height row ≡ true) → IsCrowded lf leaf height n (rows slots)) → Places key lf leaf height n slots now false
   placed_not row is crowded = record {
     placed = λ single never. absurd (false≢true never);
     full = λ single.

@@ -1,5 +1,5 @@
 -- A walk that is read block by block into a buffer.
-use Rattle.std.proofs.Common.{◌≡◌, ◌≢◌, ◌⊎◌, ◌≤◌, ◌<◌, ◌+◌, ◌*◌, inl, inr, ℕ, true, false, List, [], Option, Some, None, Ok, Err, cond, length, take, get_or, set, refl, sym, ◌∙◌, ap, subst, arith, get_or-set_same, get_or-set_other}
+use Rattle.std.proofs.Common.{◌≡◌, ◌≢◌, ◌⊎◌, ◌≤◌, ◌<◌, ◌+◌, ◌*◌, inl, inr, ℕ, zero, suc, true, false, List, [], Option, Some, None, Ok, Err, cond, length, take, get_or, set, refl, sym, ◌∙◌, ap, subst, arith, get_or-set_same, get_or-set_other}
 use Rattle.std.specs.Prelude.{nat_lt}
 use Rattle.std.specs.Option.{option_map}
 use Rattle.std.proofs.lemmas.Bool.{cases_eq, cases_lt, cases_Bool, ltb-true}
@@ -37,7 +37,7 @@ use Rattle.ob_oram.specs.Buffers.{held_of}
 use Rattle.ob_oram.specs.Indexes.{key_of}
 use Rattle.ob_oram.specs.Opens.{IsOpen, OpensRow, keyed_slot, leaf_with}
 use Rattle.ob_oram.specs.Walks.{blocks_in, place_in, slot_in}
-use Rattle.ob_oram.specs.Walking.{IsWalkOf, OpensWalk, ReadsRow, ReadsWalk, RefusesRow, RefusesWalk, region_in, table_in}
+use Rattle.ob_oram.specs.Walking.{IsWalkOf, OpensBlock, OpensFirst, OpensWalk, ReadsRow, ReadsWalk, RefusesRow, RefusesWalk, region_in, table_in}
 use Rattle.ob_oram.proofs.Creates.{one_each}
 use Rattle.ob_oram.proofs.WalkRows.{place_below}
 use Rattle.ob_oram.proofs.WalkScripts.{reads_each}
@@ -121,6 +121,15 @@ pub slot_below : (index : Index) (walk : Walk) (c : ℕ) → IsWalkOf index walk
 slot_below index (Stash slots height) c is within = omega (arith, within, is.0, is.1)
 slot_below index (Path height leaf) c is within = omega (arith, within, is.0)
 
+-- what was opened into slots that are as they were
+pub opens_same : (index : Index) (walk : Walk) (a b : Slots) (n : ℕ) (old new : World) → ((c : ℕ) → c < n → get_or b (slot_in walk c) None ≡ get_or a (slot_in walk c) None) → OpensFirst index walk a n old new → OpensFirst index walk b n old new
+opens_same index walk a b zero old new same is = is
+opens_same index walk a b (suc n) old new same is = (
+  is.0,
+  opens_same index walk a b n old is.0 (λ c below. same c (omega (arith, below))) is.1,
+  subst (λ (s : Option Row). OpensBlock index walk n s is.0 new) (sym (same n (omega arith))) is.2,
+)
+
 -- the first c blocks of a walk were read
 pub record ReadsFirst (index : Index) (walk : Walk) (c : ℕ) (old now : World) : Type 0 where
   pub went : Went (each c (λ d. read_at (region_in index walk) (place_in walk d))) none old now
@@ -179,6 +188,16 @@ module _ (index : Index) (remap : Remap) (walk : Walk) (c : ℕ) (is : IsWalkOf 
         get_or-set_other after (slot_in walk c) j read_slot None (λ same. off c (omega arith) (sym same))
         ∙ first.others j (λ d below. off d (omega (arith, below)))
 
+    opens_blocks : OpensFirst index walk (set after (slot_in walk c) read_slot) (c + 1) old new
+    opens_blocks =
+        let next : suc c ≡ c + 1 = omega arith in
+        let now : Slots = set after (slot_in walk c) read_slot in
+        subst (λ (n : ℕ). OpensFirst index walk now n old new) next (
+          mid,
+          opens_same index walk after now c old mid (λ d below. get_or-set_other after (slot_in walk c) (slot_in walk d) read_slot None (λ same. slot_apart walk d c below within (sym same))) first.blocks,
+          subst (λ (s : Option Row). OpensBlock index walk c s mid new) (sym (get_or-set_same after (slot_in walk c) read_slot None (omega (arith, inside, opened.sees.count)))) row.opens.2,
+        )
+
     opens_told : (table : Slots) → Represents 1 (table_in index walk) table old → new.store.lie ≡ None → (d : ℕ) → d < c + 1 → (d < c) ⊎ (c ≤ d)
         → get_or (set after (slot_in walk c) read_slot) (slot_in walk d) None ≡ keyed_slot index (get_or table (place_in walk d) None)
     opens_told table lies nolie d below (inl earlier) =
@@ -198,12 +217,13 @@ module _ (index : Index) (remap : Remap) (walk : Walk) (c : ℕ) (is : IsWalkOf 
     pub opens_more : OpensWalk index walk (c + 1) slots (set after (slot_in walk c) read_slot) old new
     opens_more = record {
       others = opens_others;
+      blocks = opens_blocks;
       told = λ table lies nolie d below. opens_told table lies nolie d below (cases_lt d c);
     }
 
 -- nothing was read yet
 pub opens_none : (index : Index) (walk : Walk) (slots : Slots) (w : World) → OpensWalk index walk 0 slots slots w w
-opens_none index walk slots w = record { others = λ j off. refl; told = λ table lies nolie d below. absurd (omega (arith, below)) }
+opens_none index walk slots w = record { others = λ j off. refl; blocks = refl; told = λ table lies nolie d below. absurd (omega (arith, below)) }
 
 -- all was
 pub reads_all : {T : Type 0} (index : Index) (walk : Walk) (c : ℕ) (v : T) (old new : World) → IsWalkOf index walk → c ≡ blocks_in walk → ReadsFirst index walk c old new → ReadsWalk index walk (Ok v) old new

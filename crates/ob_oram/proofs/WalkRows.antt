@@ -14,7 +14,7 @@ use Rattle.ob_vault.specs.State.{World}
 use Rattle.ob_vault.specs.Tied.{Lives, Holds}
 use Rattle.ob_vault.specs.Rows.{SameSizes, joined, row_at, Wide}
 use Rattle.ob_vault.specs.Places.{RowsFit, MayGet}
-use Rattle.ob_vault.specs.Calls.{none}
+use Rattle.ob_vault.specs.Calls.{Unsealed, none}
 use Rattle.ob_vault.specs.VaultCalls.{Gets}
 use Rattle.ob_vault.proofs.Runs.{may_get}
 use Rattle.ob_row.specs.Rows.{Row}
@@ -37,7 +37,7 @@ use Rattle.ob_oram.specs.declared.walk.Walk.TheVariants.{Stash, Path}
 use Rattle.ob_oram.specs.Walks.{IsWalk, blocks_in, place_in}
 use Rattle.ob_oram.specs.Indexes.{IsShaped}
 use Rattle.ob_oram.specs.Opens.{OpensRow, keyed_slot}
-use Rattle.ob_oram.specs.Walking.{IsWalkOf, ReadsRow, region_in, table_in}
+use Rattle.ob_oram.specs.Walking.{IsWalkOf, OpensBlock, ReadsRow, region_in, table_in}
 use Rattle.ob_oram.proofs.Creates.{one_each}
 
 -- a tree of an index is low
@@ -171,7 +171,18 @@ module _ (index : Index) (remap : Remap) (walk : Walk) (c : ℕ) (shaped : IsSha
       told = λ slot fits holds nolie. absurd (cc (told_bytes (Err e) gets slot fits holds nolie, tampered));
     }
 
-    -- or gave a row
+    -- or gave the block of a slot
+    opened_slot : Gets {T = Unit {0}} q x (row ∷ []) (bytes ∷ []) (Ok tt) old new → (slot : Option Row) → Begins index.schema slot bytes → OpensBlock index walk c (keyed_slot index slot) old new
+    opened_slot gets slot begins = record {
+      went = gets.ok;
+      gives = gets.gave (λ no. absurd (cc no));
+      slot = slot;
+      fits = begins.fits;
+      opened = subst (λ (l : List ℕ). Unsealed q x l new) (ap (λ (w : ℕ). joined (w / 1) (bytes ∷ [])) width_is ∙ one_joined index slot bytes begins) (gets.opened (shape written.order) lives);
+      is = refl;
+    }
+
+    -- of a row, or of a dummy
     pub reads_row : (held : Option Held) (after : List ℕ) → Gets {T = Unit {0}} q x (row ∷ []) (bytes ∷ []) (Ok tt) old new
         → ((slot : Option Row) × Begins index.schema slot bytes) → ((slot : Option Row) → Begins index.schema slot bytes → OpensRow index remap (keyed_slot index slot) held after)
         → ReadsRow index remap walk c (Ok held) after old new
@@ -179,7 +190,7 @@ module _ (index : Index) (remap : Remap) (walk : Walk) (c : ℕ) (shaped : IsSha
       ok = gets.ok;
       err = tt;
       seals = record { seals = gets.seals };
-      opens = (real.0, opens real.0 real.1);
+      opens = (real.0, opens real.0 real.1, opened_slot gets real.0 real.1);
       told = λ slot fits holds nolie. opens slot (one_begins index slot bytes fits (told_bytes (Ok (tt {0})) gets slot fits holds nolie));
     }
 

@@ -1,5 +1,5 @@
 -- What an access of an index does.
-use Rattle.std.specs.Prelude.{◌≡◌, ◌⊎◌, ◌<◌, ◌+◌, ◌↔◌, ℕ, List, Option, Some, None, Result, Err, OnOk, OnErr, IfOk, IfErr, MatchResult, length, slice_index_or}
+use Rattle.std.specs.Prelude.{◌≡◌, ◌⊎◌, ◌<◌, ◌+◌, ◌↔◌, ℕ, List, Option, Some, None, Result, Err, OnOk, OnErr, IfOk, IfErr, MatchResult, length, map, slice_index_or}
 use Rattle.ob_vault.specs.State.{World}
 use Rattle.ob_vault.specs.Calls.{Went, none, two}
 use Rattle.ob_vault.specs.Words.{IsHonest}
@@ -11,6 +11,7 @@ use Rattle.ob_flat.specs.Flats.{IsWritten}
 use Rattle.ob_flat.specs.Passes.{PassCut}
 use Rattle.ob_flat.specs.Words.{TamperedIn}
 use Rattle.ob_tree.specs.Access as Tree
+use Rattle.ob_tree.specs.Rows.{rows}
 use Rattle.ob_tree.specs.Runs.{map_after, map_answer}
 use Rattle.ob_tree.specs.States.{State}
 use Rattle.ob_oram.specs.declared.held.Remap.{Remap}
@@ -23,9 +24,10 @@ use Rattle.ob_oram.specs.declared.fault.OramErr.TheVariants.{Failed, Tampered, S
 use Rattle.ob_tree.specs.Keys.{key_number}
 use Rattle.ob_oram.specs.Buffers.{IsCrowded}
 use Rattle.ob_base.specs.Indexes.{leaf_of_draw, rows_open}
-use Rattle.ob_oram.specs.Ops.{key_of_op, op_in, got_in, put_in}
-use Rattle.ob_oram.specs.Indexes.{IsIndex, IsMap, IsStored, Lies, LiesAs, SealsIndex, leaves_of, key_of, tree_of, stash_of}
-use Rattle.ob_oram.specs.Opens.{AreKeyed, OpensIndex, last_slot, leaf_with, leaves_with}
+use Rattle.ob_oram.specs.Ops.{key_of_op, op_in, got_in, keys_behind}
+use Rattle.ob_oram.specs.Indexes.{IsEnded, IsIndex, IsMap, IsStored, Lies, LiesAs, SealsIndex, leaves_of, key_of, tree_of, stash_of}
+use Rattle.ob_oram.specs.Opens.{AreKeyed, last_slot, leaves_with}
+use Rattle.ob_oram.specs.Opened.{OpensIndex}
 use Rattle.ob_oram.specs.Scripts.{read_script, access_script}
 
 -- the key of an operation, and the leaf of its draw
@@ -44,21 +46,24 @@ leaf_read index op draw = let remap = remap_of index op draw in
 abbrev pub leaves_after : Index → Op → ℕ → List ℕ
 leaves_after index op draw = leaves_with index (remap_of index op draw)
 
--- the same index with these leaves; its buffer has nothing that counts
+-- and this the leaf of a key
+abbrev pub leaf_after : Index → Op → ℕ → ℕ → ℕ
+leaf_after index op draw k = slice_index_or (leaves_after index op draw) k 0
+
+-- the same index with these leaves, whatever its buffer has
 pub record HasLeaves (list : List ℕ) (index left : Index) : Type 0 where
   pub same : left ≡ record index { leaves = left.leaves; buffer = left.buffer }
   pub leaves : leaves_of left ≡ list
 
--- the index that an access leaves: an error leaves the leaves, and maybe no buffer
+-- the index that an access leaves: an error leaves the leaves, and an index that has ended
 pub record LeftBy {T : Type 0} (result : Result T OramErr) (index : Index) (op : Op) (draw : ℕ)
     (left : Index) : Type 0 where
   pub ok : OnOk result (HasLeaves (leaves_after index op draw) index left)
   pub err : OnErr result (HasLeaves (leaves_of index) index left)
+  pub ended : OnErr result (IsEnded left)
   pub buffer : OnOk result (length left.buffer.items ≡ rows_open index.height index.slots)
 
--- an index that wasn't touched is stored still, and lies as it did. It may not be accessed again, for
--- nothing is said of its buffer: the key has the leaf that was read, and another access would read the
--- same path, from which a watcher could tell that the two are of one key
+-- an index that wasn't touched is stored still, and lies as it did
 pub record IndexStays (index left : Index) (old new : World) : Type 0 where
   pub same : HasLeaves (leaves_of index) index left
   pub stored : IsStored left new
@@ -105,14 +110,14 @@ pub record AnswersMap (index left : Index) (op : Op) (m : ℕ → Option Row) (g
   pub answer : got_in got ≡ map_answer (key_of index) index.capacity (op_in index.capacity op) m
   pub map : IsMap left (map_after (key_of index) index.capacity (op_in index.capacity op) m) new
 
--- more rows with keys of the index were read than fit: with the one that an insert puts in, more may lie at none of
--- some heights of the path than there are slots above these and in the stash
+-- more rows with keys of the index were read than fit: behind the operation more may lie at none of some heights of the
+-- path than there are slots above these and in the stash
 pub record ReadsTooMany (index : Index) (op : Op) (draw : ℕ) (old new : World) : Type 0 where
   pub slots : Slots
   pub keyed : AreKeyed index slots
   pub opens : OpensIndex index (leaf_read index op draw) slots old new
-  pub crowded : IsCrowded (leaf_with index (remap_of index op draw)) (leaf_read index op draw)
-      index.height (last_slot index) (put_in op) slots
+  pub crowded : IsCrowded (leaf_after index op draw) (leaf_read index op draw) index.height
+      (last_slot index) (keys_behind index.capacity op (map (key_of index) (rows slots)))
 
 -- the path of a key was read, and written again after the operation
 pub record Accesses (index left : Index) (op : Op) (draw : ℕ)
@@ -123,6 +128,9 @@ pub record Accesses (index left : Index) (op : Op) (draw : ℕ)
   pub seals : SealsIndex index old new
   pub leaves : OnOk result (HasLeaves (leaves_after index op draw) index left)
   pub stands : OnOk result (IsIndex left new)
+  -- behind a stop it isn't accessed again: the key has the leaf that was read, and another access would read the same
+  -- path, from which a watcher could tell that the two are of one key
+  pub ended : OnErr result (IsEnded left)
   -- the key is none of the index
   pub range : IfOk result (λ got. (got ≡ Gots.OutOfRange)
       ↔ (key_number index.capacity (key_of_op op) ≡ index.capacity))

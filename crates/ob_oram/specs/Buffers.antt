@@ -75,13 +75,11 @@ abbrev pub lies_above : {R : Type 0} → (R → ℕ) → ℕ → ℕ → R → B
 lies_above lf leaf zero row = true
 lies_above lf leaf (suc height) row = not (lies_at lf leaf height row)
 
--- with so many more rows, more may lie at none of some heights than there are slots, of n, behind those of
--- these heights
-pub record IsCrowded {R : Type 0} (lf : R → ℕ) (leaf height n more : ℕ)
-    (slots : List (Option R)) : Type 0 where
+-- more rows may lie at none of some heights than there are slots, of n, behind those of these heights
+pub record IsCrowded {R : Type 0} (lf : R → ℕ) (leaf height n : ℕ) (list : List R) : Type 0 where
   pub heights : ℕ
   pub within : heights ≤ height + 1
-  pub over : n < 4 * heights + length (filter (lies_above lf leaf heights) (rows slots)) + more
+  pub over : n < 4 * heights + length (filter (lies_above lf leaf heights) list)
 
 -- each of n slots got its row, unless more rows are left than there are slots
 pub record Places (key lf : Row → ℕ) (leaf height n : ℕ) (slots after : Slots)
@@ -92,7 +90,7 @@ pub record Places (key lf : Row → ℕ) (leaf height n : ℕ) (slots after : Sl
       ↔ (length (left_behind (tests lf leaf height 0 n) (by_key key (rows slots))) ≡ 0)
   -- also where two rows have one key, if each may lie in the root
   pub crowded : done ≡ false → ((row : Row) → lies_at lf leaf height row ≡ true)
-      → IsCrowded lf leaf height n 0 slots
+      → IsCrowded lf leaf height n (rows slots)
 
 -- no row of the buffer has this key
 pub record NoneHas (key : ℕ) (buffer : List (Option Held)) : Type 0 where

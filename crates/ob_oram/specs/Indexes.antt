@@ -1,5 +1,5 @@
 -- What an index is in a vault and its store.
-use Rattle.std.specs.Prelude.{◌≡◌, ◌≢◌, ◌≤◌, ℕ, Bool, List, Option, length}
+use Rattle.std.specs.Prelude.{◌≡◌, ◌≢◌, ◌≤◌, ℕ, Bool, List, [], Option, length}
 use Rattle.ob_vault.specs.declared.region.Order.TheVariants.{Round, Any}
 use Rattle.ob_vault.specs.State.{World}
 use Rattle.ob_vault.specs.Calls.{Seals}
@@ -55,6 +55,10 @@ pub record IsStored (index : Index) (w : World) : Type 0 where
 pub record IsIndex (index : Index) (w : World) : Type 0 where
   pub stored : IsStored index w
   pub buffer : length index.buffer.items ≡ rows_open index.height index.slots
+
+-- or none, once an access of it has stopped
+pub record IsEnded (index : Index) : Type 0 where
+  pub none : index.buffer.items ≡ []
 
 -- an index as it lies in the store
 pub record LiesAs (index : Index) (s : State Row) (w : World) : Type 0 where

@@ -9,6 +9,8 @@ pub mod Opens
 pub mod Walking
 pub mod Scripts
 pub mod Halves
+pub mod Opened
 pub mod Accessing
 pub mod Short
 pub mod Discards
+pub mod Sequences

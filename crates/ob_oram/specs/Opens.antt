@@ -1,27 +1,21 @@
 -- The rows of an index that lie open in an access.
-use Rattle.std.specs.Prelude.{◌≡◌, ◌<◌, ◌≤◌, ◌+◌, ℕ, Bool, List, Option, Some, None, filter, length, slice_index_or, slice_set, nat_lt, if◌then◌else◌}
+use Rattle.std.specs.Prelude.{◌≡◌, ◌<◌, ◌+◌, ℕ, Bool, List, Option, Some, None, filter, length, map, slice_index_or, slice_set, nat_lt, if◌then◌else◌}
 use Rattle.std.specs.Option.{option_map}
-use Rattle.ob_vault.specs.State.{World}
 use Rattle.ob_row.specs.Rows.{Row}
 use Rattle.ob_row.specs.Slots.{Slots}
 use Rattle.ob_row.specs.Spelling.{Begins}
 use Rattle.ob_row.specs.Bags.{Same}
-use Rattle.ob_vault.specs.Words.{IsHonest}
-use Rattle.ob_script.specs.Parts.{path_place}
-use Rattle.ob_tree.specs.Paths.{path_slot}
 use Rattle.ob_tree.specs.Rows.{rows, with_key, first, Single}
-use Rattle.ob_tree.specs.States.{State}
-use Rattle.ob_tree.specs.Slotwise.{open_slots}
 use Rattle.ob_tree.specs.Access as Tree
 use Rattle.ob_oram.specs.declared.held.Held.{Held}
 use Rattle.ob_oram.specs.declared.held.Remap.{Remap}
 use Rattle.ob_oram.specs.declared.index.Index.{Index}
 use Rattle.ob_oram.specs.declared.op.Op.{Op}
 use Rattle.ob_oram.specs.declared.op.Got.{Got}
-use Rattle.ob_base.specs.Indexes.{path_blocks, rows_open}
+use Rattle.ob_base.specs.Indexes.{path_blocks}
 use Rattle.ob_oram.specs.Buffers.{Sees, held_of}
-use Rattle.ob_oram.specs.Ops.{op_in, got_in, put_in}
-use Rattle.ob_oram.specs.Indexes.{Lies, LiesAs, leaves_of, key_of}
+use Rattle.ob_oram.specs.Ops.{op_in, got_in, keys_behind}
+use Rattle.ob_oram.specs.Indexes.{leaves_of, key_of}
 
 -- the leaves where one key has another, and the leaf of a row then
 abbrev pub leaves_with : Index → Remap → List ℕ
@@ -58,24 +52,6 @@ pub record IsOpen (index : Index) (remap : Remap) (slots : Slots)
 abbrev pub last_slot : Index → ℕ
 last_slot index = path_blocks index.height + index.slots
 
--- they are those of a path and of the stash in a state, without the rows that have no key of the index
-pub record OpensSlots (index : Index) (leaf : ℕ) (slots : Slots) (s : State Row) : Type 0 where
-  pub path : (c : ℕ) → c < path_blocks index.height
-      → slice_index_or slots (path_slot index.height c) None
-      ≡ keyed_slot index (slice_index_or s.tree (path_place index.height leaf c) None)
-  pub stash : (i : ℕ) → i < index.slots
-      → slice_index_or slots (path_blocks index.height + i) None
-      ≡ keyed_slot index (slice_index_or s.stash i None)
-
--- a path and the stash lie open, as they lay in the store
-pub record OpensIndex (index : Index) (leaf : ℕ) (slots : Slots) (old new : World) : Type 0 where
-  pub spare : slice_index_or slots (last_slot index) None ≡ None
-  pub count : length slots ≡ rows_open index.height index.slots
-  pub lying : IsHonest old new → (s : State Row) → LiesAs index s old
-      → OpensSlots index leaf slots s
-  pub told : IsHonest old new → (s : State Row) → Lies index s old
-      → slots ≡ open_slots index.height leaf s
-
 -- the key of an operation in the model
 abbrev pub tree_key : Index → Op → ℕ
 tree_key index op = Tree.key_of (key_of index) (op_in index.capacity op)
@@ -87,6 +63,6 @@ pub record ServesRows (index : Index) (op : Op) (slots after : Slots) (got : Got
   pub answer : Single (key_of index) (rows slots) → got_in got
       ≡ Tree.answer index.capacity (tree_key index op) (op_in index.capacity op)
       (first (with_key (key_of index) (tree_key index op) (rows slots)))
-  -- also where two rows have one key: no row is added but that of an insert, and none gets another key
-  pub most : (p : ℕ → Bool) → length (filter (λ row. p (key_of index row)) (rows after))
-      ≤ length (filter (λ row. p (key_of index row)) (rows slots)) + put_in op
+  -- also where two rows have one key, as many keys of each kind stand there
+  pub keys : (p : ℕ → Bool) → length (filter (λ row. p (key_of index row)) (rows after))
+      ≡ length (filter p (keys_behind index.capacity op (map (key_of index) (rows slots))))

@@ -1,6 +1,6 @@
 -- What an access asks for, and what it answers.
-use Rattle.std.specs.Prelude.{◌≡◌, ◌≢◌, ◌<◌, ℕ, ℤ, ⊤, Some, length}
-use Rattle.std.specs.List.{All}
+use Rattle.std.specs.Prelude.{◌≡◌, ◌≢◌, ◌<◌, ◌==◌, ◌&&◌, not, ℕ, ℤ, ⊤, List, ◌∷◌, Some, length, nat_lt, if◌then◌else◌}
+use Rattle.std.specs.List.{All, list_any}
 use Rattle.ob_base.specs.Schemas.{Columns}
 use Rattle.ob_row.specs.declared.cell.Cell.{Cell}
 use Rattle.ob_row.specs.declared.cell.Cell.TheVariants.{Int}
@@ -12,6 +12,7 @@ use Rattle.ob_oram.specs.declared.op.Op.TheVariants.{Get, Insert, Change, Remove
 use Rattle.ob_oram.specs.declared.op.Got.{Got}
 use Rattle.ob_oram.specs.declared.op.Got.TheVariants as Gots
 use Rattle.ob_tree.specs.Keys.{key_number}
+use Rattle.ob_tree.specs.Rows.{but_firsts}
 
 abbrev pub key_of_op : Op → ℤ
 key_of_op (Get key) = key
@@ -19,12 +20,16 @@ key_of_op (Insert key cells) = key
 key_of_op (Change key sets) = key
 key_of_op (Remove key) = key
 
--- how many rows it may put in
-abbrev pub put_in : Op → ℕ
-put_in (Get key) = 0
-put_in (Insert key cells) = 1
-put_in (Change key sets) = 0
-put_in (Remove key) = 0
+-- keys of rows, and one that is put in, which is one of n keys, unless it is there
+abbrev pub with_new : (n k : ℕ) → List ℕ → List ℕ
+with_new n k keys = if not (list_any (λ j. j == k) keys) && nat_lt k n then k ∷ keys else keys
+
+-- the keys of rows behind the operation
+abbrev pub keys_behind : ℕ → Op → List ℕ → List ℕ
+keys_behind n (Get key) keys = keys
+keys_behind n (Insert key cells) keys = with_new n (key_number n key) keys
+keys_behind n (Change key sets) keys = keys
+keys_behind n (Remove key) keys = but_firsts 1 (λ j. j == key_number n key) keys
 
 -- the operation on a map from n keys to rows
 abbrev pub op_in : ℕ → Op → Tree.Op Row

@@ -1,15 +1,16 @@
 -- What reading and writing the blocks of a walk does.
-use Rattle.std.specs.Prelude.{◌≡◌, ◌≢◌, ◌<◌, ◌^◌, ℕ, IsTrue, List, Option, None, Result, OnOk, IfOk, IfErr, MatchResult, map, slice_index_or}
+use Rattle.std.specs.Prelude.{◌≡◌, ◌≢◌, ◌<◌, ◌^◌, ℕ, zero, suc, IsTrue, List, Option, None, Result, OnOk, IfOk, IfErr, MatchResult, map, slice_index_or}
 use Rattle.ob_base.specs.declared.access.Access.{Access}
 use Rattle.ob_base.specs.declared.access.Access.TheVariants.{Read, Write}
 use Rattle.ob_base.specs.Accesses.{read_at, write_at}
+use Rattle.ob_store.specs.Calls.{ReadGives}
 use Rattle.ob_vault.specs.declared.region.Region.{Region}
 use Rattle.ob_vault.specs.declared.region.Order.{Order}
 use Rattle.ob_vault.specs.declared.region.Order.TheVariants.{Round, Any}
 use Rattle.ob_vault.specs.State.{World}
 use Rattle.ob_vault.specs.Tied.{Lives, Written, OnTurn, Holds}
 use Rattle.ob_vault.specs.Revs.{turn_after}
-use Rattle.ob_vault.specs.Calls.{Went, Only, none, one}
+use Rattle.ob_vault.specs.Calls.{Went, Only, Unsealed, none, one}
 use Rattle.ob_vault.specs.Words.{SealsAll}
 use Rattle.ob_row.specs.Rows.{Row}
 use Rattle.ob_row.specs.Slots.{Slots}
@@ -60,6 +61,25 @@ walk_reads index walk = map (λ place. Read (region_in index walk) place) (place
 abbrev pub walk_writes : Index → Walk → List Access
 walk_writes index walk = map (λ place. Write (region_in index walk) place) (places_in walk)
 
+-- a block of a walk was read and opened under its tag as some slot, of which this was kept: a row that has no key of
+-- the index is left out
+pub record OpensBlock (index : Index) (walk : Walk) (c : ℕ) (kept : Option Row)
+    (old new : World) : Type 0 where
+  pub went : Went (read_at (region_in index walk) (place_in walk c)) none old new
+  pub gives : ReadGives (region_in index walk) (place_in walk c) new.store.gave old.store new.store
+  pub slot : Option Row
+  pub fits : FitsSlot index.schema slot
+  pub opened : Unsealed (region_in index walk) (place_in walk c)
+      (slot_bytes index.schema slot) new
+  pub is : kept ≡ keyed_slot index slot
+
+-- so were the first n blocks, one after the other, into their slots of the buffer
+abbrev pub OpensFirst : Index → Walk → Slots → ℕ → World → World → Type 0
+OpensFirst index walk slots zero old new = old ≡ new
+OpensFirst index walk slots (suc c) old new = (mid : World)
+    × OpensFirst index walk slots c old mid
+    × OpensBlock index walk c (slice_index_or slots (slot_in walk c) None) mid new
+
 -- the store failed, or the block is not what was written there last, or malformed
 abbrev pub RefusesRow : OramErr → Index → Walk → ℕ → World → World → Type 0
 RefusesRow Failed index walk c old new =
@@ -76,7 +96,8 @@ pub record ReadsRow (index : Index) (remap : Remap) (walk : Walk) (c : ℕ)
   pub err : IfErr result (λ e. RefusesRow e index walk c old new)
   pub seals : SealsAll old new
   pub opens : IfOk result (λ held. (slot : Option Row)
-      × OpensRow index remap (keyed_slot index slot) held bytes)
+      × OpensRow index remap (keyed_slot index slot) held bytes
+      × OpensBlock index walk c (keyed_slot index slot) old new)
   pub told : (slot : Option Row) → FitsSlot index.schema slot
       → Holds (region_in index walk) (place_in walk c) (slot_bytes index.schema slot) old
       → new.store.lie ≡ None → MatchResult result
@@ -105,6 +126,7 @@ pub record OpensWalk (index : Index) (walk : Walk) (n : ℕ) (slots after : Slot
     (old new : World) : Type 0 where
   pub others : (j : ℕ) → ((c : ℕ) → c < n → slot_in walk c ≢ j)
       → slice_index_or after j None ≡ slice_index_or slots j None
+  pub blocks : OpensFirst index walk after n old new
   pub told : (table : Slots) → Represents 1 (table_in index walk) table old
       → new.store.lie ≡ None → (c : ℕ) → c < n
       → slice_index_or after (slot_in walk c) None

@@ -11,7 +11,8 @@ ghost use Rattle.ob_oram.specs.Buffers.{IsBuffer};
 ghost use Rattle.ob_base.specs.Indexes.{path_blocks, rows_open};
 ghost use Rattle.ob_oram.specs.declared.index.Index.{Index as AnIndex};
 ghost use Rattle.ob_oram.specs.Indexes.{IsIndex, IsShaped, IsStored, leaves_of};
-ghost use Rattle.ob_oram.specs.Opens.{IsOpen, OpensIndex, leaves_with};
+ghost use Rattle.ob_oram.specs.Opens.{IsOpen, leaves_with};
+ghost use Rattle.ob_oram.specs.Opened.{OpensIndex};
 ghost use Rattle.ob_oram.specs.Ops.{FitsOp};
 ghost use Rattle.ob_oram.specs.Scripts.{script_length};
 ghost use Rattle.ob_oram.specs.Halves.{ReadsIndex, WritesIndex, leaf_blocks, stash_blocks};
@@ -220,8 +221,8 @@ fn access_open<S: BlockStore, R: Revisions>(
 ///
 /// `Failed` where the store failed, `Tampered` with a block that is not what was written there last or that has a
 /// malformed row, and `StashFull`, before any write, where more rows are left than the stash has slots. An error
-/// leaves the leaves of the keys, and before the first write all that lies in the store, but no index that may be
-/// accessed again: the path of the key's leaf was read, and would be read once more.
+/// leaves the leaves of the keys, and before the first write all that lies in the store, but the index has ended, and may
+/// not be accessed again: the path of the key's leaf was read, and would be read once more.
 pub fn access<S: BlockStore, R: Revisions>(
     store: &mut S,
     vault: &mut Vault<R>,
@@ -251,9 +252,12 @@ pub fn access<S: BlockStore, R: Revisions>(
     let rows = room.open(slots.len() as u32);
     let result = access_open(store, vault, index, op, draw, slots, rows);
     room.clear_shelf();
-    index.buffer = buffer;
-    if result.is_ok() {
-        set_leaf(index, remap);
+    match result {
+        Ok(got) => {
+            index.buffer = buffer;
+            set_leaf(index, remap);
+            Ok(got)
+        }
+        Err(e) => Err(e),
     }
-    result
 }

@@ -1,9 +1,12 @@
 //! Laws of an index beside others, and of how it is accessed.
-ghost use Rattle.std.specs.Prelude.{◌≡◌, ◌<◌, ◌^◌, ◌++◌, ℕ, List, Err};
+ghost use Rattle.std.specs.Prelude.{◌≡◌, ◌≢◌, ◌<◌, ◌+◌, ◌^◌, ◌++◌, ℕ, List, Err, map};
+ghost use Rattle.std.specs.List.{AllPairs};
 ghost use Rattle.ob_base.specs.declared.access.Access.{Access};
 ghost use Rattle.ob_row.specs.Rows.{Row};
 ghost use Rattle.ob_script.specs.Parts.{access_part};
 ghost use Rattle.ob_store.specs.State.{Lie};
+ghost use Rattle.ob_tree.specs.Runs.{draws_read, leaf_at};
+ghost use Rattle.ob_tree.specs.Scripts.{numbers};
 ghost use Rattle.ob_tree.specs.States.{State};
 ghost use Rattle.ob_vault.specs.Calls.{Lasts, two};
 ghost use Rattle.ob_vault.specs.State.{World};
@@ -12,8 +15,9 @@ ghost use Rattle.ob_oram.specs.declared.fault.OramErr.{OramErr as Stop};
 ghost use Rattle.ob_oram.specs.declared.index.Index.{Index as AnIndex};
 ghost use Rattle.ob_oram.specs.declared.op.Op.{Op as AnOp};
 ghost use Rattle.ob_oram.specs.Accessing.{Accesses, leaf_read};
-ghost use Rattle.ob_oram.specs.Indexes.{IsIndex, LiesAs};
+ghost use Rattle.ob_oram.specs.Indexes.{IsEnded, IsIndex, LiesAs, leaves_of};
 ghost use Rattle.ob_oram.specs.Scripts.{access_script, read_script};
+ghost use Rattle.ob_oram.specs.Sequences.{AreAccesses, AreDrawn, Step, keys_asked, leaves_read};
 ghost use Rattle.ob_oram.specs.Short.{AccessShort};
 
 /// An index of which a pass touched neither region stands and lies as before.
@@ -44,4 +48,17 @@ pub fn access_begun()
     ensures { (lie : Lie) (index : AnIndex) (leaf : ℕ) (before : List Access)
         → ReadsIn lie (before ++ access_script index leaf)
         → ReadsIn lie (before ++ read_script index leaf) }
+{}
+
+/// Accesses of an index, of which the last may have stopped, read the leaves of the draws that their keys had last,
+/// whatever the store answers. No draw is read twice, and none is accessed that has ended.
+pub fn accesses_read_draws()
+    ensures leaves { (index : AnIndex) (steps : List Step) (d : ℕ → ℕ) (next : ℕ) (given : List ℕ)
+        → AreAccesses index steps → AreDrawn d next steps
+        → leaves_of index ≡ map (leaf_at index.height d) given → leaves_read index steps
+        ≡ map (leaf_at index.height d)
+        (draws_read next given (keys_asked index.capacity steps)) }
+    ensures once { (first n : ℕ) (steps : List Step) → AllPairs (λ a b. a ≢ b)
+        (draws_read (first + n) (numbers first n) (keys_asked n steps)) }
+    ensures ended { (index : AnIndex) (w : World) → IsEnded index → IsIndex index w → ⊥ }
 {}

@@ -1,5 +1,6 @@
 //! An index of rows by their keys, after Path ORAM (Stefanov and others, CCS 2013): what it is in a store, how one
-//! with no row is made, how a row of it is read, put in, changed or taken out, and how it is discarded.
+//! with no row is made, how a row of it is read, put in, changed or taken out, and how it is discarded. An access
+//! that stops ends the index.
 #![tactic(auto)]
 
 mod accessing;
@@ -23,6 +24,6 @@ pub use discarding::discard;
 pub use fault::OramErr;
 pub use held::Held;
 pub use index::Index;
-pub use laws::{access_begun, access_short, index_lasts, scripts_join};
+pub use laws::{access_begun, access_short, accesses_read_draws, index_lasts, scripts_join};
 pub use op::{Cells, Got, Op};
 pub use placing::place;

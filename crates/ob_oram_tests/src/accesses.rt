@@ -6,7 +6,7 @@ ghost use Rattle.ob_oram_tests.specs.Sessions.{IsSession};
 use crate::asks::{Ask, Said, ask_key};
 use crate::sessions::made;
 use ob_base::Access;
-use ob_oram::Index;
+use ob_oram::{Index, Op};
 use ob_room::Room;
 use ob_seal::Keys;
 use ob_store::{BlockStore, MemStore};
@@ -69,6 +69,7 @@ fn take_steps<S: BlockStore, R: Revisions>(
 {
     for (key, what, draw, want, leaf) in steps {
         let from = store.count();
+        assert_eq!(rt; index.leaf_of(&Op::Get(*key), *draw) as usize, *leaf);
         let got = ask_key(
             rt, store, &mut vault, &mut room, &mut index, *key, *what, *draw,
         );

@@ -8,6 +8,8 @@ mod asks;
 #[cfg(test)]
 mod creates;
 #[cfg(test)]
+mod discards;
+#[cfg(test)]
 mod places;
 #[cfg(test)]
 mod sessions;

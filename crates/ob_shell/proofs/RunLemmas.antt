@@ -258,6 +258,10 @@ ran_cut {f0 = f0} {f2 = f2} {gave = gave} {w1 = w1} {p = p} {m1 = m1} run so non
       ends = run_ends f2 true _ _ _ run;
     }
 
+pub ready_after : {T P : Type 0} (result : Result T TextHalted) → OnOk result P → OnOk (halted_of result) P
+ready_after (Ok x) ready = ready
+ready_after (Err halted) none = tt
+
 pub ran_finish : {R : Type 0} {state : R → RevState} {k0 k1 k2 : ℕ} {on : Bool} {t0 t2 : Option (List ℕ)} {f0 f2 : Fetch} {gave : ℕ} {l0 l2 w0 w1 w2 : Option (List ℕ)} {p : List ℕ} {r : Tally} {m0 m1 m2 : Machine R} (result : Result Tally TextHalted)
     → SoFar state f0 f2 l0 l2 w0 w1 p r m0 m1 → f2.unread ≡ [] → IsAtEnd l2 → f2.taken < f2.limit → length p < text_max
     → IfOk result (λ tally. AnswersAll state w1 w2 (tail_text p) r tally m1 m2)

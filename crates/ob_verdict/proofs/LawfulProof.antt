@@ -34,7 +34,7 @@ use Rattle.ob_mean.specs.Refusals.{early_refusal, limits_of}
 use Rattle.ob_mean.specs.Step.{select_condition}
 use Rattle.ob_row.specs.Truth.{is_true}
 use Rattle.ob_mean.specs.Verdict.{Held, Tables, seen, seen_started, seen_by, seen_unpadded, seen_with, ended, counted, is_late, plan_for, fallback, first_unplaced, source_slots, slots_at, selected_places}
-use Rattle.ob_mean.specs.Replay.{count_end, walk_end, ending_len, done_of, held_if}
+use Rattle.ob_mean.specs.Replay.{cut_at, count_end, walk_end, ending_len, done_of, held_if}
 use Rattle.ob_script.specs.Script.{whole_script, with_table, table_script, join_script, select_part, behind_count, extent_of, blocks_of, rows_width, joined_extent, plan_part, result_blocks}
 use Rattle.ob_script.specs.Parts.{count_part, join_part}
 use Rattle.ob_row.specs.Rows.{Row}

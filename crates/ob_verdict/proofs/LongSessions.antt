@@ -16,6 +16,7 @@ use Rattle.ob_mean.specs.declared.answer.Answer.{Answer}
 use Rattle.ob_mean.specs.declared.answer.Answer.TheVariants.{Done, Changed, Rows}
 use Rattle.ob_mean.specs.Replay.{Spelt, Session, after_all, all_served, first_session, seen_now}
 use Rattle.ob_verdict.proofs.Sessions.{by_settings, id, v, col, of_table, int, compare, column, insert, answers_of, asked_by, ints}
+use Rattle.ob_base.specs.declared.schema.Shape.TheVariants.{Flat}
 
 abbrev g : List ℕ
 g = codes "g"

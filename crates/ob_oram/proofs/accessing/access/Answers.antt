@@ -1,11 +1,13 @@
-use Rattle.std.proofs.Common.{◌≡◌, ◌∙◌, length, max, sym, ap, arith}
-use Rattle.std.specs.Vec.{with_items}
+use Rattle.std.proofs.Common.{◌≡◌, ◌∙◌, Ok, Err, length, max, sym, ap, arith}
 use Rattle.ob_base.specs.Schemas.{width}
 use Rattle.ob_flat.proofs.Rooms.{opened_wide, opened_closed}
 use Rattle.ob_oram.specs.declared.index.Index.{Index}
+use Rattle.ob_oram.specs.declared.op.Got.{Got}
+use Rattle.ob_oram.specs.Accessing.{LeftBy}
 use Rattle.ob_base.specs.Indexes.{rows_open}
+use Rattle.ob_oram.specs.Indexes.{IsEnded}
 use Rattle.ob_oram.proofs.WalkRows.{height_few}
-use Rattle.ob_oram.proofs.AccessIndex.{accesses_other, buffer_size, has_buffer, has_remap, left_ok, left_err, left_other, zero_buffer, zero_open}
+use Rattle.ob_oram.proofs.AccessIndex.{accesses_other, buffer_size, has_buffer, has_remap, left_other, zero_buffer, zero_open}
 use Rattle.ob_oram.proofs.accessing.access.Goals as goal
 
 pub remap_for-remap-requires : goal.remap_for-remap-requires
@@ -27,8 +29,8 @@ clear_shelf-requires-clause-wide g c =
     let buffer : length c.empty.new.buffer ≡ rows_open index.height index.slots = c.empty.ensures.count ∙ ap length c.as_mut_slice-slots.ensures.value ∙ ap (λ b. length b.items) c.replace-buffer.ensures.value ∙ c.requires.index.buffer in
     opened_wide (width index.schema) (length c.empty.new.buffer) s _ c.access_open-result.new.rows c.requires.room (omega (arith, buffer, c.requires.rows)) c.open-rows.ensures.value c.access_open-result.ensures.rows
 
-pub returns-then-is_ok-clause-room : goal.returns-then-is_ok-clause-room
-returns-then-is_ok-clause-room g c =
+pub returns-in-Ok-clause-room : goal.returns-in-Ok-clause-room
+returns-in-Ok-clause-room g c =
     let index = c.args.index.now in
     let s = c.args.room.now in
     let buffer : length c.empty.new.buffer ≡ rows_open index.height index.slots = c.empty.ensures.count ∙ ap length c.as_mut_slice-slots.ensures.value ∙ ap (λ b. length b.items) c.replace-buffer.ensures.value ∙ c.requires.index.buffer in
@@ -36,8 +38,8 @@ returns-then-is_ok-clause-room g c =
     ∙ opened_closed (width index.schema) (length c.empty.new.buffer) s _ c.access_open-result.new.rows c.requires.room (omega (arith, buffer, c.requires.rows)) c.open-rows.ensures.value c.access_open-result.ensures.rows c.rows.ensures.sound
     ∙ ap (λ n. record s { high = max s.high n }) buffer
 
-pub returns-else-is_ok-clause-room : goal.returns-else-is_ok-clause-room
-returns-else-is_ok-clause-room g c =
+pub returns-in-Err-clause-room : goal.returns-in-Err-clause-room
+returns-in-Err-clause-room g c =
     let index = c.args.index.now in
     let s = c.args.room.now in
     let buffer : length c.empty.new.buffer ≡ rows_open index.height index.slots = c.empty.ensures.count ∙ ap length c.as_mut_slice-slots.ensures.value ∙ ap (λ b. length b.items) c.replace-buffer.ensures.value ∙ c.requires.index.buffer in
@@ -45,22 +47,22 @@ returns-else-is_ok-clause-room g c =
     ∙ opened_closed (width index.schema) (length c.empty.new.buffer) s _ c.access_open-result.new.rows c.requires.room (omega (arith, buffer, c.requires.rows)) c.open-rows.ensures.value c.access_open-result.ensures.rows c.rows.ensures.sound
     ∙ ap (λ n. record s { high = max s.high n }) buffer
 
-pub returns-then-is_ok-clause-accesses : goal.returns-then-is_ok-clause-accesses
-returns-then-is_ok-clause-accesses g c =
+pub returns-in-Ok-clause-accesses : goal.returns-in-Ok-clause-accesses
+returns-in-Ok-clause-accesses g c =
     let index = c.args.index.now in
     let op = c.args.op.now in
     let left = c.set_leaf.new.index in
     let size : length left.buffer.items ≡ rows_open index.height index.slots =
     ap (λ (i : Index). length i.buffer.items) c.set_leaf.ensures.same ∙ buffer_size c.replace-buffer.result c.access_open-result.new.buffer ∙ ap (λ b. length b.items) c.replace-buffer.ensures.value ∙ c.requires.index.buffer in
     let has = has_remap index left _ c.remap_for-remap.result op c.args.draw c.remap_for-remap.ensures c.set_leaf.ensures.same c.set_leaf.ensures.leaves in
-    let by = left_ok index left op c.args.draw c.access_open-result.result (sym c.if-is_ok.ensures.value) has size in
-    accesses_other index c.replace-buffer.new.dest left op c.args.draw c.access_open-result.result _ _ (c.access_open-result.ensures.accesses left (left_other index c.replace-buffer.new.dest left op c.args.draw c.access_open-result.result by))
+    let by : LeftBy (Ok c.in-Ok.got) index op c.args.draw left = record { ok = has; err = tt; ended = tt; buffer = size } in
+    accesses_other index c.replace-buffer.new.dest left op c.args.draw (Ok c.in-Ok.got) _ _ (c.in-Ok.ensures.accesses left (left_other index c.replace-buffer.new.dest left op c.args.draw (Ok c.in-Ok.got) by))
 
-pub returns-else-is_ok-clause-accesses : goal.returns-else-is_ok-clause-accesses
-returns-else-is_ok-clause-accesses g c =
+pub returns-in-Err-clause-accesses : goal.returns-in-Err-clause-accesses
+returns-in-Err-clause-accesses g c =
     let index = c.args.index.now in
     let op = c.args.op.now in
-    let buffer = with_items c.replace-buffer.result c.access_open-result.new.buffer in
-    let left : Index = record index { buffer = buffer } in
-    let by = left_err index left op c.args.draw c.access_open-result.result (sym c.if-is_ok.ensures.value) (has_buffer index buffer) in
-    accesses_other index c.replace-buffer.new.dest left op c.args.draw c.access_open-result.result _ _ (c.access_open-result.ensures.accesses left (left_other index c.replace-buffer.new.dest left op c.args.draw c.access_open-result.result by))
+    let left : Index = record index { buffer = c.replace-buffer.new.dest } in
+    let ended : IsEnded left = record { none = ap (λ b. b.items) c.replace-buffer.ensures.after ∙ c.new.ensures.items } in
+    let by : LeftBy {T = Got} (Err c.in-Err.e) index op c.args.draw left = record { ok = tt; err = has_buffer index c.replace-buffer.new.dest; ended = ended; buffer = tt } in
+    accesses_other index c.replace-buffer.new.dest left op c.args.draw (Err c.in-Err.e) _ _ (c.in-Err.ensures.accesses left (left_other index c.replace-buffer.new.dest left op c.args.draw (Err c.in-Err.e) by))

@@ -93,6 +93,7 @@ returns-in-Ok-write_index-clause-accesses g c = λ left by.
       err = tt;
       seals = all_sealed index op c.args.draw _ c.requires.stored left _ reads.ok reads.seals _ _ writes;
       leaves = by.ok;
+      ended = tt;
       stands = stands_all index op c.args.draw _ c.requires.stored left _ reads.ok reads.seals _ _ writes c.serve-got.result by;
       range = range_is index op c.args.draw c.remap_for-remap.ensures c.serve-got.ensures.range;
       maps = λ honest m is. told_map index op c.args.draw c.requires.op c.requires.stored.shaped opens.0 served.0 placed.0 c.serve-got.result _ _ reads.ok arranged _ spelt _ writes left by.ok honest m is;

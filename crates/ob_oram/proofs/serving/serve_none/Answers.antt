@@ -23,7 +23,7 @@ returns-in-Insert-clause-serves c = λ slots opened empty.
     rw (last, c.in-Insert.is) (
       _,
       open_set index remap slots c.args.buffer.now c.args.rows.now opened (last_slot index) _ _ c.encode.new.row inside opens (keyed_insert index remap c.requires.shaped c.in-Insert.field-0 c.in-Insert.cells fits mine c.requires.key),
-      serves_insert index slots c.in-Insert.field-0 c.in-Insert.cells (last_slot index) (omega (arith, inside, opened.sees.count)) empty within absent,
+      serves_insert index slots c.in-Insert.field-0 c.in-Insert.cells (last_slot index) (omega (arith, inside, opened.sees.count)) empty within absent key,
     )
 
 pub returns-in_default : goal.returns-in_default

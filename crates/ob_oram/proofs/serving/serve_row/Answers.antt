@@ -25,7 +25,7 @@ returns-in-Get-clause-serves c = λ remap slots opened.
     let cells = c.cells_of.ensures here.row (begins_row index slots c.args.i here.row here.is remap c.args.buffer.now c.args.rows.now opened c.requires.here.within c.index-rows-i.result) in (
       slots,
       opened,
-      serves_kept index slots c.args.i here.row here.is op (Gots.Row c.cells_of.result) inside (here.same ∙ sym key) within
+      serves_kept index slots c.args.i here.row here.is op (Gots.Row c.cells_of.result) inside (here.same ∙ sym key) key within
           (ap Tree.Found cells ∙ sym (ap (λ (o : Op). Tree.got (op_in index.capacity o) (Some here.row)) c.in-Get.is))
           (ap (λ (o : Op). Tree.after (op_in index.capacity o) (Some here.row)) c.in-Get.is),
     )
@@ -40,7 +40,7 @@ returns-in-Insert-clause-serves c = λ remap slots opened.
     let inside : c.args.i < length slots = omega (arith, c.requires.here.within, opened.sees.count) in (
       slots,
       opened,
-      serves_kept index slots c.args.i here.row here.is op Gots.Duplicate inside (here.same ∙ sym key) within
+      serves_kept index slots c.args.i here.row here.is op Gots.Duplicate inside (here.same ∙ sym key) key within
           (sym (ap (λ (o : Op). Tree.got (op_in index.capacity o) (Some here.row)) c.in-Insert.is))
           (ap (λ (o : Op). Tree.after (op_in index.capacity o) (Some here.row)) c.in-Insert.is),
     )
@@ -63,7 +63,7 @@ returns-in-Change-clause-serves c = λ remap slots opened.
       set slots i (Some new),
       opens_changed index slots i here.row here.is remap buffer rows opened c.requires.here.within new c.set_cells.new.row (keeps here.row) begins,
       subst (λ s. ServesRows index op slots (set slots i s) Gots.Done) after
-          (serves_found index slots i here.row here.is op Gots.Done inside (here.same ∙ sym key) within (sym (ap (λ (o : Op). Tree.got (op_in index.capacity o) (Some here.row)) c.in-Change.is))
+          (serves_found index slots i here.row here.is op Gots.Done inside (here.same ∙ sym key) key within (sym (ap (λ (o : Op). Tree.got (op_in index.capacity o) (Some here.row)) c.in-Change.is))
           (λ r at. let one : Some new ≡ Some r = sym after ∙ at in let e : new ≡ r = cc one in ap (key_of index) (sym e) ∙ keeps here.row)),
     )
 
@@ -83,6 +83,6 @@ returns-in-Remove-clause-serves c = λ remap slots opened.
       set slots i None,
       opens_removed index slots i here.row here.is remap buffer rows opened c.requires.here.within c.clear.new.row (get_or rows i c.index-rows-i-in-Remove.result) c.clear.ensures wide,
       subst (λ s. ServesRows index op slots (set slots i s) Gots.Done) after
-          (serves_found index slots i here.row here.is op Gots.Done inside (here.same ∙ sym key) within (sym (ap (λ (o : Op). Tree.got (op_in index.capacity o) (Some here.row)) c.in-Remove.is))
+          (serves_found index slots i here.row here.is op Gots.Done inside (here.same ∙ sym key) key within (sym (ap (λ (o : Op). Tree.got (op_in index.capacity o) (Some here.row)) c.in-Remove.is))
           (λ r at. absurd (cc (after, at)))),
     )

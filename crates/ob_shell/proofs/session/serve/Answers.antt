@@ -1,6 +1,6 @@
 use Rattle.std.proofs.Common.{arith, ◌∙◌, refl}
 use Rattle.ob_shell.proofs.FeedLemmas.{fed_smaller}
-use Rattle.ob_shell.proofs.RunLemmas.{so_far_start, so_far_end, so_far_turn, ran_source_fault, ran_input_limit, ran_finish, ran_turn, traced_by}
+use Rattle.ob_shell.proofs.RunLemmas.{so_far_start, so_far_end, so_far_turn, ran_source_fault, ran_input_limit, ran_finish, ran_turn, ready_after, traced_by}
 use Rattle.ob_shell.proofs.TraceLemmas.{traced_none, traced_then, traced_cut}
 use Rattle.ob_shell.proofs.session.serve.Goals as goal
 
@@ -64,3 +64,6 @@ returns-in-Ok-None-clause-traced g c = rw c.session_result.ensures (traced_by c.
 
 pub returns-in-Err-clause-traced : goal.returns-in-Err-clause-traced
 returns-in-Err-clause-traced g c = traced_cut c.bytes.invariant.traced c.in-Err.ensures.traced_stop
+
+pub returns-in-Ok-None-clause-ready : goal.returns-in-Ok-None-clause-ready
+returns-in-Ok-None-clause-ready g c = rw c.session_result.ensures (ready_after c.finish.result c.finish.ensures.serves.ready)

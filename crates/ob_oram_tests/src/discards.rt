@@ -1,0 +1,56 @@
+//! Discarding an index.
+ghost use Rattle.ob_vault.specs.Places.{at};
+ghost use Rattle.ob_vault.specs.Words.{StartsAnew};
+ghost use Rattle.ob_oram.specs.Indexes.{IsIndex};
+
+use crate::sessions::{made, make_room};
+use ob_base::Access;
+use ob_flat::OpErr;
+use ob_meddle::{Act, Meddle, MeddledStore};
+use ob_oram::{Index, discard};
+use ob_room::Room;
+use ob_seal::Keys;
+use ob_store::BlockStore;
+use ob_vault::{BaseRevs, Revisions, Vault};
+use std::alloc::Global;
+use std::process::Abort;
+
+// Discards an index, for which the store gets room.
+fn discarded<S: BlockStore, R: Revisions>(
+    rt: &impl Abort,
+    store: &mut S,
+    vault: &mut Vault<R>,
+    index: Index,
+) -> Result<(), OpErr>
+    requires ready { StartsAnew (at R.state vault.old (S.state store.old)) }
+    requires stands { IsIndex index (at R.state vault.old (S.state store.old)) }
+{
+    make_room(rt, store);
+    discard(store, vault, index)
+}
+
+// An index of one key, which is made by the accesses 1 to 7, and discarded by two more. The store fails at the access of
+// this number, if there is one.
+fn of_one_key(rt: &impl Abort, alloc: Global, before: u64, want: Result<(), OpErr>) {
+    let mut list = Vec::new(alloc);
+    let act = Act::Fail;
+    let pushed = list.push(Meddle { before, act });
+    assert!(rt; pushed.is_ok());
+    let mut store = MeddledStore::new(alloc, list);
+    let mut vault: Vault<BaseRevs> = Vault::new(alloc, Keys::derive(&[0; 32]));
+    let mut room = Room::new(alloc, 6, 17, 1).expect(rt, "rows");
+    let index = made(rt, alloc, &mut store, &mut vault, &mut room, 1, &[0]);
+    let got = discarded(rt, &mut store, &mut vault, index);
+    assert!(rt; got == want);
+    assert_eq!(rt; store.count(), 9);
+    assert_eq!(rt; store.nth(7), Access::Discard { region: 1 });
+    assert_eq!(rt; store.nth(8), Access::Discard { region: 2 });
+}
+
+// Both regions go, the tree's first, also where the store fails.
+#[test]
+fn discards_both_regions(rt: HostRuntime) {
+    of_one_key(&rt, rt.alloc(), 10, Ok(()));
+    of_one_key(&rt, rt.alloc(), 8, Err(OpErr::Failed));
+    of_one_key(&rt, rt.alloc(), 9, Err(OpErr::Failed));
+}
