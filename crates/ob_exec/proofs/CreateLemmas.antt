@@ -127,7 +127,7 @@ module _ (p : Public) (m : ℕ) (table : List ℕ) (columns : List NewColumn) (c
   pub new_stored : IsStored (record { name = table; schema = columns_of table columns; capacity = capacity; shape = shape })
   new_stored =
       let free = allowed (is_late m) (limits_of p) (headings_of p.tables) (CreateStmt table columns capacity shape) now in
-      let size = within (headings_of p.tables) table columns capacity shape free.limits in
+      let size = within (limits_of p) (headings_of p.tables) table columns capacity shape free.limits in
       let same = length-map columns (new_column table) in
       record {
         some = omega (arith, size.some, same);
@@ -143,7 +143,7 @@ module _ (p : Public) (m : ℕ) (table : List ℕ) (columns : List NewColumn) (c
   pub new_heading : length table ≤ 32 → All IsShort columns → IsHeading (record { name = table; schema = columns_of table columns; capacity = capacity; shape = shape })
   new_heading short names =
       let free = allowed (is_late m) (limits_of p) (headings_of p.tables) (CreateStmt table columns capacity shape) now in
-      let size = within (headings_of p.tables) table columns capacity shape free.limits in
+      let size = within (limits_of p) (headings_of p.tables) table columns capacity shape free.limits in
       record {
         stored = new_stored;
         name = short;
@@ -157,7 +157,7 @@ module _ (p : Public) (m : ℕ) (table : List ℕ) (columns : List NewColumn) (c
       no_table table p.tables i t (neither (has_table table (headings_of p.tables)) _ free.names).0 is
 
   pub new_within : IsWithin (headings_of p.tables) table columns capacity shape
-  new_within = within (headings_of p.tables) table columns capacity shape (allowed (is_late m) (limits_of p) (headings_of p.tables) (CreateStmt table columns capacity shape) now).limits
+  new_within = within (limits_of p) (headings_of p.tables) table columns capacity shape (allowed (is_late m) (limits_of p) (headings_of p.tables) (CreateStmt table columns capacity shape) now).limits
 
   pub new_place : length p.tables < 64
   new_place = let fewer = new_within.tables in let same = length-map p.tables (λ (t : Table). t.heading) in omega (arith, fewer, same)

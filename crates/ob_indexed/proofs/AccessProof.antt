@@ -25,7 +25,7 @@ use Rattle.ob_sql.specs.declared.stmt.Stmt.TheVariants.{Create, Insert, Update, 
 use Rattle.ob_sql.specs.Search.{Search, Compare, Not, And, Or}
 use Rattle.ob_names.specs.Names.{columns_at, place_of}
 use Rattle.ob_mean.specs.Conditions.{where_at}
-use Rattle.ob_mean.specs.Refusals.{is_key}
+use Rattle.ob_mean.specs.Refusals.{is_key, key_asked}
 use Rattle.ob_mean.specs.Step.{Database, accepted_next, new_row, set_cells}
 use Rattle.ob_mean.specs.Verdict.{Held, Tables, database}
 use Rattle.ob_mean.proofs.VerdictLemmas.{headings-database, heading-stored}
@@ -36,7 +36,7 @@ use Rattle.ob_tree.proofs.RunLemmas.{leaves_kept}
 use Rattle.ob_mean.specs.SameMeaning.{SameTables}
 use Rattle.ob_indexed.specs.Asking.{Ask, Find, Put, Set, Take, FitsIndex, Settles, key_is, op_of, stepped}
 use Rattle.ob_base.specs.Indexes.{height_of}
-use Rattle.ob_indexed.specs.Indexed.{IsIndexed, access_settled, ask_of, held_as, index_of, key_asked, key_at, key_in, keyed_table, one_table, tree_size, went}
+use Rattle.ob_indexed.specs.Indexed.{IsIndexed, access_settled, ask_of, held_as, index_of, key_at, key_in, keyed_table, one_table, tree_size, went}
 use Rattle.ob_indexed.specs.Settling.{AccessSettles}
 use Rattle.ob_indexed.proofs.AskProof.{settles}
 

@@ -15,7 +15,7 @@ use Rattle.ob_sql.specs.declared.stmt.Stmt.{Stmt}
 use Rattle.ob_sql.specs.declared.stmt.Stmt.TheVariants.{Insert, Update, Delete, SelectRows as RowsStmt}
 use Rattle.ob_sql.specs.Search.{Search, Compare}
 use Rattle.ob_names.specs.Names.{place_of}
-use Rattle.ob_mean.specs.Refusals.{is_key}
+use Rattle.ob_mean.specs.Refusals.{key_asked}
 use Rattle.ob_mean.specs.Step.{new_row, set_cells}
 use Rattle.ob_mean.specs.Verdict.{Held, Tables}
 use Rattle.ob_tree.specs.Access.{Went, access}
@@ -50,12 +50,6 @@ pub record IsIndexed (t : Stored Held) : Type 0 where
   pub stands : Stands (key_in t.heading) (height_of t.heading.capacity) (index_of t.heading t.held)
 
 -- ---- what a statement asks of an index
--- the number that a WHERE asks of the primary key, where it says nothing else
-abbrev pub key_asked : Columns → Option Search → Option ℤ
-key_asked cs None = None
-key_asked cs (Some (Compare name Equal (LiteralAgainst (IntLiteral z)))) = if is_key cs (place_of name cs) then Some z else None
-key_asked cs (Some _) = None
-
 abbrev pub ask_of : Heading → Stmt → Option Ask
 ask_of h (Insert table columns values) = Some (Put (new_row h.schema columns values))
 ask_of h (Update table sets cond) = option_map (λ z. Set z (set_cells sets h.schema)) (key_asked h.schema cond)

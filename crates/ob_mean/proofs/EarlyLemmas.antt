@@ -4,15 +4,16 @@ use Rattle.std.specs.Prelude.{None, not, ◌||◌, nat_lt, nat_le}
 use Rattle.std.specs.List.{list_any}
 use Rattle.std.proofs.lemmas.Bool.Decides.{nat_tests}
 use Rattle.ob_base.specs.declared.refusal.Refusal.{Refusal}
-use Rattle.ob_base.specs.declared.refusal.Refusal.TheVariants.{NoTable, NameTaken, NoColumn, WrongType, ValueRange, Limit, KeyRule, JoinKey}
+use Rattle.ob_base.specs.declared.refusal.Refusal.TheVariants.{NoTable, NameTaken, NoColumn, WrongType, ValueRange, Limit, KeyRule, JoinKey, NeedsKey}
 use Rattle.ob_base.specs.declared.schema.Heading.{Heading}
 use Rattle.ob_base.specs.declared.schema.Shape.{Shape}
 use Rattle.ob_base.specs.declared.schema.Shape.TheVariants.{Flat, Indexed}
 use Rattle.ob_base.specs.declared.skeleton.NewColumn.{NewColumn}
 use Rattle.std.specs.Int.{is_in_range}
+use Rattle.ob_base.specs.Indexes.{by_shape}
 use Rattle.ob_base.specs.Schemas.{width, columns_of}
 use Rattle.ob_sql.specs.declared.stmt.Stmt.{Stmt}
-use Rattle.ob_mean.specs.Refusals.{first_holding, early_refusal, is_size, creates_past, is_indexed, is_past_limit, lacks_table, takes_name, lacks_column, has_wrong_type, is_out_of_range, breaks_key_rule, joins_off_key, Limits}
+use Rattle.ob_mean.specs.Refusals.{first_holding, early_refusal, is_size, creates_past, is_past_limit, lacks_table, takes_name, lacks_column, has_wrong_type, is_out_of_range, breaks_key_rule, joins_off_key, needs_key, index_past, Limits}
 
 -- none of the conditions holds
 pub record Allowed (late : Bool) (given : Limits) (hs : List Heading) (stmt : Stmt) : Type 0 where
@@ -25,6 +26,7 @@ pub record Allowed (late : Bool) (given : Limits) (hs : List Heading) (stmt : St
   pub early : late ≡ false
   pub keys : breaks_key_rule hs stmt ≡ false
   pub joins : joins_off_key hs stmt ≡ false
+  pub keyed : needs_key hs stmt ≡ false
 
 -- the first of a list that has no true condition, and the others
 none_of : (a : Bool) (r : Refusal) (xs : List (Bool × Refusal)) → first_holding ((a, r) ∷ xs) ≡ None → (a ≡ false) × (first_holding xs ≡ None)
@@ -36,25 +38,26 @@ neither true b h = cc
 neither false true h = cc
 neither false false h = (refl, refl)
 
--- the eight conditions over plain values
-eight : (a b c d e f g h : Bool) (r1 r2 r3 r4 r5 r6 r7 r8 : Refusal) →
-    first_holding ((a, r1) ∷ (b, r2) ∷ (c, r3) ∷ (d, r4) ∷ (e, r5) ∷ (f, r6) ∷ (g, r7) ∷ (h, r8) ∷ []) ≡ None →
-    (a ≡ false) × (b ≡ false) × (c ≡ false) × (d ≡ false) × (e ≡ false) × (f ≡ false) × (g ≡ false) × (h ≡ false)
-eight a b c d e f g h r1 r2 r3 r4 r5 r6 r7 r8 none =
-    let first = none_of a r1 ((b, r2) ∷ (c, r3) ∷ (d, r4) ∷ (e, r5) ∷ (f, r6) ∷ (g, r7) ∷ (h, r8) ∷ []) none in
-    let second = none_of b r2 ((c, r3) ∷ (d, r4) ∷ (e, r5) ∷ (f, r6) ∷ (g, r7) ∷ (h, r8) ∷ []) first.1 in
-    let third = none_of c r3 ((d, r4) ∷ (e, r5) ∷ (f, r6) ∷ (g, r7) ∷ (h, r8) ∷ []) second.1 in
-    let fourth = none_of d r4 ((e, r5) ∷ (f, r6) ∷ (g, r7) ∷ (h, r8) ∷ []) third.1 in
-    let fifth = none_of e r5 ((f, r6) ∷ (g, r7) ∷ (h, r8) ∷ []) fourth.1 in
-    let sixth = none_of f r6 ((g, r7) ∷ (h, r8) ∷ []) fifth.1 in
-    let seventh = none_of g r7 ((h, r8) ∷ []) sixth.1 in
-    let last = none_of h r8 [] seventh.1 in
-    (first.0, second.0, third.0, fourth.0, fifth.0, sixth.0, seventh.0, last.0)
+-- the nine conditions over plain values
+nine : (a b c d e f g h i : Bool) (r1 r2 r3 r4 r5 r6 r7 r8 r9 : Refusal) →
+    first_holding ((a, r1) ∷ (b, r2) ∷ (c, r3) ∷ (d, r4) ∷ (e, r5) ∷ (f, r6) ∷ (g, r7) ∷ (h, r8) ∷ (i, r9) ∷ []) ≡ None →
+    (a ≡ false) × (b ≡ false) × (c ≡ false) × (d ≡ false) × (e ≡ false) × (f ≡ false) × (g ≡ false) × (h ≡ false) × (i ≡ false)
+nine a b c d e f g h i r1 r2 r3 r4 r5 r6 r7 r8 r9 none =
+    let first = none_of a r1 ((b, r2) ∷ (c, r3) ∷ (d, r4) ∷ (e, r5) ∷ (f, r6) ∷ (g, r7) ∷ (h, r8) ∷ (i, r9) ∷ []) none in
+    let second = none_of b r2 ((c, r3) ∷ (d, r4) ∷ (e, r5) ∷ (f, r6) ∷ (g, r7) ∷ (h, r8) ∷ (i, r9) ∷ []) first.1 in
+    let third = none_of c r3 ((d, r4) ∷ (e, r5) ∷ (f, r6) ∷ (g, r7) ∷ (h, r8) ∷ (i, r9) ∷ []) second.1 in
+    let fourth = none_of d r4 ((e, r5) ∷ (f, r6) ∷ (g, r7) ∷ (h, r8) ∷ (i, r9) ∷ []) third.1 in
+    let fifth = none_of e r5 ((f, r6) ∷ (g, r7) ∷ (h, r8) ∷ (i, r9) ∷ []) fourth.1 in
+    let sixth = none_of f r6 ((g, r7) ∷ (h, r8) ∷ (i, r9) ∷ []) fifth.1 in
+    let seventh = none_of g r7 ((h, r8) ∷ (i, r9) ∷ []) sixth.1 in
+    let eighth = none_of h r8 ((i, r9) ∷ []) seventh.1 in
+    let last = none_of i r9 [] eighth.1 in
+    (first.0, second.0, third.0, fourth.0, fifth.0, sixth.0, seventh.0, eighth.0, last.0)
 
 pub allowed : (late : Bool) (limits : Limits) (hs : List Heading) (stmt : Stmt) → early_refusal late limits hs stmt ≡ None → Allowed late limits hs stmt
 allowed late limits hs stmt none =
-    let all = eight (lacks_table hs stmt) (takes_name hs stmt) (lacks_column hs stmt) (has_wrong_type hs stmt) (is_out_of_range hs stmt)
-    (is_past_limit limits hs stmt || late) (breaks_key_rule hs stmt) (joins_off_key hs stmt) NoTable NameTaken NoColumn WrongType ValueRange Limit KeyRule JoinKey none in
+    let all = nine (lacks_table hs stmt) (takes_name hs stmt) (lacks_column hs stmt) (has_wrong_type hs stmt) (is_out_of_range hs stmt)
+    (is_past_limit limits hs stmt || late) (breaks_key_rule hs stmt) (joins_off_key hs stmt) (needs_key hs stmt) NoTable NameTaken NoColumn WrongType ValueRange Limit KeyRule JoinKey NeedsKey none in
     let both = neither (is_past_limit limits hs stmt) late all.5 in
     record {
       tables = all.0;
@@ -66,6 +69,7 @@ allowed late limits hs stmt none =
       early = both.1;
       keys = all.6;
       joins = all.7;
+      keyed = all.8;
     }
 
 -- a new table is within the limits, and flat
@@ -97,14 +101,16 @@ five false false false true e h = cc
 five false false false false true h = cc
 five false false false false false h = (refl, refl, refl, refl, refl)
 
-not_indexed : (shape : Shape) → is_indexed shape ≡ false → shape ≡ Flat
-not_indexed Flat h = refl
-not_indexed Indexed h = absurd (cc h)
+-- no index is made
+not_indexed : (limits : Limits) (capacity : ℕ) (shape : Shape) → by_shape shape false (index_past limits capacity) ≡ false → shape ≡ Flat
+not_indexed limits capacity Flat h = refl
+not_indexed limits capacity Indexed h = absurd (cc h)
 
-pub within : (hs : List Heading) (table : List ℕ) (columns : List NewColumn) (capacity : ℕ) (shape : Shape) → (creates_past hs table columns capacity || is_indexed shape) ≡ false
+pub within : (limits : Limits) (hs : List Heading) (table : List ℕ) (columns : List NewColumn) (capacity : ℕ) (shape : Shape)
+    → (creates_past hs table columns capacity || by_shape shape false (index_past limits capacity)) ≡ false
     → IsWithin hs table columns capacity shape
-within hs table columns capacity shape h =
-    let both = neither (creates_past hs table columns capacity) (is_indexed shape) h in
+within limits hs table columns capacity shape h =
+    let both = neither (creates_past hs table columns capacity) (by_shape shape false (index_past limits capacity)) h in
     let all = five (not (is_in_range 1 1048576 capacity)) (not (is_in_range 1 16 (length columns))) (list_any (λ (c : NewColumn). not (is_size c.kind)) columns)
     (nat_lt 1024 (width (columns_of table columns))) (nat_le 64 (length hs)) both.0 in
     let capacity_is = bounds 1 1048576 capacity all.0 in
@@ -117,5 +123,13 @@ within hs table columns capacity shape h =
       sizes = all.2;
       wide = at_most 1024 (width (columns_of table columns)) all.3;
       tables = less 64 (length hs) all.4;
-      flat = not_indexed shape both.1;
+      flat = not_indexed limits capacity shape both.1;
     }
+
+-- its keys are few
+pub keys_few : (hs : List Heading) (table : List ℕ) (columns : List NewColumn) (capacity : ℕ) → creates_past hs table columns capacity ≡ false → capacity ≤ 16777216
+keys_few hs table columns capacity h =
+    let all = five (not (is_in_range 1 1048576 capacity)) (not (is_in_range 1 16 (length columns))) (list_any (λ (c : NewColumn). not (is_size c.kind)) columns)
+    (nat_lt 1024 (width (columns_of table columns))) (nat_le 64 (length hs)) h in
+    let bound = bounds 1 1048576 capacity all.0 in
+    omega (arith, bound.1)

@@ -3,7 +3,7 @@ use Rattle.std.proofs.Common.{◌≡◌, ℕ, Bool, true, false, List, [], ◌�
 use Rattle.std.specs.Prelude.{Option, Some, None, filter, not, bytes_eq, ◌==◌, nat_lt, if◌then◌else◌, filter_map, count_by}
 use Rattle.std.specs.Option.{option_map_or, option_or}
 use Rattle.ob_base.specs.declared.refusal.Refusal.{Refusal}
-use Rattle.ob_base.specs.declared.refusal.Refusal.TheVariants.{Duplicate, Full as FullTable, TooManyGroups}
+use Rattle.ob_base.specs.declared.refusal.Refusal.TheVariants.{Duplicate, Full as FullTable, TooManyGroups, KeyRange}
 use Rattle.ob_base.specs.declared.schema.Heading.{Heading}
 use Rattle.ob_base.specs.declared.shown.Shown.{Shown}
 use Rattle.ob_base.specs.declared.skeleton.ColumnName.{ColumnName}
@@ -11,6 +11,7 @@ use Rattle.ob_base.specs.declared.skeleton.Source.{Source}
 use Rattle.ob_base.specs.declared.skeleton.Source.TheVariants.{Table as OneTable, Join}
 use Rattle.ob_base.specs.Limits.{buffered}
 use Rattle.ob_base.specs.Schemas.{Columns, columns_of, key_place}
+use Rattle.ob_base.specs.Indexes.{by_shape}
 use Rattle.ob_base.specs.Stored.{Stored, headings, stored_at, changed_at, dropped_at}
 use Rattle.ob_row.specs.Bags.{Same}
 use Rattle.ob_row.specs.Rows.{Row, agree_at, has_key, pairs}
@@ -27,7 +28,7 @@ use Rattle.ob_names.specs.Names.{columns_at, place_of, source_columns}
 use Rattle.ob_mean.specs.Conditions.{where_at}
 use Rattle.ob_mean.specs.Refusals.{early_refusal, limits_of, Limits}
 use Rattle.ob_mean.specs.SameMeaning.{SameTables, SameAnswer, MeaningIsOfBags}
-use Rattle.ob_mean.specs.Step.{Database, accepted_answer, accepted_next, agg_of, answered, followed, insert_refusal, item_of, join_places, late_refusal, new_row, overgroups, printed_places, refusal_of, rows_answer, rows_at, set_cells, source_rows, total_rows}
+use Rattle.ob_mean.specs.Step.{Database, accepted_answer, accepted_next, agg_of, answered, followed, has_own_key, insert_refusal, item_of, join_places, late_refusal, new_row, overgroups, printed_places, refusal_of, rows_answer, rows_at, set_cells, source_rows, total_rows}
 use Rattle.ob_mean.proofs.SameLemmas.{same-any, same-count, same-grouped, same-heads, same-is, same-length, same-pairs, same-totals}
 
 -- ---- lists of tables
@@ -87,7 +88,9 @@ same_total_rows (Some key) cs items xs ys same = same-grouped (place_of key cs) 
 same_insert : (row : Row) (x y : Stored (List Row)) → x.heading ≡ y.heading → Same x.held y.held → insert_refusal x row ≡ insert_refusal y row
 same_insert row x y heading held =
     ap (λ (h : Heading). insert_refusal (record { heading = h; held = x.held }) row) heading
-    ∙ (λ i. if of_key (key_place y.heading.schema) i then Some Duplicate else (if same-length x.held y.held held i == y.heading.capacity then Some FullTable else None))
+    ∙ (λ i. if of_key (key_place y.heading.schema) i then Some Duplicate
+    else by_shape y.heading.shape (if same-length x.held y.held held i == y.heading.capacity then Some FullTable else None)
+    (if has_own_key y.heading row then None else Some KeyRange))
   where
     of_key : (key : Option ℕ) → has_key key row x.held ≡ has_key key row y.held
     of_key None = refl

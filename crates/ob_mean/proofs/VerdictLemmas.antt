@@ -1,22 +1,27 @@
 -- What a statement that is not refused early is answered, and what is seen of it.
 use Rattle.std.proofs.Common.{◌≡◌, ℕ, true, false, cond, List, [], ◌∷◌, length, Option, Some, None, refl, ◌∙◌, ap}
-use Rattle.std.specs.Prelude.{bytes_eq, filter, is_some, if◌then◌else◌, pos}
+use Rattle.std.specs.Prelude.{bytes_eq, filter, is_some, nat_lt, ◌==◌, if◌then◌else◌, pos}
 use Rattle.std.specs.Option.{option_map, option_map_or, option_or}
 use Rattle.ob_base.specs.declared.config.Public.{Public}
 use Rattle.ob_base.specs.declared.refusal.Refusal.{Refusal}
+use Rattle.ob_base.specs.declared.refusal.Refusal.TheVariants.{Duplicate, Full as FullTable, KeyRange}
 use Rattle.ob_base.specs.declared.schema.Heading.{Heading}
+use Rattle.ob_base.specs.declared.schema.Shape.{Shape}
+use Rattle.ob_base.specs.declared.schema.Shape.TheVariants.{Flat}
 use Rattle.ob_base.specs.declared.seen.End.TheVariants.{Static}
 use Rattle.ob_base.specs.declared.shown.Shown.TheVariants.{Int as ShownInt}
+use Rattle.ob_base.specs.Indexes.{by_shape}
 use Rattle.ob_base.specs.Limits.{buffered}
+use Rattle.ob_base.specs.Schemas.{key_place}
 use Rattle.ob_base.specs.Stored.{Stored, headings, heading_at, stored_at}
-use Rattle.ob_row.specs.Rows.{Row}
+use Rattle.ob_row.specs.Rows.{Row, has_key}
 use Rattle.ob_row.specs.Slots.{rows}
 use Rattle.ob_sql.specs.declared.stmt.Listed.TheVariants.{CountAll}
 use Rattle.ob_sql.specs.declared.stmt.Stmt.{Stmt}
 use Rattle.ob_sql.specs.declared.stmt.Stmt.TheVariants.{SelectTotals as TotalsStmt}
 use Rattle.ob_mean.specs.declared.answer.Answer.TheVariants.{Rows}
 use Rattle.ob_mean.specs.Refusals.{early_refusal, limits_of}
-use Rattle.ob_mean.specs.Step.{rows_at, late_refusal, accepted_answer, answered}
+use Rattle.ob_mean.specs.Step.{rows_at, has_own_key, insert_refusal, late_refusal, accepted_answer, answered}
 use Rattle.ob_mean.specs.Verdict.{Held, Tables, database, is_late, last_refusal, refusal, verdict, seen, seen_started, ended}
 
 pub headings-database : (ts : Tables) → headings (database ts) ≡ headings ts
@@ -36,6 +41,14 @@ heading-stored name [] = refl
 heading-stored {A} name (t ∷ ts) =
     elim (bytes_eq t.heading.name name) as (λ b. cond b (Some t.heading) (heading_at name (headings ts)) ≡ option_map (λ (u : Stored A). u.heading) (cond b (Some t) (stored_at name ts)))
     [ true ↦ refl | false ↦ heading-stored name ts ]
+
+-- a flat table refuses a row whose key is there, and where it is full
+pub flat_refusal : (t : Stored (List Row)) (row : Row) → t.heading.shape ≡ Flat
+    → insert_refusal t row ≡ (if has_key (key_place t.heading.schema) row t.held then Some Duplicate else (if length t.held == t.heading.capacity then Some FullTable else None))
+flat_refusal t row flat =
+    ap (λ (shape : Shape). if has_key (key_place t.heading.schema) row t.held then Some Duplicate
+    else by_shape shape (if length t.held == t.heading.capacity then Some FullTable else None)
+    (if has_own_key t.heading row then None else Some KeyRange)) flat
 
 -- ---- refused early
 module _ (p : Public) (m : ℕ) (ts : Tables) (stmt : Stmt) (r : Refusal) (early : early_refusal (is_late m) (limits_of p) (headings ts) stmt ≡ Some r) where

@@ -10,13 +10,14 @@ use Rattle.ob_base.specs.declared.skeleton.Source.TheVariants.{Table as OneTable
 use Rattle.ob_base.specs.Lists.{has_repeats}
 use Rattle.ob_base.specs.Schemas.{Columns}
 use Rattle.ob_base.specs.Stored.{has_table}
+use Rattle.ob_base.specs.Indexes.{by_shape}
 use Rattle.ob_sql.specs.declared.stmt.Literal.{Literal}
 use Rattle.ob_sql.specs.declared.stmt.Set.{Set}
 use Rattle.ob_sql.specs.Skeleton.{named_by}
 use Rattle.ob_names.specs.Names.{Scope, columns_in, columns_at, unqualified, left_place, lack_columns}
 use Rattle.ob_names.specs.Kinds.{where_comparisons, comparison_columns, mistype_columns, overflow_columns, mistype_comparisons, overflow_comparisons, are_texts, number_columns, plain_columns}
 use Rattle.ob_mean.specs.Parts.{Parts, NewTable, NewRow}
-use Rattle.ob_mean.specs.Refusals.{Limits, source_tables, join_columns, joins_itself, joins_kinds, joins_past, creates_past, is_indexed, insert_columns, is_incomplete, is_group, is_key, is_across, sets_key}
+use Rattle.ob_mean.specs.Refusals.{Limits, source_tables, join_columns, joins_itself, joins_kinds, joins_past, creates_past, index_past, has_wrong_keys, insert_columns, is_incomplete, is_group, is_key, is_across, sets_key}
 
 abbrev pub source_scope : Source → List Heading → Scope
 source_scope (OneTable name) hs = record { left = columns_at name hs; right = [] }
@@ -104,22 +105,22 @@ abbrev pub overflows_in : Scope → Parts → Bool
 overflows_in s p = overflows_by (columns_in s) s.left p
 
 -- a size past the limits
-abbrev pub is_past : List Heading → NewTable → Bool
-is_past hs t = creates_past hs t.name t.columns t.capacity || is_indexed t.shape
+abbrev pub is_past : Limits → List Heading → NewTable → Bool
+is_past limits hs t = creates_past hs t.name t.columns t.capacity || by_shape t.shape false (index_past limits t.capacity)
 
 abbrev pub exceeds_in : Limits → List Heading → Parts → Bool
 exceeds_in limits hs p =
-    option_map_or (is_past hs) p.created false
+    option_map_or (is_past limits hs) p.created false
     || nat_lt 32 (length p.columns)
     || nat_lt 32 (length p.items)
     || option_map_or (joins_past limits hs) p.source false
 
--- a second primary key, or a change of one
-abbrev pub has_more_keys : NewTable → Bool
-has_more_keys t = nat_lt 1 (sum_by (λ (c : NewColumn). c.keys) t.columns)
+-- a new table's keys are wrong, or a key is changed
+abbrev pub keys_are_wrong : NewTable → Bool
+keys_are_wrong t = has_wrong_keys t.columns t.shape
 
 abbrev pub breaks_key_in : Scope → Parts → Bool
-breaks_key_in s p = option_map_or has_more_keys p.created false || sets_key (columns_in s) p.sets
+breaks_key_in s p = option_map_or keys_are_wrong p.created false || sets_key (columns_in s) p.sets
 
 -- a join whose left column is not the primary key
 abbrev pub off_key_in : Scope → Source → Bool

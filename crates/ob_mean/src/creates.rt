@@ -4,9 +4,10 @@ ghost use Rattle.std.specs.List.{All, list_any};
 ghost use Rattle.ob_base.specs.Schemas.{width, kind_width, kind_of, new_column, columns_of};
 ghost use Rattle.ob_base.specs.declared.skeleton.NewColumn.{NewColumn};
 ghost use Rattle.ob_base.specs.Stored.{headings_of};
-ghost use Rattle.ob_mean.specs.Refusals.{is_size, creates_past, is_indexed};
+ghost use Rattle.ob_base.specs.Indexes.{by_shape};
+ghost use Rattle.ob_mean.specs.Refusals.{is_size, is_int, is_unmade, creates_past, index_past, has_int_key, has_wrong_keys, limits_of};
 
-use ob_base::{Column, Kind, Name, NewColumn, NewKind, Schema, Shape, Table};
+use ob_base::{Column, Kind, Name, NewColumn, NewKind, Public, Schema, Shape, Table, tree_height};
 
 fn is_size(kind: NewKind) -> bool
     ensures { result ≡ is_size kind }
@@ -58,21 +59,48 @@ pub(crate) fn creates_past(tables: &[Table], columns: &[NewColumn], capacity: u3
         || tables.len() >= 64
 }
 
-/// Whether it is an index. None is made yet.
-pub(crate) fn is_indexed(shape: Shape) -> bool
-    ensures { result ≡ is_indexed shape }
+// No index is made yet.
+fn is_unmade() -> bool
+    ensures { result ≡ is_unmade }
 {
+    true
+}
+
+/// Whether a table of at most 2^24 keys is an index past the limits.
+pub(crate) fn index_past(public: &Public, shape: Shape, capacity: u32) -> bool
+    requires { capacity ≤ 16777216 }
+    ensures { result ≡ by_shape shape false (index_past (limits_of public.now) capacity) }
+{
+    let open = u64::from(public.stash) + 4 * (u64::from(tree_height(capacity)) + 1) + 1;
     match shape {
         Shape::Flat => false,
-        Shape::Indexed => true,
+        Shape::Indexed => is_unmade() || public.keep || open > u64::from(public.buffer),
     }
 }
 
-/// Whether PRIMARY KEY stands there more than once.
-pub(crate) fn has_more_keys(columns: &[NewColumn]) -> bool
-    ensures { result ≡ nat_lt 1 (sum_by (λ (c : NewColumn). c.keys) columns.now) }
+fn is_int(kind: NewKind) -> bool
+    ensures { result ≡ is_int kind }
+{
+    matches!(kind, NewKind::Int)
+}
+
+fn has_int_key(columns: &[NewColumn]) -> bool
+    ensures { result ≡ has_int_key columns.now }
+{
+    columns
+        .iter()
+        .any(|column| column.keys > 0 && is_int(column.kind))
+}
+
+/// Whether PRIMARY KEY stands there more than once, or an index has no INT primary key.
+pub(crate) fn has_wrong_keys(columns: &[NewColumn], shape: Shape) -> bool
+    ensures { result ≡ has_wrong_keys columns.now shape }
 {
     key_count(columns) > 1
+        || match shape {
+            Shape::Flat => false,
+            Shape::Indexed => !has_int_key(columns),
+        }
 }
 
 // How often it stands there, up to 2.

@@ -9,10 +9,11 @@ ghost use Rattle.ob_names.specs.Names.{columns_in, unqualified, place_of, lack_c
 ghost use Rattle.ob_names.specs.Kinds.{mistype_columns, overflow_columns};
 ghost use Rattle.ob_mean.specs.Parts.{behind, created_in, given_in, parts_in};
 ghost use Rattle.ob_mean.specs.Refusals.{early_refusal, first_holding, insert_columns, is_incomplete, limits_of, sets_key};
-ghost use Rattle.ob_mean.specs.Scopes.{is_taken, given_names, takes_in, named_in, lacks_in, row_mistyped, mistypes_in, row_overflows, overflows_in, is_past, exceeds_in, has_more_keys, breaks_key_in};
+ghost use Rattle.ob_mean.specs.Scopes.{is_taken, given_names, takes_in, named_in, lacks_in, row_mistyped, mistypes_in, row_overflows, overflows_in, is_past, exceeds_in, keys_are_wrong, breaks_key_in};
 
 use crate::conds::{exceeds, lacks, mistypes};
-use crate::creates::{creates_past, has_more_keys, is_indexed};
+use crate::creates::{creates_past, has_wrong_keys, index_past};
+use crate::keyed::needs_key;
 use crate::listed::{columns_lack, items_lack, items_mistype, items_stray};
 use crate::parts::{Created, Given, Parts, parts_of};
 use crate::sources;
@@ -195,14 +196,16 @@ fn overflows_any(parts: &Parts<'_>, scope: &Scope<'_>) -> bool
     row_overflows(&parts.given, scope) || sets_overflow(parts.sets, scope) || exceeds(parts.cond)
 }
 
-fn new_past(tables: &[Table], created: &Option<Created<'_>>) -> bool
+fn new_past(public: &Public, created: &Option<Created<'_>>) -> bool
     ensures { result
-        ≡ option_map_or (is_past (headings_of tables.now)) (created_in created.now) false }
+        ≡ option_map_or (is_past (limits_of public.now) (headings_of public.now.tables))
+        (created_in created.now) false }
 {
     match created {
         None => false,
         Some(created) => {
-            creates_past(tables, created.columns, created.capacity) || is_indexed(created.shape)
+            creates_past(public.tables.as_slice(), created.columns, created.capacity)
+                || index_past(public, created.shape, created.capacity)
         }
     }
 }
@@ -215,7 +218,7 @@ fn meets_limit(late: bool, public: &Public, parts: &Parts<'_>) -> bool
         ≡ (exceeds_in (limits_of public.now) (headings_of public.now.tables) (parts_in parts.now)
         || late) }
 {
-    new_past(public.tables.as_slice(), &parts.created)
+    new_past(public, &parts.created)
         || parts.columns.len() > 32
         || parts.items.len() > 32
         || sources::joins_past(public, &parts.tables)
@@ -246,15 +249,15 @@ fn is_key_named(name: &ColumnName, scope: &Scope<'_>) -> bool
 }
 
 fn new_keys(created: &Option<Created<'_>>) -> bool
-    ensures { result ≡ option_map_or has_more_keys (created_in created.now) false }
+    ensures { result ≡ option_map_or keys_are_wrong (created_in created.now) false }
 {
     match created {
         None => false,
-        Some(created) => has_more_keys(created.columns),
+        Some(created) => has_wrong_keys(created.columns, created.shape),
     }
 }
 
-// A second primary key, or a change of one.
+// Wrong keys of a new table, or a change of one.
 fn breaks_key_rule(parts: &Parts<'_>, scope: &Scope<'_>) -> bool
     ensures { result ≡ breaks_key_in scope.now (parts_in parts.now) }
 {
@@ -303,5 +306,6 @@ pub fn early_refusal(late: bool, public: &Public, stmt: &Stmt) -> Option<Refusal
             sources::joins_off_key(&parts.tables, &scope),
             Refusal::JoinKey,
         ),
+        (needs_key(tables, stmt), Refusal::NeedsKey),
     ])
 }

@@ -140,8 +140,9 @@ fn key_position(columns: &[Column]) -> Option<usize>
     columns.iter().position(|column| column.key)
 }
 
+/// Whether the column at this place is the primary key.
 #[tactic(auto, using(crate::proofs::SourceLemmas::key_position))]
-fn is_key(columns: &[Column], i: usize) -> bool
+pub(crate) fn is_key(columns: &[Column], i: usize) -> bool
     ensures { result ≡ is_key columns.now i }
 {
     match key_position(columns) {

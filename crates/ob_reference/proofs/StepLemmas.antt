@@ -11,7 +11,7 @@ use Rattle.ob_reference.specs.Runs.{HasSizes}
 -- a CREATE has sizes within the limits
 pub sizes : (late : Bool) (limits : Limits) (hs : List Heading) (stmt : Stmt) → early_refusal late limits hs stmt ≡ None → HasSizes stmt
 sizes late limits hs (Create table columns capacity shape) h =
-    let sized = within hs table columns capacity shape (allowed late limits hs (Create table columns capacity shape) h).limits in
+    let sized = within limits hs table columns capacity shape (allowed late limits hs (Create table columns capacity shape) h).limits in
     (omega (arith, sized.few), sized.sizes)
 sizes late limits hs (Insert table columns values) h = tt
 sizes late limits hs (Update table sets c) h = tt

@@ -4,11 +4,11 @@ ghost use Rattle.std.specs.List.{list_any};
 ghost use Rattle.ob_base.specs.Schemas.{key_place};
 ghost use Rattle.ob_row.specs.Rows.{agree_at, has_key};
 ghost use Rattle.ob_sql.specs.declared.stmt.Stmt.TheVariants.{Insert};
-ghost use Rattle.ob_mean.specs.Step.{new_row, insert_refusal, late_refusal, followed, accepted_next};
+ghost use Rattle.ob_mean.specs.Step.{new_row, has_own_key, room_refusal, insert_refusal, late_refusal, followed, accepted_next};
 
 use crate::tables::{Database, Held, Tuple};
 use crate::truth::agree_at;
-use ob_base::{Column, Items, Name, NoMemory, Refusal, Schema};
+use ob_base::{Column, Heading, Items, Name, NoMemory, Refusal, Schema, Shape};
 use ob_row::Cell;
 use ob_sql::Literal;
 use std::alloc::Global;
@@ -59,6 +59,27 @@ fn new_row(
     Ok(Tuple { cells })
 }
 
+// Whether a row has one of the keys of an index.
+fn has_own_key(heading: &Heading, row: &[Cell]) -> bool
+    ensures { result ≡ has_own_key heading.now row.now }
+{
+    match row.get(key_place(&heading.schema).unwrap_or(0)) {
+        Some(Cell::Int(key)) => *key >= 0 && *key < i64::from(heading.capacity),
+        _ => false,
+    }
+}
+
+// Why a row that is new finds no room: the table has no slot left, or no row of the index has this key.
+fn room_refusal(held: &Held, row: &[Cell]) -> Option<Refusal>
+    ensures { result ≡ room_refusal held.now row.now }
+{
+    match held.heading.shape {
+        Shape::Flat if held.rows.len() == held.heading.capacity as usize => Some(Refusal::Full),
+        Shape::Indexed if !has_own_key(&held.heading, row) => Some(Refusal::KeyRange),
+        _ => None,
+    }
+}
+
 // Adds a row, or says why it is refused.
 fn insert_row(held: &mut Held, row: Tuple) -> Result<Option<Refusal>, NoMemory>
     ensures refusal { IfOk result (λ r. r ≡ insert_refusal held.old row) }
@@ -71,12 +92,12 @@ fn insert_row(held: &mut Held, row: Tuple) -> Result<Option<Refusal>, NoMemory>
     if has_key(&held.heading.schema, row.as_slice(), held.rows.as_slice()) {
         return Ok(Some(Refusal::Duplicate));
     }
-    if held.rows.len() == held.heading.capacity as usize {
-        return Ok(Some(Refusal::Full));
-    }
-    match held.rows.push(row) {
-        Err(_) => Err(NoMemory),
-        Ok(()) => Ok(None),
+    match room_refusal(held, row.as_slice()) {
+        Some(refusal) => Ok(Some(refusal)),
+        None => match held.rows.push(row) {
+            Err(_) => Err(NoMemory),
+            Ok(()) => Ok(None),
+        },
     }
 }
 
@@ -136,7 +157,7 @@ fn insert_at(
 
 impl Database {
     /// Carries an INSERT out that is not refused early, or refuses it: a row with its primary key exists,
-    /// or the table is full. Names are the columns of its list, if it has one. Want of memory leaves the
+    /// the table is full, or is an index none of whose keys it has. Names are the columns of its list, if it has one. Want of memory leaves the
     /// tables as they were.
     pub fn insert(
         &mut self,

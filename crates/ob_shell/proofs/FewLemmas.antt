@@ -176,7 +176,7 @@ source_counted p late q seen public accepted told = go q.source refl
 within_limits : (p : Public) (late : Bool) (stmt : Stmt) (seen : Seen) → IsPublic p → early_refusal late (limits_of p) (headings_of p.tables) stmt ≡ None → Holds p stmt seen seen.k seen.plan seen.then → IsWithin p (skeleton stmt) seen
 within_limits p late (Create table columns capacity shape) seen public accepted holds =
     let free = allowed late (limits_of p) (headings_of p.tables) (Create table columns capacity shape) accepted in
-    let new = within (headings_of p.tables) table columns capacity shape free.limits in
+    let new = within (limits_of p) (headings_of p.tables) table columns capacity shape free.limits in
     (new.most, new.wide)
 within_limits p late (Insert table columns values) seen public accepted holds = tt
 within_limits p late (Update table sets cond) seen public accepted holds = tt

@@ -1,23 +1,25 @@
 -- A statement is refused early by what each name finds, and by how many tables there are.
 use Rattle.std.proofs.Common.{◌≡◌, ℕ, Bool, true, false, cond, List, [], ◌∷◌, ◌++◌, length, map, Option, Some, refl, sym, ◌∙◌, ap}
-use Rattle.std.specs.Prelude.{bytes_eq, is_some, nat_le, nat_lt, not, ◌||◌}
+use Rattle.std.specs.Prelude.{bytes_eq, is_some, nat_le, nat_lt, not, ◌&&◌, ◌||◌}
 use Rattle.std.specs.List.{flat_map, list_any}
 use Rattle.std.specs.Int.{is_in_range}
-use Rattle.std.specs.Option.{option_map, option_map_or}
+use Rattle.std.specs.Option.{is_none, option_map, option_map_or}
 use Rattle.std.proofs.lemmas.List.{length-map}
 use Rattle.ob_base.specs.declared.schema.Heading.{Heading}
-use Rattle.ob_base.specs.declared.refusal.Refusal.TheVariants.{NoTable, NameTaken, NoColumn, WrongType, ValueRange, Limit, KeyRule, JoinKey}
+use Rattle.ob_base.specs.declared.refusal.Refusal.TheVariants.{NoTable, NameTaken, NoColumn, WrongType, ValueRange, Limit, KeyRule, JoinKey, NeedsKey}
 use Rattle.ob_base.specs.declared.skeleton.NewColumn.{NewColumn}
 use Rattle.ob_base.specs.declared.skeleton.Source.{Source}
 use Rattle.ob_base.specs.declared.skeleton.Source.TheVariants.{Table as OneTable, Join}
+use Rattle.ob_base.specs.Indexes.{by_shape}
 use Rattle.ob_base.specs.Lists.{has_repeats}
 use Rattle.ob_base.specs.Schemas.{Columns, columns_of, width}
 use Rattle.ob_base.specs.Stored.{Stored, has_table, heading_at, headings, stored_at}
 use Rattle.ob_sql.specs.declared.stmt.Stmt.{Stmt}
 use Rattle.ob_sql.specs.declared.stmt.Stmt.TheVariants.{Create, Insert, Update, Delete, Drop as DropTable, SelectRows as RowsStmt, SelectTotals as TotalsStmt}
+use Rattle.ob_sql.specs.Search.{Search}
 use Rattle.ob_names.specs.Kinds.{are_texts, comparison_columns, mistype_columns, mistype_comparisons, number_columns, overflow_columns, overflow_comparisons}
 use Rattle.ob_names.specs.Names.{columns_at, source_columns, lack_columns, left_place}
-use Rattle.ob_mean.specs.Refusals.{assignments, breaks_key_rule, compared, early_refusal, first_holding, has_stray_column, has_wrong_type, is_across, is_badly_typed, is_key, is_out_of_range, is_indexed, is_past_limit, is_size, items_of, joins_apart, joins_off_key, joins_off_key_at, joins_past, joins_past_at, lacks_column, listed, named_columns, scope_of, select_lacks_column, sets_key, tables_of, takes_name, Limits}
+use Rattle.ob_mean.specs.Refusals.{assignments, breaks_key_rule, compared, early_refusal, first_holding, has_stray_column, has_wrong_type, is_across, is_badly_typed, is_key, is_out_of_range, is_index, is_indexed, index_past, is_past_limit, key_asked, lacks_key, needs_key, source_lacks_key, is_size, items_of, joins_apart, joins_off_key, joins_off_key_at, joins_past, joins_past_at, lacks_column, listed, named_columns, scope_of, select_lacks_column, sets_key, tables_of, takes_name, Limits}
 use Rattle.ob_mean.proofs.VerdictLemmas.{heading-stored}
 
 -- ---- headings that each name finds alike
@@ -101,7 +103,7 @@ module _ (hs gs : List Heading) (same : SameHeadings hs gs) where
   limit_same : (limits : Limits) (stmt : Stmt) → is_past_limit limits hs stmt ≡ is_past_limit limits gs stmt
   limit_same limits (Create table columns capacity shape) =
       ap (λ (n : ℕ). (not (is_in_range 1 1048576 capacity) || not (is_in_range 1 16 (length columns)) || list_any (λ (c : NewColumn). not (is_size c.kind)) columns
-      || nat_lt 1024 (width (columns_of table columns)) || nat_le 64 n) || is_indexed shape) same.count
+      || nat_lt 1024 (width (columns_of table columns)) || nat_le 64 n) || by_shape shape false (index_past limits capacity)) same.count
   limit_same limits (Insert table columns values) = refl
   limit_same limits (Update table sets cond) = refl
   limit_same limits (Delete table cond) = refl
@@ -131,6 +133,25 @@ module _ (hs gs : List Heading) (same : SameHeadings hs gs) where
   join_same (RowsStmt s) = off_key_same s.source
   join_same (TotalsStmt s) = refl
 
+  index_same : (name : List ℕ) → is_index hs name ≡ is_index gs name
+  index_same name = ap (λ (o : Option Heading). option_map_or (λ (h : Heading). is_indexed h.shape) o false) (same.at name)
+
+  lacks_key_same : (name : List ℕ) (cond : Option Search) → lacks_key hs name cond ≡ lacks_key gs name cond
+  lacks_key_same name cond = λ i. index_same name i && is_none (key_asked (columns_same name i) cond)
+
+  source_key_same : (source : Source) (cond : Option Search) → source_lacks_key hs source cond ≡ source_lacks_key gs source cond
+  source_key_same (OneTable name) cond = lacks_key_same name cond
+  source_key_same (Join a b on equals) cond = λ i. index_same a i || index_same b i
+
+  needs_same : (stmt : Stmt) → needs_key hs stmt ≡ needs_key gs stmt
+  needs_same (Create table columns capacity shape) = refl
+  needs_same (Insert table columns values) = refl
+  needs_same (Update table sets cond) = lacks_key_same table cond
+  needs_same (Delete table cond) = lacks_key_same table cond
+  needs_same (DropTable table) = refl
+  needs_same (RowsStmt s) = source_key_same s.source s.cond
+  needs_same (TotalsStmt s) = index_same s.table
+
   pub early_same : (late : Bool) (limits : Limits) (stmt : Stmt) → early_refusal late limits hs stmt ≡ early_refusal late limits gs stmt
   early_same late limits stmt = λ i. first_holding (
       (lacking_same (tables_of stmt) i, NoTable) ∷
@@ -140,4 +161,5 @@ module _ (hs gs : List Heading) (same : SameHeadings hs gs) where
       (range_same stmt i, ValueRange) ∷
       (limit_same limits stmt i || late, Limit) ∷
       (key_same stmt i, KeyRule) ∷
-      (join_same stmt i, JoinKey) ∷ [])
+      (join_same stmt i, JoinKey) ∷
+      (needs_same stmt i, NeedsKey) ∷ [])

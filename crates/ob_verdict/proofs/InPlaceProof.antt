@@ -1,6 +1,6 @@
 -- A statement leaves the tables in place: as many slots, distinct keys, and columns that name their table.
 use Rattle.std.proofs.Common.{◌≡◌, ◌≢◌, ℕ, suc, zero, ◌+◌, ◌<◌, Bool, true, false, List, [], ◌∷◌, ◌++◌, map, length, refl, sym, ◌∙◌, ap, subst, cond, arith}
-use Rattle.std.specs.Prelude.{Option, Some, None, filter, not, bytes_eq, slice_get, slice_set, ◌||◌, ◌==◌}
+use Rattle.std.specs.Prelude.{Option, Some, None, filter, not, bytes_eq, slice_get, slice_set, ◌||◌, ◌==◌, if◌then◌else◌}
 use Rattle.std.proofs.lemmas.Bool.Decides.{nat_tests}
 use Rattle.std.specs.List.{list_any}
 use Rattle.std.specs.Option.{option_map, option_map_or}
@@ -12,6 +12,7 @@ use Rattle.ob_base.specs.declared.schema.Heading.{Heading}
 use Rattle.ob_base.specs.declared.refusal.Refusal.{Refusal}
 use Rattle.ob_base.specs.declared.refusal.Refusal.TheVariants.{Duplicate, Full as FullTable}
 use Rattle.ob_base.specs.declared.schema.Shape.{Shape}
+use Rattle.ob_base.specs.declared.schema.Shape.TheVariants.{Flat}
 use Rattle.ob_base.specs.declared.skeleton.NewColumn.{NewColumn}
 use Rattle.ob_base.specs.Limits.{buffered}
 use Rattle.ob_base.specs.Lists.{first, has_repeats, places_from}
@@ -33,8 +34,8 @@ use Rattle.ob_mean.specs.Refusals.{early_refusal, sets_key, limits_of}
 use Rattle.ob_mean.specs.Step.{insert_refusal, late_refusal, new_row, set_cells, followed}
 use Rattle.ob_mean.specs.Verdict.{Held, in_slots, Tables, database, is_late, last_refusal, refusal}
 use Rattle.ob_mean.specs.Settle.{settled}
-use Rattle.ob_mean.proofs.EarlyLemmas.{allowed, neither}
-use Rattle.ob_mean.proofs.VerdictLemmas.{headings-database, heading-stored, stored-database}
+use Rattle.ob_mean.proofs.EarlyLemmas.{allowed, neither, within}
+use Rattle.ob_mean.proofs.VerdictLemmas.{flat_refusal, headings-database, heading-stored, stored-database}
 use Rattle.ob_verdict.specs.Laws.{IsInPlace, AreInPlace, KeepsInPlace}
 use Rattle.ob_verdict.proofs.SlotLemmas.{length-rows, rows-map, rows-emptied, rows-empty_slots, rows-fill_first}
 use Rattle.ob_verdict.proofs.AnswerProof.{both_none}
@@ -186,11 +187,12 @@ added_stays : (t : Stored Held) (ts : Tables) → IsInPlace t → AreInPlace ts 
 added_stays t [] one all = (one, tt)
 added_stays t (u ∷ ts) one all = (all.0, added_stays t ts one all.1)
 
-created : (table : List ℕ) (columns : List NewColumn) (capacity : ℕ) (shape : Shape) → IsInPlace (record { heading = record { name = table; schema = columns_of table columns; capacity = capacity; shape = shape }; held = record { slots = empty_slots capacity; leaves = [] } })
-created table columns capacity shape = record {
+created : (table : List ℕ) (columns : List NewColumn) (capacity : ℕ) (shape : Shape) → shape ≡ Flat → IsInPlace (record { heading = record { name = table; schema = columns_of table columns; capacity = capacity; shape = shape }; held = record { slots = empty_slots capacity; leaves = [] } })
+created table columns capacity shape flat = record {
   slots = length-replicate {A = Option Row} capacity None;
   keys = ap (keys_repeat (key_place (columns_of table columns))) (rows-empty_slots capacity) ∙ no_keys (key_place (columns_of table columns));
   named = All-map (λ (c : Column). c.table ≡ table) (new_column table) columns (λ k d h. refl);
+  flat = flat;
 }
 
 -- the columns of the table of a name
@@ -208,6 +210,7 @@ inserted t row new space one = record {
   slots = length-fill_first row t.held.slots ∙ one.slots;
   keys = keys-put_in (key_place t.heading.schema) row (rows t.held.slots) (rows (fill_first row t.held.slots)) (rows-fill_first row t.held.slots space) new one.keys;
   named = one.named;
+  flat = one.flat;
 }
 
 not_full : (a b : Bool) → cond a (Some Duplicate) (cond b (Some FullTable) None) ≡ None → b ≡ false
@@ -227,7 +230,9 @@ module _ (p : Public) (m : ℕ) (ts : Tables) (stmt : Stmt) (none : refusal p m 
       subst (λ (hs : List Heading). early_refusal (is_late m) (limits_of p) hs stmt ≡ None) (headings-database ts) (both_none _ _ (both_none _ (last_refusal p ts stmt) none).0).0
 
 settled_stays : (p : Public) (m : ℕ) (ts : Tables) (stmt : Stmt) → refusal p m ts stmt ≡ None → AreInPlace ts → AreInPlace (settled ts stmt)
-settled_stays p m ts (Create table columns capacity shape) none all = added_stays _ ts (created table columns capacity shape) all
+settled_stays p m ts (Create table columns capacity shape) none all = added_stays _ ts (created table columns capacity shape flat) all where
+  flat : shape ≡ Flat
+  flat = (within (limits_of p) (headings ts) table columns capacity shape (allowed (is_late m) (limits_of p) (headings ts) (Create table columns capacity shape) (not_refused_early p m ts (Create table columns capacity shape) none)).limits).flat
 settled_stays p m ts (Insert table columns values) none all = changed_stays table (in_slots (fill_first (new_row (columns_at table (headings ts)) columns values))) ts one all where
   one : (t : Stored Held) → stored_at table ts ≡ Some t → IsInPlace t → IsInPlace (record { heading = t.heading; held = in_slots (fill_first (new_row (columns_at table (headings ts)) columns values)) t.held })
   one t is place =
@@ -235,8 +240,9 @@ settled_stays p m ts (Insert table columns values) none all = changed_stays tabl
       let row = new_row t.heading.schema columns values in
       let found : stored_at table (database ts) ≡ Some held =
       stored-database table ts ∙ ap (option_map (λ (u : Stored Held). record { heading = u.heading; held = rows u.held.slots })) is in
-      let free : insert_refusal held row ≡ None =
-      sym (ap (λ (o : Option (Stored (List Row))). option_map_or (λ (u : Stored (List Row)). insert_refusal u (new_row u.heading.schema columns values)) o None) found)
+      let free : (if has_key (key_place t.heading.schema) row (rows t.held.slots) then Some Duplicate else (if length (rows t.held.slots) == t.heading.capacity then Some FullTable else None)) ≡ None =
+      sym (flat_refusal held row place.flat)
+      ∙ sym (ap (λ (o : Option (Stored (List Row))). option_map_or (λ (u : Stored (List Row)). insert_refusal u (new_row u.heading.schema columns values)) o None) found)
       ∙ not_refused_late p m ts (Insert table columns values) none in
       let new = not_refused (has_key (key_place t.heading.schema) row (rows t.held.slots)) (length (rows t.held.slots) == t.heading.capacity) free in
       let space = has_space t place (not_full (has_key (key_place t.heading.schema) row (rows t.held.slots)) (length (rows t.held.slots) == t.heading.capacity) free) in
@@ -258,6 +264,7 @@ settled_stays p m ts (Update table sets cond) none all = changed_stays table (in
         slots = length-map t.held.slots (option_map f) ∙ place.slots;
         keys = subst (λ (s : Columns). keys_repeat (key_place s) (rows (map (option_map f) t.held.slots)) ≡ false) same after;
         named = place.named;
+        flat = place.flat;
       }
 settled_stays p m ts (Delete table cond) none all = changed_stays table (in_slots (map (emptied (is_true (where_at cond (columns_at table (headings ts))))))) ts one all where
   one : (t : Stored Held) → stored_at table ts ≡ Some t → IsInPlace t → IsInPlace (record { heading = t.heading; held = in_slots (map (emptied (is_true (where_at cond (columns_at table (headings ts)))))) t.held })
@@ -267,6 +274,7 @@ settled_stays p m ts (Delete table cond) none all = changed_stays table (in_slot
         slots = length-map t.held.slots (emptied test) ∙ place.slots;
         keys = ap (keys_repeat (key_place t.heading.schema)) (rows-emptied test t.held.slots) ∙ keys-filter (key_place t.heading.schema) (λ r. not (test r)) (rows t.held.slots) place.keys;
         named = place.named;
+        flat = place.flat;
       }
 settled_stays p m ts (DropTable table) none all = dropped_stays table ts all
 settled_stays p m ts (RowsStmt q) none all = all

@@ -8,7 +8,10 @@ use Rattle.ob_base.specs.declared.seen.Seen.{Seen}
 use Rattle.ob_base.specs.declared.seen.End.{End}
 use Rattle.ob_base.specs.declared.seen.End.TheVariants.{Static, Whole, AfterCount}
 use Rattle.ob_base.specs.declared.refusal.Refusal.{Refusal}
-use Rattle.ob_base.specs.declared.refusal.Refusal.TheVariants.{NotConsecutive, Duplicate, Full as FullTable, TooManyGroups, Overflow, PadPassed}
+use Rattle.ob_base.specs.declared.refusal.Refusal.TheVariants.{NotConsecutive, Duplicate, Full as FullTable, KeyRange, TooManyGroups, Overflow, PadPassed}
+use Rattle.ob_base.specs.declared.schema.Shape.{Shape}
+use Rattle.ob_base.specs.declared.schema.Shape.TheVariants.{Flat, Indexed}
+use Rattle.ob_base.specs.Indexes.{by_shape}
 use Rattle.ob_mean.specs.Step.{late_refusal, insert_refusal, new_row, Database, overgroups, totals_columns, totalled_rows}
 use Rattle.ob_mean.proofs.VerdictLemmas.{headings-database}
 use Rattle.ob_mean.specs.Verdict.{database, refusal, last_refusal, refusal_by, unpadded_refusal, forced_refusal, first_unplaced, fallback, source_slots, selected_places}
@@ -114,11 +117,13 @@ neither : (end : End) (r : Option Refusal) → (end ≡ AfterCount → ⊥) → 
 unfolding Shows NotSame
 neither end r h k = (λ e. absurd (h e), λ e. absurd (k e))
 
-insert-not : (a b : Bool) → NotSame (cond a (Some Duplicate) (cond b (Some FullTable) None))
+insert-not : (a b c : Bool) (shape : Shape) → NotSame (cond a (Some Duplicate) (by_shape shape (cond b (Some FullTable) None) (cond c None (Some KeyRange))))
 unfolding NotSame
-insert-not true b h = cc
-insert-not false true h = cc
-insert-not false false h = cc
+insert-not true b c shape h = cc
+insert-not false true c Flat h = cc
+insert-not false false c Flat h = cc
+insert-not false b true Indexed h = cc
+insert-not false b false Indexed h = cc
 
 groups-not : (a : Bool) → NotSame (cond a (Some TooManyGroups) None)
 unfolding NotSame
@@ -128,7 +133,7 @@ groups-not false h = cc
 stored-not : (f : Stored (List Row) → Row) (o : Option (Stored (List Row))) → NotSame (option_map_or (λ t. insert_refusal t (f t)) o None)
 unfolding NotSame
 stored-not f None h = cc
-stored-not f (Some t) h = insert-not _ _ h
+stored-not f (Some t) h = insert-not _ _ _ t.heading.shape h
 
 late-not : (s : ℕ) (db : Database) (stmt : Stmt) → NotSame (late_refusal s db stmt)
 unfolding NotSame

@@ -1,5 +1,5 @@
 -- The tables in place and the tables as bags go on alike.
-use Rattle.std.proofs.Common.{◌≡◌, ℕ, ◌<◌, Bool, true, false, List, [], ◌∷◌, ◌++◌, map, length, refl, sym, subst, cond, append-nil, arith}
+use Rattle.std.proofs.Common.{◌≡◌, ℕ, ◌<◌, Bool, true, false, List, [], ◌∷◌, ◌++◌, map, length, refl, sym, ◌∙◌, subst, cond, append-nil, arith}
 use Rattle.std.proofs.lemmas.Bool.Decides.{nat_tests}
 use Rattle.std.specs.Prelude.{Option, Some, None, filter, not, bytes_eq, ◌==◌}
 use Rattle.std.specs.Option.{option_map_or, option_or}
@@ -21,7 +21,7 @@ use Rattle.ob_mean.specs.Conditions.{where_at}
 use Rattle.ob_row.specs.Truth.{is_true, updated}
 use Rattle.ob_mean.specs.Verdict.{in_slots, Tables, database, is_late, last_refusal}
 use Rattle.ob_mean.specs.Settle.{settled}
-use Rattle.ob_mean.proofs.VerdictLemmas.{headings-database}
+use Rattle.ob_mean.proofs.VerdictLemmas.{flat_refusal, headings-database}
 use Rattle.ob_mean.specs.Refusals.{limits_of}
 use Rattle.ob_verdict.specs.Laws.{AreInPlace, SettlesAsStep}
 
@@ -73,7 +73,7 @@ inserted-same name row made (t ∷ ts) p =
     SameTables (database (cond b (record { heading = t.heading; held = in_slots (fill_first row) t.held } ∷ ts) (t ∷ changed_at name (in_slots (fill_first row)) ts)))
     (cond b (record { heading = t.heading; held = rows t.held.slots ++ row ∷ [] } ∷ database ts) (record { heading = t.heading; held = rows t.held.slots } ∷ changed_at name (λ rs. rs ++ row ∷ []) (database ts)))) [
       | true ↦ λ h.
-          let space : length (rows t.held.slots) < length t.held.slots = has_space (length (rows t.held.slots)) t.heading.capacity t.held.slots refl p.0.slots (no_second _ _ _ _ h) in
+          let space : length (rows t.held.slots) < length t.held.slots = has_space (length (rows t.held.slots)) t.heading.capacity t.held.slots refl p.0.slots (no_second _ _ _ _ (sym (flat_refusal (record { heading = t.heading; held = rows t.held.slots }) (made t.heading) p.0.flat) ∙ h)) in
           (refl, Same-put_in_at (rows t.held.slots) row (rows (fill_first row t.held.slots)) (rows-fill_first row t.held.slots space), SameTables-refl (database ts))
       | false ↦ λ h. (refl, Same-refl (rows t.held.slots), inserted-same name row made ts p.1 h)
     ]

@@ -3,6 +3,7 @@ use Rattle.std.specs.Prelude.{◌≡◌, ◌↔◌, ℕ, ◌<◌, ◌≤◌, ◌
 use Rattle.ob_base.specs.declared.config.Public.{Public}
 use Rattle.ob_base.specs.declared.config.Plan.{Plan}
 use Rattle.ob_base.specs.declared.config.Plan.TheVariants.{Small, Hash}
+use Rattle.ob_base.specs.declared.schema.Shape.TheVariants.{Flat}
 use Rattle.ob_base.specs.declared.seen.End.TheVariants.{Whole, AfterCount}
 use Rattle.ob_base.specs.declared.refusal.Refusal.TheVariants.{NotConsecutive}
 use Rattle.ob_base.specs.declared.shown.Shown.{Shown}
@@ -30,11 +31,13 @@ use Rattle.ob_mean.specs.Replay.{cut_at}
 use Rattle.ob_script.specs.Script.{whole_script}
 
 -- ---- the tables in place and the tables as bags
--- a table has as many slots as its capacity, its rows have distinct primary keys, and its columns name it
+-- a table has as many slots as its capacity, its rows have distinct primary keys, its columns name it, and as long as no
+-- index is made it is flat
 pub record IsInPlace (t : Stored Held) : Type 0 where
   pub slots : length t.held.slots ≡ t.heading.capacity
   pub keys : keys_repeat (key_place t.heading.schema) (rows t.held.slots) ≡ false
   pub named : NamesTable t.heading
+  pub flat : t.heading.shape ≡ Flat
 
 abbrev pub AreInPlace : Tables → Type 0
 AreInPlace [] = ⊤

@@ -1,9 +1,9 @@
 use Rattle.std.proofs.Common.{[], ◌∷◌, ◌∙◌, ap, false}
 use Rattle.std.specs.Prelude.{◌||◌}
 use Rattle.std.specs.Option.{option_map_or}
-use Rattle.ob_base.specs.declared.refusal.Refusal.TheVariants.{NoTable, NameTaken, NoColumn, WrongType, ValueRange, Limit, KeyRule, JoinKey}
+use Rattle.ob_base.specs.declared.refusal.Refusal.TheVariants.{NoTable, NameTaken, NoColumn, WrongType, ValueRange, Limit, KeyRule, JoinKey, NeedsKey}
 use Rattle.ob_base.specs.Stored.{headings_of}
-use Rattle.ob_mean.specs.Refusals.{first_holding, select_lacks_column, limits_of}
+use Rattle.ob_mean.specs.Refusals.{first_holding, select_lacks_column, limits_of, needs_key}
 use Rattle.ob_mean.specs.Parts.{parts_of}
 use Rattle.ob_mean.specs.Scopes.{scope_in, missing_in, takes_in, lacks_in, mistypes_by, mistypes_in, overflows_by, overflows_in, exceeds_in, breaks_key_in, off_key_in}
 use Rattle.ob_mean.proofs.RefusalLemmas.{both_are, lacks_is, others_are}
@@ -27,5 +27,6 @@ returns c =
     let past = c.meets_limit.ensures ∙ (λ t. exceeds_in given all (parts t) || c.args.late) ∙ (λ t. others.5 t || c.args.late) in
     let rule = c.breaks_key_rule.ensures ∙ (λ t. breaks_key_in (scope t) (parts t)) ∙ others.6 in
     let key = c.joins_off_key.ensures ∙ (λ t. option_map_or (off_key_in (scope t)) (parts t).source false) ∙ others.7 in
+    let keyed = c.needs_key.ensures ∙ (λ t. needs_key (hs t) stmt) in
     c.first_of.ensures
-    ∙ (λ t. first_holding ((missing t, NoTable) ∷ (taken t, NameTaken) ∷ (lacking t, NoColumn) ∷ (wrong t, WrongType) ∷ (range t, ValueRange) ∷ (past t, Limit) ∷ (rule t, KeyRule) ∷ (key t, JoinKey) ∷ []))
+    ∙ (λ t. first_holding ((missing t, NoTable) ∷ (taken t, NameTaken) ∷ (lacking t, NoColumn) ∷ (wrong t, WrongType) ∷ (range t, ValueRange) ∷ (past t, Limit) ∷ (rule t, KeyRule) ∷ (key t, JoinKey) ∷ (keyed t, NeedsKey) ∷ []))
