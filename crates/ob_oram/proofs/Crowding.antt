@@ -71,13 +71,6 @@ module _ {R : Type 0} (p : R → Bool) where
       let third = ap weigh same in
       omega (arith, first, second, third)
 
-  pub weigh_least : (row : R) → weigh (Some row) ≤ 1
-  weigh_least row = of_test (p row)
-    where
-      of_test : (b : Bool) → counts b ≤ 1
-      of_test true = omega arith
-      of_test false = omega arith
-
   -- where each from a slot on has a row that passes, they are as many
   pub many : (slots : List (Option R)) (from : ℕ) → ((k : ℕ) → from ≤ k → k < length slots → (row : R) × (get_or slots k None ≡ Some row) × (p row ≡ true)) → length slots ≤ from + tally slots
   many [] from all = omega arith
