@@ -64,6 +64,7 @@ module _ (columns : Columns) (batch : List Row) where
   pub all_served : (slots now : Slots) (i : ℕ) (out : List Inserted) (is : List ℕ) → length batch ≤ i → length out ≤ i → AreServed slots now i out is
       → (out ≡ insert_answers columns batch slots) × (rows_of batch is ≡ taken_all columns batch slots)
   all_served slots now i out is past most was =
-      let none : drop i batch ≡ [] = drop_all i batch past in
-      (sym (was.answers ∙ ap (λ (l : List Row). take i out ++ insert_answers columns l now) none ∙ append-nil (take i out) ∙ take_all i out most),
-       sym (was.taken ∙ ap (λ (l : List Row). rows_of batch is ++ taken_all columns l now) none ∙ append-nil (rows_of batch is)))
+      let none : drop i batch ≡ [] = drop_all i batch past in (
+        sym (was.answers ∙ ap (λ (l : List Row). take i out ++ insert_answers columns l now) none ∙ append-nil (take i out) ∙ take_all i out most),
+        sym (was.taken ∙ ap (λ (l : List Row). rows_of batch is ++ taken_all columns l now) none ∙ append-nil (rows_of batch is)),
+      )

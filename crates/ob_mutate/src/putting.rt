@@ -9,12 +9,7 @@ use ob_room::ClearRow;
 use ob_row::{Cell, Malformed, encode, read};
 
 // The row that goes to the slot of an index, if there is one.
-fn row_for<'a>(
-    batch: &'a [Items<Cell>],
-    free: &[u32],
-    taken: &[u32],
-    i: u32,
-) -> Option<&'a [Cell]>
+fn row_for<'a>(batch: &'a [Items<Cell>], free: &[u32], taken: &[u32], i: u32) -> Option<&'a [Cell]>
     requires rise { (below : ℕ) × AreAscending 0 below free.now }
     requires places { ArePlaces (length batch.now) taken.now }
     ensures some { IfSome result (λ cells. (slot : Option Row)
@@ -60,7 +55,7 @@ impl<'a> Change for Puts<'a> {
 
     ghost keeps = { λ put columns i slot suits fits.
         put_into_fits columns put.free.now put.batch.now put.taken.now i slot
-            suits.1 suits.2 fits };
+        suits.1 suits.2 fits };
 
     fn change(&self, i: u32, schema: &Schema, row: &mut ClearRow) -> Result<bool, Malformed> {
         read(schema, row)?;

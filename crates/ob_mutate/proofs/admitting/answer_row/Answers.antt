@@ -41,6 +41,7 @@ returns-in-Some-clause-told c = λ row slots begins sees.
     let few : length n.taken < n.most = omega (arith, c.requires.before, c.requires.inside, c.requires.notes.most) in
     let full = ap (λ (k : ℕ). k == 0) c.spare-free.ensures ∙ none_left columns kept n slots sees few c.requires.room in
     let own = field_at (width (take place columns)) (kind_width (kind_at columns place)) kept i in
-    let all = admit_keyed columns place below key kept n.there c.admit.new.self.there slots ks row begins.fits own (own_field columns place below row _ begins) c.spare-free.result full (knows ks.keys ks.knows) in
-    (c.inserted_as.ensures ∙ ap inserted_as (answer ks.keys ks.knows) ∙ all.answer,
-     subst (λ (k : Option ℕ). IfSome k (λ p. KnowsSlots columns p kept c.admit.new.self.there (inserted_one columns row slots))) (sym key) all.knows)
+    let all = admit_keyed columns place below key kept n.there c.admit.new.self.there slots ks row begins.fits own (own_field columns place below row _ begins) c.spare-free.result full (knows ks.keys ks.knows) in (
+      c.inserted_as.ensures ∙ ap inserted_as (answer ks.keys ks.knows) ∙ all.answer,
+      subst (λ (k : Option ℕ). IfSome k (λ p. KnowsSlots columns p kept c.admit.new.self.there (inserted_one columns row slots))) (sym key) all.knows,
+    )
