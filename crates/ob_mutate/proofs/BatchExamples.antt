@@ -1,6 +1,6 @@
 -- What batches become of, on small tables.
-use Rattle.std.proofs.Common.{◌≡◌, ℕ, ℤ, true, false, [], ◌∷◌, List, Some, None, refl}
-use Rattle.ob_base.specs.declared.schema.Column.{Column}
+use Rattle.std.proofs.Common.{◌≡◌, ℕ, true, false, [], ◌∷◌, List, Some, None, refl}
+use Rattle.std.specs.Prelude.{pos}
 use Rattle.ob_base.specs.declared.schema.Kind.TheVariants as Kinds
 use Rattle.ob_base.specs.Schemas.{Columns}
 use Rattle.ob_row.specs.declared.cell.Cell.TheVariants.{Int}
@@ -15,8 +15,8 @@ keyed = record { table = []; name = []; kind = Kinds.Int; key = true } ∷ []
 free : Columns
 free = record { table = []; name = []; kind = Kinds.Int; key = false } ∷ []
 
-one : ℤ → Row
-one x = Int x ∷ []
+one : ℕ → Row
+one x = Int (pos x) ∷ []
 
 some : Slots
 some = None ∷ Some (one 1) ∷ None ∷ []

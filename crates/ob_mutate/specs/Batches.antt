@@ -92,13 +92,17 @@ pub record AreNotes (kept : List (List ℕ)) (n : NotesState) : Type 0 where
   pub few : length n.free ≤ n.most
   pub fit : n.most < 2 ^ 32
 
+-- each row fits the columns
+abbrev pub AreFit : Columns → List Row → Type 0
+AreFit columns batch = (j : ℕ) → j < length batch → FitsColumns columns (slice_index_or batch j [])
+
 -- with nothing noted
 abbrev pub start_notes : ℕ → NotesState
 start_notes n = record { there = replicate n false; free = []; taken = []; most = n }
 
 -- rows that may keep a batch, and an order that may list them
 pub record MayKeep (columns : Columns) (batch : List Row) (kept : List (List ℕ)) (order : OrderState) : Type 0 where
-  pub fit : (j : ℕ) → j < length batch → FitsColumns columns (slice_index_or batch j [])
+  pub fit : AreFit columns batch
   pub wide : Wide (width columns) kept
   pub count : length kept ≡ length batch
   pub places : length batch ≤ order.most
@@ -114,10 +118,6 @@ put_into (s ∷ ss) (row ∷ rows) i slot = if i == s then Some row else put_int
 abbrev pub ArePlaces : ℕ → List ℕ → Type 0
 ArePlaces n [] = ⊤
 ArePlaces n (i ∷ is) = (i < n) × ArePlaces n is
-
--- each row fits the columns
-abbrev pub AreFit : Columns → List Row → Type 0
-AreFit columns batch = (j : ℕ) → j < length batch → FitsColumns columns (slice_index_or batch j [])
 
 -- the rows of a batch at these places
 abbrev pub rows_of : List Row → List ℕ → List Row

@@ -23,8 +23,8 @@ use Rattle.ob_flat.specs.Passes.{PassCut}
 use Rattle.ob_flat.specs.Words.{PassRan, TamperedIn, SealsTable, NoMemoryBehind, blocks_of, moved}
 use Rattle.ob_flat.specs.Creates.{make_script}
 use Rattle.ob_mutate.specs.declared.inserting.Inserted.{Inserted}
-use Rattle.ob_mutate.specs.Inserting.{insert_answer, slots_after}
-use Rattle.ob_mutate.specs.Batches.{insert_answers, inserted_all, answered}
+use Rattle.ob_mutate.specs.Inserting.{insert_answer}
+use Rattle.ob_mutate.specs.Batches.{answered, insert_answers, inserted_all, inserted_one}
 
 -- what is asked to fill the fresh region: the table is read whole first where a row is inserted
 abbrev pub copy_script : ℕ → Flat → ℕ → List Access
@@ -109,7 +109,7 @@ Deletes pack flat left p result old new =
 
 -- what the slots become where a row is inserted
 abbrev pub inserted_slots : Flat → Row → Slots → Slots
-inserted_slots flat cells slots = slots_after (insert_answer flat.schema cells slots) cells slots
+inserted_slots flat cells slots = inserted_one flat.schema cells slots
 
 -- a row was inserted into the first empty slot, or refused
 abbrev pub Inserts : ℕ → Flat → Flat → Row → Result Inserted OpErr → World → World → Type 0

@@ -26,7 +26,8 @@ fn inserted_as(admitted: Admitted) -> Inserted
     }
 }
 
-// What row `i` of a batch is answered, where the rows before it were; the kept rows are told of its key, where it is taken.
+// What row `i` of a batch is answered, where the rows before it were; the kept rows are told of its key,
+// where it is taken.
 fn answer_row(
     notes: &mut Notes,
     key: Option<u8>,
@@ -101,7 +102,7 @@ fn admit_row(
     answer
 }
 
-/// What each row of a batch is answered, where there are as many answers, and notes where those go that are taken.
+/// What each row of a batch is answered, where there are as many answers, and notes which are taken.
 pub(crate) fn admit_rows(
     notes: &mut Notes,
     key: Option<u8>,

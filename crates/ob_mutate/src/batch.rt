@@ -52,7 +52,8 @@ fn list_rows(key: Option<u8>, schema: &Schema, order: &mut Order, kept: &[ClearR
     }
 }
 
-// Reads the whole table, and then writes it to the fresh region, with the rows that are taken in their slots.
+// Reads the whole table, and then writes it to the fresh region, with the rows that are taken in their
+// slots.
 fn insert_blocks<S: BlockStore, R: Revisions>(
     store: &mut S,
     vault: &mut Vault<R>,
@@ -207,17 +208,18 @@ fn insert_rows<S: BlockStore, R: Revisions>(
     }
 }
 
-/// Inserts rows one after the other, as `insert` inserts each, in one pass. A fresh region is made; each block of the
-/// table is read, in order; then each is read again and written to the fresh region, with the rows that are taken in
-/// its first empty slots; the table has the fresh region, and its old one is discarded, whatever the store answers to
-/// that. So the accesses are those of one INSERT, whatever the number of rows.
+/// Inserts rows one after the other, as `insert` inserts each, in one pass. A fresh region is made; each
+/// block of the table is read, in order; then each is read again and written to the fresh region, with
+/// the rows that are taken in its first empty slots; the table has the fresh region, and its old one is
+/// discarded, whatever the store answers to that. So the accesses are those of one INSERT, whatever the
+/// number of rows.
 ///
-/// On `Ok` each row's answer stands at its place in `out`. `order` has room for a place of each row; the rows are kept in
-/// as many rows of the room, beside those of a block, and `alloc` gives 9 bytes for each.
+/// On `Ok` each row's answer stands at its place in `out`. `order` has room for a place of each row; the
+/// rows are kept in as many rows of the room, beside those of a block; and `alloc` gives 9 bytes for each.
 ///
-/// `Failed` where the store failed, `Tampered` with the place of a block that is not what was written there last, or
-/// that has a malformed row, and `NoMemory` before anything is written. After an error the table is as before, the fresh
-/// region is forgotten, and what stands in `out` means nothing.
+/// `Failed` where the store failed, `Tampered` with the place of a block that is not what was written
+/// there last, or that has a malformed row, and `NoMemory` before anything is written. After an error
+/// the table is as before, the fresh region is forgotten, and what stands in `out` has no meaning.
 pub fn insert_all<S: BlockStore, R: Revisions>(
     store: &mut S,
     vault: &mut Vault<R>,

@@ -13,8 +13,8 @@ use ob_row::{Cell, Malformed, field_of, offset, read};
 use std::alloc::{AllocError, Global};
 use std::marker::Model;
 
-/// Which rows of a batch have a key that the table has, as `ob_order` keeps it; the table's first free slots; and which
-/// rows are to go there, in order.
+/// Which rows of a batch have a key that the table has, as `ob_order` notes it; the table's first free
+/// slots; and which rows are to go there, in order.
 ///
 /// It has room for as many of each as the batch has rows; only `new` takes memory.
 #[derive(Drop)]
@@ -87,7 +87,8 @@ impl Notes {
         (self.free.len() - self.taken.len()) as u32
     }
 
-    /// What kept row `i` is answered where so many slots are free, and notes that the table has its key then.
+    /// What kept row `i` is answered where so many slots are free. Where it is taken, the table has its
+    /// key.
     pub(crate) fn admit(
         &mut self,
         order: &Order,
@@ -145,7 +146,8 @@ impl Notes {
     }
 }
 
-// Notes the first free slots below the capacity, and which rows of a batch, which are kept, have a key that the table has.
+// Notes the first free slots below the capacity, and which rows of a batch, which are kept, have a key
+// that the table has.
 #[derive(Drop)]
 pub(crate) struct Noting<'a> {
     pub(crate) key: Option<u8>,

@@ -1,4 +1,4 @@
-use Rattle.std.proofs.Common.{◌≡◌, ◌<◌, ◌≤◌, ◌+◌, ℕ, List, [], length, slice_index_or, slice_set, length-set, sym, ◌∙◌, subst, arith}
+use Rattle.std.proofs.Common.{◌<◌, ◌≤◌, ◌+◌, ℕ, List, [], length, slice_index_or, slice_set, length-set, sym, ◌∙◌, subst, arith}
 use Rattle.ob_mutate.specs.Batches.{ArePlaces, inserted_one}
 use Rattle.ob_mutate.proofs.Served.{AreServed, all_served, few_more, one_served, places_more}
 use Rattle.ob_mutate.proofs.admitting.admit_rows.Goals as goal

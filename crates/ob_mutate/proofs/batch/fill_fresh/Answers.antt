@@ -1,4 +1,4 @@
-use Rattle.std.proofs.Common.{◌<◌, ◌^◌, ℕ, Option, length, sym, ◌∙◌, ap, subst, arith}
+use Rattle.std.proofs.Common.{◌<◌, ◌^◌, ℕ, Option, sym, ◌∙◌, ap, subst, arith}
 use Rattle.ob_mutate.specs.Batches.{AreListed, start_notes}
 use Rattle.ob_mutate.proofs.Keys.{key_inside}
 use Rattle.ob_mutate.proofs.batch.fill_fresh.Goals as goal

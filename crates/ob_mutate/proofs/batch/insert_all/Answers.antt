@@ -1,4 +1,4 @@
-use Rattle.std.proofs.Common.{◌≡◌, ◌≤◌, ◌<◌, ◌+◌, ◌^◌, ℕ, max, length, sym, ◌∙◌, ap, arith}
+use Rattle.std.proofs.Common.{◌≤◌, ◌+◌, ℕ, max, length, sym, ◌∙◌, ap, arith}
 use Rattle.ob_base.specs.Schemas.{width}
 use Rattle.ob_flat.proofs.Rooms.{block_fits}
 use Rattle.ob_flat.proofs.Opened.{block_few}

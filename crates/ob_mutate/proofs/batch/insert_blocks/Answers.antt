@@ -1,6 +1,6 @@
-use Rattle.std.proofs.Common.{◌≡◌, ◌≤◌, ◌*◌, ℕ, Option, None, IfSome, List, length, take, refl, sym, ◌∙◌, ap, subst, arith}
+use Rattle.std.proofs.Common.{◌≡◌, ◌*◌, ℕ, Option, None, List, length, sym, ◌∙◌, ap, subst, arith}
 use Rattle.std.proofs.lemmas.Result.{err_from_is_err_and}
-use Rattle.ob_base.specs.Schemas.{Columns, key_place, width}
+use Rattle.ob_base.specs.Schemas.{width}
 use Rattle.ob_script.specs.Parts.{count_part}
 use Rattle.ob_vault.specs.Calls.{none, one}
 use Rattle.ob_vault.specs.Places.{at, RowsFit}
@@ -9,7 +9,7 @@ use Rattle.ob_vault.proofs.WordLemmas.{asks_after, honest_before, honest_after}
 use Rattle.ob_row.specs.Rows.{Row}
 use Rattle.ob_blocks.specs.Blocks.{map_at}
 use Rattle.ob_row.specs.Slots.{Slots}
-use Rattle.ob_flat.specs.Flats.{IsMade, Represents, whole_blocks}
+use Rattle.ob_flat.specs.Flats.{IsMade, Represents}
 use Rattle.ob_flat.specs.Words.{IsTable, blocks_of, moved}
 use Rattle.ob_flat.proofs.Runs.{pass_more, pass_after, pass_wider}
 use Rattle.ob_flat.proofs.Tables.{reads, fits_sized, written_flat, flat_lasts, made_lasts, represents_lasts}

@@ -1,8 +1,7 @@
-use Rattle.std.proofs.Common.{◌≡◌, ◌<◌, ◌≤◌, ℕ, List, [], Option, Some, Ok, Err, inl, inr, length, slice_index_or, sym, ◌∙◌, ap, arith}
+use Rattle.std.proofs.Common.{◌<◌, ◌≤◌, ℕ, [], Some, Ok, Err, inl, inr, length, slice_index_or, sym, ◌∙◌, ap, arith}
 use Rattle.std.proofs.lemmas.Bool.{cases_lt}
 use Rattle.std.proofs.lemmas.List.{get_or_default, get_or-map, length-map}
 use Rattle.std.proofs.lemmas.List.Sorted.{searched}
-use Rattle.ob_row.specs.Rows.{Row}
 use Rattle.ob_mutate.specs.Batches.{rows_of}
 use Rattle.ob_mutate.proofs.Sought.{rising, put_found, put_behind, put_absent, place_inside}
 use Rattle.ob_mutate.proofs.putting.row_for.Goals as goal

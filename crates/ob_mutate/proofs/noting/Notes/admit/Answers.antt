@@ -1,4 +1,4 @@
-use Rattle.std.proofs.Common.{◌≡◌, ◌++◌, ◌∙◌, ℕ, Bool, List, length, take, drop, sym, ap, subst}
+use Rattle.std.proofs.Common.{◌≡◌, ◌++◌, ◌∙◌, length, take, drop, sym, ap, subst}
 use Rattle.std.proofs.lemmas.List.{take_at}
 use Rattle.ob_order.specs.Orders.{KnowsKeys, field_at, keys_after}
 use Rattle.ob_mutate.specs.Batches.{NotesState}

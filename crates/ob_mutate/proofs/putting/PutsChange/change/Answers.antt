@@ -1,4 +1,4 @@
-use Rattle.std.proofs.Common.{ℕ, List, [], Some, Option, refl, sym, ap, subst, ◌∙◌, slice_index_or}
+use Rattle.std.proofs.Common.{Some, Option, refl, sym, subst}
 use Rattle.ob_row.specs.Rows.{Row}
 use Rattle.ob_row.specs.Spelling.{Begins, FitsColumns}
 use Rattle.ob_row.proofs.SpellingLemmas.{row_bytes-begin}
