@@ -9,20 +9,20 @@ use Rattle.ob_row.specs.Slots.{Slots}
 use Rattle.ob_mutate.specs.declared.inserting.Inserted.TheVariants.{Done, Duplicate, Full}
 use Rattle.ob_mutate.specs.Batches.{frees_from, insert_answers, inserted_all, put_into, taken_all}
 
-keyed : Columns
+abbrev keyed : Columns
 keyed = record { table = []; name = []; kind = Kinds.Int; key = true } ∷ []
 
-free : Columns
+abbrev free : Columns
 free = record { table = []; name = []; kind = Kinds.Int; key = false } ∷ []
 
-one : ℕ → Row
+abbrev one : ℕ → Row
 one x = Int (pos x) ∷ []
 
-some : Slots
+abbrev some : Slots
 some = None ∷ Some (one 1) ∷ None ∷ []
 
 -- a key that was refused as Full is no Duplicate
-many : List Row
+abbrev many : List Row
 many = one 2 ∷ one 1 ∷ one 2 ∷ one 3 ∷ one 4 ∷ one 4 ∷ one 3 ∷ []
 
 keyed_answers : insert_answers keyed many some ≡ Done ∷ Duplicate ∷ Duplicate ∷ Done ∷ Full ∷ Full ∷ Duplicate ∷ []

@@ -1,12 +1,11 @@
 -- What a row of a batch is answered, by what was noted of the slots.
-use Rattle.std.proofs.Common.{◌≡◌, ◌≢◌, ◌<◌, ◌≤◌, ◌+◌, ◌-◌, ◌==◌, ◌||◌, ◌++◌, ℕ, zero, suc, min, Bool, true, false, if◌then◌else◌, List, [], ◌∷◌, Option, Some, None, IfSome, length, take, drop, length-append, refl, sym, ◌∙◌, ap, subst, arith}
+use Rattle.std.proofs.Common.{◌≡◌, ◌≢◌, ◌<◌, ◌≤◌, ◌+◌, ◌-◌, ◌==◌, ◌||◌, ℕ, zero, suc, min, Bool, true, false, if◌then◌else◌, List, [], ◌∷◌, Option, Some, None, IfSome, length, take, drop, length-append, refl, sym, ◌∙◌, ap, subst, arith}
 use Rattle.std.specs.Prelude.{slice_get, bytes_eq}
 use Rattle.std.specs.List.{All, list_any}
 use Rattle.std.specs.Option.{option_map_or}
 use Rattle.std.proofs.lemmas.Bool.Decides.{nat_tests}
 use Rattle.ob_base.specs.Schemas.{Columns, key_place, kind_width, width}
 use Rattle.ob_order.specs.Orders.{KnowsKeys, admitted, keys_after, has_key as holds_key}
-use Rattle.ob_order.specs.declared.admitting.Admitted.{Admitted}
 use Rattle.ob_order.specs.declared.admitting.Admitted.TheVariants as Admits
 use Rattle.ob_row.specs.declared.cell.Cell.{Cell}
 use Rattle.ob_row.specs.Rows.{Row, agree_at, has_key, options_eq}
@@ -18,7 +17,7 @@ use Rattle.ob_flat.specs.Slots.{FitsSlot}
 use Rattle.ob_mutate.specs.declared.inserting.Inserted.{Inserted}
 use Rattle.ob_mutate.specs.declared.inserting.Inserted.TheVariants.{Done, Duplicate, Full}
 use Rattle.ob_mutate.specs.Inserting.{insert_answer, slots_after}
-use Rattle.ob_mutate.specs.Batches.{AreKeys, Foresees, KnowsSlots, NotesState, cell_field, inserted_as, inserted_one, taken_after}
+use Rattle.ob_mutate.specs.Batches.{Foresees, KnowsSlots, NotesState, cell_field, inserted_as, inserted_one, taken_after}
 use Rattle.ob_mutate.proofs.Filled.{count_frees, done_spare}
 
 eq_is : (a b : ℕ) → a ≡ b → (a == b) ≡ true

@@ -1,6 +1,5 @@
 -- What is noted once all slots were seen.
-use Rattle.std.proofs.Common.{◌≡◌, ◌<◌, ◌≤◌, ◌+◌, ◌-◌, ◌==◌, ◌||◌, ◌++◌, ◌∙◌, ℕ, zero, suc, min, Bool, true, false, nat_lt, if◌then◌else◌, List, [], ◌∷◌, Option, Some, None, IfSome, length, take, replicate, slice_index_or, length-append, append_assoc, refl, sym, ap, subst, arith}
-use Rattle.std.specs.Prelude.{bytes_eq}
+use Rattle.std.proofs.Common.{◌≡◌, ◌<◌, ◌≤◌, ◌+◌, ◌-◌, ◌||◌, ◌++◌, ◌∙◌, ℕ, min, Bool, true, false, nat_lt, if◌then◌else◌, List, [], ◌∷◌, Option, Some, None, IfSome, length, take, replicate, slice_index_or, length-append, append_assoc, refl, sym, ap, subst, arith}
 use Rattle.std.specs.List.{All, list_any}
 use Rattle.std.proofs.lemmas.Bool.Decides.{nat_tests}
 use Rattle.std.proofs.lemmas.List.{append-nil, get_or-replicate, length-replicate, length-take, take_all, take_at}
@@ -14,7 +13,7 @@ use Rattle.ob_row.specs.Slots.{Slots, rows}
 use Rattle.ob_row.specs.Spelling.{FitsColumns, kind_at}
 use Rattle.ob_flat.specs.Slots.{FitsSlot}
 use Rattle.ob_mutate.specs.declared.noting.Noting.{Noting}
-use Rattle.ob_mutate.specs.Batches.{AreKeys, AreListed, AreRows, Foresees, KnowsSlots, NotesState, cell_field, frees_from, inserted_all, noted_slot, put_into, rows_of, start_notes, taken_all, told_key}
+use Rattle.ob_mutate.specs.Batches.{AreListed, AreRows, Foresees, KnowsSlots, NotesState, cell_field, frees_from, inserted_all, noted_slot, put_into, rows_of, start_notes, taken_all, told_key}
 use Rattle.ob_mutate.proofs.Filled.{count_frees, filled}
 use Rattle.ob_mutate.proofs.Foreseen.{all_tail, field_long, fields_agree}
 use Rattle.ob_mutate.proofs.Noted.{rows_marked}

@@ -1,5 +1,5 @@
 -- Rows that are inserted one after the other.
-use Rattle.std.specs.Prelude.{◌≡◌, ◌<◌, ◌≤◌, ◌+◌, ◌^◌, ◌++◌, ⊤, ℕ, Bool, true, false, ◌&&◌, nat_lt, min, ◌==◌, List, [], ◌∷◌, length, take, map, replicate, slice_index_or, slice_get, Option, Some, None, IfSome, Result, Ok, Err, if◌then◌else◌}
+use Rattle.std.specs.Prelude.{◌≡◌, ◌<◌, ◌≤◌, ◌+◌, ◌^◌, ◌++◌, ⊤, ℕ, Bool, true, false, nat_lt, min, ◌==◌, List, [], ◌∷◌, length, take, map, replicate, slice_index_or, slice_get, Option, Some, None, IfSome, Result, Ok, Err, if◌then◌else◌}
 use Rattle.std.specs.List.{All, list_any}
 use Rattle.std.specs.Option.{option_map_or}
 use Rattle.ob_base.specs.Schemas.{Columns, key_place, kind_width, width}
@@ -7,7 +7,6 @@ use Rattle.ob_order.specs.Orders.{OrderState, Lists, KnowsKeys, noted, has_key a
 use Rattle.ob_order.specs.declared.admitting.Admitted.{Admitted}
 use Rattle.ob_order.specs.declared.admitting.Admitted.TheVariants as Admits
 use Rattle.ob_vault.specs.Rows.{row_at, Wide}
-use Rattle.ob_row.specs.declared.cell.Cell.{Cell}
 use Rattle.ob_row.specs.Rows.{Row, agree_at}
 use Rattle.ob_row.specs.Slots.{Slots, rows}
 use Rattle.ob_row.specs.Spelling.{Begins, FitsColumns, cell_bytes, kind_at}

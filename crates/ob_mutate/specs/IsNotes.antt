@@ -1,5 +1,5 @@
 -- What is true of the fields of notes.
-use Rattle.std.specs.Prelude.{◌≡◌, ◌≤◌, ◌<◌, ◌^◌, vec_len, vec_capacity}
+use Rattle.std.specs.Prelude.{◌≤◌, ◌<◌, ◌^◌, vec_capacity}
 use Rattle.ob_mutate.specs.declared.noting.Notes.TheInside.{Inside}
 
 -- there is room for a row in each free slot, and as many fit
