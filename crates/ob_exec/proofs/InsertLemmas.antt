@@ -4,6 +4,7 @@ use Rattle.std.specs.Option.{option_map, option_map_or, option_or}
 use Rattle.ob_base.specs.declared.config.Public.{Public}
 use Rattle.ob_base.specs.declared.refusal.Refusal.{Refusal}
 use Rattle.ob_base.specs.declared.refusal.Refusal.TheVariants as R
+use Rattle.ob_base.specs.declared.schema.Shape.TheVariants.{Flat}
 use Rattle.ob_base.specs.declared.schema.Heading.{Heading}
 use Rattle.ob_base.specs.Accesses.{discard_at}
 use Rattle.ob_base.specs.Schemas.{Columns, key_place}
@@ -22,7 +23,7 @@ use Rattle.ob_names.specs.Names.{columns_at}
 use Rattle.ob_mean.specs.Refusals.{early_refusal, limits_of}
 use Rattle.ob_mean.specs.Step.{new_row, insert_refusal, answered, followed}
 use Rattle.ob_mean.specs.Settle.{settle, settled}
-use Rattle.ob_mean.proofs.VerdictLemmas.{heading-stored, stored-database, refused_late}
+use Rattle.ob_mean.proofs.VerdictLemmas.{flat_refusal, heading-stored, stored-database, refused_late}
 use Rattle.ob_mean.specs.Verdict.{Held, in_slots, Tables, is_late, refusal, verdict}
 use Rattle.ob_verdict.specs.declared.outcome.Outcome.TheVariants.{Inserted}
 use Rattle.ob_exec.specs.Running.{HasNoRows, inserted_as}
@@ -51,10 +52,10 @@ settle_plain false false name row tables = refl
 
 insert_meant : (p : Public) (m : ℕ) (tables : Tables) (name : List ℕ) (columns : Option (List (List ℕ))) (values : List Literal) (x : Stored Held) (row : Row) (answer : InsertedAs)
     → early_refusal (is_late m) (limits_of p) (headings tables) (InsertStmt name columns values) ≡ None → stored_at name tables ≡ Some x → length x.held.slots ≡ x.heading.capacity
-    → row ≡ new_row x.heading.schema columns values → answer ≡ insert_answer x.heading.schema row x.held.slots
+    → x.heading.shape ≡ Flat → row ≡ new_row x.heading.schema columns values → answer ≡ insert_answer x.heading.schema row x.held.slots
     → (inserted_as answer ≡ outcome_of (InsertStmt name columns values) (verdict p m tables (InsertStmt name columns values)))
     × (settle p m tables (InsertStmt name columns values) ≡ changed_at name (in_slots (λ slots. slots_after answer row slots)) tables)
-insert_meant p m tables name columns values x row answer early found size row_is is =
+insert_meant p m tables name columns values x row answer early found size flat row_is is =
     let stmt = InsertStmt name columns values in
     let a = has_key (key_place x.heading.schema) row (rows x.held.slots) in
     let b = length (rows x.held.slots) == length x.held.slots in
@@ -63,6 +64,7 @@ insert_meant p m tables name columns values x row answer early found size row_is
     ∙ ap (λ (o : Option (Stored (List Row))). option_or (option_map_or (λ (t : Stored (List Row)). insert_refusal t (new_row t.heading.schema columns values)) o None) None)
     (stored-database name tables ∙ ap (option_map (λ (u : Stored Held). record { heading = u.heading; held = rows u.held.slots })) found)
     ∙ ap (λ (r : Row). option_or (insert_refusal (record { heading = x.heading; held = rows x.held.slots }) r) None) (sym row_is)
+    ∙ ap (λ (o : Option Refusal). option_or o None) (flat_refusal (record { heading = x.heading; held = rows x.held.slots }) row flat)
     ∙ ap (λ (n : ℕ). option_or (if a then Some R.Duplicate else (if length (rows x.held.slots) == n then Some R.Full else None)) None) (sym size) in
     let schema_is : columns_at name (headings tables) ≡ x.heading.schema =
     ap (λ (o : Option Heading). option_map_or (λ (h : Heading). h.schema) o []) (heading-stored name tables ∙ ap (option_map (λ (u : Stored Held). u.heading)) found) in (
@@ -85,9 +87,9 @@ silent_inserted Duplicate = tt
 silent_inserted Full = tt
 
 pub insert_alters : (p : Public) (m : ℕ) (name : List ℕ) (columns : Option (List (List ℕ))) (values : List Literal) (heading : Heading) (cs : Columns) (row : Row)
-    → cs ≡ heading.schema → row ≡ new_row heading.schema columns values
+    → heading.shape ≡ Flat → cs ≡ heading.schema → row ≡ new_row heading.schema columns values
     → Alters p m (InsertStmt name columns values) name heading insert_part inserted_as (insert_answer cs row) (λ slots. slots_after (insert_answer cs row slots) row slots)
-insert_alters p m name columns values heading cs row schema_is row_is = record {
+insert_alters p m name columns values heading cs row flat schema_is row_is = record {
   script = λ end. refl;
   more = λ t g blocks size. count_part t blocks ++ (copy_part t g blocks ++ discard_at t);
   makes = λ t g blocks size. refl;
@@ -98,6 +100,6 @@ insert_alters p m name columns values heading cs row schema_is row_is = record {
   meant = λ tables x early found size is.
       let cs_is : cs ≡ x.heading.schema = schema_is ∙ ap (λ (h : Heading). h.schema) (sym is) in
       let meant = insert_meant p m tables name columns values x row (insert_answer cs row x.held.slots) early found size
-      (row_is ∙ ap (λ (h : Heading). new_row h.schema columns values) (sym is)) (ap (λ (d : Columns). insert_answer d row x.held.slots) cs_is) in
+      (ap (λ (h : Heading). h.shape) is ∙ flat) (row_is ∙ ap (λ (h : Heading). new_row h.schema columns values) (sym is)) (ap (λ (d : Columns). insert_answer d row x.held.slots) cs_is) in
       record { to = λ slots. slots_after (insert_answer cs row x.held.slots) row slots; answered = meant.0; settles = meant.1; here = refl };
 }

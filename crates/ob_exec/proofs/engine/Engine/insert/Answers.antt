@@ -70,7 +70,7 @@ returns-in-Ok-result g c =
     let schema_is : flat.schema ≡ table.heading.schema = ap (λ (f : Flat). f.schema) found.is in
     let row_is : row ≡ new_row table.heading.schema c.args.columns.now c.args.values.now =
     c.as_slice.ensures.value ∙ c.in-Ok.ensures.value ∙ ap (λ (cs : Columns). new_row cs c.args.columns.now c.args.values.now) schema_is in
-    let alters = insert_alters old.public (count_of old s) c.args.table.now c.args.columns.now c.args.values.now table.heading flat.schema row schema_is row_is in
+    let alters = insert_alters old.public (count_of old s) c.args.table.now c.args.columns.now c.args.values.now table.heading flat.schema row (c.requires.agrees.tables.each c.table_at-i.result.0 table found.here.get).heading.stored.flat schema_is row_is in
     record {
       serves =
           mutated g.R.Revisions.state (Insert c.args.table.now c.args.columns.now c.args.values.now) c.args.table.now insert_part inserted_as (insert_answer flat.schema row)
@@ -92,7 +92,7 @@ returns g c =
     let schema_is : flat.schema ≡ table.heading.schema = ap (λ (f : Flat). f.schema) found.is in
     let row_is : row ≡ new_row table.heading.schema c.args.columns.now c.args.values.now =
     c.as_slice.ensures.value ∙ c.in-Ok.ensures.value ∙ ap (λ (cs : Columns). new_row cs c.args.columns.now c.args.values.now) schema_is in
-    let alters = insert_alters old.public (count_of old s) c.args.table.now c.args.columns.now c.args.values.now table.heading flat.schema row schema_is row_is in
+    let alters = insert_alters old.public (count_of old s) c.args.table.now c.args.columns.now c.args.values.now table.heading flat.schema row (c.requires.agrees.tables.each c.table_at-i.result.0 table found.here.get).heading.stored.flat schema_is row_is in
     record {
       serves =
           unmutated g.R.Revisions.state (Insert c.args.table.now c.args.columns.now c.args.values.now) c.args.table.now insert_part inserted_as (insert_answer flat.schema row)
