@@ -148,7 +148,7 @@ module _ (p : Public) (m : ℕ) (table : List ℕ) (columns : List NewColumn) (c
         stored = new_stored;
         name = short;
         columns = columns_within table columns names size.sizes;
-        keys = let few = keys_few table columns in let one = at_most_one (sum_by (λ (c : NewColumn). c.keys) columns) free.keys in omega (arith, few, one);
+        keys = let few = keys_few table columns in let one = at_most_one (sum_by (λ (c : NewColumn). c.keys) columns) (neither (nat_lt 1 (sum_by (λ (c : NewColumn). c.keys) columns)) _ free.keys).0 in omega (arith, few, one);
       }
 
   pub new_name : (i : ℕ) (t : Table) → IsAt table i t p.tables → ⊥

@@ -5,7 +5,7 @@ use Rattle.std.proofs.lemmas.Bool.{cases_lt, le-leb, lt-leb}
 use Rattle.std.specs.Prelude.{◌<◌, nat_le, ⊤, ◌∷◌}
 use Rattle.ob_base.specs.declared.config.Public.{Public}
 use Rattle.ob_base.specs.declared.refusal.Refusal.{Refusal}
-use Rattle.ob_base.specs.declared.refusal.Refusal.TheVariants.{NoTable, NameTaken, NoColumn, WrongType, ValueRange, Limit, KeyRule, JoinKey}
+use Rattle.ob_base.specs.declared.refusal.Refusal.TheVariants.{NoTable, NameTaken, NoColumn, WrongType, ValueRange, Limit, KeyRule, JoinKey, NeedsKey}
 use Rattle.ob_exec.specs.declared.stop.RunStop.{RunStop}
 use Rattle.ob_base.specs.declared.schema.Heading.{Heading}
 use Rattle.ob_base.specs.declared.seen.Seen.{Seen}
@@ -127,7 +127,7 @@ early_is p m stmt r is = holding_early (early_conditions (is_late m) (limits_of 
       plain_early NoColumn (λ n. refl) refl,
       (
         plain_early WrongType (λ n. refl) refl,
-        (plain_early ValueRange (λ n. refl) refl, (plain_early Limit (λ n. refl) refl, (plain_early KeyRule (λ n. refl) refl, (plain_early JoinKey (λ n. refl) refl, tt)))),
+        (plain_early ValueRange (λ n. refl) refl, (plain_early Limit (λ n. refl) refl, (plain_early KeyRule (λ n. refl) refl, (plain_early JoinKey (λ n. refl) refl, (plain_early NeedsKey (λ n. refl) refl, tt))))),
       ),
     ),
   ),

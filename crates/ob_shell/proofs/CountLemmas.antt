@@ -1,5 +1,6 @@
 -- Counts that rise, one after the other.
 use Rattle.std.proofs.Common.{◌≡◌, ℕ, ◌≤◌, Bool, true, false, Err, inl, inr, arith, subst}
+use Rattle.ob_gen.specs.declared.tally.Tally.{Tally}
 use Rattle.ob_base.specs.Counts.{Rises}
 use Rattle.ob_base.specs.declared.refusal.Stop.{Stop}
 use Rattle.ob_base.specs.declared.refusal.Stop.TheVariants.{Tampered, SourceFault, SinkFault, NoMemory, InputLimit}
@@ -36,12 +37,12 @@ pub lost_since : {quiet : Bool} {k0 k1 k2 : ℕ} → k1 ≡ k0 → OutFailed qui
 lost_since {k2 = k2} same lost = (lost.0, subst (λ (n : ℕ). Rises n k2) same lost.1)
 
 -- a stop, and what was traced after it
-pub traced_cause : {A : Type 0} (told stop : RunStop) (out0 out1 trace0 trace1 : ℕ) → told ≡ stop → StopCause {T = A} (faults_of 0 out0 0) (faults_of 0 out1 0) (Err (session_stop told)) → trace0 ≤ trace1
-    → StopCause {T = A} (faults_of 0 out0 trace0) (faults_of 0 out1 trace1) (Err (session_stop stop))
-traced_cause {A} told stop out0 out1 trace0 trace1 is cause later =
-    subst (λ (s : RunStop). StopCause {T = A} (faults_of 0 out0 trace0) (faults_of 0 out1 trace1) (Err (session_stop s))) is (go told cause)
+pub traced_cause : (told stop : RunStop) (out0 out1 trace0 trace1 : ℕ) → told ≡ stop → StopCause {T = Tally} (faults_of 0 out0 0) (faults_of 0 out1 0) (Err (session_stop told)) → trace0 ≤ trace1
+    → StopCause {T = Tally} (faults_of 0 out0 trace0) (faults_of 0 out1 trace1) (Err (session_stop stop))
+traced_cause told stop out0 out1 trace0 trace1 is cause later =
+    subst (λ (s : RunStop). StopCause {T = Tally} (faults_of 0 out0 trace0) (faults_of 0 out1 trace1) (Err (session_stop s))) is (go told cause)
   where
-    go : (s : RunStop) → StopCause {T = A} (faults_of 0 out0 0) (faults_of 0 out1 0) (Err (session_stop s)) → StopCause {T = A} (faults_of 0 out0 trace0) (faults_of 0 out1 trace1) (Err (session_stop s))
+    go : (s : RunStop) → StopCause {T = Tally} (faults_of 0 out0 0) (faults_of 0 out1 0) (Err (session_stop s)) → StopCause {T = Tally} (faults_of 0 out0 trace0) (faults_of 0 out1 trace1) (Err (session_stop s))
     go (Runs.Tampered region place) cause = (cause.0, cause.1, later)
     go Runs.NoMemory cause = (cause.0, cause.1, later)
     go Runs.SinkFault cause = (cause.0, elim cause.1 [ inl rose ↦ inl rose | inr none ↦ absurd (omega (arith, none)) ])

@@ -19,13 +19,16 @@ use Rattle.ob_headline.specs.Tracing.{traced}
 use Rattle.ob_headline.specs.Words.{printed, Took}
 use Rattle.ob_print.proofs.CutLemmas.{Outputs-after, Outputs-whole}
 use Rattle.ob_print.specs.Cuts.{Outputs}
-use Rattle.ob_shell.proofs.CountLemmas.{lost_since}
+use Rattle.ob_shell.proofs.CountLemmas.{lost_since, same_cause}
 use Rattle.ob_shell.proofs.FeedLemmas.{Fed-none, Fed-then}
 use Rattle.ob_shell.proofs.StepLemmas.{Steps-none, Steps-append, printed-append, printed-nil, PartlyAt-more, last_stopped, stops_by}
 use Rattle.ob_shell.proofs.TallyLemmas.{tally_after-nil, tally_more}
 use Rattle.ob_shell.proofs.TraceLemmas.{traced_then, traced_cut, traced_whole}
 use Rattle.ob_shell.specs.Feeding.{Fetch, Fed}
-use Rattle.ob_shell.specs.Running.{SoFar, SessionRan, EndsBy, LastPart, OutFailed, StoppedBy, halted_of, stop_of, IsQuiet, is_quiet}
+use Rattle.ob_shell.specs.Running.{SoFar, SessionRan, EndsBy, LastPart, OutFailed, StoppedBy, halted_of, session_halted, stop_of, IsQuiet, is_quiet}
+use Rattle.ob_headline.specs.Words.{Faults}
+use Rattle.ob_shell.proofs.StopLemmas.{stopped_as}
+use Rattle.ob_shell.specs.Serving.{ServesByte, ServesTexts}
 use Rattle.ob_shell.specs.Steps.{Machine, Steps, AnswersAll, IsUndone, StopsIn}
 use Rattle.ob_shell.specs.Traces.{TracedAll, Traced, Traces}
 use Rattle.ob_shell.specs.declared.session.TextHalted.{TextHalted}
@@ -258,9 +261,22 @@ ran_cut {f0 = f0} {f2 = f2} {gave = gave} {w1 = w1} {p = p} {m1 = m1} run so non
       ends = run_ends f2 true _ _ _ run;
     }
 
-pub ready_after : {T P : Type 0} (result : Result T TextHalted) → OnOk result P → OnOk (halted_of result) P
-ready_after (Ok x) ready = ready
-ready_after (Err halted) none = tt
+-- a text's stop is one of the byte that ended it
+pub byte_stopped : {R T : Type 0} (state : R → RevState) (texts : List (List ℕ)) (Done : Tally → (m0 m1 : Machine R) → Type 0) (DoneByte : T → (m0 m1 : Machine R) → Type 0) (Reached : Type 0)
+    (written0 written1 : Option (List ℕ)) (old new : Faults) (m0 m1 : Machine R) (halted : TextHalted)
+    → ServesTexts state texts Done written0 written1 old new m0 m1 (Err halted)
+    → ServesByte state texts DoneByte Reached written0 written1 old new m0 m1 (Err (session_halted halted))
+byte_stopped {R} {T} state texts Done DoneByte Reached written0 written1 old new m0 m1 halted told = record {
+  ready = tt;
+  done = tt;
+  stopped = stopped_as (λ run. StopsIn state written0 written1 (OutFailed halted.quiet old.out new.out) texts run m0 m1) ⊥ Reached halted.stop told.stopped;
+  cause = same_cause Tally T (session_stop halted.stop) old new told.cause;
+  quiet = told.quiet;
+}
+
+pub ready_after : {T : Type 0} (P : Type 0) (result : Result T TextHalted) → OnOk result P → OnOk (halted_of result) P
+ready_after P (Ok x) ready = ready
+ready_after P (Err halted) none = tt
 
 pub ran_finish : {R : Type 0} {state : R → RevState} {k0 k1 k2 : ℕ} {on : Bool} {t0 t2 : Option (List ℕ)} {f0 f2 : Fetch} {gave : ℕ} {l0 l2 w0 w1 w2 : Option (List ℕ)} {p : List ℕ} {r : Tally} {m0 m1 m2 : Machine R} (result : Result Tally TextHalted)
     → SoFar state f0 f2 l0 l2 w0 w1 p r m0 m1 → f2.unread ≡ [] → IsAtEnd l2 → f2.taken < f2.limit → length p < text_max

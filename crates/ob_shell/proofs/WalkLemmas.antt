@@ -219,7 +219,7 @@ module _ {R : Type 0} (state : R → RevState) where
   wants : (m0 m2 : Machine R) (stmt : Stmt) (run : RunStop) → Does state m0 m2 stmt (Err run) → Ran (Err (session_stop run)) ≡ Ran (Err NoMemory)
       → WantsMemory (public_of m0.engine) stmt (seen_of m2.engine)
   wants m0 m2 stmt run does is =
-      let lacks = does.memory (only_memory run (cc is)) in
+      let lacks = does.memory (ap (λ (r : RunStop). Err r) (only_memory run (cc is))) in
       let p = public_of m0.engine in
       let done : lacks.done ≡ script p (skeleton stmt) (seen_of m2.engine) = append_cancel_left m0.store.asked _ _ (sym lacks.asked ∙ does.ran.asked) in
       record {
@@ -263,7 +263,7 @@ module _ {R : Type 0} (state : R → RevState) where
         last = record { skeleton = sk; seen = here } ∷ [];
         one_last = omega arith;
         each_seen = refl;
-        lawful = (refl, cut.does.lawful, ((λ is. wants m0 m2 cut.stmt run cut.does is), (λ is off. inl (cut.does.emits (only_sink run (cc is))))), refl);
+        lawful = (refl, cut.does.lawful, ((λ is. wants m0 m2 cut.stmt run cut.does is), (λ is off. inl (cut.does.emits (ap (λ (r : RunStop). Err r) (only_sink run (cc is)))))), refl);
         passed = sym (append-nil m0.store.asked);
         asked = cut.does.ran.asked ∙ ap (λ xs. m0.store.asked ++ xs) (sym (append-nil (script (public_of m0.engine) sk here)));
         keys = cut.does.ran.keys;

@@ -29,8 +29,8 @@ returns-in-Err-InputLimit-clause-ran g c =
 pub returns-in-Ok-None-clause-ran : goal.returns-in-Ok-None-clause-ran
 returns-in-Ok-None-clause-ran g c =
     let fetch = rw c.in-Ok-None.field-0-is at c.in-Ok-None.ensures in
-    let done = c.finish.ensures in
-    rw c.session_result.ensures (ran_finish c.finish.result (so_far_end c.bytes.invariant.so_far fetch.fed) fetch.cause.1 fetch.cause.2 fetch.cause.3
+    let done = c.finish-served.ensures in
+    rw c.session_result.ensures (ran_finish c.finish-served.result (so_far_end c.bytes.invariant.so_far fetch.fed) fetch.cause.1 fetch.cause.2 fetch.cause.3
     c.bytes.invariant.short done.serves.done done.serves.stopped c.bytes.invariant.sink _ c.bytes.invariant.traced done.traced done.traced_stop)
 
 pub returns-in-Err-clause-ran : goal.returns-in-Err-clause-ran
@@ -60,10 +60,10 @@ bytes-preserved g c =
     }
 
 pub returns-in-Ok-None-clause-traced : goal.returns-in-Ok-None-clause-traced
-returns-in-Ok-None-clause-traced g c = rw c.session_result.ensures (traced_by c.finish.result c.bytes.invariant.traced c.finish.ensures.traced c.finish.ensures.traced_stop)
+returns-in-Ok-None-clause-traced g c = rw c.session_result.ensures (traced_by c.finish-served.result c.bytes.invariant.traced c.finish-served.ensures.traced c.finish-served.ensures.traced_stop)
 
 pub returns-in-Err-clause-traced : goal.returns-in-Err-clause-traced
 returns-in-Err-clause-traced g c = traced_cut c.bytes.invariant.traced c.in-Err.ensures.traced_stop
 
 pub returns-in-Ok-None-clause-ready : goal.returns-in-Ok-None-clause-ready
-returns-in-Ok-None-clause-ready g c = rw c.session_result.ensures (ready_after c.finish.result c.finish.ensures.serves.ready)
+returns-in-Ok-None-clause-ready g c = rw c.session_result.ensures (ready_after _ c.finish-served.result c.finish-served.ensures.serves.ready)

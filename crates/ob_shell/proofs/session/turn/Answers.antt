@@ -1,7 +1,7 @@
-use Rattle.std.proofs.Common.{refl, rules}
+use Rattle.std.proofs.Common.{◌∙◌, ℕ, List, [], ◌∷◌, ap, refl, rules, sym}
 use Rattle.ob_exec.specs.declared.stop.RunStop.TheVariants.{NoMemory}
 use Rattle.ob_shell.proofs.StepLemmas.{answers_none, stops_before}
-use Rattle.ob_shell.proofs.RunLemmas.{at_limit_is_over}
+use Rattle.ob_shell.proofs.RunLemmas.{at_limit_is_over, byte_stopped}
 use Rattle.ob_shell.proofs.TraceLemmas.{traced_none, traced_whole}
 use Rattle.ob_shell.proofs.session.turn.Goals as goal
 
@@ -45,3 +45,8 @@ returns-in-Err-NoMemory-clause-serves g c =
       cause = search rules;
       quiet = search rules;
     }
+
+pub returns-in-Err-clause-serves : goal.returns-in-Err-clause-serves
+returns-in-Err-clause-serves g c =
+    let pushed = rw c.in-Ok-Whole.field-0-is at c.in-Ok-Whole.ensures in
+    rw c.from.ensures (rw (pushed.0 ∙ ap (λ (text : List ℕ). text ∷ []) (sym c.text.ensures)) (byte_stopped _ _ _ _ _ _ _ _ _ _ _ c.in-Err.halted c.in-Err.ensures.serves))

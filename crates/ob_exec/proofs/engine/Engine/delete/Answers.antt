@@ -15,11 +15,21 @@ use Rattle.ob_verdict.specs.declared.outcome.Outcome.{Outcome}
 use Rattle.ob_verdict.specs.declared.outcome.Outcome.TheVariants.{Deleted}
 use Rattle.ob_exec.proofs.ChangeLemmas.{delete_alters}
 use Rattle.ob_exec.proofs.MutateLemmas.{mutated, unmutated}
+use Rattle.ob_exec.proofs.RunLemmas.{rests_refl}
 use Rattle.ob_exec.proofs.SilentLemmas.{serves_as, unasked}
 use Rattle.ob_exec.proofs.engine.Engine.delete.Goals as goal
 
 pub move_table-requires : goal.move_table-requires
 move_table-requires g c = slice_get_within c.args.self.now.public.tables c.table_at-i.result.0 c.table_at-i.ensures.table c.table_at-i.ensures.here.get
+
+pub returns-in_default : goal.returns-in_default
+returns-in_default g c = record {
+  serves =
+      serves_as g.R.Revisions.state (Delete c.args.table.now c.args.cond.now) c.args.self.now (g.S.BlockStore.state c.args.store.now) (g.S.BlockStore.state c.args.store.now) _ _ _ _
+      c.cut.ensures.answer c.cut.ensures.seen
+      (unasked g.R.Revisions.state (Delete c.args.table.now c.args.cond.now) c.args.self.now (g.S.BlockStore.state c.args.store.now) c.requires.agrees c.requires.allowed refl
+      (g.S.BlockStore.state c.args.store.now) c.args.self.now.public.tables (rests_refl (g.S.BlockStore.state c.args.store.now)));
+}
 
 pub returns-then-is_err : goal.returns-then-is_err
 returns-then-is_err g c = record {
