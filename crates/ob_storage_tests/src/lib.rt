@@ -1,4 +1,5 @@
-//! Tests of what lies below the passes: stores, stores that others change, the room, and rows as bytes.
+//! Tests of what lies below the passes: stores, stores that others change, the room, rows as bytes, tags and
+//! sealed blocks.
 #![tactic(auto)]
 
 #[cfg(test)]
@@ -10,4 +11,8 @@ mod rooms;
 #[cfg(test)]
 mod rows;
 #[cfg(test)]
+mod sealing;
+#[cfg(test)]
 mod stores;
+#[cfg(test)]
+mod tags;
