@@ -62,34 +62,3 @@ fn buffered_rows(public: &Public) -> u64
     let pack = u32::from(public.pack);
     u64::from((public.buffer - 2 * pack) / pack) * u64::from(pack)
 }
-
-#[cfg(test)]
-mod tests {
-    use super::{padded_plan, plan};
-    use ob_base::{Items, Plan, Public};
-
-    #[test]
-    fn chooses_by_sizes(rt: HostRuntime) {
-        let mut public = Public {
-            tables: Items::new(rt.alloc()),
-            next_region: 1,
-            buffer: 4,
-            depth: 5,
-            pack: 1,
-            plan: None,
-            pad: None,
-            stash: 32,
-            keep: false,
-        };
-        assert_eq!(rt; plan(10, 8, false, &public), Plan::Small);
-        assert_eq!(rt; plan(10, 9, true, &public), Plan::Continuous);
-        assert_eq!(rt; plan(10, 9, false, &public), Plan::Large);
-        assert_eq!(rt; plan(100, 9, false, &public), Plan::Hash);
-        public.plan = Some(Plan::Large);
-        assert_eq!(rt; plan(10, 8, false, &public), Plan::Large);
-        assert_eq!(rt; padded_plan(8, &public), Plan::Large);
-        public.plan = None;
-        assert_eq!(rt; padded_plan(8, &public), Plan::Small);
-        assert_eq!(rt; padded_plan(9, &public), Plan::Large);
-    }
-}

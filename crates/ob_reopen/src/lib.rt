@@ -14,8 +14,6 @@ mod parsing;
 mod reading;
 mod spelling;
 mod tables;
-#[cfg(test)]
-mod tests;
 mod writing;
 
 pub use catalogue::list_tables;

@@ -47,20 +47,3 @@ impl Draws {
         u64::from(low) + (u64::from(high) << 32)
     }
 }
-
-#[cfg(test)]
-mod tests {
-    use super::*;
-
-    // RFC 8439, A.1, the first two vectors: the key stream of a key of zeros.
-    #[test]
-    fn draws_of_zeros(rt: HostRuntime) {
-        let mut draws = Draws::new([0; 32]);
-        assert_eq!(rt; draws.next(), 0x903d_f1a0_ade0_b876);
-        assert_eq!(rt; draws.next(), 0x28bd_8653_e56a_5d40);
-        for _ in 2..8 {
-            draws.next();
-        }
-        assert_eq!(rt; draws.next(), 0x7a38_5155_bee7_079f);
-    }
-}
