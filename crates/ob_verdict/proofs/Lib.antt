@@ -3,6 +3,10 @@ pub mod ResultLemmas
 pub mod JoinLemmas
 pub mod TurnLemmas
 pub mod HashLemmas
+pub mod AskProof
+pub mod AccessProof
+pub mod GotProof
+pub mod AccessedProof
 pub mod SettleProof
 pub mod SeenProof
 pub mod LawfulProof

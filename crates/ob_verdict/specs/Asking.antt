@@ -1,5 +1,5 @@
--- What statements ask of an index, as operations on a map of keys, and what they mean for its bag of rows.
-use Rattle.std.specs.Prelude.{◌≡◌, ◌<◌, ℕ, ℤ, false, not, List, [], ◌∷◌, ◌++◌, map, filter, Some, ⊤}
+-- What is meant for the rows of an index, as a bag, by what a statement asks of it.
+use Rattle.std.specs.Prelude.{◌≡◌, ◌<◌, ◌≤◌, ◌⊎◌, ℕ, ℤ, true, false, not, List, [], ◌∷◌, ◌++◌, map, filter, Some, ⊤}
 use Rattle.ob_base.specs.declared.comparison.ComparisonOperator.TheVariants.{Equal}
 use Rattle.ob_row.specs.Bags.{Same}
 use Rattle.ob_row.specs.declared.cell.Cell.{Cell}
@@ -8,23 +8,10 @@ use Rattle.ob_row.specs.declared.pred.Operand.TheVariants.{Cell as CellOperand}
 use Rattle.ob_row.specs.Condition.{Condition, Compare}
 use Rattle.ob_row.specs.Rows.{Row, cell_at, has_key, keys_repeat, with_cells}
 use Rattle.ob_row.specs.Truth.{is_true, updated}
-use Rattle.ob_tree.specs.Access.{Op, Get, Insert, Change, Remove, Went}
-use Rattle.ob_tree.specs.Keys.{key_number, row_key}
-use Rattle.ob_tree.specs.States.{State, Stands, held}
-
--- the row of a key; a row put in; cells of the row of a key set; the row of a key taken out
-pub data Ask : Type 0 where
-  Find : ℤ → Ask
-  Put : Row → Ask
-  Set : ℤ → List (ℕ × Cell) → Ask
-  Take : ℤ → Ask
-
--- its operation among n keys
-abbrev pub op_of : (n : ℕ) → Ask → Op Row
-op_of n (Find z) = Get (key_number n z)
-op_of n (Put row) = Insert row
-op_of n (Set z sets) = Change (key_number n z) (with_cells sets)
-op_of n (Take z) = Remove (key_number n z)
+use Rattle.ob_path.specs.Access.{Went}
+use Rattle.ob_row.specs.Keys.{row_key}
+use Rattle.ob_mean.specs.Keyed.{Ask, Find, Put, Set, Take}
+use Rattle.ob_path.specs.States.{Stands, held}
 
 -- the column at this place is this number
 abbrev pub key_is : (place : ℕ) → ℤ → Condition
@@ -44,8 +31,12 @@ FitsIndex n place (Put row) all = (row_key n place row < n) × (has_key (Some pl
 FitsIndex n place (Set z sets) all = (row : Row) → cell_at (with_cells sets row) place ≡ cell_at row place
 FitsIndex n place (Take z) all = ⊤
 
--- an access leaves the bag that the statement leaves, distinct keys, and an index that stands
-pub record Settles (n place height : ℕ) (s : State Row) (ask : Ask) (w : Went Row) : Type 0 where
-  pub bag : Same (held w.state) (stepped place ask (held s))
+-- a row that is not put in: its key is there, or is none of the n keys
+abbrev pub IsNotPut : (n place : ℕ) → Row → List Row → Type 0
+IsNotPut n place row all = (has_key (Some place) row all ≡ true) ⊎ (n ≤ row_key n place row)
+
+-- an access leaves this bag, distinct keys, and an index that stands
+pub record Settles (n place height : ℕ) (w : Went Row) (all : List Row) : Type 0 where
+  pub bag : Same (held w.state) all
   pub keys : keys_repeat (Some place) (held w.state) ≡ false
   pub stands : Stands (row_key n place) height w.state

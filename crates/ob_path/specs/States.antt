@@ -1,7 +1,7 @@
 -- An index as it lies, and the map that it stands for.
 use Rattle.std.specs.Prelude.{◌≡◌, ◌<◌, ◌≤◌, ℕ, ◌+◌, ◌-◌, ◌*◌, ◌/◌, ◌^◌, true, List, ◌++◌, length, take, drop, Option, Some, None, slice_index_or}
-use Rattle.ob_tree.specs.Paths.{is_on_path}
-use Rattle.ob_tree.specs.Rows.{rows, with_key, list_of, first, Single}
+use Rattle.ob_path.specs.Paths.{is_on_path}
+use Rattle.ob_path.specs.Rows.{rows, with_key, list_of, first, Single}
 use Rattle.std.specs.List.{All}
 
 pub record State (R : Type 0) : Type 0 where

@@ -1,9 +1,9 @@
 -- An access among the tables in place, and what its statement means for the tables as bags.
-use Rattle.std.proofs.Common.{◌≡◌, ℕ, ℤ, Bool, true, false, cond, ◌==◌, List, [], ◌∷◌, ◌++◌, map, take, drop, Option, Some, None, refl, sym, ◌∙◌, ap, subst}
+use Rattle.std.proofs.Common.{◌≡◌, ℕ, ℤ, Bool, true, false, cond, ◌==◌, List, [], ◌∷◌, ◌++◌, map, length, take, drop, Option, Some, None, refl, sym, ◌∙◌, ap, subst, arith}
 use Rattle.std.specs.Prelude.{bytes_eq, filter, not, unwrap_or, if◌then◌else◌}
 use Rattle.std.specs.Option.{option_and_then, option_map, option_map_or}
 use Rattle.std.proofs.lemmas.Bool.{eqb-true}
-use Rattle.std.proofs.lemmas.List.{take_at, drop_at, take-append-drop}
+use Rattle.std.proofs.lemmas.List.{length-append, take-append-drop}
 use Rattle.std.proofs.lemmas.Slice.Eq.{bytes_eq-Decides}
 use Rattle.ob_base.specs.declared.schema.Heading.{Heading}
 use Rattle.ob_base.specs.declared.comparison.ComparisonOperator.TheVariants.{Equal, NotEqual, Less, LessOrEqual, Greater, GreaterOrEqual}
@@ -27,18 +27,20 @@ use Rattle.ob_names.specs.Names.{columns_at, place_of}
 use Rattle.ob_mean.specs.Conditions.{where_at}
 use Rattle.ob_mean.specs.Refusals.{is_key, key_asked}
 use Rattle.ob_mean.specs.Step.{Database, accepted_next, new_row, set_cells}
-use Rattle.ob_mean.specs.Verdict.{Held, Tables, database}
-use Rattle.ob_mean.proofs.VerdictLemmas.{headings-database, heading-stored}
-use Rattle.ob_tree.specs.Access.{Went}
-use Rattle.ob_tree.specs.States.{State, Stands, held}
+use Rattle.ob_mean.specs.Verdict.{Held, Tables, database, IsIndexed, access_settled, held_as, index_of, keyed_table, tree_size, went}
+use Rattle.ob_mean.proofs.VerdictLemmas.{headings-database, heading-stored, index_again}
+use Rattle.ob_path.specs.Access.{Went}
+use Rattle.ob_path.specs.States.{State, Stands, held}
 use Rattle.ob_tree.proofs.RowLemmas.{rows-append}
+use Rattle.ob_tree.proofs.AccessLemmas.{stash_kept}
 use Rattle.ob_tree.proofs.RunLemmas.{leaves_kept}
 use Rattle.ob_mean.specs.SameMeaning.{SameTables}
-use Rattle.ob_indexed.specs.Asking.{Ask, Find, Put, Set, Take, FitsIndex, Settles, key_is, op_of, stepped}
+use Rattle.ob_mean.specs.Keyed.{Ask, Find, Put, Set, Take, op_of, ask_of, one_table}
+use Rattle.ob_verdict.specs.Asking.{FitsIndex, IsNotPut, Settles, key_is, stepped}
 use Rattle.ob_base.specs.Indexes.{height_of}
-use Rattle.ob_indexed.specs.Indexed.{IsIndexed, access_settled, ask_of, held_as, index_of, key_at, key_in, keyed_table, one_table, tree_size, went}
-use Rattle.ob_indexed.specs.Settling.{AccessSettles}
-use Rattle.ob_indexed.proofs.AskProof.{settles}
+use Rattle.ob_row.specs.Keys.{key_at, key_in}
+use Rattle.ob_verdict.specs.Settling.{AccessSettles}
+use Rattle.ob_verdict.proofs.AskProof.{settles, settles_refused}
 
 same_tables : (db : Database) → SameTables db db
 same_tables [] = refl
@@ -122,7 +124,7 @@ asked_of cs cond of ask is = go (key_asked cs cond) refl is
     go (Some z) e is = record { number = z; asked = e; is = cc is }
 
 -- ---- the tables that the statement means
-next_of : (ts : Tables) (stmt : Stmt) (t : Stored Held) (ask : Ask) → keyed_table ts stmt ≡ Some t → ask_of t.heading stmt ≡ Some ask
+pub next_of : (ts : Tables) (stmt : Stmt) (t : Stored Held) (ask : Ask) → keyed_table ts stmt ≡ Some t → ask_of t.heading stmt ≡ Some ask
     → (stored_at t.heading.name ts ≡ Some t) × (changed_at t.heading.name (stepped (key_at t.heading.schema) ask) (database ts) ≡ accepted_next (database ts) stmt)
 next_of ts stmt t ask found asked = by stmt found asked
   where
@@ -181,8 +183,8 @@ next_of ts stmt t ask found asked = by stmt found asked
 all_rows : (n : ℕ) (slots : Slots) → rows (take n slots) ++ rows (drop n slots) ≡ rows slots
 all_rows n slots = sym (rows-append (take n slots) (drop n slots)) ∙ ap rows (take-append-drop n slots)
 
-module _ (draw : ℕ) (ts : Tables) (stmt : Stmt) (t : Stored Held) (ask : Ask) (w : Went Row) (found : keyed_table ts stmt ≡ Some t) (asked : ask_of t.heading stmt ≡ Some ask) (indexed : IsIndexed t)
-    (fits : FitsIndex t.heading.capacity (key_at t.heading.schema) ask (rows t.held.slots)) (goes : went draw t ask ≡ Some w) where
+-- what an access leaves of the tables, where it leaves of the index the rows that f makes of those that there were
+module _ (draw : ℕ) (ts : Tables) (t : Stored Held) (ask : Ask) (w : Went Row) (indexed : IsIndexed t) (goes : went draw t ask ≡ Some w) where
   abbrev n : ℕ
   n = t.heading.capacity
 
@@ -198,31 +200,51 @@ module _ (draw : ℕ) (ts : Tables) (stmt : Stmt) (t : Stored Held) (ask : Ask) 
   held_is : held s ≡ rows t.held.slots
   held_is = all_rows (tree_size t.heading) t.held.slots
 
-  went_well : Settles n i h s ask w
-  went_well = settles n i h draw s ask w indexed.leaves indexed.stands (subst (λ (all : List Row). FitsIndex n i ask all) (sym held_is) fits) goes
-
   after_is : rows (held_as w.state).slots ≡ held w.state
   after_is = rows-append w.state.tree w.state.stash
 
-  -- it is read back as it was put
-  back : index_of t.heading (held_as w.state) ≡ w.state
-  back =
-      let tree = take_at w.state.tree w.state.stash (tree_size t.heading) went_well.stands.size in
-      let stash = drop_at w.state.tree w.state.stash (tree_size t.heading) went_well.stands.size in
-      λ j. record { tree = tree j; stash = stash j; leaves = w.state.leaves }
+  -- a stash keeps its size
+  as_many : length w.state.tree ≡ tree_size t.heading → length (w.state.tree ++ w.state.stash) ≡ length t.held.slots
+  as_many size =
+      let kept = stash_kept (key_in t.heading) h s (op_of n ask) draw w goes in
+      let after = length-append w.state.tree w.state.stash in
+      let before = length-append (take (tree_size t.heading) t.held.slots) (drop (tree_size t.heading) t.held.slots) in
+      let whole = ap (λ (xs : Slots). length xs) (take-append-drop (tree_size t.heading) t.held.slots) in
+      let tree = indexed.stands.size in
+      omega (arith, size, kept, after, before, whole, tree)
 
-  pub access_settles : AccessSettles ts stmt t w
-  access_settles =
-      let next = next_of ts stmt t ask found asked in
-      let bag : Same (rows (held_as w.state).slots) (stepped i ask (rows t.held.slots)) =
-      subst (λ (all : List Row). Same all (stepped i ask (rows t.held.slots))) (sym after_is)
-      (subst (λ (all : List Row). Same (held w.state) (stepped i ask all)) held_is went_well.bag) in
-      record {
-        bags = subst (λ (db : Database). SameTables (database (access_settled ts t w)) db) next.1 (changed_found t.heading.name (λ _. held_as w.state) (stepped i ask) ts t next.0 bag);
-        keys = ap (λ (o : Option ℕ). keys_repeat o (rows (held_as w.state).slots)) indexed.primary ∙ ap (keys_repeat (Some i)) after_is ∙ went_well.keys;
-        indexed = record {
-          primary = indexed.primary;
-          leaves = leaves_kept (key_in t.heading) h s (op_of n ask) draw w goes ∙ indexed.leaves;
-          stands = subst (λ (x : State Row). Stands (key_in t.heading) h x) (sym back) went_well.stands;
-        };
-      }
+  module _ (f : List Row → List Row) (db : Database) (found : stored_at t.heading.name ts ≡ Some t) (next : changed_at t.heading.name f (database ts) ≡ db)
+      (well : Settles n i h w (f (held s))) where
+    back : index_of t.heading (held_as w.state) ≡ w.state
+    back = index_again t.heading w.state well.stands.size
+
+    leaves_tables : AccessSettles ts t w db
+    leaves_tables =
+        let bag : Same (rows (held_as w.state).slots) (f (rows t.held.slots)) =
+        subst (λ (all : List Row). Same all (f (rows t.held.slots))) (sym after_is)
+        (subst (λ (all : List Row). Same (held w.state) (f all)) held_is well.bag) in
+        record {
+          bags = subst (λ (db : Database). SameTables (database (access_settled ts t w)) db) next (changed_found t.heading.name (λ _. held_as w.state) f ts t found bag);
+          slots = as_many well.stands.size;
+          keys = ap (λ (o : Option ℕ). keys_repeat o (rows (held_as w.state).slots)) indexed.primary ∙ ap (keys_repeat (Some i)) after_is ∙ well.keys;
+          indexed = record {
+            primary = indexed.primary;
+            leaves = leaves_kept (key_in t.heading) h s (op_of n ask) draw w goes ∙ indexed.leaves;
+            stands = subst (λ (x : State Row). Stands (key_in t.heading) h x) (sym back) well.stands;
+          };
+        }
+
+pub access_settles : (draw : ℕ) (ts : Tables) (stmt : Stmt) (t : Stored Held) (ask : Ask) (w : Went Row) → keyed_table ts stmt ≡ Some t → ask_of t.heading stmt ≡ Some ask → IsIndexed t
+    → FitsIndex t.heading.capacity (key_at t.heading.schema) ask (rows t.held.slots) → went draw t ask ≡ Some w → AccessSettles ts t w (accepted_next (database ts) stmt)
+access_settles draw ts stmt t ask w found asked indexed fits goes =
+    let next = next_of ts stmt t ask found asked in
+    leaves_tables draw ts t ask w indexed goes (stepped (key_at t.heading.schema) ask) (accepted_next (database ts) stmt) next.0 next.1
+    (settles t.heading.capacity (key_at t.heading.schema) (height_of t.heading.capacity) draw (index_of t.heading t.held) ask w indexed.leaves indexed.stands
+    (subst (λ (all : List Row). FitsIndex t.heading.capacity (key_at t.heading.schema) ask all) (sym (all_rows (tree_size t.heading) t.held.slots)) fits) goes)
+
+pub access_refused : (draw : ℕ) (ts : Tables) (stmt : Stmt) (t : Stored Held) (row : Row) (w : Went Row) → keyed_table ts stmt ≡ Some t → ask_of t.heading stmt ≡ Some (Put row) → IsIndexed t
+    → IsNotPut t.heading.capacity (key_at t.heading.schema) row (rows t.held.slots) → went draw t (Put row) ≡ Some w → AccessSettles ts t w (database ts)
+access_refused draw ts stmt t row w found asked indexed off goes =
+    leaves_tables draw ts t (Put row) w indexed goes (λ all. all) (database ts) (next_of ts stmt t (Put row) found asked).0 (kept_at t.heading.name (database ts))
+    (settles_refused t.heading.capacity (key_at t.heading.schema) (height_of t.heading.capacity) draw (index_of t.heading t.held) row w indexed.leaves indexed.stands
+    (subst (λ (all : List Row). IsNotPut t.heading.capacity (key_at t.heading.schema) row all) (sym (all_rows (tree_size t.heading) t.held.slots)) off) goes)

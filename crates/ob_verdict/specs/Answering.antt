@@ -2,9 +2,10 @@
 use Rattle.std.specs.Prelude.{◌≡◌, ◌↔◌, ◌<◌, ◌≤◌, ℕ, true, false, List, [], ◌∷◌, filter, count_by, Some}
 use Rattle.ob_row.specs.Rows.{Row, has_key}
 use Rattle.ob_row.specs.Truth.{is_true}
-use Rattle.ob_tree.specs.Access.{Got, Absent, Found, Done, Duplicate, OutOfRange}
-use Rattle.ob_tree.specs.Keys.{row_key}
-use Rattle.ob_indexed.specs.Asking.{Ask, Find, Put, Set, Take, key_is}
+use Rattle.ob_path.specs.Access.{Got, Absent, Found, Done, Duplicate, OutOfRange}
+use Rattle.ob_row.specs.Keys.{row_key}
+use Rattle.ob_mean.specs.Keyed.{Ask, Find, Put, Set, Take}
+use Rattle.ob_verdict.specs.Asking.{key_is}
 
 -- the rows of an answer, and how many were changed
 abbrev pub found : Got Row → List Row

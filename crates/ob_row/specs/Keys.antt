@@ -1,6 +1,8 @@
 -- The keys of rows: the numbers from 0 to n - 1.
-use Rattle.std.specs.Prelude.{◌<◌, ℕ, ℤ, pos, negsuc, nat_lt, List, Option, Some, None, if◌then◌else◌}
+use Rattle.std.specs.Prelude.{◌<◌, ℕ, ℤ, pos, negsuc, nat_lt, List, Option, Some, None, unwrap_or, if◌then◌else◌}
 use Rattle.std.specs.List.{All}
+use Rattle.ob_base.specs.declared.schema.Heading.{Heading}
+use Rattle.ob_base.specs.Schemas.{Columns, key_place}
 use Rattle.ob_row.specs.declared.cell.Cell.{Cell}
 use Rattle.ob_row.specs.declared.cell.Cell.TheVariants.{Int, Text}
 use Rattle.ob_row.specs.Rows.{Row, cell_at}
@@ -18,6 +20,13 @@ cell_number n (Some (Text t)) = n
 -- the key of a row, whose cell stands at this place
 abbrev pub row_key : (n place : ℕ) → Row → ℕ
 row_key n place row = cell_number n (cell_at row place)
+
+-- the place of a primary key, and the key of a row of an index
+abbrev pub key_at : Columns → ℕ
+key_at cs = unwrap_or (key_place cs) 0
+
+abbrev pub key_in : Heading → Row → ℕ
+key_in h row = row_key h.capacity (key_at h.schema) row
 
 -- each row has one of the n keys
 abbrev pub InRange : (n place : ℕ) → List Row → Type 0

@@ -14,18 +14,19 @@ use Rattle.ob_row.specs.declared.cell.Cell.TheVariants.{Int, Text}
 use Rattle.ob_row.specs.Rows.{Row, cell_at, with_cells}
 use Rattle.ob_row.specs.Truth.{is_true, updated}
 use Rattle.ob_row.proofs.BagLemmas.{Same-refl, Same-trans}
-use Rattle.ob_tree.specs.Access.{Change, Went, access, after, applied}
-use Rattle.ob_tree.specs.Rows.{with_key, but, list_of, first, Single}
+use Rattle.ob_path.specs.Access.{Op, Change, Insert, Went, access, after, applied}
+use Rattle.ob_path.specs.Rows.{with_key, but, list_of, first, Single}
 use Rattle.ob_tree.specs.Runs.{KeepsKey}
-use Rattle.ob_tree.specs.States.{State, Stands, held, map_of}
+use Rattle.ob_path.specs.States.{State, Stands, held, map_of}
 use Rattle.ob_tree.proofs.AccessLemmas.{held_after_some}
 use Rattle.ob_tree.proofs.KeyLemmas.{Same-parts}
 use Rattle.ob_tree.proofs.RunLemmas.{access_answers}
 use Rattle.ob_tree.proofs.PlaceLemmas.{stands_for, stands_too}
 use Rattle.ob_tree.proofs.Moves.{Same-is, Same-cons, Same-middle, Same-swapped}
-use Rattle.ob_tree.specs.Keys.{cell_number, key_number, row_key, InRange}
-use Rattle.ob_indexed.specs.Asking.{Ask, Find, Put, Set, Take, FitsIndex, Settles, key_is, op_of, stepped}
-use Rattle.ob_tree.proofs.KeyNumbers.{single_apart, none_numbered}
+use Rattle.ob_row.specs.Keys.{cell_number, key_number, row_key, InRange}
+use Rattle.ob_mean.specs.Keyed.{Ask, Find, Put, Set, Take, op_of}
+use Rattle.ob_verdict.specs.Asking.{FitsIndex, IsNotPut, Settles, key_is, stepped}
+use Rattle.ob_tree.proofs.KeyNumbers.{single_apart, none_agree, none_numbered}
 
 false_is : (b : Bool) → (b ≡ true → ⊥) → b ≡ false
 false_is true off = absurd (off refl)
@@ -175,17 +176,47 @@ module _ (n i : ℕ) where
   keeps (Set z sets) all fits = λ row. ap (cell_number n) (fits row)
   keeps (Take z) all fits = tt
 
-  pub settles : (h draw : ℕ) (s : State Row) (ask : Ask) (w : Went Row) → length s.leaves ≡ n → Stands key h s → FitsIndex n i ask (held s)
-      → access key h s (op_of n ask) draw ≡ Some w → Settles n i h s ask w
-  settles h draw s ask w size stands fits is =
+  -- a row that is not put in leaves those that there are
+  refused_keeps : (row : Row) (all : List Row) → Single key all → IsNotPut n i row all → Same (applied key n (op_of n (Put row)) all) all
+  refused_keeps row all single (inr past) = let no = le-ltb (key row) n past in rw no (Same-refl all)
+  refused_keeps row all single (inl there) = go (cases_lt (key row) n)
+    where
+      -- the one that is there stays
+      stays : (xs : List Row) → length xs ≤ 1 → (length xs ≡ 0 → ⊥) → list_of (after (Insert row) (first xs)) ≡ xs
+      stays [] few some = absurd (some refl)
+      stays (x ∷ []) few some = refl
+      stays (x ∷ y ∷ xs) few some = absurd (omega (arith, few))
+
+      some : length (with_key key (key row) all) ≡ 0 → ⊥
+      some none = let off = none_agree n i row all none in cc (there, off)
+
+      go : (key row < n) ⊎ (n ≤ key row) → Same (cond (nat_lt (key row) n) (list_of (after (Insert row) (first (with_key key (key row) all))) ++ but key (key row) all) all) all
+      go (inl inside) =
+          let yes = lt-ltb (key row) n inside in
+          rw yes (subst (λ w. Same (w ++ but key (key row) all) all) (sym (stays (with_key key (key row) all) (single (key row)) some)) (Same-parts key (key row) all))
+      go (inr past) = let no = le-ltb (key row) n past in rw no (Same-refl all)
+
+  -- an access that leaves these rows
+  leaves : (h draw : ℕ) (s : State Row) (op : Op Row) (w : Went Row) (xs : List Row) → length s.leaves ≡ n → Stands key h s → KeepsKey key op
+      → Same (applied key n op (held s)) xs → access key h s op draw ≡ Some w → Settles n i h w xs
+  leaves h draw s op w xs size stands keeping same is =
       let rep = stands_for key h s stands in
-      let went = access_answers key h s (map_of key s) (op_of n ask) draw w rep (keeps ask (held s) fits) is in
+      let went = access_answers key h s (map_of key s) op draw w rep keeping is in
       let after = stands_too key h w.state _ went.1 in
-      let bag = held_after_some key h s (map_of key s) (op_of n ask) draw rep w is in
-      let range : InRange n i (held s) = subst (λ (m : ℕ). All (λ (row : Row). row_key n i row < m) (held s)) size stands.range in
+      let bag = held_after_some key h s (map_of key s) op draw rep w is in
       record {
-        bag = Same-trans (held w.state) (applied key (length s.leaves) (op_of n ask) (held s)) (stepped i ask (held s)) bag
-            (subst (λ (m : ℕ). Same (applied key m (op_of n ask) (held s)) (stepped i ask (held s))) (sym size) (applied_steps ask (held s) stands.single range fits));
+        bag = Same-trans (held w.state) (applied key (length s.leaves) op (held s)) xs bag
+            (subst (λ (m : ℕ). Same (applied key m op (held s)) xs) (sym size) same);
         keys = single_apart n i (held w.state) after.single;
         stands = after;
       }
+
+  pub settles : (h draw : ℕ) (s : State Row) (ask : Ask) (w : Went Row) → length s.leaves ≡ n → Stands key h s → FitsIndex n i ask (held s)
+      → access key h s (op_of n ask) draw ≡ Some w → Settles n i h w (stepped i ask (held s))
+  settles h draw s ask w size stands fits is =
+      let range : InRange n i (held s) = subst (λ (m : ℕ). All (λ (row : Row). row_key n i row < m) (held s)) size stands.range in
+      leaves h draw s (op_of n ask) w (stepped i ask (held s)) size stands (keeps ask (held s) fits) (applied_steps ask (held s) stands.single range fits) is
+
+  pub settles_refused : (h draw : ℕ) (s : State Row) (row : Row) (w : Went Row) → length s.leaves ≡ n → Stands key h s → IsNotPut n i row (held s)
+      → access key h s (op_of n (Put row)) draw ≡ Some w → Settles n i h w (held s)
+  settles_refused h draw s row w size stands off is = leaves h draw s (op_of n (Put row)) w (held s) size stands tt (refused_keeps row (held s) stands.single off) is

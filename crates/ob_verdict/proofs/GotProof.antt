@@ -7,15 +7,16 @@ use Rattle.std.proofs.lemmas.List.Elements.{All-head, All-tail}
 use Rattle.std.proofs.lemmas.List.Sums.{length-filter}
 use Rattle.ob_row.specs.Rows.{Row, has_key, with_cells}
 use Rattle.ob_row.specs.Truth.{is_true}
-use Rattle.ob_tree.specs.Access.{key_of, Get, Insert, Change, Remove, Got, OutOfRange, Went, access, answer, got}
-use Rattle.ob_tree.specs.Rows.{with_key, first, Single}
-use Rattle.ob_tree.specs.States.{State, Stands, held, map_of}
+use Rattle.ob_path.specs.Access.{key_of, Get, Insert, Change, Remove, Got, OutOfRange, Went, access, answer, got}
+use Rattle.ob_path.specs.Rows.{with_key, first, Single}
+use Rattle.ob_path.specs.States.{State, Stands, held, map_of}
 use Rattle.ob_tree.proofs.AccessLemmas.{went_is, got_is}
 use Rattle.ob_tree.proofs.PlaceLemmas.{stands_for}
-use Rattle.ob_tree.specs.Keys.{key_number, row_key, InRange}
-use Rattle.ob_indexed.specs.Asking.{Ask, Find, Put, Set, Take, key_is, op_of}
-use Rattle.ob_indexed.specs.Answering.{Answered, PutAnswer, changed, found}
-use Rattle.ob_indexed.proofs.AskProof.{true_is}
+use Rattle.ob_row.specs.Keys.{key_number, row_key, InRange}
+use Rattle.ob_mean.specs.Keyed.{Ask, Find, Put, Set, Take, op_of}
+use Rattle.ob_verdict.specs.Asking.{key_is}
+use Rattle.ob_verdict.specs.Answering.{Answered, PutAnswer, changed, found}
+use Rattle.ob_verdict.proofs.AskProof.{true_is}
 use Rattle.ob_tree.proofs.KeyNumbers.{none_agree, none_numbered}
 
 module _ (n i : ℕ) where

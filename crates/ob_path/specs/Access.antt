@@ -2,9 +2,9 @@
 use Rattle.std.specs.Prelude.{ℕ, ◌%◌, ◌^◌, Bool, nat_le, List, [], ◌∷◌, ◌++◌, length, Option, Some, None, slice_index_or, slice_set, if◌then◌else◌}
 use Rattle.std.specs.List.{flat_map}
 use Rattle.std.specs.Prelude.{nat_lt}
-use Rattle.ob_tree.specs.Paths.{path_up, is_on_path}
-use Rattle.ob_tree.specs.Rows.{rows, slots_of, list_of, first, with_key, but, by_key, firsts, but_firsts}
-use Rattle.ob_tree.specs.States.{State, bucket, with_bucket}
+use Rattle.ob_path.specs.Paths.{path_up, is_on_path}
+use Rattle.ob_path.specs.Rows.{rows, slots_of, list_of, first, with_key, but, by_key, firsts, but_firsts}
+use Rattle.ob_path.specs.States.{State, bucket, with_bucket}
 
 pub data Op (R : Type 0) : Type 0 where
   Get : ℕ → Op R
