@@ -329,7 +329,8 @@ module _ {R : Type 0} (state : R → RevState) (e : Engine R) (s : StoreState) (
                           went.lasts.keys (went.lasts.apart.number u.region 0 away)
                           (λ shape live. keeps u.region shape tells_last live);
                     });
-                in_place = named_in tables held.in_place;
+                in_place = λ stash. named_in e.public.stash stash tables
+                    (held_flat e.public.pack e.public.tables tables (world_of state e s) held.held (tables_flat agrees.tables)) held.in_place;
               }
 
           pub closes_all : (mark : Mark) → mark ≡ mark_of made → ClosesEngine state (Ok mark) e s t
