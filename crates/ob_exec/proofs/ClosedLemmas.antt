@@ -48,7 +48,8 @@ use Rattle.ob_exec.specs.Telling.{Represents}
 use Rattle.ob_exec.proofs.ByNameLemmas.{named_in, named_kept, table_kept_as}
 use Rattle.ob_exec.proofs.ListedLemmas.{may_list, table_block}
 use Rattle.ob_exec.proofs.RunLemmas.{next_after}
-use Rattle.ob_exec.proofs.TableLemmas.{region_below, table_kept}
+use Rattle.ob_exec.proofs.HeldLemmas.{held_flat}
+use Rattle.ob_exec.proofs.TableLemmas.{region_below, table_kept, tables_flat}
 
 -- ---- the old closing
 makes_drop : (o : Option ℕ) → makes (drop_script o) ≡ 0
