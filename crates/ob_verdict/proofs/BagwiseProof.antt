@@ -152,10 +152,11 @@ bagwise p s db (Ok stmt ∷ texts) bs like place same rooms few =
     let here : s.asked < 2 ^ 63 = omega (arith, few, asked_more s (Ok stmt ∷ texts) bs rooms) in
     let next = subst (SameTables (database (settle_or_cut broken s stmt))) (next_like s.public p like db broken stmt) (next_meant s db stmt here place rooms.0 same broken) in
     let rest = bagwise p (after broken s stmt) (bag_next broken p db stmt) texts (rest_of bs)
-    (record { limits = like.limits; plan = like.plan; pad = like.pad }) (next_in_place s db stmt here place rooms.0 same broken) next rooms.1 few_behind in
-    (subst (λ (xs : List Answer). AnswersMeant p xs (bag_answers p db (Ok stmt ∷ texts) bs)) (sym (answers_room s stmt texts bs rooms.0))
-     (meant_like s.public p like db broken stmt (answer_or_cut broken s stmt) (answer_meant s db stmt here place rooms.0 same broken), rest.0),
-     subst (λ (t : Session). SameTables (database t.tables) (bags_after p db (Ok stmt ∷ texts) bs)) (sym behind) rest.1)
+    (record { limits = like.limits; plan = like.plan; pad = like.pad }) (next_in_place s db stmt here place rooms.0 same broken) next rooms.1 few_behind in (
+      subst (λ (xs : List Answer). AnswersMeant p xs (bag_answers p db (Ok stmt ∷ texts) bs)) (sym (answers_room s stmt texts bs rooms.0))
+          (meant_like s.public p like db broken stmt (answer_or_cut broken s stmt) (answer_meant s db stmt here place rooms.0 same broken), rest.0),
+      subst (λ (t : Session). SameTables (database t.tables) (bags_after p db (Ok stmt ∷ texts) bs)) (sym behind) rest.1,
+    )
 bagwise p s db (Err at ∷ texts) bs like place same rooms few =
     let rest = bagwise p s db texts (rest_of bs) like place same rooms few in
     ((inl refl, rest.0), rest.1)

@@ -286,6 +286,7 @@ module _ (d : Draws) (p : Public) (m : ℕ) (ts : Tables) (stmt : Stmt) (e : hea
 pub seen_is_lawful : SeenIsLawful
 seen_is_lawful d p m ts stmt some e h = go (early_refusal (is_late m) (limits_of p) (headings ts) stmt) refl
   where
+    same : early_refusal (is_late m) (limits_of p) (headings ts) stmt ≡ early_refusal (is_late m) (limits_of p) (headings_of p.tables) stmt
     same = early-public p m ts stmt e
 
     served : (o : Option Accessed) → accessed ts stmt ≡ o → early_refusal (is_late m) (limits_of p) (headings ts) stmt ≡ None → Lawful p m stmt (seen_served d o p ts stmt)
@@ -374,7 +375,7 @@ walk_of_table : (p : Public) (k : ℕ) (plan : Plan) (end : End) (o : Option (St
 walk_of_table p k plan end None flat = omega arith
 walk_of_table p k plan end (Some t) flat =
     subst (λ (shape : Shape). length (by_shape shape (flat_script (unpadded p) (ended Whole) t) (index_part_of (unpadded p) None t))
-        ≤ length (by_shape shape (flat_script (unpadded p) (seen_of (Some k) (Some plan) None end) t) (index_part_of (unpadded p) None t)) - (0 + 1))
+    ≤ length (by_shape shape (flat_script (unpadded p) (seen_of (Some k) (Some plan) None end) t) (index_part_of (unpadded p) None t)) - (0 + 1))
     (sym (flat t refl)) (walk_of_flat p k plan end t)
 
 walk_of_join : (p : Public) (k : ℕ) (plan : Plan) (end : End) (l r : Option (Stored ℕ))
@@ -403,7 +404,7 @@ count_of_table : (p : Public) (o : Option (Stored ℕ)) → length (option_map_o
 count_of_table p None = omega arith
 count_of_table p (Some t) =
     elim t.heading.shape as (λ (shape : Shape). length (by_shape shape (flat_script (unpadded p) (ended Whole) t) (index_part_of (unpadded p) None t))
-        ≤ length (by_shape shape (flat_script p (ended Whole) t) (index_part_of p None t)))
+    ≤ length (by_shape shape (flat_script p (ended Whole) t) (index_part_of p None t)))
     [ Flat ↦ counted_before p p.next_region (extent_of t) [] | Indexed ↦ omega arith ]
 
 count_of_join : (p : Public) (l r : Option (Stored ℕ))
@@ -539,7 +540,7 @@ done_within true n = (omega arith, omega arith)
 done_within false n = (omega arith, omega arith)
 
 -- nothing that isn't there is held
-held_none : {A : Type 0} (b : Bool) → held_if {A} b None ≡ None
+held_none : {A : Type 0} (b : Bool) → held_if {A = A} b None ≡ None
 held_none true = refl
 held_none false = refl
 
@@ -617,9 +618,9 @@ cut_is_lawful d p m ts stmt failed n some e h early long = served (accessed ts s
         let held = done_of failed n in
         subst (Lawful p m stmt)
         (λ i. record {
-          k = held_none (nat_le (count_end p (skeleton stmt)) held) (~ i);
-          plan = held_none (nat_le (count_end p (skeleton stmt)) held) (~ i);
-          then = held_none (nat_le (walk_end p (skeleton stmt) (seen_access d a)) held) (~ i);
+          k = sym (held_none (nat_le (count_end p (skeleton stmt)) held)) i;
+          plan = sym (held_none (nat_le (count_end p (skeleton stmt)) held)) i;
+          then = sym (held_none (nat_le (walk_end p (skeleton stmt) (seen_access d a)) held)) i;
           leaf = held_if (nat_lt p.stash n) (Some (leaf_gone d a));
           end = Cut n;
         })

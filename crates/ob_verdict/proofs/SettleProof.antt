@@ -6,7 +6,9 @@ use Rattle.std.specs.Option.{is_none, option_map_or, option_or}
 use Rattle.ob_base.specs.declared.config.Public.{Public}
 use Rattle.ob_base.specs.declared.schema.Heading.{Heading}
 use Rattle.ob_base.specs.declared.refusal.Refusal.{Refusal}
-use Rattle.ob_base.specs.Stored.{headings, stored_at, changed_at, dropped_at}
+use Rattle.ob_base.specs.Indexes.{slots_in_place}
+use Rattle.ob_base.specs.Schemas.{columns_of}
+use Rattle.ob_base.specs.Stored.{Stored, headings, stored_at, changed_at, dropped_at}
 use Rattle.ob_row.specs.Bags.{Same, Inserts}
 use Rattle.ob_row.proofs.BagLemmas.{Same-refl, Same-wholes, Inserts-middle}
 use Rattle.ob_row.specs.Rows.{Row}
@@ -113,7 +115,10 @@ second_none (Some x) b h = cc
 settles-flat : (d : Draws) (p : Public) (ts : Tables) (stmt : Stmt) → AreInPlace p.stash ts → (early_refusal false (limits_of p) (headings (database ts)) stmt ≡ None → accessed ts stmt ≡ None) →
     SameTables (database (followed (option_or (refusal_of false (limits_of p) (database ts) stmt) (last_refusal p ts stmt)) (settled d p ts stmt) ts)) (step_next p (database ts) stmt)
 settles-flat d p ts (Create table columns capacity shape) place unkeyed =
-    followed-same _ _ _ ts (λ _. created-same _ (new_held d p.stash _) ts (rows-empty_slots _))
+    let stmt = Create table columns capacity shape in
+    let h : Heading = record { name = table; schema = columns_of table columns; capacity = capacity; shape = shape } in
+    followed-same (refusal_of false (limits_of p) (database ts) stmt) (settled d p ts stmt) (accepted_next (database ts) stmt) ts
+    (λ _. created-same h (new_held d p.stash h) ts (rows-empty_slots (slots_in_place p.stash h)))
 settles-flat d p ts (Insert table columns values) place unkeyed =
     followed-same _ _ _ ts (λ h.
     subst (λ hs. SameTables (database (settled d p ts (Insert table columns values))) (changed_at table (λ rs. rs ++ new_row (columns_at table hs) columns values ∷ []) (database ts))) (sym (headings-database ts))
@@ -153,7 +158,7 @@ settles-keyed d p ts stmt a w place early is goes =
     refused = ap (λ (o : Option Refusal). option_or o late) (ap (λ (hs : List Heading). early_refusal false (limits_of p) hs stmt) (headings-database ts) ∙ early)
 
     some_followed : (r : Option Refusal) → IsSome r → followed r (accepted_next (database ts) stmt) (database ts) ≡ database ts
-    some_followed None some = absurd some
+    some_followed None some = absurd (cc some)
     some_followed (Some x) some = refl
 
     go : LeavesTables (buffered p.pack p.buffer) ts stmt a.table w → SameTables (database (access_settled ts a.table w)) (step_next p (database ts) stmt)
@@ -177,7 +182,7 @@ settles-on d p m ts stmt soon place room = by_access (accessed_now p m ts stmt) 
   unkeyed_if : accessed_now p m ts stmt ≡ None → early_refusal false (limits_of p) (headings (database ts)) stmt ≡ None → accessed ts stmt ≡ None
   unkeyed_if none early =
       sym (accessed_late p m ts stmt (ap (λ (l : Bool). early_refusal l (limits_of p) (headings ts) stmt) soon
-        ∙ ap (λ (hs : List Heading). early_refusal false (limits_of p) hs stmt) (sym (headings-database ts)) ∙ early)) ∙ none
+      ∙ ap (λ (hs : List Heading). early_refusal false (limits_of p) hs stmt) (sym (headings-database ts)) ∙ early)) ∙ none
 
   by_access : (o : Option Accessed) → accessed_now p m ts stmt ≡ o → option_map_or (λ a. is_none (gone d a)) o false ≡ false
       → SameTables (database (settle_served d o p m ts stmt)) (step_next p (database ts) stmt)
