@@ -74,7 +74,8 @@ pub record Rested (o : Opened) (tables : Tables) : Type 0 where
 
 -- the model's session with these tables
 abbrev pub session_at : Base → Tables → Session
-session_at base tables = record { public = base.public; tables = tables; asked = base.count }
+session_at base tables =
+    record (first_session base.public) { tables = tables; asked = base.count }
 
 -- it holds of the model's session without tables; or of each one with tables that rested in the store
 abbrev pub HoldsFrom : Option Opened → Base → (Session → Type 0) → Type 0

@@ -1,0 +1,77 @@
+-- What statements go on from is flat, and stays so.
+use Rattle.std.specs.Prelude.{is_some, map, slice_get}
+use Rattle.std.proofs.Common.{◌≡◌, ℕ, zero, suc, false, List, [], ◌∷◌, Option, Some, None, refl, sym, ◌∙◌, ap, subst}
+use Rattle.ob_base.specs.Stored.{headings, headings_of}
+use Rattle.ob_base.specs.declared.config.Config.{Config}
+use Rattle.ob_base.specs.declared.config.Public.{Public}
+use Rattle.ob_base.specs.declared.refusal.Refusal.{Refusal}
+use Rattle.ob_base.specs.declared.schema.Heading.{Heading}
+use Rattle.ob_base.specs.declared.schema.Shape.TheVariants.{Flat}
+use Rattle.ob_base.specs.declared.seen.End.{End}
+use Rattle.ob_base.specs.declared.seen.Seen.{Seen}
+use Rattle.ob_base.specs.declared.skeleton.Skeleton.{Skeleton}
+use Rattle.ob_headline.specs.Bases.{public_with}
+use Rattle.ob_mean.proofs.FlatLemmas.{MakesFlat, makes_flat}
+use Rattle.ob_mean.proofs.FlatSessions.{public_stays_flat}
+use Rattle.ob_mean.specs.Flats.{AreFlat}
+use Rattle.ob_mean.specs.Lawful.{HoldsLeaf, Lawful}
+use Rattle.ob_mean.specs.Refusals.{limits_of}
+use Rattle.ob_mean.specs.Replay.{is_access}
+use Rattle.ob_mean.specs.Verdict.{Tables, is_late}
+use Rattle.ob_reopen.specs.Limits.{IsCatalogue}
+use Rattle.ob_reopen.specs.Resting.{AreKept, Rests}
+use Rattle.ob_reopen.specs.declared.closing.Closing.{Closing}
+use Rattle.ob_reopen.specs.declared.listed.Listed.{Listed}
+use Rattle.ob_script.specs.Trace.{next, tables_then}
+use Rattle.ob_seal.specs.KeySet.{KeySet}
+use Rattle.ob_sql.specs.Skeleton.{skeleton}
+use Rattle.ob_sql.specs.declared.stmt.Stmt.{Stmt}
+use Rattle.ob_store.specs.State.{KeptRegion}
+use Rattle.ob_verdict.specs.Outcomes.{refusal_now}
+
+-- each table is flat, by what is public
+abbrev pub IsFlat : Public → Type 0
+IsFlat p = AreFlat (headings_of p.tables)
+
+-- ---- a statement
+-- whatever is seen of it that is lawful, it leaves them so
+pub next_flat : (p : Public) (m : ℕ) (stmt : Stmt) (s : Skeleton) (here : Seen) → s ≡ skeleton stmt → Lawful p m stmt here → IsFlat p → IsFlat (next p s here)
+next_flat p m stmt s here is lawful flat = go (refusal_now p m stmt) refl
+  where
+    go : (o : Option Refusal) → refusal_now p m stmt ≡ o → IsFlat (next p s here)
+    go None early = public_stays_flat p s here (subst MakesFlat (sym is) (makes_flat (is_late m) (limits_of p) (headings_of p.tables) stmt early)) flat
+    go (Some r) early = subst (λ (end : End). AreFlat (headings_of (tables_then p s end))) (sym (lawful.static.1 (ap is_some early))) flat
+
+-- one that accesses no index holds no leaf
+pub no_leaf : (p : Public) (s : Skeleton) (leaf : Option ℕ) (end : End) → is_access p s ≡ false → HoldsLeaf p s leaf end → leaf ≡ None
+no_leaf p s None end none holds = refl
+no_leaf p s (Some leaf) end none holds = let is = holds.0 in absurd (cc (is, none))
+
+-- ---- where a run begins
+pub start_flat : (settings : Option Config) → IsFlat (public_with settings)
+start_flat None = tt
+start_flat (Some config) = tt
+
+-- a closing lists flat tables alone
+each_flat : (closing : Closing) (listed : List Listed) → IsCatalogue closing listed → (i : ℕ) (t : Listed) → slice_get listed i ≡ Some t → t.table.heading.shape ≡ Flat
+each_flat closing listed catalogue i t is = (catalogue.are.each i t is).listed.heading.stored.flat
+
+tables_flat : (listed : List Listed) → ((i : ℕ) (t : Listed) → slice_get listed i ≡ Some t → t.table.heading.shape ≡ Flat) → AreFlat (headings_of (map (λ (t : Listed). t.table) listed))
+tables_flat [] each = tt
+tables_flat (t ∷ ts) each = (each zero t refl, tables_flat ts (λ i u is. each (suc i) u is))
+
+pub catalogue_flat : (closing : Closing) (listed : List Listed) → IsCatalogue closing listed → AreFlat (headings_of (map (λ (t : Listed). t.table) listed))
+catalogue_flat closing listed catalogue = tables_flat listed (each_flat closing listed catalogue)
+
+-- and those that rested are
+kept_flat : (keys : KeySet) (pack : ℕ) (listed : List Listed) (tables : Tables) (kept : ℕ → Option KeptRegion) → ((i : ℕ) (t : Listed) → slice_get listed i ≡ Some t → t.table.heading.shape ≡ Flat)
+    → AreKept keys pack listed tables kept → AreFlat (headings tables)
+kept_flat keys pack [] [] kept each are = tt
+kept_flat keys pack [] (held ∷ tables) kept each are = absurd are
+kept_flat keys pack (t ∷ ts) [] kept each are = absurd are
+kept_flat keys pack (t ∷ ts) (held ∷ tables) kept each are =
+    (ap (λ (h : Heading). h.shape) are.0 ∙ each zero t refl, kept_flat keys pack ts tables kept (λ i u is. each (suc i) u is) are.2)
+
+pub rested_flat : (keys : KeySet) (closing : Closing) (kept : ℕ → Option KeptRegion) (tables : Tables) → Rests keys closing kept tables → AreFlat (headings tables)
+rested_flat keys closing kept tables rests =
+    kept_flat keys closing.pack rests.listed tables kept (each_flat closing rests.listed rests.closing_is.catalogue) rests.held
