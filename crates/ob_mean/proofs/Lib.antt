@@ -4,5 +4,8 @@ pub mod SourceLemmas
 pub mod EarlyLemmas
 pub mod InsertLemmas
 pub mod VerdictLemmas
+pub mod ReplayLemmas
+pub mod FlatLemmas
+pub mod FlatSessions
 pub mod SameLemmas
 pub mod SameProof

@@ -96,7 +96,7 @@ flat_by Flat o of with unkeyed asked = refl
 flat_by Indexed None of with unkeyed asked = absurd (cc asked)
 flat_by Indexed (Some z) of with unkeyed asked = absurd (cc unkeyed)
 
-not_index : (shape : Shape) → is_indexed shape ≡ false → shape ≡ Flat
+pub not_index : (shape : Shape) → is_indexed shape ≡ false → shape ≡ Flat
 not_index Flat h = refl
 not_index Indexed h = absurd (cc h)
 
@@ -170,9 +170,9 @@ module _ (p : Public) (ts : Tables) (same : headings ts ≡ headings_of p.tables
           index_is ts name t found ∙ of_shape t t.heading.shape refl found ∙ sym (ap (λ (o : Option (Stored Held)). is_some (option_and_then (access_of stmt) o)) found)
 
   -- where a WHERE has to ask for a key
-  key_there : (name : List ℕ) (cond : Option Search) (t : Stored Held) → stored_at name ts ≡ Some t → t.heading.shape ≡ Indexed → lacks_key (headings ts) name cond ≡ false
+  asked_there : (name : List ℕ) (cond : Option Search) (t : Stored Held) → stored_at name ts ≡ Some t → t.heading.shape ≡ Indexed → lacks_key (headings ts) name cond ≡ false
       → is_some (key_asked t.heading.schema cond) ≡ true
-  key_there name cond t found shaped keyed =
+  asked_there name cond t found shaped keyed =
       go (key_asked t.heading.schema cond) ((λ i. (index_is ts name t found ∙ ap is_indexed shaped) (~ i) && is_none (key_asked (schema_is name ts t found (~ i)) cond)) ∙ keyed)
     where
       go : (o : Option ℤ) → (true && is_none o) ≡ false → is_some o ≡ true
@@ -192,11 +192,11 @@ module _ (p : Public) (ts : Tables) (same : headings ts ≡ headings_of p.tables
   access_public late limits (Update table sets cond) early =
       let free = allowed late limits (headings ts) (Update table sets cond) early in
       public_index table ∙ access_at (Update table sets cond) table refl
-      (λ t found shaped. asks_mapped (λ z. Set z (set_cells sets t.heading.schema)) (key_asked t.heading.schema cond) (key_there table cond t found shaped free.keyed))
+      (λ t found shaped. asks_mapped (λ z. Set z (set_cells sets t.heading.schema)) (key_asked t.heading.schema cond) (asked_there table cond t found shaped free.keyed))
   access_public late limits (Delete table cond) early =
       let free = allowed late limits (headings ts) (Delete table cond) early in
       public_index table ∙ access_at (Delete table cond) table refl
-      (λ t found shaped. asks_mapped Take (key_asked t.heading.schema cond) (key_there table cond t found shaped free.keyed))
+      (λ t found shaped. asks_mapped Take (key_asked t.heading.schema cond) (asked_there table cond t found shaped free.keyed))
   access_public late limits (RowsStmt q) early = of_source q.source q.list q.cond early
     where
       of_source : (source : Source) (list : Option (List ColumnName)) (cond : Option Search)
@@ -205,7 +205,7 @@ module _ (p : Public) (ts : Tables) (same : headings ts ≡ headings_of p.tables
       of_source (OneTable name) list cond early =
           let stmt = RowsStmt (record { list = list; source = OneTable name; cond = cond }) in
           let free = allowed late limits (headings ts) stmt early in
-          public_index name ∙ access_at stmt name refl (λ t found shaped. asks_mapped Find (key_asked t.heading.schema cond) (key_there name cond t found shaped free.keyed))
+          public_index name ∙ access_at stmt name refl (λ t found shaped. asks_mapped Find (key_asked t.heading.schema cond) (asked_there name cond t found shaped free.keyed))
       of_source (Join a b on equals) list cond early = refl
 
 -- a cell is one of n keys exactly where its number is less

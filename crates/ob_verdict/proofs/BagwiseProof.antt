@@ -21,6 +21,7 @@ use Rattle.ob_mean.specs.SameMeaning.{SameAnswer, SameTables}
 use Rattle.ob_mean.specs.Settle.{settle}
 use Rattle.ob_mean.specs.Step.{Database, accepted_answer, accepted_next, answered, followed, refusal_of, step_answer, step_next}
 use Rattle.ob_mean.specs.Verdict.{Accessed, Draws, Tables, accessed, database, first_unplaced, forced_refusal, is_full, is_late, last_refusal, refusal_by, rows_refusal, selected_places, verdict}
+use Rattle.ob_mean.proofs.ReplayLemmas.{after_room, answers_room}
 use Rattle.ob_mean.proofs.SameProof.{meaning_is_of_bags}
 use Rattle.ob_mean.specs.Refusals.{limits_of}
 use Rattle.ob_verdict.proofs.InPlaceProof.{keeps_in_place}
@@ -109,14 +110,6 @@ module _ (s : Session) (db : Database) (stmt : Stmt) (few : s.asked < 2 ^ 63) (p
   next_in_place (Some n) = place
 
 -- ---- all of them
--- what stands behind a text that doesn't meet a full stash
-after_room : (s : Session) (stmt : Stmt) (texts : List Spelt) (bs : Broken) → is_full_now s stmt ≡ false → after_all s (Ok stmt ∷ texts) bs ≡ after_all (after (head_of bs) s stmt) texts (rest_of bs)
-after_room s stmt texts bs room = ap (λ (full : Bool). if full then s else after_all (after (head_of bs) s stmt) texts (rest_of bs)) room
-
-answers_room : (s : Session) (stmt : Stmt) (texts : List Spelt) (bs : Broken) → is_full_now s stmt ≡ false
-    → answers s (Ok stmt ∷ texts) bs ≡ answer_or_cut (head_of bs) s stmt ∷ answers (after (head_of bs) s stmt) texts (rest_of bs)
-answers_room s stmt texts bs room = ap (λ (full : Bool). if full then [] else answer_or_cut (head_of bs) s stmt ∷ answers (after (head_of bs) s stmt) texts (rest_of bs)) room
-
 asked_more : (s : Session) (texts : List Spelt) (bs : Broken) → NoneIsFull s texts bs → s.asked ≤ (after_all s texts bs).asked
 asked_more s [] bs rooms = omega arith
 asked_more s (Ok stmt ∷ texts) bs rooms =

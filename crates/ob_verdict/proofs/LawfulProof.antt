@@ -30,13 +30,14 @@ use Rattle.ob_row.specs.Results.{joined, joined_chunk, joined_slot, padded, chun
 use Rattle.ob_sql.specs.declared.stmt.Stmt.{Stmt}
 use Rattle.ob_sql.specs.declared.stmt.Stmt.TheVariants.{Create, Insert, Update, Delete, Drop as DropTable, SelectRows as RowsStmt, SelectTotals as TotalsStmt}
 use Rattle.ob_sql.specs.Skeleton.{skeleton}
-use Rattle.ob_mean.specs.Refusals.{early_refusal, limits_of}
+use Rattle.ob_mean.specs.Refusals.{early_refusal, is_indexed, limits_of}
 use Rattle.ob_mean.specs.Step.{select_condition}
 use Rattle.ob_row.specs.Truth.{is_true}
 use Rattle.ob_mean.specs.Verdict.{Accessed, Draws, Held, IsIndexed, Tables, accessed, index_of, keyed_table, leaf_gone, next_draw, seen, seen_access, seen_served, seen_started, seen_by, seen_unpadded, seen_with, ended, counted, is_late, plan_for, fallback, first_unplaced, source_slots, slots_at, selected_places}
-use Rattle.ob_mean.specs.Replay.{count_end, cut_at, is_access, walk_end, ending_len, done_of, held_if}
-use Rattle.ob_script.specs.Script.{whole_script, with_table, table_script, join_script, select_part, behind_count, extent_of, blocks_of, rows_width, joined_extent, plan_part, result_blocks}
-use Rattle.ob_script.specs.Parts.{count_part, join_part}
+use Rattle.ob_mean.specs.Replay.{count_end, cut_at, has_index, is_access, walk_end, ending_len, done_of, held_if}
+use Rattle.ob_script.specs.Script.{whole_script, with_table, table_script, flat_script, shape_script, index_part_of, mutation_script, join_script, select_part, behind_count, extent_of, blocks_of, rows_width, joined_extent, plan_part, result_blocks}
+use Rattle.ob_script.specs.Parts.{count_part, insert_part, join_part, rewrite_part}
+use Rattle.ob_script.proofs.Lengths.{length-count_part}
 use Rattle.ob_row.specs.Rows.{Row}
 use Rattle.std.proofs.lemmas.Grind.{div_ceil_times}
 use Rattle.std.proofs.lemmas.List.{length-replicate}
@@ -45,17 +46,19 @@ use Rattle.ob_base.specs.Joins.{chunks, joined_slots}
 use Rattle.ob_base.specs.Numbers.{blocks_for}
 use Rattle.ob_mean.specs.Lawful.{Lawful, Holds, HoldsLeaf, IsCount, IsPlan, EndsUnplanned, height_at, is_counted, selects_rows, statement_slots, counted_slots, capacity_at, CutUpTo}
 use Rattle.ob_verdict.specs.Laws.{AreInPlace, HoldsByShape, SeenIsLawful, CutIsLawful}
-use Rattle.ob_verdict.proofs.AccessedProof.{FlatAt, SourceFlat, access_public, flat_slots, source_flat}
+use Rattle.ob_verdict.proofs.AccessedProof.{FlatAt, SourceFlat, access_public, flat_slots, not_index, source_flat}
 use Rattle.ob_verdict.proofs.InPlaceProof.{place_at}
 use Rattle.ob_verdict.proofs.SeenProof.{started-unread}
 use Rattle.ob_mean.proofs.VerdictLemmas.{IsAccess, access_is, heading-stored}
+use Rattle.ob_mean.proofs.FlatLemmas.{headings-regions}
 use Rattle.ob_mean.specs.Keyed.{one_table, op_of}
 use Rattle.ob_verdict.proofs.AccessProof.{next_of}
 use Rattle.ob_path.specs.Access.{key_of}
 use Rattle.ob_row.specs.Keys.{key_in}
 use Rattle.ob_tree.proofs.AccessLemmas.{leaf_below}
-use Rattle.ob_base.specs.Indexes.{height_of}
+use Rattle.ob_base.specs.Indexes.{by_shape, height_of}
 use Rattle.ob_base.specs.declared.schema.Shape.{Shape}
+use Rattle.ob_base.specs.declared.schema.Shape.TheVariants.{Flat, Indexed}
 
 -- it isn't cut off
 abbrev NotCut : End → Type 0
@@ -301,6 +304,17 @@ seen_is_lawful d p m ts stmt some e h = go (early_refusal (is_late m) (limits_of
     go (Some r) early = record { static = (λ _. ap is_some (sym same ∙ early), λ _. refl); holds = tt; leaf = λ _. tt; cut = tt }
     go None early = served (accessed ts stmt) refl early
 
+-- ---- the tables of a script
+module _ (p : Public) (name : List ℕ) where
+  heading_region : heading_at name (headings_of p.tables) ≡ option_map (λ t. t.heading) (stored_at name (stored_regions p.tables))
+  heading_region = ap (heading_at name) (sym (headings-regions p.tables)) ∙ heading-stored name (stored_regions p.tables)
+
+  region_index : (t : Stored ℕ) → stored_at name (stored_regions p.tables) ≡ Some t → has_index p name ≡ is_indexed t.heading.shape
+  region_index t found = ap (λ (o : Option Heading). option_map_or (λ (h : Heading). is_indexed h.shape) o false) (heading_region ∙ ap (option_map (λ (u : Stored ℕ). u.heading)) found)
+
+  no_region_index : stored_at name (stored_regions p.tables) ≡ None → has_index p name ≡ false
+  no_region_index none = ap (λ (o : Option Heading). option_map_or (λ (h : Heading). is_indexed h.shape) o false) (heading_region ∙ ap (option_map (λ (u : Stored ℕ). u.heading)) none)
+
 -- ---- a statement that was cut off
 abbrev seen_of : Option ℕ → (plan second : Option Plan) → End → Seen
 seen_of k plan second end = record { k = k; plan = plan; then = second; leaf = None; end = end }
@@ -321,7 +335,7 @@ same_script p (UpdateSkeleton table cs) now end = refl
 same_script p (DeleteSkeleton table) now end = refl
 same_script p (DropSkeleton table) now end = refl
 same_script p (Rows (OneTable name) cs) now end =
-    λ i. with_table name p (λ t. same_select p now end p.next_region (extent_of t) [] i)
+    λ i. with_table name p (λ t. by_shape t.heading.shape (same_select p now end p.next_region (extent_of t) [] i) (index_part_of p now.leaf t))
 same_script p (Rows (Join left right on equals) cs) now end =
     λ i. with_table left p (λ l. with_table right p (λ r.
     let t = joined_extent p l.heading r.heading in
@@ -346,15 +360,22 @@ in_front front short long m h = let a = length-append front short in let b = len
 abbrev unpadded : Public → Public
 unpadded p = record p { pad = None }
 
-walk_of_table : (p : Public) (k : ℕ) (plan : Plan) (end : End) (o : Option (Stored ℕ))
-    → length (option_map_or (table_script (unpadded p) (ended Whole)) o []) ≤ length (option_map_or (table_script (unpadded p) (seen_of (Some k) (Some plan) None end)) o []) - (0 + 1)
-walk_of_table p k plan end None = omega arith
-walk_of_table p k plan end (Some t) =
+walk_of_flat : (p : Public) (k : ℕ) (plan : Plan) (end : End) (t : Stored ℕ)
+    → length (flat_script (unpadded p) (ended Whole) t) ≤ length (flat_script (unpadded p) (seen_of (Some k) (Some plan) None end) t) - (0 + 1)
+walk_of_flat p k plan end t =
     let from = extent_of t in
     let count = count_part from.region (blocks_of p from) in
     let result = plan_part p plan k p.next_region from in
     let back = count_part p.next_region (result_blocks p plan k from) in
     in_front [] (count ++ []) (count ++ ((result ++ (back ++ Discard p.next_region ∷ [])) ++ [])) 1 (behind count result back [] (Discard p.next_region))
+
+walk_of_table : (p : Public) (k : ℕ) (plan : Plan) (end : End) (o : Option (Stored ℕ)) → ((t : Stored ℕ) → o ≡ Some t → t.heading.shape ≡ Flat)
+    → length (option_map_or (table_script (unpadded p) (ended Whole)) o []) ≤ length (option_map_or (table_script (unpadded p) (seen_of (Some k) (Some plan) None end)) o []) - (0 + 1)
+walk_of_table p k plan end None flat = omega arith
+walk_of_table p k plan end (Some t) flat =
+    subst (λ (shape : Shape). length (by_shape shape (flat_script (unpadded p) (ended Whole) t) (index_part_of (unpadded p) None t))
+        ≤ length (by_shape shape (flat_script (unpadded p) (seen_of (Some k) (Some plan) None end) t) (index_part_of (unpadded p) None t)) - (0 + 1))
+    (sym (flat t refl)) (walk_of_flat p k plan end t)
 
 walk_of_join : (p : Public) (k : ℕ) (plan : Plan) (end : End) (l r : Option (Stored ℕ))
     → length (option_map_or (λ left. option_map_or (λ right. join_script (unpadded p) (ended Whole) left right) r []) l [])
@@ -380,7 +401,10 @@ counted_before p g t ending =
 
 count_of_table : (p : Public) (o : Option (Stored ℕ)) → length (option_map_or (table_script (unpadded p) (ended Whole)) o []) ≤ length (option_map_or (table_script p (ended Whole)) o [])
 count_of_table p None = omega arith
-count_of_table p (Some t) = counted_before p p.next_region (extent_of t) []
+count_of_table p (Some t) =
+    elim t.heading.shape as (λ (shape : Shape). length (by_shape shape (flat_script (unpadded p) (ended Whole) t) (index_part_of (unpadded p) None t))
+        ≤ length (by_shape shape (flat_script p (ended Whole) t) (index_part_of p None t)))
+    [ Flat ↦ counted_before p p.next_region (extent_of t) [] | Indexed ↦ omega arith ]
 
 count_of_join : (p : Public) (l r : Option (Stored ℕ))
     → length (option_map_or (λ left. option_map_or (λ right. join_script (unpadded p) (ended Whole) left right) r []) l [])
@@ -406,15 +430,23 @@ count_within p (Rows (OneTable name) cs) = count_of_table p (stored_at name (sto
 count_within p (Rows (Join a b on equals) cs) = count_of_join p (stored_at a (stored_regions p.tables)) (stored_at b (stored_regions p.tables))
 count_within p (Groups table cs key) = omega arith
 
-unpadded_walk : (p : Public) (source : Source) (cs : Option (List ColumnName)) (k : ℕ) (plan : Plan) (second : Option Plan) (end : End)
-    → count_end p (Rows source cs) ≤ walk_end (unpadded p) (Rows source cs) (seen_of (Some k) (Some plan) second end)
-unpadded_walk p (OneTable name) cs k plan second end = walk_of_table p k plan end (stored_at name (stored_regions p.tables))
-unpadded_walk p (Join a b on equals) cs k plan second end = walk_of_join p k plan end (stored_at a (stored_regions p.tables)) (stored_at b (stored_regions p.tables))
+-- a table of which no index has the name
+region_flat_by : (p : Public) (name : List ℕ) → has_index p name ≡ false → (t : Stored ℕ) → stored_at name (stored_regions p.tables) ≡ Some t → t.heading.shape ≡ Flat
+region_flat_by p name none t found = not_index t.heading.shape (sym (region_index p name t found) ∙ none)
 
-count_before_walk : (p : Public) (source : Source) (cs : Option (List ColumnName)) (k : ℕ) (plan : Plan) (second : Option Plan) (end : End) → p.pad ≡ None
+unpadded_walk : (p : Public) (source : Source) (cs : Option (List ColumnName)) (k : ℕ) (plan : Plan) (second : Option Plan) (end : End) → is_access p (Rows source cs) ≡ false
+    → count_end p (Rows source cs) ≤ walk_end (unpadded p) (Rows source cs) (seen_of (Some k) (Some plan) second end)
+unpadded_walk p (OneTable name) cs k plan second end flat = walk_of_table p k plan end (stored_at name (stored_regions p.tables)) (region_flat_by p name flat)
+unpadded_walk p (Join a b on equals) cs k plan second end flat = walk_of_join p k plan end (stored_at a (stored_regions p.tables)) (stored_at b (stored_regions p.tables))
+
+count_before_walk : (p : Public) (source : Source) (cs : Option (List ColumnName)) (k : ℕ) (plan : Plan) (second : Option Plan) (end : End) → p.pad ≡ None → is_access p (Rows source cs) ≡ false
     → count_end p (Rows source cs) ≤ walk_end p (Rows source cs) (seen_of (Some k) (Some plan) second end)
-count_before_walk p source cs k plan second end e =
-    subst (λ pad. count_end p (Rows source cs) ≤ walk_end (record p { pad = pad }) (Rows source cs) (seen_of (Some k) (Some plan) second end)) (sym e) (unpadded_walk p source cs k plan second end)
+count_before_walk p source cs k plan second end e flat =
+    subst (λ pad. count_end p (Rows source cs) ≤ walk_end (record p { pad = pad }) (Rows source cs) (seen_of (Some k) (Some plan) second end)) (sym e) (unpadded_walk p source cs k plan second end flat)
+
+not_true : (b : Bool) → not b ≡ true → b ≡ false
+not_true true h = absurd (cc h)
+not_true false h = refl
 
 not_second : (p : Public) (stmt : Stmt) (k : Option ℕ) (plan : Option Plan) (second : Plan) (end : End) → is_counted p stmt ≡ false
     → Holds p stmt (seen_of k plan (Some second) end) k plan (Some second) → ⊥
@@ -426,7 +458,8 @@ not_second p stmt None None second end e h = h
 
 walks : (p : Public) (stmt : Stmt) (k : Option ℕ) (plan : Option Plan) (second : Plan) (end : End) → Holds p stmt (seen_of k plan (Some second) end) k plan (Some second)
     → count_end p (skeleton stmt) ≤ walk_end p (skeleton stmt) (seen_of k plan (Some second) end)
-walks p (RowsStmt q) (Some k) (Some Hash) Small end h = count_before_walk p q.source q.list k Hash (Some Small) end h.0.unpadded
+walks p (RowsStmt q) (Some k) (Some Hash) Small end h =
+    count_before_walk p q.source q.list k Hash (Some Small) end h.0.unpadded (not_true (is_access p (Rows q.source q.list)) h.0.counted)
 walks p (RowsStmt q) (Some k) (Some plan) second end h = absurd h
 walks p (RowsStmt q) (Some k) None second end h = absurd h
 walks p (RowsStmt q) None (Some plan) second end h = absurd h
@@ -536,21 +569,35 @@ cut_held p m stmt failed n k plan second end none flat holds long =
       cut = both.1;
     })
 
--- an access holds its leaf alone
-access_script : (p : Public) (s : Skeleton) (a b : Option ℕ) (x y : End)
-    → whole_script p s (record { k = None; plan = None; then = None; leaf = a; end = x }) ≡ whole_script p s (record { k = None; plan = None; then = None; leaf = b; end = y })
-access_script p (CreateSkeleton table cs n shape) a b x y = refl
-access_script p (InsertSkeleton table cs) a b x y = refl
-access_script p (UpdateSkeleton table cs) a b x y = refl
-access_script p (DeleteSkeleton table) a b x y = refl
-access_script p (DropSkeleton table) a b x y = refl
-access_script p (Rows source cs) a b x y = go p.pad
+-- an access that holds no leaf asks for its stash alone
+stash_of : (p : Public) (name : List ℕ) (f : Stored ℕ → List Access) → has_index p name ≡ true → length (with_table name p (shape_script p None f)) ≡ p.stash
+stash_of p name f indexed = go (stored_at name (stored_regions p.tables)) refl
   where
-    go : (pad : Option ℕ) → whole_script (record p { pad = pad }) (Rows source cs) (record { k = None; plan = None; then = None; leaf = a; end = x })
-        ≡ whole_script (record p { pad = pad }) (Rows source cs) (record { k = None; plan = None; then = None; leaf = b; end = y })
-    go None = refl
-    go (Some n) = refl
-access_script p (Groups table cs key) a b x y = refl
+    of_shape : (t : Stored ℕ) (shape : Shape) → is_indexed shape ≡ true → length (by_shape shape (f t) (index_part_of p None t)) ≡ p.stash
+    of_shape t Flat yes = absurd (cc yes)
+    of_shape t Indexed yes = length-count_part (t.held + 1) p.stash
+
+    go : (o : Option (Stored ℕ)) → stored_at name (stored_regions p.tables) ≡ o → length (option_map_or (shape_script p None f) o []) ≡ p.stash
+    go None none = absurd (not_both indexed (no_region_index p name none))
+    go (Some t) found = of_shape t t.heading.shape (sym (region_index p name t found) ∙ indexed)
+
+stash_alone : (p : Public) (s : Skeleton) (end : End) → is_access p s ≡ true → length (whole_script p s (seen_of None None None end)) ≡ p.stash
+stash_alone p (CreateSkeleton table cs n shape) end yes = absurd (cc yes)
+stash_alone p (InsertSkeleton table cs) end yes = stash_of p table (mutation_script p insert_part) yes
+stash_alone p (UpdateSkeleton table cs) end yes = stash_of p table (mutation_script p rewrite_part) yes
+stash_alone p (DeleteSkeleton table) end yes = stash_of p table (mutation_script p rewrite_part) yes
+stash_alone p (DropSkeleton table) end yes = absurd (cc yes)
+stash_alone p (Rows (OneTable name) cs) end yes = stash_of p name (flat_script p (seen_of None None None end)) yes
+stash_alone p (Rows (Join a b on equals) cs) end yes = absurd (cc yes)
+stash_alone p (Groups table cs key) end yes = absurd (cc yes)
+
+-- an access that was cut off asks for no more than what it held asks
+access_long : (p : Public) (s : Skeleton) (leaf n : ℕ) (more : Bool) → is_access p s ≡ true → nat_lt p.stash n ≡ more → n ≤ length (whole_script p s (record (ended Whole) { leaf = Some leaf }))
+    → n ≤ length (whole_script p s (record (ended (Cut n)) { leaf = held_if more (Some leaf) }))
+access_long p s leaf n true yes is long = subst (λ (xs : List Access). n ≤ length xs) (same_script p s (record (ended Whole) { leaf = Some leaf }) (Cut n)) long
+access_long p s leaf n false yes is long =
+    let few : n ≤ p.stash = grind (arith, nat_tests) in
+    subst (λ (m : ℕ). n ≤ m) (sym (stash_alone p s (Cut n) yes)) few
 
 pub cut_is_lawful : CutIsLawful
 cut_is_lawful d p m ts stmt failed n some e h early long = served (accessed ts stmt) refl (subst (λ (x : Seen). n ≤ length (whole_script p (skeleton stmt) x)) begun long) law
@@ -580,7 +627,7 @@ cut_is_lawful d p m ts stmt failed n some e h early long = served (accessed ts s
           static = (λ f. absurd (not_static n f), λ f. absurd (not_both f (ap is_some none)));
           holds = tt;
           leaf = leaf_cut d p m ts stmt e h early a is n (nat_lt p.stash n) refl;
-          cut = subst (λ (xs : List Access). n ≤ length xs) (access_script p (skeleton stmt) (Some (leaf_gone d a)) (held_if (nat_lt p.stash n) (Some (leaf_gone d a))) Whole (Cut n)) long;
+          cut = access_long p (skeleton stmt) (leaf_gone d a) n (nat_lt p.stash n) (access_public p ts e (is_late m) (limits_of p) stmt early ∙ ap is_some is) refl long;
         })
     cut None unkeyed long law =
         let x = seen_started p ts stmt in

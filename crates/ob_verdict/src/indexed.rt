@@ -4,7 +4,7 @@ ghost use Rattle.ob_base.specs.Stored.{Stored};
 ghost use Rattle.ob_row.specs.Rows.{Row};
 ghost use Rattle.ob_row.specs.Slots.{rows};
 ghost use Rattle.ob_sql.specs.declared.stmt.Stmt.{Stmt};
-ghost use Rattle.ob_mean.specs.Verdict.{Tables, IsIndexed, database, keyed_table, went};
+ghost use Rattle.ob_mean.specs.Verdict.{Held, Tables, IsIndexed, database, keyed_table, went};
 ghost use Rattle.ob_path.specs.Access.{Went, access};
 ghost use Rattle.ob_row.specs.Keys.{row_key, key_at};
 ghost use Rattle.ob_path.specs.States.{State, Stands, held};
