@@ -23,7 +23,8 @@ use Rattle.ob_headline.specs.Accesses.{AreSeen}
 use Rattle.ob_headline.specs.Meaning.{AnswersFrom, AnswersAs, AnswersIn}
 use Rattle.ob_headline.specs.declared.ending.Ending.{Ending}
 use Rattle.ob_mean.proofs.FlatLemmas.{makes_flat, seen_is, settle_is}
-use Rattle.ob_mean.proofs.FlatSessions.{after_flat, after_on, draws_rest, draws_stay}
+use Rattle.ob_mean.proofs.FlatSessions.{after_flat, draws_rest, draws_stay, room_flat}
+use Rattle.ob_mean.proofs.ReplayLemmas.{after_room}
 use Rattle.ob_mean.specs.Flats.{AreFlat}
 use Rattle.ob_mean.specs.Prints.{is_join, item_label, label_at, labels_of}
 use Rattle.ob_mean.specs.Refusals.{early_refusal, limits_of}
@@ -227,8 +228,8 @@ module _ (s t : Session) (alike : SessionsAlike s t) (few : s.asked < 2 ^ 63) (f
     drawn = nothing_drawn s stmt alike.flat alike.here ∙ alike.drawn;
     drawn_too = nothing_drawn t stmt alike.flat_too alike.there ∙ alike.drawn_too;
     tables = subst (λ (ts : Tables). AreAlike ts (settle t.draws t.public t.asked t.tables stmt)) (sym settles_alike) acts.after;
-    flat = after_flat s stmt alike.flat None;
-    flat_too = after_flat t stmt alike.flat_too None;
+    flat = after_flat None s stmt alike.flat;
+    flat_too = after_flat None t stmt alike.flat_too;
     here = keeps_step s stmt alike.flat alike.here alike.tables.apart;
     there = keeps_step t stmt alike.flat_too alike.there alike.tables.too;
   }
@@ -278,7 +279,7 @@ answers_on Leaves e f (Ok stmt ∷ spelt) s t broken (one ∷ answers) (x ∷ se
     let long = length-append (script s.public x.skeleton x.seen) (trace (next s.public x.skeleton x.seen) seen) in
     let soon : s.asked < 2 ^ 63 = omega (arith, few) in
     let few_behind : (after_all (after None t stmt) (spelt ++ more) []).asked < 2 ^ 63 =
-    subst (λ (u : Session). u.asked < 2 ^ 63) (after_on t stmt alike.flat_too (spelt ++ more) []) few_too in
+    subst (λ (u : Session). u.asked < 2 ^ 63) (after_room t stmt (spelt ++ more) [] (room_flat t stmt alike.flat_too)) few_too in
     let grown = grows (after None t stmt) (spelt ++ more) [] in
     let soon_too : t.asked < 2 ^ 63 = omega (arith, few_behind, grown) in
     let few_all : s.asked + length (script s.public x.skeleton x.seen ++ trace (next s.public x.skeleton x.seen) seen) < 2 ^ 63 = few in
@@ -292,6 +293,6 @@ answers_on Leaves e f (Ok stmt ∷ spelt) s t broken (one ∷ answers) (x ∷ se
           (subst (λ (y : Served). s.asked + length (script s.public y.skeleton y.seen) + length (trace (next s.public y.skeleton y.seen) seen) < 2 ^ 63) entry rest)
           few_behind
           (subst (λ (o : Option ℕ). Goes f more others behind (after_all (after o s stmt) spelt (rest_of broken)) (after_all (after None t stmt) spelt [])) whole
-          (subst (λ (u : Session). Goes f more others behind u (after_all (after None t stmt) spelt [])) (after_on s stmt alike.flat spelt broken)
-          (subst (λ (v : Session). Goes f more others behind (after_all s (Ok stmt ∷ spelt) broken) v) (after_on t stmt alike.flat_too spelt []) follows))),
+          (subst (λ (u : Session). Goes f more others behind u (after_all (after None t stmt) spelt [])) (after_room s stmt spelt broken (room_flat s stmt alike.flat))
+          (subst (λ (v : Session). Goes f more others behind (after_all s (Ok stmt ∷ spelt) broken) v) (after_room t stmt spelt [] (room_flat t stmt alike.flat_too)) follows))),
     )

@@ -1,33 +1,29 @@
 -- What statements go on from is flat, and stays so.
-use Rattle.std.specs.Prelude.{is_some, map, slice_get}
+use Rattle.std.specs.Prelude.{map, slice_get}
 use Rattle.std.proofs.Common.{◌≡◌, ℕ, zero, suc, false, List, [], ◌∷◌, Option, Some, None, refl, sym, ◌∙◌, ap, subst}
 use Rattle.ob_base.specs.Stored.{headings, headings_of}
 use Rattle.ob_base.specs.declared.config.Config.{Config}
 use Rattle.ob_base.specs.declared.config.Public.{Public}
-use Rattle.ob_base.specs.declared.refusal.Refusal.{Refusal}
 use Rattle.ob_base.specs.declared.schema.Heading.{Heading}
 use Rattle.ob_base.specs.declared.schema.Shape.TheVariants.{Flat}
 use Rattle.ob_base.specs.declared.seen.End.{End}
 use Rattle.ob_base.specs.declared.seen.Seen.{Seen}
 use Rattle.ob_base.specs.declared.skeleton.Skeleton.{Skeleton}
 use Rattle.ob_headline.specs.Bases.{public_with}
-use Rattle.ob_mean.proofs.FlatLemmas.{MakesFlat, makes_flat}
-use Rattle.ob_mean.proofs.FlatSessions.{public_stays_flat}
+use Rattle.ob_mean.proofs.FlatSessions.{next_flat as flat_behind}
 use Rattle.ob_mean.specs.Flats.{AreFlat}
 use Rattle.ob_mean.specs.Lawful.{HoldsLeaf, Lawful}
-use Rattle.ob_mean.specs.Refusals.{limits_of}
 use Rattle.ob_mean.specs.Replay.{is_access}
-use Rattle.ob_mean.specs.Verdict.{Tables, is_late}
+use Rattle.ob_mean.specs.Verdict.{Tables}
 use Rattle.ob_reopen.specs.Limits.{IsCatalogue}
 use Rattle.ob_reopen.specs.Resting.{AreKept, Rests}
 use Rattle.ob_reopen.specs.declared.closing.Closing.{Closing}
 use Rattle.ob_reopen.specs.declared.listed.Listed.{Listed}
-use Rattle.ob_script.specs.Trace.{next, tables_then}
+use Rattle.ob_script.specs.Trace.{next}
 use Rattle.ob_seal.specs.KeySet.{KeySet}
 use Rattle.ob_sql.specs.Skeleton.{skeleton}
 use Rattle.ob_sql.specs.declared.stmt.Stmt.{Stmt}
 use Rattle.ob_store.specs.State.{KeptRegion}
-use Rattle.ob_verdict.specs.Outcomes.{refusal_now}
 
 -- each table is flat, by what is public
 abbrev pub IsFlat : Public → Type 0
@@ -36,11 +32,7 @@ IsFlat p = AreFlat (headings_of p.tables)
 -- ---- a statement
 -- whatever is seen of it that is lawful, it leaves them so
 pub next_flat : (p : Public) (m : ℕ) (stmt : Stmt) (s : Skeleton) (here : Seen) → s ≡ skeleton stmt → Lawful p m stmt here → IsFlat p → IsFlat (next p s here)
-next_flat p m stmt s here is lawful flat = go (refusal_now p m stmt) refl
-  where
-    go : (o : Option Refusal) → refusal_now p m stmt ≡ o → IsFlat (next p s here)
-    go None early = public_stays_flat p s here (subst MakesFlat (sym is) (makes_flat (is_late m) (limits_of p) (headings_of p.tables) stmt early)) flat
-    go (Some r) early = subst (λ (end : End). AreFlat (headings_of (tables_then p s end))) (sym (lawful.static.1 (ap is_some early))) flat
+next_flat p m stmt s here is lawful flat = subst (λ (k : Skeleton). IsFlat (next p k here)) (sym is) (flat_behind p m stmt here lawful flat)
 
 -- one that accesses no index holds no leaf
 pub no_leaf : (p : Public) (s : Skeleton) (leaf : Option ℕ) (end : End) → is_access p s ≡ false → HoldsLeaf p s leaf end → leaf ≡ None

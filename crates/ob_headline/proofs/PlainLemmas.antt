@@ -23,7 +23,8 @@ use Rattle.ob_headline.specs.Status.{Because, IsCompleted}
 use Rattle.ob_headline.specs.declared.ending.Ending.{Ending}
 use Rattle.ob_headline.specs.declared.ending.Ending.TheVariants.{Usage, BadKey, Ran}
 use Rattle.ob_base.specs.Stored.{headings}
-use Rattle.ob_mean.proofs.FlatSessions.{after_flat, served_on}
+use Rattle.ob_mean.proofs.FlatSessions.{after_flat, room_flat}
+use Rattle.ob_mean.proofs.ReplayLemmas.{served_room}
 use Rattle.ob_mean.specs.Flats.{AreFlat}
 use Rattle.ob_mean.specs.Replay.{Broken, Session, Spelt, after, all_served, head_of, rest_of, seen_or_cut}
 use Rattle.ob_print.specs.Cuts.{Outputs}
@@ -50,10 +51,10 @@ answers_plainly ending s (Ok stmt ∷ spelt) broken (one ∷ more) (x ∷ seen) 
     let whole : head_of broken ≡ None = whole_where_unfailed s stmt one (head_of broken) all.1 (omega (arith, none)) in
     let here : x.seen ≡ seen_or_cut None s stmt = all.2 ∙ ap (λ (b : Option ℕ). seen_or_cut b s stmt) whole in
     let behind = subst (λ (b : Option ℕ). AnswersFrom ending (after b s stmt) spelt (rest_of broken) more seen part) whole all.3 in
-    let rest = answers_plainly ending (after None s stmt) spelt (rest_of broken) more seen part (next p x.skeleton x.seen) (m + length (script p x.skeleton x.seen)) (after_flat s stmt flat None) behind uncut.3
+    let rest = answers_plainly ending (after None s stmt) spelt (rest_of broken) more seen part (next p x.skeleton x.seen) (m + length (script p x.skeleton x.seen)) (after_flat None s stmt flat) behind uncut.3
     (omega (arith, each)) (omega (arith, none)) in (
       (subst (λ (b : Option ℕ). AnswersIn b s stmt one) whole all.1, rest.0),
-      (λ i. record { skeleton = uncut.0 i; seen = here i } ∷ rest.1 i) ∙ sym (served_on s stmt flat spelt []),
+      (λ i. record { skeleton = uncut.0 i; seen = here i } ∷ rest.1 i) ∙ sym (served_room s stmt spelt [] (room_flat s stmt flat)),
     )
 
 -- ---- it comes to its end
