@@ -16,14 +16,16 @@ use Rattle.ob_base.specs.declared.seen.End.TheVariants.{Static}
 use Rattle.ob_base.specs.declared.seen.Seen.{Seen}
 use Rattle.ob_base.specs.declared.skeleton.Source.{Source}
 use Rattle.ob_base.specs.declared.skeleton.Source.TheVariants.{Table as OneTable, Join}
+use Rattle.ob_headline.proofs.FlatLemmas.{nothing_drawn}
 use Rattle.ob_headline.proofs.InStep.{InStep, keeps_step}
+use Rattle.ob_headline.specs.Bases.{undrawn}
 use Rattle.ob_headline.specs.Failures.{failures, outcome_failures}
 use Rattle.ob_headline.specs.Words.{Answer}
 use Rattle.ob_headline.specs.Accesses.{AreSeen}
 use Rattle.ob_headline.specs.Meaning.{AnswersFrom, AnswersAs, AnswersIn}
 use Rattle.ob_headline.specs.declared.ending.Ending.{Ending}
-use Rattle.ob_mean.proofs.FlatLemmas.{makes_flat, seen_is, settle_is}
-use Rattle.ob_mean.proofs.FlatSessions.{after_flat, draws_rest, draws_stay, room_flat}
+use Rattle.ob_mean.proofs.FlatLemmas.{seen_is, settle_is}
+use Rattle.ob_mean.proofs.FlatSessions.{after_flat, room_flat}
 use Rattle.ob_mean.proofs.ReplayLemmas.{after_room}
 use Rattle.ob_mean.specs.Flats.{AreFlat}
 use Rattle.ob_mean.specs.Prints.{is_join, item_label, label_at, labels_of}
@@ -47,10 +49,6 @@ use Rattle.ob_verdict.specs.Alike.{ActsAlike, AreAlike}
 -- what is public but for the tables and the next region
 abbrev pub plain : Public → Public
 plain p = record p { tables = []; next_region = 0 }
-
--- nothing was drawn
-abbrev pub undrawn : Draws
-undrawn = record { draw = λ n. 0; drawn = 0 }
 
 pub record SessionsAlike (s t : Session) : Type 0 where
   pub settings : plain s.public ≡ plain t.public
@@ -177,14 +175,6 @@ labels_same hs gs same (RowsStmt q) =
 labels_same hs gs same (TotalsStmt q) = ap (λ (cs : Columns). map (item_label cs) q.items) (columns_same hs gs same q.table)
 
 -- ---- one statement
--- it draws nothing
-nothing_drawn : (s : Session) (stmt : Stmt) → AreFlat (headings s.tables) → InStep s → (after None s stmt).draws ≡ s.draws
-nothing_drawn s stmt flat step = go (early_refusal (is_late s.asked) (limits_of s.public) (headings s.tables) stmt) refl
-  where
-    go : (o : Option Refusal) → early_refusal (is_late s.asked) (limits_of s.public) (headings s.tables) stmt ≡ o → (after None s stmt).draws ≡ s.draws
-    go None free = draws_stay s stmt (subst AreFlat step flat) (makes_flat (is_late s.asked) (limits_of s.public) (headings s.tables) stmt free) None
-    go (Some r) refused = draws_rest s stmt r refused
-
 early : (m : ℕ) → m < 2 ^ 63 → is_late m ≡ false
 early m few = grind (arith, nat_tests)
 
@@ -225,8 +215,8 @@ module _ (s t : Session) (alike : SessionsAlike s t) (few : s.asked < 2 ^ 63) (f
   after_alike : SessionsAlike (after None s stmt) (after None t stmt)
   after_alike = record {
     settings = alike.settings;
-    drawn = nothing_drawn s stmt alike.flat alike.here ∙ alike.drawn;
-    drawn_too = nothing_drawn t stmt alike.flat_too alike.there ∙ alike.drawn_too;
+    drawn = nothing_drawn s stmt None (subst AreFlat alike.here alike.flat) tt ∙ alike.drawn;
+    drawn_too = nothing_drawn t stmt None (subst AreFlat alike.there alike.flat_too) tt ∙ alike.drawn_too;
     tables = subst (λ (ts : Tables). AreAlike ts (settle t.draws t.public t.asked t.tables stmt)) (sym settles_alike) acts.after;
     flat = after_flat None s stmt alike.flat;
     flat_too = after_flat None t stmt alike.flat_too;

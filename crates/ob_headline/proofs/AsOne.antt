@@ -10,13 +10,13 @@ use Rattle.ob_base.specs.declared.refusal.Stop.TheVariants as Stops
 use Rattle.ob_reopen.proofs.ByNameAlike.{named_alike}
 use Rattle.ob_reopen.specs.Closed.{is_used_up}
 use Rattle.ob_reopen.specs.Resting.{Rests, by_name}
-use Rattle.ob_headline.proofs.AlikeSessions.{SessionsAlike, answers_on, keeps_plain, plain, undrawn}
+use Rattle.ob_headline.proofs.AlikeSessions.{SessionsAlike, answers_on, keeps_plain, plain}
 use Rattle.ob_headline.proofs.FlatLemmas.{rested_flat}
 use Rattle.ob_headline.proofs.InStep.{InStep}
 use Rattle.ob_headline.proofs.MarkLemmas.{marks_held}
 use Rattle.ob_headline.proofs.RerunLemmas.{answered_all}
 use Rattle.ob_headline.proofs.StopLemmas.{begun_stops, closing_stops}
-use Rattle.ob_headline.specs.Bases.{Base, FromEach, Opened, fresh, public_with, reopened, session_at, start}
+use Rattle.ob_headline.specs.Bases.{Base, FromEach, Opened, fresh, public_with, reopened, session_at, start, undrawn}
 use Rattle.ob_headline.specs.Endings.{status_of}
 use Rattle.ob_headline.specs.Failures.{failures}
 use Rattle.ob_headline.specs.Keeping.{BeginsFrom, EndsWith, closing_named, kept_status}
