@@ -1,6 +1,6 @@
 -- What the meaning is as long as each table is flat.
-use Rattle.std.proofs.Common.{◌≡◌, ℕ, Bool, true, false, cond, List, [], ◌∷◌, ◌++◌, Option, Some, None, refl, sym, ◌∙◌, ap, subst}
-use Rattle.std.specs.Prelude.{bytes_eq, is_some, map, if◌then◌else◌, ⊤}
+use Rattle.std.proofs.Common.{◌≡◌, ℕ, ◌+◌, ◌*◌, Bool, true, false, cond, List, [], ◌∷◌, ◌++◌, Option, Some, None, refl, sym, ◌∙◌, ap, subst}
+use Rattle.std.specs.Prelude.{bytes_eq, is_some, not, if◌then◌else◌, ⊤}
 use Rattle.std.specs.Option.{is_none, option_and_then, option_map, option_map_or}
 use Rattle.ob_base.specs.declared.access.Access.{Access}
 use Rattle.ob_base.specs.declared.config.Public.{Public}
@@ -95,19 +95,17 @@ counts_rows p (Insert table columns values) flat = refl
 counts_rows p (Update table sets search) flat = refl
 counts_rows p (Delete table search) flat = refl
 counts_rows p (DropTable table) flat = refl
-counts_rows p (RowsStmt q) flat = ap (λ (b : Bool). cond b false true) (no_public_access p (skeleton (RowsStmt q)) flat)
+counts_rows p (RowsStmt q) flat = ap (λ (b : Bool). not b) (no_public_access p (skeleton (RowsStmt q)) flat)
 counts_rows p (TotalsStmt q) flat = refl
 
 -- ---- what is seen and what is left
-unread : {A : Type 0} (b : Bool) → cond b None None ≡ None {A = A}
-unread true = refl
-unread false = refl
+unread : (b : Bool) (o : Option Accessed) → o ≡ None → (if b then None else o) ≡ None
+unread true o none = refl
+unread false o none = none
 
 module _ (p : Public) (ts : Tables) (stmt : Stmt) (flat : AreFlat (headings ts)) where
   pub no_access_now : (m : ℕ) → accessed_now p m ts stmt ≡ None
-  no_access_now m =
-      ap (λ (o : Option Accessed). if is_some (early_refusal (is_late m) (limits_of p) (headings ts) stmt) then None else o) (no_access ts stmt flat)
-      ∙ unread (is_some (early_refusal (is_late m) (limits_of p) (headings ts) stmt))
+  no_access_now m = unread (is_some (early_refusal (is_late m) (limits_of p) (headings ts) stmt)) (accessed ts stmt) (no_access ts stmt flat)
 
   pub none_full : (d : Draws) (m : ℕ) → is_full d p m ts stmt ≡ false
   none_full d m = ap (λ (o : Option Accessed). option_map_or (λ a. is_none (gone d a)) o false) (no_access_now m)

@@ -68,11 +68,13 @@ settles_flat d p m ts stmt flat =
 
 moved_flat : (name : List ℕ) (region : ℕ) (ts : List Table) → AreFlat (headings_of ts) → AreFlat (headings_of (moved name region ts))
 moved_flat name region [] flat = tt
-moved_flat name region (t ∷ ts) flat =
-    (elim (bytes_eq t.heading.name name) as (λ b. (cond b (moved_to region t) t).heading.shape ≡ Flat) [
-      | true ↦ elim t.heading.shape as (λ s. (by_shape s (record t { region = region }) t).heading.shape ≡ Flat) [ Flat ↦ flat.0 | Indexed ↦ flat.0 ]
-      | false ↦ flat.0
-    ], moved_flat name region ts flat.1)
+moved_flat name region (t ∷ ts) flat = (
+  elim (bytes_eq t.heading.name name) as (λ b. (cond b (moved_to region t) t).heading.shape ≡ Flat) [
+    | true ↦ elim t.heading.shape as (λ s. (by_shape s (record t { region = region }) t).heading.shape ≡ Flat) [ Flat ↦ flat.0 | Indexed ↦ flat.0 ]
+    | false ↦ flat.0
+  ],
+  moved_flat name region ts flat.1,
+)
 
 kept_flat : (name : List ℕ) (ts : List Table) → AreFlat (headings_of ts) → AreFlat (headings_of (filter (λ (t : Table). not (bytes_eq t.heading.name name)) ts))
 kept_flat name [] flat = tt

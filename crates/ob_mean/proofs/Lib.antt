@@ -4,6 +4,7 @@ pub mod SourceLemmas
 pub mod EarlyLemmas
 pub mod InsertLemmas
 pub mod VerdictLemmas
+pub mod IndexExamples
 pub mod ReplayLemmas
 pub mod FlatLemmas
 pub mod FlatSessions

@@ -51,8 +51,8 @@ pub flat_refusal : (t : Stored (List Row)) (row : Row) → t.heading.shape ≡ F
     → insert_refusal t row ≡ (if has_key (key_place t.heading.schema) row t.held then Some Duplicate else (if length t.held == t.heading.capacity then Some FullTable else None))
 flat_refusal t row flat =
     ap (λ (shape : Shape). if has_key (key_place t.heading.schema) row t.held then Some Duplicate
-        else by_shape shape (if length t.held == t.heading.capacity then Some FullTable else None)
-        (if has_own_key t.heading row then None else Some KeyRange)) flat
+    else by_shape shape (if length t.held == t.heading.capacity then Some FullTable else None)
+    (if has_own_key t.heading row then None else Some KeyRange)) flat
 
 -- what is put in place is read back
 pub index_again : (h : Heading) (s : State Row) → length s.tree ≡ tree_size h → index_of h (held_as s) ≡ s
@@ -92,7 +92,7 @@ pub put_flat : (ts : Tables) (table : List ℕ) (columns : Option (List (List �
     → stored_at table ts ≡ Some t → t.heading.shape ≡ Flat
 put_flat ts table columns values t none found = go t.heading.shape (sym (ap (option_and_then (access_of (Insert table columns values))) found) ∙ none)
   where
-    go : (shape : Shape) → by_shape shape None (option_map (λ (ask : Ask). record { table = t; ask = ask }) (ask_of t.heading (Insert table columns values))) ≡ None → shape ≡ Flat
+    go : (shape : Shape) → by_shape {A = Option Accessed} shape None (option_map (λ (ask : Ask). record { table = t; ask = ask }) (ask_of t.heading (Insert table columns values))) ≡ None → shape ≡ Flat
     go Flat none = refl
     go Indexed none = absurd (cc none)
 

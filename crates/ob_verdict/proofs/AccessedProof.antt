@@ -86,6 +86,9 @@ schema_is name ts t is =
     ap (λ (o : Option Heading). option_map_or (λ (h : Heading). h.schema) o []) (heading-stored name ts) ∙ ap (λ (o : Option (Stored Held)). option_map_or (λ (h : Heading). h.schema) (option_map (λ t. t.heading) o) []) is
 
 -- ---- tables that are read and changed by no key
+abbrev accessing : Stored Held → Ask → Accessed
+accessing t ask = record { table = t; ask = ask }
+
 -- a flat table has as many slots as its capacity
 pub flat_slots : (stash : ℕ) (h : Heading) → h.shape ≡ Flat → slots_in_place stash h ≡ h.capacity
 flat_slots stash h flat = ap (λ (shape : Shape). by_shape shape h.capacity (tree_blocks (height_of h.capacity) + stash)) flat
@@ -110,8 +113,8 @@ module _ (ts : Tables) (name : List ℕ) (t : Stored Held) (found : stored_at na
   pub flat_where : (stmt : Stmt) (cond : Option Search) (of : ℤ → Ask) → keyed_name stmt ≡ Some name → ask_of t.heading stmt ≡ option_map of (key_asked t.heading.schema cond)
       → accessed ts stmt ≡ None → lacks_key (headings ts) name cond ≡ false → t.heading.shape ≡ Flat
   flat_where stmt cond of named asks unkeyed keyed =
-      flat_by t.heading.shape (key_asked t.heading.schema cond) of (λ ask. record { table = t; ask = ask })
-      (ap (λ (o : Option Ask). by_shape t.heading.shape None (option_map (λ ask. record { table = t; ask = ask }) o)) (sym asks)
+      flat_by t.heading.shape (key_asked t.heading.schema cond) of (accessing t)
+      (ap (λ (o : Option Ask). by_shape t.heading.shape None (option_map (accessing t) o)) (sym asks)
        ∙ sym (ap (λ (o : Option (Stored Held)). option_and_then (access_of stmt) o) (ap (option_and_then (λ (n : List ℕ). stored_at n ts)) named ∙ found)) ∙ unkeyed)
       ((λ i. index_is (~ i) && is_none (key_asked (schema_is name ts t found (~ i)) cond)) ∙ keyed)
 
@@ -133,7 +136,7 @@ source_flat late limits ts q early unkeyed = of_source q.source (λ e. e) (allow
     of_source : (source : Source) → (q.source ≡ source → q.source ≡ source) → source_lacks_key (headings ts) source q.cond ≡ false
         → option_and_then (access_of (RowsStmt q)) (option_and_then (λ name. stored_at name ts) (one_table source)) ≡ None → SourceFlat ts source
     of_source (OneTable name) same keyed unkeyed = λ t found.
-        flat_by t.heading.shape (key_asked t.heading.schema q.cond) Find (λ ask. record { table = t; ask = ask })
+        flat_by t.heading.shape (key_asked t.heading.schema q.cond) Find (accessing t)
         (sym (ap (option_and_then (access_of (RowsStmt q))) found) ∙ unkeyed)
         ((λ i. index_is ts name t found (~ i) && is_none (key_asked (schema_is name ts t found (~ i)) q.cond)) ∙ keyed)
     of_source (Join a b on equals) same keyed unkeyed =
@@ -152,12 +155,12 @@ module _ (p : Public) (ts : Tables) (same : headings ts ≡ headings_of p.tables
   access_at stmt name named asks =
       go (stored_at name ts) refl ∙ sym (ap (λ (o : Option (List ℕ)). is_some (option_and_then (access_of stmt) (option_and_then (λ n. stored_at n ts) o))) named)
     where
-      some_mapped : (t : Stored Held) (o : Option Ask) → is_some (option_map (λ ask. record { table = t; ask = ask }) o) ≡ is_some o
+      some_mapped : (t : Stored Held) (o : Option Ask) → is_some (option_map (accessing t) o) ≡ is_some o
       some_mapped t None = refl
       some_mapped t (Some ask) = refl
 
       of_shape : (t : Stored Held) (shape : Shape) → t.heading.shape ≡ shape → stored_at name ts ≡ Some t
-          → is_indexed shape ≡ is_some (by_shape shape None (option_map (λ ask. record { table = t; ask = ask }) (ask_of t.heading stmt)))
+          → is_indexed shape ≡ is_some (by_shape shape None (option_map (accessing t) (ask_of t.heading stmt)))
       of_shape t Flat shaped found = refl
       of_shape t Indexed shaped found = sym (some_mapped t (ask_of t.heading stmt) ∙ asks t found shaped)
 

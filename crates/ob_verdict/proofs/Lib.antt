@@ -14,6 +14,7 @@ pub mod AnswerProof
 pub mod InPlaceProof
 pub mod MovingProof
 pub mod AcceptedProof
+pub mod NamesFlatProof
 pub mod Sessions
 pub mod TableSessions
 pub mod LongSessions

@@ -12,7 +12,7 @@ ghost use Rattle.ob_base.specs.declared.schema.Table.{Table};
 ghost use Rattle.ob_base.specs.Stored.{AreApart, headings};
 ghost use Rattle.ob_verdict.specs.Bagwise.{SessionsAreBagwise};
 ghost use Rattle.ob_verdict.specs.Alike.{AreAlike, OrderIsNothing};
-ghost use Rattle.ob_verdict.specs.Accepted.{PlacesFit, TotalsPlacesFit, JoinsFit, SetsFit, ConditionsFit, BucketsFit};
+ghost use Rattle.ob_verdict.specs.Accepted.{PlacesFit, TotalsPlacesFit, JoinsFit, SetsFit, ConditionsFit, BucketsFit, NamesFlat};
 ghost use Rattle.ob_verdict.specs.Moving.{Moves, CreatesNew, DropsOne};
 ghost use Rattle.ob_verdict.specs.Laws.{SettlesAsStep, KeepsInPlace, ShowsKindAlone, AccessShowsLeaf, PaddedShowsKind, PlanIsWhole, ForcedShowsAlike, ShowsNotConsecutive, SeenIsLawful, CutIsLawful, PrintsAnswer};
 
@@ -87,7 +87,8 @@ pub fn prints_answer()
 {}
 
 /// A statement that is not refused before its first access names columns that there are, by their places;
-/// its cells fit their columns, and what it makes is within its sizes.
+/// its cells fit their columns, and what it makes is within its sizes; where it accesses no index, the tables of its rows
+/// are flat.
 pub fn accepted_laws()
     ensures rows { PlacesFit }
     ensures totals { TotalsPlacesFit }
@@ -95,6 +96,7 @@ pub fn accepted_laws()
     ensures sets { SetsFit }
     ensures conditions { ConditionsFit }
     ensures buckets { BucketsFit }
+    ensures flat { NamesFlat }
 {}
 
 /// Where no two tables have one name, a statement changes what stands at its table's name, and no other.
