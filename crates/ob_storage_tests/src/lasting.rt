@@ -1,8 +1,11 @@
 //! Stores that outlast a run.
-ghost use Rattle.std.specs.Prelude.{◌≡◌, ◌<◌, ◌≤◌, [], IfOk};
+ghost use Rattle.std.specs.Prelude.{◌≡◌, ◌<◌, ◌≤◌, [], IfOk, OnOk};
+ghost use Rattle.ob_store.specs.Calls.{IsRegion};
 
+use crate::blocks::{fill, make_two, read_two};
+use crate::changes::changes_of;
 use ob_base::{Access, NoMemory, StoreErr};
-use ob_meddle::{Act, Meddle, MeddledStore, Spot};
+use ob_meddle::MeddledStore;
 use ob_store::{BlockStore, Lasting, MemStore};
 use std::alloc::Global;
 use std::test::Fail;
@@ -27,25 +30,27 @@ fn reopened<S: Lasting>(store: &mut S) -> Result<[u8; 2], Fail>
 {
     store.room(3)?;
     store.resume(1, 2, 33)?;
-    let mut block = [0; 33];
-    store.read(1, 0, &mut block)?;
-    let first = block[0];
-    store.read(1, 1, &mut block)?;
-    Ok([first, block[0]])
+    Ok(read_two(store)?)
 }
 
-// Makes a region of two blocks, and writes the first of them twice; makes another, and discards it.
-fn write_two<S: BlockStore>(store: &mut S) -> Result<(), Fail>
+// Makes a region of two blocks, and another, which is discarded.
+fn make_both<S: BlockStore>(store: &mut S) -> Result<(), Fail>
     requires none { (S.state store.old).asked ≡ [] }
+    ensures spare { OnOk result (3 ≤ (S.state store.new).spare) }
+    ensures region { OnOk result (IsRegion 1 2 33 (S.state store.new)) }
 {
-    store.room(6)?;
-    store.make(1, 2, 33)?;
-    store.write(1, 0, &[1; 33])?;
-    store.write(1, 1, &[2; 33])?;
-    store.write(1, 0, &[4; 33])?;
+    make_two(store)?;
     store.make(2, 1, 33)?;
     store.discard(2)?;
     Ok(())
+}
+
+// The same, and writes the blocks of the first.
+fn write_two<S: BlockStore>(store: &mut S) -> Result<(), Fail>
+    requires none { (S.state store.old).asked ≡ [] }
+{
+    make_both(store)?;
+    Ok(fill(store)?)
 }
 
 // A store in memory after such a run.
@@ -60,18 +65,16 @@ fn after_a_run(alloc: Global) -> Result<MemStore, Fail>
 #[test]
 fn a_region_is_read_in_a_later_run(rt: HostRuntime) -> Result<(), Fail> {
     let mut store = after_a_run(rt.alloc())?;
-    assert_eq!(rt; reopened(&mut store)?, [4, 2]);
+    assert!(rt; reopened(&mut store)? == [4, 2]);
     assert_eq!(rt; store.count(), 3);
-    assert_eq!(rt;
-        store.nth(0),
-        Access::Open {
-            region: 1,
-            blocks: 2,
-            len: 33
-        }
-    );
+    let open = Access::Open {
+        region: 1,
+        blocks: 2,
+        len: 33,
+    };
+    assert!(rt; store.nth(0) == open);
     let mut store = store.rest();
-    assert_eq!(rt; reopened(&mut store)?, [4, 2]);
+    assert!(rt; reopened(&mut store)? == [4, 2]);
     Ok(())
 }
 
@@ -87,88 +90,67 @@ fn is_there(alloc: Global, region: u64, blocks: u32, len: u32) -> Result<bool, F
 
 #[test]
 fn other_regions_are_not_there(rt: HostRuntime) -> Result<(), Fail> {
-    for blocks in 1..4 {
-        assert_eq!(rt; is_there(rt.alloc(), 1, blocks, 33)?, blocks == 2);
+    for (region, blocks, len, there) in [
+        (1, 1, 33, false),
+        (1, 2, 33, true),
+        (1, 3, 33, false),
+        (1, 2, 34, false),
+        (2, 1, 33, false),
+        (3, 2, 33, false),
+    ] {
+        assert!(rt; 1 <= blocks && blocks <= 3 && 33 <= len && len <= 34);
+        let found = is_there(rt.alloc(), region, blocks, len)?;
+        assert!(rt; found == there, "at {region} {blocks} {len}");
     }
-    for len in 33..35 {
-        assert_eq!(rt; is_there(rt.alloc(), 1, 2, len)?, len == 33);
-    }
-    assert!(rt; !is_there(rt.alloc(), 2, 1, 33)?);
-    assert!(rt; !is_there(rt.alloc(), 3, 2, 33)?);
     Ok(())
 }
 
 // A store after a run in which nobody else changed anything, and before one in which others make these changes.
-fn meddled(alloc: Global, list: &[Meddle]) -> Result<MeddledStore, Fail>
+fn meddled(alloc: Global, changes: &str) -> Result<MeddledStore, Fail>
     ensures { IfOk result (λ m. (⟦<MeddledStore as BlockStore>⟧.state m).asked ≡ []) }
 {
     let mut store = MeddledStore::new(alloc, Vec::new(alloc));
     write_two(&mut store)?;
-    let mut changes = Vec::new(alloc);
-    for meddle in list {
-        changes.push(*meddle)?;
-    }
-    Ok(store.rest(changes))
+    Ok(store.rest(changes_of(alloc, changes)?))
 }
 
-fn before_first(act: Act) -> Meddle {
-    Meddle { before: 1, act }
+// What two later runs read, where others make these changes in the first of them.
+fn read_twice(alloc: Global, changes: &str) -> Result<[[u8; 2]; 2], Fail> {
+    let mut store = meddled(alloc, changes)?;
+    let bytes = reopened(&mut store)?;
+    let mut later = store.rest(Vec::new(alloc));
+    Ok([bytes, reopened(&mut later)?])
 }
 
 #[test]
 fn changes_between_runs(rt: HostRuntime) -> Result<(), Fail> {
-    let first = Spot {
-        region: 1,
-        place: 0,
-    };
-    let second = Spot {
-        region: 1,
-        place: 1,
-    };
-    let flip = Act::Flip {
-        region: 1,
-        place: 1,
-        byte: 0,
-    };
-    let older = Act::Older {
-        region: 1,
-        place: 0,
-    };
-    let copy = Act::Copy {
-        from: first,
-        to: second,
-    };
-    for (act, bytes) in [(flip, [4, 3]), (older, [1, 2]), (copy, [4, 4])] {
-        let mut store = meddled(rt.alloc(), &[before_first(act)])?;
-        assert_eq!(rt; reopened(&mut store)?, bytes);
-        let mut later = store.rest(Vec::new(rt.alloc()));
-        assert_eq!(rt; reopened(&mut later)?, bytes);
+    for (changes, bytes) in [
+        ("1:flip:1.1.0", [4, 3]),
+        ("1:old:1.0", [1, 2]),
+        ("1:copy:1.0:1.1", [4, 4]),
+    ] {
+        let found = read_twice(rt.alloc(), changes)?;
+        assert!(rt; found == [bytes, bytes], "at {changes}");
     }
-    let mut store = meddled(rt.alloc(), &[before_first(Act::Fail)])?;
+    Ok(())
+}
+
+// A run that can't open a region leaves it to the next.
+#[test]
+fn an_opening_fails(rt: HostRuntime) -> Result<(), Fail> {
+    let mut store = meddled(rt.alloc(), "1:fail")?;
     assert!(rt; !opens(&mut store, 1, 2, 33)?);
     let mut later = store.rest(Vec::new(rt.alloc()));
-    assert_eq!(rt; reopened(&mut later)?, [4, 2]);
+    assert!(rt; reopened(&mut later)? == [4, 2]);
     Ok(())
 }
 
 // A region that a later run gave up is gone; its blocks can be copied all the same.
 #[test]
 fn a_given_up_block_is_put_back(rt: HostRuntime) -> Result<(), Fail> {
-    let mut store = meddled(rt.alloc(), &[])?;
+    let mut store = meddled(rt.alloc(), "")?;
     give_up_first(&mut store)?;
-    let copy = Act::Copy {
-        from: Spot {
-            region: 1,
-            place: 0,
-        },
-        to: Spot {
-            region: 3,
-            place: 0,
-        },
-    };
-    let mut changes = Vec::new(rt.alloc());
-    changes.push(before_first(copy))?;
-    let mut later = store.rest(changes);
+    let mut later = store.rest(changes_of(rt.alloc(), "1:copy:1.0:3.0")?);
     assert!(rt; !opens(&mut later, 1, 2, 33)?);
     let mut later = later.rest(Vec::new(rt.alloc()));
     assert_eq!(rt; only_block(&mut later)?, 4);

@@ -51,13 +51,19 @@ fn access_of(word: &[u8]) -> Option<Access> {
     }
 }
 
+// Lists one access more.
+fn list(log: &mut Log, access: Access) -> Result<(), NoMemory> {
+    log.room(1)?;
+    log.push(access);
+    Ok(())
+}
+
 // A log of the accesses that a text spells, four characters each.
 fn log_of(alloc: Global, text: &str) -> Result<Log, NoMemory> {
     let mut log = Log::new(alloc);
     for word in text.as_bytes().chunks(4) {
         if let Some(access) = access_of(word) {
-            log.room(1)?;
-            log.push(access);
+            list(&mut log, access)?;
         }
     }
     Ok(log)
@@ -78,38 +84,36 @@ fn passes_are_few_runs(rt: HostRuntime) -> Result<(), Fail> {
     Ok(())
 }
 
-// Accesses of an insert into a table of 65,536 slots.
-#[test]
-fn insert_into_a_large_table(rt: HostRuntime) -> Result<(), Fail> {
-    let mut log = Log::new(rt.alloc());
-    log.room(1)?;
-    log.push(Access::Make {
+// The accesses of an insert into a table of 65,536 slots.
+fn insert_accesses(alloc: Global) -> Result<Log, NoMemory> {
+    let mut log = Log::new(alloc);
+    let made = Access::Make {
         region: 2,
         blocks: 65536,
         len: 49,
-    });
+    };
+    list(&mut log, made)?;
     for place in 0..65536 {
-        log.room(1)?;
-        log.push(Access::Read { region: 1, place });
+        list(&mut log, Access::Read { region: 1, place })?;
     }
     for place in 0..65536 {
-        log.room(2)?;
-        log.push(Access::Read { region: 1, place });
-        log.push(Access::Write { region: 2, place });
+        list(&mut log, Access::Read { region: 1, place })?;
+        list(&mut log, Access::Write { region: 2, place })?;
     }
-    log.room(1)?;
-    log.push(Access::Discard { region: 1 });
+    list(&mut log, Access::Discard { region: 1 })?;
+    Ok(log)
+}
+
+#[test]
+fn insert_into_a_large_table(rt: HostRuntime) -> Result<(), Fail> {
+    let log = insert_accesses(rt.alloc())?;
     assert_eq!(rt; log.runs(), 4);
     assert_eq!(rt; log.count(), 196610);
-    if log.count() > 196608 {
-        assert_eq!(rt;
-            log.nth(196608),
-            Access::Write {
-                region: 2,
-                place: 65535
-            }
-        );
-    }
+    let last = Access::Write {
+        region: 2,
+        place: 65535,
+    };
+    assert!(rt; log.nth(196608) == last);
     Ok(())
 }
 
@@ -121,14 +125,12 @@ fn stores_blocks(rt: HostRuntime) -> Result<(), Fail> {
     store.write(1, 1, &[7; 33])?;
     let mut block = [0; 33];
     store.read(1, 1, &mut block)?;
-    assert_eq!(rt; block, [7; 33]);
-    assert_eq!(rt;
-        store.nth(1),
-        Access::Write {
-            region: 1,
-            place: 1
-        }
-    );
+    assert!(rt; block == [7; 33]);
+    let written = Access::Write {
+        region: 1,
+        place: 1,
+    };
+    assert!(rt; store.nth(1) == written);
     store.discard(1)?;
     assert_eq!(rt; store.count(), 4);
     Ok(())
