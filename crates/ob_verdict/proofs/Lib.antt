@@ -10,6 +10,7 @@ pub mod AccessedProof
 pub mod SettleProof
 pub mod SeenProof
 pub mod LawfulProof
+pub mod FullProof
 pub mod AnswerProof
 pub mod InPlaceProof
 pub mod MovingProof
