@@ -1,6 +1,6 @@
 -- A statement leaves the tables in place: as many slots, distinct keys, and columns that name their table.
-use Rattle.std.proofs.Common.{◌≡◌, ◌≢◌, ℕ, suc, zero, ◌+◌, ◌<◌, Bool, true, false, List, [], ◌∷◌, ◌++◌, map, length, inl, inr, refl, sym, ◌∙◌, ap, subst, cond, arith}
-use Rattle.std.specs.Prelude.{Option, Some, None, filter, not, bytes_eq, slice_get, slice_set, ◌||◌, ◌==◌, if◌then◌else◌}
+use Rattle.std.proofs.Common.{◌≡◌, ℕ, suc, ◌<◌, Bool, true, false, List, [], ◌∷◌, ◌++◌, map, length, inl, inr, refl, sym, ◌∙◌, ap, subst, cond, arith}
+use Rattle.std.specs.Prelude.{Option, Some, None, filter, not, bytes_eq, ◌||◌, ◌==◌, if◌then◌else◌}
 use Rattle.std.proofs.lemmas.Bool.Decides.{nat_tests}
 use Rattle.std.specs.List.{list_any}
 use Rattle.std.specs.Option.{option_map, option_map_or}
@@ -15,20 +15,20 @@ use Rattle.ob_base.specs.declared.schema.Shape.{Shape}
 use Rattle.ob_base.specs.declared.schema.Shape.TheVariants.{Flat}
 use Rattle.ob_base.specs.declared.skeleton.NewColumn.{NewColumn}
 use Rattle.ob_base.specs.Limits.{buffered}
-use Rattle.ob_base.specs.Lists.{first, has_repeats, places_from}
+use Rattle.ob_base.specs.Lists.{has_repeats}
 use Rattle.ob_base.specs.Schemas.{Columns, columns_of, key_place, new_column}
 use Rattle.ob_base.specs.Stored.{Stored, headings, stored_at, changed_at, dropped_at}
 use Rattle.ob_row.specs.Bags.{Inserts, here, further}
 use Rattle.ob_row.specs.Condition.{Condition}
 use Rattle.ob_row.specs.declared.cell.Cell.{Cell}
 use Rattle.ob_row.specs.Rows.{Row, agree_at, cell_at, options_eq, has_key, keys_repeat, with_cells}
-use Rattle.ob_row.specs.Slots.{Slots, rows, emptied, fill_first, empty_slots}
+use Rattle.ob_row.specs.Slots.{Slots, rows, emptied, fill_first}
 use Rattle.ob_row.specs.Truth.{is_true, updated}
 use Rattle.ob_row.proofs.PairLemmas.{cell_eq-refl, options_eq-both}
 use Rattle.ob_sql.specs.declared.stmt.Set.{Set as SetStmt}
 use Rattle.ob_sql.specs.declared.stmt.Stmt.{Stmt}
 use Rattle.ob_sql.specs.declared.stmt.Stmt.TheVariants.{Create, Insert, Update, Delete, Drop as DropTable, SelectRows as RowsStmt, SelectTotals as TotalsStmt}
-use Rattle.ob_names.specs.Names.{columns_at, place_of, unqualified}
+use Rattle.ob_names.specs.Names.{columns_at}
 use Rattle.ob_mean.specs.Conditions.{where_at}
 use Rattle.ob_mean.specs.Refusals.{early_refusal, sets_key, limits_of}
 use Rattle.ob_mean.specs.Step.{Database, insert_refusal, late_refusal, new_row, set_cells, followed}
