@@ -1,7 +1,7 @@
 -- Sessions of the model that differ in the order of their tables, in where these lie, and in how many accesses were asked: they
 -- answer alike, as long as no statement comes too late.
 use Rattle.std.specs.Prelude.{is_some, if◌then◌else◌}
-use Rattle.std.proofs.Common.{◌≡◌, ◌<◌, ◌≤◌, ◌+◌, ◌^◌, ◌++◌, ℕ, false, List, [], ◌∷◌, length, map, Option, Some, None, Ok, Err, refl, sym, ◌∙◌, ap, subst, arith, length-append}
+use Rattle.std.proofs.Common.{◌≡◌, ◌<◌, ◌≤◌, ◌+◌, ◌^◌, ◌++◌, ℕ, Bool, true, false, List, [], ◌∷◌, length, map, Option, Some, None, Ok, Err, refl, sym, ◌∙◌, ap, subst, arith, length-append}
 use Rattle.std.proofs.lemmas.Bool.Decides.{nat_tests}
 use Rattle.std.specs.Option.{option_map_or, option_or}
 use Rattle.ob_base.specs.Labels.{column_label}
@@ -16,18 +16,24 @@ use Rattle.ob_base.specs.declared.seen.End.TheVariants.{Static}
 use Rattle.ob_base.specs.declared.seen.Seen.{Seen}
 use Rattle.ob_base.specs.declared.skeleton.Source.{Source}
 use Rattle.ob_base.specs.declared.skeleton.Source.TheVariants.{Table as OneTable, Join}
+use Rattle.ob_headline.proofs.FlatLemmas.{nothing_drawn}
 use Rattle.ob_headline.proofs.InStep.{InStep, keeps_step}
+use Rattle.ob_headline.specs.Bases.{undrawn}
 use Rattle.ob_headline.specs.Failures.{failures, outcome_failures}
 use Rattle.ob_headline.specs.Words.{Answer}
 use Rattle.ob_headline.specs.Accesses.{AreSeen}
 use Rattle.ob_headline.specs.Meaning.{AnswersFrom, AnswersAs, AnswersIn}
 use Rattle.ob_headline.specs.declared.ending.Ending.{Ending}
+use Rattle.ob_mean.proofs.FlatLemmas.{seen_is, settle_is}
+use Rattle.ob_mean.proofs.FlatSessions.{after_flat, room_flat}
+use Rattle.ob_mean.proofs.ReplayLemmas.{after_room}
+use Rattle.ob_mean.specs.Flats.{AreFlat}
 use Rattle.ob_mean.specs.Prints.{is_join, item_label, label_at, labels_of}
 use Rattle.ob_mean.specs.Refusals.{early_refusal, limits_of}
-use Rattle.ob_mean.specs.Replay.{Broken, IsCutOff, Session, Spelt, after, after_all, head_of, rest_of, seen_now, seen_or_cut, served}
+use Rattle.ob_mean.specs.Replay.{Broken, IsCutOff, Session, Spelt, after, after_all, head_of, is_full_now, rest_of, seen_now, seen_or_cut, served}
 use Rattle.ob_mean.specs.Settle.{settle, settled}
 use Rattle.ob_mean.specs.Step.{accepted_answer, answered, followed, refusal_of, select_condition}
-use Rattle.ob_mean.specs.Verdict.{Tables, database, ended, forced_refusal, is_late, last_refusal, plan_for, refusal, refusal_by, seen, seen_by, seen_started, seen_unpadded, seen_with, selected_places, source_slots, unpadded_refusal, verdict}
+use Rattle.ob_mean.specs.Verdict.{Draws, Tables, accessed, database, ended, forced_refusal, is_late, last_refusal, plan_for, refusal, refusal_by, rows_refusal, seen, seen_by, seen_started, seen_unpadded, seen_with, selected_places, source_slots, unpadded_refusal, verdict}
 use Rattle.ob_mean.specs.declared.answer.Answer.{Answer as Meaning}
 use Rattle.ob_row.specs.Slots.{Slots, selected}
 use Rattle.ob_row.specs.Truth.{is_true}
@@ -46,7 +52,11 @@ plain p = record p { tables = []; next_region = 0 }
 
 pub record SessionsAlike (s t : Session) : Type 0 where
   pub settings : plain s.public ≡ plain t.public
+  pub drawn : s.draws ≡ undrawn
+  pub drawn_too : t.draws ≡ undrawn
   pub tables : AreAlike s.tables t.tables
+  pub flat : AreFlat (headings s.tables)
+  pub flat_too : AreFlat (headings t.tables)
   pub here : InStep s
   pub there : InStep t
 
@@ -80,7 +90,10 @@ module _ (p : Public) (ts : Tables) where
   last_plain (Update table sets cond) = refl
   last_plain (Delete table cond) = refl
   last_plain (DropTable table) = refl
-  last_plain (RowsStmt q) = ap (refusal_by p.pad (plain p)) (places_plain q) ∙ refusal_plain p.pad (selected_places p q ts)
+  last_plain (RowsStmt q) =
+      let same : rows_refusal (plain p) (selected_places (plain p) q ts) ≡ rows_refusal p (selected_places p q ts) =
+      ap (refusal_by p.pad (plain p)) (places_plain q) ∙ refusal_plain p.pad (selected_places p q ts) in
+      ap (λ (o : Option Refusal). if is_some (accessed ts (RowsStmt q)) then None else o) same
   last_plain (TotalsStmt q) = refl
 
   with_plain : (plan : Plan) (places : List ℕ) → seen_with (plain p) plan places ≡ seen_with p plan places
@@ -109,8 +122,17 @@ module _ (p : Public) (ts : Tables) where
       (λ i. seen_by p.pad (plain p) (length (slots i)) (places i)) ∙ seen_plain p.pad (length (source_slots p q.source ts)) (selected_places p q ts)
   started_plain (TotalsStmt q) = refl
 
--- by settings that are the same, and neither late
-module _ (p q : Public) (settings : plain p ≡ plain q) (m n : ℕ) (late : is_late m ≡ is_late n) (ts : Tables) (stmt : Stmt) where
+  settled_plain : (d : Draws) (stmt : Stmt) → settled d (plain p) ts stmt ≡ settled d p ts stmt
+  settled_plain d (Create table columns capacity shape) = refl
+  settled_plain d (Insert table columns values) = refl
+  settled_plain d (Update table sets cond) = refl
+  settled_plain d (Delete table cond) = refl
+  settled_plain d (DropTable table) = refl
+  settled_plain d (RowsStmt q) = refl
+  settled_plain d (TotalsStmt q) = refl
+
+-- by settings that are the same, and neither late, over flat tables
+module _ (d : Draws) (p q : Public) (settings : plain p ≡ plain q) (m n : ℕ) (late : is_late m ≡ is_late n) (ts : Tables) (stmt : Stmt) (flat : AreFlat (headings ts)) where
   last_same : last_refusal p ts stmt ≡ last_refusal q ts stmt
   last_same = sym (last_plain p ts stmt) ∙ ap (λ (r : Public). last_refusal r ts stmt) settings ∙ last_plain q ts stmt
 
@@ -126,11 +148,20 @@ module _ (p q : Public) (settings : plain p ≡ plain q) (m n : ℕ) (late : is_
   verdict_same : verdict p m ts stmt ≡ verdict q n ts stmt
   verdict_same = ap (λ (o : Option Refusal). answered o (accepted_answer (database ts) stmt)) refusal_same
 
-  seen_same : seen p m ts stmt ≡ seen q n ts stmt
-  seen_same = λ i. if is_some (early_refusal (late i) (limits_same i) (headings ts) stmt) then ended Static else started_same i
+  settled_same : settled d p ts stmt ≡ settled d q ts stmt
+  settled_same = sym (settled_plain p ts d stmt) ∙ ap (λ (r : Public). settled d r ts stmt) settings ∙ settled_plain q ts d stmt
 
-  settle_same : settle p m ts stmt ≡ settle q n ts stmt
-  settle_same = ap (λ (o : Option Refusal). followed o (settled ts stmt) ts) refusal_same
+  seen_same : seen d p m ts stmt ≡ seen d q n ts stmt
+  seen_same =
+      seen_is p ts stmt flat d m
+      ∙ (λ i. if is_some (early_refusal (late i) (limits_same i) (headings ts) stmt) then ended Static else started_same i)
+      ∙ sym (seen_is q ts stmt flat d n)
+
+  settle_same : settle d p m ts stmt ≡ settle d q n ts stmt
+  settle_same =
+      settle_is p ts stmt flat d m
+      ∙ (λ i. followed (refusal_same i) (settled_same i) ts)
+      ∙ sym (settle_is q ts stmt flat d n)
 
 -- ---- labels
 labels_same : (hs gs : List Heading) → SameHeadings hs gs → (stmt : Stmt) → labels_of stmt hs ≡ labels_of stmt gs
@@ -151,14 +182,19 @@ module _ (s t : Session) (alike : SessionsAlike s t) (few : s.asked < 2 ^ 63) (f
   late : is_late s.asked ≡ is_late t.asked
   late = early s.asked few ∙ sym (early t.asked few_too)
 
-  acts : ActsAlike t.public t.asked s.tables t.tables stmt
-  acts = order_is_nothing t.public t.asked s.tables t.tables stmt alike.tables
+  draws_same : s.draws ≡ t.draws
+  draws_same = alike.drawn ∙ sym alike.drawn_too
+
+  acts : ActsAlike t.draws t.public t.asked s.tables t.tables stmt
+  acts = order_is_nothing t.draws t.public t.asked s.tables t.tables stmt alike.tables
 
   answer_alike : verdict s.public s.asked s.tables stmt ≡ verdict t.public t.asked t.tables stmt
-  answer_alike = verdict_same s.public t.public alike.settings s.asked t.asked late s.tables stmt ∙ acts.answer
+  answer_alike = verdict_same t.draws s.public t.public alike.settings s.asked t.asked late s.tables stmt alike.flat ∙ acts.answer
 
   shows_alike : seen_now s stmt ≡ seen_now t stmt
-  shows_alike = seen_same s.public t.public alike.settings s.asked t.asked late s.tables stmt ∙ acts.shows
+  shows_alike =
+      ap (λ (d : Draws). seen d s.public s.asked s.tables stmt) draws_same
+      ∙ seen_same t.draws s.public t.public alike.settings s.asked t.asked late s.tables stmt alike.flat ∙ acts.shows
 
   labels_alike : labels_of stmt (headings_of s.public.tables) ≡ labels_of stmt (headings_of t.public.tables)
   labels_alike =
@@ -171,24 +207,37 @@ module _ (s t : Session) (alike : SessionsAlike s t) (few : s.asked < 2 ^ 63) (f
       subst (λ (labels : List (List ℕ)). AnswersAs labels stmt (verdict t.public t.asked t.tables stmt) one) labels_alike
       (subst (λ (meaning : Meaning). AnswersAs (labels_of stmt (headings_of s.public.tables)) stmt meaning one) answer_alike told)
 
+  settles_alike : settle s.draws s.public s.asked s.tables stmt ≡ settle t.draws t.public t.asked s.tables stmt
+  settles_alike =
+      ap (λ (d : Draws). settle d s.public s.asked s.tables stmt) draws_same
+      ∙ settle_same t.draws s.public t.public alike.settings s.asked t.asked late s.tables stmt alike.flat
+
   after_alike : SessionsAlike (after None s stmt) (after None t stmt)
   after_alike = record {
     settings = alike.settings;
-    tables =
-        subst (λ (ts : Tables). AreAlike ts (settle t.public t.asked t.tables stmt)) (sym (settle_same s.public t.public alike.settings s.asked t.asked late s.tables stmt)) acts.after;
-    here = keeps_step s stmt alike.here alike.tables.apart;
-    there = keeps_step t stmt alike.there alike.tables.too;
+    drawn = nothing_drawn s stmt None (subst AreFlat alike.here alike.flat) tt ∙ alike.drawn;
+    drawn_too = nothing_drawn t stmt None (subst AreFlat alike.there alike.flat_too) tt ∙ alike.drawn_too;
+    tables = subst (λ (ts : Tables). AreAlike ts (settle t.draws t.public t.asked t.tables stmt)) (sym settles_alike) acts.after;
+    flat = after_flat None s stmt alike.flat;
+    flat_too = after_flat None t stmt alike.flat_too;
+    here = keeps_step s stmt alike.flat alike.here alike.tables.apart;
+    there = keeps_step t stmt alike.flat_too alike.there alike.tables.too;
   }
 
 -- ---- many texts
 pub grows : (s : Session) (spelt : List Spelt) (broken : Broken) → s.asked ≤ (after_all s spelt broken).asked
 grows s [] broken = omega arith
-grows s (Ok stmt ∷ spelt) broken = let more = grows (after (head_of broken) s stmt) spelt (rest_of broken) in omega (arith, more)
+grows s (Ok stmt ∷ spelt) broken =
+    let more = grows (after (head_of broken) s stmt) spelt (rest_of broken) in
+    elim (is_full_now s stmt) as (λ (full : Bool). s.asked ≤ (if full then s else after_all (after (head_of broken) s stmt) spelt (rest_of broken)).asked)
+    [ true ↦ omega arith | false ↦ omega (arith, more) ]
 grows s (Err at ∷ spelt) broken = grows s spelt (rest_of broken)
 
 pub keeps_plain : (s : Session) (spelt : List Spelt) (broken : Broken) → plain (after_all s spelt broken).public ≡ plain s.public
 keeps_plain s [] broken = refl
-keeps_plain s (Ok stmt ∷ spelt) broken = keeps_plain (after (head_of broken) s stmt) spelt (rest_of broken)
+keeps_plain s (Ok stmt ∷ spelt) broken =
+    elim (is_full_now s stmt) as (λ (full : Bool). plain (if full then s else after_all (after (head_of broken) s stmt) spelt (rest_of broken)).public ≡ plain s.public)
+    [ true ↦ refl | false ↦ keeps_plain (after (head_of broken) s stmt) spelt (rest_of broken) ]
 keeps_plain s (Err at ∷ spelt) broken = keeps_plain s spelt (rest_of broken)
 
 -- a statement that is answered otherwise than that the store failed was not cut off
@@ -196,12 +245,15 @@ uncut : (broken : Option ℕ) (s : Session) (stmt : Stmt) (one : Answer) → out
 uncut None s stmt one none told = refl
 uncut (Some n) s stmt one none told = let failed = ap outcome_failures told.outcome in absurd (omega (arith, failed, none))
 
+-- more texts behind sessions that are alike
+abbrev Goes : Ending → (more : List Spelt) → (others : List Answer) → (behind : List Served) → (u v : Session) → Type 0
+Goes f more others behind u v = SessionsAlike u v → (after_all v more []).asked < 2 ^ 63 → AnswersFrom f v more [] others behind []
+
 -- these texts, each of which was answered and none by the store's fault, are answered alike, and so are more behind them
 pub answers_on : (Leaves : Public → Stmt → Seen → Type 0) (e f : Ending) (spelt : List Spelt) (s t : Session) (broken : Broken) (answers : List Answer) (seen : List Served) (part : List ℕ) (more : List Spelt) (others : List Answer) (behind : List Served)
     → SessionsAlike s t → length answers ≡ length spelt → failures answers ≡ 0 → AnswersFrom e s spelt broken answers seen part → AreSeen Leaves s.public s.asked spelt answers seen
     → s.asked + length (trace s.public seen) < 2 ^ 63 → (after_all t (spelt ++ more) []).asked < 2 ^ 63
-    → (SessionsAlike (after_all s spelt broken) (after_all t spelt []) → (after_all (after_all t spelt []) more []).asked < 2 ^ 63 → AnswersFrom f (after_all t spelt []) more [] others behind [])
-    → AnswersFrom f t (spelt ++ more) [] (answers ++ others) (seen ++ behind) []
+    → Goes f more others behind (after_all s spelt broken) (after_all t spelt []) → AnswersFrom f t (spelt ++ more) [] (answers ++ others) (seen ++ behind) []
 unfolding AnswersFrom AreSeen failures
 answers_on Leaves e f [] s t broken answers seen part more others behind alike each none told lawful few few_too follows =
     subst (λ (a : List Answer). AnswersFrom f t more [] (a ++ others) (seen ++ behind) []) (sym told.0)
@@ -216,8 +268,10 @@ answers_on Leaves e f (Ok stmt ∷ spelt) s t broken (one ∷ answers) (x ∷ se
     let entry : x ≡ served None s stmt = λ i. record { skeleton = lawful.0 i; seen = here.2 i } in
     let long = length-append (script s.public x.skeleton x.seen) (trace (next s.public x.skeleton x.seen) seen) in
     let soon : s.asked < 2 ^ 63 = omega (arith, few) in
+    let few_behind : (after_all (after None t stmt) (spelt ++ more) []).asked < 2 ^ 63 =
+    subst (λ (u : Session). u.asked < 2 ^ 63) (after_room t stmt (spelt ++ more) [] (room_flat t stmt alike.flat_too)) few_too in
     let grown = grows (after None t stmt) (spelt ++ more) [] in
-    let soon_too : t.asked < 2 ^ 63 = omega (arith, few_too, grown) in
+    let soon_too : t.asked < 2 ^ 63 = omega (arith, few_behind, grown) in
     let few_all : s.asked + length (script s.public x.skeleton x.seen ++ trace (next s.public x.skeleton x.seen) seen) < 2 ^ 63 = few in
     let rest : s.asked + length (script s.public x.skeleton x.seen) + length (trace (next s.public x.skeleton x.seen) seen) < 2 ^ 63 = omega (arith, few_all, long) in (
       tt,
@@ -227,7 +281,8 @@ answers_on Leaves e f (Ok stmt ∷ spelt) s t broken (one ∷ answers) (x ∷ se
           (after_alike s t alike soon soon_too stmt) (omega (arith, each)) (omega (arith, none)) here.3
           (subst (λ (y : Served). AreSeen Leaves (next s.public y.skeleton y.seen) (s.asked + length (script s.public y.skeleton y.seen)) spelt answers seen) entry lawful.3)
           (subst (λ (y : Served). s.asked + length (script s.public y.skeleton y.seen) + length (trace (next s.public y.skeleton y.seen) seen) < 2 ^ 63) entry rest)
-          few_too
-          (subst (λ (o : Option ℕ). SessionsAlike (after_all (after o s stmt) spelt (rest_of broken)) (after_all (after None t stmt) spelt [])
-          → (after_all (after_all (after None t stmt) spelt []) more []).asked < 2 ^ 63 → AnswersFrom f (after_all (after None t stmt) spelt []) more [] others behind []) whole follows),
+          few_behind
+          (subst (λ (o : Option ℕ). Goes f more others behind (after_all (after o s stmt) spelt (rest_of broken)) (after_all (after None t stmt) spelt [])) whole
+          (subst (λ (u : Session). Goes f more others behind u (after_all (after None t stmt) spelt [])) (after_room s stmt spelt broken (room_flat s stmt alike.flat))
+          (subst (λ (v : Session). Goes f more others behind (after_all s (Ok stmt ∷ spelt) broken) v) (after_room t stmt spelt [] (room_flat t stmt alike.flat_too)) follows))),
     )

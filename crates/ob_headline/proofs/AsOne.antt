@@ -2,7 +2,7 @@
 use Rattle.std.specs.Prelude.{MatchBool, ⊤, if◌then◌else◌}
 use Rattle.std.proofs.Common.{◌≡◌, ◌<◌, ◌≤◌, ◌+◌, ◌^◌, ◌++◌, ℕ, Bool, true, false, IsTrue, List, [], ◌∷◌, length, Option, Some, None, Result, Ok, Err, inl, inr, refl, sym, ◌∙◌, ap, subst, arith}
 use Rattle.clap.specs.Words.{Text}
-use Rattle.ob_base.specs.Stored.{headings_of}
+use Rattle.ob_base.specs.Stored.{headings, headings_of}
 use Rattle.ob_base.specs.declared.config.Config.{Config}
 use Rattle.ob_base.specs.declared.mark.Mark.{Mark}
 use Rattle.ob_base.specs.declared.mark.Mark.TheVariants.{Fresh, InUse, Closed}
@@ -11,11 +11,12 @@ use Rattle.ob_reopen.proofs.ByNameAlike.{named_alike}
 use Rattle.ob_reopen.specs.Closed.{is_used_up}
 use Rattle.ob_reopen.specs.Resting.{Rests, by_name}
 use Rattle.ob_headline.proofs.AlikeSessions.{SessionsAlike, answers_on, keeps_plain, plain}
+use Rattle.ob_headline.proofs.FlatLemmas.{rested_flat}
 use Rattle.ob_headline.proofs.InStep.{InStep}
 use Rattle.ob_headline.proofs.MarkLemmas.{marks_held}
 use Rattle.ob_headline.proofs.RerunLemmas.{answered_all}
 use Rattle.ob_headline.proofs.StopLemmas.{begun_stops, closing_stops}
-use Rattle.ob_headline.specs.Bases.{Base, FromEach, Opened, fresh, public_with, reopened, session_at, start}
+use Rattle.ob_headline.specs.Bases.{Base, FromEach, Opened, fresh, public_with, reopened, session_at, start, undrawn}
 use Rattle.ob_headline.specs.Endings.{status_of}
 use Rattle.ob_headline.specs.Failures.{failures}
 use Rattle.ob_headline.specs.Keeping.{BeginsFrom, EndsWith, closing_named, kept_status}
@@ -31,6 +32,7 @@ use Rattle.ob_headline.specs.declared.ending.Ending.TheVariants.{Usage, BadKey, 
 use Rattle.ob_headline.specs.declared.ending.KeptEnding.{KeptEnding}
 use Rattle.ob_headline.specs.declared.ending.KeptEnding.TheVariants.{Plain, OtherPack, NotClosed as LeftOpen, KeeperFault, StoreFault}
 use Rattle.ob_headline.specs.declared.ending.Report.{Report}
+use Rattle.ob_mean.specs.Flats.{AreFlat}
 use Rattle.ob_mean.specs.Replay.{Broken, Session, Spelt, after_all}
 use Rattle.ob_mean.specs.Verdict.{Tables}
 use Rattle.ob_reopen.specs.Closings.{mark_of}
@@ -110,6 +112,8 @@ record Waits (words : List Text) (secret : List ℕ) (held : Option Mark) (kept 
   mark : Mark
   is : held ≡ Some mark
   settings : plain t.public ≡ plain (public_with (settings_of kept_usage words))
+  drawn : t.draws ≡ undrawn
+  flat : AreFlat (headings t.tables)
   step : InStep t
   at : WaitsAt secret mark kept t.tables
 
@@ -120,21 +124,25 @@ record Begins (base : Base) (t : Session) : Type 1 where
   from : (P : Session → Type 0) → FromEach base P → P (session_at base tables)
 
 begins_at : (mark : Mark) (settings : Option Config) (config : Config) (secret : List ℕ) (base : Base) (old new : StoreState) (t : Session) → settings ≡ Some config → BeginsFrom mark config (keys_of secret) base old new
-    → WaitsAt secret mark old.kept t.tables → plain t.public ≡ plain (public_with settings) → InStep t → IsTrue old.tells → new.lie ≡ None → Begins base t
-begins_at Fresh settings config secret base old new t set begins waits same step tells honest =
+    → WaitsAt secret mark old.kept t.tables → plain t.public ≡ plain (public_with settings) → t.draws ≡ undrawn → AreFlat (headings t.tables) → InStep t → IsTrue old.tells → new.lie ≡ None → Begins base t
+begins_at Fresh settings config secret base old new t set begins waits same drawn flat step tells honest =
     let is : base ≡ fresh (Some config) = begins.0 in
     record {
       tables = [];
       alike = record {
         settings = ap (λ (b : Base). plain b.public) is ∙ sym (ap (λ (o : Option Config). plain (public_with o)) set) ∙ sym same;
+        drawn = refl;
+        drawn_too = drawn;
         tables = waits;
+        flat = tt;
+        flat_too = flat;
         here = ap (λ (b : Base). headings_of b.public.tables) (sym is);
         there = step;
       };
       from = λ P. subst (λ (b : Base). FromEach b P → P (session_at b [])) (sym is) (λ each. each);
     }
-begins_at InUse settings config secret base old new t set begins waits same step tells honest = absurd begins
-begins_at (Closed region blocks number pack) settings config secret base old new t set begins waits same step tells honest =
+begins_at InUse settings config secret base old new t set begins waits same drawn flat step tells honest = absurd begins
+begins_at (Closed region blocks number pack) settings config secret base old new t set begins waits same drawn flat step tells honest =
     let closing = closing_named region blocks number pack in
     let o : Opened = record { keys = keys_of secret; closing = closing; listed = begins.1.listed; old = old; new = new } in
     let is : base ≡ reopened config o = begins.1.is in
@@ -143,7 +151,11 @@ begins_at (Closed region blocks number pack) settings config secret base old new
       tables = tables;
       alike = record {
         settings = ap (λ (b : Base). plain b.public) is ∙ sym (ap (λ (o : Option Config). plain (public_with o)) set) ∙ sym same;
+        drawn = refl;
+        drawn_too = drawn;
         tables = waits.2;
+        flat = rested_flat (keys_of secret) closing old.kept tables waits.1;
+        flat_too = flat;
         here = begins.1.told tells honest tables waits.1;
         there = step;
       };
@@ -186,7 +198,7 @@ module _ (words : List Text) (secret : List ℕ) (f : Ending) (one : OneRun word
   begins =
       begins_at run.began.mark (settings_of kept_usage words) run.config run.secret run.base s0 run.opened t run.set run.began.begins
       (subst (λ (x : List ℕ). WaitsAt x run.began.mark s0.kept t.tables) (sym keyed) (subst (λ (m : Mark). WaitsAt secret m s0.kept t.tables) (sym mark_read) waits.at))
-      waits.settings waits.step tells honest_opened
+      waits.settings waits.drawn waits.flat waits.step tells honest_opened
 
   tells_opened : IsTrue run.opened.tells
   tells_opened = tells_on run.began.mark run.config (keys_of run.secret) run.base s0 run.opened run.began.begins tells
@@ -227,6 +239,8 @@ module _ (words : List Text) (secret : List ℕ) (f : Ending) (one : OneRun word
     mark = mark_made tables.closing;
     is = held_behind;
     settings = ap (λ (v : Session). plain v.public) same ∙ keeps_plain t run.session.story.spelt [] ∙ waits.settings;
+    drawn = alike.drawn_too;
+    flat = alike.flat_too;
     step = alike.there;
     at = waits_made used u.tables is (λ free.
         let ts = (after_all s run.session.story.spelt broken).tables in
@@ -275,7 +289,7 @@ all_as_one words secret f (one ∷ runs) held kept t goes waits few =
 pub answer_as_one : (words : List Text) (secret : List ℕ) (kept : ℕ → Option KeptRegion) (runs : List (OneRun words)) → GoOn secret (Some Fresh) kept runs → AnswerAsOne runs
 answer_as_one words secret kept runs goes few =
     all_as_one words secret (Ran (Ok (any_refused (all_answers runs)))) runs (Some Fresh) kept (start (settings_of kept_usage words)) goes
-    (record { mark = Fresh; is = refl; settings = refl; step = none_there (settings_of kept_usage words); at = record { count = refl; found = λ name. refl; apart = refl; too = refl } }) few
+    (record { mark = Fresh; is = refl; settings = refl; drawn = refl; flat = tt; step = none_there (settings_of kept_usage words); at = record { count = refl; found = λ name. refl; apart = refl; too = refl } }) few
   where
     none_there : (settings : Option Config) → InStep (start settings)
     none_there None = refl

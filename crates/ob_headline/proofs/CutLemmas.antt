@@ -1,12 +1,12 @@
 -- A statement that was cut off asks a first part of what it asks whole.
-use Rattle.std.specs.Prelude.{nat_le}
+use Rattle.std.specs.Prelude.{nat_le, nat_lt}
 use Rattle.std.proofs.Common.{◌≡◌, ◌⊎◌, inl, inr, ◌+◌, ◌-◌, ◌≤◌, ◌<◌, ℕ, Bool, true, false, List, [], ◌++◌, length, take, drop, Option, Some, None, refl, sym, ◌∙◌, ap, subst, append-nil, append_assoc, arith}
 use Rattle.std.proofs.lemmas.Bool.Decides.{nat_tests}
 use Rattle.std.proofs.lemmas.List.{length-append, take-append-drop, take-append-le}
 use Rattle.std.specs.Option.{option_map_or}
 use Rattle.ob_base.specs.Accesses.{discard_at}
 use Rattle.ob_base.specs.Limits.{buffered_blocks}
-use Rattle.ob_base.specs.Stored.{Stored, stored_at, stored_regions}
+use Rattle.ob_base.specs.Stored.{Stored, headings_of, stored_at, stored_regions}
 use Rattle.ob_base.specs.declared.access.Access.{Access}
 use Rattle.ob_base.specs.declared.config.Plan.{Plan}
 use Rattle.ob_base.specs.declared.config.Public.{Public}
@@ -17,9 +17,11 @@ use Rattle.ob_base.specs.declared.skeleton.Skeleton.{Skeleton}
 use Rattle.ob_base.specs.declared.skeleton.Skeleton.TheVariants.{Create, Insert, Update, Delete, Drop as DropTable, Rows, Groups}
 use Rattle.ob_base.specs.declared.skeleton.Source.TheVariants.{Table as OneTable, Join}
 use Rattle.ob_headline.specs.Words.{Begins}
+use Rattle.ob_mean.proofs.FlatLemmas.{MakesFlat, flat_whole, script_is}
+use Rattle.ob_mean.specs.Flats.{AreFlat}
 use Rattle.ob_mean.specs.Replay.{cut_at, count_end, done_of, ending_len, held_if, walk_end}
 use Rattle.ob_script.specs.Parts.{count_part, join_part}
-use Rattle.ob_script.specs.Script.{behind_count, blocks_of, extent_of, join_script, joined_extent, padded_part, result_part, rows_width, table_script, whole_script}
+use Rattle.ob_script.specs.Script.{behind_count, blocks_of, extent_of, join_script, joined_extent, padded_part, result_part, rows_width, flat_script, whole_script}
 
 take_begins : (n : ℕ) (part rest : List Access) → Begins (take n part) (part ++ rest)
 take_begins n part rest = record {
@@ -55,8 +57,8 @@ record Fixed (script : Option ℕ → Option Plan → Option Plan → Last → L
 
 abbrev HasParts : Public → Skeleton → Type 0
 HasParts p sk =
-    Fixed (λ k plan then end. whole_script p sk (holding k plan then end))
-    ⊎ ByCount (λ k plan then end. whole_script p sk (holding k plan then end)) (ending_len sk)
+    Fixed (λ k plan then end. flat_whole p sk (holding k plan then end))
+    ⊎ ByCount (λ k plan then end. flat_whole p sk (holding k plan then end)) (ending_len sk)
 
 -- a SELECT of rows behind these accesses; where results are padded, it is the same whatever is held
 select_parts : (pad : Option ℕ) (p : Public) (before : List Access) (g : ℕ) (t : _) (ending : List Access)
@@ -77,8 +79,8 @@ select_parts None p before g t ending =
     })
 
 table_parts : (p : Public) (o : Option (Stored ℕ))
-    → Fixed (λ k plan then end. option_map_or (table_script p (holding k plan then end)) o [])
-    ⊎ ByCount (λ k plan then end. option_map_or (table_script p (holding k plan then end)) o []) 0
+    → Fixed (λ k plan then end. option_map_or (flat_script p (holding k plan then end)) o [])
+    ⊎ ByCount (λ k plan then end. option_map_or (flat_script p (holding k plan then end)) o []) 0
 table_parts p None = inl (record { all = []; is = λ k plan then end. refl })
 table_parts p (Some t) = select_parts p.pad p [] p.next_region (extent_of t) []
 
@@ -94,12 +96,12 @@ join_parts p (Some left) (Some right) =
     select_parts p.pad p pairs (p.next_region + 1) from (discard_at p.next_region)
 
 parts : (p : Public) (sk : Skeleton) → HasParts p sk
-parts p (Create table cs n shape) = inl (record { all = whole_script p (Create table cs n shape) (holding None None None (None, Whole)); is = λ k plan then end. refl })
-parts p (Insert table cs) = inl (record { all = whole_script p (Insert table cs) (holding None None None (None, Whole)); is = λ k plan then end. refl })
-parts p (Update table cs) = inl (record { all = whole_script p (Update table cs) (holding None None None (None, Whole)); is = λ k plan then end. refl })
-parts p (Delete table) = inl (record { all = whole_script p (Delete table) (holding None None None (None, Whole)); is = λ k plan then end. refl })
-parts p (DropTable table) = inl (record { all = whole_script p (DropTable table) (holding None None None (None, Whole)); is = λ k plan then end. refl })
-parts p (Groups table cs key) = inl (record { all = whole_script p (Groups table cs key) (holding None None None (None, Whole)); is = λ k plan then end. refl })
+parts p (Create table cs n shape) = inl (record { all = flat_whole p (Create table cs n shape) (holding None None None (None, Whole)); is = λ k plan then end. refl })
+parts p (Insert table cs) = inl (record { all = flat_whole p (Insert table cs) (holding None None None (None, Whole)); is = λ k plan then end. refl })
+parts p (Update table cs) = inl (record { all = flat_whole p (Update table cs) (holding None None None (None, Whole)); is = λ k plan then end. refl })
+parts p (Delete table) = inl (record { all = flat_whole p (Delete table) (holding None None None (None, Whole)); is = λ k plan then end. refl })
+parts p (DropTable table) = inl (record { all = flat_whole p (DropTable table) (holding None None None (None, Whole)); is = λ k plan then end. refl })
+parts p (Groups table cs key) = inl (record { all = flat_whole p (Groups table cs key) (holding None None None (None, Whole)); is = λ k plan then end. refl })
 parts p (Rows (OneTable name) cs) = table_parts p (stored_at name (stored_regions p.tables))
 parts p (Rows (Join a b on equals) cs) = join_parts p (stored_at a (stored_regions p.tables)) (stored_at b (stored_regions p.tables))
 
@@ -128,29 +130,29 @@ cuts_within n part whole front mid rest a b few less = record {
   shorter = omega (arith, ap length a, ap length b, length-append front mid, length-append front rest, less);
 }
 
-module _ (script : Option ℕ → Option Plan → Option Plan → Last → List Access) (size : ℕ) (by : ByCount script size) (n done : ℕ) (last : n ≤ done + 1) where
+module _ (script : Option ℕ → Option Plan → Option Plan → Last → List Access) (size : ℕ) (by : ByCount script size) (n done : ℕ) (leaf : Option ℕ) (last : n ≤ done + 1) where
   split : (k : ℕ) (plan then : Option Plan) (end : Last) → script (Some k) plan then end ≡ (by.front ++ by.first plan k) ++ (by.second then k ++ by.ending)
   split k plan then end = by.counted k plan then end ∙ sym (append_assoc by.front (by.first plan k) (by.second then k ++ by.ending))
 
   -- the result of the first plan was not read back
-  unwalked : (k : ℕ) (plan then : Option Plan) (end : Last) → done < length (script (Some k) plan None end) - (size + 1) → CutsOff (script (Some k) plan None (None, Cut n)) (script (Some k) plan then end) n
+  unwalked : (k : ℕ) (plan then : Option Plan) (end : Last) → done < length (script (Some k) plan None end) - (size + 1) → CutsOff (script (Some k) plan None (leaf, Cut n)) (script (Some k) plan then end) n
   unwalked k plan then end less =
       let front = by.front ++ by.first plan k in
       let none : by.second None k ++ by.ending ≡ by.ending = ap (λ (l : List Access). l ++ by.ending) (by.unsecond k) in
       let long : length (script (Some k) plan None end) ≡ length front + size =
       ap length (split k plan None end ∙ ap (λ (l : List Access). front ++ l) none) ∙ length-append front by.ending ∙ ap (λ (m : ℕ). length front + m) by.sized in
-      cuts_within n (script (Some k) plan None (None, Cut n)) (script (Some k) plan then end) front (by.second None k ++ by.ending) (by.second then k ++ by.ending)
-      (split k plan None (None, Cut n)) (split k plan then end) (omega (arith, last, less, long))
+      cuts_within n (script (Some k) plan None (leaf, Cut n)) (script (Some k) plan then end) front (by.second None k ++ by.ending) (by.second then k ++ by.ending)
+      (split k plan None (leaf, Cut n)) (split k plan then end) (omega (arith, last, less, long))
       (omega (arith, ap length none, length-append (by.second then k) by.ending))
 
   cutting : (held walked : Bool) (k : Option ℕ) (plan then : Option Plan) (end : Last) → (walked ≡ false → done < length (script k plan None end) - (size + 1))
-      → CutsOff (script (held_if held k) (held_if held plan) (held_if walked then) (None, Cut n)) (script k plan then end) n
-  cutting false walked None plan then end short = cuts_same n _ _ by.front (by.uncounted None (held_if walked then) (None, Cut n)) (by.uncounted plan then end)
+      → CutsOff (script (held_if held k) (held_if held plan) (held_if walked then) (leaf, Cut n)) (script k plan then end) n
+  cutting false walked None plan then end short = cuts_same n _ _ by.front (by.uncounted None (held_if walked then) (leaf, Cut n)) (by.uncounted plan then end)
   cutting false walked (Some k) plan then end short =
-      cuts_front n _ _ by.front (by.first plan k ++ (by.second then k ++ by.ending)) (by.uncounted None (held_if walked then) (None, Cut n)) (by.counted k plan then end)
-  cutting true walked None plan then end short = cuts_same n _ _ by.front (by.uncounted plan (held_if walked then) (None, Cut n)) (by.uncounted plan then end)
+      cuts_front n _ _ by.front (by.first plan k ++ (by.second then k ++ by.ending)) (by.uncounted None (held_if walked then) (leaf, Cut n)) (by.counted k plan then end)
+  cutting true walked None plan then end short = cuts_same n _ _ by.front (by.uncounted plan (held_if walked then) (leaf, Cut n)) (by.uncounted plan then end)
   cutting true true (Some k) plan then end short =
-      cuts_same n _ _ (by.front ++ (by.first plan k ++ (by.second then k ++ by.ending))) (by.counted k plan then (None, Cut n)) (by.counted k plan then end)
+      cuts_same n _ _ (by.front ++ (by.first plan k ++ (by.second then k ++ by.ending))) (by.counted k plan then (leaf, Cut n)) (by.counted k plan then end)
   cutting true false (Some k) plan then end short = unwalked k plan then end (short refl)
 
 above : (m done : ℕ) → nat_le m done ≡ false → done < m
@@ -160,16 +162,25 @@ last_done : (failed : Bool) (n : ℕ) → n ≤ done_of failed n + 1
 last_done true n = omega arith
 last_done false n = omega arith
 
-cut_off : (failed : Bool) (n : ℕ) (p : Public) (sk : Skeleton) (x : Seen) → CutsOff (whole_script p sk (cut_at failed n p sk x)) (whole_script p sk x) n
-cut_off failed n p sk x = elim (parts p sk) [
-  | inl fixed ↦ cuts_same n _ _ fixed.all (fixed.is _ _ _ _) (fixed.is x.k x.plan x.then (x.leaf, x.end))
-  | inr by ↦ cutting (λ k plan then end. whole_script p sk (holding k plan then end)) (ending_len sk) by n (done_of failed n) (last_done failed n)
-      (nat_le (count_end p sk) (done_of failed n)) (nat_le (walk_end p sk x) (done_of failed n)) x.k x.plan x.then (x.leaf, x.end) (λ short. above _ _ short)
-]
+-- a statement on flat tables
+module _ (failed : Bool) (n : ℕ) (p : Public) (sk : Skeleton) (flat : AreFlat (headings_of p.tables)) (made : MakesFlat sk) (x : Seen) where
+  flat_off : CutsOff (flat_whole p sk (cut_at failed n p sk x)) (flat_whole p sk x) n
+  flat_off = elim (parts p sk) [
+    | inl fixed ↦ cuts_same n _ _ fixed.all (fixed.is _ _ _ _) (fixed.is x.k x.plan x.then (x.leaf, x.end))
+    | inr by ↦ cutting (λ k plan then end. flat_whole p sk (holding k plan then end)) (ending_len sk) by n (done_of failed n) (held_if (nat_lt p.stash n) x.leaf) (last_done failed n)
+        (nat_le (count_end p sk) (done_of failed n)) (nat_le (walk_end p sk x) (done_of failed n)) x.k x.plan x.then (x.leaf, x.end) (λ short.
+        let less = above (walk_end p sk x) (done_of failed n) short in
+        subst (λ (l : List Access). done_of failed n < length l - (ending_len sk + 1)) (script_is p flat sk (record x { then = None }) made) less)
+  ]
 
--- it asks a first part of what it asks whole, and would ask no more
-pub cut_begins : (failed : Bool) (n : ℕ) (p : Public) (sk : Skeleton) (x : Seen) → Begins (take n (whole_script p sk (cut_at failed n p sk x))) (whole_script p sk x)
-cut_begins failed n p sk x = (cut_off failed n p sk x).begins
+  cut_off : CutsOff (whole_script p sk (cut_at failed n p sk x)) (whole_script p sk x) n
+  cut_off =
+      subst (λ (l : List Access). CutsOff l (whole_script p sk x) n) (sym (script_is p flat sk (cut_at failed n p sk x) made))
+      (subst (λ (l : List Access). CutsOff (flat_whole p sk (cut_at failed n p sk x)) l n) (sym (script_is p flat sk x made)) flat_off)
 
-pub cut_shorter : (failed : Bool) (n : ℕ) (p : Public) (sk : Skeleton) (x : Seen) → length (whole_script p sk (cut_at failed n p sk x)) ≤ length (whole_script p sk x)
-cut_shorter failed n p sk x = (cut_off failed n p sk x).shorter
+  -- it asks a first part of what it asks whole, and would ask no more
+  pub cut_begins : Begins (take n (whole_script p sk (cut_at failed n p sk x))) (whole_script p sk x)
+  cut_begins = cut_off.begins
+
+  pub cut_shorter : length (whole_script p sk (cut_at failed n p sk x)) ≤ length (whole_script p sk x)
+  cut_shorter = cut_off.shorter

@@ -1,4 +1,4 @@
--- The headings of a session's tables are those of what is public, statement for statement.
+-- The headings of a session's tables are those of what is public, statement for statement, while each table is flat.
 use Rattle.std.specs.Prelude.{bytes_eq, filter, is_some, not, if◌then◌else◌}
 use Rattle.std.proofs.Common.{◌≡◌, ℕ, Bool, true, false, cond, List, [], ◌∷◌, ◌++◌, map, Option, Some, None, refl, sym, ◌∙◌, ap}
 use Rattle.std.proofs.lemmas.List.{map_push}
@@ -17,13 +17,14 @@ use Rattle.ob_base.specs.declared.seen.End.TheVariants.{Static, Whole, AfterCoun
 use Rattle.ob_base.specs.declared.seen.Seen.{Seen}
 use Rattle.ob_base.specs.declared.skeleton.Skeleton.{Skeleton}
 use Rattle.ob_mean.proofs.EarlyLemmas.{neither}
+use Rattle.ob_mean.proofs.FlatLemmas.{seen_is, settle_is}
 use Rattle.ob_mean.proofs.VerdictLemmas.{headings-database}
+use Rattle.ob_mean.specs.Flats.{AreFlat}
 use Rattle.ob_mean.specs.Refusals.{early_refusal, limits_of}
 use Rattle.ob_mean.specs.Replay.{Session, after}
-use Rattle.ob_mean.specs.Settle.{settle, settled}
+use Rattle.ob_mean.specs.Settle.{new_held, settle, settled}
 use Rattle.ob_mean.specs.Step.{followed, late_refusal}
-use Rattle.ob_mean.specs.Verdict.{Held, Tables, database, ended, is_late, last_refusal, refusal, seen, seen_started}
-use Rattle.ob_row.specs.Slots.{empty_slots}
+use Rattle.ob_mean.specs.Verdict.{Draws, Held, Tables, database, ended, is_late, last_refusal, refusal, seen, seen_started}
 use Rattle.ob_script.specs.Trace.{next, tables_after, tables_then}
 use Rattle.ob_sql.specs.Skeleton.{skeleton}
 use Rattle.ob_sql.specs.declared.stmt.Stmt.{Stmt}
@@ -86,7 +87,7 @@ one_gone name (h ∷ hs) apart =
     go false is none rest = ap (λ (gs : List Heading). h ∷ gs) rest
 
 -- ---- a statement
-module _ (p : Public) (m : ℕ) (ts : Tables) (same : headings ts ≡ headings_of p.tables) where
+module _ (d : Draws) (p : Public) (m : ℕ) (ts : Tables) (flat : AreFlat (headings ts)) (same : headings ts ≡ headings_of p.tables) where
   -- one that leaves all headings
   still : (s : Skeleton) (end : End) → headings_of (tables_after p s) ≡ headings_of p.tables → headings_of (tables_then p s end) ≡ headings_of p.tables
   still s Static after = refl
@@ -98,39 +99,42 @@ module _ (p : Public) (m : ℕ) (ts : Tables) (same : headings ts ≡ headings_o
   followed_still None later is = is
   followed_still (Some r) later is = refl
 
-  leaves : (stmt : Stmt) → headings (settled ts stmt) ≡ headings ts → headings_of (tables_after p (skeleton stmt)) ≡ headings_of p.tables
-      → headings (settle p m ts stmt) ≡ headings_of (next p (skeleton stmt) (seen p m ts stmt)).tables
+  leaves : (stmt : Stmt) → headings (settled d p ts stmt) ≡ headings ts → headings_of (tables_after p (skeleton stmt)) ≡ headings_of p.tables
+      → headings (settle d p m ts stmt) ≡ headings_of (next p (skeleton stmt) (seen d p m ts stmt)).tables
   leaves stmt settles after =
-      followed_still (refusal p m ts stmt) (settled ts stmt) settles ∙ same ∙ sym (still (skeleton stmt) (seen p m ts stmt).end after)
+      ap headings (settle_is p ts stmt flat d m)
+      ∙ followed_still (refusal p m ts stmt) (settled d p ts stmt) settles ∙ same ∙ sym (still (skeleton stmt) (seen d p m ts stmt).end after)
 
   -- one that adds a table or drops one
   changes : (stmt : Stmt) → late_refusal (buffered p.pack p.buffer) (database ts) stmt ≡ None → last_refusal p ts stmt ≡ None → seen_started p ts stmt ≡ ended Whole
-      → headings (settled ts stmt) ≡ headings_of (tables_after p (skeleton stmt)) → headings (settle p m ts stmt) ≡ headings_of (next p (skeleton stmt) (seen p m ts stmt)).tables
+      → headings (settled d p ts stmt) ≡ headings_of (tables_after p (skeleton stmt)) → headings (settle d p m ts stmt) ≡ headings_of (next p (skeleton stmt) (seen d p m ts stmt)).tables
   changes stmt late last started is = go (early_refusal (is_late m) (limits_of p) (headings ts) stmt) refl
     where
-      shows : (o : Option Refusal) → early_refusal (is_late m) (limits_of p) (headings ts) stmt ≡ o → seen p m ts stmt ≡ (if is_some o then ended Static else ended Whole)
-      shows o early = λ i. if is_some (early i) then ended Static else started i
+      shows : (o : Option Refusal) → early_refusal (is_late m) (limits_of p) (headings ts) stmt ≡ o → seen d p m ts stmt ≡ (if is_some o then ended Static else ended Whole)
+      shows o early = seen_is p ts stmt flat d m ∙ (λ i. if is_some (early i) then ended Static else started i)
 
       refuses : (o : Option Refusal) → early_refusal (is_late m) (limits_of p) (headings ts) stmt ≡ o → refusal p m ts stmt ≡ option_or (option_or o None) None
       refuses o early =
           let both : early_refusal (is_late m) (limits_of p) (headings (database ts)) stmt ≡ o = ap (λ (hs : List Heading). early_refusal (is_late m) (limits_of p) hs stmt) (headings-database ts) ∙ early in
           λ i. option_or (option_or (both i) (late i)) (last i)
 
-      go : (o : Option Refusal) → early_refusal (is_late m) (limits_of p) (headings ts) stmt ≡ o → headings (settle p m ts stmt) ≡ headings_of (next p (skeleton stmt) (seen p m ts stmt)).tables
+      go : (o : Option Refusal) → early_refusal (is_late m) (limits_of p) (headings ts) stmt ≡ o → headings (settle d p m ts stmt) ≡ headings_of (next p (skeleton stmt) (seen d p m ts stmt)).tables
       go None early =
-          ap (λ (o : Option Refusal). headings (followed o (settled ts stmt) ts)) (refuses None early)
+          ap headings (settle_is p ts stmt flat d m)
+          ∙ ap (λ (o : Option Refusal). headings (followed o (settled d p ts stmt) ts)) (refuses None early)
           ∙ is
           ∙ sym (ap (λ (x : Seen). headings_of (tables_then p (skeleton stmt) x.end)) (shows None early))
       go (Some r) early =
-          ap (λ (o : Option Refusal). headings (followed o (settled ts stmt) ts)) (refuses (Some r) early)
+          ap headings (settle_is p ts stmt flat d m)
+          ∙ ap (λ (o : Option Refusal). headings (followed o (settled d p ts stmt) ts)) (refuses (Some r) early)
           ∙ same
           ∙ sym (ap (λ (x : Seen). headings_of (tables_then p (skeleton stmt) x.end)) (shows (Some r) early))
 
-  steps : (stmt : Stmt) → AreApart (headings ts) → headings (settle p m ts stmt) ≡ headings_of (next p (skeleton stmt) (seen p m ts stmt)).tables
+  steps : (stmt : Stmt) → AreApart (headings ts) → headings (settle d p m ts stmt) ≡ headings_of (next p (skeleton stmt) (seen d p m ts stmt)).tables
   steps (Create table columns capacity shape) apart =
       let heading : Heading = record { name = table; schema = columns_of table columns; capacity = capacity; shape = shape } in
       let there : Table = record { heading = heading; region = p.next_region } in
-      let here : Stored Held = record { heading = heading; held = record { slots = empty_slots capacity; leaves = [] } } in
+      let here : Stored Held = record { heading = heading; held = new_held d p.stash heading } in
       changes (Create table columns capacity shape) refl refl refl
       (map_push (λ (t : Stored Held). t.heading) ts here ∙ ap (λ (hs : List Heading). hs ++ heading ∷ []) same ∙ sym (map_push (λ (t : Table). t.heading) p.tables there))
   steps (Insert table columns values) apart = leaves (Insert table columns values) (changed_headings table _ ts) (moves table p.next_region p.tables).headings
@@ -142,5 +146,5 @@ module _ (p : Public) (m : ℕ) (ts : Tables) (same : headings ts ≡ headings_o
   steps (RowsStmt q) apart = leaves (RowsStmt q) refl refl
   steps (TotalsStmt q) apart = leaves (TotalsStmt q) refl refl
 
-pub keeps_step : (s : Session) (stmt : Stmt) → InStep s → AreApart (headings s.tables) → InStep (after None s stmt)
-keeps_step s stmt same apart = steps s.public s.asked s.tables same stmt apart
+pub keeps_step : (s : Session) (stmt : Stmt) → AreFlat (headings s.tables) → InStep s → AreApart (headings s.tables) → InStep (after None s stmt)
+keeps_step s stmt flat same apart = steps s.draws s.public s.asked s.tables flat same stmt apart

@@ -1,3 +1,4 @@
+pub mod FlatLemmas
 pub mod MarkLemmas
 pub mod InStep
 pub mod AlikeSessions

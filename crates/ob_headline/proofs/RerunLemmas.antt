@@ -1,6 +1,6 @@
 -- Two runs that came to their end, and of which no text was answered that the store failed.
-use Rattle.std.specs.Prelude.{IsSome, is_some}
-use Rattle.std.proofs.Common.{◌≡◌, ◌+◌, ◌≤◌, ◌++◌, ◌||◌, inl, inr, ℕ, Bool, true, false, IsTrue, Ok, Err, List, [], ◌∷◌, length, Option, Some, None, refl, sym, ◌∙◌, ap, subst, append-nil, arith}
+use Rattle.std.specs.Prelude.{IsSome, is_some, not}
+use Rattle.std.proofs.Common.{◌≡◌, ◌+◌, ◌≤◌, ◌++◌, ◌||◌, ◌&&◌, inl, inr, ℕ, Bool, true, false, IsTrue, Ok, Err, List, [], ◌∷◌, length, Option, Some, None, refl, sym, ◌∙◌, ap, subst, append-nil, arith}
 use Rattle.ob_base.specs.declared.config.Plan.{Plan}
 use Rattle.ob_base.specs.declared.config.Plan.TheVariants.{Small, Large, Continuous, Hash}
 use Rattle.ob_base.specs.declared.config.Public.{Public}
@@ -14,6 +14,7 @@ use Rattle.ob_base.specs.declared.skeleton.Skeleton.TheVariants as K
 use Rattle.ob_verdict.specs.Outcomes.{refusal_now}
 use Rattle.ob_verdict.specs.declared.outcome.Outcome.{Outcome}
 use Rattle.ob_verdict.specs.declared.outcome.Outcome.TheVariants.{Refused}
+use Rattle.ob_headline.proofs.FlatLemmas.{IsFlat, next_flat, no_leaf}
 use Rattle.ob_headline.specs.Bases.{Base}
 use Rattle.ob_headline.specs.Endings.{status_of}
 use Rattle.ob_headline.specs.Failures.{failures, outcome_failures}
@@ -27,8 +28,9 @@ use Rattle.ob_headline.specs.Status.{Because}
 use Rattle.ob_headline.specs.declared.ending.Ending.{Ending}
 use Rattle.ob_headline.specs.declared.ending.Ending.TheVariants.{Usage, BadKey, Ran}
 use Rattle.ob_headline.specs.declared.ending.Report.{Report}
-use Rattle.ob_mean.specs.Lawful.{EndsUncounted, Holds, IsCount, Lawful, is_counted}
-use Rattle.ob_mean.specs.Replay.{Spelt}
+use Rattle.ob_mean.proofs.FlatLemmas.{no_public_access}
+use Rattle.ob_mean.specs.Lawful.{EndsUncounted, Holds, IsCount, Lawful, is_counted, selects_rows}
+use Rattle.ob_mean.specs.Replay.{Spelt, is_access}
 use Rattle.ob_script.specs.Script.{script}
 use Rattle.ob_script.specs.Trace.{Served as Entry, next, trace}
 use Rattle.ob_sql.specs.Skeleton.{skeleton}
@@ -43,8 +45,8 @@ AreUncut p m (stmt ∷ stmts) (x ∷ seen) =
     (x.skeleton ≡ skeleton stmt) × Lawful p m stmt x.seen × (is_cut x.seen.end ≡ false)
     × AreUncut (next p x.skeleton x.seen) (m + length (script p x.skeleton x.seen)) stmts seen
 
--- ---- what is seen of a statement that was not cut off, where it is no SELECT of rows or results are padded, follows from
--- its early refusal
+-- ---- what is seen of a statement that was not cut off, where it accesses no index, and is no SELECT of rows or results are
+-- padded, follows from its early refusal
 -- it holds neither a k nor a plan
 pub record HoldsNone (p : Public) (stmt : Stmt) (here : Seen) (k : Option ℕ) (plan second : Option Plan) : Type 0 where
   pub no_k : k ≡ None
@@ -54,8 +56,11 @@ pub record HoldsNone (p : Public) (stmt : Stmt) (here : Seen) (k : Option ℕ) (
 
 module _ (p : Public) (stmt : Stmt) (here : Seen) (plain : IsPlain p stmt) where
   not_counted : {A : Type 0} (k : ℕ) → IsCount p stmt k → A
-  not_counted k count = elim plain [
-    | inl uncounted ↦ let counted = count.counted in absurd (cc (counted, uncounted))
+  not_counted k count = elim plain.1 [
+    | inl uncounted ↦
+        let counted = count.counted in
+        let none : is_counted p stmt ≡ false = ap (λ (b : Bool). b && not (is_access p (skeleton stmt))) uncounted in
+        absurd (cc (counted, none))
     | inr padded ↦ let unpadded = ap is_some count.unpadded in absurd (cc (padded, unpadded))
   ]
 
@@ -96,7 +101,7 @@ plain_of false here k plan second leaf end = λ i. record { k = k i; plan = plan
 pub shows_plainly : (p : Public) (m : ℕ) (stmt : Stmt) (here : Seen) → Lawful p m stmt here → IsPlain p stmt → is_cut here.end ≡ false → here ≡ plainly p m stmt
 shows_plainly p m stmt here lawful plain uncut =
     let held = holds_none p stmt here plain here.k here.plan here.then lawful.holds in
-    plain_of (is_some (refusal_now p m stmt)) here held.no_k held.no_plan held.no_second lawful.leaf
+    plain_of (is_some (refusal_now p m stmt)) here held.no_k held.no_plan held.no_second (no_leaf p (skeleton stmt) here.leaf here.end plain.0 lawful.leaf)
     (end_is p m stmt here here.end (is_some (refusal_now p m stmt)) refl refl lawful uncut held.ends)
 
 -- a SELECT of rows is one by its skeleton
@@ -104,7 +109,7 @@ abbrev is_rows : Skeleton → Bool
 is_rows (K.Rows source columns) = true
 is_rows _ = false
 
-counted_rows : (stmt : Stmt) → is_counted stmt ≡ is_rows (skeleton stmt)
+counted_rows : (stmt : Stmt) → selects_rows stmt ≡ is_rows (skeleton stmt)
 counted_rows (Create table columns capacity shape) = refl
 counted_rows (Insert table columns values) = refl
 counted_rows (Update table sets cond) = refl
@@ -113,29 +118,29 @@ counted_rows (DropTable table) = refl
 counted_rows (SelectRows s) = refl
 counted_rows (SelectTotals s) = refl
 
-same_counted : (a b : Stmt) → skeleton a ≡ skeleton b → is_counted a ≡ is_counted b
+same_counted : (a b : Stmt) → skeleton a ≡ skeleton b → selects_rows a ≡ selects_rows b
 same_counted a b is = counted_rows a ∙ ap is_rows is ∙ sym (counted_rows b)
 
-one_alike : (p : Public) (m : ℕ) (a b : Stmt) (x y : Seen) (counted : Bool) → is_counted a ≡ counted → Lawful p m a x → Lawful p m b y → is_cut x.end ≡ false → is_cut y.end ≡ false
-    → skeleton a ≡ skeleton b → is_some (refusal_now p m a) ≡ is_some (refusal_now p m b) → (IsTrue (is_counted a) → x ≡ y) → x ≡ y
-one_alike p m a b x y true is lawful lawful_too uncut uncut_too sk early shows = shows is
-one_alike p m a b x y false is lawful lawful_too uncut uncut_too sk early shows =
-    shows_plainly p m a x lawful (inl is) uncut
+one_alike : (p : Public) (m : ℕ) (a b : Stmt) (x y : Seen) (counted : Bool) → IsFlat p → selects_rows a ≡ counted → Lawful p m a x → Lawful p m b y → is_cut x.end ≡ false → is_cut y.end ≡ false
+    → skeleton a ≡ skeleton b → is_some (refusal_now p m a) ≡ is_some (refusal_now p m b) → (IsTrue (selects_rows a) → x ≡ y) → x ≡ y
+one_alike p m a b x y true flat is lawful lawful_too uncut uncut_too sk early shows = shows is
+one_alike p m a b x y false flat is lawful lawful_too uncut uncut_too sk early shows =
+    shows_plainly p m a x lawful (no_public_access p (skeleton a) flat, inl is) uncut
     ∙ ap seen_plainly early
-    ∙ sym (shows_plainly p m b y lawful_too (inl (sym (same_counted a b sk) ∙ is)) uncut_too)
+    ∙ sym (shows_plainly p m b y lawful_too (no_public_access p (skeleton b) flat, inl (sym (same_counted a b sk) ∙ is)) uncut_too)
 
-same_seen : (p : Public) (m : ℕ) (ps : List Stmt) (xs : List Entry) (qs : List Stmt) (ys : List Entry) → AreUncut p m ps xs → AreUncut p m qs ys → ShowAlike p m ps xs qs ys → xs ≡ ys
+same_seen : (p : Public) (m : ℕ) (ps : List Stmt) (xs : List Entry) (qs : List Stmt) (ys : List Entry) → IsFlat p → AreUncut p m ps xs → AreUncut p m qs ys → ShowAlike p m ps xs qs ys → xs ≡ ys
 unfolding AreUncut ShowAlike
-same_seen p m [] xs [] ys a b alike = a ∙ sym b
-same_seen p m [] xs (b ∷ qs) ys lawful lawful_too alike = absurd alike
-same_seen p m (a ∷ ps) xs [] ys lawful lawful_too alike = absurd alike
-same_seen p m (a ∷ ps) [] (b ∷ qs) ys lawful lawful_too alike = absurd alike
-same_seen p m (a ∷ ps) (x ∷ xs) (b ∷ qs) [] lawful lawful_too alike = absurd alike
-same_seen p m (a ∷ ps) (x ∷ xs) (b ∷ qs) (y ∷ ys) lawful lawful_too alike =
+same_seen p m [] xs [] ys flat a b alike = a ∙ sym b
+same_seen p m [] xs (b ∷ qs) ys flat lawful lawful_too alike = absurd alike
+same_seen p m (a ∷ ps) xs [] ys flat lawful lawful_too alike = absurd alike
+same_seen p m (a ∷ ps) [] (b ∷ qs) ys flat lawful lawful_too alike = absurd alike
+same_seen p m (a ∷ ps) (x ∷ xs) (b ∷ qs) [] flat lawful lawful_too alike = absurd alike
+same_seen p m (a ∷ ps) (x ∷ xs) (b ∷ qs) (y ∷ ys) flat lawful lawful_too alike =
     let sk : x.skeleton ≡ y.skeleton = lawful.0 ∙ alike.0 ∙ sym lawful_too.0 in
-    let here : x.seen ≡ y.seen = one_alike p m a b x.seen y.seen (is_counted a) refl lawful.1 lawful_too.1 lawful.2 lawful_too.2 alike.0 alike.1 alike.2 in
+    let here : x.seen ≡ y.seen = one_alike p m a b x.seen y.seen (selects_rows a) flat refl lawful.1 lawful_too.1 lawful.2 lawful_too.2 alike.0 alike.1 alike.2 in
     let one : x ≡ y = λ i. record { skeleton = sk i; seen = here i } in
-    let rest = same_seen (next p x.skeleton x.seen) (m + length (script p x.skeleton x.seen)) ps xs qs ys lawful.3
+    let rest = same_seen (next p x.skeleton x.seen) (m + length (script p x.skeleton x.seen)) ps xs qs ys (next_flat p m a x.skeleton x.seen lawful.0 lawful.1 flat) lawful.3
     (subst (λ (z : Entry). AreUncut (next p z.skeleton z.seen) (m + length (script p z.skeleton z.seen)) qs ys) (sym one) lawful_too.3) alike.3 in
     λ i. one i ∷ rest i
 
@@ -198,29 +203,31 @@ neither : (a b : Bool) → (a || b) ≡ false → (a ≡ false) × (b ≡ false)
 neither true b is = absurd (cc is)
 neither false b is = (refl, is)
 
-pub first_plain : (p : Public) (a : Stmt) (ps : List Stmt) → ArePlain p (a ∷ ps) → IsPlain p a
+pub first_plain : (p : Public) (a : Stmt) (ps : List Stmt) → IsFlat p → ArePlain p (a ∷ ps) → IsPlain p a
 unfolding any_counted
-first_plain p a ps plain = elim plain [ inl none ↦ inl (neither (is_counted a) (any_counted ps) none).0 | inr padded ↦ inr padded ]
+first_plain p a ps flat plain =
+    (no_public_access p (skeleton a) flat, elim plain [ inl none ↦ inl (neither (selects_rows a) (any_counted ps) none).0 | inr padded ↦ inr padded ])
 
 -- after any statement results are still padded
 pub rest_plain : (p : Public) (a : Stmt) (ps : List Stmt) (x : Entry) → ArePlain p (a ∷ ps) → ArePlain (next p x.skeleton x.seen) ps
 unfolding any_counted
-rest_plain p a ps x plain = elim plain [ inl none ↦ inl (neither (is_counted a) (any_counted ps) none).1 | inr padded ↦ inr padded ]
+rest_plain p a ps x plain = elim plain [ inl none ↦ inl (neither (selects_rows a) (any_counted ps) none).1 | inr padded ↦ inr padded ]
 
 plain_too : (p : Public) (a b : Stmt) → skeleton a ≡ skeleton b → IsPlain p a → IsPlain p b
-plain_too p a b sk plain = elim plain [ inl none ↦ inl (sym (same_counted a b sk) ∙ none) | inr padded ↦ inr padded ]
+plain_too p a b sk plain =
+    (ap (is_access p) (sym sk) ∙ plain.0, elim plain.1 [ inl none ↦ inl (sym (same_counted a b sk) ∙ none) | inr padded ↦ inr padded ])
 
 -- lists of statements that are alike show alike
-shows : (p : Public) (m : ℕ) (ps : List Stmt) (xs : List Entry) (qs : List Stmt) (ys : List Entry) → AreUncut p m ps xs → AreUncut p m qs ys → ArePlain p ps → Alike p m ps qs → ShowAlike p m ps xs qs ys
+shows : (p : Public) (m : ℕ) (ps : List Stmt) (xs : List Entry) (qs : List Stmt) (ys : List Entry) → IsFlat p → AreUncut p m ps xs → AreUncut p m qs ys → ArePlain p ps → Alike p m ps qs → ShowAlike p m ps xs qs ys
 unfolding AreUncut Alike ShowAlike
-shows p m [] xs [] ys a b plain alike = tt
-shows p m [] xs (b ∷ qs) ys one two plain alike = absurd alike
-shows p m (a ∷ ps) xs [] ys one two plain alike = absurd alike
-shows p m (a ∷ ps) [] (b ∷ qs) ys one two plain alike = absurd one
-shows p m (a ∷ ps) (x ∷ xs) (b ∷ qs) [] one two plain alike = absurd two
-shows p m (a ∷ ps) (x ∷ xs) (b ∷ qs) (y ∷ ys) one two plain alike =
-    let here : x.seen ≡ plainly p m a = shows_plainly p m a x.seen one.1 (first_plain p a ps plain) one.2 in
-    let there : y.seen ≡ plainly p m b = shows_plainly p m b y.seen two.1 (plain_too p a b alike.0 (first_plain p a ps plain)) two.2 in
+shows p m [] xs [] ys flat a b plain alike = tt
+shows p m [] xs (b ∷ qs) ys flat one two plain alike = absurd alike
+shows p m (a ∷ ps) xs [] ys flat one two plain alike = absurd alike
+shows p m (a ∷ ps) [] (b ∷ qs) ys flat one two plain alike = absurd one
+shows p m (a ∷ ps) (x ∷ xs) (b ∷ qs) [] flat one two plain alike = absurd two
+shows p m (a ∷ ps) (x ∷ xs) (b ∷ qs) (y ∷ ys) flat one two plain alike =
+    let here : x.seen ≡ plainly p m a = shows_plainly p m a x.seen one.1 (first_plain p a ps flat plain) one.2 in
+    let there : y.seen ≡ plainly p m b = shows_plainly p m b y.seen two.1 (plain_too p a b alike.0 (first_plain p a ps flat plain)) two.2 in
     let same : y.seen ≡ x.seen = there ∙ ap seen_plainly (sym alike.1) ∙ sym here in
     let first : next p (skeleton a) (plainly p m a) ≡ next p x.skeleton x.seen = λ i. next p (sym one.0 i) (sym here i) in
     let asked : m + length (script p (skeleton a) (plainly p m a)) ≡ m + length (script p x.skeleton x.seen) = λ i. m + length (script p (sym one.0 i) (sym here i)) in
@@ -230,7 +237,7 @@ shows p m (a ∷ ps) (x ∷ xs) (b ∷ qs) (y ∷ ys) one two plain alike =
       alike.0,
       alike.1,
       (λ counted. sym same),
-      shows (next p x.skeleton x.seen) (m + length (script p x.skeleton x.seen)) ps xs qs ys one.3 rest (rest_plain p a ps x plain)
+      shows (next p x.skeleton x.seen) (m + length (script p x.skeleton x.seen)) ps xs qs ys (next_flat p m a x.skeleton x.seen one.0 one.1 flat) one.3 rest (rest_plain p a ps x plain)
           (subst (λ (n : ℕ). Alike (next p x.skeleton x.seen) n ps qs) asked (subst (λ (r : Public). Alike r (m + length (script p (skeleton a) (plainly p m a))) ps qs) first alike.2)),
     )
 
@@ -248,11 +255,11 @@ module _ (a b : SomeRun) (same : GoOnFromOne a b) (well : EndsWell a.report.stat
 
   pub show_the_same : ShowAlike p m (stmts_of a) (seen_by a) (stmts_of b) (seen_by b) → (seen_by a ≡ seen_by b) × (asked_by a ≡ asked_by b)
   show_the_same alike =
-      let seen = same_seen p m (stmts_of a) (seen_by a) (stmts_of b) (seen_by b) (run_uncut a well) there alike in
+      let seen = same_seen p m (stmts_of a) (seen_by a) (stmts_of b) (seen_by b) a.run.accesses.flat (run_uncut a well) there alike in
       (seen, a.run.accesses.asked ∙ (λ i. same.before i ++ trace (same.public i) (seen i)) ∙ sym b.run.accesses.asked)
 
   asks_alike : ArePlain p (stmts_of a) → Alike p m (stmts_of a) (stmts_of b) → asked_by a ≡ asked_by b
-  asks_alike plain alike = (show_the_same (shows p m (stmts_of a) (seen_by a) (stmts_of b) (seen_by b) (run_uncut a well) there plain alike)).1
+  asks_alike plain alike = (show_the_same (shows p m (stmts_of a) (seen_by a) (stmts_of b) (seen_by b) a.run.accesses.flat (run_uncut a well) there plain alike)).1
 
   pub ask_the_same : any_counted (stmts_of a) ≡ false → Alike p m (stmts_of a) (stmts_of b) → asked_by a ≡ asked_by b
   ask_the_same none = asks_alike (inl none)

@@ -16,6 +16,7 @@ use Rattle.ob_verdict.specs.declared.outcome.Outcome.TheVariants.{Refused}
 use Rattle.ob_headline.specs.Closing.{closing_line}
 use Rattle.ob_headline.specs.declared.ending.Ending.{Ending}
 use Rattle.ob_headline.specs.declared.ending.Ending.TheVariants.{Ran}
+use Rattle.ob_mean.specs.Flats.{AreFlat}
 use Rattle.ob_mean.specs.Lawful.{Lawful}
 use Rattle.ob_mean.specs.Prints.{labels_of}
 use Rattle.ob_mean.specs.Replay.{Spelt}
@@ -92,10 +93,11 @@ AreSeen Leaves p m (Ok stmt ∷ spelt) (one ∷ answers) (x ∷ seen) =
     answers seen
 
 -- They are those that the statements go on from, if there are any, and the trace of the skeletons and of what is seen of
--- each: of those that were answered, and of the one begun, if it is a statement. Calls that discard a region are counted
--- apart, and change no answer.
+-- each: of those that were answered, and of the one begun, if it is a statement. No table that they go on from is an index.
+-- Calls that discard a region are counted apart, and change no answer.
 pub record Accesses (base : Base) (ending : Ending) (story : Story) (old new : StoreState)
     : Type 0 where
+  pub flat : AreFlat (headings_of base.public.tables)
   pub one_last : length story.last ≤ 1
   pub each_seen : length story.seen
       ≡ length (statements (take (length story.served) story.spelt))

@@ -7,7 +7,7 @@ use Rattle.ob_base.specs.declared.config.Public.{Public}
 use Rattle.ob_reopen.specs.Reopened.{opened_public, opened_start, opening_script}
 use Rattle.ob_reopen.specs.Resting.{Rests}
 use Rattle.ob_mean.specs.Replay.{Session, first_session}
-use Rattle.ob_mean.specs.Verdict.{Tables}
+use Rattle.ob_mean.specs.Verdict.{Draws, Tables}
 use Rattle.ob_reopen.specs.declared.closing.Closing.{Closing}
 use Rattle.ob_reopen.specs.declared.listed.Listed.{Listed}
 use Rattle.ob_seal.specs.KeySet.{KeySet}
@@ -72,9 +72,14 @@ pub record Rested (o : Opened) (tables : Tables) : Type 0 where
   pub honest : o.new.lie ≡ None
   pub rests : Rests o.keys o.closing o.old.kept tables
 
+-- nothing was drawn, as long as no table is an index
+abbrev pub undrawn : Draws
+undrawn = record { draw = λ n. 0; drawn = 0 }
+
 -- the model's session with these tables
 abbrev pub session_at : Base → Tables → Session
-session_at base tables = record { public = base.public; tables = tables; asked = base.count }
+session_at base tables =
+    record { public = base.public; tables = tables; asked = base.count; draws = undrawn }
 
 -- it holds of the model's session without tables; or of each one with tables that rested in the store
 abbrev pub HoldsFrom : Option Opened → Base → (Session → Type 0) → Type 0

@@ -14,7 +14,8 @@ use Rattle.ob_headline.specs.Usage.{is_traced, usage}
 use Rattle.ob_headline.specs.Words.{Begins, Outside}
 use Rattle.ob_headline.specs.Statements.{statements}
 use Rattle.ob_headline.specs.declared.ending.Report.{Report}
-use Rattle.ob_mean.specs.Lawful.{is_counted}
+use Rattle.ob_mean.specs.Lawful.{selects_rows}
+use Rattle.ob_mean.specs.Replay.{is_access}
 use Rattle.ob_script.specs.Script.{script}
 use Rattle.ob_script.specs.Trace.{Served, next, trace}
 use Rattle.ob_sql.specs.Skeleton.{skeleton}
@@ -88,14 +89,15 @@ seen_plainly false = record { k = None; plan = None; then = None; leaf = None; e
 abbrev pub plainly : Public → ℕ → Stmt → Seen
 plainly p m stmt = seen_plainly (is_some (refusal_now p m stmt))
 
--- it is no SELECT of rows, or results are padded
+-- it accesses no index, and it is no SELECT of rows, or results are padded
 abbrev pub IsPlain : Public → Stmt → Type 0
-IsPlain p stmt = (is_counted stmt ≡ false) ⊎ IsSome p.pad
+IsPlain p stmt =
+    (is_access p (skeleton stmt) ≡ false) × ((selects_rows stmt ≡ false) ⊎ IsSome p.pad)
 
 -- one of them is a SELECT of rows
 unfoldable pub any_counted : List Stmt → Bool
 any_counted [] = false
-any_counted (stmt ∷ stmts) = is_counted stmt || any_counted stmts
+any_counted (stmt ∷ stmts) = selects_rows stmt || any_counted stmts
 
 -- two lists of statements, of each of which is seen whether it was refused before any access, and nothing else: their
 -- skeletons are the same, and the same ones are refused so
@@ -118,7 +120,7 @@ ShowAlike p m (a ∷ ps) [] (b ∷ qs) ys = ⊥
 ShowAlike p m (a ∷ ps) (x ∷ xs) (b ∷ qs) [] = ⊥
 ShowAlike p m (a ∷ ps) (x ∷ xs) (b ∷ qs) (y ∷ ys) =
     (skeleton a ≡ skeleton b) × (is_some (refusal_now p m a) ≡ is_some (refusal_now p m b))
-    × (IsTrue (is_counted a) → x.seen ≡ y.seen)
+    × (IsTrue (selects_rows a) → x.seen ≡ y.seen)
     × ShowAlike (next p x.skeleton x.seen) (m + length (script p x.skeleton x.seen)) ps xs qs ys
 
 -- of statements that are not cut off, each of which is no SELECT of rows or has its result padded, what is seen: a
@@ -139,7 +141,7 @@ ArePlain p stmts = (any_counted stmts ≡ false) ⊎ IsSome p.pad
 abbrev pub shown_as : Public → ℕ → Stmt → Seen → Served
 shown_as p m stmt seen = record {
   skeleton = skeleton stmt;
-  seen = if is_counted stmt && not (is_some p.pad) then seen else plainly p m stmt;
+  seen = if selects_rows stmt && not (is_some p.pad) then seen else plainly p m stmt;
 }
 
 -- what is seen of statements of which none is cut off, but for such a SELECT

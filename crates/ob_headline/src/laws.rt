@@ -39,9 +39,9 @@ pub fn texts_are_pieces()
         → BeginsWith bytes (texts_of [] bytes) (rest_of [] bytes) (cut bytes) }
 {}
 
-/// Of a statement that was not cut off, and is no SELECT of rows or has its result padded, nothing is seen but whether it
-/// was refused before any access: of CREATE, INSERT, UPDATE, DELETE, DROP and SELECT of totals no row and no literal has a
-/// part in it, and of a padded SELECT of rows neither has the number of rows selected.
+/// Of a statement that was not cut off, accesses no index, and is no SELECT of rows or has its result padded, nothing is
+/// seen but whether it was refused before any access: of CREATE, INSERT, UPDATE, DELETE, DROP and SELECT of totals no row
+/// and no literal has a part in it, and of a padded SELECT of rows neither has the number of rows selected.
 pub fn shows_its_refusal_alone()
     ensures { (p : Public) (m : ℕ) (stmt : Stmt) (here : Seen) → Lawful p m stmt here
         → IsPlain p stmt → is_cut here.end ≡ false → here ≡ plainly p m stmt }

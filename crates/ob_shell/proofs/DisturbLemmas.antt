@@ -12,6 +12,8 @@ use Rattle.ob_exec.specs.Telling.{Represents, meant_script}
 use Rattle.ob_verdict.specs.declared.outcome.Outcome.{Outcome}
 use Rattle.ob_exec.specs.declared.stop.RunStop.{RunStop}
 use Rattle.ob_exec.specs.declared.stop.RunStop.TheVariants.{Tampered, SinkFault, NoMemory}
+use Rattle.ob_headline.proofs.FlatLemmas.{IsFlat}
+use Rattle.ob_headline.specs.Bases.{undrawn}
 use Rattle.ob_headline.specs.Words.{Begins}
 use Rattle.ob_mean.specs.Verdict.{Tables}
 use Rattle.ob_script.specs.Script.{script}
@@ -85,11 +87,11 @@ lie_within (Err (Tampered q x)) old new lie cause calm is = elim (cause.2 calm) 
 lie_within (Err SinkFault) old new lie cause calm is = (cause.1 calm).within lie is
 lie_within (Err NoMemory) old new lie cause calm is = (cause.1 calm).within lie is
 
-module _ {R : Type 0} (state : R → RevState) (m0 m1 : Machine R) (tables : Tables) (stmt : Stmt) (result : Result Outcome RunStop) (does : Does state m0 m1 stmt result)
+module _ {R : Type 0} (state : R → RevState) (m0 m1 : Machine R) (tables : Tables) (stmt : Stmt) (result : Result Outcome RunStop) (flat : IsFlat (public_of m0.engine)) (does : Does state m0 m1 stmt result)
     (tells : IsTrue m0.store.tells) (steady : IsSteady m0.store) (held : Represents state m0.engine m0.store tables) (n : ℕ) (before : IsBefore m0.store.disturbed n)
     (few : length m0.store.asked ≤ n) where
   abbrev pub all_meant : List Access
-  all_meant = m0.store.asked ++ meant_script (public_of m0.engine) (asked_of m0) tables stmt
+  all_meant = m0.store.asked ++ meant_script undrawn (public_of m0.engine) (asked_of m0) tables stmt
 
   -- what is asked until the first disturbance is a first part of what is meant; where that comes before, it is asked
   pub record Crosses : Type 0 where
@@ -102,7 +104,7 @@ module _ {R : Type 0} (state : R → RevState) (m0 m1 : Machine R) (tables : Tab
   crosses_lied : (lie : Lie) → m1.store.lie ≡ Some lie → Crosses
   crosses_lied lie is =
       let later = does.ran.later in
-      let meant : ReadsIn lie all_meant = does.means.begun tables (record { tells = tells; held = held; nolie = honest }) lie is in
+      let meant : ReadsIn lie all_meant = does.means.begun tables undrawn (record { tells = tells; held = held; nolie = honest }) lie is in
       let asked : ReadsIn lie m1.store.asked = lie_within result (world_of state m0.engine m0.store) (world_of state m1.engine m1.store) lie does.ran.cause (first_calm state m0.engine m0.store honest) is in
       let there : IsBefore m1.store.disturbed n = subst (λ (o : Option (List Disturbance)). IsBefore o n) (sym later.disturbed) before in
       let behind : length lie.before + 1 ≤ n → ⊥ = λ le. (later.steady steady).lied lie is (before_less m1.store.disturbed (length lie.before + 1) n le there) in
@@ -116,7 +118,7 @@ module _ {R : Type 0} (state : R → RevState) (m0 m1 : Machine R) (tables : Tab
 
   crosses_true : m1.store.lie ≡ None → Crosses
   crosses_true none =
-      let begins = begins_truly state m0 m1 tables stmt result does (record {
+      let begins = begins_truly state m0 m1 tables stmt flat result does (record {
         tells = tells;
         held = held;
         calm = first_calm state m0.engine m0.store honest;
@@ -124,7 +126,7 @@ module _ {R : Type 0} (state : R → RevState) (m0 m1 : Machine R) (tables : Tab
       }) in
       let all : Begins m1.store.asked all_meant =
       subst (λ (l : List Access). Begins l all_meant) (sym does.ran.asked)
-      (begins_after m0.store.asked (script (public_of m0.engine) (skeleton stmt) (seen_of m1.engine)) (meant_script (public_of m0.engine) (asked_of m0) tables stmt) begins) in
+      (begins_after m0.store.asked (script (public_of m0.engine) (skeleton stmt) (seen_of m1.engine)) (meant_script undrawn (public_of m0.engine) (asked_of m0) tables stmt) begins) in
       let most = begins_length m1.store.asked all_meant all in
       record {
         begins = begins_take n m1.store.asked all_meant all;

@@ -22,6 +22,7 @@ use Rattle.ob_reopen.specs.Reopened.{NotOpened, opened_start, opening_script}
 use Rattle.ob_reopen.specs.Resting.{Rests}
 use Rattle.ob_exec.specs.declared.engine.Engine.{Engine}
 use Rattle.ob_gen.specs.declared.tally.Tally.{Tally}
+use Rattle.ob_headline.proofs.FlatLemmas.{opened_flat}
 use Rattle.ob_headline.specs.Bases.{Opened, fresh, reopened}
 use Rattle.ob_headline.specs.Keeping.{EndsWith, NotReopened, OpensClosing, opening_end}
 use Rattle.ob_headline.specs.Tracing.{traced}
@@ -115,6 +116,7 @@ module _ {R : Type 0} (state : R → RevState) (config : Config) (key : List ℕ
   stands = record {
     settings = refl;
     public = is.public;
+    flat = opened_flat config closing is.listed is.catalogue;
     pack = refl;
     buffer = refl;
     rows = is.rows;

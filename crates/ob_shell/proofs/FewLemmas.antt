@@ -1,39 +1,53 @@
 -- Fewer accesses are asked than there are numbers.
-use Rattle.std.specs.Prelude.{All, IfSome, bytes_eq, if◌then◌else◌, option_map, slice_get}
-use Rattle.std.proofs.Common.{◌≡◌, ◌≤◌, ◌<◌, ◌+◌, ◌^◌, ℕ, suc, Bool, true, false, List, [], ◌∷◌, length, Option, None, Some, Ok, Result, inl, inr, refl, sym, ◌∙◌, ap, subst, arith, get_or}
+use Rattle.std.specs.Prelude.{All, IfSome, ⊤, bytes_eq, if◌then◌else◌, option_map, slice_get}
+use Rattle.std.proofs.Common.{◌≡◌, ◌≤◌, ◌<◌, ◌+◌, ◌^◌, ℕ, suc, Bool, true, false, List, [], ◌∷◌, ◌++◌, length, Option, None, Some, Ok, Result, inl, inr, refl, sym, ◌∙◌, ap, subst, arith, get_or}
 use Rattle.std.proofs.lemmas.Bool.Decides.{nat_tests}
 use Rattle.std.proofs.lemmas.Option.{slice_get-get_or}
 use Rattle.std.specs.Option.{option_map_or}
 use Rattle.ob_base.proofs.AccessLemmas.{makes_few}
+use Rattle.ob_base.specs.Accesses.{discard_at}
+use Rattle.ob_base.specs.Indexes.{height_of}
 use Rattle.ob_base.specs.Joins.{joined_slots}
+use Rattle.ob_base.specs.Limits.{buffered, buffered_blocks}
+use Rattle.ob_base.specs.Plans.{choose_padded, padded_rows}
 use Rattle.ob_base.specs.Schemas.{width}
 use Rattle.ob_base.specs.Stored.{Stored, heading_at, headings, headings_of, stored_at, stored_regions}
 use Rattle.ob_base.specs.declared.config.Plan.{Plan}
 use Rattle.ob_base.specs.declared.config.Plan.TheVariants.{Small, Large, Continuous, Hash}
 use Rattle.ob_base.specs.declared.config.Public.{Public}
 use Rattle.ob_base.specs.declared.refusal.Refusal.{Refusal}
+use Rattle.ob_base.specs.declared.access.Access.{Access}
 use Rattle.ob_base.specs.declared.schema.Heading.{Heading}
+use Rattle.ob_base.specs.declared.schema.Shape.{Shape}
+use Rattle.ob_base.specs.declared.schema.Shape.TheVariants.{Flat}
 use Rattle.ob_base.specs.declared.schema.Table.{Table}
 use Rattle.ob_base.specs.declared.seen.Seen.{Seen}
+use Rattle.ob_base.specs.declared.skeleton.Skeleton.{Skeleton}
+use Rattle.ob_base.specs.declared.skeleton.Skeleton.TheVariants as K
 use Rattle.ob_base.specs.declared.skeleton.Source.{Source}
 use Rattle.ob_base.specs.declared.skeleton.Source.TheVariants.{Table as OneTable, Join}
-use Rattle.ob_exec.specs.Agreeing.{Agrees, count_of, public_of, seen_of}
+use Rattle.ob_exec.proofs.TableLemmas.{region_below}
+use Rattle.ob_exec.specs.Agreeing.{Agrees, count_of, public_of, seen_of, world_of}
 use Rattle.ob_exec.specs.Running.{RefusedEarly}
 use Rattle.ob_verdict.specs.Outcomes.{refusal_now}
 use Rattle.ob_exec.specs.declared.engine.Engine.{Engine}
 use Rattle.ob_verdict.specs.declared.outcome.Outcome.{Outcome}
 use Rattle.ob_exec.specs.declared.stop.RunStop.{RunStop}
 use Rattle.ob_gen.specs.declared.tally.Tally.{Tally}
+use Rattle.ob_headline.proofs.FlatLemmas.{IsFlat, tables_flat}
 use Rattle.ob_headline.specs.Words.{Answer}
 use Rattle.ob_mean.proofs.EarlyLemmas.{allowed, within}
+use Rattle.ob_mean.proofs.FlatLemmas.{MakesFlat, flat_whole, headings-regions, makes_flat, region_flat, script_is}
 use Rattle.ob_mean.proofs.VerdictLemmas.{heading-stored}
 use Rattle.ob_mean.specs.Lawful.{Holds, IsCount, counted_slots, statement_slots}
 use Rattle.ob_mean.specs.Refusals.{early_refusal, limits_of}
 use Rattle.ob_mean.specs.Verdict.{is_late}
 use Rattle.ob_reopen.specs.Limits.{IsStored}
 use Rattle.ob_script.proofs.Few.{script_few}
-use Rattle.ob_script.specs.Script.{extent_of, joined_extent, script}
-use Rattle.ob_script.specs.Sizes.{IsCounted, IsPublic, IsSourceCounted, IsTable, IsWithin}
+use Rattle.ob_script.specs.Parts.{count_part, join_part}
+use Rattle.ob_script.specs.Script.{after_count, behind_count, blocks_of, extent_of, joined_extent, result_part, rows_width, script, until_end, with_table}
+use Rattle.ob_script.specs.Sizes.{HoldsLeaf, IfFlat, IfTable, IsCounted, IsHeld, IsPublic, IsSourceCounted, IsTable, IsWithin}
+use Rattle.ob_script.specs.declared.extent.Extent.{Extent}
 use Rattle.ob_shell.proofs.ReplayLemmas.{counts_on}
 use Rattle.ob_shell.specs.Feeding.{Fetch}
 use Rattle.ob_shell.specs.Running.{SessionRan}
@@ -52,10 +66,14 @@ region_few : (start : Start) → start.region ≤ earlier start
 unfolding earlier
 region_few start = omega arith
 
-tables_are : (ts : List Table) → ((i : ℕ) (t : Table) → slice_get ts i ≡ Some t → IsStored t.heading) → All IsTable ts
-tables_are ts each = λ i d below. let one = each i (get_or ts i d) (slice_get-get_or ts i d below) in record { capacity = one.most; width = one.wide }
+tables_are : (ts : List Table) → ((i : ℕ) (t : Table) → slice_get ts i ≡ Some t → IsStored t.heading × (t.region ≤ 2 ^ 63 + 2 ^ 60)) → All IsTable ts
+tables_are ts each = λ i d below. let one = each i (get_or ts i d) (slice_get-get_or ts i d below) in record { capacity = one.0.most; width = one.0.wide; region = one.1 }
 
-public_is : {R : Type 0} (state : R → RevState) (e : Engine R) (s : StoreState) → Agrees state e s → count_of e s < 2 ^ 63 → IsPublic (public_of e)
+-- the slots of a stash are none of a flat table's
+abbrev stashless : Public → Public
+stashless p = record p { stash = 0 }
+
+public_is : {R : Type 0} (state : R → RevState) (e : Engine R) (s : StoreState) → Agrees state e s → count_of e s < 2 ^ 63 → IsPublic (stashless (public_of e))
 public_is state e s agrees few =
     let set = agrees.settings in
     let next = agrees.next in
@@ -71,8 +89,15 @@ public_is state e s agrees few =
       depth_few = set.depth_most;
       next = omega (arith, next, tied, made, region, few);
       padded = set.padded;
-      tables = tables_are e.public.tables (λ i t is. (agrees.tables.each i t is).heading.stored);
+      stash = omega arith;
+      tables = tables_are e.public.tables (λ i t is.
+          let below = region_below e.public.pack i e.public.tables t (world_of state e s) agrees.ready agrees.tables is in
+          ((agrees.tables.each i t is).heading.stored, omega (arith, below, tied, made, region, few)));
     }
+
+-- the tables of an engine are flat
+agrees_flat : {R : Type 0} (state : R → RevState) (e : Engine R) (s : StoreState) → Agrees state e s → IsFlat (public_of e)
+agrees_flat state e s agrees = tables_flat e.public.tables (λ i t is. (agrees.tables.each i t is).heading.stored.flat)
 
 -- ---- a table that there is
 record IsSized (t : Stored ℕ) : Type 0 where
@@ -85,10 +110,6 @@ sized name (t ∷ ts) h = split (bytes_eq t.heading.name name) (sized name ts (�
   split : (b : Bool) → IfSome (stored_at name (stored_regions ts)) IsSized → IfSome (if b then Some (record { heading = t.heading; held = t.region }) else stored_at name (stored_regions ts)) IsSized
   split true rest = let one = h 0 t (omega arith) in record { capacity = one.capacity; width = one.width }
   split false rest = rest
-
-headings-regions : (ts : List Table) → headings (stored_regions ts) ≡ headings_of ts
-headings-regions [] = refl
-headings-regions (t ∷ ts) = ap (λ (hs : List Heading). t.heading ∷ hs) (headings-regions ts)
 
 heading_is : (name : List ℕ) (ts : List Table) (t : Stored ℕ) → stored_at name (stored_regions ts) ≡ Some t → heading_at name (headings_of ts) ≡ Some t.heading
 heading_is name ts t is =
@@ -121,28 +142,38 @@ slots_as : (p : Public) (stmt : Stmt) (k : Option ℕ) (n : ℕ) → IfSome k (�
 slots_as p stmt None n count is = tt
 slots_as p stmt (Some k) n count is = let most = count.most in omega (arith, most, is)
 
-module _ (p : Public) (late : Bool) (q : SelectRows) (seen : Seen) (public : IsPublic p) (accepted : early_refusal late (limits_of p) (headings_of p.tables) (RowsStmt q) ≡ None)
+held_flat : (p : Public) (seen : Seen) (A : Type 0) (t : Stored ℕ) → t.heading.shape ≡ Flat → A → IsHeld p seen A t
+held_flat p seen A t flat a = subst (λ (shape : Shape). IfFlat shape A (HoldsLeaf p.stash (height_of t.heading.capacity) seen.leaf seen.end)) (sym flat) a
+
+table_held : (p : Public) (seen : Seen) (name : List ℕ) → IsFlat p → IfTable name p (IsHeld p seen ⊤)
+table_held p seen name flat = go (stored_at name (stored_regions p.tables)) refl
+  where
+    go : (o : Option (Stored ℕ)) → stored_at name (stored_regions p.tables) ≡ o → IfSome o (IsHeld p seen ⊤)
+    go None is = tt
+    go (Some t) is = held_flat p seen ⊤ t (region_flat name p.tables t flat is) tt
+
+module _ (p : Public) (late : Bool) (q : SelectRows) (seen : Seen) (public : IsPublic (stashless p)) (flat : IsFlat p) (accepted : early_refusal late (limits_of p) (headings_of p.tables) (RowsStmt q) ≡ None)
     (told : CountedAs p (RowsStmt q) seen.k seen.plan seen.then) where
-  table_counted : (name : List ℕ) → counted_slots p q.source ≡ counted_slots p (OneTable name) → IsSourceCounted p seen (OneTable name)
+  table_counted : (name : List ℕ) → counted_slots p q.source ≡ counted_slots p (OneTable name) → IsSourceCounted (stashless p) seen (OneTable name)
   table_counted name same = go (stored_at name (stored_regions p.tables)) refl (sized name p.tables public.tables)
     where
-      go : (o : Option (Stored ℕ)) → stored_at name (stored_regions p.tables) ≡ o → IfSome o IsSized → IfSome o (λ t. IsCounted seen (extent_of t))
+      go : (o : Option (Stored ℕ)) → stored_at name (stored_regions p.tables) ≡ o → IfSome o IsSized → IfSome o (λ t. IsHeld (stashless p) seen (IsCounted seen (extent_of t)) t)
       go None is size = tt
       go (Some t) is size =
           let slots = same ∙ ap (λ (o : Option Heading). option_map_or (λ (h : Heading). h.capacity) o 0) (heading_is name p.tables t is) in
-          record {
+          held_flat (stashless p) seen (IsCounted seen (extent_of t)) t (region_flat name p.tables t flat is) (record {
             slots = let few = size.capacity in omega (arith, few);
             width = size.width;
             count = slots_as p (RowsStmt q) seen.k t.heading.capacity told.count slots;
             plan = told.plan_some;
             then = told.second_some;
-          }
+          })
 
-source_counted : (p : Public) (late : Bool) (q : SelectRows) (seen : Seen) → IsPublic p → early_refusal late (limits_of p) (headings_of p.tables) (RowsStmt q) ≡ None → CountedAs p (RowsStmt q) seen.k seen.plan seen.then
-    → IsSourceCounted p seen q.source
-source_counted p late q seen public accepted told = go q.source refl
+source_counted : (p : Public) (late : Bool) (q : SelectRows) (seen : Seen) → IsPublic (stashless p) → IsFlat p → early_refusal late (limits_of p) (headings_of p.tables) (RowsStmt q) ≡ None → CountedAs p (RowsStmt q) seen.k seen.plan seen.then
+    → IsSourceCounted (stashless p) seen q.source
+source_counted p late q seen public flat accepted told = go q.source refl
   where
-    join_counted : (a b : List ℕ) (on equals : _) → q.source ≡ Join a b on equals → IsSourceCounted p seen (Join a b on equals)
+    join_counted : (a b : List ℕ) (on equals : _) → q.source ≡ Join a b on equals → IsSourceCounted (stashless p) seen (Join a b on equals)
     join_counted a b on equals is = left (stored_at a (stored_regions p.tables)) refl
       where
         accepted_join : early_refusal late (limits_of p) (headings_of p.tables) (RowsStmt (record { list = q.list; source = Join a b on equals; cond = q.cond })) ≡ None
@@ -169,21 +200,57 @@ source_counted p late q seen public accepted told = go q.source refl
         left None is_none = tt
         left (Some l) l_is = right l l_is (stored_at b (stored_regions p.tables)) refl
 
-    go : (s : Source) → q.source ≡ s → IsSourceCounted p seen q.source
-    go (OneTable name) is = subst (λ (s : Source). IsSourceCounted p seen s) (sym is) (table_counted p late q seen public accepted told name (ap (counted_slots p) is))
-    go (Join a b on equals) is = subst (λ (s : Source). IsSourceCounted p seen s) (sym is) (join_counted a b on equals is)
+    go : (s : Source) → q.source ≡ s → IsSourceCounted (stashless p) seen q.source
+    go (OneTable name) is = subst (λ (s : Source). IsSourceCounted (stashless p) seen s) (sym is) (table_counted p late q seen public flat accepted told name (ap (counted_slots p) is))
+    go (Join a b on equals) is = subst (λ (s : Source). IsSourceCounted (stashless p) seen s) (sym is) (join_counted a b on equals is)
 
-within_limits : (p : Public) (late : Bool) (stmt : Stmt) (seen : Seen) → IsPublic p → early_refusal late (limits_of p) (headings_of p.tables) stmt ≡ None → Holds p stmt seen seen.k seen.plan seen.then → IsWithin p (skeleton stmt) seen
-within_limits p late (Create table columns capacity shape) seen public accepted holds =
+within_limits : (p : Public) (late : Bool) (stmt : Stmt) (seen : Seen) → IsPublic (stashless p) → IsFlat p → early_refusal late (limits_of p) (headings_of p.tables) stmt ≡ None → Holds p stmt seen seen.k seen.plan seen.then
+    → IsWithin (stashless p) (skeleton stmt) seen
+within_limits p late (Create table columns capacity shape) seen public flat accepted holds =
     let free = allowed late (limits_of p) (headings_of p.tables) (Create table columns capacity shape) accepted in
     let new = within (limits_of p) (headings_of p.tables) table columns capacity shape free.limits in
     (new.most, new.wide)
-within_limits p late (Insert table columns values) seen public accepted holds = tt
-within_limits p late (Update table sets cond) seen public accepted holds = tt
-within_limits p late (Delete table cond) seen public accepted holds = tt
-within_limits p late (DropTable table) seen public accepted holds = tt
-within_limits p late (TotalsStmt s) seen public accepted holds = tt
-within_limits p late (RowsStmt q) seen public accepted holds = source_counted p late q seen public accepted (counted_as p (RowsStmt q) seen seen.k seen.plan seen.then holds)
+within_limits p late (Insert table columns values) seen public flat accepted holds = table_held (stashless p) seen table flat
+within_limits p late (Update table sets cond) seen public flat accepted holds = table_held (stashless p) seen table flat
+within_limits p late (Delete table cond) seen public flat accepted holds = table_held (stashless p) seen table flat
+within_limits p late (DropTable table) seen public flat accepted holds = tt
+within_limits p late (TotalsStmt s) seen public flat accepted holds = tt
+within_limits p late (RowsStmt q) seen public flat accepted holds = source_counted p late q seen public flat accepted (counted_as p (RowsStmt q) seen seen.k seen.plan seen.then holds)
+
+-- ---- a statement on flat tables asks the same whatever the slots of a stash are
+result_same : (p : Public) (plan : Option Plan) (k g : ℕ) (t : Extent) → result_part (stashless p) plan k g t ≡ result_part p plan k g t
+result_same p None k g t = refl
+result_same p (Some Small) k g t = refl
+result_same p (Some Large) k g t = refl
+result_same p (Some Continuous) k g t = refl
+result_same p (Some Hash) k g t = refl
+
+behind_same : (p : Public) (seen : Seen) (pad k : Option ℕ) (g : ℕ) (t : Extent) (ending : List Access) → seen.k ≡ k → behind_count pad (stashless p) seen g t ending ≡ behind_count pad p seen g t ending
+behind_same p seen (Some pad) k g t ending is =
+    let q = padded_rows pad t.slots in ap (λ (l : List Access). l ++ ending) (result_same p (Some (choose_padded p.plan (buffered p.pack p.buffer) q)) q g t)
+behind_same p seen None k g t ending is = ap (λ (o : Option ℕ). after_count (stashless p) seen o g t ending) is ∙ go k ∙ sym (ap (λ (o : Option ℕ). after_count p seen o g t ending) is)
+  where
+    go : (o : Option ℕ) → after_count (stashless p) seen o g t ending ≡ after_count p seen o g t ending
+    go None = refl
+    go (Some n) = λ i. result_same p seen.plan n g t i ++ (result_same p seen.then n (g + 1) t i ++ ending)
+
+whole_same : (p : Public) (s : Skeleton) (seen : Seen) → flat_whole (stashless p) s seen ≡ flat_whole p s seen
+whole_same p (K.Create table cs n shape) seen = refl
+whole_same p (K.Insert table cs) seen = refl
+whole_same p (K.Update table cs) seen = refl
+whole_same p (K.Delete table) seen = refl
+whole_same p (K.Drop table) seen = refl
+whole_same p (K.Groups table cs key) seen = refl
+whole_same p (K.Rows (OneTable name) cs) seen =
+    λ i. with_table name p (λ t. count_part t.held (blocks_of p (extent_of t)) ++ behind_same p seen p.pad seen.k p.next_region (extent_of t) [] refl i)
+whole_same p (K.Rows (Join a b on equals) cs) seen =
+    λ i. with_table a p (λ left. with_table b p (λ right.
+    let t = joined_extent p left.heading right.heading in
+    join_part left.held right.held p.next_region (blocks_of p (extent_of left)) (blocks_of p (extent_of right)) (buffered_blocks p.pack p.buffer) (rows_width p t)
+    ++ (count_part t.region (blocks_of p t) ++ behind_same p seen p.pad seen.k (p.next_region + 1) t (discard_at p.next_region) refl i)))
+
+script_same : (p : Public) (s : Skeleton) (seen : Seen) → IsFlat p → MakesFlat s → script (stashless p) s seen ≡ script p s seen
+script_same p s seen flat made = ap (until_end seen.end) (script_is (stashless p) flat s seen made ∙ whole_same p s seen ∙ sym (script_is p flat s seen made))
 
 -- ---- a statement asks few accesses, or none where many were asked before
 late_or_not : (m : ℕ) (late : Bool) → is_late m ≡ late → late ≡ false → m < 2 ^ 63
@@ -207,8 +274,12 @@ does_few state m0 m1 stmt result agrees does few = go (refusal_now p (asked_of m
         let free = allowed (is_late (asked_of m0)) (limits_of (public_of m0.engine)) (headings_of (public_of m0.engine).tables) stmt is in
         let small = late_or_not (asked_of m0) (is_late (asked_of m0)) refl free.early in
         let public = public_is state m0.engine m0.store agrees small in
-        let short = script_few (public_of m0.engine) (skeleton stmt) (seen_of m1.engine) public
-        (λ started. within_limits (public_of m0.engine) (is_late (asked_of m0)) stmt (seen_of m1.engine) public is does.lawful.holds) in
+        let flat = agrees_flat state m0.engine m0.store agrees in
+        let made = makes_flat (is_late (asked_of m0)) (limits_of (public_of m0.engine)) (headings_of (public_of m0.engine).tables) stmt is in
+        let same = script_same (public_of m0.engine) (skeleton stmt) (seen_of m1.engine) flat made in
+        let short : length (script (public_of m0.engine) (skeleton stmt) (seen_of m1.engine)) < 2 ^ 49 =
+        subst (λ (l : List Access). length l < 2 ^ 49) same (script_few (stashless (public_of m0.engine)) (skeleton stmt) (seen_of m1.engine) public
+        (λ started. within_limits (public_of m0.engine) (is_late (asked_of m0)) stmt (seen_of m1.engine) public flat is does.lawful.holds)) in
         let on = counts_on m0 m1 (script (public_of m0.engine) (skeleton stmt) (seen_of m1.engine)) does.ran.start does.ran.asked in
         omega (arith, on, short, small)
 

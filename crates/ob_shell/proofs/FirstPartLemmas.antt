@@ -16,13 +16,17 @@ use Rattle.ob_exec.specs.Telling.{ReadsTrueUntil, Told, is_refused}
 use Rattle.ob_verdict.specs.declared.outcome.Outcome.{Outcome}
 use Rattle.ob_exec.specs.declared.stop.RunStop.{RunStop}
 use Rattle.ob_headline.proofs.CutLemmas.{cut_begins}
+use Rattle.ob_headline.proofs.FlatLemmas.{IsFlat}
+use Rattle.ob_headline.specs.Bases.{undrawn}
 use Rattle.ob_headline.specs.Words.{Begins}
-use Rattle.ob_mean.proofs.VerdictLemmas.{seen_late}
+use Rattle.ob_mean.proofs.FlatLemmas.{makes_flat, no_access}
+use Rattle.ob_mean.proofs.VerdictLemmas.{seen_flat}
+use Rattle.ob_mean.specs.Flats.{AreFlat}
 use Rattle.ob_mean.specs.Refusals.{early_refusal, limits_of}
 use Rattle.ob_mean.specs.Replay.{cut_at}
-use Rattle.ob_mean.specs.Verdict.{Tables, counted, is_late, seen, seen_by, seen_started, seen_with}
+use Rattle.ob_mean.specs.Verdict.{Draws, Tables, counted, is_late, seen, seen_by, seen_started, seen_with}
 use Rattle.ob_script.specs.Script.{script, until_end, whole_script}
-use Rattle.ob_shell.proofs.ReplayLemmas.{cut_early}
+use Rattle.ob_shell.proofs.ReplayLemmas.{cut_early, held_flat}
 use Rattle.ob_shell.specs.Steps.{Machine, Does, asked_of}
 use Rattle.ob_sql.specs.Skeleton.{skeleton}
 use Rattle.ob_sql.specs.declared.stmt.Stmt.{Stmt}
@@ -73,17 +77,19 @@ to_end AfterCount all ends = refl
 to_end (Cut n) all ends = absurd ends
 
 -- what was asked of a statement that was cut off after n accesses is a first part of what its meaning asks
-pub begins_cut : (p : Public) (m : ℕ) (tables : Tables) (stmt : Stmt) (failed : Bool) (n : ℕ) → early_refusal (is_late m) (limits_of p) (headings tables) stmt ≡ None
-    → Begins (script p (skeleton stmt) (cut_at failed n p (skeleton stmt) (seen p m tables stmt))) (script p (skeleton stmt) (seen p m tables stmt))
-begins_cut p m tables stmt failed n early =
+begins_cut : (d : Draws) (p : Public) (m : ℕ) (tables : Tables) (stmt : Stmt) (failed : Bool) (n : ℕ) → IsFlat p → AreFlat (headings tables)
+    → early_refusal (is_late m) (limits_of p) (headings tables) stmt ≡ None
+    → Begins (script p (skeleton stmt) (cut_at failed n p (skeleton stmt) (seen d p m tables stmt))) (script p (skeleton stmt) (seen d p m tables stmt))
+begins_cut d p m tables stmt failed n flat flat_too early =
     let sk = skeleton stmt in
-    let meant = seen p m tables stmt in
-    let ends : IsToEnd meant.end = subst (λ (x : Seen). IsToEnd x.end) (sym (seen_late p m tables stmt early)) (started_ends p tables stmt) in
-    subst (λ (all : List Access). Begins (script p sk (cut_at failed n p sk meant)) all) (sym (to_end meant.end (whole_script p sk meant) ends)) (cut_begins failed n p sk meant)
+    let meant = seen d p m tables stmt in
+    let ends : IsToEnd meant.end = subst (λ (x : Seen). IsToEnd x.end) (sym (seen_flat p m tables stmt early d (no_access tables stmt flat_too))) (started_ends p tables stmt) in
+    let made = makes_flat (is_late m) (limits_of p) (headings tables) stmt early in
+    subst (λ (all : List Access). Begins (script p sk (cut_at failed n p sk meant)) all) (sym (to_end meant.end (whole_script p sk meant) ends)) (cut_begins failed n p sk flat made meant)
 
-module _ {R : Type 0} (state : R → RevState) (m0 m1 : Machine R) (tables : Tables) (stmt : Stmt) where
+module _ {R : Type 0} (state : R → RevState) (m0 m1 : Machine R) (tables : Tables) (stmt : Stmt) (flat : IsFlat (public_of m0.engine)) where
   abbrev meant : Seen
-  meant = seen (public_of m0.engine) (asked_of m0) tables stmt
+  meant = seen undrawn (public_of m0.engine) (asked_of m0) tables stmt
 
   abbrev IsFirstPart : Type 0
   IsFirstPart = Begins (script (public_of m0.engine) (skeleton stmt) (seen_of m1.engine)) (script (public_of m0.engine) (skeleton stmt) meant)
@@ -97,15 +103,16 @@ module _ {R : Type 0} (state : R → RevState) (m0 m1 : Machine R) (tables : Tab
         let p = public_of m0.engine in
         let sk = skeleton stmt in
         subst (λ (x : Seen). Begins (script p sk x) (script p sk meant)) (sym is)
-        (begins_cut p (asked_of m0) tables stmt failed n (cut_early state m0 m1 tables stmt result does failed n is reads.held))
+        (begins_cut undrawn p (asked_of m0) tables stmt failed n flat (held_flat state m0 tables flat reads.held)
+        (cut_early state m0 m1 tables stmt result flat does failed n is reads.held))
 
   as_told : (failed : Bool) (outcome : Outcome) → Does state m0 m1 stmt (Ok outcome) → ReadsTrueUntil state m0.engine m0.store m1.engine m1.store tables → is_fault outcome ≡ failed
-      → Told state stmt tables outcome m0.engine m0.store m1.engine m1.store → IsFirstPart
+      → Told state stmt undrawn tables outcome m0.engine m0.store m1.engine m1.store → IsFirstPart
   as_told true outcome does reads e told = as_cut (Ok outcome) does reads true _ (rw e at told).seen
   as_told false outcome does reads e told = as_meant (rw e at told).seen
 
   pub begins_truly : (result : Result Outcome RunStop) → Does state m0 m1 stmt result → ReadsTrueUntil state m0.engine m0.store m1.engine m1.store tables → IsFirstPart
   begins_truly (Ok outcome) does reads =
       let none = unfit_none (world_of state m1.engine m1.store) (does.ran.cause.1 reads.calm) reads.unfit in
-      as_told (is_fault outcome) outcome does reads refl (does.means.told tables (record { tells = reads.tells; held = reads.held; nolie = none }))
-  begins_truly (Err stop) does reads = as_cut (Err stop) does reads (is_refused stop) _ (does.means.held tables reads)
+      as_told (is_fault outcome) outcome does reads refl (does.means.told tables undrawn (record { tells = reads.tells; held = reads.held; nolie = none }))
+  begins_truly (Err stop) does reads = as_cut (Err stop) does reads (is_refused stop) _ (does.means.held tables undrawn reads)

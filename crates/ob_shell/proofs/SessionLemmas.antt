@@ -25,9 +25,10 @@ use Rattle.ob_exec.specs.declared.engine.Engine.{Engine}
 use Rattle.ob_gen.specs.Tally.{empty_tally}
 use Rattle.ob_gen.specs.declared.tally.Tally.{Tally}
 use Rattle.ob_headline.proofs.BaseLemmas.{from_each}
+use Rattle.ob_headline.proofs.FlatLemmas.{IsFlat}
 use Rattle.ob_headline.proofs.PromptLemmas.{prompt_all}
 use Rattle.ob_headline.proofs.TextLemmas.{rest_of-nil, texts_of-nil}
-use Rattle.ob_headline.specs.Bases.{Base, Opened, fresh, session_at, start}
+use Rattle.ob_headline.specs.Bases.{Base, Opened, fresh, session_at, start, undrawn}
 use Rattle.ob_headline.specs.Disturbed.{MeantUntil, meant_trace}
 use Rattle.ob_headline.specs.Failures.{FailsBeside}
 use Rattle.ob_headline.specs.Keeping.{EndsWith, Writes, closing_behind, last_script, region_opened}
@@ -90,7 +91,7 @@ none_asked first s from none = omega (arith, ap earlier from, earlier_nothing, a
 
 session_is : {R : Type 0} (config : Config) (first : Engine R) (s : StoreState) → public_of first ≡ first_public config → engine_start first ≡ from_nothing → s.asked ≡ []
     → session_of (machine_of first s) [] ≡ start (Some config)
-session_is config first s is from none = let unasked = none_asked first s from none in λ i. record { public = is i; tables = []; asked = unasked i }
+session_is config first s is from none = let unasked = none_asked first s from none in λ i. record { public = is i; tables = []; asked = unasked i; draws = undrawn }
 
 not_used : (asked : List Access) (high : ℕ) → asked ≡ [] → IsUsed asked high
 not_used asked high none some = let any : IsTrue (list_any is_of_rows []) = subst (λ (xs : List Access). IsTrue (list_any is_of_rows xs)) none some in absurd (cc any)
@@ -103,6 +104,7 @@ stands_first state config key first s is keyed from rows blank steady =
     record {
       settings = refl;
       public = is;
+      flat = tt;
       count = none_asked first s from blank.unasked;
       start = from;
       asked = blank.unasked;
@@ -273,7 +275,10 @@ module _ {R : Type 0} {state : R → RevState} {Lost : Type 0} (base : Base) (co
   }
 
   here : (tables : Tables) → session_of m0 tables ≡ session_at base tables
-  here tables = λ i. record { public = on.public i; tables = tables; asked = on.count i }
+  here tables = λ i. record { public = on.public i; tables = tables; asked = on.count i; draws = undrawn }
+
+  flat_first : IsFlat (public_of first)
+  flat_first = subst IsFlat (sym on.public) on.flat
 
   -- what became of the texts
   abbrev pub story : Story
@@ -291,6 +296,7 @@ module _ {R : Type 0} {state : R → RevState} {Lost : Type 0} (base : Base) (co
   carried_by = record {
     statements = record { spells = walk.spells; reached = walk.reached; begun = walk.begun; keyed = inl refl; each = walk.each };
     accesses = record {
+      flat = on.flat;
       one_last = walk.one_last;
       each_seen = walk.each_seen;
       lawful = subst (λ (s : Session). AreSeen (StopsWithin (RanEnding result) Failed) s.public s.asked walk.spelt ran.answers all) (here []) walk.lawful;
@@ -302,13 +308,13 @@ module _ {R : Type 0} {state : R → RevState} {Lost : Type 0} (base : Base) (co
     answers = record {
       meant = λ undeceived. from_each base (λ x. Represents state first s0 x.tables) (λ x. (broken : Broken) × AnswersFrom (RanEnding result) x walk.spelt broken ran.answers all ran.part)
           (λ tables held.
-          let from = walk.meant undeceived.tells on.calm (record { unfit = λ lie is fits. undeceived.unfit lie is (fits_here lie fits) }) tables held in
+          let from = walk.meant flat_first undeceived.tells on.calm (record { unfit = λ lie is fits. undeceived.unfit lie is (fits_here lie fits) }) tables held in
           (from.0, subst (λ (s : Session). AnswersFrom (RanEnding result) s walk.spelt from.0 ran.answers all ran.part) (here tables) from.1)) on.held;
       later = later_trans _ _ _ (steps_later state m0 ran.middle ran.served ran.answers ran.steps) (last_later state ran.middle m2 ran.more ran.part result ran.last);
       always = λ tells n before.
           let facts = on.early n before in
           let is = facts.0 in
-          let from = walk.early tells is.steady [] is.nothing n facts.1 (omega (arith, ap length is.unasked)) in
+          let from = walk.early flat_first tells is.steady [] is.nothing n facts.1 (omega (arith, ap length is.unasked)) in
           let joined : s0.asked ++ trace (session_of m0 []).public (all_served (session_of m0 []) walk.spelt []) ≡ meant_trace base.settings walk.spelt =
           λ i. is.unasked i ++ trace (is.here i).public (all_served (is.here i) walk.spelt []) in
           record {
@@ -328,7 +334,7 @@ module _ {R : Type 0} {state : R → RevState} {Lost : Type 0} (base : Base) (co
       some_open = subst (λ (n : ℕ). IsUsed s1.asked n) (sym opened) (session_opens state m0 ran.middle m2 ran.served ran.more ran.answers ran.part result on.used ran.steps ran.last);
     };
     untampered = from_each base (λ x. Represents state first s0 x.tables) (λ x. IsHonest s0 s1 → EndsUntampered (RanEnding result))
-        (λ tables held honest. walk.untampered honest.tells tables held honest.no_lie) on.held;
+        (λ tables held honest. walk.untampered flat_first honest.tells tables held honest.no_lie) on.held;
     at_read = λ region place is. let stopped : result ≡ Err (Tampered region place) = cc is in
         last_read state ran.middle m2 ran.more ran.part region place (subst (λ (x : Result Bool Stop). LastPart state ran.middle m2 ran.more ran.part x) stopped ran.last);
   }
@@ -361,7 +367,7 @@ module _ {R : Type 0} {state : R → RevState} {Lost : Type 0} (base : Base) (co
         × Rests (keys_of key) closing s2.kept (by_name (after_all (session_at base tables) walk.spelt broken).tables)
     rests_last tables honest left mark closed held =
         let none : s1.lie ≡ None = none_lies s1.lie s1 s2 refl closes.later honest.no_lie in
-        let from_it = walk.meant honest.tells on.calm (record { unfit = λ lie it. absurd (cc (none, it)) }) tables held in
+        let from_it = walk.meant flat_first honest.tells on.calm (record { unfit = λ lie it. absurd (cc (none, it)) }) tables held in
         let whole = subst (λ (e : Ending). EndsWhole e) (sym (ending_is tally is)) tt in
         let tables_after = (after_all (session_of m0 tables) walk.spelt from_it.0).tables in
         let tells : IsTrue s1.tells = subst (λ (b : Bool). IsTrue b) (sym lasting.tells) honest.tells in

@@ -11,6 +11,7 @@ use Rattle.ob_base.specs.declared.refusal.Stop.{Stop}
 use Rattle.ob_base.specs.declared.refusal.Stop.TheVariants.{Tampered, SourceFault, SinkFault, NoMemory, InputLimit}
 use Rattle.ob_select.specs.Opening.{is_of_rows}
 use Rattle.ob_gen.specs.declared.tally.Tally.{Tally}
+use Rattle.ob_headline.proofs.FlatLemmas.{start_flat}
 use Rattle.ob_headline.proofs.PromptLemmas.{prompt_all, prompt_behind, prompt_line}
 use Rattle.ob_headline.proofs.TextLemmas.{rest_of-nil, texts_of-nil}
 use Rattle.ob_headline.specs.Bases.{Base, fresh, start}
@@ -87,6 +88,7 @@ unfolding SpellFirst AreSeen AnswersFrom MeantUntil failures any_cut statements
 unstarted tr settings secret s more ending blank untraced untampered = record {
   statements = record { spells = tt; reached = omega arith; begun = omega arith; keyed = inr refl; each = refl };
   accesses = record {
+    flat = start_flat settings;
     one_last = omega arith;
     each_seen = refl;
     lawful = refl;

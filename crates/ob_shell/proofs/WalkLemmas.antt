@@ -25,6 +25,8 @@ use Rattle.ob_verdict.specs.declared.outcome.Outcome.{Outcome}
 use Rattle.ob_verdict.specs.declared.outcome.Outcome.TheVariants.{Created, Inserted, Changed, Deleted, Dropped, Rows, Refused}
 use Rattle.ob_exec.specs.declared.stop.RunStop.{RunStop}
 use Rattle.ob_exec.specs.declared.stop.RunStop.TheVariants as Runs
+use Rattle.ob_headline.proofs.FlatLemmas.{IsFlat}
+use Rattle.ob_headline.specs.Bases.{undrawn}
 use Rattle.ob_headline.specs.Closing.{closing_line}
 use Rattle.ob_headline.specs.Disturbed.{MeantUntil}
 use Rattle.ob_headline.specs.Words.{Answer, Begins, refused_at}
@@ -33,14 +35,17 @@ use Rattle.ob_headline.specs.Accesses.{AreSeen, Says, StopsWithin, WantsMemory, 
 use Rattle.ob_headline.specs.Meaning.{AnswersFrom, AnswersIn, BeginsAnswer}
 use Rattle.ob_headline.specs.declared.ending.Ending.{Ending}
 use Rattle.ob_headline.specs.declared.ending.Ending.TheVariants.{Usage, BadKey, Ran}
-use Rattle.ob_mean.specs.Replay.{Broken, IsCutOff, Session, Spelt, after, after_all, all_served, cut_at, seen_now, seen_or_cut}
+use Rattle.ob_mean.proofs.FlatLemmas.{no_access}
+use Rattle.ob_mean.proofs.FlatSessions.{room_flat}
+use Rattle.ob_mean.proofs.ReplayLemmas.{after_room, served_room}
+use Rattle.ob_mean.specs.Replay.{Broken, IsCutOff, Session, Spelt, after, after_all, all_served, cut_at, seen_now, seen_or_cut, served}
 use Rattle.ob_mean.specs.Verdict.{Tables}
 use Rattle.ob_print.specs.Rows.{events_text}
 use Rattle.ob_script.specs.Script.{script, whole_script}
 use Rattle.ob_script.specs.Trace.{Served as Entry, after_all as all_public, next, trace}
 use Rattle.ob_seal.specs.KeySet.{KeySet}
 use Rattle.ob_shell.proofs.DisturbLemmas.{before_less, begins_more, crosses, few_or_more, take_begins}
-use Rattle.ob_shell.proofs.ReplayLemmas.{counts_on, fault_is, cut_early, cut_within, outcome_cases, stands_after}
+use Rattle.ob_shell.proofs.ReplayLemmas.{counts_on, does_flat, fault_is, cut_early, cut_within, held_flat, outcome_cases, stands_after}
 use Rattle.ob_shell.proofs.StepLemmas.{by_last}
 use Rattle.ob_shell.proofs.StopLemmas.{only_memory, only_sink, stop_untampered, tampered_as}
 use Rattle.ob_shell.specs.Running.{LastPart}
@@ -147,14 +152,16 @@ module _ {R : Type 0} (state : R → RevState) where
   early_answered n s asked0 asked2 at spelt one answers seen is rest = record { meant = (is, rest.meant); begins = rest.begins; quiet = rest.quiet }
 
   -- a statement was begun
-  early_one : (m0 m2 : Machine R) (tables : Tables) (stmt : Stmt) (result : Result Outcome RunStop) (n : ℕ) (seen : List Entry) → Does state m0 m2 stmt result → IsTrue m0.store.tells → IsSteady m0.store
+  early_one : (m0 m2 : Machine R) (tables : Tables) (stmt : Stmt) (result : Result Outcome RunStop) (n : ℕ) (seen : List Entry) → IsFlat (public_of m0.engine) → Does state m0 m2 stmt result → IsTrue m0.store.tells → IsSteady m0.store
       → Represents state m0.engine m0.store tables → IsBefore m0.store.disturbed n → length m0.store.asked ≤ n
       → EarlyFrom n (session_of m0 tables) m0.store.asked m2.store.asked (Ok stmt ∷ []) [] seen
   unfolding MeantUntil
-  early_one m0 m2 tables stmt result n seen does tells steady held before few =
-      let cross = crosses state m0 m2 tables stmt result does tells steady held n before few in
-      let all = meant_script (public_of m0.engine) (asked_of m0) tables stmt in
-      let same : all ++ [] ≡ all = append-nil all in
+  early_one m0 m2 tables stmt result n seen flat does tells steady held before few =
+      let cross = crosses state m0 m2 tables stmt result flat does tells steady held n before few in
+      let s = session_of m0 tables in
+      let all = meant_script undrawn (public_of m0.engine) (asked_of m0) tables stmt in
+      let alone : all_served s (Ok stmt ∷ []) [] ≡ served None s stmt ∷ [] = served_room s stmt [] [] (room_flat s stmt (held_flat state m0 tables flat held)) in
+      let same : trace s.public (all_served s (Ok stmt ∷ []) []) ≡ all = ap (trace s.public) alone ∙ append-nil all in
       record {
         meant = tt;
         begins = subst (λ (l : List Access). Begins (take n m2.store.asked) (m0.store.asked ++ l)) (sym same) cross.begins;
@@ -181,11 +188,11 @@ module _ {R : Type 0} (state : R → RevState) where
     pub public : public_of m1.engine ≡ all_public (public_of m0.engine) seen
     pub unfailed : any_cut (seen ++ last) ≡ false → m2.store.faults ≡ m0.store.faults
     pub lie : (lie : Lie) → m0.store.lie ≡ Some lie → m2.store.lie ≡ Some lie
-    pub meant : IsTrue m0.store.tells → Calm (world m0) → IsUnfit (world m2) → (tables : Tables) → Represents state m0.engine m0.store tables
+    pub meant : IsFlat (public_of m0.engine) → IsTrue m0.store.tells → Calm (world m0) → IsUnfit (world m2) → (tables : Tables) → Represents state m0.engine m0.store tables
         → (broken : Broken) × AnswersFrom ending (session_of m0 tables) spelt broken answers (seen ++ last) part
         × (EndsWhole ending → Represents state m2.engine m2.store (after_all (session_of m0 tables) spelt broken).tables)
-    pub untampered : IsTrue m0.store.tells → (tables : Tables) → Represents state m0.engine m0.store tables → m2.store.lie ≡ None → EndsUntampered ending
-    pub early : IsTrue m0.store.tells → IsSteady m0.store → (tables : Tables) → Represents state m0.engine m0.store tables → (n : ℕ) → IsBefore m0.store.disturbed n → length m0.store.asked ≤ n
+    pub untampered : IsFlat (public_of m0.engine) → IsTrue m0.store.tells → (tables : Tables) → Represents state m0.engine m0.store tables → m2.store.lie ≡ None → EndsUntampered ending
+    pub early : IsFlat (public_of m0.engine) → IsTrue m0.store.tells → IsSteady m0.store → (tables : Tables) → Represents state m0.engine m0.store tables → (n : ℕ) → IsBefore m0.store.disturbed n → length m0.store.asked ≤ n
         → EarlyFrom n (session_of m0 tables) m0.store.asked m2.store.asked spelt answers (seen ++ last)
 
   -- nothing was done
@@ -210,9 +217,9 @@ module _ {R : Type 0} (state : R → RevState) where
     public = refl;
     unfailed = λ not. ap (λ (m : Machine R). m.store.faults) same;
     lie = λ lie is. ap (λ (m : Machine R). m.store.lie) same ∙ is;
-    meant = λ tells calm unfit tables held. ([], (refl, none), λ whole. subst (λ (m : Machine R). Represents state m.engine m.store tables) (sym same) held);
-    untampered = λ tells tables held honest. fine;
-    early = λ tells steady tables held n before few. early_none n (session_of m0 tables) m0.store.asked m2.store.asked [] (ap (λ (m : Machine R). m.store.asked) same) few;
+    meant = λ flat tells calm unfit tables held. ([], (refl, none), λ whole. subst (λ (m : Machine R). Represents state m.engine m.store tables) (sym same) held);
+    untampered = λ flat tells tables held honest. fine;
+    early = λ flat tells steady tables held n before few. early_none n (session_of m0 tables) m0.store.asked m2.store.asked [] (ap (λ (m : Machine R). m.store.asked) same) few;
   }
 
   -- a statement was stopped
@@ -231,16 +238,16 @@ module _ {R : Type 0} (state : R → RevState) where
         ];
       }
 
-  stopped_part : (m0 m2 : Machine R) (tables : Tables) (text : List ℕ) (run : RunStop) (part : List ℕ) → (cut : CutStep state m0 m2 text run part)
+  stopped_part : (m0 m2 : Machine R) (tables : Tables) (text : List ℕ) (run : RunStop) (part : List ℕ) → IsFlat (public_of m0.engine) → (cut : CutStep state m0 m2 text run part)
       → ReadsTrueUntil state m0.engine m0.store m2.engine m2.store tables
       → BeginsAnswer (Ran (Err (session_stop run))) (session_of m0 tables) (Ok cut.stmt) (record { skeleton = skeleton cut.stmt; seen = seen_of m2.engine } ∷ []) part
-  stopped_part m0 m2 tables text run part cut reads =
+  stopped_part m0 m2 tables text run part flat cut reads =
       let n = length m2.store.asked - length m0.store.asked in
-      let seen_is = cut.does.means.held tables reads in
+      let seen_is = cut.does.means.held tables undrawn reads in
       inl (record {
-        started = cut_early state m0 m2 tables cut.stmt (Err run) cut.does (is_refused run) n seen_is reads.held;
+        started = cut_early state m0 m2 tables cut.stmt (Err run) flat cut.does (is_refused run) n seen_is reads.held;
         n = n;
-        within = cut_within state m0 m2 tables cut.stmt (Err run) cut.does (is_refused run) n seen_is;
+        within = cut_within state m0 m2 tables cut.stmt (Err run) flat cut.does (is_refused run) n seen_is;
         seen = subst (λ (failed : Bool). seen_of m2.engine ≡ cut_at failed n (public_of m0.engine) (skeleton cut.stmt) (seen_now (session_of m0 tables) cut.stmt)) (tampered_as run) seen_is;
         events = cut.events;
         begun = cut.emitted tables reads;
@@ -272,9 +279,9 @@ module _ {R : Type 0} (state : R → RevState) where
         public = refl;
         unfailed = λ not. absurd (cc (ap is_cut cut.does.ran.ends, or_first (is_cut here.end) false not));
         lie = cut.does.ran.later.lie;
-        meant = λ tells calm unfit tables held. ([], stopped_part m0 m2 tables text run part cut (record { tells = tells; held = held; calm = calm; unfit = unfit }), λ whole. absurd whole);
-        untampered = λ tells tables held honest. stop_untampered run (cut.does.means.honest tables (record { tells = tells; held = held; nolie = honest }));
-        early = λ tells steady tables held n before few. early_one m0 m2 tables cut.stmt (Err run) n _ cut.does tells steady held before few;
+        meant = λ flat tells calm unfit tables held. ([], stopped_part m0 m2 tables text run part flat cut (record { tells = tells; held = held; calm = calm; unfit = unfit }), λ whole. absurd whole);
+        untampered = λ flat tells tables held honest. stop_untampered run (cut.does.means.honest tables (record { tells = tells; held = held; nolie = honest }));
+        early = λ flat tells steady tables held n before few. early_one m0 m2 tables cut.stmt (Err run) n _ flat cut.does tells steady held before few;
       }
 
   -- how the model answers a statement that was answered
@@ -286,11 +293,11 @@ module _ {R : Type 0} (state : R → RevState) where
     pub held : Represents state m1.engine m1.store (after how (session_of m0 tables) stmt).tables
     pub whole : m1.store.faults ≡ 0 → how ≡ None
 
-  pub answered_by : (m0 m1 : Machine R) (tables : Tables) (text : List ℕ) (one : Answer) (did : ServedStatement state m0 m1 text one) → ReadsTrue state m0.engine m0.store m1.store tables
+  pub answered_by : (m0 m1 : Machine R) (tables : Tables) (text : List ℕ) (one : Answer) (did : ServedStatement state m0 m1 text one) → IsFlat (public_of m0.engine) → ReadsTrue state m0.engine m0.store m1.store tables
       → AnsweredBy m0 m1 tables did.stmt one
-  answered_by m0 m1 tables text one did reads =
+  answered_by m0 m1 tables text one did flat reads =
       let n = length m1.store.asked - length m0.store.asked in
-      elim (outcome_cases one.outcome _ _ _ _ (did.does.means.told tables reads) (did.emitted tables reads)) [
+      elim (outcome_cases one.outcome _ _ _ _ (did.does.means.told tables undrawn reads) (did.emitted tables reads)) [
         | inl both ↦ record {
           how = None;
           cuts = tt;
@@ -302,7 +309,12 @@ module _ {R : Type 0} (state : R → RevState) where
         | inr by ↦ let some : length m0.store.asked < length m1.store.asked = did.does.ran.asks (ap is_fault by.is) in
             record {
               how = Some n;
-              cuts = (cut_early state m0 m1 tables did.stmt _ did.does true n by.told.seen reads.held, omega (arith, some), cut_within state m0 m1 tables did.stmt _ did.does true n by.told.seen);
+              cuts = (
+                cut_early state m0 m1 tables did.stmt _ flat did.does true n by.told.seen reads.held,
+                no_access tables did.stmt (held_flat state m0 tables flat reads.held),
+                omega (arith, some),
+                cut_within state m0 m1 tables did.stmt _ flat did.does true n by.told.seen,
+              );
               answer = record { outcome = by.is; events = did.events; unfinished = by.too; bytes = did.printed };
               seen = by.told.seen;
               held = by.told.held;
@@ -343,11 +355,11 @@ module _ {R : Type 0} (state : R → RevState) where
         public = refl;
         unfailed = λ not. same_by one.outcome (world m0) (world m2) here.end _ did.does.ran.cause did.does.ran.ends (or_first (is_cut here.end) false not);
         lie = did.does.ran.later.lie;
-        meant = λ tells calm unfit tables held.
-            let by = answered_by m0 m2 tables text one did (reads_true m0 m2 tables text one did tells held calm unfit) in
+        meant = λ flat tells calm unfit tables held.
+            let by = answered_by m0 m2 tables text one did flat (reads_true m0 m2 tables text one did tells held calm unfit) in
             ([], inr (record { broken = by.how; cuts = by.cuts; seen = by.seen; answer = one; answers = by.answer; whole = is }), λ whole. absurd whole);
-        untampered = λ tells tables held honest. stop_untampered run (sink_untampered run fault);
-        early = λ tells steady tables held n before few. early_one m0 m2 tables did.stmt (Ok one.outcome) n _ did.does tells steady held before few;
+        untampered = λ flat tells tables held honest. stop_untampered run (sink_untampered run fault);
+        early = λ flat tells steady tables held n before few. early_one m0 m2 tables did.stmt (Ok one.outcome) n _ flat did.does tells steady held before few;
       }
 
   refused_is : (m0 m1 : Machine R) (text : List ℕ) (one : Answer) → (bad : Misspelt m0 m1 text one) → one ≡ refused_at bad.at
@@ -375,10 +387,10 @@ module _ {R : Type 0} (state : R → RevState) where
     public = refl;
     unfailed = λ not. ap (λ (m : Machine R). m.store.faults) bad.same;
     lie = λ lie it. ap (λ (m : Machine R). m.store.lie) bad.same ∙ it;
-    meant = λ tells calm unfit tables held.
+    meant = λ flat tells calm unfit tables held.
         ([], is ∙ ap (λ (a : Answer). a.bytes) (refused_is m0 m2 text one bad), λ whole. subst (λ (m : Machine R). Represents state m.engine m.store tables) (sym bad.same) held);
-    untampered = λ tells tables held honest. fine;
-    early = λ tells steady tables held n before few. early_refused n (session_of m0 tables) m0.store.asked m2.store.asked bad.at [] [] refl (early_none n (session_of m0 tables) m0.store.asked m2.store.asked [] (ap (λ (m : Machine R). m.store.asked) bad.same) few);
+    untampered = λ flat tells tables held honest. fine;
+    early = λ flat tells steady tables held n before few. early_refused n (session_of m0 tables) m0.store.asked m2.store.asked bad.at [] [] refl (early_none n (session_of m0 tables) m0.store.asked m2.store.asked [] (ap (λ (m : Machine R). m.store.asked) bad.same) few);
   }
 
   walked_part : (Failed : Type 0) (m1 m2 : Machine R) (more : List (List ℕ)) (run : RunStop) (part : List ℕ) → (Rises m1.store.faults m2.store.faults → Failed) → PartlyAt state m1 m2 more run part
@@ -422,11 +434,11 @@ module _ {R : Type 0} (state : R → RevState) where
         public = rest.public;
         unfailed = rest.unfailed;
         lie = rest.lie;
-        meant = λ tells calm unfit tables held. let from = rest.meant tells calm unfit tables held in (None ∷ from.0, (refused_is m0 m1 text one bad, from.1), from.2);
+        meant = λ flat tells calm unfit tables held. let from = rest.meant flat tells calm unfit tables held in (None ∷ from.0, (refused_is m0 m1 text one bad, from.1), from.2);
         untampered = rest.untampered;
-        early = λ tells steady tables held n before few.
+        early = λ flat tells steady tables held n before few.
             early_answered n (session_of m0 tables) m0.store.asked m2.store.asked bad.at rest.spelt one answers (rest.seen ++ rest.last) (refused_is m0 m1 text one bad)
-            (rest.early tells steady tables held n before few);
+            (rest.early flat tells steady tables held n before few);
       }
 
   -- no lie was told before
@@ -436,34 +448,36 @@ module _ {R : Type 0} (state : R → RevState) where
 
   -- one statement more, and then those of which the rest tells
   early_served : (m0 m1 m2 : Machine R) (tables : Tables) (text : List ℕ) (one : Answer) (did : ServedStatement state m0 m1 text one) (n : ℕ) (spelt : List Spelt) (answers : List Answer) (seen : List Entry)
-      → IsTrue m0.store.tells → IsSteady m0.store → Represents state m0.engine m0.store tables → IsBefore m0.store.disturbed n → length m0.store.asked ≤ n
+      → IsFlat (public_of m0.engine) → IsTrue m0.store.tells → IsSteady m0.store → Represents state m0.engine m0.store tables → IsBefore m0.store.disturbed n → length m0.store.asked ≤ n
       → (asked : List Access) → m2.store.asked ≡ m1.store.asked ++ asked
       → ((after_it : Tables) → Represents state m1.engine m1.store after_it → length m1.store.asked ≤ n → EarlyFrom n (session_of m1 after_it) m1.store.asked m2.store.asked spelt answers seen)
       → EarlyFrom n (session_of m0 tables) m0.store.asked m2.store.asked (Ok did.stmt ∷ spelt) (one ∷ answers) (record { skeleton = skeleton did.stmt; seen = seen_of m1.engine } ∷ seen)
   unfolding MeantUntil
-  early_served m0 m1 m2 tables text one did n spelt answers seen tells steady held before few asked grew rest =
+  early_served m0 m1 m2 tables text one did n spelt answers seen flat tells steady held before few asked grew rest =
       let s = session_of m0 tables in
       let p = public_of m0.engine in
       let sk = skeleton did.stmt in
-      let part = meant_script p (asked_of m0) tables did.stmt in
+      let part = meant_script undrawn p (asked_of m0) tables did.stmt in
       let tail = trace (after None s did.stmt).public (all_served (after None s did.stmt) spelt []) in
+      let all : trace p (all_served s (Ok did.stmt ∷ spelt) []) ≡ part ++ tail = ap (trace p) (served_room s did.stmt spelt [] (room_flat s did.stmt (held_flat state m0 tables flat held))) in
       let later = did.does.ran.later in
       let asked_is : length m1.store.asked ≡ length m0.store.asked + length (script p sk (seen_of m1.engine)) = ap length did.does.ran.asked ∙ length-append m0.store.asked (script p sk (seen_of m1.engine)) in
-      let cross = crosses state m0 m1 tables did.stmt (Ok one.outcome) did.does tells steady held n before few in
-      let split : m0.store.asked ++ (part ++ tail) ≡ (m0.store.asked ++ part) ++ tail = sym (append_assoc m0.store.asked part tail) in
+      let cross = crosses state m0 m1 tables did.stmt (Ok one.outcome) flat did.does tells steady held n before few in
+      let split : m0.store.asked ++ trace p (all_served s (Ok did.stmt ∷ spelt) []) ≡ (m0.store.asked ++ part) ++ tail =
+      ap (λ (l : List Access). m0.store.asked ++ l) all ∙ sym (append_assoc m0.store.asked part tail) in
       elim (few_or_more (length m1.store.asked) n) [
         | inl within ↦
             let quiet = (later.steady steady).quiet (before_less m1.store.disturbed (length m1.store.asked) n within (subst (λ (o : Option (List Disturbance)). IsBefore o n) (sym later.disturbed) before)) in
-            let by = answered_by m0 m1 tables text one did (record { tells = tells; held = held; nolie = quiet.lie }) in
+            let by = answered_by m0 m1 tables text one did flat (record { tells = tells; held = held; nolie = quiet.lie }) in
             let whole : by.how ≡ None = by.whole quiet.faults in
             let seen_is : seen_of m1.engine ≡ seen_now s did.stmt = by.seen ∙ ap (λ (o : Option ℕ). seen_or_cut o s did.stmt) whole in
             let answer : AnswersIn None s did.stmt one = subst (λ (o : Option ℕ). AnswersIn o s did.stmt one) whole by.answer in
             let after_it = (after None s did.stmt).tables in
             let held_there : Represents state m1.engine m1.store after_it = subst (λ (o : Option ℕ). Represents state m1.engine m1.store (after o s did.stmt).tables) whole by.held in
-            let stands : after None s did.stmt ≡ session_of m1 after_it = stands_after state m0 m1 tables text one did None after_it seen_is refl in
+            let stands : after None s did.stmt ≡ session_of m1 after_it = stands_after state m0 m1 tables text one did None after_it flat tt seen_is refl in
             let there = rest after_it held_there within in
-            let joined : m1.store.asked ++ trace (public_of m1.engine) (all_served (session_of m1 after_it) spelt []) ≡ m0.store.asked ++ (part ++ tail) =
-            (λ i. (did.does.ran.asked ∙ ap (λ (x : Seen). m0.store.asked ++ script p sk x) seen_is) i ++ trace (sym stands i).public (all_served (sym stands i) spelt [])) ∙ append_assoc m0.store.asked part tail in
+            let joined : m1.store.asked ++ trace (public_of m1.engine) (all_served (session_of m1 after_it) spelt []) ≡ m0.store.asked ++ trace p (all_served s (Ok did.stmt ∷ spelt) []) =
+            (λ i. (did.does.ran.asked ∙ ap (λ (x : Seen). m0.store.asked ++ script p sk x) seen_is) i ++ trace (sym stands i).public (all_served (sym stands i) spelt [])) ∙ sym split in
             record {
               meant = λ few_here. (answer, seen_is, subst (λ (x : Session). MeantUntil n x spelt answers seen) (sym stands) there.meant);
               begins = subst (λ (l : List Access). Begins (take n m2.store.asked) l) joined there.begins;
@@ -473,7 +487,7 @@ module _ {R : Type 0} (state : R → RevState) where
             let first : take n m2.store.asked ≡ take n m1.store.asked = ap (take n) grew ∙ take-append-le n m1.store.asked asked (omega (arith, more)) in
             record {
               meant = λ few_here. absurd (omega (arith, few_here, asked_is, more));
-              begins = subst (λ (l : List Access). Begins l (m0.store.asked ++ (part ++ tail))) (sym first)
+              begins = subst (λ (l : List Access). Begins l (m0.store.asked ++ trace p (all_served s (Ok did.stmt ∷ spelt) []))) (sym first)
                   (subst (λ (l : List Access). Begins (take n m1.store.asked) l) (sym split) (begins_more (take n m1.store.asked) (m0.store.asked ++ part) tail cross.begins));
               quiet = λ le. absurd (
                   let most = ap length split in
@@ -536,11 +550,12 @@ module _ {R : Type 0} (state : R → RevState) where
             rest.unfailed (or_rest (is_cut here.end) (any_cut all) not)
             ∙ same_by one.outcome (world m0) (world m1) here.end _ did.does.ran.cause did.does.ran.ends (or_first (is_cut here.end) (any_cut all) not);
         lie = λ lie it. rest.lie lie (did.does.ran.later.lie lie it);
-        meant = λ tells calm unfit tables held.
-            let by = answered_by m0 m1 tables text one did (reads_true m0 m1 tables text one did tells held calm (unfit_before m1 m2 rest.keys rest.start rest.lie unfit)) in
+        meant = λ flat tells calm unfit tables held.
+            let by = answered_by m0 m1 tables text one did flat (reads_true m0 m1 tables text one did tells held calm (unfit_before m1 m2 rest.keys rest.start rest.lie unfit)) in
             let after_it = (after by.how (session_of m0 tables) did.stmt).tables in
-            let from = rest.meant (subst (λ (b : Bool). IsTrue b) (sym did.does.ran.later.tells) tells) (did.does.ran.cause.1 calm) unfit after_it by.held in
-            let stands = stands_after state m0 m1 tables text one did by.how after_it by.seen refl in (
+            let from = rest.meant (does_flat state m0 m1 did.stmt _ did.does flat) (subst (λ (b : Bool). IsTrue b) (sym did.does.ran.later.tells) tells) (did.does.ran.cause.1 calm) unfit after_it by.held in
+            let stands = stands_after state m0 m1 tables text one did by.how after_it flat by.cuts by.seen refl in
+            let behind = after_room (session_of m0 tables) did.stmt rest.spelt (by.how ∷ from.0) (room_flat (session_of m0 tables) did.stmt (held_flat state m0 tables flat held)) in (
               by.how ∷ from.0,
               (
                 by.cuts,
@@ -548,15 +563,17 @@ module _ {R : Type 0} (state : R → RevState) where
                 by.seen,
                 subst (λ (s : Session). AnswersFrom ending s rest.spelt from.0 answers all part) (sym stands) from.1,
               ),
-              λ whole. subst (λ (s : Session). Represents state m2.engine m2.store (after_all s rest.spelt from.0).tables) (sym stands) (from.2 whole),
+              λ whole.
+                  subst (λ (s : Session). Represents state m2.engine m2.store s.tables) (sym behind)
+                  (subst (λ (s : Session). Represents state m2.engine m2.store (after_all s rest.spelt from.0).tables) (sym stands) (from.2 whole)),
             );
-        untampered = λ tells tables held honest.
+        untampered = λ flat tells tables held honest.
             let none : m1.store.lie ≡ None = none_before m1.store.lie m1 m2 refl rest.lie honest in
-            let by = answered_by m0 m1 tables text one did (record { tells = tells; held = held; nolie = none }) in
-            rest.untampered (subst (λ (b : Bool). IsTrue b) (sym did.does.ran.later.tells) tells) (after by.how (session_of m0 tables) did.stmt).tables by.held honest;
-        early = λ tells steady tables held n before few.
-            early_served m0 m1 m2 tables text one did n rest.spelt answers all tells steady held before few (trace (public_of m1.engine) all) rest.asked
-            (λ after_it held_after few_there. rest.early (subst (λ (b : Bool). IsTrue b) (sym did.does.ran.later.tells) tells) (did.does.ran.later.steady steady) after_it held_after n
+            let by = answered_by m0 m1 tables text one did flat (record { tells = tells; held = held; nolie = none }) in
+            rest.untampered (does_flat state m0 m1 did.stmt _ did.does flat) (subst (λ (b : Bool). IsTrue b) (sym did.does.ran.later.tells) tells) (after by.how (session_of m0 tables) did.stmt).tables by.held honest;
+        early = λ flat tells steady tables held n before few.
+            early_served m0 m1 m2 tables text one did n rest.spelt answers all flat tells steady held before few (trace (public_of m1.engine) all) rest.asked
+            (λ after_it held_after few_there. rest.early (does_flat state m0 m1 did.stmt _ did.does flat) (subst (λ (b : Bool). IsTrue b) (sym did.does.ran.later.tells) tells) (did.does.ran.later.steady steady) after_it held_after n
             (subst (λ (o : Option (List Disturbance)). IsBefore o n) (sym did.does.ran.later.disturbed) before) few_there);
       }
 

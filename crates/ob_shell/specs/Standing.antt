@@ -1,6 +1,7 @@
 -- The engine with which a run goes on from a base.
 use Rattle.std.specs.Prelude.{ℕ, ◌≡◌, ◌≤◌, ◌<◌, Bool, IsTrue, List, [], Option, None, Some}
 use Rattle.std.specs.List.{list_any}
+use Rattle.ob_base.specs.Stored.{headings_of}
 use Rattle.ob_base.specs.declared.access.Access.{Access}
 use Rattle.ob_base.specs.declared.config.Config.{Config}
 use Rattle.ob_exec.specs.Agreeing.{count_of, engine_keys, engine_start, high_of, public_of, rows_of, world_of}
@@ -10,6 +11,7 @@ use Rattle.ob_exec.specs.Telling.{Represents}
 use Rattle.ob_exec.specs.declared.engine.Engine.{Engine}
 use Rattle.ob_headline.specs.Bases.{Base, FromEach, said_of, start}
 use Rattle.ob_headline.specs.Sealing.{PassesFrom}
+use Rattle.ob_mean.specs.Flats.{AreFlat}
 use Rattle.ob_seal.specs.Sealed.{keys_of}
 use Rattle.ob_shell.specs.Steps.{machine_of, session_of}
 use Rattle.ob_store.specs.Calls.{IsBefore, IsSteady}
@@ -29,11 +31,12 @@ pub record IsFirst {R : Type 0} (state : R → RevState) (settings : Option Conf
   pub nothing : Represents state e s []
   pub here : session_of (machine_of e s) [] ≡ start settings
 
--- an engine and its store are those that a base tells of, with the keys of a secret
+-- an engine and its store are those that a base tells of, with the keys of a secret; no table is an index
 pub record StandsOn {R : Type 0} (state : R → RevState) (base : Base) (config : Config)
     (key : List ℕ) (e : Engine R) (s : StoreState) : Type 0 where
   pub settings : base.settings ≡ Some config
   pub public : public_of e ≡ base.public
+  pub flat : AreFlat (headings_of base.public.tables)
   pub pack : base.public.pack ≡ config.pack
   pub buffer : base.public.buffer ≡ config.buffer
   pub rows : rows_of e ≡ config.buffer

@@ -17,6 +17,7 @@ use Rattle.ob_verdict.specs.declared.outcome.Outcome.TheVariants.{Refused}
 use Rattle.ob_exec.specs.declared.stop.RunStop.{RunStop}
 use Rattle.ob_exec.specs.declared.stop.RunStop.TheVariants.{SinkFault, NoMemory}
 use Rattle.ob_gen.specs.declared.tally.Tally.{Tally}
+use Rattle.ob_headline.specs.Bases.{undrawn}
 use Rattle.ob_headline.specs.Closing.{closing_line}
 use Rattle.ob_headline.specs.Words.{Answer, printed}
 use Rattle.ob_headline.specs.Statements.{Spells}
@@ -61,7 +62,12 @@ asked_of m = count_of m.engine m.store
 
 -- the session of the model at which a machine stands that holds these tables
 abbrev pub session_of : {R : Type 0} → Machine R → Tables → Session
-session_of m tables = record { public = public_of m.engine; tables = tables; asked = asked_of m }
+session_of m tables = record {
+  public = public_of m.engine;
+  tables = tables;
+  asked = asked_of m;
+  draws = undrawn;
+}
 
 -- the engine carried out a statement, whatever it answered
 pub record Does {R : Type 0} (state : R → RevState) (m0 m1 : Machine R) (stmt : Stmt)

@@ -1,0 +1,88 @@
+-- What statements go on from is flat, and stays so.
+use Rattle.std.specs.Prelude.{map, slice_get}
+use Rattle.std.proofs.Common.{◌≡◌, ℕ, zero, suc, false, List, [], ◌∷◌, Option, Some, None, refl, sym, ◌∙◌, ap, subst}
+use Rattle.ob_base.specs.Stored.{headings, headings_of}
+use Rattle.ob_base.specs.declared.config.Config.{Config}
+use Rattle.ob_base.specs.declared.config.Public.{Public}
+use Rattle.ob_base.specs.declared.refusal.Refusal.{Refusal}
+use Rattle.ob_base.specs.declared.schema.Heading.{Heading}
+use Rattle.ob_base.specs.declared.schema.Shape.TheVariants.{Flat}
+use Rattle.ob_base.specs.declared.schema.Table.{Table}
+use Rattle.ob_base.specs.declared.seen.End.{End}
+use Rattle.ob_base.specs.declared.seen.Seen.{Seen}
+use Rattle.ob_base.specs.declared.skeleton.Skeleton.{Skeleton}
+use Rattle.ob_headline.specs.Bases.{public_with}
+use Rattle.ob_mean.proofs.FlatLemmas.{makes_flat}
+use Rattle.ob_mean.proofs.FlatSessions.{draws_rest, draws_stay, next_flat as flat_behind}
+use Rattle.ob_mean.specs.Flats.{AreFlat}
+use Rattle.ob_mean.specs.Lawful.{HoldsLeaf, Lawful}
+use Rattle.ob_mean.specs.Refusals.{early_refusal, limits_of}
+use Rattle.ob_mean.specs.Replay.{IsCutOff, Session, after, is_access}
+use Rattle.ob_mean.specs.Verdict.{Tables, is_late}
+use Rattle.ob_reopen.specs.Limits.{IsCatalogue}
+use Rattle.ob_reopen.specs.Reopened.{opened_public}
+use Rattle.ob_reopen.specs.Resting.{AreKept, Rests}
+use Rattle.ob_reopen.specs.declared.closing.Closing.{Closing}
+use Rattle.ob_reopen.specs.declared.listed.Listed.{Listed}
+use Rattle.ob_script.specs.Trace.{next}
+use Rattle.ob_seal.specs.KeySet.{KeySet}
+use Rattle.ob_sql.specs.Skeleton.{skeleton}
+use Rattle.ob_sql.specs.declared.stmt.Stmt.{Stmt}
+use Rattle.ob_store.specs.State.{KeptRegion}
+
+-- each table is flat, by what is public
+abbrev pub IsFlat : Public → Type 0
+IsFlat p = AreFlat (headings_of p.tables)
+
+-- ---- a statement
+-- whatever is seen of it that is lawful, it leaves them so
+pub next_flat : (p : Public) (m : ℕ) (stmt : Stmt) (s : Skeleton) (here : Seen) → s ≡ skeleton stmt → Lawful p m stmt here → IsFlat p → IsFlat (next p s here)
+next_flat p m stmt s here is lawful flat = subst (λ (k : Skeleton). IsFlat (next p k here)) (sym is) (flat_behind p m stmt here lawful flat)
+
+-- it draws nothing, whether the store cuts it off or not
+pub nothing_drawn : (s : Session) (stmt : Stmt) (broken : Option ℕ) → IsFlat s.public → IsCutOff broken s stmt → (after broken s stmt).draws ≡ s.draws
+nothing_drawn s stmt (Some n) flat cuts = draws_stay s stmt flat (makes_flat (is_late s.asked) (limits_of s.public) (headings s.tables) stmt cuts.0) (Some n)
+nothing_drawn s stmt None flat cuts = go (early_refusal (is_late s.asked) (limits_of s.public) (headings s.tables) stmt) refl
+  where
+    go : (o : Option Refusal) → early_refusal (is_late s.asked) (limits_of s.public) (headings s.tables) stmt ≡ o → (after None s stmt).draws ≡ s.draws
+    go None free = draws_stay s stmt flat (makes_flat (is_late s.asked) (limits_of s.public) (headings s.tables) stmt free) None
+    go (Some r) refused = draws_rest s stmt r refused
+
+-- one that accesses no index holds no leaf
+pub no_leaf : (p : Public) (s : Skeleton) (leaf : Option ℕ) (end : End) → is_access p s ≡ false → HoldsLeaf p s leaf end → leaf ≡ None
+no_leaf p s None end none holds = refl
+no_leaf p s (Some leaf) end none holds = let is = holds.0 in absurd (cc (is, none))
+
+-- ---- where a run begins
+pub start_flat : (settings : Option Config) → IsFlat (public_with settings)
+start_flat None = tt
+start_flat (Some config) = tt
+
+-- tables of which each is flat
+pub tables_flat : (ts : List Table) → ((i : ℕ) (t : Table) → slice_get ts i ≡ Some t → t.heading.shape ≡ Flat) → AreFlat (headings_of ts)
+tables_flat [] each = tt
+tables_flat (t ∷ ts) each = (each zero t refl, tables_flat ts (λ i u is. each (suc i) u is))
+
+-- a closing lists flat tables alone
+each_listed : (closing : Closing) (listed : List Listed) → IsCatalogue closing listed → (i : ℕ) (t : Listed) → slice_get listed i ≡ Some t → t.table.heading.shape ≡ Flat
+each_listed closing listed catalogue i t is = (catalogue.are.each i t is).listed.heading.stored.flat
+
+all_listed : (listed : List Listed) → ((i : ℕ) (t : Listed) → slice_get listed i ≡ Some t → t.table.heading.shape ≡ Flat) → AreFlat (headings_of (map (λ (t : Listed). t.table) listed))
+all_listed [] each = tt
+all_listed (t ∷ ts) each = (each zero t refl, all_listed ts (λ i u is. each (suc i) u is))
+
+pub opened_flat : (config : Config) (closing : Closing) (listed : List Listed) → IsCatalogue closing listed → IsFlat (opened_public config closing listed)
+opened_flat config closing listed catalogue = all_listed listed (each_listed closing listed catalogue)
+
+-- and those that rested are
+kept_flat : (keys : KeySet) (pack : ℕ) (listed : List Listed) (tables : Tables) (kept : ℕ → Option KeptRegion) → ((i : ℕ) (t : Listed) → slice_get listed i ≡ Some t → t.table.heading.shape ≡ Flat)
+    → AreKept keys pack listed tables kept → AreFlat (headings tables)
+kept_flat keys pack [] [] kept each are = tt
+kept_flat keys pack [] (held ∷ tables) kept each are = absurd are
+kept_flat keys pack (t ∷ ts) [] kept each are = absurd are
+kept_flat keys pack (t ∷ ts) (held ∷ tables) kept each are =
+    (ap (λ (h : Heading). h.shape) are.0 ∙ each zero t refl, kept_flat keys pack ts tables kept (λ i u is. each (suc i) u is) are.2)
+
+pub rested_flat : (keys : KeySet) (closing : Closing) (kept : ℕ → Option KeptRegion) (tables : Tables) → Rests keys closing kept tables → AreFlat (headings tables)
+rested_flat keys closing kept tables rests =
+    kept_flat keys closing.pack rests.listed tables kept (each_listed closing rests.listed rests.closing_is.catalogue) rests.held
