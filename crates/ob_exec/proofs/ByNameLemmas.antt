@@ -4,8 +4,9 @@ use Rattle.std.specs.Prelude.{fold, slice_get}
 use Rattle.std.specs.List.{insert, prefix_len}
 use Rattle.ob_base.specs.declared.schema.Heading.{Heading}
 use Rattle.ob_base.specs.declared.schema.Table.{Table}
-use Rattle.ob_base.specs.Stored.{Stored}
+use Rattle.ob_base.specs.Stored.{Stored, headings}
 use Rattle.ob_flat.specs.Flats.{Represents as FlatRepresents, table_region}
+use Rattle.ob_mean.specs.Flats.{AreFlat}
 use Rattle.ob_mean.specs.Verdict.{Held, Tables}
 use Rattle.ob_row.specs.Slots.{Slots}
 use Rattle.ob_seal.specs.KeySet.{KeySet}
@@ -22,21 +23,35 @@ use Rattle.ob_exec.specs.Engines.{IsTable, flat_of}
 use Rattle.ob_reopen.specs.Resting.{AreKept, KeepsTable, by_name, is_before, kept_block, placed}
 use Rattle.ob_exec.specs.Telling.{AreHeld}
 use Rattle.ob_exec.proofs.ListedLemmas.{table_numbers}
+use Rattle.ob_verdict.proofs.AccessedProof.{flat_slots}
 use Rattle.ob_verdict.specs.Laws.{AreInPlace, IsInPlace}
 
 -- ---- each in its place
-placed_in : (tables : Tables) (n : ℕ) (t : Stored Held) → IsInPlace t → AreInPlace tables → AreInPlace (insert tables n t)
-placed_in [] zero t is are = (is, tt)
-placed_in [] (suc n) t is are = (is, tt)
-placed_in (u ∷ us) zero t is are = (is, are)
-placed_in (u ∷ us) (suc n) t is are = (are.0, placed_in us n t is are.1)
+placed_in : (stash : ℕ) (tables : Tables) (n : ℕ) (t : Stored Held) → IsInPlace stash t → AreInPlace stash tables → AreInPlace stash (insert tables n t)
+placed_in stash [] zero t is are = (is, tt)
+placed_in stash [] (suc n) t is are = (is, tt)
+placed_in stash (u ∷ us) zero t is are = (is, are)
+placed_in stash (u ∷ us) (suc n) t is are = (are.0, placed_in stash us n t is are.1)
 
-folded_in : (tables more : Tables) → AreInPlace tables → AreInPlace more → AreInPlace (fold placed tables more)
-folded_in tables [] are fine = are
-folded_in tables (t ∷ ts) are fine = folded_in (placed tables t) ts (placed_in tables (prefix_len (is_before t) tables) t fine.0 are) fine.1
+folded_in : (stash : ℕ) (tables more : Tables) → AreInPlace stash tables → AreInPlace stash more → AreInPlace stash (fold placed tables more)
+folded_in stash tables [] are fine = are
+folded_in stash tables (t ∷ ts) are fine = folded_in stash (placed tables t) ts (placed_in stash tables (prefix_len (is_before t) tables) t fine.0 are) fine.1
 
-pub named_in : (tables : Tables) → AreInPlace tables → AreInPlace (by_name tables)
-named_in tables are = folded_in [] tables tt are
+-- flat tables are in place whatever the slots of a stash are
+any_stash : (stash other : ℕ) (tables : Tables) → AreFlat (headings tables) → AreInPlace stash tables → AreInPlace other tables
+any_stash stash other [] flat are = tt
+any_stash stash other (t ∷ ts) flat are = (
+  record {
+    slots = are.0.slots ∙ flat_slots stash t.heading flat.0 ∙ sym (flat_slots other t.heading flat.0);
+    keys = are.0.keys;
+    named = are.0.named;
+    shaped = are.0.shaped;
+  },
+  any_stash stash other ts flat.1 are.1,
+)
+
+pub named_in : (stash other : ℕ) (tables : Tables) → AreFlat (headings tables) → AreInPlace stash tables → AreInPlace other (by_name tables)
+named_in stash other tables flat are = folded_in other [] tables tt (any_stash stash other tables flat are)
 
 -- ---- one beside the other
 pub record KeepsBeside (keys : KeySet) (pack : ℕ) (kept : ℕ → Option KeptRegion) (t : Listed) (x : Stored Held) : Type 0 where

@@ -48,7 +48,8 @@ use Rattle.ob_exec.specs.Telling.{Represents}
 use Rattle.ob_exec.proofs.ByNameLemmas.{named_in, named_kept, table_kept_as}
 use Rattle.ob_exec.proofs.ListedLemmas.{may_list, table_block}
 use Rattle.ob_exec.proofs.RunLemmas.{next_after}
-use Rattle.ob_exec.proofs.TableLemmas.{region_below, table_kept}
+use Rattle.ob_exec.proofs.HeldLemmas.{held_flat}
+use Rattle.ob_exec.proofs.TableLemmas.{region_below, table_kept, tables_flat}
 
 -- ---- the old closing
 makes_drop : (o : Option ℕ) → makes (drop_script o) ≡ 0
@@ -329,7 +330,8 @@ module _ {R : Type 0} (state : R → RevState) (e : Engine R) (s : StoreState) (
                           went.lasts.keys (went.lasts.apart.number u.region 0 away)
                           (λ shape live. keeps u.region shape tells_last live);
                     });
-                in_place = named_in tables held.in_place;
+                in_place = λ stash. named_in e.public.stash stash tables
+                    (held_flat e.public.pack e.public.tables tables (world_of state e s) held.held (tables_flat agrees.tables)) held.in_place;
               }
 
           pub closes_all : (mark : Mark) → mark ≡ mark_of made → ClosesEngine state (Ok mark) e s t

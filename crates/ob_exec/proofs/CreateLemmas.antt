@@ -37,7 +37,7 @@ use Rattle.ob_vault.specs.Calls.{Went, one}
 use Rattle.ob_vault.specs.Tied.{Lives}
 use Rattle.ob_vault.proofs.Runs.{went_join}
 use Rattle.ob_script.specs.Parts.{create_part}
-use Rattle.ob_script.specs.Script.{whole_script}
+use Rattle.ob_script.specs.Script.{created_script, whole_script}
 use Rattle.ob_flat.specs.declared.fault.OpErr.{OpErr}
 use Rattle.ob_flat.specs.Flats.{IsFlat, IsSized, Represents as FlatRepresents, table_region}
 use Rattle.ob_flat.specs.declared.flat.Flat.{Flat}
@@ -49,6 +49,7 @@ use Rattle.ob_sql.specs.declared.stmt.Stmt.TheVariants.{Create as CreateStmt}
 use Rattle.ob_base.specs.Stored.{headings_of}
 use Rattle.ob_mean.specs.Refusals.{is_size, limits_of}
 use Rattle.ob_mean.specs.Step.{accepted_answer, answered as answered_by, followed}
+use Rattle.ob_mean.proofs.FlatLemmas.{created_flat, settle_is}
 use Rattle.ob_mean.specs.Settle.{settle, settled}
 use Rattle.ob_mean.specs.Verdict.{Tables, database, is_late, refusal, ended as seen_to}
 use Rattle.ob_mean.proofs.EarlyLemmas.{allowed, within, neither, IsWithin}
@@ -63,8 +64,8 @@ use Rattle.ob_exec.specs.Running.{answer_of, is_stop}
 use Rattle.ob_verdict.specs.Outcomes.{refusal_now, outcome_of}
 use Rattle.ob_exec.specs.Serving.{ServesSilently}
 use Rattle.ob_exec.specs.Telling.{AreHeld, Represents}
-use Rattle.ob_exec.proofs.TableLemmas.{tables_added, region_below}
-use Rattle.ob_exec.proofs.HeldLemmas.{held_kept, held_added}
+use Rattle.ob_exec.proofs.TableLemmas.{tables_added, tables_flat, region_below}
+use Rattle.ob_exec.proofs.HeldLemmas.{held_flat, held_kept, held_added}
 use Rattle.ob_exec.proofs.SealLemmas.{keeps_pass}
 use Rattle.ob_exec.proofs.SilentLemmas.{cut_off, finished, serves_as}
 use Rattle.ob_exec.proofs.ToldLemmas.{early_held, fault_made, silent_fault}
@@ -195,7 +196,9 @@ module _ {R : Type 0} (state : R → RevState) (old : Engine R) (s s1 : StoreSta
   part = create_part old.vault.next (blocks_for old.room.pack capacity) (old.room.pack * width schema)
 
   script_is : (end : End) → whole_script old.public (Create table columns capacity shape) (seen_to end) ≡ part
-  script_is end = λ i. create_part (agrees.next i) (blocks_for (sym agrees.room.pack i) capacity) (sym agrees.room.pack i * width (sym schema_is i))
+  script_is end =
+      ap (λ (x : Shape). created_script old.public capacity (width (columns_of table columns)) x) (new_stored old.public (count_of old s) table columns capacity shape now).flat
+      ∙ (λ i. create_part (agrees.next i) (blocks_for (sym agrees.room.pack i) capacity) (sym agrees.room.pack i * width (sym schema_is i)))
 
   abbrev new_table : Table
   new_table = record { heading = record { name = table; schema = schema; capacity = capacity; shape = shape }; region = old.public.next_region }
@@ -235,15 +238,18 @@ module _ {R : Type 0} (state : R → RevState) (old : Engine R) (s s1 : StoreSta
       (λ i u is same. unnamed i u (record { get = is; named = same })) (λ q. cases_eq q old.vault.next)) in
       finished state stmt old s agrees now refl v room t (old.public.tables ++ new_table ∷ []) Created answered tt ran
       (keeps_pass state old s s1 rests agrees (engine_after old v room (old.public.tables ++ new_table ∷ []) Whole old.ended) t done refl (λ good accepts. seals.seals good (accepts _ _)))
-      (λ tables reads.
+      (λ tables d reads.
       let none = no_refusal tables reads.held in
       let slots = subst (λ (g : ℕ). FlatRepresents old.public.pack (table_of schema capacity g) (empty_slots capacity) done) (sym agrees.next)
       (subst (λ (k : ℕ). FlatRepresents k fresh (empty_slots capacity) done) agrees.room.pack (told reads.tells)) in
       let kept = held_kept (one old.vault.next) old.public.pack old.public.tables tables _ _ all.lasts
       (λ i u here same. let less = region_below old.public.pack i old.public.tables u _ agrees.ready agrees.tables here in omega (arith, less, same)) reads.held.held in
       let added = held_added old.public.pack old.public.tables tables new_table (empty_slots capacity) done kept slots in
-      let settles : settle old.public (count_of old s) tables stmt ≡ tables ++ record { heading = new_table.heading; held = record { slots = empty_slots capacity; leaves = [] } } ∷ [] =
-      ap (λ (o : Option Refusal). followed o (settled tables stmt) tables) none
+      let flat_all = held_flat old.public.pack old.public.tables tables (world_of state old s) reads.held.held (tables_flat agrees.tables) in
+      let settles : settle d old.public (count_of old s) tables stmt ≡ tables ++ record { heading = new_table.heading; held = record { slots = empty_slots capacity; leaves = [] } } ∷ [] =
+      settle_is old.public tables stmt flat_all d (count_of old s)
+      ∙ ap (λ (o : Option Refusal). followed o (settled d old.public tables stmt) tables) none
+      ∙ created_flat d old.public tables table columns capacity shape (new_stored old.public (count_of old s) table columns capacity shape now).flat
       ∙ (λ i. tables ++ record { heading = record { name = table; schema = sym schema_is i; capacity = capacity; shape = shape }; held = record { slots = empty_slots capacity; leaves = [] } } ∷ []) in (
         sym (ap (λ (o : Option Refusal). outcome_of stmt (answered_by o (accepted_answer (database tables) stmt))) none),
         subst (λ (ts : Tables). AreHeld old.public.pack (old.public.tables ++ new_table ∷ []) ts done) (sym settles) added,

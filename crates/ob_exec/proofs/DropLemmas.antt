@@ -14,7 +14,7 @@ use Rattle.ob_base.specs.declared.seen.End.{End}
 use Rattle.ob_base.specs.declared.seen.End.TheVariants.{Whole}
 use Rattle.ob_base.specs.declared.skeleton.Skeleton.TheVariants.{Drop as DropSkeleton}
 use Rattle.ob_base.specs.Accesses.{discard_at}
-use Rattle.ob_base.specs.Stored.{Stored, dropped_at}
+use Rattle.ob_base.specs.Stored.{Stored, dropped_at, stored_region}
 use Rattle.ob_store.specs.State.{StoreState}
 use Rattle.ob_store.specs.Calls.{ChangesNothing}
 use Rattle.ob_vault.specs.State.{RevState, World}
@@ -29,7 +29,8 @@ use Rattle.ob_flat.specs.declared.fault.OpErr.{OpErr}
 use Rattle.ob_flat.specs.declared.flat.Flat.{Flat}
 use Rattle.ob_flat.specs.Discards.{Discards}
 use Rattle.ob_flat.proofs.Tables.{represents_lasts}
-use Rattle.ob_script.specs.Script.{whole_script}
+use Rattle.ob_mean.proofs.FlatLemmas.{dropped_is, settle_is}
+use Rattle.ob_script.specs.Script.{dropped_script, whole_script}
 use Rattle.ob_sql.specs.declared.stmt.Stmt.TheVariants.{Drop as DropTable}
 use Rattle.ob_mean.specs.Settle.{settle, settled}
 use Rattle.ob_mean.specs.Step.{accepted_answer, answered as answered_by, followed}
@@ -44,12 +45,12 @@ use Rattle.ob_exec.specs.Agreeing.{Agrees, world_of, count_of}
 use Rattle.ob_verdict.specs.Outcomes.{refusal_now, outcome_of}
 use Rattle.ob_exec.specs.Serving.{ServesSilently}
 use Rattle.ob_exec.specs.Telling.{AreHeld}
-use Rattle.ob_exec.proofs.HeldLemmas.{held_kept}
+use Rattle.ob_exec.proofs.HeldLemmas.{held_flat, held_kept}
 use Rattle.ob_exec.proofs.RunLemmas.{IsAnswered, engine_after, ran_whole}
 use Rattle.ob_exec.proofs.SealLemmas.{keeps_pass}
 use Rattle.ob_exec.proofs.SilentLemmas.{finished, serves_as}
 use Rattle.ob_oram.proofs.Lasting.{index_kept}
-use Rattle.ob_exec.proofs.TableLemmas.{AreNamed, beside_kept, named, stored_found, table_kept, no_index}
+use Rattle.ob_exec.proofs.TableLemmas.{AreNamed, beside_kept, named, stored_found, table_kept, tables_flat, no_index}
 use Rattle.ob_exec.proofs.ToldLemmas.{early_held}
 
 -- ---- a list without the element at a place
@@ -235,8 +236,9 @@ module _ {R : Type 0} (state : R → RevState) (old : Engine R) (s s1 : StoreSta
     (agrees : Agrees state old s) (rests : ChangesNothing s s1) (here : IsAt name i table old.public.tables) (now : refusal_now old.public (count_of old s) (DropTable name) ≡ None) where
   script_is : (end : End) → whole_script old.public (DropSkeleton name) (seen_to end) ≡ discard_at table.region
   script_is end =
-      ap (λ (o : Option (Stored ℕ)). option_map_or (λ (u : Stored ℕ). discard_at u.held) o [])
+      ap (λ (o : Option (Stored ℕ)). option_map_or dropped_script o [])
       (stored_found name old.public.tables i table agrees.tables.names here.get here.named)
+      ∙ dropped_is (stored_region table) (agrees.tables.each i table here.get).heading.stored.flat
 
   -- the table was dropped, whatever the store answered
   pub dropped : (region : ℕ) (answer : Result Unit OpErr) (new : Engine R) (result : Result Outcome RunStop) → region ≡ table.region
@@ -257,10 +259,12 @@ module _ {R : Type 0} (state : R → RevState) (old : Engine R) (s s1 : StoreSta
       serves_as state stmt old s t _ _ _ _ answered is
       (finished state stmt old s agrees now refl v old.room t (remove old.public.tables i) Dropped is_answered tt ran
       (keeps_pass state old s s1 rests agrees (engine_after old v old.room (remove old.public.tables i) Whole old.ended) t (at state v t) refl (λ good accepts. discards.seals.seals good))
-      (λ tables reads.
+      (λ tables d reads.
       let early = early_held old.public (count_of old s) stmt tables (world_of state old s) None reads.held.held now in
       let none : refusal old.public (count_of old s) tables stmt ≡ None = refused_late old.public (count_of old s) tables stmt early in
-      let settles : settle old.public (count_of old s) tables stmt ≡ dropped_at name tables = ap (λ (o : Option Refusal). followed o (settled tables stmt) tables) none in (
+      let flat = held_flat old.public.pack old.public.tables tables (world_of state old s) reads.held.held (tables_flat agrees.tables) in
+      let settles : settle d old.public (count_of old s) tables stmt ≡ dropped_at name tables =
+      settle_is old.public tables stmt flat d (count_of old s) ∙ ap (λ (o : Option Refusal). followed o (settled d old.public tables stmt) tables) none in (
         sym (ap (λ (o : Option Refusal). outcome_of stmt (answered_by o (accepted_answer (database tables) stmt))) none),
         subst (λ (ts : Tables). AreHeld old.public.pack (remove old.public.tables i) ts (at state v t)) (sym settles)
             (held_removed old.public.pack r name old.public.tables tables i table _ _ agrees.tables.names reads.held.held all.lasts apart here.get here.named),

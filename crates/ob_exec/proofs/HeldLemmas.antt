@@ -6,16 +6,16 @@ use Rattle.ob_base.specs.declared.schema.Heading.{Heading}
 use Rattle.ob_base.specs.declared.schema.Table.{Table}
 use Rattle.ob_base.specs.Stored.{Stored, headings, stored_at, changed_at}
 use Rattle.ob_row.specs.Slots.{Slots}
-use Rattle.ob_script.specs.Trace.{moved}
 use Rattle.ob_vault.specs.State.{World}
 use Rattle.ob_vault.specs.Calls.{Lasts}
 use Rattle.ob_flat.specs.Flats.{Represents}
 use Rattle.ob_flat.proofs.Tables.{represents_lasts}
 use Rattle.ob_base.specs.Stored.{headings_of}
+use Rattle.ob_mean.specs.Flats.{AreFlat}
 use Rattle.ob_mean.specs.Verdict.{Held, in_slots, Tables}
 use Rattle.ob_exec.specs.Engines.{flat_of}
 use Rattle.ob_exec.specs.Telling.{AreHeld}
-use Rattle.ob_exec.proofs.TableLemmas.{AreNamed, named, unmoved}
+use Rattle.ob_exec.proofs.TableLemmas.{AreNamed, named, shifted, unmoved}
 
 -- they have the same headings
 pub held_headings : (pack : ℕ) (ts : List Table) (tables : Tables) (w : World) → AreHeld pack ts tables w → headings tables ≡ headings_of ts
@@ -23,6 +23,10 @@ held_headings pack [] [] w held = refl
 held_headings pack [] (x ∷ xs) w held = absurd held
 held_headings pack (t ∷ ts) [] w held = absurd held
 held_headings pack (t ∷ ts) (x ∷ xs) w held = λ i. held.0 i ∷ held_headings pack ts xs w held.2 i
+
+-- so they are flat, too
+pub held_flat : (pack : ℕ) (ts : List Table) (tables : Tables) (w : World) → AreHeld pack ts tables w → AreFlat (headings_of ts) → AreFlat (headings tables)
+held_flat pack ts tables w held flat = subst (λ (hs : List Heading). AreFlat hs) (sym (held_headings pack ts tables w held)) flat
 
 -- after a pass that changed no table's region
 pub held_kept : (some : ℕ → Type 0) (pack : ℕ) (ts : List Table) (tables : Tables) (a b : World) → Lasts some a b
@@ -89,16 +93,16 @@ held_at pack name (u ∷ ts) (x ∷ xs) (suc i) t w names held at is =
 module _ (pack g : ℕ) (name : List ℕ) (f : Slots → Slots) (w : World) where
   -- the head of both lists, by whether it has the name
   moved_head : (u : Table) (ts : List Table) (x : Stored Held) (xs : Tables) (b : Bool) → x.heading ≡ u.heading → bytes_eq u.heading.name name ≡ b
-      → (b ≡ true → AreHeld pack (record u { region = g } ∷ moved name g ts) (record { heading = x.heading; held = in_slots f x.held } ∷ xs) w)
-      → (b ≡ false → AreHeld pack (u ∷ moved name g ts) (x ∷ changed_at name (in_slots f) xs) w)
-      → AreHeld pack (moved name g (u ∷ ts)) (changed_at name (in_slots f) (x ∷ xs)) w
+      → (b ≡ true → AreHeld pack (record u { region = g } ∷ shifted name g ts) (record { heading = x.heading; held = in_slots f x.held } ∷ xs) w)
+      → (b ≡ false → AreHeld pack (u ∷ shifted name g ts) (x ∷ changed_at name (in_slots f) xs) w)
+      → AreHeld pack (shifted name g (u ∷ ts)) (changed_at name (in_slots f) (x ∷ xs)) w
   moved_head u ts x xs true same is hit miss =
-      subst (λ (b : Bool). AreHeld pack ((if b then record u { region = g } else u) ∷ moved name g ts) (changed_at name (in_slots f) (x ∷ xs)) w) (sym is)
-      (subst (λ (b : Bool). AreHeld pack (record u { region = g } ∷ moved name g ts) (if b then record { heading = x.heading; held = in_slots f x.held } ∷ xs else x ∷ changed_at name (in_slots f) xs) w)
+      subst (λ (b : Bool). AreHeld pack ((if b then record u { region = g } else u) ∷ shifted name g ts) (changed_at name (in_slots f) (x ∷ xs)) w) (sym is)
+      (subst (λ (b : Bool). AreHeld pack (record u { region = g } ∷ shifted name g ts) (if b then record { heading = x.heading; held = in_slots f x.held } ∷ xs else x ∷ changed_at name (in_slots f) xs) w)
       (sym (ap (λ (h : Heading). bytes_eq h.name name) same ∙ is)) (hit refl))
   moved_head u ts x xs false same is hit miss =
-      subst (λ (b : Bool). AreHeld pack ((if b then record u { region = g } else u) ∷ moved name g ts) (changed_at name (in_slots f) (x ∷ xs)) w) (sym is)
-      (subst (λ (b : Bool). AreHeld pack (u ∷ moved name g ts) (if b then record { heading = x.heading; held = in_slots f x.held } ∷ xs else x ∷ changed_at name (in_slots f) xs) w)
+      subst (λ (b : Bool). AreHeld pack ((if b then record u { region = g } else u) ∷ shifted name g ts) (changed_at name (in_slots f) (x ∷ xs)) w) (sym is)
+      (subst (λ (b : Bool). AreHeld pack (u ∷ shifted name g ts) (if b then record { heading = x.heading; held = in_slots f x.held } ∷ xs else x ∷ changed_at name (in_slots f) xs) w)
       (sym (ap (λ (h : Heading). bytes_eq h.name name) same ∙ is)) (miss refl))
 
   -- the others' regions hold what they held
@@ -106,7 +110,7 @@ module _ (pack g : ℕ) (name : List ℕ) (f : Slots → Slots) (w : World) wher
       → Lasts some a w → ((j : ℕ) (u : Table) → slice_get ts j ≡ Some u → (j ≡ i → ⊥) → some u.region → ⊥)
       → slice_get ts i ≡ Some t → t.heading.name ≡ name
       → ((x : Stored Held) → stored_at name tables ≡ Some x → Represents pack (flat_of (record t { region = g })) (f x.held.slots) w)
-      → AreHeld pack (moved name g ts) (changed_at name (in_slots f) tables) w
+      → AreHeld pack (shifted name g ts) (changed_at name (in_slots f) tables) w
   held_moved [] [] zero t some a names held lasts apart at is new = absurd (cc at)
   held_moved [] [] (suc i) t some a names held lasts apart at is new = absurd (cc at)
   held_moved [] (x ∷ xs) i t some a names held lasts apart at is new = absurd held

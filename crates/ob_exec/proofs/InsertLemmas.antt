@@ -24,7 +24,9 @@ use Rattle.ob_mean.specs.Refusals.{early_refusal, limits_of}
 use Rattle.ob_mean.specs.Step.{new_row, insert_refusal, answered, followed}
 use Rattle.ob_mean.specs.Settle.{settle, settled}
 use Rattle.ob_mean.proofs.VerdictLemmas.{flat_refusal, heading-stored, stored-database, refused_late}
-use Rattle.ob_mean.specs.Verdict.{Held, in_slots, Tables, is_late, refusal, verdict}
+use Rattle.ob_mean.proofs.FlatLemmas.{settle_is}
+use Rattle.ob_mean.specs.Flats.{AreFlat}
+use Rattle.ob_mean.specs.Verdict.{Draws, Held, in_slots, Tables, is_late, refusal, verdict}
 use Rattle.ob_verdict.specs.declared.outcome.Outcome.TheVariants.{Inserted}
 use Rattle.ob_exec.specs.Running.{HasNoRows, inserted_as}
 use Rattle.ob_verdict.specs.Outcomes.{done_of, outcome_of}
@@ -51,11 +53,11 @@ settle_plain false true name row tables = sym (changed_same name tables)
 settle_plain false false name row tables = refl
 
 insert_meant : (p : Public) (m : ℕ) (tables : Tables) (name : List ℕ) (columns : Option (List (List ℕ))) (values : List Literal) (x : Stored Held) (row : Row) (answer : InsertedAs)
-    → early_refusal (is_late m) (limits_of p) (headings tables) (InsertStmt name columns values) ≡ None → stored_at name tables ≡ Some x → length x.held.slots ≡ x.heading.capacity
+    → AreFlat (headings tables) → early_refusal (is_late m) (limits_of p) (headings tables) (InsertStmt name columns values) ≡ None → stored_at name tables ≡ Some x → length x.held.slots ≡ x.heading.capacity
     → x.heading.shape ≡ Flat → row ≡ new_row x.heading.schema columns values → answer ≡ insert_answer x.heading.schema row x.held.slots
     → (inserted_as answer ≡ outcome_of (InsertStmt name columns values) (verdict p m tables (InsertStmt name columns values)))
-    × (settle p m tables (InsertStmt name columns values) ≡ changed_at name (in_slots (λ slots. slots_after answer row slots)) tables)
-insert_meant p m tables name columns values x row answer early found size flat row_is is =
+    × ((d : Draws) → settle d p m tables (InsertStmt name columns values) ≡ changed_at name (in_slots (λ slots. slots_after answer row slots)) tables)
+insert_meant p m tables name columns values x row answer flat_all early found size flat row_is is =
     let stmt = InsertStmt name columns values in
     let a = has_key (key_place x.heading.schema) row (rows x.held.slots) in
     let b = length (rows x.held.slots) == length x.held.slots in
@@ -69,7 +71,8 @@ insert_meant p m tables name columns values x row answer early found size flat r
     let schema_is : columns_at name (headings tables) ≡ x.heading.schema =
     ap (λ (o : Option Heading). option_map_or (λ (h : Heading). h.schema) o []) (heading-stored name tables ∙ ap (option_map (λ (u : Stored Held). u.heading)) found) in (
       ap inserted_as is ∙ outcome_plain a b stmt refl ∙ ap (λ (o : Option Refusal). outcome_of stmt (answered o A.Done)) (sym refusal_is),
-      ap (λ (o : Option Refusal). followed o (settled tables stmt) tables) refusal_is
+      λ d. settle_is p tables stmt flat_all d m
+          ∙ ap (λ (o : Option Refusal). followed o (settled d p tables stmt) tables) refusal_is
           ∙ ap (λ (r : Row). followed (option_or (refused_as a b) None) (changed_at name (in_slots (fill_first r)) tables) tables) (ap (λ (cs : Columns). new_row cs columns values) schema_is ∙ sym row_is)
           ∙ settle_plain a b name row tables
           ∙ ap (λ (k : InsertedAs). changed_at name (in_slots (λ slots. slots_after k row slots)) tables) (sym is),
@@ -97,9 +100,9 @@ insert_alters p m name columns values heading cs row flat schema_is row_is = rec
   answers = is_answered;
   silent = silent_inserted;
   plain = refl;
-  meant = λ tables x early found size is.
+  meant = λ tables x flat_all early found size is.
       let cs_is : cs ≡ x.heading.schema = schema_is ∙ ap (λ (h : Heading). h.schema) (sym is) in
-      let meant = insert_meant p m tables name columns values x row (insert_answer cs row x.held.slots) early found size
+      let meant = insert_meant p m tables name columns values x row (insert_answer cs row x.held.slots) flat_all early found size
       (ap (λ (h : Heading). h.shape) is ∙ flat) (row_is ∙ ap (λ (h : Heading). new_row h.schema columns values) (sym is)) (ap (λ (d : Columns). insert_answer d row x.held.slots) cs_is) in
       record { to = λ slots. slots_after (insert_answer cs row x.held.slots) row slots; answered = meant.0; settles = meant.1; here = refl };
 }

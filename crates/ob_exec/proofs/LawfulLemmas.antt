@@ -1,6 +1,6 @@
 -- What is seen of a statement is lawful, whatever the store does.
 use Rattle.std.proofs.Common.{◌≡◌, inl, ◌-◌, ◌≤◌, ℕ, false, List, ◌++◌, length, take, Option, Some, None, Result, Ok, Err, refl, sym, ◌∙◌, ap, subst, arith}
-use Rattle.std.specs.Prelude.{IsSome}
+use Rattle.std.specs.Prelude.{IsSome, Bool, not, ◌&&◌}
 use Rattle.std.proofs.lemmas.List.{length-append, length-take}
 use Rattle.ob_base.specs.declared.access.Access.{Access}
 use Rattle.ob_base.specs.declared.config.Public.{Public}
@@ -14,7 +14,8 @@ use Rattle.ob_base.specs.declared.skeleton.Skeleton.{Skeleton}
 use Rattle.ob_script.specs.Script.{script, whole_script}
 use Rattle.ob_sql.specs.declared.stmt.Stmt.{Stmt}
 use Rattle.ob_sql.specs.Skeleton.{skeleton}
-use Rattle.ob_mean.specs.Lawful.{Lawful, is_counted, EndsUncounted, CutUpTo}
+use Rattle.ob_mean.specs.Lawful.{Lawful, is_counted, selects_rows, EndsUncounted, CutUpTo, HoldsLeaf}
+use Rattle.ob_mean.specs.Replay.{is_access}
 use Rattle.ob_mean.specs.Verdict.{ended}
 use Rattle.ob_verdict.specs.declared.outcome.Outcome.{Outcome}
 use Rattle.ob_verdict.specs.declared.outcome.Outcome.TheVariants.{Created, Inserted, Changed, Deleted, Dropped, Rows, Refused}
@@ -75,30 +76,38 @@ static_as : (o : Option Refusal) (result : Result Outcome RunStop) (now : Seen) 
 static_as None result now early = (λ is. absurd (early is), λ some. absurd (cc some))
 static_as (Some r) result now early = (λ is. refl, λ some. ap (λ (x : Seen). x.end) early.1)
 
+-- no rows are counted where none are selected
+uncounted_is : (p : Public) (stmt : Stmt) → selects_rows stmt ≡ false → is_counted p stmt ≡ false
+uncounted_is p stmt plain = ap (λ (b : Bool). b && not (is_access p (skeleton stmt))) plain
+
+-- a statement that accesses no index holds no leaf
+pub leaf_none : (p : Public) (stmt : Stmt) (leaf : Option ℕ) (end : End) → is_access p (skeleton stmt) ≡ false → leaf ≡ None → HoldsLeaf p (skeleton stmt) leaf end
+leaf_none p stmt leaf end unkeyed none = subst (λ (l : Option ℕ). HoldsLeaf p (skeleton stmt) l end) (sym none) (λ keyed. absurd (cc (keyed, unkeyed)))
+
 -- nothing is held
-held_nothing : (p : Public) (stmt : Stmt) (end : End) → is_counted stmt ≡ false → (end ≡ AfterCount → ⊥) → EndsUncounted p stmt end
+held_nothing : (p : Public) (stmt : Stmt) (end : End) → is_counted p stmt ≡ false → (end ≡ AfterCount → ⊥) → EndsUncounted p stmt end
 held_nothing p stmt Static uncounted after = tt
 held_nothing p stmt Whole uncounted after = inl uncounted
 held_nothing p stmt AfterCount uncounted after = after refl
 held_nothing p stmt (Cut n) uncounted after = tt
 
-plain : (p : Public) (m : ℕ) (stmt : Stmt) (result : Result Outcome RunStop) (end : End) (before after : List Access) → is_counted stmt ≡ false → (end ≡ AfterCount → ⊥)
+plain : (p : Public) (m : ℕ) (stmt : Stmt) (result : Result Outcome RunStop) (end : End) (before after : List Access) → selects_rows stmt ≡ false → is_access p (skeleton stmt) ≡ false → (end ≡ AfterCount → ⊥)
     → RefusedEarly (refusal_now p m stmt) result (ended end) → after ≡ before ++ script p (skeleton stmt) (ended end) → end ≡ result_end result (length after - length before)
     → Lawful p m stmt (ended end)
-plain p m stmt result end before after uncounted whole early asked ends = record {
+plain p m stmt result end before after uncounted unkeyed whole early asked ends = record {
   static = static_as (refusal_now p m stmt) result (ended end) early;
-  holds = held_nothing p stmt end uncounted whole;
-  leaf = refl;
+  holds = held_nothing p stmt end (uncounted_is p stmt uncounted) whole;
+  leaf = leaf_none p stmt None end unkeyed refl;
   cut = within p (skeleton stmt) result end before after asked ends;
 }
 
 -- what is seen of a statement of which nothing is counted
-pub lawful_now : (p : Public) (m : ℕ) (stmt : Stmt) (result : Result Outcome RunStop) (now : Seen) (before after : List Access) → is_counted stmt ≡ false → now ≡ ended now.end
+pub lawful_now : (p : Public) (m : ℕ) (stmt : Stmt) (result : Result Outcome RunStop) (now : Seen) (before after : List Access) → selects_rows stmt ≡ false → is_access p (skeleton stmt) ≡ false → now ≡ ended now.end
     → (now.end ≡ AfterCount → ⊥) → RefusedEarly (refusal_now p m stmt) result now → after ≡ before ++ script p (skeleton stmt) now
     → now.end ≡ result_end result (length after - length before) → Lawful p m stmt now
-lawful_now p m stmt result now before after uncounted is whole early asked ends =
+lawful_now p m stmt result now before after uncounted unkeyed is whole early asked ends =
     subst (λ (x : Seen). Lawful p m stmt x) (sym is)
-    (plain p m stmt result now.end before after uncounted whole (subst (λ (x : Seen). RefusedEarly (refusal_now p m stmt) result x) is early)
+    (plain p m stmt result now.end before after uncounted unkeyed whole (subst (λ (x : Seen). RefusedEarly (refusal_now p m stmt) result x) is early)
     (asked ∙ ap (λ (x : Seen). before ++ script p (skeleton stmt) x) is) ends)
 
 -- nor before any access
@@ -106,6 +115,6 @@ pub lawful_refused : (p : Public) (m : ℕ) (stmt : Stmt) (r : Refusal) → refu
 lawful_refused p m stmt r now = record {
   static = (λ is. subst (λ (o : Option Refusal). IsSome o) (sym now) refl, λ some. refl);
   holds = tt;
-  leaf = refl;
+  leaf = λ keyed. tt;
   cut = tt;
 }

@@ -13,7 +13,7 @@ use Rattle.ob_base.specs.declared.seen.End.TheVariants.{Whole, Cut}
 use Rattle.ob_base.specs.Accesses.{make_at}
 use Rattle.ob_base.specs.Numbers.{blocks_for}
 use Rattle.ob_base.specs.Schemas.{width}
-use Rattle.ob_base.specs.Stored.{Stored, headings, stored_at, changed_at}
+use Rattle.ob_base.specs.Stored.{Stored, headings, stored_at, stored_region, changed_at}
 use Rattle.ob_room.specs.RoomState.{RoomState}
 use Rattle.ob_store.specs.State.{StoreState}
 use Rattle.ob_store.specs.Calls.{ChangesNothing}
@@ -24,7 +24,7 @@ use Rattle.ob_vault.specs.Calls.{two}
 use Rattle.ob_vault.specs.Words.{IsHonest}
 use Rattle.ob_vault.proofs.Runs.{went_join}
 use Rattle.ob_vault.proofs.WordLemmas.{went_rests}
-use Rattle.ob_script.specs.Script.{whole_script, with_table, mutation_script}
+use Rattle.ob_script.specs.Script.{whole_script, with_table, mutation_script, shape_script}
 use Rattle.ob_script.specs.Trace.{moved, tables_after}
 use Rattle.ob_flat.specs.declared.fault.OpErr.{OpErr}
 use Rattle.ob_flat.specs.declared.flat.Flat.{Flat}
@@ -37,8 +37,10 @@ use Rattle.ob_sql.specs.declared.stmt.Stmt.{Stmt}
 use Rattle.ob_sql.specs.Skeleton.{skeleton}
 use Rattle.ob_mean.specs.Refusals.{early_refusal, limits_of}
 use Rattle.ob_mean.specs.Settle.{settle}
-use Rattle.ob_mean.specs.Lawful.{is_counted}
-use Rattle.ob_mean.specs.Verdict.{Held, in_slots, Tables, is_late, verdict, ended as seen_to}
+use Rattle.ob_mean.proofs.FlatLemmas.{shape_is}
+use Rattle.ob_mean.specs.Flats.{AreFlat}
+use Rattle.ob_mean.specs.Lawful.{selects_rows}
+use Rattle.ob_mean.specs.Verdict.{Draws, Held, in_slots, Tables, is_late, verdict, ended as seen_to}
 use Rattle.ob_exec.specs.declared.engine.Engine.{Engine}
 use Rattle.ob_verdict.specs.declared.outcome.Outcome.{Outcome}
 use Rattle.ob_exec.specs.Engines.{IsAt, IsTable, AreTables, flat_of, others_of, indexes_of}
@@ -47,31 +49,31 @@ use Rattle.ob_exec.specs.Running.{HasNoRows, answer_of, is_stop}
 use Rattle.ob_verdict.specs.Outcomes.{refusal_now, outcome_of}
 use Rattle.ob_exec.specs.Serving.{ServesSilently}
 use Rattle.ob_exec.specs.Telling.{AreHeld, ReadsTrue, Represents}
-use Rattle.ob_exec.proofs.HeldLemmas.{Beside, held_at, held_moved}
+use Rattle.ob_exec.proofs.HeldLemmas.{Beside, held_at, held_flat, held_moved}
 use Rattle.ob_exec.proofs.RunLemmas.{IsAnswered, engine_after, ran_done}
 use Rattle.ob_exec.proofs.SealLemmas.{keeps_pass}
 use Rattle.ob_exec.proofs.SilentLemmas.{cut_off, finished, serves_as}
-use Rattle.ob_exec.proofs.TableLemmas.{region_below, set_moved, stored_found, tables_moved, no_index}
+use Rattle.ob_exec.proofs.TableLemmas.{region_below, set_moved, shifted, shifted_is, stored_found, tables_flat, tables_moved, no_index}
 use Rattle.ob_exec.proofs.ToldLemmas.{early_held, fault_made, silent_pass}
 
 -- what a statement makes of the slots of the table of a name
 pub record MeansFor {T : Type 0} (p : Public) (m : ℕ) (stmt : Stmt) (name : List ℕ) (outcome : T → Outcome) (answer : Slots → T) (after : Slots → Slots) (tables : Tables) (slots : Slots) : Type 0 where
   pub to : Slots → Slots
   pub answered : outcome (answer slots) ≡ outcome_of stmt (verdict p m tables stmt)
-  pub settles : settle p m tables stmt ≡ changed_at name (in_slots to) tables
+  pub settles : (d : Draws) → settle d p m tables stmt ≡ changed_at name (in_slots to) tables
   pub here : to slots ≡ after slots
 
 -- a statement that changes the slots of the table of a name
 pub record Alters {T : Type 0} (p : Public) (m : ℕ) (stmt : Stmt) (name : List ℕ) (heading : Heading) (part : ℕ → ℕ → ℕ → ℕ → List Access)
     (outcome : T → Outcome) (answer : Slots → T) (after : Slots → Slots) : Type 0 where
-  pub script : (end : End) → whole_script p (skeleton stmt) (seen_to end) ≡ with_table name p (mutation_script p part)
+  pub script : (end : End) → whole_script p (skeleton stmt) (seen_to end) ≡ with_table name p (shape_script p None (mutation_script p part))
   pub more : ℕ → ℕ → ℕ → ℕ → List Access
   pub makes : (t g blocks size : ℕ) → part t g blocks size ≡ make_at g blocks size ++ more t g blocks size
   pub tables : tables_after p (skeleton stmt) ≡ moved name p.next_region p.tables
   pub answers : (x : T) → IsAnswered (outcome x)
   pub silent : (x : T) → HasNoRows (outcome x)
-  pub plain : is_counted stmt ≡ false
-  pub meant : (tables : Tables) (x : Stored Held) → early_refusal (is_late m) (limits_of p) (headings tables) stmt ≡ None → stored_at name tables ≡ Some x
+  pub plain : selects_rows stmt ≡ false
+  pub meant : (tables : Tables) (x : Stored Held) → AreFlat (headings tables) → early_refusal (is_late m) (limits_of p) (headings tables) stmt ≡ None → stored_at name tables ≡ Some x
       → length x.held.slots ≡ x.heading.capacity → x.heading ≡ heading → MeansFor p m stmt name outcome answer after tables x.held.slots
 
 module _ {R T : Type 0} (state : R → RevState) (stmt : Stmt) (name : List ℕ) (part : ℕ → ℕ → ℕ → ℕ → List Access) (outcome : T → Outcome) (answer : Slots → T) (after : Slots → Slots)
@@ -97,7 +99,8 @@ module _ {R T : Type 0} (state : R → RevState) (stmt : Stmt) (name : List ℕ)
   script_is : (end : End) → whole_script old.public (skeleton stmt) (seen_to end) ≡ x
   script_is end =
       alters.script end
-      ∙ ap (λ (o : Option (Stored ℕ)). option_map_or (mutation_script old.public part) o []) (stored_found name old.public.tables i table agrees.tables.names here.get here.named)
+      ∙ ap (λ (o : Option (Stored ℕ)). option_map_or (shape_script old.public None (mutation_script old.public part)) o []) (stored_found name old.public.tables i table agrees.tables.names here.get here.named)
+      ∙ shape_is old.public None (mutation_script old.public part) (stored_region table) (agrees.tables.each i table here.get).heading.stored.flat
       ∙ (λ j. part table.region (agrees.next j) (blocks_for (sym agrees.room.pack j) table.heading.capacity) (sym agrees.room.pack j * width table.heading.schema))
 
   -- the table in place beside it, and its slots where room was made
@@ -133,19 +136,20 @@ module _ {R T : Type 0} (state : R → RevState) (stmt : Stmt) (name : List ℕ)
       } in
       let set = set_moved name g old.public.tables i table agrees.tables.names here.get here.named in
       let ran = ran_done state (skeleton stmt) old s v room t agrees room_is (two r g) (slice_set old.public.tables i moved_table) x (outcome y) lives (alters.answers y) all (script_is Whole)
-      (set ∙ ap (λ (n : ℕ). moved name n old.public.tables) (sym agrees.next) ∙ sym alters.tables)
+      (set ∙ ap (λ (n : ℕ). shifted name n old.public.tables) (sym agrees.next) ∙ sym (shifted_is name old.public.next_region old.public.tables (tables_flat agrees.tables)) ∙ sym alters.tables)
       (subst (λ (ts : List Table). AreTables ts (others_of old.closing) (indexes_of old.closing) old.public.pack done) (sym set)
       (tables_moved old.public.pack g r name old.public.tables (others_of old.closing) (indexes_of old.closing) table i _ _ all.lasts agrees.ready refl agrees.tables here.get here.named refl is_table
       (λ shape live. absurd (cc (live, mutates.gone))) (λ k x is same. no_index old.closing k x is) (λ q z. cases_eq q z))) in
       finished state stmt old s agrees now alters.plain v room t (slice_set old.public.tables i moved_table) (outcome y) (alters.answers y) (alters.silent y) ran
       (keeps_pass state old s s1 rests agrees (engine_after old v room (slice_set old.public.tables i moved_table) Whole old.ended) t done refl (λ good accepts. mutates.seals.seals good (accepts _ _)))
-      (λ tables reads.
+      (λ tables d reads.
       let told = mutates.told (honest tables reads) (beside tables reads.held).table.held.slots (slots_before tables reads.held) in
       let early = early_held old.public (count_of old s) stmt tables (world_of state old s) None reads.held.held now in
       let found = (beside tables reads.held).found in
       let size : length (beside tables reads.held).table.held.slots ≡ (beside tables reads.held).table.heading.capacity =
       (beside tables reads.held).represents.size ∙ ap (λ (h : Heading). h.capacity) (sym (beside tables reads.held).heading) in
-      let meant = alters.meant tables (beside tables reads.held).table early found size (beside tables reads.held).heading in
+      let flat = held_flat old.public.pack old.public.tables tables (world_of state old s) reads.held.held (tables_flat agrees.tables) in
+      let meant = alters.meant tables (beside tables reads.held).table flat early found size (beside tables reads.held).heading in
       let slots_now : FlatRepresents old.public.pack (flat_of moved_table) (meant.to (beside tables reads.held).table.held.slots) done =
       subst (λ (slots : Slots). FlatRepresents old.public.pack (flat_of moved_table) slots done) (sym meant.here)
       (subst (λ (k : ℕ). FlatRepresents k (flat_of moved_table) (after (beside tables reads.held).table.held.slots) done) agrees.room.pack
@@ -154,7 +158,7 @@ module _ {R T : Type 0} (state : R → RevState) (stmt : Stmt) (name : List ℕ)
       (λ z at_z. let same : (beside tables reads.held).table ≡ z = cc (found, at_z) in
       subst (λ (u : Stored Held). FlatRepresents old.public.pack (flat_of moved_table) (meant.to u.held.slots) done) same slots_now) in (
         ap outcome told.0 ∙ meant.answered,
-        subst (λ (ts : Tables). AreHeld old.public.pack (slice_set old.public.tables i moved_table) ts done) (sym meant.settles)
+        subst (λ (ts : Tables). AreHeld old.public.pack (slice_set old.public.tables i moved_table) ts done) (sym (meant.settles d))
             (subst (λ (ts : List Table). AreHeld old.public.pack ts (changed_at name (in_slots meant.to) tables) done) (sym set) moved_are),
       ))
 

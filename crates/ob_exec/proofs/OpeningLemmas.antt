@@ -537,7 +537,7 @@ module _ {R : Type 0} (state : R → RevState) (config : Config) (keys : KeySet)
               subst (λ (p : Public). AreHeld p.pack p.tables tables (world_of state e t)) (sym public_is)
               (subst (λ (n : ℕ). AreHeld n (map (λ (x : Listed). x.table) listed) tables (world_of state e t)) pack_is
               (held_last state config keys closing marked s s1 fresh honest empty bounded room v0 keyed v1 s2 listed reads tells (nolie_before nolie) tables rests value e.vault t reopens));
-          in_place = rests.in_place;
+          in_place = rests.in_place e.public.stash;
         }
 
         -- and no region above the closing's has come

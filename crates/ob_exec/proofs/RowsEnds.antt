@@ -14,7 +14,9 @@ use Rattle.ob_emit.specs.Emitting.{header}
 use Rattle.ob_sql.specs.declared.stmt.SelectRows.{SelectRows}
 use Rattle.ob_sql.specs.declared.stmt.Stmt.TheVariants.{SelectRows as RowsStmt}
 use Rattle.ob_mean.specs.Prints.{Prints}
-use Rattle.ob_mean.specs.Verdict.{Tables, rows_refusal, verdict}
+use Rattle.ob_mean.proofs.FlatLemmas.{no_public_access}
+use Rattle.ob_mean.specs.Verdict.{Draws, Tables, rows_refusal, verdict}
+use Rattle.ob_exec.proofs.TableLemmas.{tables_flat}
 use Rattle.ob_exec.specs.declared.engine.Engine.{Engine}
 use Rattle.ob_select.specs.declared.selecting.Selected.{Selected}
 use Rattle.ob_select.specs.declared.selecting.Selected.TheVariants.{Rows, Refused}
@@ -24,12 +26,12 @@ use Rattle.ob_verdict.specs.Outcomes.{refusal_now, by_fault, IsBegunAnswer}
 use Rattle.ob_exec.proofs.EmitLemmas.{are_rows}
 use Rattle.ob_select.specs.Selecting.{answer_events, selection_answer, emitted_unless, places, shown_rows}
 use Rattle.ob_exec.specs.Serving.{Answered, Serves}
-use Rattle.ob_exec.specs.Sources.{EndsRows, IsFew, UsesRoomFor, closing, selected_outcome, selection, slots_of}
+use Rattle.ob_exec.specs.Sources.{EndsRows, IsFew, UsesRoomFor, closing, rows_skeleton, selected_outcome, selection, slots_of}
 use Rattle.ob_exec.specs.Telling.{Emitted, ReadsTrue, Represents, Told, answer_labels}
 use Rattle.ob_exec.proofs.RowsLawful.{ended_late, ended_well, lawful_ended}
 use Rattle.ob_exec.proofs.RowsMeaning.{rows_outcome, rows_prints, rows_seen, rows_settle}
 use Rattle.ob_exec.proofs.RowsRun.{rows_after, rows_ran}
-use Rattle.ob_exec.proofs.RowsStops.{IsSource, early, early_none, headed, rows_begun, rows_of, still_held, to_end}
+use Rattle.ob_exec.proofs.RowsStops.{IsSource, early, early_none, flat, headed, rows_begun, rows_of, still_held, to_end}
 use Rattle.ob_exec.proofs.RunLemmas.{of_other}
 use Rattle.ob_exec.proofs.RowsReach.{as_rows, as_refused}
 
@@ -58,6 +60,7 @@ module _ {R : Type 0} (state : R → RevState) (old : Engine R) (s : StoreState)
       (subst (λ (all : List Event). Prints (answer_labels (RowsStmt select) old.public) (verdict old.public (count_of old s) tables (RowsStmt select)) all) (sym same)
       (rows_prints old.public (count_of old s) select tables
       (headed state old s v room t select agrees free source is.ran.lasts tables reads.held) reads.held.in_place
+      (flat state old s v room t select agrees free source is.ran.lasts tables reads.held)
       (early state old s v room t select agrees free source is.ran.lasts tables reads.held)
       agrees.settings.pack_least agrees.settings.blocks agrees.settings.padded source.labelled
       (rows_of state old s v room t select agrees free source is.ran.lasts tables reads.held)))
@@ -106,21 +109,22 @@ module _ {R : Type 0} (state : R → RevState) (old : Engine R) (s : StoreState)
   answered_by (Rows k) is few closes = answered_rows k is few closes
   answered_by (Refused r) is few closes = answered_refused r is closes
 
-  told_by : (answer : Selected) → EndsWith answer → (tables : Tables) → ReadsTrue state old s t tables
-      → Told state (RowsStmt select) tables (selected_outcome answer) old s (rows_after old v room now old.ended) t
-  told_by answer is tables reads =
+  told_by : (answer : Selected) → EndsWith answer → (tables : Tables) (d : Draws) → ReadsTrue state old s t tables
+      → Told state (RowsStmt select) d tables (selected_outcome answer) old s (rows_after old v room now old.ended) t
+  told_by answer is tables d reads =
       let stands = reads.held in
       let told = is.told (to_end state old s v room t select agrees free source is.ran.lasts tables reads) in
       let headed_is = headed state old s v room t select agrees free source is.ran.lasts tables stands in
+      let flat_is = flat state old s v room t select agrees free source is.ran.lasts tables stands in
       let early_is = early state old s v room t select agrees free source is.ran.lasts tables stands in
       let rows_are = rows_of state old s v room t select agrees free source is.ran.lasts tables stands in
       of_other _ _ (is_fault (selected_outcome answer)) (ended_well (selection old.public select) answer now is.ended) (record {
         answer = ap selected_outcome told.0
-            ∙ rows_outcome old.public (count_of old s) select tables headed_is stands.in_place early_is agrees.settings.pack_least agrees.settings.blocks agrees.settings.padded source.labelled rows_are;
+            ∙ rows_outcome old.public (count_of old s) select tables headed_is stands.in_place flat_is early_is agrees.settings.pack_least agrees.settings.blocks agrees.settings.padded source.labelled rows_are;
         seen = told.1
-            ∙ sym (rows_seen old.public (count_of old s) select tables headed_is stands.in_place early_is agrees.settings.pack_least agrees.settings.blocks agrees.settings.padded source.labelled rows_are);
+            ∙ sym (rows_seen old.public (count_of old s) select tables headed_is stands.in_place flat_is early_is agrees.settings.pack_least agrees.settings.blocks agrees.settings.padded source.labelled rows_are d);
         held = subst (λ (ts : Tables). Represents state (rows_after old v room now old.ended) t ts)
-            (sym (rows_settle old.public (count_of old s) select tables headed_is stands.in_place early_is agrees.settings.pack_least agrees.settings.blocks agrees.settings.padded source.labelled rows_are))
+            (sym (rows_settle old.public (count_of old s) select tables headed_is stands.in_place flat_is early_is agrees.settings.pack_least agrees.settings.blocks agrees.settings.padded source.labelled rows_are d))
             (still_held state old s v room t select agrees free source is.ran.lasts now old.ended tables stands);
       })
 
@@ -131,7 +135,7 @@ module _ {R : Type 0} (state : R → RevState) (old : Engine R) (s : StoreState)
   serves_ended cut faults answer lives used is few closes sink = record {
     ran = rows_ran state old s v room t select agrees used answer now lives is;
     early = early_none old.public (count_of old s) select (Ok (selected_outcome answer)) now free (ended_late (selection old.public select) answer now is.ended);
-    lawful = lawful_ended old.public select (count_of old s) free answer now is.holds is.leaf is.ended;
+    lawful = lawful_ended old.public select (no_public_access old.public (rows_skeleton select) (tables_flat agrees.tables)) (count_of old s) free answer now is.holds is.leaf is.ended;
     memory = λ wanted. absurd (cc wanted);
     seals = λ good accepts single. is.seals good accepts;
     answered = answered_by answer is few closes;
@@ -141,7 +145,7 @@ module _ {R : Type 0} (state : R → RevState) (old : Engine R) (s : StoreState)
     means = record {
       told = told_by answer is;
       honest = λ tables reads. tt;
-      held = λ tables reads. tt;
+      held = λ tables d reads. tt;
       begun = rows_begun state old s v room t select agrees free source is.ran.lasts is.begun;
     };
   }

@@ -42,7 +42,7 @@ module _ {R : Type 0} (state : R → RevState) (old : Engine R) (s : StoreState)
       (sym (ap (λ (source : Source). list_any (λ name. not (has_table name (headings_of old.public.tables))) (source_tables source)) is) ∙ fits.tables)
       (sym (ap joins_itself is) ∙ fits.names)
 
-  same : (source : Source) → select.source ≡ source → (tables : Tables) → AreInPlace tables → headings tables ≡ headings_of old.public.tables
+  same : (source : Source) → select.source ≡ source → (tables : Tables) → AreInPlace old.public.stash tables → headings tables ≡ headings_of old.public.tables
       → Same (source_rows source (database tables)) (rows (source_slots old.public source tables))
   same (OneTable name) is tables in_place headed = table_same name tables
   same (Join a b on equals) is tables in_place headed =

@@ -51,6 +51,7 @@ use Rattle.ob_exec.specs.Sources.{LeavesNone, SelectsRows, SourceToEnd}
 use Rattle.ob_exec.proofs.HeldLemmas.{held_at}
 use Rattle.ob_exec.proofs.RowsBehind.{ending_for}
 use Rattle.ob_exec.proofs.RowsJoin.{IsPaired, JoinOf, asked_for, both_slots, held_left, held_right, join_asks, join_count, join_least, join_may, joins, pass, q, slots_few, table_is}
+use Rattle.ob_exec.proofs.TableLemmas.{tables_flat}
 use Rattle.ob_exec.proofs.RowsNothing.{leaves_ready}
 use Rattle.ob_exec.proofs.RowsPairs.{pairs_halt}
 use Rattle.ob_exec.proofs.RowsTable.{listed_few, not_late}
@@ -188,6 +189,6 @@ module _ {R : Type 0} {state : R → RevState} {old : Engine R} {s : StoreState}
         record {
           ended = tt;
           halted = pairs_halt grew cut old.public select now before after out (joins y lcol rcol) (selection_script (q y) now (old.vault.next + 1) ++ ending_for old.public.pad now.k (discard_at old.vault.next)) made
-              (fill_script (pass y lcol rcol) old.vault.next) e (join_asks y lcol rcol now) (λ x. (_, join_asks y lcol rcol x)) refl refl cut_all none_left sealed_rows fresh (omega (arith, counts, least)) lacked no_emitter told_honest;
+              (fill_script (pass y lcol rcol) old.vault.next) e (join_asks y lcol rcol now) (λ x. (_, join_asks y lcol rcol x)) refl refl cut_all none_left sealed_rows fresh (omega (arith, counts, least)) lacked no_emitter told_honest (tables_flat y.agrees.tables);
           sink = no_sink e (faults out) no_emitter;
         }

@@ -1,6 +1,6 @@
 -- What is seen of a SELECT of rows is lawful, whatever the store does.
 use Rattle.std.proofs.Common.{◌≡◌, ◌⊎◌, inl, inr, ◌≤◌, ◌+◌, ◌-◌, ℕ, false, List, length, Option, Some, None, refl, sym, ap, subst, arith}
-use Rattle.std.specs.Prelude.{IsSome}
+use Rattle.std.specs.Prelude.{IsSome, not}
 use Rattle.ob_base.specs.declared.config.Plan.{Plan}
 use Rattle.ob_base.specs.declared.config.Plan.TheVariants.{Small, Hash}
 use Rattle.ob_base.specs.declared.config.Public.{Public}
@@ -20,7 +20,8 @@ use Rattle.ob_select.specs.declared.selecting.Selected.TheVariants.{Rows, Refuse
 use Rattle.ob_exec.specs.Running.{is_fault, outcome_end}
 use Rattle.ob_verdict.specs.Outcomes.{refusal_now}
 use Rattle.ob_select.specs.Selecting.{Selection, MayHold, EndsSelected, EndsCounted, EndsPadded}
-use Rattle.ob_mean.specs.Replay.{ending_len}
+use Rattle.ob_mean.specs.Replay.{ending_len, is_access}
+use Rattle.ob_exec.proofs.LawfulLemmas.{leaf_none}
 use Rattle.ob_verdict.proofs.LawfulProof.{same_script}
 use Rattle.ob_exec.specs.Sources.{selection, rows_script, rows_skeleton, ReachesRows, selected_outcome}
 
@@ -126,7 +127,7 @@ unplanned q (Refused r) k m end is = absurd is
 from_whole : (m : ℕ) (end : End) → end ≡ Whole → EndsFrom m end
 from_whole m end is = subst (λ (e : End). EndsFrom m e) (sym is) tt
 
-module _ (p : Public) (select : SelectRows) where
+module _ (p : Public) (select : SelectRows) (unkeyed : is_access p (rows_skeleton select) ≡ false) where
   abbrev Holding : Option ℕ → (plan second : Option Plan) → End → Type 0
   Holding k plan second end = Holds p (RowsStmt select) (seen_as k plan second end) k plan second
 
@@ -138,15 +139,15 @@ module _ (p : Public) (select : SelectRows) where
       ends_uncounted p (RowsStmt select) end (whole_padded (selection p select) (seen_as None None None end) padded) padded.padded
   holds_ended answer None None (Some second) end may is = absurd may
   holds_ended answer None (Some plan) second end may is = absurd may
-  holds_ended answer (Some k) None None end may is = (record { counted = refl; unpadded = may.0.unpadded; most = may.0.most }, unplanned (selection p select) answer k _ end is)
+  holds_ended answer (Some k) None None end may is = (record { counted = ap not unkeyed; unpadded = may.0.unpadded; most = may.0.most }, unplanned (selection p select) answer k _ end is)
   holds_ended answer (Some k) None (Some second) end may is = absurd may
   holds_ended answer (Some k) (Some plan) None end may is = (
-    record { counted = refl; unpadded = may.0.unpadded; most = may.0.most },
+    record { counted = ap not unkeyed; unpadded = may.0.unpadded; most = may.0.most },
     record { some = may.1.some; chosen = (may.1.consecutive, may.1.chosen) },
     from_whole _ end (planned (selection p select) answer k plan None end is),
   )
   holds_ended answer (Some k) (Some Hash) (Some Small) end may is = (
-    record { counted = refl; unpadded = may.0.unpadded; most = may.0.most },
+    record { counted = ap not unkeyed; unpadded = may.0.unpadded; most = may.0.most },
     record { some = may.1.some; chosen = (may.1.consecutive, may.1.chosen) },
     from_whole _ end (planned (selection p select) answer k Hash (Some Small) end is),
     may.2,
@@ -159,15 +160,15 @@ module _ (p : Public) (select : SelectRows) where
   holds_cut None None None end n may reached = tt
   holds_cut None None (Some second) end n may reached = absurd may
   holds_cut None (Some plan) second end n may reached = absurd may
-  holds_cut (Some k) None None end n may reached = (record { counted = refl; unpadded = may.0.unpadded; most = may.0.most }, (reached.count refl, may.1))
+  holds_cut (Some k) None None end n may reached = (record { counted = ap not unkeyed; unpadded = may.0.unpadded; most = may.0.most }, (reached.count refl, may.1))
   holds_cut (Some k) None (Some second) end n may reached = absurd may
   holds_cut (Some k) (Some plan) None end n may reached = (
-    record { counted = refl; unpadded = may.0.unpadded; most = may.0.most },
+    record { counted = ap not unkeyed; unpadded = may.0.unpadded; most = may.0.most },
     record { some = may.1.some; chosen = (may.1.consecutive, may.1.chosen) },
     reached.count refl,
   )
   holds_cut (Some k) (Some Hash) (Some Small) end n may reached = (
-    record { counted = refl; unpadded = may.0.unpadded; most = may.0.most },
+    record { counted = ap not unkeyed; unpadded = may.0.unpadded; most = may.0.most },
     record { some = may.1.some; chosen = (may.1.consecutive, may.1.chosen) },
     subst (λ (l : List Access). length l - (ending_len (rows_skeleton select) + 1) ≤ n) (same_script p (rows_skeleton select) (seen_as (Some k) (Some Hash) None end) (Cut n)) (reached.walk refl),
     may.2,
@@ -184,7 +185,7 @@ module _ (p : Public) (select : SelectRows) where
       static = (λ static. absurd (ended_late (selection p select) answer seen is static), λ some. absurd (none_early some));
       holds = subst (λ (x : Seen). Holds p (RowsStmt select) x seen.k seen.plan seen.then) (sym (unread seen leaf))
           (holds_ended answer seen.k seen.plan seen.then seen.end may (subst (EndsSelected (selection p select) answer) (unread seen leaf) is));
-      leaf = leaf;
+      leaf = leaf_none p (RowsStmt select) seen.leaf seen.end unkeyed leaf;
       cut = ended_uncut (selection p select) answer seen _ is;
     }
 
@@ -197,6 +198,6 @@ module _ (p : Public) (select : SelectRows) where
       static = (λ static. absurd (cut_static n static), λ some. absurd (none_early some));
       holds = subst (λ (x : Seen). Holds p (RowsStmt select) x seen.k seen.plan seen.then) (sym (unread (record seen { end = Cut n }) leaf))
           (holds_cut seen.k seen.plan seen.then seen.end n may (subst (λ (x : Seen). ReachesRows p select x n) (unread seen leaf) reached));
-      leaf = leaf;
+      leaf = leaf_none p (RowsStmt select) seen.leaf (Cut n) unkeyed leaf;
       cut = subst (λ (l : List Access). n ≤ length l) (same_script p (rows_skeleton select) seen (Cut n)) most;
     }

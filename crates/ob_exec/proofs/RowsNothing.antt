@@ -17,10 +17,11 @@ use Rattle.ob_base.specs.Plans.{choose_padded, padded_rows}
 use Rattle.ob_base.specs.Events.{Event}
 use Rattle.ob_emit.specs.Emitting.{header}
 use Rattle.ob_select.proofs.UntilLemmas.{until_none}
-use Rattle.ob_base.specs.Stored.{Stored, stored_at, stored_regions}
+use Rattle.ob_base.specs.Stored.{Stored, headings_of, stored_at, stored_regions}
 use Rattle.ob_row.specs.Slots.{Slots}
 use Rattle.ob_script.specs.Parts.{count_part}
-use Rattle.ob_script.specs.Script.{behind_count, extent_of, join_script, plan_part, result_blocks, result_part, table_script}
+use Rattle.ob_mean.specs.Flats.{AreFlat}
+use Rattle.ob_script.specs.Script.{behind_count, extent_of, flat_script, join_script, plan_part, result_blocks, result_part, table_script, with_table}
 use Rattle.ob_store.specs.State.{StoreState}
 use Rattle.ob_store.specs.Calls.{ChangesNothing}
 use Rattle.ob_vault.specs.State.{VaultState}
@@ -36,7 +37,7 @@ use Rattle.ob_exec.specs.Sources.{HaltsRows, HoldsRows, LeavesNone, SourceToHalt
 use Rattle.ob_exec.proofs.RowsLawful.{seen_as}
 use Rattle.ob_select.proofs.SelectHeld.{held_empty}
 use Rattle.ob_exec.proofs.RowsSeconded.{Seconded, alone, followed, held_none, rows_seconded}
-use Rattle.ob_exec.proofs.RowsReach.{count_length, joined_part, joined_stored, part, part_length, unpadded}
+use Rattle.ob_exec.proofs.RowsReach.{count_length, joined_part, joined_stored, part, part_length, table_asks, unpadded}
 use Rattle.ob_exec.proofs.RunLemmas.{world}
 
 -- ---- the first result is read back behind the count
@@ -70,7 +71,7 @@ module _ (p : Public) (k : ℕ) (plan : Plan) (second : Option Plan) (end : End)
       let c = behind_late p.pad g t ending in
       omega (arith, a, b, c)
 
-  table_late : (o : Option (Stored ℕ)) → length (option_map_or (table_script (unpadded p) (seen_to Whole)) o []) ≤ length (option_map_or (table_script p (seen_as (Some k) (Some plan) None end)) o []) - 1
+  table_late : (o : Option (Stored ℕ)) → length (option_map_or (flat_script (unpadded p) (seen_to Whole)) o []) ≤ length (option_map_or (flat_script p (seen_as (Some k) (Some plan) None end)) o []) - 1
   table_late None = omega arith
   table_late (Some t) = part_late p.next_region t [] []
 
@@ -80,21 +81,25 @@ module _ (p : Public) (k : ℕ) (plan : Plan) (second : Option Plan) (end : End)
   join_late (Some left) None = omega arith
   join_late (Some left) (Some right) = part_late (p.next_region + 1) (joined_stored p left right) (joined_part p left right) (discard_at p.next_region)
 
-  walk_late : (select : SelectRows) → count_end p (rows_skeleton select) ≤ walk_end p (rows_skeleton select) (seen_as (Some k) (Some plan) second end)
-  walk_late select = go select.source
+  walk_late : (select : SelectRows) → AreFlat (headings_of p.tables) → count_end p (rows_skeleton select) ≤ walk_end p (rows_skeleton select) (seen_as (Some k) (Some plan) second end)
+  walk_late select flat = go select.source
     where
       go : (source : Source) → count_end p (RowsSkeleton source select.list) ≤ walk_end p (RowsSkeleton source select.list) (seen_as (Some k) (Some plan) second end)
-      go (OneTable name) = table_late (stored_at name (stored_regions p.tables))
+      go (OneTable name) =
+          let now = seen_as (Some k) (Some plan) None end in
+          subst (λ (l : List Access). length l ≤ length (with_table name p (table_script p now)) - 1) (sym (table_asks (unpadded p) name (seen_to Whole) flat))
+          (subst (λ (l : List Access). length (with_table name (unpadded p) (flat_script (unpadded p) (seen_to Whole))) ≤ length l - 1) (sym (table_asks p name now flat))
+          (table_late (stored_at name (stored_regions p.tables))))
       go (Join a b on equals) = join_late (stored_at a (stored_regions p.tables)) (stored_at b (stored_regions p.tables))
 
 -- what is held before the count has ended
 module _ (p : Public) (select : SelectRows) (slots : Slots) (failed : Bool) (n : ℕ) (now : Seen) (fresh : now ≡ seen_to Whole)
-    (less : done_of failed n < count_end p (rows_skeleton select)) where
+    (less : done_of failed n < count_end p (rows_skeleton select)) (flat : AreFlat (headings_of p.tables)) where
   second_nothing : Seconded (selection_seen (selection p select) slots)
       → None ≡ held_if (nat_le (walk_end p (rows_skeleton select) (selection_seen (selection p select) slots)) (done_of failed n)) (selection_seen (selection p select) slots).then
   second_nothing (alone is) = held_empty (nat_le (walk_end p (rows_skeleton select) (selection_seen (selection p select) slots)) (done_of failed n)) _ is
   second_nothing (followed k plan second end is) =
-      let late = walk_late p k plan (Some second) end select in
+      let late = walk_late p k plan (Some second) end select flat in
       let same = ap (walk_end p (rows_skeleton select)) is in
       held_none _ (walk_end p (rows_skeleton select) (selection_seen (selection p select) slots)) (done_of failed n) (omega (arith, late, same, less))
 
@@ -115,7 +120,7 @@ leaves_ready v s t ready = record { gone = λ r above. go r above (v.revs.live r
 
 -- memory was wanted before the first access
 module _ {E : Type 0} (grew cut : E → E → List Event → Type 0) (p : Public) (select : SelectRows) (now : Seen) (v : VaultState) (s t : StoreState) (out : E)
-    (ready : Ready (world v s)) (rests : ChangesNothing s t) (fresh : now ≡ seen_to Whole) (counts : 1 ≤ count_end p (rows_skeleton select)) where
+    (ready : Ready (world v s)) (rests : ChangesNothing s t) (fresh : now ≡ seen_to Whole) (counts : 1 ≤ count_end p (rows_skeleton select)) (flat : AreFlat (headings_of p.tables)) where
   pub halts_first : HaltsRows grew cut p select OpErrs.NoMemory now (world v s) (world v t) out out
   halts_first =
       let went = went_rests v s t rests (from v.next) ready in
@@ -140,5 +145,5 @@ module _ {E : Type 0} (grew cut : E → E → List Event → Type 0) (p : Public
             (λ (x : SourceToHalt p (world v s) (world v t)). answer_events (selection p select) (slots_of p select x.tables)) out (λ is. cc is);
         honest = λ x. inr (inr refl);
         begun = λ x lie told. absurd (cc (x.nolie, rests.lie, told));
-        held = λ x. holds_nothing p select (slots_of p select x.tables) false (length t.asked - length s.asked) now fresh (omega (arith, same, counts));
+        held = λ x. holds_nothing p select (slots_of p select x.tables) false (length t.asked - length s.asked) now fresh (omega (arith, same, counts)) flat;
       }

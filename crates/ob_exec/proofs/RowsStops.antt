@@ -1,6 +1,6 @@
 -- A SELECT of rows that was stopped, or that the store cut off.
 use Rattle.std.proofs.Common.{◌≡◌, ◌⊎◌, inl, inr, ◌≤◌, ◌-◌, if◌then◌else◌, ℕ, Bool, true, false, List, [], ◌∷◌, ◌++◌, length, Option, Some, None, Err, Result, refl, sym, ◌∙◌, ap, subst, arith, length-append}
-use Rattle.std.specs.Prelude.{IfOk, IfErr}
+use Rattle.std.specs.Prelude.{IfOk, IfErr, nat_lt}
 use Rattle.ob_base.specs.declared.config.Public.{Public}
 use Rattle.ob_exec.specs.declared.stop.RunStop.{RunStop}
 use Rattle.ob_exec.specs.declared.stop.RunStop.TheVariants as Stops
@@ -31,7 +31,7 @@ use Rattle.ob_sql.specs.declared.stmt.Stmt.TheVariants.{SelectRows as RowsStmt}
 use Rattle.ob_mean.specs.Refusals.{early_refusal, limits_of}
 use Rattle.ob_mean.specs.Replay.{cut_at}
 use Rattle.ob_mean.specs.Step.{source_rows}
-use Rattle.ob_mean.specs.Verdict.{Tables, database, is_late, plan_for, seen, seen_by, seen_with}
+use Rattle.ob_mean.specs.Verdict.{Draws, Tables, database, is_late, plan_for, seen, seen_by, seen_with}
 use Rattle.ob_verdict.specs.Laws.{AreInPlace}
 use Rattle.ob_verdict.proofs.LawfulProof.{same_script}
 use Rattle.ob_exec.specs.declared.engine.Engine.{Engine}
@@ -48,11 +48,14 @@ use Rattle.ob_exec.proofs.EmitLemmas.{are_rows, lie_none}
 use Rattle.ob_select.proofs.UntilLemmas.{until_failed, until_more}
 use Rattle.ob_exec.specs.Sources.{HaltsRows, HoldsRows, LacksRowMemory, LeavesNone, ReachesRows, ReadsMeant, SourceToEnd, SourceToHalt, UsesRoomFor, closing, rows_script, rows_skeleton, selection, slots_of}
 use Rattle.ob_exec.specs.Telling.{IsNotTampered, ReadsTrue, ReadsTrueUntil, Represents, SeenCut, Told, answer_labels, is_refused, meant_script}
-use Rattle.ob_exec.proofs.HeldLemmas.{held_headings, held_kept}
+use Rattle.ob_exec.proofs.HeldLemmas.{held_flat, held_headings, held_kept}
+use Rattle.ob_mean.proofs.FlatLemmas.{no_public_access}
+use Rattle.ob_mean.specs.Flats.{AreFlat}
 use Rattle.ob_exec.proofs.RowsLawful.{lawful_cut}
-use Rattle.ob_exec.proofs.RowsMeaning.{rows_partly, rows_seen, rows_unfinished}
+use Rattle.ob_exec.proofs.RowsMeaning.{rows_partly, rows_seen, rows_unfinished, rows_unread}
+use Rattle.ob_select.proofs.SelectHeld.{held_empty}
 use Rattle.ob_exec.proofs.RowsRun.{rows_after, rows_cut}
-use Rattle.ob_exec.proofs.TableLemmas.{region_below}
+use Rattle.ob_exec.proofs.TableLemmas.{region_below, tables_flat}
 use Rattle.ob_exec.proofs.ToldLemmas.{early_held}
 use Rattle.ob_exec.proofs.RunLemmas.{only_memory}
 
@@ -62,7 +65,7 @@ unfit_none w none = record { unfit = λ lie is. absurd (cc (is, none)) }
 -- what is known of the source of a SELECT of rows
 pub record IsSource (p : Public) (select : SelectRows) : Type 0 where
   pub labelled : labels_of (selection p select).flat.schema (selection p select).cols ≡ answer_labels (RowsStmt select) p
-  pub rows_are : (tables : Tables) → AreInPlace tables → headings tables ≡ headings_of p.tables → Same (source_rows select.source (database tables)) (rows (slots_of p select tables))
+  pub rows_are : (tables : Tables) → AreInPlace p.stash tables → headings tables ≡ headings_of p.tables → Same (source_rows select.source (database tables)) (rows (slots_of p select tables))
 
 -- what was emitted of it is a first part of all events of its answer
 pub record StopsRows {E : Type 0} (grew cut : E → E → List Event → Type 0) (p : Public) (select : SelectRows) (error : OpErr) (now : Seen) (old new : World) (out_old out_new : E) : Type 0 where
@@ -169,26 +172,31 @@ module _ {R : Type 0} (state : R → RevState) (old : Engine R) (s : StoreState)
     pub headed : headings tables ≡ headings_of old.public.tables
     headed = held_headings old.public.pack old.public.tables tables before stands.held
 
+    pub flat : AreFlat (headings tables)
+    flat = held_flat old.public.pack old.public.tables tables before stands.held (tables_flat agrees.tables)
+
     pub early : early_refusal (is_late (count_of old s)) (limits_of old.public) (headings tables) (RowsStmt select) ≡ None
     early = early_held old.public (count_of old s) (RowsStmt select) tables before None stands.held free
 
     pub rows_of : Same (source_rows select.source (database tables)) (rows (slots_of old.public select tables))
     rows_of = source.rows_are tables stands.in_place headed
 
-    seen_cut : (failed : Bool) (now : Seen) (n : ℕ) → n ≡ length t.asked - length s.asked → now.leaf ≡ None
+    seen_cut : (d : Draws) (failed : Bool) (now : Seen) (n : ℕ) → n ≡ length t.asked - length s.asked → now.leaf ≡ None
         → HoldsRows old.public select (slots_of old.public select tables) failed (length t.asked - length s.asked) now
-        → record now { end = Cut n } ≡ cut_at failed (length t.asked - length s.asked) old.public (rows_skeleton select) (seen old.public (count_of old s) tables (RowsStmt select))
-    seen_cut failed now n count leaf holds =
-        (λ i. record { k = holds.k i; plan = holds.plan i; then = holds.second i; leaf = leaf i; end = Cut (count i) })
+        → record now { end = Cut n } ≡ cut_at failed (length t.asked - length s.asked) old.public (rows_skeleton select) (seen d old.public (count_of old s) tables (RowsStmt select))
+    seen_cut d failed now n count leaf holds =
+        let none = rows_unread old.public (count_of old s) select tables headed stands.in_place flat early agrees.settings.pack_least agrees.settings.blocks agrees.settings.padded source.labelled rows_of in
+        let unread = leaf ∙ held_empty (nat_lt old.public.stash (length t.asked - length s.asked)) (selection_seen (selection old.public select) (slots_of old.public select tables)).leaf none in
+        (λ i. record { k = holds.k i; plan = holds.plan i; then = holds.second i; leaf = unread i; end = Cut (count i) })
         ∙ ap (cut_at failed (length t.asked - length s.asked) old.public (rows_skeleton select))
-        (sym (rows_seen old.public (count_of old s) select tables headed stands.in_place early agrees.settings.pack_least agrees.settings.blocks agrees.settings.padded source.labelled rows_of))
+        (sym (rows_seen old.public (count_of old s) select tables headed stands.in_place flat early agrees.settings.pack_least agrees.settings.blocks agrees.settings.padded source.labelled rows_of d))
 
-  pub rows_begun : ReadsMeant old.public select before after → (tables : Tables) → ReadsTrue state old s s tables → (lie : Lie) → t.lie ≡ Some lie
-      → ReadsIn lie (s.asked ++ meant_script old.public (count_of old s) tables (RowsStmt select))
-  rows_begun begun tables reads lie told =
+  pub rows_begun : ReadsMeant old.public select before after → (tables : Tables) (d : Draws) → ReadsTrue state old s s tables → (lie : Lie) → t.lie ≡ Some lie
+      → ReadsIn lie (s.asked ++ meant_script d old.public (count_of old s) tables (RowsStmt select))
+  rows_begun begun tables d reads lie told =
       let q = selection old.public select in
       let slots = slots_of old.public select tables in
-      let meant = rows_seen old.public (count_of old s) select tables (headed tables reads.held) reads.held.in_place (early tables reads.held) agrees.settings.pack_least agrees.settings.blocks agrees.settings.padded source.labelled (rows_of tables reads.held) in
+      let meant = rows_seen old.public (count_of old s) select tables (headed tables reads.held) reads.held.in_place (flat tables reads.held) (early tables reads.held) agrees.settings.pack_least agrees.settings.blocks agrees.settings.padded source.labelled (rows_of tables reads.held) d in
       subst (λ (l : List Access). ReadsIn lie (s.asked ++ l))
       (sym (ap (script old.public (rows_skeleton select)) meant ∙ until_rows old.public.pad old.public (length slots) (places q slots) (rows_script old.public select (selection_seen q slots))))
       (begun (record { tells = reads.tells; tables = tables; held = reads.held.held; in_place = reads.held.in_place; nolie = reads.nolie }) lie told)
@@ -198,15 +206,15 @@ module _ {R : Type 0} (state : R → RevState) (old : Engine R) (s : StoreState)
     abbrev stopped_engine : OpErr → Engine R
     stopped_engine e = rows_after old v room (record now { end = Cut n }) (is_stop (answer_of e))
 
-    stop_told : (e : OpErr) → StopsRows grew cut old.public select e now before after out_old out_new → (tables : Tables) → ReadsTrue state old s t tables
-        → IfOk (answer_of e) (λ outcome. Told state (RowsStmt select) tables outcome old s (stopped_engine e) t)
-    stop_told OpErrs.Failed is tables reads = record {
-      seen = seen_cut tables reads.held true now n count is.leaf (is.held (to_halt tables reads));
+    stop_told : (e : OpErr) → StopsRows grew cut old.public select e now before after out_old out_new → (tables : Tables) (d : Draws) → ReadsTrue state old s t tables
+        → IfOk (answer_of e) (λ outcome. Told state (RowsStmt select) d tables outcome old s (stopped_engine e) t)
+    stop_told OpErrs.Failed is tables d reads = record {
+      seen = seen_cut tables reads.held d true now n count is.leaf (is.held (to_halt tables reads));
       held = still_held (record now { end = Cut n }) false tables reads.held;
     }
-    stop_told (OpErrs.Tampered q x) is tables reads = tt
-    stop_told OpErrs.Sink is tables reads = tt
-    stop_told OpErrs.NoMemory is tables reads = tt
+    stop_told (OpErrs.Tampered q x) is tables d reads = tt
+    stop_told OpErrs.Sink is tables d reads = tt
+    stop_told OpErrs.NoMemory is tables d reads = tt
 
     stop_honest : (e : OpErr) → StopsRows grew cut old.public select e now before after out_old out_new → (tables : Tables) → ReadsTrue state old s t tables → IfErr (answer_of e) IsNotTampered
     stop_honest OpErrs.Failed is tables reads = tt
@@ -217,12 +225,12 @@ module _ {R : Type 0} (state : R → RevState) (old : Engine R) (s : StoreState)
     stop_honest OpErrs.Sink is tables reads = refl
     stop_honest OpErrs.NoMemory is tables reads = refl
 
-    stop_held : (e : OpErr) → StopsRows grew cut old.public select e now before after out_old out_new → (tables : Tables) → ReadsTrueUntil state old s (stopped_engine e) t tables
-        → IfErr (answer_of e) (λ stop. SeenCut (is_refused stop) (RowsStmt select) tables old s (stopped_engine e) t)
-    stop_held OpErrs.Failed is tables reads = tt
-    stop_held (OpErrs.Tampered q x) is tables reads = seen_cut tables reads.held true now n count is.leaf (is.held (until (record now { end = Cut n }) true tables reads))
-    stop_held OpErrs.Sink is tables reads = seen_cut tables reads.held false now n count is.leaf (is.held (until (record now { end = Cut n }) true tables reads))
-    stop_held OpErrs.NoMemory is tables reads = seen_cut tables reads.held false now n count is.leaf (is.held (until (record now { end = Cut n }) true tables reads))
+    stop_held : (e : OpErr) → StopsRows grew cut old.public select e now before after out_old out_new → (tables : Tables) (d : Draws) → ReadsTrueUntil state old s (stopped_engine e) t tables
+        → IfErr (answer_of e) (λ stop. SeenCut (is_refused stop) d (RowsStmt select) tables old s (stopped_engine e) t)
+    stop_held OpErrs.Failed is tables d reads = tt
+    stop_held (OpErrs.Tampered q x) is tables d reads = seen_cut tables reads.held d true now n count is.leaf (is.held (until (record now { end = Cut n }) true tables reads))
+    stop_held OpErrs.Sink is tables d reads = seen_cut tables reads.held d false now n count is.leaf (is.held (until (record now { end = Cut n }) true tables reads))
+    stop_held OpErrs.NoMemory is tables d reads = seen_cut tables reads.held d false now n count is.leaf (is.held (until (record now { end = Cut n }) true tables reads))
 
     stop_answered : (e : OpErr) → StopsRows grew cut old.public select e now before after out_old out_new
         → IfOk (answer_of e) (λ outcome. Answered state grew (RowsStmt select) outcome old s t out_old out_new)
@@ -238,7 +246,7 @@ module _ {R : Type 0} (state : R → RevState) (old : Engine R) (s : StoreState)
           };
           told = λ tables reads.
               let rest = part.told (to_halt tables reads) in
-              rows_unfinished old.public (count_of old s) select tables (headed tables reads.held) reads.held.in_place (early tables reads.held)
+              rows_unfinished old.public (count_of old s) select tables (headed tables reads.held) reads.held.in_place (flat tables reads.held) (early tables reads.held)
               agrees.settings.pack_least agrees.settings.blocks agrees.settings.padded source.labelled (rows_of tables reads.held) part.events rest.0 rest.1;
         }
     stop_answered (OpErrs.Tampered q x) is = tt
@@ -254,7 +262,7 @@ module _ {R : Type 0} (state : R → RevState) (old : Engine R) (s : StoreState)
       events = events;
       ends = ends;
       told = λ tables reads.
-          rows_partly old.public (count_of old s) select tables (headed tables reads.held) reads.held.in_place (early tables reads.held)
+          rows_partly old.public (count_of old s) select tables (headed tables reads.held) reads.held.in_place (flat tables reads.held) (early tables reads.held)
           agrees.settings.pack_least agrees.settings.blocks agrees.settings.padded source.labelled (rows_of tables reads.held) events (told (until (record now { end = Cut n }) (is_stop (answer_of e)) tables reads));
     }
 
@@ -283,7 +291,7 @@ module _ {R : Type 0} (state : R → RevState) (old : Engine R) (s : StoreState)
     serves_stopped e used is sink = record {
       ran = rows_cut state old s v room t select agrees used e now n count is.ran is.leaves;
       early = early_none old.public (count_of old s) select (answer_of e) (record now { end = Cut n }) free cut_static;
-      lawful = lawful_cut old.public select (count_of old s) free now n is.holds is.leaf (subst (λ (k : ℕ). ReachesRows old.public select now k) (sym count) is.reached) (few e is.ran);
+      lawful = lawful_cut old.public select (no_public_access old.public (rows_skeleton select) (tables_flat agrees.tables)) (count_of old s) free now n is.holds is.leaf (subst (λ (k : ℕ). ReachesRows old.public select now k) (sym count) is.reached) (few e is.ran);
       memory = λ wanted.
           let lacks = is.memory (only_memory e wanted) in
           record {

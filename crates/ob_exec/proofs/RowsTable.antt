@@ -20,11 +20,11 @@ use Rattle.ob_base.specs.Events.{Event, IsEmitted}
 use Rattle.ob_base.specs.declared.skeleton.ColumnName.{ColumnName}
 use Rattle.ob_base.specs.Lists.{places_of, tabulate}
 use Rattle.ob_base.specs.Schemas.{Columns}
-use Rattle.ob_base.specs.Stored.{Stored, headings_of, heading_at}
+use Rattle.ob_base.specs.Stored.{Stored, headings_of, heading_at, stored_region}
 use Rattle.ob_row.specs.Condition.{Condition}
 use Rattle.ob_row.specs.Slots.{Slots}
 use Rattle.ob_script.specs.Parts.{count_part}
-use Rattle.ob_script.specs.Script.{blocks_of, extent_of, select_part, source_script, table_script}
+use Rattle.ob_script.specs.Script.{blocks_of, extent_of, flat_script, select_part, source_script, table_script}
 use Rattle.ob_script.proofs.Lengths.{length-count_part}
 use Rattle.ob_store.specs.State.{StoreState}
 use Rattle.ob_vault.specs.Tied.{ReadsIn}
@@ -49,6 +49,7 @@ use Rattle.ob_names.specs.Names.{place_of, source_columns}
 use Rattle.ob_mean.specs.Conditions.{where_at}
 use Rattle.ob_mean.specs.Refusals.{listed, limits_of}
 use Rattle.ob_mean.proofs.EarlyLemmas.{allowed}
+use Rattle.ob_mean.proofs.FlatLemmas.{shape_is}
 use Rattle.ob_verdict.proofs.AcceptedProof.{places_fit}
 use Rattle.ob_mean.specs.Replay.{count_end, done_of, ending_len, held_if, walk_end}
 use Rattle.ob_mean.specs.Step.{printed_places}
@@ -124,6 +125,7 @@ module _ {R : Type 0} (state : R → RevState) (old : Engine R) (s s1 : StoreSta
   script_by : (pad : Option ℕ) (now : Seen) → select_part (record old.public { pad = pad }) now old.vault.next (extent_of (region_of q)) [] ≡ rows_script (record old.public { pad = pad }) select now
   script_by pad now =
       (λ j. select_part (record old.public { pad = pad }) now (sym agrees.next j) (extent_of (record { heading = record { name = []; schema = sym schema_is j; capacity = sym capacity_is j; shape = FlatShape }; held = t.region })) [])
+      ∙ sym (shape_is (record old.public { pad = pad }) now.leaf (flat_script (record old.public { pad = pad }) now) (stored_region t) (agrees.tables.each i t get).heading.stored.flat)
       ∙ sym (ap (λ (o : Option (Stored ℕ)). option_map_or (table_script (record old.public { pad = pad }) now) o []) (stored_found name old.public.tables i t agrees.tables.names get named))
       ∙ sym (ap (source_script (record old.public { pad = pad }) now) of_table)
 

@@ -13,12 +13,15 @@ use Rattle.ob_sql.specs.declared.stmt.Stmt.{Stmt}
 use Rattle.ob_sql.specs.Skeleton.{skeleton}
 use Rattle.ob_mean.specs.declared.answer.Answer.{Answer}
 use Rattle.ob_mean.specs.declared.answer.Answer.TheVariants as A
-use Rattle.ob_mean.specs.Lawful.{is_counted}
+use Rattle.ob_base.specs.Stored.{headings_of}
+use Rattle.ob_mean.proofs.FlatLemmas.{no_public_access, settle_is}
+use Rattle.ob_mean.specs.Flats.{AreFlat}
+use Rattle.ob_mean.specs.Lawful.{selects_rows}
 use Rattle.ob_sql.specs.declared.stmt.Stmt.TheVariants.{Create, Insert, Update, Delete, Drop as DropTable, SelectRows as RowsStmt, SelectTotals as TotalsStmt}
 use Rattle.ob_mean.specs.Prints.{Prints, Unfinished}
-use Rattle.ob_mean.specs.Settle.{settled}
+use Rattle.ob_mean.specs.Settle.{settle, settled}
 use Rattle.ob_mean.specs.Step.{accepted_answer, answered, followed}
-use Rattle.ob_mean.specs.Verdict.{Tables, database, refusal, verdict, ended as seen_to}
+use Rattle.ob_mean.specs.Verdict.{Draws, Tables, database, refusal, verdict, ended as seen_to}
 use Rattle.ob_mean.proofs.VerdictLemmas.{refused_early, seen_early}
 use Rattle.ob_verdict.specs.Laws.{AreInPlace}
 use Rattle.ob_exec.specs.declared.engine.Engine.{Engine}
@@ -30,9 +33,11 @@ use Rattle.ob_verdict.specs.Outcomes.{refusal_now, outcome_of, by_fault, Emits, 
 use Rattle.ob_exec.specs.Serving.{EndsWithin, Serves, ServesSilently, Stopped}
 use Rattle.ob_exec.proofs.MemoryLemmas.{lacks_less}
 use Rattle.ob_exec.specs.Telling.{AreHeld, Represents, answer_labels}
+use Rattle.ob_exec.proofs.HeldLemmas.{held_flat}
 use Rattle.ob_exec.proofs.LawfulLemmas.{lawful_now, lawful_refused}
 use Rattle.ob_exec.proofs.RunLemmas.{of_other, ran_refused}
 use Rattle.ob_exec.proofs.SealLemmas.{keeps_none}
+use Rattle.ob_exec.proofs.TableLemmas.{tables_flat}
 use Rattle.ob_exec.proofs.ToldLemmas.{early_held, early_is, refused_none}
 
 -- the same, of an equal answer and an equal engine
@@ -113,17 +118,17 @@ silent_stopped grew cut P out starts (Err Stops.NoMemory) silent h = h Stops.NoM
 
 module _ {R E : Type 0} (state : R → RevState) (grew cut : E → E → List Event → Type 0) (faults : E → ℕ) (stmt : Stmt) (old : Engine R) (s : StoreState) (out : E) (starts : grew out out []) where
   -- a statement that emits nothing and of which nothing is counted
-  pub serves_silently : (result : Result Outcome RunStop) (new : Engine R) (t : StoreState) → refusal_now old.public (count_of old s) stmt ≡ None → is_counted stmt ≡ false
+  pub serves_silently : (result : Result Outcome RunStop) (new : Engine R) (t : StoreState) → refusal_now old.public (count_of old s) stmt ≡ None → AreFlat (headings_of old.public.tables) → selects_rows stmt ≡ false
       → ((tables : Tables) → IsBare (accepted_answer (database tables) stmt)) → ServesSilently state stmt result old s new t
       → Serves state grew cut faults stmt result old s new t out out
-  serves_silently result new t now uncounted bare serves =
+  serves_silently result new t now flat uncounted bare serves =
       let early = refused_none (refusal_now old.public (count_of old s) stmt) result new.seen now serves.started in
       let no_rows : (tables : Tables) → IsBare (verdict old.public (count_of old s) tables stmt) = λ tables. bare_answered (refusal old.public (count_of old s) tables stmt) _ (bare tables) in
       let labels = answer_labels stmt old.public in
       record {
         ran = serves.ran;
         early = early;
-        lawful = lawful_now old.public (count_of old s) stmt result new.seen s.asked t.asked uncounted serves.plain serves.uncounted early serves.ran.asked serves.ran.ends;
+        lawful = lawful_now old.public (count_of old s) stmt result new.seen s.asked t.asked uncounted (no_public_access old.public (skeleton stmt) flat) serves.plain serves.uncounted early serves.ran.asked serves.ran.ends;
         memory = λ is. lacks_less (λ none. absurd none) (serves.memory is);
         seals = serves.seals;
         answered = silent_answered result serves.silent (λ outcome silent. record {
@@ -153,6 +158,9 @@ module _ {R E : Type 0} (state : R → RevState) (grew cut : E → E → List Ev
       refused_early old.public (count_of old s) tables stmt r (early_held old.public (count_of old s) stmt tables (world_of state old s) (Some r) held.held now) in
       let verdict_is : (tables : Tables) → Represents state old s tables → verdict old.public (count_of old s) tables stmt ≡ A.Refused r = λ tables held.
       ap (λ (o : Option Refusal). answered o (accepted_answer (database tables) stmt)) (refused tables held) in
+      let stays : (tables : Tables) (d : Draws) → Represents state old s tables → settle d old.public (count_of old s) tables stmt ≡ tables = λ tables d held.
+      settle_is old.public tables stmt (held_flat old.public.pack old.public.tables tables (world_of state old s) held.held (tables_flat agrees.tables)) d (count_of old s)
+      ∙ ap (λ (o : Option Refusal). followed o (settled d old.public tables stmt) tables) (refused tables held) in
       record {
         ran = ran_refused state (skeleton stmt) old s agrees lives r is_early;
         early = subst (λ (o : Option Refusal). RefusedEarly o (Ok (Refused r)) (seen_to Static)) (sym now) (refl, refl);
@@ -169,24 +177,24 @@ module _ {R E : Type 0} (state : R → RevState) (grew cut : E → E → List Ev
         sink = refl;
         emits = λ is. absurd (cc is);
         means = record {
-          told = λ tables reads. of_other _ _ (is_store_fault r) is_early.own (record {
+          told = λ tables d reads. of_other _ _ (is_store_fault r) is_early.own (record {
             answer = sym (ap (outcome_of stmt) (verdict_is tables reads.held));
-            seen = sym (seen_early old.public (count_of old s) tables stmt r (early_held old.public (count_of old s) stmt tables (world_of state old s) (Some r) reads.held.held now));
+            seen = sym (seen_early old.public (count_of old s) tables stmt r (early_held old.public (count_of old s) stmt tables (world_of state old s) (Some r) reads.held.held now) d);
             held = record {
-              held = subst (λ (ts : Tables). AreHeld old.public.pack old.public.tables ts (world_of state old s)) (sym (ap (λ (o : Option Refusal). followed o (settled tables stmt) tables) (refused tables reads.held))) reads.held.held;
-              in_place = subst (λ (ts : Tables). AreInPlace ts) (sym (ap (λ (o : Option Refusal). followed o (settled tables stmt) tables) (refused tables reads.held))) reads.held.in_place;
+              held = subst (λ (ts : Tables). AreHeld old.public.pack old.public.tables ts (world_of state old s)) (sym (stays tables d reads.held)) reads.held.held;
+              in_place = subst (λ (ts : Tables). AreInPlace old.public.stash ts) (sym (stays tables d reads.held)) reads.held.in_place;
             };
           });
           honest = λ tables reads. tt;
-          held = λ tables reads. tt;
-          begun = λ tables reads lie told. absurd (cc (reads.nolie, told));
+          held = λ tables d reads. tt;
+          begun = λ tables d reads lie told. absurd (cc (reads.nolie, told));
         };
       }
 
 -- a statement by what its kind says of it
 pub served_as : {R E : Type 0} (state : R → RevState) (grew cut : E → E → List Event → Type 0) (faults : E → ℕ) (stmt other : Stmt) (old : Engine R) (s : StoreState) (out : E) (result : Result Outcome RunStop)
-    (new : Engine R) (t : StoreState) → grew out out [] → other ≡ stmt → refusal_now old.public (count_of old s) stmt ≡ None → is_counted other ≡ false
+    (new : Engine R) (t : StoreState) → grew out out [] → other ≡ stmt → refusal_now old.public (count_of old s) stmt ≡ None → AreFlat (headings_of old.public.tables) → selects_rows other ≡ false
     → ((tables : Tables) → IsBare (accepted_answer (database tables) other)) → ServesSilently state other result old s new t → Serves state grew cut faults stmt result old s new t out out
-served_as state grew cut faults stmt other old s out result new t starts is now uncounted bare serves =
+served_as state grew cut faults stmt other old s out result new t starts is now flat uncounted bare serves =
     subst (λ (x : Stmt). Serves state grew cut faults x result old s new t out out) is
-    (serves_silently state grew cut faults other old s out starts result new t (ap (refusal_now old.public (count_of old s)) is ∙ now) uncounted bare serves)
+    (serves_silently state grew cut faults other old s out starts result new t (ap (refusal_now old.public (count_of old s)) is ∙ now) flat uncounted bare serves)

@@ -10,6 +10,7 @@ use Rattle.ob_base.specs.declared.seen.End.{End}
 use Rattle.ob_base.specs.declared.seen.End.TheVariants.{Whole, Cut}
 use Rattle.ob_base.specs.Accesses.{make_at}
 use Rattle.ob_base.specs.Schemas.{Columns}
+use Rattle.ob_base.specs.Stored.{headings_of}
 use Rattle.ob_room.specs.RoomState.{RoomState}
 use Rattle.ob_store.specs.State.{StoreState}
 use Rattle.ob_store.specs.Calls.{ChangesNothing}
@@ -27,9 +28,11 @@ use Rattle.ob_flat.proofs.Runs.{pass_after}
 use Rattle.ob_script.specs.Script.{whole_script}
 use Rattle.ob_sql.specs.declared.stmt.Stmt.{Stmt}
 use Rattle.ob_sql.specs.Skeleton.{skeleton}
-use Rattle.ob_mean.specs.Lawful.{is_counted}
+use Rattle.ob_mean.proofs.FlatLemmas.{no_access}
+use Rattle.ob_mean.specs.Flats.{AreFlat}
+use Rattle.ob_mean.specs.Lawful.{selects_rows}
 use Rattle.ob_mean.specs.Settle.{settle}
-use Rattle.ob_mean.specs.Verdict.{Tables, verdict, seen, ended as seen_to}
+use Rattle.ob_mean.specs.Verdict.{Draws, Tables, verdict, seen, ended as seen_to}
 use Rattle.ob_verdict.proofs.InPlaceProof.{keeps_in_place}
 use Rattle.ob_verdict.proofs.SeenProof.{shows_kind_alone}
 use Rattle.ob_exec.specs.declared.engine.Engine.{Engine}
@@ -40,10 +43,10 @@ use Rattle.ob_verdict.specs.Outcomes.{refusal_now, outcome_of}
 use Rattle.ob_exec.specs.Serving.{Means, ServesSilently}
 use Rattle.ob_exec.specs.Telling.{AreHeld, KeepsSealed, ReadsTrue}
 use Rattle.ob_exec.proofs.BegunLemmas.{begun_plain}
-use Rattle.ob_exec.proofs.HeldLemmas.{held_kept}
+use Rattle.ob_exec.proofs.HeldLemmas.{held_flat, held_kept}
 use Rattle.ob_exec.proofs.RunLemmas.{IsAnswered, engine_after, ran_cut, ran_no_room, only_memory}
 use Rattle.ob_exec.proofs.SealLemmas.{keeps_pass, keeps_rests}
-use Rattle.ob_exec.proofs.TableLemmas.{beside_below, region_below, tables_kept}
+use Rattle.ob_exec.proofs.TableLemmas.{beside_below, region_below, tables_flat, tables_kept}
 use Rattle.ob_exec.proofs.ToldLemmas.{IsFault, cut_seen, early_held, told_whole}
 
 -- the same, of an equal answer and an equal engine
@@ -55,9 +58,14 @@ serves_as {R} state stmt old s t r q new same answer is serves =
 
 -- ---- where want of memory comes
 module _ {R : Type 0} (state : R → RevState) (stmt : Stmt) (old : Engine R) (s : StoreState) (agrees : Agrees state old s)
-    (now : refusal_now old.public (count_of old s) stmt ≡ None) (plain : is_counted stmt ≡ false) where
-  seen_whole : (tables : Tables) (w : World) → AreHeld old.public.pack old.public.tables tables w → seen old.public (count_of old s) tables stmt ≡ seen_to Whole
-  seen_whole tables w held = shows_kind_alone old.public (count_of old s) tables stmt (early_held old.public (count_of old s) stmt tables w None held now) plain
+    (now : refusal_now old.public (count_of old s) stmt ≡ None) (plain : selects_rows stmt ≡ false) where
+  flat : AreFlat (headings_of old.public.tables)
+  flat = tables_flat agrees.tables
+
+  seen_whole : (tables : Tables) (d : Draws) (w : World) → AreHeld old.public.pack old.public.tables tables w → seen d old.public (count_of old s) tables stmt ≡ seen_to Whole
+  seen_whole tables d w held =
+      shows_kind_alone d old.public (count_of old s) tables stmt (early_held old.public (count_of old s) stmt tables w None held now)
+      (no_access tables stmt (held_flat old.public.pack old.public.tables tables w held flat)) plain
 
   -- nothing was asked, for want of memory
   pub unasked : (s1 : StoreState) (ts : List Table) → ChangesNothing s s1 → ServesSilently state stmt (Err Stops.NoMemory) old s (engine_after old old.vault old.room ts (Cut 0) true) s1
@@ -78,10 +86,10 @@ module _ {R : Type 0} (state : R → RevState) (stmt : Stmt) (old : Engine R) (s
         };
         seals = keeps_rests state old s s1 rests (engine_after old old.vault old.room ts (Cut 0) true) refl;
         means = record {
-          told = λ tables reads. tt;
+          told = λ tables d reads. tt;
           honest = λ tables reads. refl;
-          held = λ tables reads. cut_seen false old.public (skeleton stmt) 0 _ _ (seen_whole tables _ reads.held.held) (omega (arith, same));
-          begun = λ tables reads lie told. absurd (cc (reads.nolie, rests.lie, told));
+          held = λ tables d reads. cut_seen false old.public (skeleton stmt) 0 _ _ (seen_whole tables d _ reads.held.held) (omega (arith, same));
+          begun = λ tables d reads lie told. absurd (cc (reads.nolie, rests.lie, told));
         };
       }
 
@@ -89,8 +97,8 @@ module _ {R : Type 0} (state : R → RevState) (stmt : Stmt) (old : Engine R) (s
   pub finished : (v : Vault R) (room : RoomState) (t : StoreState) (ts : List Table) (outcome : Outcome) → IsAnswered outcome → HasNoRows outcome
       → RanStatement state (skeleton stmt) (Ok outcome) old s (engine_after old v room ts Whole old.ended) t
       → KeepsSealed state old s (engine_after old v room ts Whole old.ended) t
-      → ((tables : Tables) → ReadsTrue state old s t tables
-      → (outcome ≡ outcome_of stmt (verdict old.public (count_of old s) tables stmt)) × AreHeld old.public.pack ts (settle old.public (count_of old s) tables stmt) (at state v t))
+      → ((tables : Tables) (d : Draws) → ReadsTrue state old s t tables
+      → (outcome ≡ outcome_of stmt (verdict old.public (count_of old s) tables stmt)) × AreHeld old.public.pack ts (settle d old.public (count_of old s) tables stmt) (at state v t))
       → ServesSilently state stmt (Ok outcome) old s (engine_after old v room ts Whole old.ended) t
   finished v room t ts outcome answered silent ran seals meant = record {
     ran = ran;
@@ -101,14 +109,14 @@ module _ {R : Type 0} (state : R → RevState) (stmt : Stmt) (old : Engine R) (s
     memory = λ is. absurd (cc is);
     seals = seals;
     means = record {
-      told = λ tables reads. told_whole outcome _ _ answered (record {
-        answer = (meant tables reads).0;
-        seen = sym (seen_whole tables _ reads.held.held);
-        held = record { held = (meant tables reads).1; in_place = keeps_in_place old.public (count_of old s) tables stmt reads.held.in_place };
+      told = λ tables d reads. told_whole outcome _ _ answered (record {
+        answer = (meant tables d reads).0;
+        seen = sym (seen_whole tables d _ reads.held.held);
+        held = record { held = (meant tables d reads).1; in_place = keeps_in_place d old.public (count_of old s) tables stmt reads.held.in_place };
       });
       honest = λ tables reads. tt;
-      held = λ tables reads. tt;
-      begun = λ tables reads. begun_plain state stmt (Ok outcome) old s (engine_after old v room ts Whole old.ended) t tables plain ran (seen_whole tables _ reads.held.held) reads.nolie;
+      held = λ tables d reads. tt;
+      begun = λ tables d reads. begun_plain state stmt (Ok outcome) old s (engine_after old v room ts Whole old.ended) t tables d plain refl ran (seen_whole tables d _ reads.held.held) reads.nolie;
     };
   }
 
@@ -118,31 +126,31 @@ module _ {R : Type 0} (state : R → RevState) (stmt : Stmt) (old : Engine R) (s
         → RanStatement state (skeleton stmt) (answer_of e) old s (engine_after old v room old.public.tables (Cut n) (is_stop (answer_of e))) t
         → Means state stmt (answer_of e) old s (engine_after old v room old.public.tables (Cut n) (is_stop (answer_of e))) t
     means_cut OpErrs.Failed n count fault kept ran = record {
-      told = λ tables reads. record {
-        seen = cut_seen true old.public (skeleton stmt) n _ _ (seen_whole tables _ reads.held.held) count;
+      told = λ tables d reads. record {
+        seen = cut_seen true old.public (skeleton stmt) n _ _ (seen_whole tables d _ reads.held.held) count;
         held = record { held = kept tables reads.held.held; in_place = reads.held.in_place };
       };
       honest = λ tables reads. tt;
-      held = λ tables reads. tt;
-      begun = λ tables reads. begun_plain state stmt (answer_of OpErrs.Failed) old s _ t tables plain ran (seen_whole tables _ reads.held.held) reads.nolie;
+      held = λ tables d reads. tt;
+      begun = λ tables d reads. begun_plain state stmt (answer_of OpErrs.Failed) old s _ t tables d plain refl ran (seen_whole tables d _ reads.held.held) reads.nolie;
     }
     means_cut (OpErrs.Tampered q x) n count fault kept ran = record {
-      told = λ tables reads. tt;
+      told = λ tables d reads. tt;
       honest = λ tables reads. absurd (fault tables reads);
-      held = λ tables reads. cut_seen true old.public (skeleton stmt) n _ _ (seen_whole tables _ reads.held.held) count;
-      begun = λ tables reads. begun_plain state stmt (answer_of (OpErrs.Tampered q x)) old s _ t tables plain ran (seen_whole tables _ reads.held.held) reads.nolie;
+      held = λ tables d reads. cut_seen true old.public (skeleton stmt) n _ _ (seen_whole tables d _ reads.held.held) count;
+      begun = λ tables d reads. begun_plain state stmt (answer_of (OpErrs.Tampered q x)) old s _ t tables d plain refl ran (seen_whole tables d _ reads.held.held) reads.nolie;
     }
     means_cut OpErrs.Sink n count fault kept ran = record {
-      told = λ tables reads. tt;
+      told = λ tables d reads. tt;
       honest = λ tables reads. refl;
-      held = λ tables reads. cut_seen false old.public (skeleton stmt) n _ _ (seen_whole tables _ reads.held.held) count;
-      begun = λ tables reads. begun_plain state stmt (answer_of OpErrs.Sink) old s _ t tables plain ran (seen_whole tables _ reads.held.held) reads.nolie;
+      held = λ tables d reads. cut_seen false old.public (skeleton stmt) n _ _ (seen_whole tables d _ reads.held.held) count;
+      begun = λ tables d reads. begun_plain state stmt (answer_of OpErrs.Sink) old s _ t tables d plain refl ran (seen_whole tables d _ reads.held.held) reads.nolie;
     }
     means_cut OpErrs.NoMemory n count fault kept ran = record {
-      told = λ tables reads. tt;
+      told = λ tables d reads. tt;
       honest = λ tables reads. refl;
-      held = λ tables reads. cut_seen false old.public (skeleton stmt) n _ _ (seen_whole tables _ reads.held.held) count;
-      begun = λ tables reads. begun_plain state stmt (answer_of OpErrs.NoMemory) old s _ t tables plain ran (seen_whole tables _ reads.held.held) reads.nolie;
+      held = λ tables d reads. cut_seen false old.public (skeleton stmt) n _ _ (seen_whole tables d _ reads.held.held) count;
+      begun = λ tables d reads. begun_plain state stmt (answer_of OpErrs.NoMemory) old s _ t tables d plain refl ran (seen_whole tables d _ reads.held.held) reads.nolie;
     }
 
     -- a pass that makes a region first gave up

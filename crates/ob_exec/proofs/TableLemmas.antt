@@ -2,13 +2,16 @@
 use Rattle.ob_oram.proofs.Lasting.{index_kept}
 use Rattle.ob_oram.specs.declared.index.Index.{Index}
 use Rattle.std.proofs.Common.{◌≡◌, ◌⊎◌, inl, inr, ◌<◌, ◌≤◌, ℕ, zero, suc, Bool, true, false, if◌then◌else◌, cond, List, [], ◌∷◌, ◌++◌, length, Option, Some, None, refl, sym, ◌∙◌, ap, subst, arith}
-use Rattle.std.specs.Prelude.{slice_get, slice_set, bytes_eq}
+use Rattle.std.specs.Prelude.{map, slice_get, slice_set, bytes_eq}
 use Rattle.std.specs.Option.{option_map}
 use Rattle.std.proofs.lemmas.List.{length-append, length-map}
 use Rattle.std.proofs.lemmas.Option.{slice_get-map}
 use Rattle.std.proofs.lemmas.Slice.Eq.{bytes_eq-Decides}
+use Rattle.ob_base.specs.declared.schema.Shape.TheVariants.{Flat as FlatShape}
 use Rattle.ob_base.specs.declared.schema.Table.{Table}
-use Rattle.ob_base.specs.Stored.{Stored, stored_at, stored_regions}
+use Rattle.ob_base.specs.Indexes.{by_shape}
+use Rattle.ob_base.specs.Stored.{Stored, headings_of, stored_at, stored_regions}
+use Rattle.ob_mean.specs.Flats.{AreFlat}
 use Rattle.ob_script.specs.Trace.{moved}
 use Rattle.ob_vault.specs.declared.region.Region.{Region}
 use Rattle.ob_vault.specs.State.{World}
@@ -42,6 +45,22 @@ no_tables pack w ts none empty = record {
   beside = λ q is. absurd (cc is);
   only = λ q shape live. absurd (cc (live, empty q));
 }
+
+-- ---- each of them is flat
+each_flat : (ts : List Table) → ((i : ℕ) (t : Table) → slice_get ts i ≡ Some t → t.heading.shape ≡ FlatShape) → AreFlat (headings_of ts)
+each_flat [] each = tt
+each_flat (t ∷ ts) each = (each 0 t refl, each_flat ts (λ i u is. each (suc i) u is))
+
+pub tables_flat : {ts : List Table} {other : ℕ → Type 0} {indexes : List Index} {pack : ℕ} {w : World} → AreTables ts other indexes pack w → AreFlat (headings_of ts)
+tables_flat {ts} tables = each_flat ts (λ i t is. (tables.each i t is).heading.stored.flat)
+
+-- so that the one of a name that a statement changes lies in another region
+abbrev pub shifted : List ℕ → ℕ → List Table → List Table
+shifted name region ts = map (λ (t : Table). if bytes_eq t.heading.name name then record t { region = region } else t) ts
+
+pub shifted_is : (name : List ℕ) (g : ℕ) (ts : List Table) → AreFlat (headings_of ts) → moved name g ts ≡ shifted name g ts
+shifted_is name g [] flat = refl
+shifted_is name g (t ∷ ts) flat = λ i. (if bytes_eq t.heading.name name then by_shape (flat.0 i) (record t { region = g }) t else t) ∷ shifted_is name g ts flat.1 i
 
 -- a table whose region has not changed
 pub flat_kept : (some : ℕ → Type 0) (pack : ℕ) (flat : Flat) (old new : World) → Lasts some old new → (some flat.region → ⊥) → IsFlat pack flat old → IsFlat pack flat new
@@ -223,10 +242,10 @@ module _ (pack g r : ℕ) (name : List ℕ) (ts : List Table) (other : ℕ → T
   at_some j u None was is = absurd (cc is)
   at_some j u (Some v) was is = by_name j u v was (bytes_eq v.heading.name name) refl (cc is)
 
-  moved_at : (j : ℕ) (u : Table) → slice_get (moved name g ts) j ≡ Some u → MovedAt j u
+  moved_at : (j : ℕ) (u : Table) → slice_get (shifted name g ts) j ≡ Some u → MovedAt j u
   moved_at j u is = at_some j u (slice_get ts j) refl (sym (slice_get-map (λ (v : Table). if bytes_eq v.heading.name name then record v { region = g } else v) ts j) ∙ is)
 
-  get_this : slice_get (moved name g ts) i ≡ Some (record t { region = g })
+  get_this : slice_get (shifted name g ts) i ≡ Some (record t { region = g })
   get_this =
       slice_get-map (λ (v : Table). if bytes_eq v.heading.name name then record v { region = g } else v) ts i
       ∙ ap (option_map (λ (v : Table). if bytes_eq v.heading.name name then record v { region = g } else v)) at_i
@@ -236,7 +255,7 @@ module _ (pack g r : ℕ) (name : List ℕ) (ts : List Table) (other : ℕ → T
   kept_by j v was off true is = absurd (off (tables.names j i v t was at_i (named v.heading.name name is ∙ sym name_is)))
   kept_by j v was off false is = refl
 
-  get_that : (j : ℕ) (v : Table) → slice_get ts j ≡ Some v → (j ≡ i → ⊥) → slice_get (moved name g ts) j ≡ Some v
+  get_that : (j : ℕ) (v : Table) → slice_get ts j ≡ Some v → (j ≡ i → ⊥) → slice_get (shifted name g ts) j ≡ Some v
   get_that j v was off =
       slice_get-map (λ (u : Table). if bytes_eq u.heading.name name then record u { region = g } else u) ts j
       ∙ ap (option_map (λ (u : Table). if bytes_eq u.heading.name name then record u { region = g } else u)) was
@@ -245,7 +264,7 @@ module _ (pack g r : ℕ) (name : List ℕ) (ts : List Table) (other : ℕ → T
   moved_below : (j : ℕ) (u : Table) → slice_get ts j ≡ Some u → u.region < g
   moved_below j u is = let less = region_below pack j ts u old ready tables is in omega (arith, less, next)
 
-  moved_each : (j : ℕ) (u : Table) → slice_get (moved name g ts) j ≡ Some u → IsTable pack u new
+  moved_each : (j : ℕ) (u : Table) → slice_get (shifted name g ts) j ≡ Some u → IsTable pack u new
   moved_each j u is = elim (moved_at j u is) [
     | this at end ↦ subst (λ (x : Table). IsTable pack x new) (sym end) is_table
     | that off was ↦ table_kept (two r g) pack u old new lasts
@@ -255,7 +274,7 @@ module _ (pack g r : ℕ) (name : List ℕ) (ts : List Table) (other : ℕ → T
         ]) (tables.each j u was)
   ]
 
-  moved_apart : (j k : ℕ) (u v : Table) → slice_get (moved name g ts) j ≡ Some u → slice_get (moved name g ts) k ≡ Some v → u.region ≡ v.region → j ≡ k
+  moved_apart : (j k : ℕ) (u v : Table) → slice_get (shifted name g ts) j ≡ Some u → slice_get (shifted name g ts) k ≡ Some v → u.region ≡ v.region → j ≡ k
   moved_apart j k u v js ks same = elim (moved_at j u js) [
     | this at end ↦ elim (moved_at k v ks) [
       | this at' end' ↦ at ∙ sym at'
@@ -267,7 +286,7 @@ module _ (pack g r : ℕ) (name : List ℕ) (ts : List Table) (other : ℕ → T
     ]
   ]
 
-  moved_names : (j k : ℕ) (u v : Table) → slice_get (moved name g ts) j ≡ Some u → slice_get (moved name g ts) k ≡ Some v → u.heading.name ≡ v.heading.name → j ≡ k
+  moved_names : (j k : ℕ) (u v : Table) → slice_get (shifted name g ts) j ≡ Some u → slice_get (shifted name g ts) k ≡ Some v → u.heading.name ≡ v.heading.name → j ≡ k
   moved_names j k u v js ks same = elim (moved_at j u js) [
     | this at end ↦ elim (moved_at k v ks) [
       | this at' end' ↦ at ∙ sym at'
@@ -282,17 +301,17 @@ module _ (pack g r : ℕ) (name : List ℕ) (ts : List Table) (other : ℕ → T
   in_old : (q : ℕ) → (q ≡ r → ⊥) → (j : ℕ) (v : Table) → slice_get ts j ≡ Some v → v.region ≡ q → j ≡ i → ⊥
   in_old q off j v was is same = let one_table : v ≡ t = cc (was, at_i, same) in off (sym is ∙ ap (λ (x : Table). x.region) one_table ∙ region_is)
 
-  moved_few : length (moved name g ts) ≤ 64
+  moved_few : length (shifted name g ts) ≤ 64
   moved_few =
       let same = length-map ts (λ (v : Table). if bytes_eq v.heading.name name then record v { region = g } else v) in
       let few = tables.few in
       omega (arith, same, few)
 
-  moved_beside : (q : ℕ) → other q → IsBeside (moved name g ts) q new
+  moved_beside : (q : ℕ) → other q → IsBeside (shifted name g ts) q new
   moved_beside q is =
       let less = beside_below pack ts other q old ready tables is in
       let beside = tables.beside q is in
-      beside_kept (two r g) ts (moved name g ts) q old new lasts
+      beside_kept (two r g) ts (shifted name g ts) q old new lasts
       (λ hit. elim hit [
         | inl same ↦ beside.off (record { place = i; table = t; get = at_i; region = region_is ∙ sym same })
         | inr same ↦ omega (arith, less, next, same)
@@ -302,7 +321,7 @@ module _ (pack g r : ℕ) (name : List ℕ) (ts : List Table) (other : ℕ → T
         | that off was ↦ record { place = of.place; table = of.table; get = was; region = of.region }
       ]) beside
 
-  moved_only : ((q x : ℕ) → (q ≡ x) ⊎ (q ≡ x → ⊥)) → (q : ℕ) (shape : Region) → new.vault.revs.live q ≡ Some shape → IsTableRegion (moved name g ts) q ⊎ other q
+  moved_only : ((q x : ℕ) → (q ≡ x) ⊎ (q ≡ x → ⊥)) → (q : ℕ) (shape : Region) → new.vault.revs.live q ≡ Some shape → IsTableRegion (shifted name g ts) q ⊎ other q
   moved_only cases q shape live = elim (cases q g) [
     | inl here ↦ inl (record { place = i; table = record t { region = g }; get = get_this; region = sym here })
     | inr off ↦ elim (cases q r) [
@@ -314,7 +333,7 @@ module _ (pack g r : ℕ) (name : List ℕ) (ts : List Table) (other : ℕ → T
     ]
   ]
 
-  moved_index : (k : ℕ) (x : Index) → slice_get indexes k ≡ Some x → IsIndexIn (moved name g ts) other x new
+  moved_index : (k : ℕ) (x : Index) → slice_get indexes k ≡ Some x → IsIndexIn (shifted name g ts) other x new
   moved_index k x is =
       let at = tables.stand k x is in
       let less = moved_below at.tree.place at.tree.table at.tree.get in
@@ -336,7 +355,7 @@ module _ (pack g r : ℕ) (name : List ℕ) (ts : List Table) (other : ℕ → T
             ]) at.stands;
       }
 
-  pub tables_moved : ((q x : ℕ) → (q ≡ x) ⊎ (q ≡ x → ⊥)) → AreTables (moved name g ts) other indexes pack new
+  pub tables_moved : ((q x : ℕ) → (q ≡ x) ⊎ (q ≡ x → ⊥)) → AreTables (shifted name g ts) other indexes pack new
   tables_moved cases = record {
     each = moved_each;
     few = moved_few;
@@ -373,18 +392,18 @@ stored_found name (x ∷ xs) (suc i) t names at is =
     (λ miss. stored_found name xs i t (λ j k u v js ks same. omega (arith, names (suc j) (suc k) u v js ks same)) at is)
 
 -- tables of other names stay where they are
-pub unmoved : (name : List ℕ) (g : ℕ) (ts : List Table) → ((j : ℕ) (u : Table) → slice_get ts j ≡ Some u → u.heading.name ≡ name → ⊥) → moved name g ts ≡ ts
+pub unmoved : (name : List ℕ) (g : ℕ) (ts : List Table) → ((j : ℕ) (u : Table) → slice_get ts j ≡ Some u → u.heading.name ≡ name → ⊥) → shifted name g ts ≡ ts
 unmoved name g [] off = refl
 unmoved name g (x ∷ xs) off = head (unmoved name g xs (λ j u js same. off (suc j) u js same)) (bytes_eq x.heading.name name) refl
   where
-    head : moved name g xs ≡ xs → (b : Bool) → bytes_eq x.heading.name name ≡ b → moved name g (x ∷ xs) ≡ x ∷ xs
+    head : shifted name g xs ≡ xs → (b : Bool) → bytes_eq x.heading.name name ≡ b → shifted name g (x ∷ xs) ≡ x ∷ xs
     head rest true is = absurd (off 0 x refl (named x.heading.name name is))
     head rest false is =
-        ap (λ (b : Bool). (if b then record x { region = g } else x) ∷ moved name g xs) is ∙ ap (λ (ys : List Table). x ∷ ys) rest
+        ap (λ (b : Bool). (if b then record x { region = g } else x) ∷ shifted name g xs) is ∙ ap (λ (ys : List Table). x ∷ ys) rest
 
 -- the one table of a name, in another region
 pub set_moved : (name : List ℕ) (g : ℕ) (ts : List Table) (i : ℕ) (t : Table) → AreNamed ts → slice_get ts i ≡ Some t → t.heading.name ≡ name
-    → slice_set ts i (record t { region = g }) ≡ moved name g ts
+    → slice_set ts i (record t { region = g }) ≡ shifted name g ts
 set_moved name g [] zero t names at is = absurd (cc at)
 set_moved name g [] (suc i) t names at is = absurd (cc at)
 set_moved name g (x ∷ xs) zero t names at is =
@@ -392,13 +411,13 @@ set_moved name g (x ∷ xs) zero t names at is =
     let hit = (bytes_eq-Decides x.heading.name name).1 (ap (λ (u : Table). u.heading.name) same ∙ is) in
     let rest = unmoved name g xs (λ j u js of_name. omega (arith, names 0 (suc j) x u refl js (ap (λ (v : Table). v.heading.name) same ∙ is ∙ sym of_name))) in
     ap (λ (u : Table). record u { region = g } ∷ xs) (sym same) ∙ ap (λ (ys : List Table). record x { region = g } ∷ ys) (sym rest)
-    ∙ ap (λ (b : Bool). (if b then record x { region = g } else x) ∷ moved name g xs) (sym hit)
+    ∙ ap (λ (b : Bool). (if b then record x { region = g } else x) ∷ shifted name g xs) (sym hit)
 set_moved name g (x ∷ xs) (suc i) t names at is =
     head (set_moved name g xs i t (λ j k u v js ks same. omega (arith, names (suc j) (suc k) u v js ks same)) at is) (bytes_eq x.heading.name name) refl
   where
-    head : slice_set xs i (record t { region = g }) ≡ moved name g xs → (b : Bool) → bytes_eq x.heading.name name ≡ b
-        → x ∷ slice_set xs i (record t { region = g }) ≡ moved name g (x ∷ xs)
+    head : slice_set xs i (record t { region = g }) ≡ shifted name g xs → (b : Bool) → bytes_eq x.heading.name name ≡ b
+        → x ∷ slice_set xs i (record t { region = g }) ≡ shifted name g (x ∷ xs)
     head rest true hit = absurd (omega (arith, names 0 (suc i) x t refl at (named x.heading.name name hit ∙ sym is)))
     head rest false miss =
         ap (λ (ys : List Table). x ∷ ys) rest
-        ∙ ap (λ (b : Bool). (if b then record x { region = g } else x) ∷ moved name g xs) (sym miss)
+        ∙ ap (λ (b : Bool). (if b then record x { region = g } else x) ∷ shifted name g xs) (sym miss)

@@ -2,7 +2,7 @@
 use Rattle.std.proofs.Common.{◌≡◌, ◌⊎◌, inl, inr, ℕ, Result, Bool, true, false, List, Option, Some, None, Ok, [], refl, sym, ◌∙◌, ap, subst}
 use Rattle.std.proofs.Common.{◌-◌, ◌^◌, min, arith}
 use Rattle.std.proofs.lemmas.Bool.{cases_lt, le-leb, lt-leb}
-use Rattle.std.specs.Prelude.{◌<◌, nat_le, ⊤, ◌∷◌}
+use Rattle.std.specs.Prelude.{◌<◌, nat_le, nat_lt, ⊤, ◌∷◌}
 use Rattle.ob_base.specs.declared.config.Public.{Public}
 use Rattle.ob_base.specs.declared.refusal.Refusal.{Refusal}
 use Rattle.ob_base.specs.declared.refusal.Refusal.TheVariants.{NoTable, NameTaken, NoColumn, WrongType, ValueRange, Limit, KeyRule, JoinKey, NeedsKey}
@@ -20,10 +20,12 @@ use Rattle.ob_sql.specs.declared.stmt.Stmt.{Stmt}
 use Rattle.ob_base.specs.Stored.{headings_of}
 use Rattle.ob_mean.specs.Refusals.{first_holding, early_conditions, early_refusal, limits_of}
 use Rattle.ob_mean.specs.Step.{answered, followed}
-use Rattle.ob_mean.proofs.VerdictLemmas.{seen_late}
+use Rattle.ob_mean.proofs.FlatLemmas.{no_access}
+use Rattle.ob_mean.proofs.VerdictLemmas.{seen_flat}
+use Rattle.ob_mean.specs.Flats.{AreFlat}
 use Rattle.ob_mean.proofs.EarlyLemmas.{allowed}
 use Rattle.ob_mean.specs.Replay.{done_of, cut_at, count_end, walk_end}
-use Rattle.ob_mean.specs.Verdict.{Tables, is_late, seen, seen_started, ended as seen_to}
+use Rattle.ob_mean.specs.Verdict.{Draws, Tables, is_late, seen, seen_started, ended as seen_to}
 use Rattle.ob_flat.specs.declared.flat.Flat.{Flat}
 use Rattle.ob_flat.specs.Words.{TamperedIn}
 use Rattle.ob_verdict.specs.declared.outcome.Outcome.{Outcome}
@@ -33,7 +35,7 @@ use Rattle.ob_base.specs.Refusals.{is_store_fault}
 use Rattle.ob_exec.specs.Running.{answer_of, is_fault, RefusedEarly, IsSilent}
 use Rattle.ob_verdict.specs.Outcomes.{refusal_now, by_fault}
 use Rattle.ob_exec.specs.Telling.{AreHeld}
-use Rattle.ob_exec.proofs.HeldLemmas.{held_headings}
+use Rattle.ob_exec.proofs.HeldLemmas.{held_flat, held_headings}
 use Rattle.ob_exec.proofs.RunLemmas.{of_other, IsAnswered, IsEarly, early_few}
 use Rattle.ob_select.proofs.SelectHeld.{held_empty}
 
@@ -49,8 +51,9 @@ early_held p m stmt tables w o held now =
 
 -- a statement that is not refused before any access
 module _ (p : Public) (m : ℕ) (stmt : Stmt) (now : refusal_now p m stmt ≡ None) where
-  pub started_seen : (tables : Tables) (w : World) → AreHeld p.pack p.tables tables w → seen p m tables stmt ≡ seen_started p tables stmt
-  started_seen tables w held = seen_late p m tables stmt (early_held p m stmt tables w None held now)
+  pub started_seen : (tables : Tables) (d : Draws) (w : World) → AreFlat (headings_of p.tables) → AreHeld p.pack p.tables tables w → seen d p m tables stmt ≡ seen_started p tables stmt
+  started_seen tables d w flat held =
+      seen_flat p m tables stmt (early_held p m stmt tables w None held now) d (no_access tables stmt (held_flat p.pack p.tables tables w held flat))
 
   pub few_asked : (n : ℕ) → n ≡ m → n < 9799832789158199296
   few_asked n same = early_few m n (allowed (is_late m) (limits_of p) (headings_of p.tables) stmt now).early same
@@ -66,7 +69,7 @@ cut_seen failed p s n k now whole same =
       k = held_empty (nat_le (count_end p s) (done_of failed k)) (seen_to (Cut k)).k refl i;
       plan = held_empty (nat_le (count_end p s) (done_of failed k)) (seen_to (Cut k)).plan refl i;
       then = held_empty (nat_le (walk_end p s (seen_to Whole)) (done_of failed k)) (seen_to (Cut k)).then refl i;
-      leaf = None;
+      leaf = held_empty (nat_lt p.stash k) (seen_to (Cut k)).leaf refl i;
       end = Cut (same i);
     })
     ∙ ap (cut_at failed k p s) (sym whole)

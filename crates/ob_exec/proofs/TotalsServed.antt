@@ -48,7 +48,7 @@ use Rattle.ob_mean.specs.Prints.{Prints, Unfinished}
 use Rattle.ob_mean.specs.Refusals.{early_refusal, limits_of}
 use Rattle.ob_mean.specs.Settle.{settle}
 use Rattle.ob_mean.specs.Step.{accepted_answer, answered, overgroups, rows_at, totals_answer}
-use Rattle.ob_mean.specs.Verdict.{Held, Tables, database, is_late, refusal, verdict, seen, ended as seen_to}
+use Rattle.ob_mean.specs.Verdict.{Draws, Held, Tables, database, is_late, refusal, verdict, seen, ended as seen_to}
 use Rattle.ob_mean.proofs.VerdictLemmas.{heading-stored, headings-database, stored-database, refused_late}
 use Rattle.ob_exec.specs.declared.engine.Engine.{Engine}
 use Rattle.ob_verdict.specs.declared.outcome.Outcome.{Outcome}
@@ -64,7 +64,9 @@ use Rattle.ob_exec.proofs.BegunLemmas.{begun_plain}
 use Rattle.ob_exec.specs.Telling.{AreHeld, Represents, IsNotTampered, answer_labels, is_refused}
 use Rattle.ob_exec.specs.Totalling.{IsTotalled, MayTotal, Totals, TotalsFit, ends_by, labels_at, totalled_answer}
 use Rattle.ob_exec.proofs.FoundLemmas.{heading_found}
-use Rattle.ob_exec.proofs.HeldLemmas.{Beside, held_at}
+use Rattle.ob_exec.proofs.HeldLemmas.{Beside, held_at, held_flat}
+use Rattle.ob_exec.proofs.TableLemmas.{tables_flat}
+use Rattle.ob_mean.proofs.FlatLemmas.{settle_is}
 use Rattle.ob_exec.proofs.LawfulLemmas.{lawful_now}
 use Rattle.ob_exec.proofs.ReadLemmas.{cut_after, held_read, read_cut, read_done, read_flat, read_size, reads, reads_is, went_all}
 use Rattle.ob_exec.proofs.RunLemmas.{IsAnswered, engine_after, ran_no_room, only_memory}
@@ -180,11 +182,13 @@ module _ {R E : Type 0} (state : R → RevState) (grew cut : E → E → List Ev
       verdict_is old.public (count_of old s) tables q x.table (early_held old.public (count_of old s) stmt tables (world_of state old s) None held.held allowed) x.found
       ∙ (λ j. totalled_answer (buffered (sym agrees.room.pack j) (sym agrees.room.rows j)) (x.heading j).schema q x.table.held.slots)
 
-  seen_whole : (tables : Tables) → Represents state old s tables → seen old.public (count_of old s) tables stmt ≡ seen_to Whole
-  seen_whole tables held = started_seen old.public (count_of old s) stmt allowed tables (world_of state old s) held.held
+  seen_whole : (tables : Tables) (d : Draws) → Represents state old s tables → seen d old.public (count_of old s) tables stmt ≡ seen_to Whole
+  seen_whole tables d held = started_seen old.public (count_of old s) stmt allowed tables d (world_of state old s) (tables_flat agrees.tables) held.held
 
-  settled_at : (tables : Tables) → settle old.public (count_of old s) tables stmt ≡ tables
-  settled_at tables = followed_same (refusal old.public (count_of old s) tables stmt) tables
+  settled_at : (tables : Tables) (d : Draws) → Represents state old s tables → settle d old.public (count_of old s) tables stmt ≡ tables
+  settled_at tables d held =
+      settle_is old.public tables stmt (held_flat old.public.pack old.public.tables tables (world_of state old s) held.held (tables_flat agrees.tables)) d (count_of old s)
+      ∙ followed_same (refusal old.public (count_of old s) tables stmt) tables
 
   -- what its pass asks, once the store has room
   pub may_total : (flat : Flat) (condition : Condition) → flat ≡ flat_of table → condition ≡ where_at q.cond flat.schema → (n : ℕ) → n ≡ blocks_for old.public.pack flat.capacity → n ≤ s1.spare
@@ -220,7 +224,7 @@ module _ {R E : Type 0} (state : R → RevState) (grew cut : E → E → List Ev
       record {
         ran = ran;
         early = early;
-        lawful = lawful_now old.public (count_of old s) stmt (Err Stops.NoMemory) new.seen s.asked s1.asked refl refl (λ is. absurd (cc is)) early ran.asked ran.ends;
+        lawful = lawful_now old.public (count_of old s) stmt (Err Stops.NoMemory) new.seen s.asked s1.asked refl refl refl (λ is. absurd (cc is)) early ran.asked ran.ends;
         memory = λ is. record { done = []; rest = _; split = refl; asked = rests.asked ∙ sym (append-nil s.asked); place = inl (inl refl) };
         seals = keeps_rests state old s s1 rests new refl;
         answered = tt;
@@ -228,10 +232,10 @@ module _ {R E : Type 0} (state : R → RevState) (grew cut : E → E → List Ev
         sink = refl;
         emits = λ is. tt;
         means = record {
-          told = λ tables reads. tt;
+          told = λ tables d reads. tt;
           honest = λ tables reads. refl;
-          held = λ tables reads. cut_seen false old.public (skeleton stmt) 0 _ _ (seen_whole tables reads.held) (omega (arith, same));
-          begun = λ tables reads. begun_plain state stmt (Err Stops.NoMemory) old s new s1 tables refl ran (seen_whole tables reads.held) reads.nolie;
+          held = λ tables d reads. cut_seen false old.public (skeleton stmt) 0 _ _ (seen_whole tables d reads.held) (omega (arith, same));
+          begun = λ tables d reads. begun_plain state stmt (Err Stops.NoMemory) old s new s1 tables d refl refl ran (seen_whole tables d reads.held) reads.nolie;
         };
       }
 
@@ -260,7 +264,7 @@ module _ {R E : Type 0} (state : R → RevState) (grew cut : E → E → List Ev
         record {
           ran = ran;
           early = early;
-          lawful = lawful_now old.public (count_of old s) stmt (Ok outcome) new.seen s.asked t.asked refl refl (λ is. absurd (cc is)) early ran.asked ran.ends;
+          lawful = lawful_now old.public (count_of old s) stmt (Ok outcome) new.seen s.asked t.asked refl refl refl (λ is. absurd (cc is)) early ran.asked ran.ends;
           memory = λ is. absurd (cc is);
           seals = keeps_pass state old s s1 rests agrees new t now refl (λ good accepts. totals.seals.seals good);
           answered = record {
@@ -276,15 +280,15 @@ module _ {R E : Type 0} (state : R → RevState) (grew cut : E → E → List Ev
           sink = totals.sink;
           emits = λ is. tt;
           means = record {
-            told = λ tables reads.
+            told = λ tables d reads.
                 told_whole outcome _ _ whole (record {
                   answer = totals.told (ended_with tables reads.held reads.nolie) ∙ ap (outcome_of stmt) (sym (verdict_at tables reads.held));
-                  seen = sym (seen_whole tables reads.held);
-                  held = subst (λ (ts : Tables). Represents state new t ts) (sym (settled_at tables)) (record { held = still_held tables reads.held went.lasts; in_place = reads.held.in_place });
+                  seen = sym (seen_whole tables d reads.held);
+                  held = subst (λ (ts : Tables). Represents state new t ts) (sym (settled_at tables d reads.held)) (record { held = still_held tables reads.held went.lasts; in_place = reads.held.in_place });
                 });
             honest = λ tables reads. tt;
-            held = λ tables reads. tt;
-            begun = λ tables reads. begun_plain state stmt (Ok outcome) old s new t tables refl ran (seen_whole tables reads.held) reads.nolie;
+            held = λ tables d reads. tt;
+            begun = λ tables d reads. begun_plain state stmt (Ok outcome) old s new t tables d refl refl ran (seen_whole tables d reads.held) reads.nolie;
           };
         }
 
@@ -300,7 +304,7 @@ module _ {R E : Type 0} (state : R → RevState) (grew cut : E → E → List Ev
         record {
           ran = ran;
           early = early;
-          lawful = lawful_now old.public (count_of old s) stmt (answer_of e) new.seen s.asked t.asked refl refl (λ is. absurd (cc is)) early ran.asked ran.ends;
+          lawful = lawful_now old.public (count_of old s) stmt (answer_of e) new.seen s.asked t.asked refl refl refl (λ is. absurd (cc is)) early ran.asked ran.ends;
           memory = λ is.
               let went = went_all state old s s1 v room t q.table (flat_map named_by q.items) q.group i table agrees rests uses here (totals.after (ap Err (only_memory e is))) in
               record {
@@ -331,12 +335,12 @@ module _ {R E : Type 0} (state : R → RevState) (grew cut : E → E → List Ev
           sink = sink_of e (faults out_old) (faults out_new) totals.sink;
           emits = λ is. tt;
           means = record {
-            told = λ tables reads. if_failed _ e (λ is. record {
-              seen = cut_seen true old.public (skeleton stmt) n _ _ (seen_whole tables reads.held) count;
+            told = λ tables d reads. if_failed _ e (λ is. record {
+              seen = cut_seen true old.public (skeleton stmt) n _ _ (seen_whole tables d reads.held) count;
               held = record { held = still_held tables reads.held all.lasts; in_place = reads.held.in_place };
             });
             honest = λ tables reads. not_tampered e (totals.told (ended_with tables reads.held reads.nolie));
-            held = λ tables reads. if_stop _ e (λ stop. cut_seen (is_refused stop) old.public (skeleton stmt) n _ _ (seen_whole tables reads.held) count);
-            begun = λ tables reads. begun_plain state stmt (answer_of e) old s new t tables refl ran (seen_whole tables reads.held) reads.nolie;
+            held = λ tables d reads. if_stop _ e (λ stop. cut_seen (is_refused stop) old.public (skeleton stmt) n _ _ (seen_whole tables d reads.held) count);
+            begun = λ tables d reads. begun_plain state stmt (answer_of e) old s new t tables d refl refl ran (seen_whole tables d reads.held) reads.nolie;
           };
         }

@@ -10,7 +10,7 @@ use Rattle.ob_vault.specs.Tied.{ReadsIn}
 use Rattle.ob_sql.specs.declared.stmt.Stmt.{Stmt}
 use Rattle.ob_sql.specs.Skeleton.{skeleton}
 use Rattle.ob_mean.specs.Lawful.{Lawful}
-use Rattle.ob_mean.specs.Verdict.{Tables, verdict, ended as seen_to}
+use Rattle.ob_mean.specs.Verdict.{Draws, Tables, verdict, ended as seen_to}
 use Rattle.ob_exec.specs.declared.engine.Engine.{Engine}
 use Rattle.ob_verdict.specs.declared.outcome.Outcome.{Outcome}
 use Rattle.ob_exec.specs.Agreeing.{count_of}
@@ -47,16 +47,16 @@ pub record Stopped {R E : Type 0} (state : R → RevState) (grew cut : E → E �
 -- what is known of a statement by its meaning
 pub record Means {R : Type 0} (state : R → RevState) (stmt : Stmt) (result : Result Outcome RunStop)
     (old : Engine R) (s : StoreState) (new : Engine R) (t : StoreState) : Type 0 where
-  -- the answer, what is seen and the tables afterwards are those of the statement over the tables before
-  pub told : (tables : Tables) → ReadsTrue state old s t tables
-      → IfOk result (λ outcome. Told state stmt tables outcome old s new t)
+  -- the answer, what is seen and the tables afterwards are those of the statement over the tables before, whatever is drawn
+  pub told : (tables : Tables) (d : Draws) → ReadsTrue state old s t tables
+      → IfOk result (λ outcome. Told state stmt d tables outcome old s new t)
   pub honest : (tables : Tables) → ReadsTrue state old s t tables → IfErr result IsNotTampered
   -- so is what is seen until a stop
-  pub held : (tables : Tables) → ReadsTrueUntil state old s new t tables
-      → IfErr result (λ stop. SeenCut (is_refused stop) stmt tables old s new t)
+  pub held : (tables : Tables) (d : Draws) → ReadsTrueUntil state old s new t tables
+      → IfErr result (λ stop. SeenCut (is_refused stop) d stmt tables old s new t)
   -- the first changed block that is read is one that the statement over the tables before reads too
-  pub begun : (tables : Tables) → ReadsTrue state old s s tables → (lie : Lie) → t.lie ≡ Some lie
-      → ReadsIn lie (s.asked ++ meant_script old.public (count_of old s) tables stmt)
+  pub begun : (tables : Tables) (d : Draws) → ReadsTrue state old s s tables → (lie : Lie) → t.lie ≡ Some lie
+      → ReadsIn lie (s.asked ++ meant_script d old.public (count_of old s) tables stmt)
 
 -- a statement was carried out
 pub record Serves {R E : Type 0} (state : R → RevState) (grew cut : E → E → List Event → Type 0)

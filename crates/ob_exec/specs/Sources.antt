@@ -65,7 +65,7 @@ pub record SourceToEnd (p : Public) (old new : World) : Type 0 where
   pub tells : IsTrue old.store.tells
   pub tables : Tables
   pub held : AreHeld p.pack p.tables tables old
-  pub in_place : AreInPlace tables
+  pub in_place : AreInPlace p.stash tables
   pub nolie : new.store.lie ≡ None
 
 -- and those that were read so until the SELECT halted, maybe at a changed block
@@ -73,7 +73,7 @@ pub record SourceToHalt (p : Public) (old new : World) : Type 0 where
   pub tells : IsTrue old.store.tells
   pub tables : Tables
   pub held : AreHeld p.pack p.tables tables old
-  pub in_place : AreInPlace tables
+  pub in_place : AreInPlace p.stash tables
   pub nolie : old.store.lie ≡ None
   pub unfit : IsUnfit new
 

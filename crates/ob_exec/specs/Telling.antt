@@ -14,7 +14,7 @@ use Rattle.ob_vault.specs.Calls.{Seals}
 use Rattle.ob_flat.specs.Flats as F
 use Rattle.ob_sql.specs.declared.stmt.Stmt.{Stmt}
 use Rattle.ob_sql.specs.Skeleton.{skeleton}
-use Rattle.ob_mean.specs.Verdict.{Tables, verdict, seen}
+use Rattle.ob_mean.specs.Verdict.{Draws, Tables, verdict, seen}
 use Rattle.ob_mean.specs.Settle.{settle}
 use Rattle.ob_mean.specs.Replay.{cut_at}
 use Rattle.ob_mean.specs.Prints.{Prints, Unfinished, labels_of}
@@ -39,7 +39,7 @@ AreHeld pack (t ∷ ts) (held ∷ tables) w = (held.heading ≡ t.heading) × F.
 -- an engine and its store hold these tables in place, whose primary keys are distinct
 pub record Represents {R : Type 0} (state : R → RevState) (e : Engine R) (s : StoreState) (tables : Tables) : Type 0 where
   pub held : AreHeld e.public.pack e.public.tables tables (world_of state e s)
-  pub in_place : AreInPlace tables
+  pub in_place : AreInPlace e.public.stash tables
 
 -- the store told what it holds, the engine and it held these tables, and each block that was read is the one written last
 pub record ReadsTrue {R : Type 0} (state : R → RevState) (old : Engine R) (s t : StoreState) (tables : Tables) : Type 0 where
@@ -55,30 +55,30 @@ pub record ReadsTrueUntil {R : Type 0} (state : R → RevState) (old : Engine R)
   pub unfit : IsUnfit (world_of state new t)
 
 -- ---- the accesses
--- those of a statement by its meaning, of which m were asked before
-abbrev pub meant_script : Public → (m : ℕ) → Tables → Stmt → List Access
-meant_script p m tables stmt = script p (skeleton stmt) (seen p m tables stmt)
+-- those of a statement by its meaning, of which m were asked before; whatever is drawn, since each table is flat
+abbrev pub meant_script : Draws → Public → (m : ℕ) → Tables → Stmt → List Access
+meant_script d p m tables stmt = script p (skeleton stmt) (seen d p m tables stmt)
 
 -- a statement that went to its end, or was refused before: its answer is the verdict, and what is seen and what the tables are
 -- follows from the tables before, of which m accesses were asked
-pub record Meant {R : Type 0} (state : R → RevState) (stmt : Stmt) (m : ℕ) (tables : Tables) (outcome : Outcome) (old new : Engine R) (t : StoreState) : Type 0 where
+pub record Meant {R : Type 0} (state : R → RevState) (stmt : Stmt) (m : ℕ) (d : Draws) (tables : Tables) (outcome : Outcome) (old new : Engine R) (t : StoreState) : Type 0 where
   pub answer : outcome ≡ outcome_of stmt (verdict old.public m tables stmt)
-  pub seen : new.seen ≡ seen old.public m tables stmt
-  pub held : Represents state new t (settle old.public m tables stmt)
+  pub seen : new.seen ≡ seen d old.public m tables stmt
+  pub held : Represents state new t (settle d old.public m tables stmt)
 
 -- what is seen of one that was cut off, at an access that failed or behind one
-abbrev pub SeenCut : {R : Type 0} → (failed : Bool) → Stmt → Tables → (old : Engine R) → StoreState → (new : Engine R) → StoreState → Type 0
-SeenCut failed stmt tables old s new t =
-    new.seen ≡ cut_at failed (length t.asked - length s.asked) old.public (skeleton stmt) (seen old.public (count_of old s) tables stmt)
+abbrev pub SeenCut : {R : Type 0} → (failed : Bool) → Draws → Stmt → Tables → (old : Engine R) → StoreState → (new : Engine R) → StoreState → Type 0
+SeenCut failed d stmt tables old s new t =
+    new.seen ≡ cut_at failed (length t.asked - length s.asked) old.public (skeleton stmt) (seen d old.public (count_of old s) tables stmt)
 
 -- one that the store cut off: the tables are as they were
-pub record Kept {R : Type 0} (state : R → RevState) (stmt : Stmt) (tables : Tables) (old : Engine R) (s : StoreState) (new : Engine R) (t : StoreState) : Type 0 where
-  pub seen : SeenCut true stmt tables old s new t
+pub record Kept {R : Type 0} (state : R → RevState) (stmt : Stmt) (d : Draws) (tables : Tables) (old : Engine R) (s : StoreState) (new : Engine R) (t : StoreState) : Type 0 where
+  pub seen : SeenCut true d stmt tables old s new t
   pub held : Represents state new t tables
 
 -- a statement that was answered
-abbrev pub Told : {R : Type 0} → (R → RevState) → Stmt → Tables → Outcome → (old : Engine R) → StoreState → (new : Engine R) → StoreState → Type 0
-Told state stmt tables outcome old s new t = by_fault (is_fault outcome) (Kept state stmt tables old s new t) (Meant state stmt (count_of old s) tables outcome old new t)
+abbrev pub Told : {R : Type 0} → (R → RevState) → Stmt → Draws → Tables → Outcome → (old : Engine R) → StoreState → (new : Engine R) → StoreState → Type 0
+Told state stmt d tables outcome old s new t = by_fault (is_fault outcome) (Kept state stmt d tables old s new t) (Meant state stmt (count_of old s) d tables outcome old new t)
 
 -- whether the access that a statement was stopped at is the last, and was not carried out
 abbrev pub is_refused : RunStop → Bool

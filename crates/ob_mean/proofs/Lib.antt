@@ -4,5 +4,9 @@ pub mod SourceLemmas
 pub mod EarlyLemmas
 pub mod InsertLemmas
 pub mod VerdictLemmas
+pub mod IndexExamples
+pub mod ReplayLemmas
+pub mod FlatLemmas
+pub mod FlatSessions
 pub mod SameLemmas
 pub mod SameProof

@@ -1,5 +1,5 @@
 -- What may be seen of a statement, whatever the rows are.
-use Rattle.std.specs.Prelude.{◌≡◌, ◌⊎◌, ◌↔◌, ℕ, ◌≤◌, Bool, true, false, IsTrue, List, Option, Some, None, IsSome, length, ⊤}
+use Rattle.std.specs.Prelude.{◌≡◌, ◌⊎◌, ◌↔◌, ℕ, ◌+◌, ◌^◌, ◌<◌, ◌≤◌, Bool, true, false, not, ◌&&◌, IsTrue, List, Option, Some, None, IsSome, length, ⊤}
 use Rattle.std.specs.Option.{option_map_or}
 use Rattle.ob_base.specs.declared.config.Public.{Public}
 use Rattle.ob_base.specs.declared.config.Plan.{Plan}
@@ -10,6 +10,9 @@ use Rattle.ob_base.specs.declared.seen.End.TheVariants.{Static, Whole, AfterCoun
 use Rattle.ob_base.specs.declared.schema.Heading.{Heading}
 use Rattle.ob_base.specs.declared.skeleton.Source.{Source}
 use Rattle.ob_base.specs.declared.skeleton.Source.TheVariants.{Table as OneTable, Join}
+use Rattle.ob_base.specs.declared.skeleton.Skeleton.{Skeleton}
+use Rattle.ob_base.specs.declared.skeleton.Skeleton.TheVariants.{Insert as InsertSkeleton, Update as UpdateSkeleton, Delete as DeleteSkeleton, Rows as RowsSkeleton}
+use Rattle.ob_base.specs.Indexes.{height_of}
 use Rattle.ob_base.specs.Joins.{joined_slots}
 use Rattle.ob_base.specs.Limits.{buffered}
 use Rattle.ob_base.specs.Plans.{choose}
@@ -20,7 +23,7 @@ use Rattle.ob_sql.specs.declared.stmt.Stmt.TheVariants.{SelectRows as RowsStmt}
 use Rattle.ob_sql.specs.Skeleton.{skeleton}
 use Rattle.ob_mean.specs.Refusals.{early_refusal, limits_of}
 use Rattle.ob_mean.specs.Verdict.{is_late}
-use Rattle.ob_mean.specs.Replay.{count_end, walk_end}
+use Rattle.ob_mean.specs.Replay.{count_end, is_access, walk_end}
 
 abbrev pub capacity_at : List ℕ → List Heading → ℕ
 capacity_at name hs = option_map_or (λ (h : Heading). h.capacity) (heading_at name hs) 0
@@ -31,9 +34,13 @@ counted_slots p (OneTable name) = capacity_at name (headings_of p.tables)
 counted_slots p (Join a b on equals) =
     joined_slots p.pack p.buffer (capacity_at a (headings_of p.tables)) (capacity_at b (headings_of p.tables))
 
-abbrev pub is_counted : Stmt → Bool
-is_counted (RowsStmt s) = true
-is_counted _ = false
+abbrev pub selects_rows : Stmt → Bool
+selects_rows (RowsStmt s) = true
+selects_rows _ = false
+
+-- a SELECT of rows that accesses no index counts them
+abbrev pub is_counted : Public → Stmt → Bool
+is_counted p stmt = selects_rows stmt && not (is_access p (skeleton stmt))
 
 abbrev pub statement_slots : Public → Stmt → ℕ
 statement_slots p (RowsStmt s) = counted_slots p s.source
@@ -41,7 +48,7 @@ statement_slots p _ = 0
 
 -- k is the count of a SELECT of rows whose result isn't padded, and at most the number of slots
 pub record IsCount (p : Public) (stmt : Stmt) (k : ℕ) : Type 0 where
-  pub counted : IsTrue (is_counted stmt)
+  pub counted : IsTrue (is_counted p stmt)
   pub unpadded : p.pad ≡ None
   pub most : k ≤ statement_slots p stmt
 
@@ -60,7 +67,7 @@ EndsFrom m (Cut n) = m ≤ n
 -- without k: it was refused before any access, is no SELECT of rows or one whose result is padded, or was cut off
 abbrev pub EndsUncounted : Public → Stmt → End → Type 0
 EndsUncounted p stmt Static = ⊤
-EndsUncounted p stmt Whole = (is_counted stmt ≡ false) ⊎ IsSome p.pad
+EndsUncounted p stmt Whole = (is_counted p stmt ≡ false) ⊎ IsSome p.pad
 EndsUncounted p stmt AfterCount = ⊥
 EndsUncounted p stmt (Cut n) = ⊤
 
@@ -86,12 +93,31 @@ abbrev pub CutUpTo : ℕ → End → Type 0
 CutUpTo m (Cut n) = n ≤ m
 CutUpTo m _ = ⊤
 
+-- the height of the index that it accesses
+abbrev pub height_at : Public → Skeleton → ℕ
+height_at p (InsertSkeleton table columns) = height_of (capacity_at table (headings_of p.tables))
+height_at p (UpdateSkeleton table columns) = height_of (capacity_at table (headings_of p.tables))
+height_at p (DeleteSkeleton table) = height_of (capacity_at table (headings_of p.tables))
+height_at p (RowsSkeleton (OneTable name) columns) = height_of (capacity_at name (headings_of p.tables))
+height_at p _ = 0
+
+-- refused before any access, or cut off after so many accesses at most
+abbrev pub EndsBy : ℕ → End → Type 0
+EndsBy m Static = ⊤
+EndsBy m Whole = ⊥
+EndsBy m AfterCount = ⊥
+EndsBy m (Cut n) = n ≤ m
+
+-- an access holds a leaf of its index once more was asked than its stash, and no other statement holds one
+abbrev pub HoldsLeaf : Public → Skeleton → (leaf : Option ℕ) → End → Type 0
+HoldsLeaf p s None end = is_access p s ≡ true → EndsBy p.stash end
+HoldsLeaf p s (Some leaf) end = (is_access p s ≡ true) × (leaf < 2 ^ height_at p s) × EndsFrom (p.stash + 1) end
+
 -- m accesses were asked before
 pub record Lawful (p : Public) (m : ℕ) (stmt : Stmt) (seen : Seen) : Type 0 where
   -- refused before any access
   pub static : (seen.end ≡ Static) ↔ IsSome (early_refusal (is_late m) (limits_of p) (headings_of p.tables) stmt)
   pub holds : Holds p stmt seen seen.k seen.plan seen.then
-  -- no leaf is read, as long as no index is made
-  pub leaf : seen.leaf ≡ None
+  pub leaf : HoldsLeaf p (skeleton stmt) seen.leaf seen.end
   -- no more was asked than the statement asks
   pub cut : CutUpTo (length (whole_script p (skeleton stmt) seen)) seen.end

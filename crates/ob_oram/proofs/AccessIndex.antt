@@ -13,7 +13,7 @@ use Rattle.ob_row.specs.Rows.{Row}
 use Rattle.ob_row.specs.Slots.{Slots, empty_slots}
 use Rattle.ob_row.specs.Spelling.{Begins}
 use Rattle.ob_row.proofs.SpellingLemmas.{zeros-begin}
-use Rattle.ob_tree.specs.States.{State}
+use Rattle.ob_path.specs.States.{State}
 use Rattle.ob_oram.specs.declared.fault.OramErr.{OramErr}
 use Rattle.ob_oram.specs.declared.fault.OramErr.TheVariants.{Failed, Tampered, StashFull}
 use Rattle.ob_oram.specs.declared.held.Held.{Held}

@@ -13,8 +13,8 @@ use Rattle.ob_flat.specs.Flats.{IsInTurn, IsWritten, Represents}
 use Rattle.ob_flat.specs.Passes.{PassCut}
 use Rattle.ob_flat.specs.Words.{HasSpare}
 use Rattle.ob_flat.proofs.Runs.{pass_after}
-use Rattle.ob_tree.specs.States.{State}
-use Rattle.ob_tree.specs.Access as Tree
+use Rattle.ob_path.specs.States.{State}
+use Rattle.ob_path.specs.Access as Tree
 use Rattle.ob_tree.specs.Scripts as Scripts
 use Rattle.ob_tree.proofs.AccessLemmas.{leaf_below, leaves_below}
 use Rattle.ob_tree.proofs.RunLemmas.{length-read_script}

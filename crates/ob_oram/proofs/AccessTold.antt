@@ -16,11 +16,11 @@ use Rattle.ob_row.specs.Bags.{Same}
 use Rattle.ob_flat.specs.Flats.{Represents as HoldsSlots}
 use Rattle.ob_flat.specs.Slots.{Spelt}
 use Rattle.ob_flat.proofs.Tables.{represents_lasts}
-use Rattle.ob_tree.specs.Access as Tree
-use Rattle.ob_tree.specs.Rows.{rows, with_key, first, Single}
+use Rattle.ob_path.specs.Access as Tree
+use Rattle.ob_path.specs.Rows.{rows, with_key, first, Single}
 use Rattle.ob_tree.specs.Runs.{map_after, map_answer, KeepsKey}
 use Rattle.ob_tree.specs.Slotwise.{open_slots, LaysOut}
-use Rattle.ob_tree.specs.States.{State, Represents, Stands, map_of}
+use Rattle.ob_path.specs.States.{State, Represents, Stands, map_of}
 use Rattle.ob_tree.proofs.AccessLemmas.{went}
 use Rattle.ob_tree.proofs.LayLemmas.{All-rows, goes_on, stops_full, single_rows, single_open, applied_open, first_open}
 use Rattle.ob_tree.proofs.PlaceLemmas.{stands_for, stands_too}
@@ -34,7 +34,7 @@ use Rattle.ob_oram.specs.declared.op.Got.TheVariants as Gots
 use Rattle.ob_oram.specs.Buffers.{IsBuffer, Places}
 use Rattle.ob_base.specs.Indexes.{path_blocks, leaf_of_draw, rows_open}
 use Rattle.ob_oram.specs.Indexes.{IsShaped, IsMap, Lies, LiesAs, leaves_of, key_of, tree_of, stash_of}
-use Rattle.ob_tree.specs.Keys.{key_number}
+use Rattle.ob_row.specs.Keys.{key_number}
 use Rattle.ob_oram.specs.Opens.{AreKeyed, ServesRows, leaf_with, tree_key}
 use Rattle.ob_oram.specs.Opened.{OpensIndex}
 use Rattle.ob_oram.specs.Ops.{FitsOp, key_of_op, op_in, got_in}

@@ -6,7 +6,7 @@ use Rattle.std.proofs.lemmas.List.{length-set, get_or_past}
 use Rattle.std.proofs.Math.Nat.{lt-mul-div-succ}
 use Rattle.std.specs.Prelude.{filter, min, not, if◌then◌else◌}
 use Rattle.ob_tree.specs.Places.{lies_at, NoneLies}
-use Rattle.ob_tree.specs.Rows.{rows}
+use Rattle.ob_path.specs.Rows.{rows}
 use Rattle.ob_oram.specs.Buffers.{HasRow, IsCrowded, Stuck, Turns, lies_above, turned}
 
 -- the entries of a list of which two were exchanged

@@ -19,10 +19,10 @@ use Rattle.ob_flat.proofs.Runs.{pass_more, pass_after}
 use Rattle.ob_flat.proofs.Tables.{represents_lasts}
 use Rattle.ob_flat.proofs.WordLemmas.{sealed_after}
 use Rattle.ob_script.specs.Parts.{path_place}
-use Rattle.ob_tree.specs.Paths.{path_slot}
+use Rattle.ob_path.specs.Paths.{path_slot}
 use Rattle.ob_tree.specs.Scripts.{numbers, path_places, ReadStash, ReadTree}
 use Rattle.ob_tree.specs.Slotwise.{open_slots}
-use Rattle.ob_tree.specs.States.{State}
+use Rattle.ob_path.specs.States.{State}
 use Rattle.ob_tree.proofs.LayLemmas.{tree_rows, stash_rows}
 use Rattle.ob_tree.proofs.WalkLemmas.{open_slots_are}
 use Rattle.ob_oram.specs.declared.fault.OramErr.{OramErr}

@@ -25,10 +25,10 @@ use Rattle.ob_flat.specs.Slots.{FitsSlot, Spelt}
 use Rattle.ob_flat.proofs.Rows.{spelt_fits}
 use Rattle.ob_flat.proofs.Runs.{pass_more, pass_after, pass_wider}
 use Rattle.ob_flat.proofs.Tables.{represents_lasts, written_lasts}
-use Rattle.ob_tree.specs.Paths.{is_on_path, path_slot}
+use Rattle.ob_path.specs.Paths.{is_on_path, path_slot}
 use Rattle.ob_tree.specs.Scripts.{numbers, path_places, WriteTree, WriteStash}
 use Rattle.ob_tree.specs.Slotwise.{LaysOut}
-use Rattle.ob_tree.specs.States.{State}
+use Rattle.ob_path.specs.States.{State}
 use Rattle.ob_tree.proofs.LayLemmas.{path_place_of, off_path}
 use Rattle.ob_oram.specs.declared.fault.OramErr.{OramErr}
 use Rattle.ob_oram.specs.declared.index.Index.{Index}

@@ -4,7 +4,7 @@ use Rattle.std.specs.Prelude.{filter, map, not, if◌then◌else◌, ◌==◌, �
 use Rattle.std.specs.List.{list_any}
 use Rattle.std.proofs.lemmas.Bool.{cases_eq, eq-eqb, false≢true, le-ltb, lt-ltb, ne_eqb, or_left, or_right}
 use Rattle.std.proofs.lemmas.List.{get_or_past}
-use Rattle.ob_tree.specs.Rows.{rows, but_firsts}
+use Rattle.ob_path.specs.Rows.{rows, but_firsts}
 use Rattle.ob_oram.specs.Ops.{with_new}
 use Rattle.ob_oram.proofs.Crowding.{counts}
 

@@ -5,7 +5,7 @@ use Rattle.ob_vault.specs.declared.region.Order.TheVariants.{Round, Any}
 use Rattle.ob_vault.specs.State.{World}
 use Rattle.ob_vault.specs.Calls.{Lasts}
 use Rattle.ob_flat.proofs.Tables.{represents_lasts}
-use Rattle.ob_tree.specs.States.{State}
+use Rattle.ob_path.specs.States.{State}
 use Rattle.ob_oram.specs.declared.index.Index.{Index}
 use Rattle.ob_oram.specs.Indexes.{IsIndex, IsStored, LiesAs, tree_of, stash_of}
 use Rattle.ob_oram.proofs.IndexWrites.{in_turn_lasts}

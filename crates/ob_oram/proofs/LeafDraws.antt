@@ -3,7 +3,7 @@ use Rattle.std.proofs.Common.{◌≡◌, ◌%◌, ◌^◌, inl, inr, ℕ, suc, L
 use Rattle.std.proofs.lemmas.Bool.{cases_lt}
 use Rattle.std.proofs.lemmas.List.{get_or_past, get_or-map, length-map, map-set}
 use Rattle.ob_vault.specs.State.{World}
-use Rattle.ob_tree.specs.Keys.{key_number}
+use Rattle.ob_row.specs.Keys.{key_number}
 use Rattle.ob_tree.specs.Runs.{leaf_at, draws_read}
 use Rattle.ob_oram.specs.declared.fault.OramErr.{OramErr}
 use Rattle.ob_oram.specs.declared.index.Index.{Index}

@@ -17,8 +17,8 @@ use Rattle.ob_row.specs.Spelling.{Begins, row_bytes}
 use Rattle.ob_row.proofs.SpellingLemmas.{row_bytes-begin, zeros-begin}
 use Rattle.ob_row.proofs.BagLemmas.{Same-refl, Same-trans}
 use Rattle.ob_flat.proofs.Rows.{row_is}
-use Rattle.ob_tree.specs.Access as Tree
-use Rattle.ob_tree.specs.Rows.{rows, list_of, but_firsts}
+use Rattle.ob_path.specs.Access as Tree
+use Rattle.ob_path.specs.Rows.{rows, list_of, but_firsts}
 use Rattle.ob_tree.specs.Runs.{KeepsKey}
 use Rattle.ob_tree.proofs.ServeLemmas.{rows-set_some, set_none-empty, applied_found, answer_found, applied_absent, answer_absent, applied_past, answer_past}
 use Rattle.ob_oram.specs.declared.held.Held.{Held}
@@ -30,7 +30,7 @@ use Rattle.ob_oram.specs.declared.op.Got.{Got}
 use Rattle.ob_oram.specs.declared.op.Got.TheVariants as Gots
 use Rattle.ob_oram.specs.Buffers.{HasAt, NoneHas, held_of}
 use Rattle.ob_oram.specs.Indexes.{IsShaped, key_of, leaves_of}
-use Rattle.ob_tree.specs.Keys.{key_number, cell_number}
+use Rattle.ob_row.specs.Keys.{key_number, cell_number}
 use Rattle.ob_oram.specs.Opens.{AreKeyed, IsOpen, OpensRow, ServesRows, leaf_with, leaves_with, tree_key}
 use Rattle.ob_oram.specs.Ops.{FitsOp, FitsSet, key_of_op, op_in, got_in, keys_behind, with_new}
 use Rattle.ob_oram.proofs.Crowding.{counts, tally_set, weigh}

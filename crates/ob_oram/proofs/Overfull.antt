@@ -8,7 +8,7 @@ use Rattle.ob_vault.specs.State.{World}
 use Rattle.ob_row.specs.Rows.{Row}
 use Rattle.ob_row.specs.Slots.{Slots}
 use Rattle.ob_tree.specs.Places.{lies_at}
-use Rattle.ob_tree.specs.Rows.{rows}
+use Rattle.ob_path.specs.Rows.{rows}
 use Rattle.ob_oram.specs.declared.index.Index.{Index}
 use Rattle.ob_oram.specs.declared.op.Op.{Op}
 use Rattle.ob_oram.specs.declared.op.Got.{Got}

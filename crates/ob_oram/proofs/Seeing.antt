@@ -12,7 +12,7 @@ use Rattle.ob_row.specs.Rows.{Row}
 use Rattle.ob_row.specs.Slots.{Slots}
 use Rattle.ob_row.specs.Spelling.{Begins}
 use Rattle.ob_tree.specs.Places.{lies_at, IsLeast, NoneLies}
-use Rattle.ob_tree.specs.Rows.{rows, Single}
+use Rattle.ob_path.specs.Rows.{rows, Single}
 use Rattle.ob_tree.proofs.StepLemmas.{picked, emptied, stuck}
 use Rattle.ob_oram.specs.declared.held.Held.{Held}
 use Rattle.ob_oram.specs.Buffers.{held_key, held_leaf, held_of, turned, HasRow, IsBuffer, IsCrowded, Sees, Steps, Places}

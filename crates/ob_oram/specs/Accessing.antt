@@ -10,10 +10,10 @@ use Rattle.ob_flat.specs.declared.fault.OpErr.TheVariants as OpErrs
 use Rattle.ob_flat.specs.Flats.{IsWritten}
 use Rattle.ob_flat.specs.Passes.{PassCut}
 use Rattle.ob_flat.specs.Words.{TamperedIn}
-use Rattle.ob_tree.specs.Access as Tree
-use Rattle.ob_tree.specs.Rows.{rows}
+use Rattle.ob_path.specs.Access as Tree
+use Rattle.ob_path.specs.Rows.{rows}
 use Rattle.ob_tree.specs.Runs.{map_after, map_answer}
-use Rattle.ob_tree.specs.States.{State}
+use Rattle.ob_path.specs.States.{State}
 use Rattle.ob_oram.specs.declared.held.Remap.{Remap}
 use Rattle.ob_oram.specs.declared.index.Index.{Index}
 use Rattle.ob_oram.specs.declared.op.Op.{Op}
@@ -21,7 +21,7 @@ use Rattle.ob_oram.specs.declared.op.Got.{Got}
 use Rattle.ob_oram.specs.declared.op.Got.TheVariants as Gots
 use Rattle.ob_oram.specs.declared.fault.OramErr.{OramErr}
 use Rattle.ob_oram.specs.declared.fault.OramErr.TheVariants.{Failed, Tampered, StashFull}
-use Rattle.ob_tree.specs.Keys.{key_number}
+use Rattle.ob_row.specs.Keys.{key_number}
 use Rattle.ob_oram.specs.Buffers.{IsCrowded}
 use Rattle.ob_base.specs.Indexes.{leaf_of_draw, rows_open}
 use Rattle.ob_oram.specs.Ops.{key_of_op, op_in, got_in, keys_behind}

@@ -7,7 +7,7 @@ use Rattle.ob_vault.specs.Rows.{row_at}
 use Rattle.ob_row.specs.Rows.{Row}
 use Rattle.ob_row.specs.Slots.{Slots}
 use Rattle.ob_row.specs.Spelling.{Begins}
-use Rattle.ob_tree.specs.Rows.{rows, by_key, Single}
+use Rattle.ob_path.specs.Rows.{rows, by_key, Single}
 use Rattle.ob_tree.specs.Places.{lies_at, tests, NoneLies, StepDone, StepFull}
 use Rattle.ob_tree.specs.Slotwise.{laid_slots, left_behind}
 use Rattle.ob_oram.specs.declared.held.Held.{Held}

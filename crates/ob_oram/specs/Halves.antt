@@ -12,7 +12,7 @@ use Rattle.ob_flat.specs.Passes.{PassCut}
 use Rattle.ob_flat.specs.Slots.{Spelt}
 use Rattle.ob_flat.specs.Words.{TamperedIn}
 use Rattle.ob_tree.specs.Slotwise.{LaysOut}
-use Rattle.ob_tree.specs.States.{State}
+use Rattle.ob_path.specs.States.{State}
 use Rattle.ob_oram.specs.declared.fault.OramErr.{OramErr}
 use Rattle.ob_oram.specs.declared.fault.OramErr.TheVariants.{Failed, Tampered, StashFull}
 use Rattle.ob_oram.specs.declared.index.Index.{Index}

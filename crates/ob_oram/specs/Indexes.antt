@@ -6,10 +6,10 @@ use Rattle.ob_vault.specs.Calls.{Seals}
 use Rattle.ob_row.specs.Rows.{Row}
 use Rattle.ob_flat.specs.declared.flat.Flat.{Flat}
 use Rattle.ob_flat.specs.Flats.{IsSized, IsInTurn, Accepts, Represents as HoldsSlots}
-use Rattle.ob_tree.specs.States.{State, Represents, Stands}
+use Rattle.ob_path.specs.States.{State, Represents, Stands}
 use Rattle.ob_oram.specs.declared.index.Index.{Index}
 use Rattle.ob_oram.specs.Keys.{IsIntKey}
-use Rattle.ob_tree.specs.Keys.{row_key}
+use Rattle.ob_row.specs.Keys.{row_key}
 use Rattle.ob_base.specs.Indexes.{IsHeight, tree_blocks, rows_open}
 use Rattle.ob_oram.specs.Heights.{AreLeaves}
 

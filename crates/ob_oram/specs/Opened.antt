@@ -5,9 +5,9 @@ use Rattle.ob_vault.specs.Words.{IsHonest}
 use Rattle.ob_row.specs.Rows.{Row}
 use Rattle.ob_row.specs.Slots.{Slots}
 use Rattle.ob_script.specs.Parts.{path_place}
-use Rattle.ob_tree.specs.Paths.{path_slot}
+use Rattle.ob_path.specs.Paths.{path_slot}
 use Rattle.ob_tree.specs.Slotwise.{open_slots}
-use Rattle.ob_tree.specs.States.{State}
+use Rattle.ob_path.specs.States.{State}
 use Rattle.ob_oram.specs.declared.index.Index.{Index}
 use Rattle.ob_base.specs.Indexes.{path_blocks, rows_open}
 use Rattle.ob_oram.specs.Indexes.{Lies, LiesAs}

@@ -5,8 +5,8 @@ use Rattle.ob_row.specs.Rows.{Row}
 use Rattle.ob_row.specs.Slots.{Slots}
 use Rattle.ob_row.specs.Spelling.{Begins}
 use Rattle.ob_row.specs.Bags.{Same}
-use Rattle.ob_tree.specs.Rows.{rows, with_key, first, Single}
-use Rattle.ob_tree.specs.Access as Tree
+use Rattle.ob_path.specs.Rows.{rows, with_key, first, Single}
+use Rattle.ob_path.specs.Access as Tree
 use Rattle.ob_oram.specs.declared.held.Held.{Held}
 use Rattle.ob_oram.specs.declared.held.Remap.{Remap}
 use Rattle.ob_oram.specs.declared.index.Index.{Index}

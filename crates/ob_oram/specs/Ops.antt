@@ -6,13 +6,13 @@ use Rattle.ob_row.specs.declared.cell.Cell.{Cell}
 use Rattle.ob_row.specs.declared.cell.Cell.TheVariants.{Int}
 use Rattle.ob_row.specs.Rows.{Row, cell_at, with_cells}
 use Rattle.ob_row.specs.Spelling.{FitsColumns, FitsKind, kind_at}
-use Rattle.ob_tree.specs.Access as Tree
+use Rattle.ob_path.specs.Access as Tree
 use Rattle.ob_oram.specs.declared.op.Op.{Op}
 use Rattle.ob_oram.specs.declared.op.Op.TheVariants.{Get, Insert, Change, Remove}
 use Rattle.ob_oram.specs.declared.op.Got.{Got}
 use Rattle.ob_oram.specs.declared.op.Got.TheVariants as Gots
-use Rattle.ob_tree.specs.Keys.{key_number}
-use Rattle.ob_tree.specs.Rows.{but_firsts}
+use Rattle.ob_row.specs.Keys.{key_number}
+use Rattle.ob_path.specs.Rows.{but_firsts}
 
 abbrev pub key_of_op : Op → ℤ
 key_of_op (Get key) = key

@@ -1,7 +1,7 @@
 -- Accesses of one index, one after the other.
 use Rattle.std.specs.Prelude.{◌≡◌, ℕ, suc, List, [], ◌∷◌, Result, map}
 use Rattle.ob_vault.specs.State.{World}
-use Rattle.ob_tree.specs.Keys.{key_number}
+use Rattle.ob_row.specs.Keys.{key_number}
 use Rattle.ob_oram.specs.declared.fault.OramErr.{OramErr}
 use Rattle.ob_oram.specs.declared.index.Index.{Index}
 use Rattle.ob_oram.specs.declared.op.Op.{Op}

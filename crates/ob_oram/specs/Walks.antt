@@ -1,7 +1,7 @@
 -- The blocks that an access reads or writes, one after the other, and the slots of the buffer that they belong to.
 use Rattle.std.specs.Prelude.{◌+◌, ◌<◌, ◌≤◌, ◌^◌, ℕ}
 use Rattle.ob_script.specs.Parts.{path_place}
-use Rattle.ob_tree.specs.Paths.{path_slot}
+use Rattle.ob_path.specs.Paths.{path_slot}
 use Rattle.ob_oram.specs.declared.walk.Walk.{Walk}
 use Rattle.ob_oram.specs.declared.walk.Walk.TheVariants.{Stash, Path}
 use Rattle.ob_base.specs.Indexes.{path_blocks}

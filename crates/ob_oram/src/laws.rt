@@ -7,7 +7,7 @@ ghost use Rattle.ob_script.specs.Parts.{access_part};
 ghost use Rattle.ob_store.specs.State.{Lie};
 ghost use Rattle.ob_tree.specs.Runs.{draws_read, leaf_at};
 ghost use Rattle.ob_tree.specs.Scripts.{numbers};
-ghost use Rattle.ob_tree.specs.States.{State};
+ghost use Rattle.ob_path.specs.States.{State};
 ghost use Rattle.ob_vault.specs.Calls.{Lasts, two};
 ghost use Rattle.ob_vault.specs.State.{World};
 ghost use Rattle.ob_vault.specs.Tied.{ReadsIn};

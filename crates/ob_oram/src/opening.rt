@@ -3,7 +3,7 @@ ghost use Rattle.std.specs.Prelude.{◌≡◌, ◌<◌, ◌≤◌, Option, Some,
 ghost use Rattle.ob_base.specs.Schemas.{width};
 ghost use Rattle.ob_row.specs.Rows.{Row};
 ghost use Rattle.ob_row.specs.Spelling.{Begins};
-ghost use Rattle.ob_tree.specs.Keys.{key_number as number_of_key};
+ghost use Rattle.ob_row.specs.Keys.{key_number as number_of_key};
 ghost use Rattle.ob_oram.specs.Indexes.{IsShaped, key_of};
 ghost use Rattle.ob_oram.specs.Opens.{OpensRow, keyed_slot, leaves_with};
 

@@ -11,7 +11,7 @@ ghost use Rattle.ob_oram.specs.declared.op.Got.TheVariants as Gots;
 ghost use Rattle.ob_oram.specs.Buffers.{HasAt, NoneHas};
 ghost use Rattle.ob_base.specs.Indexes.{rows_open};
 ghost use Rattle.ob_oram.specs.Indexes.{IsShaped};
-ghost use Rattle.ob_tree.specs.Keys.{key_number};
+ghost use Rattle.ob_row.specs.Keys.{key_number};
 ghost use Rattle.ob_oram.specs.Opens.{IsOpen, ServesRows, last_slot};
 ghost use Rattle.ob_oram.specs.Ops.{FitsOp, FitsSet, key_of_op};
 

@@ -5,13 +5,13 @@ use Rattle.ob_base.specs.Indexes.{height_of}
 use Rattle.ob_base.specs.Stored.{Stored}
 use Rattle.ob_base.proofs.IndexLemmas.{height_same}
 use Rattle.ob_row.specs.Rows.{Row, with_cells}
-use Rattle.ob_mean.specs.Verdict.{Held}
+use Rattle.ob_mean.specs.Verdict.{Held, index_of, went}
 use Rattle.ob_vault.specs.State.{World}
 use Rattle.ob_vault.specs.Words.{IsHonest}
-use Rattle.ob_tree.specs.Access as Tree
-use Rattle.ob_tree.specs.Access.{access}
-use Rattle.ob_tree.specs.Keys.{key_number, row_key}
-use Rattle.ob_tree.specs.States.{State}
+use Rattle.ob_path.specs.Access as Tree
+use Rattle.ob_path.specs.Access.{access}
+use Rattle.ob_row.specs.Keys.{key_number, row_key, key_in, key_at}
+use Rattle.ob_path.specs.States.{State}
 use Rattle.ob_oram.specs.declared.index.Index.{Index}
 use Rattle.ob_oram.specs.declared.op.Op.{Op}
 use Rattle.ob_oram.specs.declared.op.Op.TheVariants as Ops
@@ -21,8 +21,7 @@ use Rattle.ob_oram.specs.declared.fault.OramErr.TheVariants.{Failed, Tampered, S
 use Rattle.ob_oram.specs.Accessing.{Accesses}
 use Rattle.ob_oram.specs.Indexes.{Lies, key_of}
 use Rattle.ob_oram.specs.Ops.{op_in}
-use Rattle.ob_indexed.specs.Asking.{Ask, Find, Put, Set, Take, op_of}
-use Rattle.ob_indexed.specs.Indexed.{index_of, key_in, key_at, went}
+use Rattle.ob_mean.specs.Keyed.{Ask, Find, Put, Set, Take, op_of}
 use Rattle.ob_oram_meaning.specs.Meaning.{AnswersAsk, Asks, IsIndexOf, StopsAsk}
 use Rattle.ob_oram_meaning.proofs.Sizes.{key_same}
 

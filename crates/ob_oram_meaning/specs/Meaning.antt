@@ -2,9 +2,8 @@
 use Rattle.std.specs.Prelude.{◌≡◌, ℕ, Some, None, ⊤}
 use Rattle.ob_base.specs.declared.schema.Heading.{Heading}
 use Rattle.ob_base.specs.Stored.{Stored}
-use Rattle.ob_indexed.specs.Asking.{Ask, Find, Put, Set, Take}
-use Rattle.ob_indexed.specs.Indexed.{index_of, went}
-use Rattle.ob_mean.specs.Verdict.{Held}
+use Rattle.ob_mean.specs.Keyed.{Ask, Find, Put, Set, Take}
+use Rattle.ob_mean.specs.Verdict.{index_of, went, Held}
 use Rattle.ob_oram.specs.declared.fault.OramErr.{OramErr}
 use Rattle.ob_oram.specs.declared.fault.OramErr.TheVariants.{Failed, Tampered, StashFull}
 use Rattle.ob_oram.specs.declared.index.Index.{Index}
@@ -14,7 +13,7 @@ use Rattle.ob_oram.specs.declared.op.Op.TheVariants as Ops
 use Rattle.ob_oram.specs.Indexes.{IsShaped, Lies, LiesAs}
 use Rattle.ob_oram.specs.Ops.{got_in}
 use Rattle.ob_row.specs.Rows.{Row}
-use Rattle.ob_tree.specs.Access.{Went}
+use Rattle.ob_path.specs.Access.{Went}
 use Rattle.ob_vault.specs.State.{World}
 
 -- an index with the columns of this heading and as many keys

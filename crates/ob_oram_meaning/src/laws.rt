@@ -1,9 +1,8 @@
 //! The law that joins the code of an index and SQL's meaning.
 ghost use Rattle.std.specs.Prelude.{ℕ, Ok, Err};
 ghost use Rattle.ob_base.specs.Stored.{Stored};
-ghost use Rattle.ob_indexed.specs.Asking.{Ask};
-ghost use Rattle.ob_indexed.specs.Indexed.{index_of};
-ghost use Rattle.ob_mean.specs.Verdict.{Held};
+ghost use Rattle.ob_mean.specs.Keyed.{Ask};
+ghost use Rattle.ob_mean.specs.Verdict.{index_of, Held};
 ghost use Rattle.ob_oram.specs.declared.fault.OramErr.{OramErr};
 ghost use Rattle.ob_oram.specs.declared.index.Index.{Index};
 ghost use Rattle.ob_oram.specs.declared.op.Got.{Got};

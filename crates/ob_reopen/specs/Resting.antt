@@ -61,13 +61,13 @@ AreKept keys pack (t ∷ ts) (held ∷ tables) kept =
     × AreKept keys pack ts tables kept
 
 -- between runs these tables in place rest in a store: the closing lists them by their names, each region is kept, and
--- their primary keys are distinct
+-- their primary keys are distinct; all are flat, so that they are in place whatever the slots of a stash are
 pub record Rests (keys : KeySet) (closing : Closing) (kept : ℕ → Option KeptRegion)
     (tables : Tables) : Type 0 where
   pub listed : List Listed
   pub closing_is : IsClosing keys closing listed kept
   pub held : AreKept keys closing.pack listed tables kept
-  pub in_place : AreInPlace tables
+  pub in_place : (stash : ℕ) → AreInPlace stash tables
 
 -- a region that the mark of a closing needs: the closing's own, or that of a table that it lists
 abbrev pub IsNeeded : Closing → List Listed → ℕ → Type 0

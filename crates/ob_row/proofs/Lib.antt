@@ -4,3 +4,4 @@ pub mod SpellingLemmas
 pub mod FieldLemmas
 pub mod CellsLemmas
 pub mod PlaceLemmas
+pub mod KeyNumbers

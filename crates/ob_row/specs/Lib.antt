@@ -9,3 +9,4 @@ pub mod Values
 pub mod Totals
 pub mod Slots
 pub mod Results
+pub mod Keys

@@ -11,7 +11,11 @@ use Rattle.ob_base.specs.declared.skeleton.Source.{Source}
 use Rattle.ob_base.specs.declared.skeleton.Source.TheVariants.{Table as OneTable, Join}
 use Rattle.ob_base.specs.declared.skeleton.Skeleton.{Skeleton}
 use Rattle.ob_base.specs.declared.skeleton.Skeleton.TheVariants.{Create, Insert, Update, Delete, Drop as DropTable, Rows, Groups}
+use Rattle.ob_base.specs.declared.schema.Shape.{Shape}
+use Rattle.ob_base.specs.declared.schema.Shape.TheVariants.{Flat, Indexed}
 use Rattle.ob_base.specs.Accesses.{discard_at}
+use Rattle.ob_base.specs.Indexes.{by_shape, height_of}
+use Rattle.ob_base.proofs.IndexLemmas.{is_height_of}
 use Rattle.ob_base.specs.Schemas.{width, columns_of}
 use Rattle.ob_script.proofs.Joined.{few_blocks}
 use Rattle.ob_base.specs.Stored.{Stored, stored_at, stored_regions}
@@ -28,10 +32,11 @@ use Rattle.ob_base.specs.Plans.{choose_padded, padded_rows}
 use Rattle.ob_base.specs.Numbers.{blocks_for}
 use Rattle.ob_script.specs.declared.extent.Extent.{Extent}
 use Rattle.ob_script.specs.Parts.{count_part, insert_part, rewrite_part, emission_part, join_part}
-use Rattle.ob_script.specs.Script.{extent_of, with_table, mutation_script, joined_extent, table_script, join_script, source_script, whole_script, until_end, script, select_part, after_count, behind_count, padded_part, plan_part, result_part, result_blocks, blocks_of, rows_width}
-use Rattle.ob_script.specs.Sizes.{IsPublic, IsCounted, IsTable, IfTable, IsSourceCounted, IsWithin}
+use Rattle.ob_script.specs.Script.{created_script, dropped_script, extent_of, flat_script, index_part_of, shape_script, with_table, mutation_script, joined_extent, table_script, join_script, source_script, whole_script, until_end, script, select_part, after_count, behind_count, padded_part, plan_part, result_part, result_blocks, blocks_of, rows_width}
+use Rattle.ob_script.specs.Sizes.{IfFlat, IsHeld, IsPublic, IsCounted, IsTable, IfTable, IsSourceCounted, IsWithin}
+use Rattle.ob_script.proofs.Leaves.{blocks_few as tree_few}
 use Rattle.ob_script.proofs.Lengths.{length-count_part}
-use Rattle.ob_script.proofs.Numbers.{ceil-ceil, length-create_part, length-insert_part, length-rewrite_part, length-join_part, length-small_part, length-large_part, length-continuous_part, length-hash_part, length-emission_part}
+use Rattle.ob_script.proofs.Numbers.{ceil-ceil, length-access_part, length-index_part, length-create_part, length-insert_part, length-rewrite_part, length-join_part, length-small_part, length-large_part, length-continuous_part, length-hash_part, length-emission_part}
 
 -- at least one block may be buffered, and at least two rows
 buffer_some : (p : Public) → IsPublic p → 1 ≤ buffered_blocks p.pack p.buffer
@@ -153,10 +158,15 @@ of_table name p f n P given h = go (stored_at name (stored_regions p.tables)) gi
   go None given = omega arith
   go (Some t) given = h t given
 
-rewrite_few : (p : Public) (table : List ℕ) → IsPublic p → length (with_table table p (mutation_script p rewrite_part)) ≤ 2 ^ 40
-rewrite_few p table h =
-    of_table table p (mutation_script p rewrite_part) (2 ^ 40) IsStored (stored-sized table p.tables h.tables)
-    (λ t few. let e = length-rewrite_part t.held p.next_region (blocks_of p (extent_of t)) (rows_width p (extent_of t)) in let b = blocks_few p.pack t.heading.capacity h.pack_some (let c = few.capacity in omega arith) in omega arith)
+rewrite_few : (p : Public) (t : Stored ℕ) → IsPublic p → IsStored t → length (mutation_script p rewrite_part t) ≤ 2 ^ 40
+rewrite_few p t h few =
+    let e = length-rewrite_part t.held p.next_region (blocks_of p (extent_of t)) (rows_width p (extent_of t)) in
+    let b = blocks_few p.pack t.heading.capacity h.pack_some (let c = few.capacity in omega arith) in omega arith
+
+insert_few : (p : Public) (t : Stored ℕ) → IsPublic p → IsStored t → length (mutation_script p insert_part t) ≤ 2 ^ 40
+insert_few p t h few =
+    let e = length-insert_part t.held p.next_region (blocks_of p (extent_of t)) (rows_width p (extent_of t)) in
+    let b = blocks_few p.pack t.heading.capacity h.pack_some (let c = few.capacity in omega arith) in omega arith
 
 join_few : (p : Public) (seen : Seen) (left right : Stored ℕ) → IsPublic p → IsStored left → IsStored right → IsCounted seen (joined_extent p left.heading right.heading) →
     length (join_script p seen left right) ≤ 2 ^ 48 + 2 ^ 34
@@ -175,10 +185,52 @@ join_few p seen left right h l r c =
     let twice : div_ceil lefts q * (2 * rights) ≡ 2 * (div_ceil lefts q * rights) = omega arith in
     omega (arith, a, b, d, twice)
 
+-- ---- an index
+height_few : (n : ℕ) → n ≤ 2 ^ 20 → height_of n ≤ 24
+height_few n few = (is_height_of n).least 24 (omega arith)
+
+-- an access asks for its stash and a path, twice
+index_few : (p : Public) (leaf : Option ℕ) (t : Stored ℕ) → IsPublic p → IsStored t → length (index_part_of p leaf t) ≤ 2 ^ 12
+index_few p None t h few = let e = length-count_part (t.held + 1) p.stash in let s = h.stash in omega arith
+index_few p (Some leaf) t h few =
+    let e = length-access_part t.held (t.held + 1) p.stash (height_of t.heading.capacity) leaf in
+    let s = h.stash in
+    let low = height_few t.heading.capacity few.capacity in omega arith
+
+-- what is asked of a flat table, where it is one, and of an index
+by_few : (shape : Shape) (xs ys : List Access) (n : ℕ) (flat indexed : Type 0) → IfFlat shape flat indexed → (flat → length xs ≤ n) → length ys ≤ n → length (by_shape shape xs ys) ≤ n
+by_few Flat xs ys n flat indexed given a b = a given
+by_few Indexed xs ys n flat indexed given a b = b
+
+either_few : (shape : Shape) (xs ys : List Access) (n : ℕ) → length xs ≤ n → length ys ≤ n → length (by_shape shape xs ys) ≤ n
+either_few Flat xs ys n a b = a
+either_few Indexed xs ys n a b = b
+
+mutation_few : (p : Public) (leaf : Option ℕ) (table : List ℕ) (part : ℕ → ℕ → ℕ → ℕ → List Access) → IsPublic p
+    → ((t : Stored ℕ) → IsStored t → length (mutation_script p part t) ≤ 2 ^ 40) → length (with_table table p (shape_script p leaf (mutation_script p part))) ≤ 2 ^ 40
+mutation_few p leaf table part h flat =
+    of_table table p (shape_script p leaf (mutation_script p part)) (2 ^ 40) IsStored (stored-sized table p.tables h.tables)
+    (λ t few. either_few t.heading.shape (mutation_script p part t) (index_part_of p leaf t) (2 ^ 40) (flat t few) (let e = index_few p leaf t h few in omega arith))
+
+created_few : (p : Public) (n width : ℕ) (shape : Shape) → IsPublic p → n ≤ 2 ^ 20 → length (created_script p n width shape) < 2 ^ 49
+created_few p n width Flat h few =
+    let e = length-create_part p.next_region (blocks_for p.pack n) (p.pack * width) in
+    let b = blocks_few p.pack n h.pack_some (omega arith) in omega arith
+created_few p n width Indexed h few =
+    let e = length-index_part p.next_region (p.next_region + 1) p.stash (height_of n) width in
+    let s = h.stash in
+    let b = tree_few (height_of n) (height_few n few) in omega arith
+
+dropped_few : (t : Stored ℕ) → length (dropped_script t) ≤ 2
+dropped_few t = either_few t.heading.shape (discard_at t.held) (discard_at t.held ++ discard_at (t.held + 1)) 2 (omega arith) (omega arith)
+
 source_few : (p : Public) (source : Source) (seen : Seen) → IsPublic p → IsSourceCounted p seen source → length (source_script p seen source) < 2 ^ 49
 source_few p (OneTable name) seen h w =
-    let m = of_table name p (table_script p seen) (2 ^ 48 + 2 ^ 34) (λ t. IsCounted seen (extent_of t)) w
-    (λ t c. let d = select_few p seen p.next_region (extent_of t) [] h c (omega arith) in omega arith) in omega arith
+    let m = of_table name p (table_script p seen) (2 ^ 48 + 2 ^ 34) (λ t. IsStored t × IsHeld p seen (IsCounted seen (extent_of t)) t)
+    (both_some (stored_at name (stored_regions p.tables)) IsStored _ (stored-sized name p.tables h.tables) w)
+    (λ t c. by_few t.heading.shape (flat_script p seen t) (index_part_of p seen.leaf t) (2 ^ 48 + 2 ^ 34) (IsCounted seen (extent_of t)) _ c.1
+    (λ counted. let d = select_few p seen p.next_region (extent_of t) [] h counted (omega arith) in omega arith)
+    (let e = index_few p seen.leaf t h c.0 in omega arith)) in omega arith
 source_few p (Join a b on equals) seen h w =
     let m = of_table a p (λ left. with_table b p (λ right. join_script p seen left right)) (2 ^ 48 + 2 ^ 34)
     (λ left. IsStored left × IfTable b p (λ right. IsCounted seen (joined_extent p left.heading right.heading)))
@@ -189,17 +241,12 @@ source_few p (Join a b on equals) seen h w =
 
 -- any statement that is not refused before
 whole_few : (p : Public) (s : Skeleton) (seen : Seen) → IsPublic p → IsWithin p s seen → length (whole_script p s seen) < 2 ^ 49
-whole_few p (Create table cs n shape) seen h w =
-    let e = length-create_part p.next_region (blocks_for p.pack n) (p.pack * width (columns_of table cs)) in
-    let b = blocks_few p.pack n h.pack_some (let few = w.0 in omega arith) in omega arith
-whole_few p (Insert table cs) seen h w =
-    let m = of_table table p (mutation_script p insert_part) (2 ^ 40) IsStored (stored-sized table p.tables h.tables)
-    (λ t few. let e = length-insert_part t.held p.next_region (blocks_of p (extent_of t)) (rows_width p (extent_of t)) in let b = blocks_few p.pack t.heading.capacity h.pack_some (let c = few.capacity in omega arith) in omega arith) in
-    omega arith
-whole_few p (Update table cs) seen h w = let m = rewrite_few p table h in omega arith
-whole_few p (Delete table) seen h w = let m = rewrite_few p table h in omega arith
+whole_few p (Create table cs n shape) seen h w = created_few p n (width (columns_of table cs)) shape h w.0
+whole_few p (Insert table cs) seen h w = let m = mutation_few p seen.leaf table insert_part h (λ t few. insert_few p t h few) in omega arith
+whole_few p (Update table cs) seen h w = let m = mutation_few p seen.leaf table rewrite_part h (λ t few. rewrite_few p t h few) in omega arith
+whole_few p (Delete table) seen h w = let m = mutation_few p seen.leaf table rewrite_part h (λ t few. rewrite_few p t h few) in omega arith
 whole_few p (DropTable table) seen h w =
-    let m = of_table table p (λ t. discard_at t.held) (2 ^ 40) IsStored (stored-sized table p.tables h.tables) (λ t few. omega arith) in omega arith
+    let m = of_table table p dropped_script (2 ^ 40) IsStored (stored-sized table p.tables h.tables) (λ t few. let e = dropped_few t in omega arith) in omega arith
 whole_few p (Rows source cs) seen h w = source_few p source seen h w
 whole_few p (Groups table cs key) seen h w =
     let m = of_table table p (λ t. count_part t.held (blocks_of p (extent_of t))) (2 ^ 40) IsStored (stored-sized table p.tables h.tables)

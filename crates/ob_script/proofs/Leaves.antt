@@ -1,7 +1,17 @@
 -- The places of a leaf's path fit 32 bits.
-use Rattle.std.proofs.Common.{◌≡◌, ◌≤◌, ◌<◌, ◌+◌, ◌-◌, ◌*◌, ◌/◌, ◌%◌, ◌^◌, ℕ, zero, suc, arith, Fits, w32, ap}
-use Rattle.std.proofs.Math.Nat.{pow-le-pow_right, le-div_iff_mul-le, div-mul-le_self}
-use Rattle.ob_base.proofs.IndexLemmas.{power_few, power_some, shifted}
+use Rattle.std.proofs.Common.{◌≡◌, ◌≤◌, ◌<◌, ◌+◌, ◌-◌, ◌*◌, ◌/◌, ◌%◌, ◌^◌, ℕ, zero, suc, arith, Fits, w32, sym, ◌∙◌, ap}
+use Rattle.std.proofs.Math.Nat.{pow-le-pow_right, mod-eq_of_lt, le-div_iff_mul-le, div-mul-le_self}
+use Rattle.ob_base.proofs.IndexLemmas.{power_few, power_next, power_some, shifted}
+
+pub shifted_two : (h : ℕ) → h ≤ 24 → (2 * 2 ^ h) % 4294967296 ≡ 2 ^ (h + 1)
+shifted_two h few =
+    let next : h + 1 ≡ suc h = omega arith in
+    mod-eq_of_lt (omega (arith, power_few h few)) ∙ sym (ap (λ (k : ℕ). 2 ^ k) next ∙ power_next h)
+
+pub blocks_few : (h : ℕ) → h ≤ 24 → 4 * (2 ^ (h + 1) - 1) ≤ 134217724
+blocks_few h few =
+    let next : h + 1 ≡ suc h = omega arith in
+    omega (arith, power_few h few, ap (λ (k : ℕ). 2 ^ k) next ∙ power_next h)
 
 -- a quotient is no more than what is divided
 quotient_less : (a b : ℕ) → 1 ≤ b → a / b ≤ a

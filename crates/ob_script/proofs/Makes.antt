@@ -3,10 +3,11 @@ use Rattle.std.proofs.Common.{◌≡◌, ℕ, zero, suc, ◌+◌, ◌-◌, ◌*�
 use Rattle.std.specs.Int.{div_ceil}
 use Rattle.ob_base.specs.declared.access.Access.{Access}
 use Rattle.ob_base.specs.Accesses.{makes, read_at, write_at, make_at, discard_at}
+use Rattle.ob_base.specs.Indexes.{tree_blocks}
 use Rattle.ob_base.specs.Lists.{each}
 use Rattle.ob_base.specs.Numbers.{blocks_for, first_bucket, second_bucket}
 use Rattle.ob_base.proofs.AccessLemmas.{makes-append}
-use Rattle.ob_script.specs.Parts.{copy_at, read_from, write_from, count_part, copy_part, create_part, insert_part, rewrite_part, small_pass, small_part, large_part, slots_in, continuous_block, continuous_part, bucket_part, hash_slot, hash_block, hash_part, emission_part, pair_at, join_chunk, join_part, access_part, path_place, path_read, path_write}
+use Rattle.ob_script.specs.Parts.{copy_at, read_from, write_from, count_part, copy_part, create_part, index_part, insert_part, rewrite_part, small_pass, small_part, large_part, slots_in, continuous_block, continuous_part, bucket_part, hash_slot, hash_block, hash_part, emission_part, pair_at, join_chunk, join_part, access_part, path_place, path_read, path_write}
 
 -- lists of which none asks for a region, joined
 makes-each : (n : ℕ) (f : ℕ → List Access) → ((i : ℕ) → makes (f i) ≡ 0) → makes (each n f) ≡ 0
@@ -135,3 +136,8 @@ makes-access_part tree stash slots height leaf =
     (none_in reads (writes ++ last) (makes-each (4 * (height + 1)) (path_read tree height leaf) (λ c. was_read tree (path_place height leaf c)))
     (none_in writes last (makes-each (4 * (height + 1)) (path_write tree height leaf) (λ c. was_written tree (path_place height leaf c)))
     (makes-each slots (write_at stash) (λ x. was_written stash x))))
+
+pub makes-index_part : (tree stash slots height width : ℕ) → makes (index_part tree stash slots height width) ≡ 2
+makes-index_part tree stash slots height width =
+    both (create_part tree (tree_blocks height) width) (create_part stash slots width) 1 1
+    (makes-create_part tree (tree_blocks height) width) (makes-create_part stash slots width)

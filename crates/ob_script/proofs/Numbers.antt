@@ -6,9 +6,10 @@ use Rattle.std.proofs.lemmas.List.{length-append}
 use Rattle.std.proofs.lemmas.Grind.{div_ceil_times}
 use Rattle.std.proofs.Math.Nat.{mul-le-mul_right}
 use Rattle.ob_base.specs.Accesses.{discard_at, write_at}
+use Rattle.ob_base.specs.Indexes.{tree_blocks}
 use Rattle.ob_base.specs.Lists.{each}
 use Rattle.ob_base.specs.Numbers.{blocks_for}
-use Rattle.ob_script.specs.Parts.{count_part, copy_part, create_part, insert_part, rewrite_part, small_part, large_part, continuous_part, continuous_block, hash_part, hash_block, emission_part, join_part, access_part, path_read, path_write}
+use Rattle.ob_script.specs.Parts.{count_part, copy_part, create_part, index_part, insert_part, rewrite_part, small_part, large_part, continuous_part, continuous_block, hash_part, hash_block, emission_part, join_part, access_part, path_read, path_write}
 use Rattle.ob_script.proofs.Lengths.{length-count_part, length-writes, length-copy_part, length-passes, length-turns, length-buckets, length-pairs, length-path_reads, length-path_writes}
 
 pub length-create_part : (g blocks width : ℕ) → length (create_part g blocks width) ≡ 1 + blocks
@@ -66,6 +67,12 @@ length-access_part tree stash slots height leaf =
     let e = length-path_reads tree height leaf in
     let f = length-path_writes tree height leaf in
     let g = length-writes stash slots in omega (arith, a, b, c, d, e, f, g)
+
+pub length-index_part : (tree stash slots height width : ℕ) → length (index_part tree stash slots height width) ≡ tree_blocks height + slots + 2
+length-index_part tree stash slots height width =
+    let a = length-append (create_part tree (tree_blocks height) width) (create_part stash slots width) in
+    let b = length-create_part tree (tree_blocks height) width in
+    let c = length-create_part stash slots width in omega (arith, a, b, c)
 
 -- the least number of parts of q that hold n
 ceil_least : (n q m : ℕ) → 0 < q → n ≤ m * q → div_ceil n q ≤ m

@@ -3,11 +3,12 @@ use Rattle.std.proofs.Common.{◌≡◌, ℕ, List, [], ◌∷◌, ◌++◌, ref
 use Rattle.std.specs.Prelude.{Option, Some, None, false, codes}
 use Rattle.ob_base.specs.declared.access.Access.{Access}
 use Rattle.ob_base.specs.declared.access.Access.TheVariants.{Make, Read, Write, Discard}
-use Rattle.ob_base.specs.Accesses.{makes}
+use Rattle.ob_base.specs.Accesses.{makes, write_at}
+use Rattle.ob_base.specs.Lists.{each}
 use Rattle.ob_base.specs.declared.config.Public.{Public}
 use Rattle.ob_base.specs.declared.config.Plan.{Plan}
 use Rattle.ob_base.specs.declared.config.Plan.TheVariants.{Small, Large, Continuous, Hash}
-use Rattle.ob_base.specs.declared.schema.Shape.TheVariants.{Flat}
+use Rattle.ob_base.specs.declared.schema.Shape.TheVariants.{Flat, Indexed}
 use Rattle.ob_base.specs.declared.seen.End.TheVariants.{Whole, AfterCount, Cut}
 use Rattle.ob_base.specs.declared.skeleton.NewKind.TheVariants.{Int as NewInt}
 use Rattle.ob_base.specs.declared.skeleton.NewColumn.{NewColumn}
@@ -164,3 +165,39 @@ large_by_two : after_setup (start_with 2 7 5) four (counted rows_of_t 2 (Some La
     Read 5 0 ∷ Read 5 1 ∷ Make 6 2 66 ∷ Read 5 0 ∷ Write 6 0 ∷ Read 5 1 ∷ Write 6 1 ∷ Read 6 0 ∷ Write 6 0 ∷ Read 6 1 ∷ Write 6 1 ∷ Read 6 0 ∷ Read 6 1 ∷ Discard 6 ∷ []
 unfolding makes
 large_by_two = refl
+
+-- ---- CREATE TABLE o (id INT PRIMARY KEY, v INT) CAPACITY 4 INDEXED, with a stash of two slots
+abbrev with_stash : Public
+with_stash = record (start_with 1 16 5) { stash = 2 }
+
+abbrev create_o : Served
+create_o = whole (Create (codes "o") (column (codes "id") 1 ∷ column (codes "v") 0 ∷ []) 4 Indexed)
+
+abbrev access_o : ℕ → Served
+access_o leaf = record { skeleton = Insert (codes "o") None; seen = record { k = None; plan = None; then = None; leaf = Some leaf; end = Whole } }
+
+index_created : trace with_stash (create_o ∷ []) ≡ Make 1 28 49 ∷ (each 28 (write_at 1) ++ (Make 2 2 49 ∷ (Write 2 0 ∷ Write 2 1 ∷ [])))
+index_created = refl
+
+-- the path of leaf 2 has buckets 0, 2 and 5
+index_accessed : after_setup with_stash (create_o ∷ []) (access_o 2) ≡
+    Read 2 0 ∷ Read 2 1
+    ∷ Read 1 0 ∷ Read 1 1 ∷ Read 1 2 ∷ Read 1 3 ∷ Read 1 8 ∷ Read 1 9 ∷ Read 1 10 ∷ Read 1 11 ∷ Read 1 20 ∷ Read 1 21 ∷ Read 1 22 ∷ Read 1 23
+    ∷ Write 1 0 ∷ Write 1 1 ∷ Write 1 2 ∷ Write 1 3 ∷ Write 1 8 ∷ Write 1 9 ∷ Write 1 10 ∷ Write 1 11 ∷ Write 1 20 ∷ Write 1 21 ∷ Write 1 22 ∷ Write 1 23
+    ∷ Write 2 0 ∷ Write 2 1 ∷ []
+unfolding makes
+index_accessed = refl
+
+-- it lies where it lay, and the next table behind both of its regions
+index_stays : after_setup with_stash (create_o ∷ access_o 2 ∷ create_t ∷ []) (whole (DropTable (codes "o"))) ≡ Discard 1 ∷ Discard 2 ∷ []
+unfolding makes
+index_stays = refl
+
+behind_index : after_setup with_stash (create_o ∷ access_o 2 ∷ []) create_t ≡ Make 3 4 49 ∷ Write 3 0 ∷ Write 3 1 ∷ Write 3 2 ∷ Write 3 3 ∷ []
+unfolding makes
+behind_index = refl
+
+-- a read of the stash failed, or gave what was not written there
+index_cut : after_setup with_stash (create_o ∷ []) (record { skeleton = Insert (codes "o") None; seen = record { k = None; plan = None; then = None; leaf = None; end = Cut 1 } }) ≡ Read 2 0 ∷ []
+unfolding makes
+index_cut = refl

@@ -4,6 +4,7 @@ use Rattle.ob_base.specs.declared.access.Access.{Access}
 use Rattle.ob_base.specs.declared.access.Access.TheVariants.{Read, Write}
 use Rattle.ob_base.specs.Accesses.{read_at, write_at, make_at, discard_at}
 use Rattle.std.specs.Int.{div_ceil}
+use Rattle.ob_base.specs.Indexes.{tree_blocks}
 use Rattle.ob_base.specs.Lists.{each}
 use Rattle.ob_base.specs.Numbers.{blocks_for, first_bucket, second_bucket}
 
@@ -101,7 +102,12 @@ join_part a b g lefts rights buffered width =
     make_at g (div_ceil lefts buffered * rights) width
     ++ each (div_ceil lefts buffered) (join_chunk a b g lefts rights buffered)
 
--- ---- an index, which no statement makes or accesses yet
+-- ---- an index
+-- a tree of this height and a stash of so many slots are made and filled; each block has one row
+abbrev pub index_part : (tree stash slots height width : ℕ) → List Access
+index_part tree stash slots height width =
+    create_part tree (tree_blocks height) width ++ create_part stash slots width
+
 -- the bucket of a leaf's path, so many above the leaf: of a tree of this height, its root is bucket 0, and the children of
 -- bucket b are 2 * b + 1 and 2 * b + 2
 abbrev pub bucket_at : (height leaf above : ℕ) → ℕ

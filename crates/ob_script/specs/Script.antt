@@ -6,6 +6,7 @@ use Rattle.ob_base.specs.declared.config.Public.{Public}
 use Rattle.ob_base.specs.declared.config.Plan.{Plan}
 use Rattle.ob_base.specs.declared.config.Plan.TheVariants.{Small, Large, Continuous, Hash}
 use Rattle.ob_base.specs.declared.schema.Heading.{Heading}
+use Rattle.ob_base.specs.declared.schema.Shape.{Shape}
 use Rattle.ob_base.specs.declared.seen.Seen.{Seen}
 use Rattle.ob_base.specs.declared.seen.End.{End}
 use Rattle.ob_base.specs.declared.seen.End.TheVariants.{Static, Whole, AfterCount, Cut}
@@ -14,6 +15,7 @@ use Rattle.ob_base.specs.declared.skeleton.Source.TheVariants.{Table as OneTable
 use Rattle.ob_base.specs.declared.skeleton.Skeleton.{Skeleton}
 use Rattle.ob_base.specs.declared.skeleton.Skeleton.TheVariants.{Create, Insert, Update, Delete, Drop as DropTable, Rows, Groups}
 use Rattle.ob_base.specs.Accesses.{discard_at}
+use Rattle.ob_base.specs.Indexes.{by_shape, height_of}
 use Rattle.ob_base.specs.Joins.{joined_slots}
 use Rattle.ob_base.specs.Limits.{buffered, buffered_blocks}
 use Rattle.ob_base.specs.Numbers.{blocks_for}
@@ -21,7 +23,7 @@ use Rattle.ob_base.specs.Plans.{choose_padded, padded_rows}
 use Rattle.ob_base.specs.Schemas.{width, columns_of}
 use Rattle.ob_base.specs.Stored.{Stored, stored_at, stored_regions}
 use Rattle.ob_script.specs.declared.extent.Extent.{Extent}
-use Rattle.ob_script.specs.Parts.{count_part, create_part, insert_part, rewrite_part, small_part, large_part, continuous_part, hash_part, emission_part, join_part}
+use Rattle.ob_script.specs.Parts.{access_part, count_part, create_part, index_part, insert_part, rewrite_part, small_part, large_part, continuous_part, hash_part, emission_part, join_part}
 
 abbrev pub extent_of : Stored ℕ → Extent
 extent_of t = record { region = t.held; slots = t.heading.capacity; width = width t.heading.schema }
@@ -36,6 +38,17 @@ rows_width p t = p.pack * t.width
 -- the part that belongs to a table, where there is one of this name
 abbrev pub with_table : List ℕ → Public → (Stored ℕ → List Access) → List Access
 with_table name p f = option_map_or f (stored_at name (stored_regions p.tables)) []
+
+-- ---- an access of an index, whose stash lies in the region behind that of its tree
+-- for the leaf that is held; without one no more than its stash is read
+abbrev pub index_part_of : Public → (leaf : Option ℕ) → Stored ℕ → List Access
+index_part_of p None t = count_part (t.held + 1) p.stash
+index_part_of p (Some leaf) t =
+    access_part t.held (t.held + 1) p.stash (height_of t.heading.capacity) leaf
+
+-- what is asked of a flat table, or of an index
+abbrev pub shape_script : Public → (leaf : Option ℕ) → (Stored ℕ → List Access) → Stored ℕ → List Access
+shape_script p leaf flat t = by_shape t.heading.shape (flat t) (index_part_of p leaf t)
 
 -- ---- SELECT of rows
 -- the blocks of the result of k rows
@@ -77,8 +90,11 @@ abbrev pub select_part : Public → Seen → (g : ℕ) → Extent → (ending : 
 select_part p seen g t ending = count_part t.region (blocks_of p t) ++ behind_count p.pad p seen g t ending
 
 -- a SELECT of a table's rows
+abbrev pub flat_script : Public → Seen → Stored ℕ → List Access
+flat_script p seen t = select_part p seen p.next_region (extent_of t) []
+
 abbrev pub table_script : Public → Seen → Stored ℕ → List Access
-table_script p seen t = select_part p seen p.next_region (extent_of t) []
+table_script p seen = shape_script p seen.leaf (flat_script p seen)
 
 -- the joined region
 abbrev pub joined_extent : Public → (left right : Heading) → Extent
@@ -106,13 +122,24 @@ source_script p seen (Join a b on equals) =
 abbrev pub mutation_script : Public → (ℕ → ℕ → ℕ → ℕ → List Access) → Stored ℕ → List Access
 mutation_script p part t = part t.held p.next_region (blocks_of p (extent_of t)) (rows_width p (extent_of t))
 
+-- a new table, in the next region, and the stash of an index in the one behind it
+abbrev pub created_script : Public → (keys width : ℕ) → Shape → List Access
+created_script p n width shape =
+    by_shape shape (create_part p.next_region (blocks_for p.pack n) (p.pack * width))
+    (index_part p.next_region (p.next_region + 1) p.stash (height_of n) width)
+
+-- the regions of a table are given up
+abbrev pub dropped_script : Stored ℕ → List Access
+dropped_script t =
+    by_shape t.heading.shape (discard_at t.held) (discard_at t.held ++ discard_at (t.held + 1))
+
 -- all accesses of a statement that is not refused before the first
 abbrev pub whole_script : Public → Skeleton → Seen → List Access
-whole_script p (Create table cs n shape) seen = create_part p.next_region (blocks_for p.pack n) (p.pack * width (columns_of table cs))
-whole_script p (Insert table cs) seen = with_table table p (mutation_script p insert_part)
-whole_script p (Update table cs) seen = with_table table p (mutation_script p rewrite_part)
-whole_script p (Delete table) seen = with_table table p (mutation_script p rewrite_part)
-whole_script p (DropTable table) seen = with_table table p (λ t. discard_at t.held)
+whole_script p (Create table cs n shape) seen = created_script p n (width (columns_of table cs)) shape
+whole_script p (Insert table cs) seen = with_table table p (shape_script p seen.leaf (mutation_script p insert_part))
+whole_script p (Update table cs) seen = with_table table p (shape_script p seen.leaf (mutation_script p rewrite_part))
+whole_script p (Delete table) seen = with_table table p (shape_script p seen.leaf (mutation_script p rewrite_part))
+whole_script p (DropTable table) seen = with_table table p dropped_script
 whole_script p (Rows source cs) seen = source_script p seen source
 whole_script p (Groups table cs key) seen = with_table table p (λ t. count_part t.held (blocks_of p (extent_of t)))
 

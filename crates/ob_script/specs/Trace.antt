@@ -9,12 +9,16 @@ use Rattle.ob_base.specs.declared.seen.End.TheVariants.{Static, Whole, AfterCoun
 use Rattle.ob_base.specs.declared.schema.Table.{Table}
 use Rattle.ob_base.specs.declared.skeleton.Skeleton.{Skeleton}
 use Rattle.ob_base.specs.declared.skeleton.Skeleton.TheVariants.{Create, Insert, Update, Delete, Drop as DropTable, Rows, Groups}
+use Rattle.ob_base.specs.Indexes.{by_shape}
 use Rattle.ob_base.specs.Schemas.{columns_of}
 use Rattle.ob_script.specs.Script.{script}
 
--- the table of this name now lies in another region
+-- a flat table lies in another region now, and an index where it was
+abbrev pub moved_to : ℕ → Table → Table
+moved_to region t = by_shape t.heading.shape (record t { region = region }) t
+
 abbrev pub moved : List ℕ → ℕ → List Table → List Table
-moved name region tables = map (λ (t : Table). if bytes_eq t.heading.name name then record t { region = region } else t) tables
+moved name region tables = map (λ (t : Table). if bytes_eq t.heading.name name then moved_to region t else t) tables
 
 -- the tables after a statement that came to its end
 abbrev pub tables_after : Public → Skeleton → List Table

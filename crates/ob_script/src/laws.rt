@@ -7,8 +7,9 @@ ghost use Rattle.ob_base.specs.Accesses.{makes};
 ghost use Rattle.ob_script.specs.Script.{script};
 ghost use Rattle.ob_script.specs.Sizes.{IsPublic, IsWithin};
 ghost use Rattle.std.specs.Int.{div_ceil};
+ghost use Rattle.ob_base.specs.Indexes.{tree_blocks};
 ghost use Rattle.ob_base.specs.Numbers.{blocks_for};
-ghost use Rattle.ob_script.specs.Parts.{count_part, create_part, insert_part, rewrite_part, small_part, large_part, continuous_part, hash_part, emission_part, join_part, access_part};
+ghost use Rattle.ob_script.specs.Parts.{count_part, create_part, insert_part, rewrite_part, small_part, large_part, continuous_part, hash_part, emission_part, join_part, access_part, index_part};
 
 use ob_base::End;
 
@@ -37,6 +38,8 @@ pub fn part_lengths()
         ≡ 1 + (div_ceil lefts buffered * (2 * rights) + lefts) }
     ensures access { (tree stash slots height leaf : ℕ) →
         length (access_part tree stash slots height leaf) ≡ 2 * slots + 8 * (height + 1) }
+    ensures index { (tree stash slots height width : ℕ) →
+        length (index_part tree stash slots height width) ≡ tree_blocks height + slots + 2 }
 {}
 
 /// How many regions each part of a statement asks for: one where it writes to a new region, else none.
@@ -57,6 +60,8 @@ pub fn part_makes()
         makes (join_part a b g lefts rights buffered width) ≡ 1 }
     ensures access { (tree stash slots height leaf : ℕ) →
         makes (access_part tree stash slots height leaf) ≡ 0 }
+    ensures index { (tree stash slots height width : ℕ) →
+        makes (index_part tree stash slots height width) ≡ 2 }
 {}
 
 /// As many buffers of blocks hold the blocks of so many rows, as buffers of rows hold the rows.

@@ -8,7 +8,9 @@ mod place;
 mod script;
 mod section;
 mod sections;
+mod tree;
 
 pub use bucket::{first_bucket, second_bucket};
 pub use laws::{buffers_by_rows, part_lengths, part_makes, scripts_are_short};
 pub use script::{script_len, script_nth};
+pub use tree::tree_blocks;

@@ -1,21 +1,23 @@
 //! The accesses of a statement.
-ghost use Rattle.std.specs.Prelude.{◌≡◌, ◌≢◌, ◌≤◌, ◌<◌, ◌+◌, ◌*◌, ◌^◌, ◌-◌, Option, Some, IfSome, [], length, slice_get, if◌then◌else◌};
+ghost use Rattle.std.specs.Prelude.{◌≡◌, ◌≢◌, ◌≤◌, ◌<◌, ◌+◌, ◌*◌, ◌^◌, ◌-◌, Option, Some, IfSome, [], length, slice_get, if◌then◌else◌, ⊤};
 ghost use Rattle.std.specs.Option.{option_map_or};
 ghost use Rattle.ob_base.specs.Accesses.{discard_at};
+ghost use Rattle.ob_base.specs.Indexes.{height_of};
 ghost use Rattle.ob_base.specs.Numbers.{blocks_for};
 ghost use Rattle.ob_base.specs.Plans.{MayPad};
 ghost use Rattle.ob_base.specs.Joins.{chunks, joined_blocks, joined_slots};
 ghost use Rattle.ob_base.specs.Limits.{buffered_blocks};
 ghost use Rattle.ob_base.specs.Stored.{stored_region};
-ghost use Rattle.ob_script.specs.Parts.{access_part, count_part, create_part, insert_part, rewrite_part, small_part, large_part, emission_part};
+ghost use Rattle.ob_script.specs.Parts.{access_part, count_part, create_part, index_part, insert_part, rewrite_part, small_part, large_part, emission_part};
 ghost use Rattle.ob_script.specs.Sections.{all_accesses, Adds, IsFew, IsLeaf};
-ghost use Rattle.ob_script.specs.Script.{script, whole_script, with_table, mutation_script, blocks_of, extent_of, source_script, join_script, joined_extent, select_part, padded_part, result_part, plan_part, result_blocks};
-ghost use Rattle.ob_script.specs.Sizes.{HasRows, IsPublic, IsCounted, IsWithin, IsSourceCounted, IsTable};
+ghost use Rattle.ob_script.specs.Script.{script, whole_script, with_table, created_script, dropped_script, flat_script, index_part_of, table_script, mutation_script, shape_script, blocks_of, extent_of, source_script, join_script, joined_extent, select_part, padded_part, result_part, plan_part, result_blocks};
+ghost use Rattle.ob_script.specs.Sizes.{HasRows, IfTable, IsHeld, IsPublic, IsCounted, IsWithin, IsSourceCounted, IsTable};
 
 use crate::extent::{Extent, extent_of, new_width, table_at};
 use crate::section::Section;
 use crate::sections::Sections;
-use ob_base::{Access, End, Name, Plan, Public, Seen, Skeleton, Source, Table};
+use crate::tree::tree_blocks;
+use ob_base::{Access, End, Name, Plan, Public, Seen, Shape, Skeleton, Source, Table, tree_height};
 use ob_plan::padded_plan;
 
 // A new region that is filled in order.
@@ -70,7 +72,7 @@ fn push_rewrite(sections: &mut Sections, from: u64, to: u64, blocks: u32, width:
     sections.push(Section::Discard { region: from });
 }
 
-// An access of an index, for the leaf that is read. No statement accesses an index yet, and nothing calls it.
+// An access of an index, for the leaf that is read.
 #[tactic(auto, using(crate::proofs::Joined::all_more))]
 fn push_access(sections: &mut Sections, tree: u64, stash: u64, slots: u32, height: u32, leaf: u32)
     requires room { length sections.old ≤ 12 }
@@ -96,6 +98,41 @@ fn push_access(sections: &mut Sections, tree: u64, stash: u64, slots: u32, heigh
         region: stash,
         blocks: slots,
     });
+}
+
+// An index of so many keys: its tree is made and filled, and then its stash.
+#[tactic(auto, using(crate::proofs::Joined::all_more))]
+fn push_index(sections: &mut Sections, region: u64, slots: u32, keys: u32, width: u32)
+    requires room { sections.old ≡ [] }
+    requires region { region < 2 ^ 64 - 1 }
+    requires keys { keys ≤ 2 ^ 24 }
+    requires width { width ≤ 2 ^ 24 }
+    ensures { all_accesses sections.new
+        ≡ index_part region (region + 1) slots (height_of keys) width }
+{
+    push_create(sections, region, tree_blocks(tree_height(keys)), width);
+    push_create(sections, region + 1, slots, width);
+}
+
+// An access of an index for the leaf that is held; without one no more than its stash is read.
+#[tactic(auto, using(crate::proofs::Joined::all_more))]
+fn push_held(sections: &mut Sections, public: &Public, leaf: Option<u64>, table: &Table)
+    requires room { sections.old ≡ [] }
+    requires public { IsPublic public.now }
+    requires table { IsTable table.now }
+    requires leaf { IfSome leaf (λ l. l < 2 ^ height_of table.now.heading.capacity) }
+    ensures { all_accesses sections.new
+        ≡ index_part_of public.now leaf (stored_region table.now) }
+{
+    let (tree, stash) = (table.region, table.region + 1);
+    let height = tree_height(table.heading.capacity);
+    match leaf {
+        None => sections.push(Section::Reads {
+            region: stash,
+            blocks: public.stash,
+        }),
+        Some(leaf) => push_access(sections, tree, stash, public.stash, height, leaf as u32),
+    }
 }
 
 // A result is read in order and discarded.
@@ -415,6 +452,29 @@ fn push_join(sections: &mut Sections, public: &Public, seen: &Seen, left: &Table
     push_select(sections, public, seen, to + 1, pairs, Some(to));
 }
 
+// A SELECT of a table's rows, of an index for the leaf that is held.
+fn push_rows(sections: &mut Sections, public: &Public, seen: &Seen, table: &Table)
+    requires room { sections.old ≡ [] }
+    requires public { IsPublic public.now }
+    requires table { IsTable table.now }
+    requires held { IsHeld public.now seen.now
+        (IsCounted seen.now (extent_of (stored_region table.now))) (stored_region table.now) }
+    ensures { all_accesses sections.new
+        ≡ table_script public.now seen.now (stored_region table.now) }
+{
+    match table.heading.shape {
+        Shape::Flat => push_select(
+            sections,
+            public,
+            seen,
+            public.next_region,
+            extent_of(table),
+            None,
+        ),
+        Shape::Indexed => push_held(sections, public, seen.leaf, table),
+    }
+}
+
 // A SELECT of rows.
 fn push_source(sections: &mut Sections, public: &Public, seen: &Seen, source: &Source)
     requires room { sections.old ≡ [] }
@@ -426,14 +486,7 @@ fn push_source(sections: &mut Sections, public: &Public, seen: &Seen, source: &S
     match source {
         Source::Table(name) => {
             if let Some(table) = table_at(tables, name) {
-                push_select(
-                    sections,
-                    public,
-                    seen,
-                    public.next_region,
-                    extent_of(table),
-                    None,
-                );
+                push_rows(sections, public, seen, table);
             }
         }
         Source::Join { left, right, .. } => {
@@ -446,22 +499,39 @@ fn push_source(sections: &mut Sections, public: &Public, seen: &Seen, source: &S
     }
 }
 
-// INSERT, UPDATE or DELETE of a table.
-fn push_mutation(sections: &mut Sections, public: &Public, name: &Name, inserts: bool)
+// INSERT, UPDATE or DELETE of a flat table.
+fn push_change(sections: &mut Sections, public: &Public, table: &Table, inserts: bool)
     requires room { sections.old ≡ [] }
     requires public { IsPublic public.now }
+    requires table { IsTable table.now }
+    ensures { all_accesses sections.new
+        ≡ mutation_script public.now (if inserts then insert_part else rewrite_part)
+        (stored_region table.now) }
+{
+    let from = extent_of(table);
+    let to = public.next_region;
+    let blocks = blocks_of(public, from.slots);
+    let width = u32::from(public.pack) * from.width;
+    if inserts {
+        push_insert(sections, from.region, to, blocks, width);
+    } else {
+        push_rewrite(sections, from.region, to, blocks, width);
+    }
+}
+
+// INSERT, UPDATE or DELETE of a table, of an index for the leaf that is held.
+fn push_mutation(sections: &mut Sections, public: &Public, seen: &Seen, name: &Name, inserts: bool)
+    requires room { sections.old ≡ [] }
+    requires public { IsPublic public.now }
+    requires held { IfTable name.now public.now (IsHeld public.now seen.now ⊤) }
     ensures { all_accesses sections.new ≡ with_table name.now public.now
-        (mutation_script public.now (if inserts then insert_part else rewrite_part)) }
+        (shape_script public.now seen.now.leaf
+        (mutation_script public.now (if inserts then insert_part else rewrite_part))) }
 {
     if let Some(table) = table_at(public.tables.as_slice(), name) {
-        let from = extent_of(table);
-        let to = public.next_region;
-        let blocks = blocks_of(public, from.slots);
-        let width = u32::from(public.pack) * from.width;
-        if inserts {
-            push_insert(sections, from.region, to, blocks, width);
-        } else {
-            push_rewrite(sections, from.region, to, blocks, width);
+        match table.heading.shape {
+            Shape::Flat => push_change(sections, public, table, inserts),
+            Shape::Indexed => push_held(sections, public, seen.leaf, table),
         }
     }
 }
@@ -471,12 +541,17 @@ fn push_mutation(sections: &mut Sections, public: &Public, name: &Name, inserts:
 fn push_drop(sections: &mut Sections, public: &Public, name: &Name)
     requires room { sections.old ≡ [] }
     requires public { IsPublic public.now }
-    ensures { all_accesses sections.new ≡ with_table name.now public.now (λ t. discard_at t.held) }
+    ensures { all_accesses sections.new ≡ with_table name.now public.now dropped_script }
 {
     if let Some(table) = table_at(public.tables.as_slice(), name) {
         sections.push(Section::Discard {
             region: table.region,
         });
+        if table.heading.shape == Shape::Indexed {
+            sections.push(Section::Discard {
+                region: table.region + 1,
+            });
+        }
     }
 }
 
@@ -496,6 +571,25 @@ fn push_groups(sections: &mut Sections, public: &Public, name: &Name)
     }
 }
 
+// CREATE.
+#[tactic(auto, using(crate::proofs::Joined::all_more))]
+fn push_created(sections: &mut Sections, public: &Public, keys: u32, width: u32, shape: Shape)
+    requires room { sections.old ≡ [] }
+    requires public { IsPublic public.now }
+    requires keys { keys ≤ 2 ^ 20 }
+    requires width { width ≤ 1024 }
+    ensures { all_accesses sections.new ≡ created_script public.now keys width shape }
+{
+    let region = public.next_region;
+    match shape {
+        Shape::Flat => {
+            let blocks = blocks_of(public, keys);
+            push_create(sections, region, blocks, u32::from(public.pack) * width);
+        }
+        Shape::Indexed => push_index(sections, region, public.stash, keys, width),
+    }
+}
+
 // All that a statement asks which is not refused before.
 fn whole(public: &Public, skeleton: &Skeleton, seen: &Seen) -> Sections
     requires public { IsPublic public.now }
@@ -507,16 +601,15 @@ fn whole(public: &Public, skeleton: &Skeleton, seen: &Seen) -> Sections
         Skeleton::Create {
             columns,
             capacity,
+            shape,
             ..
-        } => push_create(
-            &mut sections,
-            public.next_region,
-            blocks_of(public, *capacity),
-            u32::from(public.pack) * new_width(columns.as_slice()),
-        ),
-        Skeleton::Insert { table, .. } => push_mutation(&mut sections, public, table, true),
-        Skeleton::Update { table, .. } => push_mutation(&mut sections, public, table, false),
-        Skeleton::Delete { table } => push_mutation(&mut sections, public, table, false),
+        } => {
+            let width = new_width(columns.as_slice());
+            push_created(&mut sections, public, *capacity, width, *shape);
+        }
+        Skeleton::Insert { table, .. } => push_mutation(&mut sections, public, seen, table, true),
+        Skeleton::Update { table, .. } => push_mutation(&mut sections, public, seen, table, false),
+        Skeleton::Delete { table } => push_mutation(&mut sections, public, seen, table, false),
         Skeleton::Drop { table } => push_drop(&mut sections, public, table),
         Skeleton::Rows { source, .. } => push_source(&mut sections, public, seen, source),
         Skeleton::Groups { table, .. } => push_groups(&mut sections, public, table),

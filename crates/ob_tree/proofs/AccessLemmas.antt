@@ -6,10 +6,10 @@ use Rattle.std.proofs.lemmas.Bool.{ltb-true, le-ltb, leb-true, leb-false, lt-leb
 use Rattle.std.proofs.lemmas.List.{append-nil, length-set, get_or_past, get_or_default, get_or-set_same, get_or-set_other, set_past}
 use Rattle.std.proofs.lemmas.List.Elements.{filter-append}
 use Rattle.ob_row.specs.Bags.{Same}
-use Rattle.ob_tree.specs.Paths.{path_up, is_on_path}
-use Rattle.ob_tree.specs.Rows.{rows, slots_of, with_key, but_firsts, by_key, list_of, first, Single}
-use Rattle.ob_tree.specs.States.{State, Represents, held, leaf_of, bucket}
-use Rattle.ob_tree.specs.Access.{Op, key_of, applied, answer, take_path, Evicted, fill, evict, leaf_read, leaves_after, fits_by, evicted, Went, access}
+use Rattle.ob_path.specs.Paths.{path_up, is_on_path}
+use Rattle.ob_path.specs.Rows.{rows, slots_of, with_key, but_firsts, by_key, list_of, first, Single}
+use Rattle.ob_path.specs.States.{State, Represents, held, leaf_of, bucket}
+use Rattle.ob_path.specs.Access.{Op, key_of, applied, answer, take_path, Evicted, fill, evict, leaf_read, leaves_after, fits_by, evicted, Went, access}
 use Rattle.ob_tree.specs.Runs.{KeepsKey, map_after, map_answer}
 use Rattle.ob_row.proofs.BagLemmas.{Same-trans, Same-sym, Same-filter}
 use Rattle.ob_tree.proofs.Moves.{Same-is, Same-left, Same-right, Same-to_end, Same-cancel_end, Same-one}

@@ -6,9 +6,9 @@ use Rattle.std.proofs.lemmas.Bool.{ne_eqb, or_from, cases_eq}
 use Rattle.std.proofs.lemmas.List.{append-nil}
 use Rattle.std.proofs.lemmas.List.Elements.{All-head, All-tail, All-take, filter_passes}
 use Rattle.ob_row.specs.Bags.{Same}
-use Rattle.ob_tree.specs.Rows.{rows, slots_of, firsts, but_firsts}
-use Rattle.ob_tree.specs.States.{bucket, with_bucket}
-use Rattle.ob_tree.specs.Access.{Evicted, fill, evict}
+use Rattle.ob_path.specs.Rows.{rows, slots_of, firsts, but_firsts}
+use Rattle.ob_path.specs.States.{bucket, with_bucket}
+use Rattle.ob_path.specs.Access.{Evicted, fill, evict}
 use Rattle.ob_row.proofs.BagLemmas.{Same-trans}
 use Rattle.ob_tree.proofs.Moves.{Same-is, Same-left, Same-right, Same-to_end}
 use Rattle.ob_tree.proofs.RowLemmas.{rows-append, rows-slots_of, length-slots_of, length-firsts, Same-firsts}

@@ -1,7 +1,7 @@
 -- The loop over the slots of a buffer.
 use Rattle.std.proofs.Common.{◌≡◌, ◌≤◌, ◌<◌, ℕ, zero, suc, ◌-◌, ◌+◌, ◌/◌, min, Bool, List, [], ◌∷◌, ◌++◌, Option, None, length, take, drop, get_or, sym, ap, ◌∙◌, arith, length-append, append_assoc}
 use Rattle.std.proofs.lemmas.List.{drop_more, take_more, drop_all, append-nil}
-use Rattle.ob_tree.specs.Rows.{rows, by_key, firsts, but_firsts, Single}
+use Rattle.ob_path.specs.Rows.{rows, by_key, firsts, but_firsts, Single}
 use Rattle.ob_tree.specs.Slotwise.{laid_slots, left_behind}
 use Rattle.ob_tree.proofs.RowLemmas.{Same-by_key, Same-firsts, length-firsts}
 use Rattle.ob_tree.proofs.OrderLemmas.{length-Same}

@@ -4,9 +4,9 @@ use Rattle.std.specs.Prelude.{filter}
 use Rattle.std.specs.List.{All}
 use Rattle.std.proofs.lemmas.Bool.{cases_eq, eq-eqb, ne_eqb}
 use Rattle.std.proofs.lemmas.List.Elements.{All-head, All-tail, All-cons}
-use Rattle.ob_tree.specs.Paths.{path_up, is_on_path}
-use Rattle.ob_tree.specs.Rows.{firsts, but_firsts, first}
-use Rattle.ob_tree.specs.Access.{fits_by}
+use Rattle.ob_path.specs.Paths.{path_up, is_on_path}
+use Rattle.ob_path.specs.Rows.{firsts, but_firsts, first}
+use Rattle.ob_path.specs.Access.{fits_by}
 use Rattle.ob_tree.specs.Slotwise.{slot_tests, laid_slots, left_behind}
 use Rattle.ob_tree.proofs.MeetLemmas.{paths_meet}
 use Rattle.ob_tree.proofs.PathLemmas.{length-upward}

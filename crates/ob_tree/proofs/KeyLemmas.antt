@@ -6,8 +6,8 @@ use Rattle.std.proofs.lemmas.Bool.{eqb-true, ne_eqb, eq-eqb, cases_Bool, cases_e
 use Rattle.std.proofs.lemmas.List.{append-nil}
 use Rattle.std.proofs.lemmas.List.Elements.{filter-append, filter_passes, All-head}
 use Rattle.ob_row.specs.Bags.{Same}
-use Rattle.ob_tree.specs.Rows.{rows, with_key, but, list_of, first}
-use Rattle.ob_tree.specs.Access.{Op, Get, Insert, Change, Remove, key_of, after, applied}
+use Rattle.ob_path.specs.Rows.{rows, with_key, but, list_of, first}
+use Rattle.ob_path.specs.Access.{Op, Get, Insert, Change, Remove, key_of, after, applied}
 use Rattle.ob_tree.specs.Runs.{KeepsKey, map_after}
 use Rattle.ob_row.proofs.BagLemmas.{Same-refl, Same-trans, Same-sym, Same-append, Same-filter}
 use Rattle.ob_tree.proofs.Moves.{Same-is, Same-left, Same-right, Same-swapped, Same-cons, Same-middle, Same-one}

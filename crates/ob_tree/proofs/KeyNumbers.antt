@@ -11,8 +11,8 @@ use Rattle.ob_row.specs.declared.cell.Cell.{Cell}
 use Rattle.ob_row.specs.declared.cell.Cell.TheVariants.{Int, Text}
 use Rattle.ob_row.specs.Rows.{Row, agree_at, cell_at, cell_eq, options_eq, keys_repeat}
 use Rattle.ob_row.proofs.PairLemmas.{cell_eq-refl}
-use Rattle.ob_tree.specs.Rows.{with_key, Single}
-use Rattle.ob_tree.specs.Keys.{cell_number, row_key, InRange}
+use Rattle.ob_path.specs.Rows.{with_key, Single}
+use Rattle.ob_row.specs.Keys.{cell_number, row_key, InRange}
 
 none_either : (a b : Bool) → a ≡ false → b ≡ false → (a || b) ≡ false
 none_either a b e f = ap (λ t. t || b) e ∙ f

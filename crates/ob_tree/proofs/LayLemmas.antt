@@ -7,10 +7,10 @@ use Rattle.std.proofs.lemmas.List.Elements.{All-nil, All-cons, All-head, All-tai
 use Rattle.std.proofs.lemmas.List.Folds.{list_any_at}
 use Rattle.ob_row.specs.Bags.{Same}
 use Rattle.ob_script.specs.Parts.{bucket_at, path_place}
-use Rattle.ob_tree.specs.Paths.{path_up, is_on_path, path_slot}
-use Rattle.ob_tree.specs.Rows.{rows, slots_of, by_key, with_key, list_of, first, Single}
-use Rattle.ob_tree.specs.States.{State, Represents, held, bucket}
-use Rattle.ob_tree.specs.Access.{Op, Evicted, evict, evicted, fits_by, leaf_read, leaves_after, take_path, applied, key_of, access}
+use Rattle.ob_path.specs.Paths.{path_up, is_on_path, path_slot}
+use Rattle.ob_path.specs.Rows.{rows, slots_of, by_key, with_key, list_of, first, Single}
+use Rattle.ob_path.specs.States.{State, Represents, held, bucket}
+use Rattle.ob_path.specs.Access.{Op, Evicted, evict, evicted, fits_by, leaf_read, leaves_after, take_path, applied, key_of, access}
 use Rattle.ob_tree.specs.Runs.{KeepsKey}
 use Rattle.ob_tree.specs.Places.{tests, InPlace}
 use Rattle.ob_tree.specs.Slotwise.{laid, laid_slots, left_behind, slot_tests, open_slots, LaysOut}

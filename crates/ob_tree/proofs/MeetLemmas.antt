@@ -3,7 +3,7 @@ use Rattle.std.proofs.Common.{◌≡◌, ◌≤◌, ◌<◌, ℕ, zero, suc, ◌
 use Rattle.std.specs.List.{list_any}
 use Rattle.std.proofs.Math.Nat.{div-div-eq-div-mul, mul-add-div_right}
 use Rattle.std.proofs.lemmas.Bool.{ne_eqb, eq-eqb, cases_eq}
-use Rattle.ob_tree.specs.Paths.{above, upward, path_up, is_on_path}
+use Rattle.ob_path.specs.Paths.{above, upward, path_up, is_on_path}
 use Rattle.ob_tree.proofs.PathLemmas.{above_no_more, absent_above, power_next, power_some}
 
 or_none : (x y : Bool) → y ≡ false → (x || y) ≡ x

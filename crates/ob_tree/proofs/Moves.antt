@@ -2,7 +2,7 @@
 use Rattle.std.proofs.Common.{◌≡◌, List, [], ◌∷◌, ◌++◌, Option, Some, None, refl, sym, subst, append_assoc}
 use Rattle.std.proofs.lemmas.List.{append-nil}
 use Rattle.ob_row.specs.Bags.{Inserts, here, further, Same}
-use Rattle.ob_tree.specs.Rows.{list_of}
+use Rattle.ob_path.specs.Rows.{list_of}
 use Rattle.ob_row.proofs.BagLemmas.{Same-refl, Same-trans, Same-append, Same-put_in, Same-rests}
 
 pub Inserts-middle : {A : Type 0} (x : A) (xs ys : List A) → Inserts x (xs ++ ys) (xs ++ x ∷ ys)

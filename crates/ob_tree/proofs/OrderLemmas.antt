@@ -5,7 +5,7 @@ use Rattle.std.specs.List.{All}
 use Rattle.std.proofs.lemmas.Bool.{eq-eqb, cases_Bool, leb-true, leb-false}
 use Rattle.std.proofs.lemmas.List.Elements.{All-head, All-tail, All-cons, All-nil}
 use Rattle.ob_row.specs.Bags.{Inserts, here, further, Same}
-use Rattle.ob_tree.specs.Rows.{with_key, put, by_key, firsts, but_firsts, Single}
+use Rattle.ob_path.specs.Rows.{with_key, put, by_key, firsts, but_firsts, Single}
 use Rattle.ob_row.proofs.BagLemmas.{Same-refl, Same-filter, Same-put_in}
 use Rattle.ob_tree.proofs.RowLemmas.{Same-by_key}
 

@@ -2,7 +2,7 @@
 use Rattle.std.proofs.Common.{◌≡◌, ◌≤◌, ◌<◌, ℕ, zero, suc, ◌-◌, ◌+◌, ◌*◌, ◌^◌, false, ◌==◌, List, [], ◌∷◌, length, refl, ap, ◌∙◌, arith}
 use Rattle.std.specs.List.{list_any}
 use Rattle.std.proofs.lemmas.Bool.{ne_eqb, or_from}
-use Rattle.ob_tree.specs.Paths.{above, upward, path_up}
+use Rattle.ob_path.specs.Paths.{above, upward, path_up}
 
 -- no bucket stands twice, and each is within a list of slots
 abbrev pub Apart : ℕ → List ℕ → Type 0

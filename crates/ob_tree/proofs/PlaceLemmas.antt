@@ -5,10 +5,10 @@ use Rattle.std.proofs.lemmas.List.Elements.{All-nil, All-cons, All-head, All-tai
 use Rattle.std.proofs.lemmas.Bool.{eqb-true, eqb-false, ne_eqb, eq-eqb, or_parts, cases_eq, cases_lt, cases_Bool, cond-false}
 use Rattle.std.proofs.lemmas.List.{length-take-le, drop-drop, drop_at, take_at}
 use Rattle.ob_row.specs.Bags.{Inserts, here, further, Same}
-use Rattle.ob_tree.specs.Paths.{path_up}
-use Rattle.ob_tree.specs.Rows.{with_key, list_of, first, slots_of, firsts, but_firsts, Single}
-use Rattle.ob_tree.specs.States.{State, Represents, Stands, map_of, held, bucket, with_bucket}
-use Rattle.ob_tree.specs.Access.{Evicted, fill, evict}
+use Rattle.ob_path.specs.Paths.{path_up}
+use Rattle.ob_path.specs.Rows.{with_key, list_of, first, slots_of, firsts, but_firsts, Single}
+use Rattle.ob_path.specs.States.{State, Represents, Stands, map_of, held, bucket, with_bucket}
+use Rattle.ob_path.specs.Access.{Evicted, fill, evict}
 use Rattle.ob_tree.specs.Slotwise.{laid}
 use Rattle.ob_tree.proofs.PathLemmas.{Apart, length-upward}
 use Rattle.ob_tree.proofs.TreeLemmas.{slot_outside, other_bucket}

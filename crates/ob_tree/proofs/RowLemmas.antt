@@ -4,7 +4,7 @@ use Rattle.std.specs.Prelude.{filter, nat_le}
 use Rattle.std.proofs.lemmas.List.{length-replicate, length-map, length-take, append-nil}
 use Rattle.std.proofs.lemmas.List.Elements.{filter_map-append}
 use Rattle.ob_row.specs.Bags.{Same}
-use Rattle.ob_tree.specs.Rows.{rows, slots_of, put, by_key, firsts, but_firsts}
+use Rattle.ob_path.specs.Rows.{rows, slots_of, put, by_key, firsts, but_firsts}
 use Rattle.ob_row.proofs.BagLemmas.{Same-refl, Same-trans}
 use Rattle.ob_tree.proofs.Moves.{Same-cons, Same-middle}
 

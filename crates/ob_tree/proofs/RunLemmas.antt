@@ -4,10 +4,10 @@ use Rattle.std.specs.List.{flat_map, All, AllPairs}
 use Rattle.std.proofs.lemmas.Bool.{cases_eq, cases_lt, false≢true, eq-eqb, ne_eqb}
 use Rattle.std.proofs.lemmas.List.{length-set, length-replicate, length-map, length-reverse, get_or_past, get_or_default, get_or-set_same, get_or-set_other, map-set, get_or-map}
 use Rattle.std.proofs.lemmas.List.Elements.{All-cons, All-nil}
-use Rattle.ob_tree.specs.Paths.{path, path_up}
-use Rattle.ob_tree.specs.Rows.{rows, with_key}
-use Rattle.ob_tree.specs.States.{State, Represents}
-use Rattle.ob_tree.specs.Access.{Op, key_of, leaf_read, Went, access}
+use Rattle.ob_path.specs.Paths.{path, path_up}
+use Rattle.ob_path.specs.Rows.{rows, with_key}
+use Rattle.ob_path.specs.States.{State, Represents}
+use Rattle.ob_path.specs.Access.{Op, key_of, leaf_read, Went, access}
 use Rattle.ob_tree.specs.Scripts.{numbers, path_places, read_script, access_script, ReadStash, ReadTree, WriteTree, WriteStash}
 use Rattle.ob_tree.specs.Runs.{created, goes, run, map_after, map_answer, map_answers, KeepsKey, AllKeep, RunsAsMap, leaf_at, draws_read, last_given, run_leaves, with_draws, ReadsDraws}
 use Rattle.ob_tree.proofs.RowLemmas.{rows-none}

@@ -3,8 +3,8 @@ use Rattle.std.proofs.Common.{◌≡◌, ◌≤◌, ◌<◌, ℕ, zero, suc, tru
 use Rattle.std.specs.Prelude.{not}
 use Rattle.std.proofs.lemmas.Bool.{eq-eqb, ne_eqb, lt-ltb, le-ltb}
 use Rattle.ob_row.specs.Bags.{Same}
-use Rattle.ob_tree.specs.Rows.{rows, with_key, but, list_of, first, Single}
-use Rattle.ob_tree.specs.Access.{Op, key_of, after, applied, got, answer, OutOfRange}
+use Rattle.ob_path.specs.Rows.{rows, with_key, but, list_of, first, Single}
+use Rattle.ob_path.specs.Access.{Op, key_of, after, applied, got, answer, OutOfRange}
 use Rattle.ob_row.proofs.BagLemmas.{Same-refl, Same-trans, Same-sym, Same-filter}
 use Rattle.ob_tree.proofs.Moves.{Same-is, Same-cons, Same-one, Same-middle, Same-right}
 use Rattle.ob_tree.proofs.OrderLemmas.{length-Same}

@@ -3,8 +3,8 @@ use Rattle.std.proofs.Common.{◌≡◌, ◌≤◌, ℕ, zero, suc, ◌-◌, Boo
 use Rattle.std.specs.Prelude.{filter}
 use Rattle.std.proofs.lemmas.Bool.{cases_Bool}
 use Rattle.std.proofs.lemmas.List.{append-nil}
-use Rattle.ob_tree.specs.Rows.{slots_of, firsts, but_firsts, first}
-use Rattle.ob_tree.specs.Access.{Evicted, fill, evict}
+use Rattle.ob_path.specs.Rows.{slots_of, firsts, but_firsts, first}
+use Rattle.ob_path.specs.Access.{Evicted, fill, evict}
 use Rattle.ob_tree.specs.Slotwise.{laid, slot_tests, laid_slots, left_behind}
 use Rattle.ob_tree.proofs.OrderLemmas.{one_by_one}
 

@@ -6,7 +6,7 @@ use Rattle.std.proofs.lemmas.List.{get_or-drop, drop_more, length-set, length-dr
 use Rattle.std.proofs.lemmas.Bool.{false≢true}
 use Rattle.std.proofs.lemmas.List.Elements.{All-nil, All-cons, All-tail}
 use Rattle.ob_row.specs.Bags.{Same}
-use Rattle.ob_tree.specs.Rows.{rows, first, Single}
+use Rattle.ob_path.specs.Rows.{rows, first, Single}
 use Rattle.ob_row.proofs.BagLemmas.{Same-refl, Same-trans, Same-sym}
 use Rattle.ob_tree.proofs.Moves.{Same-cons, Same-middle, Same-is}
 use Rattle.ob_tree.proofs.OrderLemmas.{All-Same, Single-Same, Single-tail, by_key-Same, least_first, none_first}

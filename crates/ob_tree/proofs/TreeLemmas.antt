@@ -4,8 +4,8 @@ use Rattle.std.specs.List.{list_any, flat_map}
 use Rattle.std.proofs.lemmas.Bool.{eqb-false, or_parts, cases_order}
 use Rattle.std.proofs.lemmas.List.{length-drop, length-take-le, take-append-drop, drop-drop, drop-take, take-take, take-append-le, drop_at, get_or-take, get_or-drop, get_or_append_left, get_or-append_right}
 use Rattle.ob_row.specs.Bags.{Same}
-use Rattle.ob_tree.specs.Rows.{rows}
-use Rattle.ob_tree.specs.States.{bucket, with_bucket}
+use Rattle.ob_path.specs.Rows.{rows}
+use Rattle.ob_path.specs.States.{bucket, with_bucket}
 use Rattle.ob_row.proofs.BagLemmas.{Same-trans}
 use Rattle.ob_tree.proofs.Moves.{Same-is, Same-left, Same-to_end}
 use Rattle.ob_tree.proofs.RowLemmas.{rows-append}

@@ -5,10 +5,10 @@ use Rattle.std.proofs.lemmas.Bool.{cases_lt}
 use Rattle.std.proofs.lemmas.List.{append-nil, ext_get_or, get_or_append_left, get_or-append_right, get_or-reverse, length-take-le, length-drop, length-reverse, get_or-take, get_or-drop}
 use Rattle.ob_row.specs.Bags.{Same}
 use Rattle.ob_script.specs.Parts.{bucket_at, path_place}
-use Rattle.ob_tree.specs.Paths.{above, upward, path, path_up, path_slot}
-use Rattle.ob_tree.specs.Rows.{rows}
-use Rattle.ob_tree.specs.States.{State, bucket}
-use Rattle.ob_tree.specs.Access.{take_path}
+use Rattle.ob_path.specs.Paths.{above, upward, path, path_up, path_slot}
+use Rattle.ob_path.specs.Rows.{rows}
+use Rattle.ob_path.specs.States.{State, bucket}
+use Rattle.ob_path.specs.Access.{take_path}
 use Rattle.ob_tree.specs.Scripts.{numbers, path_places}
 use Rattle.ob_tree.specs.Slotwise.{open_slots}
 use Rattle.ob_row.proofs.BagLemmas.{Same-trans}

@@ -1,8 +1,3 @@
-pub mod Paths
-pub mod Rows
-pub mod Keys
-pub mod States
-pub mod Access
 pub mod Scripts
 pub mod Runs
 pub mod Drawing

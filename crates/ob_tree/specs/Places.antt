@@ -1,6 +1,6 @@
 -- Which rows may lie in which slots of a buffer, where each row has a key and a leaf.
 use Rattle.std.specs.Prelude.{◌≡◌, ◌<◌, ◌≤◌, ℕ, zero, suc, ◌+◌, ◌-◌, ◌/◌, ◌^◌, min, Bool, true, false, ◌==◌, List, [], ◌∷◌, Option, Some, None, length, take, drop, slice_index_or}
-use Rattle.ob_tree.specs.Rows.{rows, by_key, firsts, but_firsts, first, Single}
+use Rattle.ob_path.specs.Rows.{rows, by_key, firsts, but_firsts, first, Single}
 
 -- whether its path and that of a leaf have one bucket at a height above the leaves
 abbrev pub lies_at : {R : Type 0} → (R → ℕ) → ℕ → ℕ → R → Bool

@@ -1,7 +1,7 @@
 -- Lists of accesses, each with its draw.
 use Rattle.std.specs.Prelude.{◌≡◌, ℕ, zero, suc, ◌+◌, ◌-◌, ◌*◌, ◌%◌, ◌^◌, Bool, true, false, ◌==◌, ◌&&◌, List, [], ◌∷◌, ◌++◌, length, take, map, replicate, Option, Some, None, slice_index_or, slice_set, if◌then◌else◌}
-use Rattle.ob_tree.specs.States.{State, Represents}
-use Rattle.ob_tree.specs.Access.{Op, Get, Insert, Change, Remove, Got, Went, key_of, after, answer, access, leaf_read}
+use Rattle.ob_path.specs.States.{State, Represents}
+use Rattle.ob_path.specs.Access.{Op, Get, Insert, Change, Remove, Got, Went, key_of, after, answer, access, leaf_read}
 use Rattle.std.specs.Prelude.{nat_lt}
 
 -- an index with no row, its leaves drawn

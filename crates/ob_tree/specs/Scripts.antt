@@ -1,7 +1,7 @@
 -- The places that an access reads and writes, by its leaf alone.
 use Rattle.std.specs.Prelude.{ℕ, zero, suc, ◌*◌, List, [], ◌∷◌, ◌++◌, map}
 use Rattle.std.specs.List.{flat_map}
-use Rattle.ob_tree.specs.Paths.{path}
+use Rattle.ob_path.specs.Paths.{path}
 
 pub data Touch : Type 0 where
   ReadStash : ℕ → Touch

@@ -2,9 +2,9 @@
 use Rattle.std.specs.Prelude.{◌≡◌, ◌<◌, ◌+◌, ◌*◌, ◌/◌, ℕ, Bool, true, false, List, [], ◌∷◌, ◌++◌, Option, None, length, replicate, slice_index_or}
 use Rattle.std.specs.List.{flat_map}
 use Rattle.ob_script.specs.Parts.{path_place}
-use Rattle.ob_tree.specs.Paths.{path_up, is_on_path, path_slot}
-use Rattle.ob_tree.specs.Rows.{slots_of, firsts, but_firsts, first}
-use Rattle.ob_tree.specs.States.{State, bucket}
+use Rattle.ob_path.specs.Paths.{path_up, is_on_path, path_slot}
+use Rattle.ob_path.specs.Rows.{slots_of, firsts, but_firsts, first}
+use Rattle.ob_path.specs.States.{State, bucket}
 
 -- the slots of a path's buckets from the leaf up, and then t of the stash
 abbrev pub laid : {R : Type 0} → (ℕ → R → Bool) → List ℕ → ℕ → List R → List (Option R)

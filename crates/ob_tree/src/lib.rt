@@ -5,12 +5,12 @@ ghost use Rattle.std.specs.Prelude.{◌≡◌, ◌≢◌, ◌<◌, ◌≤◌, �
 ghost use Rattle.std.specs.List.{All, AllPairs};
 ghost use Rattle.ob_row.specs.Bags.{Same};
 ghost use Rattle.ob_row.specs.Rows.{Row, keys_repeat};
-ghost use Rattle.ob_tree.specs.Paths.{above, path_up, is_on_path};
+ghost use Rattle.ob_path.specs.Paths.{above, path_up, is_on_path};
 ghost use Rattle.ob_tree.specs.Drawing.{Event, numbers_read};
-ghost use Rattle.ob_tree.specs.Keys.{row_key, InRange};
-ghost use Rattle.ob_tree.specs.Rows.{firsts, but_firsts, by_key, slots_of, Single};
-ghost use Rattle.ob_tree.specs.States.{State, Represents, Stands, map_of, held, leaf_of, bucket};
-ghost use Rattle.ob_tree.specs.Access.{Op, Done, Found, Duplicate, OutOfRange, Went, Evicted, key_of, applied, access, evict, evicted, leaf_read, take_path, fits_by};
+ghost use Rattle.ob_row.specs.Keys.{row_key, InRange};
+ghost use Rattle.ob_path.specs.Rows.{firsts, but_firsts, by_key, slots_of, Single};
+ghost use Rattle.ob_path.specs.States.{State, Represents, Stands, map_of, held, leaf_of, bucket};
+ghost use Rattle.ob_path.specs.Access.{Op, Done, Found, Duplicate, OutOfRange, Went, Evicted, key_of, applied, access, evict, evicted, leaf_read, take_path, fits_by};
 ghost use Rattle.ob_tree.specs.Runs.{run, created, map_after, map_answer, KeepsKey, AllKeep, RunsAsMap, ReadsDraws, leaf_at, draws_read, last_given, insert_from, small_ops};
 ghost use Rattle.ob_tree.specs.Slotwise.{laid, slot_tests, laid_slots, left_behind};
 ghost use Rattle.ob_tree.specs.Places.{tests, InPlace};

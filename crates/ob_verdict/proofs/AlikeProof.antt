@@ -1,7 +1,7 @@
 -- A statement doesn't hang on the order of the tables.
 use Rattle.std.proofs.Common.{◌≡◌, ℕ, false, List, [], map, length, Option, Some, None, refl, sym, ◌∙◌, ap, subst}
 use Rattle.std.specs.Prelude.{bytes_eq, count_by, filter, is_some, if◌then◌else◌}
-use Rattle.std.specs.Option.{option_map, option_map_or, option_or}
+use Rattle.std.specs.Option.{is_none, option_and_then, option_map, option_map_or, option_or}
 use Rattle.std.proofs.lemmas.List.{length-map}
 use Rattle.ob_base.specs.declared.config.Public.{Public}
 use Rattle.ob_base.specs.declared.refusal.Refusal.{Refusal}
@@ -27,9 +27,11 @@ use Rattle.ob_mean.specs.declared.answer.Answer.TheVariants as A
 use Rattle.ob_names.specs.Names.{columns_at, left_place, right_place}
 use Rattle.ob_mean.specs.Conditions.{where_at}
 use Rattle.ob_mean.specs.Refusals.{early_refusal, limits_of}
-use Rattle.ob_mean.specs.Settle.{settled}
+use Rattle.ob_mean.specs.Keyed.{keyed_name}
+use Rattle.ob_mean.specs.Settle.{new_held, settle, settle_served, settled}
+use Rattle.ob_path.specs.Access.{Went}
 use Rattle.ob_mean.specs.Step.{accepted_answer, answered, followed, insert_refusal, late_refusal, new_row, overgroups, rows_answer, rows_at, set_cells, source_rows, totals_answer}
-use Rattle.ob_mean.specs.Verdict.{Held, in_slots, Tables, database, ended, is_late, last_refusal, refusal, rows_refusal, seen, seen_rows, seen_started, selected_places, slots_at, source_slots}
+use Rattle.ob_mean.specs.Verdict.{Accessed, Draws, Held, Tables, access_of, access_settled, accessed, accessed_now, database, ended, gone, held_as, in_slots, is_late, keyed_table, last_refusal, refusal, rows_refusal, seen, seen_rows, seen_served, seen_started, selected_places, slots_at, source_slots}
 use Rattle.ob_mean.proofs.EarlyLemmas.{allowed, neither}
 use Rattle.ob_mean.proofs.VerdictLemmas.{headings-database, stored-database}
 use Rattle.ob_verdict.proofs.AlikeHeadings.{SameHeadings, columns_same, early_same, headings_same, source_same}
@@ -37,7 +39,7 @@ use Rattle.ob_verdict.proofs.AlikeTables.{alike_added, alike_changed, alike_drop
 use Rattle.ob_verdict.proofs.AnswerProof.{both_none}
 use Rattle.ob_verdict.specs.Alike.{ActsAlike, AreAlike, OrderIsNothing}
 
-module _ (p : Public) (m : ℕ) (ts us : Tables) (alike : AreAlike ts us) where
+module _ (d : Draws) (p : Public) (m : ℕ) (ts us : Tables) (alike : AreAlike ts us) where
   -- ---- what a name finds
   held_same : (name : List ℕ) → stored_at name (database ts) ≡ stored_at name (database us)
   held_same name =
@@ -96,13 +98,24 @@ module _ (p : Public) (m : ℕ) (ts us : Tables) (alike : AreAlike ts us) where
       let columns = bag_columns q.table in
       λ i. if overgroups s q.group (columns i) (filter (is_true (where_at q.cond (columns i))) (bag_same q.table i)) then Some TooManyGroups else None
 
+  -- ---- what it accesses
+  keyed_same : (stmt : Stmt) → keyed_table ts stmt ≡ keyed_table us stmt
+  keyed_same stmt = of_name (keyed_name stmt)
+    where
+      of_name : (o : Option (List ℕ)) → option_and_then (λ (name : List ℕ). stored_at name ts) o ≡ option_and_then (λ (name : List ℕ). stored_at name us) o
+      of_name None = refl
+      of_name (Some name) = alike.found name
+
+  accessed_same : (stmt : Stmt) → accessed ts stmt ≡ accessed us stmt
+  accessed_same stmt = ap (option_and_then (access_of stmt)) (keyed_same stmt)
+
   last_same : (stmt : Stmt) → last_refusal p ts stmt ≡ last_refusal p us stmt
   last_same (Create table columns capacity shape) = refl
   last_same (Insert table columns values) = refl
   last_same (Update table sets cond) = refl
   last_same (Delete table cond) = refl
   last_same (DropTable table) = refl
-  last_same (RowsStmt q) = ap (rows_refusal p) (places_same q)
+  last_same (RowsStmt q) = λ i. if is_some (accessed_same (RowsStmt q) i) then None else rows_refusal p (places_same q i)
   last_same (TotalsStmt q) = refl
 
   refusal_same : (stmt : Stmt) → refusal p m ts stmt ≡ refusal p m us stmt
@@ -137,10 +150,22 @@ module _ (p : Public) (m : ℕ) (ts us : Tables) (alike : AreAlike ts us) where
   started_same (RowsStmt q) = λ i. seen_rows p (length (source_slots_same q.source i)) (places_same q i)
   started_same (TotalsStmt q) = refl
 
-  seen_same : (stmt : Stmt) → seen p m ts stmt ≡ seen p m us stmt
+  served_same : (stmt : Stmt) → seen_served d (accessed ts stmt) p ts stmt ≡ seen_served d (accessed us stmt) p us stmt
+  served_same stmt = ap (λ (o : Option Accessed). seen_served d o p ts stmt) (accessed_same stmt) ∙ of_access (accessed us stmt)
+    where
+      of_access : (o : Option Accessed) → seen_served d o p ts stmt ≡ seen_served d o p us stmt
+      of_access None = started_same stmt
+      of_access (Some a) = refl
+
+  seen_same : (stmt : Stmt) → seen d p m ts stmt ≡ seen d p m us stmt
   seen_same stmt =
       let early = early_same (headings ts) (headings us) heads (is_late m) (limits_of p) stmt in
-      λ i. if is_some (early i) then ended Static else started_same stmt i
+      λ i. if is_some (early i) then ended Static else served_same stmt i
+
+  now_same : (stmt : Stmt) → accessed_now p m ts stmt ≡ accessed_now p m us stmt
+  now_same stmt =
+      let early = early_same (headings ts) (headings us) heads (is_late m) (limits_of p) stmt in
+      λ i. if is_some (early i) then None else accessed_same stmt i
 
   -- ---- the tables afterwards
   table_columns : (name : List ℕ) → columns_at name (headings ts) ≡ columns_at name (headings us)
@@ -158,9 +183,10 @@ module _ (p : Public) (m : ℕ) (ts us : Tables) (alike : AreAlike ts us) where
   changed_by : (name : List ℕ) (f g : Held → Held) → f ≡ g → AreAlike (changed_at name f ts) (changed_at name g us)
   changed_by name f g same = subst (λ (h : Held → Held). AreAlike (changed_at name f ts) (changed_at name h us)) same (alike_changed name f ts us alike)
 
-  settled_alike : (stmt : Stmt) → refusal p m ts stmt ≡ None → AreAlike (settled ts stmt) (settled us stmt)
+  settled_alike : (stmt : Stmt) → refusal p m ts stmt ≡ None → AreAlike (settled d p ts stmt) (settled d p us stmt)
   settled_alike (Create table columns capacity shape) none =
-      alike_added (record { heading = record { name = table; schema = columns_of table columns; capacity = capacity; shape = shape }; held = record { slots = empty_slots capacity; leaves = [] } }) ts us alike
+      let h : Heading = record { name = table; schema = columns_of table columns; capacity = capacity; shape = shape } in
+      alike_added (record { heading = h; held = new_held d p.stash h }) ts us alike
       (new_in ts table columns capacity shape none) (new_in us table columns capacity shape (sym (refusal_same (Create table columns capacity shape)) ∙ none))
   settled_alike (Insert table columns values) none =
       changed_by table _ _ (ap (λ (cs : Columns). in_slots (fill_first (new_row cs columns values))) (table_columns table))
@@ -179,13 +205,25 @@ module _ (p : Public) (m : ℕ) (ts us : Tables) (alike : AreAlike ts us) where
       go None done = done refl
       go (Some r) done = alike
 
-  pub acts_alike : (stmt : Stmt) → ActsAlike p m ts us stmt
+  settle_alike : (stmt : Stmt) → AreAlike (settle d p m ts stmt) (settle d p m us stmt)
+  settle_alike stmt = subst (λ (o : Option Accessed). AreAlike (settle d p m ts stmt) (settle_served d o p m us stmt)) (now_same stmt) (of_access (accessed_now p m ts stmt))
+    where
+      of_went : (a : Accessed) (o : Option (Went Row)) → AreAlike (option_map_or (access_settled ts a.table) o ts) (option_map_or (access_settled us a.table) o us)
+      of_went a None = alike
+      of_went a (Some w) = alike_changed a.table.heading.name (λ _. held_as w.state) ts us alike
+
+      of_access : (o : Option Accessed) → AreAlike (settle_served d o p m ts stmt) (settle_served d o p m us stmt)
+      of_access None = followed_alike (refusal p m ts stmt) (refusal p m us stmt) (settled d p ts stmt) (settled d p us stmt) (refusal_same stmt) (settled_alike stmt)
+      of_access (Some a) = of_went a (gone d a)
+
+  pub acts_alike : (stmt : Stmt) → ActsAlike d p m ts us stmt
   acts_alike stmt = record {
     refused = refusal_same stmt;
     answer = λ i. answered (refusal_same stmt i) (accepted_same stmt i);
     shows = seen_same stmt;
-    after = followed_alike (refusal p m ts stmt) (refusal p m us stmt) (settled ts stmt) (settled us stmt) (refusal_same stmt) (settled_alike stmt);
+    full = ap (λ (o : Option Accessed). option_map_or (λ a. is_none (gone d a)) o false) (now_same stmt);
+    after = settle_alike stmt;
   }
 
 pub order_is_nothing : OrderIsNothing
-order_is_nothing p m ts us stmt alike = acts_alike p m ts us alike stmt
+order_is_nothing d p m ts us stmt alike = acts_alike d p m ts us alike stmt

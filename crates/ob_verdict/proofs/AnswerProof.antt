@@ -1,7 +1,7 @@
 -- What a SELECT of rows prints from its result is its answer.
-use Rattle.std.proofs.Common.{◌≡◌, ℕ, ◌<◌, Bool, true, false, List, [], ◌∷◌, map, length, refl, sym, ap, subst, cond, inl, inr, ◌⊎◌, ◌*◌, ◌≤◌, arith}
+use Rattle.std.proofs.Common.{◌≡◌, ℕ, ◌<◌, Bool, true, false, List, [], ◌∷◌, map, length, refl, sym, ◌∙◌, ap, subst, cond, inl, inr, ◌⊎◌, ◌*◌, ◌≤◌, arith}
 use Rattle.std.proofs.lemmas.Bool.Decides.{Decides-eqb}
-use Rattle.std.specs.Prelude.{Option, Some, None, filter, not, bytes_eq, ◌==◌, is_some, nat_le}
+use Rattle.std.specs.Prelude.{Option, Some, None, filter, not, bytes_eq, ◌==◌, is_some, nat_le, if◌then◌else◌}
 use Rattle.std.specs.Option.{option_map_or, option_map, option_or}
 use Rattle.ob_base.specs.declared.config.Public.{Public}
 use Rattle.ob_base.specs.declared.config.Plan.{Plan}
@@ -33,8 +33,9 @@ use Rattle.ob_mean.proofs.EarlyLemmas.{allowed}
 use Rattle.ob_mean.proofs.VerdictLemmas.{headings-database}
 use Rattle.ob_mean.specs.Step.{rows_at, source_rows, join_places, select_columns, select_condition, printed_places}
 use Rattle.ob_row.specs.Totals.{printed}
-use Rattle.ob_mean.specs.Verdict.{Held, Tables, database, slots_at, source_slots, plan_for, bucket_size, first_unplaced, fallback, forced_refusal, unpadded_refusal, refusal_by, last_refusal, is_late}
-use Rattle.ob_verdict.specs.Laws.{last_plan, result_plan, result_of, printed_rows, AreInPlace, PrintsAnswer}
+use Rattle.ob_mean.specs.Verdict.{Accessed, Held, Tables, rows_refusal, selected_places, database, slots_at, source_slots, plan_for, bucket_size, first_unplaced, fallback, forced_refusal, unpadded_refusal, refusal_by, last_refusal, is_late}
+use Rattle.ob_verdict.specs.Laws.{last_plan, result_plan}
+use Rattle.ob_verdict.specs.Laws.{result_of, printed_rows, AreInPlace, PrintsAnswer}
 
 -- the plan finds a place for each of these
 abbrev PlanFits : Plan → ℕ → List ℕ → Type 0
@@ -107,19 +108,19 @@ rows-slots_at name (t ∷ ts) =
     elim (bytes_eq t.heading.name name) as (λ b. option_map_or (λ (x : Stored (List Row)). x.held) (cond b (Some (record { heading = t.heading; held = rows t.held.slots })) (stored_at name (database ts))) [] ≡ rows (option_map_or (λ (x : Stored Held). x.held.slots) (cond b (Some t) (stored_at name ts)) []))
     [ true ↦ refl | false ↦ rows-slots_at name ts ]
 
-keys-distinct : (name : List ℕ) (ts : Tables) → AreInPlace ts → keys_repeat (key_place (columns_at name (headings ts))) (rows (slots_at name ts)) ≡ false
-keys-distinct name [] h = refl
-keys-distinct name (t ∷ ts) h =
+keys-distinct : (stash : ℕ) (name : List ℕ) (ts : Tables) → AreInPlace stash ts → keys_repeat (key_place (columns_at name (headings ts))) (rows (slots_at name ts)) ≡ false
+keys-distinct stash name [] h = refl
+keys-distinct stash name (t ∷ ts) h =
     elim (bytes_eq t.heading.name name) as (λ b. keys_repeat (key_place (option_map_or (λ (g : Heading). g.schema) (cond b (Some t.heading) (heading_at name (headings ts))) [])) (rows (option_map_or (λ (x : Stored Held). x.held.slots) (cond b (Some t) (stored_at name ts)) [])) ≡ false)
-    [ true ↦ h.0.keys | false ↦ keys-distinct name ts h.1 ]
+    [ true ↦ h.0.keys | false ↦ keys-distinct stash name ts h.1 ]
 
 key_is : (o : Option ℕ) (i : ℕ) → option_map_or (λ j. i == j) o false ≡ true → o ≡ Some i
 key_is None i h = cc
 key_is (Some j) i h = ap Some (sym ((Decides-eqb i j).0 h))
 
-distinct_at : (name : List ℕ) (ts : Tables) (i : ℕ) → AreInPlace ts → is_key (columns_at name (headings ts)) i ≡ true → AreDistinct i (rows (slots_at name ts))
-distinct_at name ts i h k =
-    subst (λ o. keys_repeat o (rows (slots_at name ts)) ≡ false) (key_is (key_place (columns_at name (headings ts))) i k) (keys-distinct name ts h)
+distinct_at : (stash : ℕ) (name : List ℕ) (ts : Tables) (i : ℕ) → AreInPlace stash ts → is_key (columns_at name (headings ts)) i ≡ true → AreDistinct i (rows (slots_at name ts))
+distinct_at stash name ts i h k =
+    subst (λ o. keys_repeat o (rows (slots_at name ts)) ≡ false) (key_is (key_place (columns_at name (headings ts))) i k) (keys-distinct stash name ts h)
 
 on_key : (b : Bool) (limits : Limits) (hs : List Heading) (q : SelectRows) → early_refusal b limits hs (RowsStmt q) ≡ None → joins_off_key_at hs q.source ≡ false
 on_key b limits hs q h = (allowed b limits hs (RowsStmt q) h).joins
@@ -128,12 +129,12 @@ not_false : (b : Bool) → not b ≡ false → b ≡ true
 not_false true h = refl
 not_false false h = cc
 
-source-same : (p : Public) (ts : Tables) (source : Source) → 1 ≤ p.pack → 1 ≤ buffered_blocks p.pack p.buffer → AreInPlace ts → joins_off_key_at (headings ts) source ≡ false →
+source-same : (p : Public) (ts : Tables) (source : Source) → 1 ≤ p.pack → 1 ≤ buffered_blocks p.pack p.buffer → AreInPlace p.stash ts → joins_off_key_at (headings ts) source ≡ false →
     Same (source_rows source (database ts)) (rows (source_slots p source ts))
 source-same p ts (OneTable name) one h k j = subst (λ w. Same (rows_at name (database ts)) w) (rows-slots_at name ts) (Same-refl _)
 source-same p ts (Join a b on equals) one h k j =
     let places = join_places (Join a b on equals) (headings ts) in
-    let distinct : AreDistinct places.0 (rows (slots_at a ts)) = distinct_at a ts places.0 k (not_false _ j) in
+    let distinct : AreDistinct places.0 (rows (slots_at a ts)) = distinct_at p.stash a ts places.0 k (not_false _ j) in
     let e = headings-database ts in
     subst (λ w. Same w (rows (source_slots p (Join a b on equals) ts)))
     (λ t. pairs (join_places (Join a b on equals) (sym e t)).0 (join_places (Join a b on equals) (sym e t)).1 (sym (rows-slots_at a ts) t) (sym (rows-slots_at b ts) t))
@@ -161,8 +162,10 @@ result_fits None p n places h some r = last_fits p n places (plan_for p n places
 result_fits (Some pad) p n places h some r = padded_fits p.plan (buffered p.pack p.buffer) (padded_rows pad n) (bucket_size p) places h.2
 
 pub prints_answer : PrintsAnswer
-prints_answer p m ts q one s padded k r h =
+prints_answer p m ts q one s padded k unkeyed r h =
     let both = both_none _ (last_refusal p ts (RowsStmt q)) r in
+    let planned : rows_refusal p (selected_places p q ts) ≡ None =
+    sym (ap (λ (o : Option Accessed). if is_some o then None else rows_refusal p (selected_places p q ts)) unkeyed) ∙ both.1 in
     let early = (both_none (early_refusal (is_late m) (limits_of p) (headings (database ts)) (RowsStmt q)) _ both.0).0 in
     let key = on_key (is_late m) (limits_of p) (headings ts) q (subst (λ hs. early_refusal (is_late m) (limits_of p) hs (RowsStmt q) ≡ None) (headings-database ts) early) in
     let slots = source_slots p q.source ts in
@@ -170,6 +173,6 @@ prints_answer p m ts q one s padded k r h =
     let places = selected test slots in
     let same : Same (filter test (source_rows q.source (database ts))) (rows (result_of p ts q)) =
     Same-trans _ _ _ (Same-filter test _ _ (source-same p ts q.source one s k key))
-    (result-same (result_plan p.pad p (length slots) places) (bucket_size p) test slots h (result_fits p.pad p (length slots) places padded h both.1)) in
+    (result-same (result_plan p.pad p (length slots) places) (bucket_size p) test slots h (result_fits p.pad p (length slots) places padded h planned)) in
     subst (λ hs. Same (map (printed (printed_places q (select_columns q hs))) (filter (is_true (select_condition q hs)) (source_rows q.source (database ts)))) (printed_rows p ts q)) (sym (headings-database ts))
     (Same-map (printed (printed_places q (select_columns q (headings ts)))) _ _ same)

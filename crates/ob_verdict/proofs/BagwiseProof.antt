@@ -1,7 +1,7 @@
 -- A session over tables in place answers what the session over the same bags does.
-use Rattle.std.proofs.Common.{◌≡◌, ◌⊎◌, inl, inr, ◌≤◌, ◌<◌, ◌^◌, ◌+◌, ℕ, Bool, true, false, List, [], ◌∷◌, length, refl, sym, ◌∙◌, subst, cond, arith}
+use Rattle.std.proofs.Common.{◌≡◌, ◌⊎◌, inl, inr, ◌≤◌, ◌<◌, ◌^◌, ◌+◌, ℕ, Bool, true, false, List, [], ◌∷◌, length, refl, sym, ◌∙◌, ap, subst, cond, arith}
 use Rattle.std.proofs.lemmas.Bool.Decides.{nat_tests}
-use Rattle.std.specs.Prelude.{Option, Some, None, Ok, Err, IsSome, nat_lt}
+use Rattle.std.specs.Prelude.{Option, Some, None, Ok, Err, IsSome, is_some, nat_lt, if◌then◌else◌}
 use Rattle.std.specs.Option.{option_map, option_or}
 use Rattle.ob_base.specs.declared.config.Plan.{Plan}
 use Rattle.ob_base.specs.declared.config.Plan.TheVariants.{Small, Large, Continuous, Hash}
@@ -16,16 +16,17 @@ use Rattle.ob_sql.specs.declared.stmt.Stmt.TheVariants.{Create, Insert, Update, 
 use Rattle.ob_sql.specs.Skeleton.{skeleton}
 use Rattle.ob_mean.specs.declared.answer.Answer.{Answer}
 use Rattle.ob_mean.specs.declared.answer.Answer.TheVariants.{Refused}
-use Rattle.ob_mean.specs.Replay.{Broken, Session, Spelt, after, after_all, answer_or_cut, answers, head_of, rest_of, seen_or_cut, settle_or_cut}
+use Rattle.ob_mean.specs.Replay.{Broken, Session, Spelt, after, after_all, answer_or_cut, answers, head_of, is_full_now, rest_of, seen_or_cut, settle_or_cut}
 use Rattle.ob_mean.specs.SameMeaning.{SameAnswer, SameTables}
 use Rattle.ob_mean.specs.Settle.{settle}
 use Rattle.ob_mean.specs.Step.{Database, accepted_answer, accepted_next, answered, followed, refusal_of, step_answer, step_next}
-use Rattle.ob_mean.specs.Verdict.{Tables, database, first_unplaced, forced_refusal, is_late, last_refusal, refusal_by, selected_places, verdict}
+use Rattle.ob_mean.specs.Verdict.{Accessed, Draws, Tables, accessed, database, first_unplaced, forced_refusal, is_full, is_late, last_refusal, refusal_by, rows_refusal, selected_places, verdict}
+use Rattle.ob_mean.proofs.ReplayLemmas.{after_room, answers_room}
 use Rattle.ob_mean.proofs.SameProof.{meaning_is_of_bags}
 use Rattle.ob_mean.specs.Refusals.{limits_of}
 use Rattle.ob_verdict.proofs.InPlaceProof.{keeps_in_place}
 use Rattle.ob_verdict.proofs.SettleProof.{settles}
-use Rattle.ob_verdict.specs.Bagwise.{AnswersMeant, IsByPlan, IsForced, SessionsAreBagwise, bag_answer, bag_answers, bag_next, bags_after}
+use Rattle.ob_verdict.specs.Bagwise.{AnswersMeant, NoneIsFull, IsByPlan, IsForced, SessionsAreBagwise, bag_answer, bag_answers, bag_next, bags_after}
 use Rattle.ob_verdict.specs.Laws.{AreInPlace}
 
 SameTables-trans : (a b c : Database) → SameTables a b → SameTables b c → SameTables a c
@@ -66,7 +67,11 @@ last_by_plan p ts (Insert table columns values) r h = absurd (cc h)
 last_by_plan p ts (Update table sets search) r h = absurd (cc h)
 last_by_plan p ts (Delete table search) r h = absurd (cc h)
 last_by_plan p ts (DropTable table) r h = absurd (cc h)
-last_by_plan p ts (RowsStmt q) r h = by_plan p p.pad (selected_places p q ts) r refl h
+last_by_plan p ts (RowsStmt q) r h = go (accessed ts (RowsStmt q)) h
+  where
+    go : (o : Option Accessed) → (if is_some o then None else rows_refusal p (selected_places p q ts)) ≡ Some r → IsByPlan p (Refused r)
+    go None h = by_plan p p.pad (selected_places p q ts) r refl h
+    go (Some a) h = absurd (cc h)
 last_by_plan p ts (TotalsStmt q) r h = absurd (cc h)
 
 -- ---- one statement
@@ -86,32 +91,33 @@ verdict_meant p m ts db stmt few same =
     (answered_last p (refusal_of false (limits_of p) (database ts) stmt) (last_refusal p ts stmt) (accepted_answer (database ts) stmt) (step_answer p db stmt) (last_by_plan p ts stmt)
     (meaning_is_of_bags p (database ts) db stmt same).answer)
 
-settle_meant : (p : Public) (m : ℕ) (ts : Tables) (db : Database) (stmt : Stmt) → m < 2 ^ 63 → AreInPlace ts → SameTables (database ts) db
-    → SameTables (database (settle p m ts stmt)) (step_next p db stmt)
-settle_meant p m ts db stmt few place same =
-    SameTables-trans _ (step_next p (database ts) stmt) _ (settles p m ts stmt few place) (meaning_is_of_bags p (database ts) db stmt same).next
+settle_meant : (d : Draws) (p : Public) (m : ℕ) (ts : Tables) (db : Database) (stmt : Stmt) → m < 2 ^ 63 → AreInPlace p.stash ts → is_full d p m ts stmt ≡ false → SameTables (database ts) db
+    → SameTables (database (settle d p m ts stmt)) (step_next p db stmt)
+settle_meant d p m ts db stmt few place room same =
+    SameTables-trans _ (step_next p (database ts) stmt) _ (settles d p m ts stmt few place room) (meaning_is_of_bags p (database ts) db stmt same).next
 
-module _ (s : Session) (db : Database) (stmt : Stmt) (few : s.asked < 2 ^ 63) (place : AreInPlace s.tables) (same : SameTables (database s.tables) db) where
+module _ (s : Session) (db : Database) (stmt : Stmt) (few : s.asked < 2 ^ 63) (place : AreInPlace s.public.stash s.tables) (room : is_full_now s stmt ≡ false) (same : SameTables (database s.tables) db) where
   answer_meant : (broken : Option ℕ) → SameAnswer (answer_or_cut broken s stmt) (bag_answer broken s.public db stmt) ⊎ IsByPlan s.public (answer_or_cut broken s stmt)
   answer_meant None = verdict_meant s.public s.asked s.tables db stmt few same
   answer_meant (Some n) = inl refl
 
   next_meant : (broken : Option ℕ) → SameTables (database (settle_or_cut broken s stmt)) (bag_next broken s.public db stmt)
-  next_meant None = settle_meant s.public s.asked s.tables db stmt few place same
+  next_meant None = settle_meant s.draws s.public s.asked s.tables db stmt few place room same
   next_meant (Some n) = same
 
-  next_in_place : (broken : Option ℕ) → AreInPlace (settle_or_cut broken s stmt)
-  next_in_place None = keeps_in_place s.public s.asked s.tables stmt place
+  next_in_place : (broken : Option ℕ) → AreInPlace s.public.stash (settle_or_cut broken s stmt)
+  next_in_place None = keeps_in_place s.draws s.public s.asked s.tables stmt place
   next_in_place (Some n) = place
 
 -- ---- all of them
-asked_more : (s : Session) (texts : List Spelt) (bs : Broken) → s.asked ≤ (after_all s texts bs).asked
-asked_more s [] bs = omega arith
-asked_more s (Ok stmt ∷ texts) bs =
-    let rest = asked_more (after (head_of bs) s stmt) texts (rest_of bs) in
+asked_more : (s : Session) (texts : List Spelt) (bs : Broken) → NoneIsFull s texts bs → s.asked ≤ (after_all s texts bs).asked
+asked_more s [] bs rooms = omega arith
+asked_more s (Ok stmt ∷ texts) bs rooms =
+    let rest = asked_more (after (head_of bs) s stmt) texts (rest_of bs) rooms.1 in
     let here : (after (head_of bs) s stmt).asked ≡ s.asked + length (script s.public (skeleton stmt) (seen_or_cut (head_of bs) s stmt)) = refl in
-    omega (arith, rest, here)
-asked_more s (Err at ∷ texts) bs = asked_more s texts (rest_of bs)
+    let behind = ap (λ (t : Session). t.asked) (after_room s stmt texts bs rooms.0) in
+    omega (arith, rest, here, behind)
+asked_more s (Err at ∷ texts) bs rooms = asked_more s texts (rest_of bs) rooms
 
 -- of two lots of settings that are the same but for tables and regions, as behind each statement
 record IsLike (p q : Public) : Type 0 where
@@ -135,22 +141,27 @@ module _ (p q : Public) (like : IsLike p q) (db : Database) where
   meant_like broken stmt x (inl same) = inl (subst (SameAnswer x) (answer_like broken stmt) same)
   meant_like broken stmt x (inr forced) = inr (by_plan_like x forced)
 
-bagwise : (p : Public) (s : Session) (db : Database) (texts : List Spelt) (bs : Broken) → IsLike s.public p → AreInPlace s.tables → SameTables (database s.tables) db
-    → (after_all s texts bs).asked < 2 ^ 63
+bagwise : (p : Public) (s : Session) (db : Database) (texts : List Spelt) (bs : Broken) → IsLike s.public p → AreInPlace s.public.stash s.tables → SameTables (database s.tables) db
+    → NoneIsFull s texts bs → (after_all s texts bs).asked < 2 ^ 63
     → AnswersMeant p (answers s texts bs) (bag_answers p db texts bs) × SameTables (database (after_all s texts bs).tables) (bags_after p db texts bs)
-bagwise p s db [] bs like place same few = (refl, same)
-bagwise p s db (Ok stmt ∷ texts) bs like place same few =
+bagwise p s db [] bs like place same rooms few = (refl, same)
+bagwise p s db (Ok stmt ∷ texts) bs like place same rooms few =
     let broken = head_of bs in
-    let here : s.asked < 2 ^ 63 = omega (arith, few, asked_more s (Ok stmt ∷ texts) bs) in
-    let next = subst (SameTables (database (settle_or_cut broken s stmt))) (next_like s.public p like db broken stmt) (next_meant s db stmt here place same broken) in
+    let behind = after_room s stmt texts bs rooms.0 in
+    let few_behind : (after_all (after broken s stmt) texts (rest_of bs)).asked < 2 ^ 63 = subst (λ (t : Session). t.asked < 2 ^ 63) behind few in
+    let here : s.asked < 2 ^ 63 = omega (arith, few, asked_more s (Ok stmt ∷ texts) bs rooms) in
+    let next = subst (SameTables (database (settle_or_cut broken s stmt))) (next_like s.public p like db broken stmt) (next_meant s db stmt here place rooms.0 same broken) in
     let rest = bagwise p (after broken s stmt) (bag_next broken p db stmt) texts (rest_of bs)
-    (record { limits = like.limits; plan = like.plan; pad = like.pad }) (next_in_place s db stmt here place same broken) next few in
-    ((meant_like s.public p like db broken stmt (answer_or_cut broken s stmt) (answer_meant s db stmt here place same broken), rest.0), rest.1)
-bagwise p s db (Err at ∷ texts) bs like place same few =
-    let rest = bagwise p s db texts (rest_of bs) like place same few in
+    (record { limits = like.limits; plan = like.plan; pad = like.pad }) (next_in_place s db stmt here place rooms.0 same broken) next rooms.1 few_behind in (
+      subst (λ (xs : List Answer). AnswersMeant p xs (bag_answers p db (Ok stmt ∷ texts) bs)) (sym (answers_room s stmt texts bs rooms.0))
+          (meant_like s.public p like db broken stmt (answer_or_cut broken s stmt) (answer_meant s db stmt here place rooms.0 same broken), rest.0),
+      subst (λ (t : Session). SameTables (database t.tables) (bags_after p db (Ok stmt ∷ texts) bs)) (sym behind) rest.1,
+    )
+bagwise p s db (Err at ∷ texts) bs like place same rooms few =
+    let rest = bagwise p s db texts (rest_of bs) like place same rooms few in
     ((inl refl, rest.0), rest.1)
 
 pub sessions_are_bagwise : SessionsAreBagwise
-sessions_are_bagwise s db texts bs place same few =
-    let both = bagwise s.public s db texts bs (record { limits = refl; plan = refl; pad = refl }) place same few in
+sessions_are_bagwise s db texts bs place same rooms few =
+    let both = bagwise s.public s db texts bs (record { limits = refl; plan = refl; pad = refl }) place same rooms few in
     record { answers = both.0; after = both.1 }

@@ -1,5 +1,5 @@
 -- A statement leaves the tables in place: as many slots, distinct keys, and columns that name their table.
-use Rattle.std.proofs.Common.{◌≡◌, ◌≢◌, ℕ, suc, zero, ◌+◌, ◌<◌, Bool, true, false, List, [], ◌∷◌, ◌++◌, map, length, refl, sym, ◌∙◌, ap, subst, cond, arith}
+use Rattle.std.proofs.Common.{◌≡◌, ◌≢◌, ℕ, suc, zero, ◌+◌, ◌<◌, Bool, true, false, List, [], ◌∷◌, ◌++◌, map, length, inl, inr, refl, sym, ◌∙◌, ap, subst, cond, arith}
 use Rattle.std.specs.Prelude.{Option, Some, None, filter, not, bytes_eq, slice_get, slice_set, ◌||◌, ◌==◌, if◌then◌else◌}
 use Rattle.std.proofs.lemmas.Bool.Decides.{nat_tests}
 use Rattle.std.specs.List.{list_any}
@@ -25,20 +25,26 @@ use Rattle.ob_row.specs.Rows.{Row, agree_at, cell_at, options_eq, has_key, keys_
 use Rattle.ob_row.specs.Slots.{Slots, rows, emptied, fill_first, empty_slots}
 use Rattle.ob_row.specs.Truth.{is_true, updated}
 use Rattle.ob_row.proofs.PairLemmas.{cell_eq-refl, options_eq-both}
-use Rattle.ob_sql.specs.declared.stmt.Set.{Set}
+use Rattle.ob_sql.specs.declared.stmt.Set.{Set as SetStmt}
 use Rattle.ob_sql.specs.declared.stmt.Stmt.{Stmt}
 use Rattle.ob_sql.specs.declared.stmt.Stmt.TheVariants.{Create, Insert, Update, Delete, Drop as DropTable, SelectRows as RowsStmt, SelectTotals as TotalsStmt}
 use Rattle.ob_names.specs.Names.{columns_at, place_of, unqualified}
 use Rattle.ob_mean.specs.Conditions.{where_at}
 use Rattle.ob_mean.specs.Refusals.{early_refusal, sets_key, limits_of}
-use Rattle.ob_mean.specs.Step.{insert_refusal, late_refusal, new_row, set_cells, followed}
-use Rattle.ob_mean.specs.Verdict.{Held, in_slots, Tables, database, is_late, last_refusal, refusal}
-use Rattle.ob_mean.specs.Settle.{settled}
-use Rattle.ob_mean.proofs.EarlyLemmas.{allowed, neither, within}
-use Rattle.ob_mean.proofs.VerdictLemmas.{flat_refusal, headings-database, heading-stored, stored-database}
-use Rattle.ob_verdict.specs.Laws.{IsInPlace, AreInPlace, KeepsInPlace}
+use Rattle.ob_mean.specs.Step.{Database, insert_refusal, late_refusal, new_row, set_cells, followed}
+use Rattle.ob_mean.specs.Verdict.{Accessed, Draws, Held, IsIndexed, Tables, access_settled, accessed, accessed_now, database, gone, held_as, in_slots, is_late, last_refusal, next_draw, refusal}
+use Rattle.ob_mean.specs.Settle.{new_held, settle_served, settled}
+use Rattle.ob_mean.proofs.EarlyLemmas.{Allowed, allowed, neither, within}
+use Rattle.ob_mean.proofs.VerdictLemmas.{IsAccess, access_is, accessed_late, flat_refusal, headings-database, put_flat, started, stored-database}
+use Rattle.ob_verdict.specs.Laws.{AreInPlace, HoldsByShape, IsInPlace, KeepsInPlace}
 use Rattle.ob_verdict.proofs.SlotLemmas.{length-rows, rows-map, rows-emptied, rows-empty_slots, rows-fill_first}
+use Rattle.ob_verdict.proofs.AccessedProof.{cells-kept, flat_slots, flat_where, leaves_tables, schema_is}
 use Rattle.ob_verdict.proofs.AnswerProof.{both_none}
+use Rattle.ob_verdict.specs.Settling.{AccessSettles}
+use Rattle.ob_verdict.proofs.AccessProof.{next_of}
+use Rattle.ob_mean.specs.Keyed.{Set, Take}
+use Rattle.ob_path.specs.Access.{Went}
+use Rattle.ob_base.specs.Indexes.{slots_in_place}
 
 -- ---- equal keys
 right_there : (x y : Option Cell) → options_eq x y ≡ true → options_eq y y ≡ true
@@ -105,49 +111,11 @@ repeats-map : (eq : Row → Row → Bool) (f : Row → Row) → ((a b : Row) →
 repeats-map eq f same [] = refl
 repeats-map eq f same (x ∷ xs) = λ t. any-map eq f same x xs t || repeats-map eq f same xs t
 
--- the cell at a key's place stays
-set_apart : {A : Type 0} (xs : List A) (i j : ℕ) (v : A) → i ≢ j → slice_get (slice_set xs i v) j ≡ slice_get xs j
-set_apart [] i j v off = refl
-set_apart (x ∷ xs) zero zero v off = absurd (off refl)
-set_apart (x ∷ xs) zero (suc j) v off = refl
-set_apart (x ∷ xs) (suc i) zero v off = refl
-set_apart (x ∷ xs) (suc i) (suc j) v off = set_apart xs i j v (λ e. off (ap suc e))
-
--- the test of the column at a place
-abbrev key_at : Columns → ℕ → Bool
-key_at cs i = option_map_or (λ (c : Column). c.key) (slice_get cs i) false
-
-abbrev KeyFrom : ℕ → ℕ → Columns → Type 0
-KeyFrom n j cs = (k : ℕ) × (j ≡ n + k) × (key_at cs k ≡ true)
-
-key_there : (n j : ℕ) (cs : Columns) → first (places_from n (λ (c : Column). c.key) cs) ≡ Some j → KeyFrom n j cs
-key_there n j [] h = absurd (cc)
-key_there n j (c ∷ cs) h = go c.key refl (key_there (suc n) j cs) h where
-  go : (b : Bool) → c.key ≡ b → (first (places_from (suc n) (λ (c : Column). c.key) cs) ≡ Some j → KeyFrom (suc n) j cs)
-      → first (cond b (n ∷ places_from (suc n) (λ (c : Column). c.key) cs) (places_from (suc n) (λ (c : Column). c.key) cs)) ≡ Some j → KeyFrom n j (c ∷ cs)
-  go true e rest is = let same : n ≡ j = cc in (0, omega arith, e)
-  go false e rest is = let r = rest is in (suc r.0, (let same = r.1 in omega arith), r.2)
-
-off_key : (cs : Columns) (i j : ℕ) → key_place cs ≡ Some j → key_at cs i ≡ false → i ≢ j
-off_key cs i j key other e =
-    let there = key_there 0 j cs key in
-    let same : there.0 ≡ i = let is = there.1 in omega arith in
-    let yes : key_at cs i ≡ true = subst (λ k. key_at cs k ≡ true) same there.2 in
-    absurd (cc (yes, other))
-
-cells-kept : (cs : Columns) (j : ℕ) → key_place cs ≡ Some j → (sets : List Set) → sets_key cs sets ≡ false → (row : Row) → cell_at (with_cells (set_cells sets cs) row) j ≡ cell_at row j
-cells-kept cs j key [] none row = refl
-cells-kept cs j key (s ∷ sets) none row =
-    let i = place_of (unqualified s.column) cs in
-    let both = neither (key_at cs i) (sets_key cs sets) none in
-    let off = off_key cs i j key both.0 in
-    cells-kept cs j key sets both.1 _ ∙ set_apart row i j _ off
-
-updated-kept : (p : Condition) (cs : Columns) (j : ℕ) → key_place cs ≡ Some j → (sets : List Set) → sets_key cs sets ≡ false → (row : Row) → cell_at (updated p (set_cells sets cs) row) j ≡ cell_at row j
+updated-kept : (p : Condition) (cs : Columns) (j : ℕ) → key_place cs ≡ Some j → (sets : List SetStmt) → sets_key cs sets ≡ false → (row : Row) → cell_at (updated p (set_cells sets cs) row) j ≡ cell_at row j
 updated-kept p cs j key sets none row =
     elim (is_true p row) as (λ b. cell_at (cond b (with_cells (set_cells sets cs) row) row) j ≡ cell_at row j) [ true ↦ cells-kept cs j key sets none row | false ↦ refl ]
 
-keys-updated : (p : Condition) (cs : Columns) (sets : List Set) → sets_key cs sets ≡ false → (xs : List Row) → keys_repeat (key_place cs) xs ≡ false
+keys-updated : (p : Condition) (cs : Columns) (sets : List SetStmt) → sets_key cs sets ≡ false → (xs : List Row) → keys_repeat (key_place cs) xs ≡ false
     → keys_repeat (key_place cs) (map (updated p (set_cells sets cs)) xs) ≡ false
 keys-updated p cs sets none xs h = go (key_place cs) refl h where
   go : (o : Option ℕ) → key_place cs ≡ o → keys_repeat o xs ≡ false → keys_repeat o (map (updated p (set_cells sets cs)) xs) ≡ false
@@ -166,51 +134,53 @@ no_keys : (o : Option ℕ) → keys_repeat o [] ≡ false
 no_keys None = refl
 no_keys (Some i) = refl
 
-module _ (name : List ℕ) (f : Held → Held) where
+module _ (stash : ℕ) (name : List ℕ) (f : Held → Held) where
   abbrev changed : Stored Held → Stored Held
   changed t = record { heading = t.heading; held = f t.held }
 
   -- where the table of this name stays in place, all of them do
-  changed_stays : (ts : Tables) → ((t : Stored Held) → stored_at name ts ≡ Some t → IsInPlace t → IsInPlace (changed t)) → AreInPlace ts → AreInPlace (changed_at name f ts)
+  changed_stays : (ts : Tables) → ((t : Stored Held) → stored_at name ts ≡ Some t → IsInPlace stash t → IsInPlace stash (changed t)) → AreInPlace stash ts → AreInPlace stash (changed_at name f ts)
   changed_stays [] one all = tt
   changed_stays (t ∷ ts) one all = go (bytes_eq t.heading.name name) (λ one. changed_stays ts one all.1) one where
-    go : (b : Bool) → (((u : Stored Held) → stored_at name ts ≡ Some u → IsInPlace u → IsInPlace (changed u)) → AreInPlace (changed_at name f ts))
-        → ((u : Stored Held) → cond b (Some t) (stored_at name ts) ≡ Some u → IsInPlace u → IsInPlace (changed u)) → AreInPlace (cond b (changed t ∷ ts) (t ∷ changed_at name f ts))
+    go : (b : Bool) → (((u : Stored Held) → stored_at name ts ≡ Some u → IsInPlace stash u → IsInPlace stash (changed u)) → AreInPlace stash (changed_at name f ts))
+        → ((u : Stored Held) → cond b (Some t) (stored_at name ts) ≡ Some u → IsInPlace stash u → IsInPlace stash (changed u)) → AreInPlace stash (cond b (changed t ∷ ts) (t ∷ changed_at name f ts))
     go true rest one = (one t refl all.0, all.1)
     go false rest one = (all.0, rest one)
 
-dropped_stays : (name : List ℕ) (ts : Tables) → AreInPlace ts → AreInPlace (dropped_at name ts)
-dropped_stays name [] all = tt
-dropped_stays name (t ∷ ts) all = elim (bytes_eq t.heading.name name) as (λ b. AreInPlace (cond b ts (t ∷ dropped_at name ts))) [ true ↦ all.1 | false ↦ (all.0, dropped_stays name ts all.1) ]
+dropped_stays : (stash : ℕ) (name : List ℕ) (ts : Tables) → AreInPlace stash ts → AreInPlace stash (dropped_at name ts)
+dropped_stays stash name [] all = tt
+dropped_stays stash name (t ∷ ts) all = elim (bytes_eq t.heading.name name) as (λ b. AreInPlace stash (cond b ts (t ∷ dropped_at name ts))) [ true ↦ all.1 | false ↦ (all.0, dropped_stays stash name ts all.1) ]
 
-added_stays : (t : Stored Held) (ts : Tables) → IsInPlace t → AreInPlace ts → AreInPlace (ts ++ t ∷ [])
-added_stays t [] one all = (one, tt)
-added_stays t (u ∷ ts) one all = (all.0, added_stays t ts one all.1)
+added_stays : (stash : ℕ) (t : Stored Held) (ts : Tables) → IsInPlace stash t → AreInPlace stash ts → AreInPlace stash (ts ++ t ∷ [])
+added_stays stash t [] one all = (one, tt)
+added_stays stash t (u ∷ ts) one all = (all.0, added_stays stash t ts one all.1)
 
-created : (table : List ℕ) (columns : List NewColumn) (capacity : ℕ) (shape : Shape) → shape ≡ Flat → IsInPlace (record { heading = record { name = table; schema = columns_of table columns; capacity = capacity; shape = shape }; held = record { slots = empty_slots capacity; leaves = [] } })
-created table columns capacity shape flat = record {
-  slots = length-replicate {A = Option Row} capacity None;
-  keys = ap (keys_repeat (key_place (columns_of table columns))) (rows-empty_slots capacity) ∙ no_keys (key_place (columns_of table columns));
+created : (d : Draws) (stash : ℕ) (table : List ℕ) (columns : List NewColumn) (capacity : ℕ) (shape : Shape) → shape ≡ Flat
+    → (let h : Heading = record { name = table; schema = columns_of table columns; capacity = capacity; shape = shape } in IsInPlace stash (record { heading = h; held = new_held d stash h }))
+created d stash table columns capacity shape flat = record {
+  slots = length-replicate {A = Option Row} (slots_in_place stash (record { name = table; schema = columns_of table columns; capacity = capacity; shape = shape })) None;
+  keys = ap (keys_repeat (key_place (columns_of table columns))) (rows-empty_slots (slots_in_place stash (record { name = table; schema = columns_of table columns; capacity = capacity; shape = shape }))) ∙ no_keys (key_place (columns_of table columns));
   named = All-map (λ (c : Column). c.table ≡ table) (new_column table) columns (λ k d h. refl);
-  flat = flat;
+  shaped = subst (λ (s : Shape). let h : Heading = record { name = table; schema = columns_of table columns; capacity = capacity; shape = s } in HoldsByShape s (record { heading = h; held = new_held d stash h })) (sym flat) refl;
 }
-
--- the columns of the table of a name
-schema_is : (name : List ℕ) (ts : Tables) (t : Stored Held) → stored_at name ts ≡ Some t → columns_at name (headings ts) ≡ t.heading.schema
-schema_is name ts t is =
-    ap (λ (o : Option Heading). option_map_or (λ (h : Heading). h.schema) o []) (heading-stored name ts) ∙ ap (λ (o : Option (Stored Held)). option_map_or (λ (h : Heading). h.schema) (option_map (λ t. t.heading) o) []) is
 
 not_refused : (a b : Bool) → cond a (Some Duplicate) (cond b (Some FullTable) None) ≡ None → a ≡ false
 not_refused true b h = absurd (cc)
 not_refused false b h = refl
 
-inserted : (t : Stored Held) (row : Row) → has_key (key_place t.heading.schema) row (rows t.held.slots) ≡ false → length (rows t.held.slots) < length t.held.slots → IsInPlace t
-    → IsInPlace (record { heading = t.heading; held = in_slots (fill_first row) t.held })
-inserted t row new space one = record {
+-- a flat table's leaves are none, whatever becomes of its slots
+flat_holds : (t : Stored Held) (held : Held) → t.heading.shape ≡ Flat → held.leaves ≡ t.held.leaves → HoldsByShape t.heading.shape t → HoldsByShape t.heading.shape (record { heading = t.heading; held = held })
+flat_holds t held flat same shaped =
+    let none : t.held.leaves ≡ [] = subst (λ (s : Shape). HoldsByShape s t) flat shaped in
+    subst (λ (s : Shape). HoldsByShape s (record { heading = t.heading; held = held })) (sym flat) (same ∙ none)
+
+inserted : (stash : ℕ) (t : Stored Held) (row : Row) → has_key (key_place t.heading.schema) row (rows t.held.slots) ≡ false → length (rows t.held.slots) < length t.held.slots → t.heading.shape ≡ Flat → IsInPlace stash t
+    → IsInPlace stash (record { heading = t.heading; held = in_slots (fill_first row) t.held })
+inserted stash t row new space flat one = record {
   slots = length-fill_first row t.held.slots ∙ one.slots;
   keys = keys-put_in (key_place t.heading.schema) row (rows t.held.slots) (rows (fill_first row t.held.slots)) (rows-fill_first row t.held.slots space) new one.keys;
   named = one.named;
-  flat = one.flat;
+  shaped = flat_holds t (in_slots (fill_first row) t.held) flat refl one.shaped;
 }
 
 not_full : (a b : Bool) → cond a (Some Duplicate) (cond b (Some FullTable) None) ≡ None → b ≡ false
@@ -218,8 +188,16 @@ not_full true b h = absurd (cc)
 not_full false true h = absurd (cc)
 not_full false false h = refl
 
-has_space : (t : Stored Held) → IsInPlace t → (length (rows t.held.slots) == t.heading.capacity) ≡ false → length (rows t.held.slots) < length t.held.slots
-has_space t one h = let b = length-rows t.held.slots in let c = one.slots in grind (arith, nat_tests)
+has_space : (stash : ℕ) (t : Stored Held) → t.heading.shape ≡ Flat → IsInPlace stash t → (length (rows t.held.slots) == t.heading.capacity) ≡ false → length (rows t.held.slots) < length t.held.slots
+has_space stash t flat one h = let b = length-rows t.held.slots in let c = one.slots ∙ flat_slots stash t.heading flat in grind (arith, nat_tests)
+
+-- the table of a name
+pub place_at : (stash : ℕ) (name : List ℕ) (ts : Tables) (t : Stored Held) → stored_at name ts ≡ Some t → AreInPlace stash ts → IsInPlace stash t
+place_at stash name [] t is all = absurd (cc is)
+place_at stash name (u ∷ ts) t is all = go (bytes_eq u.heading.name name) is (λ is. place_at stash name ts t is all.1) where
+  go : (b : Bool) → cond b (Some u) (stored_at name ts) ≡ Some t → (stored_at name ts ≡ Some t → IsInPlace stash t) → IsInPlace stash t
+  go true is rest = let same : u ≡ t = cc is in subst (IsInPlace stash) same all.0
+  go false is rest = rest is
 
 module _ (p : Public) (m : ℕ) (ts : Tables) (stmt : Stmt) (none : refusal p m ts stmt ≡ None) where
   not_refused_late : late_refusal (buffered p.pack p.buffer) (database ts) stmt ≡ None
@@ -229,32 +207,37 @@ module _ (p : Public) (m : ℕ) (ts : Tables) (stmt : Stmt) (none : refusal p m 
   not_refused_early =
       subst (λ (hs : List Heading). early_refusal (is_late m) (limits_of p) hs stmt ≡ None) (headings-database ts) (both_none _ _ (both_none _ (last_refusal p ts stmt) none).0).0
 
-settled_stays : (p : Public) (m : ℕ) (ts : Tables) (stmt : Stmt) → refusal p m ts stmt ≡ None → AreInPlace ts → AreInPlace (settled ts stmt)
-settled_stays p m ts (Create table columns capacity shape) none all = added_stays _ ts (created table columns capacity shape flat) all where
+settled_stays : (d : Draws) (p : Public) (m : ℕ) (ts : Tables) (stmt : Stmt) → refusal p m ts stmt ≡ None → accessed ts stmt ≡ None → AreInPlace p.stash ts → AreInPlace p.stash (settled d p ts stmt)
+settled_stays d p m ts (Create table columns capacity shape) none unkeyed all = added_stays p.stash _ ts (created d p.stash table columns capacity shape flat) all where
   flat : shape ≡ Flat
   flat = (within (limits_of p) (headings ts) table columns capacity shape (allowed (is_late m) (limits_of p) (headings ts) (Create table columns capacity shape) (not_refused_early p m ts (Create table columns capacity shape) none)).limits).flat
-settled_stays p m ts (Insert table columns values) none all = changed_stays table (in_slots (fill_first (new_row (columns_at table (headings ts)) columns values))) ts one all where
-  one : (t : Stored Held) → stored_at table ts ≡ Some t → IsInPlace t → IsInPlace (record { heading = t.heading; held = in_slots (fill_first (new_row (columns_at table (headings ts)) columns values)) t.held })
+settled_stays d p m ts (Insert table columns values) none unkeyed all = changed_stays p.stash table (in_slots (fill_first (new_row (columns_at table (headings ts)) columns values))) ts one all where
+  one : (t : Stored Held) → stored_at table ts ≡ Some t → IsInPlace p.stash t → IsInPlace p.stash (record { heading = t.heading; held = in_slots (fill_first (new_row (columns_at table (headings ts)) columns values)) t.held })
   one t is place =
+      let flat = put_flat ts table columns values t unkeyed is in
       let held : Stored (List Row) = record { heading = t.heading; held = rows t.held.slots } in
       let row = new_row t.heading.schema columns values in
       let found : stored_at table (database ts) ≡ Some held =
       stored-database table ts ∙ ap (option_map (λ (u : Stored Held). record { heading = u.heading; held = rows u.held.slots })) is in
       let free : (if has_key (key_place t.heading.schema) row (rows t.held.slots) then Some Duplicate else (if length (rows t.held.slots) == t.heading.capacity then Some FullTable else None)) ≡ None =
-      sym (flat_refusal held row place.flat)
+      sym (flat_refusal held row flat)
       ∙ sym (ap (λ (o : Option (Stored (List Row))). option_map_or (λ (u : Stored (List Row)). insert_refusal u (new_row u.heading.schema columns values)) o None) found)
       ∙ not_refused_late p m ts (Insert table columns values) none in
       let new = not_refused (has_key (key_place t.heading.schema) row (rows t.held.slots)) (length (rows t.held.slots) == t.heading.capacity) free in
-      let space = has_space t place (not_full (has_key (key_place t.heading.schema) row (rows t.held.slots)) (length (rows t.held.slots) == t.heading.capacity) free) in
-      subst (λ (cs : Columns). IsInPlace (record { heading = t.heading; held = in_slots (fill_first (new_row cs columns values)) t.held })) (sym (schema_is table ts t is)) (inserted t row new space place)
-settled_stays p m ts (Update table sets cond) none all = changed_stays table (in_slots (map (option_map (updated (where_at cond (columns_at table (headings ts))) (set_cells sets (columns_at table (headings ts))))))) ts one all where
-  rule : sets_key (columns_at table (headings ts)) sets ≡ false
-  rule = (allowed (is_late m) (limits_of p) (headings ts) (Update table sets cond) (not_refused_early p m ts (Update table sets cond) none)).keys
+      let space = has_space p.stash t flat place (not_full (has_key (key_place t.heading.schema) row (rows t.held.slots)) (length (rows t.held.slots) == t.heading.capacity) free) in
+      subst (λ (cs : Columns). IsInPlace p.stash (record { heading = t.heading; held = in_slots (fill_first (new_row cs columns values)) t.held })) (sym (schema_is table ts t is)) (inserted p.stash t row new space flat place)
+settled_stays d p m ts (Update table sets cond) none unkeyed all = changed_stays p.stash table (in_slots (map (option_map (updated (where_at cond (columns_at table (headings ts))) (set_cells sets (columns_at table (headings ts))))))) ts one all where
+  free : Allowed (is_late m) (limits_of p) (headings ts) (Update table sets cond)
+  free = allowed (is_late m) (limits_of p) (headings ts) (Update table sets cond) (not_refused_early p m ts (Update table sets cond) none)
 
-  one : (t : Stored Held) → stored_at table ts ≡ Some t → IsInPlace t
-      → IsInPlace (record { heading = t.heading; held = in_slots (map (option_map (updated (where_at cond (columns_at table (headings ts))) (set_cells sets (columns_at table (headings ts)))))) t.held })
+  rule : sets_key (columns_at table (headings ts)) sets ≡ false
+  rule = free.keys
+
+  one : (t : Stored Held) → stored_at table ts ≡ Some t → IsInPlace p.stash t
+      → IsInPlace p.stash (record { heading = t.heading; held = in_slots (map (option_map (updated (where_at cond (columns_at table (headings ts))) (set_cells sets (columns_at table (headings ts)))))) t.held })
   one t is place =
       let cs = columns_at table (headings ts) in
+      let flat = flat_where ts table t is (Update table sets cond) cond (λ z. Set z (set_cells sets t.heading.schema)) refl refl unkeyed free.keyed in
       let same = schema_is table ts t is in
       let f = updated (where_at cond cs) (set_cells sets cs) in
       let before : keys_repeat (key_place cs) (rows t.held.slots) ≡ false = subst (λ (cs : Columns). keys_repeat (key_place cs) (rows t.held.slots) ≡ false) (sym same) place.keys in
@@ -264,24 +247,65 @@ settled_stays p m ts (Update table sets cond) none all = changed_stays table (in
         slots = length-map t.held.slots (option_map f) ∙ place.slots;
         keys = subst (λ (s : Columns). keys_repeat (key_place s) (rows (map (option_map f) t.held.slots)) ≡ false) same after;
         named = place.named;
-        flat = place.flat;
+        shaped = flat_holds t (in_slots (map (option_map f)) t.held) flat refl place.shaped;
       }
-settled_stays p m ts (Delete table cond) none all = changed_stays table (in_slots (map (emptied (is_true (where_at cond (columns_at table (headings ts))))))) ts one all where
-  one : (t : Stored Held) → stored_at table ts ≡ Some t → IsInPlace t → IsInPlace (record { heading = t.heading; held = in_slots (map (emptied (is_true (where_at cond (columns_at table (headings ts)))))) t.held })
+settled_stays d p m ts (Delete table cond) none unkeyed all = changed_stays p.stash table (in_slots (map (emptied (is_true (where_at cond (columns_at table (headings ts))))))) ts one all where
+  one : (t : Stored Held) → stored_at table ts ≡ Some t → IsInPlace p.stash t → IsInPlace p.stash (record { heading = t.heading; held = in_slots (map (emptied (is_true (where_at cond (columns_at table (headings ts)))))) t.held })
   one t is place =
       let test = is_true (where_at cond (columns_at table (headings ts))) in
+      let free = allowed (is_late m) (limits_of p) (headings ts) (Delete table cond) (not_refused_early p m ts (Delete table cond) none) in
+      let flat = flat_where ts table t is (Delete table cond) cond Take refl refl unkeyed free.keyed in
       record {
         slots = length-map t.held.slots (emptied test) ∙ place.slots;
         keys = ap (keys_repeat (key_place t.heading.schema)) (rows-emptied test t.held.slots) ∙ keys-filter (key_place t.heading.schema) (λ r. not (test r)) (rows t.held.slots) place.keys;
         named = place.named;
-        flat = place.flat;
+        shaped = flat_holds t (in_slots (map (emptied test)) t.held) flat refl place.shaped;
       }
-settled_stays p m ts (DropTable table) none all = dropped_stays table ts all
-settled_stays p m ts (RowsStmt q) none all = all
-settled_stays p m ts (TotalsStmt q) none all = all
+settled_stays d p m ts (DropTable table) none unkeyed all = dropped_stays p.stash table ts all
+settled_stays d p m ts (RowsStmt q) none unkeyed all = all
+settled_stays d p m ts (TotalsStmt q) none unkeyed all = all
 
-pub keeps_in_place : (p : Public) (m : ℕ) (ts : Tables) (stmt : Stmt) → KeepsInPlace p m ts stmt
-keeps_in_place p m ts stmt all = go (refusal p m ts stmt) refl where
-  go : (r : Option Refusal) → refusal p m ts stmt ≡ r → AreInPlace (followed r (settled ts stmt) ts)
-  go None none = settled_stays p m ts stmt none all
-  go (Some r) is = all
+-- an access leaves its index in place
+accessed_stays : (d : Draws) (p : Public) (m : ℕ) (ts : Tables) (stmt : Stmt) (a : Accessed) (w : Went Row) → early_refusal (is_late m) (limits_of p) (headings ts) stmt ≡ None → accessed ts stmt ≡ Some a
+    → gone d a ≡ Some w → AreInPlace p.stash ts → AreInPlace p.stash (access_settled ts a.table w)
+accessed_stays d p m ts stmt a w early is goes all = changed_stays p.stash a.table.heading.name (λ _. held_as w.state) ts one all where
+  access : IsAccess ts stmt a
+  access = access_is ts stmt a is
+
+  here : stored_at a.table.heading.name ts ≡ Some a.table
+  here = (next_of ts stmt a.table a.ask access.found access.asked).0
+
+  place : IsInPlace p.stash a.table
+  place = place_at p.stash a.table.heading.name ts a.table here all
+
+  indexed : IsIndexed a.table
+  indexed = subst (λ (s : Shape). HoldsByShape s a.table) access.indexed place.shaped
+
+  kept : {db : Database} → AccessSettles ts a.table w db → IsInPlace p.stash (record { heading = a.table.heading; held = held_as w.state })
+  kept settles = record {
+    slots = settles.slots ∙ place.slots;
+    keys = settles.keys;
+    named = place.named;
+    shaped = subst (λ (s : Shape). HoldsByShape s (record { heading = a.table.heading; held = held_as w.state })) (sym access.indexed) settles.indexed;
+  }
+
+  in_place : IsInPlace p.stash (record { heading = a.table.heading; held = held_as w.state })
+  in_place = elim (leaves_tables 0 (next_draw d) (is_late m) (limits_of p) ts a.table w indexed access.indexed stmt a.ask early access.found access.asked goes)
+      [ inl both ↦ kept both.1 | inr both ↦ kept both.1 ]
+
+  one : (t : Stored Held) → stored_at a.table.heading.name ts ≡ Some t → IsInPlace p.stash t → IsInPlace p.stash (record { heading = t.heading; held = held_as w.state })
+  one t found old = let same : a.table ≡ t = cc (here, found) in subst (λ (u : Stored Held). IsInPlace p.stash (record { heading = u.heading; held = held_as w.state })) same in_place
+
+pub keeps_in_place : (d : Draws) (p : Public) (m : ℕ) (ts : Tables) (stmt : Stmt) → KeepsInPlace d p m ts stmt
+keeps_in_place d p m ts stmt all = by_access (accessed_now p m ts stmt) refl where
+  by_went : (a : Accessed) (o : Option (Went Row)) → accessed_now p m ts stmt ≡ Some a → gone d a ≡ o → AreInPlace p.stash (option_map_or (access_settled ts a.table) o ts)
+  by_went a None is goes = all
+  by_went a (Some w) is goes = let both = started p m ts stmt a is in accessed_stays d p m ts stmt a w both.0 both.1 goes all
+
+  by_refusal : (r : Option Refusal) → refusal p m ts stmt ≡ r → accessed_now p m ts stmt ≡ None → AreInPlace p.stash (followed r (settled d p ts stmt) ts)
+  by_refusal None none unkeyed = settled_stays d p m ts stmt none (sym (accessed_late p m ts stmt (not_refused_early p m ts stmt none)) ∙ unkeyed) all
+  by_refusal (Some r) is unkeyed = all
+
+  by_access : (o : Option Accessed) → accessed_now p m ts stmt ≡ o → AreInPlace p.stash (settle_served d o p m ts stmt)
+  by_access None unkeyed = by_refusal (refusal p m ts stmt) refl unkeyed
+  by_access (Some a) is = by_went a (gone d a) is refl

@@ -3,6 +3,10 @@ pub mod ResultLemmas
 pub mod JoinLemmas
 pub mod TurnLemmas
 pub mod HashLemmas
+pub mod AskProof
+pub mod AccessProof
+pub mod GotProof
+pub mod AccessedProof
 pub mod SettleProof
 pub mod SeenProof
 pub mod LawfulProof
@@ -10,6 +14,7 @@ pub mod AnswerProof
 pub mod InPlaceProof
 pub mod MovingProof
 pub mod AcceptedProof
+pub mod NamesFlatProof
 pub mod Sessions
 pub mod TableSessions
 pub mod LongSessions

@@ -5,12 +5,15 @@ use Rattle.std.specs.List.{list_any}
 use Rattle.std.specs.Option.{option_map}
 use Rattle.std.proofs.lemmas.Slice.Eq.{bytes_eq-Decides}
 use Rattle.ob_base.specs.declared.schema.Heading.{Heading}
+use Rattle.ob_base.specs.declared.schema.Shape.{Shape}
+use Rattle.ob_base.specs.declared.schema.Shape.TheVariants.{Flat, Indexed}
 use Rattle.ob_base.specs.declared.schema.Table.{Table}
+use Rattle.ob_base.specs.Indexes.{by_shape}
 use Rattle.ob_base.specs.Lists.{has_repeats}
 use Rattle.ob_base.specs.Schemas.{columns_of}
 use Rattle.ob_base.specs.Stored.{Stored, AreApart, has_table, headings_of, stored_region}
 use Rattle.ob_mean.proofs.EarlyLemmas.{neither}
-use Rattle.ob_script.specs.Trace.{moved}
+use Rattle.ob_script.specs.Trace.{moved, moved_to}
 use Rattle.ob_verdict.proofs.InPlaceProof.{none_either}
 use Rattle.ob_verdict.specs.Moving.{table_at, Moves, CreatesNew, DropsOne}
 
@@ -27,34 +30,49 @@ is_false false h = refl
 pub other_name : (a b : List ℕ) → a ≢ b → bytes_eq a b ≡ false
 other_name a b off = is_false (bytes_eq a b) (λ e. off (same_name a b e))
 
+abbrev as_moved : ℕ → Stored ℕ → Stored ℕ
+as_moved region t = record { heading = t.heading; held = by_shape t.heading.shape region t.held }
+
 abbrev at_region : ℕ → Option (Stored ℕ) → Option (Stored ℕ)
-at_region region o = option_map (λ t. record { heading = t.heading; held = region }) o
+at_region region o = option_map (as_moved region) o
+
+moved_as : (region : ℕ) (t : Table) → stored_region (moved_to region t) ≡ as_moved region (stored_region t)
+moved_as region t =
+    elim t.heading.shape as (λ (s : Shape). stored_region (by_shape s (record t { region = region }) t) ≡ record { heading = t.heading; held = by_shape s region t.region })
+    [ Flat ↦ refl | Indexed ↦ refl ]
+
+-- the first of two
+abbrev first_at : List ℕ → Stored ℕ → Option (Stored ℕ) → Option (Stored ℕ)
+first_at name t rest = cond (bytes_eq t.heading.name name) (Some t) rest
 
 moved_here : (name : List ℕ) (region : ℕ) (ts : List Table) → table_at name (moved name region ts) ≡ at_region region (table_at name ts)
 moved_here name region [] = refl
 moved_here name region (t ∷ ts) = go (bytes_eq t.heading.name name) refl (moved_here name region ts) where
   go : (b : Bool) → bytes_eq t.heading.name name ≡ b → table_at name (moved name region ts) ≡ at_region region (table_at name ts)
-      → table_at name (cond b (record t { region = region }) t ∷ moved name region ts) ≡ at_region region (cond b (Some (stored_region t)) (table_at name ts))
-  go true e rest = ap (λ b. cond b (Some (record { heading = t.heading; held = region })) (table_at name (moved name region ts))) e
+      → table_at name (cond b (moved_to region t) t ∷ moved name region ts) ≡ at_region region (cond b (Some (stored_region t)) (table_at name ts))
+  go true e rest =
+      ap (λ u. first_at name u (table_at name (moved name region ts))) (moved_as region t)
+      ∙ ap (λ b. cond b (Some (as_moved region (stored_region t))) (table_at name (moved name region ts))) e
   go false e rest = ap (λ b. cond b (Some (stored_region t)) (table_at name (moved name region ts))) e ∙ rest
 
 moved_others : (name other : List ℕ) (region : ℕ) (ts : List Table) → other ≢ name → table_at other (moved name region ts) ≡ table_at other ts
 moved_others name other region [] off = refl
 moved_others name other region (t ∷ ts) off = go (bytes_eq t.heading.name name) refl (moved_others name other region ts off) where
   go : (b : Bool) → bytes_eq t.heading.name name ≡ b → table_at other (moved name region ts) ≡ table_at other ts
-      → table_at other (cond b (record t { region = region }) t ∷ moved name region ts) ≡ cond (bytes_eq t.heading.name other) (Some (stored_region t)) (table_at other ts)
+      → table_at other (cond b (moved_to region t) t ∷ moved name region ts) ≡ cond (bytes_eq t.heading.name other) (Some (stored_region t)) (table_at other ts)
   go true e rest =
       let here = same_name t.heading.name name e in
       let no = other_name t.heading.name other (λ f. off (sym f ∙ here)) in
-      ap (λ b. cond b (Some (record { heading = t.heading; held = region })) (table_at other (moved name region ts))) no
+      ap (λ u. first_at other u (table_at other (moved name region ts))) (moved_as region t)
+      ∙ ap (λ b. cond b (Some (as_moved region (stored_region t))) (table_at other (moved name region ts))) no
       ∙ rest ∙ sym (ap (λ b. cond b (Some (stored_region t)) (table_at other ts)) no)
   go false e rest = ap (cond (bytes_eq t.heading.name other) (Some (stored_region t))) rest
 
 moved_headings : (name : List ℕ) (region : ℕ) (ts : List Table) → headings_of (moved name region ts) ≡ headings_of ts
 moved_headings name region [] = refl
 moved_headings name region (t ∷ ts) = go (bytes_eq t.heading.name name) (moved_headings name region ts) where
-  go : (b : Bool) → headings_of (moved name region ts) ≡ headings_of ts → headings_of (cond b (record t { region = region }) t ∷ moved name region ts) ≡ headings_of (t ∷ ts)
-  go true rest = ap (λ hs. t.heading ∷ hs) rest
+  go : (b : Bool) → headings_of (moved name region ts) ≡ headings_of ts → headings_of (cond b (moved_to region t) t ∷ moved name region ts) ≡ headings_of (t ∷ ts)
+  go true rest = λ i. (moved_as region t i).heading ∷ rest i
   go false rest = ap (λ hs. t.heading ∷ hs) rest
 
 pub moves : (name : List ℕ) (region : ℕ) (ts : List Table) → Moves name region ts

@@ -1,6 +1,6 @@
 -- What the seen of a statement tells.
 use Rattle.std.proofs.Common.{◌≡◌, ℕ, Bool, true, false, List, [], ◌∷◌, length, refl, sym, ◌∙◌, ap, subst, cond}
-use Rattle.std.specs.Prelude.{Option, Some, None, IsSome, is_some, nat_le, ◌*◌}
+use Rattle.std.specs.Prelude.{Option, Some, None, IsSome, is_some, nat_le, ◌*◌, if◌then◌else◌}
 use Rattle.ob_base.specs.declared.config.Public.{Public}
 use Rattle.ob_base.specs.declared.config.Plan.{Plan}
 use Rattle.ob_base.specs.declared.config.Plan.TheVariants.{Small, Large, Continuous, Hash}
@@ -20,18 +20,24 @@ use Rattle.std.specs.Option.{option_map, option_map_or, option_or}
 use Rattle.ob_sql.specs.declared.stmt.Stmt.{Stmt}
 use Rattle.ob_sql.specs.declared.stmt.Stmt.TheVariants.{Create, Insert, Update, Delete, Drop as DropTable, SelectRows as RowsStmt, SelectTotals as TotalsStmt}
 use Rattle.ob_row.specs.Slots.{is_consecutive}
-use Rattle.ob_mean.specs.Verdict.{Tables, seen, seen_started, seen_by, seen_unpadded, seen_with, ended, counted, is_late, plan_for}
+use Rattle.ob_mean.specs.Verdict.{Accessed, Draws, Tables, accessed, rows_refusal, seen_rows, seen_served, seen, seen_started, seen_by, seen_unpadded, seen_with, ended, counted, is_late, plan_for}
 use Rattle.ob_mean.specs.Refusals.{early_refusal, limits_of}
 use Rattle.ob_base.specs.Limits.{buffered}
 use Rattle.ob_base.specs.Stored.{Stored, headings, stored_at}
 use Rattle.ob_row.specs.Rows.{Row}
-use Rattle.ob_mean.specs.Lawful.{is_counted}
-use Rattle.ob_verdict.specs.Laws.{IsStarted, ShowsKindAlone, PaddedShowsKind, PlanIsWhole, ForcedShowsAlike, ShowsNotConsecutive}
+use Rattle.ob_mean.specs.Lawful.{selects_rows}
+use Rattle.ob_verdict.specs.Laws.{AccessShowsLeaf, IsStarted, ShowsKindAlone, PaddedShowsKind, PlanIsWhole, ForcedShowsAlike, ShowsNotConsecutive}
 
-seen-started : (p : Public) (m : ℕ) (ts : Tables) (stmt : Stmt) → IsStarted p m ts stmt → seen p m ts stmt ≡ seen_started p ts stmt
-seen-started p m ts stmt h = ap (λ r. cond (is_some r) (ended Static) (seen_started p ts stmt)) h
+seen-started : (d : Draws) (p : Public) (m : ℕ) (ts : Tables) (stmt : Stmt) → IsStarted p m ts stmt → seen d p m ts stmt ≡ seen_served d (accessed ts stmt) p ts stmt
+seen-started d p m ts stmt h = ap (λ r. cond (is_some r) (ended Static) (seen_served d (accessed ts stmt) p ts stmt)) h
 
-started-kind : (p : Public) (ts : Tables) (stmt : Stmt) → is_counted stmt ≡ false → seen_started p ts stmt ≡ ended Whole
+seen-flat : (d : Draws) (p : Public) (m : ℕ) (ts : Tables) (stmt : Stmt) → IsStarted p m ts stmt → accessed ts stmt ≡ None → seen d p m ts stmt ≡ seen_started p ts stmt
+seen-flat d p m ts stmt h unkeyed = seen-started d p m ts stmt h ∙ ap (λ o. seen_served d o p ts stmt) unkeyed
+
+pub access_shows_leaf : AccessShowsLeaf
+access_shows_leaf d p m ts stmt a h is = seen-started d p m ts stmt h ∙ ap (λ o. seen_served d o p ts stmt) is
+
+started-kind : (p : Public) (ts : Tables) (stmt : Stmt) → selects_rows stmt ≡ false → seen_started p ts stmt ≡ ended Whole
 started-kind p ts (Create a b c d) h = refl
 started-kind p ts (Insert a b c) h = refl
 started-kind p ts (Update a b c) h = refl
@@ -41,7 +47,7 @@ started-kind p ts (RowsStmt q) h = cc
 started-kind p ts (TotalsStmt q) h = refl
 
 pub shows_kind_alone : ShowsKindAlone
-shows_kind_alone p m ts stmt h k = seen-started p m ts stmt h ∙ started-kind p ts stmt k
+shows_kind_alone d p m ts stmt h unkeyed k = seen-flat d p m ts stmt h unkeyed ∙ started-kind p ts stmt k
 
 -- ---- a padded result
 seen_by-padded : (pad : Option ℕ) (p : Public) (n : ℕ) (places : List ℕ) → IsSome pad → seen_by pad p n places ≡ ended Whole
@@ -58,7 +64,7 @@ padded-kind p ts (RowsStmt q) h = seen_by-padded p.pad p _ _ h
 padded-kind p ts (TotalsStmt q) h = refl
 
 pub padded_shows_kind : PaddedShowsKind
-padded_shows_kind p m ts stmt h padded = seen-started p m ts stmt h ∙ padded-kind p ts stmt padded
+padded_shows_kind d p m ts stmt h unkeyed padded = seen-flat d p m ts stmt h unkeyed ∙ padded-kind p ts stmt padded
 
 -- a fact of both choices
 of_cond : (P : Seen → Type 0) (b : Bool) (x y : Seen) → P x → P y → P (cond b x y)
@@ -98,13 +104,39 @@ started-plan p ts (DropTable a) = ended-plan Whole
 started-plan p ts (RowsStmt q) = seen_by-plan p.pad p _ _
 started-plan p ts (TotalsStmt q) = ended-plan Whole
 
-all-plan : (p : Public) (m : ℕ) (ts : Tables) (stmt : Stmt) → PlanEnds (seen p m ts stmt)
+served-plan : (d : Draws) (o : Option Accessed) (p : Public) (ts : Tables) (stmt : Stmt) → PlanEnds (seen_served d o p ts stmt)
 unfolding PlanEnds
-all-plan p m ts stmt = of_cond PlanEnds (is_some (early_refusal (is_late m) (limits_of p) (headings ts) stmt)) _ _ (ended-plan Static) (started-plan p ts stmt)
+served-plan d None p ts stmt = started-plan p ts stmt
+served-plan d (Some a) p ts stmt = λ x h. cc
+
+seen_with-unread : (p : Public) (plan : Plan) (places : List ℕ) → (seen_with p plan places).leaf ≡ None
+seen_with-unread p Small places = refl
+seen_with-unread p Large places = refl
+seen_with-unread p Continuous places = of_cond (λ s. s.leaf ≡ None) (is_consecutive places) _ _ refl refl
+seen_with-unread p Hash places = refl
+
+seen_by-unread : (pad : Option ℕ) (p : Public) (n : ℕ) (places : List ℕ) → (seen_by pad p n places).leaf ≡ None
+seen_by-unread None p n [] = refl
+seen_by-unread None p n (i ∷ is) = seen_with-unread p (plan_for p n (i ∷ is)) (i ∷ is)
+seen_by-unread (Some pad) p n places = refl
+
+-- a statement that accesses no index reads no leaf
+pub started-unread : (p : Public) (ts : Tables) (stmt : Stmt) → (seen_started p ts stmt).leaf ≡ None
+started-unread p ts (Create a b c e) = refl
+started-unread p ts (Insert a b c) = refl
+started-unread p ts (Update a b c) = refl
+started-unread p ts (Delete a b) = refl
+started-unread p ts (DropTable a) = refl
+started-unread p ts (RowsStmt q) = seen_by-unread p.pad p _ _
+started-unread p ts (TotalsStmt q) = refl
+
+all-plan : (d : Draws) (p : Public) (m : ℕ) (ts : Tables) (stmt : Stmt) → PlanEnds (seen d p m ts stmt)
+unfolding PlanEnds
+all-plan d p m ts stmt = of_cond PlanEnds (is_some (early_refusal (is_late m) (limits_of p) (headings ts) stmt)) _ _ (ended-plan Static) (served-plan d (accessed ts stmt) p ts stmt)
 
 pub plan_is_whole : PlanIsWhole
 unfolding PlanEnds
-plan_is_whole p m ts stmt x h = (all-plan p m ts stmt x h).0
+plan_is_whole d p m ts stmt x h = (all-plan d p m ts stmt x h).0
 
 NotSame : Option Refusal → Type 0
 NotSame r = r ≡ Some NotConsecutive → ⊥
@@ -200,25 +232,46 @@ unfolding NotSame
 groups-not-either true h = cc
 groups-not-either false h = cc
 
-late-shows : (p : Public) (ts : Tables) (stmt : Stmt) → Shows (seen_started p ts stmt) (option_or (late_refusal (buffered p.pack p.buffer) (database ts) stmt) (last_refusal p ts stmt))
+-- by what a statement accesses
+late-shows : (p : Public) (ts : Tables) (stmt : Stmt) → accessed ts stmt ≡ None
+    → Shows (seen_started p ts stmt) (option_or (late_refusal (buffered p.pack p.buffer) (database ts) stmt) (last_refusal p ts stmt))
 unfolding Shows NotSame
-late-shows p ts (Create a b c d) = (λ e. cc, λ e. cc)
-late-shows p ts (Insert a b c) = (λ e. cc, λ e. absurd (late-not (buffered p.pack p.buffer) (database ts) (Insert a b c) (or_none _ ∙ e)))
-late-shows p ts (Update a b c) = (λ e. cc, λ e. cc)
-late-shows p ts (Delete a b) = (λ e. cc, λ e. cc)
-late-shows p ts (DropTable a) = (λ e. cc, λ e. cc)
-late-shows p ts (RowsStmt q) = rows-shows p.pad p (length (source_slots p q.source ts)) (selected_places p q ts)
-late-shows p ts (TotalsStmt q) =
+late-shows p ts (Create a b c e) unkeyed = (λ e. cc, λ e. cc)
+late-shows p ts (Insert a b c) unkeyed = (λ e. cc, λ e. absurd (late-not (buffered p.pack p.buffer) (database ts) (Insert a b c) (or_none _ ∙ e)))
+late-shows p ts (Update a b c) unkeyed = (λ e. cc, λ e. cc)
+late-shows p ts (Delete a b) unkeyed = (λ e. cc, λ e. cc)
+late-shows p ts (DropTable a) unkeyed = (λ e. cc, λ e. cc)
+late-shows p ts (RowsStmt q) unkeyed =
+    subst (λ (o : Option Accessed). Shows (seen_rows p (length (source_slots p q.source ts)) (selected_places p q ts)) (if is_some o then None else rows_refusal p (selected_places p q ts))) (sym unkeyed)
+    (rows-shows p.pad p (length (source_slots p q.source ts)) (selected_places p q ts))
+late-shows p ts (TotalsStmt q) unkeyed =
     (λ e. cc, λ e. absurd (groups-not-either (overgroups (buffered p.pack p.buffer) q.group (totals_columns q (headings (database ts))) (totalled_rows q (database ts))) e))
+
+access-not : (p : Public) (ts : Tables) (stmt : Stmt) (a : Accessed) → accessed ts stmt ≡ Some a → NotSame (option_or (late_refusal (buffered p.pack p.buffer) (database ts) stmt) (last_refusal p ts stmt))
+unfolding NotSame
+access-not p ts (Create a b c e) x is h = cc
+access-not p ts (Insert a b c) x is h = late-not (buffered p.pack p.buffer) (database ts) (Insert a b c) (or_none _ ∙ h)
+access-not p ts (Update a b c) x is h = cc
+access-not p ts (Delete a b) x is h = cc
+access-not p ts (DropTable a) x is h = cc
+access-not p ts (RowsStmt q) x is h =
+    let none : None ≡ Some NotConsecutive = sym (ap (λ (o : Option Accessed). if is_some o then None else rows_refusal p (selected_places p q ts)) is) ∙ h in cc none
+access-not p ts (TotalsStmt q) x is h = groups-not-either (overgroups (buffered p.pack p.buffer) q.group (totals_columns q (headings (database ts))) (totalled_rows q (database ts))) h
+
+served-shows : (d : Draws) (p : Public) (ts : Tables) (stmt : Stmt) (o : Option Accessed) → accessed ts stmt ≡ o
+    → Shows (seen_served d o p ts stmt) (option_or (late_refusal (buffered p.pack p.buffer) (database ts) stmt) (last_refusal p ts stmt))
+unfolding Shows NotSame
+served-shows d p ts stmt None unkeyed = late-shows p ts stmt unkeyed
+served-shows d p ts stmt (Some a) is = (λ e. cc, λ e. absurd (access-not p ts stmt a is e))
 
 pub shows_not_consecutive : ShowsNotConsecutive
 unfolding Shows
-shows_not_consecutive p m ts stmt h =
+shows_not_consecutive d p m ts stmt h =
     let hs : early_refusal (is_late m) (limits_of p) (headings (database ts)) stmt ≡ None = subst (λ w. early_refusal (is_late m) (limits_of p) w stmt ≡ None) (sym (headings-database ts)) h in
-    let s : seen p m ts stmt ≡ seen_started p ts stmt = seen-started p m ts stmt h in
+    let s : seen d p m ts stmt ≡ seen_served d (accessed ts stmt) p ts stmt = seen-started d p m ts stmt h in
     let r : refusal p m ts stmt ≡ option_or (late_refusal (buffered p.pack p.buffer) (database ts) stmt) (last_refusal p ts stmt) =
     ap (λ e. option_or (option_or e (late_refusal (buffered p.pack p.buffer) (database ts) stmt)) (last_refusal p ts stmt)) hs in
-    let both = late-shows p ts stmt in
+    let both = served-shows d p ts stmt (accessed ts stmt) refl in
     (λ e. r ∙ both.0 (sym (ap (λ x. x.end) s) ∙ e), λ e. ap (λ x. x.end) s ∙ both.1 (sym r ∙ e))
 
 -- ---- a forced plan has none after it
@@ -256,20 +309,25 @@ started-second p ts (DropTable a) = λ x e. refl
 started-second p ts (RowsStmt q) = seen_by-second p.pad p _ _
 started-second p ts (TotalsStmt q) = λ x e. refl
 
-all-second : (p : Public) (m : ℕ) (ts : Tables) (stmt : Stmt) → NoSecond p.plan (seen p m ts stmt)
+served-second : (d : Draws) (o : Option Accessed) (p : Public) (ts : Tables) (stmt : Stmt) → NoSecond p.plan (seen_served d o p ts stmt)
 unfolding NoSecond
-all-second p m ts stmt =
-    of_cond (λ s. (plan : Plan) → p.plan ≡ Some plan → s.then ≡ None) (is_some (early_refusal (is_late m) (limits_of p) (headings ts) stmt)) _ _ (λ x e. refl) (started-second p ts stmt)
+served-second d None p ts stmt = started-second p ts stmt
+served-second d (Some a) p ts stmt = λ x e. refl
+
+all-second : (d : Draws) (p : Public) (m : ℕ) (ts : Tables) (stmt : Stmt) → NoSecond p.plan (seen d p m ts stmt)
+unfolding NoSecond
+all-second d p m ts stmt =
+    of_cond (λ s. (plan : Plan) → p.plan ≡ Some plan → s.then ≡ None) (is_some (early_refusal (is_late m) (limits_of p) (headings ts) stmt)) _ _ (λ x e. refl) (served-second d (accessed ts stmt) p ts stmt)
 
 pub forced_shows_alike : ForcedShowsAlike
 unfolding PlanEnds NoSecond
-forced_shows_alike p m ts us a b forced plan f x y k =
-    let s = seen p m ts a in
-    let t = seen p m us b in
+forced_shows_alike d e p m ts us a b forced plan f x y k =
+    let s = seen d p m ts a in
+    let t = seen e p m us b in
     let plans : s.plan ≡ t.plan = x ∙ sym y in
-    let seconds : s.then ≡ t.then = all-second p m ts a forced f ∙ sym (all-second p m us b forced f) in
-    let first = all-plan p m ts a plan x in
-    let second = all-plan p m us b plan y in
+    let seconds : s.then ≡ t.then = all-second d p m ts a forced f ∙ sym (all-second e p m us b forced f) in
+    let first = all-plan d p m ts a plan x in
+    let second = all-plan e p m us b plan y in
     let leaves : s.leaf ≡ t.leaf = first.1 ∙ sym second.1 in
     let ends : s.end ≡ t.end = first.0 ∙ sym second.0 in
     λ i. record { k = k i; plan = plans i; then = seconds i; leaf = leaves i; end = ends i }

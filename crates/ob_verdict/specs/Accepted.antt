@@ -19,13 +19,15 @@ use Rattle.ob_sql.specs.declared.stmt.SelectRows.{SelectRows}
 use Rattle.ob_sql.specs.declared.stmt.SelectTotals.{SelectTotals}
 use Rattle.ob_sql.specs.declared.stmt.Set.{Set}
 use Rattle.ob_sql.specs.declared.stmt.Stmt.{Stmt}
-use Rattle.ob_sql.specs.declared.stmt.Stmt.TheVariants.{Update, SelectRows as RowsStmt, SelectTotals as TotalsStmt}
+use Rattle.ob_sql.specs.declared.stmt.Stmt.TheVariants.{Create, Insert, Update, Delete, Drop as DropTable, SelectRows as RowsStmt, SelectTotals as TotalsStmt}
+use Rattle.ob_sql.specs.Skeleton.{skeleton}
 use Rattle.ob_sql.specs.Search.{Search}
 use Rattle.ob_names.specs.Names.{columns_at, place_of, unqualified, left_place, right_place}
 use Rattle.ob_mean.specs.Conditions.{literal_cell}
 use Rattle.ob_names.specs.Kinds.{Comparison, is_of_kind, is_too_large}
 use Rattle.ob_mean.specs.Lawful.{statement_slots}
-use Rattle.ob_mean.specs.Refusals.{early_refusal, compared, is_key, listed, scope_of, limits_of, Limits}
+use Rattle.ob_mean.specs.Refusals.{early_refusal, compared, is_key, listed, scope_of, source_tables, limits_of, Limits}
+use Rattle.ob_mean.specs.Replay.{has_index, is_access}
 use Rattle.ob_mean.specs.Step.{agg_of, printed_places, select_columns, totals_columns}
 
 -- ---- the places of columns
@@ -72,6 +74,21 @@ abbrev pub JoinsFit : Type 0
 JoinsFit = (late : Bool) (limits : Limits) (hs : List Heading) (list : Option (List ColumnName)) (a b : List ℕ) (on equals : ColumnName) (cond : Option Search) (left right : Heading) →
     heading_at a hs ≡ Some left → heading_at b hs ≡ Some right →
     IsAccepted late limits hs (RowsStmt (record { list = list; source = Join a b on equals; cond = cond })) → JoinFits limits.pack limits.buffer left right on equals
+
+-- ---- tables that are read or changed slot by slot
+abbrev pub slot_tables : Stmt → List (List ℕ)
+slot_tables (Create table columns capacity shape) = []
+slot_tables (Insert table columns values) = table ∷ []
+slot_tables (Update table sets cond) = table ∷ []
+slot_tables (Delete table cond) = table ∷ []
+slot_tables (DropTable table) = []
+slot_tables (RowsStmt s) = source_tables s.source
+slot_tables (TotalsStmt s) = s.table ∷ []
+
+-- where it accesses no index, none of them is one
+abbrev pub NamesFlat : Type 0
+NamesFlat = (p : Public) (late : Bool) (limits : Limits) (stmt : Stmt) → IsAccepted late limits (headings_of p.tables) stmt → is_access p (skeleton stmt) ≡ false
+    → All (λ name. has_index p name ≡ false) (slot_tables stmt)
 
 -- ---- cells
 -- a value that is set fits its column, where a cell holds it

@@ -1,5 +1,5 @@
 -- A session over tables as bags, and what the session over tables in place has to do with it.
-use Rattle.std.specs.Prelude.{◌≡◌, ◌⊎◌, ◌<◌, ◌^◌, ℕ, List, [], ◌∷◌, Option, Some, None, IsSome, Ok, Err}
+use Rattle.std.specs.Prelude.{◌≡◌, ◌⊎◌, ◌<◌, ◌^◌, ℕ, false, List, [], ◌∷◌, Option, Some, None, IsSome, Ok, Err, ⊤}
 use Rattle.ob_base.specs.declared.config.Public.{Public}
 use Rattle.ob_base.specs.declared.config.Plan.{Plan}
 use Rattle.ob_base.specs.declared.config.Plan.TheVariants.{Continuous, Hash}
@@ -7,7 +7,7 @@ use Rattle.ob_base.specs.declared.refusal.Refusal.TheVariants.{Syntax, StoreFaul
 use Rattle.ob_sql.specs.declared.stmt.Stmt.{Stmt}
 use Rattle.ob_mean.specs.declared.answer.Answer.{Answer}
 use Rattle.ob_mean.specs.declared.answer.Answer.TheVariants.{Refused}
-use Rattle.ob_mean.specs.Replay.{Broken, Session, Spelt, after_all, answers, head_of, rest_of}
+use Rattle.ob_mean.specs.Replay.{Broken, Session, Spelt, after, after_all, is_full_now, answers, head_of, rest_of}
 use Rattle.ob_mean.specs.SameMeaning.{SameAnswer, SameTables}
 use Rattle.ob_mean.specs.Step.{Database, step_answer, step_next}
 use Rattle.ob_mean.specs.Verdict.{database}
@@ -56,7 +56,13 @@ pub record GoesBagwise (s : Session) (db : Database) (texts : List Spelt) (bs : 
   pub answers : AnswersMeant s.public (answers s texts bs) (bag_answers s.public db texts bs)
   pub after : SameTables (database (after_all s texts bs).tables) (bags_after s.public db texts bs)
 
--- until so many accesses were asked that no statement is served
+-- no text meets a full stash
+abbrev pub NoneIsFull : Session → List Spelt → Broken → Type 0
+NoneIsFull s [] bs = ⊤
+NoneIsFull s (Ok stmt ∷ texts) bs = (is_full_now s stmt ≡ false) × NoneIsFull (after (head_of bs) s stmt) texts (rest_of bs)
+NoneIsFull s (Err at ∷ texts) bs = NoneIsFull s texts (rest_of bs)
+
+-- until so many accesses were asked that no statement is served, or a stash is full
 abbrev pub SessionsAreBagwise : Type 0
-SessionsAreBagwise = (s : Session) (db : Database) (texts : List Spelt) (bs : Broken) → AreInPlace s.tables → SameTables (database s.tables) db →
-    (after_all s texts bs).asked < 2 ^ 63 → GoesBagwise s db texts bs
+SessionsAreBagwise = (s : Session) (db : Database) (texts : List Spelt) (bs : Broken) → AreInPlace s.public.stash s.tables → SameTables (database s.tables) db →
+    NoneIsFull s texts bs → (after_all s texts bs).asked < 2 ^ 63 → GoesBagwise s db texts bs

@@ -3,10 +3,12 @@ use Rattle.std.specs.Prelude.{◌≡◌, ◌↔◌, ℕ, ◌<◌, ◌≤◌, ◌
 use Rattle.ob_base.specs.declared.config.Public.{Public}
 use Rattle.ob_base.specs.declared.config.Plan.{Plan}
 use Rattle.ob_base.specs.declared.config.Plan.TheVariants.{Small, Hash}
-use Rattle.ob_base.specs.declared.schema.Shape.TheVariants.{Flat}
+use Rattle.ob_base.specs.declared.schema.Shape.{Shape}
+use Rattle.ob_base.specs.declared.schema.Shape.TheVariants.{Flat, Indexed}
 use Rattle.ob_base.specs.declared.seen.End.TheVariants.{Whole, AfterCount}
 use Rattle.ob_base.specs.declared.refusal.Refusal.TheVariants.{NotConsecutive}
 use Rattle.ob_base.specs.declared.shown.Shown.{Shown}
+use Rattle.ob_base.specs.Indexes.{slots_in_place}
 use Rattle.ob_base.specs.Limits.{buffered, buffered_blocks}
 use Rattle.ob_base.specs.Plans.{IsPadded, choose_padded, padded_rows}
 use Rattle.ob_base.specs.Schemas.{key_place}
@@ -24,65 +26,80 @@ use Rattle.ob_mean.specs.Refusals.{early_refusal, limits_of}
 use Rattle.ob_mean.specs.SameMeaning.{SameTables}
 use Rattle.ob_mean.specs.Step.{step_next, select_columns, select_condition, rows_answer, selected_rows, printed_places}
 use Rattle.ob_row.specs.Results.{RowTest, result_slots}
-use Rattle.ob_mean.specs.Verdict.{Held, Tables, database, source_slots, selected_places, plan_for, bucket_size, first_unplaced, fallback, refusal, seen, ended, is_late}
+use Rattle.ob_mean.specs.Verdict.{Accessed, Draws, Held, IsIndexed, Tables, accessed, database, is_full, leaf_gone, source_slots, selected_places, plan_for, bucket_size, first_unplaced, fallback, refusal, seen, ended, is_late}
 use Rattle.ob_mean.specs.Settle.{settle}
-use Rattle.ob_mean.specs.Lawful.{Lawful, is_counted}
+use Rattle.ob_mean.specs.Lawful.{Lawful, selects_rows}
 use Rattle.ob_mean.specs.Replay.{cut_at}
 use Rattle.ob_script.specs.Script.{whole_script}
 
 -- ---- the tables in place and the tables as bags
--- a table has as many slots as its capacity, its rows have distinct primary keys, its columns name it, and as long as no
--- index is made it is flat
-pub record IsInPlace (t : Stored Held) : Type 0 where
-  pub slots : length t.held.slots ≡ t.heading.capacity
+-- a flat table has no leaf, and an index stands
+abbrev pub HoldsByShape : Shape → Stored Held → Type 0
+HoldsByShape Flat t = t.held.leaves ≡ []
+HoldsByShape Indexed t = IsIndexed t
+
+-- a table has as many slots as it is to have, its rows have distinct primary keys, and its columns name it
+pub record IsInPlace (stash : ℕ) (t : Stored Held) : Type 0 where
+  pub slots : length t.held.slots ≡ slots_in_place stash t.heading
   pub keys : keys_repeat (key_place t.heading.schema) (rows t.held.slots) ≡ false
   pub named : NamesTable t.heading
-  pub flat : t.heading.shape ≡ Flat
+  pub shaped : HoldsByShape t.heading.shape t
 
-abbrev pub AreInPlace : Tables → Type 0
-AreInPlace [] = ⊤
-AreInPlace (t ∷ ts) = IsInPlace t × AreInPlace ts
+abbrev pub AreInPlace : (stash : ℕ) → Tables → Type 0
+AreInPlace stash [] = ⊤
+AreInPlace stash (t ∷ ts) = IsInPlace stash t × AreInPlace stash ts
 
 -- a statement leaves them so
-abbrev pub KeepsInPlace : Public → ℕ → Tables → Stmt → Type 0
-KeepsInPlace p m ts stmt = AreInPlace ts → AreInPlace (settle p m ts stmt)
+abbrev pub KeepsInPlace : Draws → Public → ℕ → Tables → Stmt → Type 0
+KeepsInPlace d p m ts stmt = AreInPlace p.stash ts → AreInPlace p.stash (settle d p m ts stmt)
 
-abbrev pub SettlesAsStep : Public → ℕ → Tables → Stmt → Type 0
-SettlesAsStep p m ts stmt = m < 2 ^ 63 → AreInPlace ts → SameTables (database (settle p m ts stmt)) (step_next p (database ts) stmt)
+-- unless the stash of an index is full
+abbrev pub SettlesAsStep : Draws → Public → ℕ → Tables → Stmt → Type 0
+SettlesAsStep d p m ts stmt =
+    m < 2 ^ 63 → AreInPlace p.stash ts → is_full d p m ts stmt ≡ false → SameTables (database (settle d p m ts stmt)) (step_next p (database ts) stmt)
 
 -- ---- what the seen of a statement tells
 -- no refusal before the first access
 abbrev pub IsStarted : Public → ℕ → Tables → Stmt → Type 0
 IsStarted p m ts stmt = early_refusal (is_late m) (limits_of p) (headings ts) stmt ≡ None
 
--- all but a SELECT of rows shows its kind alone, also where a duplicate key, a full table or too many groups refuse it
+-- all but a SELECT of rows and an access of an index shows its kind alone, also where a duplicate key, a full table or too
+-- many groups refuse it
 abbrev pub ShowsKindAlone : Type 0
-ShowsKindAlone = (p : Public) (m : ℕ) (ts : Tables) (stmt : Stmt) → IsStarted p m ts stmt → is_counted stmt ≡ false → seen p m ts stmt ≡ ended Whole
+ShowsKindAlone = (d : Draws) (p : Public) (m : ℕ) (ts : Tables) (stmt : Stmt) → IsStarted p m ts stmt → accessed ts stmt ≡ None → selects_rows stmt ≡ false →
+    seen d p m ts stmt ≡ ended Whole
+
+-- an access shows its leaf and nothing else, whatever it answers
+abbrev pub AccessShowsLeaf : Type 0
+AccessShowsLeaf = (d : Draws) (p : Public) (m : ℕ) (ts : Tables) (stmt : Stmt) (a : Accessed) → IsStarted p m ts stmt → accessed ts stmt ≡ Some a →
+    seen d p m ts stmt ≡ record (ended Whole) { leaf = Some (leaf_gone d a) }
 
 -- where a plan is seen, the statement came to its end, also where a forced Hash overflows
 abbrev pub PlanIsWhole : Type 0
-PlanIsWhole = (p : Public) (m : ℕ) (ts : Tables) (stmt : Stmt) (plan : Plan) → (seen p m ts stmt).plan ≡ Some plan → (seen p m ts stmt).end ≡ Whole
+PlanIsWhole = (d : Draws) (p : Public) (m : ℕ) (ts : Tables) (stmt : Stmt) (plan : Plan) → (seen d p m ts stmt).plan ≡ Some plan → (seen d p m ts stmt).end ≡ Whole
 
 -- where a plan is forced, k and the plan are all that is seen
 abbrev pub ForcedShowsAlike : Type 0
-ForcedShowsAlike = (p : Public) (m : ℕ) (ts us : Tables) (a b : Stmt) (forced plan : Plan) → p.plan ≡ Some forced →
-    (seen p m ts a).plan ≡ Some plan → (seen p m us b).plan ≡ Some plan → (seen p m ts a).k ≡ (seen p m us b).k → seen p m ts a ≡ seen p m us b
+ForcedShowsAlike = (d e : Draws) (p : Public) (m : ℕ) (ts us : Tables) (a b : Stmt) (forced plan : Plan) → p.plan ≡ Some forced →
+    (seen d p m ts a).plan ≡ Some plan → (seen e p m us b).plan ≡ Some plan → (seen d p m ts a).k ≡ (seen e p m us b).k → seen d p m ts a ≡ seen e p m us b
 
 -- where results are padded, a SELECT of rows shows its kind alone, whatever rows there are and however many are selected
 abbrev pub PaddedShowsKind : Type 0
-PaddedShowsKind = (p : Public) (m : ℕ) (ts : Tables) (stmt : Stmt) → IsStarted p m ts stmt → IsSome p.pad → seen p m ts stmt ≡ ended Whole
+PaddedShowsKind = (d : Draws) (p : Public) (m : ℕ) (ts : Tables) (stmt : Stmt) → IsStarted p m ts stmt → accessed ts stmt ≡ None → IsSome p.pad →
+    seen d p m ts stmt ≡ ended Whole
 
 -- of the refusals by rows, one alone shows
 abbrev pub ShowsNotConsecutive : Type 0
-ShowsNotConsecutive = (p : Public) (m : ℕ) (ts : Tables) (stmt : Stmt) → IsStarted p m ts stmt → ((seen p m ts stmt).end ≡ AfterCount) ↔ (refusal p m ts stmt ≡ Some NotConsecutive)
+ShowsNotConsecutive = (d : Draws) (p : Public) (m : ℕ) (ts : Tables) (stmt : Stmt) → IsStarted p m ts stmt → ((seen d p m ts stmt).end ≡ AfterCount) ↔ (refusal p m ts stmt ≡ Some NotConsecutive)
 
 abbrev pub SeenIsLawful : Type 0
-SeenIsLawful = (p : Public) (m : ℕ) (ts : Tables) (stmt : Stmt) → 1 ≤ p.pack → headings ts ≡ headings_of p.tables → AreInPlace ts → Lawful p m stmt (seen p m ts stmt)
+SeenIsLawful = (d : Draws) (p : Public) (m : ℕ) (ts : Tables) (stmt : Stmt) → 1 ≤ p.pack → headings ts ≡ headings_of p.tables → AreInPlace p.stash ts →
+    Lawful p m stmt (seen d p m ts stmt)
 
 -- the same where it was cut off after so many of its accesses, of which the last failed or didn't
 abbrev pub CutIsLawful : Type 0
-CutIsLawful = (p : Public) (m : ℕ) (ts : Tables) (stmt : Stmt) (failed : Bool) (n : ℕ) → 1 ≤ p.pack → headings ts ≡ headings_of p.tables → AreInPlace ts → IsStarted p m ts stmt →
-    n ≤ length (whole_script p (skeleton stmt) (seen p m ts stmt)) → Lawful p m stmt (cut_at failed n p (skeleton stmt) (seen p m ts stmt))
+CutIsLawful = (d : Draws) (p : Public) (m : ℕ) (ts : Tables) (stmt : Stmt) (failed : Bool) (n : ℕ) → 1 ≤ p.pack → headings ts ≡ headings_of p.tables → AreInPlace p.stash ts →
+    IsStarted p m ts stmt → n ≤ length (whole_script p (skeleton stmt) (seen d p m ts stmt)) → Lawful p m stmt (cut_at failed n p (skeleton stmt) (seen d p m ts stmt))
 
 -- ---- what a SELECT of rows prints from its result
 -- the plan by which the rows are printed: the one after the first, where there is one
@@ -108,6 +125,6 @@ abbrev pub printed_rows : Public → Tables → SelectRows → List (List Shown)
 printed_rows p ts q = map (printed (printed_places q (select_columns q (headings ts)))) (rows (result_of p ts q))
 
 abbrev pub PrintsAnswer : Type 0
-PrintsAnswer = (p : Public) (m : ℕ) (ts : Tables) (q : SelectRows) → 1 ≤ p.pack → 1 ≤ buffered_blocks p.pack p.buffer → IsPadded p.pad p.plan → AreInPlace ts →
+PrintsAnswer = (p : Public) (m : ℕ) (ts : Tables) (q : SelectRows) → 1 ≤ p.pack → 1 ≤ buffered_blocks p.pack p.buffer → IsPadded p.pad p.plan → AreInPlace p.stash ts → accessed ts (RowsStmt q) ≡ None →
     refusal p m ts (RowsStmt q) ≡ None → 0 < length (selected_places p q ts) →
     Same (rows_answer q (select_columns q (headings (database ts))) (selected_rows q (database ts))) (printed_rows p ts q)

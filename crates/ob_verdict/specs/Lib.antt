@@ -1,3 +1,6 @@
+pub mod Asking
+pub mod Answering
+pub mod Settling
 pub mod Laws
 pub mod Bagwise
 pub mod Accepted

@@ -6,6 +6,7 @@ use Rattle.ob_base.specs.declared.schema.Table.{Table}
 use Rattle.ob_base.specs.declared.schema.Shape.{Shape}
 use Rattle.ob_base.specs.declared.skeleton.NewColumn.{NewColumn}
 use Rattle.ob_base.specs.declared.skeleton.Skeleton.TheVariants.{Create, Drop as DropTable}
+use Rattle.ob_base.specs.Indexes.{by_shape}
 use Rattle.ob_base.specs.Schemas.{columns_of}
 use Rattle.ob_base.specs.Stored.{Stored, AreApart, has_table, headings_of, stored_at, stored_regions}
 use Rattle.ob_script.specs.Trace.{moved, tables_after}
@@ -14,9 +15,10 @@ use Rattle.ob_script.specs.Trace.{moved, tables_after}
 abbrev pub table_at : List ℕ → List Table → Option (Stored ℕ)
 table_at name ts = stored_at name (stored_regions ts)
 
--- a table that was moved lies in the other region, and the others and all headings are as they were
+-- a flat table that was moved lies in the other region, an index where it was, and the others and all headings are as they
+-- were
 pub record Moves (name : List ℕ) (region : ℕ) (ts : List Table) : Type 0 where
-  pub here : table_at name (moved name region ts) ≡ option_map (λ t. record { heading = t.heading; held = region }) (table_at name ts)
+  pub here : table_at name (moved name region ts) ≡ option_map (λ t. record { heading = t.heading; held = by_shape t.heading.shape region t.held }) (table_at name ts)
   pub others : (other : List ℕ) → other ≢ name → table_at other (moved name region ts) ≡ table_at other ts
   pub headings : headings_of (moved name region ts) ≡ headings_of ts
 

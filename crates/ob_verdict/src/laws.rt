@@ -1,20 +1,20 @@
 //! Laws of the definitions that the engine's contracts stand on.
-ghost use Rattle.std.specs.Prelude.{◌≡◌, ◌≤◌, ◌<◌, ◌++◌, ℕ, Bool, true, List, None, length, map, filter};
-ghost use Rattle.ob_base.specs.Limits.{buffered_blocks};
+ghost use Rattle.std.specs.Prelude.{◌≡◌, ◌≤◌, ◌<◌, ◌++◌, ℕ, Bool, true, List, Some, None, length, map, filter};
 ghost use Rattle.ob_base.specs.declared.config.Public.{Public};
+ghost use Rattle.ob_base.specs.Limits.{buffered_blocks};
 ghost use Rattle.ob_row.specs.Bags.{Same};
+ghost use Rattle.ob_row.specs.Results.{large_slots, continuous_slots, hash_slots, unplaced, joined};
 ghost use Rattle.ob_row.specs.Rows.{Row, AreDistinct, pairs};
 ghost use Rattle.ob_row.specs.Slots.{Slots, rows, selected, small_slots, is_consecutive};
 ghost use Rattle.ob_sql.specs.declared.stmt.Stmt.{Stmt};
-ghost use Rattle.ob_row.specs.Results.{large_slots, continuous_slots, hash_slots, unplaced, joined};
-ghost use Rattle.ob_mean.specs.Verdict.{Tables};
+ghost use Rattle.ob_mean.specs.Verdict.{Draws, Tables};
 ghost use Rattle.ob_base.specs.declared.schema.Table.{Table};
 ghost use Rattle.ob_base.specs.Stored.{AreApart, headings};
 ghost use Rattle.ob_verdict.specs.Bagwise.{SessionsAreBagwise};
 ghost use Rattle.ob_verdict.specs.Alike.{AreAlike, OrderIsNothing};
-ghost use Rattle.ob_verdict.specs.Accepted.{PlacesFit, TotalsPlacesFit, JoinsFit, SetsFit, ConditionsFit, BucketsFit};
+ghost use Rattle.ob_verdict.specs.Accepted.{PlacesFit, TotalsPlacesFit, JoinsFit, SetsFit, ConditionsFit, BucketsFit, NamesFlat};
 ghost use Rattle.ob_verdict.specs.Moving.{Moves, CreatesNew, DropsOne};
-ghost use Rattle.ob_verdict.specs.Laws.{SettlesAsStep, KeepsInPlace, ShowsKindAlone, PaddedShowsKind, PlanIsWhole, ForcedShowsAlike, ShowsNotConsecutive, SeenIsLawful, CutIsLawful, PrintsAnswer};
+ghost use Rattle.ob_verdict.specs.Laws.{SettlesAsStep, KeepsInPlace, ShowsKindAlone, AccessShowsLeaf, PaddedShowsKind, PlanIsWhole, ForcedShowsAlike, ShowsNotConsecutive, SeenIsLawful, CutIsLawful, PrintsAnswer};
 
 /// Being the same bag is an equivalence, and is kept where lists are joined, mapped and filtered.
 pub fn bags_are_kept<A, B>()
@@ -27,9 +27,10 @@ pub fn bags_are_kept<A, B>()
         Same (filter p xs) (filter p ys) }
 {}
 
-/// The tables in place and the tables as bags go on alike.
+/// The tables in place and the tables as bags go on alike, unless the stash of an index is full.
 pub fn settles_as_step()
-    ensures { (p : Public) (m : ℕ) (ts : Tables) (stmt : Stmt) → SettlesAsStep p m ts stmt }
+    ensures { (d : Draws) (p : Public) (m : ℕ) (ts : Tables) (stmt : Stmt) →
+        SettlesAsStep d p m ts stmt }
 {}
 
 /// The answers of a session over tables in place are SQL's answers over the same tables as bags, and so are the tables
@@ -42,12 +43,14 @@ pub fn sessions_are_bagwise()
 /// A statement leaves the tables in place, with as many slots as their capacities, distinct primary keys, and
 /// columns that name their tables.
 pub fn keeps_in_place()
-    ensures { (p : Public) (m : ℕ) (ts : Tables) (stmt : Stmt) → KeepsInPlace p m ts stmt }
+    ensures { (d : Draws) (p : Public) (m : ℕ) (ts : Tables) (stmt : Stmt) →
+        KeepsInPlace d p m ts stmt }
 {}
 
 /// What is seen of a statement tells no more than its kind, the number of its rows and its plan.
 pub fn seen_laws()
     ensures kind_alone { ShowsKindAlone }
+    ensures leaf { AccessShowsLeaf }
     ensures padded { PaddedShowsKind }
     ensures plan_is_whole { PlanIsWhole }
     ensures forced_alike { ForcedShowsAlike }
@@ -84,7 +87,8 @@ pub fn prints_answer()
 {}
 
 /// A statement that is not refused before its first access names columns that there are, by their places;
-/// its cells fit their columns, and what it makes is within its sizes.
+/// its cells fit their columns, and what it makes is within its sizes; where it accesses no index, the tables of its rows
+/// are flat.
 pub fn accepted_laws()
     ensures rows { PlacesFit }
     ensures totals { TotalsPlacesFit }
@@ -92,6 +96,7 @@ pub fn accepted_laws()
     ensures sets { SetsFit }
     ensures conditions { ConditionsFit }
     ensures buckets { BucketsFit }
+    ensures flat { NamesFlat }
 {}
 
 /// Where no two tables have one name, a statement changes what stands at its table's name, and no other.

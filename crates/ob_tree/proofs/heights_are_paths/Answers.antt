@@ -1,6 +1,6 @@
 use Rattle.std.proofs.Common.{length, ap, ◌∙◌, ◌*◌, ◌+◌}
-use Rattle.ob_tree.specs.Paths.{path_up}
-use Rattle.ob_tree.specs.Access.{fits_by}
+use Rattle.ob_path.specs.Paths.{path_up}
+use Rattle.ob_path.specs.Access.{fits_by}
 use Rattle.ob_tree.specs.Slotwise.{slot_tests}
 use Rattle.ob_tree.proofs.SlotwiseLemmas.{laid_by_slots, behind_by_slots}
 use Rattle.ob_tree.specs.Places.{tests, InPlace}

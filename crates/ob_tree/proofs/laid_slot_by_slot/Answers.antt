@@ -1,5 +1,5 @@
 use Rattle.std.proofs.Common.{length}
-use Rattle.ob_tree.specs.Paths.{path_up}
+use Rattle.ob_path.specs.Paths.{path_up}
 use Rattle.ob_tree.proofs.PathLemmas.{apart_path}
 use Rattle.ob_tree.proofs.PlaceLemmas.{laid_in_tree, laid_in_stash, path_inside}
 use Rattle.ob_tree.proofs.SlotwiseLemmas.{laid_by_slots, behind_by_slots}

@@ -1,5 +1,5 @@
 use Rattle.std.proofs.Common.{None, length}
-use Rattle.ob_tree.specs.Paths.{path_up}
+use Rattle.ob_path.specs.Paths.{path_up}
 use Rattle.ob_tree.proofs.PathLemmas.{apart_path}
 use Rattle.ob_tree.proofs.PlaceLemmas.{untouched_slot, filled_bucket, path_inside}
 use Rattle.ob_tree.proofs.slots_behind.Goals as goal

@@ -2,7 +2,7 @@ use Rattle.std.proofs.Common.{◌≡◌, ℕ, length}
 use Rattle.ob_base.specs.Schemas.{Columns}
 use Rattle.ob_row.specs.Rows.{Row}
 use Rattle.ob_row.specs.Slots.{Slots}
-use Rattle.ob_tree.specs.Rows.{rows, Single}
+use Rattle.ob_path.specs.Rows.{rows, Single}
 use Rattle.ob_tree.proofs.GoingLemmas.{Going}
 use Rattle.ob_oram.specs.Buffers.{IsBuffer, Sees}
 use Rattle.ob_oram.proofs.Crowding.{Piled}

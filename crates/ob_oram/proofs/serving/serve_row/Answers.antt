@@ -2,7 +2,7 @@ use Rattle.std.proofs.Common.{◌≡◌, ◌<◌, ◌≤◌, ◌∙◌, None, So
 use Rattle.ob_base.specs.Schemas.{width}
 use Rattle.ob_flat.proofs.Rows.{row_is}
 use Rattle.ob_row.specs.Rows.{with_cells}
-use Rattle.ob_tree.specs.Access as Tree
+use Rattle.ob_path.specs.Access as Tree
 use Rattle.ob_oram.specs.declared.op.Op.{Op}
 use Rattle.ob_oram.specs.declared.op.Got.TheVariants as Gots
 use Rattle.ob_oram.specs.Indexes.{key_of}

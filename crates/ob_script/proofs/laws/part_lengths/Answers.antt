@@ -1,5 +1,5 @@
 use Rattle.ob_script.proofs.Lengths.{length-count_part}
-use Rattle.ob_script.proofs.Numbers.{length-create_part, length-insert_part, length-rewrite_part, length-small_part, length-large_part, length-continuous_part, length-hash_part, length-emission_part, length-join_part, length-access_part}
+use Rattle.ob_script.proofs.Numbers.{length-create_part, length-insert_part, length-rewrite_part, length-small_part, length-large_part, length-continuous_part, length-hash_part, length-emission_part, length-join_part, length-access_part, length-index_part}
 use Rattle.ob_script.proofs.laws.part_lengths.Goals as goal
 
 pub returns : goal.returns
@@ -15,4 +15,5 @@ returns c = record {
   emission = length-emission_part;
   join = length-join_part;
   access = length-access_part;
+  index = length-index_part;
 }

@@ -1,4 +1,4 @@
-use Rattle.ob_script.proofs.Makes.{makes-count_part, makes-create_part, makes-insert_part, makes-rewrite_part, makes-small_part, makes-large_part, makes-continuous_part, makes-hash_part, makes-emission_part, makes-join_part, makes-access_part}
+use Rattle.ob_script.proofs.Makes.{makes-count_part, makes-create_part, makes-insert_part, makes-rewrite_part, makes-small_part, makes-large_part, makes-continuous_part, makes-hash_part, makes-emission_part, makes-join_part, makes-access_part, makes-index_part}
 use Rattle.ob_script.proofs.laws.part_makes.Goals as goal
 
 pub returns : goal.returns
@@ -14,4 +14,5 @@ returns c = record {
   emission = makes-emission_part;
   join = makes-join_part;
   access = makes-access_part;
+  index = makes-index_part;
 }

@@ -1,10 +1,11 @@
-use Rattle.ob_verdict.proofs.SeenProof.{shows_kind_alone, padded_shows_kind, plan_is_whole, forced_shows_alike, shows_not_consecutive}
+use Rattle.ob_verdict.proofs.SeenProof.{access_shows_leaf, shows_kind_alone, padded_shows_kind, plan_is_whole, forced_shows_alike, shows_not_consecutive}
 use Rattle.ob_verdict.proofs.LawfulProof.{seen_is_lawful, cut_is_lawful}
 use Rattle.ob_verdict.proofs.laws.seen_laws.Goals as goal
 
 pub returns : goal.returns
 returns c = record {
   kind_alone = shows_kind_alone;
+  leaf = access_shows_leaf;
   padded = padded_shows_kind;
   plan_is_whole = plan_is_whole;
   forced_alike = forced_shows_alike;

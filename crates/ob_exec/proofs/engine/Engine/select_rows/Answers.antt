@@ -12,6 +12,7 @@ use Rattle.ob_exec.proofs.RowsFound.{source_is}
 use Rattle.ob_exec.proofs.RowsReach.{stops_closing}
 use Rattle.ob_exec.proofs.RowsRun.{rows_after}
 use Rattle.ob_exec.proofs.RowsStops.{serves_stopped, stops_halted}
+use Rattle.ob_exec.proofs.TableLemmas.{tables_flat}
 use Rattle.ob_exec.proofs.engine.Engine.select_rows.Goals as goal
 
 pub returns-in-Ok-close_answer : goal.returns-in-Ok-close_answer
@@ -51,7 +52,7 @@ returns-in-Err-close_answer g c =
     let count : n ≡ length t.asked - length s.asked = λ j. c.count.ensures j - c.count-before.ensures j in
     let source = source_is state old s select c.requires.agrees c.requires.allowed in
     let ended = c.in-Ok.ensures.selects.ended in
-    let stops = stops_closing g.E.Emit.grew g.E.Emit.cut old.public select now _ _ c.args.out.now c.select_source.new.out c.close_answer.new.out
+    let stops = stops_closing g.E.Emit.grew g.E.Emit.cut old.public select now _ _ c.args.out.now c.select_source.new.out c.close_answer.new.out (tables_flat c.requires.agrees.tables)
     c.in-Ok.selected e c.in-Err-close_answer.ensures.never ended c.in-Err-close_answer.ensures.err in
     let sink = subst (λ (m : ℕ). SinkCause {T = Selected} (Err e) m (g.E.Emit.faults c.close_answer.new.out)) c.in-Ok.ensures.selects.sink c.in-Err-close_answer.ensures.sink in
     let serves = serves_stopped state old s v room t select c.requires.agrees c.requires.allowed source ended.ran.lasts g.E.Emit.grew g.E.Emit.cut g.E.Emit.faults g.met.E.Emit.starts

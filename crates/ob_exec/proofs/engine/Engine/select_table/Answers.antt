@@ -16,6 +16,7 @@ use Rattle.ob_exec.proofs.FoundLemmas.{is_there}
 use Rattle.ob_exec.proofs.RowsNothing.{halts_first}
 use Rattle.ob_exec.proofs.RowsTable.{counts_some, table_may, table_query, table_selects}
 use Rattle.ob_exec.proofs.RunLemmas.{rests_refl, at_ok}
+use Rattle.ob_exec.proofs.TableLemmas.{tables_flat}
 use Rattle.ob_exec.proofs.engine.Engine.select_table.Goals as goal
 
 pub table_at-flat-requires : goal.table_at-flat-requires
@@ -36,7 +37,7 @@ returns-in_default-clause-selects g c =
     record {
       ended = tt;
       halted = halts_first g.E.Emit.grew g.E.Emit.cut old.public c.args.select.now c.args.seen.now (world_of state old s).vault s s c.args.out.now c.requires.agrees.ready (rests_refl s) c.requires.fresh
-          (counts_some state old s s c.table_at-flat.result.0 found.table c.args.table.now c.args.select.now c.requires.agrees here.get here.named c.requires.source);
+          (counts_some state old s s c.table_at-flat.result.0 found.table c.args.table.now c.args.select.now c.requires.agrees here.get here.named c.requires.source) (tables_flat c.requires.agrees.tables);
       sink = refl;
     }
 
@@ -51,7 +52,7 @@ returns-then-is_err-clause-selects g c =
     record {
       ended = tt;
       halted = halts_first g.E.Emit.grew g.E.Emit.cut old.public c.args.select.now c.args.seen.now (world_of state old s).vault s s1 c.args.out.now c.requires.agrees.ready c.room.ensures.rests c.requires.fresh
-          (counts_some state old s s1 c.table_at-flat.result.0 found.table c.args.table.now c.args.select.now c.requires.agrees here.get here.named c.requires.source);
+          (counts_some state old s s1 c.table_at-flat.result.0 found.table c.args.table.now c.args.select.now c.requires.agrees here.get here.named c.requires.source) (tables_flat c.requires.agrees.tables);
       sink = refl;
     }
 

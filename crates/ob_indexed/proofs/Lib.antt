@@ -1,3 +1,0 @@
-pub mod AskProof
-pub mod AnswerProof
-pub mod AccessProof

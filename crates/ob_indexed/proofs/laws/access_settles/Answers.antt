@@ -1,5 +1,0 @@
-use Rattle.ob_indexed.proofs.AccessProof.{access_settles}
-use Rattle.ob_indexed.proofs.laws.access_settles.Goals as goal
-
-pub returns : goal.returns
-returns c draw ts stmt t ask w = access_settles draw ts stmt t ask w

@@ -1,5 +1,0 @@
-use Rattle.ob_indexed.proofs.AskProof.{settles}
-use Rattle.ob_indexed.proofs.laws.settles_indexed.Goals as goal
-
-pub returns : goal.returns
-returns c n place height draw s ask w = settles n place height draw s ask w

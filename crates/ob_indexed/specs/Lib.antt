@@ -1,4 +1,0 @@
-pub mod Asking
-pub mod Answering
-pub mod Indexed
-pub mod Settling
