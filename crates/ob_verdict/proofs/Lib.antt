@@ -12,6 +12,7 @@ pub mod SeenProof
 pub mod LawfulProof
 pub mod FullProof
 pub mod AnswerProof
+pub mod CreatedProof
 pub mod InPlaceProof
 pub mod MovingProof
 pub mod AcceptedProof
