@@ -7,7 +7,6 @@ use Rattle.ob_base.specs.declared.config.Public.{Public}
 use Rattle.ob_base.specs.declared.refusal.Refusal.{Refusal}
 use Rattle.ob_base.specs.declared.schema.Heading.{Heading}
 use Rattle.ob_base.specs.declared.schema.Shape.TheVariants.{Flat}
-use Rattle.ob_base.specs.declared.schema.Table.{Table}
 use Rattle.ob_base.specs.declared.seen.End.{End}
 use Rattle.ob_base.specs.declared.seen.Seen.{Seen}
 use Rattle.ob_base.specs.declared.skeleton.Skeleton.{Skeleton}
@@ -57,11 +56,6 @@ no_leaf p s (Some leaf) end none holds = let is = holds.0 in absurd (cc (is, non
 pub start_flat : (settings : Option Config) → IsFlat (public_with settings)
 start_flat None = tt
 start_flat (Some config) = tt
-
--- tables of which each is flat
-pub tables_flat : (ts : List Table) → ((i : ℕ) (t : Table) → slice_get ts i ≡ Some t → t.heading.shape ≡ Flat) → AreFlat (headings_of ts)
-tables_flat [] each = tt
-tables_flat (t ∷ ts) each = (each zero t refl, tables_flat ts (λ i u is. each (suc i) u is))
 
 -- a closing lists flat tables alone
 each_listed : (closing : Closing) (listed : List Listed) → IsCatalogue closing listed → (i : ℕ) (t : Listed) → slice_get listed i ≡ Some t → t.table.heading.shape ≡ Flat

@@ -26,7 +26,7 @@ use Rattle.ob_base.specs.declared.skeleton.Skeleton.{Skeleton}
 use Rattle.ob_base.specs.declared.skeleton.Skeleton.TheVariants as K
 use Rattle.ob_base.specs.declared.skeleton.Source.{Source}
 use Rattle.ob_base.specs.declared.skeleton.Source.TheVariants.{Table as OneTable, Join}
-use Rattle.ob_exec.proofs.TableLemmas.{region_below}
+use Rattle.ob_exec.proofs.TableLemmas.{region_below, tables_flat}
 use Rattle.ob_exec.specs.Agreeing.{Agrees, count_of, public_of, seen_of, world_of}
 use Rattle.ob_exec.specs.Running.{RefusedEarly}
 use Rattle.ob_verdict.specs.Outcomes.{refusal_now}
@@ -34,7 +34,7 @@ use Rattle.ob_exec.specs.declared.engine.Engine.{Engine}
 use Rattle.ob_verdict.specs.declared.outcome.Outcome.{Outcome}
 use Rattle.ob_exec.specs.declared.stop.RunStop.{RunStop}
 use Rattle.ob_gen.specs.declared.tally.Tally.{Tally}
-use Rattle.ob_headline.proofs.FlatLemmas.{IsFlat, tables_flat}
+use Rattle.ob_headline.proofs.FlatLemmas.{IsFlat}
 use Rattle.ob_headline.specs.Words.{Answer}
 use Rattle.ob_mean.proofs.EarlyLemmas.{allowed, within}
 use Rattle.ob_mean.proofs.FlatLemmas.{MakesFlat, flat_whole, headings-regions, makes_flat, region_flat, script_is}
@@ -94,10 +94,6 @@ public_is state e s agrees few =
           let below = region_below e.public.pack i e.public.tables t (world_of state e s) agrees.ready agrees.tables is in
           ((agrees.tables.each i t is).heading.stored, omega (arith, below, tied, made, region, few)));
     }
-
--- the tables of an engine are flat
-agrees_flat : {R : Type 0} (state : R → RevState) (e : Engine R) (s : StoreState) → Agrees state e s → IsFlat (public_of e)
-agrees_flat state e s agrees = tables_flat e.public.tables (λ i t is. (agrees.tables.each i t is).heading.stored.flat)
 
 -- ---- a table that there is
 record IsSized (t : Stored ℕ) : Type 0 where
@@ -274,7 +270,7 @@ does_few state m0 m1 stmt result agrees does few = go (refusal_now p (asked_of m
         let free = allowed (is_late (asked_of m0)) (limits_of (public_of m0.engine)) (headings_of (public_of m0.engine).tables) stmt is in
         let small = late_or_not (asked_of m0) (is_late (asked_of m0)) refl free.early in
         let public = public_is state m0.engine m0.store agrees small in
-        let flat = agrees_flat state m0.engine m0.store agrees in
+        let flat = tables_flat agrees.tables in
         let made = makes_flat (is_late (asked_of m0)) (limits_of (public_of m0.engine)) (headings_of (public_of m0.engine).tables) stmt is in
         let same = script_same (public_of m0.engine) (skeleton stmt) (seen_of m1.engine) flat made in
         let short : length (script (public_of m0.engine) (skeleton stmt) (seen_of m1.engine)) < 2 ^ 49 =

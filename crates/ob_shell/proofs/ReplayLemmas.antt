@@ -9,7 +9,7 @@ use Rattle.ob_base.specs.declared.refusal.Refusal.TheVariants.{StoreFault}
 use Rattle.ob_base.specs.declared.schema.Heading.{Heading}
 use Rattle.ob_base.specs.declared.seen.End.TheVariants.{Cut}
 use Rattle.ob_base.specs.declared.seen.Seen.{Seen}
-use Rattle.ob_exec.proofs.HeldLemmas.{held_headings}
+use Rattle.ob_exec.proofs.HeldLemmas.{held_flat as tables_held_flat, held_headings}
 use Rattle.ob_exec.specs.Agreeing.{engine_start, public_of, seen_of}
 use Rattle.ob_verdict.specs.Outcomes.{by_fault, refusal_now}
 use Rattle.ob_exec.specs.Running.{RefusedEarly, is_fault}
@@ -93,7 +93,7 @@ stands_after state m0 m1 tables text one did how after_it flat cuts seen_is sett
 
 -- the tables that a machine holds are flat where those that are public are
 pub held_flat : {R : Type 0} (state : R → RevState) (m : Machine R) (tables : Tables) → IsFlat (public_of m.engine) → Represents state m.engine m.store tables → AreFlat (headings tables)
-held_flat state m tables flat held = subst AreFlat (sym (held_headings _ _ tables _ held.held)) flat
+held_flat state m tables flat held = tables_held_flat _ _ tables _ held.held flat
 
 -- and so they are behind a statement
 pub does_flat : {R : Type 0} (state : R → RevState) (m0 m1 : Machine R) (stmt : Stmt) (result : Result Outcome RunStop) → Does state m0 m1 stmt result → IsFlat (public_of m0.engine) → IsFlat (public_of m1.engine)
