@@ -47,7 +47,6 @@ use Rattle.ob_script.proofs.Few.{script_few}
 use Rattle.ob_script.specs.Parts.{count_part, join_part}
 use Rattle.ob_script.specs.Script.{after_count, behind_count, blocks_of, extent_of, joined_extent, result_part, rows_width, script, until_end, with_table}
 use Rattle.ob_script.specs.Sizes.{HoldsLeaf, IfFlat, IfTable, IsCounted, IsHeld, IsPublic, IsSourceCounted, IsTable, IsWithin}
-use Rattle.ob_script.specs.declared.extent.Extent.{Extent}
 use Rattle.ob_shell.proofs.ReplayLemmas.{counts_on}
 use Rattle.ob_shell.specs.Feeding.{Fetch}
 use Rattle.ob_shell.specs.Running.{SessionRan}
@@ -214,14 +213,14 @@ within_limits p late (TotalsStmt s) seen public flat accepted holds = tt
 within_limits p late (RowsStmt q) seen public flat accepted holds = source_counted p late q seen public flat accepted (counted_as p (RowsStmt q) seen seen.k seen.plan seen.then holds)
 
 -- ---- a statement on flat tables asks the same whatever the slots of a stash are
-result_same : (p : Public) (plan : Option Plan) (k g : ℕ) (t : Extent) → result_part (stashless p) plan k g t ≡ result_part p plan k g t
+result_same : (p : Public) (plan : Option Plan) (k g : ℕ) (t : _) → result_part (stashless p) plan k g t ≡ result_part p plan k g t
 result_same p None k g t = refl
 result_same p (Some Small) k g t = refl
 result_same p (Some Large) k g t = refl
 result_same p (Some Continuous) k g t = refl
 result_same p (Some Hash) k g t = refl
 
-behind_same : (p : Public) (seen : Seen) (pad k : Option ℕ) (g : ℕ) (t : Extent) (ending : List Access) → seen.k ≡ k → behind_count pad (stashless p) seen g t ending ≡ behind_count pad p seen g t ending
+behind_same : (p : Public) (seen : Seen) (pad k : Option ℕ) (g : ℕ) (t : _) (ending : List Access) → seen.k ≡ k → behind_count pad (stashless p) seen g t ending ≡ behind_count pad p seen g t ending
 behind_same p seen (Some pad) k g t ending is =
     let q = padded_rows pad t.slots in ap (λ (l : List Access). l ++ ending) (result_same p (Some (choose_padded p.plan (buffered p.pack p.buffer) q)) q g t)
 behind_same p seen None k g t ending is = ap (λ (o : Option ℕ). after_count (stashless p) seen o g t ending) is ∙ go k ∙ sym (ap (λ (o : Option ℕ). after_count p seen o g t ending) is)

@@ -1,5 +1,5 @@
 -- One statement that was answered or cut off, by its meaning.
-use Rattle.std.proofs.Common.{◌≡◌, ◌⊎◌, inl, inr, ◌+◌, ◌≤◌, ℕ, Bool, true, false, List, ◌++◌, length, Option, Some, None, Result, refl, sym, ◌∙◌, ap, subst, arith}
+use Rattle.std.proofs.Common.{◌≡◌, ◌⊎◌, inl, inr, ◌+◌, ◌≤◌, ℕ, Bool, true, false, List, ◌++◌, length, Option, Some, None, Ok, Result, refl, sym, ◌∙◌, ap, subst, arith}
 use Rattle.std.proofs.lemmas.List.{length-append}
 use Rattle.ob_base.specs.Refusals.{is_store_fault}
 use Rattle.ob_base.specs.Stored.{headings, headings_of}
@@ -95,9 +95,9 @@ stands_after state m0 m1 tables text one did how after_it flat cuts seen_is sett
 pub held_flat : {R : Type 0} (state : R → RevState) (m : Machine R) (tables : Tables) → IsFlat (public_of m.engine) → Represents state m.engine m.store tables → AreFlat (headings tables)
 held_flat state m tables flat held = tables_held_flat _ _ tables _ held.held flat
 
--- and so they are behind a statement
-pub does_flat : {R : Type 0} (state : R → RevState) (m0 m1 : Machine R) (stmt : Stmt) (result : Result Outcome RunStop) → Does state m0 m1 stmt result → IsFlat (public_of m0.engine) → IsFlat (public_of m1.engine)
-does_flat state m0 m1 stmt result does flat =
+-- and so they are behind a statement that was answered
+pub does_flat : {R : Type 0} (state : R → RevState) (m0 m1 : Machine R) (stmt : Stmt) (outcome : Outcome) → Does state m0 m1 stmt (Ok outcome) → IsFlat (public_of m0.engine) → IsFlat (public_of m1.engine)
+does_flat state m0 m1 stmt outcome does flat =
     subst IsFlat (sym does.ran.goes_on.public) (next_flat (public_of m0.engine) (asked_of m0) stmt (skeleton stmt) (seen_of m1.engine) refl does.lawful flat)
 
 -- ---- a statement that was cut off wasn't refused before its first access, and no more than all of it was asked
