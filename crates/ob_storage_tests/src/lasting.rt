@@ -33,7 +33,7 @@ fn reopened<S: Lasting>(store: &mut S) -> Result<[u8; 2], Fail>
     Ok(read_two(store)?)
 }
 
-// Makes a region of two blocks, and another, which is discarded.
+// Makes a region of two blocks, and another one, which is discarded.
 fn make_both<S: BlockStore>(store: &mut S) -> Result<(), Fail>
     requires none { (S.state store.old).asked ≡ [] }
     ensures spare { OnOk result (3 ≤ (S.state store.new).spare) }
