@@ -35,20 +35,20 @@ pub fn settles_as_step()
 {}
 
 /// The answers of a session over tables in place are SQL's answers over the same tables as bags, and so are the tables
-/// behind it, until 2^63 accesses were asked; where a plan is forced or results are padded, a SELECT of rows may be
+/// behind it, until 2^63 accesses were asked or a stash is full; where a plan is forced or results are padded, a SELECT of rows may be
 /// refused for that alone.
 pub fn sessions_are_bagwise()
     ensures { SessionsAreBagwise }
 {}
 
-/// A statement leaves the tables in place, with as many slots as their capacities, distinct primary keys, and
-/// columns that name their tables.
+/// A statement leaves the tables in place, with as many slots as they are to have, distinct primary keys, columns that
+/// name their tables, and indexes that stand.
 pub fn keeps_in_place()
     ensures { (d : Draws) (p : Public) (m : ℕ) (ts : Tables) (stmt : Stmt) →
         KeepsInPlace d p m ts stmt }
 {}
 
-/// What is seen of a statement tells no more than its kind, the number of its rows and its plan.
+/// What is seen of a statement tells no more than its kind, the number of its rows, its plan and a leaf.
 pub fn seen_laws()
     ensures kind_alone { ShowsKindAlone }
     ensures leaf { AccessShowsLeaf }
