@@ -4,10 +4,9 @@ use Rattle.std.specs.Prelude.{bytes_eq, is_some, not, if◌then◌else◌, ⊤}
 use Rattle.std.specs.Option.{is_none, option_and_then, option_map, option_map_or}
 use Rattle.ob_base.specs.declared.access.Access.{Access}
 use Rattle.ob_base.specs.declared.config.Public.{Public}
-use Rattle.ob_base.specs.declared.refusal.Refusal.{Refusal}
 use Rattle.ob_base.specs.declared.schema.Heading.{Heading}
 use Rattle.ob_base.specs.declared.schema.Shape.{Shape}
-use Rattle.ob_base.specs.declared.schema.Shape.TheVariants.{Flat, Indexed}
+use Rattle.ob_base.specs.declared.schema.Shape.TheVariants.{Flat}
 use Rattle.ob_base.specs.declared.schema.Table.{Table}
 use Rattle.ob_base.specs.declared.seen.End.{End}
 use Rattle.ob_base.specs.declared.seen.End.TheVariants.{Static, Whole, AfterCount, Cut}
@@ -18,12 +17,12 @@ use Rattle.ob_base.specs.declared.skeleton.NewColumn.{NewColumn}
 use Rattle.ob_base.specs.declared.skeleton.Source.{Source}
 use Rattle.ob_base.specs.declared.skeleton.Source.TheVariants.{Table as OneTable, Join}
 use Rattle.ob_base.specs.Accesses.{discard_at}
-use Rattle.ob_base.specs.Indexes.{by_shape, height_of, slots_in_place, tree_blocks}
+use Rattle.ob_base.specs.Indexes.{by_shape, height_of, tree_blocks}
 use Rattle.ob_base.specs.Numbers.{blocks_for}
 use Rattle.ob_base.specs.Schemas.{columns_of, width}
-use Rattle.ob_base.specs.Stored.{Stored, changed_at, dropped_at, heading_at, headings, headings_of, stored_at, stored_regions}
+use Rattle.ob_base.specs.Stored.{Stored, heading_at, headings, headings_of, stored_at, stored_regions}
 use Rattle.ob_row.specs.Slots.{empty_slots}
-use Rattle.ob_script.specs.Parts.{count_part, create_part, index_part, insert_part, rewrite_part}
+use Rattle.ob_script.specs.Parts.{count_part, create_part, insert_part, rewrite_part}
 use Rattle.ob_script.specs.Script.{blocks_of, created_script, dropped_script, extent_of, flat_script, index_part_of, join_script, mutation_script, shape_script, whole_script, with_table}
 use Rattle.ob_sql.specs.declared.stmt.SelectRows.{SelectRows}
 use Rattle.ob_sql.specs.declared.stmt.Stmt.{Stmt}
@@ -33,7 +32,7 @@ use Rattle.ob_mean.specs.Flats.{AreFlat}
 use Rattle.ob_mean.specs.Keyed.{Ask, ask_of, keyed_name}
 use Rattle.ob_mean.specs.Lawful.{is_counted, selects_rows}
 use Rattle.ob_mean.specs.Refusals.{early_refusal, is_index, is_indexed, limits_of, Limits}
-use Rattle.ob_mean.specs.Replay.{draws_taken, drawn_by, has_index, is_access}
+use Rattle.ob_mean.specs.Replay.{draws_taken, drawn_by, is_access}
 use Rattle.ob_mean.specs.Settle.{new_held, settle, settle_served, settled}
 use Rattle.ob_mean.specs.Step.{followed}
 use Rattle.ob_mean.specs.Verdict.{Accessed, Draws, Held, Tables, access_of, accessed, accessed_now, ended, gone, is_full, is_late, last_refusal, leaves_drawn, refusal, rows_refusal, seen, seen_served, seen_started, selected_places}

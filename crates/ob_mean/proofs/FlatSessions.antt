@@ -1,10 +1,8 @@
 -- Sessions as long as each table is flat: none becomes an index, no stash is full, and nothing is drawn.
-use Rattle.std.proofs.Common.{◌≡◌, ℕ, ◌+◌, Bool, true, false, cond, List, [], ◌∷◌, ◌++◌, map, Option, Some, None, refl, sym, ◌∙◌, ap, subst, arith}
-use Rattle.std.specs.Prelude.{Ok, Err, bytes_eq, filter, is_some, not, if◌then◌else◌}
+use Rattle.std.proofs.Common.{◌≡◌, ℕ, ◌+◌, true, false, cond, List, [], ◌∷◌, ◌++◌, Option, Some, None, refl, sym, ap, subst, arith}
+use Rattle.std.specs.Prelude.{bytes_eq, filter, is_some, not}
 use Rattle.ob_base.specs.declared.config.Public.{Public}
 use Rattle.ob_base.specs.declared.refusal.Refusal.{Refusal}
-use Rattle.ob_base.specs.declared.schema.Heading.{Heading}
-use Rattle.ob_base.specs.declared.schema.Shape.{Shape}
 use Rattle.ob_base.specs.declared.schema.Shape.TheVariants.{Flat, Indexed}
 use Rattle.ob_base.specs.declared.schema.Table.{Table}
 use Rattle.ob_base.specs.declared.seen.End.{End}
@@ -24,7 +22,7 @@ use Rattle.ob_mean.specs.Refusals.{early_refusal, limits_of}
 use Rattle.ob_mean.specs.Replay.{Session, after, draws_taken, is_full_now, seen_or_cut}
 use Rattle.ob_mean.specs.Settle.{settle, settled}
 use Rattle.ob_mean.specs.Step.{followed}
-use Rattle.ob_mean.specs.Verdict.{Draws, Held, Tables, is_late, refusal, seen}
+use Rattle.ob_mean.specs.Verdict.{Draws, Tables, is_late, refusal, seen}
 use Rattle.ob_mean.proofs.FlatLemmas.{MakesFlat, makes_flat, no_draws, none_full, settle_is}
 use Rattle.ob_mean.proofs.VerdictLemmas.{refused_early, seen_early}
 

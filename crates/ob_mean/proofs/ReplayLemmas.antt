@@ -1,5 +1,5 @@
 -- A text that doesn't meet a full stash, and those behind it.
-use Rattle.std.proofs.Common.{◌≡◌, ℕ, Bool, false, List, [], ◌∷◌, Option, ap}
+use Rattle.std.proofs.Common.{◌≡◌, Bool, false, List, [], ◌∷◌, ap}
 use Rattle.std.specs.Prelude.{Ok, if◌then◌else◌}
 use Rattle.ob_sql.specs.declared.stmt.Stmt.{Stmt}
 use Rattle.ob_mean.specs.Replay.{Broken, Session, Spelt, after, after_all, all_served, answer_or_cut, answers, head_of, is_full_now, rest_of, served, served_full}

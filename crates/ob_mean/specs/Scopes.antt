@@ -1,5 +1,5 @@
 -- The same refusals, by the parts of a statement and the columns that its names may mean.
-use Rattle.std.specs.Prelude.{ℕ, Bool, true, false, not, ◌||◌, nat_lt, List, [], ◌++◌, map, length, sum_by, zip, Option, bytes_eq, option_to_list, unwrap_or}
+use Rattle.std.specs.Prelude.{ℕ, Bool, true, false, not, ◌||◌, nat_lt, List, [], ◌++◌, map, length, zip, Option, bytes_eq, option_to_list, unwrap_or}
 use Rattle.std.specs.List.{list_any, flat_map}
 use Rattle.std.specs.Option.{option_map_or}
 use Rattle.ob_base.specs.declared.schema.Heading.{Heading}

@@ -37,8 +37,8 @@ use Rattle.ob_mean.specs.Replay.{has_index, is_access}
 use Rattle.ob_mean.specs.Step.{accepted_next, has_own_key, insert_refusal, is_key_cell, late_refusal, new_row, set_cells}
 use Rattle.ob_mean.specs.Verdict.{Accessed, Held, access_of, accessed, IsIndexed, Tables, database, keyed_table, went}
 use Rattle.ob_mean.proofs.EarlyLemmas.{allowed, neither}
-use Rattle.ob_mean.proofs.VerdictLemmas.{IsAccess, heading-stored, stored-database}
-use Rattle.ob_verdict.specs.Asking.{FitsIndex, IsNotPut}
+use Rattle.ob_mean.proofs.VerdictLemmas.{heading-stored, stored-database}
+use Rattle.ob_verdict.specs.Asking.{FitsIndex}
 use Rattle.ob_verdict.specs.Settling.{AccessSettles}
 use Rattle.ob_verdict.proofs.AccessProof.{access_refused, access_settles}
 

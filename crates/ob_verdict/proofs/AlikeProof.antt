@@ -18,7 +18,7 @@ use Rattle.ob_base.specs.Schemas.{Columns, columns_of}
 use Rattle.ob_base.specs.Stored.{Stored, changed_at, has_table, headings, stored_at}
 use Rattle.ob_row.specs.Results.{joined}
 use Rattle.ob_row.specs.Rows.{Row, pairs}
-use Rattle.ob_row.specs.Slots.{emptied, empty_slots, fill_first, rows, selected}
+use Rattle.ob_row.specs.Slots.{emptied, fill_first, rows, selected}
 use Rattle.ob_row.specs.Truth.{is_true, updated}
 use Rattle.ob_sql.specs.declared.stmt.SelectRows.{SelectRows}
 use Rattle.ob_sql.specs.declared.stmt.Stmt.{Stmt}

@@ -12,7 +12,7 @@ use Rattle.ob_base.specs.Stored.{Stored, headings, stored_at, changed_at, droppe
 use Rattle.ob_row.specs.Bags.{Same, Inserts}
 use Rattle.ob_row.proofs.BagLemmas.{Same-refl, Same-wholes, Inserts-middle}
 use Rattle.ob_row.specs.Rows.{Row}
-use Rattle.ob_row.specs.Slots.{Slots, rows, fill_first, empty_slots}
+use Rattle.ob_row.specs.Slots.{Slots, rows, fill_first}
 use Rattle.ob_verdict.proofs.SlotLemmas.{rows-map, rows-emptied, rows-empty_slots, length-rows, rows-fill_first}
 use Rattle.ob_sql.specs.declared.stmt.Stmt.{Stmt}
 use Rattle.ob_sql.specs.declared.stmt.Stmt.TheVariants.{Create, Insert, Update, Delete, Drop as DropTable, SelectRows as RowsStmt, SelectTotals as TotalsStmt}

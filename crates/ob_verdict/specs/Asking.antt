@@ -2,7 +2,6 @@
 use Rattle.std.specs.Prelude.{◌≡◌, ◌<◌, ◌≤◌, ◌⊎◌, ℕ, ℤ, true, false, not, List, [], ◌∷◌, ◌++◌, map, filter, Some, ⊤}
 use Rattle.ob_base.specs.declared.comparison.ComparisonOperator.TheVariants.{Equal}
 use Rattle.ob_row.specs.Bags.{Same}
-use Rattle.ob_row.specs.declared.cell.Cell.{Cell}
 use Rattle.ob_row.specs.declared.cell.Cell.TheVariants.{Int}
 use Rattle.ob_row.specs.declared.pred.Operand.TheVariants.{Cell as CellOperand}
 use Rattle.ob_row.specs.Condition.{Condition, Compare}
