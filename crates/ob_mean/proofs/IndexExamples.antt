@@ -19,8 +19,10 @@ use Rattle.ob_sql.specs.declared.stmt.Literal.TheVariants.{Int as IntLiteral}
 use Rattle.ob_sql.specs.declared.stmt.Stmt.{Stmt}
 use Rattle.ob_sql.specs.declared.stmt.Stmt.TheVariants.{Insert, Delete}
 use Rattle.ob_sql.specs.Search.{Compare}
+use Rattle.ob_sql.specs.Skeleton.{skeleton}
 use Rattle.ob_mean.specs.declared.answer.Answer.TheVariants.{Done, Changed, Refused}
-use Rattle.ob_mean.specs.Settle.{settle}
+use Rattle.ob_mean.specs.Replay.{cut_at}
+use Rattle.ob_mean.specs.Settle.{new_held, settle}
 use Rattle.ob_mean.specs.Verdict.{Draws, Tables, ended, is_full, seen, verdict}
 
 abbrev t : List ℕ
@@ -41,10 +43,11 @@ abbrev row : ℕ → Row
 row x = Int (pos x) ∷ []
 
 -- an index of so many keys that holds this
+abbrev heading : (keys : ℕ) → Heading
+heading keys = record { name = t; schema = columns_of t (record { name = k; kind = NewInt; keys = 1 } ∷ []); capacity = keys; shape = Indexed }
+
 abbrev index : (keys : ℕ) → Slots → (leaves : List ℕ) → Tables
-index keys slots leaves =
-    let h : Heading = record { name = t; schema = columns_of t (record { name = k; kind = NewInt; keys = 1 } ∷ []); capacity = keys; shape = Indexed } in
-    record { heading = h; held = record { slots = slots; leaves = leaves } } ∷ []
+index keys slots leaves = record { heading = heading keys; held = record { slots = slots; leaves = leaves } } ∷ []
 
 -- of two keys: twelve blocks and the stash, of which the root has this slot
 abbrev with_root : Option Row → (leaves : List ℕ) → Tables
@@ -91,6 +94,18 @@ taken_left = refl
 
 taken_answer : verdict by_one 0 (with_root (Some (row 0)) (1 ∷ 1 ∷ [])) (delete 0) ≡ Changed 1
 taken_answer = refl
+
+-- a new index takes a draw for each key: of three keys there are four leaves
+new_leaves : new_held (drawing 2) 1 (heading 3) ≡ record { slots = replicate 29 None; leaves = 2 ∷ 3 ∷ 0 ∷ [] }
+new_leaves = refl
+
+-- ---- an access that was cut off
+-- the leaf is held once more was asked than the stash, also where the last call failed
+cut_in_stash : (cut_at true 1 by_one (skeleton (insert 0)) (showing 0)).leaf ≡ None
+cut_in_stash = refl
+
+cut_on_path : (cut_at true 2 by_one (skeleton (insert 0)) (showing 0)).leaf ≡ Some 0
+cut_on_path = refl
 
 -- ---- a full stash
 -- five keys have leaf 0, of which the path of leaf 7 has the root alone: it is full, and so is the stash

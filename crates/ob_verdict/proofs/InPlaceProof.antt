@@ -4,19 +4,16 @@ use Rattle.std.specs.Prelude.{Option, Some, None, filter, not, bytes_eq, ◌||�
 use Rattle.std.proofs.lemmas.Bool.Decides.{nat_tests}
 use Rattle.std.specs.List.{list_any}
 use Rattle.std.specs.Option.{option_map, option_map_or}
-use Rattle.std.proofs.lemmas.List.{length-map, length-replicate}
-use Rattle.std.proofs.lemmas.List.Elements.{All-map}
+use Rattle.std.proofs.lemmas.List.{length-map}
 use Rattle.ob_base.specs.declared.config.Public.{Public}
-use Rattle.ob_base.specs.declared.schema.Column.{Column}
 use Rattle.ob_base.specs.declared.schema.Heading.{Heading}
 use Rattle.ob_base.specs.declared.refusal.Refusal.{Refusal}
 use Rattle.ob_base.specs.declared.refusal.Refusal.TheVariants.{Duplicate, Full as FullTable}
 use Rattle.ob_base.specs.declared.schema.Shape.{Shape}
 use Rattle.ob_base.specs.declared.schema.Shape.TheVariants.{Flat}
-use Rattle.ob_base.specs.declared.skeleton.NewColumn.{NewColumn}
 use Rattle.ob_base.specs.Limits.{buffered}
 use Rattle.ob_base.specs.Lists.{has_repeats}
-use Rattle.ob_base.specs.Schemas.{Columns, columns_of, key_place, new_column}
+use Rattle.ob_base.specs.Schemas.{Columns, key_place}
 use Rattle.ob_base.specs.Stored.{Stored, headings, stored_at, changed_at, dropped_at}
 use Rattle.ob_row.specs.Bags.{Inserts, here, further}
 use Rattle.ob_row.specs.Condition.{Condition}
@@ -30,21 +27,21 @@ use Rattle.ob_sql.specs.declared.stmt.Stmt.{Stmt}
 use Rattle.ob_sql.specs.declared.stmt.Stmt.TheVariants.{Create, Insert, Update, Delete, Drop as DropTable, SelectRows as RowsStmt, SelectTotals as TotalsStmt}
 use Rattle.ob_names.specs.Names.{columns_at}
 use Rattle.ob_mean.specs.Conditions.{where_at}
-use Rattle.ob_mean.specs.Refusals.{early_refusal, sets_key, limits_of}
+use Rattle.ob_mean.specs.Refusals.{early_refusal, has_wrong_keys, sets_key, limits_of}
 use Rattle.ob_mean.specs.Step.{Database, insert_refusal, late_refusal, new_row, set_cells, followed}
 use Rattle.ob_mean.specs.Verdict.{Accessed, Draws, Held, IsIndexed, Tables, access_settled, accessed, accessed_now, database, gone, held_as, in_slots, is_late, last_refusal, next_draw, refusal}
-use Rattle.ob_mean.specs.Settle.{new_held, settle_served, settled}
-use Rattle.ob_mean.proofs.EarlyLemmas.{Allowed, allowed, neither, within}
+use Rattle.ob_mean.specs.Settle.{settle_served, settled}
+use Rattle.ob_mean.proofs.EarlyLemmas.{Allowed, allowed, neither}
 use Rattle.ob_mean.proofs.VerdictLemmas.{IsAccess, access_is, accessed_late, flat_refusal, headings-database, put_flat, started, stored-database}
 use Rattle.ob_verdict.specs.Laws.{AreInPlace, HoldsByShape, IsInPlace, KeepsInPlace}
-use Rattle.ob_verdict.proofs.SlotLemmas.{length-rows, rows-map, rows-emptied, rows-empty_slots, rows-fill_first}
+use Rattle.ob_verdict.proofs.SlotLemmas.{length-rows, rows-map, rows-emptied, rows-fill_first}
 use Rattle.ob_verdict.proofs.AccessedProof.{cells-kept, flat_slots, flat_where, leaves_tables, schema_is}
 use Rattle.ob_verdict.proofs.AnswerProof.{both_none}
+use Rattle.ob_verdict.proofs.CreatedProof.{created_in_place}
 use Rattle.ob_verdict.specs.Settling.{AccessSettles}
 use Rattle.ob_verdict.proofs.AccessProof.{next_of}
 use Rattle.ob_mean.specs.Keyed.{Set, Take}
 use Rattle.ob_path.specs.Access.{Went}
-use Rattle.ob_base.specs.Indexes.{slots_in_place}
 
 -- ---- equal keys
 right_there : (x y : Option Cell) → options_eq x y ≡ true → options_eq y y ≡ true
@@ -130,10 +127,6 @@ length-fill_first row [] = refl
 length-fill_first row (None ∷ slots) = refl
 length-fill_first row (Some r ∷ slots) = ap suc (length-fill_first row slots)
 
-no_keys : (o : Option ℕ) → keys_repeat o [] ≡ false
-no_keys None = refl
-no_keys (Some i) = refl
-
 module _ (stash : ℕ) (name : List ℕ) (f : Held → Held) where
   abbrev changed : Stored Held → Stored Held
   changed t = record { heading = t.heading; held = f t.held }
@@ -154,15 +147,6 @@ dropped_stays stash name (t ∷ ts) all = elim (bytes_eq t.heading.name name) as
 added_stays : (stash : ℕ) (t : Stored Held) (ts : Tables) → IsInPlace stash t → AreInPlace stash ts → AreInPlace stash (ts ++ t ∷ [])
 added_stays stash t [] one all = (one, tt)
 added_stays stash t (u ∷ ts) one all = (all.0, added_stays stash t ts one all.1)
-
-created : (d : Draws) (stash : ℕ) (table : List ℕ) (columns : List NewColumn) (capacity : ℕ) (shape : Shape) → shape ≡ Flat
-    → (let h : Heading = record { name = table; schema = columns_of table columns; capacity = capacity; shape = shape } in IsInPlace stash (record { heading = h; held = new_held d stash h }))
-created d stash table columns capacity shape flat = record {
-  slots = length-replicate {A = Option Row} (slots_in_place stash (record { name = table; schema = columns_of table columns; capacity = capacity; shape = shape })) None;
-  keys = ap (keys_repeat (key_place (columns_of table columns))) (rows-empty_slots (slots_in_place stash (record { name = table; schema = columns_of table columns; capacity = capacity; shape = shape }))) ∙ no_keys (key_place (columns_of table columns));
-  named = All-map (λ (c : Column). c.table ≡ table) (new_column table) columns (λ k d h. refl);
-  shaped = subst (λ (s : Shape). let h : Heading = record { name = table; schema = columns_of table columns; capacity = capacity; shape = s } in HoldsByShape s (record { heading = h; held = new_held d stash h })) (sym flat) refl;
-}
 
 not_refused : (a b : Bool) → cond a (Some Duplicate) (cond b (Some FullTable) None) ≡ None → a ≡ false
 not_refused true b h = absurd (cc)
@@ -208,9 +192,9 @@ module _ (p : Public) (m : ℕ) (ts : Tables) (stmt : Stmt) (none : refusal p m 
       subst (λ (hs : List Heading). early_refusal (is_late m) (limits_of p) hs stmt ≡ None) (headings-database ts) (both_none _ _ (both_none _ (last_refusal p ts stmt) none).0).0
 
 settled_stays : (d : Draws) (p : Public) (m : ℕ) (ts : Tables) (stmt : Stmt) → refusal p m ts stmt ≡ None → accessed ts stmt ≡ None → AreInPlace p.stash ts → AreInPlace p.stash (settled d p ts stmt)
-settled_stays d p m ts (Create table columns capacity shape) none unkeyed all = added_stays p.stash _ ts (created d p.stash table columns capacity shape flat) all where
-  flat : shape ≡ Flat
-  flat = (within (limits_of p) (headings ts) table columns capacity shape (allowed (is_late m) (limits_of p) (headings ts) (Create table columns capacity shape) (not_refused_early p m ts (Create table columns capacity shape) none)).limits).flat
+settled_stays d p m ts (Create table columns capacity shape) none unkeyed all = added_stays p.stash _ ts (created_in_place d p.stash table columns capacity shape rule) all where
+  rule : has_wrong_keys columns shape ≡ false
+  rule = (allowed (is_late m) (limits_of p) (headings ts) (Create table columns capacity shape) (not_refused_early p m ts (Create table columns capacity shape) none)).keys
 settled_stays d p m ts (Insert table columns values) none unkeyed all = changed_stays p.stash table (in_slots (fill_first (new_row (columns_at table (headings ts)) columns values))) ts one all where
   one : (t : Stored Held) → stored_at table ts ≡ Some t → IsInPlace p.stash t → IsInPlace p.stash (record { heading = t.heading; held = in_slots (fill_first (new_row (columns_at table (headings ts)) columns values)) t.held })
   one t is place =

@@ -219,7 +219,7 @@ early-public : (p : Public) (m : ℕ) (ts : Tables) (stmt : Stmt) → headings t
 early-public p m ts stmt e = ap (λ hs. early_refusal (is_late m) (limits_of p) hs stmt) e
 
 -- the height of the index that a statement accesses is public
-height_public : (p : Public) (ts : Tables) (stmt : Stmt) (a : Accessed) → headings ts ≡ headings_of p.tables → keyed_table ts stmt ≡ Some a.table
+pub height_public : (p : Public) (ts : Tables) (stmt : Stmt) (a : Accessed) → headings ts ≡ headings_of p.tables → keyed_table ts stmt ≡ Some a.table
     → height_at p (skeleton stmt) ≡ height_of a.table.heading.capacity
 height_public p ts stmt a e found = by stmt found
   where
@@ -307,13 +307,13 @@ seen_is_lawful d p m ts stmt some e h = go (early_refusal (is_late m) (limits_of
 
 -- ---- the tables of a script
 module _ (p : Public) (name : List ℕ) where
-  heading_region : heading_at name (headings_of p.tables) ≡ option_map (λ t. t.heading) (stored_at name (stored_regions p.tables))
+  pub heading_region : heading_at name (headings_of p.tables) ≡ option_map (λ t. t.heading) (stored_at name (stored_regions p.tables))
   heading_region = ap (heading_at name) (sym (headings-regions p.tables)) ∙ heading-stored name (stored_regions p.tables)
 
-  region_index : (t : Stored ℕ) → stored_at name (stored_regions p.tables) ≡ Some t → has_index p name ≡ is_indexed t.heading.shape
+  pub region_index : (t : Stored ℕ) → stored_at name (stored_regions p.tables) ≡ Some t → has_index p name ≡ is_indexed t.heading.shape
   region_index t found = ap (λ (o : Option Heading). option_map_or (λ (h : Heading). is_indexed h.shape) o false) (heading_region ∙ ap (option_map (λ (u : Stored ℕ). u.heading)) found)
 
-  no_region_index : stored_at name (stored_regions p.tables) ≡ None → has_index p name ≡ false
+  pub no_region_index : stored_at name (stored_regions p.tables) ≡ None → has_index p name ≡ false
   no_region_index none = ap (λ (o : Option Heading). option_map_or (λ (h : Heading). is_indexed h.shape) o false) (heading_region ∙ ap (option_map (λ (u : Stored ℕ). u.heading)) none)
 
 -- ---- a statement that was cut off

@@ -10,7 +10,9 @@ pub mod AccessedProof
 pub mod SettleProof
 pub mod SeenProof
 pub mod LawfulProof
+pub mod FullProof
 pub mod AnswerProof
+pub mod CreatedProof
 pub mod InPlaceProof
 pub mod MovingProof
 pub mod AcceptedProof

@@ -2,6 +2,7 @@ pub mod Asking
 pub mod Answering
 pub mod Settling
 pub mod Laws
+pub mod Full
 pub mod Bagwise
 pub mod Accepted
 pub mod Moving

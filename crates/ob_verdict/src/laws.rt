@@ -14,6 +14,7 @@ ghost use Rattle.ob_verdict.specs.Bagwise.{SessionsAreBagwise};
 ghost use Rattle.ob_verdict.specs.Alike.{AreAlike, OrderIsNothing};
 ghost use Rattle.ob_verdict.specs.Accepted.{PlacesFit, TotalsPlacesFit, JoinsFit, SetsFit, ConditionsFit, BucketsFit, NamesFlat};
 ghost use Rattle.ob_verdict.specs.Moving.{Moves, CreatesNew, DropsOne};
+ghost use Rattle.ob_verdict.specs.Full.{FullIsLawful};
 ghost use Rattle.ob_verdict.specs.Laws.{SettlesAsStep, KeepsInPlace, ShowsKindAlone, AccessShowsLeaf, PaddedShowsKind, PlanIsWhole, ForcedShowsAlike, ShowsNotConsecutive, SeenIsLawful, CutIsLawful, PrintsAnswer};
 
 /// Being the same bag is an equivalence, and is kept where lists are joined, mapped and filtered.
@@ -57,6 +58,11 @@ pub fn seen_laws()
     ensures one_refusal_shows { ShowsNotConsecutive }
     ensures lawful { SeenIsLawful }
     ensures cut_is_lawful { CutIsLawful }
+{}
+
+/// What is seen of an access that met a full stash is lawful, behind its reads.
+pub fn full_is_lawful()
+    ensures { FullIsLawful }
 {}
 
 /// Each plan's result has the selected rows, each as often.
