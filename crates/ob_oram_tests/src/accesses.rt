@@ -4,18 +4,17 @@ ghost use Rattle.ob_vault.specs.Places.{at};
 ghost use Rattle.ob_oram_tests.specs.Sessions.{IsSession};
 
 use crate::asks::{Ask, Said, ask_key};
-use crate::sessions::made;
+use crate::sessions::new_index;
 use ob_base::Access;
 use ob_oram::{Index, Op};
 use ob_room::Room;
-use ob_seal::Keys;
 use ob_store::{BlockStore, MemStore};
-use ob_vault::{BaseRevs, Revisions, Vault};
+use ob_vault::{Revisions, Vault};
 use std::alloc::Global;
 use std::process::Abort;
 
-// Wants this as the access of an index, and answers the next index.
-fn check_next<S: BlockStore>(rt: &impl Abort, store: &S, at: u64, want: Access) -> u64
+/// Wants this as the access of an index, and answers the next index.
+pub(crate) fn check_next<S: BlockStore>(rt: &impl Abort, store: &S, at: u64, want: Access) -> u64
     ensures { result ≡ at + 1 }
 {
     assert!(rt; at < store.count());
@@ -83,9 +82,7 @@ fn take_steps<S: BlockStore, R: Revisions>(
 // The same on a new one with a key for each of these draws.
 fn run(rt: &impl Abort, alloc: Global, slots: u32, draws: &[u64], paths: &[&[u8]], steps: &[Step]) {
     let mut store = MemStore::new(alloc);
-    let mut vault: Vault<BaseRevs> = Vault::new(alloc, Keys::derive(&[0; 32]));
-    let mut room = Room::new(alloc, 64, 17, 1).expect(rt, "rows");
-    let index = made(rt, alloc, &mut store, &mut vault, &mut room, slots, draws);
+    let (vault, room, index) = new_index(rt, alloc, &mut store, 64, slots, draws);
     take_steps(rt, &mut store, vault, room, index, paths, steps);
 }
 

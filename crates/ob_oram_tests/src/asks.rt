@@ -5,7 +5,7 @@ ghost use Rattle.ob_oram.specs.Ops.{FitsOp};
 ghost use Rattle.ob_oram_tests.specs.Sessions.{IsSession, key_and_number};
 
 use crate::sessions::make_room;
-use ob_oram::{Got, Index, Op, OramErr, access};
+use ob_oram::{Cells, Got, Index, Op, OramErr, access};
 use ob_room::Room;
 use ob_row::Cell;
 use ob_store::BlockStore;
@@ -33,18 +33,28 @@ pub(crate) enum Said {
     Other,
 }
 
+// The number of a cell; none of a text.
+fn number(cell: &Cell) -> Option<i64> {
+    match cell {
+        Cell::Int(x) => Some(*x),
+        Cell::Text(_) => None,
+    }
+}
+
+fn row(cells: &Cells) -> Said {
+    if cells.len() != 2 {
+        return Said::Other;
+    }
+    match (number(cells.at(0)), number(cells.at(1))) {
+        (Some(key), Some(number)) => Said::Row(key, number),
+        _ => Said::Other,
+    }
+}
+
 fn answer(got: &Got) -> Said {
     match got {
         Got::None => Said::None,
-        Got::Row(cells) => {
-            if cells.len() != 2 {
-                return Said::Other;
-            }
-            match (cells.at(0), cells.at(1)) {
-                (Cell::Int(key), Cell::Int(number)) => Said::Row(*key, *number),
-                _ => Said::Other,
-            }
-        }
+        Got::Row(cells) => row(cells),
         Got::Done => Said::Done,
         Got::Duplicate => Said::Duplicate,
         Got::OutOfRange => Said::OutOfRange,

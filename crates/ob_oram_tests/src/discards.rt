@@ -3,15 +3,13 @@ ghost use Rattle.ob_vault.specs.Places.{at};
 ghost use Rattle.ob_vault.specs.Words.{StartsAnew};
 ghost use Rattle.ob_oram.specs.Indexes.{IsIndex};
 
-use crate::sessions::{made, make_room};
+use crate::sessions::{make_room, meddled_store, new_index};
 use ob_base::Access;
 use ob_flat::OpErr;
-use ob_meddle::{Act, Meddle, MeddledStore};
+use ob_meddle::{Act, Meddle};
 use ob_oram::{Index, discard};
-use ob_room::Room;
-use ob_seal::Keys;
 use ob_store::BlockStore;
-use ob_vault::{BaseRevs, Revisions, Vault};
+use ob_vault::{Revisions, Vault};
 use std::alloc::Global;
 use std::process::Abort;
 
@@ -32,14 +30,9 @@ fn discarded<S: BlockStore, R: Revisions>(
 // An index of one key, which is made by the accesses 1 to 7, and discarded by two more. The store fails at the access of
 // this number, if there is one.
 fn of_one_key(rt: &impl Abort, alloc: Global, before: u64, want: Result<(), OpErr>) {
-    let mut list = Vec::new(alloc);
     let act = Act::Fail;
-    let pushed = list.push(Meddle { before, act });
-    assert!(rt; pushed.is_ok());
-    let mut store = MeddledStore::new(alloc, list);
-    let mut vault: Vault<BaseRevs> = Vault::new(alloc, Keys::derive(&[0; 32]));
-    let mut room = Room::new(alloc, 6, 17, 1).expect(rt, "rows");
-    let index = made(rt, alloc, &mut store, &mut vault, &mut room, 1, &[0]);
+    let mut store = meddled_store(rt, alloc, Meddle { before, act });
+    let (mut vault, _, index) = new_index(rt, alloc, &mut store, 6, 1, &[0]);
     let got = discarded(rt, &mut store, &mut vault, index);
     assert!(rt; got == want);
     assert_eq!(rt; store.count(), 9);

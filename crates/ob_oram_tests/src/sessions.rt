@@ -1,6 +1,6 @@
 //! An index of rows of two numbers in a store, with the vault and the room for its accesses. A helper stops the test
 //! run where what it does fails.
-ghost use Rattle.std.specs.Prelude.{◌≡◌, ◌≤◌, ◌<◌, ℕ, length};
+ghost use Rattle.std.specs.Prelude.{◌≡◌, ◌≤◌, ◌<◌, ℕ, [], length};
 ghost use Rattle.ob_base.specs.Schemas.{width};
 ghost use Rattle.ob_store.specs.Calls.{ChangesNothing};
 ghost use Rattle.ob_vault.specs.Words.{StartsAnew};
@@ -11,10 +11,12 @@ ghost use Rattle.ob_oram.specs.Keys.{IsIntKey};
 ghost use Rattle.ob_oram_tests.specs.Sessions.{IsSession, key_and_number};
 
 use ob_base::{Column, Kind, Name, Schema};
+use ob_meddle::{Meddle, MeddledStore};
 use ob_oram::{Index, create};
 use ob_room::Room;
+use ob_seal::Keys;
 use ob_store::BlockStore;
-use ob_vault::{Revisions, Vault};
+use ob_vault::{BaseRevs, Revisions, Vault};
 use std::alloc::Global;
 use std::process::Abort;
 
@@ -76,4 +78,33 @@ pub(crate) fn made<S: BlockStore, R: Revisions>(
     assert!(rt; index.height <= 10);
     assert!(rt; slots + 4 * (index.height + 1) < room.rows());
     index
+}
+
+/// The same in a store of which nothing was asked, with a vault and a room of so many rows.
+pub(crate) fn new_index<S: BlockStore>(
+    rt: &impl Abort,
+    alloc: Global,
+    store: &mut S,
+    rows: u32,
+    slots: u32,
+    draws: &[u64],
+) -> (Vault<BaseRevs>, Room, Index)
+    requires none { (S.state store.old).asked ≡ [] }
+    requires rows { 4 ≤ rows }
+    ensures session { IsSession result.1 result.2
+        (at ⟦<BaseRevs as Revisions>⟧.state result.0 (S.state store.new)) }
+{
+    let mut vault: Vault<BaseRevs> = Vault::new(alloc, Keys::derive(&[0; 32]));
+    let mut room = Room::new(alloc, rows, 17, 1).expect(rt, "rows");
+    let index = made(rt, alloc, store, &mut vault, &mut room, slots, draws);
+    (vault, room, index)
+}
+
+/// A store in memory that others change once.
+pub(crate) fn meddled_store(rt: &impl Abort, alloc: Global, change: Meddle) -> MeddledStore
+    ensures { (⟦<MeddledStore as BlockStore>⟧.state result).asked ≡ [] }
+{
+    let mut list = Vec::new(alloc);
+    assert!(rt; list.push(change).is_ok());
+    MeddledStore::new(alloc, list)
 }

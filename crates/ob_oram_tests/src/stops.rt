@@ -3,13 +3,12 @@ ghost use Rattle.ob_vault.specs.Places.{at};
 ghost use Rattle.ob_oram_tests.specs.Sessions.{IsSession};
 
 use crate::asks::{Ask, Said, ask_key};
-use crate::sessions::made;
-use ob_meddle::{Act, Meddle, MeddledStore, Spot};
+use crate::sessions::{meddled_store, new_index};
+use ob_meddle::{Act, Meddle, Spot};
 use ob_oram::{Index, OramErr};
 use ob_room::Room;
-use ob_seal::Keys;
 use ob_store::{BlockStore, MemStore};
-use ob_vault::{BaseRevs, Revisions, Vault};
+use ob_vault::{Revisions, Vault};
 use std::alloc::Global;
 use std::process::Abort;
 
@@ -81,18 +80,7 @@ fn make_place<S: BlockStore, R: Revisions>(
 #[test]
 fn stash_is_full(rt: HostRuntime) {
     let mut store = MemStore::new(rt.alloc());
-    let mut vault: Vault<BaseRevs> = Vault::new(rt.alloc(), Keys::derive(&[0; 32]));
-    let mut room = Room::new(rt.alloc(), 26, 17, 1).expect(&rt, "rows");
-    let draws = [0; 32];
-    let index = made(
-        &rt,
-        rt.alloc(),
-        &mut store,
-        &mut vault,
-        &mut room,
-        1,
-        &draws,
-    );
+    let (vault, room, index) = new_index(&rt, rt.alloc(), &mut store, 26, 1, &[0; 32]);
     overfill(&rt, &mut store, vault, room, index);
 }
 
@@ -100,53 +88,33 @@ fn stash_is_full(rt: HostRuntime) {
 #[test]
 fn stash_is_just_full(rt: HostRuntime) {
     let mut store = MemStore::new(rt.alloc());
-    let mut vault: Vault<BaseRevs> = Vault::new(rt.alloc(), Keys::derive(&[0; 32]));
-    let mut room = Room::new(rt.alloc(), 26, 17, 1).expect(&rt, "rows");
-    let draws = [0; 32];
-    let index = made(
-        &rt,
-        rt.alloc(),
-        &mut store,
-        &mut vault,
-        &mut room,
-        1,
-        &draws,
-    );
+    let (vault, room, index) = new_index(&rt, rt.alloc(), &mut store, 26, 1, &[0; 32]);
     make_place(&rt, &mut store, vault, room, index);
+}
+
+// Puts a key in, and looks for it if that went well.
+fn put_and_get<S: BlockStore, R: Revisions>(
+    rt: &impl Abort,
+    store: &mut S,
+    mut vault: Vault<R>,
+    mut room: Room,
+    mut index: Index,
+) -> Result<Said, OramErr>
+    requires { IsSession room index (at R.state vault (S.state store.old)) }
+{
+    let put = Ask::Insert(5);
+    match ask_key(rt, store, &mut vault, &mut room, &mut index, 0, put, 0) {
+        Ok(_) => ask_key(rt, store, &mut vault, &mut room, &mut index, 0, Ask::Get, 0),
+        Err(e) => Err(e),
+    }
 }
 
 // An index of one key, which is made by the accesses 1 to 7: it is put in by the accesses 8 to 17, and looked for by
 // the next ones. One that is disturbed ends with this error, and with the access of this number.
 fn meddled(rt: &impl Abort, alloc: Global, before: u64, act: Act, want: OramErr, last: u64) {
-    let mut list = Vec::new(alloc);
-    let pushed = list.push(Meddle { before, act });
-    assert!(rt; pushed.is_ok());
-    let mut store = MeddledStore::new(alloc, list);
-    let mut vault: Vault<BaseRevs> = Vault::new(alloc, Keys::derive(&[0; 32]));
-    let mut room = Room::new(alloc, 6, 17, 1).expect(rt, "rows");
-    let mut index = made(rt, alloc, &mut store, &mut vault, &mut room, 1, &[0]);
-    let mut got = ask_key(
-        rt,
-        &mut store,
-        &mut vault,
-        &mut room,
-        &mut index,
-        0,
-        Ask::Insert(5),
-        0,
-    );
-    if got.is_ok() {
-        got = ask_key(
-            rt,
-            &mut store,
-            &mut vault,
-            &mut room,
-            &mut index,
-            0,
-            Ask::Get,
-            0,
-        );
-    }
+    let mut store = meddled_store(rt, alloc, Meddle { before, act });
+    let (vault, room, index) = new_index(rt, alloc, &mut store, 6, 1, &[0]);
+    let got = put_and_get(rt, &mut store, vault, room, index);
     assert!(rt; got == Err(want));
     assert_eq!(rt; store.count(), last);
 }

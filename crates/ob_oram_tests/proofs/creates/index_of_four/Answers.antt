@@ -3,7 +3,7 @@ use Rattle.std.proofs.Math.Nat.{pow-le-pow_right}
 use Rattle.ob_tree.proofs.PathLemmas.{power_next}
 use Rattle.ob_base.specs.Indexes.{IsHeight, tree_blocks}
 use Rattle.ob_vault.proofs.WordLemmas.{anew_starts, starts_anew}
-use Rattle.ob_oram_tests.proofs.creates.makes_both_regions.Goals as goal
+use Rattle.ob_oram_tests.proofs.creates.index_of_four.Goals as goal
 
 -- a tree for four keys has 28 blocks
 few : (h : ℕ) → IsHeight 4 h → tree_blocks h ≤ 28
@@ -14,8 +14,8 @@ few h is =
     omega (arith, most, ap (λ (k : ℕ). 2 ^ k) next ∙ power_next h)
 
 pub create-requires-clause-starts : goal.create-requires-clause-starts
-create-requires-clause-starts g c = λ h is.
+create-requires-clause-starts c = λ h is.
     let rests = c.room.ensures.rests in
-    let none = rests.asked ∙ c.new-store.ensures.asked in
+    let none = rests.asked ∙ c.requires.none in
     anew_starts (starts_anew (c.new-vault.ensures.ready _ none) c.new-vault.ensures.started)
     (omega (arith, few h is, c.in_ok-room-2.ensures.spare)) (omega (arith, ap length none))
