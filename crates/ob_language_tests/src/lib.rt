@@ -1,4 +1,5 @@
-//! Tests of the language: tokens, conditions, statements, what they mean and what they answer.
+//! Tests of the language: tokens, conditions, statements, what they mean and what they answer, and of which plan is
+//! chosen for a SELECT.
 #![tactic(auto)]
 
 #[cfg(test)]
@@ -9,6 +10,8 @@ mod case;
 mod conditions;
 #[cfg(test)]
 mod meanings;
+#[cfg(test)]
+mod plans;
 #[cfg(test)]
 mod spelled;
 #[cfg(test)]

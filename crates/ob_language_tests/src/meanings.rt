@@ -51,15 +51,15 @@ fn refusal(alloc: Global, late: bool, text: &str) -> Result<Option<Refusal>, Fai
 
 #[test]
 fn refuses_early(rt: HostRuntime) -> Result<(), Fail> {
-    let alloc = rt.alloc();
-    let found = refusal(alloc, false, "DROP TABLE u;")?;
-    assert_eq!(rt; found, Some(Refusal::NoTable));
-    let found = refusal(alloc, false, "UPDATE t SET id = 9;")?;
-    assert_eq!(rt; found, Some(Refusal::KeyRule));
-    let found = refusal(alloc, true, "UPDATE t SET id = 9;")?;
-    assert_eq!(rt; found, Some(Refusal::Limit));
-    let found = refusal(alloc, false, "DELETE FROM t WHERE x = 10;")?;
-    assert_eq!(rt; found, Some(Refusal::NoColumn));
+    for (late, text, wanted) in [
+        (false, "DROP TABLE u;", Refusal::NoTable),
+        (false, "UPDATE t SET id = 9;", Refusal::KeyRule),
+        (true, "UPDATE t SET id = 9;", Refusal::Limit),
+        (false, "DELETE FROM t WHERE x = 10;", Refusal::NoColumn),
+    ] {
+        let found = refusal(rt.alloc(), late, text)?;
+        assert_eq!(rt; found, Some(wanted), "of {text}");
+    }
     Ok(())
 }
 

@@ -1,62 +1,90 @@
 //! Statements written out with each of their parts in its place, for tests: a text between `<` and `>`, and
 //! each comparison, NOT, AND and OR in parentheses of its own.
-use ob_base::{ColumnName, ComparisonOperator, Name, NewColumn, NewKind, Shape, Source};
+use ob_base::{ColumnName, ComparisonOperator, Items, Name, NewColumn, NewKind, Shape, Source};
 use ob_sql::{Against, Cond, CondTree, Listed, Literal, SelectRows, SelectTotals, Set, Stmt};
 use std::alloc::{AllocError, Global};
 
 /// The statement, written out.
 pub(crate) fn spelled(alloc: Global, stmt: &Stmt) -> Result<String, AllocError> {
     let mut out = String::new(alloc);
+    statement(&mut out, stmt)?;
+    Ok(out)
+}
+
+fn statement(out: &mut String, stmt: &Stmt) -> Result<(), AllocError> {
     match stmt {
         Stmt::Create {
             table,
             columns,
             capacity,
             shape,
-        } => {
-            headed(&mut out, "create ", table)?;
-            for column in columns.as_slice() {
-                new_column(&mut out, column)?;
-            }
-            write!(out, " capacity {capacity}")?;
-            if *shape == Shape::Indexed {
-                out.push_str(" indexed")?;
-            }
-        }
+        } => create(out, table, columns.as_slice(), *capacity, *shape),
         Stmt::Insert {
             table,
             columns,
             values,
-        } => {
-            headed(&mut out, "insert ", table)?;
-            if let Some(columns) = columns {
-                out.push_str(" columns")?;
-                for column in columns.as_slice() {
-                    headed(&mut out, " ", column)?;
-                }
-            }
-            out.push_str(" values")?;
-            for value in values.as_slice() {
-                out.push_str(" ")?;
-                literal(&mut out, value)?;
-            }
-        }
-        Stmt::Update { table, sets, cond } => {
-            headed(&mut out, "update ", table)?;
-            for set in sets.as_slice() {
-                assignment(&mut out, set)?;
-            }
-            filter(&mut out, cond)?;
-        }
+        } => insert(out, table, columns, values.as_slice()),
+        Stmt::Update { table, sets, cond } => update(out, table, sets.as_slice(), cond),
         Stmt::Delete { table, cond } => {
-            headed(&mut out, "delete ", table)?;
-            filter(&mut out, cond)?;
+            headed(out, "delete ", table)?;
+            filter(out, cond)
         }
-        Stmt::Drop { table } => headed(&mut out, "drop ", table)?,
-        Stmt::SelectRows(found) => rows(&mut out, found)?,
-        Stmt::SelectTotals(found) => totals(&mut out, found)?,
+        Stmt::Drop { table } => headed(out, "drop ", table),
+        Stmt::SelectRows(found) => rows(out, found),
+        Stmt::SelectTotals(found) => totals(out, found),
     }
-    Ok(out)
+}
+
+fn create(
+    out: &mut String,
+    table: &Name,
+    columns: &[NewColumn],
+    capacity: u32,
+    shape: Shape,
+) -> Result<(), AllocError> {
+    headed(out, "create ", table)?;
+    for column in columns {
+        new_column(out, column)?;
+    }
+    write!(out, " capacity {capacity}")?;
+    match shape {
+        Shape::Flat => Ok(()),
+        Shape::Indexed => out.push_str(" indexed"),
+    }
+}
+
+fn insert(
+    out: &mut String,
+    table: &Name,
+    columns: &Option<Items<Name>>,
+    values: &[Literal],
+) -> Result<(), AllocError> {
+    headed(out, "insert ", table)?;
+    if let Some(columns) = columns {
+        out.push_str(" columns")?;
+        for column in columns.as_slice() {
+            headed(out, " ", column)?;
+        }
+    }
+    out.push_str(" values")?;
+    for value in values {
+        out.push_str(" ")?;
+        literal(out, value)?;
+    }
+    Ok(())
+}
+
+fn update(
+    out: &mut String,
+    table: &Name,
+    sets: &[Set],
+    cond: &Option<Cond>,
+) -> Result<(), AllocError> {
+    headed(out, "update ", table)?;
+    for set in sets {
+        assignment(out, set)?;
+    }
+    filter(out, cond)
 }
 
 fn bytes(out: &mut String, bytes: &[u8]) -> Result<(), AllocError> {
