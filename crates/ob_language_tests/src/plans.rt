@@ -1,3 +1,6 @@
+//! Which plan is chosen for a SELECT.
+ghost use Rattle.std.specs.Prelude.{◌≡◌};
+
 use ob_base::{Items, Plan, Public};
 use ob_plan::{padded_plan, plan};
 use std::alloc::Global;
