@@ -1,17 +1,13 @@
-//! Statements written out with each of their parts in its place, for tests: a text between `<` and `>`, and
-//! each comparison, NOT, AND and OR in parentheses of its own.
-use ob_base::{ColumnName, ComparisonOperator, Items, Name, NewColumn, NewKind, Shape, Source};
-use ob_sql::{Against, Cond, CondTree, Listed, Literal, SelectRows, SelectTotals, Set, Stmt};
-use std::alloc::{AllocError, Global};
+//! What is read, written out with each of its parts in its place: a text between `<` and `>`, and each comparison, NOT, AND
+//! and OR in parentheses of its own.
+use ob_base::{
+    ColumnName, ComparisonOperator, Items, Name, NewColumn, NewKind, Shape, Skeleton, Source,
+};
+use ob_sql::{Against, Cond, CondTree, Listed, Literal, SelectTotals, Set, Stmt};
+use std::alloc::AllocError;
 
-/// The statement, written out.
-pub(crate) fn spelled(alloc: Global, stmt: &Stmt) -> Result<String, AllocError> {
-    let mut out = String::new(alloc);
-    statement(&mut out, stmt)?;
-    Ok(out)
-}
-
-fn statement(out: &mut String, stmt: &Stmt) -> Result<(), AllocError> {
+/// A statement.
+pub fn statement(out: &mut String, stmt: &Stmt) -> Result<(), AllocError> {
     match stmt {
         Stmt::Create {
             table,
@@ -23,15 +19,51 @@ fn statement(out: &mut String, stmt: &Stmt) -> Result<(), AllocError> {
             table,
             columns,
             values,
-        } => insert(out, table, columns, values.as_slice()),
+        } => {
+            into(out, table, columns)?;
+            literals(out, values.as_slice())
+        }
         Stmt::Update { table, sets, cond } => update(out, table, sets.as_slice(), cond),
         Stmt::Delete { table, cond } => {
             headed(out, "delete ", table)?;
             filter(out, cond)
         }
         Stmt::Drop { table } => headed(out, "drop ", table),
-        Stmt::SelectRows(found) => rows(out, found),
+        Stmt::SelectRows(select) => {
+            rows(out, &select.list, &select.source)?;
+            filter(out, &select.cond)
+        }
         Stmt::SelectTotals(found) => totals(out, found),
+    }
+}
+
+/// What of a statement a watcher may know.
+pub fn outline(out: &mut String, skeleton: &Skeleton) -> Result<(), AllocError> {
+    match skeleton {
+        Skeleton::Create {
+            table,
+            columns,
+            capacity,
+            shape,
+        } => create(out, table, columns.as_slice(), *capacity, *shape),
+        Skeleton::Insert { table, columns } => into(out, table, columns),
+        Skeleton::Update { table, columns } => {
+            headed(out, "update ", table)?;
+            names(out, columns.as_slice())
+        }
+        Skeleton::Delete { table } => headed(out, "delete ", table),
+        Skeleton::Drop { table } => headed(out, "drop ", table),
+        Skeleton::Rows { source, columns } => rows(out, columns, source),
+        Skeleton::Groups {
+            table,
+            columns,
+            key,
+        } => {
+            out.push_str("totals")?;
+            columns_named(out, columns.as_slice())?;
+            headed(out, " from ", table)?;
+            group(out, key)
+        }
     }
 }
 
@@ -53,19 +85,25 @@ fn create(
     }
 }
 
-fn insert(
-    out: &mut String,
-    table: &Name,
-    columns: &Option<Items<Name>>,
-    values: &[Literal],
-) -> Result<(), AllocError> {
+fn into(out: &mut String, table: &Name, columns: &Option<Items<Name>>) -> Result<(), AllocError> {
     headed(out, "insert ", table)?;
-    if let Some(columns) = columns {
-        out.push_str(" columns")?;
-        for column in columns.as_slice() {
-            headed(out, " ", column)?;
+    match columns {
+        Some(columns) => {
+            out.push_str(" columns")?;
+            names(out, columns.as_slice())
         }
+        None => Ok(()),
     }
+}
+
+fn names(out: &mut String, names: &[Name]) -> Result<(), AllocError> {
+    for name in names {
+        headed(out, " ", name)?;
+    }
+    Ok(())
+}
+
+fn literals(out: &mut String, values: &[Literal]) -> Result<(), AllocError> {
     out.push_str(" values")?;
     for value in values {
         out.push_str(" ")?;
@@ -109,8 +147,8 @@ fn new_column(out: &mut String, column: &NewColumn) -> Result<(), AllocError> {
     write!(out, ":{keys}")
 }
 
-/// The literal, written out.
-pub(crate) fn literal(out: &mut String, literal: &Literal) -> Result<(), AllocError> {
+/// A literal.
+pub fn literal(out: &mut String, literal: &Literal) -> Result<(), AllocError> {
     match literal {
         Literal::Int(value) => write!(out, "{value}"),
         Literal::OutOfRange => out.push_str("out-of-range"),
@@ -129,8 +167,8 @@ fn assignment(out: &mut String, set: &Set) -> Result<(), AllocError> {
     literal(out, &set.value)
 }
 
-/// The name of a column, written out.
-pub(crate) fn column(out: &mut String, column: &ColumnName) -> Result<(), AllocError> {
+/// The name of a column.
+pub fn column(out: &mut String, column: &ColumnName) -> Result<(), AllocError> {
     if let Some(table) = &column.table {
         bytes(out, table.as_bytes())?;
         out.push_str(".")?;
@@ -163,8 +201,15 @@ fn comparison(
     }
 }
 
-/// The condition, written out.
-pub(crate) fn condition(out: &mut String, tree: &CondTree) -> Result<(), AllocError> {
+/// A condition, or `none`.
+pub fn condition_or_none(out: &mut String, cond: &Option<Cond>) -> Result<(), AllocError> {
+    match cond {
+        Some(found) => condition(out, found.tree()),
+        None => out.push_str("none"),
+    }
+}
+
+fn condition(out: &mut String, tree: &CondTree) -> Result<(), AllocError> {
     out.push_str("(")?;
     match tree {
         CondTree::Compare(left, order, right) => comparison(out, left, *order, right)?,
@@ -210,18 +255,25 @@ fn item(out: &mut String, item: &Listed) -> Result<(), AllocError> {
     }
 }
 
-fn rows(out: &mut String, select: &SelectRows) -> Result<(), AllocError> {
+fn columns_named(out: &mut String, columns: &[ColumnName]) -> Result<(), AllocError> {
+    for named in columns {
+        of_column(out, " ", named)?;
+    }
+    Ok(())
+}
+
+fn rows(
+    out: &mut String,
+    list: &Option<Items<ColumnName>>,
+    source: &Source,
+) -> Result<(), AllocError> {
     out.push_str("select")?;
-    match &select.list {
-        Some(columns) => {
-            for named in columns.as_slice() {
-                of_column(out, " ", named)?;
-            }
-        }
+    match list {
+        Some(columns) => columns_named(out, columns.as_slice())?,
         None => out.push_str(" all")?,
     }
-    match &select.source {
-        Source::Table(name) => headed(out, " from ", name)?,
+    match source {
+        Source::Table(name) => headed(out, " from ", name),
         Source::Join {
             left,
             right,
@@ -231,10 +283,9 @@ fn rows(out: &mut String, select: &SelectRows) -> Result<(), AllocError> {
             headed(out, " from ", left)?;
             headed(out, " join ", right)?;
             of_column(out, " on ", on)?;
-            of_column(out, " = ", equals)?;
+            of_column(out, " = ", equals)
         }
     }
-    filter(out, &select.cond)
 }
 
 fn totals(out: &mut String, select: &SelectTotals) -> Result<(), AllocError> {
@@ -244,7 +295,11 @@ fn totals(out: &mut String, select: &SelectTotals) -> Result<(), AllocError> {
     }
     headed(out, " from ", &select.table)?;
     filter(out, &select.cond)?;
-    match &select.group {
+    group(out, &select.group)
+}
+
+fn group(out: &mut String, key: &Option<ColumnName>) -> Result<(), AllocError> {
+    match key {
         Some(named) => of_column(out, " group ", named),
         None => Ok(()),
     }
