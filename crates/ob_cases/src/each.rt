@@ -3,7 +3,8 @@
 use crate::case::{Case, LineErr, push_case};
 use crate::cuts::{push_cut, push_parted};
 use crate::file::Lines;
-use crate::items::{Item, blocks_of, is_access, items_of, region_in};
+use crate::items::{Item, blocks_of, is_access, is_of_itself, items_of, region_in};
+use crate::unwritten::push_unwritten;
 use std::alloc::Global;
 
 // What others do to a block before it is read.
@@ -51,6 +52,8 @@ fn push_made(
         "access fails" => push_failing(alloc, of, items, cases),
         "block put back" => push_changed(alloc, of, items, Change::PutBack, cases),
         "block exchanged" => push_changed(alloc, of, items, Change::Exchanged, cases),
+        "answer fails" => push_unwritten(alloc, of, items, "writes", cases),
+        "trace fails" => push_unwritten(alloc, of, items, "traces", cases),
         "byte last" => push_cut(alloc, of, items, cases),
         _ => Err(LineErr::Form),
     }
@@ -183,7 +186,7 @@ fn is_opened(items: &[Item], at: Item, region: &str) -> bool {
 fn feed_whole(alloc: Global, case: &mut Case, items: &[Item]) -> Result<(), LineErr> {
     for item in items {
         match item.head {
-            "each" | "else" | "total" | "differs" => {}
+            head if is_of_itself(head) => {}
             _ => case.take_part(alloc, item.head, item.rest)?,
         }
     }
@@ -197,7 +200,7 @@ fn feed_to(alloc: Global, case: &mut Case, items: &[Item], at: Item) -> Result<(
         let is_last = item.run == at.run;
         match item.head {
             _ if item.run > at.run => {}
-            "each" | "else" | "total" | "differs" => {}
+            head if is_of_itself(head) => {}
             "<" | "@" | "mark" if is_past => {}
             "status" if is_last => {}
             _ => case.take_part(alloc, item.head, item.rest)?,
