@@ -1,6 +1,7 @@
 pub mod Stops
 pub mod Schemas
 pub mod Engines
+pub mod Indexed
 pub mod Refusals
 pub mod Agreeing
 pub mod Running

@@ -8,13 +8,12 @@ use Rattle.ob_base.specs.declared.refusal.Refusal.{Refusal}
 use Rattle.ob_base.specs.declared.schema.Heading.{Heading}
 use Rattle.ob_base.specs.declared.schema.Shape.TheVariants.{Flat}
 use Rattle.ob_base.specs.declared.seen.End.{End}
-use Rattle.ob_base.specs.declared.seen.Seen.{Seen}
 use Rattle.ob_base.specs.declared.skeleton.Skeleton.{Skeleton}
 use Rattle.ob_headline.specs.Bases.{public_with}
 use Rattle.ob_mean.proofs.FlatLemmas.{makes_flat}
-use Rattle.ob_mean.proofs.FlatSessions.{draws_rest, draws_stay, next_flat as flat_behind}
+use Rattle.ob_mean.proofs.FlatSessions.{draws_rest, draws_stay}
 use Rattle.ob_mean.specs.Flats.{AreFlat}
-use Rattle.ob_mean.specs.Lawful.{HoldsLeaf, Lawful}
+use Rattle.ob_mean.specs.Lawful.{HoldsLeaf}
 use Rattle.ob_mean.specs.Refusals.{early_refusal, limits_of}
 use Rattle.ob_mean.specs.Replay.{IsCutOff, Session, after, is_access}
 use Rattle.ob_mean.specs.Verdict.{Tables, is_late}
@@ -23,9 +22,7 @@ use Rattle.ob_reopen.specs.Reopened.{opened_public}
 use Rattle.ob_reopen.specs.Resting.{AreKept, Rests}
 use Rattle.ob_reopen.specs.declared.closing.Closing.{Closing}
 use Rattle.ob_reopen.specs.declared.listed.Listed.{Listed}
-use Rattle.ob_script.specs.Trace.{next}
 use Rattle.ob_seal.specs.KeySet.{KeySet}
-use Rattle.ob_sql.specs.Skeleton.{skeleton}
 use Rattle.ob_sql.specs.declared.stmt.Stmt.{Stmt}
 use Rattle.ob_store.specs.State.{KeptRegion}
 
@@ -34,10 +31,6 @@ abbrev pub IsFlat : Public → Type 0
 IsFlat p = AreFlat (headings_of p.tables)
 
 -- ---- a statement
--- whatever is seen of it that is lawful, it leaves them so
-pub next_flat : (p : Public) (m : ℕ) (stmt : Stmt) (s : Skeleton) (here : Seen) → s ≡ skeleton stmt → Lawful p m stmt here → IsFlat p → IsFlat (next p s here)
-next_flat p m stmt s here is lawful flat = subst (λ (k : Skeleton). IsFlat (next p k here)) (sym is) (flat_behind p m stmt here lawful flat)
-
 -- it draws nothing, whether the store cuts it off or not
 pub nothing_drawn : (s : Session) (stmt : Stmt) (broken : Option ℕ) → IsFlat s.public → IsCutOff broken s stmt → (after broken s stmt).draws ≡ s.draws
 nothing_drawn s stmt (Some n) flat cuts = draws_stay s stmt flat (makes_flat (is_late s.asked) (limits_of s.public) (headings s.tables) stmt cuts.0) (Some n)

@@ -11,9 +11,11 @@ pub mod PieceLemmas
 pub mod RerunLemmas
 pub mod KindLemmas
 pub mod CutLemmas
+pub mod FullLemmas
 mod Spelt
 pub mod ShownLemmas
 pub mod PlainLemmas
+pub mod IndexWrites
 pub mod OwnLemmas
 pub mod AloneLemmas
 pub mod BetweenLemmas

@@ -1,6 +1,6 @@
 -- What a command makes of the words.
-use Rattle.std.specs.Prelude.{IfOk, IsSome}
-use Rattle.std.proofs.Common.{inl, inr, sym, ap, subst, refl, Bool, true, false, ◌≡◌, ◌∙◌, List, [], Option, Some, None, Ok, Err, Result}
+use Rattle.std.specs.Prelude.{IfOk, IsSome, nat_le, codes}
+use Rattle.std.proofs.Common.{inl, inr, ◌&&◌, ◌+◌, ◌*◌, ℕ, if◌then◌else◌, sym, ap, subst, refl, Bool, true, false, ◌≡◌, ◌∙◌, List, [], Option, Some, None, Ok, Err, Result}
 use Rattle.clap.proofs.WalkLemmas.{first_value-rows}
 use Rattle.clap.specs.Words.{AddsArg, App, HasKind, Text, HasMatchesOf, app_of, kind_of, rule_of, with_rule, fault_of, first_of, first_value, is_simple, is_simple_and_free, matches_of, found_of}
 use Rattle.clap.specs.declared.builder.arg.Arg.{Arg}
@@ -9,8 +9,9 @@ use Rattle.clap.specs.declared.error.Error.{Error}
 use Rattle.clap.specs.declared.error.kind.ErrorKind.TheVariants.{OutOfMemory}
 use Rattle.clap.specs.declared.parser.matches.ArgMatches.{ArgMatches}
 use Rattle.ob_base.specs.declared.config.Config.{Config}
-use Rattle.ob_headline.specs.Settings.{IsTaken, MeddleParses, ParsesAs, generated_by, settings_of}
-use Rattle.ob_headline.specs.Usage.{Parses, changes_of, is_traced, meddle_usage, value_of}
+use Rattle.ob_base.specs.declared.config.Plan.{Plan}
+use Rattle.ob_headline.specs.Settings.{IsTaken, MeddleParses, ParsesAs, generated_by, joined, may_mark, may_pad, settings_in, settings_of}
+use Rattle.ob_headline.specs.Usage.{Parses, changes_of, is_kept, is_set, is_traced, kept_usage, meddle_usage, value_of}
 use Rattle.ob_headline.specs.declared.seed.Seed.{Seed}
 use Rattle.ob_shell.specs.WordsRead.{words_by, words_with}
 use Rattle.ob_shell.specs.declared.words.Words.{Words}
@@ -91,3 +92,33 @@ no_changes words none taken = let some = taken.2.changes in absurd (cc (none, so
 -- where the words have no fault memory was wanting
 pub out_of_memory : (e : Error) → HasKind [] e → kind_of e ≡ OutOfMemory
 out_of_memory e kind = elim kind [ inl is ↦ is | inr among ↦ absurd among ]
+
+-- ---- whether tables are kept
+module _ (keep : Bool) (config : Config) where
+  fits_keep : (fits : Bool) (c : Config) → c.keep ≡ keep → (if fits then Some c else None) ≡ Some config → config.keep ≡ keep
+  fits_keep true c same is = let of : c ≡ config = cc is in sym (ap (λ (x : Config). x.keep) of) ∙ same
+  fits_keep false c same is = absurd (cc is)
+
+  joined_keep : (buffer depth : Option ℕ) (plan : Option (Option Plan)) (pack : Option ℕ) (pad : Option (Option ℕ)) (stash max_input : Option ℕ) → joined buffer depth plan pack pad stash keep max_input ≡ Some config
+      → config.keep ≡ keep
+  joined_keep None depth plan pack pad stash max_input is = absurd (cc is)
+  joined_keep (Some buffer) None plan pack pad stash max_input is = absurd (cc is)
+  joined_keep (Some buffer) (Some depth) None pack pad stash max_input is = absurd (cc is)
+  joined_keep (Some buffer) (Some depth) (Some plan) None pad stash max_input is = absurd (cc is)
+  joined_keep (Some buffer) (Some depth) (Some plan) (Some pack) None stash max_input is = absurd (cc is)
+  joined_keep (Some buffer) (Some depth) (Some plan) (Some pack) (Some pad) None max_input is = absurd (cc is)
+  joined_keep (Some buffer) (Some depth) (Some plan) (Some pack) (Some pad) (Some stash) None is = absurd (cc is)
+  joined_keep (Some buffer) (Some depth) (Some plan) (Some pack) (Some pad) (Some stash) (Some max_input) is =
+      fits_keep (nat_le (3 * pack + 1) buffer && may_pad pad plan)
+      (record { buffer = buffer; depth = depth; pack = pack; plan = plan; pad = pad; stash = stash; keep = keep; max_input = max_input }) refl is
+
+  marked_keep : (value : Text → Option Text) (may : Bool) → is_set (value (codes "keep")) ≡ keep → (if may then settings_in value else None) ≡ Some config → config.keep ≡ keep
+  marked_keep value false same is = absurd (cc is)
+  marked_keep value true same is =
+      joined_keep _ _ _ _ _ _ _ (subst (λ (b : Bool). joined _ _ _ _ _ _ b _ ≡ Some config) same is)
+
+-- the settings say so where the words do
+pub kept_settings : (words : List Text) (config : Config) → settings_of kept_usage words ≡ Some config → config.keep ≡ is_kept words
+kept_settings words config is =
+    let value = value_of kept_usage words in
+    marked_keep (is_kept words) config value (may_mark (value (codes "mark")) (is_set (value (codes "keep")))) refl is

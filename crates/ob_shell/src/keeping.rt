@@ -1,13 +1,15 @@
 //! Runs whose tables are kept for the next one.
 ghost use Rattle.std.specs.Prelude.{◌≡◌, ◌≤◌, ◌<◌, ◌+◌, ◌^◌, ℕ, List, [], Err, IfErr, IfOk, Some, false, map, string_bytes, true};
 ghost use Rattle.ob_base.specs.declared.config.Config.{Config};
-ghost use Rattle.ob_exec.specs.Agreeing.{count_of, high_of};
+ghost use Rattle.ob_base.specs.Stored.{headings_of};
+ghost use Rattle.ob_exec.specs.Agreeing.{count_of, high_of, public_of};
 ghost use Rattle.ob_gen.specs.Tally.{empty_tally};
 ghost use Rattle.ob_headline.specs.Bases.{Base};
 ghost use Rattle.ob_headline.specs.Keeping;
 ghost use Rattle.ob_headline.specs.Settings.{IsTaken, settings_of};
 ghost use Rattle.ob_headline.specs.Usage.{is_kept, is_traced, kept_usage};
 ghost use Rattle.ob_headline.specs.Words.{faults_of, outside_of};
+ghost use Rattle.ob_mean.specs.Flats.{AreFlat};
 ghost use Rattle.ob_shell.specs.Closed.{LineWritten, Untouched, Unwritten};
 ghost use Rattle.ob_shell.specs.Engaging.{ClosesRun, EndsUnserved, Engages, FindsEngine};
 ghost use Rattle.ob_shell.specs.Engaging.{KeptConcludedBy, KeptGenerated, RanKept, ServesRun, StartsRun};
@@ -51,7 +53,7 @@ fn kept_status(ending: KeptEnding) -> u8
 {
     match ending {
         KeptEnding::Plain(ending) => status_of(ending),
-        KeptEnding::OtherPack => 2,
+        KeptEnding::OtherPack | KeptEnding::Saved => 2,
         KeptEnding::StoreFault => 3,
         KeptEnding::NotClosed => 9,
         KeptEnding::KeeperFault => 10,
@@ -64,6 +66,7 @@ fn kept_line(ending: KeptEnding) -> Line
     match ending {
         KeptEnding::Plain(ending) => last_line(ending),
         KeptEnding::OtherPack => Line::new(b"! pack\n"),
+        KeptEnding::Saved => Line::new(b"! saved\n"),
         KeptEnding::StoreFault => Line::new(b"! store fault\n"),
         KeptEnding::NotClosed => Line::new(b"! not closed\n"),
         KeptEnding::KeeperFault => Line::new(b"! keeper fault\n"),
@@ -145,6 +148,7 @@ fn find_engine<R: Revisions, S: Lasting, K: Keeper>(
     };
     match mark {
         Mark::InUse => Err(KeptEnding::NotClosed),
+        Mark::Begun | Mark::Saved { .. } => Err(KeptEnding::Saved),
         Mark::Fresh => match Engine::<R>::start(alloc, config, Keys::derive(key)) {
             Ok(engine) => Ok(engine),
             Err(_) => Err(stopped(Stop::NoMemory)),
@@ -210,6 +214,7 @@ fn close_run<R: Revisions, T: Sink, S: BlockStore, K: Keeper>(
 ) -> KeptEnded
     requires ready { IsReady R.state (machine_of engine (S.state store.old)) }
     requires few { count_of engine (S.state store.old) < 2 ^ 63 + 2 ^ 59 }
+    requires flat { AreFlat (headings_of (public_of engine).tables) }
     requires high { high ≡ high_of engine }
     ensures { ClosesRun R.state tally tracing engine result
         (S.state store.old) (S.state store.new) (T.written trace.old) (T.written trace.new)
@@ -245,6 +250,7 @@ fn serve_run<R: Revisions, I: Source, O: Sink, T: Sink, S: BlockStore, K: Keeper
 ) -> KeptEnded
     requires ready { IsReady R.state (machine_of engine (S.state store.old)) }
     requires few { count_of engine (S.state store.old) < 2 ^ 63 + 2 ^ 59 }
+    requires kept { (public_of engine).keep ≡ true }
     requires taken { feed.old.taken ≤ feed.old.limit }
     requires fed_by { IsFedBy feed.old (I.gave input.old) }
     ensures served { (base : Base) (config : Config) (key : List ℕ)
@@ -280,6 +286,7 @@ fn run_kept<I: Source, O: Sink, T: Sink, S: Lasting, K: Keeper>(
     keeper: &mut K,
 ) -> KeptEnded
     requires within { AreWithin words.config }
+    requires kept { words.config.keep ≡ true }
     requires fresh { (S.state store.old).asked ≡ [] }
     ensures { RanKept words.config words.trace result
         (outside_of (I.left input.old) (I.gave input.old) (O.written out.old) (T.written trace.old)
@@ -368,6 +375,7 @@ fn conclude_kept<O: Sink, S: BlockStore>(ended: KeptEnded, store: &S, out: &mut 
         }
         KeptEnding::Plain(Ending::Usage | Ending::BadKey | Ending::Ran(Err(_)))
         | KeptEnding::OtherPack
+        | KeptEnding::Saved
         | KeptEnding::StoreFault
         | KeptEnding::NotClosed
         | KeptEnding::KeeperFault => close_kept(ended, out),
@@ -386,6 +394,7 @@ fn keep_generated<O: Sink, T: Sink, S: Lasting, K: Keeper>(
     keeper: &mut K,
 ) -> Report
     requires within { AreWithin words.config }
+    requires kept { words.config.keep ≡ true }
     requires fresh { (S.state store.old).asked ≡ [] }
     ensures { KeptGenerated words.config words.trace seed
         (T.written trace.old) (T.written trace.new) (S.state store.old) (S.state store.new)

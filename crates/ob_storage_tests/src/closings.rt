@@ -52,6 +52,7 @@ fn listed(name: &[u8], schema: Schema, capacity: u32, region: u64, number: u64) 
             region,
         },
         number,
+        salt: None,
     }
 }
 

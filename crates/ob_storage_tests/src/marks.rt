@@ -16,6 +16,20 @@ const fn closed(region: u64, blocks: u32, number: u64, pack: u8) -> Mark {
     }
 }
 
+const SALT: [u8; 16] = [
+    0, 1, 2, 3, 4, 5, 6, 7, 8, 9, 10, 11, 12, 13, 254, 255,
+];
+
+const fn saved(region: u64, blocks: u32, number: u64, pack: u8) -> Mark {
+    Mark::Saved {
+        region,
+        blocks,
+        number,
+        pack,
+        salt: SALT,
+    }
+}
+
 // The line that a mark is spelt as.
 fn line_of(alloc: Global, mark: &Mark) -> Result<Vec<u8>, Fail> {
     let mut spelt = Vec::new(alloc);
@@ -33,6 +47,15 @@ fn reads_what_it_spells(rt: HostRuntime) -> Result<(), Fail> {
             closed(LAST, 65, LAST, 16),
             "closed 9223372036854775807 65 9223372036854775807 16\n",
         ),
+        (Mark::Begun, "begun\n"),
+        (
+            saved(20, 3, 104, 8),
+            "saved 20 3 104 8 000102030405060708090a0b0c0dfeff\n",
+        ),
+        (
+            saved(LAST, 65, LAST, 16),
+            "saved 9223372036854775807 65 9223372036854775807 16 000102030405060708090a0b0c0dfeff\n",
+        ),
     ] {
         let spelt = line_of(rt.alloc(), &mark)?;
         assert!(rt; spelt.as_slice() == line.as_bytes(), "of {line}");
@@ -48,7 +71,7 @@ fn spells_nothing_of_a_fresh_mark(rt: HostRuntime) -> Result<(), Fail> {
 }
 
 // Lines of a form that no mark is spelt in, and those with numbers that no mark has.
-const REFUSED: [&str; 21] = [
+const REFUSED: [&str; 31] = [
     "",
     "in use",
     "in use\n\n",
@@ -70,6 +93,16 @@ const REFUSED: [&str; 21] = [
     "closed 1 4294967297 1 1\n",
     "closed 1 1 1 17\n",
     "closed 1 1 1 257\n",
+    "begun",
+    "begun 1\n",
+    "saved 1 1 1 1\n",
+    "saved 1 1 1 1 \n",
+    "saved 1 1 1 1 000102030405060708090a0b0c0dfef\n",
+    "saved 1 1 1 1 000102030405060708090a0b0c0dfeff0\n",
+    "saved 1 1 1 1 000102030405060708090A0B0C0DFEFF\n",
+    "saved 1 1 1 1 000102030405060708090a0b0c0dfefg\n",
+    "saved 1 1 1 1 000102030405060708090a0b0c0dfeff",
+    "closed 1 1 1 1 000102030405060708090a0b0c0dfeff\n",
 ];
 
 #[test]
