@@ -4,6 +4,16 @@ pub mod RunLemmas
 pub mod ToldLemmas
 pub mod SealLemmas
 pub mod HeldLemmas
+pub mod IndexTables
+pub mod LeavesRead
+pub mod IndexHeld
+pub mod IndexKinds
+pub mod IndexRuns
+pub mod IndexMeans
+pub mod IndexStops
+pub mod IndexEmits
+pub mod IndexServed
+pub mod PlainLemmas
 pub mod FoundLemmas
 pub mod SilentLemmas
 pub mod MutateLemmas
@@ -11,6 +21,7 @@ pub mod CreateLemmas
 pub mod InsertLemmas
 pub mod ChangeLemmas
 pub mod DropLemmas
+pub mod DropIndex
 pub mod LawfulLemmas
 pub mod TotalsLemmas
 pub mod ReadLemmas

@@ -41,7 +41,7 @@ returns-in_default g c = record {
   serves =
       serves_as g.R.Revisions.state (Update c.args.table.now c.args.sets.now c.args.cond.now) c.args.self.now (g.S.BlockStore.state c.args.store.now) (g.S.BlockStore.state c.args.store.now) _ _ _ _
       c.cut.ensures.answer c.cut.ensures.seen
-      (unasked g.R.Revisions.state (Update c.args.table.now c.args.sets.now c.args.cond.now) c.args.self.now (g.S.BlockStore.state c.args.store.now) c.requires.agrees c.requires.allowed refl
+      (unasked g.R.Revisions.state (Update c.args.table.now c.args.sets.now c.args.cond.now) c.args.self.now (g.S.BlockStore.state c.args.store.now) c.requires.agrees c.requires.allowed refl c.requires.flat tt
       (g.S.BlockStore.state c.args.store.now) c.args.self.now.public.tables (rests_refl (g.S.BlockStore.state c.args.store.now)));
 }
 
@@ -50,7 +50,7 @@ returns-in_default-set_cells g c = record {
   serves =
       serves_as g.R.Revisions.state (Update c.args.table.now c.args.sets.now c.args.cond.now) c.args.self.now (g.S.BlockStore.state c.args.store.now) (g.S.BlockStore.state c.args.store.now) _ _ _ _
       c.cut-in_default-set_cells.ensures.answer c.cut-in_default-set_cells.ensures.seen
-      (unasked g.R.Revisions.state (Update c.args.table.now c.args.sets.now c.args.cond.now) c.args.self.now (g.S.BlockStore.state c.args.store.now) c.requires.agrees c.requires.allowed refl
+      (unasked g.R.Revisions.state (Update c.args.table.now c.args.sets.now c.args.cond.now) c.args.self.now (g.S.BlockStore.state c.args.store.now) c.requires.agrees c.requires.allowed refl c.requires.flat tt
       (g.S.BlockStore.state c.args.store.now) c.args.self.now.public.tables (rests_refl (g.S.BlockStore.state c.args.store.now)));
 }
 
@@ -59,7 +59,7 @@ returns-then-is_err g c = record {
   serves =
       serves_as g.R.Revisions.state (Update c.args.table.now c.args.sets.now c.args.cond.now) c.args.self.now (g.S.BlockStore.state c.args.store.now) (g.S.BlockStore.state c.make_room.new.store) _ _ _ _
       c.cut-then-is_err.ensures.answer c.cut-then-is_err.ensures.seen
-      (unasked g.R.Revisions.state (Update c.args.table.now c.args.sets.now c.args.cond.now) c.args.self.now (g.S.BlockStore.state c.args.store.now) c.requires.agrees c.requires.allowed refl
+      (unasked g.R.Revisions.state (Update c.args.table.now c.args.sets.now c.args.cond.now) c.args.self.now (g.S.BlockStore.state c.args.store.now) c.requires.agrees c.requires.allowed refl c.requires.flat tt
       (g.S.BlockStore.state c.make_room.new.store) c.args.self.now.public.tables c.make_room.ensures.rests);
 }
 
@@ -80,7 +80,7 @@ returns-in-Ok-update g c =
       serves =
           mutated g.R.Revisions.state (Update c.args.table.now c.args.sets.now c.args.cond.now) c.args.table.now rewrite_part Changed (λ slots. count_by (is_true pred) (rows slots))
           (map (option_map (updated pred cells))) old s (g.S.BlockStore.state c.make_room.new.store) c.update.new.vault c.update.new.room (g.S.BlockStore.state c.update.new.store)
-          c.table_at-i.result.0 table flat c.update.new.flat c.requires.agrees c.make_room.ensures.rests c.update.ensures.room found.here found.is c.requires.allowed
+          c.table_at-i.result.0 table flat c.update.new.flat c.requires.agrees c.make_room.ensures.rests c.update.ensures.room found.here found.is c.requires.allowed c.requires.flat
           (update_alters old.public (count_of old s) c.args.table.now c.args.sets.now c.args.cond.now table.heading pred cells pred_is cells_is)
           c.in-Ok-update.changed c.finish.new.self _ c.in-Ok-update.ensures.updates c.requires.lives (ap (λ (o : Outcome). Ok o) c.finish.ensures.answer)
           (c.finish.ensures.seen
@@ -104,7 +104,7 @@ returns g c =
       serves =
           unmutated g.R.Revisions.state (Update c.args.table.now c.args.sets.now c.args.cond.now) c.args.table.now rewrite_part Changed (λ slots. count_by (is_true pred) (rows slots))
           (map (option_map (updated pred cells))) old s (g.S.BlockStore.state c.make_room.new.store) c.update.new.vault c.update.new.room (g.S.BlockStore.state c.update.new.store)
-          c.table_at-i.result.0 table flat c.update.new.flat c.requires.agrees c.make_room.ensures.rests c.update.ensures.room found.here found.is c.requires.allowed
+          c.table_at-i.result.0 table flat c.update.new.flat c.requires.agrees c.make_room.ensures.rests c.update.ensures.room found.here found.is c.requires.allowed c.requires.flat
           (update_alters old.public (count_of old s) c.args.table.now c.args.sets.now c.args.cond.now table.heading pred cells pred_is cells_is)
           c.in-Err.error (c.count.result - c.count-before.result) c.cut-in-Err.new.self _ c.in-Err.ensures.updates (λ i. c.count.ensures i - c.count-before.ensures i) c.cut-in-Err.ensures.answer c.cut-in-Err.ensures.seen;
     }
