@@ -4,7 +4,6 @@ one; each also as two runs, cut behind each statement, with 1, 2 and 16 rows in 
 that lines `each ..` make, into crates/ob_cases/stdout, and looks whether README and the guide show what is served. Nothing
 that the program answers goes into any of it. It needs python3 alone, and takes a moment.
 """
-import itertools
 import pathlib
 import re
 
@@ -85,18 +84,14 @@ def made(lines):
     reads = [it.split()[1] for it in named if it[0] == "R"]
     blocks = {region: {it for it in named if it[0] in "RW" and it.split()[1] == region} for region in reads}
     typed = [rest for head, rest in parts if head == ">"]
-    typing = [head in (">", "times") for head, _ in parts]
-    begins = [now and not before for now, before in zip(typing, [False, *typing])]
-    begun = sum(begins)
-    asking = {n for (head, rest), n in zip(parts, itertools.accumulate(begins)) if n and head == "@" and rest}
     kinds = {
         "access fails": len(named),
         "block put back": len(reads),
         "block exchanged": sum(1 for it in reads if len({block.split()[2] for block in blocks[it]}) > 1),
         "byte last": SECRET + 1 + sum(len(line) + 1 for line in typed),
-        "answer fails": begun,
-        "trace fails": len(asking),
     }
+    pairs = zip(parts, [("", ""), *parts])
+    begun = sum(1 for (head, _), (before, _) in pairs if head == ">" and before != ">")
 
     def by(rest):
         return len(reads) if rest.startswith("block flipped ") else begun + 1 if rest.startswith("statement parts ") else kinds[rest]

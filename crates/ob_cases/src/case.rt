@@ -17,8 +17,6 @@ pub enum Part {
     Answers,
     Accesses,
     Total,
-    Asked,
-    Left,
     Status,
     Mark,
 }
@@ -30,8 +28,6 @@ impl Part {
             Part::Answers => "answers",
             Part::Accesses => "accesses",
             Part::Total => "total",
-            Part::Asked => "asked",
-            Part::Left => "left",
             Part::Status => "status",
             Part::Mark => "mark",
         }
@@ -43,24 +39,11 @@ impl Part {
             "answers" => Some(Part::Answers),
             "accesses" => Some(Part::Accesses),
             "total" => Some(Part::Total),
-            "asked" => Some(Part::Asked),
-            "left" => Some(Part::Left),
             "status" => Some(Part::Status),
             "mark" => Some(Part::Mark),
             _ => None,
         }
     }
-}
-
-/// What a sink takes.
-#[derive(Drop)]
-pub struct Taking {
-    /// The numbers of its calls that fail.
-    pub fail: Vec<u64>,
-    /// How many bytes it takes; without one more than there are.
-    pub room: Option<u64>,
-    /// How many bytes it has to have taken, of those that the lines spell; without one all.
-    pub taken: Option<u64>,
 }
 
 /// One run: what is typed, and what it must answer, ask and end with.
@@ -69,12 +52,6 @@ pub struct Run {
     pub words: Vec<String>,
     /// The input, from its first byte.
     pub input: Vec<u8>,
-    /// The numbers of the calls of the input that fail.
-    pub reads: Vec<u64>,
-    /// What the sink of the answers takes.
-    pub writes: Taking,
-    /// What the sink of the accesses takes.
-    pub traces: Taking,
     /// What others do to the store, as `--meddle` spells it.
     pub changes: Option<String>,
     /// What is answered, line by line; without one it isn't looked at.
@@ -82,12 +59,7 @@ pub struct Run {
     /// The accesses, one a line, as the trace has them; a line that is a number stands for so many of any
     /// kind. Without one the accesses aren't looked at.
     pub accesses: Option<Vec<u8>>,
-    /// How many accesses are asked, and traced.
     pub total: Option<u64>,
-    /// How many are asked, traced or not.
-    pub asked: Option<u64>,
-    /// How many bytes are read of the input behind the run, to its end or to a call that fails.
-    pub left: Option<u64>,
     pub status: u64,
     /// The mark that the keeper holds afterwards; without one it isn't looked at.
     pub mark: Option<Mark>,
@@ -143,31 +115,6 @@ impl From<AllocFailed<u64>> for LineErr {
     }
 }
 
-impl Taking {
-    // A sink that takes all.
-    fn new(alloc: Global) -> Taking {
-        Taking {
-            fail: Vec::new(alloc),
-            room: None,
-            taken: None,
-        }
-    }
-
-    // Takes which calls fail, or how many bytes it takes.
-    fn take(&mut self, rest: &str) -> Result<(), LineErr> {
-        if let Some(calls) = rest.strip_prefix("fail ") {
-            return push_numbers(&mut self.fail, calls);
-        }
-        match rest.strip_prefix("hold ") {
-            Some(room) => {
-                self.room = Some(number(room)?);
-                Ok(())
-            }
-            None => Err(LineErr::Form),
-        }
-    }
-}
-
 impl Run {
     // A run that types nothing and wants nothing.
     fn new(alloc: Global) -> Result<Run, LineErr> {
@@ -176,15 +123,10 @@ impl Run {
         Ok(Run {
             words: Vec::new(alloc),
             input,
-            reads: Vec::new(alloc),
-            writes: Taking::new(alloc),
-            traces: Taking::new(alloc),
             changes: None,
             answers: None,
             accesses: None,
             total: None,
-            asked: None,
-            left: None,
             status: 0,
             mark: None,
         })
@@ -220,35 +162,6 @@ impl Run {
             }
             "mark" => {
                 self.mark = Some(mark_of(rest)?);
-                Ok(())
-            }
-            _ => self.take_streams(head, rest),
-        }
-    }
-
-    // Takes a line of the input and of the sinks.
-    fn take_streams(&mut self, head: &str, rest: &str) -> Result<(), LineErr> {
-        match head {
-            "reads" => match rest.strip_prefix("fail ") {
-                Some(calls) => push_numbers(&mut self.reads, calls),
-                None => Err(LineErr::Form),
-            },
-            "writes" => self.writes.take(rest),
-            "traces" => self.traces.take(rest),
-            "written" => {
-                self.writes.taken = Some(number(rest)?);
-                Ok(())
-            }
-            "traced" => {
-                self.traces.taken = Some(number(rest)?);
-                Ok(())
-            }
-            "asked" => {
-                self.asked = Some(number(rest)?);
-                Ok(())
-            }
-            "left" => {
-                self.left = Some(number(rest)?);
                 Ok(())
             }
             _ => Err(LineErr::Form),
@@ -331,7 +244,7 @@ impl Case {
                 self.keeper = Some(String::from_str(alloc, rest)?);
                 Ok(())
             }
-            "faults" => push_numbers(&mut self.faults, rest),
+            "faults" => self.take_faults(rest),
             "then" => {
                 let run = Run::new(alloc)?;
                 match self.runs.push(run) {
@@ -359,6 +272,15 @@ impl Case {
         };
         self.differs = Some(part);
         self.differing = number(times)?;
+        Ok(())
+    }
+
+    // Numbers of calls, parted by commas.
+    fn take_faults(&mut self, rest: &str) -> Result<(), LineErr> {
+        for call in rest.split(',') {
+            let call = number(call.trim())?;
+            self.faults.push(call)?;
+        }
         Ok(())
     }
 }
@@ -426,15 +348,6 @@ fn number(text: &str) -> Result<u64, LineErr> {
         Ok(n) => Ok(n),
         Err(_) => Err(LineErr::Form),
     }
-}
-
-// Pushes numbers, parted by commas.
-fn push_numbers(numbers: &mut Vec<u64>, text: &str) -> Result<(), LineErr> {
-    for word in text.split(',') {
-        let n = number(word.trim())?;
-        numbers.push(n)?;
-    }
-    Ok(())
 }
 
 // Puts a line and its end behind what is there.

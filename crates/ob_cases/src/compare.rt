@@ -9,10 +9,6 @@ pub struct Came<'a> {
     pub answers: &'a [u8],
     /// The accesses, one a line.
     pub trace: &'a [u8],
-    /// How many accesses were asked.
-    pub asked: u64,
-    /// How many bytes are read of the input behind the run, where it wants to know.
-    pub left: u64,
     pub status: u8,
     /// The mark that the keeper holds, where there is a keeper and it told.
     pub mark: Option<Mark>,
@@ -29,51 +25,29 @@ pub fn difference(
         Some(wanted) if unordered => {
             ordered(alloc, wanted.as_slice())? == ordered(alloc, came.answers)?
         }
-        Some(wanted) => first(wanted.as_slice(), run.writes.taken) == Some(came.answers),
+        Some(wanted) => wanted.as_slice() == came.answers,
         None => true,
     };
     if !answered {
         return Ok(Some(Part::Answers));
     }
     let traced = match &run.accesses {
-        Some(wanted) if run.traces.taken.is_some() => {
-            first(wanted.as_slice(), run.traces.taken) == Some(came.trace)
-        }
         Some(wanted) => is_traced(wanted.as_slice(), came.trace),
         None => true,
     };
     if !traced {
         return Ok(Some(Part::Accesses));
     }
-    Ok(difference_behind(run, came))
-}
-
-// The same of what isn't spelt line by line.
-fn difference_behind(run: &Run, came: &Came) -> Option<Part> {
     if run.total.is_some_and(|total| total != lines_in(came.trace)) {
-        return Some(Part::Total);
-    }
-    if run.asked.is_some_and(|asked| asked != came.asked) {
-        return Some(Part::Asked);
-    }
-    if run.left.is_some_and(|left| left != came.left) {
-        return Some(Part::Left);
+        return Ok(Some(Part::Total));
     }
     if run.status != u64::from(came.status) {
-        return Some(Part::Status);
+        return Ok(Some(Part::Status));
     }
     if run.mark.is_some() && run.mark != came.mark {
-        return Some(Part::Mark);
+        return Ok(Some(Part::Mark));
     }
-    None
-}
-
-// So many first bytes, or all where there is no number; none where there are fewer.
-fn first(bytes: &[u8], count: Option<u64>) -> Option<&[u8]> {
-    match count {
-        Some(n) => bytes.get(..n as usize),
-        None => Some(bytes),
-    }
+    Ok(None)
 }
 
 // The lines of some answers, in which the rows behind each header are sorted.

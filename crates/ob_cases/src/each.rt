@@ -3,8 +3,7 @@
 use crate::case::{Case, LineErr, push_case};
 use crate::cuts::{push_cut, push_parted};
 use crate::file::Lines;
-use crate::items::{Item, blocks_of, is_access, is_of_itself, items_of, region_in};
-use crate::unwritten::push_unwritten;
+use crate::items::{Item, blocks_of, is_access, items_of, region_in};
 use std::alloc::Global;
 
 // What others do to a block before it is read.
@@ -52,8 +51,6 @@ fn push_made(
         "access fails" => push_failing(alloc, of, items, cases),
         "block put back" => push_changed(alloc, of, items, Change::PutBack, cases),
         "block exchanged" => push_changed(alloc, of, items, Change::Exchanged, cases),
-        "answer fails" => push_unwritten(alloc, of, items, "writes", cases),
-        "trace fails" => push_unwritten(alloc, of, items, "traces", cases),
         "byte last" => push_cut(alloc, of, items, cases),
         _ => Err(LineErr::Form),
     }
@@ -85,6 +82,10 @@ fn failing(alloc: Global, name: &str, items: &[Item], at: Item) -> Result<Case, 
     let mut case = Case::new(alloc, name.as_str())?;
     if at.rest.starts_with("D ") {
         feed_whole(alloc, &mut case, items)?;
+    } else if stops(items, at) {
+        feed_to(alloc, &mut case, items, at)?;
+        case.take_part(alloc, "<", "! store fault")?;
+        case.take_part(alloc, "status", "3")?;
     } else {
         feed_to(alloc, &mut case, items, at)?;
         case.take_part(alloc, "<", "E15 store fault")?;
@@ -93,6 +94,15 @@ fn failing(alloc: Global, name: &str, items: &[Item], at: Item) -> Result<Case, 
     }
     case.take_part(alloc, "words", words.as_str())?;
     Ok(case)
+}
+
+// Whether the run ends where an access of this one's statement fails.
+fn stops(items: &[Item], at: Item) -> bool {
+    let mut found = false;
+    for item in items {
+        found = found || item.statement == at.statement && item.head == "else" && item.rest == "stops";
+    }
+    found
 }
 
 // Pushes the cases in which a block is changed before it is read, of each read that a line names.
@@ -186,7 +196,7 @@ fn is_opened(items: &[Item], at: Item, region: &str) -> bool {
 fn feed_whole(alloc: Global, case: &mut Case, items: &[Item]) -> Result<(), LineErr> {
     for item in items {
         match item.head {
-            head if is_of_itself(head) => {}
+            "each" | "else" | "total" | "differs" => {}
             _ => case.take_part(alloc, item.head, item.rest)?,
         }
     }
@@ -200,7 +210,7 @@ fn feed_to(alloc: Global, case: &mut Case, items: &[Item], at: Item) -> Result<(
         let is_last = item.run == at.run;
         match item.head {
             _ if item.run > at.run => {}
-            head if is_of_itself(head) => {}
+            "each" | "else" | "total" | "differs" => {}
             "<" | "@" | "mark" if is_past => {}
             "status" if is_last => {}
             _ => case.take_part(alloc, item.head, item.rest)?,

@@ -78,15 +78,6 @@ pub fn is_typed(head: &str) -> bool {
     head == ">" || head == "times"
 }
 
-/// Whether a line of this head is for its case alone, and for none that its lines make.
-pub fn is_of_itself(head: &str) -> bool {
-    match head {
-        "each" | "else" | "differs" => true,
-        "total" | "asked" | "left" | "written" | "traced" => true,
-        _ => false,
-    }
-}
-
 /// Whether an item is an access, and no number of them.
 pub fn is_access(item: Item) -> bool {
     item.head == "@" && !item.rest.is_empty() && item.rest.parse::<u64>().is_err()

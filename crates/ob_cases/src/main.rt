@@ -12,7 +12,6 @@ mod file;
 mod items;
 mod serving;
 mod texts;
-mod unwritten;
 
 use case::{Case, LineErr, Part};
 use each::made;

@@ -1,14 +1,11 @@
 //! Serves a case over a store in memory.
-ghost use Rattle.std.specs.Prelude.{◌≡◌, []};
-
-use crate::case::{Case, LineErr, Part, Run, Taking, mark_of};
+use crate::case::{Case, LineErr, Part, Run, mark_of};
 use crate::compare::{Came, difference};
 use ob_base::{Mark, NoMemory};
-use ob_io::{MemSink, MemSource, Sink, Source};
+use ob_io::{MemSink, MemSource};
 use ob_meddle::{ChangesErr, Meddle, MeddledStore, parse_changes};
 use ob_reopen::{Keeper, MemKeeper};
 use ob_shell::{keep_top, meddle_top};
-use ob_store::{BlockStore, Lasting};
 use std::alloc::Global;
 
 /// So many bytes of answers, and of accesses, a run may have.
@@ -54,67 +51,6 @@ fn changes_of(alloc: Global, run: &Run) -> Result<Vec<Meddle>, LineErr> {
     }
 }
 
-// The input of a run.
-fn source_of(alloc: Global, run: &Run) -> Result<MemSource, LineErr> {
-    let input = copied(alloc, run.input.as_slice())?;
-    Ok(MemSource::new(input, copied(alloc, run.reads.as_slice())?))
-}
-
-// A sink that takes what it has to.
-fn sink_of(alloc: Global, taking: &Taking) -> Result<MemSink, LineErr> {
-    let room = match taking.room {
-        Some(room) => room as usize,
-        None => ROOM,
-    };
-    Ok(MemSink::new(alloc, room, copied(alloc, taking.fail.as_slice())?)?)
-}
-
-// How many bytes are read of the input behind a run, where it wants to know: to the end, or to a call that fails.
-fn left_in(run: &Run, input: &mut MemSource) -> u64 {
-    let mut left: u64 = 0;
-    if run.left.is_none() {
-        return left;
-    }
-    let mut buf = [0; 64];
-    for _ in 0..run.input.len() {
-        match input.read(&mut buf) {
-            Ok(n) if n > 0 => left = left.saturating_add(n as u64),
-            _ => break,
-        }
-    }
-    left
-}
-
-// Serves by its words over a store that they have changed, and tells the status and how many accesses were asked.
-fn serve_meddled<I: Source, O: Sink, T: Sink>(
-    alloc: Global,
-    words: &[String],
-    input: &mut I,
-    out: &mut O,
-    trace: &mut T,
-) -> (u8, u64) {
-    let (report, store) = meddle_top(alloc, words, input, out, trace);
-    match store {
-        Some(store) => (report.status, store.count()),
-        None => (report.status, 0),
-    }
-}
-
-// Serves over what rests of a store, with a keeper, and tells the status.
-fn serve_kept<I: Source, O: Sink, T: Sink, S: Lasting, K: Keeper>(
-    alloc: Global,
-    words: &[String],
-    input: &mut I,
-    out: &mut O,
-    trace: &mut T,
-    store: &mut S,
-    keeper: &mut K,
-) -> u8
-    requires { (S.state store.old).asked ≡ [] }
-{
-    keep_top(alloc, words, input, out, trace, store, keeper).status
-}
-
 // What came of a run, beside what it wants.
 fn served_as(alloc: Global, run: &Run, unordered: bool, came: &Came) -> Result<Served, LineErr> {
     Ok(Served {
@@ -128,16 +64,14 @@ fn served_as(alloc: Global, run: &Run, unordered: bool, came: &Came) -> Result<S
 // Serves a session over a store that its words have changed.
 fn serve_once(alloc: Global, run: &Run, unordered: bool) -> Result<Served, LineErr> {
     let words = words_of(alloc, run)?;
-    let mut input = source_of(alloc, run)?;
-    let mut out = sink_of(alloc, &run.writes)?;
-    let mut trace = sink_of(alloc, &run.traces)?;
-    let (status, asked) = serve_meddled(alloc, &words, &mut input, &mut out, &mut trace);
+    let mut input = MemSource::new(copied(alloc, run.input.as_slice())?, Vec::new(alloc));
+    let mut out = MemSink::new(alloc, ROOM, Vec::new(alloc))?;
+    let mut trace = MemSink::new(alloc, ROOM, Vec::new(alloc))?;
+    let (report, _) = meddle_top(alloc, &words, &mut input, &mut out, &mut trace);
     let came = Came {
         answers: out.bytes(),
         trace: trace.bytes(),
-        asked,
-        left: left_in(run, &mut input),
-        status,
+        status: report.status,
         mark: None,
     };
     served_as(alloc, run, unordered, &came)
@@ -161,18 +95,16 @@ fn serve_over(
 ) -> Result<(Served, MeddledStore), LineErr> {
     let words = words_of(alloc, run)?;
     let mut store = store.rest(changes_of(alloc, run)?);
-    let mut input = source_of(alloc, run)?;
-    let mut out = sink_of(alloc, &run.writes)?;
-    let mut trace = sink_of(alloc, &run.traces)?;
-    let status = serve_kept(
+    let mut input = MemSource::new(copied(alloc, run.input.as_slice())?, Vec::new(alloc));
+    let mut out = MemSink::new(alloc, ROOM, Vec::new(alloc))?;
+    let mut trace = MemSink::new(alloc, ROOM, Vec::new(alloc))?;
+    let report = keep_top(
         alloc, &words, &mut input, &mut out, &mut trace, &mut store, keeper,
     );
     let came = Came {
         answers: out.bytes(),
         trace: trace.bytes(),
-        asked: store.count(),
-        left: left_in(run, &mut input),
-        status,
+        status: report.status,
         mark: mark_behind(run, keeper),
     };
     let served = served_as(alloc, run, unordered, &came)?;
@@ -181,7 +113,10 @@ fn serve_over(
 
 // Serves runs, one after the other, to the first that differs.
 fn serve_all(alloc: Global, case: &Case, held: &str) -> Result<Served, LineErr> {
-    let faults = copied(alloc, case.faults.as_slice())?;
+    let mut faults = Vec::new(alloc);
+    for call in &case.faults {
+        faults.push(*call)?;
+    }
     let mut keeper = MemKeeper::new(mark_of(held)?, faults);
     let mut store = MeddledStore::new(alloc, Vec::new(alloc));
     let mut last = None;
@@ -210,10 +145,8 @@ pub fn serve(alloc: Global, case: &Case) -> Result<Served, LineErr> {
     }
 }
 
-fn copied<T: Copy>(alloc: Global, items: &[T]) -> Result<Vec<T>, LineErr> {
+fn copied(alloc: Global, bytes: &[u8]) -> Result<Vec<u8>, LineErr> {
     let mut copy = Vec::new(alloc);
-    match copy.extend_from_slice(items) {
-        Ok(()) => Ok(copy),
-        Err(_) => Err(LineErr::NoMemory),
-    }
+    copy.extend_from_slice(bytes)?;
+    Ok(copy)
 }

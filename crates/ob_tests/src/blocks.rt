@@ -7,7 +7,6 @@ use ob_test_stores::KeepingStore;
 use std::test::Fail;
 
 const SESSION: Case = Case {
-    words: "--trace",
     text: "CREATE TABLE t (id INT PRIMARY KEY, v INT) CAPACITY 4; INSERT INTO t VALUES (1, 10);",
     answers: "= created\n= inserted\n",
     trace: "M 1 4 49\nW 1 0\nW 1 1\nW 1 2\nW 1 3\nM 2 4 49\nR 1 0\nR 1 1\nR 1 2\nR 1 3\nR 1 0\nW 2 0\nR 1 1\nW 2 1\nR 1 2\nW 2 2\nR 1 3\nW 2 3\nD 1\n",
@@ -58,7 +57,6 @@ fn a_block_that_fits_is_taken_for_what_was_written(rt: HostRuntime) -> Result<()
     // in place of the dummy at place 1 of region 2, which was written sixth, at the first and only read after that
     let mut store = ForgingStore::new(MemStore::new(a), 21, 6, ROW);
     let case = Case {
-        words: "--trace",
         text: COUNTED,
         answers: "= created\n= inserted\n\"COUNT(*)\"\n\"2\"\n= 1 rows\n",
         trace: TRACE,
@@ -68,7 +66,6 @@ fn a_block_that_fits_is_taken_for_what_was_written(rt: HostRuntime) -> Result<()
     // what fits and is no row ends the run at its place
     let mut store = ForgingStore::new(MemStore::new(a), 21, 6, [2; 17]);
     let case = Case {
-        words: "--trace",
         text: COUNTED,
         answers: "= created\n= inserted\n! tampered 2 1\n",
         trace: "M 1 4 49\nW 1 0\nW 1 1\nW 1 2\nW 1 3\nM 2 4 49\nR 1 0\nR 1 1\nR 1 2\nR 1 3\nR 1 0\nW 2 0\nR 1 1\nW 2 1\nR 1 2\nW 2 2\nR 1 3\nW 2 3\nD 1\nR 2 0\nR 2 1\n",

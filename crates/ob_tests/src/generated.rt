@@ -1,8 +1,10 @@
 use ob_base::{Failed, Plan};
 use ob_gen::{Discard, Generated, Summary, Tally, trace_digest};
-use ob_io::{MemSink, Sink, Source};
+use ob_io::{MemSink, MemSource, Sink, Source};
+use ob_shell::shell_top;
 use ob_store::{BlockStore, MemStore};
 use sha2::{Digest, Sha256};
+use std::alloc::Global;
 use std::test::Fail;
 
 const ONE_ROW: &[u8] = b"0000000000000000000000000000000000000000000000000000000000000000
@@ -141,5 +143,82 @@ fn digests_the_trace(rt: HostRuntime) -> Result<(), Fail> {
     let four = "addcfe484bc8bf37f82bb995002436d37c66996caf05eb2d2b3550292f232f7c";
     assert_eq!(rt; hex::decode_to_slice(four, &mut expected), Ok(()));
     assert_eq!(rt; trace_digest(&store), expected);
+    Ok(())
+}
+
+/// What is printed of a run over the text of a table of one row.
+const PRINTED: &[u8] = b"statements 14
+refused 0
+rows 5
+accesses 74
+small 3
+large 0
+continuous 0
+hash 0
+trace 5b6789c4b6a759ade5ec75afb68ae01d294feae64f9177d5148ea065755d06bc
+";
+
+// The words that ask for it.
+fn one_row(alloc: Global) -> Result<Vec<String>, Fail> {
+    let mut words = Vec::new(alloc);
+    words.push(String::from_str(alloc, "--gen=0,1")?)?;
+    words.push(String::from_str(alloc, "--trace")?)?;
+    Ok(words)
+}
+
+// The first read of the input would fail, and only the test makes it.
+#[test]
+fn reads_no_input(rt: HostRuntime) -> Result<(), Fail> {
+    let a = rt.alloc();
+    let mut input = MemSource::new(vec![in a; b'x'; 9]?, vec![in a; 1]?);
+    let mut out = MemSink::new(a, 1024, Vec::new(a))?;
+    let mut trace = MemSink::new(a, 1024, Vec::new(a))?;
+    let mut store = MemStore::new(a);
+    let words = one_row(a)?;
+    let report = shell_top(a, &words, &mut input, &mut out, &mut trace, &mut store);
+    assert_eq!(rt; out.bytes(), PRINTED);
+    assert_eq!(rt; report.status, 0);
+    let digest = Sha256::digest(trace.bytes());
+    let mut text = [0; 64];
+    assert_eq!(rt; hex::encode_to_slice(&digest, &mut text), Ok(()));
+    let wanted = "5b6789c4b6a759ade5ec75afb68ae01d294feae64f9177d5148ea065755d06bc";
+    assert_eq!(rt; text.as_slice(), wanted.as_bytes());
+    let mut buf = [0; 4];
+    assert_eq!(rt; input.read(&mut buf), Err(Failed));
+    Ok(())
+}
+
+// Of a summary that the sink doesn't take whole the first part stands.
+#[test]
+fn summary_is_cut(rt: HostRuntime) -> Result<(), Fail> {
+    let a = rt.alloc();
+    for room in [0, 20, 149] {
+        let mut input = MemSource::new(Vec::new(a), Vec::new(a));
+        let mut out = MemSink::new(a, room, Vec::new(a))?;
+        let mut trace = MemSink::new(a, 1024, Vec::new(a))?;
+        let mut store = MemStore::new(a);
+        let words = one_row(a)?;
+        let report = shell_top(a, &words, &mut input, &mut out, &mut trace, &mut store);
+        let part = PRINTED.get(..room).unwrap_or(b"");
+        assert_eq!(rt; out.bytes(), part);
+        assert_eq!(rt; report.status, 6);
+        assert_eq!(rt; store.count(), 74);
+    }
+    Ok(())
+}
+
+// Where the trace isn't taken nothing is printed.
+#[test]
+fn trace_is_cut(rt: HostRuntime) -> Result<(), Fail> {
+    let a = rt.alloc();
+    let mut input = MemSource::new(Vec::new(a), Vec::new(a));
+    let mut out = MemSink::new(a, 1024, Vec::new(a))?;
+    let mut trace = MemSink::new(a, 12, Vec::new(a))?;
+    let mut store = MemStore::new(a);
+    let words = one_row(a)?;
+    let report = shell_top(a, &words, &mut input, &mut out, &mut trace, &mut store);
+    assert_eq!(rt; out.bytes(), b"".as_slice());
+    assert_eq!(rt; trace.bytes(), b"M 1 1 49\nW 1".as_slice());
+    assert_eq!(rt; report.status, 6);
     Ok(())
 }

@@ -5,6 +5,8 @@ mod alike;
 #[cfg(test)]
 mod blocks;
 #[cfg(test)]
+mod faults;
+#[cfg(test)]
 mod forging;
 #[cfg(test)]
 mod generated;
