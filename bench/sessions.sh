@@ -19,6 +19,9 @@
 # finds rows by their key, so INSERT, SELECT of 100 rows and the join take no pass there. Each statement comes in a
 # connection of its own, so that it reads the file and not its cache.
 #
+# And a row that is found by its key: in an index of 65,536 keys (`--buffer 158 --stash 89`), in memory and in files, beside
+# SQLCipher's, whose table has each of them. The index has 100 rows: how many it has changes no access.
+#
 # usage: bench/sessions.sh [ROUNDS]     (11 without it)
 # Needs `rt` (bench/build.sh), python3, 300 MB, and 150 MB in the folder for temporary files (TMPDIR), where the files lie.
 # Takes five minutes once the programs are built.
@@ -187,6 +190,35 @@ if cipher:
         print(f"| {it.name} | {theirs:.2f} | {' | '.join(cells)} | {goal} |", flush=True)
 else:
     print("\nNot beside SQLCipher: there is no `sqlcipher` here.")
+
+# ---- a row by its key
+BY_KEY = [
+    ("SELECT of a row by its key", "SELECT * FROM o WHERE id = {n};", "SELECT * FROM t WHERE id = {n};"),
+    ("UPDATE of a row by its key", "UPDATE o SET v = 7 WHERE id = {n};", "UPDATE t SET v = 7 WHERE id = {n};"),
+]
+keyed = {name: Session(*command, "--buffer", "158", "--stash", "89") for name, command in (("memory", [MEMORY]), ("files", [FILES, "--store", f"{work}/index"]))}
+for session in keyed.values():
+    session.serve(f"CREATE TABLE o (id INT PRIMARY KEY, v INT) CAPACITY {SLOTS} INDEXED;")
+    for n in range(SELECTED):
+        session.serve(f"INSERT INTO o VALUES ({n}, {n % 16});")
+# (the first round warms up)
+for n in range(rounds + 1):
+    for name, ours, theirs in BY_KEY:
+        spent = {side: min(session.serve(ours.format(n=key))[1] for key in range(SELECTED)) for side, session in keyed.items()}
+        if cipher:
+            spent["theirs"] = cipher.serve(theirs.format(n=n))
+        if n:
+            for side, it in spent.items():
+                keep((name, "keyed", side), it)
+for session in keyed.values():
+    session.end()
+print(f"\nA row by its key, in an index of {SLOTS:,} keys with 89 slots of the stash:\n")
+print("| Statement | memory | files | of memory's | goal: 2 | SQLCipher |")
+print("|---|---:|---:|---:|---|---:|")
+for name, _, _ in BY_KEY:
+    memory, files = (least(name, "keyed", side) for side in ("memory", "files"))
+    beside = f"{least(name, 'keyed', 'theirs'):.3f}" if cipher else ""
+    print(f"| {name} | {memory:.3f} | {files:.3f} | {files / memory:.2f} | {verdict(files / memory, 2)} | {beside} |", flush=True)
 
 # ---- opening and closing: whole runs that serve nothing
 def whole_run(text, *words, store="kept"):

@@ -1,8 +1,9 @@
 #!/bin/sh
 # Measures each kind of statement over a table of 65,536 slots in memory beside the passes that it is made of, for 1, 8
-# and 16 rows in a block, and a session of 20,000 statements over a table of 16 slots beside the bare seals and unseals
-# of its blocks. Prints a table with OK or OVER in each line, and ends with 1 where one is OVER. DROP TABLE has no pass, so
-# that there is nothing to measure it by: what stands there is what any statement takes beside its passes.
+# and 16 rows in a block, and statements on an index of as many keys and a session of 20,000 statements over a table of 16
+# slots beside the bare seals and unseals of their blocks. Prints a table with OK or OVER in each line, and ends with 1
+# where one is OVER. DROP TABLE has no pass, so that there is nothing to measure it by: what stands there is what any
+# statement takes beside its passes.
 #
 # Both sides are measured in two ways. The processor's time (bench/driven.py): in each round a statement and its passes
 # run one behind the other, so that what slows the machine down slows both; the ratio is that of the least of all rounds,
@@ -13,7 +14,7 @@
 # than an empty slot. Hash has buckets of one block (--depth 1), so that a measure takes seconds and not minutes.
 #
 # usage: bench/statements.sh [both|time|count] [ROUNDS]     (without them: both, in 15 rounds)
-# Needs `rt` (bench/build.sh), python3 and 200 MB; `valgrind` for the second measure. Takes five minutes once the programs
+# Needs `rt` (bench/build.sh), python3 and 200 MB; `valgrind` for the second measure. Takes seven minutes once the programs
 # are built, and twenty processor minutes more with valgrind.
 set -eu
 top=$(cd "$(dirname "$0")/.." && pwd)
@@ -187,6 +188,44 @@ for it, pack in lines:
     over_limit += is_over
     verdict = "OVER" if is_over else "OK" if has_pass else "no pass"
     print(f"| {' | '.join(map(str, cells))} | {verdict} |", flush=True)
+
+# ---- statements on an index of so many keys: each reads and writes the stash and a path of buckets of four
+EACH, HEIGHT = 100, (SLOTS - 1).bit_length()
+ON_INDEX = [
+    ("INSERT", "INSERT INTO o VALUES ({n}, 9);"),
+    ("UPDATE", "UPDATE o SET v = 7 WHERE id = {n};"),
+    ("SELECT", "SELECT * FROM o WHERE id = {n};"),
+    ("DELETE", "DELETE FROM o WHERE id = {n};"),
+]
+
+# The milliseconds of CREATE and of each kind of statement, and of the bare seals and unseals of their blocks, in each round.
+def all_keyed(stash):
+    made, asked = 4 * (2 ** (HEIGHT + 1) - 1) + stash, stash + 4 * (HEIGHT + 1)
+    passes, session = Passes(PASSES), Session(PROGRAM, "--buffer", str(asked + 1), "--stash", str(stash))
+    create = "CREATE TABLE {name} (id INT PRIMARY KEY, v INT) CAPACITY " + f"{SLOTS} INDEXED;"
+    session.serve(create.format(name="o"))
+    found = {name: [] for name in ("CREATE", *dict(ON_INDEX))}
+    # (the first round warms up)
+    for n in range(rounds + 1):
+        found["CREATE"].append((session.serve(create.format(name="n"))[1], passes.run("b", made, 0, WIDTH)[0]))
+        session.serve("DROP TABLE n;")
+        for name, text in ON_INDEX:
+            spent = sum(session.serve(text.format(n=(EACH * n + key) % SLOTS))[1] for key in range(EACH))
+            found[name].append((spent / EACH, passes.run("b", EACH * asked, EACH * asked, WIDTH)[0] / EACH))
+    for driven in (passes, session):
+        driven.end()
+    return {name: pairs[1:] for name, pairs in found.items()}
+
+if rounds:
+    print(f"\nStatements on an index of {SLOTS:,} keys beside the bare seals and unseals of its blocks, limit 1.4, of CREATE 1.2:\n")
+    print("| Statement | slots of the stash | ms | its seals and unseals, ms | ratio | quartiles | |\n|---|---:|---:|---:|---:|---|---|")
+    for stash in (32, 89):
+        for name, pairs in all_keyed(stash).items():
+            spent, alone = (min(side) for side in zip(*pairs))
+            low, high = quartiles([a / b for a, b in pairs])
+            is_over = spent / alone > (1.2 if name == "CREATE" else 1.4)
+            over_limit += is_over
+            print(f"| {name} | {stash} | {spent:.3f} | {alone:.3f} | {spent / alone:.2f} | {low:.2f} to {high:.2f} | {'OVER' if is_over else 'OK'} |", flush=True)
 
 # ---- a session of short statements: of each, how many blocks it seals and opens, one row in each of 16
 U = 16

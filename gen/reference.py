@@ -1,10 +1,11 @@
 #!/usr/bin/env python3
-"""Writes crates/ob_cases/data/reference.case: sessions made from the grammar at random (always the same ones), with the
-answers of the plain evaluator, which the program of crates/ob_answers prints. No answer of the engine goes into them.
+"""Writes crates/ob_cases/data/reference.case and reference_indexed.case: sessions made from the grammar at random (always the
+same ones), those of the second file over indexes, too, with the answers of the plain evaluator, which the program of
+crates/ob_answers prints. No answer of the engine goes into them.
 
 usage: gen/reference.py [PATH-OF-ob_answers]
 
-Needs that program (bench/build.sh ob_answers builds it: crates/ob_answers/out/ob_answers), and takes ten seconds.
+Needs that program (bench/build.sh ob_answers builds it: crates/ob_answers/out/ob_answers), and takes twenty seconds.
 """
 import pathlib
 import random
@@ -17,6 +18,8 @@ DATA = TOP / "crates/ob_cases/data"
 
 # The rows that may be open, those of a block, and the plan: each session has one of these.
 SETTINGS = [(64, 1, ""), (4, 1, ""), (7, 2, ""), (16, 4, ""), (10, 3, ""), (64, 16, ""), (8, 1, "small"), (8, 2, "large"), (5, 1, "")]
+# The same over indexes, and the slots of a stash: each has room for all keys of any index that the open rows are enough for.
+INDEXED_SETTINGS = [(64, 1, "", 32), (64, 16, "", 32), (25, 1, "", 8), (17, 2, "small", 4), (80, 8, "large", 24), (49, 3, "", 24)]
 NAMES = ["id", "v", "w", "name", "city", "total", "k1", "_x"]
 WORDS = ["", "a", "ab", "it's", "Zoe", "x y", "--no comment", "a;b", "zzzzzzzzzzzz"]
 
@@ -24,8 +27,8 @@ WORDS = ["", "a", "ab", "it's", "Zoe", "x y", "--no comment", "a;b", "zzzzzzzzzz
 class Table:
     """A table as its CREATE describes it."""
 
-    def __init__(self, name, columns, capacity):
-        self.name, self.columns, self.capacity = name, columns, capacity
+    def __init__(self, name, columns, capacity, is_indexed):
+        self.name, self.columns, self.capacity, self.is_indexed = name, columns, capacity, is_indexed
 
 
 class Maker:
@@ -81,9 +84,15 @@ class Maker:
         if self.chance(2):
             columns[-1][2] += " PRIMARY KEY"
         capacity = self.one(1, 2, 5, 8, 12, 16, 24) if not self.chance(3) else self.one(0, 1048577)
+        shape = self.shape(columns)
         said = ", ".join(f"{c} {self.word(k) if '(' not in k else k}{more}" for c, k, more in columns)
-        made = Table(name.lower(), [(c, "INT" if k.startswith("INT") else "TEXT", "PRIMARY" in m.upper()) for c, k, m in columns], capacity)
-        return f"{self.word('CREATE TABLE')} {name} ({said}) {self.word('CAPACITY')} {capacity};", ("create", made)
+        kinds = [(c, "INT" if k.startswith("INT") else "TEXT", "PRIMARY" in m.upper()) for c, k, m in columns]
+        made = Table(name.lower(), kinds, capacity, shape != "")
+        return f"{self.word('CREATE TABLE')} {name} ({said}) {self.word('CAPACITY')} {capacity}{shape};", ("create", made)
+
+    def shape(self, columns):
+        """What stands behind the capacity."""
+        return ""
 
     def insert(self):
         name = self.table()
@@ -216,15 +225,40 @@ class Maker:
         return self.one(*kinds, self.update, self.update, self.delete, self.drop, self.create, self.broken)()
 
 
+class IndexedMaker(Maker):
+    """The same where most tables are indexes, and most conditions ask for a key."""
+
+    def shape(self, columns):
+        if self.chance(25):
+            return ""
+        if self.chance(92):
+            columns[0][1:] = ["INT", " PRIMARY KEY"]
+        return " " + self.word("INDEXED")
+
+    def where(self, scope, percent=70):
+        keys = [c for c, _, key in self.columns(scope[0]) if key]
+        is_indexed = scope[0] in self.tables and self.tables[scope[0]].is_indexed
+        if len(scope) > 1 or not is_indexed or not keys or self.chance(15):
+            return super().where(scope, percent)
+        key = keys[0] if self.chance(80) else f"{scope[0]}.{keys[0]}"
+        asked = f"{key} = {self.integer()}"
+        return f" {self.word('WHERE')} " + (f"({asked})" if self.chance(10) else asked)
+
+
 def main():
     program = sys.argv[1] if len(sys.argv) > 1 else TOP / "crates/ob_answers/out/ob_answers"
-    out = ["# Sessions made from the grammar, with the answers of the plain evaluator (gen/reference.py).", ""]
+    write(program, "reference.case", "Sessions", Maker, [(*it, None) for it in SETTINGS])
+    write(program, "reference_indexed.case", "Sessions over indexes", IndexedMaker, INDEXED_SETTINGS)
+
+
+def write(program, file, what, kind_of_maker, settings):
+    out = [f"# {what} made from the grammar, with the answers of the plain evaluator (gen/reference.py).", ""]
     for seed in range(SESSIONS):
-        buffer, pack, plan = SETTINGS[seed % len(SETTINGS)]
-        maker, texts, told, kinds = Maker(seed), [], [], []
+        buffer, pack, plan, stash = settings[seed % len(settings)]
+        maker, texts, told, kinds = kind_of_maker(seed), [], [], []
         for n in range(24):
             text, kind = maker.statement(n)
-            said = answers(program, buffer, pack, [*texts, text])
+            said = answers(program, buffer, pack, stash, [*texts, text])
             if len(said) != len(texts) + 1:
                 # (no text, or more than one)
                 continue
@@ -235,13 +269,15 @@ def main():
             kinds.append(kind)
             told = said
             follow(maker, kind, said[-1])
-        out += case(seed, buffer, pack, plan, texts, kinds, told)
-    (DATA / "reference.case").write_text("\n".join(out) + "\n")
+        words = f"words --buffer {buffer} --pack {pack}" + (f" --plan {plan}" if plan else "") + (f" --stash {stash}" if stash else "")
+        out += case(seed, words, texts, kinds, told)
+    (DATA / file).write_text("\n".join(out) + "\n")
 
 
-def answers(program, buffer, pack, texts):
+def answers(program, buffer, pack, stash, texts):
     """What the plain evaluator answers to each of these, its lines in a list."""
-    ran = subprocess.run([program, str(buffer), str(pack)], input="\n".join(texts), capture_output=True, text=True, check=True)
+    words = [str(it) for it in (buffer, pack, stash) if it is not None]
+    ran = subprocess.run([program, *words], input="\n".join(texts), capture_output=True, text=True, check=True)
     told, lines = [], []
     for line in ran.stdout.splitlines():
         lines.append(line)
@@ -271,8 +307,7 @@ def printed(kind, lines):
     return lines
 
 
-def case(seed, buffer, pack, plan, texts, kinds, told):
-    words = f"words --buffer {buffer} --pack {pack}" + (f" --plan {plan}" if plan else "")
+def case(seed, words, texts, kinds, told):
     lines = [f"case session {seed}", words, "unordered", *[f"> {line}" for text in texts for line in text.split("\n")]]
     for kind, said in zip(kinds, told):
         lines += [f"< {line}" for line in printed(kind, said)]

@@ -1,6 +1,6 @@
 //! Reads statements from standard input and prints what they mean, by a plain evaluator over lists in which
 //! no table is sealed and no store is asked: rows without their header, numbers and refusals, a line each.
-//! Two words, if there are any, are the rows that may be open and those of a block.
+//! Three words, if there are any, are the rows that may be open, those of a block and the slots of an index's stash.
 #![tactic(auto)]
 
 ghost use Rattle.std.specs.Prelude.{◌≤◌, ◌+◌, ◌*◌, IfSome};
@@ -43,8 +43,8 @@ impl From<EmitErr> for Fault {
     }
 }
 
-// The settings of a session with so many rows open, so many of them in a block.
-fn settings(buffer: u32, pack: u8) -> Option<Config>
+// The settings of a session with so many rows open, so many of them in a block, and so many slots of a stash.
+fn settings(buffer: u32, pack: u8, stash: u16) -> Option<Config>
     ensures pack { IfSome result (λ c. 1 ≤ c.pack) }
     ensures buffer { IfSome result (λ c. 3 * c.pack + 1 ≤ c.buffer) }
 {
@@ -58,7 +58,7 @@ fn settings(buffer: u32, pack: u8) -> Option<Config>
         pack,
         plan: None,
         pad: None,
-        stash: 32,
+        stash,
         keep: false,
         max_input: 1_073_741_824,
     })
@@ -78,7 +78,11 @@ fn settings_of<R: Env + AllocGlobal>(rt: &R) -> Option<Config>
         Some(word) => word.as_str().parse::<u8>().ok()?,
         None => 1,
     };
-    settings(buffer, pack)
+    let stash = match words.next() {
+        Some(word) => word.as_str().parse::<u16>().ok()?,
+        None => 32,
+    };
+    settings(buffer, pack, stash)
 }
 
 fn print_rows<K: Sink>(printer: &mut Printer<'_, K>, rows: &[Items<Shown>]) -> Result<(), Fault> {

@@ -52,4 +52,8 @@ pub enum Stop {
     NoMemory,
     /// The input, or one text of it, is too long.
     InputLimit,
+    /// The store failed in an access of an index, which can't be left half done.
+    StoreFault,
+    /// The stash of an index has no room for the rows that an access leaves.
+    StashFull,
 }

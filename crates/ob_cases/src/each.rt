@@ -85,6 +85,10 @@ fn failing(alloc: Global, name: &str, items: &[Item], at: Item) -> Result<Case, 
     let mut case = Case::new(alloc, name.as_str())?;
     if at.rest.starts_with("D ") {
         feed_whole(alloc, &mut case, items)?;
+    } else if stops(items, at) {
+        feed_to(alloc, &mut case, items, at)?;
+        case.take_part(alloc, "<", "! store fault")?;
+        case.take_part(alloc, "status", "3")?;
     } else {
         feed_to(alloc, &mut case, items, at)?;
         case.take_part(alloc, "<", "E15 store fault")?;
@@ -93,6 +97,15 @@ fn failing(alloc: Global, name: &str, items: &[Item], at: Item) -> Result<Case, 
     }
     case.take_part(alloc, "words", words.as_str())?;
     Ok(case)
+}
+
+// Whether the run ends where an access of this one's statement fails.
+fn stops(items: &[Item], at: Item) -> bool {
+    let mut found = false;
+    for item in items {
+        found = found || item.statement == at.statement && item.head == "else" && item.rest == "stops";
+    }
+    found
 }
 
 // Pushes the cases in which a block is changed before it is read, of each read that a line names.

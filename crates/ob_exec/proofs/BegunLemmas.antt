@@ -26,11 +26,13 @@ use Rattle.ob_exec.specs.Agreeing.{world_of, count_of}
 use Rattle.ob_exec.specs.Running.{RanStatement, RunCause}
 use Rattle.ob_exec.specs.Telling.{meant_script}
 
-run_reads : (result : Result Outcome RunStop) (old new : World) (lie : Lie) → RunCause result old new → old.store.lie ≡ None → new.store.lie ≡ Some lie → ReadsIn lie new.store.asked
+pub run_reads : (result : Result Outcome RunStop) (old new : World) (lie : Lie) → RunCause result old new → old.store.lie ≡ None → new.store.lie ≡ Some lie → ReadsIn lie new.store.asked
 run_reads (Ok outcome) old new lie cause none told = calm_reads old new lie cause.1 none told
 run_reads (Err (Stops.Tampered q x)) old new lie cause none told = ends_reads old new lie cause.2 none told
 run_reads (Err Stops.SinkFault) old new lie cause none told = calm_reads old new lie cause.1 none told
 run_reads (Err Stops.NoMemory) old new lie cause none told = calm_reads old new lie cause.1 none told
+run_reads (Err Stops.StoreFault) old new lie cause none told = calm_reads old new lie cause.1 none told
+run_reads (Err Stops.StashFull) old new lie cause none told = calm_reads old new lie cause.1 none told
 
 -- ---- a statement whose accesses follow from what is public, where it reads no leaf
 until_part : (end : End) (all : List Access) → (rest : List Access) × (until_end end all ++ rest ≡ all)

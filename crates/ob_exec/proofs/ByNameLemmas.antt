@@ -1,10 +1,10 @@
 -- Tables in place beside those that a closing lists, both in order of their names.
-use Rattle.std.proofs.Common.{◌≡◌, ℕ, zero, suc, ◌+◌, ◌≤◌, List, [], ◌∷◌, map, Option, Some, refl, sym, ◌∙◌, ap}
+use Rattle.std.proofs.Common.{◌≡◌, ℕ, zero, suc, ◌+◌, ◌≤◌, List, [], ◌∷◌, map, Option, Some, refl, sym, ◌∙◌, ap, subst}
 use Rattle.std.specs.Prelude.{fold, slice_get}
 use Rattle.std.specs.List.{insert, prefix_len}
 use Rattle.ob_base.specs.declared.schema.Heading.{Heading}
 use Rattle.ob_base.specs.declared.schema.Table.{Table}
-use Rattle.ob_base.specs.Stored.{Stored, headings}
+use Rattle.ob_base.specs.Stored.{Stored, headings, headings_of}
 use Rattle.ob_flat.specs.Flats.{Represents as FlatRepresents, table_region}
 use Rattle.ob_mean.specs.Flats.{AreFlat}
 use Rattle.ob_mean.specs.Verdict.{Held, Tables}
@@ -21,7 +21,10 @@ use Rattle.ob_reopen.specs.Writings.{catalogue_of, listed_of}
 use Rattle.ob_reopen.proofs.InStep.{Beside, fold_beside}
 use Rattle.ob_exec.specs.Engines.{IsTable, flat_of}
 use Rattle.ob_reopen.specs.Resting.{AreKept, KeepsTable, by_name, is_before, kept_block, placed}
-use Rattle.ob_exec.specs.Telling.{AreHeld}
+use Rattle.ob_base.specs.declared.schema.Shape.{Shape as TableShape}
+use Rattle.ob_base.specs.declared.schema.Shape.TheVariants.{Flat as FlatShape}
+use Rattle.ob_oram.specs.declared.index.Index.{Index}
+use Rattle.ob_exec.specs.Telling.{AreHeld, HoldsTable}
 use Rattle.ob_exec.proofs.ListedLemmas.{table_numbers}
 use Rattle.ob_verdict.proofs.AccessedProof.{flat_slots}
 use Rattle.ob_verdict.specs.Laws.{AreInPlace, IsInPlace}
@@ -65,31 +68,33 @@ kept_beside keys pack kept (t ∷ ts) [] all = absurd all
 kept_beside keys pack kept (t ∷ ts) (x ∷ xs) all = (all.0.heading, all.0.keeps, kept_beside keys pack kept ts xs all.1)
 
 -- what holds of each table beside the one in place
-listed_beside : (R : Listed → Stored Held → Type 0) (revs : RevState) (pack : ℕ) (w : World) (ts : List Table) (tables : Tables) → AreHeld pack ts tables w
+listed_beside : (R : Listed → Stored Held → Type 0) (revs : RevState) (pack : ℕ) (w : World) (indexes : List Index) (ts : List Table) (tables : Tables) → AreFlat (headings_of ts) → AreHeld pack indexes ts tables w
     → ((i : ℕ) (t : Table) (x : Stored Held) → slice_get ts i ≡ Some t → x.heading ≡ t.heading → FlatRepresents pack (flat_of t) x.held.slots w → R (listed_of revs t) x)
     → Beside R (map (listed_of revs) ts) tables
-listed_beside R revs pack w [] [] held each = tt
-listed_beside R revs pack w [] (x ∷ xs) held each = absurd held
-listed_beside R revs pack w (t ∷ ts) [] held each = absurd held
-listed_beside R revs pack w (t ∷ ts) (x ∷ xs) held each =
-    (each 0 t x refl held.0 held.1, listed_beside R revs pack w ts xs held.2 (λ i u y is. each (suc i) u y is))
+listed_beside R revs pack w indexes [] [] flat held each = tt
+listed_beside R revs pack w indexes [] (x ∷ xs) flat held each = absurd held
+listed_beside R revs pack w indexes (t ∷ ts) [] flat held each = absurd held
+listed_beside R revs pack w indexes (t ∷ ts) (x ∷ xs) flat held each = (
+  each 0 t x refl held.0 (subst (λ (shape : TableShape). HoldsTable shape pack indexes t x w) flat.0 held.1),
+  listed_beside R revs pack w indexes ts xs flat.1 held.2 (λ i u y is. each (suc i) u y is),
+)
 
 -- the tables in order of their names are kept, if each is
-pub named_kept : (keys : KeySet) (pack : ℕ) (kept : ℕ → Option KeptRegion) (revs : RevState) (w : World) (ts : List Table) (tables : Tables) → AreHeld pack ts tables w
+pub named_kept : (keys : KeySet) (pack : ℕ) (kept : ℕ → Option KeptRegion) (revs : RevState) (w : World) (indexes : List Index) (ts : List Table) (tables : Tables) → AreFlat (headings_of ts) → AreHeld pack indexes ts tables w
     → ((i : ℕ) (t : Table) (x : Stored Held) → slice_get ts i ≡ Some t → x.heading ≡ t.heading → FlatRepresents pack (flat_of t) x.held.slots w → KeepsBeside keys pack kept (listed_of revs t) x)
     → AreKept keys pack (catalogue_of revs ts) (by_name tables) kept
-named_kept keys pack kept revs w ts tables held each =
+named_kept keys pack kept revs w indexes ts tables flat held each =
     kept_beside keys pack kept (catalogue_of revs ts) (by_name tables)
     (fold_beside (KeepsBeside keys pack kept) (λ (t : Listed). t.table.heading.name) (λ (x : Stored Held). x.heading.name)
     (λ t x beside. ap (λ (h : Heading). h.name) (sym beside.heading)) [] (map (listed_of revs) ts) [] tables tt
-    (listed_beside (KeepsBeside keys pack kept) revs pack w ts tables held each))
+    (listed_beside (KeepsBeside keys pack kept) revs pack w indexes ts tables flat held each))
 
 -- ---- a table of which the store keeps each block
-pub table_kept_as : (keys : KeySet) (pack : ℕ) (revs : RevState) (t : Table) (slots : Slots) (w : World) (s : StoreState) → s ≡ w.store → 1 ≤ pack → Ready w → IsTable pack t w
+pub table_kept_as : (keys : KeySet) (pack : ℕ) (revs : RevState) (t : Table) (slots : Slots) (w : World) (s : StoreState) → s ≡ w.store → 1 ≤ pack → Ready w → IsTable pack t w → t.heading.shape ≡ FlatShape
     → FlatRepresents pack (flat_of t) slots w → w.vault.keys ≡ keys → w.vault.revs.number t.region 0 ≡ revs.number t.region 0
     → ((shape : Shape) → s.live t.region ≡ Some shape → KeepsLive t.region shape s) → KeepsTable keys pack (listed_of revs t) slots s.kept
-table_kept_as keys pack revs t slots w s same some ready is represents keyed number keeps =
-    let live = (ready.tied.live t.region (table_region Round pack t.heading.schema t.heading.capacity) is.round.live).live in
+table_kept_as keys pack revs t slots w s same some ready is flat represents keyed number keeps =
+    let live = (ready.tied.live t.region (table_region Round pack t.heading.schema t.heading.capacity) (is.written flat).round.live).live in
     let kept = keeps _ (ap (λ (x : StoreState). x.live t.region) same ∙ live) in
     record {
       size = represents.size;
@@ -101,7 +106,7 @@ table_kept_as keys pack revs t slots w s same some ready is represents keyed num
       whole = kept.whole;
       holds = λ p below.
           let count : w.vault.revs.number t.region p ≡ revs.number t.region 0 + p =
-          table_numbers pack some w ready t is p below ∙ ap (λ (k : ℕ). k + p) number in
+          table_numbers pack some w ready t is flat p below ∙ ap (λ (k : ℕ). k + p) number in
           kept.last p
           ∙ ap (λ (x : StoreState). x.last t.region p) same
           ∙ (represents.holds p below).last

@@ -26,13 +26,13 @@ use Rattle.ob_verdict.proofs.AcceptedProof.{sets_fit}
 use Rattle.ob_mean.specs.Step.{accepted_answer, answered, followed, rows_at, set_cells}
 use Rattle.ob_mean.specs.Settle.{settled}
 use Rattle.ob_mean.proofs.VerdictLemmas.{headings-database, heading-stored, stored-database, refused_late}
-use Rattle.ob_mean.proofs.FlatLemmas.{settle_is}
 use Rattle.ob_mean.specs.Verdict.{Held, in_slots, Tables, database, is_late, refusal}
 use Rattle.ob_mean.specs.Refusals.{limits_of}
 use Rattle.ob_verdict.specs.declared.outcome.Outcome.TheVariants.{Changed, Deleted}
 use Rattle.ob_verdict.specs.Outcomes.{refusal_now, outcome_of}
 use Rattle.ob_exec.specs.Schemas.{IsSet}
 use Rattle.ob_exec.proofs.MutateLemmas.{Alters}
+use Rattle.ob_exec.proofs.PlainLemmas.{settle_is}
 
 -- the columns and the rows of a table in place
 columns_found : (name : List ℕ) (tables : Tables) (x : Stored Held) → stored_at name tables ≡ Some x → columns_at name (headings tables) ≡ x.heading.schema
@@ -62,7 +62,9 @@ update_alters p m name sets cond heading pred cells pred_is cells_is = record {
   answers = λ n. record { whole = λ k. refl; own = refl };
   silent = λ n. tt;
   plain = refl;
-  meant = λ tables x flat early found size is.
+  makes_none = tt;
+  unindexed = λ none. none;
+  meant = λ tables x unread early found size is.
       let stmt = Update name sets cond in
       let none : refusal p m tables stmt ≡ None = refused_late p m tables stmt early in
       let condition : pred ≡ where_at cond x.heading.schema = pred_is ∙ ap (λ (h : Heading). where_at cond h.schema) (sym is) in
@@ -71,7 +73,7 @@ update_alters p m name sets cond heading pred cells pred_is cells_is = record {
       record {
         to = map (option_map (updated pred cells));
         answered = ap Changed count ∙ ap (λ (o : Option Refusal). outcome_of stmt (answered o (accepted_answer (database tables) stmt))) (sym none);
-        settles = λ d. settle_is p tables stmt flat d m
+        settles = λ d. settle_is p tables stmt unread d m
             ∙ ap (λ (o : Option Refusal). followed o (settled d p tables stmt) tables) none
             ∙ ap (λ (cs : Columns). changed_at name (in_slots (map (option_map (updated (where_at cond cs) (set_cells sets cs))))) tables) (columns_found name tables x found ∙ ap (λ (h : Heading). h.schema) is)
             ∙ (λ i. changed_at name (in_slots (map (option_map (updated (sym pred_is i) (sym cells_is i))))) tables);
@@ -89,7 +91,9 @@ delete_alters p m name cond heading pred pred_is = record {
   answers = λ n. record { whole = λ k. refl; own = refl };
   silent = λ n. tt;
   plain = refl;
-  meant = λ tables x flat early found size is.
+  makes_none = tt;
+  unindexed = λ none. none;
+  meant = λ tables x unread early found size is.
       let stmt = Delete name cond in
       let none : refusal p m tables stmt ≡ None = refused_late p m tables stmt early in
       let condition : pred ≡ where_at cond x.heading.schema = pred_is ∙ ap (λ (h : Heading). where_at cond h.schema) (sym is) in
@@ -98,7 +102,7 @@ delete_alters p m name cond heading pred pred_is = record {
       record {
         to = map (emptied (is_true pred));
         answered = ap Deleted count ∙ ap (λ (o : Option Refusal). outcome_of stmt (answered o (accepted_answer (database tables) stmt))) (sym none);
-        settles = λ d. settle_is p tables stmt flat d m
+        settles = λ d. settle_is p tables stmt unread d m
             ∙ ap (λ (o : Option Refusal). followed o (settled d p tables stmt) tables) none
             ∙ ap (λ (cs : Columns). changed_at name (in_slots (map (emptied (is_true (where_at cond cs))))) tables) (columns_found name tables x found ∙ ap (λ (h : Heading). h.schema) is)
             ∙ (λ i. changed_at name (in_slots (map (emptied (is_true (sym pred_is i))))) tables);

@@ -48,8 +48,11 @@ use Rattle.ob_exec.specs.Telling.{Represents}
 use Rattle.ob_exec.proofs.ByNameLemmas.{named_in, named_kept, table_kept_as}
 use Rattle.ob_exec.proofs.ListedLemmas.{may_list, table_block}
 use Rattle.ob_exec.proofs.RunLemmas.{next_after}
-use Rattle.ob_exec.proofs.HeldLemmas.{held_flat}
-use Rattle.ob_exec.proofs.TableLemmas.{region_below, table_kept, tables_flat}
+use Rattle.ob_exec.proofs.HeldLemmas.{held_headings}
+use Rattle.ob_base.specs.declared.schema.Heading.{Heading}
+use Rattle.ob_mean.specs.Flats.{AreFlat}
+use Rattle.ob_base.specs.Stored.{headings_of}
+use Rattle.ob_exec.proofs.TableLemmas.{flat_each, region_below, table_kept}
 
 -- ---- the old closing
 makes_drop : (o : Option ℕ) → makes (drop_script o) ≡ 0
@@ -82,7 +85,7 @@ drops_some closing q result a b is drops =
     })
 
 -- ---- before the first access
-module _ {R : Type 0} (state : R → RevState) (e : Engine R) (s : StoreState) (agrees : Agrees state e s) where
+module _ {R : Type 0} (state : R → RevState) (e : Engine R) (s : StoreState) (agrees : Agrees state e s) (flat : AreFlat (headings_of e.public.tables)) where
   -- whether its numbers are used up
   pub used_is : (nat_le (2 ^ 63) e.vault.next || nat_le (2 ^ 63) (e.vault.count + 1)) ≡ is_used_up (next_closing e s)
   used_is =
@@ -105,7 +108,7 @@ module _ {R : Type 0} (state : R → RevState) (e : Engine R) (s : StoreState) (
   pub have_blocks : All (λ (t : Table). HasBlock t.region (state e.vault.revs)) e.public.tables
   have_blocks = λ k d below.
       let is = got_or e.public.tables k d below in
-      table_block e.public.pack agrees.settings.pack_least (world_of state e s) agrees.ready _ (agrees.tables.each k _ is)
+      table_block e.public.pack agrees.settings.pack_least (world_of state e s) agrees.ready _ (agrees.tables.each k _ is) (flat_each e.public.tables flat k _ is)
     where
       got_or : (ts : List Table) (i : ℕ) (d : Table) → i < length ts → slice_get ts i ≡ Some (get_or ts i d)
       got_or [] i d below = absurd (omega (arith, below))
@@ -143,7 +146,7 @@ module _ {R : Type 0} (state : R → RevState) (e : Engine R) (s : StoreState) (
 
     pub lives_fore : (q : ℕ) → e.closing ≡ Some q → (shape : Region) × Lives q shape fore
     unfolding others_of
-    lives_fore q is = let beside = agrees.tables.beside q is in (beside.shape, record { live = beside.lives.live })
+    lives_fore q is = let beside = agrees.tables.beside q (inl is) in (beside.shape, record { live = beside.lives.live })
 
     -- the list is a catalogue of the closing that is made
     module _ (v1 : Vault R) (s2 : StoreState) (drops : DropsClosing e.closing fore (at state v1 s2)) where
@@ -179,7 +182,7 @@ module _ {R : Type 0} (state : R → RevState) (e : Engine R) (s : StoreState) (
       is_catalogue : IsCatalogue (next_closing e s) listed
       is_catalogue =
           catalogue_is (next_closing e s) (state e.vault.revs) e.public.tables
-          (may_list (next_closing e s) e.public.tables e.closing (world_of state e s) agrees.settings.pack_least agrees.ready agrees.tables agrees.next
+          (may_list (next_closing e s) e.public.tables (others_of e.closing e.indexes.items) e.indexes.items (world_of state e s) agrees.settings.pack_least agrees.ready agrees.tables flat agrees.next
           (ap (λ (n : ℕ). n + 1) (sym agrees.ready.tied.count)) refl)
 
       -- what is asked of writing it
@@ -302,7 +305,7 @@ module _ {R : Type 0} (state : R → RevState) (e : Engine R) (s : StoreState) (
 
           off : (i : ℕ) (u : Table) → slice_get e.public.tables i ≡ Some u → both u.region → ⊥
           unfolding others_of
-          off i u at_i (inl closed) = (agrees.tables.beside u.region closed).off (record { place = i; table = u; get = at_i; region = refl })
+          off i u at_i (inl closed) = (agrees.tables.beside u.region (inl closed)).off (record { place = i; table = u; get = at_i; region = refl })
           off i u at_i (inr fresh) =
               let below = region_below e.public.pack i e.public.tables u (world_of state e s) agrees.ready agrees.tables at_i in
               let next = next_amid in
@@ -319,19 +322,19 @@ module _ {R : Type 0} (state : R → RevState) (e : Engine R) (s : StoreState) (
                 closing_is =
                     subst (λ (x : Closing). IsClosing e.vault.keys x listed t.kept) made_is
                     (subst (λ (k : KeySet). IsClosing k made listed t.kept) went.lasts.keys written);
-                held = named_kept e.vault.keys e.public.pack t.kept (state e.vault.revs) (world_of state e s) e.public.tables tables held.held
+                held = named_kept e.vault.keys e.public.pack t.kept (state e.vault.revs) (world_of state e s) e.indexes.items e.public.tables tables flat held.held
                     (λ i u x at_i heading represents. record {
                       heading = heading;
                       keeps =
                           let away = off i u at_i in
                           table_kept_as e.vault.keys e.public.pack (state e.vault.revs) u x.held.slots last t refl agrees.settings.pack_least went.lasts.ready
-                          (table_kept both e.public.pack u (world_of state e s) last went.lasts away (agrees.tables.each i u at_i))
+                          (table_kept both e.public.pack u (world_of state e s) last went.lasts away (agrees.tables.each i u at_i)) (flat_each e.public.tables flat i u at_i)
                           (represents_lasts e.public.pack (flat_of u) both (world_of state e s) last went.lasts away x.held.slots represents)
                           went.lasts.keys (went.lasts.apart.number u.region 0 away)
                           (λ shape live. keeps u.region shape tells_last live);
                     });
                 in_place = λ stash. named_in e.public.stash stash tables
-                    (held_flat e.public.pack e.public.tables tables (world_of state e s) held.held (tables_flat agrees.tables)) held.in_place;
+                    (subst (λ (hs : List Heading). AreFlat hs) (sym (held_headings e.public.pack e.indexes.items e.public.tables tables (world_of state e s) held.held)) flat) held.in_place;
               }
 
           pub closes_all : (mark : Mark) → mark ≡ mark_of made → ClosesEngine state (Ok mark) e s t

@@ -10,6 +10,7 @@ use Rattle.std.specs.Prelude.{◌<◌, ◌≤◌, ◌&&◌, max, Bool, IsTrue, O
 use Rattle.std.proofs.lemmas.Slice.Eq.{bytes_eq-Decides}
 use Rattle.std.proofs.lemmas.Bool.{cases_eq}
 use Rattle.ob_base.specs.declared.schema.Shape.{Shape}
+use Rattle.ob_base.specs.declared.schema.Shape.TheVariants.{Flat as FlatShape, Indexed}
 use Rattle.ob_base.specs.declared.access.Access.{Access}
 use Rattle.ob_base.specs.declared.config.Public.{Public}
 use Rattle.ob_base.specs.declared.refusal.Refusal.{Refusal}
@@ -49,23 +50,25 @@ use Rattle.ob_sql.specs.declared.stmt.Stmt.TheVariants.{Create as CreateStmt}
 use Rattle.ob_base.specs.Stored.{headings_of}
 use Rattle.ob_mean.specs.Refusals.{is_size, limits_of}
 use Rattle.ob_mean.specs.Step.{accepted_answer, answered as answered_by, followed}
-use Rattle.ob_mean.proofs.FlatLemmas.{created_flat, settle_is}
+use Rattle.ob_mean.proofs.FlatLemmas.{created_flat}
 use Rattle.ob_mean.specs.Settle.{settle, settled}
-use Rattle.ob_mean.specs.Verdict.{Tables, database, is_late, refusal, ended as seen_to}
+use Rattle.ob_mean.specs.Verdict.{Held, Tables, database, is_late, refusal, ended as seen_to}
 use Rattle.ob_mean.proofs.EarlyLemmas.{allowed, within, neither, IsWithin}
 use Rattle.ob_mean.proofs.VerdictLemmas.{refused_late}
 use Rattle.ob_exec.specs.declared.engine.Engine.{Engine}
 use Rattle.ob_verdict.specs.declared.outcome.Outcome.{Outcome}
 use Rattle.ob_verdict.specs.declared.outcome.Outcome.TheVariants.{Created}
 use Rattle.ob_reopen.specs.Limits.{IsHeading, IsStored, is_column, is_kind}
-use Rattle.ob_exec.specs.Engines.{IsAt, IsTable, others_of, indexes_of}
+use Rattle.ob_exec.specs.Engines.{IsAt, IsTable, others_of}
+use Rattle.ob_oram.specs.declared.index.Index.{Index}
 use Rattle.ob_exec.specs.Agreeing.{Agrees, world_of, count_of}
 use Rattle.ob_exec.specs.Running.{answer_of, is_stop}
 use Rattle.ob_verdict.specs.Outcomes.{refusal_now, outcome_of}
 use Rattle.ob_exec.specs.Serving.{ServesSilently}
-use Rattle.ob_exec.specs.Telling.{AreHeld, Represents}
-use Rattle.ob_exec.proofs.TableLemmas.{tables_added, tables_flat, region_below}
-use Rattle.ob_exec.proofs.HeldLemmas.{held_flat, held_kept, held_added}
+use Rattle.ob_exec.specs.Telling.{AreHeld, HoldsTable, Represents}
+use Rattle.ob_exec.proofs.TableLemmas.{beside_below, tables_added, region_below}
+use Rattle.ob_exec.proofs.HeldLemmas.{held_kept, held_added}
+use Rattle.ob_exec.proofs.PlainLemmas.{none_drawn, settle_is}
 use Rattle.ob_exec.proofs.SealLemmas.{keeps_pass}
 use Rattle.ob_exec.proofs.SilentLemmas.{cut_off, finished, serves_as}
 use Rattle.ob_exec.proofs.ToldLemmas.{early_held, fault_made, silent_fault}
@@ -138,7 +141,6 @@ module _ (p : Public) (m : ℕ) (table : List ℕ) (columns : List NewColumn) (c
         most = size.most;
         names = ap (has_repeats bytes_eq) (named_alike table columns) ∙ (neither (has_table table (headings_of p.tables)) _ free.names).1;
         table = names_table table columns;
-        flat = size.flat;
       }
 
   pub new_heading : length table ≤ 32 → All IsShort columns → IsHeading (record { name = table; schema = columns_of table columns; capacity = capacity; shape = shape })
@@ -157,7 +159,7 @@ module _ (p : Public) (m : ℕ) (table : List ℕ) (columns : List NewColumn) (c
       let free = allowed (is_late m) (limits_of p) (headings_of p.tables) (CreateStmt table columns capacity shape) now in
       no_table table p.tables i t (neither (has_table table (headings_of p.tables)) _ free.names).0 is
 
-  pub new_within : IsWithin (headings_of p.tables) table columns capacity shape
+  pub new_within : IsWithin (limits_of p) (headings_of p.tables) table columns capacity shape
   new_within = within (limits_of p) (headings_of p.tables) table columns capacity shape (allowed (is_late m) (limits_of p) (headings_of p.tables) (CreateStmt table columns capacity shape) now).limits
 
   pub new_place : length p.tables < 64
@@ -185,7 +187,7 @@ module _ (p : Public) (m : ℕ) (table : List ℕ) (columns : List NewColumn) (c
 module _ {R : Type 0} (state : R → RevState) (old : Engine R) (s s1 : StoreState) (v : Vault R) (room : RoomState) (t : StoreState)
     (table : List ℕ) (columns : List NewColumn) (schema : Columns) (capacity : ℕ) (shape : Shape)
     (agrees : Agrees state old s) (rests : ChangesNothing s s1) (room_is : room ≡ record old.room { high = max old.room.high old.room.pack }) (schema_is : schema ≡ columns_of table columns)
-    (now : refusal_now old.public (count_of old s) (CreateStmt table columns capacity shape) ≡ None) where
+    (now : refusal_now old.public (count_of old s) (CreateStmt table columns capacity shape) ≡ None) (flat_shape : shape ≡ FlatShape) where
   abbrev before : World
   before = at state old.vault s1
 
@@ -197,7 +199,7 @@ module _ {R : Type 0} (state : R → RevState) (old : Engine R) (s s1 : StoreSta
 
   script_is : (end : End) → whole_script old.public (Create table columns capacity shape) (seen_to end) ≡ part
   script_is end =
-      ap (λ (x : Shape). created_script old.public capacity (width (columns_of table columns)) x) (new_stored old.public (count_of old s) table columns capacity shape now).flat
+      ap (λ (x : Shape). created_script old.public capacity (width (columns_of table columns)) x) flat_shape
       ∙ (λ i. create_part (agrees.next i) (blocks_for (sym agrees.room.pack i) capacity) (sym agrees.room.pack i * width (sym schema_is i)))
 
   abbrev new_table : Table
@@ -213,7 +215,7 @@ module _ {R : Type 0} (state : R → RevState) (old : Engine R) (s s1 : StoreSta
 
   no_refusal : (tables : Tables) → Represents state old s tables → refusal old.public (count_of old s) tables (CreateStmt table columns capacity shape) ≡ None
   no_refusal tables held =
-      refused_late old.public (count_of old s) tables (CreateStmt table columns capacity shape) (early_held old.public (count_of old s) (CreateStmt table columns capacity shape) tables (world_of state old s) None held.held now)
+      refused_late old.public (count_of old s) tables (CreateStmt table columns capacity shape) (early_held old.public (count_of old s) (CreateStmt table columns capacity shape) tables old.indexes.items (world_of state old s) None held.held now)
 
   made : length table ≤ 32 → All IsShort columns → Went part (one old.vault.next) before done → IsFlat old.room.pack fresh done
       → Lives old.vault.next (table_region Round old.room.pack schema capacity) done → (IsTrue s.tells → FlatRepresents old.room.pack fresh (empty_slots capacity) done)
@@ -225,34 +227,41 @@ module _ {R : Type 0} (state : R → RevState) (old : Engine R) (s s1 : StoreSta
       let is_table : IsTable old.public.pack new_table done = record {
         heading = heading_is short names;
         least = let number = agrees.ready.tied.next in let same = agrees.next in omega (arith, number, same);
-        flat = subst (λ (g : ℕ). IsFlat old.public.pack (table_of schema capacity g) done) (sym agrees.next) (subst (λ (k : ℕ). IsFlat k fresh done) agrees.room.pack flat);
-        round = record { live = ap (state v.revs).live agrees.next ∙ round.live ∙ (λ i. Some (table_region Round (agrees.room.pack i) schema capacity)) };
+        live = record { shape = _; lives = record { live = ap (state v.revs).live agrees.next ∙ round.live } };
+        written = λ is_flat. record {
+          flat = subst (λ (g : ℕ). IsFlat old.public.pack (table_of schema capacity g) done) (sym agrees.next) (subst (λ (k : ℕ). IsFlat k fresh done) agrees.room.pack flat);
+          round = record { live = ap (state v.revs).live agrees.next ∙ round.live ∙ (λ i. Some (table_region Round (agrees.room.pack i) schema capacity)) };
+        };
       } in
       let answered : IsAnswered Created = record { whole = λ n. refl; own = refl } in
       let unnamed = new_name old.public (count_of old s) table columns capacity shape now in
-      let ran = ran_done state (Create table columns capacity shape) old s v room t agrees room_is (one old.vault.next)
+      let ran = ran_done state (Create table columns capacity shape) old s v room t agrees room_is (none_drawn old.public (Create table columns capacity shape) refl flat_shape) (one old.vault.next)
       (old.public.tables ++ new_table ∷ []) part Created lives answered all (script_is Whole)
       (ap (λ (c : Columns). old.public.tables ++ record { heading = record { name = table; schema = c; capacity = capacity; shape = shape }; region = old.public.next_region } ∷ []) schema_is)
-      (tables_added old.public.pack old.vault.next old.public.tables (others_of old.closing) (indexes_of old.closing) new_table _ _ all.lasts agrees.ready refl agrees.tables
-      (new_place old.public (count_of old s) table columns capacity shape now) agrees.next is_table
+      (tables_added old.public.pack old.vault.next old.public.tables (others_of old.closing old.indexes.items) old.indexes.items new_table _ _ all.lasts agrees.ready refl agrees.tables
+      (new_place old.public (count_of old s) table columns capacity shape now) agrees.next flat_shape is_table
       (λ i u is same. unnamed i u (record { get = is; named = same })) (λ q. cases_eq q old.vault.next)) in
-      finished state stmt old s agrees now refl v room t (old.public.tables ++ new_table ∷ []) Created answered tt ran
+      finished state stmt old s agrees now refl refl flat_shape v room t (old.public.tables ++ new_table ∷ []) Created answered tt ran
       (keeps_pass state old s s1 rests agrees (engine_after old v room (old.public.tables ++ new_table ∷ []) Whole old.ended) t done refl (λ good accepts. seals.seals good (accepts _ _)))
       (λ tables d reads.
       let none = no_refusal tables reads.held in
       let slots = subst (λ (g : ℕ). FlatRepresents old.public.pack (table_of schema capacity g) (empty_slots capacity) done) (sym agrees.next)
       (subst (λ (k : ℕ). FlatRepresents k fresh (empty_slots capacity) done) agrees.room.pack (told reads.tells)) in
-      let kept = held_kept (one old.vault.next) old.public.pack old.public.tables tables _ _ all.lasts
-      (λ i u here same. let less = region_below old.public.pack i old.public.tables u _ agrees.ready agrees.tables here in omega (arith, less, same)) reads.held.held in
-      let added = held_added old.public.pack old.public.tables tables new_table (empty_slots capacity) done kept slots in
-      let flat_all = held_flat old.public.pack old.public.tables tables (world_of state old s) reads.held.held (tables_flat agrees.tables) in
+      let kept = held_kept (one old.vault.next) old.public.pack old.indexes.items old.public.tables tables _ _ all.lasts
+      (λ i u here same. let less = region_below old.public.pack i old.public.tables u _ agrees.ready agrees.tables here in omega (arith, less, same))
+      (λ k x get same.
+      let less = beside_below old.public.pack old.public.tables (others_of old.closing old.indexes.items) x.stash _ agrees.ready agrees.tables (agrees.tables.stand k x get).beside in
+      omega (arith, less, same)) reads.held.held in
+      let held_now : Held = record { slots = empty_slots capacity; leaves = [] } in
+      let added = held_added old.public.pack old.indexes.items old.public.tables tables new_table held_now done kept
+      (subst (λ (x : Shape). HoldsTable x old.public.pack old.indexes.items new_table (record { heading = new_table.heading; held = held_now }) done) (sym flat_shape) slots) in
       let settles : settle d old.public (count_of old s) tables stmt ≡ tables ++ record { heading = new_table.heading; held = record { slots = empty_slots capacity; leaves = [] } } ∷ [] =
-      settle_is old.public tables stmt flat_all d (count_of old s)
+      settle_is old.public tables stmt refl d (count_of old s)
       ∙ ap (λ (o : Option Refusal). followed o (settled d old.public tables stmt) tables) none
-      ∙ created_flat d old.public tables table columns capacity shape (new_stored old.public (count_of old s) table columns capacity shape now).flat
+      ∙ created_flat d old.public tables table columns capacity shape flat_shape
       ∙ (λ i. tables ++ record { heading = record { name = table; schema = sym schema_is i; capacity = capacity; shape = shape }; held = record { slots = empty_slots capacity; leaves = [] } } ∷ []) in (
         sym (ap (λ (o : Option Refusal). outcome_of stmt (answered_by o (accepted_answer (database tables) stmt))) none),
-        subst (λ (ts : Tables). AreHeld old.public.pack (old.public.tables ++ new_table ∷ []) ts done) (sym settles) added,
+        subst (λ (ts : Tables). AreHeld old.public.pack old.indexes.items (old.public.tables ++ new_table ∷ []) ts done) (sym settles) added,
       ))
 
   -- the table was made
@@ -270,7 +279,7 @@ module _ {R : Type 0} (state : R → RevState) (old : Engine R) (s s1 : StoreSta
       → ServesSilently state (CreateStmt table columns capacity shape) result old s new t
   not_created e n new result creates count answered is =
       serves_as state (CreateStmt table columns capacity shape) old s t _ _ _ _ answered is
-      (cut_off state (CreateStmt table columns capacity shape) old s agrees now refl s1 v room t rests room_is part _ _ _ n e script_is refl creates.ran.err count creates.makes.gone
+      (cut_off state (CreateStmt table columns capacity shape) old s agrees now refl refl flat_shape s1 v room t rests room_is part _ _ _ n e script_is refl creates.ran.err count creates.makes.gone
       (λ is. creates.memory.did (ap (λ (z : OpErr). Err z) is)) (silent_fault e creates.never) (λ tables reads. fault_made e creates.never)
       (λ good accepts. creates.makes.seals.seals good (accepts _ _)))
 

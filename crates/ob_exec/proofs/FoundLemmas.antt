@@ -8,7 +8,10 @@ use Rattle.ob_base.specs.Stored.{Stored, headings, heading_at, has_table, stored
 use Rattle.ob_base.specs.Stored.{headings_of}
 use Rattle.ob_mean.proofs.VerdictLemmas.{heading-stored}
 use Rattle.ob_exec.specs.Engines.{IsAt}
-use Rattle.ob_exec.proofs.TableLemmas.{AreNamed, named, stored_found}
+use Rattle.ob_base.specs.declared.schema.Shape.TheVariants.{Flat as FlatShape}
+use Rattle.ob_mean.specs.Refusals.{is_index}
+use Rattle.ob_exec.proofs.HeldLemmas.{heading_flat}
+use Rattle.ob_exec.proofs.TableLemmas.{AreNamed, NamedFlat, named, stored_found}
 
 region_headings : (ts : List Table) → headings (stored_regions ts) ≡ headings_of ts
 region_headings [] = refl
@@ -18,6 +21,13 @@ region_headings (t ∷ ts) = ap (λ (hs : List Heading). t.heading ∷ hs) (regi
 pub heading_found : (name : List ℕ) (ts : List Table) (i : ℕ) (t : Table) → AreNamed ts → slice_get ts i ≡ Some t → t.heading.name ≡ name → heading_at name (headings_of ts) ≡ Some t.heading
 heading_found name ts i t names at is =
     ap (heading_at name) (sym (region_headings ts)) ∙ heading-stored name (stored_regions ts) ∙ ap (option_map (λ (u : Stored ℕ). u.heading)) (stored_found name ts i t names at is)
+
+-- it is flat, where the name is no index's
+pub shape_found : (name : List ℕ) (ts : List Table) (i : ℕ) (t : Table) → AreNamed ts → slice_get ts i ≡ Some t → t.heading.name ≡ name → is_index (headings_of ts) name ≡ false → t.heading.shape ≡ FlatShape
+shape_found name ts i t names at is none = heading_flat name (headings_of ts) t.heading none (heading_found name ts i t names at is)
+
+pub named_flat : (name : List ℕ) (ts : List Table) → AreNamed ts → is_index (headings_of ts) name ≡ false → NamedFlat name ts
+named_flat name ts names none = λ i t at is. shape_found name ts i t names at is none
 
 -- no table has the name
 pub absent : (name : List ℕ) (ts : List Table) → ((i : ℕ) (t : Table) → IsAt name i t ts → ⊥) → has_table name (headings_of ts) ≡ false

@@ -24,14 +24,13 @@ use Rattle.ob_mean.specs.Refusals.{early_refusal, limits_of}
 use Rattle.ob_mean.specs.Step.{new_row, insert_refusal, answered, followed}
 use Rattle.ob_mean.specs.Settle.{settle, settled}
 use Rattle.ob_mean.proofs.VerdictLemmas.{flat_refusal, heading-stored, stored-database, refused_late}
-use Rattle.ob_mean.proofs.FlatLemmas.{settle_is}
-use Rattle.ob_mean.specs.Flats.{AreFlat}
-use Rattle.ob_mean.specs.Verdict.{Draws, Held, in_slots, Tables, is_late, refusal, verdict}
+use Rattle.ob_mean.specs.Verdict.{Draws, Held, accessed, in_slots, Tables, is_late, refusal, verdict}
 use Rattle.ob_verdict.specs.declared.outcome.Outcome.TheVariants.{Inserted}
 use Rattle.ob_exec.specs.Running.{HasNoRows, inserted_as}
 use Rattle.ob_verdict.specs.Outcomes.{done_of, outcome_of}
 use Rattle.ob_exec.proofs.HeldLemmas.{changed_same}
 use Rattle.ob_exec.proofs.MutateLemmas.{Alters}
+use Rattle.ob_exec.proofs.PlainLemmas.{settle_is}
 use Rattle.ob_exec.proofs.RunLemmas.{IsAnswered}
 
 -- ---- what an INSERT means that is not refused early
@@ -53,11 +52,11 @@ settle_plain false true name row tables = sym (changed_same name tables)
 settle_plain false false name row tables = refl
 
 insert_meant : (p : Public) (m : ℕ) (tables : Tables) (name : List ℕ) (columns : Option (List (List ℕ))) (values : List Literal) (x : Stored Held) (row : Row) (answer : InsertedAs)
-    → AreFlat (headings tables) → early_refusal (is_late m) (limits_of p) (headings tables) (InsertStmt name columns values) ≡ None → stored_at name tables ≡ Some x → length x.held.slots ≡ x.heading.capacity
+    → accessed tables (InsertStmt name columns values) ≡ None → early_refusal (is_late m) (limits_of p) (headings tables) (InsertStmt name columns values) ≡ None → stored_at name tables ≡ Some x → length x.held.slots ≡ x.heading.capacity
     → x.heading.shape ≡ Flat → row ≡ new_row x.heading.schema columns values → answer ≡ insert_answer x.heading.schema row x.held.slots
     → (inserted_as answer ≡ outcome_of (InsertStmt name columns values) (verdict p m tables (InsertStmt name columns values)))
     × ((d : Draws) → settle d p m tables (InsertStmt name columns values) ≡ changed_at name (in_slots (λ slots. slots_after answer row slots)) tables)
-insert_meant p m tables name columns values x row answer flat_all early found size flat row_is is =
+insert_meant p m tables name columns values x row answer unread early found size flat row_is is =
     let stmt = InsertStmt name columns values in
     let a = has_key (key_place x.heading.schema) row (rows x.held.slots) in
     let b = length (rows x.held.slots) == length x.held.slots in
@@ -71,7 +70,7 @@ insert_meant p m tables name columns values x row answer flat_all early found si
     let schema_is : columns_at name (headings tables) ≡ x.heading.schema =
     ap (λ (o : Option Heading). option_map_or (λ (h : Heading). h.schema) o []) (heading-stored name tables ∙ ap (option_map (λ (u : Stored Held). u.heading)) found) in (
       ap inserted_as is ∙ outcome_plain a b stmt refl ∙ ap (λ (o : Option Refusal). outcome_of stmt (answered o A.Done)) (sym refusal_is),
-      λ d. settle_is p tables stmt flat_all d m
+      λ d. settle_is p tables stmt unread d m
           ∙ ap (λ (o : Option Refusal). followed o (settled d p tables stmt) tables) refusal_is
           ∙ ap (λ (r : Row). followed (option_or (refused_as a b) None) (changed_at name (in_slots (fill_first r)) tables) tables) (ap (λ (cs : Columns). new_row cs columns values) schema_is ∙ sym row_is)
           ∙ settle_plain a b name row tables
@@ -100,9 +99,11 @@ insert_alters p m name columns values heading cs row flat schema_is row_is = rec
   answers = is_answered;
   silent = silent_inserted;
   plain = refl;
-  meant = λ tables x flat_all early found size is.
+  makes_none = tt;
+  unindexed = λ none. none;
+  meant = λ tables x unread early found size is.
       let cs_is : cs ≡ x.heading.schema = schema_is ∙ ap (λ (h : Heading). h.schema) (sym is) in
-      let meant = insert_meant p m tables name columns values x row (insert_answer cs row x.held.slots) flat_all early found size
+      let meant = insert_meant p m tables name columns values x row (insert_answer cs row x.held.slots) unread early found size
       (ap (λ (h : Heading). h.shape) is ∙ flat) (row_is ∙ ap (λ (h : Heading). new_row h.schema columns values) (sym is)) (ap (λ (d : Columns). insert_answer d row x.held.slots) cs_is) in
       record { to = λ slots. slots_after (insert_answer cs row x.held.slots) row slots; answered = meant.0; settles = meant.1; here = refl };
 }

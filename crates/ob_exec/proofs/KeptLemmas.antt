@@ -7,7 +7,7 @@ use Rattle.ob_blocks.proofs.Blocks.{all_block, all_up_to, length-block, length-u
 use Rattle.ob_flat.specs.Flats.{Represents as FlatRepresents, whole_blocks}
 use Rattle.ob_flat.specs.Slots.{FitsSlot}
 use Rattle.ob_flat.proofs.Tables.{blocks_hold}
-use Rattle.ob_mean.specs.Verdict.{Tables}
+use Rattle.ob_mean.specs.Verdict.{Held, Tables}
 use Rattle.ob_row.specs.Slots.{Slots}
 use Rattle.ob_seal.specs.KeySet.{KeySet}
 use Rattle.ob_seal.specs.Sealed.{sealed}
@@ -24,7 +24,12 @@ use Rattle.ob_reopen.specs.Openings.{IsReopened}
 use Rattle.ob_exec.specs.Engines.{flat_of}
 use Rattle.ob_reopen.specs.Resting.{AcceptsClosings, AreKept, KeepsTable, kept_block}
 use Rattle.ob_select.specs.Selecting.{AcceptsRows}
-use Rattle.ob_exec.specs.Telling.{AreHeld}
+use Rattle.ob_base.specs.declared.schema.Shape.{Shape as TableShape}
+use Rattle.ob_base.specs.declared.schema.Shape.TheVariants.{Flat as FlatShape, Indexed}
+use Rattle.ob_base.specs.Stored.{Stored}
+use Rattle.ob_base.specs.declared.schema.Table.{Table}
+use Rattle.ob_exec.specs.Telling.{AreHeld, HoldsTable}
+use Rattle.ob_exec.proofs.TableLemmas.{no_entry}
 
 -- ---- the tables
 -- the slots of a table that is open again are those that were kept
@@ -40,16 +45,21 @@ slots_open keys pack t slots kept mid w keeps opened tells same keyed = record {
   };
 }
 
+-- no index is there
+holds_none : (shape : TableShape) (pack : ℕ) (t : Table) (x : Stored Held) (w : World) → FlatRepresents pack (flat_of t) x.held.slots w → HoldsTable shape pack [] t x w
+holds_none FlatShape pack t x w is = is
+holds_none Indexed pack t x w is = λ k i get tree. absurd (no_entry [] k i refl get)
+
 pub held_open : (keys : KeySet) (pack : ℕ) (listed : List Listed) (tables : Tables) (kept : ℕ → Option KeptRegion) (mid w : World) → AreKept keys pack listed tables kept
     → ((i : ℕ) (t : Listed) → slice_get listed i ≡ Some t → IsReopened pack t mid w) → IsTrue mid.store.tells
     → ((i : ℕ) (t : Listed) → slice_get listed i ≡ Some t → mid.store.kept t.table.region ≡ kept t.table.region) → w.vault.keys ≡ keys
-    → AreHeld pack (map (λ (t : Listed). t.table) listed) tables w
+    → AreHeld pack [] (map (λ (t : Listed). t.table) listed) tables w
 held_open keys pack [] [] kept mid w are opened tells same keyed = tt
 held_open keys pack [] (x ∷ xs) kept mid w are opened tells same keyed = absurd are
 held_open keys pack (t ∷ ts) [] kept mid w are opened tells same keyed = absurd are
 held_open keys pack (t ∷ ts) (x ∷ xs) kept mid w are opened tells same keyed = (
   are.0,
-  slots_open keys pack t x.held.slots kept mid w are.1 (opened 0 t refl) tells (same 0 t refl) keyed,
+  holds_none t.table.heading.shape pack t.table x w (slots_open keys pack t x.held.slots kept mid w are.1 (opened 0 t refl) tells (same 0 t refl) keyed),
   held_open keys pack ts xs kept mid w are.2 (λ i u is. opened (suc i) u is) tells (λ i u is. same (suc i) u is) keyed,
 )
 

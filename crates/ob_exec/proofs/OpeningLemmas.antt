@@ -1,5 +1,5 @@
 -- An engine is opened: what is asked, how it may end, and which tables it has.
-use Rattle.ob_exec.proofs.TableLemmas.{no_index}
+use Rattle.ob_exec.proofs.TableLemmas.{no_entry, no_stash}
 use Rattle.std.proofs.Common.{◌≡◌, ◌≢◌, ◌⊎◌, inl, inr, ℕ, zero, suc, ◌+◌, ◌-◌, ◌*◌, ◌<◌, ◌≤◌, false, List, [], ◌∷◌, ◌++◌, length, length-append, map, Option, Some, None, Ok, Err, refl, sym, ◌∙◌, ap, subst, arith, append-nil}
 use Rattle.std.specs.Prelude.{Bool, IsTrue, max, replicate, slice_get}
 use Rattle.std.specs.Option.{option_map}
@@ -20,7 +20,7 @@ use Rattle.ob_base.proofs.AccessLemmas.{makes-append}
 use Rattle.ob_mean.specs.Verdict.{Tables}
 use Rattle.ob_script.proofs.Makes.{makes-count_part}
 use Rattle.ob_room.specs.RoomState.{RoomState, clear}
-use Rattle.ob_seal.specs.KeySet.{KeySet}
+use Rattle.ob_seal.specs.KeySet.{KeySet, draw_seed_of}
 use Rattle.ob_store.specs.State.{KeptRegion, Lie, StoreState}
 use Rattle.ob_store.specs.Calls.{IsBounded, ChangesNothing as OnlyRoom}
 use Rattle.ob_store.specs.Runs.{Did, Began}
@@ -43,9 +43,12 @@ use Rattle.ob_reopen.specs.Openings.{ClosingTampered, Follows, IsNumbered, IsOf,
 use Rattle.ob_reopen.specs.Writings.{StandApart}
 use Rattle.ob_reopen.proofs.TableLemmas.{is_of, table_is, tables_apart}
 use Rattle.ob_exec.specs.declared.engine.Engine.{Engine}
-use Rattle.ob_exec.specs.Agreeing.{Agrees, world_of}
+use Rattle.ob_exec.specs.Agreeing.{Agrees, AreDraws, first_draws, world_of}
 use Rattle.ob_select.specs.Settings.{AreSettings, IsFree}
-use Rattle.ob_exec.specs.Engines.{AreTables, IsBeside, IsConfig, IsTable, others_of, indexes_of}
+use Rattle.ob_exec.specs.Engines.{AreTables, IsBeside, IsConfig, IsTable, others_of, IsStash}
+use Rattle.ob_oram.specs.declared.index.Index.{Index}
+use Rattle.ob_seal.specs.Draws.{DrawPlace, draw_of}
+use Rattle.rand_chacha.specs.ChaCha.{key_of}
 use Rattle.ob_exec.specs.Reopening.{IsClosed, OpensEngine}
 use Rattle.ob_reopen.specs.Reopened.{NotOpened, OpeningCause, opened_public, opened_start, opening_script}
 use Rattle.ob_reopen.specs.Resting.{AcceptsClosings, AreKept, Rests}
@@ -154,11 +157,14 @@ module _ (closing : Closing) (listed : List Listed) (marked : IsMarked closing) 
       record {
         heading = limits.heading;
         least = limits.region_least;
-        flat = record {
-          made = record { order = Round; lives = here.lives; turn = here.turn };
-          written = λ p below. record { number = λ zero_is. let n = here.numbers p below in omega (arith, n, zero_is, some) };
+        live = record { shape = _; lives = here.lives };
+        written = λ shape. record {
+          flat = record {
+            made = record { order = Round; lives = here.lives; turn = here.turn };
+            written = λ p below. record { number = λ zero_is. let n = here.numbers p below in omega (arith, n, zero_is, some) };
+          };
+          round = here.lives;
         };
-        round = here.lives;
       }
 
   no_closing : IsOf listed closing.region → ⊥
@@ -167,10 +173,16 @@ module _ (closing : Closing) (listed : List Listed) (marked : IsMarked closing) 
   apart : (i j : ℕ) (t u : Listed) → i < j → slice_get listed i ≡ Some t → slice_get listed j ≡ Some u → StandApart closing.pack t u
   apart i j t u below is at = tables_apart closing listed catalogue i j t u below is at
 
-  pub opened_tables : AreTables ts (others_of (Some closing.region)) (indexes_of (Some closing.region)) closing.pack w
+  pub opened_tables : AreTables ts (others_of (Some closing.region) []) [] closing.pack w
   unfolding others_of
   opened_tables = record {
-    stand = λ k x is. absurd (no_index (Some closing.region) k x is);
+    stand = λ k x is. absurd (no_entry [] k x refl is);
+    one = λ k l x y is. absurd (no_entry [] k x refl is);
+    has = λ i u is shape.
+        let m = mapped listed i u is in
+        let flat = (table_is closing listed catalogue i m.table m.get).flat in
+        let same = m.same in
+        absurd (cc (shape, same, flat));
     each = λ i u is. let m = mapped listed i u is in subst (λ (x : Table). IsTable closing.pack x w) m.same (open_table i m.table m.get);
     few =
         let long = length-map listed (λ (t : Listed). t.table) in
@@ -187,13 +199,13 @@ module _ (closing : Closing) (listed : List Listed) (marked : IsMarked closing) 
         let b = mapped listed j u js in
         let names : a.table.table.heading.name ≡ b.table.table.heading.name = ap (λ (x : Table). x.heading.name) a.same ∙ same ∙ ap (λ (x : Table). x.heading.name) (sym b.same) in
         by_order i j (λ below. (apart i j a.table b.table below a.get b.get).names names) (λ below. (apart j i b.table a.table below b.get a.get).names (sym names));
-    beside = λ q is. let here : closing.region ≡ q = cc is in subst (λ (r : ℕ). IsBeside ts r w) here (record {
+    beside = λ q is. let here : closing.region ≡ q = elim is [ inl closed ↦ cc closed | inr of ↦ absurd (no_stash [] q refl of) ] in subst (λ (r : ℕ). IsBeside ts r w) here (record {
       shape = closing_region closing;
       lives = record { live = kept closing.region no_closing ∙ lives };
       off = λ of. let m = mapped listed of.place of.table of.get in no_closing (record { place = of.place; table = m.table; is = m.get; region = ap (λ (x : Table). x.region) m.same ∙ of.region });
     });
     only = λ q shape live. elim (cases_eq q closing.region) [
-      | inl here ↦ inr (ap (λ (r : ℕ). Some r) (sym here))
+      | inl here ↦ inr (inl (ap (λ (r : ℕ). Some r) (sym here)))
       | inr off ↦ elim (is_of listed q) [
         | inl of ↦ inl (record {
           place = of.place;
@@ -379,7 +391,7 @@ module _ {R : Type 0} (state : R → RevState) (config : Config) (keys : KeySet)
                 let zero_is = makes_opening closing listed in
                 omega (arith, next, region, made, zero_is)
 
-            pub tables_last : AreTables (map (λ (x : Listed). x.table) listed) (others_of (Some closing.region)) (indexes_of (Some closing.region)) closing.pack last
+            pub tables_last : AreTables (map (λ (x : Listed). x.table) listed) (others_of (Some closing.region) []) [] closing.pack last
             tables_last =
                 opened_tables closing listed marked reads.catalogue mid last reads.lives.live
                 (λ q off. reads.opens.ok.stays.apart.live q off ∙ none q) reopens.opens.ok.stays.apart.live reopens.tables
@@ -446,7 +458,7 @@ module _ {R : Type 0} (state : R → RevState) (config : Config) (keys : KeySet)
         reads.opens.ok.stays.apart.rests t.table.region (λ same. omega (arith, within, same)) ∙ room.keeps.kept t.table.region
 
     module _ {T : Type 0} (value : T) (v2 : Vault R) (t : StoreState) (reopens : ReopensTables closing listed (Ok value) amid (at state v2 t)) where
-      pub held_last : AreHeld closing.pack (map (λ (x : Listed). x.table) listed) tables (at state v2 t)
+      pub held_last : AreHeld closing.pack [] (map (λ (x : Listed). x.table) listed) tables (at state v2 t)
       held_last = held_open keys closing.pack listed tables s.kept amid (at state v2 t) are_kept reopens.tables tells_amid kept_amid (reopens.opens.ok.stays.keys ∙ keys_amid)
 
       pub sealed_last : (good : ℕ → List ℕ → Bool) → AcceptsRows good closing.pack → AcceptsClosings good → (scope : Scope) → scope.below ≤ next_fault s → AllSealed good scope (at state v2 t)
@@ -509,23 +521,38 @@ module _ {R : Type 0} (state : R → RevState) (config : Config) (keys : KeySet)
 
       -- all is open
       module _ (e : Engine R) (reopens : ReopensTables closing listed (Ok value) (at state v1 s2) (at state e.vault t))
-          (public_is : e.public ≡ opened_public config closing listed) (from_is : e.closing ≡ Some closing.region) (alive : e.ended ≡ false)
+          (public_is : e.public ≡ opened_public config closing listed) (from_is : e.closing ≡ Some closing.region) (unindexed : e.indexes.items ≡ []) (draws_are : e.draws ≡ record { key = key_of (draw_seed_of keys); next = 0 }) (alive : e.ended ≡ false)
           (free : IsFree e.public e.room) (high_is : e.room.high ≡ 1) (rows_is : e.room.rows ≡ config.buffer) where
-        tables_are : AreTables e.public.tables (others_of e.closing) (indexes_of e.closing) e.public.pack (world_of state e t)
+        tables_are : AreTables e.public.tables (others_of e.closing e.indexes.items) e.indexes.items e.public.pack (world_of state e t)
         tables_are =
-            subst (λ (p : Public). AreTables p.tables (others_of e.closing) (indexes_of e.closing) p.pack (world_of state e t)) (sym public_is)
-            (subst (λ (o : Option ℕ). AreTables (map (λ (x : Listed). x.table) listed) (others_of o) (indexes_of o) config.pack (world_of state e t)) (sym from_is)
-            (subst (λ (n : ℕ). AreTables (map (λ (x : Listed). x.table) listed) (others_of (Some closing.region)) (indexes_of (Some closing.region)) n (world_of state e t)) pack_is
-            (tables_last state config keys closing marked s s1 fresh honest room v0 ready started keyed none v1 s2 listed reads e.vault t value reopens)))
+            subst (λ (xs : List Index). AreTables e.public.tables (others_of e.closing xs) xs e.public.pack (world_of state e t)) (sym unindexed)
+            (subst (λ (p : Public). AreTables p.tables (others_of e.closing []) [] p.pack (world_of state e t)) (sym public_is)
+            (subst (λ (o : Option ℕ). AreTables (map (λ (x : Listed). x.table) listed) (others_of o []) [] config.pack (world_of state e t)) (sym from_is)
+            (subst (λ (n : ℕ). AreTables (map (λ (x : Listed). x.table) listed) (others_of (Some closing.region) []) [] n (world_of state e t)) pack_is
+            (tables_last state config keys closing marked s s1 fresh honest room v0 ready started keyed none v1 s2 listed reads e.vault t value reopens))))
+
+        keys_are : e.vault.keys ≡ keys
+        keys_are = keys_last state config keys closing marked s s1 fresh honest room v0 ready started keyed none v1 s2 listed reads e.vault t value reopens
+
+        drawn : AreDraws e (first_draws keys)
+        drawn = record {
+          draw = λ n. ap (λ (k : KeySet). draw_of k n) (sym keys_are);
+          next = let first = ap (λ (p : DrawPlace). p.next) draws_are in omega (arith, first);
+        }
 
         agrees : Agrees state e t
         agrees = record {
           ready = reopens.opens.ok.stays.ready;
           next = ap (λ (p : Public). p.next_region) public_is
               ∙ next_last state config keys closing marked s s1 fresh honest room v0 ready started keyed none v1 s2 listed reads e.vault t value reopens;
-          settings = subst (λ (p : Public). AreSettings p) (sym public_is) is_config;
+          settings = subst (λ (p : Public). AreSettings p) (sym public_is) is_config.0;
+          stash = subst (λ (p : Public). IsStash p.stash) (sym public_is) is_config.1;
           room = free;
           tables = tables_are;
+          fit = λ k x is. absurd (no_entry e.indexes.items k x unindexed is);
+          aside = λ q closed of. no_stash e.indexes.items q unindexed of;
+          seeded = ap (λ (p : DrawPlace). p.key) draws_are ∙ ap (λ (k : KeySet). key_of (draw_seed_of k)) (sym keys_are);
+          kept = λ keep. unindexed;
         }
 
         nolie_before : t.lie ≡ None → s2.lie ≡ None
@@ -534,9 +561,10 @@ module _ {R : Type 0} (state : R → RevState) (config : Config) (keys : KeySet)
         represents : IsTrue s.tells → t.lie ≡ None → (tables : Tables) → Rests keys closing s.kept tables → Represents state e t tables
         represents tells nolie tables rests = record {
           held =
-              subst (λ (p : Public). AreHeld p.pack p.tables tables (world_of state e t)) (sym public_is)
-              (subst (λ (n : ℕ). AreHeld n (map (λ (x : Listed). x.table) listed) tables (world_of state e t)) pack_is
-              (held_last state config keys closing marked s s1 fresh honest empty bounded room v0 keyed v1 s2 listed reads tells (nolie_before nolie) tables rests value e.vault t reopens));
+              subst (λ (xs : List Index). AreHeld e.public.pack xs e.public.tables tables (world_of state e t)) (sym unindexed)
+              (subst (λ (p : Public). AreHeld p.pack [] p.tables tables (world_of state e t)) (sym public_is)
+              (subst (λ (n : ℕ). AreHeld n [] (map (λ (x : Listed). x.table) listed) tables (world_of state e t)) pack_is
+              (held_last state config keys closing marked s s1 fresh honest empty bounded room v0 keyed v1 s2 listed reads tells (nolie_before nolie) tables rests value e.vault t reopens)));
           in_place = rests.in_place e.public.stash;
         }
 
@@ -556,7 +584,9 @@ module _ {R : Type 0} (state : R → RevState) (config : Config) (keys : KeySet)
                 catalogue = reads.catalogue;
                 agrees = agrees;
                 public = public_is;
-                keyed = keys_last state config keys closing marked s s1 fresh honest room v0 ready started keyed none v1 s2 listed reads e.vault t value reopens;
+                keyed = keys_are;
+                drawn = drawn;
+                unindexed = unindexed;
                 start = start_last state config keys closing marked s s1 fresh honest room v0 ready started keyed none v1 s2 listed reads e.vault t value reopens;
                 from_closing = from_is;
                 alive = alive;
@@ -580,7 +610,7 @@ pub room_read : (config : Config) (public : Public) (r0 r1 : RoomState) → IsCo
     → r0 ≡ record { rows = config.buffer; width = 1024; pack = config.pack; free = replicate config.buffer (clear 1024); shelf = []; high = 0 }
     → r1 ≡ record r0 { high = max r0.high 1 } → public.buffer ≡ config.buffer → public.pack ≡ config.pack → IsFree public r1
 room_read config public r0 r1 is new read buffer pack =
-    let blocks = is.blocks in
+    let blocks = is.0.blocks in
     let after : r1 ≡ record { rows = config.buffer; width = 1024; pack = config.pack; free = replicate config.buffer (clear 1024); shelf = []; high = 1 } =
     read ∙ ap (λ (r : RoomState). record r { high = max r.high 1 }) new in
     subst (λ (r : RoomState). IsFree public r) (sym after) (record {

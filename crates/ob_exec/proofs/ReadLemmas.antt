@@ -30,7 +30,8 @@ use Rattle.ob_mean.specs.Verdict.{Tables, ended as seen_to}
 use Rattle.ob_exec.specs.declared.engine.Engine.{Engine}
 use Rattle.ob_verdict.specs.declared.outcome.Outcome.{Outcome}
 use Rattle.ob_exec.specs.Agreeing.{Agrees, world_of}
-use Rattle.ob_exec.specs.Engines.{IsAt, AreTables, flat_of, others_of, indexes_of}
+use Rattle.ob_exec.specs.Engines.{IsAt, AreTables, flat_of, others_of}
+use Rattle.ob_base.specs.declared.schema.Shape.TheVariants.{Flat as FlatShape}
 use Rattle.ob_select.specs.Settings.{IsFree}
 use Rattle.ob_select.specs.Opening.{Opens}
 use Rattle.ob_exec.specs.Running.{answer_of, is_stop, RanStatement}
@@ -43,12 +44,12 @@ use Rattle.ob_select.proofs.RoomLemmas.{free_after}
 
 -- ---- its table, once the store has room
 module _ {R : Type 0} (state : R → RevState) (old : Engine R) (s s1 : StoreState) (i : ℕ) (table : Table) (agrees : Agrees state old s) (rests : ChangesNothing s s1)
-    (get : slice_get old.public.tables i ≡ Some table) (flat : Flat) (flat_is : flat ≡ flat_of table) where
+    (get : slice_get old.public.tables i ≡ Some table) (shape : table.heading.shape ≡ FlatShape) (flat : Flat) (flat_is : flat ≡ flat_of table) where
   pub read_flat : IsFlat old.room.pack flat (at state old.vault s1)
   read_flat =
       subst (λ (f : Flat). IsFlat old.room.pack f (at state old.vault s1)) (sym flat_is)
       (flat_kept none old.room.pack (flat_of table) (world_of state old s) _ (went_rests _ s s1 rests none agrees.ready).lasts (λ off. off)
-      (subst (λ (k : ℕ). IsFlat k (flat_of table) (world_of state old s)) (sym agrees.room.pack) (agrees.tables.each i table get).flat))
+      (subst (λ (k : ℕ). IsFlat k (flat_of table) (world_of state old s)) (sym agrees.room.pack) ((agrees.tables.each i table get).written shape).flat))
 
   pub read_size : IsSized flat.schema flat.capacity
   read_size =
@@ -77,11 +78,11 @@ module _ {R : Type 0} (state : R → RevState) (old : Engine R) (s s1 : StoreSta
       (stored_found name old.public.tables i table agrees.tables.names here.get here.named)
       ∙ (λ j. count_part table.region (blocks_for (sym agrees.room.pack j) table.heading.capacity))
 
-  tables_read : Lasts none (world_of state old s) now → AreTables old.public.tables (others_of old.closing) (indexes_of old.closing) old.public.pack now
-  tables_read lasts = tables_kept none old.public.pack old.public.tables (others_of old.closing) (indexes_of old.closing) _ _ lasts (λ j u is off. off) (λ q is off. off) (λ q shape live off. off) agrees.tables
+  tables_read : Lasts none (world_of state old s) now → AreTables old.public.tables (others_of old.closing old.indexes.items) old.indexes.items old.public.pack now
+  tables_read lasts = tables_kept none old.public.pack old.public.tables (others_of old.closing old.indexes.items) old.indexes.items _ _ lasts (λ j u is off. off) (λ q is off. off) (λ q shape live off. off) agrees.tables
 
-  pub held_read : (tables : Tables) → AreHeld old.public.pack old.public.tables tables (world_of state old s) → Lasts none (world_of state old s) now → AreHeld old.public.pack old.public.tables tables now
-  held_read tables held lasts = held_kept none old.public.pack old.public.tables tables _ _ lasts (λ j u is off. off) held
+  pub held_read : (tables : Tables) → AreHeld old.public.pack old.indexes.items old.public.tables tables (world_of state old s) → Lasts none (world_of state old s) now → AreHeld old.public.pack old.indexes.items old.public.tables tables now
+  held_read tables held lasts = held_kept none old.public.pack old.indexes.items old.public.tables tables _ _ lasts (λ j u is off. off) (λ k x is off. off) held
 
   free : IsFree old.public room
   free = free_after old.public old.room room _ agrees.room uses.same
@@ -97,7 +98,7 @@ module _ {R : Type 0} (state : R → RevState) (old : Engine R) (s s1 : StoreSta
       → RanStatement state select (Ok outcome) old s (engine_after old v room old.public.tables Whole old.ended) t
   read_done outcome answered went lives =
       let all = went_all went in
-      ran_whole state select old s v room t agrees free none old.public.tables reads outcome lives answered (opened reads) all (reads_is Whole) refl (tables_read all.lasts)
+      ran_whole state select old s v room t agrees free refl none old.public.tables reads outcome lives answered (opened reads) all (reads_is Whole) refl (tables_read all.lasts)
 
   -- the pass gave up
   pub cut_after : (e : OpErr) → PassCut e reads none (at state old.vault s1) now → PassCut e reads none (world_of state old s) now
@@ -107,4 +108,4 @@ module _ {R : Type 0} (state : R → RevState) (old : Engine R) (s s1 : StoreSta
       → RanStatement state select (answer_of e) old s (engine_after old v room old.public.tables (Cut n) (is_stop (answer_of e))) t
   read_cut e n cut count =
       let all = cut_after e cut in
-      ran_stopped state select old s v room t agrees free none n reads e (opened _) all (reads_is (Cut n)) count (tables_read all.lasts)
+      ran_stopped state select old s v room t agrees free refl none n reads e (opened _) all (reads_is (Cut n)) count (tables_read all.lasts)

@@ -42,6 +42,7 @@ use Rattle.ob_select.specs.Memory.{AtMake, HasCounted, HasHalted, is_reading}
 use Rattle.ob_select.specs.Selecting.{EmitsSelected, HoldsSeen, MayHold, SealsRows, Selection, SelectsFrom, SelectsToEnd, SelectsToHalt, answer_events, counted_after, from, places, region_of, selection_seen, selection_script, walked_after}
 use Rattle.ob_exec.specs.Sources.{EmitsRows, EndsRows, HaltsRows, HoldsRows, LacksRowMemory, LeavesNone, SourceToEnd, SourceToHalt, rows_script, rows_skeleton, slots_of, stated}
 use Rattle.ob_exec.specs.Telling.{AreHeld}
+use Rattle.ob_oram.specs.declared.index.Index.{Index}
 use Rattle.ob_select.proofs.SelectHeld.{held_empty}
 use Rattle.ob_exec.proofs.RowsSeconded.{Seconded, alone, followed, rows_seconded}
 use Rattle.ob_exec.proofs.RowsReach.{counted_some}
@@ -118,7 +119,7 @@ module _ (p : Public) (select : SelectRows) (g : ℕ) (x : List Access) (a b : W
     (least : 1 ≤ counted_after (stated p select g 1)) (script_is : (now : Seen) → rows_script p select now ≡ x ++ (selection_script (stated p select g 1) now (g + 1) ++ ending_for p.pad now.k (discard_at g)))
     (count_is : count_end p (rows_skeleton select) ≡ length x + counted_after (stated p select g 1))
     (walk_is : (now : Seen) → IsSome now.k → walk_end p (rows_skeleton select) now ≡ length x + walked_after (stated p select g 1) now)
-    (slots_are : (tables : Tables) → AreHeld p.pack p.tables tables a → IsTrue a.store.tells → b.store.lie ≡ None → Represents p.pack (stated p select g 1).flat (slots_of p select tables) b) where
+    (slots_are : (indexes : List Index) (tables : Tables) → AreHeld p.pack indexes p.tables tables a → IsTrue a.store.tells → b.store.lie ≡ None → Represents p.pack (stated p select g 1).flat (slots_of p select tables) b) where
   abbrev q : Selection
   q = stated p select g 1
 
@@ -136,7 +137,7 @@ module _ (p : Public) (select : SelectRows) (g : ℕ) (x : List Access) (a b : W
             reads_on lie (b.store.asked ++ part) last _
             (sym all ∙ sym (append_assoc a.store.asked x (part ++ last)) ∙ ap (λ (l : List Access). l ++ (part ++ last)) (sym made.did.asked) ∙ sym (append_assoc b.store.asked part last))
             (subst (λ (n : ℕ). ReadsIn lie (b.store.asked ++ selection_script q meant n)) after
-            (begun (record { tells = subst (λ (t : Bool). IsTrue t) (sym made.lasts.later.tells) y.tells; slots = slots; is = slots_are y.tables y.held y.tells nolie; nolie = nolie }) lie told))
+            (begun (record { tells = subst (λ (t : Bool). IsTrue t) (sym made.lasts.later.tells) y.tells; slots = slots; is = slots_are y.indexes y.tables y.held y.tells nolie; nolie = nolie }) lie told))
         | inr early ↦ subst (ReadsIn lie) all (went_in x (part ++ last) a b lie made y.nolie early)
       ]
 
@@ -169,7 +170,7 @@ module _ (p : Public) (select : SelectRows) (g : ℕ) (x : List Access) (a b : W
     to_end y = record {
       tells = subst (λ (t : Bool). IsTrue t) (sym made.lasts.later.tells) y.tells;
       slots = slots_of p select y.tables;
-      is = slots_are y.tables y.held y.tells (none_before b.store c.store is.ran.err.lasts.later (ap (λ (t : StoreState). t.lie) (sym same) ∙ y.nolie));
+      is = slots_are y.indexes y.tables y.held y.tells (none_before b.store c.store is.ran.err.lasts.later (ap (λ (t : StoreState). t.lie) (sym same) ∙ y.nolie));
       nolie = ap (λ (t : StoreState). t.lie) (sym same) ∙ y.nolie;
     }
 
@@ -177,7 +178,7 @@ module _ (p : Public) (select : SelectRows) (g : ℕ) (x : List Access) (a b : W
     to_halt y =
         let unfit = unfit_before (one g) c d forgot.lasts same y.unfit in
         let nolie = lie_none (from g) b d cut_from.lasts (made.calm (calm_none a y.nolie)) y.unfit in
-        record { tells = subst (λ (t : Bool). IsTrue t) (sym made.lasts.later.tells) y.tells; slots = slots_of p select y.tables; is = slots_are y.tables y.held y.tells nolie; nolie = nolie; unfit = unfit }
+        record { tells = subst (λ (t : Bool). IsTrue t) (sym made.lasts.later.tells) y.tells; slots = slots_of p select y.tables; is = slots_are y.indexes y.tables y.held y.tells nolie; nolie = nolie; unfit = unfit }
 
     length_is : length d.store.asked - length a.store.asked ≡ length x + (length c.store.asked - length b.store.asked)
     length_is =
@@ -267,7 +268,7 @@ module _ (p : Public) (select : SelectRows) (g : ℕ) (x : List Access) (a b : W
         record {
           tells = subst (λ (t : Bool). IsTrue t) (sym made.lasts.later.tells) y.tells;
           slots = slots_of p select y.tables;
-          is = slots_are y.tables y.held y.tells (none_before b.store c.store is.ran.ok.lasts.later nolie);
+          is = slots_are y.indexes y.tables y.held y.tells (none_before b.store c.store is.ran.ok.lasts.later nolie);
           nolie = nolie;
         }
 
@@ -301,7 +302,7 @@ module _ (p : Public) (select : SelectRows) (g : ℕ) (x : List Access) (a b : W
                 let before = none_before b.store c.store is.ran.ok.lasts.later nolie in
                 let slots = slots_of p select y.tables in
                 let ends : SelectsToEnd q b c
-                = record { tells = subst (λ (t : Bool). IsTrue t) (sym made.lasts.later.tells) y.tells; slots = slots; is = slots_are y.tables y.held y.tells before; nolie = nolie } in
+                = record { tells = subst (λ (t : Bool). IsTrue t) (sym made.lasts.later.tells) y.tells; slots = slots; is = slots_are y.indexes y.tables y.held y.tells before; nolie = nolie } in
                 let meant = (is.told ends).1 in
                 subst (λ (x : Seen). ReadsIn lie (a.store.asked ++ rows_script p select x)) meant
                 (subst (λ (l : List Access). ReadsIn lie (a.store.asked ++ l)) (append-nil (rows_script p select now)) (went_in (rows_script p select now) [] a d lie (went_all counted) y.nolie told))

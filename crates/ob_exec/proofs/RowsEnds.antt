@@ -14,9 +14,8 @@ use Rattle.ob_emit.specs.Emitting.{header}
 use Rattle.ob_sql.specs.declared.stmt.SelectRows.{SelectRows}
 use Rattle.ob_sql.specs.declared.stmt.Stmt.TheVariants.{SelectRows as RowsStmt}
 use Rattle.ob_mean.specs.Prints.{Prints}
-use Rattle.ob_mean.proofs.FlatLemmas.{no_public_access}
 use Rattle.ob_mean.specs.Verdict.{Draws, Tables, rows_refusal, verdict}
-use Rattle.ob_exec.proofs.TableLemmas.{tables_flat}
+use Rattle.ob_exec.proofs.PlainLemmas.{none_full}
 use Rattle.ob_exec.specs.declared.engine.Engine.{Engine}
 use Rattle.ob_select.specs.declared.selecting.Selected.{Selected}
 use Rattle.ob_select.specs.declared.selecting.Selected.TheVariants.{Rows, Refused}
@@ -133,9 +132,9 @@ module _ {R : Type 0} (state : R → RevState) (old : Engine R) (s : StoreState)
       → Leads grew grew out_mid out_new (closing answer) → faults out_new ≡ faults out_old
       → Serves state grew cut faults (RowsStmt select) (Ok (selected_outcome answer)) old s (rows_after old v room now old.ended) t out_old out_new
   serves_ended cut faults answer lives used is few closes sink = record {
-    ran = rows_ran state old s v room t select agrees used answer now lives is;
+    ran = rows_ran state old s v room t select agrees used source.unkeyed answer now lives is;
     early = early_none old.public (count_of old s) select (Ok (selected_outcome answer)) now free (ended_late (selection old.public select) answer now is.ended);
-    lawful = lawful_ended old.public select (no_public_access old.public (rows_skeleton select) (tables_flat agrees.tables)) (count_of old s) free answer now is.holds is.leaf is.ended;
+    lawful = lawful_ended old.public select source.unkeyed (count_of old s) free answer now is.holds is.leaf is.ended;
     memory = λ wanted. absurd (cc wanted);
     seals = λ good accepts single. is.seals good accepts;
     answered = answered_by answer is few closes;
@@ -143,9 +142,12 @@ module _ {R : Type 0} (state : R → RevState) (old : Engine R) (s : StoreState)
     sink = sink;
     emits = λ is. tt;
     means = record {
-      told = told_by answer is;
+      told = λ tables d of reads. told_by answer is tables d reads;
+      room = λ tables d of reads.
+          none_full old.public tables (RowsStmt select) (flat state old s v room t select agrees free source is.ran.lasts tables reads.held) d (count_of old s);
       honest = λ tables reads. tt;
-      held = λ tables d reads. tt;
+      held = λ tables d of reads. tt;
+      full = λ tables d of reads. tt;
       begun = rows_begun state old s v room t select agrees free source is.ran.lasts is.begun;
     };
   }

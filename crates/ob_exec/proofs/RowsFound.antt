@@ -13,6 +13,8 @@ use Rattle.ob_store.specs.State.{StoreState}
 use Rattle.ob_vault.specs.State.{RevState}
 use Rattle.ob_names.specs.Names.{source_columns}
 use Rattle.ob_mean.specs.Prints.{is_join}
+use Rattle.ob_mean.specs.Replay.{is_access}
+use Rattle.ob_sql.specs.Skeleton.{skeleton}
 use Rattle.ob_mean.specs.Refusals.{joins_itself, joins_off_key_at, source_tables, limits_of}
 use Rattle.ob_mean.specs.Step.{source_rows}
 use Rattle.ob_mean.specs.Verdict.{Tables, database, is_late, source_slots}
@@ -24,6 +26,9 @@ use Rattle.ob_exec.specs.declared.engine.Engine.{Engine}
 use Rattle.ob_exec.specs.Agreeing.{Agrees, count_of}
 use Rattle.ob_verdict.specs.Outcomes.{refusal_now}
 use Rattle.ob_exec.proofs.RowsSource.{AreStored, join_joined, join_same, labels_are, table_same, table_unjoined}
+use Rattle.ob_emit.specs.Emitting.{labels_of}
+use Rattle.ob_mean.specs.Step.{printed_places}
+use Rattle.ob_exec.specs.Telling.{answer_labels}
 use Rattle.ob_exec.proofs.RowsStops.{IsSource}
 use Rattle.ob_select.proofs.ResultParts.{some_buffered}
 
@@ -50,8 +55,13 @@ module _ {R : Type 0} (state : R → RevState) (old : Engine R) (s : StoreState)
       (subst (λ (hs : List Heading). joins_off_key_at hs (Join a b on equals) ≡ false) (sym headed)
       (sym (ap (joins_off_key_at (headings_of old.public.tables)) is) ∙ fits.joins))
 
-  pub source_is : IsSource old.public select
-  source_is = record {
-    labelled = labels_are select (headings_of old.public.tables) (unjoined select.source refl);
+  -- the header is the statement's
+  pub labelled_is : labels_of (source_columns select.source (headings_of old.public.tables)) (printed_places select (source_columns select.source (headings_of old.public.tables))) ≡ answer_labels (RowsStmt select) old.public
+  labelled_is = labels_are select (headings_of old.public.tables) (unjoined select.source refl)
+
+  pub source_is : is_access old.public (skeleton (RowsStmt select)) ≡ false → IsSource old.public select
+  source_is none = record {
+    unkeyed = none;
+    labelled = labelled_is;
     rows_are = λ tables in_place headed. same select.source refl tables in_place headed;
   }

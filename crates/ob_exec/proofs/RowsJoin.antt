@@ -1,5 +1,5 @@
 -- What a SELECT of the rows of a join asks.
-use Rattle.std.proofs.Common.{◌≡◌, ◌≤◌, ◌<◌, ◌+◌, ◌*◌, ℕ, List, [], ◌++◌, length, Option, Some, None, Result, refl, sym, ◌∙◌, ap, subst, arith, length-append, append-nil, append_assoc}
+use Rattle.std.proofs.Common.{◌≡◌, ◌≤◌, ◌<◌, ◌+◌, ◌*◌, ℕ, List, [], ◌++◌, length, Option, Some, None, Result, refl, sym, ◌∙◌, ap, subst, arith, length-append, append-nil, append_assoc, false, ◌∷◌}
 use Rattle.std.specs.Prelude.{IsSome, slice_get}
 use Rattle.std.specs.Int.{div_ceil}
 use Rattle.std.specs.Option.{option_map_or}
@@ -32,9 +32,9 @@ use Rattle.ob_mean.specs.Lawful.{counted_slots}
 use Rattle.ob_names.specs.Names.{source_columns, left_place, right_place}
 use Rattle.ob_mean.specs.Conditions.{where_at}
 use Rattle.ob_mean.specs.Step.{printed_places}
-use Rattle.ob_mean.specs.Replay.{count_end, ending_len, walk_end}
+use Rattle.ob_mean.specs.Replay.{count_end, ending_len, has_index, is_access, walk_end}
 use Rattle.ob_mean.specs.Verdict.{ended as seen_to}
-use Rattle.ob_mean.specs.Refusals.{early_refusal, limits_of}
+use Rattle.ob_mean.specs.Refusals.{early_refusal, limits_of, source_tables}
 use Rattle.ob_store.specs.Calls.{ChangesNothing}
 use Rattle.ob_vault.specs.Places.{at}
 use Rattle.ob_vault.proofs.WordLemmas.{ready_rests, went_rests}
@@ -59,7 +59,10 @@ use Rattle.ob_exec.specs.Agreeing.{Agrees, world_of, count_of}
 use Rattle.ob_exec.specs.Engines.{IsFound, flat_of}
 use Rattle.ob_select.specs.Selecting.{Selection, counted_after, from, region_of, selection_script, walked_after}
 use Rattle.ob_exec.specs.Sources.{rows_script, rows_skeleton, selection, stated}
-use Rattle.ob_exec.proofs.FoundLemmas.{heading_found}
+use Rattle.ob_exec.proofs.FoundLemmas.{heading_found, shape_found}
+use Rattle.ob_verdict.proofs.NamesFlatProof.{names_flat}
+use Rattle.std.specs.List.{All}
+use Rattle.std.proofs.lemmas.List.Elements.{All-head, All-tail}
 use Rattle.ob_exec.proofs.RowsBehind.{ending_for}
 use Rattle.ob_select.proofs.SelectLength.{select_length}
 use Rattle.ob_exec.proofs.RowsTable.{not_late, some_of, stated_is}
@@ -133,6 +136,22 @@ module _ {R : Type 0} {state : R → RevState} {old : Engine R} {s : StoreState}
 
   abbrev u : Table
   u = y.two.table
+
+  -- neither is an index
+  pub join_plain : is_access old.public (rows_skeleton select) ≡ false
+  join_plain = ap (λ (source : Source). is_access old.public (RowsSkeleton source select.list)) y.of_join
+
+  abbrev IsNone : List ℕ → Type 0
+  IsNone name = has_index old.public name ≡ false
+
+  names_none : All IsNone (y.a ∷ y.b ∷ [])
+  names_none = subst (λ (source : Source). All IsNone (source_tables source)) y.of_join (names_flat old.public (is_late (count_of old s)) (limits_of old.public) (RowsStmt select) y.free join_plain)
+
+  pub flat_a : t.heading.shape ≡ FlatShape
+  flat_a = shape_found y.a old.public.tables y.i t y.agrees.tables.names y.one.here.get y.one.here.named (All-head IsNone y.a (y.b ∷ []) names_none)
+
+  pub flat_b : u.heading.shape ≡ FlatShape
+  flat_b = shape_found y.b old.public.tables y.j u y.agrees.tables.names y.two.here.get y.two.here.named (All-head IsNone y.b [] (All-tail IsNone y.a (y.b ∷ []) names_none))
 
   pub found_a : heading_at y.a (headings_of old.public.tables) ≡ Some t.heading
   found_a = heading_found y.a old.public.tables y.i t y.agrees.tables.names y.one.here.get y.one.here.named
@@ -295,11 +314,11 @@ module _ {R : Type 0} {state : R → RevState} {old : Engine R} {s : StoreState}
       let most = stored.most in
       record { some = stored.some; few = omega (arith, few); wide = stored.wide; least = stored.least; most = omega (arith, most) }
 
-  kept_flat : (s1 : StoreState) → ChangesNothing s s1 → (k : ℕ) (x : Table) → slice_get old.public.tables k ≡ Some x → IsFlat old.room.pack (flat_of x) (at state old.vault s1)
-  kept_flat s1 rests k x get =
+  kept_flat : (s1 : StoreState) → ChangesNothing s s1 → (k : ℕ) (x : Table) → slice_get old.public.tables k ≡ Some x → x.heading.shape ≡ FlatShape → IsFlat old.room.pack (flat_of x) (at state old.vault s1)
+  kept_flat s1 rests k x get shape =
       subst (λ (n : ℕ). IsFlat n (flat_of x) (at state old.vault s1)) (sym y.agrees.room.pack)
       (flat_kept (from old.vault.next) old.public.pack (flat_of x) (world_of state old s) (at state old.vault s1) (went_rests _ s s1 rests (from old.vault.next) y.agrees.ready).lasts
-      (λ above. let below = region_below old.public.pack k old.public.tables x _ y.agrees.ready y.agrees.tables get in omega (arith, below, above)) (y.agrees.tables.each k x get).flat)
+      (λ above. let below = region_below old.public.pack k old.public.tables x _ y.agrees.ready y.agrees.tables get in omega (arith, below, above)) ((y.agrees.tables.each k x get).written shape).flat)
 
   joined_sized : IsSized (t.heading.schema ++ u.heading.schema) (joined_slots old.room.pack old.room.rows t.heading.capacity u.heading.capacity)
   joined_sized =
@@ -333,8 +352,8 @@ module _ {R : Type 0} {state : R → RevState} {old : Engine R} {s : StoreState}
       subst (λ (f : Flat). MayJoin (join_in old.room f lcol y.right rcol) (at state old.vault s1)) (sym y.one.is)
       (subst (λ (f : Flat). MayJoin (join_in old.room (flat_of t) lcol f rcol) (at state old.vault s1)) (sym y.two.is)
       (record {
-        left = kept_flat s1 rests y.i t y.one.here.get;
-        right = kept_flat s1 rests y.j u y.two.here.get;
+        left = kept_flat s1 rests y.i t y.one.here.get flat_a;
+        right = kept_flat s1 rests y.j u y.two.here.get flat_b;
         left_size = table_sized y.i t y.one.here.get;
         right_size = table_sized y.j u y.two.here.get;
         sized = joined_sized;

@@ -34,9 +34,10 @@ use Rattle.ob_exec.specs.Agreeing.{world_of}
 use Rattle.ob_select.specs.Selecting.{SealsRows, SelectsFrom, from}
 use Rattle.ob_exec.specs.Sources.{EndsRows, HaltsRows, slots_of}
 use Rattle.ob_exec.specs.Telling.{AreHeld}
+use Rattle.ob_oram.specs.declared.index.Index.{Index}
 use Rattle.ob_exec.proofs.HeldLemmas.{held_at, held_headings}
 use Rattle.ob_exec.proofs.RowsBehind.{behind_ends, behind_halts}
-use Rattle.ob_exec.proofs.RowsJoin.{IsPaired, JoinOf, found_a, found_b, held_left, held_right, join_asks, join_count, join_least, join_walk, joins, q, table_is}
+use Rattle.ob_exec.proofs.RowsJoin.{IsPaired, JoinOf, found_a, found_b, held_left, held_right, join_asks, join_count, join_least, join_walk, joins, q, table_is, flat_a, flat_b}
 use Rattle.ob_exec.proofs.RunLemmas.{next_after}
 
 module _ {R : Type 0} {state : R → RevState} {old : Engine R} {s s1 : StoreState} {select : SelectRows} {y : JoinOf state old s select} {lcol rcol : ℕ} {flat : Flat} {after : World}
@@ -54,11 +55,11 @@ module _ {R : Type 0} {state : R → RevState} {old : Engine R} {s s1 : StoreSta
   region_is = ap (λ (f : Flat). f.region) z.paired.makes.value
 
   -- ---- its slots
-  source_is : (tables : Tables) → AreHeld old.public.pack old.public.tables tables before → (first second : Slots)
+  source_is : (indexes : List Index) (tables : Tables) → AreHeld old.public.pack indexes old.public.tables tables before → (first second : Slots)
       → option_map_or (λ (z : Stored Held). z.held.slots) (stored_at y.a tables) [] ≡ first → option_map_or (λ (z : Stored Held). z.held.slots) (stored_at y.b tables) [] ≡ second
       → joined lcol rcol old.room.pack old.room.rows first second ≡ slots_of old.public select tables
-  source_is tables held first second left_held right_held =
-      let same = held_headings old.public.pack old.public.tables tables before held in
+  source_is indexes tables held first second left_held right_held =
+      let same = held_headings old.public.pack indexes old.public.tables tables before held in
       let one : option_map_or (λ (h : Heading). h.schema) (heading_at y.a (headings tables)) [] ≡ y.left.schema =
       ap (λ (o : Option Heading). option_map_or (λ (h : Heading). h.schema) o []) (ap (heading_at y.a) same ∙ found_a y) ∙ ap (λ (f : Flat). f.schema) (sym y.one.is) in
       let two : option_map_or (λ (h : Heading). h.schema) (heading_at y.b (headings tables)) [] ≡ y.right.schema =
@@ -67,15 +68,15 @@ module _ {R : Type 0} {state : R → RevState} {old : Engine R} {s s1 : StoreSta
       ∙ sym (ap (λ (source : Source). source_slots old.public source tables) y.of_join
       ∙ (λ k. joined (left_place (length (one k)) (one k ++ two k) y.on y.equals) (right_place (length (one k)) (one k ++ two k) y.on y.equals) old.public.pack old.public.buffer (left_held k) (right_held k)))
 
-  slots_are : (tables : Tables) → AreHeld old.public.pack old.public.tables tables before → IsTrue before.store.tells → after.store.lie ≡ None
+  slots_are : (indexes : List Index) (tables : Tables) → AreHeld old.public.pack indexes old.public.tables tables before → IsTrue before.store.tells → after.store.lie ≡ None
       → Represents old.public.pack (q y).flat (slots_of old.public select tables) after
-  slots_are tables held tells nolie =
-      let one = held_at old.public.pack y.a old.public.tables tables y.i y.one.table before y.agrees.tables.names held y.one.here.get y.one.here.named in
-      let two = held_at old.public.pack y.b old.public.tables tables y.j y.two.table before y.agrees.tables.names held y.two.here.get y.two.here.named in
+  slots_are indexes tables held tells nolie =
+      let one = held_at old.public.pack indexes y.a old.public.tables tables y.i y.one.table before y.agrees.tables.names held y.one.here.get y.one.here.named (flat_a y) in
+      let two = held_at old.public.pack indexes y.b old.public.tables tables y.j y.two.table before y.agrees.tables.names held y.two.here.get y.two.here.named (flat_b y) in
       let is = z.told.told (record { tells = subst (λ (x : Bool). IsTrue x) (sym z.rests.tells) tells; nolie = nolie }) one.table.held.slots two.table.held.slots
       (held_left y s1 one.table.held.slots z.rests one.represents) (held_right y s1 two.table.held.slots z.rests two.represents) in
       subst (λ (slots : Slots). Represents old.public.pack (q y).flat slots after)
-      (source_is tables held one.table.held.slots two.table.held.slots (ap (λ (o : Option (Stored Held)). option_map_or (λ (z : Stored Held). z.held.slots) o []) one.found) (ap (λ (o : Option (Stored Held)). option_map_or (λ (z : Stored Held). z.held.slots) o []) two.found))
+      (source_is indexes tables held one.table.held.slots two.table.held.slots (ap (λ (o : Option (Stored Held)). option_map_or (λ (z : Stored Held). z.held.slots) o []) one.found) (ap (λ (o : Option (Stored Held)). option_map_or (λ (z : Stored Held). z.held.slots) o []) two.found))
       (subst (λ (f : Flat). Represents old.public.pack f (joined lcol rcol old.room.pack old.room.rows one.table.held.slots two.table.held.slots) after) (z.paired.makes.value ∙ table_is y lcol rcol)
       (subst (λ (n : ℕ). Represents n flat (joined lcol rcol old.room.pack old.room.rows one.table.held.slots two.table.held.slots) after) y.agrees.room.pack is))
 

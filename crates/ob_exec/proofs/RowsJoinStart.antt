@@ -50,8 +50,7 @@ use Rattle.ob_select.specs.Selecting.{MaySelect, SealsRows, Selection, counted_a
 use Rattle.ob_exec.specs.Sources.{LeavesNone, SelectsRows, SourceToEnd}
 use Rattle.ob_exec.proofs.HeldLemmas.{held_at}
 use Rattle.ob_exec.proofs.RowsBehind.{ending_for}
-use Rattle.ob_exec.proofs.RowsJoin.{IsPaired, JoinOf, asked_for, both_slots, held_left, held_right, join_asks, join_count, join_least, join_may, joins, pass, q, slots_few, table_is}
-use Rattle.ob_exec.proofs.TableLemmas.{tables_flat}
+use Rattle.ob_exec.proofs.RowsJoin.{IsPaired, JoinOf, asked_for, both_slots, held_left, held_right, join_asks, join_count, join_least, join_may, joins, pass, q, slots_few, table_is, flat_a, flat_b, join_plain}
 use Rattle.ob_exec.proofs.RowsNothing.{leaves_ready}
 use Rattle.ob_exec.proofs.RowsPairs.{pairs_halt}
 use Rattle.ob_exec.proofs.RowsTable.{listed_few, not_late}
@@ -177,8 +176,8 @@ module _ {R : Type 0} {state : R → RevState} {old : Engine R} {s : StoreState}
 
     told_honest : SourceToEnd old.public before after → (e ≡ OpErrs.Failed) ⊎ (e ≡ OpErrs.NoMemory)
     told_honest x =
-        let left = held_at old.public.pack y.a old.public.tables x.tables y.i y.one.table before y.agrees.tables.names x.held y.one.here.get y.one.here.named in
-        let right = held_at old.public.pack y.b old.public.tables x.tables y.j y.two.table before y.agrees.tables.names x.held y.two.here.get y.two.here.named in
+        let left = held_at old.public.pack x.indexes y.a old.public.tables x.tables y.i y.one.table before y.agrees.tables.names x.held y.one.here.get y.one.here.named (flat_a y) in
+        let right = held_at old.public.pack x.indexes y.b old.public.tables x.tables y.j y.two.table before y.agrees.tables.names x.held y.two.here.get y.two.here.named (flat_b y) in
         z.told.told (record { tells = subst (λ (b : Bool). IsTrue b) (sym z.rests.tells) x.tells; nolie = x.nolie }) left.table.held.slots right.table.held.slots
         (held_left y s1 left.table.held.slots z.rests left.represents) (held_right y s1 right.table.held.slots z.rests right.represents)
 
@@ -189,6 +188,6 @@ module _ {R : Type 0} {state : R → RevState} {old : Engine R} {s : StoreState}
         record {
           ended = tt;
           halted = pairs_halt grew cut old.public select now before after out (joins y lcol rcol) (selection_script (q y) now (old.vault.next + 1) ++ ending_for old.public.pad now.k (discard_at old.vault.next)) made
-              (fill_script (pass y lcol rcol) old.vault.next) e (join_asks y lcol rcol now) (λ x. (_, join_asks y lcol rcol x)) refl refl cut_all none_left sealed_rows fresh (omega (arith, counts, least)) lacked no_emitter told_honest (tables_flat y.agrees.tables);
+              (fill_script (pass y lcol rcol) old.vault.next) e (join_asks y lcol rcol now) (λ x. (_, join_asks y lcol rcol x)) refl refl cut_all none_left sealed_rows fresh (omega (arith, counts, least)) lacked no_emitter told_honest (join_plain y);
           sink = no_sink e (faults out) no_emitter;
         }

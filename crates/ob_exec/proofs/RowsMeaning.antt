@@ -26,10 +26,9 @@ use Rattle.ob_mean.specs.Prints.{Prints, Unfinished, Begun}
 use Rattle.ob_mean.specs.Refusals.{early_refusal, limits_of}
 use Rattle.ob_mean.specs.Settle.{settle}
 use Rattle.ob_mean.specs.Step.{source_rows, selected_rows, rows_answer, select_columns, select_condition, printed_places, answered}
-use Rattle.ob_mean.specs.Verdict.{Draws, Tables, database, is_late, refusal, verdict, seen, seen_rows, selected_places, rows_refusal}
-use Rattle.ob_mean.proofs.FlatLemmas.{last_is, no_access, settle_is}
+use Rattle.ob_mean.specs.Verdict.{accessed, Draws, Tables, database, is_late, refusal, verdict, seen, seen_rows, selected_places, rows_refusal}
+use Rattle.ob_exec.proofs.PlainLemmas.{last_is, settle_is}
 use Rattle.ob_mean.proofs.VerdictLemmas.{headings-database, refused_late, seen_flat}
-use Rattle.ob_mean.specs.Flats.{AreFlat}
 use Rattle.ob_verdict.specs.Laws.{AreInPlace, printed_rows, selected_result}
 use Rattle.ob_verdict.proofs.AnswerProof.{prints_answer}
 use Rattle.ob_verdict.proofs.SeenProof.{started-unread}
@@ -55,7 +54,7 @@ none_selected p n [] is = refl
 none_selected p n (None ∷ slots) is = none_selected p (suc n) slots is
 none_selected p n (Some row ∷ slots) is = test_none (p row) n (places_from (suc n) (is_selected p) slots) row (filter p (rows slots)) is (none_selected p (suc n) slots)
 
-module _ (p : Public) (m : ℕ) (select : SelectRows) (tables : Tables) (headed : headings tables ≡ headings_of p.tables) (in_place : AreInPlace p.stash tables) (flat : AreFlat (headings tables))
+module _ (p : Public) (m : ℕ) (select : SelectRows) (tables : Tables) (headed : headings tables ≡ headings_of p.tables) (in_place : AreInPlace p.stash tables) (unkeyed : accessed tables (RowsStmt select) ≡ None)
     (early : early_refusal (is_late m) (limits_of p) (headings tables) (RowsStmt select) ≡ None) (some : 1 ≤ p.pack) (enough : 3 * p.pack + 1 ≤ p.buffer) (padded : IsPadded p.pad p.plan)
     (labelled : labels_of (selection p select).flat.schema (selection p select).cols ≡ answer_labels (RowsStmt select) p)
     (source : Same (source_rows select.source (database tables)) (rows (slots_of p select tables))) where
@@ -75,16 +74,16 @@ module _ (p : Public) (m : ℕ) (select : SelectRows) (tables : Tables) (headed 
   places_is = λ i. selected (is_true (select_condition select (headed i))) slots
 
   rows_refused : refusal p m tables (RowsStmt select) ≡ rows_refusal p chosen
-  rows_refused = refused_late p m tables (RowsStmt select) early ∙ last_is p tables select flat ∙ ap (rows_refusal p) places_is
+  rows_refused = refused_late p m tables (RowsStmt select) early ∙ last_is p tables select unkeyed ∙ ap (rows_refusal p) places_is
 
   pub rows_seen : (d : Draws) → seen d p m tables (RowsStmt select) ≡ selection_seen q slots
-  rows_seen d = seen_flat p m tables (RowsStmt select) early d (no_access tables (RowsStmt select) flat) ∙ ap (seen_rows p (length slots)) places_is
+  rows_seen d = seen_flat p m tables (RowsStmt select) early d unkeyed ∙ ap (seen_rows p (length slots)) places_is
 
   pub rows_unread : (selection_seen q slots).leaf ≡ None
   rows_unread = ap (λ (x : Seen). x.leaf) (sym (ap (seen_rows p (length slots)) places_is)) ∙ started-unread p tables (RowsStmt select)
 
   pub rows_settle : (d : Draws) → settle d p m tables (RowsStmt select) ≡ tables
-  rows_settle d = settle_is p tables (RowsStmt select) flat d m ∙ followed_same (refusal p m tables (RowsStmt select)) tables
+  rows_settle d = settle_is p tables (RowsStmt select) unkeyed d m ∙ followed_same (refusal p m tables (RowsStmt select)) tables
 
   verdict_is : (r : Option Refusal) → rows_refusal p chosen ≡ r → verdict p m tables (RowsStmt select) ≡ answered r (A.Rows told_rows)
   verdict_is r is = ap (λ (o : Option Refusal). answered o (A.Rows told_rows)) (rows_refused ∙ is)
@@ -113,7 +112,7 @@ module _ (p : Public) (m : ℕ) (select : SelectRows) (tables : Tables) (headed 
   by_places (i ∷ is) same none =
       let long : length (selected_places p select tables) ≡ suc (length is) = ap length (places_is ∙ same) in
       subst (λ (xs : List (List Shown)). Same told_rows xs) printed_is
-      (prints_answer p m tables select some (some_buffered p.pack p.buffer some enough) padded in_place (no_access tables (RowsStmt select) flat) (rows_refused ∙ none) (omega (arith, long)))
+      (prints_answer p m tables select some (some_buffered p.pack p.buffer some enough) padded in_place unkeyed (rows_refused ∙ none) (omega (arith, long)))
 
   same_rows : rows_refusal p chosen ≡ None → Same told_rows (shown_rows q slots)
   same_rows none = by_places chosen refl none

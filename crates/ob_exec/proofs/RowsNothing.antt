@@ -20,7 +20,6 @@ use Rattle.ob_select.proofs.UntilLemmas.{until_none}
 use Rattle.ob_base.specs.Stored.{Stored, headings_of, stored_at, stored_regions}
 use Rattle.ob_row.specs.Slots.{Slots}
 use Rattle.ob_script.specs.Parts.{count_part}
-use Rattle.ob_mean.specs.Flats.{AreFlat}
 use Rattle.ob_script.specs.Script.{behind_count, extent_of, flat_script, join_script, plan_part, result_blocks, result_part, table_script, with_table}
 use Rattle.ob_store.specs.State.{StoreState}
 use Rattle.ob_store.specs.Calls.{ChangesNothing}
@@ -30,7 +29,7 @@ use Rattle.ob_vault.specs.declared.region.Region.{Region}
 use Rattle.ob_vault.proofs.WordLemmas.{seals_rests, went_rests}
 use Rattle.ob_flat.specs.declared.fault.OpErr.TheVariants as OpErrs
 use Rattle.ob_sql.specs.declared.stmt.SelectRows.{SelectRows}
-use Rattle.ob_mean.specs.Replay.{count_end, done_of, held_if, walk_end}
+use Rattle.ob_mean.specs.Replay.{count_end, done_of, held_if, walk_end, is_access}
 use Rattle.ob_mean.specs.Verdict.{ended as seen_to}
 use Rattle.ob_select.specs.Selecting.{answer_events, from, places, selection_seen}
 use Rattle.ob_exec.specs.Sources.{HaltsRows, HoldsRows, LeavesNone, SourceToHalt, rows_script, rows_skeleton, selection, slots_of}
@@ -81,25 +80,25 @@ module _ (p : Public) (k : ℕ) (plan : Plan) (second : Option Plan) (end : End)
   join_late (Some left) None = omega arith
   join_late (Some left) (Some right) = part_late (p.next_region + 1) (joined_stored p left right) (joined_part p left right) (discard_at p.next_region)
 
-  walk_late : (select : SelectRows) → AreFlat (headings_of p.tables) → count_end p (rows_skeleton select) ≤ walk_end p (rows_skeleton select) (seen_as (Some k) (Some plan) second end)
-  walk_late select flat = go select.source
+  walk_late : (select : SelectRows) → is_access p (rows_skeleton select) ≡ false → count_end p (rows_skeleton select) ≤ walk_end p (rows_skeleton select) (seen_as (Some k) (Some plan) second end)
+  walk_late select unkeyed = go select.source unkeyed
     where
-      go : (source : Source) → count_end p (RowsSkeleton source select.list) ≤ walk_end p (RowsSkeleton source select.list) (seen_as (Some k) (Some plan) second end)
-      go (OneTable name) =
+      go : (source : Source) → is_access p (RowsSkeleton source select.list) ≡ false → count_end p (RowsSkeleton source select.list) ≤ walk_end p (RowsSkeleton source select.list) (seen_as (Some k) (Some plan) second end)
+      go (OneTable name) flat =
           let now = seen_as (Some k) (Some plan) None end in
           subst (λ (l : List Access). length l ≤ length (with_table name p (table_script p now)) - 1) (sym (table_asks (unpadded p) name (seen_to Whole) flat))
           (subst (λ (l : List Access). length (with_table name (unpadded p) (flat_script (unpadded p) (seen_to Whole))) ≤ length l - 1) (sym (table_asks p name now flat))
           (table_late (stored_at name (stored_regions p.tables))))
-      go (Join a b on equals) = join_late (stored_at a (stored_regions p.tables)) (stored_at b (stored_regions p.tables))
+      go (Join a b on equals) flat = join_late (stored_at a (stored_regions p.tables)) (stored_at b (stored_regions p.tables))
 
 -- what is held before the count has ended
 module _ (p : Public) (select : SelectRows) (slots : Slots) (failed : Bool) (n : ℕ) (now : Seen) (fresh : now ≡ seen_to Whole)
-    (less : done_of failed n < count_end p (rows_skeleton select)) (flat : AreFlat (headings_of p.tables)) where
+    (less : done_of failed n < count_end p (rows_skeleton select)) (unkeyed : is_access p (rows_skeleton select) ≡ false) where
   second_nothing : Seconded (selection_seen (selection p select) slots)
       → None ≡ held_if (nat_le (walk_end p (rows_skeleton select) (selection_seen (selection p select) slots)) (done_of failed n)) (selection_seen (selection p select) slots).then
   second_nothing (alone is) = held_empty (nat_le (walk_end p (rows_skeleton select) (selection_seen (selection p select) slots)) (done_of failed n)) _ is
   second_nothing (followed k plan second end is) =
-      let late = walk_late p k plan (Some second) end select flat in
+      let late = walk_late p k plan (Some second) end select unkeyed in
       let same = ap (walk_end p (rows_skeleton select)) is in
       held_none _ (walk_end p (rows_skeleton select) (selection_seen (selection p select) slots)) (done_of failed n) (omega (arith, late, same, less))
 
@@ -120,7 +119,7 @@ leaves_ready v s t ready = record { gone = λ r above. go r above (v.revs.live r
 
 -- memory was wanted before the first access
 module _ {E : Type 0} (grew cut : E → E → List Event → Type 0) (p : Public) (select : SelectRows) (now : Seen) (v : VaultState) (s t : StoreState) (out : E)
-    (ready : Ready (world v s)) (rests : ChangesNothing s t) (fresh : now ≡ seen_to Whole) (counts : 1 ≤ count_end p (rows_skeleton select)) (flat : AreFlat (headings_of p.tables)) where
+    (ready : Ready (world v s)) (rests : ChangesNothing s t) (fresh : now ≡ seen_to Whole) (counts : 1 ≤ count_end p (rows_skeleton select)) (unkeyed : is_access p (rows_skeleton select) ≡ false) where
   pub halts_first : HaltsRows grew cut p select OpErrs.NoMemory now (world v s) (world v t) out out
   halts_first =
       let went = went_rests v s t rests (from v.next) ready in
@@ -145,5 +144,5 @@ module _ {E : Type 0} (grew cut : E → E → List Event → Type 0) (p : Public
             (λ (x : SourceToHalt p (world v s) (world v t)). answer_events (selection p select) (slots_of p select x.tables)) out (λ is. cc is);
         honest = λ x. inr (inr refl);
         begun = λ x lie told. absurd (cc (x.nolie, rests.lie, told));
-        held = λ x. holds_nothing p select (slots_of p select x.tables) false (length t.asked - length s.asked) now fresh (omega (arith, same, counts)) flat;
+        held = λ x. holds_nothing p select (slots_of p select x.tables) false (length t.asked - length s.asked) now fresh (omega (arith, same, counts)) unkeyed;
       }

@@ -14,9 +14,7 @@ use Rattle.ob_flat.specs.declared.fault.OpErr.{OpErr}
 use Rattle.ob_flat.specs.declared.fault.OpErr.TheVariants as OpErrs
 use Rattle.ob_flat.specs.Passes.{PassCut, is_of_access}
 use Rattle.ob_flat.proofs.Runs.{pass_more}
-use Rattle.ob_base.specs.Stored.{headings_of}
-use Rattle.ob_mean.specs.Flats.{AreFlat}
-use Rattle.ob_mean.specs.Replay.{count_end, done_of}
+use Rattle.ob_mean.specs.Replay.{count_end, done_of, is_access}
 use Rattle.ob_mean.specs.Verdict.{ended as seen_to}
 use Rattle.ob_sql.specs.declared.stmt.SelectRows.{SelectRows}
 use Rattle.ob_select.specs.Memory.{is_make}
@@ -33,7 +31,7 @@ done_within false n = omega arith
 module _ {E : Type 0} (grew cut : E → E → List Event → Type 0) (p : Public) (select : SelectRows) (now : Seen) (a b : World) (out : E) (x more : List Access) (make : Access) (fill : List Access) (e : OpErr)
     (script_is : rows_script p select now ≡ x ++ more) (begins : (y : Seen) → (behind : List Access) × (rows_script p select y ≡ x ++ behind)) (makes : x ≡ (make ∷ []) ++ fill) (is_one : is_make make ≡ true) (halts : PassCut e x (from a.vault.next) a b) (leaves : LeavesNone a b) (seals : SealsRows p.pack a b)
     (fresh : now ≡ seen_to Whole) (counts : length x < count_end p (rows_skeleton select)) (memory : e ≡ OpErrs.NoMemory → Did (make ∷ []) a.store b.store)
-    (no_sink : e ≡ OpErrs.Sink → ⊥) (honest : SourceToEnd p a b → (e ≡ OpErrs.Failed) ⊎ (e ≡ OpErrs.NoMemory)) (flat : AreFlat (headings_of p.tables)) where
+    (no_sink : e ≡ OpErrs.Sink → ⊥) (honest : SourceToEnd p a b → (e ≡ OpErrs.Failed) ⊎ (e ≡ OpErrs.NoMemory)) (unkeyed : is_access p (rows_skeleton select) ≡ false) where
   short : length b.store.asked - length a.store.asked ≤ length x
   short =
       let asked = ap length halts.began.asked in
@@ -70,5 +68,5 @@ module _ {E : Type 0} (grew cut : E → E → List Event → Type 0) (p : Public
         let n = length b.store.asked - length a.store.asked in
         let within = done_within (is_of_access e) n in
         let few = short in
-        holds_nothing p select (slots_of p select y.tables) (is_of_access e) n now fresh (omega (arith, within, few, counts)) flat;
+        holds_nothing p select (slots_of p select y.tables) (is_of_access e) n now fresh (omega (arith, within, few, counts)) unkeyed;
   }

@@ -19,8 +19,9 @@ use Rattle.ob_base.specs.Joins.{joined_slots}
 use Rattle.ob_base.specs.Limits.{buffered_blocks}
 use Rattle.ob_base.specs.Stored.{Stored, headings_of, stored_at, stored_regions}
 use Rattle.ob_script.specs.Parts.{count_part, join_part}
-use Rattle.ob_mean.proofs.FlatLemmas.{shape_is, table_is}
-use Rattle.ob_mean.specs.Flats.{AreFlat}
+use Rattle.ob_mean.proofs.FlatLemmas.{shape_is}
+use Rattle.ob_exec.proofs.PlainLemmas.{table_is}
+use Rattle.ob_mean.specs.Replay.{has_index, is_access}
 use Rattle.ob_script.specs.Script.{after_count, behind_count, blocks_of, extent_of, flat_script, join_script, joined_extent, result_part, rows_width, select_part, table_script, with_table}
 use Rattle.ob_vault.specs.State.{World}
 use Rattle.ob_vault.specs.Tied.{Calm}
@@ -133,33 +134,33 @@ module _ (p : Public) (now : Seen) where
       walk_short p (p.next_region + 1) (joined_stored p left right) (joined_part p left right) (discard_at p.next_region) now
 
 -- what a SELECT of a table's rows asks, where it is flat
-pub table_asks : (p : Public) (name : List ℕ) (now : Seen) → AreFlat (headings_of p.tables) → with_table name p (table_script p now) ≡ with_table name p (flat_script p now)
-table_asks p name now flat = table_is p flat name (table_script p now) (flat_script p now) (λ t is. shape_is p now.leaf (flat_script p now) t is)
+pub table_asks : (p : Public) (name : List ℕ) (now : Seen) → has_index p name ≡ false → with_table name p (table_script p now) ≡ with_table name p (flat_script p now)
+table_asks p name now flat = table_is p name (table_script p now) (flat_script p now) flat (λ t is. shape_is p now.leaf (flat_script p now) t is)
 
-counts_within : (p : Public) (select : SelectRows) (now : Seen) → AreFlat (headings_of p.tables) → count_end p (rows_skeleton select) ≤ length (rows_script p select now)
-counts_within p select now flat = go select.source
+counts_within : (p : Public) (select : SelectRows) (now : Seen) → is_access p (rows_skeleton select) ≡ false → count_end p (rows_skeleton select) ≤ length (rows_script p select now)
+counts_within p select now unkeyed = go select.source unkeyed
   where
-    go : (source : Source) → count_end p (Rattle.ob_base.specs.declared.skeleton.Skeleton.TheVariants.Rows source select.list)
+    go : (source : Source) → is_access p (Rattle.ob_base.specs.declared.skeleton.Skeleton.TheVariants.Rows source select.list) ≡ false → count_end p (Rattle.ob_base.specs.declared.skeleton.Skeleton.TheVariants.Rows source select.list)
         ≤ length (Rattle.ob_script.specs.Script.whole_script p (Rattle.ob_base.specs.declared.skeleton.Skeleton.TheVariants.Rows source select.list) now)
-    go (OneTable name) =
+    go (OneTable name) flat =
         subst (λ (l : List Access). length l ≤ length (with_table name p (table_script p now))) (sym (table_asks (unpadded p) name (seen_to Whole) flat))
         (subst (λ (l : List Access). length (with_table name (unpadded p) (flat_script (unpadded p) (seen_to Whole))) ≤ length l) (sym (table_asks p name now flat))
         (table_count p now (stored_at name (stored_regions p.tables))))
-    go (Join a b on equals) = join_count p now (stored_at a (stored_regions p.tables)) (stored_at b (stored_regions p.tables))
+    go (Join a b on equals) flat = join_count p now (stored_at a (stored_regions p.tables)) (stored_at b (stored_regions p.tables))
 
 less_than : (n m k : ℕ) → n ≤ m → n - k ≤ m
 less_than n m k is = omega arith
 
-walks_within : (p : Public) (select : SelectRows) (now : Seen) → AreFlat (headings_of p.tables) → walk_end p (rows_skeleton select) now ≤ length (rows_script p select now)
-walks_within p select now flat = go select.source
+walks_within : (p : Public) (select : SelectRows) (now : Seen) → is_access p (rows_skeleton select) ≡ false → walk_end p (rows_skeleton select) now ≤ length (rows_script p select now)
+walks_within p select now unkeyed = go select.source unkeyed
   where
-    go : (source : Source) → walk_end p (Rattle.ob_base.specs.declared.skeleton.Skeleton.TheVariants.Rows source select.list) now
+    go : (source : Source) → is_access p (Rattle.ob_base.specs.declared.skeleton.Skeleton.TheVariants.Rows source select.list) ≡ false → walk_end p (Rattle.ob_base.specs.declared.skeleton.Skeleton.TheVariants.Rows source select.list) now
         ≤ length (Rattle.ob_script.specs.Script.whole_script p (Rattle.ob_base.specs.declared.skeleton.Skeleton.TheVariants.Rows source select.list) now)
-    go (OneTable name) =
+    go (OneTable name) flat =
         less_than _ _ _ (subst (λ (l : List Access). length l ≤ length (with_table name p (table_script p now))) (sym (table_asks p name (record now { then = None }) flat))
         (subst (λ (l : List Access). length (with_table name p (flat_script p (record now { then = None }))) ≤ length l) (sym (table_asks p name now flat))
         (table_walk p now (stored_at name (stored_regions p.tables)))))
-    go (Join a b on equals) = less_than _ _ _ (join_walk p now (stored_at a (stored_regions p.tables)) (stored_at b (stored_regions p.tables)))
+    go (Join a b on equals) flat = less_than _ _ _ (join_walk p now (stored_at a (stored_regions p.tables)) (stored_at b (stored_regions p.tables)))
 
 -- ---- what is held of it
 held_all : {A : Type 0} (o : Option A) (m n : ℕ) → m ≤ n → o ≡ held_if (nat_le m n) o
@@ -195,7 +196,7 @@ pub as_refused : (r : Option Refusal) (n : ℕ) (q : Refusal) → Refused q ≡ 
 as_refused None n q is = absurd (cc is)
 as_refused (Some r) n q is = let same : r ≡ q = sym (cc is) in ap (λ (x : Refusal). Some x) same
 
-module _ {E : Type 0} (grew cut : E → E → List Event → Type 0) (p : Public) (select : SelectRows) (now : Seen) (old new : World) (out_old out_mid out_new : E) (flat : AreFlat (headings_of p.tables)) where
+module _ {E : Type 0} (grew cut : E → E → List Event → Type 0) (p : Public) (select : SelectRows) (now : Seen) (old new : World) (out_old out_mid out_new : E) (unkeyed : is_access p (rows_skeleton select) ≡ false) where
   -- the events until the end of the answer
   abbrev Ends : Selected → Type 0
   Ends answer = EndsRows grew p select answer now old new out_old out_mid
@@ -207,6 +208,7 @@ module _ {E : Type 0} (grew cut : E → E → List Event → Type 0) (p : Public
   at_end answer is s = record {
     tells = s.tells;
     tables = s.tables;
+    indexes = s.indexes;
     held = s.held;
     in_place = s.in_place;
     nolie = unfit_none new (is.ran.calm (calm_none _ s.nolie)) s.unfit;
@@ -249,8 +251,8 @@ module _ {E : Type 0} (grew cut : E → E → List Event → Type 0) (p : Public
       let n = length new.store.asked - length old.store.asked in
       let asked = ap length is.ran.did.asked in
       let sum = length-append old.store.asked (rows_script p select now) in
-      let counts = counts_within p select now flat in
-      let walks = walks_within p select now flat in
+      let counts = counts_within p select now unkeyed in
+      let walks = walks_within p select now unkeyed in
       record {
         k = held_all now.k (count_end p (rows_skeleton select)) n (omega (arith, asked, sum, counts)) ∙ ap (λ (x : Seen). held_if (nat_le (count_end p (rows_skeleton select)) n) x.k) told.1;
         plan = held_all now.plan (count_end p (rows_skeleton select)) n (omega (arith, asked, sum, counts)) ∙ ap (λ (x : Seen). held_if (nat_le (count_end p (rows_skeleton select)) n) x.plan) told.1;
@@ -265,8 +267,8 @@ module _ {E : Type 0} (grew cut : E → E → List Event → Type 0) (p : Public
       let all = rows_script p select now in
       let asked = ap length is.ran.did.asked in
       let sum = length-append old.store.asked all in
-      let counts = counts_within p select now flat in
-      let walks = walks_within p select now flat in
+      let counts = counts_within p select now unkeyed in
+      let walks = walks_within p select now unkeyed in
       let ends = closing_events answer is closes in
       record {
         ran = record {

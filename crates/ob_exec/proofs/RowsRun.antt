@@ -1,11 +1,10 @@
 -- What a SELECT of rows leaves, whatever the store does.
-use Rattle.std.proofs.Common.{◌≡◌, ◌+◌, ◌-◌, ℕ, Bool, false, List, [], ◌∷◌, ◌++◌, length, take, Ok, refl, sym, ◌∙◌, ap, subst, arith, length-append}
+use Rattle.std.proofs.Common.{◌≡◌, inl, ◌+◌, ◌-◌, ◌%◌, ◌^◌, ℕ, Bool, false, List, [], ◌∷◌, ◌++◌, length, take, None, Ok, refl, sym, ◌∙◌, ap, subst, arith, length-append}
 use Rattle.ob_base.specs.declared.access.Access.{Access}
 use Rattle.ob_base.specs.declared.config.Public.{Public}
 use Rattle.ob_base.specs.declared.seen.Seen.{Seen}
 use Rattle.ob_base.specs.declared.seen.End.{End}
 use Rattle.ob_base.specs.declared.seen.End.TheVariants.{Static, Whole, AfterCount, Cut}
-use Rattle.ob_base.specs.Accesses.{makes}
 use Rattle.ob_base.specs.Events.{Event}
 use Rattle.ob_room.specs.RoomState.{RoomState}
 use Rattle.ob_store.specs.State.{StoreState}
@@ -26,12 +25,14 @@ use Rattle.ob_exec.specs.declared.engine.Engine.{Engine}
 use Rattle.ob_select.specs.declared.selecting.Selected.{Selected}
 use Rattle.ob_exec.specs.Agreeing.{Agrees, world_of}
 use Rattle.ob_select.specs.Settings.{IsFree}
-use Rattle.ob_exec.specs.Engines.{AreTables, others_of, indexes_of}
+use Rattle.ob_exec.specs.Engines.{AreTables, others_of}
 use Rattle.ob_select.specs.Opening.{Opens}
 use Rattle.ob_exec.specs.Running.{RanStatement, RunCause, GoesOn, Continues, answer_of, is_fault, is_stop, result_end}
 use Rattle.ob_select.specs.Selecting.{from}
 use Rattle.ob_exec.specs.Sources.{EndsRows, LeavesNone, UsesRoomFor, rows_script, rows_skeleton, selected_outcome, selection}
-use Rattle.ob_exec.proofs.RunLemmas.{asks_cut, asks_none, next_after, of_other}
+use Rattle.ob_exec.proofs.RunLemmas.{asks_cut, asks_none, left_on, may_have, of_other, taken_none}
+use Rattle.ob_exec.proofs.PlainLemmas.{none_drawn}
+use Rattle.ob_mean.specs.Replay.{draws_taken, is_access}
 use Rattle.ob_exec.proofs.RowsLawful.{ended_end, ended_whole, ended_well}
 use Rattle.ob_exec.proofs.TableLemmas.{beside_below, tables_kept, region_below}
 use Rattle.ob_select.proofs.RoomLemmas.{free_after}
@@ -67,11 +68,11 @@ cut_cause OpErrs.NoMemory a b cause = cause
 module _ {R : Type 0} (state : R → RevState) (old : Engine R) (s : StoreState) (v : Vault R) (room : RoomState) (t : StoreState) (select : SelectRows)
     (agrees : Agrees state old s) (used : UsesRoomFor old.room room (world_of state old s) (at state v t)) where
   -- the tables stay where they are
-  pub rows_tables : Lasts (from old.vault.next) (world_of state old s) (at state v t) → LeavesNone (world_of state old s) (at state v t) → AreTables old.public.tables (others_of old.closing) (indexes_of old.closing) old.public.pack (at state v t)
+  pub rows_tables : Lasts (from old.vault.next) (world_of state old s) (at state v t) → LeavesNone (world_of state old s) (at state v t) → AreTables old.public.tables (others_of old.closing old.indexes.items) old.indexes.items old.public.pack (at state v t)
   rows_tables lasts leaves =
-      tables_kept (from old.vault.next) old.public.pack old.public.tables (others_of old.closing) (indexes_of old.closing) _ _ lasts
+      tables_kept (from old.vault.next) old.public.pack old.public.tables (others_of old.closing old.indexes.items) old.indexes.items _ _ lasts
       (λ i u here above. let below = region_below old.public.pack i old.public.tables u _ agrees.ready agrees.tables here in omega (arith, below, above))
-      (λ q is above. let below = beside_below old.public.pack old.public.tables (others_of old.closing) q _ agrees.ready agrees.tables is in omega (arith, below, above))
+      (λ q is above. let below = beside_below old.public.pack old.public.tables (others_of old.closing old.indexes.items) q _ agrees.ready agrees.tables is in omega (arith, below, above))
       (λ q shape live above. let none = leaves.gone q above in cc (live, none)) agrees.tables
 
   rows_free : IsFree old.public room
@@ -84,30 +85,23 @@ module _ {R : Type 0} (state : R → RevState) (old : Engine R) (s : StoreState)
     some = λ any. used.some (λ same. let l = ap length same in let m = ap length asked in let n = length-append s.asked (x ∷ xs) in omega (arith, l, m, n));
   }
 
-  rows_on : (seen : Seen) (x : List Access) (ended : Bool) → ended ≡ false → Ready (at state v t) → start_of v ≡ start_of old.vault → t.asked ≡ s.asked ++ x
-      → script old.public (rows_skeleton select) seen ≡ x → AreTables old.public.tables (others_of old.closing) (indexes_of old.closing) old.public.pack (at state v t)
+  rows_on : (seen : Seen) (x : List Access) (ended : Bool) → is_access old.public (rows_skeleton select) ≡ false → ended ≡ false → Ready (at state v t) → start_of v ≡ start_of old.vault
+      → v.keys ≡ old.vault.keys → t.asked ≡ s.asked ++ x
+      → script old.public (rows_skeleton select) seen ≡ x → AreTables old.public.tables (others_of old.closing old.indexes.items) old.indexes.items old.public.pack (at state v t)
       → GoesOn state (rows_skeleton select) old (rows_after old v room seen ended) t
-  rows_on seen x ended lives ready start asked is are =
-      let number = next_after (world_of state old s) (at state v t) x agrees.ready ready start asked in
-      let region : v.next ≡ old.public.next_region + makes (script old.public (rows_skeleton select) seen) =
-      number ∙ ap (λ (n : ℕ). n + makes x) (sym agrees.next) ∙ ap (λ (y : List Access). old.public.next_region + makes y) (sym is) in
-      record {
-        agrees = record {
-          ready = ready;
-          next = refl;
-          settings = agrees.settings;
-          room = record { idle = rows_free.idle; rows = rows_free.rows; pack = rows_free.pack };
-          tables = are;
-        };
-        public = λ i. record old.public { tables = same_tables old.public select seen.end i; next_region = region i };
-        lives = lives;
-      }
+  rows_on seen x ended unkeyed lives ready start keys asked is are =
+      left_on state (rows_skeleton select) old s v room t agrees rows_free old.indexes old.draws old.public.tables seen x ended lives ready start keys asked is (same_tables old.public select seen.end) are
+      (may_have state old s agrees) refl
+      (λ d of.
+      let none = taken_none old.public (rows_skeleton select) (none_drawn old.public (rows_skeleton select) unkeyed tt) seen.end in
+      let sum : d.drawn ≡ d.drawn + draws_taken old.public (rows_skeleton select) seen.end = omega (arith, none) in
+      of.next ∙ ap (λ (k : ℕ). k % 2 ^ 67) sum)
 
   -- all of it was asked
-  pub rows_ran : {E : Type 0} {grew : E → E → List Event → Type 0} {out_old out_new : E} (answer : Selected) (seen : Seen) → old.ended ≡ false
+  pub rows_ran : {E : Type 0} {grew : E → E → List Event → Type 0} {out_old out_new : E} → is_access old.public (rows_skeleton select) ≡ false → (answer : Selected) (seen : Seen) → old.ended ≡ false
       → EndsRows grew old.public select answer seen (world_of state old s) (at state v t) out_old out_new
       → RanStatement state (rows_skeleton select) (Ok (selected_outcome answer)) old s (rows_after old v room seen old.ended) t
-  rows_ran answer seen lives is =
+  rows_ran unkeyed answer seen lives is =
       let all = rows_script old.public select seen in
       let whole : script old.public (rows_skeleton select) seen ≡ all = ended_whole (selection old.public select) answer seen all is.ended in
       record {
@@ -121,7 +115,8 @@ module _ {R : Type 0} (state : R → RevState) (old : Engine R) (s : StoreState)
         cause = (of_other _ _ (is_fault (selected_outcome answer)) (ended_well (selection old.public select) answer seen is.ended) is.ran.did.faults, is.ran.calm);
         room = rows_free;
         opened = subst (λ (y : List Access). Opens y old.room.high room.high) (sym whole) (opens_by all is.ran.did.asked);
-        goes_on = rows_on seen all old.ended lives is.ran.lasts.ready is.ran.lasts.start is.ran.did.asked whole (rows_tables is.ran.lasts is.leaves);
+        leaves = λ d of. inl (is.leaf, λ goes. refl);
+        goes_on = rows_on seen all old.ended unkeyed lives is.ran.lasts.ready is.ran.lasts.start is.ran.lasts.keys is.ran.did.asked whole (rows_tables is.ran.lasts is.leaves);
       }
 
   cut_on : (e : OpErr) (seen : Seen) → GoesOn state (rows_skeleton select) old (rows_after old v room seen false) t
@@ -132,10 +127,10 @@ module _ {R : Type 0} (state : R → RevState) (old : Engine R) (s : StoreState)
   cut_on OpErrs.NoMemory seen on = refl
 
   -- it was cut off
-  pub rows_cut : (e : OpErr) (seen : Seen) (n : ℕ) → n ≡ length t.asked - length s.asked
+  pub rows_cut : is_access old.public (rows_skeleton select) ≡ false → (e : OpErr) (seen : Seen) (n : ℕ) → seen.leaf ≡ None → n ≡ length t.asked - length s.asked
       → PassCut e (rows_script old.public select seen) (from old.vault.next) (world_of state old s) (at state v t) → LeavesNone (world_of state old s) (at state v t)
       → RanStatement state (rows_skeleton select) (answer_of e) old s (rows_after old v room (record seen { end = Cut n }) (is_stop (answer_of e))) t
-  rows_cut e seen n count cut_short leaves =
+  rows_cut unkeyed e seen n leaf count cut_short leaves =
       let all = rows_script old.public select (record seen { end = Cut n }) in
       let cut : PassCut e all (from old.vault.next) (world_of state old s) (at state v t) =
       subst (λ (l : List Access). PassCut e l (from old.vault.next) (world_of state old s) (at state v t)) (same_script old.public (rows_skeleton select) seen (Cut n)) cut_short in
@@ -151,6 +146,7 @@ module _ {R : Type 0} (state : R → RevState) (old : Engine R) (s : StoreState)
         cause = cut_cause e _ _ cut.cause;
         room = rows_free;
         opened = opens_by (take n all) first;
+        leaves = λ d of. inl (leaf, λ goes. refl);
         goes_on = cut_on e (record seen { end = Cut n })
-            (rows_on (record seen { end = Cut n }) (take n all) false refl cut.lasts.ready cut.lasts.start first refl (rows_tables cut.lasts leaves));
+            (rows_on (record seen { end = Cut n }) (take n all) false unkeyed refl cut.lasts.ready cut.lasts.start cut.lasts.keys first refl (rows_tables cut.lasts leaves));
       }

@@ -31,31 +31,33 @@ use Rattle.ob_sql.specs.declared.stmt.Stmt.TheVariants.{SelectRows as RowsStmt}
 use Rattle.ob_mean.specs.Refusals.{early_refusal, limits_of}
 use Rattle.ob_mean.specs.Replay.{cut_at}
 use Rattle.ob_mean.specs.Step.{source_rows}
-use Rattle.ob_mean.specs.Verdict.{Draws, Tables, database, is_late, plan_for, seen, seen_by, seen_with}
+use Rattle.ob_mean.specs.Verdict.{accessed, Draws, Tables, database, is_late, plan_for, seen, seen_by, seen_with}
 use Rattle.ob_verdict.specs.Laws.{AreInPlace}
 use Rattle.ob_verdict.proofs.LawfulProof.{same_script}
 use Rattle.ob_exec.specs.declared.engine.Engine.{Engine}
 use Rattle.ob_verdict.specs.declared.outcome.Outcome.{Outcome}
 use Rattle.ob_select.specs.declared.selecting.Selected.{Selected}
-use Rattle.ob_exec.specs.Agreeing.{Agrees, world_of, count_of}
+use Rattle.ob_exec.specs.Agreeing.{Agrees, AreDraws, world_of, count_of}
 use Rattle.ob_exec.specs.Running.{RefusedEarly, SinkStops, answer_of, is_stop}
 use Rattle.ob_verdict.specs.Outcomes.{refusal_now}
 use Rattle.ob_select.specs.Selecting.{MayHold, SealsRows, answer_events, selection_answer, from, places, selection_seen}
-use Rattle.ob_exec.specs.Serving.{Answered, EndsWithin, Serves, Stopped}
+use Rattle.ob_exec.specs.Serving.{Answered, StopsEmission, Serves, Stopped}
 use Rattle.ob_select.specs.Halting.{EmitsUntil, TakesPart}
 use Rattle.ob_select.specs.Memory.{HasHalted}
 use Rattle.ob_exec.proofs.EmitLemmas.{are_rows, lie_none}
 use Rattle.ob_select.proofs.UntilLemmas.{until_failed, until_more}
 use Rattle.ob_exec.specs.Sources.{HaltsRows, HoldsRows, LacksRowMemory, LeavesNone, ReachesRows, ReadsMeant, SourceToEnd, SourceToHalt, UsesRoomFor, closing, rows_script, rows_skeleton, selection, slots_of}
 use Rattle.ob_exec.specs.Telling.{IsNotTampered, ReadsTrue, ReadsTrueUntil, Represents, SeenCut, Told, answer_labels, is_refused, meant_script}
-use Rattle.ob_exec.proofs.HeldLemmas.{held_flat, held_headings, held_kept}
-use Rattle.ob_mean.proofs.FlatLemmas.{no_public_access}
-use Rattle.ob_mean.specs.Flats.{AreFlat}
+use Rattle.ob_exec.proofs.HeldLemmas.{held_headings, held_kept, held_plain}
+use Rattle.ob_exec.proofs.PlainLemmas.{none_room, pass_stops}
+use Rattle.ob_mean.specs.Replay.{is_access}
+use Rattle.ob_sql.specs.Skeleton.{skeleton}
 use Rattle.ob_exec.proofs.RowsLawful.{lawful_cut}
 use Rattle.ob_exec.proofs.RowsMeaning.{rows_partly, rows_seen, rows_unfinished, rows_unread}
 use Rattle.ob_select.proofs.SelectHeld.{held_empty}
 use Rattle.ob_exec.proofs.RowsRun.{rows_after, rows_cut}
-use Rattle.ob_exec.proofs.TableLemmas.{region_below, tables_flat}
+use Rattle.ob_exec.specs.Engines.{others_of}
+use Rattle.ob_exec.proofs.TableLemmas.{beside_below, region_below}
 use Rattle.ob_exec.proofs.ToldLemmas.{early_held}
 use Rattle.ob_exec.proofs.RunLemmas.{only_memory}
 
@@ -64,6 +66,7 @@ unfit_none w none = record { unfit = λ lie is. absurd (cc (is, none)) }
 
 -- what is known of the source of a SELECT of rows
 pub record IsSource (p : Public) (select : SelectRows) : Type 0 where
+  pub unkeyed : is_access p (skeleton (RowsStmt select)) ≡ false
   pub labelled : labels_of (selection p select).flat.schema (selection p select).cols ≡ answer_labels (RowsStmt select) p
   pub rows_are : (tables : Tables) → AreInPlace p.stash tables → headings tables ≡ headings_of p.tables → Same (source_rows select.source (database tables)) (rows (slots_of p select tables))
 
@@ -139,12 +142,13 @@ module _ {R : Type 0} (state : R → RevState) (old : Engine R) (s : StoreState)
 
   -- what is known of the tables
   abbrev pub to_end : (tables : Tables) → ReadsTrue state old s t tables → SourceToEnd old.public before after
-  to_end tables reads = record { tells = reads.tells; tables = tables; held = reads.held.held; in_place = reads.held.in_place; nolie = reads.nolie }
+  to_end tables reads = record { tells = reads.tells; tables = tables; indexes = old.indexes.items; held = reads.held.held; in_place = reads.held.in_place; nolie = reads.nolie }
 
   abbrev pub to_halt : (tables : Tables) → ReadsTrue state old s t tables → SourceToHalt old.public before after
   to_halt tables reads = record {
     tells = reads.tells;
     tables = tables;
+    indexes = old.indexes.items;
     held = reads.held.held;
     in_place = reads.held.in_place;
     nolie = none_before _ _ lasts.later reads.nolie;
@@ -155,6 +159,7 @@ module _ {R : Type 0} (state : R → RevState) (old : Engine R) (s : StoreState)
   until now ended tables reads = record {
     tells = reads.tells;
     tables = tables;
+    indexes = old.indexes.items;
     held = reads.held.held;
     in_place = reads.held.in_place;
     nolie = lie_none (from old.vault.next) before after lasts reads.calm reads.unfit;
@@ -163,20 +168,23 @@ module _ {R : Type 0} (state : R → RevState) (old : Engine R) (s : StoreState)
 
   pub still_held : (now : Seen) (ended : Bool) (tables : Tables) → Represents state old s tables → Represents state (rows_after old v room now ended) t tables
   still_held now ended tables is = record {
-    held = held_kept (from old.vault.next) old.public.pack old.public.tables tables before after lasts
-        (λ i u here above. let below = region_below old.public.pack i old.public.tables u before agrees.ready agrees.tables here in omega (arith, below, above)) is.held;
+    held = held_kept (from old.vault.next) old.public.pack old.indexes.items old.public.tables tables before after lasts
+        (λ i u here above. let below = region_below old.public.pack i old.public.tables u before agrees.ready agrees.tables here in omega (arith, below, above))
+        (λ k x get above.
+        let below = beside_below old.public.pack old.public.tables (others_of old.closing old.indexes.items) x.stash before agrees.ready agrees.tables (agrees.tables.stand k x get).beside in
+        omega (arith, below, above)) is.held;
     in_place = is.in_place;
   }
 
   module _ (tables : Tables) (stands : Represents state old s tables) where
     pub headed : headings tables ≡ headings_of old.public.tables
-    headed = held_headings old.public.pack old.public.tables tables before stands.held
+    headed = held_headings old.public.pack old.indexes.items old.public.tables tables before stands.held
 
-    pub flat : AreFlat (headings tables)
-    flat = held_flat old.public.pack old.public.tables tables before stands.held (tables_flat agrees.tables)
+    pub flat : accessed tables (RowsStmt select) ≡ None
+    flat = held_plain old.public old.indexes.items tables before (RowsStmt select) stands.held source.unkeyed
 
     pub early : early_refusal (is_late (count_of old s)) (limits_of old.public) (headings tables) (RowsStmt select) ≡ None
-    early = early_held old.public (count_of old s) (RowsStmt select) tables before None stands.held free
+    early = early_held old.public (count_of old s) (RowsStmt select) tables old.indexes.items before None stands.held free
 
     pub rows_of : Same (source_rows select.source (database tables)) (rows (slots_of old.public select tables))
     rows_of = source.rows_are tables stands.in_place headed
@@ -191,15 +199,15 @@ module _ {R : Type 0} (state : R → RevState) (old : Engine R) (s : StoreState)
         ∙ ap (cut_at failed (length t.asked - length s.asked) old.public (rows_skeleton select))
         (sym (rows_seen old.public (count_of old s) select tables headed stands.in_place flat early agrees.settings.pack_least agrees.settings.blocks agrees.settings.padded source.labelled rows_of d))
 
-  pub rows_begun : ReadsMeant old.public select before after → (tables : Tables) (d : Draws) → ReadsTrue state old s s tables → (lie : Lie) → t.lie ≡ Some lie
+  pub rows_begun : ReadsMeant old.public select before after → (tables : Tables) (d : Draws) → AreDraws old d → ReadsTrue state old s s tables → (lie : Lie) → t.lie ≡ Some lie
       → ReadsIn lie (s.asked ++ meant_script d old.public (count_of old s) tables (RowsStmt select))
-  rows_begun begun tables d reads lie told =
+  rows_begun begun tables d of reads lie told =
       let q = selection old.public select in
       let slots = slots_of old.public select tables in
       let meant = rows_seen old.public (count_of old s) select tables (headed tables reads.held) reads.held.in_place (flat tables reads.held) (early tables reads.held) agrees.settings.pack_least agrees.settings.blocks agrees.settings.padded source.labelled (rows_of tables reads.held) d in
       subst (λ (l : List Access). ReadsIn lie (s.asked ++ l))
       (sym (ap (script old.public (rows_skeleton select)) meant ∙ until_rows old.public.pad old.public (length slots) (places q slots) (rows_script old.public select (selection_seen q slots))))
-      (begun (record { tells = reads.tells; tables = tables; held = reads.held.held; in_place = reads.held.in_place; nolie = reads.nolie }) lie told)
+      (begun (record { tells = reads.tells; tables = tables; indexes = old.indexes.items; held = reads.held.held; in_place = reads.held.in_place; nolie = reads.nolie }) lie told)
 
   module _ {E : Type 0} (grew cut : E → E → List Event → Type 0) (faults : E → ℕ) (starts : (x : E) → grew x x []) (now : Seen) (n : ℕ) (out_old out_new : E)
       (count : n ≡ length t.asked - length s.asked) where
@@ -209,6 +217,7 @@ module _ {R : Type 0} (state : R → RevState) (old : Engine R) (s : StoreState)
     stop_told : (e : OpErr) → StopsRows grew cut old.public select e now before after out_old out_new → (tables : Tables) (d : Draws) → ReadsTrue state old s t tables
         → IfOk (answer_of e) (λ outcome. Told state (RowsStmt select) d tables outcome old s (stopped_engine e) t)
     stop_told OpErrs.Failed is tables d reads = record {
+      unindexed = flat tables reads.held;
       seen = seen_cut tables reads.held d true now n count is.leaf (is.held (to_halt tables reads));
       held = still_held (record now { end = Cut n }) false tables reads.held;
     }
@@ -256,7 +265,7 @@ module _ {R : Type 0} (state : R → RevState) (old : Engine R) (s : StoreState)
     abbrev All : SourceToHalt old.public before after → List Event
     All x = answer_events (selection old.public select) (slots_of old.public select x.tables) ++ closing (selection_answer (selection old.public select) (slots_of old.public select x.tables))
 
-    stop_partly : (e : OpErr) (stop : RunStop) (events : List Event) → EndsWithin grew cut stop out_old out_new events → ((x : SourceToHalt old.public before after) → (rest : List Event) × (events ++ rest ≡ All x))
+    stop_partly : (e : OpErr) (stop : RunStop) (events : List Event) → StopsEmission grew cut stop out_old out_new events → ((x : SourceToHalt old.public before after) → (rest : List Event) × (events ++ rest ≡ All x))
         → Stopped state grew cut (RowsStmt select) stop old s (stopped_engine e) t out_old out_new
     stop_partly e stop events ends told = record {
       events = events;
@@ -289,9 +298,9 @@ module _ {R : Type 0} (state : R → RevState) (old : Engine R) (s : StoreState)
         → SinkCause {T = Selected} (Err e) (faults out_old) (faults out_new)
         → Serves state grew cut faults (RowsStmt select) (answer_of e) old s (stopped_engine e) t out_old out_new
     serves_stopped e used is sink = record {
-      ran = rows_cut state old s v room t select agrees used e now n count is.ran is.leaves;
+      ran = rows_cut state old s v room t select agrees used source.unkeyed e now n is.leaf count is.ran is.leaves;
       early = early_none old.public (count_of old s) select (answer_of e) (record now { end = Cut n }) free cut_static;
-      lawful = lawful_cut old.public select (no_public_access old.public (rows_skeleton select) (tables_flat agrees.tables)) (count_of old s) free now n is.holds is.leaf (subst (λ (k : ℕ). ReachesRows old.public select now k) (sym count) is.reached) (few e is.ran);
+      lawful = lawful_cut old.public select source.unkeyed (count_of old s) free now n is.holds is.leaf (subst (λ (k : ℕ). ReachesRows old.public select now k) (sym count) is.reached) (few e is.ran);
       memory = λ wanted.
           let lacks = is.memory (only_memory e wanted) in
           record {
@@ -303,7 +312,7 @@ module _ {R : Type 0} (state : R → RevState) (old : Engine R) (s : StoreState)
               | inl make ↦ inl make
               | inr other ↦ inr (elim other [
                 | inl before ↦ inl before
-                | inr emits ↦ inr ((emits.0, emits.1), record { events = emits.2.events; ends = emits.2.ends out_old [] (starts out_old) })
+                | inr emits ↦ inr (inl (emits.0, emits.1), record { events = emits.2.events; ends = emits.2.ends out_old [] (starts out_old) })
               ])
             ];
           };
@@ -312,5 +321,12 @@ module _ {R : Type 0} (state : R → RevState) (old : Engine R) (s : StoreState)
       stopped = stop_stopped e is;
       sink = sink_of e _ _ sink;
       emits = λ is. tt;
-      means = record { told = stop_told e is; honest = stop_honest e is; held = stop_held e is; begun = rows_begun is.begun };
+      means = record {
+        told = λ tables d of reads. stop_told e is tables d reads;
+        room = λ tables d of reads. none_room old.public tables (RowsStmt select) (flat tables reads.held) d (count_of old s) (answer_of e);
+        honest = stop_honest e is;
+        held = λ tables d of reads. stop_held e is tables d reads;
+        full = λ tables d of reads. pass_stops old.public tables (RowsStmt select) (flat tables reads.held) d (count_of old s) _ e;
+        begun = rows_begun is.begun;
+      };
     }

@@ -51,7 +51,7 @@ use Rattle.ob_mean.specs.Refusals.{listed, limits_of}
 use Rattle.ob_mean.proofs.EarlyLemmas.{allowed}
 use Rattle.ob_mean.proofs.FlatLemmas.{shape_is}
 use Rattle.ob_verdict.proofs.AcceptedProof.{places_fit}
-use Rattle.ob_mean.specs.Replay.{count_end, done_of, ending_len, held_if, walk_end}
+use Rattle.ob_mean.specs.Replay.{count_end, done_of, ending_len, held_if, walk_end, is_access}
 use Rattle.ob_mean.specs.Step.{printed_places}
 use Rattle.ob_mean.specs.Verdict.{Held, Tables, is_late, source_slots, ended as seen_to}
 use Rattle.ob_sql.specs.declared.stmt.SelectRows.{SelectRows}
@@ -66,7 +66,8 @@ use Rattle.ob_exec.specs.Engines.{flat_of}
 use Rattle.ob_select.specs.Selecting.{HoldsSeen, MaySelect, Selection, SelectsFrom, SelectsToEnd, SelectsToHalt, EmitsSelected, answer_events, counted_after, from, padded_after, region_of, selection_seen, selection_script, walked_after}
 use Rattle.ob_exec.specs.Sources.{EmitsRows, EndsRows, HaltsRows, HoldsRows, ReadsMeant, SelectsRows, SourceToEnd, SourceToHalt, rows_script, rows_skeleton, selection, slots_of, stated}
 use Rattle.ob_exec.specs.Telling.{AreHeld}
-use Rattle.ob_exec.proofs.FoundLemmas.{heading_found}
+use Rattle.ob_oram.specs.declared.index.Index.{Index}
+use Rattle.ob_exec.proofs.FoundLemmas.{heading_found, shape_found}
 use Rattle.ob_exec.proofs.HeldLemmas.{held_at}
 use Rattle.ob_select.proofs.SelectLength.{select_length}
 use Rattle.ob_exec.proofs.RowsStated.{ends_stated, may_stated}
@@ -107,7 +108,11 @@ pub some_of : (n q : ℕ) → 1 ≤ q → 1 ≤ n → 1 ≤ div_ceil n q
 some_of n q some least = grind arith
 
 module _ {R : Type 0} (state : R → RevState) (old : Engine R) (s s1 : StoreState) (i : ℕ) (t : Table) (name : List ℕ) (select : SelectRows)
-    (agrees : Agrees state old s) (get : slice_get old.public.tables i ≡ Some t) (named : t.heading.name ≡ name) (of_table : select.source ≡ OneTable name) where
+    (agrees : Agrees state old s) (get : slice_get old.public.tables i ≡ Some t) (named : t.heading.name ≡ name) (of_table : select.source ≡ OneTable name) (unkeyed : is_access old.public (rows_skeleton select) ≡ false) where
+  -- its table is flat
+  shape : t.heading.shape ≡ FlatShape
+  shape = shape_found name old.public.tables i t agrees.tables.names get named (sym (ap (λ (source : Source). is_access old.public (RowsSkeleton source select.list)) of_table) ∙ unkeyed)
+
   found : heading_at name (headings_of old.public.tables) ≡ Some t.heading
   found = heading_found name old.public.tables i t agrees.tables.names get named
 
@@ -125,7 +130,7 @@ module _ {R : Type 0} (state : R → RevState) (old : Engine R) (s s1 : StoreSta
   script_by : (pad : Option ℕ) (now : Seen) → select_part (record old.public { pad = pad }) now old.vault.next (extent_of (region_of q)) [] ≡ rows_script (record old.public { pad = pad }) select now
   script_by pad now =
       (λ j. select_part (record old.public { pad = pad }) now (sym agrees.next j) (extent_of (record { heading = record { name = []; schema = sym schema_is j; capacity = sym capacity_is j; shape = FlatShape }; held = t.region })) [])
-      ∙ sym (shape_is (record old.public { pad = pad }) now.leaf (flat_script (record old.public { pad = pad }) now) (stored_region t) (agrees.tables.each i t get).heading.stored.flat)
+      ∙ sym (shape_is (record old.public { pad = pad }) now.leaf (flat_script (record old.public { pad = pad }) now) (stored_region t) shape)
       ∙ sym (ap (λ (o : Option (Stored ℕ)). option_map_or (table_script (record old.public { pad = pad }) now) o []) (stored_found name old.public.tables i t agrees.tables.names get named))
       ∙ sym (ap (source_script (record old.public { pad = pad }) now) of_table)
 
@@ -165,9 +170,9 @@ module _ {R : Type 0} (state : R → RevState) (old : Engine R) (s s1 : StoreSta
     abbrev after : World
     after = at state v u
 
-    holds_slots : (tables : Tables) → AreHeld old.public.pack old.public.tables tables before → Represents old.public.pack q.flat (slots_of old.public select tables) ready
-    holds_slots tables held =
-        let beside = held_at old.public.pack name old.public.tables tables i t before agrees.tables.names held get named in
+    holds_slots : (indexes : List Index) (tables : Tables) → AreHeld old.public.pack indexes old.public.tables tables before → Represents old.public.pack q.flat (slots_of old.public select tables) ready
+    holds_slots indexes tables held =
+        let beside = held_at old.public.pack indexes name old.public.tables tables i t before agrees.tables.names held get named shape in
         let slots_is : beside.table.held.slots ≡ slots_of old.public select tables =
         sym (ap (λ (source : Source). source_slots old.public source tables) of_table ∙ ap (λ (o : Option (Stored Held)). option_map_or (λ (x : Stored Held). x.held.slots) o []) beside.found) in
         let flat_is : flat_of t ≡ q.flat = λ j. record { schema = schema_is j; capacity = capacity_is j; region = t.region } in
@@ -176,13 +181,13 @@ module _ {R : Type 0} (state : R → RevState) (old : Engine R) (s s1 : StoreSta
         (represents_rests _ s s1 rests old.public.pack (flat_of t) beside.table.held.slots beside.represents))
 
     abbrev to_end : SourceToEnd old.public before after → SelectsToEnd q ready after
-    to_end x = record { tells = subst (λ (b : Bool). IsTrue b) (sym rests.tells) x.tells; slots = slots_of old.public select x.tables; is = holds_slots x.tables x.held; nolie = x.nolie }
+    to_end x = record { tells = subst (λ (b : Bool). IsTrue b) (sym rests.tells) x.tells; slots = slots_of old.public select x.tables; is = holds_slots x.indexes x.tables x.held; nolie = x.nolie }
 
     abbrev to_halt : SourceToHalt old.public before after → SelectsToHalt q ready after
     to_halt x = record {
       tells = subst (λ (b : Bool). IsTrue b) (sym rests.tells) x.tells;
       slots = slots_of old.public select x.tables;
-      is = holds_slots x.tables x.held;
+      is = holds_slots x.indexes x.tables x.held;
       nolie = rests.lie ∙ x.nolie;
       unfit = x.unfit;
     }
@@ -202,7 +207,7 @@ module _ {R : Type 0} (state : R → RevState) (old : Engine R) (s s1 : StoreSta
       table_begun is x lie told =
           let slots = slots_of old.public select x.tables in
           subst (ReadsIn lie) (λ j. rests.asked j ++ script_is (selection_seen q slots) j)
-          (is.begun (record { tells = subst (λ (b : Bool). IsTrue b) (sym rests.tells) x.tells; slots = slots; is = holds_slots x.tables x.held; nolie = rests.lie ∙ x.nolie }) lie told)
+          (is.begun (record { tells = subst (λ (b : Bool). IsTrue b) (sym rests.tells) x.tells; slots = slots; is = holds_slots x.indexes x.tables x.held; nolie = rests.lie ∙ x.nolie }) lie told)
 
       table_ends : (answer : Selected) → SelectsFrom grew cut faults q (Ok answer) now ready after out_old out_new → EndsRows grew old.public select answer now before after out_old out_new
       table_ends answer is = record {
@@ -308,7 +313,7 @@ module _ {R : Type 0} (state : R → RevState) (old : Engine R) (s s1 : StoreSta
           flat = subst (λ (f : Flat). IsFlat old.public.pack f (at state old.vault s1)) flat_is
               (flat_kept (from old.vault.next) old.public.pack (flat_of t) (world_of state old s) (at state old.vault s1) (went_rests _ s s1 rests (from old.vault.next) agrees.ready).lasts
               (λ above. let below = region_below old.public.pack i old.public.tables t _ agrees.ready agrees.tables get in omega (arith, below, above))
-              (agrees.tables.each i t get).flat);
+              ((agrees.tables.each i t get).written shape).flat);
           size = table_size;
           columns = table_columns;
         }

@@ -13,10 +13,8 @@ use Rattle.ob_sql.specs.declared.stmt.Stmt.{Stmt}
 use Rattle.ob_sql.specs.Skeleton.{skeleton}
 use Rattle.ob_mean.specs.declared.answer.Answer.{Answer}
 use Rattle.ob_mean.specs.declared.answer.Answer.TheVariants as A
-use Rattle.ob_base.specs.Stored.{headings_of}
-use Rattle.ob_mean.proofs.FlatLemmas.{no_public_access, settle_is}
-use Rattle.ob_mean.specs.Flats.{AreFlat}
 use Rattle.ob_mean.specs.Lawful.{selects_rows}
+use Rattle.ob_mean.specs.Replay.{is_access}
 use Rattle.ob_sql.specs.declared.stmt.Stmt.TheVariants.{Create, Insert, Update, Delete, Drop as DropTable, SelectRows as RowsStmt, SelectTotals as TotalsStmt}
 use Rattle.ob_mean.specs.Prints.{Prints, Unfinished}
 use Rattle.ob_mean.specs.Settle.{settle, settled}
@@ -30,14 +28,13 @@ use Rattle.ob_verdict.specs.declared.outcome.Outcome.TheVariants.{Created, Inser
 use Rattle.ob_exec.specs.Agreeing.{Agrees, world_of, count_of}
 use Rattle.ob_exec.specs.Running.{HasNoRows, IsSilent, RefusedEarly, SinkStops, is_fault}
 use Rattle.ob_verdict.specs.Outcomes.{refusal_now, outcome_of, by_fault, Emits, EmitsUntilFault}
-use Rattle.ob_exec.specs.Serving.{EndsWithin, Serves, ServesSilently, Stopped}
+use Rattle.ob_exec.specs.Serving.{StopsEmission, Serves, ServesSilently, Stopped}
 use Rattle.ob_exec.proofs.MemoryLemmas.{lacks_less}
 use Rattle.ob_exec.specs.Telling.{AreHeld, Represents, answer_labels}
-use Rattle.ob_exec.proofs.HeldLemmas.{held_flat}
 use Rattle.ob_exec.proofs.LawfulLemmas.{lawful_now, lawful_refused}
 use Rattle.ob_exec.proofs.RunLemmas.{of_other, ran_refused}
 use Rattle.ob_exec.proofs.SealLemmas.{keeps_none}
-use Rattle.ob_exec.proofs.TableLemmas.{tables_flat}
+use Rattle.ob_exec.proofs.PlainLemmas.{refused_room, refused_settles}
 use Rattle.ob_exec.proofs.ToldLemmas.{early_held, early_is, refused_none}
 
 -- the same, of an equal answer and an equal engine
@@ -49,13 +46,13 @@ serves_same {R} {E} state grew cut faults stmt old s t out_old out_new r q new s
 
 -- ---- nothing is emitted
 -- an answer that is no rows
-abbrev IsBare : Answer → Type 0
+abbrev pub IsBare : Answer → Type 0
 IsBare A.Done = Unit {0}
 IsBare (A.Changed n) = Unit {0}
 IsBare (A.Rows rows) = ⊥
 IsBare (A.Refused r) = Unit {0}
 
-bare_prints : (labels : List (List ℕ)) (a : Answer) → IsBare a → Prints labels a []
+pub bare_prints : (labels : List (List ℕ)) (a : Answer) → IsBare a → Prints labels a []
 bare_prints labels A.Done bare = refl
 bare_prints labels (A.Changed n) bare = refl
 bare_prints labels (A.Rows rows) bare = absurd bare
@@ -86,7 +83,7 @@ none_until (DropTable table) labels = refl
 none_until (RowsStmt select) labels = record { rows = []; are_rows = refl; is = inl refl }
 none_until (TotalsStmt select) labels = refl
 
-silent_emits : (stmt : Stmt) (labels : List (List ℕ)) (outcome : Outcome) → HasNoRows outcome → Emits stmt labels outcome []
+pub silent_emits : (stmt : Stmt) (labels : List (List ℕ)) (outcome : Outcome) → HasNoRows outcome → Emits stmt labels outcome []
 silent_emits stmt labels (Refused r) silent = either (is_store_fault r) _ _ (none_until stmt labels) refl
 silent_emits stmt labels Created silent = refl
 silent_emits stmt labels Inserted silent = refl
@@ -101,6 +98,8 @@ silent_sink (Ok outcome) n silent = refl
 silent_sink (Err Stops.SinkFault) n silent = absurd silent
 silent_sink (Err (Stops.Tampered region place)) n silent = refl
 silent_sink (Err Stops.NoMemory) n silent = refl
+silent_sink (Err Stops.StoreFault) n silent = refl
+silent_sink (Err Stops.StashFull) n silent = refl
 
 silent_meets : {P : Type 0} (r : Result Outcome RunStop) → IsSilent r → r ≡ Err Stops.SinkFault → P
 silent_meets r silent is = absurd (subst (λ (x : Result Outcome RunStop). IsSilent x) is silent)
@@ -110,15 +109,17 @@ silent_answered (Ok o) silent h = h o silent
 silent_answered (Err e) silent h = tt
 
 silent_stopped : {E : Type 0} (grew cut : E → E → List Event → Type 0) (P : RunStop → Type 0) (out : E) → grew out out [] → (r : Result Outcome RunStop) → IsSilent r
-    → ((stop : RunStop) → EndsWithin grew cut stop out out [] → P stop) → IfErr r P
+    → ((stop : RunStop) → StopsEmission grew cut stop out out [] → P stop) → IfErr r P
 silent_stopped grew cut P out starts (Ok x) silent h = tt
 silent_stopped grew cut P out starts (Err Stops.SinkFault) silent h = absurd silent
 silent_stopped grew cut P out starts (Err (Stops.Tampered region place)) silent h = h (Stops.Tampered region place) starts
 silent_stopped grew cut P out starts (Err Stops.NoMemory) silent h = h Stops.NoMemory (inl starts)
+silent_stopped grew cut P out starts (Err Stops.StoreFault) silent h = h Stops.StoreFault (starts, refl)
+silent_stopped grew cut P out starts (Err Stops.StashFull) silent h = h Stops.StashFull (starts, refl)
 
 module _ {R E : Type 0} (state : R → RevState) (grew cut : E → E → List Event → Type 0) (faults : E → ℕ) (stmt : Stmt) (old : Engine R) (s : StoreState) (out : E) (starts : grew out out []) where
   -- a statement that emits nothing and of which nothing is counted
-  pub serves_silently : (result : Result Outcome RunStop) (new : Engine R) (t : StoreState) → refusal_now old.public (count_of old s) stmt ≡ None → AreFlat (headings_of old.public.tables) → selects_rows stmt ≡ false
+  pub serves_silently : (result : Result Outcome RunStop) (new : Engine R) (t : StoreState) → refusal_now old.public (count_of old s) stmt ≡ None → is_access old.public (skeleton stmt) ≡ false → selects_rows stmt ≡ false
       → ((tables : Tables) → IsBare (accepted_answer (database tables) stmt)) → ServesSilently state stmt result old s new t
       → Serves state grew cut faults stmt result old s new t out out
   serves_silently result new t now flat uncounted bare serves =
@@ -128,7 +129,7 @@ module _ {R E : Type 0} (state : R → RevState) (grew cut : E → E → List Ev
       record {
         ran = serves.ran;
         early = early;
-        lawful = lawful_now old.public (count_of old s) stmt result new.seen s.asked t.asked uncounted (no_public_access old.public (skeleton stmt) flat) serves.plain serves.uncounted early serves.ran.asked serves.ran.ends;
+        lawful = lawful_now old.public (count_of old s) stmt result new.seen s.asked t.asked uncounted flat serves.plain serves.uncounted early serves.ran.asked serves.ran.ends;
         memory = λ is. lacks_less (λ none. absurd none) (serves.memory is);
         seals = serves.seals;
         answered = silent_answered result serves.silent (λ outcome silent. record {
@@ -155,11 +156,11 @@ module _ {R E : Type 0} (state : R → RevState) (grew cut : E → E → List Ev
       let is_early = early_is old.public (count_of old s) stmt r now in
       let labels = answer_labels stmt old.public in
       let refused : (tables : Tables) → Represents state old s tables → refusal old.public (count_of old s) tables stmt ≡ Some r = λ tables held.
-      refused_early old.public (count_of old s) tables stmt r (early_held old.public (count_of old s) stmt tables (world_of state old s) (Some r) held.held now) in
+      refused_early old.public (count_of old s) tables stmt r (early_held old.public (count_of old s) stmt tables old.indexes.items (world_of state old s) (Some r) held.held now) in
       let verdict_is : (tables : Tables) → Represents state old s tables → verdict old.public (count_of old s) tables stmt ≡ A.Refused r = λ tables held.
       ap (λ (o : Option Refusal). answered o (accepted_answer (database tables) stmt)) (refused tables held) in
       let stays : (tables : Tables) (d : Draws) → Represents state old s tables → settle d old.public (count_of old s) tables stmt ≡ tables = λ tables d held.
-      settle_is old.public tables stmt (held_flat old.public.pack old.public.tables tables (world_of state old s) held.held (tables_flat agrees.tables)) d (count_of old s)
+      refused_settles d old.public (count_of old s) tables stmt r (early_held old.public (count_of old s) stmt tables old.indexes.items (world_of state old s) (Some r) held.held now)
       ∙ ap (λ (o : Option Refusal). followed o (settled d old.public tables stmt) tables) (refused tables held) in
       record {
         ran = ran_refused state (skeleton stmt) old s agrees lives r is_early;
@@ -177,24 +178,27 @@ module _ {R E : Type 0} (state : R → RevState) (grew cut : E → E → List Ev
         sink = refl;
         emits = λ is. absurd (cc is);
         means = record {
-          told = λ tables d reads. of_other _ _ (is_store_fault r) is_early.own (record {
+          told = λ tables d of reads. of_other _ _ (is_store_fault r) is_early.own (record {
             answer = sym (ap (outcome_of stmt) (verdict_is tables reads.held));
-            seen = sym (seen_early old.public (count_of old s) tables stmt r (early_held old.public (count_of old s) stmt tables (world_of state old s) (Some r) reads.held.held now) d);
+            seen = sym (seen_early old.public (count_of old s) tables stmt r (early_held old.public (count_of old s) stmt tables old.indexes.items (world_of state old s) (Some r) reads.held.held now) d);
             held = record {
-              held = subst (λ (ts : Tables). AreHeld old.public.pack old.public.tables ts (world_of state old s)) (sym (stays tables d reads.held)) reads.held.held;
+              held = subst (λ (ts : Tables). AreHeld old.public.pack old.indexes.items old.public.tables ts (world_of state old s)) (sym (stays tables d reads.held)) reads.held.held;
               in_place = subst (λ (ts : Tables). AreInPlace old.public.stash ts) (sym (stays tables d reads.held)) reads.held.in_place;
             };
           });
+          room = λ tables d of reads. refused_room d old.public (count_of old s) tables stmt r (early_held old.public (count_of old s) stmt tables old.indexes.items (world_of state old s) (Some r) reads.held.held now);
           honest = λ tables reads. tt;
-          held = λ tables d reads. tt;
-          begun = λ tables d reads lie told. absurd (cc (reads.nolie, told));
+          held = λ tables d of reads. tt;
+          full = λ tables d of reads. tt;
+          begun = λ tables d of reads lie told. absurd (cc (reads.nolie, told));
         };
       }
 
 -- a statement by what its kind says of it
 pub served_as : {R E : Type 0} (state : R → RevState) (grew cut : E → E → List Event → Type 0) (faults : E → ℕ) (stmt other : Stmt) (old : Engine R) (s : StoreState) (out : E) (result : Result Outcome RunStop)
-    (new : Engine R) (t : StoreState) → grew out out [] → other ≡ stmt → refusal_now old.public (count_of old s) stmt ≡ None → AreFlat (headings_of old.public.tables) → selects_rows other ≡ false
+    (new : Engine R) (t : StoreState) → grew out out [] → other ≡ stmt → refusal_now old.public (count_of old s) stmt ≡ None → is_access old.public (skeleton stmt) ≡ false → selects_rows other ≡ false
     → ((tables : Tables) → IsBare (accepted_answer (database tables) other)) → ServesSilently state other result old s new t → Serves state grew cut faults stmt result old s new t out out
 served_as state grew cut faults stmt other old s out result new t starts is now flat uncounted bare serves =
     subst (λ (x : Stmt). Serves state grew cut faults x result old s new t out out) is
-    (serves_silently state grew cut faults other old s out starts result new t (ap (refusal_now old.public (count_of old s)) is ∙ now) flat uncounted bare serves)
+    (serves_silently state grew cut faults other old s out starts result new t (ap (refusal_now old.public (count_of old s)) is ∙ now)
+    (ap (λ (x : Stmt). is_access old.public (skeleton x)) is ∙ flat) uncounted bare serves)

@@ -1,6 +1,6 @@
 -- A statement that emits nothing and of which nothing is counted, by how it ended.
-use Rattle.ob_exec.specs.Engines.{others_of, indexes_of}
-use Rattle.std.proofs.Common.{◌≡◌, inl, inr, ◌-◌, max, ℕ, Bool, true, false, List, [], ◌++◌, length, Ok, Err, Result, None, refl, sym, ◌∙◌, ap, subst, arith, append-nil}
+use Rattle.ob_exec.specs.Engines.{others_of}
+use Rattle.std.proofs.Common.{◌≡◌, inl, inr, ◌-◌, max, ℕ, Bool, true, false, List, [], ◌++◌, length, Ok, Err, Result, None, Global, refl, sym, ◌∙◌, ap, subst, arith, append-nil}
 use Rattle.std.specs.Prelude.{Some, slice_get}
 use Rattle.ob_base.specs.declared.access.Access.{Access}
 use Rattle.ob_exec.specs.declared.stop.RunStop.{RunStop}
@@ -10,7 +10,6 @@ use Rattle.ob_base.specs.declared.seen.End.{End}
 use Rattle.ob_base.specs.declared.seen.End.TheVariants.{Whole, Cut}
 use Rattle.ob_base.specs.Accesses.{make_at}
 use Rattle.ob_base.specs.Schemas.{Columns}
-use Rattle.ob_base.specs.Stored.{headings_of}
 use Rattle.ob_room.specs.RoomState.{RoomState}
 use Rattle.ob_store.specs.State.{StoreState}
 use Rattle.ob_store.specs.Calls.{ChangesNothing}
@@ -28,25 +27,29 @@ use Rattle.ob_flat.proofs.Runs.{pass_after}
 use Rattle.ob_script.specs.Script.{whole_script}
 use Rattle.ob_sql.specs.declared.stmt.Stmt.{Stmt}
 use Rattle.ob_sql.specs.Skeleton.{skeleton}
-use Rattle.ob_mean.proofs.FlatLemmas.{no_access}
-use Rattle.ob_mean.specs.Flats.{AreFlat}
+use Rattle.ob_mean.proofs.FlatLemmas.{MakesFlat}
 use Rattle.ob_mean.specs.Lawful.{selects_rows}
+use Rattle.ob_mean.specs.Replay.{drawn_by, is_access}
 use Rattle.ob_mean.specs.Settle.{settle}
-use Rattle.ob_mean.specs.Verdict.{Draws, Tables, verdict, seen, ended as seen_to}
+use Rattle.ob_mean.specs.Verdict.{Draws, Tables, accessed, verdict, seen, ended as seen_to}
+use Rattle.ob_oram.specs.declared.index.Index.{Index}
+use Rattle.ob_seal.specs.Draws.{DrawPlace}
+use Rattle.std.specs.declared.vec.Vec.{Vec}
 use Rattle.ob_verdict.proofs.InPlaceProof.{keeps_in_place}
 use Rattle.ob_verdict.proofs.SeenProof.{shows_kind_alone}
 use Rattle.ob_exec.specs.declared.engine.Engine.{Engine}
 use Rattle.ob_verdict.specs.declared.outcome.Outcome.{Outcome}
-use Rattle.ob_exec.specs.Agreeing.{Agrees, world_of, count_of}
+use Rattle.ob_exec.specs.Agreeing.{Agrees, AreDraws, world_of, count_of}
 use Rattle.ob_exec.specs.Running.{RanStatement, HasNoRows, IsSilent, answer_of, is_stop}
 use Rattle.ob_verdict.specs.Outcomes.{refusal_now, outcome_of}
 use Rattle.ob_exec.specs.Serving.{Means, ServesSilently}
 use Rattle.ob_exec.specs.Telling.{AreHeld, KeepsSealed, ReadsTrue}
 use Rattle.ob_exec.proofs.BegunLemmas.{begun_plain}
-use Rattle.ob_exec.proofs.HeldLemmas.{held_flat, held_kept}
-use Rattle.ob_exec.proofs.RunLemmas.{IsAnswered, engine_after, ran_cut, ran_no_room, only_memory}
+use Rattle.ob_exec.proofs.HeldLemmas.{held_kept, held_plain}
+use Rattle.ob_exec.proofs.PlainLemmas.{none_drawn, none_full, none_stops}
+use Rattle.ob_exec.proofs.RunLemmas.{IsAnswered, engine_after, engine_left, ran_cut, ran_unasked, only_memory}
 use Rattle.ob_exec.proofs.SealLemmas.{keeps_pass, keeps_rests}
-use Rattle.ob_exec.proofs.TableLemmas.{beside_below, region_below, tables_flat, tables_kept}
+use Rattle.ob_exec.proofs.TableLemmas.{beside_below, region_below, tables_kept}
 use Rattle.ob_exec.proofs.ToldLemmas.{IsFault, cut_seen, early_held, told_whole}
 
 -- the same, of an equal answer and an equal engine
@@ -56,23 +59,24 @@ serves_as {R} state stmt old s t r q new same answer is serves =
     subst (λ (e : Engine R). ServesSilently state stmt r old s e t) (sym is)
     (subst (λ (a : Result Outcome RunStop). ServesSilently state stmt a old s same t) (sym answer) serves)
 
--- ---- where want of memory comes
+-- ---- a statement that accesses no index
 module _ {R : Type 0} (state : R → RevState) (stmt : Stmt) (old : Engine R) (s : StoreState) (agrees : Agrees state old s)
-    (now : refusal_now old.public (count_of old s) stmt ≡ None) (plain : selects_rows stmt ≡ false) where
-  flat : AreFlat (headings_of old.public.tables)
-  flat = tables_flat agrees.tables
+    (now : refusal_now old.public (count_of old s) stmt ≡ None) (plain : selects_rows stmt ≡ false)
+    (none : is_access old.public (skeleton stmt) ≡ false) where
+  unread : (tables : Tables) (w : World) → AreHeld old.public.pack old.indexes.items old.public.tables tables w → accessed tables stmt ≡ None
+  unread tables w held = held_plain old.public old.indexes.items tables w stmt held none
 
-  seen_whole : (tables : Tables) (d : Draws) (w : World) → AreHeld old.public.pack old.public.tables tables w → seen d old.public (count_of old s) tables stmt ≡ seen_to Whole
+  seen_whole : (tables : Tables) (d : Draws) (w : World) → AreHeld old.public.pack old.indexes.items old.public.tables tables w → seen d old.public (count_of old s) tables stmt ≡ seen_to Whole
   seen_whole tables d w held =
-      shows_kind_alone d old.public (count_of old s) tables stmt (early_held old.public (count_of old s) stmt tables w None held now)
-      (no_access tables stmt (held_flat old.public.pack old.public.tables tables w held flat)) plain
+      shows_kind_alone d old.public (count_of old s) tables stmt (early_held old.public (count_of old s) stmt tables old.indexes.items w None held now) (unread tables w held) plain
 
-  -- nothing was asked, for want of memory
-  pub unasked : (s1 : StoreState) (ts : List Table) → ChangesNothing s s1 → ServesSilently state stmt (Err Stops.NoMemory) old s (engine_after old old.vault old.room ts (Cut 0) true) s1
-  unasked s1 ts rests =
+  -- nothing was asked, for want of memory, whatever was drawn
+  pub unasked_left : (s1 : StoreState) (indexes : Vec Index Global) (draws : DrawPlace) (ts : List Table) → ChangesNothing s s1
+      → ServesSilently state stmt (Err Stops.NoMemory) old s (engine_left old indexes draws old.vault old.room ts (seen_to (Cut 0)) true) s1
+  unasked_left s1 indexes draws ts rests =
       let same : length s1.asked ≡ length s.asked = ap length rests.asked in
       record {
-        ran = ran_no_room state (skeleton stmt) old s s1 ts agrees rests;
+        ran = ran_unasked state (skeleton stmt) old s s1 indexes draws ts agrees rests;
         started = λ is. absurd (cc is);
         uncounted = λ is. absurd (cc is);
         plain = refl;
@@ -84,23 +88,25 @@ module _ {R : Type 0} (state : R → RevState) (stmt : Stmt) (old : Engine R) (s
           asked = rests.asked ∙ sym (append-nil s.asked);
           place = inl (inl refl);
         };
-        seals = keeps_rests state old s s1 rests (engine_after old old.vault old.room ts (Cut 0) true) refl;
+        seals = keeps_rests state old s s1 rests (engine_left old indexes draws old.vault old.room ts (seen_to (Cut 0)) true) refl;
         means = record {
-          told = λ tables d reads. tt;
+          told = λ tables d of reads. tt;
+          room = λ tables d of reads. tt;
           honest = λ tables reads. refl;
-          held = λ tables d reads. cut_seen false old.public (skeleton stmt) 0 _ _ (seen_whole tables d _ reads.held.held) (omega (arith, same));
-          begun = λ tables d reads lie told. absurd (cc (reads.nolie, rests.lie, told));
+          held = λ tables d of reads. cut_seen false old.public (skeleton stmt) 0 _ _ (seen_whole tables d _ reads.held.held) (omega (arith, same));
+          full = λ tables d of reads. none_stops old.public tables stmt (unread tables _ reads.held.held) d (count_of old s) _ Stops.NoMemory tt;
+          begun = λ tables d of reads lie told. absurd (cc (reads.nolie, rests.lie, told));
         };
       }
 
   -- all of it was asked
-  pub finished : (v : Vault R) (room : RoomState) (t : StoreState) (ts : List Table) (outcome : Outcome) → IsAnswered outcome → HasNoRows outcome
-      → RanStatement state (skeleton stmt) (Ok outcome) old s (engine_after old v room ts Whole old.ended) t
-      → KeepsSealed state old s (engine_after old v room ts Whole old.ended) t
-      → ((tables : Tables) (d : Draws) → ReadsTrue state old s t tables
-      → (outcome ≡ outcome_of stmt (verdict old.public (count_of old s) tables stmt)) × AreHeld old.public.pack ts (settle d old.public (count_of old s) tables stmt) (at state v t))
-      → ServesSilently state stmt (Ok outcome) old s (engine_after old v room ts Whole old.ended) t
-  finished v room t ts outcome answered silent ran seals meant = record {
+  pub finished_left : (indexes : Vec Index Global) (draws : DrawPlace) (v : Vault R) (room : RoomState) (t : StoreState) (ts : List Table) (outcome : Outcome) → IsAnswered outcome → HasNoRows outcome
+      → RanStatement state (skeleton stmt) (Ok outcome) old s (engine_left old indexes draws v room ts (seen_to Whole) old.ended) t
+      → KeepsSealed state old s (engine_left old indexes draws v room ts (seen_to Whole) old.ended) t
+      → ((tables : Tables) (d : Draws) → AreDraws old d → ReadsTrue state old s t tables
+      → (outcome ≡ outcome_of stmt (verdict old.public (count_of old s) tables stmt)) × AreHeld old.public.pack indexes.items ts (settle d old.public (count_of old s) tables stmt) (at state v t))
+      → ServesSilently state stmt (Ok outcome) old s (engine_left old indexes draws v room ts (seen_to Whole) old.ended) t
+  finished_left indexes draws v room t ts outcome answered silent ran seals meant = record {
     ran = ran;
     started = λ is. absurd (cc is);
     uncounted = λ is. absurd (cc is);
@@ -109,50 +115,84 @@ module _ {R : Type 0} (state : R → RevState) (stmt : Stmt) (old : Engine R) (s
     memory = λ is. absurd (cc is);
     seals = seals;
     means = record {
-      told = λ tables d reads. told_whole outcome _ _ answered (record {
-        answer = (meant tables d reads).0;
+      told = λ tables d of reads. told_whole outcome _ _ answered (record {
+        answer = (meant tables d of reads).0;
         seen = sym (seen_whole tables d _ reads.held.held);
-        held = record { held = (meant tables d reads).1; in_place = keeps_in_place d old.public (count_of old s) tables stmt reads.held.in_place };
+        held = record { held = (meant tables d of reads).1; in_place = keeps_in_place d old.public (count_of old s) tables stmt reads.held.in_place };
       });
+      room = λ tables d of reads. none_full old.public tables stmt (unread tables _ reads.held.held) d (count_of old s);
       honest = λ tables reads. tt;
-      held = λ tables d reads. tt;
-      begun = λ tables d reads. begun_plain state stmt (Ok outcome) old s (engine_after old v room ts Whole old.ended) t tables d plain refl ran (seen_whole tables d _ reads.held.held) reads.nolie;
+      held = λ tables d of reads. tt;
+      full = λ tables d of reads. tt;
+      begun = λ tables d of reads. begun_plain state stmt (Ok outcome) old s (engine_left old indexes draws v room ts (seen_to Whole) old.ended) t tables d plain refl ran (seen_whole tables d _ reads.held.held) reads.nolie;
     };
   }
 
-  module _ (s1 : StoreState) (v : Vault R) (room : RoomState) (t : StoreState) (rests : ChangesNothing s s1) (room_is : room ≡ record old.room { high = max old.room.high old.room.pack }) where
-    means_cut : (e : OpErr) (n : ℕ) → n ≡ length t.asked - length s.asked → ((tables : Tables) → ReadsTrue state old s t tables → IsFault e)
-        → ((tables : Tables) → AreHeld old.public.pack old.public.tables tables (world_of state old s) → AreHeld old.public.pack old.public.tables tables (at state v t))
-        → RanStatement state (skeleton stmt) (answer_of e) old s (engine_after old v room old.public.tables (Cut n) (is_stop (answer_of e))) t
-        → Means state stmt (answer_of e) old s (engine_after old v room old.public.tables (Cut n) (is_stop (answer_of e))) t
-    means_cut OpErrs.Failed n count fault kept ran = record {
-      told = λ tables d reads. record {
+  -- a pass gave up
+  module _ (indexes : Vec Index Global) (draws : DrawPlace) (v : Vault R) (room : RoomState) (t : StoreState) where
+    pub means_left : (e : OpErr) (n : ℕ) → n ≡ length t.asked - length s.asked → ((tables : Tables) → ReadsTrue state old s t tables → IsFault e)
+        → ((tables : Tables) → AreHeld old.public.pack old.indexes.items old.public.tables tables (world_of state old s) → AreHeld old.public.pack indexes.items old.public.tables tables (at state v t))
+        → RanStatement state (skeleton stmt) (answer_of e) old s (engine_left old indexes draws v room old.public.tables (seen_to (Cut n)) (is_stop (answer_of e))) t
+        → Means state stmt (answer_of e) old s (engine_left old indexes draws v room old.public.tables (seen_to (Cut n)) (is_stop (answer_of e))) t
+    means_left OpErrs.Failed n count fault kept ran = record {
+      told = λ tables d of reads. record {
+        unindexed = unread tables _ reads.held.held;
         seen = cut_seen true old.public (skeleton stmt) n _ _ (seen_whole tables d _ reads.held.held) count;
         held = record { held = kept tables reads.held.held; in_place = reads.held.in_place };
       };
+      room = λ tables d of reads. none_full old.public tables stmt (unread tables _ reads.held.held) d (count_of old s);
       honest = λ tables reads. tt;
-      held = λ tables d reads. tt;
-      begun = λ tables d reads. begun_plain state stmt (answer_of OpErrs.Failed) old s _ t tables d plain refl ran (seen_whole tables d _ reads.held.held) reads.nolie;
+      held = λ tables d of reads. tt;
+      full = λ tables d of reads. tt;
+      begun = λ tables d of reads. begun_plain state stmt (answer_of OpErrs.Failed) old s _ t tables d plain refl ran (seen_whole tables d _ reads.held.held) reads.nolie;
     }
-    means_cut (OpErrs.Tampered q x) n count fault kept ran = record {
-      told = λ tables d reads. tt;
+    means_left (OpErrs.Tampered q x) n count fault kept ran = record {
+      told = λ tables d of reads. tt;
+      room = λ tables d of reads. tt;
       honest = λ tables reads. absurd (fault tables reads);
-      held = λ tables d reads. cut_seen true old.public (skeleton stmt) n _ _ (seen_whole tables d _ reads.held.held) count;
-      begun = λ tables d reads. begun_plain state stmt (answer_of (OpErrs.Tampered q x)) old s _ t tables d plain refl ran (seen_whole tables d _ reads.held.held) reads.nolie;
+      held = λ tables d of reads. cut_seen true old.public (skeleton stmt) n _ _ (seen_whole tables d _ reads.held.held) count;
+      full = λ tables d of reads. none_stops old.public tables stmt (unread tables _ reads.held.held) d (count_of old s) _ (Stops.Tampered q x) tt;
+      begun = λ tables d of reads. begun_plain state stmt (answer_of (OpErrs.Tampered q x)) old s _ t tables d plain refl ran (seen_whole tables d _ reads.held.held) reads.nolie;
     }
-    means_cut OpErrs.Sink n count fault kept ran = record {
-      told = λ tables d reads. tt;
+    means_left OpErrs.Sink n count fault kept ran = record {
+      told = λ tables d of reads. tt;
+      room = λ tables d of reads. tt;
       honest = λ tables reads. refl;
-      held = λ tables d reads. cut_seen false old.public (skeleton stmt) n _ _ (seen_whole tables d _ reads.held.held) count;
-      begun = λ tables d reads. begun_plain state stmt (answer_of OpErrs.Sink) old s _ t tables d plain refl ran (seen_whole tables d _ reads.held.held) reads.nolie;
+      held = λ tables d of reads. cut_seen false old.public (skeleton stmt) n _ _ (seen_whole tables d _ reads.held.held) count;
+      full = λ tables d of reads. none_stops old.public tables stmt (unread tables _ reads.held.held) d (count_of old s) _ Stops.SinkFault tt;
+      begun = λ tables d of reads. begun_plain state stmt (answer_of OpErrs.Sink) old s _ t tables d plain refl ran (seen_whole tables d _ reads.held.held) reads.nolie;
     }
-    means_cut OpErrs.NoMemory n count fault kept ran = record {
-      told = λ tables d reads. tt;
+    means_left OpErrs.NoMemory n count fault kept ran = record {
+      told = λ tables d of reads. tt;
+      room = λ tables d of reads. tt;
       honest = λ tables reads. refl;
-      held = λ tables d reads. cut_seen false old.public (skeleton stmt) n _ _ (seen_whole tables d _ reads.held.held) count;
-      begun = λ tables d reads. begun_plain state stmt (answer_of OpErrs.NoMemory) old s _ t tables d plain refl ran (seen_whole tables d _ reads.held.held) reads.nolie;
+      held = λ tables d of reads. cut_seen false old.public (skeleton stmt) n _ _ (seen_whole tables d _ reads.held.held) count;
+      full = λ tables d of reads. none_stops old.public tables stmt (unread tables _ reads.held.held) d (count_of old s) _ Stops.NoMemory tt;
+      begun = λ tables d of reads. begun_plain state stmt (answer_of OpErrs.NoMemory) old s _ t tables d plain refl ran (seen_whole tables d _ reads.held.held) reads.nolie;
     }
 
+-- ---- one that draws nothing either
+module _ {R : Type 0} (state : R → RevState) (stmt : Stmt) (old : Engine R) (s : StoreState) (agrees : Agrees state old s)
+    (now : refusal_now old.public (count_of old s) stmt ≡ None) (plain : selects_rows stmt ≡ false)
+    (none : is_access old.public (skeleton stmt) ≡ false) (made : MakesFlat (skeleton stmt)) where
+  undrawn : drawn_by old.public (skeleton stmt) ≡ 0
+  undrawn = none_drawn old.public (skeleton stmt) none made
+
+  -- nothing was asked, for want of memory
+  pub unasked : (s1 : StoreState) (ts : List Table) → ChangesNothing s s1 → ServesSilently state stmt (Err Stops.NoMemory) old s (engine_after old old.vault old.room ts (Cut 0) true) s1
+  unasked s1 ts rests = unasked_left state stmt old s agrees now plain none s1 old.indexes old.draws ts rests
+
+  -- with the indexes and the draws that there were
+  pub finished : (v : Vault R) (room : RoomState) (t : StoreState) (ts : List Table) (outcome : Outcome) → IsAnswered outcome → HasNoRows outcome
+      → RanStatement state (skeleton stmt) (Ok outcome) old s (engine_after old v room ts Whole old.ended) t
+      → KeepsSealed state old s (engine_after old v room ts Whole old.ended) t
+      → ((tables : Tables) (d : Draws) → ReadsTrue state old s t tables
+      → (outcome ≡ outcome_of stmt (verdict old.public (count_of old s) tables stmt)) × AreHeld old.public.pack old.indexes.items ts (settle d old.public (count_of old s) tables stmt) (at state v t))
+      → ServesSilently state stmt (Ok outcome) old s (engine_after old v room ts Whole old.ended) t
+  finished v room t ts outcome answered silent ran seals meant =
+      finished_left state stmt old s agrees now plain none old.indexes old.draws v room t ts outcome answered silent ran seals (λ tables d of reads. meant tables d reads)
+
+  module _ (s1 : StoreState) (v : Vault R) (room : RoomState) (t : StoreState) (rests : ChangesNothing s s1) (room_is : room ≡ record old.room { high = max old.room.high old.room.pack }) where
     -- a pass that makes a region first gave up
     pub cut_off : (x more : List Access) (blocks size n : ℕ) (e : OpErr) → ((end : End) → whole_script old.public (skeleton stmt) (seen_to end) ≡ x)
         → x ≡ make_at old.vault.next blocks size ++ more → PassCut e x (one old.vault.next) (at state old.vault s1) (at state v t) → n ≡ length t.asked - length s.asked
@@ -164,9 +204,11 @@ module _ {R : Type 0} (state : R → RevState) (stmt : Stmt) (old : Engine R) (s
         let all = pass_after (one old.vault.next) _ _ _ e [] x (went_rests _ s s1 rests (one old.vault.next) agrees.ready) cut in
         let apart : (i : ℕ) (u : Table) → slice_get old.public.tables i ≡ Some u → one old.vault.next u.region → ⊥ =
         λ i u is here. let less = region_below old.public.pack i old.public.tables u _ agrees.ready agrees.tables is in omega (arith, less, here) in
-        let ran = ran_cut state (skeleton stmt) old s v room t agrees room_is (one old.vault.next) n x e all (script_is (Cut n)) count
-        (tables_kept (one old.vault.next) old.public.pack old.public.tables (others_of old.closing) (indexes_of old.closing) _ _ all.lasts apart
-        (λ q is here. let less = beside_below old.public.pack old.public.tables (others_of old.closing) q _ agrees.ready agrees.tables is in omega (arith, less, here)) (λ q shape live here. absurd (cc (live, gone, here))) agrees.tables) in
+        let others = others_of old.closing old.indexes.items in
+        let off : (q : ℕ) → others q → one old.vault.next q → ⊥ =
+        λ q is here. let less = beside_below old.public.pack old.public.tables others q _ agrees.ready agrees.tables is in omega (arith, less, here) in
+        let ran = ran_cut state (skeleton stmt) old s v room t agrees room_is undrawn (one old.vault.next) n x e all (script_is (Cut n)) count
+        (tables_kept (one old.vault.next) old.public.pack old.public.tables others old.indexes.items _ _ all.lasts apart off (λ q shape live here. absurd (cc (live, gone, here))) agrees.tables) in
         record {
           ran = ran;
           started = λ is. absurd (cc is);
@@ -183,5 +225,6 @@ module _ {R : Type 0} (state : R → RevState) (stmt : Stmt) (old : Engine R) (s
                 place = inl (inr refl);
               };
           seals = keeps_pass state old s s1 rests agrees (engine_after old v room old.public.tables (Cut n) (is_stop (answer_of e))) t (at state v t) refl seals;
-          means = means_cut e n count fault (λ tables held. held_kept (one old.vault.next) old.public.pack old.public.tables tables _ _ all.lasts apart held) ran;
+          means = means_left state stmt old s agrees now plain none old.indexes old.draws v room t e n count fault (λ tables held. held_kept (one old.vault.next) old.public.pack old.indexes.items old.public.tables tables _ _ all.lasts apart
+              (λ k i get. off i.stash (agrees.tables.stand k i get).beside) held) ran;
         }

@@ -1,13 +1,14 @@
 -- The tables of an engine, after a pass.
 use Rattle.ob_oram.proofs.Lasting.{index_kept}
 use Rattle.ob_oram.specs.declared.index.Index.{Index}
-use Rattle.std.proofs.Common.{◌≡◌, ◌⊎◌, inl, inr, ◌<◌, ◌≤◌, ℕ, zero, suc, Bool, true, false, if◌then◌else◌, cond, List, [], ◌∷◌, ◌++◌, length, Option, Some, None, refl, sym, ◌∙◌, ap, subst, arith}
+use Rattle.std.proofs.Common.{◌≡◌, ◌⊎◌, inl, inr, ◌<◌, ◌≤◌, ℕ, zero, suc, Bool, true, false, if◌then◌else◌, cond, List, [], ◌∷◌, ◌++◌, length, get_or, Option, Some, None, refl, sym, ◌∙◌, ap, subst, arith}
 use Rattle.std.specs.Prelude.{map, slice_get, slice_set, bytes_eq}
 use Rattle.std.specs.Option.{option_map}
 use Rattle.std.proofs.lemmas.List.{length-append, length-map}
 use Rattle.std.proofs.lemmas.Option.{slice_get-map}
 use Rattle.std.proofs.lemmas.Slice.Eq.{bytes_eq-Decides}
-use Rattle.ob_base.specs.declared.schema.Shape.TheVariants.{Flat as FlatShape}
+use Rattle.ob_base.specs.declared.schema.Shape.{Shape}
+use Rattle.ob_base.specs.declared.schema.Shape.TheVariants.{Flat as FlatShape, Indexed}
 use Rattle.ob_base.specs.declared.schema.Table.{Table}
 use Rattle.ob_base.specs.Indexes.{by_shape}
 use Rattle.ob_base.specs.Stored.{Stored, headings_of, stored_at, stored_regions}
@@ -19,48 +20,97 @@ use Rattle.ob_vault.specs.Tied.{Ready}
 use Rattle.ob_vault.specs.Calls.{Lasts, none, one, two}
 use Rattle.ob_flat.specs.declared.flat.Flat.{Flat}
 use Rattle.ob_flat.specs.Flats.{IsFlat}
-use Rattle.ob_exec.specs.Engines.{flat_of, IsTable, IsTableRegion, IsBeside, AreTables, others_of, indexes_of, IsIndexIn}
+use Rattle.ob_exec.specs.Engines.{flat_of, IsAt, IsTable, IsTableRegion, IsBeside, AreTables, others_of, IsIndexAt, IsIndexIn, IsIndexOfTable, IsStashOf, IsTreeOf}
 use Rattle.ob_reopen.proofs.Lists.{got_last}
 
-no_get : (ts : List Table) (i : ℕ) (t : Table) → ts ≡ [] → slice_get ts i ≡ Some t → ⊥
-no_get [] zero t none is = absurd (cc is)
-no_get [] (suc i) t none is = absurd (cc is)
-no_get (x ∷ xs) i t none is = absurd (cc none)
+pub no_entry : {A : Type 0} (xs : List A) (i : ℕ) (x : A) → xs ≡ [] → slice_get xs i ≡ Some x → ⊥
+no_entry [] zero x none is = absurd (cc is)
+no_entry [] (suc i) x none is = absurd (cc is)
+no_entry (y ∷ ys) i x none is = absurd (cc none)
 
--- stands in for: a table that a statement moves or drops is no index
-pub no_index : (closing : Option ℕ) (k : ℕ) (x : Index) → slice_get (indexes_of closing) k ≡ Some x → ⊥
-unfolding indexes_of
-no_index closing zero x is = absurd (cc is)
-no_index closing (suc k) x is = absurd (cc is)
+-- without an index, only the closing is none of a table
+pub no_stash : (indexes : List Index) (q : ℕ) → indexes ≡ [] → IsStashOf indexes q → ⊥
+no_stash indexes q none of = no_entry indexes of.place of.index none of.get
 
--- no table, and no region
-pub no_tables : (pack : ℕ) (w : World) (ts : List Table) → ts ≡ [] → ((q : ℕ) → w.vault.revs.live q ≡ None) → AreTables ts (others_of None) (indexes_of None) pack w
+-- no table, no index, and no region
+pub no_tables : (pack : ℕ) (w : World) (ts : List Table) (indexes : List Index) → ts ≡ [] → indexes ≡ [] → ((q : ℕ) → w.vault.revs.live q ≡ None) → AreTables ts (others_of None indexes) indexes pack w
 unfolding others_of
-no_tables pack w ts none empty = record {
-  stand = λ k x is. absurd (no_index None k x is);
-  each = λ i t is. absurd (no_get ts i t none is);
+no_tables pack w ts indexes none unindexed empty = record {
+  each = λ i t is. absurd (no_entry ts i t none is);
   few = let long = ap length none in omega (arith, long);
-  apart = λ i j t u is. absurd (no_get ts i t none is);
-  names = λ i j t u is. absurd (no_get ts i t none is);
-  beside = λ q is. absurd (cc is);
+  apart = λ i j t u is. absurd (no_entry ts i t none is);
+  names = λ i j t u is. absurd (no_entry ts i t none is);
+  beside = λ q is. elim is [ inl closed ↦ absurd (cc closed) | inr of ↦ absurd (no_stash indexes q unindexed of) ];
   only = λ q shape live. absurd (cc (live, empty q));
+  stand = λ k x is. absurd (no_entry indexes k x unindexed is);
+  has = λ i t is. absurd (no_entry ts i t none is);
+  one = λ k l x y is. absurd (no_entry indexes k x unindexed is);
 }
 
--- ---- each of them is flat
+-- what stands at a place of a list, whatever it has elsewhere
+pub got_or : {A : Type 0} (xs : List A) (i : ℕ) (x d : A) → slice_get xs i ≡ Some x → get_or xs i d ≡ x
+got_or [] zero x d is = absurd (cc is)
+got_or [] (suc i) x d is = absurd (cc is)
+got_or (y ∷ ys) zero x d is = cc is
+got_or (y ∷ ys) (suc i) x d is = got_or ys i x d is
+
+-- ---- tables of which each is flat
 each_flat : (ts : List Table) → ((i : ℕ) (t : Table) → slice_get ts i ≡ Some t → t.heading.shape ≡ FlatShape) → AreFlat (headings_of ts)
 each_flat [] each = tt
 each_flat (t ∷ ts) each = (each 0 t refl, each_flat ts (λ i u is. each (suc i) u is))
 
-pub tables_flat : {ts : List Table} {other : ℕ → Type 0} {indexes : List Index} {pack : ℕ} {w : World} → AreTables ts other indexes pack w → AreFlat (headings_of ts)
-tables_flat {ts} tables = each_flat ts (λ i t is. (tables.each i t is).heading.stored.flat)
+pub flat_each : (ts : List Table) → AreFlat (headings_of ts) → (i : ℕ) (t : Table) → slice_get ts i ≡ Some t → t.heading.shape ≡ FlatShape
+flat_each [] flat zero t is = absurd (cc is)
+flat_each [] flat (suc i) t is = absurd (cc is)
+flat_each (u ∷ ts) flat zero t is = let same : u ≡ t = cc is in subst (λ (v : Table). v.heading.shape ≡ FlatShape) same flat.0
+flat_each (u ∷ ts) flat (suc i) t is = flat_each ts flat.1 i t is
 
--- so that the one of a name that a statement changes lies in another region
+-- as they are without an index
+pub tables_flat : {ts : List Table} {other : ℕ → Type 0} {indexes : List Index} {pack : ℕ} {w : World} → indexes ≡ [] → AreTables ts other indexes pack w → AreFlat (headings_of ts)
+tables_flat {ts} {other} {indexes} none tables = each_flat ts (λ i t is. shaped t.heading.shape refl (tables.has i t is))
+  where
+    shaped : {region : ℕ} (shape : Shape) → {now : Shape} → now ≡ shape → (now ≡ Indexed → IsTreeOf indexes region) → now ≡ FlatShape
+    shaped FlatShape is has = is
+    shaped Indexed is has = let of = has is in absurd (no_entry indexes of.place of.index none of.get)
+
+-- an index whose tree lies in the region of a table is that of the table
+pub index_of_table : {ts : List Table} {other : ℕ → Type 0} {indexes : List Index} {pack : ℕ} {w : World} → AreTables ts other indexes pack w → (i : ℕ) (t : Table) → slice_get ts i ≡ Some t
+    → (k : ℕ) (x : Index) → slice_get indexes k ≡ Some x → x.tree ≡ t.region → IsIndexOfTable t x
+index_of_table tables i t at k x get tree =
+    let here = tables.stand k x get in
+    let same : here.place ≡ i = tables.apart here.place i here.table t here.get at (sym here.of.tree ∙ tree) in
+    let one_table : here.table ≡ t = cc (here.get, at, same) in
+    subst (λ (u : Table). IsIndexOfTable u x) one_table here.of
+
+pub index_at : {ts : List Table} {other : ℕ → Type 0} {indexes : List Index} {pack : ℕ} {w : World} → AreTables ts other indexes pack w → (name : List ℕ) (i : ℕ) (t : Table) → IsAt name i t ts
+    → (k : ℕ) (x : Index) → slice_get indexes k ≡ Some x → x.tree ≡ t.region → IsIndexAt name i k ts indexes
+index_at tables name i t at k x get tree = record {
+  table = t;
+  index = x;
+  here = record { get = at.get; named = at.named };
+  get = get;
+  of = index_of_table tables i t at.get k x get tree;
+}
+
+-- ---- by the shape of the one of a name
+-- the one of a name that a statement changes lies in another region, where none of that name is an index
 abbrev pub shifted : List ℕ → ℕ → List Table → List Table
 shifted name region ts = map (λ (t : Table). if bytes_eq t.heading.name name then record t { region = region } else t) ts
 
-pub shifted_is : (name : List ℕ) (g : ℕ) (ts : List Table) → AreFlat (headings_of ts) → moved name g ts ≡ shifted name g ts
+-- tables of which none of a name is an index
+abbrev pub NamedFlat : List ℕ → List Table → Type 0
+NamedFlat name ts = (i : ℕ) (t : Table) → slice_get ts i ≡ Some t → t.heading.name ≡ name → t.heading.shape ≡ FlatShape
+
+shift_head : (g : ℕ) (t : Table) (b : Bool) → (b ≡ true → t.heading.shape ≡ FlatShape) → (if b then by_shape t.heading.shape (record t { region = g }) t else t) ≡ (if b then record t { region = g } else t)
+shift_head g t true flat = ap (λ (shape : Shape). by_shape shape (record t { region = g }) t) (flat refl)
+shift_head g t false flat = refl
+
+pub shifted_is : (name : List ℕ) (g : ℕ) (ts : List Table) → NamedFlat name ts → moved name g ts ≡ shifted name g ts
 shifted_is name g [] flat = refl
-shifted_is name g (t ∷ ts) flat = λ i. (if bytes_eq t.heading.name name then by_shape (flat.0 i) (record t { region = g }) t else t) ∷ shifted_is name g ts flat.1 i
+shifted_is name g (t ∷ ts) flat =
+    let first = shift_head g t (bytes_eq t.heading.name name) (λ hit. flat 0 t refl ((bytes_eq-Decides t.heading.name name).0 hit)) in
+    let rest = shifted_is name g ts (λ i u is. flat (suc i) u is) in
+    λ i. first i ∷ rest i
 
 -- a table whose region has not changed
 pub flat_kept : (some : ℕ → Type 0) (pack : ℕ) (flat : Flat) (old new : World) → Lasts some old new → (some flat.region → ⊥) → IsFlat pack flat old → IsFlat pack flat new
@@ -80,13 +130,16 @@ pub table_kept : (some : ℕ → Type 0) (pack : ℕ) (t : Table) (old new : Wor
 table_kept some pack t old new lasts apart is = record {
   heading = is.heading;
   least = is.least;
-  flat = flat_kept some pack (flat_of t) old new lasts apart is.flat;
-  round = record { live = lasts.apart.live t.region apart ∙ is.round.live };
+  live = record { shape = is.live.shape; lives = record { live = lasts.apart.live t.region apart ∙ is.live.lives.live } };
+  written = λ shape. let was = is.written shape in record {
+    flat = flat_kept some pack (flat_of t) old new lasts apart was.flat;
+    round = record { live = lasts.apart.live t.region apart ∙ was.round.live };
+  };
 }
 
 -- the region of a table is below the next
 pub region_below : (pack i : ℕ) (ts : List Table) {other : ℕ → Type 0} {indexes : List Index} (t : Table) (w : World) → Ready w → AreTables ts other indexes pack w → slice_get ts i ≡ Some t → t.region < w.vault.next
-region_below pack i ts t w ready tables is = ready.below t.region _ (tables.each i t is).flat.made.lives.live
+region_below pack i ts t w ready tables is = ready.below t.region _ (tables.each i t is).live.lives.live
 
 -- so is that of a closing
 pub beside_below : (pack : ℕ) (ts : List Table) (other : ℕ → Type 0) {indexes : List Index} (q : ℕ) (w : World) → Ready w → AreTables ts other indexes pack w → other q → q < w.vault.next
@@ -108,10 +161,15 @@ pub tables_kept : (some : ℕ → Type 0) (pack : ℕ) (ts : List Table) (other 
     → AreTables ts other indexes pack old → AreTables ts other indexes pack new
 tables_kept some pack ts other indexes old new lasts apart off gone tables = record {
   stand = λ k x is. let at = tables.stand k x is in record {
-    tree = at.tree;
-    stash = at.stash;
-    stands = index_kept some old new lasts x (λ hit. apart at.tree.place at.tree.table at.tree.get (subst some (sym at.tree.region) hit)) (off x.stash at.stash) at.stands;
+    place = at.place;
+    table = at.table;
+    get = at.get;
+    of = at.of;
+    beside = at.beside;
+    stands = index_kept some old new lasts x (λ hit. apart at.place at.table at.get (subst some at.of.tree hit)) (off x.stash at.beside) at.stands;
   };
+  has = tables.has;
+  one = tables.one;
   each = λ i t is. table_kept some pack t old new lasts (apart i t is) (tables.each i t is);
   few = tables.few;
   apart = tables.apart;
@@ -134,15 +192,32 @@ get_front [] x y (suc i) is = absurd (cc is)
 get_front (z ∷ xs) x y zero is = is
 get_front (z ∷ xs) x y (suc i) is = get_front xs x y i is
 
-module _ (pack g : ℕ) (ts : List Table) (other : ℕ → Type 0) (indexes : List Index) (new_table : Table) (old new : World) (lasts : Lasts (one g) old new) (ready : Ready old) (next : g ≡ old.vault.next)
+-- its region, the next, and maybe one more behind it were made, and what stands beside the tables then
+pub record Beyond (ts : List Table) (other after : ℕ → Type 0) (indexes more : List Index) (new_table : Table) (new : World) : Type 0 where
+  pub keeps : (q : ℕ) → other q → after q
+  pub beside : (q : ℕ) → after q → other q ⊎ IsBeside (ts ++ new_table ∷ []) q new
+  pub stand : (k : ℕ) (x : Index) → slice_get more k ≡ Some x → (slice_get indexes k ≡ Some x) ⊎ IsIndexIn (ts ++ new_table ∷ []) after x new
+  pub has : (q : ℕ) → IsTreeOf indexes q → IsTreeOf more q
+  pub new_has : new_table.heading.shape ≡ Indexed → IsTreeOf more new_table.region
+  pub one : (k l : ℕ) (x y : Index) → slice_get more k ≡ Some x → slice_get more l ≡ Some y → x.tree ≡ y.tree → k ≡ l
+
+module _ (pack g : ℕ) (some : ℕ → Type 0) (ts : List Table) (other after : ℕ → Type 0) (indexes more : List Index) (new_table : Table) (old new : World) (lasts : Lasts some old new) (ready : Ready old)
+    (next : g ≡ old.vault.next) (above : (q : ℕ) → some q → g ≤ q)
     (tables : AreTables ts other indexes pack old) (room : length ts < 64) (fresh : new_table.region ≡ g) (is_table : IsTable pack new_table new)
-    (unnamed : (i : ℕ) (t : Table) → slice_get ts i ≡ Some t → t.heading.name ≡ new_table.heading.name → ⊥) where
+    (unnamed : (i : ℕ) (t : Table) → slice_get ts i ≡ Some t → t.heading.name ≡ new_table.heading.name → ⊥)
+    (beyond : Beyond ts other after indexes more new_table new) where
   below : (i : ℕ) (t : Table) → slice_get ts i ≡ Some t → t.region < g
   below i t is = let less = region_below pack i ts t old ready tables is in omega (arith, less, next)
 
+  apart_new : (i : ℕ) (t : Table) → slice_get ts i ≡ Some t → some t.region → ⊥
+  apart_new i t is hit = let high = above t.region hit in let low = below i t is in omega (arith, high, low)
+
+  apart_beside : (q : ℕ) → other q → some q → ⊥
+  apart_beside q is hit = let high = above q hit in let low = beside_below pack ts other q old ready tables is in omega (arith, high, low, next)
+
   added_each : (i : ℕ) (t : Table) → slice_get (ts ++ new_table ∷ []) i ≡ Some t → IsTable pack t new
   added_each i t is = elim (get_more ts new_table t i is) [
-    | inl here ↦ table_kept (one g) pack t old new lasts (λ same. omega (arith, below i t here, same)) (tables.each i t here)
+    | inl here ↦ table_kept some pack t old new lasts (apart_new i t here) (tables.each i t here)
     | inr last ↦ subst (λ (u : Table). IsTable pack u new) (sym last.1) is_table
   ]
 
@@ -173,43 +248,67 @@ module _ (pack g : ℕ) (ts : List Table) (other : ℕ → Type 0) (indexes : Li
   added_few : length (ts ++ new_table ∷ []) ≤ 64
   added_few = let long = length-append ts (new_table ∷ []) in omega (arith, long, room)
 
-  added_beside : (q : ℕ) → other q → IsBeside (ts ++ new_table ∷ []) q new
-  added_beside q is =
+  old_beside : (q : ℕ) → other q → IsBeside (ts ++ new_table ∷ []) q new
+  old_beside q is =
       let less = beside_below pack ts other q old ready tables is in
-      beside_kept (one g) ts (ts ++ new_table ∷ []) q old new lasts (λ same. omega (arith, less, next, same))
+      beside_kept some ts (ts ++ new_table ∷ []) q old new lasts (apart_beside q is)
       (λ of. elim (get_more ts new_table of.table of.place of.get) [
         | inl here ↦ record { place = of.place; table = of.table; get = here; region = of.region }
         | inr last ↦ absurd (omega (arith, less, next, of.region, ap (λ (x : Table). x.region) last.1, fresh))
       ]) (tables.beside q is)
 
-  added_only : (q : ℕ) (shape : Region) → new.vault.revs.live q ≡ Some shape → (q ≡ g) ⊎ (q ≡ g → ⊥) → IsTableRegion (ts ++ new_table ∷ []) q ⊎ other q
+  added_only : (q : ℕ) (shape : Region) → new.vault.revs.live q ≡ Some shape → (q ≡ g) ⊎ after q ⊎ (some q → ⊥) → IsTableRegion (ts ++ new_table ∷ []) q ⊎ after q
   added_only q shape live (inl here) = inl (record { place = length ts; table = new_table; get = got_last ts new_table; region = fresh ∙ sym here })
-  added_only q shape live (inr off) = elim (tables.only q shape (sym (lasts.apart.live q off) ∙ live)) [
+  added_only q shape live (inr (inl beside)) = inr beside
+  added_only q shape live (inr (inr off)) = elim (tables.only q shape (sym (lasts.apart.live q off) ∙ live)) [
     | inl of ↦ inl (record { place = of.place; table = of.table; get = get_front ts new_table of.table of.place of.get; region = of.region })
-    | inr closed ↦ inr closed
+    | inr was ↦ inr (beyond.keeps q was)
   ]
 
-  added_index : (k : ℕ) (x : Index) → slice_get indexes k ≡ Some x → IsIndexIn (ts ++ new_table ∷ []) other x new
-  added_index k x is =
+  old_index : (k : ℕ) (x : Index) → slice_get indexes k ≡ Some x → IsIndexIn (ts ++ new_table ∷ []) after x new
+  old_index k x is =
       let at = tables.stand k x is in
-      let less = below at.tree.place at.tree.table at.tree.get in
-      let under = beside_below pack ts other x.stash old ready tables at.stash in
       record {
-        tree = record { place = at.tree.place; table = at.tree.table; get = get_front ts new_table at.tree.table at.tree.place at.tree.get; region = at.tree.region };
-        stash = at.stash;
-        stands = index_kept (one g) old new lasts x (λ same. let region = at.tree.region in omega (arith, less, region, same)) (λ same. omega (arith, under, next, same)) at.stands;
+        place = at.place;
+        table = at.table;
+        get = get_front ts new_table at.table at.place at.get;
+        of = at.of;
+        beside = beyond.keeps x.stash at.beside;
+        stands = index_kept some old new lasts x (λ hit. apart_new at.place at.table at.get (subst some at.of.tree hit)) (apart_beside x.stash at.beside) at.stands;
       }
 
-  pub tables_added : ((q : ℕ) → (q ≡ g) ⊎ (q ≡ g → ⊥)) → AreTables (ts ++ new_table ∷ []) other indexes pack new
-  tables_added cases = record {
+  pub tables_more : ((q : ℕ) → (q ≡ g) ⊎ after q ⊎ (some q → ⊥)) → AreTables (ts ++ new_table ∷ []) after more pack new
+  tables_more cases = record {
     each = added_each;
     few = added_few;
     apart = added_apart;
     names = added_names;
-    beside = added_beside;
+    beside = λ q is. elim (beyond.beside q is) [ inl was ↦ old_beside q was | inr new_is ↦ new_is ];
     only = λ q shape live. added_only q shape live (cases q);
-    stand = added_index;
+    stand = λ k x is. elim (beyond.stand k x is) [ inl was ↦ old_index k x was | inr new_is ↦ new_is ];
+    has = λ i t is shape. elim (get_more ts new_table t i is) [
+      | inl here ↦ beyond.has t.region (tables.has i t here shape)
+      | inr last ↦ subst (λ (u : Table). IsTreeOf more u.region) (sym last.1) (beyond.new_has (sym (ap (λ (u : Table). u.heading.shape) last.1) ∙ shape))
+    ];
+    one = beyond.one;
   }
+
+-- one flat table more
+pub tables_added : (pack g : ℕ) (ts : List Table) (other : ℕ → Type 0) (indexes : List Index) (new_table : Table) (old new : World) → Lasts (one g) old new → Ready old → g ≡ old.vault.next
+    → AreTables ts other indexes pack old → length ts < 64 → new_table.region ≡ g → new_table.heading.shape ≡ FlatShape → IsTable pack new_table new
+    → ((i : ℕ) (t : Table) → slice_get ts i ≡ Some t → t.heading.name ≡ new_table.heading.name → ⊥)
+    → ((q : ℕ) → (q ≡ g) ⊎ (q ≡ g → ⊥)) → AreTables (ts ++ new_table ∷ []) other indexes pack new
+tables_added pack g ts other indexes new_table old new lasts ready next tables room fresh flat is_table unnamed cases =
+    tables_more pack g (one g) ts other other indexes indexes new_table old new lasts ready next (λ q same. omega (arith, same)) tables room fresh is_table unnamed
+    (record {
+      keeps = λ q is. is;
+      beside = λ q is. inl is;
+      stand = λ k x is. inl is;
+      has = λ q of. of;
+      new_has = λ shape. absurd (cc (flat, shape));
+      one = tables.one;
+    })
+    (λ q. elim (cases q) [ inl here ↦ inl here | inr off ↦ inr (inr off) ])
 
 -- ---- a table that lies in another region
 -- the test of a name
@@ -218,9 +317,8 @@ named a b is = (bytes_eq-Decides a b).0 is
 
 module _ (pack g r : ℕ) (name : List ℕ) (ts : List Table) (other : ℕ → Type 0) (indexes : List Index) (t : Table) (i : ℕ) (old new : World) (lasts : Lasts (two r g) old new) (ready : Ready old) (next : g ≡ old.vault.next)
     (tables : AreTables ts other indexes pack old) (at_i : slice_get ts i ≡ Some t) (name_is : t.heading.name ≡ name) (region_is : t.region ≡ r)
-    (is_table : IsTable pack (record t { region = g }) new)
-    (gone : (shape : Region) → new.vault.revs.live r ≡ Some shape → ⊥)
-    (unindexed : (k : ℕ) (x : Index) → slice_get indexes k ≡ Some x → x.tree ≡ r → ⊥) where
+    (flat : t.heading.shape ≡ FlatShape) (is_table : IsTable pack (record t { region = g }) new)
+    (gone : (shape : Region) → new.vault.revs.live r ≡ Some shape → ⊥) where
   -- what stands at a place of the moved tables: the one that was moved, or another, as it was
   data MovedAt (j : ℕ) (u : Table) : Type 0 where
     this : (at : j ≡ i) → (is : u ≡ record t { region = g }) → MovedAt j u
@@ -333,27 +431,40 @@ module _ (pack g r : ℕ) (name : List ℕ) (ts : List Table) (other : ℕ → T
     ]
   ]
 
+  -- an index is another table's
+  not_this : (j : ℕ) (u : Table) → slice_get ts j ≡ Some u → u.heading.shape ≡ Indexed → j ≡ i → ⊥
+  not_this j u was shape same = let one_table : u ≡ t = cc (was, at_i, same) in absurd (cc (one_table, shape, flat))
+
   moved_index : (k : ℕ) (x : Index) → slice_get indexes k ≡ Some x → IsIndexIn (shifted name g ts) other x new
   moved_index k x is =
       let at = tables.stand k x is in
-      let less = moved_below at.tree.place at.tree.table at.tree.get in
-      let under = beside_below pack ts other x.stash old ready tables at.stash in
-      let beside = tables.beside x.stash at.stash in
+      let off = not_this at.place at.table at.get at.of.indexed in
+      let less = moved_below at.place at.table at.get in
+      let under = beside_below pack ts other x.stash old ready tables at.beside in
+      let beside = tables.beside x.stash at.beside in
+      let tree = at.of.tree in
       record {
-        tree = record {
-          place = at.tree.place;
-          table = at.tree.table;
-          get = get_that at.tree.place at.tree.table at.tree.get (in_old x.tree (unindexed k x is) at.tree.place at.tree.table at.tree.get at.tree.region);
-          region = at.tree.region;
-        };
-        stash = at.stash;
+        place = at.place;
+        table = at.table;
+        get = get_that at.place at.table at.get off;
+        of = at.of;
+        beside = at.beside;
         stands = index_kept (two r g) old new lasts x
-            (λ hit. elim hit [ inl same ↦ unindexed k x is same | inr same ↦ let region = at.tree.region in omega (arith, less, region, same) ])
+            (λ hit. elim hit [
+              | inl same ↦ off (tables.apart at.place i at.table t at.get at_i (sym tree ∙ same ∙ sym region_is))
+              | inr same ↦ omega (arith, less, tree, same)
+            ])
             (λ hit. elim hit [
               | inl same ↦ beside.off (record { place = i; table = t; get = at_i; region = region_is ∙ sym same })
               | inr same ↦ omega (arith, under, next, same)
             ]) at.stands;
       }
+
+  moved_has : (j : ℕ) (u : Table) → slice_get (shifted name g ts) j ≡ Some u → u.heading.shape ≡ Indexed → IsTreeOf indexes u.region
+  moved_has j u is shape = elim (moved_at j u is) [
+    | this at end ↦ absurd (cc (ap (λ (x : Table). x.heading.shape) end, shape, flat))
+    | that off was ↦ tables.has j u was shape
+  ]
 
   pub tables_moved : ((q x : ℕ) → (q ≡ x) ⊎ (q ≡ x → ⊥)) → AreTables (shifted name g ts) other indexes pack new
   tables_moved cases = record {
@@ -364,6 +475,8 @@ module _ (pack g r : ℕ) (name : List ℕ) (ts : List Table) (other : ℕ → T
     beside = moved_beside;
     only = moved_only cases;
     stand = moved_index;
+    has = moved_has;
+    one = tables.one;
   }
 
 -- ---- a table by its name

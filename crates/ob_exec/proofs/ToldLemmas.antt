@@ -20,9 +20,10 @@ use Rattle.ob_sql.specs.declared.stmt.Stmt.{Stmt}
 use Rattle.ob_base.specs.Stored.{headings_of}
 use Rattle.ob_mean.specs.Refusals.{first_holding, early_conditions, early_refusal, limits_of}
 use Rattle.ob_mean.specs.Step.{answered, followed}
-use Rattle.ob_mean.proofs.FlatLemmas.{no_access}
 use Rattle.ob_mean.proofs.VerdictLemmas.{seen_flat}
-use Rattle.ob_mean.specs.Flats.{AreFlat}
+use Rattle.ob_mean.specs.Replay.{is_access}
+use Rattle.ob_oram.specs.declared.index.Index.{Index}
+use Rattle.ob_sql.specs.Skeleton.{skeleton}
 use Rattle.ob_mean.proofs.EarlyLemmas.{allowed}
 use Rattle.ob_mean.specs.Replay.{done_of, cut_at, count_end, walk_end}
 use Rattle.ob_mean.specs.Verdict.{Draws, Tables, is_late, seen, seen_started, ended as seen_to}
@@ -35,7 +36,7 @@ use Rattle.ob_base.specs.Refusals.{is_store_fault}
 use Rattle.ob_exec.specs.Running.{answer_of, is_fault, RefusedEarly, IsSilent}
 use Rattle.ob_verdict.specs.Outcomes.{refusal_now, by_fault}
 use Rattle.ob_exec.specs.Telling.{AreHeld}
-use Rattle.ob_exec.proofs.HeldLemmas.{held_flat, held_headings}
+use Rattle.ob_exec.proofs.HeldLemmas.{held_headings, held_plain}
 use Rattle.ob_exec.proofs.RunLemmas.{of_other, IsAnswered, IsEarly, early_few}
 use Rattle.ob_select.proofs.SelectHeld.{held_empty}
 
@@ -44,16 +45,16 @@ followed_same None tables = refl
 followed_same (Some r) tables = refl
 
 -- the refusal by what is public is that by the tables in place
-pub early_held : (p : Public) (m : ℕ) (stmt : Stmt) (tables : Tables) (w : World) (o : Option Refusal) → AreHeld p.pack p.tables tables w → refusal_now p m stmt ≡ o
+pub early_held : (p : Public) (m : ℕ) (stmt : Stmt) (tables : Tables) (indexes : List Index) (w : World) (o : Option Refusal) → AreHeld p.pack indexes p.tables tables w → refusal_now p m stmt ≡ o
     → early_refusal (is_late m) (limits_of p) (headings tables) stmt ≡ o
-early_held p m stmt tables w o held now =
-    ap (λ (hs : List Heading). early_refusal (is_late m) (limits_of p) hs stmt) (held_headings p.pack p.tables tables w held) ∙ now
+early_held p m stmt tables indexes w o held now =
+    ap (λ (hs : List Heading). early_refusal (is_late m) (limits_of p) hs stmt) (held_headings p.pack indexes p.tables tables w held) ∙ now
 
 -- a statement that is not refused before any access
 module _ (p : Public) (m : ℕ) (stmt : Stmt) (now : refusal_now p m stmt ≡ None) where
-  pub started_seen : (tables : Tables) (d : Draws) (w : World) → AreFlat (headings_of p.tables) → AreHeld p.pack p.tables tables w → seen d p m tables stmt ≡ seen_started p tables stmt
-  started_seen tables d w flat held =
-      seen_flat p m tables stmt (early_held p m stmt tables w None held now) d (no_access tables stmt (held_flat p.pack p.tables tables w held flat))
+  pub started_seen : (tables : Tables) (d : Draws) (indexes : List Index) (w : World) → is_access p (skeleton stmt) ≡ false → AreHeld p.pack indexes p.tables tables w → seen d p m tables stmt ≡ seen_started p tables stmt
+  started_seen tables d indexes w none held =
+      seen_flat p m tables stmt (early_held p m stmt tables indexes w None held now) d (held_plain p indexes tables w stmt held none)
 
   pub few_asked : (n : ℕ) → n ≡ m → n < 9799832789158199296
   few_asked n same = early_few m n (allowed (is_late m) (limits_of p) (headings_of p.tables) stmt now).early same

@@ -58,15 +58,18 @@ use Rattle.ob_exec.specs.Engines.{IsAt, flat_of}
 use Rattle.ob_exec.specs.Running.{SinkStops, answer_of, is_stop}
 use Rattle.ob_verdict.specs.Outcomes.{refusal_now, outcome_of, Emits, Partly}
 use Rattle.ob_select.specs.Selecting.{UsesRoom}
-use Rattle.ob_exec.specs.Serving.{EndsWithin, Serves, Stopped}
+use Rattle.ob_exec.specs.Serving.{StopsEmission, Serves, Stopped}
 use Rattle.ob_select.specs.Memory.{HasHalted}
 use Rattle.ob_exec.proofs.BegunLemmas.{begun_plain}
 use Rattle.ob_exec.specs.Telling.{AreHeld, Represents, IsNotTampered, answer_labels, is_refused}
 use Rattle.ob_exec.specs.Totalling.{IsTotalled, MayTotal, Totals, TotalsFit, ends_by, labels_at, totalled_answer}
-use Rattle.ob_exec.proofs.FoundLemmas.{heading_found}
-use Rattle.ob_exec.proofs.HeldLemmas.{Beside, held_at, held_flat}
-use Rattle.ob_exec.proofs.TableLemmas.{tables_flat}
-use Rattle.ob_mean.proofs.FlatLemmas.{settle_is}
+use Rattle.ob_exec.proofs.FoundLemmas.{heading_found, shape_found}
+use Rattle.ob_exec.proofs.HeldLemmas.{Beside, held_at}
+use Rattle.ob_exec.proofs.PlainLemmas.{none_room, none_stops, pass_stops, settle_is}
+use Rattle.ob_base.specs.declared.schema.Shape.TheVariants.{Flat as FlatShape}
+use Rattle.ob_mean.specs.Replay.{has_index}
+use Rattle.ob_verdict.proofs.NamesFlatProof.{names_flat}
+use Rattle.std.proofs.lemmas.List.Elements.{All-head}
 use Rattle.ob_exec.proofs.LawfulLemmas.{lawful_now}
 use Rattle.ob_exec.proofs.ReadLemmas.{cut_after, held_read, read_cut, read_done, read_flat, read_size, reads, reads_is, went_all}
 use Rattle.ob_exec.proofs.RunLemmas.{IsAnswered, engine_after, ran_no_room, only_memory}
@@ -109,7 +112,7 @@ if_failed P OpErrs.Sink h = tt
 if_failed P OpErrs.NoMemory h = tt
 
 on_stop : {E : Type 0} (grew cut : E → E → List Event → Type 0) (P : RunStop → Type 0) (events : List Event) (a b : E) → grew a a [] → (e : OpErr) → Leads grew (ends_by grew cut e) a b events
-    → ((stop : RunStop) → EndsWithin grew cut stop a b events → P stop) → IfErr (answer_of e) P
+    → ((stop : RunStop) → StopsEmission grew cut stop a b events → P stop) → IfErr (answer_of e) P
 on_stop grew cut P events a b starts OpErrs.Failed leads h = tt
 on_stop grew cut P events a b starts (OpErrs.Tampered q x) leads h = h (Stops.Tampered q x) (leads a [] starts)
 on_stop grew cut P events a b starts OpErrs.Sink leads h = h Stops.SinkFault (leads a [] starts)
@@ -168,8 +171,14 @@ module _ {R E : Type 0} (state : R → RevState) (grew cut : E → E → List Ev
       ap (λ (c : Columns). labels_at c q)
       (ap (λ (o : Option Heading). option_map_or (λ (h : Heading). h.schema) o []) (heading_found q.table old.public.tables i table agrees.tables.names here.get here.named))
 
+  -- its table is flat
+  shape : table.heading.shape ≡ FlatShape
+  shape =
+      shape_found q.table old.public.tables i table agrees.tables.names here.get here.named
+      (All-head (λ (name : List ℕ). has_index old.public name ≡ false) q.table [] (names_flat old.public (is_late (count_of old s)) (limits_of old.public) stmt allowed refl))
+
   beside : (tables : Tables) → Represents state old s tables → Beside old.public.pack q.table table tables (world_of state old s)
-  beside tables held = held_at old.public.pack q.table old.public.tables tables i table (world_of state old s) agrees.tables.names held.held here.get here.named
+  beside tables held = held_at old.public.pack old.indexes.items q.table old.public.tables tables i table (world_of state old s) agrees.tables.names held.held here.get here.named shape
 
   before : (tables : Tables) (held : Represents state old s tables) → FlatRepresents old.room.pack (flat_of table) (beside tables held).table.held.slots was
   before tables held =
@@ -179,15 +188,15 @@ module _ {R E : Type 0} (state : R → RevState) (grew cut : E → E → List Ev
   verdict_at : (tables : Tables) (held : Represents state old s tables) → verdict old.public (count_of old s) tables stmt ≡ totalled_answer places cs q (beside tables held).table.held.slots
   verdict_at tables held =
       let x = beside tables held in
-      verdict_is old.public (count_of old s) tables q x.table (early_held old.public (count_of old s) stmt tables (world_of state old s) None held.held allowed) x.found
+      verdict_is old.public (count_of old s) tables q x.table (early_held old.public (count_of old s) stmt tables old.indexes.items (world_of state old s) None held.held allowed) x.found
       ∙ (λ j. totalled_answer (buffered (sym agrees.room.pack j) (sym agrees.room.rows j)) (x.heading j).schema q x.table.held.slots)
 
   seen_whole : (tables : Tables) (d : Draws) → Represents state old s tables → seen d old.public (count_of old s) tables stmt ≡ seen_to Whole
-  seen_whole tables d held = started_seen old.public (count_of old s) stmt allowed tables d (world_of state old s) (tables_flat agrees.tables) held.held
+  seen_whole tables d held = started_seen old.public (count_of old s) stmt allowed tables d old.indexes.items (world_of state old s) refl held.held
 
   settled_at : (tables : Tables) (d : Draws) → Represents state old s tables → settle d old.public (count_of old s) tables stmt ≡ tables
   settled_at tables d held =
-      settle_is old.public tables stmt (held_flat old.public.pack old.public.tables tables (world_of state old s) held.held (tables_flat agrees.tables)) d (count_of old s)
+      settle_is old.public tables stmt refl d (count_of old s)
       ∙ followed_same (refusal old.public (count_of old s) tables stmt) tables
 
   -- what its pass asks, once the store has room
@@ -207,8 +216,8 @@ module _ {R E : Type 0} (state : R → RevState) (grew cut : E → E → List Ev
         few = omega (arith, most, rows_are);
         idle = agrees.room.idle;
         spare = record { ready = (went_rests _ s s1 rests none agrees.ready).lasts.ready; spare = omega (arith, spare, blocks, blocks_are) };
-        written = read_flat state old s s1 i table agrees rests here.get flat flat_is;
-        size = read_size state old s s1 i table agrees rests here.get flat flat_is;
+        written = read_flat state old s s1 i table agrees rests here.get shape flat flat_is;
+        size = read_size state old s s1 i table agrees rests here.get shape flat flat_is;
         meant = meant;
         items = subst (λ (columns : Columns). TotalsFit columns q) columns_are (totals_fit (is_late (count_of old s)) (limits_of old.public) (headings_of old.public.tables) q allowed);
       }
@@ -232,10 +241,12 @@ module _ {R E : Type 0} (state : R → RevState) (grew cut : E → E → List Ev
         sink = refl;
         emits = λ is. tt;
         means = record {
-          told = λ tables d reads. tt;
+          told = λ tables d of reads. tt;
+          room = λ tables d of reads. tt;
           honest = λ tables reads. refl;
-          held = λ tables d reads. cut_seen false old.public (skeleton stmt) 0 _ _ (seen_whole tables d reads.held) (omega (arith, same));
-          begun = λ tables d reads. begun_plain state stmt (Err Stops.NoMemory) old s new s1 tables d refl refl ran (seen_whole tables d reads.held) reads.nolie;
+          held = λ tables d of reads. cut_seen false old.public (skeleton stmt) 0 _ _ (seen_whole tables d reads.held) (omega (arith, same));
+          full = λ tables d of reads. none_stops old.public tables stmt refl d (count_of old s) _ Stops.NoMemory tt;
+          begun = λ tables d of reads. begun_plain state stmt (Err Stops.NoMemory) old s new s1 tables d refl refl ran (seen_whole tables d reads.held) reads.nolie;
         };
       }
 
@@ -247,7 +258,7 @@ module _ {R E : Type 0} (state : R → RevState) (grew cut : E → E → List Ev
     ended_with : (tables : Tables) (held : Represents state old s tables) → t.lie ≡ None → SlotsToEnd old.room.pack (flat_of table) was now
     ended_with tables held nolie = record { slots = (beside tables held).table.held.slots; is = before tables held; nolie = nolie }
 
-    still_held : (tables : Tables) → Represents state old s tables → Lasts none (world_of state old s) now → AreHeld old.public.pack old.public.tables tables now
+    still_held : (tables : Tables) → Represents state old s tables → Lasts none (world_of state old s) now → AreHeld old.public.pack old.indexes.items old.public.tables tables now
     still_held tables held lasts = held_read state old s s1 v room t q.table (flat_map named_by q.items) q.group i table agrees rests uses here tables held.held lasts
 
     -- it went to its end
@@ -280,15 +291,17 @@ module _ {R E : Type 0} (state : R → RevState) (grew cut : E → E → List Ev
           sink = totals.sink;
           emits = λ is. tt;
           means = record {
-            told = λ tables d reads.
+            told = λ tables d of reads.
                 told_whole outcome _ _ whole (record {
                   answer = totals.told (ended_with tables reads.held reads.nolie) ∙ ap (outcome_of stmt) (sym (verdict_at tables reads.held));
                   seen = sym (seen_whole tables d reads.held);
                   held = subst (λ (ts : Tables). Represents state new t ts) (sym (settled_at tables d reads.held)) (record { held = still_held tables reads.held went.lasts; in_place = reads.held.in_place });
                 });
+            room = λ tables d of reads. none_room old.public tables stmt refl d (count_of old s) (Ok outcome);
             honest = λ tables reads. tt;
-            held = λ tables d reads. tt;
-            begun = λ tables d reads. begun_plain state stmt (Ok outcome) old s new t tables d refl refl ran (seen_whole tables d reads.held) reads.nolie;
+            held = λ tables d of reads. tt;
+            full = λ tables d of reads. tt;
+            begun = λ tables d of reads. begun_plain state stmt (Ok outcome) old s new t tables d refl refl ran (seen_whole tables d reads.held) reads.nolie;
           };
         }
 
@@ -335,12 +348,15 @@ module _ {R E : Type 0} (state : R → RevState) (grew cut : E → E → List Ev
           sink = sink_of e (faults out_old) (faults out_new) totals.sink;
           emits = λ is. tt;
           means = record {
-            told = λ tables d reads. if_failed _ e (λ is. record {
+            told = λ tables d of reads. if_failed _ e (λ is. record {
+              unindexed = refl;
               seen = cut_seen true old.public (skeleton stmt) n _ _ (seen_whole tables d reads.held) count;
               held = record { held = still_held tables reads.held all.lasts; in_place = reads.held.in_place };
             });
+            room = λ tables d of reads. none_room old.public tables stmt refl d (count_of old s) (answer_of e);
             honest = λ tables reads. not_tampered e (totals.told (ended_with tables reads.held reads.nolie));
-            held = λ tables d reads. if_stop _ e (λ stop. cut_seen (is_refused stop) old.public (skeleton stmt) n _ _ (seen_whole tables d reads.held) count);
-            begun = λ tables d reads. begun_plain state stmt (answer_of e) old s new t tables d refl refl ran (seen_whole tables d reads.held) reads.nolie;
+            full = λ tables d of reads. pass_stops old.public tables stmt refl d (count_of old s) _ e;
+            held = λ tables d of reads. if_stop _ e (λ stop. cut_seen (is_refused stop) old.public (skeleton stmt) n _ _ (seen_whole tables d reads.held) count);
+            begun = λ tables d of reads. begun_plain state stmt (answer_of e) old s new t tables d refl refl ran (seen_whole tables d reads.held) reads.nolie;
           };
         }

@@ -1,6 +1,8 @@
 pub mod Stops
 pub mod Schemas
 pub mod Engines
+pub mod Indexed
+pub mod Leaves
 pub mod Refusals
 pub mod Agreeing
 pub mod Running

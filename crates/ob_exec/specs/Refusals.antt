@@ -1,7 +1,7 @@
 -- Refusals, and when they come.
 use Rattle.std.specs.Prelude.{◌≡◌, ℕ, false}
 use Rattle.ob_base.specs.declared.refusal.Refusal.{Refusal}
-use Rattle.ob_base.specs.declared.refusal.Refusal.TheVariants.{Duplicate, Full, TooManyGroups, NotConsecutive, Overflow, StoreFault, PadPassed}
+use Rattle.ob_base.specs.declared.refusal.Refusal.TheVariants.{Duplicate, Full, KeyRange, TooManyGroups, NotConsecutive, Overflow, StoreFault, PadPassed}
 use Rattle.ob_base.specs.declared.seen.End.{End}
 use Rattle.ob_base.specs.declared.seen.End.TheVariants.{Static, Whole, AfterCount, Cut}
 use Rattle.ob_base.specs.Refusals.{is_store_fault}
@@ -17,6 +17,7 @@ refused_end StoreFault n = Cut n
 refused_end NotConsecutive n = AfterCount
 refused_end Duplicate n = Whole
 refused_end Full n = Whole
+refused_end KeyRange n = Whole
 refused_end TooManyGroups n = Whole
 refused_end (Overflow i) n = Whole
 refused_end PadPassed n = Whole

@@ -1,9 +1,9 @@
 -- What opening an engine does, from what rests in a store.
-use Rattle.std.specs.Prelude.{◌≡◌, ◌⊎◌, ◌<◌, ◌≤◌, ℕ, Bool, false, IsTrue, List, None, Some, Result, IfOk, IfErr, MatchResult}
+use Rattle.std.specs.Prelude.{◌≡◌, ◌⊎◌, ◌<◌, ◌≤◌, ℕ, Bool, false, IsTrue, List, [], None, Some, Result, IfOk, IfErr, MatchResult}
 use Rattle.ob_base.specs.declared.config.Config.{Config}
 use Rattle.ob_base.specs.declared.mark.Mark.{Mark}
 use Rattle.ob_base.specs.declared.mark.Mark.TheVariants.{Fresh, InUse, Closed}
-use Rattle.ob_exec.specs.Agreeing.{Agrees, engine_keys, engine_start, has_ended, high_of, opened_from, public_of, rows_of, world_of}
+use Rattle.ob_exec.specs.Agreeing.{Agrees, AreDraws, engine_keys, engine_start, first_draws, has_ended, high_of, indexes_of, opened_from, public_of, rows_of, world_of}
 use Rattle.ob_reopen.specs.Resting.{AcceptsClosings, Rests}
 use Rattle.ob_select.specs.Selecting.{AcceptsRows}
 use Rattle.ob_exec.specs.Telling.{Represents}
@@ -38,6 +38,8 @@ pub record IsOpened {R : Type 0} (state : R → RevState) (config : Config) (key
   pub agrees : Agrees state e t
   pub public : public_of e ≡ opened_public config closing listed
   pub keyed : engine_keys e ≡ keys
+  pub drawn : AreDraws e (first_draws keys)
+  pub unindexed : indexes_of e ≡ []
   pub start : engine_start e ≡ opened_start closing listed
   pub from_closing : opened_from e ≡ Some closing.region
   pub alive : has_ended e ≡ false

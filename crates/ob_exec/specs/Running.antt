@@ -1,8 +1,8 @@
 -- What a statement does, whatever it is answered.
-use Rattle.std.specs.Prelude.{◌≡◌, ◌⊎◌, ◌-◌, ◌<◌, ℕ, Bool, true, false, ◌++◌, length, IsTrue, Result, Ok, Err, Option, Some, None}
+use Rattle.std.specs.Prelude.{◌≡◌, ◌⊎◌, ◌+◌, ◌-◌, ◌<◌, ℕ, Bool, true, false, ◌++◌, length, IsTrue, Result, Ok, Err, Option, Some, None}
 use Rattle.ob_base.specs.declared.refusal.Refusal.{Refusal}
 use Rattle.ob_exec.specs.declared.stop.RunStop.{RunStop}
-use Rattle.ob_exec.specs.declared.stop.RunStop.TheVariants.{Tampered, SinkFault, NoMemory}
+use Rattle.ob_exec.specs.declared.stop.RunStop.TheVariants.{Tampered, SinkFault, NoMemory, StoreFault, StashFull}
 use Rattle.ob_base.specs.declared.seen.Seen.{Seen}
 use Rattle.ob_base.specs.declared.seen.End.{End}
 use Rattle.ob_base.specs.declared.seen.End.TheVariants.{Static, Whole, Cut}
@@ -15,7 +15,11 @@ use Rattle.ob_vault.specs.State.{RevState, World}
 use Rattle.ob_vault.specs.Calls.{EndsRead}
 use Rattle.ob_vault.specs.Tied.{Calm, EndsAt}
 use Rattle.ob_script.specs.Script.{script}
-use Rattle.ob_mean.specs.Verdict.{ended as seen_to}
+use Rattle.ob_mean.specs.Lawful.{height_at}
+use Rattle.ob_mean.specs.Replay.{draws_taken}
+use Rattle.ob_mean.specs.Verdict.{Draws, ended as seen_to}
+use Rattle.ob_oram.specs.declared.fault.OramErr.{OramErr}
+use Rattle.ob_oram.specs.declared.fault.OramErr.TheVariants as OramErrs
 use Rattle.ob_script.specs.Trace.{next}
 use Rattle.ob_flat.specs.declared.fault.OpErr.{OpErr}
 use Rattle.ob_flat.specs.declared.fault.OpErr.TheVariants as OpErrs
@@ -24,9 +28,10 @@ use Rattle.ob_mutate.specs.declared.inserting.Inserted.TheVariants.{Done, Duplic
 use Rattle.ob_exec.specs.declared.engine.Engine.{Engine}
 use Rattle.ob_verdict.specs.declared.outcome.Outcome.{Outcome}
 use Rattle.ob_verdict.specs.declared.outcome.Outcome.TheVariants.{Inserted, Rows, Refused}
-use Rattle.ob_exec.specs.Agreeing.{Agrees, engine_start, opened_from, world_of}
+use Rattle.ob_exec.specs.Agreeing.{Agrees, AreDraws, engine_start, opened_from, world_of}
 use Rattle.ob_select.specs.Settings.{IsFree}
 use Rattle.ob_select.specs.Opening.{Opens}
+use Rattle.ob_exec.specs.Leaves.{MovesLeaves}
 use Rattle.ob_exec.specs.Refusals.{refused_end}
 use Rattle.ob_verdict.specs.Outcomes.{by_fault}
 
@@ -37,7 +42,13 @@ answer_of (OpErrs.Tampered region place) = Err (Tampered region place)
 answer_of OpErrs.Sink = Err SinkFault
 answer_of OpErrs.NoMemory = Err NoMemory
 
--- the answer to an INSERT
+-- the stop that an access of an index makes which gives up
+abbrev pub stop_of : OramErr → RunStop
+stop_of OramErrs.Failed = StoreFault
+stop_of (OramErrs.Tampered region place) = Tampered region place
+stop_of OramErrs.StashFull = StashFull
+
+-- the answer to an INSERT into a flat table
 abbrev pub inserted_as : InsertedAs → Outcome
 inserted_as Done = Inserted
 inserted_as Duplicate = Refused Refusal.Duplicate
@@ -75,6 +86,8 @@ RunCause (Ok outcome) old new =
 RunCause (Err (Tampered q x)) old new = (new.store.faults ≡ old.store.faults) × EndsRead q x new × (Calm old → Calm new ⊎ EndsAt q x new)
 RunCause (Err SinkFault) old new = (new.store.faults ≡ old.store.faults) × (Calm old → Calm new)
 RunCause (Err NoMemory) old new = (new.store.faults ≡ old.store.faults) × (Calm old → Calm new)
+RunCause (Err StoreFault) old new = Rises old.store.faults new.store.faults × (Calm old → Calm new)
+RunCause (Err StashFull) old new = (new.store.faults ≡ old.store.faults) × (Calm old → Calm new)
 
 -- the answer is that the store failed
 abbrev pub IsFaulted : Result Outcome RunStop → Type 0
@@ -87,6 +100,9 @@ pub record GoesOn {R : Type 0} (state : R → RevState) (skeleton : Skeleton) (o
   pub agrees : Agrees state new t
   pub public : new.public ≡ next old.public skeleton new.seen
   pub lives : new.ended ≡ false
+  -- it drew as many numbers as its statement does
+  pub drawn : (d : Draws) → AreDraws old d
+      → AreDraws new (record d { drawn = d.drawn + draws_taken old.public skeleton new.seen.end })
 
 abbrev pub Continues : {R : Type 0} → (R → RevState) → Skeleton → Result Outcome RunStop → Engine R → Engine R → StoreState → Type 0
 Continues state skeleton (Ok outcome) old new t = GoesOn state skeleton old new t
@@ -106,6 +122,8 @@ pub record RanStatement {R : Type 0} (state : R → RevState) (skeleton : Skelet
   pub cause : RunCause result (world_of state old s) (world_of state new t)
   pub room : IsFree old.public new.room
   pub opened : Opens (script old.public skeleton new.seen) old.room.high new.room.high
+  pub leaves : (d : Draws) → AreDraws old d → MovesLeaves d (draws_taken old.public skeleton new.seen.end)
+      (height_at old.public skeleton) old.indexes.items new.seen.leaf new.ended new.indexes.items
   pub goes_on : Continues state skeleton result old new t
 
 -- a stop by the sink comes only where a call of the emitter failed, and always where one did
@@ -114,6 +132,8 @@ SinkStops (Ok outcome) old new = new ≡ old
 SinkStops (Err SinkFault) old new = Rises old new
 SinkStops (Err (Tampered region place)) old new = new ≡ old
 SinkStops (Err NoMemory) old new = new ≡ old
+SinkStops (Err StoreFault) old new = new ≡ old
+SinkStops (Err StashFull) old new = new ≡ old
 
 -- an answer that is no rows
 abbrev pub HasNoRows : Outcome → Type 0
@@ -126,3 +146,5 @@ IsSilent (Ok outcome) = HasNoRows outcome
 IsSilent (Err SinkFault) = ⊥
 IsSilent (Err (Tampered region place)) = Unit {0}
 IsSilent (Err NoMemory) = Unit {0}
+IsSilent (Err StoreFault) = Unit {0}
+IsSilent (Err StashFull) = Unit {0}

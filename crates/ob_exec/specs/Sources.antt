@@ -7,6 +7,7 @@ use Rattle.ob_base.specs.declared.seen.Seen.{Seen}
 use Rattle.ob_base.specs.declared.skeleton.Skeleton.{Skeleton}
 use Rattle.ob_base.specs.Events.{Event, Close, Leads, IsEmitted}
 use Rattle.ob_base.specs.Stored.{headings_of}
+use Rattle.ob_oram.specs.declared.index.Index.{Index}
 use Rattle.ob_room.specs.RoomState.{RoomState}
 use Rattle.ob_row.specs.Slots.{Slots}
 use Rattle.ob_script.specs.Script.{whole_script}
@@ -64,7 +65,8 @@ rows_script p select seen = whole_script p (rows_skeleton select) seen
 pub record SourceToEnd (p : Public) (old new : World) : Type 0 where
   pub tells : IsTrue old.store.tells
   pub tables : Tables
-  pub held : AreHeld p.pack p.tables tables old
+  pub indexes : List Index
+  pub held : AreHeld p.pack indexes p.tables tables old
   pub in_place : AreInPlace p.stash tables
   pub nolie : new.store.lie ≡ None
 
@@ -72,7 +74,8 @@ pub record SourceToEnd (p : Public) (old new : World) : Type 0 where
 pub record SourceToHalt (p : Public) (old new : World) : Type 0 where
   pub tells : IsTrue old.store.tells
   pub tables : Tables
-  pub held : AreHeld p.pack p.tables tables old
+  pub indexes : List Index
+  pub held : AreHeld p.pack indexes p.tables tables old
   pub in_place : AreInPlace p.stash tables
   pub nolie : old.store.lie ≡ None
   pub unfit : IsUnfit new

@@ -2,10 +2,12 @@
 use Rattle.ob_base.specs.declared.refusal.Stop.{Stop}
 use Rattle.ob_base.specs.declared.refusal.Stop.TheVariants as Stops
 use Rattle.ob_exec.specs.declared.stop.RunStop.{RunStop}
-use Rattle.ob_exec.specs.declared.stop.RunStop.TheVariants.{Tampered, SinkFault, NoMemory}
+use Rattle.ob_exec.specs.declared.stop.RunStop.TheVariants.{Tampered, SinkFault, NoMemory, StoreFault, StashFull}
 
 -- the stop of the session that a stop of the engine makes
 abbrev pub session_stop : RunStop → Stop
 session_stop (Tampered region place) = Stops.Tampered region place
 session_stop SinkFault = Stops.SinkFault
 session_stop NoMemory = Stops.NoMemory
+session_stop StoreFault = Stops.StoreFault
+session_stop StashFull = Stops.StashFull

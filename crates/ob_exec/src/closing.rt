@@ -1,6 +1,8 @@
 //! What of an engine outlives its run.
 ghost use Rattle.std.specs.Prelude.{◌≡◌, ◌<◌, ◌≤◌, ◌+◌, ◌^◌, ◌||◌, ℕ, Some, nat_le};
-ghost use Rattle.ob_exec.specs.Agreeing.{Agrees, count_of};
+ghost use Rattle.ob_base.specs.Stored.{headings_of};
+ghost use Rattle.ob_exec.specs.Agreeing.{Agrees, count_of, public_of};
+ghost use Rattle.ob_mean.specs.Flats.{AreFlat};
 ghost use Rattle.ob_exec.specs.Closing.{ClosesEngine, DropsClosing};
 ghost use Rattle.ob_vault.specs.declared.region.Region.{Region as Layout};
 ghost use Rattle.ob_vault.specs.Places.{at};
@@ -57,11 +59,14 @@ impl<R: Revisions> Engine<R> {
     /// from this mark the next run opens them again. The closing that the engine itself was opened from is
     /// discarded before, whatever the store answers to that. The closing is written through the engine's own room.
     ///
+    /// No table is an index: none is made where tables are kept.
+    ///
     /// `InUse`, and nothing is asked of the store, where the closing's region or its first write would have a
     /// number above 2^63 - 1. `Failed` where the store failed; `NoMemory` before the first access, or where the
     /// region is made. After an error there is no mark that names these tables.
     pub fn close<S: BlockStore>(self, store: &mut S) -> Result<Mark, CloseErr>
         requires agrees { Agrees R.state self (S.state store.old) }
+        requires flat { AreFlat (headings_of (public_of self).tables) }
         requires few { count_of self (S.state store.old) < 2 ^ 63 + 2 ^ 59 }
         ensures closes { ClosesEngine R.state result self (S.state store.old) (S.state store.new) }
     {

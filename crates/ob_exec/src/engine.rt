@@ -1,19 +1,20 @@
 //! An engine, and how its statements end.
-ghost use Rattle.std.specs.Prelude.{◌≡◌, ◌≤◌, [], None, IfOk, false};
+ghost use Rattle.std.specs.Prelude.{◌≡◌, ◌≤◌, [], None, IfOk, false, true};
 ghost use Rattle.ob_base.specs.declared.seen.End.TheVariants.{Static, Whole, Cut};
 ghost use Rattle.ob_store.specs.State.{StoreState};
 ghost use Rattle.ob_vault.specs.State.{from_nothing};
 ghost use Rattle.ob_mean.specs.Verdict.{ended as seen_to};
 ghost use Rattle.ob_exec.specs.Engines.{IsConfig};
 ghost use Rattle.ob_base.specs.Publics.{first_public};
-ghost use Rattle.ob_exec.specs.Agreeing.{Agrees, public_of, seen_of, engine_keys, engine_start, has_ended, high_of, opened_from, rows_of};
-ghost use Rattle.ob_exec.specs.Running.{answer_of, is_stop};
+ghost use Rattle.ob_exec.specs.Agreeing.{Agrees, AreDraws, public_of, seen_of, engine_keys, engine_start, first_draws, has_ended, high_of, opened_from, rows_of};
+ghost use Rattle.ob_exec.specs.Running.{answer_of, is_stop, stop_of};
 
 use crate::stop::RunStop;
 use ob_base::{Config, End, Items, NoMemory, Public, Refusal, Seen};
 use ob_flat::OpErr;
+use ob_oram::{Index, OramErr};
 use ob_room::Room;
-use ob_seal::Keys;
+use ob_seal::{Draws, Keys};
 use ob_vault::{Revisions, Vault};
 use ob_verdict::Outcome;
 use std::alloc::Global;
@@ -36,6 +37,9 @@ pub struct Engine<R: Revisions> {
     pub(crate) ended: bool,
     // the region of the closing that it was opened from
     pub(crate) closing: Option<u64>,
+    // those of the tables that are one, in whichever order
+    pub(crate) indexes: Vec<Index>,
+    pub(crate) draws: Draws,
 }
 
 // What is seen of a statement without a count.
@@ -58,6 +62,7 @@ impl<R: Revisions> Engine<R> {
         ensures agrees { IfOk result (λ e. (s : StoreState) → s.asked ≡ [] → Agrees R.state e s) }
         ensures public { IfOk result (λ e. public_of e ≡ first_public config) }
         ensures keyed { IfOk result (λ e. engine_keys e ≡ keys) }
+        ensures drawn { IfOk result (λ e. AreDraws e (first_draws keys)) }
         ensures started { IfOk result (λ e. engine_start e ≡ from_nothing) }
         ensures anew { IfOk result (λ e. opened_from e ≡ None) }
         ensures alive { IfOk result (λ e. has_ended e ≡ false) }
@@ -65,6 +70,7 @@ impl<R: Revisions> Engine<R> {
         ensures rows { IfOk result (λ e. rows_of e ≡ config.buffer) }
     {
         let room = Room::new(alloc, config.buffer, ROW_WIDTH, u32::from(config.pack))?;
+        let draws = Draws::new(keys.draw_seed());
         Ok(Engine {
             alloc,
             vault: Vault::new(alloc, keys),
@@ -83,6 +89,8 @@ impl<R: Revisions> Engine<R> {
             seen: seen_to_end(End::Whole),
             ended: false,
             closing: None,
+            indexes: Vec::new(alloc),
+            draws,
         })
     }
 
@@ -175,6 +183,25 @@ impl<R: Revisions> Engine<R> {
         };
         self.ended = answer.is_err();
         answer
+    }
+
+    // A statement whose access of an index gave up, of which this was seen until then.
+    pub(crate) fn stop_access(&mut self, seen: Seen, error: OramErr) -> RunStop
+        ensures answer { result ≡ stop_of error }
+        ensures seen { self.new ≡ record self.old {
+          seen = seen;
+          public = record self.old.public { next_region = self.old.vault.next };
+          ended = true;
+        } }
+    {
+        self.seen = seen;
+        self.public.next_region = self.vault.next_region();
+        self.ended = true;
+        match error {
+            OramErr::Failed => RunStop::StoreFault,
+            OramErr::Tampered { region, place } => RunStop::Tampered { region, place },
+            OramErr::StashFull => RunStop::StashFull,
+        }
     }
 
     // A statement of which nothing was counted, that a pass gave up after so many accesses.

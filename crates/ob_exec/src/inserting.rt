@@ -1,6 +1,8 @@
 //! INSERT.
 ghost use Rattle.std.specs.Prelude.{◌≡◌, None, false};
 ghost use Rattle.ob_sql.specs.declared.stmt.Stmt.TheVariants.{Insert};
+ghost use Rattle.ob_mean.specs.Replay.{is_access};
+ghost use Rattle.ob_sql.specs.Skeleton.{skeleton};
 ghost use Rattle.ob_exec.specs.Agreeing.{Agrees, has_ended, public_of, count_of};
 ghost use Rattle.ob_exec.specs.Running.{inserted_as};
 ghost use Rattle.ob_verdict.specs.Outcomes.{refusal_now};
@@ -40,6 +42,8 @@ impl<R: Revisions> Engine<R> {
         requires lives { has_ended self.old ≡ false }
         requires allowed { refusal_now (public_of self.old) (count_of self.old (S.state store.old))
             (Insert table.now columns.now values.now) ≡ None }
+        requires flat { is_access (public_of self.old)
+            (skeleton (Insert table.now columns.now values.now)) ≡ false }
         ensures serves { ServesSilently R.state (Insert table.now columns.now values.now) result
             self.old (S.state store.old) self.new (S.state store.new) }
     {

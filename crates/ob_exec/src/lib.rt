@@ -6,6 +6,7 @@ mod creating;
 mod deleting;
 mod dropping;
 mod engine;
+mod indexed;
 mod inserting;
 mod laws;
 mod opening;

@@ -9,7 +9,7 @@ use crate::engine::{Engine, ROW_WIDTH, seen_to_end};
 use ob_base::{Config, End, Items, Mark, NoMemory, Public, Table};
 use ob_reopen::{Closing, Listed, OpenErr, read_closing, reopen_tables};
 use ob_room::Room;
-use ob_seal::Keys;
+use ob_seal::{Draws, Keys};
 use ob_store::Lasting;
 use ob_vault::{Revisions, Vault};
 use std::alloc::Global;
@@ -81,6 +81,7 @@ impl<R: Revisions> Engine<R> {
             return Err(OpenErr::NoMemory);
         };
         let last = closing.number + u64::from(closing.blocks) - 1;
+        let draws = Draws::new(keys.draw_seed());
         let mut vault = Vault::start_at(alloc, keys, closing.region + 1, last);
         let listed = read_closing(alloc, store, &mut vault, &mut room, closing)?;
         reopen_tables(store, &mut vault, closing, listed.as_slice())?;
@@ -105,6 +106,8 @@ impl<R: Revisions> Engine<R> {
             seen: seen_to_end(End::Whole),
             ended: false,
             closing: Some(closing.region),
+            indexes: Vec::new(alloc),
+            draws,
         })
     }
 }

@@ -10,6 +10,8 @@ ghost use Rattle.ob_flat.specs.Passes.{SinkCause};
 ghost use Rattle.ob_sql.specs.declared.stmt.Stmt.TheVariants.{SelectRows as RowsStmt};
 ghost use Rattle.ob_mean.specs.Prints.{is_join};
 ghost use Rattle.ob_mean.specs.Verdict.{ended as seen_to};
+ghost use Rattle.ob_mean.specs.Replay.{is_access};
+ghost use Rattle.ob_sql.specs.Skeleton.{skeleton};
 ghost use Rattle.ob_exec.specs.Agreeing.{Agrees, has_ended, public_of, world_of, count_of};
 ghost use Rattle.ob_verdict.specs.Outcomes.{refusal_now};
 ghost use Rattle.ob_exec.specs.Serving.{Serves};
@@ -112,6 +114,7 @@ impl<R: Revisions> Engine<R> {
         requires agrees { Agrees R.state self.old (S.state store.old) }
         requires allowed { refusal_now (public_of self.old) (count_of self.old (S.state store.old))
             (RowsStmt select.now) ≡ None }
+        requires flat { is_access (public_of self.old) (skeleton (RowsStmt select.now)) ≡ false }
         requires source { select.now.source ≡ OneTable table.now }
         requires fresh { seen.old ≡ seen_to Whole }
         ensures frame { self.new
@@ -162,6 +165,7 @@ impl<R: Revisions> Engine<R> {
         requires agrees { Agrees R.state self.old (S.state store.old) }
         requires allowed { refusal_now (public_of self.old) (count_of self.old (S.state store.old))
             (RowsStmt select.now) ≡ None }
+        requires flat { is_access (public_of self.old) (skeleton (RowsStmt select.now)) ≡ false }
         requires joins { is_join select.now.source ≡ true }
         requires fresh { seen.old ≡ seen_to Whole }
         ensures frame { self.new
@@ -249,6 +253,7 @@ impl<R: Revisions> Engine<R> {
         requires agrees { Agrees R.state self.old (S.state store.old) }
         requires allowed { refusal_now (public_of self.old) (count_of self.old (S.state store.old))
             (RowsStmt select.now) ≡ None }
+        requires flat { is_access (public_of self.old) (skeleton (RowsStmt select.now)) ≡ false }
         requires fresh { seen.old ≡ seen_to Whole }
         ensures frame { self.new
             ≡ record self.old { vault = self.new.vault; room = self.new.room } }
@@ -276,6 +281,7 @@ impl<R: Revisions> Engine<R> {
         requires lives { has_ended self.old ≡ false }
         requires allowed { refusal_now (public_of self.old) (count_of self.old (S.state store.old))
             (RowsStmt select.now) ≡ None }
+        requires flat { is_access (public_of self.old) (skeleton (RowsStmt select.now)) ≡ false }
         ensures serves { Serves R.state E.grew E.cut E.faults (RowsStmt select.now) result
             self.old (S.state store.old) self.new (S.state store.new) out.old out.new }
     {

@@ -28,6 +28,9 @@ impl<R: Revisions> Engine<R> {
         if let Some(refusal) = early_refusal(self.vault.spent(store) >= LATE, &self.public, stmt) {
             return Ok(self.refuse(refusal));
         }
+        if let Some(k) = self.accessed(stmt) {
+            return self.serve_index(store, k, stmt, out);
+        }
         match stmt {
             Stmt::Create {
                 table,
@@ -60,7 +63,8 @@ impl<R: Revisions> Engine<R> {
     /// `Tampered` names a block that is not what was written there last, or that no table's rows make;
     /// `SinkFault` says that the emitter failed; and `NoMemory` comes before the first access, where a
     /// region is made, or from the emitter while rows are emitted, so that it tells nothing of rows. What
-    /// was emitted until then is a first part of the answer. After each of the three the session has
+    /// was emitted until then is a first part of the answer. `StoreFault` says that the store failed in an
+    /// access of an index, and `StashFull` that its stash has no room. After each of them the session has
     /// ended: the engine takes no statement any more. After an answer it takes the next one.
     ///
     /// Whatever the store does, its accesses are exactly those that follow from what was public before,

@@ -9,6 +9,10 @@ pub enum RunStop {
     SinkFault,
     /// Want of memory.
     NoMemory,
+    /// The store failed in an access of an index, which can't be accessed again.
+    StoreFault,
+    /// The stash of an index has no room for the rows that its access leaves.
+    StashFull,
 }
 
 impl From<RunStop> for Stop {
@@ -22,6 +26,8 @@ impl From<RunStop> for Stop {
             RunStop::Tampered { region, place } => Stop::Tampered { region, place },
             RunStop::SinkFault => Stop::SinkFault,
             RunStop::NoMemory => Stop::NoMemory,
+            RunStop::StoreFault => Stop::StoreFault,
+            RunStop::StashFull => Stop::StashFull,
         }
     }
 }

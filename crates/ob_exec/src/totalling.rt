@@ -94,7 +94,7 @@ fn emit_row<E: Emit>(out: &mut E, labels: &[Label], cells: &[Shown]) -> Result<(
 }
 
 // The error of a pass that an emitter's makes.
-fn error_of(error: EmitErr) -> OpErr
+pub(crate) fn error_of(error: EmitErr) -> OpErr
     ensures { result ≡ error_of error }
 {
     match error {

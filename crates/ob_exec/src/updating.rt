@@ -2,6 +2,8 @@
 ghost use Rattle.std.specs.Prelude.{◌≡◌, ◌≤◌, None, false, length, IfOk};
 ghost use Rattle.ob_sql.specs.declared.stmt.Stmt.TheVariants.{Update};
 ghost use Rattle.ob_mean.specs.Step.{set_cells};
+ghost use Rattle.ob_mean.specs.Replay.{is_access};
+ghost use Rattle.ob_sql.specs.Skeleton.{skeleton};
 ghost use Rattle.ob_exec.specs.Agreeing.{Agrees, has_ended, public_of, count_of};
 ghost use Rattle.ob_verdict.specs.Outcomes.{refusal_now};
 ghost use Rattle.ob_exec.specs.Schemas.{IsSet};
@@ -48,6 +50,8 @@ impl<R: Revisions> Engine<R> {
         requires lives { has_ended self.old ≡ false }
         requires allowed { refusal_now (public_of self.old) (count_of self.old (S.state store.old))
             (Update table.now sets.now cond.now) ≡ None }
+        requires flat { is_access (public_of self.old)
+            (skeleton (Update table.now sets.now cond.now)) ≡ false }
         ensures serves { ServesSilently R.state (Update table.now sets.now cond.now) result
             self.old (S.state store.old) self.new (S.state store.new) }
     {

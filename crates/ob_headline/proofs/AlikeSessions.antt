@@ -18,7 +18,6 @@ use Rattle.ob_base.specs.declared.skeleton.Source.{Source}
 use Rattle.ob_base.specs.declared.skeleton.Source.TheVariants.{Table as OneTable, Join}
 use Rattle.ob_headline.proofs.FlatLemmas.{nothing_drawn}
 use Rattle.ob_headline.proofs.InStep.{InStep, keeps_step}
-use Rattle.ob_headline.specs.Bases.{undrawn}
 use Rattle.ob_headline.specs.Failures.{failures, outcome_failures}
 use Rattle.ob_headline.specs.Words.{Answer}
 use Rattle.ob_headline.specs.Accesses.{AreSeen}
@@ -50,10 +49,12 @@ use Rattle.ob_verdict.specs.Alike.{ActsAlike, AreAlike}
 abbrev pub plain : Public → Public
 plain p = record p { tables = []; next_region = 0 }
 
-pub record SessionsAlike (s t : Session) : Type 0 where
+-- their tables are kept, and both draw from here on
+pub record SessionsAlike (d : Draws) (s t : Session) : Type 0 where
   pub settings : plain s.public ≡ plain t.public
-  pub drawn : s.draws ≡ undrawn
-  pub drawn_too : t.draws ≡ undrawn
+  pub kept : s.public.keep ≡ true
+  pub drawn : s.draws ≡ d
+  pub drawn_too : t.draws ≡ d
   pub tables : AreAlike s.tables t.tables
   pub flat : AreFlat (headings s.tables)
   pub flat_too : AreFlat (headings t.tables)
@@ -178,7 +179,7 @@ labels_same hs gs same (TotalsStmt q) = ap (λ (cs : Columns). map (item_label c
 early : (m : ℕ) → m < 2 ^ 63 → is_late m ≡ false
 early m few = grind (arith, nat_tests)
 
-module _ (s t : Session) (alike : SessionsAlike s t) (few : s.asked < 2 ^ 63) (few_too : t.asked < 2 ^ 63) (stmt : Stmt) where
+module _ (d : Draws) (s t : Session) (alike : SessionsAlike d s t) (few : s.asked < 2 ^ 63) (few_too : t.asked < 2 ^ 63) (stmt : Stmt) where
   late : is_late s.asked ≡ is_late t.asked
   late = early s.asked few ∙ sym (early t.asked few_too)
 
@@ -193,7 +194,7 @@ module _ (s t : Session) (alike : SessionsAlike s t) (few : s.asked < 2 ^ 63) (f
 
   shows_alike : seen_now s stmt ≡ seen_now t stmt
   shows_alike =
-      ap (λ (d : Draws). seen d s.public s.asked s.tables stmt) draws_same
+      ap (λ (x : Draws). seen x s.public s.asked s.tables stmt) draws_same
       ∙ seen_same t.draws s.public t.public alike.settings s.asked t.asked late s.tables stmt alike.flat ∙ acts.shows
 
   labels_alike : labels_of stmt (headings_of s.public.tables) ≡ labels_of stmt (headings_of t.public.tables)
@@ -209,17 +210,21 @@ module _ (s t : Session) (alike : SessionsAlike s t) (few : s.asked < 2 ^ 63) (f
 
   settles_alike : settle s.draws s.public s.asked s.tables stmt ≡ settle t.draws t.public t.asked s.tables stmt
   settles_alike =
-      ap (λ (d : Draws). settle d s.public s.asked s.tables stmt) draws_same
+      ap (λ (x : Draws). settle x s.public s.asked s.tables stmt) draws_same
       ∙ settle_same t.draws s.public t.public alike.settings s.asked t.asked late s.tables stmt alike.flat
 
-  after_alike : SessionsAlike (after None s stmt) (after None t stmt)
+  kept_too : t.public.keep ≡ true
+  kept_too = sym (ap (λ (p : Public). p.keep) alike.settings) ∙ alike.kept
+
+  after_alike : SessionsAlike d (after None s stmt) (after None t stmt)
   after_alike = record {
     settings = alike.settings;
-    drawn = nothing_drawn s stmt None (subst AreFlat alike.here alike.flat) tt ∙ alike.drawn;
-    drawn_too = nothing_drawn t stmt None (subst AreFlat alike.there alike.flat_too) tt ∙ alike.drawn_too;
+    kept = alike.kept;
+    drawn = nothing_drawn s stmt None alike.kept (subst AreFlat alike.here alike.flat) tt ∙ alike.drawn;
+    drawn_too = nothing_drawn t stmt None kept_too (subst AreFlat alike.there alike.flat_too) tt ∙ alike.drawn_too;
     tables = subst (λ (ts : Tables). AreAlike ts (settle t.draws t.public t.asked t.tables stmt)) (sym settles_alike) acts.after;
-    flat = after_flat None s stmt alike.flat;
-    flat_too = after_flat None t stmt alike.flat_too;
+    flat = after_flat None s stmt alike.kept alike.flat;
+    flat_too = after_flat None t stmt kept_too alike.flat_too;
     here = keeps_step s stmt alike.flat alike.here alike.tables.apart;
     there = keeps_step t stmt alike.flat_too alike.there alike.tables.too;
   }
@@ -246,26 +251,26 @@ uncut None s stmt one none told = refl
 uncut (Some n) s stmt one none told = let failed = ap outcome_failures told.outcome in absurd (omega (arith, failed, none))
 
 -- more texts behind sessions that are alike
-abbrev Goes : Ending → (more : List Spelt) → (others : List Answer) → (behind : List Served) → (u v : Session) → Type 0
-Goes f more others behind u v = SessionsAlike u v → (after_all v more []).asked < 2 ^ 63 → AnswersFrom f v more [] others behind []
+abbrev Goes : Draws → Ending → (more : List Spelt) → (others : List Answer) → (behind : List Served) → (u v : Session) → Type 0
+Goes d f more others behind u v = SessionsAlike d u v → (after_all v more []).asked < 2 ^ 63 → AnswersFrom f v more [] others behind []
 
 -- these texts, each of which was answered and none by the store's fault, are answered alike, and so are more behind them
-pub answers_on : (Leaves : Public → Stmt → Seen → Type 0) (e f : Ending) (spelt : List Spelt) (s t : Session) (broken : Broken) (answers : List Answer) (seen : List Served) (part : List ℕ) (more : List Spelt) (others : List Answer) (behind : List Served)
-    → SessionsAlike s t → length answers ≡ length spelt → failures answers ≡ 0 → AnswersFrom e s spelt broken answers seen part → AreSeen Leaves s.public s.asked spelt answers seen
+pub answers_on : (d : Draws) (Leaves : Public → Stmt → Seen → Type 0) (e f : Ending) (spelt : List Spelt) (s t : Session) (broken : Broken) (answers : List Answer) (seen : List Served) (part : List ℕ) (more : List Spelt) (others : List Answer) (behind : List Served)
+    → SessionsAlike d s t → length answers ≡ length spelt → failures answers ≡ 0 → AnswersFrom e s spelt broken answers seen part → AreSeen Leaves s.public s.asked spelt answers seen
     → s.asked + length (trace s.public seen) < 2 ^ 63 → (after_all t (spelt ++ more) []).asked < 2 ^ 63
-    → Goes f more others behind (after_all s spelt broken) (after_all t spelt []) → AnswersFrom f t (spelt ++ more) [] (answers ++ others) (seen ++ behind) []
+    → Goes d f more others behind (after_all s spelt broken) (after_all t spelt []) → AnswersFrom f t (spelt ++ more) [] (answers ++ others) (seen ++ behind) []
 unfolding AnswersFrom AreSeen failures
-answers_on Leaves e f [] s t broken answers seen part more others behind alike each none told lawful few few_too follows =
+answers_on d Leaves e f [] s t broken answers seen part more others behind alike each none told lawful few few_too follows =
     subst (λ (a : List Answer). AnswersFrom f t more [] (a ++ others) (seen ++ behind) []) (sym told.0)
     (subst (λ (x : List Served). AnswersFrom f t more [] ([] ++ others) (x ++ behind) []) (sym lawful) (follows alike few_too))
-answers_on Leaves e f (x ∷ spelt) s t broken [] seen part more others behind alike each none told lawful few few_too follows = absurd (omega (arith, each))
-answers_on Leaves e f (Err at ∷ spelt) s t broken (one ∷ answers) seen part more others behind alike each none told lawful few few_too follows =
-    (told.0, answers_on Leaves e f spelt s t (rest_of broken) answers seen part more others behind alike (omega (arith, each)) (omega (arith, none)) told.1 lawful.1 few few_too follows)
-answers_on Leaves e f (Ok stmt ∷ spelt) s t broken (one ∷ answers) [] part more others behind alike each none told lawful few few_too follows = absurd told
-answers_on Leaves e f (Ok stmt ∷ spelt) s t broken (one ∷ answers) (x ∷ seen) part more others behind alike each none told lawful few few_too follows =
-    let whole = uncut (head_of broken) s stmt one (omega (arith, none)) told.1 in
-    let here = subst (λ (o : Option ℕ). IsCutOff o s stmt × AnswersIn o s stmt one × (x.seen ≡ seen_or_cut o s stmt) × AnswersFrom e (after o s stmt) spelt (rest_of broken) answers seen part) whole told in
-    let entry : x ≡ served None s stmt = λ i. record { skeleton = lawful.0 i; seen = here.2 i } in
+answers_on d Leaves e f (x ∷ spelt) s t broken [] seen part more others behind alike each none told lawful few few_too follows = absurd (omega (arith, each))
+answers_on d Leaves e f (Err at ∷ spelt) s t broken (one ∷ answers) seen part more others behind alike each none told lawful few few_too follows =
+    (told.0, answers_on d Leaves e f spelt s t (rest_of broken) answers seen part more others behind alike (omega (arith, each)) (omega (arith, none)) told.1 lawful.1 few few_too follows)
+answers_on d Leaves e f (Ok stmt ∷ spelt) s t broken (one ∷ answers) [] part more others behind alike each none told lawful few few_too follows = absurd told
+answers_on d Leaves e f (Ok stmt ∷ spelt) s t broken (one ∷ answers) (x ∷ seen) part more others behind alike each none told lawful few few_too follows =
+    let whole = uncut (head_of broken) s stmt one (omega (arith, none)) told.2 in
+    let here = subst (λ (o : Option ℕ). (is_full_now s stmt ≡ false) × IsCutOff o s stmt × AnswersIn o s stmt one × (x.seen ≡ seen_or_cut o s stmt) × AnswersFrom e (after o s stmt) spelt (rest_of broken) answers seen part) whole told in
+    let entry : x ≡ served None s stmt = λ i. record { skeleton = lawful.0 i; seen = here.3 i } in
     let long = length-append (script s.public x.skeleton x.seen) (trace (next s.public x.skeleton x.seen) seen) in
     let soon : s.asked < 2 ^ 63 = omega (arith, few) in
     let few_behind : (after_all (after None t stmt) (spelt ++ more) []).asked < 2 ^ 63 =
@@ -274,15 +279,16 @@ answers_on Leaves e f (Ok stmt ∷ spelt) s t broken (one ∷ answers) (x ∷ se
     let soon_too : t.asked < 2 ^ 63 = omega (arith, few_behind, grown) in
     let few_all : s.asked + length (script s.public x.skeleton x.seen ++ trace (next s.public x.skeleton x.seen) seen) < 2 ^ 63 = few in
     let rest : s.asked + length (script s.public x.skeleton x.seen) + length (trace (next s.public x.skeleton x.seen) seen) < 2 ^ 63 = omega (arith, few_all, long) in (
+      room_flat t stmt alike.flat_too,
       tt,
-      answers_alike s t alike soon soon_too stmt one here.1,
-      here.2 ∙ shows_alike s t alike soon soon_too stmt,
-      answers_on Leaves e f spelt (after None s stmt) (after None t stmt) (rest_of broken) answers seen part more others behind
-          (after_alike s t alike soon soon_too stmt) (omega (arith, each)) (omega (arith, none)) here.3
+      answers_alike d s t alike soon soon_too stmt one here.2,
+      here.3 ∙ shows_alike d s t alike soon soon_too stmt,
+      answers_on d Leaves e f spelt (after None s stmt) (after None t stmt) (rest_of broken) answers seen part more others behind
+          (after_alike d s t alike soon soon_too stmt) (omega (arith, each)) (omega (arith, none)) here.4
           (subst (λ (y : Served). AreSeen Leaves (next s.public y.skeleton y.seen) (s.asked + length (script s.public y.skeleton y.seen)) spelt answers seen) entry lawful.3)
           (subst (λ (y : Served). s.asked + length (script s.public y.skeleton y.seen) + length (trace (next s.public y.skeleton y.seen) seen) < 2 ^ 63) entry rest)
           few_behind
-          (subst (λ (o : Option ℕ). Goes f more others behind (after_all (after o s stmt) spelt (rest_of broken)) (after_all (after None t stmt) spelt [])) whole
-          (subst (λ (u : Session). Goes f more others behind u (after_all (after None t stmt) spelt [])) (after_room s stmt spelt broken (room_flat s stmt alike.flat))
-          (subst (λ (v : Session). Goes f more others behind (after_all s (Ok stmt ∷ spelt) broken) v) (after_room t stmt spelt [] (room_flat t stmt alike.flat_too)) follows))),
+          (subst (λ (o : Option ℕ). Goes d f more others behind (after_all (after o s stmt) spelt (rest_of broken)) (after_all (after None t stmt) spelt [])) whole
+          (subst (λ (u : Session). Goes d f more others behind u (after_all (after None t stmt) spelt [])) (after_room s stmt spelt broken (room_flat s stmt alike.flat))
+          (subst (λ (v : Session). Goes d f more others behind (after_all s (Ok stmt ∷ spelt) broken) v) (after_room t stmt spelt [] (room_flat t stmt alike.flat_too)) follows))),
     )

@@ -1,6 +1,7 @@
 -- Runs whose tables are kept answer as one run does over all their texts.
 use Rattle.std.specs.Prelude.{MatchBool, ⊤, if◌then◌else◌}
 use Rattle.std.proofs.Common.{◌≡◌, ◌<◌, ◌≤◌, ◌+◌, ◌^◌, ◌++◌, ℕ, Bool, true, false, IsTrue, List, [], ◌∷◌, length, Option, Some, None, Result, Ok, Err, inl, inr, refl, sym, ◌∙◌, ap, subst, arith}
+use Rattle.std.specs.Option.{option_map_or}
 use Rattle.clap.specs.Words.{Text}
 use Rattle.ob_base.specs.Stored.{headings, headings_of}
 use Rattle.ob_base.specs.declared.config.Config.{Config}
@@ -13,19 +14,20 @@ use Rattle.ob_reopen.specs.Resting.{Rests, by_name}
 use Rattle.ob_headline.proofs.AlikeSessions.{SessionsAlike, answers_on, keeps_plain, plain}
 use Rattle.ob_headline.proofs.FlatLemmas.{rested_flat}
 use Rattle.ob_headline.proofs.InStep.{InStep}
+use Rattle.ob_headline.proofs.SettingLemmas.{kept_settings}
 use Rattle.ob_headline.proofs.MarkLemmas.{marks_held}
 use Rattle.ob_headline.proofs.RerunLemmas.{answered_all}
 use Rattle.ob_headline.proofs.StopLemmas.{begun_stops, closing_stops}
-use Rattle.ob_headline.specs.Bases.{Base, FromEach, Opened, fresh, public_with, reopened, session_at, start, undrawn}
+use Rattle.ob_headline.specs.Bases.{Base, FromEach, Opened, drawing, fresh, public_with, reopened, session_at, start}
 use Rattle.ob_headline.specs.Endings.{status_of}
 use Rattle.ob_headline.specs.Failures.{failures}
 use Rattle.ob_headline.specs.Keeping.{BeginsFrom, EndsWith, closing_named, kept_status}
 use Rattle.ob_headline.specs.KeptHeadline.{ClosesTables, EndsBehind, EndsUnkeyed, IsClosed, RunKept, SessionKept, begun_at}
 use Rattle.ob_headline.specs.KeptMarks.{HeldAfter, mark_made}
-use Rattle.ob_headline.specs.KeptRuns.{AnswerAsOne, GoOn, OneRun, all_answers, all_seen, all_spelt, count_in, secret_in, seen_in, spelt_in}
+use Rattle.ob_headline.specs.KeptRuns.{AnswerAsOne, GoOn, OneRun, first_of, all_answers, all_seen, all_spelt, count_in, secret_in, seen_in, spelt_in}
 use Rattle.ob_headline.specs.Settings.{IsTaken, settings_of}
-use Rattle.ob_headline.specs.Usage.{is_traced, kept_usage}
-use Rattle.ob_headline.specs.Words.{Answer, Outside, any_refused}
+use Rattle.ob_headline.specs.Usage.{is_kept, is_traced, kept_usage}
+use Rattle.ob_headline.specs.Words.{Answer, Outside, any_refused, keys_in}
 use Rattle.ob_headline.specs.Meaning.{AnswersFrom}
 use Rattle.ob_headline.specs.declared.ending.Ending.{Ending}
 use Rattle.ob_headline.specs.declared.ending.Ending.TheVariants.{Usage, BadKey, Ran}
@@ -34,12 +36,13 @@ use Rattle.ob_headline.specs.declared.ending.KeptEnding.TheVariants.{Plain, Othe
 use Rattle.ob_headline.specs.declared.ending.Report.{Report}
 use Rattle.ob_mean.specs.Flats.{AreFlat}
 use Rattle.ob_mean.specs.Replay.{Broken, Session, Spelt, after_all}
-use Rattle.ob_mean.specs.Verdict.{Tables}
+use Rattle.ob_mean.specs.Verdict.{Draws, Tables}
 use Rattle.ob_reopen.specs.Closings.{mark_of}
 use Rattle.ob_reopen.specs.Keepers.{KeeperState}
 use Rattle.ob_reopen.specs.declared.closing.Closing.{Closing}
 use Rattle.ob_reopen.specs.declared.fault.CloseErr.{CloseErr}
 use Rattle.ob_script.specs.Trace.{Served, trace}
+use Rattle.ob_seal.specs.Draws.{draw_of}
 use Rattle.ob_seal.specs.KeySet.{KeySet}
 use Rattle.ob_seal.specs.Sealed.{keys_of}
 use Rattle.ob_store.specs.State.{KeptRegion, Lie, StoreState}
@@ -58,6 +61,8 @@ well_ended (Plain (Ran (Err Stops.SourceFault))) few = absurd (omega (arith, few
 well_ended (Plain (Ran (Err Stops.SinkFault))) few = absurd (omega (arith, few))
 well_ended (Plain (Ran (Err Stops.NoMemory))) few = absurd (omega (arith, few))
 well_ended (Plain (Ran (Err Stops.InputLimit))) few = absurd (omega (arith, few))
+well_ended (Plain (Ran (Err Stops.StoreFault))) few = absurd (omega (arith, few))
+well_ended (Plain (Ran (Err Stops.StashFull))) few = absurd (omega (arith, few))
 well_ended OtherPack few = absurd (omega (arith, few))
 well_ended StoreFault few = absurd (omega (arith, few))
 well_ended LeftOpen few = absurd (omega (arith, few))
@@ -107,30 +112,35 @@ WaitsAt secret InUse kept ts = ⊤
 WaitsAt secret (Closed region blocks number pack) kept ts =
     (tables : Tables) × Rests (keys_of secret) (closing_named region blocks number pack) kept tables × AreAlike tables ts
 
+-- what a session with this secret draws
+abbrev draws_with : (secret : List ℕ) → Draws
+draws_with secret = record { draw = draw_of (keys_of secret); drawn = 0 }
+
 -- and what is public of a session with them has these settings
 record Waits (words : List Text) (secret : List ℕ) (held : Option Mark) (kept : ℕ → Option KeptRegion) (t : Session) : Type 0 where
   mark : Mark
   is : held ≡ Some mark
   settings : plain t.public ≡ plain (public_with (settings_of kept_usage words))
-  drawn : t.draws ≡ undrawn
+  drawn : t.draws ≡ draws_with secret
   flat : AreFlat (headings t.tables)
   step : InStep t
   at : WaitsAt secret mark kept t.tables
 
 -- a session of the model that the run goes on from
-record Begins (base : Base) (t : Session) : Type 1 where
+record Begins (secret : List ℕ) (base : Base) (t : Session) : Type 1 where
   tables : Tables
-  alike : SessionsAlike (session_at base tables) t
+  alike : SessionsAlike (draws_with secret) (drawing (keys_of secret) (session_at base tables)) t
   from : (P : Session → Type 0) → FromEach base P → P (session_at base tables)
 
 begins_at : (mark : Mark) (settings : Option Config) (config : Config) (secret : List ℕ) (base : Base) (old new : StoreState) (t : Session) → settings ≡ Some config → BeginsFrom mark config (keys_of secret) base old new
-    → WaitsAt secret mark old.kept t.tables → plain t.public ≡ plain (public_with settings) → t.draws ≡ undrawn → AreFlat (headings t.tables) → InStep t → IsTrue old.tells → new.lie ≡ None → Begins base t
-begins_at Fresh settings config secret base old new t set begins waits same drawn flat step tells honest =
+    → WaitsAt secret mark old.kept t.tables → plain t.public ≡ plain (public_with settings) → config.keep ≡ true → t.draws ≡ draws_with secret → AreFlat (headings t.tables) → InStep t → IsTrue old.tells → new.lie ≡ None → Begins secret base t
+begins_at Fresh settings config secret base old new t set begins waits same kept drawn flat step tells honest =
     let is : base ≡ fresh (Some config) = begins.0 in
     record {
       tables = [];
       alike = record {
         settings = ap (λ (b : Base). plain b.public) is ∙ sym (ap (λ (o : Option Config). plain (public_with o)) set) ∙ sym same;
+        kept = ap (λ (b : Base). b.public.keep) is ∙ kept;
         drawn = refl;
         drawn_too = drawn;
         tables = waits;
@@ -141,8 +151,8 @@ begins_at Fresh settings config secret base old new t set begins waits same draw
       };
       from = λ P. subst (λ (b : Base). FromEach b P → P (session_at b [])) (sym is) (λ each. each);
     }
-begins_at InUse settings config secret base old new t set begins waits same drawn flat step tells honest = absurd begins
-begins_at (Closed region blocks number pack) settings config secret base old new t set begins waits same drawn flat step tells honest =
+begins_at InUse settings config secret base old new t set begins waits same kept drawn flat step tells honest = absurd begins
+begins_at (Closed region blocks number pack) settings config secret base old new t set begins waits same kept drawn flat step tells honest =
     let closing = closing_named region blocks number pack in
     let o : Opened = record { keys = keys_of secret; closing = closing; listed = begins.1.listed; old = old; new = new } in
     let is : base ≡ reopened config o = begins.1.is in
@@ -151,6 +161,7 @@ begins_at (Closed region blocks number pack) settings config secret base old new
       tables = tables;
       alike = record {
         settings = ap (λ (b : Base). plain b.public) is ∙ sym (ap (λ (o : Option Config). plain (public_with o)) set) ∙ sym same;
+        kept = ap (λ (b : Base). b.public.keep) is ∙ kept;
         drawn = refl;
         drawn_too = drawn;
         tables = waits.2;
@@ -169,7 +180,7 @@ tells_on (Closed region blocks number pack) config keys base old new begins tell
 
 -- ---- one run, and those behind it
 module _ (words : List Text) (secret : List ℕ) (f : Ending) (one : OneRun words) (run : SessionKept (settings_of kept_usage words) (IsTaken kept_usage words) (is_traced kept_usage words) one.old one.new one.keeper0 one.keeper1 one.run.ending one.run.answers one.report)
-    (came : one.run.ran ≡ inr (inr run)) (refused : Bool) (well : one.run.ending ≡ Plain (Ran (Ok refused))) (keyed : run.secret ≡ secret) (none : failures one.run.answers ≡ 0) (tells : IsTrue one.old.store.tells)
+    (came : one.run.ran ≡ inr (inr run)) (refused : Bool) (well : one.run.ending ≡ Plain (Ran (Ok refused))) (kept : is_kept words ≡ true) (keyed : run.secret ≡ secret) (none : failures one.run.answers ≡ 0) (tells : IsTrue one.old.store.tells)
     (honest : one.new.store.lie ≡ None) (soon : run.base.count + length (trace run.base.public (run.session.story.seen ++ run.session.story.last)) < 2 ^ 63)
     (held : Option Mark) (same_mark : one.keeper0.held ≡ held) (t : Session) (waits : Waits words secret held one.old.store.kept t) where
   abbrev s0 : StoreState
@@ -194,20 +205,25 @@ module _ (words : List Text) (secret : List ℕ) (f : Ending) (one : OneRun word
   mark_read : run.began.mark ≡ waits.mark
   mark_read = run.began.gives.told waits.mark (same_mark ∙ waits.is)
 
-  begins : Begins run.base t
+  begins : Begins secret run.base t
   begins =
-      begins_at run.began.mark (settings_of kept_usage words) run.config run.secret run.base s0 run.opened t run.set run.began.begins
+      subst (λ (x : List ℕ). Begins x run.base t) keyed
+      (begins_at run.began.mark (settings_of kept_usage words) run.config run.secret run.base s0 run.opened t run.set run.began.begins
       (subst (λ (x : List ℕ). WaitsAt x run.began.mark s0.kept t.tables) (sym keyed) (subst (λ (m : Mark). WaitsAt secret m s0.kept t.tables) (sym mark_read) waits.at))
-      waits.settings waits.drawn waits.flat waits.step tells honest_opened
+      waits.settings (kept_settings words run.config run.set ∙ kept) (waits.drawn ∙ ap draws_with (sym keyed)) waits.flat waits.step tells honest_opened)
 
   tells_opened : IsTrue run.opened.tells
   tells_opened = tells_on run.began.mark run.config (keys_of run.secret) run.base s0 run.opened run.began.begins tells
 
   abbrev s : Session
-  s = session_at run.base begins.tables
+  s = drawing (keys_of secret) (session_at run.base begins.tables)
 
   abbrev all : List Served
   all = run.session.story.seen ++ run.session.story.last
+
+  -- it draws the numbers of the secret
+  keys_are : keys_in run.session.taken ≡ keys_of secret
+  keys_are = ap (λ (o : Option (List ℕ)). option_map_or keys_of o (keys_of [])) run.keyed ∙ ap keys_of keyed
 
   -- what it answered, and what rests behind it where a closing could be made
   abbrev Leaves : (used : Bool) → Broken → Type 0
@@ -215,12 +231,18 @@ module _ (words : List Text) (secret : List ℕ) (f : Ending) (one : OneRun word
 
   answered : (used : Bool) → is_used_up tables.closing ≡ used → (broken : Broken) × AnswersFrom (Ran (Ok closed.0)) s run.session.story.spelt broken run.session.story.answers all run.session.story.part × Leaves used broken
   answered true is =
-      let meant = begins.from (λ (u : Session). (broken : Broken) × AnswersFrom run.session.ending u run.session.story.spelt broken run.session.story.answers all run.session.story.part) (run.session.answers.meant (record { tells = tells_opened; unfit = λ lie told. absurd (cc (told, honest_served)) })) in
-      (meant.0, subst (λ (e : Ending). AnswersFrom e s run.session.story.spelt meant.0 run.session.story.answers all run.session.story.part) closed.1 meant.1, tt)
+      let meant = begins.from (λ (u : Session). (broken : Broken) × AnswersFrom run.session.ending (drawing (keys_in run.session.taken) u) run.session.story.spelt broken run.session.story.answers all run.session.story.part) (run.session.answers.meant (record { tells = tells_opened; unfit = λ lie told. absurd (cc (told, honest_served)) })) in
+      let here = subst (λ (k : KeySet). AnswersFrom run.session.ending (drawing k (session_at run.base begins.tables)) run.session.story.spelt meant.0 run.session.story.answers all run.session.story.part) keys_are meant.1 in
+      (meant.0, subst (λ (e : Ending). AnswersFrom e s run.session.story.spelt meant.0 run.session.story.answers all run.session.story.part) closed.1 here, tt)
   answered false is =
       let made = closed_well tables.closes.result _ one.run.ending _ _ run.in_use one.keeper1 refused tables.closes.ends well in
-      begins.from (λ (u : Session). (broken : Broken) × AnswersFrom (Ran (Ok closed.0)) u run.session.story.spelt broken run.session.story.answers all run.session.story.part
-      × Rests (keys_of run.secret) tables.closing one.new.store.kept (by_name (after_all u run.session.story.spelt broken).tables)) (tables.rests (record { tells = tells_opened; no_lie = honest }) is made.0 made.1)
+      let from_it =
+      begins.from (λ (u : Session). (broken : Broken) × AnswersFrom (Ran (Ok closed.0)) (drawing (keys_of run.secret) u) run.session.story.spelt broken run.session.story.answers all run.session.story.part
+      × Rests (keys_of run.secret) tables.closing one.new.store.kept (by_name (after_all (drawing (keys_of run.secret) u) run.session.story.spelt broken).tables)) (tables.rests (record { tells = tells_opened; no_lie = honest }) is made.0 made.1) in (
+        from_it.0,
+        subst (λ (x : List ℕ). AnswersFrom (Ran (Ok closed.0)) (drawing (keys_of x) (session_at run.base begins.tables)) run.session.story.spelt from_it.0 run.session.story.answers all run.session.story.part) keyed from_it.1,
+        subst (λ (x : List ℕ). Rests (keys_of run.secret) tables.closing one.new.store.kept (by_name (after_all (drawing (keys_of x) (session_at run.base begins.tables)) run.session.story.spelt from_it.0).tables)) keyed from_it.2,
+      )
 
   -- what the keeper holds
   held_behind : one.keeper1.held ≡ Some (mark_made tables.closing)
@@ -233,7 +255,7 @@ module _ (words : List Text) (secret : List ℕ) (f : Ending) (one : OneRun word
   waits_made true ts is rests = subst (λ (m : Mark). WaitsAt secret m one.new.store.kept ts) (sym (ap (λ (b : Bool). if b then InUse else mark_of tables.closing) is)) tt
   waits_made false ts is rests = subst (λ (m : Mark). WaitsAt secret m one.new.store.kept ts) (sym (ap (λ (b : Bool). if b then InUse else mark_of tables.closing) is)) (rests refl)
 
-  waits_behind : (used : Bool) → is_used_up tables.closing ≡ used → (broken : Broken) → Leaves used broken → (u : Session) → u ≡ after_all t run.session.story.spelt [] → SessionsAlike (after_all s run.session.story.spelt broken) u
+  waits_behind : (used : Bool) → is_used_up tables.closing ≡ used → (broken : Broken) → Leaves used broken → (u : Session) → u ≡ after_all t run.session.story.spelt [] → SessionsAlike (draws_with secret) (after_all s run.session.story.spelt broken) u
       → Waits words secret one.keeper1.held one.new.store.kept u
   waits_behind used is broken leaves u same alike = record {
     mark = mark_made tables.closing;
@@ -262,16 +284,16 @@ module _ (words : List Text) (secret : List ℕ) (f : Ending) (one : OneRun word
       let failed = subst (λ (a : List Answer). failures a ≡ 0) run.answered none in
       let lawful = run.session.accesses.lawful in
       subst (λ (a : List Answer). AnswersFrom f t (run.session.story.spelt ++ more) [] (a ++ others) (all ++ behind) []) (sym run.answered)
-      (answers_on _ (Ran (Ok closed.0)) f run.session.story.spelt s t told.0 run.session.story.answers all run.session.story.part more others behind begins.alike each failed told.1
+      (answers_on (draws_with secret) _ (Ran (Ok closed.0)) f run.session.story.spelt s t told.0 run.session.story.answers all run.session.story.part more others behind begins.alike each failed told.1
       lawful soon few
       (λ alike enough. follows (after_all t run.session.story.spelt []) (waits_behind used refl told.0 told.2 (after_all t run.session.story.spelt []) refl alike) enough))
 
 -- ---- all of them
-all_as_one : (words : List Text) (secret : List ℕ) (f : Ending) (runs : List (OneRun words)) (held : Option Mark) (kept : ℕ → Option KeptRegion) (t : Session) → GoOn secret held kept runs → Waits words secret held kept t
+all_as_one : (words : List Text) (keeps : is_kept words ≡ true) (secret : List ℕ) (f : Ending) (runs : List (OneRun words)) (held : Option Mark) (kept : ℕ → Option KeptRegion) (t : Session) → GoOn secret held kept runs → Waits words secret held kept t
     → (after_all t (all_spelt runs) []).asked < 2 ^ 63 → AnswersFrom f t (all_spelt runs) [] (all_answers runs) (all_seen runs) []
 unfolding AnswersFrom
-all_as_one words secret f [] held kept t goes waits few = (refl, refl)
-all_as_one words secret f (one ∷ runs) held kept t goes waits few =
+all_as_one words keeps secret f [] held kept t goes waits few = (refl, refl)
+all_as_one words keeps secret f (one ∷ runs) held kept t goes waits few =
     let good = goes.2 in
     let ended = well_ended one.run.ending (subst (λ (n : ℕ). n ≤ 1) one.run.status good.well.ended) in
     let found = has_session one.run.ran ended.0 ended.1 in
@@ -281,14 +303,14 @@ all_as_one words secret f (one ∷ runs) held kept t goes waits few =
     let here = subst (λ (k : ℕ → Option KeptRegion). Waits words secret held k t) (sym (λ i q. goes.1 q i)) waits in
     subst (λ (r : RunKept (settings_of kept_usage words) (IsTaken kept_usage words) (is_traced kept_usage words) one.old one.new one.keeper0 one.keeper1 one.run.ending one.run.answers one.report).
     AnswersFrom f t (spelt_in r ++ all_spelt runs) [] (one.run.answers ++ all_answers runs) (seen_in r ++ all_seen runs) []) (sym found.1)
-    (one_of_all words secret f one run found.1 ended.0 ended.1 keyed good.well.none good.tells good.honest soon held goes.0 t here (all_spelt runs) (all_answers runs) (all_seen runs)
+    (one_of_all words secret f one run found.1 ended.0 ended.1 keeps keyed good.well.none good.tells good.honest soon held goes.0 t here (all_spelt runs) (all_answers runs) (all_seen runs)
     (subst (λ (r : RunKept (settings_of kept_usage words) (IsTaken kept_usage words) (is_traced kept_usage words) one.old one.new one.keeper0 one.keeper1 one.run.ending one.run.answers one.report).
     (after_all t (spelt_in r ++ all_spelt runs) []).asked < 2 ^ 63) found.1 few)
-    (λ u later enough. all_as_one words secret f runs one.keeper1.held one.new.store.kept u goes.3 later enough))
+    (λ u later enough. all_as_one words keeps secret f runs one.keeper1.held one.new.store.kept u goes.3 later enough))
 
-pub answer_as_one : (words : List Text) (secret : List ℕ) (kept : ℕ → Option KeptRegion) (runs : List (OneRun words)) → GoOn secret (Some Fresh) kept runs → AnswerAsOne runs
-answer_as_one words secret kept runs goes few =
-    all_as_one words secret (Ran (Ok (any_refused (all_answers runs)))) runs (Some Fresh) kept (start (settings_of kept_usage words)) goes
+pub answer_as_one : (words : List Text) (keeps : is_kept words ≡ true) (secret : List ℕ) (kept : ℕ → Option KeptRegion) (runs : List (OneRun words)) → GoOn secret (Some Fresh) kept runs → AnswerAsOne secret runs
+answer_as_one words keeps secret kept runs goes few =
+    all_as_one words keeps secret (Ran (Ok (any_refused (all_answers runs)))) runs (Some Fresh) kept (first_of words secret) goes
     (record { mark = Fresh; is = refl; settings = refl; drawn = refl; flat = tt; step = none_there (settings_of kept_usage words); at = record { count = refl; found = λ name. refl; apart = refl; too = refl } }) few
   where
     none_there : (settings : Option Config) → InStep (start settings)

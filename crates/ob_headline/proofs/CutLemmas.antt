@@ -1,15 +1,19 @@
 -- A statement that was cut off asks a first part of what it asks whole.
 use Rattle.std.specs.Prelude.{nat_le, nat_lt}
-use Rattle.std.proofs.Common.{◌≡◌, ◌⊎◌, inl, inr, ◌+◌, ◌-◌, ◌≤◌, ◌<◌, ℕ, Bool, true, false, List, [], ◌++◌, length, take, drop, Option, Some, None, refl, sym, ◌∙◌, ap, subst, append-nil, append_assoc, arith}
+use Rattle.std.proofs.Common.{◌≡◌, ◌⊎◌, inl, inr, ◌+◌, ◌-◌, ◌*◌, ◌≤◌, ◌<◌, ℕ, Bool, true, false, List, [], ◌++◌, length, take, drop, Option, Some, None, refl, sym, ◌∙◌, ap, subst, append-nil, append_assoc, arith}
 use Rattle.std.proofs.lemmas.Bool.Decides.{nat_tests}
 use Rattle.std.proofs.lemmas.List.{length-append, take-append-drop, take-append-le}
 use Rattle.std.specs.Option.{option_map_or}
-use Rattle.ob_base.specs.Accesses.{discard_at}
+use Rattle.ob_base.specs.Accesses.{discard_at, write_at}
+use Rattle.ob_base.specs.Indexes.{by_shape, height_of}
 use Rattle.ob_base.specs.Limits.{buffered_blocks}
-use Rattle.ob_base.specs.Stored.{Stored, headings_of, stored_at, stored_regions}
+use Rattle.ob_base.specs.Lists.{each}
+use Rattle.ob_base.specs.Stored.{Stored, stored_at, stored_regions}
 use Rattle.ob_base.specs.declared.access.Access.{Access}
 use Rattle.ob_base.specs.declared.config.Plan.{Plan}
 use Rattle.ob_base.specs.declared.config.Public.{Public}
+use Rattle.ob_base.specs.declared.schema.Shape.{Shape}
+use Rattle.ob_base.specs.declared.schema.Shape.TheVariants.{Flat, Indexed}
 use Rattle.ob_base.specs.declared.seen.End.{End}
 use Rattle.ob_base.specs.declared.seen.End.TheVariants.{Whole, Cut}
 use Rattle.ob_base.specs.declared.seen.Seen.{Seen}
@@ -17,11 +21,9 @@ use Rattle.ob_base.specs.declared.skeleton.Skeleton.{Skeleton}
 use Rattle.ob_base.specs.declared.skeleton.Skeleton.TheVariants.{Create, Insert, Update, Delete, Drop as DropTable, Rows, Groups}
 use Rattle.ob_base.specs.declared.skeleton.Source.TheVariants.{Table as OneTable, Join}
 use Rattle.ob_headline.specs.Words.{Begins}
-use Rattle.ob_mean.proofs.FlatLemmas.{MakesFlat, flat_whole, script_is}
-use Rattle.ob_mean.specs.Flats.{AreFlat}
 use Rattle.ob_mean.specs.Replay.{cut_at, count_end, done_of, ending_len, held_if, walk_end}
-use Rattle.ob_script.specs.Parts.{count_part, join_part}
-use Rattle.ob_script.specs.Script.{behind_count, blocks_of, extent_of, join_script, joined_extent, padded_part, result_part, rows_width, flat_script, whole_script}
+use Rattle.ob_script.specs.Parts.{count_part, insert_part, join_part, path_read, path_write, rewrite_part}
+use Rattle.ob_script.specs.Script.{behind_count, blocks_of, extent_of, join_script, joined_extent, padded_part, result_part, rows_width, flat_script, index_part_of, mutation_script, shape_script, table_script, whole_script}
 
 take_begins : (n : ℕ) (part rest : List Access) → Begins (take n part) (part ++ rest)
 take_begins n part rest = record {
@@ -55,10 +57,49 @@ record Fixed (script : Option ℕ → Option Plan → Option Plan → Last → L
   all : List Access
   is : (k : Option ℕ) (plan then : Option Plan) (end : Last) → script k plan then end ≡ all
 
+-- or the stash that is read before a leaf is known, and what follows that
+record ByLeaf (script : Option ℕ → Option Plan → Option Plan → Last → List Access) : Type 0 where
+  front : List Access
+  rest : ℕ → List Access
+  unread : (k : Option ℕ) (plan then : Option Plan) (end : End) → script k plan then (None, end) ≡ front
+  read : (k : Option ℕ) (plan then : Option Plan) (leaf : ℕ) (end : End) → script k plan then (Some leaf, end) ≡ front ++ rest leaf
+
+abbrev Parts : (script : Option ℕ → Option Plan → Option Plan → Last → List Access) → (size : ℕ) → Type 0
+Parts script size = Fixed script ⊎ (ByCount script size ⊎ ByLeaf script)
+
 abbrev HasParts : Public → Skeleton → Type 0
-HasParts p sk =
-    Fixed (λ k plan then end. flat_whole p sk (holding k plan then end))
-    ⊎ ByCount (λ k plan then end. flat_whole p sk (holding k plan then end)) (ending_len sk)
+HasParts p sk = Parts (λ k plan then end. whole_script p sk (holding k plan then end)) (ending_len sk)
+
+-- the same of accesses that are the same
+fixed_as : {f g : Option ℕ → Option Plan → Option Plan → Last → List Access} → ((k : Option ℕ) (plan then : Option Plan) (end : Last) → f k plan then end ≡ g k plan then end) → Fixed g → Fixed f
+fixed_as same fixed = record { all = fixed.all; is = λ k plan then end. same k plan then end ∙ fixed.is k plan then end }
+
+count_as : {f g : Option ℕ → Option Plan → Option Plan → Last → List Access} {size : ℕ} → ((k : Option ℕ) (plan then : Option Plan) (end : Last) → f k plan then end ≡ g k plan then end) → ByCount g size → ByCount f size
+count_as same by = record {
+  front = by.front;
+  first = by.first;
+  second = by.second;
+  ending = by.ending;
+  sized = by.sized;
+  unsecond = by.unsecond;
+  uncounted = λ plan then end. same None plan then end ∙ by.uncounted plan then end;
+  counted = λ k plan then end. same (Some k) plan then end ∙ by.counted k plan then end;
+}
+
+-- what an access asks behind the reads of its stash
+abbrev access_rest : (tree stash slots height leaf : ℕ) → List Access
+access_rest tree stash slots height leaf =
+    each (4 * (height + 1)) (path_read tree height leaf) ++ (each (4 * (height + 1)) (path_write tree height leaf) ++ each slots (write_at stash))
+
+-- an access of an index
+indexed_parts : (p : Public) (t : Stored ℕ) (flat : Option ℕ → Option Plan → Option Plan → Last → List Access) → t.heading.shape ≡ Indexed
+    → ByLeaf (λ k plan then end. by_shape t.heading.shape (flat k plan then end) (index_part_of p end.0 t))
+indexed_parts p t flat indexed = record {
+  front = count_part (t.held + 1) p.stash;
+  rest = λ leaf. access_rest t.held (t.held + 1) p.stash (height_of t.heading.capacity) leaf;
+  unread = λ k plan then end. ap (λ (s : Shape). by_shape s (flat k plan then (None, end)) (index_part_of p None t)) indexed;
+  read = λ k plan then leaf end. ap (λ (s : Shape). by_shape s (flat k plan then (Some leaf, end)) (index_part_of p (Some leaf) t)) indexed;
+}
 
 -- a SELECT of rows behind these accesses; where results are padded, it is the same whatever is held
 select_parts : (pad : Option ℕ) (p : Public) (before : List Access) (g : ℕ) (t : _) (ending : List Access)
@@ -78,11 +119,27 @@ select_parts None p before g t ending =
       counted = λ k plan then end. sym (append_assoc before count _);
     })
 
-table_parts : (p : Public) (o : Option (Stored ℕ))
-    → Fixed (λ k plan then end. option_map_or (flat_script p (holding k plan then end)) o [])
-    ⊎ ByCount (λ k plan then end. option_map_or (flat_script p (holding k plan then end)) o []) 0
+table_parts : (p : Public) (o : Option (Stored ℕ)) → Parts (λ k plan then end. option_map_or (table_script p (holding k plan then end)) o []) 0
 table_parts p None = inl (record { all = []; is = λ k plan then end. refl })
-table_parts p (Some t) = select_parts p.pad p [] p.next_region (extent_of t) []
+table_parts p (Some t) = go t.heading.shape refl
+  where
+    go : (shape : Shape) → t.heading.shape ≡ shape → Parts (λ k plan then end. table_script p (holding k plan then end) t) 0
+    go Flat flat =
+        let same = λ (k : Option ℕ) (plan then : Option Plan) (end : Last). ap (λ (s : Shape). by_shape s (flat_script p (holding k plan then end) t) (index_part_of p end.0 t)) flat in
+        elim (select_parts p.pad p [] p.next_region (extent_of t) []) [ inl fixed ↦ inl (fixed_as same fixed) | inr by ↦ inr (inl (count_as same by)) ]
+    go Indexed indexed = inr (inr (indexed_parts p t (λ k plan then end. flat_script p (holding k plan then end) t) indexed))
+
+-- a mutation of a table
+mutation_parts : (p : Public) (part : ℕ → ℕ → ℕ → ℕ → List Access) (o : Option (Stored ℕ)) → Parts (λ k plan then end. option_map_or (shape_script p end.0 (mutation_script p part)) o []) 0
+mutation_parts p part None = inl (record { all = []; is = λ k plan then end. refl })
+mutation_parts p part (Some t) = go t.heading.shape refl
+  where
+    go : (shape : Shape) → t.heading.shape ≡ shape → Parts (λ k plan then end. shape_script p end.0 (mutation_script p part) t) 0
+    go Flat flat = inl (record {
+      all = mutation_script p part t;
+      is = λ k plan then end. ap (λ (s : Shape). by_shape s (mutation_script p part t) (index_part_of p end.0 t)) flat;
+    })
+    go Indexed indexed = inr (inr (indexed_parts p t (λ k plan then end. mutation_script p part t) indexed))
 
 join_parts : (p : Public) (l r : Option (Stored ℕ))
     → Fixed (λ k plan then end. option_map_or (λ left. option_map_or (λ right. join_script p (holding k plan then end) left right) r []) l [])
@@ -96,14 +153,15 @@ join_parts p (Some left) (Some right) =
     select_parts p.pad p pairs (p.next_region + 1) from (discard_at p.next_region)
 
 parts : (p : Public) (sk : Skeleton) → HasParts p sk
-parts p (Create table cs n shape) = inl (record { all = flat_whole p (Create table cs n shape) (holding None None None (None, Whole)); is = λ k plan then end. refl })
-parts p (Insert table cs) = inl (record { all = flat_whole p (Insert table cs) (holding None None None (None, Whole)); is = λ k plan then end. refl })
-parts p (Update table cs) = inl (record { all = flat_whole p (Update table cs) (holding None None None (None, Whole)); is = λ k plan then end. refl })
-parts p (Delete table) = inl (record { all = flat_whole p (Delete table) (holding None None None (None, Whole)); is = λ k plan then end. refl })
-parts p (DropTable table) = inl (record { all = flat_whole p (DropTable table) (holding None None None (None, Whole)); is = λ k plan then end. refl })
-parts p (Groups table cs key) = inl (record { all = flat_whole p (Groups table cs key) (holding None None None (None, Whole)); is = λ k plan then end. refl })
+parts p (Create table cs n shape) = inl (record { all = whole_script p (Create table cs n shape) (holding None None None (None, Whole)); is = λ k plan then end. refl })
+parts p (Insert table cs) = mutation_parts p insert_part (stored_at table (stored_regions p.tables))
+parts p (Update table cs) = mutation_parts p rewrite_part (stored_at table (stored_regions p.tables))
+parts p (Delete table) = mutation_parts p rewrite_part (stored_at table (stored_regions p.tables))
+parts p (DropTable table) = inl (record { all = whole_script p (DropTable table) (holding None None None (None, Whole)); is = λ k plan then end. refl })
+parts p (Groups table cs key) = inl (record { all = whole_script p (Groups table cs key) (holding None None None (None, Whole)); is = λ k plan then end. refl })
 parts p (Rows (OneTable name) cs) = table_parts p (stored_at name (stored_regions p.tables))
-parts p (Rows (Join a b on equals) cs) = join_parts p (stored_at a (stored_regions p.tables)) (stored_at b (stored_regions p.tables))
+parts p (Rows (Join a b on equals) cs) =
+    elim (join_parts p (stored_at a (stored_regions p.tables)) (stored_at b (stored_regions p.tables))) [ inl fixed ↦ inl fixed | inr by ↦ inr (inl by) ]
 
 -- what was asked of a statement, and what it asks whole
 record CutsOff (part whole : List Access) (n : ℕ) : Type 0 where
@@ -162,21 +220,25 @@ last_done : (failed : Bool) (n : ℕ) → n ≤ done_of failed n + 1
 last_done true n = omega arith
 last_done false n = omega arith
 
--- a statement on flat tables
-module _ (failed : Bool) (n : ℕ) (p : Public) (sk : Skeleton) (flat : AreFlat (headings_of p.tables)) (made : MakesFlat sk) (x : Seen) where
-  flat_off : CutsOff (flat_whole p sk (cut_at failed n p sk x)) (flat_whole p sk x) n
-  flat_off = elim (parts p sk) [
-    | inl fixed ↦ cuts_same n _ _ fixed.all (fixed.is _ _ _ _) (fixed.is x.k x.plan x.then (x.leaf, x.end))
-    | inr by ↦ cutting (λ k plan then end. flat_whole p sk (holding k plan then end)) (ending_len sk) by n (done_of failed n) (held_if (nat_lt p.stash n) x.leaf) (last_done failed n)
-        (nat_le (count_end p sk) (done_of failed n)) (nat_le (walk_end p sk x) (done_of failed n)) x.k x.plan x.then (x.leaf, x.end) (λ short.
-        let less = above (walk_end p sk x) (done_of failed n) short in
-        subst (λ (l : List Access). done_of failed n < length l - (ending_len sk + 1)) (script_is p flat sk (record x { then = None }) made) less)
-  ]
+-- an access whose leaf is not known yet reads a first part of its stash
+reading : (script : Option ℕ → Option Plan → Option Plan → Last → List Access) (by : ByLeaf script) (n : ℕ) (known : Bool) (k k1 : Option ℕ) (plan plan1 then then1 : Option Plan) (leaf : Option ℕ) (end end1 : End)
+    → CutsOff (script k1 plan1 then1 (held_if known leaf, end1)) (script k plan then (leaf, end)) n
+reading script by n known k k1 plan plan1 then then1 None end end1 =
+    elim known as (λ b. CutsOff (script k1 plan1 then1 (held_if b None, end1)) (script k plan then (None, end)) n) [
+      | true ↦ cuts_same n _ _ by.front (by.unread k1 plan1 then1 end1) (by.unread k plan then end)
+      | false ↦ cuts_same n _ _ by.front (by.unread k1 plan1 then1 end1) (by.unread k plan then end)
+    ]
+reading script by n true k k1 plan plan1 then then1 (Some leaf) end end1 = cuts_same n _ _ (by.front ++ by.rest leaf) (by.read k1 plan1 then1 leaf end1) (by.read k plan then leaf end)
+reading script by n false k k1 plan plan1 then then1 (Some leaf) end end1 = cuts_front n _ _ by.front (by.rest leaf) (by.unread k1 plan1 then1 end1) (by.read k plan then leaf end)
 
+module _ (failed : Bool) (n : ℕ) (p : Public) (sk : Skeleton) (x : Seen) where
   cut_off : CutsOff (whole_script p sk (cut_at failed n p sk x)) (whole_script p sk x) n
-  cut_off =
-      subst (λ (l : List Access). CutsOff l (whole_script p sk x) n) (sym (script_is p flat sk (cut_at failed n p sk x) made))
-      (subst (λ (l : List Access). CutsOff (flat_whole p sk (cut_at failed n p sk x)) l n) (sym (script_is p flat sk x made)) flat_off)
+  cut_off = elim (parts p sk) [
+    | inl fixed ↦ cuts_same n _ _ fixed.all (fixed.is _ _ _ _) (fixed.is x.k x.plan x.then (x.leaf, x.end))
+    | inr (inl by) ↦ cutting (λ k plan then end. whole_script p sk (holding k plan then end)) (ending_len sk) by n (done_of failed n) (held_if (nat_lt p.stash n) x.leaf) (last_done failed n)
+        (nat_le (count_end p sk) (done_of failed n)) (nat_le (walk_end p sk x) (done_of failed n)) x.k x.plan x.then (x.leaf, x.end) (λ short. above _ _ short)
+    | inr (inr by) ↦ reading (λ k plan then end. whole_script p sk (holding k plan then end)) by n (nat_lt p.stash n) x.k _ x.plan _ x.then _ x.leaf x.end (Cut n)
+  ]
 
   -- it asks a first part of what it asks whole, and would ask no more
   pub cut_begins : Begins (take n (whole_script p sk (cut_at failed n p sk x))) (whole_script p sk x)

@@ -1,6 +1,6 @@
--- What statements go on from is flat, and stays so.
+-- What statements go on from is flat, and stays so where the tables are kept.
 use Rattle.std.specs.Prelude.{map, slice_get}
-use Rattle.std.proofs.Common.{◌≡◌, ℕ, zero, suc, false, List, [], ◌∷◌, Option, Some, None, refl, sym, ◌∙◌, ap, subst}
+use Rattle.std.proofs.Common.{◌≡◌, ℕ, zero, suc, false, true, List, [], ◌∷◌, Option, Some, None, refl, ◌∙◌, ap}
 use Rattle.ob_base.specs.Stored.{headings, headings_of}
 use Rattle.ob_base.specs.declared.config.Config.{Config}
 use Rattle.ob_base.specs.declared.config.Public.{Public}
@@ -8,13 +8,12 @@ use Rattle.ob_base.specs.declared.refusal.Refusal.{Refusal}
 use Rattle.ob_base.specs.declared.schema.Heading.{Heading}
 use Rattle.ob_base.specs.declared.schema.Shape.TheVariants.{Flat}
 use Rattle.ob_base.specs.declared.seen.End.{End}
-use Rattle.ob_base.specs.declared.seen.Seen.{Seen}
 use Rattle.ob_base.specs.declared.skeleton.Skeleton.{Skeleton}
 use Rattle.ob_headline.specs.Bases.{public_with}
 use Rattle.ob_mean.proofs.FlatLemmas.{makes_flat}
-use Rattle.ob_mean.proofs.FlatSessions.{draws_rest, draws_stay, next_flat as flat_behind}
+use Rattle.ob_mean.proofs.FlatSessions.{draws_rest, draws_stay}
 use Rattle.ob_mean.specs.Flats.{AreFlat}
-use Rattle.ob_mean.specs.Lawful.{HoldsLeaf, Lawful}
+use Rattle.ob_mean.specs.Lawful.{HoldsLeaf}
 use Rattle.ob_mean.specs.Refusals.{early_refusal, limits_of}
 use Rattle.ob_mean.specs.Replay.{IsCutOff, Session, after, is_access}
 use Rattle.ob_mean.specs.Verdict.{Tables, is_late}
@@ -23,9 +22,7 @@ use Rattle.ob_reopen.specs.Reopened.{opened_public}
 use Rattle.ob_reopen.specs.Resting.{AreKept, Rests}
 use Rattle.ob_reopen.specs.declared.closing.Closing.{Closing}
 use Rattle.ob_reopen.specs.declared.listed.Listed.{Listed}
-use Rattle.ob_script.specs.Trace.{next}
 use Rattle.ob_seal.specs.KeySet.{KeySet}
-use Rattle.ob_sql.specs.Skeleton.{skeleton}
 use Rattle.ob_sql.specs.declared.stmt.Stmt.{Stmt}
 use Rattle.ob_store.specs.State.{KeptRegion}
 
@@ -34,17 +31,13 @@ abbrev pub IsFlat : Public → Type 0
 IsFlat p = AreFlat (headings_of p.tables)
 
 -- ---- a statement
--- whatever is seen of it that is lawful, it leaves them so
-pub next_flat : (p : Public) (m : ℕ) (stmt : Stmt) (s : Skeleton) (here : Seen) → s ≡ skeleton stmt → Lawful p m stmt here → IsFlat p → IsFlat (next p s here)
-next_flat p m stmt s here is lawful flat = subst (λ (k : Skeleton). IsFlat (next p k here)) (sym is) (flat_behind p m stmt here lawful flat)
-
--- it draws nothing, whether the store cuts it off or not
-pub nothing_drawn : (s : Session) (stmt : Stmt) (broken : Option ℕ) → IsFlat s.public → IsCutOff broken s stmt → (after broken s stmt).draws ≡ s.draws
-nothing_drawn s stmt (Some n) flat cuts = draws_stay s stmt flat (makes_flat (is_late s.asked) (limits_of s.public) (headings s.tables) stmt cuts.0) (Some n)
-nothing_drawn s stmt None flat cuts = go (early_refusal (is_late s.asked) (limits_of s.public) (headings s.tables) stmt) refl
+-- where the tables are kept it draws nothing, whether the store cuts it off or not
+pub nothing_drawn : (s : Session) (stmt : Stmt) (broken : Option ℕ) → s.public.keep ≡ true → IsFlat s.public → IsCutOff broken s stmt → (after broken s stmt).draws ≡ s.draws
+nothing_drawn s stmt (Some n) kept flat cuts = draws_stay s stmt flat (makes_flat (is_late s.asked) (limits_of s.public) (headings s.tables) stmt kept cuts.0) (Some n)
+nothing_drawn s stmt None kept flat cuts = go (early_refusal (is_late s.asked) (limits_of s.public) (headings s.tables) stmt) refl
   where
     go : (o : Option Refusal) → early_refusal (is_late s.asked) (limits_of s.public) (headings s.tables) stmt ≡ o → (after None s stmt).draws ≡ s.draws
-    go None free = draws_stay s stmt flat (makes_flat (is_late s.asked) (limits_of s.public) (headings s.tables) stmt free) None
+    go None free = draws_stay s stmt flat (makes_flat (is_late s.asked) (limits_of s.public) (headings s.tables) stmt kept free) None
     go (Some r) refused = draws_rest s stmt r refused
 
 -- one that accesses no index holds no leaf
@@ -59,7 +52,7 @@ start_flat (Some config) = tt
 
 -- a closing lists flat tables alone
 each_listed : (closing : Closing) (listed : List Listed) → IsCatalogue closing listed → (i : ℕ) (t : Listed) → slice_get listed i ≡ Some t → t.table.heading.shape ≡ Flat
-each_listed closing listed catalogue i t is = (catalogue.are.each i t is).listed.heading.stored.flat
+each_listed closing listed catalogue i t is = (catalogue.are.each i t is).listed.flat
 
 all_listed : (listed : List Listed) → ((i : ℕ) (t : Listed) → slice_get listed i ≡ Some t → t.table.heading.shape ≡ Flat) → AreFlat (headings_of (map (λ (t : Listed). t.table) listed))
 all_listed [] each = tt

@@ -17,8 +17,8 @@ use Rattle.ob_base.specs.declared.skeleton.Skeleton.{Skeleton}
 use Rattle.ob_base.specs.declared.skeleton.Skeleton.TheVariants as K
 use Rattle.ob_base.specs.declared.skeleton.Source.TheVariants.{Table as OneTable, Join}
 use Rattle.ob_verdict.specs.Outcomes.{refusal_now}
-use Rattle.ob_headline.proofs.FlatLemmas.{IsFlat, next_flat, no_leaf}
-use Rattle.ob_headline.proofs.RerunLemmas.{first_plain, holds_none, not_cut, rest_plain, shows_plainly}
+use Rattle.ob_headline.proofs.FlatLemmas.{no_leaf}
+use Rattle.ob_headline.proofs.RerunLemmas.{holds_none, not_cut, shows_plainly}
 use Rattle.ob_headline.specs.Bases.{Base}
 use Rattle.ob_headline.specs.Failures.{failures}
 use Rattle.ob_headline.specs.Headline.{Headline}
@@ -114,25 +114,25 @@ begins_more one xs ys begins =
     record { rest = begins.rest; joined = ap (λ (l : List Access). one ++ l) begins.joined ∙ sym (append_assoc one xs begins.rest) }
 
 begins_plainly : (Leaves : Public → Stmt → Seen → Type 0) (spelt : List Spelt) (answers : List Answer) (p : Public) (m : ℕ) (seen : List Entry) → AreSeen Leaves p m spelt answers seen
-    → length spelt ≤ length answers + 1 → failures answers ≡ 0 → IsFlat p → ArePlain p (statements spelt) → Begins (trace p seen) (trace p (shown_plainly p m (statements spelt)))
-unfolding AreSeen failures statements shown_plainly
-begins_plainly Leaves [] answers p m seen lawful few none flat plain = subst (λ (xs : List Entry). Begins (trace p xs) []) (sym lawful) (begins_all [])
-begins_plainly Leaves (Err at ∷ spelt) [] p m seen lawful few none flat plain = begins_plainly Leaves spelt [] p m seen lawful (omega (arith, few)) none flat plain
-begins_plainly Leaves (Err at ∷ spelt) (one ∷ answers) p m seen lawful few none flat plain =
-    begins_plainly Leaves spelt answers p m seen lawful.1 (omega (arith, few)) (omega (arith, none)) flat plain
-begins_plainly Leaves (Ok stmt ∷ spelt) [] p m [] lawful few none flat plain = absurd lawful
-begins_plainly Leaves (Ok stmt ∷ spelt) (one ∷ answers) p m [] lawful few none flat plain = absurd lawful
-begins_plainly Leaves (Ok stmt ∷ []) [] p m (x ∷ seen) lawful few none flat plain =
-    let begins = begins_by p m stmt x.seen x.seen.end refl (first_plain p stmt [] flat plain) lawful.1 in
+    → length spelt ≤ length answers + 1 → failures answers ≡ 0 → ArePlain p m (statements spelt) → Begins (trace p seen) (trace p (shown_plainly p m (statements spelt)))
+unfolding AreSeen ArePlain failures statements shown_plainly
+begins_plainly Leaves [] answers p m seen lawful few none plain = subst (λ (xs : List Entry). Begins (trace p xs) []) (sym lawful) (begins_all [])
+begins_plainly Leaves (Err at ∷ spelt) [] p m seen lawful few none plain = begins_plainly Leaves spelt [] p m seen lawful (omega (arith, few)) none plain
+begins_plainly Leaves (Err at ∷ spelt) (one ∷ answers) p m seen lawful few none plain =
+    begins_plainly Leaves spelt answers p m seen lawful.1 (omega (arith, few)) (omega (arith, none)) plain
+begins_plainly Leaves (Ok stmt ∷ spelt) [] p m [] lawful few none plain = absurd lawful
+begins_plainly Leaves (Ok stmt ∷ spelt) (one ∷ answers) p m [] lawful few none plain = absurd lawful
+begins_plainly Leaves (Ok stmt ∷ []) [] p m (x ∷ seen) lawful few none plain =
+    let begins = begins_by p m stmt x.seen x.seen.end refl plain.0 lawful.1 in
     begins_last p (next p x.skeleton x.seen) (next p (skeleton stmt) (plainly p m stmt)) (script p x.skeleton x.seen) (script p (skeleton stmt) (plainly p m stmt)) seen lawful.3
     (subst (λ (s : Skeleton). Begins (script p s x.seen) (script p (skeleton stmt) (plainly p m stmt))) (sym lawful.0) begins)
-begins_plainly Leaves (Ok stmt ∷ (y ∷ spelt)) [] p m (x ∷ seen) lawful few none flat plain = absurd (omega (arith, few))
-begins_plainly Leaves (Ok stmt ∷ spelt) (one ∷ answers) p m (x ∷ seen) lawful few none flat plain =
+begins_plainly Leaves (Ok stmt ∷ (y ∷ spelt)) [] p m (x ∷ seen) lawful few none plain = absurd (omega (arith, few))
+begins_plainly Leaves (Ok stmt ∷ spelt) (one ∷ answers) p m (x ∷ seen) lawful few none plain =
     let uncut = not_cut (is_cut x.seen.end) one.outcome lawful.2.1.0 (omega (arith, none)) in
-    let here : x.seen ≡ plainly p m stmt = shows_plainly p m stmt x.seen lawful.1 (first_plain p stmt (statements spelt) flat plain) uncut in
+    let here : x.seen ≡ plainly p m stmt = shows_plainly p m stmt x.seen lawful.1 plain.0 uncut in
     let same : x ≡ record { skeleton = skeleton stmt; seen = plainly p m stmt } = λ i. record { skeleton = lawful.0 i; seen = here i } in
-    let rest = begins_plainly Leaves spelt answers (next p x.skeleton x.seen) (m + length (script p x.skeleton x.seen)) seen lawful.3 (omega (arith, few)) (omega (arith, none))
-    (next_flat p m stmt x.skeleton x.seen lawful.0 lawful.1 flat) (rest_plain p stmt (statements spelt) x plain) in
+    let behind = subst (λ (z : Entry). ArePlain (next p z.skeleton z.seen) (m + length (script p z.skeleton z.seen)) (statements spelt)) (sym same) plain.1 in
+    let rest = begins_plainly Leaves spelt answers (next p x.skeleton x.seen) (m + length (script p x.skeleton x.seen)) seen lawful.3 (omega (arith, few)) (omega (arith, none)) behind in
     subst (λ (z : Entry). Begins (script p x.skeleton x.seen ++ trace (next p x.skeleton x.seen) seen)
     (script p z.skeleton z.seen ++ trace (next p z.skeleton z.seen) (shown_plainly (next p z.skeleton z.seen) (m + length (script p z.skeleton z.seen)) (statements spelt)))) same
     (begins_more (script p x.skeleton x.seen) _ _ rest)
@@ -141,7 +141,7 @@ begins_plainly Leaves (Ok stmt ∷ spelt) (one ∷ answers) p m (x ∷ seen) law
 asks : {base : Base} {Takes : Type 0} {tracing : Bool} {old new : Outside} {report : Report} (run : Headline base Takes tracing old new report) → AsksByKinds run
 asks {base} {new = new} run none plain =
     let few : length run.story.spelt ≤ length run.story.answers + 1 = omega (arith, run.statements.begun, run.statements.each) in
-    let begins = begins_plainly _ run.story.spelt run.story.answers base.public base.count (run.story.seen ++ run.story.last) run.accesses.lawful few none run.accesses.flat plain in
+    let begins = begins_plainly _ run.story.spelt run.story.answers base.public base.count (run.story.seen ++ run.story.last) run.accesses.lawful few none plain in
     subst (λ (l : List Access). Begins l (base.before ++ trace base.public (shown_plainly base.public base.count (statements run.story.spelt)))) (sym run.accesses.asked) (begins_more base.before _ _ begins)
 
 pub asks_taken : (base : Base) (app : App) (words : List Text) (tracing : Bool) (old new : Outside) (report : Report) (run : Headline base (IsTaken app words) tracing old new report) → AsksByKinds run

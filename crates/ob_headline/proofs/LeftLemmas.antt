@@ -14,7 +14,7 @@ use Rattle.ob_headline.proofs.BetweenLemmas.{written_by}
 use Rattle.ob_headline.proofs.OwnLemmas.{runs_write_own}
 use Rattle.ob_headline.specs.Bases.{Base}
 use Rattle.ob_headline.specs.Reruns.{SomeRun, asked_by, seen_by}
-use Rattle.ob_headline.specs.Shown.{AreNumberedAlike, AskedTheSame, IsBegun, IsBetween, IsShown, ShowNumbersAlike, Shows, ShowsBehind, ShowsBetween, ShowsSealed, Wrote, asked_behind, number_at, public_behind}
+use Rattle.ob_headline.specs.Shown.{AreNumberedAlike, AskedTheSame, IsBegun, IsBetween, IsShown, OfIndex, ShowNumbersAlike, Shows, ShowsBehind, ShowsBetween, ShowsSealed, Wrote, asked_behind, number_at, public_behind}
 use Rattle.ob_headline.specs.Words.{keys_in}
 use Rattle.ob_headline.specs.Sealing.{IsSealed, IsSealedAt, PassesHere}
 use Rattle.ob_script.proofs.Eaches.{get_front}
@@ -75,10 +75,10 @@ shows_all Passes keys start old new fresh is = record {
 pub shows_sealed : (one : SomeRun) → IsBegun one.base → ShowsSealed one
 shows_sealed one begun tells = shows_all (PassesHere one.base) (keys_in one.run.taken) one.base.start one.old.store one.new.store begun.fresh (one.run.sealing.sealed tells)
 
--- a write to a region that was made by then came by then
-pub written_behind : (one : SomeRun) (k i region place : ℕ) → region < (public_behind one k).next_region → Wrote (asked_by one) i region place → i < length (asked_behind one k)
-written_behind one k i region place made wrote =
-    written_by k one.base.public (seen_by one) (runs_write_own one) one.base.before i region place (ap (λ (l : List Access). slice_get l i) (sym one.run.accesses.asked) ∙ wrote.is) made
+-- a write to a region that was made by then, and is no index's, came by then
+pub written_behind : (one : SomeRun) (k i region place : ℕ) → region < (public_behind one k).next_region → (OfIndex (public_behind one k).tables region → ⊥) → Wrote (asked_by one) i region place → i < length (asked_behind one k)
+written_behind one k i region place made off wrote =
+    written_by k one.base.public (seen_by one) (runs_write_own one) one.base.before i region place (ap (λ (l : List Access). slice_get l i) (sym one.run.accesses.asked) ∙ wrote.is) made off
 
 module _ (one : SomeRun) (begun : IsBegun one.base) (tells : IsTrue one.old.store.tells) (between : StoreState) (is : IsBetween one between) where
   pub shows_between : ShowsBetween one between
@@ -91,8 +91,8 @@ module _ (one : SomeRun) (begun : IsBegun one.base) (tells : IsTrue one.old.stor
 
   pub shows_behind : (k : ℕ) → between.asked ≡ asked_behind one k → ShowsBehind one k between
   shows_behind k asked = record {
-    each = λ region place block mine made lives last.
-        shows_between.each region place block mine lives last (λ i wrote. omega (arith, written_behind one k i region place made wrote, ap length asked));
+    each = λ region place block mine made off lives last.
+        shows_between.each region place block mine lives last (λ i wrote. omega (arith, written_behind one k i region place made off wrote, ap length asked));
   }
 
 -- ---- two runs

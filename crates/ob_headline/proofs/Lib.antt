@@ -2,6 +2,7 @@ pub mod FlatLemmas
 pub mod MarkLemmas
 pub mod InStep
 pub mod AlikeSessions
+pub mod SettingLemmas
 pub mod AsOne
 pub mod Numbered
 pub mod TextLemmas
@@ -11,9 +12,11 @@ pub mod PieceLemmas
 pub mod RerunLemmas
 pub mod KindLemmas
 pub mod CutLemmas
+pub mod FullLemmas
 mod Spelt
 pub mod ShownLemmas
 pub mod PlainLemmas
+pub mod IndexWrites
 pub mod OwnLemmas
 pub mod AloneLemmas
 pub mod BetweenLemmas

@@ -1,9 +1,11 @@
--- Each statement writes to those regions alone that it makes.
-use Rattle.std.specs.Prelude.{⊤, is_some, slice_get}
-use Rattle.std.proofs.Common.{◌≡◌, ◌+◌, ◌<◌, ◌-◌, ◌*◌, ◌/◌, ◌%◌, ◌≤◌, ◌++◌, ℕ, zero, suc, min, List, [], ◌∷◌, length, Option, Some, None, Ok, Err, take, refl, sym, ap, subst, append_assoc, append-nil, arith}
+-- Each statement that accesses no index writes to those regions alone that it makes.
+use Rattle.std.specs.Prelude.{⊤, slice_get}
+use Rattle.std.proofs.Common.{◌≡◌, ◌+◌, ◌<◌, ◌-◌, ◌*◌, ◌/◌, ◌%◌, ◌≤◌, ◌++◌, ℕ, zero, suc, min, false, List, [], ◌∷◌, length, Option, Some, None, Ok, Err, take, refl, sym, ◌∙◌, subst, append_assoc, append-nil, arith}
 use Rattle.std.specs.Int.{div_ceil}
 use Rattle.std.specs.Option.{option_map_or}
-use Rattle.ob_base.specs.declared.schema.Shape.TheVariants.{Flat}
+use Rattle.ob_base.specs.declared.schema.Shape.{Shape}
+use Rattle.ob_base.specs.declared.schema.Shape.TheVariants.{Flat, Indexed}
+use Rattle.ob_base.specs.Indexes.{by_shape, height_of, tree_blocks}
 use Rattle.ob_base.specs.Accesses.{discard_at, make_at, makes, read_at, write_at}
 use Rattle.ob_base.specs.Joins.{joined_slots}
 use Rattle.ob_base.specs.Limits.{buffered, buffered_blocks}
@@ -11,36 +13,31 @@ use Rattle.ob_base.specs.Lists.{each}
 use Rattle.ob_base.specs.Numbers.{blocks_for, first_bucket, second_bucket}
 use Rattle.ob_base.specs.Plans.{choose_padded, padded_rows}
 use Rattle.ob_base.specs.Schemas.{width, columns_of}
-use Rattle.ob_base.specs.Stored.{Stored, headings_of, stored_at, stored_regions}
+use Rattle.ob_base.specs.Stored.{Stored, stored_at, stored_regions}
 use Rattle.ob_base.specs.declared.access.Access.{Access}
 use Rattle.ob_base.specs.declared.access.Access.TheVariants.{Make, Read, Write, Discard, Open}
 use Rattle.ob_base.specs.declared.config.Plan.{Plan}
 use Rattle.ob_base.specs.declared.config.Plan.TheVariants.{Small, Large, Continuous, Hash}
 use Rattle.ob_base.specs.declared.config.Public.{Public}
-use Rattle.ob_base.specs.declared.refusal.Refusal.{Refusal}
 use Rattle.ob_base.specs.declared.seen.End.{End}
 use Rattle.ob_base.specs.declared.seen.End.TheVariants.{Static, Whole, AfterCount, Cut}
 use Rattle.ob_base.specs.declared.seen.Seen.{Seen}
 use Rattle.ob_base.specs.declared.skeleton.Skeleton.{Skeleton}
 use Rattle.ob_base.specs.declared.skeleton.Skeleton.TheVariants.{Create, Insert, Update, Delete, Drop as DropTable, Rows, Groups}
-use Rattle.ob_base.specs.declared.skeleton.Source.{Source}
 use Rattle.ob_base.specs.declared.skeleton.Source.TheVariants.{Table as OneTable, Join}
-use Rattle.ob_headline.proofs.FlatLemmas.{IsFlat, next_flat}
+use Rattle.ob_headline.proofs.IndexWrites.{writes_indexes}
 use Rattle.ob_headline.specs.Reruns.{SomeRun, seen_by}
-use Rattle.ob_headline.specs.Shown.{WriteOwn, WritesWithin}
+use Rattle.ob_headline.specs.Shown.{WriteOwn, WritesOwn, WritesWithin}
 use Rattle.ob_headline.specs.Words.{Answer}
 use Rattle.ob_headline.specs.Accesses.{AreSeen}
-use Rattle.ob_mean.proofs.FlatLemmas.{MakesFlat, flat_source, flat_whole, makes_flat, script_is}
 use Rattle.ob_mean.specs.Lawful.{Holds, Lawful}
-use Rattle.ob_mean.specs.Refusals.{limits_of}
-use Rattle.ob_mean.specs.Replay.{Spelt}
-use Rattle.ob_mean.specs.Verdict.{is_late}
+use Rattle.ob_mean.specs.Refusals.{is_indexed}
+use Rattle.ob_mean.specs.Replay.{Spelt, has_index, is_access}
 use Rattle.ob_script.specs.Parts.{bucket_part, continuous_block, continuous_part, copy_at, copy_part, count_part, create_part, emission_part, hash_block, hash_part, hash_slot, insert_part, join_chunk, join_part, large_part, pair_at, read_from, rewrite_part, slots_in, small_part, small_pass, write_from}
-use Rattle.ob_script.specs.Script.{after_count, behind_count, blocks_of, extent_of, flat_script, join_script, mutation_script, plan_part, result_blocks, result_part, rows_width, script, select_part, until_end, whole_script, with_table}
+use Rattle.ob_script.specs.Script.{after_count, behind_count, blocks_of, dropped_script, extent_of, flat_script, index_part_of, join_script, mutation_script, plan_part, result_blocks, result_part, rows_width, script, select_part, shape_script, until_end, whole_script, with_table}
 use Rattle.ob_script.specs.Trace.{Served as Entry, next}
-use Rattle.ob_sql.specs.Skeleton.{skeleton}
 use Rattle.ob_sql.specs.declared.stmt.Stmt.{Stmt}
-use Rattle.ob_verdict.specs.Outcomes.{refusal_now}
+use Rattle.ob_verdict.proofs.LawfulProof.{region_index}
 
 -- no region is made, and each write goes to one from the first number on and below the second
 unfoldable Within : (from below : ℕ) → List Access → Type 0
@@ -273,6 +270,18 @@ selects n g from p seen t ending order a =
 found : (n g : ℕ) (f : Stored ℕ → List Access) → ((t : Stored ℕ) → InTurn n g (f t)) → (name : List ℕ) (p : Public) → InTurn n g (with_table name p f)
 found n g f all name p = elim (stored_at name (stored_regions p.tables)) as (λ o. InTurn n g (option_map_or f o [])) [ None ↦ nothing n g | Some t ↦ all t ]
 
+-- where no index has the name
+found_flat : (n g : ℕ) (leaf : Option ℕ) (f : Stored ℕ → List Access) → ((t : Stored ℕ) → InTurn n g (f t)) → (name : List ℕ) (p : Public) → has_index p name ≡ false → InTurn n g (with_table name p (shape_script p leaf f))
+found_flat n g leaf f all name p flat = go (stored_at name (stored_regions p.tables)) refl
+  where
+    of_shape : (t : Stored ℕ) (shape : Shape) → is_indexed shape ≡ false → InTurn n g (by_shape shape (f t) (index_part_of p leaf t))
+    of_shape t Flat none = all t
+    of_shape t Indexed none = absurd (cc none)
+
+    go : (o : Option (Stored ℕ)) → stored_at name (stored_regions p.tables) ≡ o → InTurn n g (option_map_or (shape_script p leaf f) o [])
+    go None none = nothing n g
+    go (Some t) is = of_shape t t.heading.shape (sym (region_index p name t is) ∙ flat)
+
 ends : (n g : ℕ) (xs : List Access) → InTurn n g (xs ++ []) → InTurn n g xs
 ends n g xs a = subst (InTurn n g) (append-nil xs) a
 
@@ -296,22 +305,37 @@ module _ (p : Public) (seen : Seen) (order : InOrder seen.plan seen.then) where
       (selects p.next_region (p.next_region + 1) (omega arith) p seen t (discard_at p.next_region) order (λ g. ending p.next_region g (discard_at p.next_region) (discards p.next_region g p.next_region)))
       left.held right.held (blocks_of p (extent_of left)) (blocks_of p (extent_of right)) (buffered_blocks p.pack p.buffer) (rows_width p (extent_of t))
 
-  sources : (source : Source) → InTurn p.next_region p.next_region (flat_source p seen source)
-  sources (OneTable name) = found p.next_region p.next_region (flat_script p seen) (λ t. selects p.next_region p.next_region same p seen t [] order (nothing p.next_region)) name p
-  sources (Join a b on equals) =
+  joins_all : (a b : List ℕ) → InTurn p.next_region p.next_region (with_table a p (λ left. with_table b p (λ right. join_script p seen left right)))
+  joins_all a b =
       found p.next_region p.next_region (λ left. with_table b p (λ right. join_script p seen left right)) (λ left. found p.next_region p.next_region (λ right. join_script p seen left right) (joined left) b p) a p
 
-  wholes : (s : Skeleton) → InTurn p.next_region p.next_region (flat_whole p s seen)
-  wholes (Create table cs capacity shape) = ends p.next_region p.next_region _ (creates p.next_region p.next_region same [] none (blocks_for p.pack capacity) (p.pack * width (columns_of table cs)))
-  wholes (Insert table cs) =
-      found p.next_region p.next_region (mutation_script p insert_part) (λ t. ends p.next_region p.next_region _ (inserts p.next_region p.next_region same [] none t.held (blocks_of p (extent_of t)) (rows_width p (extent_of t)))) table p
-  wholes (Update table cs) =
-      found p.next_region p.next_region (mutation_script p rewrite_part) (λ t. ends p.next_region p.next_region _ (rewrites p.next_region p.next_region same [] none t.held (blocks_of p (extent_of t)) (rows_width p (extent_of t)))) table p
-  wholes (Delete table) =
-      found p.next_region p.next_region (mutation_script p rewrite_part) (λ t. ends p.next_region p.next_region _ (rewrites p.next_region p.next_region same [] none t.held (blocks_of p (extent_of t)) (rows_width p (extent_of t)))) table p
-  wholes (DropTable table) = found p.next_region p.next_region (λ t. discard_at t.held) (λ t. ending p.next_region p.next_region (discard_at t.held) (discards p.next_region p.next_region t.held)) table p
-  wholes (Rows source cs) = sources source
-  wholes (Groups table cs key) =
+  -- a region is given up, and of an index two are
+  drops : (t : Stored ℕ) (shape : Shape) → InTurn p.next_region p.next_region (by_shape shape (discard_at t.held) (discard_at t.held ++ discard_at (t.held + 1)))
+  drops t Flat = ending p.next_region p.next_region (discard_at t.held) (discards p.next_region p.next_region t.held)
+  drops t Indexed =
+      ending p.next_region p.next_region (discard_at t.held ++ discard_at (t.held + 1))
+      (both p.next_region p.next_region (discard_at t.held) (discard_at (t.held + 1)) (discards p.next_region p.next_region t.held) (discards p.next_region p.next_region (t.held + 1)))
+
+  inserts_all : (t : Stored ℕ) → InTurn p.next_region p.next_region (mutation_script p insert_part t)
+  inserts_all t = ends p.next_region p.next_region _ (inserts p.next_region p.next_region same [] none t.held (blocks_of p (extent_of t)) (rows_width p (extent_of t)))
+
+  rewrites_all : (t : Stored ℕ) → InTurn p.next_region p.next_region (mutation_script p rewrite_part t)
+  rewrites_all t = ends p.next_region p.next_region _ (rewrites p.next_region p.next_region same [] none t.held (blocks_of p (extent_of t)) (rows_width p (extent_of t)))
+
+  wholes : (s : Skeleton) → is_access p s ≡ false → InTurn p.next_region p.next_region (whole_script p s seen)
+  wholes (Create table cs capacity Flat) flat = ends p.next_region p.next_region _ (creates p.next_region p.next_region same [] none (blocks_for p.pack capacity) (p.pack * width (columns_of table cs)))
+  wholes (Create table cs capacity Indexed) flat =
+      let wide = width (columns_of table cs) in
+      let stash : InTurn p.next_region (p.next_region + 1) (create_part (p.next_region + 1) p.stash wide) =
+      ends p.next_region (p.next_region + 1) _ (creates p.next_region (p.next_region + 1) (omega arith) [] (nothing p.next_region (p.next_region + 1 + 1)) p.stash wide) in
+      creates p.next_region p.next_region same (create_part (p.next_region + 1) p.stash wide) stash (tree_blocks (height_of capacity)) wide
+  wholes (Insert table cs) flat = found_flat p.next_region p.next_region seen.leaf (mutation_script p insert_part) inserts_all table p flat
+  wholes (Update table cs) flat = found_flat p.next_region p.next_region seen.leaf (mutation_script p rewrite_part) rewrites_all table p flat
+  wholes (Delete table) flat = found_flat p.next_region p.next_region seen.leaf (mutation_script p rewrite_part) rewrites_all table p flat
+  wholes (DropTable table) flat = found p.next_region p.next_region dropped_script (λ t. drops t t.heading.shape) table p
+  wholes (Rows (OneTable name) cs) flat = found_flat p.next_region p.next_region seen.leaf (flat_script p seen) (λ t. selects p.next_region p.next_region same p seen t [] order (nothing p.next_region)) name p flat
+  wholes (Rows (Join a b on equals) cs) flat = joins_all a b
+  wholes (Groups table cs key) flat =
       found p.next_region p.next_region (λ t. count_part t.held (blocks_of p (extent_of t))) (λ t. ending p.next_region p.next_region _ (counts p.next_region p.next_region t.held (blocks_of p (extent_of t)))) table p
 
   until : (end : End) (all : List Access) → InTurn p.next_region p.next_region all → InTurn p.next_region p.next_region (until_end end all)
@@ -320,12 +344,8 @@ module _ (p : Public) (seen : Seen) (order : InOrder seen.plan seen.then) where
   until AfterCount all a = a
   until (Cut k) all a = first_part p.next_region p.next_region k all a
 
-  scripts : (s : Skeleton) → IsFlat p → MakesFlat s → InTurn p.next_region p.next_region (script p s seen)
-  scripts s flat made = until seen.end (whole_script p s seen) (subst (InTurn p.next_region p.next_region) (sym (script_is p flat s seen made)) (wholes s))
-
-  -- none is asked of one that is refused before
-  unasked : (s : Skeleton) → seen.end ≡ Static → InTurn p.next_region p.next_region (script p s seen)
-  unasked s static = subst (λ (end : End). InTurn p.next_region p.next_region (until_end end (whole_script p s seen))) (sym static) (nothing p.next_region p.next_region)
+  scripts : (s : Skeleton) → is_access p s ≡ false → InTurn p.next_region p.next_region (script p s seen)
+  scripts s flat = until seen.end (whole_script p s seen) (wholes s flat)
 
   writes_within : (s : Skeleton) → InTurn p.next_region p.next_region (script p s seen) → WritesWithin p.next_region (next p s seen).next_region (script p s seen)
   writes_within s turn = record { each = λ i q x wrote. own_at p.next_region p.next_region (script p s seen) i q x turn wrote.is }
@@ -337,30 +357,23 @@ in_order p stmt seen k None None holds = tt
 in_order p stmt seen None None (Some second) holds = absurd holds
 in_order p stmt seen (Some k) None (Some second) holds = absurd holds
 
-lawful_within : (p : Public) (m : ℕ) (stmt : Stmt) (seen : Seen) (s : Skeleton) → s ≡ skeleton stmt → IsFlat p → Lawful p m stmt seen → WritesWithin p.next_region (next p s seen).next_region (script p s seen)
-lawful_within p m stmt seen s is flat lawful = go (refusal_now p m stmt) refl
-  where
-    order : InOrder seen.plan seen.then
-    order = in_order p stmt seen seen.k seen.plan seen.then lawful.holds
-
-    go : (o : Option Refusal) → refusal_now p m stmt ≡ o → WritesWithin p.next_region (next p s seen).next_region (script p s seen)
-    go None early = writes_within p seen order s (scripts p seen order s flat (subst MakesFlat (sym is) (makes_flat (is_late m) (limits_of p) (headings_of p.tables) stmt early)))
-    go (Some r) early = writes_within p seen order s (unasked p seen order s (lawful.static.1 (ap is_some early)))
+lawful_own : (p : Public) (m : ℕ) (stmt : Stmt) (x : Entry) → Lawful p m stmt x.seen → WritesOwn p x
+lawful_own p m stmt x lawful =
+    let order = in_order p stmt x.seen x.seen.k x.seen.plan x.seen.then lawful.holds in
+    record { own = λ flat. writes_within p x.seen order x.skeleton (scripts p x.seen order x.skeleton flat); index = writes_indexes p x.skeleton x.seen }
 
 -- ---- a whole run
-pub write_own : (Leaves : Public → Stmt → Seen → Type 0) (spelt : List Spelt) (answers : List Answer) (p : Public) (m : ℕ) (seen : List Entry) → IsFlat p → AreSeen Leaves p m spelt answers seen → WriteOwn p seen
+pub write_own : (Leaves : Public → Stmt → Seen → Type 0) (spelt : List Spelt) (answers : List Answer) (p : Public) (m : ℕ) (seen : List Entry) → AreSeen Leaves p m spelt answers seen → WriteOwn p seen
 unfolding AreSeen WriteOwn
-write_own Leaves [] answers p m seen flat lawful = subst (λ (xs : List Entry). WriteOwn p xs) (sym lawful) tt
-write_own Leaves (Err at ∷ spelt) [] p m seen flat lawful = write_own Leaves spelt [] p m seen flat lawful
-write_own Leaves (Err at ∷ spelt) (one ∷ answers) p m seen flat lawful = write_own Leaves spelt answers p m seen flat lawful.1
-write_own Leaves (Ok stmt ∷ spelt) [] p m [] flat lawful = absurd lawful
-write_own Leaves (Ok stmt ∷ spelt) (one ∷ answers) p m [] flat lawful = absurd lawful
-write_own Leaves (Ok stmt ∷ spelt) [] p m (x ∷ seen) flat lawful =
-    let later = next_flat p m stmt x.skeleton x.seen lawful.0 lawful.1 flat in
-    (lawful_within p m stmt x.seen x.skeleton lawful.0 flat lawful.1, write_own Leaves spelt [] (next p x.skeleton x.seen) (m + length (script p x.skeleton x.seen)) seen later lawful.3)
-write_own Leaves (Ok stmt ∷ spelt) (one ∷ answers) p m (x ∷ seen) flat lawful =
-    let later = next_flat p m stmt x.skeleton x.seen lawful.0 lawful.1 flat in
-    (lawful_within p m stmt x.seen x.skeleton lawful.0 flat lawful.1, write_own Leaves spelt answers (next p x.skeleton x.seen) (m + length (script p x.skeleton x.seen)) seen later lawful.3)
+write_own Leaves [] answers p m seen lawful = subst (λ (xs : List Entry). WriteOwn p xs) (sym lawful) tt
+write_own Leaves (Err at ∷ spelt) [] p m seen lawful = write_own Leaves spelt [] p m seen lawful
+write_own Leaves (Err at ∷ spelt) (one ∷ answers) p m seen lawful = write_own Leaves spelt answers p m seen lawful.1
+write_own Leaves (Ok stmt ∷ spelt) [] p m [] lawful = absurd lawful
+write_own Leaves (Ok stmt ∷ spelt) (one ∷ answers) p m [] lawful = absurd lawful
+write_own Leaves (Ok stmt ∷ spelt) [] p m (x ∷ seen) lawful =
+    (lawful_own p m stmt x lawful.1, write_own Leaves spelt [] (next p x.skeleton x.seen) (m + length (script p x.skeleton x.seen)) seen lawful.3)
+write_own Leaves (Ok stmt ∷ spelt) (one ∷ answers) p m (x ∷ seen) lawful =
+    (lawful_own p m stmt x lawful.1, write_own Leaves spelt answers (next p x.skeleton x.seen) (m + length (script p x.skeleton x.seen)) seen lawful.3)
 
 pub runs_write_own : (one : SomeRun) → WriteOwn one.base.public (seen_by one)
-runs_write_own one = write_own _ one.run.story.spelt one.run.story.answers one.base.public one.base.count (seen_by one) one.run.accesses.flat one.run.accesses.lawful
+runs_write_own one = write_own _ one.run.story.spelt one.run.story.answers one.base.public one.base.count (seen_by one) one.run.accesses.lawful

@@ -2,11 +2,11 @@
 use Rattle.std.specs.Prelude.{if◌then◌else◌}
 use Rattle.std.proofs.Common.{◌≡◌, ◌+◌, ◌≤◌, ◌++◌, inl, inr, ℕ, Bool, true, false, Ok, Err, List, [], ◌∷◌, length, Option, Some, None, refl, sym, ◌∙◌, ap, subst, append-nil, arith}
 use Rattle.std.specs.Io.KnownBytes.{Appends, Consumes, IsAtEnd}
+use Rattle.ob_base.specs.Counts.{Rises}
 use Rattle.ob_base.specs.declared.config.Public.{Public}
-use Rattle.ob_base.specs.declared.refusal.Stop.TheVariants.{Tampered, SourceFault, SinkFault, NoMemory, InputLimit}
-use Rattle.ob_headline.proofs.FlatLemmas.{rested_flat}
+use Rattle.ob_base.specs.declared.refusal.Stop.TheVariants.{Tampered, SourceFault, SinkFault, NoMemory, InputLimit, StoreFault, StashFull}
 use Rattle.ob_headline.proofs.RerunLemmas.{AreUncut, answered_all, failure_is, run_uncut}
-use Rattle.ob_headline.specs.Bases.{FromEach, HoldsFrom, Opened, session_at}
+use Rattle.ob_headline.specs.Bases.{FromEach, HoldsFrom, Opened, drawing, session_at}
 use Rattle.ob_headline.specs.Endings.{last_line, status_of}
 use Rattle.ob_headline.specs.Failures.{failures, outcome_failures}
 use Rattle.ob_headline.specs.KeyLine.{after_line}
@@ -22,10 +22,7 @@ use Rattle.ob_headline.specs.Answers.{IsUndeceived}
 use Rattle.ob_headline.specs.Status.{Because, IsCompleted}
 use Rattle.ob_headline.specs.declared.ending.Ending.{Ending}
 use Rattle.ob_headline.specs.declared.ending.Ending.TheVariants.{Usage, BadKey, Ran}
-use Rattle.ob_base.specs.Stored.{headings}
-use Rattle.ob_mean.proofs.FlatSessions.{after_flat, room_flat}
 use Rattle.ob_mean.proofs.ReplayLemmas.{served_room}
-use Rattle.ob_mean.specs.Flats.{AreFlat}
 use Rattle.ob_mean.specs.Replay.{Broken, Session, Spelt, after, all_served, head_of, rest_of, seen_or_cut}
 use Rattle.ob_print.specs.Cuts.{Outputs}
 use Rattle.ob_script.specs.Script.{script}
@@ -38,23 +35,23 @@ whole_where_unfailed s stmt one None answers none = refl
 whole_where_unfailed s stmt one (Some n) answers none = let failed = failure_is one.outcome answers.outcome in absurd (omega (arith, failed, none))
 
 answers_plainly : (ending : Ending) (s : Session) (spelt : List Spelt) (broken : Broken) (answers : List Answer) (seen : List Entry) (part : List ℕ) (p : Public) (m : ℕ)
-    → AreFlat (headings s.tables) → AnswersFrom ending s spelt broken answers seen part → AreUncut p m (statements spelt) seen → length answers ≡ length spelt → failures answers ≡ 0
+    → AnswersFrom ending s spelt broken answers seen part → AreUncut p m (statements spelt) seen → length answers ≡ length spelt → failures answers ≡ 0
     → AnsweredPlainly s spelt answers × (seen ≡ all_served s spelt [])
 unfolding AnswersFrom AnsweredPlainly AreUncut failures statements
-answers_plainly ending s [] broken answers seen part p m flat all uncut each none = (all.0, uncut)
-answers_plainly ending s (x ∷ spelt) broken [] seen part p m flat all uncut each none = absurd (omega (arith, each))
-answers_plainly ending s (Err at ∷ spelt) broken (one ∷ more) seen part p m flat all uncut each none =
-    let rest = answers_plainly ending s spelt (rest_of broken) more seen part p m flat all.1 uncut (omega (arith, each)) (omega (arith, none)) in
+answers_plainly ending s [] broken answers seen part p m all uncut each none = (all.0, uncut)
+answers_plainly ending s (x ∷ spelt) broken [] seen part p m all uncut each none = absurd (omega (arith, each))
+answers_plainly ending s (Err at ∷ spelt) broken (one ∷ more) seen part p m all uncut each none =
+    let rest = answers_plainly ending s spelt (rest_of broken) more seen part p m all.1 uncut (omega (arith, each)) (omega (arith, none)) in
     ((all.0, rest.0), rest.1)
-answers_plainly ending s (Ok stmt ∷ spelt) broken (one ∷ more) [] part p m flat all uncut each none = absurd all
-answers_plainly ending s (Ok stmt ∷ spelt) broken (one ∷ more) (x ∷ seen) part p m flat all uncut each none =
-    let whole : head_of broken ≡ None = whole_where_unfailed s stmt one (head_of broken) all.1 (omega (arith, none)) in
-    let here : x.seen ≡ seen_or_cut None s stmt = all.2 ∙ ap (λ (b : Option ℕ). seen_or_cut b s stmt) whole in
-    let behind = subst (λ (b : Option ℕ). AnswersFrom ending (after b s stmt) spelt (rest_of broken) more seen part) whole all.3 in
-    let rest = answers_plainly ending (after None s stmt) spelt (rest_of broken) more seen part (next p x.skeleton x.seen) (m + length (script p x.skeleton x.seen)) (after_flat None s stmt flat) behind uncut.3
+answers_plainly ending s (Ok stmt ∷ spelt) broken (one ∷ more) [] part p m all uncut each none = absurd all
+answers_plainly ending s (Ok stmt ∷ spelt) broken (one ∷ more) (x ∷ seen) part p m all uncut each none =
+    let whole : head_of broken ≡ None = whole_where_unfailed s stmt one (head_of broken) all.2 (omega (arith, none)) in
+    let here : x.seen ≡ seen_or_cut None s stmt = all.3 ∙ ap (λ (b : Option ℕ). seen_or_cut b s stmt) whole in
+    let behind = subst (λ (b : Option ℕ). AnswersFrom ending (after b s stmt) spelt (rest_of broken) more seen part) whole all.4 in
+    let rest = answers_plainly ending (after None s stmt) spelt (rest_of broken) more seen part (next p x.skeleton x.seen) (m + length (script p x.skeleton x.seen)) behind uncut.3
     (omega (arith, each)) (omega (arith, none)) in (
-      (subst (λ (b : Option ℕ). AnswersIn b s stmt one) whole all.1, rest.0),
-      (λ i. record { skeleton = uncut.0 i; seen = here i } ∷ rest.1 i) ∙ sym (served_room s stmt spelt [] (room_flat s stmt flat)),
+      (all.0, subst (λ (b : Option ℕ). AnswersIn b s stmt one) whole all.2, rest.0),
+      (λ i. record { skeleton = uncut.0 i; seen = here i } ∷ rest.1 i) ∙ sym (served_room s stmt spelt [] all.0),
     )
 
 -- ---- it comes to its end
@@ -62,7 +59,7 @@ module _ (one : SomeRun) (input : List ℕ) (free : IsUnhindered one input) wher
   abbrev Ends : Type 0
   Ends = (refused : Bool) × (one.run.ending ≡ Ran (Ok refused))
 
-  ends : (ending : Ending) → one.run.ending ≡ ending → IsCompleted (IsHonest one.old.store one.new.store) ending → Ends
+  ends : (ending : Ending) → one.run.ending ≡ ending → IsCompleted (IsHonest one.old.store one.new.store) (Rises one.old.store.faults one.new.store.faults) ending → Ends
   ends Usage is done = absurd done
   ends BadKey is done = absurd done
   ends (Ran (Ok refused)) is done = (refused, is)
@@ -71,6 +68,8 @@ module _ (one : SomeRun) (input : List ℕ) (free : IsUnhindered one input) wher
   ends (Ran (Err SinkFault)) is done = absurd done
   ends (Ran (Err NoMemory)) is done = absurd (free.memory (one.run.status.status ∙ ap status_of is))
   ends (Ran (Err InputLimit)) is done = absurd done
+  ends (Ran (Err StoreFault)) is done = absurd (free.sound done)
+  ends (Ran (Err StashFull)) is done = absurd (free.room (one.run.status.status ∙ ap status_of is))
 
   undeceived : IsUndeceived (keys_in one.run.taken) one.base.start one.old.store one.new.store
   undeceived = record { tells = free.honest.tells; unfit = λ lie told. let none = free.honest.no_lie in absurd (cc (told, none)) }
@@ -93,13 +92,13 @@ module _ (one : SomeRun) (input : List ℕ) (free : IsUnhindered one input) wher
   taken_all (Some xs) (Some ys) is given end =
       sym (append-nil one.run.taken) ∙ ap (λ (l : List ℕ). one.run.taken ++ l) (sym end) ∙ sym given ∙ cc is
 
-  plainly : (s : Session) (refused : Bool) → AreFlat (headings s.tables) → one.run.ending ≡ Ran (Ok refused) → (broken : Broken) → AnswersFrom one.run.ending s one.run.story.spelt broken one.run.story.answers (seen_by one) one.run.story.part
+  plainly : (s : Session) (refused : Bool) → one.run.ending ≡ Ran (Ok refused) → (broken : Broken) → AnswersFrom one.run.ending s one.run.story.spelt broken one.run.story.answers (seen_by one) one.run.story.part
       → RunsPlainly one input s
-  plainly s refused flat is broken all =
+  plainly s refused is broken all =
       let why : Because one.base (Ran (Ok refused)) (TakesWords one.app one.words) (limit_of one.base.settings) one.run.taken one.run.ended one.run.story.more one.run.story.answers one.run.story.part one.old one.new =
       subst (λ (ending : Ending). Because one.base ending (TakesWords one.app one.words) (limit_of one.base.settings) one.run.taken one.run.ended one.run.story.more one.run.story.answers one.run.story.part one.old one.new) is one.run.status.because in
       let few = status_few refused is in
-      let meant = answers_plainly one.run.ending s one.run.story.spelt broken one.run.story.answers (seen_by one) one.run.story.part one.base.public one.base.count flat all
+      let meant = answers_plainly one.run.ending s one.run.story.spelt broken one.run.story.answers (seen_by one) one.run.story.part one.base.public one.base.count all
       (run_uncut one (record { ended = few; none = free.unfailed })) (answered_all one.run few) free.unfailed in
       let whole : one.run.taken ≡ input = taken_all one.old.left one.new.left free.left one.run.bytes.given (one.run.bytes.at_end why.2.whole) in
       let line : (printed one.run.story.answers ++ one.run.story.part) ++ last_line one.run.ending ≡ printed one.run.story.answers =
@@ -115,12 +114,20 @@ module _ (one : SomeRun) (input : List ℕ) (free : IsUnhindered one input) wher
         status = says refused is ∙ ap (λ (b : Bool). if b then 1 else 0) why.1;
       }
 
-  pub runs_plainly : FromEach one.base (RunsPlainly one input)
-  runs_plainly = go one.base.opened (one.run.status.completes free.takes input free.left free.limits free.source free.sinks) (one.run.answers.meant undeceived) where
-    at : (s : Session) → AreFlat (headings s.tables) → IsCompleted (IsHonest one.old.store one.new.store) one.run.ending → ((broken : Broken) × AnswersFrom one.run.ending s one.run.story.spelt broken one.run.story.answers (seen_by one) one.run.story.part) → RunsPlainly one input s
-    at s flat done all = let end = ends one.run.ending refl done in plainly s end.0 flat end.1 all.0 all.1
+  abbrev s_of : Session → Session
+  s_of s = drawing (keys_in one.run.taken) s
 
-    go : (o : Option Opened) → HoldsFrom o one.base (λ s. IsCompleted (IsHonest one.old.store one.new.store) one.run.ending)
-        → HoldsFrom o one.base (λ s. (broken : Broken) × AnswersFrom one.run.ending s one.run.story.spelt broken one.run.story.answers (seen_by one) one.run.story.part) → HoldsFrom o one.base (RunsPlainly one input)
-    go None done all = at (session_at one.base []) tt done all
-    go (Some o) done all = λ tables rested. at (session_at one.base tables) (rested_flat o.keys o.closing o.old.kept tables rested.rests) (done tables rested) (all tables rested)
+  abbrev Meant : Session → Type 0
+  Meant s = (broken : Broken) × AnswersFrom one.run.ending (s_of s) one.run.story.spelt broken one.run.story.answers (seen_by one) one.run.story.part
+
+  abbrev Done : Session → Type 0
+  Done s = IsCompleted (IsHonest one.old.store one.new.store) (Rises one.old.store.faults one.new.store.faults) one.run.ending
+
+  pub runs_plainly : FromEach one.base (λ s. RunsPlainly one input (s_of s))
+  runs_plainly = go one.base.opened (one.run.status.completes free.takes input free.left free.limits free.source free.sinks) (one.run.answers.meant undeceived) where
+    at : (s : Session) → Done s → Meant s → RunsPlainly one input (s_of s)
+    at s done all = let end = ends one.run.ending refl done in plainly (s_of s) end.0 end.1 all.0 all.1
+
+    go : (o : Option Opened) → HoldsFrom o one.base Done → HoldsFrom o one.base Meant → HoldsFrom o one.base (λ s. RunsPlainly one input (s_of s))
+    go None done all = at (session_at one.base []) done all
+    go (Some o) done all = λ tables rested. at (session_at one.base tables) (done tables rested) (all tables rested)

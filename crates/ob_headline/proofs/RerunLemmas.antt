@@ -1,6 +1,6 @@
 -- Two runs that came to their end, and of which no text was answered that the store failed.
 use Rattle.std.specs.Prelude.{IsSome, is_some, not}
-use Rattle.std.proofs.Common.{◌≡◌, ◌+◌, ◌≤◌, ◌++◌, ◌||◌, ◌&&◌, inl, inr, ℕ, Bool, true, false, IsTrue, Ok, Err, List, [], ◌∷◌, length, Option, Some, None, refl, sym, ◌∙◌, ap, subst, append-nil, arith}
+use Rattle.std.proofs.Common.{◌≡◌, ◌⊎◌, ◌+◌, ◌≤◌, ◌++◌, ◌||◌, ◌&&◌, inl, inr, ℕ, Bool, true, false, IsTrue, Ok, Err, List, [], ◌∷◌, length, Option, Some, None, refl, sym, ◌∙◌, ap, subst, append-nil, arith}
 use Rattle.ob_base.specs.declared.config.Plan.{Plan}
 use Rattle.ob_base.specs.declared.config.Plan.TheVariants.{Small, Large, Continuous, Hash}
 use Rattle.ob_base.specs.declared.config.Public.{Public}
@@ -14,12 +14,12 @@ use Rattle.ob_base.specs.declared.skeleton.Skeleton.TheVariants as K
 use Rattle.ob_verdict.specs.Outcomes.{refusal_now}
 use Rattle.ob_verdict.specs.declared.outcome.Outcome.{Outcome}
 use Rattle.ob_verdict.specs.declared.outcome.Outcome.TheVariants.{Refused}
-use Rattle.ob_headline.proofs.FlatLemmas.{IsFlat, next_flat, no_leaf}
+use Rattle.ob_headline.proofs.FlatLemmas.{no_leaf}
 use Rattle.ob_headline.specs.Bases.{Base}
 use Rattle.ob_headline.specs.Endings.{status_of}
 use Rattle.ob_headline.specs.Failures.{failures, outcome_failures}
 use Rattle.ob_headline.specs.Headline.{Headline}
-use Rattle.ob_headline.specs.Reruns.{Alike, ArePlain, EndsWell, GoOnFromOne, IsPlain, ShowAlike, SomeRun, any_counted, asked_by, failures_of, plainly, seen_by, seen_plainly, stmts_of}
+use Rattle.ob_headline.specs.Reruns.{Alike, EndsWell, GoOnFromOne, IsPlain, ShowAlike, SomeRun, any_counted, asked_by, failures_of, plainly, seen_by, seen_plainly, shows_more, stmts_of}
 use Rattle.ob_headline.specs.Settings.{limit_of}
 use Rattle.ob_headline.specs.Words.{Answer, Outside}
 use Rattle.ob_headline.specs.Statements.{SpellFirst, statements}
@@ -28,7 +28,6 @@ use Rattle.ob_headline.specs.Status.{Because}
 use Rattle.ob_headline.specs.declared.ending.Ending.{Ending}
 use Rattle.ob_headline.specs.declared.ending.Ending.TheVariants.{Usage, BadKey, Ran}
 use Rattle.ob_headline.specs.declared.ending.Report.{Report}
-use Rattle.ob_mean.proofs.FlatLemmas.{no_public_access}
 use Rattle.ob_mean.specs.Lawful.{EndsUncounted, Holds, IsCount, Lawful, is_counted, selects_rows}
 use Rattle.ob_mean.specs.Replay.{Spelt, is_access}
 use Rattle.ob_script.specs.Script.{script}
@@ -121,26 +120,40 @@ counted_rows (SelectTotals s) = refl
 same_counted : (a b : Stmt) → skeleton a ≡ skeleton b → selects_rows a ≡ selects_rows b
 same_counted a b is = counted_rows a ∙ ap is_rows is ∙ sym (counted_rows b)
 
-one_alike : (p : Public) (m : ℕ) (a b : Stmt) (x y : Seen) (counted : Bool) → IsFlat p → selects_rows a ≡ counted → Lawful p m a x → Lawful p m b y → is_cut x.end ≡ false → is_cut y.end ≡ false
-    → skeleton a ≡ skeleton b → is_some (refusal_now p m a) ≡ is_some (refusal_now p m b) → (IsTrue (selects_rows a) → x ≡ y) → x ≡ y
-one_alike p m a b x y true flat is lawful lawful_too uncut uncut_too sk early shows = shows is
-one_alike p m a b x y false flat is lawful lawful_too uncut uncut_too sk early shows =
-    shows_plainly p m a x lawful (no_public_access p (skeleton a) flat, inl is) uncut
-    ∙ ap seen_plainly early
-    ∙ sym (shows_plainly p m b y lawful_too (no_public_access p (skeleton b) flat, inl (sym (same_counted a b sk) ∙ is)) uncut_too)
+-- of which no more is seen
+plain_if : (p : Public) (stmt : Stmt) (access counted padded : Bool) → is_access p (skeleton stmt) ≡ access → selects_rows stmt ≡ counted → is_some p.pad ≡ padded
+    → (access || (counted && not padded)) ≡ false → IsPlain p stmt
+plain_if p stmt true counted padded of is pad none = absurd (cc none)
+plain_if p stmt false false padded of is pad none = (of, inl is)
+plain_if p stmt false true true of is pad none = (of, inr pad)
+plain_if p stmt false true false of is pad none = absurd (cc none)
 
-same_seen : (p : Public) (m : ℕ) (ps : List Stmt) (xs : List Entry) (qs : List Stmt) (ys : List Entry) → IsFlat p → AreUncut p m ps xs → AreUncut p m qs ys → ShowAlike p m ps xs qs ys → xs ≡ ys
+pub plain_unless : (p : Public) (stmt : Stmt) → shows_more p stmt ≡ false → IsPlain p stmt
+plain_unless p stmt none = plain_if p stmt (is_access p (skeleton stmt)) (selects_rows stmt) (is_some p.pad) refl refl refl none
+
+plain_too : (p : Public) (a b : Stmt) → skeleton a ≡ skeleton b → IsPlain p a → IsPlain p b
+plain_too p a b sk plain =
+    (ap (is_access p) (sym sk) ∙ plain.0, elim plain.1 [ inl none ↦ inl (sym (same_counted a b sk) ∙ none) | inr padded ↦ inr padded ])
+
+one_alike : (p : Public) (m : ℕ) (a b : Stmt) (x y : Seen) (more : Bool) → shows_more p a ≡ more → Lawful p m a x → Lawful p m b y → is_cut x.end ≡ false → is_cut y.end ≡ false
+    → skeleton a ≡ skeleton b → is_some (refusal_now p m a) ≡ is_some (refusal_now p m b) → (IsTrue (shows_more p a) → x ≡ y) → x ≡ y
+one_alike p m a b x y true is lawful lawful_too uncut uncut_too sk early shows = shows is
+one_alike p m a b x y false is lawful lawful_too uncut uncut_too sk early shows =
+    let plain = plain_unless p a is in
+    shows_plainly p m a x lawful plain uncut ∙ ap seen_plainly early ∙ sym (shows_plainly p m b y lawful_too (plain_too p a b sk plain) uncut_too)
+
+same_seen : (p : Public) (m : ℕ) (ps : List Stmt) (xs : List Entry) (qs : List Stmt) (ys : List Entry) → AreUncut p m ps xs → AreUncut p m qs ys → ShowAlike p m ps xs qs ys → xs ≡ ys
 unfolding AreUncut ShowAlike
-same_seen p m [] xs [] ys flat a b alike = a ∙ sym b
-same_seen p m [] xs (b ∷ qs) ys flat lawful lawful_too alike = absurd alike
-same_seen p m (a ∷ ps) xs [] ys flat lawful lawful_too alike = absurd alike
-same_seen p m (a ∷ ps) [] (b ∷ qs) ys flat lawful lawful_too alike = absurd alike
-same_seen p m (a ∷ ps) (x ∷ xs) (b ∷ qs) [] flat lawful lawful_too alike = absurd alike
-same_seen p m (a ∷ ps) (x ∷ xs) (b ∷ qs) (y ∷ ys) flat lawful lawful_too alike =
+same_seen p m [] xs [] ys a b alike = a ∙ sym b
+same_seen p m [] xs (b ∷ qs) ys lawful lawful_too alike = absurd alike
+same_seen p m (a ∷ ps) xs [] ys lawful lawful_too alike = absurd alike
+same_seen p m (a ∷ ps) [] (b ∷ qs) ys lawful lawful_too alike = absurd alike
+same_seen p m (a ∷ ps) (x ∷ xs) (b ∷ qs) [] lawful lawful_too alike = absurd alike
+same_seen p m (a ∷ ps) (x ∷ xs) (b ∷ qs) (y ∷ ys) lawful lawful_too alike =
     let sk : x.skeleton ≡ y.skeleton = lawful.0 ∙ alike.0 ∙ sym lawful_too.0 in
-    let here : x.seen ≡ y.seen = one_alike p m a b x.seen y.seen (selects_rows a) flat refl lawful.1 lawful_too.1 lawful.2 lawful_too.2 alike.0 alike.1 alike.2 in
+    let here : x.seen ≡ y.seen = one_alike p m a b x.seen y.seen (shows_more p a) refl lawful.1 lawful_too.1 lawful.2 lawful_too.2 alike.0 alike.1 alike.2 in
     let one : x ≡ y = λ i. record { skeleton = sk i; seen = here i } in
-    let rest = same_seen (next p x.skeleton x.seen) (m + length (script p x.skeleton x.seen)) ps xs qs ys (next_flat p m a x.skeleton x.seen lawful.0 lawful.1 flat) lawful.3
+    let rest = same_seen (next p x.skeleton x.seen) (m + length (script p x.skeleton x.seen)) ps xs qs ys lawful.3
     (subst (λ (z : Entry). AreUncut (next p z.skeleton z.seen) (m + length (script p z.skeleton z.seen)) qs ys) (sym one) lawful_too.3) alike.3 in
     λ i. one i ∷ rest i
 
@@ -185,6 +198,8 @@ no_more base status (Ran (Err Stops.SourceFault)) Takes max taken at_end more an
 no_more base status (Ran (Err Stops.SinkFault)) Takes max taken at_end more answers part old new is few why = absurd (omega (arith, is, few))
 no_more base status (Ran (Err Stops.NoMemory)) Takes max taken at_end more answers part old new is few why = absurd (omega (arith, is, few))
 no_more base status (Ran (Err Stops.InputLimit)) Takes max taken at_end more answers part old new is few why = absurd (omega (arith, is, few))
+no_more base status (Ran (Err Stops.StoreFault)) Takes max taken at_end more answers part old new is few why = absurd (omega (arith, is, few))
+no_more base status (Ran (Err Stops.StashFull)) Takes max taken at_end more answers part old new is few why = absurd (omega (arith, is, few))
 
 pub answered_all : {base : Base} {Takes : Type 0} {tracing : Bool} {old new : Outside} {report : Report} (a : Headline base Takes tracing old new report) → report.status ≤ 1 → length a.story.answers ≡ length a.story.spelt
 answered_all {base} {Takes} {old = old} {new = new} {report = report} a few =
@@ -197,48 +212,46 @@ module _ (one : SomeRun) (well : EndsWell one.report.status (failures_of one)) w
   pub run_uncut : AreUncut one.base.public one.base.count (stmts_of one) (seen_by one)
   run_uncut = all_uncut _ one.run.story.spelt one.run.story.answers one.base.public one.base.count (seen_by one) one.run.accesses.lawful (answered_all one.run well.ended) well.none
 
--- none is a SELECT of rows, or results are padded
-
+-- ---- none is a SELECT of rows, or results are padded
 neither : (a b : Bool) → (a || b) ≡ false → (a ≡ false) × (b ≡ false)
 neither true b is = absurd (cc is)
 neither false b is = (refl, is)
 
-pub first_plain : (p : Public) (a : Stmt) (ps : List Stmt) → IsFlat p → ArePlain p (a ∷ ps) → IsPlain p a
+abbrev AreUncounted : Public → List Stmt → Type 0
+AreUncounted p stmts = (any_counted stmts ≡ false) ⊎ IsSome p.pad
+
+first_uncounted : (p : Public) (a : Stmt) (ps : List Stmt) → AreUncounted p (a ∷ ps) → (selects_rows a ≡ false) ⊎ IsSome p.pad
 unfolding any_counted
-first_plain p a ps flat plain =
-    (no_public_access p (skeleton a) flat, elim plain [ inl none ↦ inl (neither (selects_rows a) (any_counted ps) none).0 | inr padded ↦ inr padded ])
+first_uncounted p a ps none = elim none [ inl none ↦ inl (neither (selects_rows a) (any_counted ps) none).0 | inr padded ↦ inr padded ]
 
 -- after any statement results are still padded
-pub rest_plain : (p : Public) (a : Stmt) (ps : List Stmt) (x : Entry) → ArePlain p (a ∷ ps) → ArePlain (next p x.skeleton x.seen) ps
+rest_uncounted : (p : Public) (a : Stmt) (ps : List Stmt) (x : Entry) → AreUncounted p (a ∷ ps) → AreUncounted (next p x.skeleton x.seen) ps
 unfolding any_counted
-rest_plain p a ps x plain = elim plain [ inl none ↦ inl (neither (selects_rows a) (any_counted ps) none).1 | inr padded ↦ inr padded ]
-
-plain_too : (p : Public) (a b : Stmt) → skeleton a ≡ skeleton b → IsPlain p a → IsPlain p b
-plain_too p a b sk plain =
-    (ap (is_access p) (sym sk) ∙ plain.0, elim plain.1 [ inl none ↦ inl (sym (same_counted a b sk) ∙ none) | inr padded ↦ inr padded ])
+rest_uncounted p a ps x none = elim none [ inl none ↦ inl (neither (selects_rows a) (any_counted ps) none).1 | inr padded ↦ inr padded ]
 
 -- lists of statements that are alike show alike
-shows : (p : Public) (m : ℕ) (ps : List Stmt) (xs : List Entry) (qs : List Stmt) (ys : List Entry) → IsFlat p → AreUncut p m ps xs → AreUncut p m qs ys → ArePlain p ps → Alike p m ps qs → ShowAlike p m ps xs qs ys
+shows : (p : Public) (m : ℕ) (ps : List Stmt) (xs : List Entry) (qs : List Stmt) (ys : List Entry) → AreUncut p m ps xs → AreUncut p m qs ys → AreUncounted p ps → Alike p m ps qs → ShowAlike p m ps xs qs ys
 unfolding AreUncut Alike ShowAlike
-shows p m [] xs [] ys flat a b plain alike = tt
-shows p m [] xs (b ∷ qs) ys flat one two plain alike = absurd alike
-shows p m (a ∷ ps) xs [] ys flat one two plain alike = absurd alike
-shows p m (a ∷ ps) [] (b ∷ qs) ys flat one two plain alike = absurd one
-shows p m (a ∷ ps) (x ∷ xs) (b ∷ qs) [] flat one two plain alike = absurd two
-shows p m (a ∷ ps) (x ∷ xs) (b ∷ qs) (y ∷ ys) flat one two plain alike =
-    let here : x.seen ≡ plainly p m a = shows_plainly p m a x.seen one.1 (first_plain p a ps flat plain) one.2 in
-    let there : y.seen ≡ plainly p m b = shows_plainly p m b y.seen two.1 (plain_too p a b alike.0 (first_plain p a ps flat plain)) two.2 in
-    let same : y.seen ≡ x.seen = there ∙ ap seen_plainly (sym alike.1) ∙ sym here in
+shows p m [] xs [] ys a b none alike = tt
+shows p m [] xs (b ∷ qs) ys one two none alike = absurd alike
+shows p m (a ∷ ps) xs [] ys one two none alike = absurd alike
+shows p m (a ∷ ps) [] (b ∷ qs) ys one two none alike = absurd one
+shows p m (a ∷ ps) (x ∷ xs) (b ∷ qs) [] one two none alike = absurd two
+shows p m (a ∷ ps) (x ∷ xs) (b ∷ qs) (y ∷ ys) one two none alike =
+    let plain : IsPlain p a = (alike.1, first_uncounted p a ps none) in
+    let here : x.seen ≡ plainly p m a = shows_plainly p m a x.seen one.1 plain one.2 in
+    let there : y.seen ≡ plainly p m b = shows_plainly p m b y.seen two.1 (plain_too p a b alike.0 plain) two.2 in
+    let same : y.seen ≡ x.seen = there ∙ ap seen_plainly (sym alike.2) ∙ sym here in
     let first : next p (skeleton a) (plainly p m a) ≡ next p x.skeleton x.seen = λ i. next p (sym one.0 i) (sym here i) in
     let asked : m + length (script p (skeleton a) (plainly p m a)) ≡ m + length (script p x.skeleton x.seen) = λ i. m + length (script p (sym one.0 i) (sym here i)) in
     let sk : y.skeleton ≡ x.skeleton = two.0 ∙ sym alike.0 ∙ sym one.0 in
     let rest : AreUncut (next p x.skeleton x.seen) (m + length (script p x.skeleton x.seen)) qs ys =
     subst (λ (e : Entry). AreUncut (next p e.skeleton e.seen) (m + length (script p e.skeleton e.seen)) qs ys) (λ i. record { skeleton = sk i; seen = same i }) two.3 in (
       alike.0,
-      alike.1,
-      (λ counted. sym same),
-      shows (next p x.skeleton x.seen) (m + length (script p x.skeleton x.seen)) ps xs qs ys (next_flat p m a x.skeleton x.seen one.0 one.1 flat) one.3 rest (rest_plain p a ps x plain)
-          (subst (λ (n : ℕ). Alike (next p x.skeleton x.seen) n ps qs) asked (subst (λ (r : Public). Alike r (m + length (script p (skeleton a) (plainly p m a))) ps qs) first alike.2)),
+      alike.2,
+      (λ more. sym same),
+      shows (next p x.skeleton x.seen) (m + length (script p x.skeleton x.seen)) ps xs qs ys one.3 rest (rest_uncounted p a ps x none)
+          (subst (λ (n : ℕ). Alike (next p x.skeleton x.seen) n ps qs) asked (subst (λ (r : Public). Alike r (m + length (script p (skeleton a) (plainly p m a))) ps qs) first alike.3)),
     )
 
 module _ (a b : SomeRun) (same : GoOnFromOne a b) (well : EndsWell a.report.status (failures_of a)) (well_too : EndsWell b.report.status (failures_of b)) where
@@ -255,11 +268,11 @@ module _ (a b : SomeRun) (same : GoOnFromOne a b) (well : EndsWell a.report.stat
 
   pub show_the_same : ShowAlike p m (stmts_of a) (seen_by a) (stmts_of b) (seen_by b) → (seen_by a ≡ seen_by b) × (asked_by a ≡ asked_by b)
   show_the_same alike =
-      let seen = same_seen p m (stmts_of a) (seen_by a) (stmts_of b) (seen_by b) a.run.accesses.flat (run_uncut a well) there alike in
+      let seen = same_seen p m (stmts_of a) (seen_by a) (stmts_of b) (seen_by b) (run_uncut a well) there alike in
       (seen, a.run.accesses.asked ∙ (λ i. same.before i ++ trace (same.public i) (seen i)) ∙ sym b.run.accesses.asked)
 
-  asks_alike : ArePlain p (stmts_of a) → Alike p m (stmts_of a) (stmts_of b) → asked_by a ≡ asked_by b
-  asks_alike plain alike = (show_the_same (shows p m (stmts_of a) (seen_by a) (stmts_of b) (seen_by b) a.run.accesses.flat (run_uncut a well) there plain alike)).1
+  asks_alike : AreUncounted p (stmts_of a) → Alike p m (stmts_of a) (stmts_of b) → asked_by a ≡ asked_by b
+  asks_alike none alike = (show_the_same (shows p m (stmts_of a) (seen_by a) (stmts_of b) (seen_by b) (run_uncut a well) there none alike)).1
 
   pub ask_the_same : any_counted (stmts_of a) ≡ false → Alike p m (stmts_of a) (stmts_of b) → asked_by a ≡ asked_by b
   ask_the_same none = asks_alike (inl none)

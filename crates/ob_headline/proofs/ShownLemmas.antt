@@ -1,20 +1,18 @@
 -- What runs ask of which no text was answered that the store failed, however they ended, SELECTs of rows included.
-use Rattle.std.specs.Prelude.{if◌then◌else◌, is_some, not}
-use Rattle.std.proofs.Common.{◌≡◌, ◌+◌, ◌≤◌, ◌++◌, ◌&&◌, inl, inr, ℕ, Bool, true, false, Ok, Err, List, [], ◌∷◌, length, refl, sym, ◌∙◌, ap, subst, append_assoc, arith}
+use Rattle.std.specs.Prelude.{if◌then◌else◌}
+use Rattle.std.proofs.Common.{◌≡◌, ◌+◌, ◌≤◌, ◌++◌, inl, inr, ℕ, Bool, true, false, Ok, Err, List, [], ◌∷◌, length, refl, sym, ◌∙◌, ap, subst, append_assoc, arith}
 use Rattle.ob_base.specs.declared.access.Access.{Access}
 use Rattle.ob_base.specs.declared.config.Public.{Public}
 use Rattle.ob_base.specs.declared.seen.Seen.{Seen}
 use Rattle.ob_base.specs.declared.skeleton.Skeleton.{Skeleton}
-use Rattle.ob_headline.proofs.FlatLemmas.{IsFlat, next_flat}
 use Rattle.ob_headline.proofs.KindLemmas.{begins_all, begins_by, begins_last, begins_more}
-use Rattle.ob_headline.proofs.RerunLemmas.{not_cut, shows_plainly}
+use Rattle.ob_headline.proofs.RerunLemmas.{not_cut, plain_unless, shows_plainly}
 use Rattle.ob_headline.specs.Failures.{failures}
-use Rattle.ob_headline.specs.Reruns.{AlikeSoFar, AsksAsShown, GoOnFromOne, IsPlain, OneBegins, SomeRun, asked_by, failures_of, plainly, seen_by, shown, shown_as, stmts_of}
+use Rattle.ob_headline.specs.Reruns.{AlikeSoFar, AsksAsShown, GoOnFromOne, OneBegins, SomeRun, asked_by, failures_of, plainly, seen_by, shown, shown_as, shows_more, stmts_of}
 use Rattle.ob_headline.specs.Words.{Answer, Begins}
 use Rattle.ob_headline.specs.Statements.{statements}
 use Rattle.ob_headline.specs.Accesses.{AreSeen, is_cut}
-use Rattle.ob_mean.proofs.FlatLemmas.{no_public_access}
-use Rattle.ob_mean.specs.Lawful.{Lawful, selects_rows}
+use Rattle.ob_mean.specs.Lawful.{Lawful}
 use Rattle.ob_mean.specs.Replay.{Spelt}
 use Rattle.ob_script.specs.Script.{script}
 use Rattle.ob_script.specs.Trace.{Served as Entry, next, trace}
@@ -40,46 +38,40 @@ both_begin (x ∷ xs) (y ∷ ys) (z ∷ zs) a b =
     ]
 
 -- ---- one statement
-plain_if : (p : Public) (stmt : Stmt) (counted padded : Bool) → IsFlat p → selects_rows stmt ≡ counted → is_some p.pad ≡ padded → (counted && not padded) ≡ false → IsPlain p stmt
-plain_if p stmt false padded flat is pad held = (no_public_access p (skeleton stmt) flat, inl is)
-plain_if p stmt true true flat is pad held = (no_public_access p (skeleton stmt) flat, inr pad)
-plain_if p stmt true false flat is pad held = absurd (cc held)
-
-module _ (p : Public) (m : ℕ) (stmt : Stmt) (here : Seen) (flat : IsFlat p) (lawful : Lawful p m stmt here) where
-  begins_if : (held : Bool) → (selects_rows stmt && not (is_some p.pad)) ≡ held → Begins (script p (skeleton stmt) here) (script p (skeleton stmt) (if held then here else plainly p m stmt))
+module _ (p : Public) (m : ℕ) (stmt : Stmt) (here : Seen) (lawful : Lawful p m stmt here) where
+  begins_if : (more : Bool) → shows_more p stmt ≡ more → Begins (script p (skeleton stmt) here) (script p (skeleton stmt) (if more then here else plainly p m stmt))
   begins_if true is = begins_all (script p (skeleton stmt) here)
-  begins_if false is = begins_by p m stmt here here.end refl (plain_if p stmt (selects_rows stmt) (is_some p.pad) flat refl refl is) lawful
+  begins_if false is = begins_by p m stmt here here.end refl (plain_unless p stmt is) lawful
 
   begins_as : Begins (script p (skeleton stmt) here) (script p (skeleton stmt) (shown_as p m stmt here).seen)
-  begins_as = begins_if (selects_rows stmt && not (is_some p.pad)) refl
+  begins_as = begins_if (shows_more p stmt) refl
 
-  same_if : (held : Bool) → (selects_rows stmt && not (is_some p.pad)) ≡ held → is_cut here.end ≡ false → here ≡ (if held then here else plainly p m stmt)
+  same_if : (more : Bool) → shows_more p stmt ≡ more → is_cut here.end ≡ false → here ≡ (if more then here else plainly p m stmt)
   same_if true is uncut = refl
-  same_if false is uncut = shows_plainly p m stmt here lawful (plain_if p stmt (selects_rows stmt) (is_some p.pad) flat refl refl is) uncut
+  same_if false is uncut = shows_plainly p m stmt here lawful (plain_unless p stmt is) uncut
 
   same_as : is_cut here.end ≡ false → here ≡ (shown_as p m stmt here).seen
-  same_as = same_if (selects_rows stmt && not (is_some p.pad)) refl
+  same_as = same_if (shows_more p stmt) refl
 
 -- ---- all statements
 begins_shown : (Leaves : Public → Stmt → Seen → Type 0) (spelt : List Spelt) (answers : List Answer) (p : Public) (m : ℕ) (seen : List Entry) → AreSeen Leaves p m spelt answers seen
-    → length spelt ≤ length answers + 1 → failures answers ≡ 0 → IsFlat p → Begins (trace p seen) (trace p (shown p m (statements spelt) seen))
+    → length spelt ≤ length answers + 1 → failures answers ≡ 0 → Begins (trace p seen) (trace p (shown p m (statements spelt) seen))
 unfolding AreSeen failures statements shown
-begins_shown Leaves [] answers p m seen lawful few none flat = subst (λ (xs : List Entry). Begins (trace p xs) []) (sym lawful) (begins_all [])
-begins_shown Leaves (Err at ∷ spelt) [] p m seen lawful few none flat = begins_shown Leaves spelt [] p m seen lawful (omega (arith, few)) none flat
-begins_shown Leaves (Err at ∷ spelt) (one ∷ answers) p m seen lawful few none flat =
-    begins_shown Leaves spelt answers p m seen lawful.1 (omega (arith, few)) (omega (arith, none)) flat
-begins_shown Leaves (Ok stmt ∷ spelt) [] p m [] lawful few none flat = absurd lawful
-begins_shown Leaves (Ok stmt ∷ spelt) (one ∷ answers) p m [] lawful few none flat = absurd lawful
-begins_shown Leaves (Ok stmt ∷ []) [] p m (x ∷ seen) lawful few none flat =
+begins_shown Leaves [] answers p m seen lawful few none = subst (λ (xs : List Entry). Begins (trace p xs) []) (sym lawful) (begins_all [])
+begins_shown Leaves (Err at ∷ spelt) [] p m seen lawful few none = begins_shown Leaves spelt [] p m seen lawful (omega (arith, few)) none
+begins_shown Leaves (Err at ∷ spelt) (one ∷ answers) p m seen lawful few none =
+    begins_shown Leaves spelt answers p m seen lawful.1 (omega (arith, few)) (omega (arith, none))
+begins_shown Leaves (Ok stmt ∷ spelt) [] p m [] lawful few none = absurd lawful
+begins_shown Leaves (Ok stmt ∷ spelt) (one ∷ answers) p m [] lawful few none = absurd lawful
+begins_shown Leaves (Ok stmt ∷ []) [] p m (x ∷ seen) lawful few none =
     begins_last p (next p x.skeleton x.seen) (next p (skeleton stmt) (shown_as p m stmt x.seen).seen) (script p x.skeleton x.seen) (script p (skeleton stmt) (shown_as p m stmt x.seen).seen) seen lawful.3
-    (subst (λ (s : Skeleton). Begins (script p s x.seen) (script p (skeleton stmt) (shown_as p m stmt x.seen).seen)) (sym lawful.0) (begins_as p m stmt x.seen flat lawful.1))
-begins_shown Leaves (Ok stmt ∷ (y ∷ spelt)) [] p m (x ∷ seen) lawful few none flat = absurd (omega (arith, few))
-begins_shown Leaves (Ok stmt ∷ spelt) (one ∷ answers) p m (x ∷ seen) lawful few none flat =
+    (subst (λ (s : Skeleton). Begins (script p s x.seen) (script p (skeleton stmt) (shown_as p m stmt x.seen).seen)) (sym lawful.0) (begins_as p m stmt x.seen lawful.1))
+begins_shown Leaves (Ok stmt ∷ (y ∷ spelt)) [] p m (x ∷ seen) lawful few none = absurd (omega (arith, few))
+begins_shown Leaves (Ok stmt ∷ spelt) (one ∷ answers) p m (x ∷ seen) lawful few none =
     let uncut = not_cut (is_cut x.seen.end) one.outcome lawful.2.1.0 (omega (arith, none)) in
-    let here : x.seen ≡ (shown_as p m stmt x.seen).seen = same_as p m stmt x.seen flat lawful.1 uncut in
+    let here : x.seen ≡ (shown_as p m stmt x.seen).seen = same_as p m stmt x.seen lawful.1 uncut in
     let same : x ≡ shown_as p m stmt x.seen = λ i. record { skeleton = lawful.0 i; seen = here i } in
-    let rest = begins_shown Leaves spelt answers (next p x.skeleton x.seen) (m + length (script p x.skeleton x.seen)) seen lawful.3 (omega (arith, few)) (omega (arith, none))
-    (next_flat p m stmt x.skeleton x.seen lawful.0 lawful.1 flat) in
+    let rest = begins_shown Leaves spelt answers (next p x.skeleton x.seen) (m + length (script p x.skeleton x.seen)) seen lawful.3 (omega (arith, few)) (omega (arith, none)) in
     subst (λ (z : Entry). Begins (script p x.skeleton x.seen ++ trace (next p x.skeleton x.seen) seen)
     (script p z.skeleton z.seen ++ trace (next p z.skeleton z.seen) (shown (next p z.skeleton z.seen) (m + length (script p z.skeleton z.seen)) (statements spelt) seen))) same
     (begins_more (script p x.skeleton x.seen) _ _ rest)
@@ -88,7 +80,7 @@ begins_shown Leaves (Ok stmt ∷ spelt) (one ∷ answers) p m (x ∷ seen) lawfu
 pub asks_shown : (one : SomeRun) → failures_of one ≡ 0 → AsksAsShown one
 asks_shown one none =
     let few : length one.run.story.spelt ≤ length one.run.story.answers + 1 = omega (arith, one.run.statements.begun, one.run.statements.each) in
-    let begins = begins_shown _ one.run.story.spelt one.run.story.answers one.base.public one.base.count (seen_by one) one.run.accesses.lawful few none one.run.accesses.flat in
+    let begins = begins_shown _ one.run.story.spelt one.run.story.answers one.base.public one.base.count (seen_by one) one.run.accesses.lawful few none in
     subst (λ (l : List Access). Begins l (one.base.before ++ trace one.base.public (shown one.base.public one.base.count (stmts_of one) (seen_by one)))) (sym one.run.accesses.asked)
     (begins_more one.base.before _ _ begins)
 

@@ -4,7 +4,7 @@ use Rattle.ob_seal.specs.KeySet.{KeySet}
 use Rattle.ob_store.specs.State.{Lie, StoreState}
 use Rattle.ob_vault.specs.State.{Start}
 use Rattle.ob_vault.specs.Tied.{TagFits}
-use Rattle.ob_headline.specs.Bases.{Base, FromEach, said_of}
+use Rattle.ob_headline.specs.Bases.{Base, FromEach, drawing, said_of}
 use Rattle.ob_headline.specs.Disturbed.{Until}
 use Rattle.ob_headline.specs.Meaning.{AnswersFrom}
 use Rattle.ob_headline.specs.Story.{Story}
@@ -24,8 +24,8 @@ pub record IsUndeceived (keys : KeySet) (start : Start) (store0 store1 : StoreSt
 pub record Answers (base : Base) (keys : KeySet) (ending : Ending) (story : Story)
     (old new : StoreState) : Type 0 where
   pub meant : IsUndeceived keys base.start old new → FromEach base (λ s. (broken : Broken)
-      × AnswersFrom ending s story.spelt broken story.answers (story.seen ++ story.last)
-      story.part)
+      × AnswersFrom ending (drawing keys s) story.spelt broken story.answers
+      (story.seen ++ story.last) story.part)
   pub later : Later old new
   pub always : IsTrue old.tells → (n : ℕ) → IsBefore (said_of base.opened old) n
-      → Until base.settings n story.spelt story.answers (story.seen ++ story.last) new.asked
+      → Until base.settings keys n story.spelt story.answers (story.seen ++ story.last) new.asked

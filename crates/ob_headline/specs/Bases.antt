@@ -10,6 +10,7 @@ use Rattle.ob_mean.specs.Replay.{Session, first_session}
 use Rattle.ob_mean.specs.Verdict.{Draws, Tables}
 use Rattle.ob_reopen.specs.declared.closing.Closing.{Closing}
 use Rattle.ob_reopen.specs.declared.listed.Listed.{Listed}
+use Rattle.ob_seal.specs.Draws.{draw_of}
 use Rattle.ob_seal.specs.KeySet.{KeySet}
 use Rattle.ob_store.specs.State.{Disturbance, StoreState}
 use Rattle.ob_vault.specs.State.{Start, earlier, from_nothing}
@@ -72,7 +73,7 @@ pub record Rested (o : Opened) (tables : Tables) : Type 0 where
   pub honest : o.new.lie ≡ None
   pub rests : Rests o.keys o.closing o.old.kept tables
 
--- nothing was drawn, as long as no table is an index
+-- nothing was drawn yet, nor are the numbers known
 abbrev pub undrawn : Draws
 undrawn = record { draw = λ n. 0; drawn = 0 }
 
@@ -80,6 +81,10 @@ undrawn = record { draw = λ n. 0; drawn = 0 }
 abbrev pub session_at : Base → Tables → Session
 session_at base tables =
     record { public = base.public; tables = tables; asked = base.count; draws = undrawn }
+
+-- a session draws the numbers of its keys, from the first on
+abbrev pub drawing : KeySet → Session → Session
+drawing keys s = record s { draws = record { draw = draw_of keys; drawn = 0 } }
 
 -- it holds of the model's session without tables; or of each one with tables that rested in the store
 abbrev pub HoldsFrom : Option Opened → Base → (Session → Type 0) → Type 0

@@ -1,7 +1,7 @@
 -- How a run ends, its status and its last line.
 use Rattle.std.specs.Prelude.{ℕ, Bool, true, false, List, [], codes, Result, Ok, Err}
 use Rattle.ob_base.specs.declared.refusal.Stop.{Stop}
-use Rattle.ob_base.specs.declared.refusal.Stop.TheVariants.{Tampered, SourceFault, SinkFault, NoMemory, InputLimit}
+use Rattle.ob_base.specs.declared.refusal.Stop.TheVariants.{Tampered, SourceFault, SinkFault, NoMemory, InputLimit, StoreFault, StashFull}
 use Rattle.ob_headline.specs.declared.ending.Ending.{Ending}
 use Rattle.ob_headline.specs.declared.ending.Ending.TheVariants.{Usage, BadKey, Ran}
 use Rattle.ob_print.specs.Lines.{stop_line}
@@ -14,6 +14,8 @@ ran_status (Err SourceFault) = 5
 ran_status (Err SinkFault) = 6
 ran_status (Err NoMemory) = 7
 ran_status (Err InputLimit) = 8
+ran_status (Err StoreFault) = 3
+ran_status (Err StashFull) = 11
 
 abbrev pub status_of : Ending → ℕ
 status_of Usage = 2

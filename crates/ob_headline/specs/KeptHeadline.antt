@@ -3,10 +3,10 @@ use Rattle.std.specs.Prelude.{ℕ, ◌≡◌, ◌≢◌, ◌≤◌, ◌⊎◌, �
 use Rattle.std.specs.Io.KnownBytes.{Consumes}
 use Rattle.ob_base.specs.declared.config.Config.{Config}
 use Rattle.ob_base.specs.declared.mark.Mark.{Mark}
-use Rattle.ob_base.specs.declared.refusal.Stop.TheVariants.{Tampered, SourceFault, SinkFault, NoMemory, InputLimit}
+use Rattle.ob_base.specs.declared.refusal.Stop.TheVariants.{Tampered, SourceFault, SinkFault, NoMemory, InputLimit, StoreFault, StashFull}
 use Rattle.ob_reopen.specs.Closed.{is_used_up}
 use Rattle.ob_reopen.specs.Resting.{AcceptsClosings, Rests, by_name}
-use Rattle.ob_headline.specs.Bases.{Base, FromEach, fresh}
+use Rattle.ob_headline.specs.Bases.{Base, FromEach, drawing, fresh}
 use Rattle.ob_headline.specs.Headline.{Headline}
 use Rattle.ob_headline.specs.Keeping.{BeganKept, Closes, NotBegun, closing_behind, kept_line, kept_status, region_opened}
 use Rattle.ob_headline.specs.KeyLine.{first_line, has_lf, secret_of}
@@ -43,6 +43,8 @@ EndsUnkeyed (Ran (Err SourceFault)) taken = has_lf taken ≡ false
 EndsUnkeyed (Ran (Err SinkFault)) taken = ⊥
 EndsUnkeyed (Ran (Err NoMemory)) taken = taken ≡ []
 EndsUnkeyed (Ran (Err InputLimit)) taken = has_lf taken ≡ false
+EndsUnkeyed (Ran (Err StoreFault)) taken = ⊥
+EndsUnkeyed (Ran (Err StashFull)) taken = ⊥
 
 -- the run ended as one does whose tables aren't kept, and neither the keeper nor the store was asked for anything
 pub record Unkeyed (settings : Option Config) (Takes : Type 0) (tracing : Bool) (old new : Outside)
@@ -98,9 +100,9 @@ pub record ClosesTables (base : Base) (keys : KeySet) (tracing refused : Bool) (
   -- where the store tells what it holds and gave what was written, the tables rest in it: those that the statements leave
   pub rests : IsHonest begun new → is_used_up closing ≡ false → (mark : Mark)
       → closes.result ≡ Ok mark → FromEach base (λ s. (broken : Broken)
-      × AnswersFrom (Ran (Ok refused)) s story.spelt broken story.answers
+      × AnswersFrom (Ran (Ok refused)) (drawing keys s) story.spelt broken story.answers
       (story.seen ++ story.last) story.part
-      × Rests keys closing new.kept (by_name (after_all s story.spelt broken).tables))
+      × Rests keys closing new.kept (by_name (after_all (drawing keys s) story.spelt broken).tables))
   -- and no block of a live region lies in clear, of the closing neither
   pub sealed : SealsOwn (PassesBoth base.public.pack) base keys begun new
   pub sealed_before : SealsEach (PassesBoth base.public.pack) base keys begun new

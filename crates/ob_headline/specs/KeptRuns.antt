@@ -5,7 +5,7 @@ use Rattle.clap.specs.Words.{Text}
 use Rattle.ob_base.specs.Accesses.{writes}
 use Rattle.ob_base.specs.declared.config.Config.{Config}
 use Rattle.ob_base.specs.declared.mark.Mark.{Mark}
-use Rattle.ob_headline.specs.Bases.{start}
+use Rattle.ob_headline.specs.Bases.{drawing, start}
 use Rattle.ob_headline.specs.Failures.{failures}
 use Rattle.ob_headline.specs.KeptHeadline.{RunKept}
 use Rattle.ob_headline.specs.KeptMarks.{KeptRun}
@@ -17,9 +17,10 @@ use Rattle.ob_headline.specs.Meaning.{AnswersFrom}
 use Rattle.ob_headline.specs.declared.ending.Ending.TheVariants.{Ran}
 use Rattle.ob_headline.specs.declared.ending.KeptEnding.{KeptEnding}
 use Rattle.ob_headline.specs.declared.ending.Report.{Report}
-use Rattle.ob_mean.specs.Replay.{Spelt, after_all}
+use Rattle.ob_mean.specs.Replay.{Session, Spelt, after_all}
 use Rattle.ob_reopen.specs.Keepers.{KeeperState}
 use Rattle.ob_script.specs.Trace.{Served, trace}
+use Rattle.ob_seal.specs.Sealed.{keys_of}
 use Rattle.ob_store.specs.State.{KeptRegion}
 
 -- a run with `--keep` that reads its input
@@ -100,11 +101,15 @@ abbrev pub all_seen : {words : List Text} → List (OneRun words) → List Serve
 all_seen [] = []
 all_seen (one ∷ runs) = seen_in one.run.ran ++ all_seen runs
 
+-- the model's session without tables that draws the numbers of this secret
+abbrev pub first_of : List Text → (secret : List ℕ) → Session
+first_of words secret = drawing (keys_of secret) (start (settings_of kept_usage words))
+
 -- they are answered as one run over all these texts answers them, from no tables, where none of them comes too late there
-abbrev pub AnswerAsOne : {words : List Text} → List (OneRun words) → Type 0
-AnswerAsOne {words} runs =
-    (after_all (start (settings_of kept_usage words)) (all_spelt runs) []).asked < 2 ^ 63
-    → AnswersFrom (Ran (Ok (any_refused (all_answers runs)))) (start (settings_of kept_usage words))
+abbrev pub AnswerAsOne : {words : List Text} → (secret : List ℕ) → List (OneRun words) → Type 0
+AnswerAsOne {words} secret runs =
+    (after_all (first_of words secret) (all_spelt runs) []).asked < 2 ^ 63
+    → AnswersFrom (Ran (Ok (any_refused (all_answers runs)))) (first_of words secret)
     (all_spelt runs) [] (all_answers runs) (all_seen runs) []
 
 -- ---- numbers over runs

@@ -1,10 +1,10 @@
 -- What the model answers.
-use Rattle.std.specs.Prelude.{ℕ, ◌≡◌, ◌≤◌, ◌⊎◌, List, [], ◌∷◌, ◌++◌, length, Option, Some, None, Ok, Err}
+use Rattle.std.specs.Prelude.{ℕ, ◌≡◌, ◌≤◌, ◌⊎◌, true, false, List, [], ◌∷◌, ◌++◌, length, Option, Some, None, Ok, Err}
 use Rattle.ob_base.specs.Events.{Event}
 use Rattle.ob_base.specs.Stored.{headings, headings_of}
 use Rattle.ob_base.specs.declared.refusal.Refusal.TheVariants.{StoreFault}
 use Rattle.ob_base.specs.declared.refusal.Stop.{Stop}
-use Rattle.ob_base.specs.declared.refusal.Stop.TheVariants.{NoMemory}
+use Rattle.ob_base.specs.declared.refusal.Stop.TheVariants.{NoMemory, StashFull}
 use Rattle.ob_base.specs.declared.seen.Seen.{Seen}
 use Rattle.ob_verdict.specs.Outcomes.{outcome_of, Partly}
 use Rattle.ob_verdict.specs.declared.outcome.Outcome.TheVariants.{Refused}
@@ -14,7 +14,7 @@ use Rattle.ob_headline.specs.declared.ending.Ending.{Ending}
 use Rattle.ob_headline.specs.declared.ending.Ending.TheVariants.{Ran}
 use Rattle.ob_mean.specs.Prints.{Prints, Unfinished, labels_of}
 use Rattle.ob_mean.specs.Refusals.{early_refusal, limits_of}
-use Rattle.ob_mean.specs.Replay.{Session, Spelt, Broken, IsCutOff, after, cut_at, head_of, rest_of, seen_now, seen_or_cut}
+use Rattle.ob_mean.specs.Replay.{Session, Spelt, Broken, IsCutOff, after, cut_at, head_of, is_full_now, reads_of, rest_of, seen_now, seen_or_cut}
 use Rattle.ob_mean.specs.Verdict.{is_late, verdict}
 use Rattle.ob_mean.specs.declared.answer.Answer.{Answer as Meaning}
 use Rattle.ob_print.specs.Cuts.{IsCutOf}
@@ -58,7 +58,8 @@ PrintsTo (Ran (Err stop)) part text = PrintsUntil stop part text
 PrintsTo _ part text = part ≡ text
 
 -- of the one begun: it was stopped after n of its accesses, of which the last was refused as tampered or none was, and
--- a first part of its header and rows was emitted until then
+-- a first part of its header and rows was emitted until then; where the model's index is full it is stopped behind the
+-- reads of its access at the latest, and a stop for that comes nowhere else
 pub record StopsAt (ending : Ending) (s : Session) (stmt : Stmt) (here : Seen)
     (part : List ℕ) : Type 0 where
   pub started : early_refusal (is_late s.asked) (limits_of s.public) (headings s.tables)
@@ -70,9 +71,13 @@ pub record StopsAt (ending : Ending) (s : Session) (stmt : Stmt) (here : Seen)
   pub begun : Partly (labels_of stmt (headings_of s.public.tables))
       (verdict s.public s.asked s.tables stmt) events
   pub printed : PrintsTo ending part (events_text events)
+  pub full : ending ≡ Ran (Err StashFull)
+      → (is_full_now s stmt ≡ true) × (n ≡ reads_of s stmt) × (part ≡ [])
+  pub bound : is_full_now s stmt ≡ true → n ≤ reads_of s stmt
 
 -- or it was answered, and a sink failed within its last line or after it
 pub record AnswersLast (s : Session) (stmt : Stmt) (here : Seen) (part : List ℕ) : Type 0 where
+  pub room : is_full_now s stmt ≡ false
   pub broken : Option ℕ
   pub cuts : IsCutOff broken s stmt
   pub seen : here ≡ seen_or_cut broken s stmt
@@ -86,8 +91,8 @@ BeginsAnswer ending s (Ok stmt) [] part = ⊥
 BeginsAnswer ending s (Ok stmt) (x ∷ seen) part =
     StopsAt ending s stmt x.seen part ⊎ AnswersLast s stmt x.seen part
 
--- from a session of the model on: these statements, of which the store cut some off, each at one of its accesses, are
--- answered so, this is seen of each, and what was printed after them is a first part of the next answer
+-- from a session of the model on: these statements, of which none meets a full stash and the store cut some off, each at
+-- one of its accesses, are answered so, this is seen of each, and what was printed after them is a first part of the next answer
 unfoldable pub AnswersFrom : Ending → Session → List Spelt → Broken → List Answer → List Served
     → (part : List ℕ) → Type 0
 AnswersFrom ending s [] broken answers seen part = (answers ≡ []) × (part ≡ [])
@@ -96,6 +101,6 @@ AnswersFrom ending s (Err at ∷ spelt) broken (one ∷ more) seen part =
     (one ≡ refused_at at) × AnswersFrom ending s spelt (rest_of broken) more seen part
 AnswersFrom ending s (Ok stmt ∷ spelt) broken (one ∷ more) [] part = ⊥
 AnswersFrom ending s (Ok stmt ∷ spelt) broken (one ∷ more) (x ∷ seen) part =
-    IsCutOff (head_of broken) s stmt × AnswersIn (head_of broken) s stmt one
-    × (x.seen ≡ seen_or_cut (head_of broken) s stmt)
+    (is_full_now s stmt ≡ false) × IsCutOff (head_of broken) s stmt
+    × AnswersIn (head_of broken) s stmt one × (x.seen ≡ seen_or_cut (head_of broken) s stmt)
     × AnswersFrom ending (after (head_of broken) s stmt) spelt (rest_of broken) more seen part

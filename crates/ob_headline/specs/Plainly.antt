@@ -1,5 +1,5 @@
 -- A run that nothing hinders is one of the plain machine: SQL over plain tables, a text after the other.
-use Rattle.std.specs.Prelude.{ℕ, ◌≡◌, ◌≢◌, ◌++◌, if◌then◌else◌, true, List, [], ◌∷◌, Ok, Err, None, Some}
+use Rattle.std.specs.Prelude.{ℕ, ◌≡◌, ◌≢◌, ◌++◌, if◌then◌else◌, true, false, List, [], ◌∷◌, Ok, Err, None, Some}
 use Rattle.std.specs.Io.KnownBytes.{Appends}
 use Rattle.ob_base.specs.Counts.{Rises}
 use Rattle.ob_headline.specs.KeyLine.{after_line}
@@ -10,7 +10,7 @@ use Rattle.ob_headline.specs.Tracing.{traced}
 use Rattle.ob_headline.specs.Words.{Answer, IsHonest, SinksRose, any_refused, printed, refused_at}
 use Rattle.ob_headline.specs.Meaning.{AnswersIn}
 use Rattle.ob_headline.specs.Status.{KeepsLimits}
-use Rattle.ob_mean.specs.Replay.{Session, Spelt, after, all_served}
+use Rattle.ob_mean.specs.Replay.{Session, Spelt, after, all_served, is_full_now}
 use Rattle.ob_script.specs.Trace.{trace}
 
 -- from this session of the model on these texts are answered so, each as it is meant
@@ -20,10 +20,11 @@ AnsweredPlainly s (x ∷ spelt) [] = ⊥
 AnsweredPlainly s (Err at ∷ spelt) (one ∷ more) =
     (one ≡ refused_at at) × AnsweredPlainly s spelt more
 AnsweredPlainly s (Ok stmt ∷ spelt) (one ∷ more) =
-    AnswersIn None s stmt one × AnsweredPlainly (after None s stmt) spelt more
+    (is_full_now s stmt ≡ false) × AnswersIn None s stmt one
+    × AnsweredPlainly (after None s stmt) spelt more
 
 -- the words are taken, the input keeps to the limits, neither the source nor a sink fails, the store tells what it holds,
--- gave what was written and failed at no statement, and memory was not wanting
+-- gave what was written and failed at no statement, and neither memory nor the stash of an index was wanting
 pub record IsUnhindered (one : SomeRun) (input : List ℕ) : Type 0 where
   pub takes : TakesWords one.app one.words
   pub left : one.old.left ≡ Some input
@@ -32,7 +33,9 @@ pub record IsUnhindered (one : SomeRun) (input : List ℕ) : Type 0 where
   pub sinks : ¬ SinksRose one.old.faults one.new.faults
   pub honest : IsHonest one.old.store one.new.store
   pub unfailed : failures_of one ≡ 0
+  pub sound : ¬ Rises one.old.store.faults one.new.store.faults
   pub memory : one.report.status ≢ 7
+  pub room : one.report.status ≢ 11
 
 -- each text of the input is answered as the plain machine answers it from this session on; it printed these answers, it
 -- asked what they ask by their meaning, that is what was traced, and the status says whether a text was refused

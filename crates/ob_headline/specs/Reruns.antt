@@ -94,24 +94,30 @@ abbrev pub IsPlain : Public → Stmt → Type 0
 IsPlain p stmt =
     (is_access p (skeleton stmt) ≡ false) × ((selects_rows stmt ≡ false) ⊎ IsSome p.pad)
 
+-- of a statement that isn't cut off more is seen than that: it accesses an index, whose leaf is seen, or is a SELECT of rows
+-- whose result isn't padded
+abbrev pub shows_more : Public → Stmt → Bool
+shows_more p stmt = is_access p (skeleton stmt) || (selects_rows stmt && not (is_some p.pad))
+
 -- one of them is a SELECT of rows
 unfoldable pub any_counted : List Stmt → Bool
 any_counted [] = false
 any_counted (stmt ∷ stmts) = selects_rows stmt || any_counted stmts
 
 -- two lists of statements, of each of which is seen whether it was refused before any access, and nothing else: their
--- skeletons are the same, and the same ones are refused so
+-- skeletons are the same, none accesses an index, and the same ones are refused so
 unfoldable pub Alike : Public → ℕ → List Stmt → List Stmt → Type 0
 Alike p m [] [] = ⊤
 Alike p m [] (b ∷ qs) = ⊥
 Alike p m (a ∷ ps) [] = ⊥
 Alike p m (a ∷ ps) (b ∷ qs) =
-    (skeleton a ≡ skeleton b) × (is_some (refusal_now p m a) ≡ is_some (refusal_now p m b))
+    (skeleton a ≡ skeleton b) × (is_access p (skeleton a) ≡ false)
+    × (is_some (refusal_now p m a) ≡ is_some (refusal_now p m b))
     × Alike (next p (skeleton a) (plainly p m a))
     (m + length (script p (skeleton a) (plainly p m a))) ps qs
 
 -- any two lists of statements, and what was seen of each: their skeletons are the same, the same ones are refused before
--- any access, and of each SELECT of rows the same is seen
+-- any access, and of each that accesses an index, and of each SELECT of rows that isn't padded, the same is seen
 unfoldable pub ShowAlike : Public → ℕ → List Stmt → List Served → List Stmt → List Served → Type 0
 ShowAlike p m [] xs [] ys = ⊤
 ShowAlike p m [] xs (b ∷ qs) ys = ⊥
@@ -120,7 +126,7 @@ ShowAlike p m (a ∷ ps) [] (b ∷ qs) ys = ⊥
 ShowAlike p m (a ∷ ps) (x ∷ xs) (b ∷ qs) [] = ⊥
 ShowAlike p m (a ∷ ps) (x ∷ xs) (b ∷ qs) (y ∷ ys) =
     (skeleton a ≡ skeleton b) × (is_some (refusal_now p m a) ≡ is_some (refusal_now p m b))
-    × (IsTrue (selects_rows a) → x.seen ≡ y.seen)
+    × (IsTrue (shows_more p a) → x.seen ≡ y.seen)
     × ShowAlike (next p x.skeleton x.seen) (m + length (script p x.skeleton x.seen)) ps xs qs ys
 
 -- of statements that are not cut off, each of which is no SELECT of rows or has its result padded, what is seen: a
@@ -132,19 +138,22 @@ shown_plainly p m (stmt ∷ stmts) =
     ∷ shown_plainly (next p (skeleton stmt) (plainly p m stmt))
     (m + length (script p (skeleton stmt) (plainly p m stmt))) stmts
 
--- none of them is a SELECT of rows, or results are padded
-abbrev pub ArePlain : Public → List Stmt → Type 0
-ArePlain p stmts = (any_counted stmts ≡ false) ⊎ IsSome p.pad
+-- each of them accesses no index, and is no SELECT of rows or has its result padded
+unfoldable pub ArePlain : Public → ℕ → List Stmt → Type 0
+ArePlain p m [] = ⊤
+ArePlain p m (stmt ∷ stmts) =
+    IsPlain p stmt × ArePlain (next p (skeleton stmt) (plainly p m stmt))
+    (m + length (script p (skeleton stmt) (plainly p m stmt))) stmts
 
--- what is seen of a statement that isn't cut off: where it is a SELECT of rows and results aren't padded what was seen of
--- it, and else what follows from its early refusal
+-- what is seen of a statement that isn't cut off: where more is seen than its early refusal what was seen of it, and else
+-- what follows from that
 abbrev pub shown_as : Public → ℕ → Stmt → Seen → Served
 shown_as p m stmt seen = record {
   skeleton = skeleton stmt;
-  seen = if selects_rows stmt && not (is_some p.pad) then seen else plainly p m stmt;
+  seen = if shows_more p stmt then seen else plainly p m stmt;
 }
 
--- what is seen of statements of which none is cut off, but for such a SELECT
+-- what is seen of statements of which none is cut off, but for those
 unfoldable pub shown : Public → ℕ → List Stmt → List Served → List Served
 shown p m [] xs = []
 shown p m (stmt ∷ stmts) [] = []
@@ -154,7 +163,7 @@ shown p m (stmt ∷ stmts) (x ∷ xs) =
     (m + length (script p (skeleton stmt) (shown_as p m stmt x.seen).seen)) stmts xs
 
 -- as far as both go two lists of statements show the same: their skeletons are the same, the same ones are refused before
--- any access, and of each SELECT of rows that isn't padded the same is seen
+-- any access, and of each that accesses an index, and of each SELECT of rows that isn't padded, the same is seen
 unfoldable pub AlikeSoFar : Public → ℕ → List Stmt → List Served → List Stmt → List Served → Type 0
 AlikeSoFar p m [] xs qs ys = ⊤
 AlikeSoFar p m (a ∷ ps) xs [] ys = ⊤
@@ -170,17 +179,18 @@ abbrev pub OneBegins : {A : Type 0} → (xs ys : List A) → Type 0
 OneBegins xs ys = Begins xs ys ⊎ Begins ys xs
 
 -- a run asks a first part of one list, behind what it begins with: of the accesses that follow from the skeletons of its
--- statements, from which are refused before any access, and from what is seen of its SELECTs of rows that aren't padded
+-- statements, from which are refused before any access, and from what is seen of those that access an index, and of its
+-- SELECTs of rows that aren't padded
 abbrev pub AsksAsShown : SomeRun → Type 0
 AsksAsShown one = Begins (asked_by one) (one.base.before
     ++ trace one.base.public (shown one.base.public one.base.count (stmts_of one) (seen_by one)))
 
--- if no text of a run was answered that the store failed, and none of its statements is a SELECT of rows or results are
--- padded, what it asks is a first part of one list, however it ends: behind what it begins with, of the accesses that
+-- if no text of a run was answered that the store failed, and each of its statements accesses no index, and is no SELECT of
+-- rows or has its result padded, what it asks is a first part of one list, however it ends: behind what it begins with, of the accesses that
 -- follow from the skeletons of its statements and from which are refused before any access
 abbrev pub AsksByKinds : {base : Base} {Takes : Type 0} {tracing : Bool} {old new : Outside}
     {report : Report} → Headline base Takes tracing old new report → Type 0
 AsksByKinds {base = base} {new = new} run =
-    failures run.story.answers ≡ 0 → ArePlain base.public (statements run.story.spelt)
+    failures run.story.answers ≡ 0 → ArePlain base.public base.count (statements run.story.spelt)
     → Begins new.store.asked (base.before
     ++ trace base.public (shown_plainly base.public base.count (statements run.story.spelt)))

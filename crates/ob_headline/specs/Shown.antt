@@ -1,7 +1,7 @@
 -- What a watcher is shown of a run beside its accesses: blocks, each sealed for a place of a region that the run made,
 -- under a number that no other write has. How long a block is isn't said here: each write is of a block of its region's
 -- length.
-use Rattle.std.specs.Prelude.{ℕ, ◌≡◌, ◌≢◌, ◌≤◌, ◌<◌, ◌+◌, ◌++◌, ⊤, Bool, IsTrue, List, [], ◌∷◌, length, slice_get, take, Option, Some, None}
+use Rattle.std.specs.Prelude.{ℕ, ◌≡◌, ◌≢◌, ◌⊎◌, ◌≤◌, ◌<◌, ◌+◌, ◌++◌, ⊤, Bool, true, false, IsTrue, List, [], ◌∷◌, length, slice_get, take, Option, Some, None}
 use Rattle.std.proofs.Common.{inl, inr}
 use Rattle.ob_base.specs.Accesses.{writes}
 use Rattle.ob_base.specs.Counts.{Rises}
@@ -9,6 +9,8 @@ use Rattle.ob_base.specs.declared.access.Access.{Access}
 use Rattle.ob_base.specs.declared.access.Access.TheVariants.{Write}
 use Rattle.ob_base.specs.declared.config.Config.{Config}
 use Rattle.ob_base.specs.declared.config.Public.{Public}
+use Rattle.ob_base.specs.declared.schema.Shape.TheVariants.{Indexed}
+use Rattle.ob_base.specs.declared.schema.Table.{Table}
 use Rattle.ob_headline.specs.Bases.{Base}
 use Rattle.ob_headline.specs.KeptHeadline.{PassesBoth, RunKept}
 use Rattle.ob_headline.specs.Reruns.{GoOnFromOne, SomeRun, asked_by, seen_by}
@@ -16,6 +18,7 @@ use Rattle.ob_headline.specs.Words.{Answer, Begins, Outside, keys_in}
 use Rattle.ob_headline.specs.Sealing.{PassesHere}
 use Rattle.ob_headline.specs.declared.ending.KeptEnding.{KeptEnding}
 use Rattle.ob_headline.specs.declared.ending.Report.{Report}
+use Rattle.ob_mean.specs.Replay.{is_access}
 use Rattle.ob_reopen.specs.Keepers.{KeeperState}
 use Rattle.ob_script.specs.Script.{script}
 use Rattle.ob_script.specs.Trace.{Served, after_all, next, trace}
@@ -34,12 +37,30 @@ pub record Wrote (asked : List Access) (i region place : ℕ) : Type 0 where
 pub record WritesWithin (from below : ℕ) (asked : List Access) : Type 0 where
   pub each : (i region place : ℕ) → Wrote asked i region place → (from ≤ region) × (region < below)
 
--- each statement writes to those regions alone that it makes
+-- a region of an index: that of its tree, or of its stash, which is the next one
+abbrev pub IsOfIndex : Table → ℕ → Type 0
+IsOfIndex t region =
+    (t.heading.shape ≡ Indexed) × ((region ≡ t.region) ⊎ (region ≡ t.region + 1))
+
+-- one of these tables is an index that has this region
+abbrev pub OfIndex : List Table → ℕ → Type 0
+OfIndex [] region = ⊥
+OfIndex (t ∷ tables) region = IsOfIndex t region ⊎ OfIndex tables region
+
+-- each write goes to a region of an index
+pub record WritesIndexes (tables : List Table) (asked : List Access) : Type 0 where
+  pub each : (i region place : ℕ) → Wrote asked i region place → OfIndex tables region
+
+-- a statement that accesses no index writes to those regions alone that it makes, and an access to those of an index alone
+pub record WritesOwn (p : Public) (x : Served) : Type 0 where
+  pub own : is_access p x.skeleton ≡ false → WritesWithin p.next_region
+      (next p x.skeleton x.seen).next_region (script p x.skeleton x.seen)
+  pub index : is_access p x.skeleton ≡ true → WritesIndexes p.tables (script p x.skeleton x.seen)
+
+-- each statement does so
 unfoldable pub WriteOwn : Public → List Served → Type 0
 WriteOwn p [] = ⊤
-WriteOwn p (x ∷ seen) =
-    WritesWithin p.next_region (next p x.skeleton x.seen).next_region (script p x.skeleton x.seen)
-    × WriteOwn (next p x.skeleton x.seen) seen
+WriteOwn p (x ∷ seen) = WritesOwn p x × WriteOwn (next p x.skeleton x.seen) seen
 
 -- ---- the numbers of writes
 -- that of the write at this position: they count on from an earlier run's
@@ -126,10 +147,12 @@ asked_behind one k = one.base.before ++ trace one.base.public (take k (seen_by o
 abbrev pub public_behind : SomeRun → (k : ℕ) → Public
 public_behind one k = after_all one.base.public (take k (seen_by one))
 
--- behind the first k statements each one is of a region that was made by then and lives on to the end of the run
+-- behind the first k statements each one is of a region that was made by then, is no index's and lives on to the end of
+-- the run
 pub record ShowsBehind (one : SomeRun) (k : ℕ) (between : StoreState) : Type 0 where
   pub each : (region place : ℕ) (block : List ℕ) → one.base.start.region < region
-      → region < (public_behind one k).next_region → LivesOn between one.new.store region
+      → region < (public_behind one k).next_region
+      → (OfIndex (public_behind one k).tables region → ⊥) → LivesOn between one.new.store region
       → between.last region place ≡ Some block → IsShownIn one between region place block
 
 -- ---- a run with `--keep`

@@ -3,7 +3,7 @@ use Rattle.std.specs.Prelude.{ℕ, ◌≡◌, ◌<◌, ◌⊎◌, ⊤, Bool, tru
 use Rattle.ob_base.specs.Counts.{Rises}
 use Rattle.ob_base.specs.declared.access.Access.{Access}
 use Rattle.ob_base.specs.declared.access.Access.TheVariants.{Read}
-use Rattle.ob_base.specs.declared.refusal.Stop.TheVariants.{Tampered, SourceFault, SinkFault, NoMemory, InputLimit}
+use Rattle.ob_base.specs.declared.refusal.Stop.TheVariants.{Tampered, SourceFault, SinkFault, NoMemory, InputLimit, StoreFault, StashFull}
 use Rattle.ob_headline.specs.Bases.{Base, FromEach}
 use Rattle.ob_headline.specs.KeyLine.{LineTaken, after_line, first_line, has_lf, line_max, secret_of}
 use Rattle.ob_headline.specs.Texts.{is_over, rest_of as pending_of}
@@ -76,6 +76,11 @@ Because base (Ran (Err NoMemory)) Takes max taken ended more answers part old ne
     new.faults.source ≡ old.faults.source
 Because base (Ran (Err InputLimit)) Takes max taken ended more answers part old new =
     Takes × ReadToLimit max taken ended more part × (new.faults.source ≡ old.faults.source)
+Because base (Ran (Err StoreFault)) Takes max taken ended more answers part old new =
+    Takes × HasSecret taken × Rises old.store.faults new.store.faults
+    × (new.faults.source ≡ old.faults.source)
+Because base (Ran (Err StashFull)) Takes max taken ended more answers part old new =
+    Takes × HasSecret taken × (new.faults.source ≡ old.faults.source)
 
 -- an input that keeps to the limits: its first line is a secret, and neither it nor a text of it is too long
 pub record KeepsLimits (max : ℕ) (input : List ℕ) : Type 0 where
@@ -83,12 +88,15 @@ pub record KeepsLimits (max : ℕ) (input : List ℕ) : Type 0 where
   pub short : length input < max
   pub texts : is_over (pending_of [] (after_line input)) ≡ false
 
--- the input was read to its end, or memory was wanting, or a block was not what was written there
-abbrev pub IsCompleted : (honest : Type 0) → Ending → Type 0
-IsCompleted honest (Ran (Ok refused)) = ⊤
-IsCompleted honest (Ran (Err (Tampered region place))) = ¬ honest
-IsCompleted honest (Ran (Err NoMemory)) = ⊤
-IsCompleted honest _ = ⊥
+-- the input was read to its end, or memory was wanting, or a block was not what was written there, or the store failed, or
+-- the stash of an index was full
+abbrev pub IsCompleted : (honest faulted : Type 0) → Ending → Type 0
+IsCompleted honest faulted (Ran (Ok refused)) = ⊤
+IsCompleted honest faulted (Ran (Err (Tampered region place))) = ¬ honest
+IsCompleted honest faulted (Ran (Err NoMemory)) = ⊤
+IsCompleted honest faulted (Ran (Err StoreFault)) = faulted
+IsCompleted honest faulted (Ran (Err StashFull)) = ⊤
+IsCompleted honest faulted _ = ⊥
 
 -- it says how the run ended, for its cause; and one that nothing hinders comes to the end of its input
 pub record Status (base : Base) (Takes : Type 0) (taken : List ℕ) (ended : Bool)
@@ -99,4 +107,5 @@ pub record Status (base : Base) (Takes : Type 0) (taken : List ℕ) (ended : Boo
   pub completes : Takes → (input : List ℕ) → old.left ≡ Some input
       → KeepsLimits (limit_of base.settings) input
       → ¬ Rises old.faults.source new.faults.source → ¬ SinksRose old.faults new.faults
-      → FromEach base (λ s. IsCompleted (IsHonest old.store new.store) ending)
+      → FromEach base (λ s. IsCompleted (IsHonest old.store new.store)
+      (Rises old.store.faults new.store.faults) ending)

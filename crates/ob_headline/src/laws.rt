@@ -1,12 +1,12 @@
 //! What follows of whole runs, and how bytes are cut into texts.
-ghost use Rattle.std.specs.Prelude.{◌≡◌, ◌<◌, Bool, List, [], ℕ, IsSome, IsTrue, Option, Some, false, length};
+ghost use Rattle.std.specs.Prelude.{◌≡◌, ◌<◌, Bool, List, [], ℕ, IsSome, IsTrue, Option, Some, false, true, length};
 ghost use Rattle.clap.specs.Words.{App, Text};
 ghost use Rattle.ob_base.specs.declared.config.Config.{Config};
 ghost use Rattle.ob_base.specs.declared.config.Public.{Public};
 ghost use Rattle.ob_base.specs.declared.mark.Mark.{Mark};
 ghost use Rattle.ob_base.specs.declared.mark.Mark.TheVariants.{Fresh};
 ghost use Rattle.ob_base.specs.declared.seen.Seen.{Seen};
-ghost use Rattle.ob_headline.specs.Bases.{Base, FromEach, fresh};
+ghost use Rattle.ob_headline.specs.Bases.{Base, FromEach, drawing, fresh};
 ghost use Rattle.ob_headline.specs.Headline.{Headline};
 ghost use Rattle.ob_headline.specs.Keeping.{BeginsFrom};
 ghost use Rattle.ob_headline.specs.KeptMarks.{HeldAfter, KeptRun};
@@ -17,11 +17,12 @@ ghost use Rattle.ob_headline.specs.Reruns.{Alike, AlikeSoFar, AsksAsShown, AsksB
 ghost use Rattle.ob_headline.specs.Reruns.{OneBegins, ShowAlike, SomeRun, any_counted, asked_by, failures_of, plainly};
 ghost use Rattle.ob_headline.specs.Reruns.{seen_by, stmts_of};
 ghost use Rattle.ob_headline.specs.Settings.{IsTaken, MeddleParses};
-ghost use Rattle.ob_headline.specs.Shown.{AskedTheSame, IsBegun, IsBetween, ShowNumbersAlike, ShowsBehind};
+ghost use Rattle.ob_headline.specs.Shown.{AskedTheSame, IsBegun, IsBetween, OfIndex, ShowNumbersAlike, ShowsBehind};
 ghost use Rattle.ob_headline.specs.Shown.{ShowsBetween, ShowsKept, ShowsSealed, WriteOwn, Wrote, asked_behind};
 ghost use Rattle.ob_headline.specs.Shown.{public_behind};
 ghost use Rattle.ob_headline.specs.Texts.{is_over, rest_of, texts_of};
-ghost use Rattle.ob_headline.specs.Words.{Outside};
+ghost use Rattle.ob_headline.specs.Usage.{is_kept};
+ghost use Rattle.ob_headline.specs.Words.{Outside, keys_in};
 ghost use Rattle.ob_headline.specs.Accesses.{is_cut};
 ghost use Rattle.ob_headline.specs.declared.ending.Report.{Report};
 ghost use Rattle.ob_mean.specs.Lawful.{Lawful};
@@ -49,8 +50,8 @@ pub fn shows_its_refusal_alone()
 
 /// However a run ends and whatever the store does, as long as no text was answered that the store failed, its accesses are
 /// a first part of one list, which follows from the settings, the skeletons of the statements, which of these were refused
-/// before any access, and what is seen of SELECTs of rows whose results aren't padded: by the words of any program, from no
-/// tables or from those of an earlier run.
+/// before any access, and what is seen of those that access an index and of SELECTs of rows whose results aren't padded: by
+/// the words of any program, from no tables or from those of an earlier run.
 pub fn asks_as_shown()
     ensures { (one : SomeRun) → failures_of one ≡ 0 → AsksAsShown one }
 {}
@@ -69,12 +70,12 @@ pub fn one_asks_a_first_part()
 /// rested, it printed these answers, asked and traced what they ask by their meaning, and has their status.
 pub fn unhindered_runs_are_plain()
     ensures { (one : SomeRun) (input : List ℕ) → IsUnhindered one input
-        → FromEach one.base (RunsPlainly one input) }
+        → FromEach one.base (λ s. RunsPlainly one input (drawing (keys_in one.run.taken) s)) }
 {}
 
 /// Two runs that go on from the same, over any stores, that came to their end, and of which no text was answered that the
 /// store failed, ask the same, whatever their literals and their rows: if none of their statements is a SELECT of rows,
-/// their skeletons are the same, and the same ones are refused before any access.
+/// none accesses an index, their skeletons are the same, and the same ones are refused before any access.
 pub fn reruns_ask_the_same()
     ensures { (a b : SomeRun) → GoOnFromOne a b
         → EndsWell a.report.status (failures_of a) → EndsWell b.report.status (failures_of b)
@@ -83,7 +84,8 @@ pub fn reruns_ask_the_same()
 {}
 
 /// Two such runs with `--pad`, over any stores, ask the same, whatever their literals and their rows and however many rows
-/// are selected: if their skeletons are the same, and the same ones are refused before any access.
+/// are selected: if none of their statements accesses an index, their skeletons are the same, and the same ones are refused
+/// before any access.
 pub fn padded_reruns_ask_the_same()
     ensures { (a b : SomeRun) → GoOnFromOne a b
         → EndsWell a.report.status (failures_of a) → EndsWell b.report.status (failures_of b)
@@ -91,7 +93,8 @@ pub fn padded_reruns_ask_the_same()
         → Alike a.base.public a.base.count (stmts_of a) (stmts_of b) → asked_by a ≡ asked_by b }
 {}
 
-/// The same over the whole language, where of each SELECT of rows the same is seen: then of all statements the same is
+/// The same over the whole language, where the same is seen of each statement that accesses an index, and of each SELECT of
+/// rows that isn't padded: then of all statements the same is
 /// seen, and the runs ask the same.
 pub fn reruns_show_the_same()
     ensures { (a b : SomeRun) → GoOnFromOne a b
@@ -114,8 +117,9 @@ pub fn marks_are_held()
 /// failed at no statement: together they answer as one run does over all their texts. Only that so many accesses were
 /// asked that a statement is refused for it may come at another place.
 pub fn runs_answer_as_one()
-    ensures { (words : List Text) (secret : List ℕ) (kept : ℕ → Option KeptRegion)
-        (runs : List (OneRun words)) → GoOn secret (Some Fresh) kept runs → AnswerAsOne runs }
+    ensures { (words : List Text) → is_kept words ≡ true
+        → (secret : List ℕ) (kept : ℕ → Option KeptRegion) (runs : List (OneRun words))
+        → GoOn secret (Some Fresh) kept runs → AnswerAsOne secret runs }
 {}
 
 /// The numbers of writes, which count on from where a run begins, go on over all runs of one keeper that tells, the first
@@ -125,10 +129,10 @@ pub fn numbers_go_on()
     ensures { (runs : List AnyRun) → AreChained (Some Fresh) runs → NumberOn 0 runs }
 {}
 
-/// Whatever a store answers and however a run ends, where no text was answered that the store failed, and no statement is
-/// a SELECT of rows or results are padded, it asks a first part of what follows from the skeletons of its statements, and
-/// from which are refused before any access, alone: from no tables or from those of an earlier run, by the words of any
-/// program, with `--meddle` among them or without.
+/// Whatever a store answers and however a run ends, where no text was answered that the store failed, and each statement
+/// accesses no index, and is no SELECT of rows or has its result padded, it asks a first part of what follows from the
+/// skeletons of its statements, and from which are refused before any access, alone: from no tables or from those of an
+/// earlier run, by the words of any program, with `--meddle` among them or without.
 pub fn asks_by_kinds()
     ensures taken { (base : Base) (app : App) (words : List Text) (tracing : Bool)
         (old new : Outside) (report : Report)
@@ -138,19 +142,22 @@ pub fn asks_by_kinds()
         (run : Headline base (MeddleParses words) tracing old new report) → AsksByKinds run }
 {}
 
-/// Each statement of a run writes to the regions that it makes, and to no other, whatever the store does and however the
-/// run ends: behind a statement nothing is written to a region that was made by then.
+/// Each statement of a run that accesses no index writes to the regions that it makes, and to no other, and one that
+/// accesses an index to regions of an index, whatever the store does and however the run ends: behind a statement nothing is
+/// written to a region that was made by then and is no index's.
 pub fn statements_write_their_own()
     ensures own { (one : SomeRun) → WriteOwn one.base.public (seen_by one) }
     ensures behind { (one : SomeRun) (k i region place : ℕ)
-        → region < (public_behind one k).next_region → Wrote (asked_by one) i region place
+        → region < (public_behind one k).next_region
+        → (OfIndex (public_behind one k).tables region → ⊥) → Wrote (asked_by one) i region place
         → i < length (asked_behind one k) }
 {}
 
 /// Over a store that tells what it holds, however a run ends, each block that lies in a live region that the run made is
 /// sealed for its place, under a number that is that of a write to it, and of no other write, of this run or of an earlier
 /// one. So it is at the end; behind any of the accesses, if the region is live to the end, where the place isn't written
-/// again; and so, behind each statement, of all blocks of the regions that were made by then and are live to the end.
+/// again; and so, behind each statement, of all blocks of the regions that were made by then, are no index's, and are live
+/// to the end.
 pub fn blocks_are_sealed_alone()
     ensures ends { (one : SomeRun) → IsBegun one.base → ShowsSealed one }
     ensures between { (one : SomeRun) → IsBegun one.base → IsTrue one.old.store.tells

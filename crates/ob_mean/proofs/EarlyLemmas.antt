@@ -10,7 +10,7 @@ use Rattle.ob_base.specs.declared.schema.Shape.{Shape}
 use Rattle.ob_base.specs.declared.schema.Shape.TheVariants.{Flat, Indexed}
 use Rattle.ob_base.specs.declared.skeleton.NewColumn.{NewColumn}
 use Rattle.std.specs.Int.{is_in_range}
-use Rattle.ob_base.specs.Indexes.{by_shape}
+use Rattle.ob_base.specs.Indexes.{by_shape, height_of, rows_open}
 use Rattle.ob_base.specs.Schemas.{width, columns_of}
 use Rattle.ob_sql.specs.declared.stmt.Stmt.{Stmt}
 use Rattle.ob_mean.specs.Refusals.{first_holding, early_refusal, is_size, creates_past, is_past_limit, lacks_table, takes_name, lacks_column, has_wrong_type, is_out_of_range, breaks_key_rule, joins_off_key, needs_key, index_past, Limits}
@@ -72,8 +72,8 @@ allowed late limits hs stmt none =
       keyed = all.8;
     }
 
--- a new table is within the limits, and flat
-pub record IsWithin (hs : List Heading) (table : List ℕ) (columns : List NewColumn) (capacity : ℕ) (shape : Shape) : Type 0 where
+-- a new table is within the limits, flat where the tables are kept, and no access of an index has more rows open than may be
+pub record IsWithin (limits : Limits) (hs : List Heading) (table : List ℕ) (columns : List NewColumn) (capacity : ℕ) (shape : Shape) : Type 0 where
   pub least : 1 ≤ capacity
   pub most : capacity ≤ 1048576
   pub some : 1 ≤ length columns
@@ -81,7 +81,8 @@ pub record IsWithin (hs : List Heading) (table : List ℕ) (columns : List NewCo
   pub sizes : list_any (λ (c : NewColumn). not (is_size c.kind)) columns ≡ false
   pub wide : width (columns_of table columns) ≤ 1024
   pub tables : length hs < 64
-  pub flat : shape ≡ Flat
+  pub flat : limits.keep ≡ true → shape ≡ Flat
+  pub room : shape ≡ Indexed → rows_open (height_of capacity) limits.stash ≤ limits.buffer
 
 bounds : (low high n : ℕ) → not (is_in_range low high n) ≡ false → (low ≤ n) × (n ≤ high)
 bounds low high n h = (grind (arith, nat_tests), grind (arith, nat_tests))
@@ -101,14 +102,21 @@ five false false false true e h = cc
 five false false false false true h = cc
 five false false false false false h = (refl, refl, refl, refl, refl)
 
--- no index is made
-not_indexed : (limits : Limits) (capacity : ℕ) (shape : Shape) → by_shape shape false (index_past limits capacity) ≡ false → shape ≡ Flat
-not_indexed limits capacity Flat h = refl
-not_indexed limits capacity Indexed h = absurd (cc h)
+-- no index is made where the tables are kept
+not_indexed : (limits : Limits) (capacity : ℕ) (shape : Shape) → by_shape shape false (index_past limits capacity) ≡ false → limits.keep ≡ true → shape ≡ Flat
+not_indexed limits capacity Flat h kept = refl
+not_indexed limits capacity Indexed h kept =
+    let free = (neither limits.keep (nat_lt limits.buffer (rows_open (height_of capacity) limits.stash)) h).0 in absurd (cc (free, kept))
+
+index_room : (limits : Limits) (capacity : ℕ) (shape : Shape) → by_shape shape false (index_past limits capacity) ≡ false → shape ≡ Indexed
+    → rows_open (height_of capacity) limits.stash ≤ limits.buffer
+index_room limits capacity Flat h indexed = absurd (cc indexed)
+index_room limits capacity Indexed h indexed =
+    at_most limits.buffer (rows_open (height_of capacity) limits.stash) (neither limits.keep (nat_lt limits.buffer (rows_open (height_of capacity) limits.stash)) h).1
 
 pub within : (limits : Limits) (hs : List Heading) (table : List ℕ) (columns : List NewColumn) (capacity : ℕ) (shape : Shape)
     → (creates_past hs table columns capacity || by_shape shape false (index_past limits capacity)) ≡ false
-    → IsWithin hs table columns capacity shape
+    → IsWithin limits hs table columns capacity shape
 within limits hs table columns capacity shape h =
     let both = neither (creates_past hs table columns capacity) (by_shape shape false (index_past limits capacity)) h in
     let all = five (not (is_in_range 1 1048576 capacity)) (not (is_in_range 1 16 (length columns))) (list_any (λ (c : NewColumn). not (is_size c.kind)) columns)
@@ -124,6 +132,7 @@ within limits hs table columns capacity shape h =
       wide = at_most 1024 (width (columns_of table columns)) all.3;
       tables = less 64 (length hs) all.4;
       flat = not_indexed limits capacity shape both.1;
+      room = index_room limits capacity shape both.1;
     }
 
 -- its keys are few

@@ -120,20 +120,20 @@ pub last_is : (p : Public) (ts : Tables) (q : SelectRows) → AreFlat (headings 
 last_is p ts q flat = ap (λ (o : Option Accessed). if is_some o then None else rows_refusal p (selected_places p q ts)) (no_access ts (RowsStmt q) flat)
 
 -- ---- a new table
--- what is made is no index
+-- what is made is no index, as where the tables are kept
 abbrev pub MakesFlat : Skeleton → Type 0
 MakesFlat (CreateSkeleton table cs n shape) = shape ≡ Flat
 MakesFlat _ = ⊤
 
-pub makes_flat : (late : Bool) (limits : Limits) (hs : List Heading) (stmt : Stmt) → early_refusal late limits hs stmt ≡ None → MakesFlat (skeleton stmt)
-makes_flat late limits hs (Create table columns capacity shape) early =
-    (within limits hs table columns capacity shape (allowed late limits hs (Create table columns capacity shape) early).limits).flat
-makes_flat late limits hs (Insert table columns values) early = tt
-makes_flat late limits hs (Update table sets search) early = tt
-makes_flat late limits hs (Delete table search) early = tt
-makes_flat late limits hs (DropTable table) early = tt
-makes_flat late limits hs (RowsStmt q) early = tt
-makes_flat late limits hs (TotalsStmt q) early = tt
+pub makes_flat : (late : Bool) (limits : Limits) (hs : List Heading) (stmt : Stmt) → limits.keep ≡ true → early_refusal late limits hs stmt ≡ None → MakesFlat (skeleton stmt)
+makes_flat late limits hs (Create table columns capacity shape) kept early =
+    (within limits hs table columns capacity shape (allowed late limits hs (Create table columns capacity shape) early).limits).flat kept
+makes_flat late limits hs (Insert table columns values) kept early = tt
+makes_flat late limits hs (Update table sets search) kept early = tt
+makes_flat late limits hs (Delete table search) kept early = tt
+makes_flat late limits hs (DropTable table) kept early = tt
+makes_flat late limits hs (RowsStmt q) kept early = tt
+makes_flat late limits hs (TotalsStmt q) kept early = tt
 
 pub held_flat : (d : Draws) (stash : ℕ) (h : Heading) → h.shape ≡ Flat → new_held d stash h ≡ record { slots = empty_slots h.capacity; leaves = [] }
 held_flat d stash h flat =

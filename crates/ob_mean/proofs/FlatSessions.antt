@@ -1,4 +1,4 @@
--- Sessions as long as each table is flat: none becomes an index, no stash is full, and nothing is drawn.
+-- Sessions whose tables are kept: each table is flat, none becomes an index, no stash is full, and nothing is drawn.
 use Rattle.std.proofs.Common.{◌≡◌, ℕ, ◌+◌, true, false, cond, List, [], ◌∷◌, ◌++◌, Option, Some, None, refl, sym, ap, subst, arith}
 use Rattle.std.specs.Prelude.{bytes_eq, filter, is_some, not}
 use Rattle.ob_base.specs.declared.config.Public.{Public}
@@ -52,8 +52,8 @@ settled_flat d p ts (RowsStmt q) made flat = flat
 settled_flat d p ts (TotalsStmt q) made flat = flat
 
 -- a statement leaves each table flat
-pub settles_flat : (d : Draws) (p : Public) (m : ℕ) (ts : Tables) (stmt : Stmt) → AreFlat (headings ts) → AreFlat (headings (settle d p m ts stmt))
-settles_flat d p m ts stmt flat =
+pub settles_flat : (d : Draws) (p : Public) (m : ℕ) (ts : Tables) (stmt : Stmt) → p.keep ≡ true → AreFlat (headings ts) → AreFlat (headings (settle d p m ts stmt))
+settles_flat d p m ts stmt kept flat =
     subst (λ (us : Tables). AreFlat (headings us)) (sym (settle_is p ts stmt flat d m)) (go (early_refusal (is_late m) (limits_of p) (headings ts) stmt) refl)
   where
     by_refusal : (r : Option Refusal) → MakesFlat (skeleton stmt) → AreFlat (headings (followed r (settled d p ts stmt) ts))
@@ -61,7 +61,7 @@ settles_flat d p m ts stmt flat =
     by_refusal (Some r) made = flat
 
     go : (o : Option Refusal) → early_refusal (is_late m) (limits_of p) (headings ts) stmt ≡ o → AreFlat (headings (followed (refusal p m ts stmt) (settled d p ts stmt) ts))
-    go None early = by_refusal (refusal p m ts stmt) (makes_flat (is_late m) (limits_of p) (headings ts) stmt early)
+    go None early = by_refusal (refusal p m ts stmt) (makes_flat (is_late m) (limits_of p) (headings ts) stmt kept early)
     go (Some r) early = subst (λ (o : Option Refusal). AreFlat (headings (followed o (settled d p ts stmt) ts))) (sym (refused_early p m ts stmt r early)) flat
 
 moved_flat : (name : List ℕ) (region : ℕ) (ts : List Table) → AreFlat (headings_of ts) → AreFlat (headings_of (moved name region ts))
@@ -105,20 +105,20 @@ public_flat p s now made flat = by_end now.end
     by_end (Cut n) = flat
 
 -- behind a statement of which only what is lawful was seen
-pub next_flat : (p : Public) (m : ℕ) (stmt : Stmt) (x : Seen) → Lawful p m stmt x → AreFlat (headings_of p.tables) → AreFlat (headings_of (next p (skeleton stmt) x).tables)
-next_flat p m stmt x law flat = go (early_refusal (is_late m) (limits_of p) (headings_of p.tables) stmt) refl
+pub next_flat : (p : Public) (m : ℕ) (stmt : Stmt) (x : Seen) → Lawful p m stmt x → p.keep ≡ true → AreFlat (headings_of p.tables) → AreFlat (headings_of (next p (skeleton stmt) x).tables)
+next_flat p m stmt x law kept flat = go (early_refusal (is_late m) (limits_of p) (headings_of p.tables) stmt) refl
   where
     go : (o : Option Refusal) → early_refusal (is_late m) (limits_of p) (headings_of p.tables) stmt ≡ o → AreFlat (headings_of (next p (skeleton stmt) x).tables)
-    go None early = public_flat p (skeleton stmt) x (makes_flat (is_late m) (limits_of p) (headings_of p.tables) stmt early) flat
+    go None early = public_flat p (skeleton stmt) x (makes_flat (is_late m) (limits_of p) (headings_of p.tables) stmt kept early) flat
     go (Some r) early = subst (λ (end : End). AreFlat (headings_of (tables_then p (skeleton stmt) end))) (sym (law.static.1 (ap is_some early))) flat
 
 -- ---- a session
 pub room_flat : (s : Session) (stmt : Stmt) → AreFlat (headings s.tables) → is_full_now s stmt ≡ false
 room_flat s stmt flat = none_full s.public s.tables stmt flat s.draws s.asked
 
-pub after_flat : (broken : Option ℕ) (s : Session) (stmt : Stmt) → AreFlat (headings s.tables) → AreFlat (headings (after broken s stmt).tables)
-after_flat None s stmt flat = settles_flat s.draws s.public s.asked s.tables stmt flat
-after_flat (Some n) s stmt flat = flat
+pub after_flat : (broken : Option ℕ) (s : Session) (stmt : Stmt) → s.public.keep ≡ true → AreFlat (headings s.tables) → AreFlat (headings (after broken s stmt).tables)
+after_flat None s stmt kept flat = settles_flat s.draws s.public s.asked s.tables stmt kept flat
+after_flat (Some n) s stmt kept flat = flat
 
 -- a session draws nothing
 pub draws_stay : (s : Session) (stmt : Stmt) → AreFlat (headings_of s.public.tables) → MakesFlat (skeleton stmt) → (broken : Option ℕ) → (after broken s stmt).draws ≡ s.draws

@@ -18,6 +18,7 @@ use Rattle.ob_base.specs.Limits.{buffered}
 use Rattle.ob_base.specs.Plans.{choose}
 use Rattle.ob_base.specs.Stored.{heading_at, headings_of}
 use Rattle.ob_script.specs.Script.{whole_script}
+use Rattle.ob_script.specs.Sizes.{EndsWithin}
 use Rattle.ob_sql.specs.declared.stmt.Stmt.{Stmt}
 use Rattle.ob_sql.specs.declared.stmt.Stmt.TheVariants.{SelectRows as RowsStmt}
 use Rattle.ob_sql.specs.Skeleton.{skeleton}
@@ -101,16 +102,9 @@ height_at p (DeleteSkeleton table) = height_of (capacity_at table (headings_of p
 height_at p (RowsSkeleton (OneTable name) columns) = height_of (capacity_at name (headings_of p.tables))
 height_at p _ = 0
 
--- refused before any access, or cut off after so many accesses at most
-abbrev pub EndsBy : ℕ → End → Type 0
-EndsBy m Static = ⊤
-EndsBy m Whole = ⊥
-EndsBy m AfterCount = ⊥
-EndsBy m (Cut n) = n ≤ m
-
 -- an access holds a leaf of its index once more was asked than its stash, and no other statement holds one
 abbrev pub HoldsLeaf : Public → Skeleton → (leaf : Option ℕ) → End → Type 0
-HoldsLeaf p s None end = is_access p s ≡ true → EndsBy p.stash end
+HoldsLeaf p s None end = is_access p s ≡ true → EndsWithin p.stash end
 HoldsLeaf p s (Some leaf) end = (is_access p s ≡ true) × (leaf < 2 ^ height_at p s) × EndsFrom (p.stash + 1) end
 
 -- m accesses were asked before

@@ -5,7 +5,7 @@ ghost use Rattle.ob_base.specs.Schemas.{width, kind_width, kind_of, new_column, 
 ghost use Rattle.ob_base.specs.declared.skeleton.NewColumn.{NewColumn};
 ghost use Rattle.ob_base.specs.Stored.{headings_of};
 ghost use Rattle.ob_base.specs.Indexes.{by_shape};
-ghost use Rattle.ob_mean.specs.Refusals.{is_size, is_int, is_unmade, creates_past, index_past, has_int_key, has_wrong_keys, limits_of};
+ghost use Rattle.ob_mean.specs.Refusals.{is_size, is_int, creates_past, index_past, has_int_key, has_wrong_keys, limits_of};
 
 use ob_base::{Column, Kind, Name, NewColumn, NewKind, Public, Schema, Shape, Table, tree_height};
 
@@ -59,13 +59,6 @@ pub(crate) fn creates_past(tables: &[Table], columns: &[NewColumn], capacity: u3
         || tables.len() >= 64
 }
 
-// No index is made yet.
-fn is_unmade() -> bool
-    ensures { result ≡ is_unmade }
-{
-    true
-}
-
 /// Whether a table of at most 2^24 keys is an index past the limits.
 pub(crate) fn index_past(public: &Public, shape: Shape, capacity: u32) -> bool
     requires { capacity ≤ 16777216 }
@@ -74,7 +67,7 @@ pub(crate) fn index_past(public: &Public, shape: Shape, capacity: u32) -> bool
     let open = u64::from(public.stash) + 4 * (u64::from(tree_height(capacity)) + 1) + 1;
     match shape {
         Shape::Flat => false,
-        Shape::Indexed => is_unmade() || public.keep || open > u64::from(public.buffer),
+        Shape::Indexed => public.keep || open > u64::from(public.buffer),
     }
 }
 

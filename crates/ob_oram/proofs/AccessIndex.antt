@@ -106,6 +106,7 @@ module _ (index : Index) (buffer : Vec (Option Held) Global) where
         record { answer = answers.answer; map = answers.map };
     full = λ no. absurd (cc no);
     told = λ honest s lies. answers_other left op draw s got new (is.told honest s (record { lies = lies_other s old lies.lies; stands = lies.stands }));
+    room = λ honest s lies. is.room honest s (record { lies = lies_other s old lies.lies; stands = lies.stands });
   }
   accesses_other left op draw (Err e) old new is = record {
     ok = tt;
@@ -118,6 +119,7 @@ module _ (index : Index) (buffer : Vec (Option Held) Global) where
     maps = λ honest m map. tt;
     full = λ same. many_other op draw old new (is.full same);
     told = λ honest s lies. is.told honest s (record { lies = lies_other s old lies.lies; stands = lies.stands });
+    room = λ honest s lies. is.room honest s (record { lies = lies_other s old lies.lies; stands = lies.stands });
   }
 
 -- zero rows are a buffer without a row

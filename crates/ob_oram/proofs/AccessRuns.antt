@@ -1,13 +1,15 @@
 -- How an access ends, over any store.
-use Rattle.std.proofs.Common.{◌≡◌, ◌<◌, ◌+◌, ◌^◌, inl, inr, ℕ, List, [], ◌++◌, None, Result, Ok, Err, length, get_or, refl, sym, ◌∙◌, subst, arith}
+use Rattle.std.proofs.Common.{◌≡◌, ◌<◌, ◌+◌, ◌^◌, inl, inr, ℕ, List, [], ◌++◌, None, Result, Ok, Err, length, length-append, get_or, refl, sym, ◌∙◌, ap, subst, arith}
 use Rattle.std.proofs.lemmas.List.{map-append, length-map, length-set}
 use Rattle.ob_vault.specs.declared.region.Order.TheVariants.{Round, Any}
 use Rattle.ob_vault.specs.State.{World}
 use Rattle.ob_vault.specs.Calls.{Went, Lasts, none, two}
 use Rattle.ob_vault.specs.Words.{MayAsk, MayStart, SealsAll, IsHonest}
 use Rattle.ob_vault.proofs.Runs.{went_join, went_wider, went_length, seals_join}
-use Rattle.ob_vault.proofs.WordLemmas.{asks_after, asks_start}
+use Rattle.ob_vault.proofs.WordLemmas.{asks_after, asks_start, honest_before}
 use Rattle.ob_row.specs.Rows.{Row}
+use Rattle.ob_base.specs.declared.access.Access.{Access}
+use Rattle.ob_flat.specs.declared.fault.OpErr.{OpErr}
 use Rattle.ob_flat.specs.declared.fault.OpErr.TheVariants as OpErrs
 use Rattle.ob_flat.specs.Flats.{IsInTurn, IsWritten, Represents}
 use Rattle.ob_flat.specs.Passes.{PassCut}
@@ -29,6 +31,7 @@ use Rattle.ob_oram.specs.Indexes.{IsShaped, IsStored, IsIndex, Lies, SealsIndex,
 use Rattle.ob_oram.specs.Ops.{op_in}
 use Rattle.ob_oram.specs.Scripts.{access_in, read_script, write_script, access_script, script_length}
 use Rattle.ob_oram.specs.Halves.{ReadsIndex, RefusesIndex, WritesIndex}
+use Rattle.ob_oram.specs.Short.{AsksReads}
 use Rattle.ob_oram.specs.Accessing.{Accesses, HasLeaves, LeftBy, ReadsTooMany, IndexStays, Stops, leaf_read, leaves_after, remap_of}
 use Rattle.ob_oram.proofs.Lasting.{lies_kept, stored_kept}
 use Rattle.ob_oram.proofs.WalkRows.{height_few}
@@ -101,6 +104,17 @@ access_parts index leaf = map-append (access_in index) (Scripts.read_script inde
 pub length-reads : (index : Index) (leaf : ℕ) → length (read_script index leaf) ≡ index.slots + path_blocks index.height
 length-reads index leaf = length-map (Scripts.read_script index.slots index.height leaf) (access_in index) ∙ length-read_script index.slots index.height leaf
 
+-- a pass that gave up in its reads asked no more than these
+pub cut_reads : (index : Index) (leaf : ℕ) (e : OpErr) (some : ℕ → Type 0) (old new : World) → PassCut e (read_script index leaf) some old new → AsksReads index old new
+cut_reads index leaf e some old new cut =
+    let began = cut.began in
+    let more : length new.store.asked ≡ length old.store.asked + length began.done = ap (λ (l : List Access). length l) began.asked ∙ length-append old.store.asked began.done in
+    let all : length (read_script index leaf) ≡ length began.done + length began.rest = ap (λ (l : List Access). length l) (sym began.split) ∙ length-append began.done began.rest in
+    omega (arith, more, all, length-reads index leaf)
+
+pub went_reads : (index : Index) (leaf : ℕ) (old new : World) → Went (read_script index leaf) none old new → AsksReads index old new
+went_reads index leaf old new went = omega (arith, went_length none (read_script index leaf) old new went, length-reads index leaf)
+
 module _ (index : Index) (op : Op) (draw : ℕ) (old : World) (stored : IsStored index old) where
   abbrev leaf : ℕ
   leaf = leaf_read index op draw
@@ -121,6 +135,11 @@ module _ (index : Index) (op : Op) (draw : ℕ) (old : World) (stored : IsStored
     stopped (Tampered q x) new cut by = (record { cut = cut.0; stays = stays index left old new cut.0.lasts stored by.err }, cut.1)
     stopped StashFull new cut by = absurd cut
 
+    refused_reads : (e : OramErr) (new : World) → RefusesIndex e index leaf old new → AsksReads index old new
+    refused_reads Failed new cut = cut_reads index leaf OpErrs.Failed none old new cut
+    refused_reads (Tampered q x) new cut = cut_reads index leaf (OpErrs.Tampered q x) none old new cut.0
+    refused_reads StashFull new cut = absurd cut
+
     pub ends_reading : (e : OramErr) (new : World) → ReadsIndex {T = Unit {0}} index leaf (Err e) old new → LeftBy {T = Got} (Err e) index op draw left → Accesses index left op draw (Err e) old new
     ends_reading e new reads by = record {
       ok = tt;
@@ -133,6 +152,7 @@ module _ (index : Index) (op : Op) (draw : ℕ) (old : World) (stored : IsStored
       maps = λ honest m is. tt;
       full = λ is. let same : e ≡ StashFull = cc is in absurd (subst (λ (x : OramErr). RefusesIndex x index leaf old new) same reads.err);
       told = λ honest s lies. inl (reads.told honest s lies.lies);
+      room = λ honest s lies none. refused_reads e new reads.err;
     }
 
     module _ (mid : World) (went : Went (read_script index (leaf_read index op draw)) none old mid) (sealed : SealsAll old mid) where
@@ -150,6 +170,7 @@ module _ (index : Index) (op : Op) (draw : ℕ) (old : World) (stored : IsStored
         maps = λ honest m is. tt;
         full = λ is. many;
         told = λ honest s lies. inr (refl, full s honest lies);
+        room = λ honest s lies none. went_reads index leaf old mid went;
       }
 
       wide : Went (read_script index leaf) (two index.tree index.stash) old mid
@@ -159,8 +180,9 @@ module _ (index : Index) (op : Op) (draw : ℕ) (old : World) (stored : IsStored
       both_sealed r rows new writes = record { seals = λ good fine other. seals_join good old mid new went.lasts.later (sealed.seals good) (writes.seals.seals good fine other) }
 
       -- a write failed
-      pub ends_writing : (e : OramErr) (rows : List (List ℕ)) (new : World) → WritesIndex {T = Unit {0}} index leaf rows (Err e) mid new → LeftBy {T = Got} (Err e) index op draw left → Accesses index left op draw (Err e) old new
-      ends_writing e rows new writes by =
+      pub ends_writing : ((s : State Row) → IsHonest old mid → Lies index s old → Tree.access (key_of index) index.height s (op_in index.capacity op) draw ≡ None → ⊥)
+          → (e : OramErr) (rows : List (List ℕ)) (new : World) → WritesIndex {T = Unit {0}} index leaf rows (Err e) mid new → LeftBy {T = Got} (Err e) index op draw left → Accesses index left op draw (Err e) old new
+      ends_writing room e rows new writes by =
           let cut : PassCut OpErrs.Failed (access_script index leaf) (two index.tree index.stash) old new =
           subst (λ l. PassCut OpErrs.Failed l (two index.tree index.stash) old new) (sym (access_parts index leaf))
           (pass_after (two index.tree index.stash) old mid new OpErrs.Failed (read_script index leaf) (write_script index leaf) wide writes.err.1) in
@@ -182,6 +204,7 @@ module _ (index : Index) (op : Op) (draw : ℕ) (old : World) (stored : IsStored
             maps = λ honest m is. tt;
             full = λ is. absurd (cc (is, writes.err.0));
             told = λ honest s lies. inl writes.err.0;
+            room = λ honest s lies none. absurd (room s (honest_before writes.err.1.lasts honest) lies none);
           }
 
       -- all was written

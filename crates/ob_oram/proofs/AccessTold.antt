@@ -144,6 +144,14 @@ module _ (index : Index) (op : Op) (draw : ℕ) (fits : FitsOp index.schema inde
       subst (λ st. Tree.access (key_of index) index.height st (op_in index.capacity op) draw ≡ None) (sym (own_leaves index s old lies.lies))
       (stops_told index op draw fits shaped s.tree s.stash lies.lies.stash.size own.stands slots served placed got arranged.count false arranged.count_is (own_open false arranged honest s lies) arranged.serves arranged.keyed arranged.places refl)
 
+  -- none was
+  pub told_room : Arranged index op draw slots served placed got true old mid → (s : State Row) → IsHonest old mid → Lies index s old → Tree.access (key_of index) index.height s (op_in index.capacity op) draw ≡ None → ⊥
+  told_room arranged s honest lies none =
+      let own = own_lies s lies in
+      let goes = goes_told index op draw fits shaped s.tree s.stash lies.lies.stash.size own.stands slots served placed got arranged.count true arranged.count_is (own_open true arranged honest s lies) arranged.serves arranged.keyed arranged.places refl in
+      let none_own = subst (λ st. Tree.access (key_of index) index.height st (op_in index.capacity op) draw ≡ None) (own_leaves index s old lies.lies) none in
+      absurd (cc (goes.0, none_own))
+
   module _ (arranged : Arranged index op draw slots served placed got true old mid) (rows : List (List ℕ)) (spelt : Spelt index.schema placed rows) (new : World) (writes : WritesIndex {T = Unit {0}} index (leaf_read index op draw) rows (Ok tt) mid new)
       (left : Index) (has : HasLeaves (leaves_after index op draw) index left) where
     -- all was written

@@ -15,7 +15,7 @@ use Rattle.ob_oram.specs.declared.fault.OramErr.TheVariants.{Failed, Tampered, S
 use Rattle.ob_base.specs.Indexes.{path_blocks}
 use Rattle.ob_oram.specs.Scripts.{read_script, write_script, access_script}
 use Rattle.ob_oram.specs.Accessing.{Stops, StopsReading}
-use Rattle.ob_oram.proofs.AccessRuns.{access_parts, length-reads}
+use Rattle.ob_oram.proofs.AccessRuns.{access_parts, cut_reads, length-reads, went_reads}
 use Rattle.ob_oram.specs.Short.{AccessShort}
 
 module _ (index left : Index) (leaf : ℕ) (old new : World) where
@@ -26,10 +26,12 @@ module _ (index left : Index) (leaf : ℕ) (old new : World) where
       (pass_wider none old new (two index.tree index.stash) (λ q off. absurd off) e _ stops.cut))
 
   failed : PassCut OpErrs.Failed (access_script index leaf) (two index.tree index.stash) old new → AccessShort Failed index leaf old new
-  failed cut = record { lasts = cut.lasts; began = cut.began; asks = cut.asks refl; cause = cut.cause; full = λ no. absurd (cc no) }
+  failed cut = record { lasts = cut.lasts; began = cut.began; asks = cut.asks refl; cause = cut.cause; full = λ no. absurd (cc no); reads = λ other. absurd (other refl) }
 
-  tampered : (q x : ℕ) → PassCut (OpErrs.Tampered q x) (access_script index leaf) (two index.tree index.stash) old new → AccessShort (Tampered q x) index leaf old new
-  tampered q x cut = record { lasts = cut.lasts; began = cut.began; asks = cut.asks refl; cause = cut.cause; full = λ no. absurd (cc no) }
+  tampered : (q x : ℕ) → StopsReading (OpErrs.Tampered q x) index left leaf old new → AccessShort (Tampered q x) index leaf old new
+  tampered q x stops =
+      let cut = reading (OpErrs.Tampered q x) stops in
+      record { lasts = cut.lasts; began = cut.began; asks = cut.asks refl; cause = cut.cause; full = λ no. absurd (cc no); reads = λ other. cut_reads index leaf (OpErrs.Tampered q x) none old new stops.cut }
 
   stash_full : Went (read_script index leaf) none old new → AccessShort StashFull index leaf old new
   stash_full went =
@@ -41,10 +43,11 @@ module _ (index left : Index) (leaf : ℕ) (old new : World) where
         asks = omega (arith, more);
         cause = (went.did.faults, went.calm);
         full = λ is. more;
+        reads = λ other. went_reads index leaf old new went;
       }
 
   pub access_short : (e : OramErr) → Stops e index left leaf old new → AccessShort e index leaf old new
   access_short Failed (inl stops) = failed (reading OpErrs.Failed stops)
   access_short Failed (inr stops) = failed stops.cut
-  access_short (Tampered q x) stops = tampered q x (reading (OpErrs.Tampered q x) stops.0)
+  access_short (Tampered q x) stops = tampered q x stops.0
   access_short StashFull stops = stash_full stops.0

@@ -29,6 +29,7 @@ use Rattle.ob_oram.specs.Indexes.{IsEnded, IsIndex, IsMap, IsStored, Lies, LiesA
 use Rattle.ob_oram.specs.Opens.{AreKeyed, last_slot, leaves_with}
 use Rattle.ob_oram.specs.Opened.{OpensIndex}
 use Rattle.ob_oram.specs.Scripts.{read_script, access_script}
+use Rattle.ob_oram.specs.Short.{AsksReads}
 
 -- the key of an operation, and the leaf of its draw
 abbrev pub remap_of : Index → Op → ℕ → Remap
@@ -143,3 +144,7 @@ pub record Accesses (index left : Index) (op : Op) (draw : ℕ)
       (λ got. Answers index left op draw s got new)
       (λ e. (e ≡ Failed) ⊎ ((e ≡ StashFull)
       × (Tree.access (key_of index) index.height s (op_in index.capacity op) draw ≡ None)))
+  -- where the model's stash is full no write is asked, also where the store fails
+  pub room : IsHonest old new → (s : State Row) → Lies index s old
+      → Tree.access (key_of index) index.height s (op_in index.capacity op) draw ≡ None
+      → AsksReads index old new

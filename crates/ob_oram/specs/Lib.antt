@@ -10,7 +10,7 @@ pub mod Walking
 pub mod Scripts
 pub mod Halves
 pub mod Opened
-pub mod Accessing
 pub mod Short
+pub mod Accessing
 pub mod Discards
 pub mod Sequences

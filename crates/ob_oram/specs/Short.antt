@@ -1,5 +1,5 @@
 -- An access of an index that gave up, whatever the store answered.
-use Rattle.std.specs.Prelude.{◌≡◌, ◌⊎◌, ◌<◌, ◌+◌, ℕ, length}
+use Rattle.std.specs.Prelude.{◌≡◌, ◌≢◌, ◌⊎◌, ◌<◌, ◌≤◌, ◌+◌, ℕ, length}
 use Rattle.ob_base.specs.Counts.{Rises}
 use Rattle.ob_store.specs.Runs.{Began}
 use Rattle.ob_vault.specs.State.{World}
@@ -19,6 +19,11 @@ ShortCause (Tampered q x) old new =
     × (Calm old → Calm new ⊎ EndsAt q x new)
 ShortCause StashFull old new = (new.store.faults ≡ old.store.faults) × (Calm old → Calm new)
 
+-- no more was asked than the reads of an access
+abbrev pub AsksReads : Index → World → World → Type 0
+AsksReads index old new =
+    length new.store.asked ≤ length old.store.asked + (index.slots + path_blocks index.height)
+
 -- a first part of its script was asked, one access at least, and no other region has changed
 pub record AccessShort (e : OramErr) (index : Index) (leaf : ℕ) (old new : World) : Type 0 where
   pub lasts : Lasts (two index.tree index.stash) old new
@@ -28,3 +33,5 @@ pub record AccessShort (e : OramErr) (index : Index) (leaf : ℕ) (old new : Wor
   -- where the stash is full all was read, and nothing written
   pub full : e ≡ StashFull → length new.store.asked
       ≡ length old.store.asked + (index.slots + path_blocks index.height)
+  -- a block that is another was found by a read
+  pub reads : e ≢ Failed → AsksReads index old new

@@ -171,5 +171,7 @@ pub fn stop_line(stop: Stop) -> Line
         Stop::SinkFault => Line::new(b""),
         Stop::NoMemory => Line::new(b"! no memory\n"),
         Stop::InputLimit => Line::new(b"! input limit\n"),
+        Stop::StoreFault => Line::new(b"! store fault\n"),
+        Stop::StashFull => Line::new(b"! stash full\n"),
     }
 }

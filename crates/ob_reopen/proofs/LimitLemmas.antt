@@ -40,5 +40,5 @@ fits_text closing t marked is = record {
   region = omega (arith, is.region_most, marked.region_most);
   capacity = omega (arith, is.heading.stored.most);
   number = omega (arith, is.number_most, marked.number_most);
-  flat = is.heading.stored.flat;
+  flat = is.flat;
 }

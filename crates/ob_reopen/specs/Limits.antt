@@ -30,7 +30,7 @@ is_kind (Varchar n) = is_in_range 1 255 n
 abbrev pub is_column : Column → Bool
 is_column c = nat_le (length c.name) 32 && is_kind c.kind
 
--- a table is flat, its schema and capacity are within their limits, and its columns have distinct names and name it
+-- a table's schema and capacity are within their limits, and its columns have distinct names and name it
 pub record IsStored (h : Heading) : Type 0 where
   pub some : 1 ≤ length h.schema
   pub few : length h.schema ≤ 16
@@ -39,7 +39,6 @@ pub record IsStored (h : Heading) : Type 0 where
   pub most : h.capacity ≤ 1048576
   pub names : has_repeats bytes_eq (map (λ (c : Column). c.name) h.schema) ≡ false
   pub table : NamesTable h
-  pub flat : h.shape ≡ Flat
 
 -- the same, each column is within its limits, and at most one of them is the primary key
 pub record IsHeading (h : Heading) : Type 0 where
@@ -55,9 +54,10 @@ blocks_of pack t = blocks_for pack t.table.heading.capacity
 abbrev pub end_of : (pack : ℕ) → Listed → ℕ
 end_of pack t = t.number + blocks_of pack t
 
--- a table within its limits, whose region and numbers come before those of the closing
+-- a flat table within its limits, whose region and numbers come before those of the closing
 pub record IsListed (closing : Closing) (t : Listed) : Type 0 where
   pub heading : IsHeading t.table.heading
+  pub flat : t.table.heading.shape ≡ Flat
   pub region_least : 1 ≤ t.table.region
   pub region_most : t.table.region < closing.region
   pub number_least : 1 ≤ t.number

@@ -93,7 +93,6 @@ fn has_columns(heading: &Heading) -> bool
 
 fn is_heading(heading: &Heading) -> bool
     requires table { NamesTable heading.now }
-    requires flat { heading.now.shape ≡ Flat }
     ensures yes { OnTrue result (IsHeading heading.now) }
     ensures no { OnFalse result (IsHeading heading.now → ⊥) }
 {

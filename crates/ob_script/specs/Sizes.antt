@@ -55,9 +55,9 @@ EndsWithin n AfterCount = ⊥
 EndsWithin n (Cut m) = m ≤ n
 
 -- the leaf that is held is one of a tree of this height; without one no more than so many slots were read
-abbrev pub HoldsLeaf : (slots height : ℕ) → (leaf : Option ℕ) → End → Type 0
-HoldsLeaf slots height (Some leaf) end = leaf < 2 ^ height
-HoldsLeaf slots height None end = EndsWithin slots end
+abbrev pub SeesLeaf : (slots height : ℕ) → (leaf : Option ℕ) → End → Type 0
+SeesLeaf slots height (Some leaf) end = leaf < 2 ^ height
+SeesLeaf slots height None end = EndsWithin slots end
 
 -- the first of a flat table, the second of an index
 abbrev pub IfFlat : Shape → (flat indexed : Type 0) → Type 0
@@ -67,7 +67,7 @@ IfFlat Indexed flat indexed = indexed
 -- of an index a leaf is held
 abbrev pub IsHeld : Public → Seen → (flat : Type 0) → Stored ℕ → Type 0
 IsHeld p seen flat t =
-    IfFlat t.heading.shape flat (HoldsLeaf p.stash (height_of t.heading.capacity) seen.leaf seen.end)
+    IfFlat t.heading.shape flat (SeesLeaf p.stash (height_of t.heading.capacity) seen.leaf seen.end)
 
 -- of a table that there is
 abbrev pub IfTable : List ℕ → Public → (Stored ℕ → Type 0) → Type 0

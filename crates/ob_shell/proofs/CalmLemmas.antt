@@ -26,11 +26,15 @@ met : (run : RunStop) (w : World) → Calm w → MeetsChange (Err (session_stop 
 met (Runs.Tampered region place) w calm = inl calm
 met Runs.SinkFault w calm = calm
 met Runs.NoMemory w calm = calm
+met Runs.StoreFault w calm = calm
+met Runs.StashFull w calm = calm
 
 stop_met : (run : RunStop) (a b : World) → RunCause (Err run) a b → Calm a → MeetsChange (Err (session_stop run)) b
 stop_met (Runs.Tampered region place) a b cause calm = cause.2 calm
 stop_met Runs.SinkFault a b cause calm = cause.1 calm
 stop_met Runs.NoMemory a b cause calm = cause.1 calm
+stop_met Runs.StoreFault a b cause calm = cause.1 calm
+stop_met Runs.StashFull a b cause calm = cause.1 calm
 
 module _ {R : Type 0} (state : R → RevState) where
   abbrev IsCalm : Machine R → Type 0

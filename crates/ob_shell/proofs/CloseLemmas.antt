@@ -3,7 +3,7 @@ use Rattle.std.specs.Prelude.{⊤, ◌≢◌}
 use Rattle.std.proofs.Common.{◌≡◌, ◌⊎◌, ℕ, Bool, true, false, List, [], ◌++◌, Option, Ok, Err, refl, sym, subst, arith}
 use Rattle.ob_base.specs.Counts.{Rises}
 use Rattle.ob_base.specs.declared.config.Config.{Config}
-use Rattle.ob_base.specs.declared.refusal.Stop.TheVariants.{Tampered, SourceFault, SinkFault, NoMemory, InputLimit}
+use Rattle.ob_base.specs.declared.refusal.Stop.TheVariants.{Tampered, SourceFault, SinkFault, NoMemory, InputLimit, StoreFault, StashFull}
 use Rattle.ob_gen.specs.declared.tally.Tally.{Tally}
 use Rattle.ob_headline.specs.Bases.{Base, fresh}
 use Rattle.ob_headline.specs.Endings.{status_of, last_line}
@@ -58,8 +58,8 @@ words_cause Words.NoMemory faults = (refl, omega arith, omega arith)
 
 unfoldable pub words_shown : {F : Type 0} (tally : Tally) (tr : TraceSink) (settings : Option Config) (error : WordsErr) (l : Option (List ℕ)) (gave : ℕ) (w : Option (List ℕ)) (s : StoreState) → IsFresh s → tr.new ≡ tr.old
     → RunShown tally tr (fresh settings) l l gave w w s s 0 (refused_by error) [] F
-words_shown tally tr settings Words.Usage l gave w s fresh untraced = shown_unread tally tr settings l gave w s _ fresh untraced tt tt tt refl
-words_shown tally tr settings Words.NoMemory l gave w s fresh untraced = shown_unread tally tr settings l gave w s _ fresh untraced tt tt tt tt
+words_shown tally tr settings Words.Usage l gave w s fresh untraced = shown_unread tally tr settings l gave w s _ fresh untraced tt tt tt tt refl
+words_shown tally tr settings Words.NoMemory l gave w s fresh untraced = shown_unread tally tr settings l gave w s _ fresh untraced tt tt tt tt tt
 
 -- of which nothing is taken
 pub words_none : (F : Type 0) (tally : Tally) (tr : TraceSink) (settings : Option Config) (error : WordsErr) (l : Option (List ℕ)) (gave : ℕ) (w : Option (List ℕ)) (s : StoreState) (blank : IsFresh s) (untraced : tr.new ≡ tr.old)
@@ -86,6 +86,8 @@ words_taken (Ran (Err SourceFault)) taken t = t
 words_taken (Ran (Err SinkFault)) taken t = t
 words_taken (Ran (Err NoMemory)) taken t = tt
 words_taken (Ran (Err InputLimit)) taken t = t
+words_taken (Ran (Err StoreFault)) taken t = t
+words_taken (Ran (Err StashFull)) taken t = t
 
 unfoldable pub reported_taken : {tally : Tally} {tr : TraceSink} {Takes : Type 0} {settings asked : Option Config} {gave : ℕ}
     {l0 l1 w0 w1 : Option (List ℕ)} {s0 s1 : StoreState} {old new : Faults} {report : Report}

@@ -3,7 +3,7 @@ use Rattle.std.proofs.Common.{◌≡◌, ℕ, ◌≤◌, Bool, true, false, List
 use Rattle.std.proofs.KnownBytes.{Appends-nil}
 use Rattle.std.specs.Io.KnownBytes.{Consumes}
 use Rattle.ob_base.specs.Counts.{Rises}
-use Rattle.ob_base.specs.declared.refusal.Stop.TheVariants.{Tampered, SourceFault, SinkFault, NoMemory, InputLimit}
+use Rattle.ob_base.specs.declared.refusal.Stop.TheVariants.{Tampered, SourceFault, SinkFault, NoMemory, InputLimit, StoreFault, StashFull}
 use Rattle.ob_gen.specs.declared.tally.Tally.{Tally}
 use Rattle.ob_headline.proofs.BaseLemmas.{from_each}
 use Rattle.ob_headline.proofs.TextLemmas.{rest_of-append, rest_of-over, rest_of-nil}
@@ -60,15 +60,17 @@ module _ (taken rest : List ℕ) (secret : HasSecret (taken ++ rest)) where
 limits_kept : (ending : Ending) (max : ℕ) (taken rest : List ℕ) (ended : Bool) (more : List (List ℕ)) (part : List ℕ) {Takes : Type 0}
     → Takes → EndingWords ending Takes
     → KeepsLimits max (taken ++ rest) → EndingSays ending max taken (Some rest) ended more part → (old new : Faults) → StatusCause ending old new
-    → ¬ Rises old.source new.source → ¬ SinksRose old new → {Honest : Type 0} → (Honest → EndsUntampered ending) → IsCompleted Honest ending
-limits_kept Usage max taken rest ended more part t words k says old new cause a c calm = words t
-limits_kept BadKey max taken rest ended more part t words k says old new cause a c calm = good_key taken rest k.secret says.1 says.0
-limits_kept (Ran (Ok refused)) max taken rest ended more part t words k says old new cause a c calm = tt
-limits_kept (Ran (Err (Tampered region place))) max taken rest ended more part t words k says old new cause a c calm = calm
-limits_kept (Ran (Err SourceFault)) max taken rest ended more part t words k says old new cause a c calm = a cause
-limits_kept (Ran (Err SinkFault)) max taken rest ended more part t words k says old new cause a c calm = c cause.1
-limits_kept (Ran (Err NoMemory)) max taken rest ended more part t words k says old new cause a c calm = tt
-limits_kept (Ran (Err InputLimit)) max taken rest ended more part t words k says old new cause a c calm =
+    → ¬ Rises old.source new.source → ¬ SinksRose old new → {Honest Faulted : Type 0} → (Honest → EndsUntampered ending) → (ending ≡ Ran (Err StoreFault) → Faulted) → IsCompleted Honest Faulted ending
+limits_kept Usage max taken rest ended more part t words k says old new cause a c calm faulted = words t
+limits_kept BadKey max taken rest ended more part t words k says old new cause a c calm faulted = good_key taken rest k.secret says.1 says.0
+limits_kept (Ran (Ok refused)) max taken rest ended more part t words k says old new cause a c calm faulted = tt
+limits_kept (Ran (Err (Tampered region place))) max taken rest ended more part t words k says old new cause a c calm faulted = calm
+limits_kept (Ran (Err SourceFault)) max taken rest ended more part t words k says old new cause a c calm faulted = a cause
+limits_kept (Ran (Err SinkFault)) max taken rest ended more part t words k says old new cause a c calm faulted = c cause.1
+limits_kept (Ran (Err NoMemory)) max taken rest ended more part t words k says old new cause a c calm faulted = tt
+limits_kept (Ran (Err StoreFault)) max taken rest ended more part t words k says old new cause a c calm faulted = faulted refl
+limits_kept (Ran (Err StashFull)) max taken rest ended more part t words k says old new cause a c calm faulted = tt
+limits_kept (Ran (Err InputLimit)) max taken rest ended more part t words k says old new cause a c calm faulted =
     elim says.limit [
       | inl over ↦ not_over taken rest k.secret (has_lf taken) refl k.texts over
       | inr full ↦ let few = k.short in absurd (omega (arith, few, full, length-append taken rest))
@@ -77,17 +79,17 @@ limits_kept (Ran (Err InputLimit)) max taken rest ended more part t words k says
 pub completes : {tally : Tally} {tr : TraceSink} {base : Base} {gave : ℕ} {l0 l1 w0 w1 : Option (List ℕ)} {s0 s1 : StoreState} {high : ℕ} {ending : Ending} {line : List ℕ} {F Takes : Type 0} (old new : Faults) (input : List ℕ)
     → RunShown tally tr base l0 l1 gave w0 w1 s0 s1 high ending line F → EndingWords ending Takes → StatusCause ending old new
     → Takes → l0 ≡ Some input → KeepsLimits (limit_of base.settings) input → ¬ Rises old.source new.source → ¬ SinksRose old new
-    → FromEach base (λ s. IsCompleted (IsHonest s0 s1) ending)
+    → FromEach base (λ s. IsCompleted (IsHonest s0 s1) (Rises s0.faults s1.faults) ending)
 completes {base = base} {l1 = l1} {s0 = s0} {s1 = s1} {ending = ending} old new input shown words cause t e k a c =
-    from_each base (λ s. IsHonest s0 s1 → EndsUntampered ending) (λ s. IsCompleted (IsHonest s0 s1) ending)
+    from_each base (λ s. IsHonest s0 s1 → EndsUntampered ending) (λ s. IsCompleted (IsHonest s0 s1) (Rises s0.faults s1.faults) ending)
     (λ tables calm. go l1 shown.says (subst (λ (l : Option (List ℕ)). Consumes l l1 shown.taken) e shown.bytes.given) calm) shown.carried.untampered
   where
     go : (l : Option (List ℕ)) → EndingSays ending (limit_of base.settings) shown.taken l shown.ended shown.story.more shown.story.part → Consumes (Some input) l shown.taken → (IsHonest s0 s1 → EndsUntampered ending)
-        → IsCompleted (IsHonest s0 s1) ending
+        → IsCompleted (IsHonest s0 s1) (Rises s0.faults s1.faults) ending
     go None says given calm = absurd given
     go (Some rest) says given calm =
         limits_kept ending (limit_of base.settings) shown.taken rest shown.ended shown.story.more shown.story.part t words (subst (KeepsLimits (limit_of base.settings)) given k) says old new cause a c
-        calm
+        calm shown.carried.faulted
 
 -- the last line was written, or cut by a sink's fault
 unfoldable pub reported_line : {tally : Tally} {tr : TraceSink} {Takes : Type 0} {base : Base} {report : Report} (ending : Ending) (old mid new : Faults)

@@ -3,7 +3,7 @@ use Rattle.std.proofs.Common.{◌≡◌, ℕ, ◌≤◌, Bool, true, false, Err,
 use Rattle.ob_gen.specs.declared.tally.Tally.{Tally}
 use Rattle.ob_base.specs.Counts.{Rises}
 use Rattle.ob_base.specs.declared.refusal.Stop.{Stop}
-use Rattle.ob_base.specs.declared.refusal.Stop.TheVariants.{Tampered, SourceFault, SinkFault, NoMemory, InputLimit}
+use Rattle.ob_base.specs.declared.refusal.Stop.TheVariants.{Tampered, SourceFault, SinkFault, NoMemory, InputLimit, StoreFault, StashFull}
 use Rattle.ob_exec.specs.Stops.{session_stop}
 use Rattle.ob_exec.specs.declared.stop.RunStop.{RunStop}
 use Rattle.ob_exec.specs.declared.stop.RunStop.TheVariants as Runs
@@ -31,6 +31,8 @@ same_cause A B SourceFault old new cause = cause
 same_cause A B SinkFault old new cause = cause
 same_cause A B NoMemory old new cause = cause
 same_cause A B InputLimit old new cause = cause
+same_cause A B StoreFault old new cause = cause
+same_cause A B StashFull old new cause = cause
 
 -- what was lost since a count that hadn't risen before
 pub lost_since : {quiet : Bool} {k0 k1 k2 : ℕ} → k1 ≡ k0 → OutFailed quiet k1 k2 → OutFailed quiet k0 k2
@@ -45,4 +47,6 @@ traced_cause told stop out0 out1 trace0 trace1 is cause later =
     go : (s : RunStop) → StopCause {T = Tally} (faults_of 0 out0 0) (faults_of 0 out1 0) (Err (session_stop s)) → StopCause {T = Tally} (faults_of 0 out0 trace0) (faults_of 0 out1 trace1) (Err (session_stop s))
     go (Runs.Tampered region place) cause = (cause.0, cause.1, later)
     go Runs.NoMemory cause = (cause.0, cause.1, later)
+    go Runs.StoreFault cause = (cause.0, cause.1, later)
+    go Runs.StashFull cause = (cause.0, cause.1, later)
     go Runs.SinkFault cause = (cause.0, elim cause.1 [ inl rose ↦ inl rose | inr none ↦ absurd (omega (arith, none)) ])

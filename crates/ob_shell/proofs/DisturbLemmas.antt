@@ -6,20 +6,20 @@ use Rattle.std.proofs.lemmas.List.{length-append, take-append-drop, take-append-
 use Rattle.std.specs.List.{list_all}
 use Rattle.ob_base.specs.declared.access.Access.{Access}
 use Rattle.ob_base.specs.declared.access.Access.TheVariants.{Read}
-use Rattle.ob_exec.specs.Agreeing.{public_of, seen_of, world_of}
+use Rattle.ob_exec.proofs.HeldLemmas.{held_headings}
+use Rattle.ob_exec.specs.Agreeing.{AreDraws, public_of, seen_of, world_of}
 use Rattle.ob_exec.specs.Running.{RunCause}
-use Rattle.ob_exec.specs.Telling.{Represents, meant_script}
+use Rattle.ob_exec.specs.Telling.{Represents}
 use Rattle.ob_verdict.specs.declared.outcome.Outcome.{Outcome}
 use Rattle.ob_exec.specs.declared.stop.RunStop.{RunStop}
-use Rattle.ob_exec.specs.declared.stop.RunStop.TheVariants.{Tampered, SinkFault, NoMemory}
-use Rattle.ob_headline.proofs.FlatLemmas.{IsFlat}
-use Rattle.ob_headline.specs.Bases.{undrawn}
+use Rattle.ob_exec.specs.declared.stop.RunStop.TheVariants.{Tampered, SinkFault, NoMemory, StoreFault, StashFull}
+use Rattle.ob_headline.proofs.FullLemmas.{met_reads, met_script}
 use Rattle.ob_headline.specs.Words.{Begins}
-use Rattle.ob_mean.specs.Verdict.{Tables}
+use Rattle.ob_mean.specs.Verdict.{Draws, Tables}
 use Rattle.ob_script.specs.Script.{script}
 use Rattle.ob_shell.proofs.CalmLemmas.{first_calm}
-use Rattle.ob_shell.proofs.FirstPartLemmas.{begins_length, begins_truly}
-use Rattle.ob_shell.specs.Steps.{Does, Machine, asked_of}
+use Rattle.ob_shell.proofs.FirstPartLemmas.{begins_length, begins_met}
+use Rattle.ob_shell.specs.Steps.{Does, Machine, session_of}
 use Rattle.ob_sql.specs.Skeleton.{skeleton}
 use Rattle.ob_sql.specs.declared.stmt.Stmt.{Stmt}
 use Rattle.ob_store.specs.Calls.{IsBefore, IsSteady}
@@ -86,17 +86,19 @@ lie_within (Ok outcome) old new lie cause calm is = (cause.1 calm).within lie is
 lie_within (Err (Tampered q x)) old new lie cause calm is = elim (cause.2 calm) [ inl still ↦ still.within lie is | inr ends ↦ ends_in q x new lie is ends ]
 lie_within (Err SinkFault) old new lie cause calm is = (cause.1 calm).within lie is
 lie_within (Err NoMemory) old new lie cause calm is = (cause.1 calm).within lie is
+lie_within (Err StoreFault) old new lie cause calm is = (cause.1 calm).within lie is
+lie_within (Err StashFull) old new lie cause calm is = (cause.1 calm).within lie is
 
-module _ {R : Type 0} (state : R → RevState) (m0 m1 : Machine R) (tables : Tables) (stmt : Stmt) (result : Result Outcome RunStop) (flat : IsFlat (public_of m0.engine)) (does : Does state m0 m1 stmt result)
+module _ {R : Type 0} (state : R → RevState) (m0 m1 : Machine R) (d : Draws) (drawn : AreDraws m0.engine d) (tables : Tables) (stmt : Stmt) (result : Result Outcome RunStop) (does : Does state m0 m1 stmt result)
     (tells : IsTrue m0.store.tells) (steady : IsSteady m0.store) (held : Represents state m0.engine m0.store tables) (n : ℕ) (before : IsBefore m0.store.disturbed n)
     (few : length m0.store.asked ≤ n) where
-  abbrev pub all_meant : List Access
-  all_meant = m0.store.asked ++ meant_script undrawn (public_of m0.engine) (asked_of m0) tables stmt
+  abbrev pub all_met : List Access
+  all_met = m0.store.asked ++ met_script (session_of m0 d tables) stmt
 
   -- what is asked until the first disturbance is a first part of what is meant; where that comes before, it is asked
   pub record Crosses : Type 0 where
-    pub begins : Begins (take n m1.store.asked) all_meant
-    pub within : length all_meant ≤ n → length m1.store.asked ≤ n
+    pub begins : Begins (take n m1.store.asked) all_met
+    pub within : length all_met ≤ n → length m1.store.asked ≤ n
 
   honest : m0.store.lie ≡ None
   honest = (steady.quiet (before_less m0.store.disturbed (length m0.store.asked) n few before)).lie
@@ -104,7 +106,8 @@ module _ {R : Type 0} (state : R → RevState) (m0 m1 : Machine R) (tables : Tab
   crosses_lied : (lie : Lie) → m1.store.lie ≡ Some lie → Crosses
   crosses_lied lie is =
       let later = does.ran.later in
-      let meant : ReadsIn lie all_meant = does.means.begun tables undrawn (record { tells = tells; held = held; nolie = honest }) lie is in
+      let meant : ReadsIn lie all_met =
+      met_reads (session_of m0 d tables) stmt (held_headings _ _ _ tables _ held.held) lie m0.store.asked (does.means.begun tables d drawn (record { tells = tells; held = held; nolie = honest }) lie is) in
       let asked : ReadsIn lie m1.store.asked = lie_within result (world_of state m0.engine m0.store) (world_of state m1.engine m1.store) lie does.ran.cause (first_calm state m0.engine m0.store honest) is in
       let there : IsBefore m1.store.disturbed n = subst (λ (o : Option (List Disturbance)). IsBefore o n) (sym later.disturbed) before in
       let behind : length lie.before + 1 ≤ n → ⊥ = λ le. (later.steady steady).lied lie is (before_less m1.store.disturbed (length lie.before + 1) n le there) in
@@ -112,24 +115,24 @@ module _ {R : Type 0} (state : R → RevState) (m0 m1 : Machine R) (tables : Tab
       let long = ap length meant.is in
       let split = length-append lie.before (Read lie.region lie.place ∷ meant.rest) in
       record {
-        begins = same_before n lie m1.store.asked all_meant late asked meant;
+        begins = same_before n lie m1.store.asked all_met late asked meant;
         within = λ le. absurd (omega (arith, le, late, long, split));
       }
 
   crosses_true : m1.store.lie ≡ None → Crosses
   crosses_true none =
-      let begins = begins_truly state m0 m1 tables stmt flat result does (record {
+      let begins = begins_met state m0 m1 d drawn tables stmt result does (record {
         tells = tells;
         held = held;
         calm = first_calm state m0.engine m0.store honest;
         unfit = record { unfit = λ lie is. absurd (cc (none, is)) };
-      }) in
-      let all : Begins m1.store.asked all_meant =
-      subst (λ (l : List Access). Begins l all_meant) (sym does.ran.asked)
-      (begins_after m0.store.asked (script (public_of m0.engine) (skeleton stmt) (seen_of m1.engine)) (meant_script undrawn (public_of m0.engine) (asked_of m0) tables stmt) begins) in
-      let most = begins_length m1.store.asked all_meant all in
+      }) none in
+      let all : Begins m1.store.asked all_met =
+      subst (λ (l : List Access). Begins l all_met) (sym does.ran.asked)
+      (begins_after m0.store.asked (script (public_of m0.engine) (skeleton stmt) (seen_of m1.engine)) (met_script (session_of m0 d tables) stmt) begins) in
+      let most = begins_length m1.store.asked all_met all in
       record {
-        begins = begins_take n m1.store.asked all_meant all;
+        begins = begins_take n m1.store.asked all_met all;
         within = λ le. omega (arith, le, most);
       }
 

@@ -14,7 +14,7 @@ use Rattle.ob_base.specs.declared.config.Public.{Public}
 use Rattle.ob_base.specs.declared.mark.Mark.{Mark}
 use Rattle.ob_base.specs.declared.refusal.Stop.{Stop}
 use Rattle.ob_exec.proofs.HeldLemmas.{held_headings}
-use Rattle.ob_exec.specs.Agreeing.{Agrees, count_of, engine_keys, engine_start, has_ended, high_of, opened_from, public_of, rows_of, world_of}
+use Rattle.ob_exec.specs.Agreeing.{Agrees, AreDraws, count_of, engine_keys, engine_start, first_draws, has_ended, high_of, indexes_of, opened_from, public_of, rows_of, world_of}
 use Rattle.ob_exec.specs.Closing.{ClosesEngine, closing_script, next_closing}
 use Rattle.ob_reopen.specs.Closed.{is_used_up}
 use Rattle.ob_exec.specs.Reopening.{IsOpened, OpensEngine}
@@ -67,10 +67,10 @@ cut_caused r f0 f1 cause cut = record { grown = cut.grown; appends = cut.appends
     rose (Err e) cause failed = cause.failed
 
 -- ---- an engine that was just started
-pub engages_first : {R : Type 0} (state : R → RevState) (config : Config) (key : List ℕ) (e : Engine R) (s : StoreState) → Agrees state e s → public_of e ≡ first_public config → engine_keys e ≡ keys_of key
+pub engages_first : {R : Type 0} (state : R → RevState) (config : Config) (key : List ℕ) (e : Engine R) (s : StoreState) → Agrees state e s → public_of e ≡ first_public config → engine_keys e ≡ keys_of key → AreDraws e (first_draws (keys_of key))
     → engine_start e ≡ from_nothing → opened_from e ≡ None → has_ended e ≡ false → high_of e ≡ 0 → rows_of e ≡ config.buffer → IsFresh s → IsSteady s → Engages state (fresh (Some config)) config key e s
-engages_first state config key e s agrees public keyed started anew alive low rows blank steady = record {
-  stands = stands_first state config key e s public keyed started rows blank steady;
+engages_first state config key e s agrees public keyed drawn started anew alive low rows blank steady = record {
+  stands = stands_first state config key e s public keyed drawn started rows blank steady;
   ready = record { agrees = agrees; lives = alive };
   few = omega (arith, none_asked e s started blank.unasked);
   from = anew;
@@ -119,11 +119,13 @@ module _ {R : Type 0} (state : R → RevState) (config : Config) (key : List ℕ
     flat = opened_flat config closing is.listed is.catalogue;
     pack = refl;
     buffer = refl;
+    keep = refl;
     rows = is.rows;
     count = count_is;
     start = is.start;
     asked = asked_is;
     keyed = keyed;
+    drawn = subst (λ (k : KeySet). AreDraws e (first_draws k)) same is.drawn;
     calm = is.calm;
     used = λ some. omega (arith, is.high);
     held = λ tables rested. opens.told rested.tells rested.honest tables (subst (λ (k : KeySet). Rests k closing s.kept tables) (sym same) rested.rests);
@@ -160,7 +162,7 @@ module _ {R : Type 0} (state : R → RevState) (config : Config) (key : List ℕ
     tells = opens.tells;
     told = λ tells honest tables rests.
         let holds = opens.told tells honest tables (subst (λ (k : KeySet). Rests k closing s.kept tables) (sym same) rests) in
-        held_headings (public_of e).pack (public_of e).tables tables (world_of state e t) holds.held ∙ ap (λ (p : Public). headings_of p.tables) is.public;
+        held_headings (public_of e).pack (indexes_of e) (public_of e).tables tables (world_of state e t) holds.held ∙ ap (λ (p : Public). headings_of p.tables) is.public;
     fits = λ lie told.
         let fits = is.calm.calm lie told in
         subst (λ (x : Start). TagFits (keys_of key) x lie) is.start (subst (λ (k : KeySet). TagFits k (engine_start e) lie) keyed fits);

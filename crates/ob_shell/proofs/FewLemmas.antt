@@ -46,7 +46,7 @@ use Rattle.ob_reopen.specs.Limits.{IsStored}
 use Rattle.ob_script.proofs.Few.{script_few}
 use Rattle.ob_script.specs.Parts.{count_part, join_part}
 use Rattle.ob_script.specs.Script.{after_count, behind_count, blocks_of, extent_of, joined_extent, result_part, rows_width, script, until_end, with_table}
-use Rattle.ob_script.specs.Sizes.{HoldsLeaf, IfFlat, IfTable, IsCounted, IsHeld, IsPublic, IsSourceCounted, IsTable, IsWithin}
+use Rattle.ob_script.specs.Sizes.{SeesLeaf, IfFlat, IfTable, IsCounted, IsHeld, IsPublic, IsSourceCounted, IsTable, IsWithin}
 use Rattle.ob_shell.proofs.ReplayLemmas.{counts_on}
 use Rattle.ob_shell.specs.Feeding.{Fetch}
 use Rattle.ob_shell.specs.Running.{SessionRan}
@@ -138,7 +138,7 @@ slots_as p stmt None n count is = tt
 slots_as p stmt (Some k) n count is = let most = count.most in omega (arith, most, is)
 
 held_flat : (p : Public) (seen : Seen) (A : Type 0) (t : Stored ℕ) → t.heading.shape ≡ Flat → A → IsHeld p seen A t
-held_flat p seen A t flat a = subst (λ (shape : Shape). IfFlat shape A (HoldsLeaf p.stash (height_of t.heading.capacity) seen.leaf seen.end)) (sym flat) a
+held_flat p seen A t flat a = subst (λ (shape : Shape). IfFlat shape A (SeesLeaf p.stash (height_of t.heading.capacity) seen.leaf seen.end)) (sym flat) a
 
 table_held : (p : Public) (seen : Seen) (name : List ℕ) → IsFlat p → IfTable name p (IsHeld p seen ⊤)
 table_held p seen name flat = go (stored_at name (stored_regions p.tables)) refl
@@ -252,9 +252,13 @@ late_or_not : (m : ℕ) (late : Bool) → is_late m ≡ late → late ≡ false 
 late_or_not m true is not = absurd (cc not)
 late_or_not m false is not = grind (arith, nat_tests)
 
-does_few : {R : Type 0} (state : R → RevState) (m0 m1 : Machine R) (stmt : Stmt) (result : Result Outcome RunStop) → Agrees state m0.engine m0.store → Does state m0 m1 stmt result
+-- the tables are kept for the next run
+abbrev pub IsKept : {R : Type 0} → Machine R → Type 0
+IsKept m = (public_of m.engine).keep ≡ true
+
+does_few : {R : Type 0} (state : R → RevState) (m0 m1 : Machine R) (stmt : Stmt) (result : Result Outcome RunStop) → Agrees state m0.engine m0.store → IsKept m0 → Does state m0 m1 stmt result
     → asked_of m0 < 2 ^ 63 + 2 ^ 59 → asked_of m1 < 2 ^ 63 + 2 ^ 59
-does_few state m0 m1 stmt result agrees does few = go (refusal_now p (asked_of m0) stmt) refl
+does_few state m0 m1 stmt result agrees kept does few = go (refusal_now p (asked_of m0) stmt) refl
   where
     p : Public
     p = public_of m0.engine
@@ -269,8 +273,8 @@ does_few state m0 m1 stmt result agrees does few = go (refusal_now p (asked_of m
         let free = allowed (is_late (asked_of m0)) (limits_of (public_of m0.engine)) (headings_of (public_of m0.engine).tables) stmt is in
         let small = late_or_not (asked_of m0) (is_late (asked_of m0)) refl free.early in
         let public = public_is state m0.engine m0.store agrees small in
-        let flat = tables_flat agrees.tables in
-        let made = makes_flat (is_late (asked_of m0)) (limits_of (public_of m0.engine)) (headings_of (public_of m0.engine).tables) stmt is in
+        let flat = tables_flat (agrees.kept kept) agrees.tables in
+        let made = makes_flat (is_late (asked_of m0)) (limits_of (public_of m0.engine)) (headings_of (public_of m0.engine).tables) stmt kept is in
         let same = script_same (public_of m0.engine) (skeleton stmt) (seen_of m1.engine) flat made in
         let short : length (script (public_of m0.engine) (skeleton stmt) (seen_of m1.engine)) < 2 ^ 49 =
         subst (λ (l : List Access). length l < 2 ^ 49) same (script_few (stashless (public_of m0.engine)) (skeleton stmt) (seen_of m1.engine) public
@@ -285,21 +289,32 @@ module _ {R : Type 0} (state : R → RevState) where
     | inr did ↦ did.does.ran.goes_on.agrees
   ]
 
-  step_few : (m0 m1 : Machine R) (text : List ℕ) (answer : Answer) → Step state m0 m1 text answer → Agrees state m0.engine m0.store → asked_of m0 < 2 ^ 63 + 2 ^ 59 → asked_of m1 < 2 ^ 63 + 2 ^ 59
-  step_few m0 m1 text answer step agrees few = elim step.done [
-    | inl bad ↦ subst (λ (m : Machine R). asked_of m < 2 ^ 63 + 2 ^ 59) (sym bad.same) few
-    | inr did ↦ does_few state m0 m1 did.stmt (Ok answer.outcome) agrees did.does few
+  step_kept : (m0 m1 : Machine R) (text : List ℕ) (answer : Answer) → Step state m0 m1 text answer → IsKept m0 → IsKept m1
+  step_kept m0 m1 text answer step kept = elim step.done [
+    | inl bad ↦ subst (λ (m : Machine R). IsKept m) (sym bad.same) kept
+    | inr did ↦ ap (λ (p : Public). p.keep) did.does.ran.goes_on.public ∙ kept
   ]
 
-  -- texts that were answered leave numbers for a closing
-  pub steps_few : (m0 m2 : Machine R) (texts : List (List ℕ)) (answers : List Answer) → Steps state m0 m2 texts answers → Agrees state m0.engine m0.store → asked_of m0 < 2 ^ 63 + 2 ^ 59 → asked_of m2 < 2 ^ 63 + 2 ^ 59
+  step_few : (m0 m1 : Machine R) (text : List ℕ) (answer : Answer) → Step state m0 m1 text answer → Agrees state m0.engine m0.store → IsKept m0 → asked_of m0 < 2 ^ 63 + 2 ^ 59 → asked_of m1 < 2 ^ 63 + 2 ^ 59
+  step_few m0 m1 text answer step agrees kept few = elim step.done [
+    | inl bad ↦ subst (λ (m : Machine R). asked_of m < 2 ^ 63 + 2 ^ 59) (sym bad.same) few
+    | inr did ↦ does_few state m0 m1 did.stmt (Ok answer.outcome) agrees kept did.does few
+  ]
+
+  -- texts that were answered leave numbers for a closing, and flat tables
+  pub record Closable (m : Machine R) : Type 0 where
+    pub few : asked_of m < 2 ^ 63 + 2 ^ 59
+    pub flat : IsFlat (public_of m.engine)
+
+  steps_few : (m0 m2 : Machine R) (texts : List (List ℕ)) (answers : List Answer) → Steps state m0 m2 texts answers → Agrees state m0.engine m0.store → IsKept m0 → asked_of m0 < 2 ^ 63 + 2 ^ 59 → Closable m2
   unfolding Steps
-  steps_few m0 m2 [] answers steps agrees few = subst (λ (m : Machine R). asked_of m < 2 ^ 63 + 2 ^ 59) (sym steps.0) few
-  steps_few m0 m2 (text ∷ texts) answers steps agrees few =
-      steps_few steps.0 m2 texts steps.2 steps.5 (step_ready m0 steps.0 text steps.1 steps.4 agrees) (step_few m0 steps.0 text steps.1 steps.4 agrees few)
+  steps_few m0 m2 [] answers steps agrees kept few =
+      subst (λ (m : Machine R). Closable m) (sym steps.0) (record { few = few; flat = tables_flat (agrees.kept kept) agrees.tables })
+  steps_few m0 m2 (text ∷ texts) answers steps agrees kept few =
+      steps_few steps.0 m2 texts steps.2 steps.5 (step_ready m0 steps.0 text steps.1 steps.4 agrees) (step_kept m0 steps.0 text steps.1 steps.4 kept) (step_few m0 steps.0 text steps.1 steps.4 agrees kept few)
 
 -- so does a session that came to its end
 pub session_few : {R : Type 0} (state : R → RevState) {Lost : Type 0} {on : Bool} {f0 f1 : Fetch} {l0 l1 : Option (List ℕ)} {gave : ℕ} {w0 w1 t0 t1 : Option (List ℕ)} (m0 m2 : Machine R) (tally : Tally)
-    → SessionRan state on f0 f1 l0 l1 gave w0 w1 t0 t1 m0 m2 Lost (Ok tally) → Agrees state m0.engine m0.store → asked_of m0 < 2 ^ 63 + 2 ^ 59 → asked_of m2 < 2 ^ 63 + 2 ^ 59
-session_few state m0 m2 tally ran agrees few =
-    subst (λ (m : Machine _). asked_of m < 2 ^ 63 + 2 ^ 59) (sym ran.last.machine) (steps_few state m0 ran.middle ran.served ran.answers ran.steps agrees few)
+    → SessionRan state on f0 f1 l0 l1 gave w0 w1 t0 t1 m0 m2 Lost (Ok tally) → Agrees state m0.engine m0.store → IsKept m0 → asked_of m0 < 2 ^ 63 + 2 ^ 59 → Closable state m2
+session_few {R = R} state m0 m2 tally ran agrees kept few =
+    subst (λ (m : Machine R). Closable state m) (sym ran.last.machine) (steps_few state m0 ran.middle ran.served ran.answers ran.steps agrees kept few)

@@ -1,8 +1,9 @@
 -- The headline, by what the run was reported to have done.
 use Rattle.std.proofs.Common.{◌≡◌, ℕ, Bool, List, ◌++◌, Ok, Err, refl, sym, ◌∙◌, ap, subst}
 use Rattle.std.proofs.lemmas.List.{append_cancel_left}
+use Rattle.ob_base.specs.Counts.{Rises}
 use Rattle.ob_base.specs.declared.access.Access.{Access}
-use Rattle.ob_base.specs.declared.refusal.Stop.TheVariants.{Tampered, SourceFault, SinkFault, NoMemory, InputLimit}
+use Rattle.ob_base.specs.declared.refusal.Stop.TheVariants.{Tampered, SourceFault, SinkFault, NoMemory, InputLimit, StoreFault, StashFull}
 use Rattle.ob_gen.specs.declared.tally.Tally.{Tally}
 use Rattle.ob_headline.specs.Bases.{Base, FromEach}
 use Rattle.ob_headline.specs.Headline.{Headline}
@@ -19,15 +20,18 @@ use Rattle.ob_shell.specs.Traces.{Traced}
 -- why it ends so
 pub because : (base : Base) (ending : Ending) (Takes : Type 0) (max : ℕ) (taken : List ℕ) (ended : Bool) (more : List (List ℕ)) (answers : List Answer) (part : List ℕ) (old new : Outside)
     → EndingWords ending Takes → EndingFlag ending answers → EndingSays ending max taken new.left ended more part → StatusCause ending old.faults new.faults
-    → FromEach base (λ s. IsHonest old.store new.store → EndsUntampered ending) → ((region place : ℕ) → ending ≡ Ran (Err (Tampered region place)) → EndsAtRead region place new.store.asked) → Because base ending Takes max taken ended more answers part old new
-because base Usage Takes max taken ended more answers part old new takes flag says cause honest read = (takes, says, cause)
-because base BadKey Takes max taken ended more answers part old new takes flag says cause honest read = (takes, says.0, says.1, cause)
-because base (Ran (Ok refused)) Takes max taken ended more answers part old new takes flag says cause honest read = (takes, flag, says, cause)
-because base (Ran (Err (Tampered region place))) Takes max taken ended more answers part old new takes flag says cause honest read = (takes, says, honest, read region place refl, cause)
-because base (Ran (Err SourceFault)) Takes max taken ended more answers part old new takes flag says cause honest read = (takes, says, cause)
-because base (Ran (Err SinkFault)) Takes max taken ended more answers part old new takes flag says cause honest read = (takes, says, cause.1, cause.0)
-because base (Ran (Err NoMemory)) Takes max taken ended more answers part old new takes flag says cause honest read = cause
-because base (Ran (Err InputLimit)) Takes max taken ended more answers part old new takes flag says cause honest read = (takes, says, cause)
+    → FromEach base (λ s. IsHonest old.store new.store → EndsUntampered ending) → ((region place : ℕ) → ending ≡ Ran (Err (Tampered region place)) → EndsAtRead region place new.store.asked) → (ending ≡ Ran (Err StoreFault) → Rises old.store.faults new.store.faults)
+    → Because base ending Takes max taken ended more answers part old new
+because base Usage Takes max taken ended more answers part old new takes flag says cause honest read faulted = (takes, says, cause)
+because base BadKey Takes max taken ended more answers part old new takes flag says cause honest read faulted = (takes, says.0, says.1, cause)
+because base (Ran (Ok refused)) Takes max taken ended more answers part old new takes flag says cause honest read faulted = (takes, flag, says, cause)
+because base (Ran (Err (Tampered region place))) Takes max taken ended more answers part old new takes flag says cause honest read faulted = (takes, says, honest, read region place refl, cause)
+because base (Ran (Err SourceFault)) Takes max taken ended more answers part old new takes flag says cause honest read faulted = (takes, says, cause)
+because base (Ran (Err SinkFault)) Takes max taken ended more answers part old new takes flag says cause honest read faulted = (takes, says, cause.1, cause.0)
+because base (Ran (Err NoMemory)) Takes max taken ended more answers part old new takes flag says cause honest read faulted = cause
+because base (Ran (Err InputLimit)) Takes max taken ended more answers part old new takes flag says cause honest read faulted = (takes, says, cause)
+because base (Ran (Err StoreFault)) Takes max taken ended more answers part old new takes flag says cause honest read faulted = (takes, says, faulted refl, cause)
+because base (Ran (Err StashFull)) Takes max taken ended more answers part old new takes flag says cause honest read faulted = (takes, says, cause)
 
 unfoldable pub headlined : {tally : Tally} (Takes : Type 0) (base : Base) (tracing : Bool) (old new : Outside) (report : Report) → old.store.asked ≡ base.before
     → Reported tally (sink_of tracing old.traced new.traced) Takes base old.left new.left new.gave old.written new.written old.store new.store old.faults new.faults report
@@ -60,7 +64,7 @@ headlined Takes base tracing old new report first r traces =
       rows = run.rows;
       status = record {
         status = r.status;
-        because = because base r.ending Takes _ shown.taken shown.ended shown.story.more shown.story.answers shown.story.part old new r.takes shown.flag shown.says r.cause run.untampered run.at_read;
+        because = because base r.ending Takes _ shown.taken shown.ended shown.story.more shown.story.answers shown.story.part old new r.takes shown.flag shown.says r.cause run.untampered run.at_read run.faulted;
         completes = r.completes;
       };
     }

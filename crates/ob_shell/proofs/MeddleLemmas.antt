@@ -6,7 +6,7 @@ use Rattle.std.specs.List.{list_all}
 use Rattle.clap.specs.Words.{Text}
 use Rattle.ob_base.specs.declared.access.Access.{Access}
 use Rattle.ob_base.specs.declared.config.Config.{Config}
-use Rattle.ob_base.specs.declared.refusal.Stop.TheVariants.{Tampered, SourceFault, SinkFault, NoMemory, InputLimit}
+use Rattle.ob_base.specs.declared.refusal.Stop.TheVariants.{Tampered, SourceFault, SinkFault, NoMemory, InputLimit, StoreFault, StashFull}
 use Rattle.ob_gen.specs.declared.tally.Tally.{Tally}
 use Rattle.ob_headline.specs.Bases.{fresh}
 use Rattle.ob_headline.specs.Endings.{status_of}
@@ -62,6 +62,22 @@ status_not (Ran (Err SourceFault)) untampered is = absurd (omega (arith, is))
 status_not (Ran (Err SinkFault)) untampered is = absurd (omega (arith, is))
 status_not (Ran (Err NoMemory)) untampered is = absurd (omega (arith, is))
 status_not (Ran (Err InputLimit)) untampered is = absurd (omega (arith, is))
+status_not (Ran (Err StoreFault)) untampered is = absurd (omega (arith, is))
+status_not (Ran (Err StashFull)) untampered is = absurd (omega (arith, is))
+
+-- one by the store alone has this status
+fault_status : (ending : Ending) → status_of ending ≡ 3 → ending ≡ Ran (Err StoreFault)
+fault_status Usage is = absurd (omega (arith, is))
+fault_status BadKey is = absurd (omega (arith, is))
+fault_status (Ran (Ok true)) is = absurd (omega (arith, is))
+fault_status (Ran (Ok false)) is = absurd (omega (arith, is))
+fault_status (Ran (Err (Tampered region place))) is = absurd (omega (arith, is))
+fault_status (Ran (Err SourceFault)) is = absurd (omega (arith, is))
+fault_status (Ran (Err SinkFault)) is = absurd (omega (arith, is))
+fault_status (Ran (Err NoMemory)) is = absurd (omega (arith, is))
+fault_status (Ran (Err InputLimit)) is = absurd (omega (arith, is))
+fault_status (Ran (Err StoreFault)) is = refl
+fault_status (Ran (Err StashFull)) is = absurd (omega (arith, is))
 
 acted_or_not : (b : Bool) → (b ≡ false → ⊥) → b ≡ true
 acted_or_not true not = refl
@@ -94,6 +110,9 @@ module _ {tally : Tally} {tr : TraceSink} {Takes : Type 0} {settings : Option Co
       record {
         honest = honest;
         untampered = honest_status honest;
+        sound = λ is.
+            let rose = r.shown.carried.faulted (fault_status r.ending (sym r.status ∙ is)) in
+            let none = quiet.faults in absurd (omega (arith, rose, none));
         unfailed = none_rose _ s0.faults (subst (λ (n : ℕ). RisesBy (failures answers) s0.faults n) quiet.faults failed);
       }
 

@@ -1,16 +1,16 @@
 -- One statement that was answered or cut off, by its meaning.
-use Rattle.std.proofs.Common.{◌≡◌, ◌⊎◌, inl, inr, ◌+◌, ◌≤◌, ℕ, Bool, true, false, List, ◌++◌, length, Option, Some, None, Ok, Result, refl, sym, ◌∙◌, ap, subst, arith}
+use Rattle.std.proofs.Common.{◌≡◌, ◌⊎◌, inl, inr, ◌+◌, ◌≤◌, ℕ, Bool, true, false, List, ◌++◌, length, Option, Some, None, Result, refl, sym, ◌∙◌, ap, subst, arith}
 use Rattle.std.proofs.lemmas.List.{length-append}
 use Rattle.ob_base.specs.Refusals.{is_store_fault}
-use Rattle.ob_base.specs.Stored.{headings, headings_of}
+use Rattle.ob_base.specs.Stored.{headings}
 use Rattle.ob_base.specs.declared.access.Access.{Access}
 use Rattle.ob_base.specs.declared.refusal.Refusal.{Refusal}
 use Rattle.ob_base.specs.declared.refusal.Refusal.TheVariants.{StoreFault}
 use Rattle.ob_base.specs.declared.schema.Heading.{Heading}
 use Rattle.ob_base.specs.declared.seen.End.TheVariants.{Cut}
 use Rattle.ob_base.specs.declared.seen.Seen.{Seen}
-use Rattle.ob_exec.proofs.HeldLemmas.{held_flat as tables_held_flat, held_headings}
-use Rattle.ob_exec.specs.Agreeing.{engine_start, public_of, seen_of}
+use Rattle.ob_exec.proofs.HeldLemmas.{held_headings}
+use Rattle.ob_exec.specs.Agreeing.{AreDraws, engine_start, public_of, seen_of}
 use Rattle.ob_verdict.specs.Outcomes.{by_fault, refusal_now}
 use Rattle.ob_exec.specs.Running.{RefusedEarly, is_fault}
 use Rattle.ob_exec.specs.Telling.{Represents}
@@ -18,14 +18,11 @@ use Rattle.ob_verdict.specs.declared.outcome.Outcome.{Outcome}
 use Rattle.ob_verdict.specs.declared.outcome.Outcome.TheVariants.{Created, Inserted, Changed, Deleted, Dropped, Rows, Refused}
 use Rattle.ob_exec.specs.declared.stop.RunStop.{RunStop}
 use Rattle.ob_headline.proofs.CutLemmas.{cut_shorter}
-use Rattle.ob_headline.proofs.FlatLemmas.{IsFlat, next_flat, nothing_drawn}
 use Rattle.ob_headline.specs.Words.{Answer}
-use Rattle.ob_mean.proofs.FlatLemmas.{makes_flat}
-use Rattle.ob_mean.specs.Flats.{AreFlat}
 use Rattle.ob_mean.specs.Lawful.{CutUpTo}
 use Rattle.ob_mean.specs.Refusals.{early_refusal, limits_of}
-use Rattle.ob_mean.specs.Replay.{IsCutOff, after, cut_at, seen_now, seen_or_cut}
-use Rattle.ob_mean.specs.Verdict.{Tables, is_late}
+use Rattle.ob_mean.specs.Replay.{Session, after, cut_at, draws_taken, seen_now, seen_or_cut}
+use Rattle.ob_mean.specs.Verdict.{Draws, Tables, is_late}
 use Rattle.ob_script.specs.Script.{script, whole_script}
 use Rattle.ob_script.specs.Trace.{next}
 use Rattle.ob_shell.specs.Steps.{Machine, Does, Misspelt, ServedStatement, asked_of, session_of}
@@ -79,26 +76,24 @@ step_goes state m0 m1 text answer (inr did) = record { tells = did.does.ran.late
 pub counts_on : {R : Type 0} (m0 m1 : Machine R) (part : List Access) → engine_start m1.engine ≡ engine_start m0.engine → m1.store.asked ≡ m0.store.asked ++ part → asked_of m1 ≡ asked_of m0 + length part
 counts_on m0 m1 part start grew = omega (arith, ap earlier start, ap length grew, length-append m0.store.asked part)
 
-pub stands_after : {R : Type 0} (state : R → RevState) (m0 m1 : Machine R) (tables : Tables) (text : List ℕ) (one : Answer) (did : ServedStatement state m0 m1 text one) (how : Option ℕ) (after_it : Tables)
-    → IsFlat (public_of m0.engine) → IsCutOff how (session_of m0 tables) did.stmt → seen_of m1.engine ≡ seen_or_cut how (session_of m0 tables) did.stmt → (after how (session_of m0 tables) did.stmt).tables ≡ after_it
-    → after how (session_of m0 tables) did.stmt ≡ session_of m1 after_it
-stands_after state m0 m1 tables text one did how after_it flat cuts seen_is settles =
-    let p = public_of m0.engine in
-    let sk = skeleton did.stmt in
-    let public_is : next p sk (seen_or_cut how (session_of m0 tables) did.stmt) ≡ public_of m1.engine = ap (next p sk) (sym seen_is) ∙ sym did.does.ran.goes_on.public in
-    let asked_is : asked_of m0 + length (script p sk (seen_or_cut how (session_of m0 tables) did.stmt)) ≡ asked_of m1 =
-    ap (λ (x : Seen). asked_of m0 + length (script p sk x)) (sym seen_is) ∙ sym (counts_on m0 m1 (script p sk (seen_of m1.engine)) did.does.ran.start did.does.ran.asked) in
-    let drawn = nothing_drawn (session_of m0 tables) did.stmt how flat cuts in
-    λ i. record { public = public_is i; tables = settles i; asked = asked_is i; draws = drawn i }
+module _ {R : Type 0} (state : R → RevState) (m0 m1 : Machine R) (d : Draws) (tables : Tables) (text : List ℕ) (one : Answer) (did : ServedStatement state m0 m1 text one) (how : Option ℕ)
+    (seen_is : seen_of m1.engine ≡ seen_or_cut how (session_of m0 d tables) did.stmt) where
+  abbrev behind : Session
+  behind = after how (session_of m0 d tables) did.stmt
 
--- the tables that a machine holds are flat where those that are public are
-pub held_flat : {R : Type 0} (state : R → RevState) (m : Machine R) (tables : Tables) → IsFlat (public_of m.engine) → Represents state m.engine m.store tables → AreFlat (headings tables)
-held_flat state m tables flat held = tables_held_flat _ _ tables _ held.held flat
+  pub stands_after : behind ≡ session_of m1 behind.draws behind.tables
+  stands_after =
+      let p = public_of m0.engine in
+      let sk = skeleton did.stmt in
+      let public_is : next p sk (seen_or_cut how (session_of m0 d tables) did.stmt) ≡ public_of m1.engine = ap (next p sk) (sym seen_is) ∙ sym did.does.ran.goes_on.public in
+      let asked_is : asked_of m0 + length (script p sk (seen_or_cut how (session_of m0 d tables) did.stmt)) ≡ asked_of m1 =
+      ap (λ (x : Seen). asked_of m0 + length (script p sk x)) (sym seen_is) ∙ sym (counts_on m0 m1 (script p sk (seen_of m1.engine)) did.does.ran.start did.does.ran.asked) in
+      λ i. record { public = public_is i; tables = behind.tables; asked = asked_is i; draws = behind.draws }
 
--- and so they are behind a statement that was answered
-pub does_flat : {R : Type 0} (state : R → RevState) (m0 m1 : Machine R) (stmt : Stmt) (outcome : Outcome) → Does state m0 m1 stmt (Ok outcome) → IsFlat (public_of m0.engine) → IsFlat (public_of m1.engine)
-does_flat state m0 m1 stmt outcome does flat =
-    subst IsFlat (sym does.ran.goes_on.public) (next_flat (public_of m0.engine) (asked_of m0) stmt (skeleton stmt) (seen_of m1.engine) refl does.lawful flat)
+  pub draws_after : AreDraws m0.engine d → AreDraws m1.engine behind.draws
+  draws_after drawn =
+      subst (λ (x : Seen). AreDraws m1.engine (record d { drawn = d.drawn + draws_taken (public_of m0.engine) (skeleton did.stmt) x.end })) seen_is
+      (did.does.ran.goes_on.drawn d drawn)
 
 -- ---- a statement that was cut off wasn't refused before its first access, and no more than all of it was asked
 not_refused : (o : Option Refusal) (result : Result Outcome RunStop) (here : Seen) (n : ℕ) → RefusedEarly o result here → here.end ≡ Cut n → o ≡ None
@@ -106,23 +101,22 @@ not_refused None result here n early is = refl
 not_refused (Some r) result here n early is = absurd (cc (is, ap (λ (x : Seen). x.end) early.1))
 
 module _ {R : Type 0} (state : R → RevState) (m0 m1 : Machine R) (tables : Tables) (stmt : Stmt) (result : Result Outcome RunStop)
-    (flat : IsFlat (public_of m0.engine)) (does : Does state m0 m1 stmt result) (failed : Bool) (n : ℕ)
-    (seen_is : seen_of m1.engine ≡ cut_at failed n (public_of m0.engine) (skeleton stmt) (seen_now (session_of m0 tables) stmt)) where
+    (d : Draws) (does : Does state m0 m1 stmt result) (failed : Bool) (n : ℕ)
+    (seen_is : seen_of m1.engine ≡ cut_at failed n (public_of m0.engine) (skeleton stmt) (seen_now (session_of m0 d tables) stmt)) where
   started : refusal_now (public_of m0.engine) (asked_of m0) stmt ≡ None
   started = not_refused _ result (seen_of m1.engine) n does.early (ap (λ (x : Seen). x.end) seen_is)
 
-  pub cut_within : n ≤ length (whole_script (public_of m0.engine) (skeleton stmt) (seen_now (session_of m0 tables) stmt))
+  pub cut_within : n ≤ length (whole_script (public_of m0.engine) (skeleton stmt) (seen_now (session_of m0 d tables) stmt))
   cut_within =
       let p = public_of m0.engine in
       let sk = skeleton stmt in
-      let most : n ≤ length (whole_script p sk (cut_at failed n p sk (seen_now (session_of m0 tables) stmt))) =
+      let most : n ≤ length (whole_script p sk (cut_at failed n p sk (seen_now (session_of m0 d tables) stmt))) =
       subst (λ (x : Seen). CutUpTo (length (whole_script p sk x)) x.end) seen_is does.lawful.cut in
-      let made = makes_flat (is_late (asked_of m0)) (limits_of p) (headings_of p.tables) stmt started in
-      let less = cut_shorter failed n p sk flat made (seen_now (session_of m0 tables) stmt) in
+      let less = cut_shorter failed n p sk (seen_now (session_of m0 d tables) stmt) in
       omega (arith, most, less)
 
   pub cut_early : Represents state m0.engine m0.store tables
       → early_refusal (is_late (asked_of m0)) (limits_of (public_of m0.engine)) (headings tables) stmt ≡ None
   cut_early held =
-      ap (λ (hs : List Heading). early_refusal (is_late (asked_of m0)) (limits_of (public_of m0.engine)) hs stmt) (held_headings _ _ tables _ held.held)
+      ap (λ (hs : List Heading). early_refusal (is_late (asked_of m0)) (limits_of (public_of m0.engine)) hs stmt) (held_headings _ _ _ tables _ held.held)
       ∙ started

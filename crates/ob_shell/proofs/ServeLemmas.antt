@@ -1,6 +1,6 @@
 -- What the engine was given and what it left.
 use Rattle.std.specs.Prelude.{IsErr}
-use Rattle.std.proofs.Common.{ℕ, List, [], ◌∷◌, ◌++◌, ◌≡◌, ◌≤◌, Bool, Option, None, Result, Ok, Err, refl, sym, ◌∙◌, inl, inr, append-nil, arith}
+use Rattle.std.proofs.Common.{ℕ, List, [], ◌∷◌, ◌++◌, ◌≡◌, ◌≤◌, Bool, Option, None, Result, Ok, Err, refl, sym, ◌∙◌, inl, inr, subst, append-nil, arith}
 use Rattle.std.proofs.KnownBytes.{Appends-nil}
 use Rattle.std.specs.Io.KnownBytes.{Appends}
 use Rattle.std.specs.Result.{is_err}
@@ -8,12 +8,12 @@ use Rattle.ob_base.specs.Events.{Event}
 use Rattle.ob_base.specs.declared.refusal.Refusal.TheVariants.{Syntax}
 use Rattle.ob_exec.specs.Agreeing.{seen_of}
 use Rattle.ob_exec.specs.Running.{SinkStops}
-use Rattle.ob_exec.specs.Serving.{Serves}
+use Rattle.ob_exec.specs.Serving.{StopsEmission, Serves}
 use Rattle.ob_exec.specs.Stops.{session_stop}
 use Rattle.ob_verdict.specs.declared.outcome.Outcome.{Outcome}
 use Rattle.ob_verdict.specs.declared.outcome.Outcome.TheVariants.{Refused}
 use Rattle.ob_exec.specs.declared.stop.RunStop.{RunStop}
-use Rattle.ob_exec.specs.declared.stop.RunStop.TheVariants.{NoMemory, SinkFault, Tampered}
+use Rattle.ob_exec.specs.declared.stop.RunStop.TheVariants.{NoMemory, SinkFault, StashFull, StoreFault, Tampered}
 use Rattle.ob_headline.specs.Closing.{closing_line}
 use Rattle.ob_headline.specs.Words.{faults_of}
 use Rattle.ob_headline.specs.Statements.{Spells}
@@ -99,7 +99,7 @@ module _ {R E : Type 0} (state : R → RevState) (grew cut : E → E → List Ev
 
       -- the engine was stopped, and of the text of these events this was printed
       cut_short : (stop : RunStop) (serves : Called (Err stop)) (bytes : List ℕ) → PrintsUntil (session_stop stop) bytes (events_text serves.stopped.events) → Outputs w0 w1 Lost bytes → StopsIn state w0 w1 Lost (text ∷ []) stop m0 m1
-      cut_short stop serves bytes printed cut = record {
+      cut_short stop serves bytes printed took = record {
         bytes = bytes;
         partly = inr (inl (record {
           stmt = stmt;
@@ -107,9 +107,10 @@ module _ {R E : Type 0} (state : R → RevState) (grew cut : E → E → List Ev
           does = done (Err stop) serves;
           events = serves.stopped.events;
           emitted = serves.stopped.told;
+          silent = λ full. (subst (λ (r : RunStop). StopsEmission grew cut r out_old out_new serves.stopped.events) full serves.stopped.ends).1;
           printed = printed;
         }));
-        cut = cut;
+        cut = took;
       }
 
       -- a sink failed within them
@@ -121,6 +122,8 @@ module _ {R E : Type 0} (state : R → RevState) (grew cut : E → E → List Ev
           → ((events : List Event) → cut out_old out_new events → Outputs w0 w1 (Unit {0}) (events_text events)) → StopsIn state w0 w1 Lost (text ∷ []) stop m0 m1
       stopped_by (Tampered region place) other serves whole began = cut_short (Tampered region place) serves (events_text serves.stopped.events) refl (whole serves.stopped.events serves.stopped.ends)
       stopped_by SinkFault other serves whole began = absurd (other refl)
+      stopped_by StoreFault other serves whole began = cut_short StoreFault serves (events_text serves.stopped.events) refl (whole serves.stopped.events serves.stopped.ends.0)
+      stopped_by StashFull other serves whole began = cut_short StashFull serves (events_text serves.stopped.events) refl (whole serves.stopped.events serves.stopped.ends.0)
       stopped_by NoMemory other serves whole began = elim serves.stopped.ends [
         | inl took ↦ cut_short NoMemory serves (events_text serves.stopped.events) (record { lost = []; whole = sym (append-nil (events_text serves.stopped.events)) }) (whole serves.stopped.events took)
         | inr ends ↦ let printed = began serves.stopped.events ends in cut_short NoMemory serves printed.grown printed.prefix (Outputs-whole _ _ _ _ printed.appends)
@@ -139,12 +142,16 @@ misspelt state w m text at spells = record {
 stop_keeps : (stop : RunStop) (out0 out1 : ℕ) → (stop ≡ SinkFault → ⊥) → SinkStops (Err stop) out0 out1 → out1 ≡ out0
 stop_keeps (Tampered region place) out0 out1 not cause = cause
 stop_keeps NoMemory out0 out1 not cause = cause
+stop_keeps StoreFault out0 out1 not cause = cause
+stop_keeps StashFull out0 out1 not cause = cause
 stop_keeps SinkFault out0 out1 not cause = absurd (not refl)
 
 -- a stop of the engine, and what waited was flushed after it
 pub stop_cause : (T : Type 0) (stop : RunStop) (out0 out1 out2 : ℕ) → SinkStops (Err stop) out0 out1 → out1 ≤ out2 → StopCause {T = T} (faults_of 0 out0 0) (faults_of 0 out2 0) (Err (session_stop stop))
 stop_cause T (Tampered region place) out0 out1 out2 cause later = (refl, omega arith, omega arith)
 stop_cause T NoMemory out0 out1 out2 cause later = (refl, omega arith, omega arith)
+stop_cause T StoreFault out0 out1 out2 cause later = (refl, omega arith, omega arith)
+stop_cause T StashFull out0 out1 out2 cause later = (refl, omega arith, omega arith)
 stop_cause T SinkFault out0 out1 out2 cause later = (refl, inl (rises_later out0 out1 out2 cause later))
 
 -- whether what waited could be flushed after it

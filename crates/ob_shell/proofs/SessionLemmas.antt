@@ -13,8 +13,8 @@ use Rattle.ob_base.specs.declared.config.Config.{Config}
 use Rattle.ob_base.specs.declared.config.Public.{Public}
 use Rattle.ob_base.specs.declared.mark.Mark.{Mark}
 use Rattle.ob_base.specs.declared.refusal.Stop.{Stop}
-use Rattle.ob_base.specs.declared.refusal.Stop.TheVariants.{Tampered, SourceFault, SinkFault, NoMemory, InputLimit}
-use Rattle.ob_exec.specs.Agreeing.{count_of, engine_keys, engine_start, opened_from, public_of, high_of, rows_of, world_of}
+use Rattle.ob_base.specs.declared.refusal.Stop.TheVariants.{Tampered, SourceFault, SinkFault, NoMemory, InputLimit, StoreFault, StashFull}
+use Rattle.ob_exec.specs.Agreeing.{AreDraws, count_of, engine_keys, first_draws, engine_start, indexes_of, opened_from, public_of, high_of, rows_of, world_of}
 use Rattle.ob_exec.specs.Closing.{ClosesEngine, closing_script, next_closing}
 use Rattle.ob_reopen.specs.Closed.{IsClosedAs, StaysInUse, is_used_up}
 use Rattle.ob_select.specs.Opening.{is_of_rows}
@@ -25,10 +25,9 @@ use Rattle.ob_exec.specs.declared.engine.Engine.{Engine}
 use Rattle.ob_gen.specs.Tally.{empty_tally}
 use Rattle.ob_gen.specs.declared.tally.Tally.{Tally}
 use Rattle.ob_headline.proofs.BaseLemmas.{from_each}
-use Rattle.ob_headline.proofs.FlatLemmas.{IsFlat}
 use Rattle.ob_headline.proofs.PromptLemmas.{prompt_all}
 use Rattle.ob_headline.proofs.TextLemmas.{rest_of-nil, texts_of-nil}
-use Rattle.ob_headline.specs.Bases.{Base, Opened, fresh, session_at, start, undrawn}
+use Rattle.ob_headline.specs.Bases.{Base, Opened, drawing, fresh, session_at, start}
 use Rattle.ob_headline.specs.Disturbed.{MeantUntil, meant_trace}
 use Rattle.ob_headline.specs.Failures.{FailsBeside}
 use Rattle.ob_headline.specs.Keeping.{EndsWith, Writes, closing_behind, last_script, region_opened}
@@ -44,7 +43,7 @@ use Rattle.ob_headline.specs.declared.ending.Ending.TheVariants.{Ran as RanEndin
 use Rattle.ob_headline.specs.declared.ending.KeptEnding.{KeptEnding}
 use Rattle.ob_headline.specs.declared.ending.KeptEnding.TheVariants.{Plain}
 use Rattle.ob_mean.specs.Replay.{Broken, Session, after_all, all_served}
-use Rattle.ob_mean.specs.Verdict.{Tables}
+use Rattle.ob_mean.specs.Verdict.{Draws, Tables}
 use Rattle.ob_print.proofs.CutLemmas.{Outputs-whole}
 use Rattle.ob_reopen.specs.Keepers.{KeeperState}
 use Rattle.ob_reopen.specs.declared.closing.Closing.{Closing}
@@ -84,22 +83,23 @@ use Rattle.ob_headline.specs.Story.{Story}
 -- from no tables
 nothing_held : {R : Type 0} (state : R → RevState) (first : Engine R) (s : StoreState) (config : Config) → public_of first ≡ first_public config → Represents state first s []
 nothing_held state first s config is =
-    record { held = subst (λ (p : Public). AreHeld p.pack p.tables [] (world_of state first s)) (sym is) tt; in_place = tt }
+    record { held = subst (λ (p : Public). AreHeld p.pack (indexes_of first) p.tables [] (world_of state first s)) (sym is) tt; in_place = tt }
 
 pub none_asked : {R : Type 0} (first : Engine R) (s : StoreState) → engine_start first ≡ from_nothing → s.asked ≡ [] → count_of first s ≡ 0
 none_asked first s from none = omega (arith, ap earlier from, earlier_nothing, ap length none)
 
-session_is : {R : Type 0} (config : Config) (first : Engine R) (s : StoreState) → public_of first ≡ first_public config → engine_start first ≡ from_nothing → s.asked ≡ []
-    → session_of (machine_of first s) [] ≡ start (Some config)
-session_is config first s is from none = let unasked = none_asked first s from none in λ i. record { public = is i; tables = []; asked = unasked i; draws = undrawn }
+session_is : {R : Type 0} (config : Config) (keys : KeySet) (first : Engine R) (s : StoreState) → public_of first ≡ first_public config → engine_start first ≡ from_nothing → s.asked ≡ []
+    → session_of (machine_of first s) (first_draws keys) [] ≡ drawing keys (start (Some config))
+session_is config keys first s is from none =
+    let unasked = none_asked first s from none in λ i. record { public = is i; tables = []; asked = unasked i; draws = first_draws keys }
 
 not_used : (asked : List Access) (high : ℕ) → asked ≡ [] → IsUsed asked high
 not_used asked high none some = let any : IsTrue (list_any is_of_rows []) = subst (λ (xs : List Access). IsTrue (list_any is_of_rows xs)) none some in absurd (cc any)
 
 -- an engine that was just started
-pub stands_first : {R : Type 0} (state : R → RevState) (config : Config) (key : List ℕ) (first : Engine R) (s : StoreState) → public_of first ≡ first_public config → first.vault.keys ≡ keys_of key
+pub stands_first : {R : Type 0} (state : R → RevState) (config : Config) (key : List ℕ) (first : Engine R) (s : StoreState) → public_of first ≡ first_public config → first.vault.keys ≡ keys_of key → AreDraws first (first_draws (keys_of key))
     → engine_start first ≡ from_nothing → rows_of first ≡ config.buffer → IsFresh s → IsSteady s → StandsOn state (fresh (Some config)) config key first s
-stands_first state config key first s is keyed from rows blank steady =
+stands_first state config key first s is keyed drawn from rows blank steady =
     let nothing = nothing_held state first s config is in
     record {
       settings = refl;
@@ -109,8 +109,10 @@ stands_first state config key first s is keyed from rows blank steady =
       start = from;
       asked = blank.unasked;
       keyed = keyed;
+      drawn = drawn;
       pack = refl;
       buffer = refl;
+      keep = refl;
       rows = rows;
       calm = first_calm state first s blank.honest;
       used = not_used s.asked (high_of first) blank.unasked;
@@ -123,7 +125,7 @@ stands_first state config key first s is keyed from rows blank steady =
           steady = steady;
           unasked = blank.unasked;
           nothing = nothing;
-          here = session_is config first s is from blank.unasked;
+          here = session_is config (keys_of key) first s is from blank.unasked;
         },
         before,
       );
@@ -159,14 +161,23 @@ meets (Err SourceFault) w lie calm is unfit = absurd (unfit (calm.calm lie is))
 meets (Err SinkFault) w lie calm is unfit = absurd (unfit (calm.calm lie is))
 meets (Err NoMemory) w lie calm is unfit = absurd (unfit (calm.calm lie is))
 meets (Err InputLimit) w lie calm is unfit = absurd (unfit (calm.calm lie is))
+meets (Err StoreFault) w lie calm is unfit = absurd (unfit (calm.calm lie is))
+meets (Err StashFull) w lie calm is unfit = absurd (unfit (calm.calm lie is))
 
 -- a session that ends as tampered ends with the read of that place
 last_read : {R : Type 0} (state : R → RevState) (m1 m2 : Machine R) (more : List (List ℕ)) (part : List ℕ) (region place : ℕ) → LastPart state m1 m2 more part (Err (Tampered region place))
     → EndsAtRead region place m2.store.asked
-last_read state m1 m2 [] part region place idle = absurd (cc idle.untampered)
-last_read state m1 m2 (text ∷ more) part region place (inl idle) = absurd (cc idle.untampered)
+last_read state m1 m2 [] part region place idle = absurd (cc idle.memory)
+last_read state m1 m2 (text ∷ more) part region place (inl idle) = absurd (cc idle.memory)
 last_read state m1 m2 (text ∷ more) part region place (inr (inl cut)) = record { before = cut.does.ran.cause.1.before; is = cut.does.ran.cause.1.asked }
 last_read state m1 m2 (text ∷ more) part region place (inr (inr done)) = absurd (cc done.fault)
+
+-- one that ends by the store's fault ends where a call failed
+last_fault : {R : Type 0} (state : R → RevState) (m1 m2 : Machine R) (more : List (List ℕ)) (part : List ℕ) → LastPart state m1 m2 more part (Err StoreFault) → Rises m1.store.faults m2.store.faults
+last_fault state m1 m2 [] part idle = absurd (cc idle.memory)
+last_fault state m1 m2 (text ∷ more) part (inl idle) = absurd (cc idle.memory)
+last_fault state m1 m2 (text ∷ more) part (inr (inl cut)) = cut.does.ran.cause.0
+last_fault state m1 m2 (text ∷ more) part (inr (inr done)) = absurd (cc done.fault)
 
 -- what is said of a closing
 writes_by : {R : Type 0} {state : R → RevState} {e : Engine R} {s t : StoreState} (r : Result Mark CloseErr) → ClosesEngine state r e s t → Writes (next_closing e s) (closing_script e s) r s t
@@ -274,11 +285,12 @@ module _ {R : Type 0} {state : R → RevState} {Lost : Type 0} (base : Base) (co
         ((last_all good 0 accepts.0 accepts.1 tells (sealed good passes (from_on 0) (omega arith))).all region place block from lives held);
   }
 
-  here : (tables : Tables) → session_of m0 tables ≡ session_at base tables
-  here tables = λ i. record { public = on.public i; tables = tables; asked = on.count i; draws = undrawn }
+  -- what it draws
+  abbrev d0 : Draws
+  d0 = first_draws (keys_of key)
 
-  flat_first : IsFlat (public_of first)
-  flat_first = subst IsFlat (sym on.public) on.flat
+  here : (tables : Tables) → session_of m0 d0 tables ≡ drawing (keys_of key) (session_at base tables)
+  here tables = λ i. record { public = on.public i; tables = tables; asked = on.count i; draws = d0 }
 
   -- what became of the texts
   abbrev pub story : Story
@@ -306,16 +318,16 @@ module _ {R : Type 0} {state : R → RevState} {Lost : Type 0} (base : Base) (co
     };
     traced_whole = ran.traced.whole (trace base.public walk.seen) (walk.passed ∙ ap (λ (p : Public). s0.asked ++ trace p walk.seen) on.public);
     answers = record {
-      meant = λ undeceived. from_each base (λ x. Represents state first s0 x.tables) (λ x. (broken : Broken) × AnswersFrom (RanEnding result) x walk.spelt broken ran.answers all ran.part)
+      meant = λ undeceived. from_each base (λ x. Represents state first s0 x.tables) (λ x. (broken : Broken) × AnswersFrom (RanEnding result) (drawing (keys_of key) x) walk.spelt broken ran.answers all ran.part)
           (λ tables held.
-          let from = walk.meant flat_first undeceived.tells on.calm (record { unfit = λ lie is fits. undeceived.unfit lie is (fits_here lie fits) }) tables held in
+          let from = walk.meant d0 on.drawn undeceived.tells on.calm (record { unfit = λ lie is fits. undeceived.unfit lie is (fits_here lie fits) }) tables held in
           (from.0, subst (λ (s : Session). AnswersFrom (RanEnding result) s walk.spelt from.0 ran.answers all ran.part) (here tables) from.1)) on.held;
       later = later_trans _ _ _ (steps_later state m0 ran.middle ran.served ran.answers ran.steps) (last_later state ran.middle m2 ran.more ran.part result ran.last);
       always = λ tells n before.
           let facts = on.early n before in
           let is = facts.0 in
-          let from = walk.early flat_first tells is.steady [] is.nothing n facts.1 (omega (arith, ap length is.unasked)) in
-          let joined : s0.asked ++ trace (session_of m0 []).public (all_served (session_of m0 []) walk.spelt []) ≡ meant_trace base.settings walk.spelt =
+          let from = walk.early d0 on.drawn tells is.steady [] is.nothing n facts.1 (omega (arith, ap length is.unasked)) in
+          let joined : s0.asked ++ trace (session_of m0 d0 []).public (all_served (session_of m0 d0 []) walk.spelt []) ≡ meant_trace base.settings (keys_of key) walk.spelt =
           λ i. is.unasked i ++ trace (is.here i).public (all_served (is.here i) walk.spelt []) in
           record {
             meant = subst (λ (s : Session). MeantUntil n s walk.spelt ran.answers all) is.here from.meant;
@@ -334,9 +346,14 @@ module _ {R : Type 0} {state : R → RevState} {Lost : Type 0} (base : Base) (co
       some_open = subst (λ (n : ℕ). IsUsed s1.asked n) (sym opened) (session_opens state m0 ran.middle m2 ran.served ran.more ran.answers ran.part result on.used ran.steps ran.last);
     };
     untampered = from_each base (λ x. Represents state first s0 x.tables) (λ x. IsHonest s0 s1 → EndsUntampered (RanEnding result))
-        (λ tables held honest. walk.untampered flat_first honest.tells tables held honest.no_lie) on.held;
+        (λ tables held honest. walk.untampered d0 on.drawn honest.tells tables held honest.no_lie) on.held;
     at_read = λ region place is. let stopped : result ≡ Err (Tampered region place) = cc is in
         last_read state ran.middle m2 ran.more ran.part region place (subst (λ (x : Result Bool Stop). LastPart state ran.middle m2 ran.more ran.part x) stopped ran.last);
+    faulted = λ is.
+        let stopped : result ≡ Err StoreFault = cc is in
+        let rose = last_fault state ran.middle m2 ran.more ran.part (subst (λ (x : Result Bool Stop). LastPart state ran.middle m2 ran.more ran.part x) stopped ran.last) in
+        let before = (steps_later state m0 ran.middle ran.served ran.answers ran.steps).faults in
+        omega (arith, rose, before);
   }
 
   -- ---- the engine is closed behind a session that came to its end
@@ -363,19 +380,19 @@ module _ {R : Type 0} {state : R → RevState} {Lost : Type 0} (base : Base) (co
     fits_last lie told_it = fits_here lie ((closes.calm (subst (λ (x : Result Bool Stop). MeetsChange x (world_of state last s1)) (ap flagged is) met)).calm lie told_it)
 
     rests_last : (tables : Tables) → IsHonest s0 s2 → is_used_up closing ≡ false → (mark : Mark) → r ≡ Ok mark → Represents state first s0 tables
-        → (broken : Broken) × AnswersFrom (RanEnding (Ok (has_refused tally))) (session_at base tables) walk.spelt broken ran.answers all ran.part
-        × Rests (keys_of key) closing s2.kept (by_name (after_all (session_at base tables) walk.spelt broken).tables)
+        → (broken : Broken) × AnswersFrom (RanEnding (Ok (has_refused tally))) (drawing (keys_of key) (session_at base tables)) walk.spelt broken ran.answers all ran.part
+        × Rests (keys_of key) closing s2.kept (by_name (after_all (drawing (keys_of key) (session_at base tables)) walk.spelt broken).tables)
     rests_last tables honest left mark closed held =
         let none : s1.lie ≡ None = none_lies s1.lie s1 s2 refl closes.later honest.no_lie in
-        let from_it = walk.meant flat_first honest.tells on.calm (record { unfit = λ lie it. absurd (cc (none, it)) }) tables held in
+        let from_it = walk.meant d0 on.drawn honest.tells on.calm (record { unfit = λ lie it. absurd (cc (none, it)) }) tables held in
         let whole = subst (λ (e : Ending). EndsWhole e) (sym (ending_is tally is)) tt in
-        let tables_after = (after_all (session_of m0 tables) walk.spelt from_it.0).tables in
+        let tables_after = (after_all (session_of m0 d0 tables) walk.spelt from_it.0).tables in
         let tells : IsTrue s1.tells = subst (λ (b : Bool). IsTrue b) (sym lasting.tells) honest.tells in
         let rest = subst (λ (x : Result Mark CloseErr). IfOk x (λ m. Rests (engine_keys last) closing s2.kept (by_name tables_after))) closed (closes.told tells left tables_after (from_it.2 whole)) in (
           from_it.0,
-          subst (λ (e : Ending). AnswersFrom e (session_at base tables) walk.spelt from_it.0 ran.answers all ran.part) (ending_is tally is)
+          subst (λ (e : Ending). AnswersFrom e (drawing (keys_of key) (session_at base tables)) walk.spelt from_it.0 ran.answers all ran.part) (ending_is tally is)
               (subst (λ (x : Session). AnswersFrom (RanEnding result) x walk.spelt from_it.0 ran.answers all ran.part) (here tables) from_it.1),
-          subst (λ (k : KeySet). Rests k closing s2.kept (by_name (after_all (session_at base tables) walk.spelt from_it.0).tables)) keys_are
+          subst (λ (k : KeySet). Rests k closing s2.kept (by_name (after_all (drawing (keys_of key) (session_at base tables)) walk.spelt from_it.0).tables)) keys_are
               (subst (λ (x : Session). Rests (engine_keys last) closing s2.kept (by_name (after_all x walk.spelt from_it.0).tables)) (here tables) rest),
         )
 
@@ -410,7 +427,8 @@ module _ {R : Type 0} {state : R → RevState} {Lost : Type 0} (base : Base) (co
       later = closes.later;
       fits = fits_last;
       rests = λ honest left mark closed. from_each base (λ x. Represents state first s0 x.tables)
-          (λ x. (broken : Broken) × AnswersFrom (RanEnding (Ok (has_refused tally))) x walk.spelt broken ran.answers all ran.part × Rests (keys_of key) closing s2.kept (by_name (after_all x walk.spelt broken).tables))
+          (λ x. (broken : Broken) × AnswersFrom (RanEnding (Ok (has_refused tally))) (drawing (keys_of key) x) walk.spelt broken ran.answers all ran.part
+          × Rests (keys_of key) closing s2.kept (by_name (after_all (drawing (keys_of key) x) walk.spelt broken).tables))
           (λ tables held. rests_last tables honest left mark closed held) on.held;
       sealed = λ tells. sealed_last (base.start.region + 1) tells (λ good both. own_sealed good);
       sealed_before = λ tells. from_each base AreSealed (λ x. IsSealed (PassesBoth base.public.pack) (keys_of key) base.start 0 s0 s2)

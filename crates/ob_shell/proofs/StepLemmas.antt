@@ -5,7 +5,6 @@ use Rattle.std.specs.Io.KnownBytes.{Appends}
 use Rattle.ob_base.specs.declared.refusal.Stop.{Stop}
 use Rattle.ob_base.specs.declared.refusal.Stop.TheVariants.{SourceFault, InputLimit}
 use Rattle.ob_exec.specs.Stops.{session_stop}
-use Rattle.ob_exec.specs.Telling.{IsNotTampered}
 use Rattle.ob_exec.specs.declared.stop.RunStop.{RunStop}
 use Rattle.ob_exec.specs.declared.stop.RunStop.TheVariants as Runs
 use Rattle.ob_gen.specs.declared.tally.Tally.{Tally}
@@ -71,9 +70,9 @@ answers_one text t answer step bytes = record {
   counted = sym (tally_after-one t answer);
 }
 
-pub PartlyAt-none : {R : Type 0} (state : R → RevState) (m : Machine R) (texts : List (List ℕ)) (stop : RunStop) → IsNotTampered stop → PartlyAt state m m texts stop []
-PartlyAt-none state m [] stop fine = record { rests = record { machine = refl; none = refl }; untampered = fine }
-PartlyAt-none state m (t ∷ ts) stop fine = inl (record { rests = record { machine = refl; none = refl }; untampered = fine })
+pub PartlyAt-none : {R : Type 0} (state : R → RevState) (m : Machine R) (texts : List (List ℕ)) (stop : RunStop) → stop ≡ Runs.NoMemory → PartlyAt state m m texts stop []
+PartlyAt-none state m [] stop fine = record { rests = record { machine = refl; none = refl }; memory = fine }
+PartlyAt-none state m (t ∷ ts) stop fine = inl (record { rests = record { machine = refl; none = refl }; memory = fine })
 
 pub PartlyAt-rests : {R : Type 0} (state : R → RevState) (m0 m1 : Machine R) (texts : List (List ℕ)) (stop : RunStop) (bytes : List ℕ) → Idle m0 m1 stop bytes → PartlyAt state m0 m1 texts stop bytes
 PartlyAt-rests state m0 m1 [] stop bytes r = r
@@ -85,7 +84,7 @@ PartlyAt-more state m0 m1 [] more stop bytes p = PartlyAt-rests state m0 m1 more
 PartlyAt-more state m0 m1 (t ∷ ts) more stop bytes p = p
 
 -- nothing was done of the texts
-pub stops_before : {R : Type 0} {state : R → RevState} {Lost : Type 0} (w : Option (List ℕ)) (m : Machine R) (texts : List (List ℕ)) (stop : RunStop) → IsNotTampered stop → StopsIn state w w Lost texts stop m m
+pub stops_before : {R : Type 0} {state : R → RevState} {Lost : Type 0} (w : Option (List ℕ)) (m : Machine R) (texts : List (List ℕ)) (stop : RunStop) → stop ≡ Runs.NoMemory → StopsIn state w w Lost texts stop m m
 stops_before {state = state} w m texts stop fine = record { bytes = []; partly = PartlyAt-none state m texts stop fine; cut = Outputs-whole w w _ [] (Appends-nil w) }
 
 -- the only answer of a list

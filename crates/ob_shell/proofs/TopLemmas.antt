@@ -8,7 +8,7 @@ use Rattle.ob_base.specs.Counts.{Rises}
 use Rattle.ob_base.specs.declared.access.Access.{Access}
 use Rattle.ob_base.specs.declared.config.Config.{Config}
 use Rattle.ob_base.specs.declared.refusal.Stop.{Stop}
-use Rattle.ob_base.specs.declared.refusal.Stop.TheVariants.{Tampered, SourceFault, SinkFault, NoMemory, InputLimit}
+use Rattle.ob_base.specs.declared.refusal.Stop.TheVariants.{Tampered, SourceFault, SinkFault, NoMemory, InputLimit, StoreFault, StashFull}
 use Rattle.ob_select.specs.Opening.{is_of_rows}
 use Rattle.ob_gen.specs.declared.tally.Tally.{Tally}
 use Rattle.ob_headline.proofs.FlatLemmas.{start_flat}
@@ -43,7 +43,7 @@ use Rattle.ob_shell.specs.Feeding.{Fetch, Fed, IsFedBy}
 use Rattle.ob_shell.specs.LineRead.{KeyRead}
 use Rattle.ob_shell.specs.Running.{EndsBy}
 use Rattle.ob_shell.specs.Tallies.{flagged, tally_of}
-use Rattle.ob_shell.specs.Top.{EndingTally, EndsUntampered, IsFresh, TraceSink, RanSays, EndingSays, EndingWords, Carried, RunShown, RanAfter, EndingCause, EndingFlag, StatusCause}
+use Rattle.ob_shell.specs.Top.{EndingTally, EndsUnfaulted, EndsUntampered, IsFresh, TraceSink, RanSays, EndingSays, EndingWords, Carried, RunShown, RanAfter, EndingCause, EndingFlag, StatusCause}
 use Rattle.ob_shell.specs.declared.feed.Halt.{Halt}
 use Rattle.ob_shell.specs.declared.key.FirstLine.{FirstLine}
 use Rattle.ob_shell.specs.declared.key.FirstLine.TheVariants.{Secret, Last, Bad}
@@ -82,10 +82,10 @@ after_line-more (x ∷ xs) ys h = after_line-step x xs ys (x == 10) refl h (afte
 pub nothing_over : is_over (rest_of [] []) ≡ false
 nothing_over = rw rest_of-nil
 
-pub unstarted : (tr : TraceSink) (settings : Option Config) (secret : Option (List ℕ)) (s : StoreState) (more : List (List ℕ)) (ending : Ending) → IsFresh s → tr.new ≡ tr.old → EndsUntampered ending
+pub unstarted : (tr : TraceSink) (settings : Option Config) (secret : Option (List ℕ)) (s : StoreState) (more : List (List ℕ)) (ending : Ending) → IsFresh s → tr.new ≡ tr.old → EndsUntampered ending → EndsUnfaulted ending
     → Carried tr (fresh settings) secret s s 0 (unserved more) ending
 unfolding SpellFirst AreSeen AnswersFrom MeantUntil failures any_cut statements
-unstarted tr settings secret s more ending blank untraced untampered = record {
+unstarted tr settings secret s more ending blank untraced untampered unfaulted = record {
   statements = record { spells = tt; reached = omega arith; begun = omega arith; keyed = inr refl; each = refl };
   accesses = record {
     flat = start_flat settings;
@@ -117,6 +117,7 @@ unstarted tr settings secret s more ending blank untraced untampered = record {
   };
   untampered = λ honest. untampered;
   at_read = λ region place is. absurd (subst (λ (e : Ending). EndsUntampered e) is untampered);
+  faulted = λ is. absurd (subst (λ (e : Ending). EndsUnfaulted e) is unfaulted);
 }
 
 pub took_none : (w : Option (List ℕ)) → Took w w (printed [])
@@ -163,7 +164,7 @@ module _ (tally : Tally) (tr : TraceSink) (untraced : tr.new ≡ tr.old) (settin
           texts = rw after (texts_of-nil []);
         };
         prompt = piece_prompt read.fed read.ahead;
-        carried = unstarted tr settings _ s [] _ fresh untraced tt;
+        carried = unstarted tr settings _ s [] _ fresh untraced tt tt;
         grew = no_bytes w;
         whole = took_none w;
         flag = tt;
@@ -187,7 +188,7 @@ module _ (tally : Tally) (tr : TraceSink) (untraced : tr.new ≡ tr.old) (settin
           texts = refl;
         };
         prompt = piece_prompt read.fed read.ahead;
-        carried = unstarted tr settings _ s _ _ fresh untraced tt;
+        carried = unstarted tr settings _ s _ _ fresh untraced tt tt;
         grew = no_bytes w;
         whole = took_none w;
         flag = tt;
@@ -211,7 +212,7 @@ module _ (tally : Tally) (tr : TraceSink) (untraced : tr.new ≡ tr.old) (settin
           texts = rw (ends.1, texts_of-nil, rest_of-nil);
         };
         prompt = piece_prompt read.fed read.ahead;
-        carried = unstarted tr settings _ s [] _ fresh untraced tt;
+        carried = unstarted tr settings _ s [] _ fresh untraced tt tt;
         grew = no_bytes w;
         whole = took_none w;
         flag = sym any_refused-nil;
@@ -242,7 +243,7 @@ ran_nothing {Lost = Lost} tr settings secret f l gave w s fresh untraced late = 
   texts = refl;
   prompt = subst (λ (xs : List (List ℕ)). Begins (texts_in false (before_read gave (f.unread ++ []))) xs) (texts_of-nil [])
       (prompt_all (f.unread ++ []) [] f.unread gave (append-nil f.unread) late);
-  carried = unstarted tr settings secret s _ _ fresh untraced tt;
+  carried = unstarted tr settings secret s _ _ fresh untraced tt tt;
   rows = inr (refl, refl);
   cut = rw printed-nil (Outputs-whole w w Lost [] (Appends-nil w));
   whole = took_none w;
@@ -263,6 +264,8 @@ says_of (Ok flag) f max taken ended more part h n top e = record {
 says_of (Err (Tampered region place)) f max taken ended more part h n top e = h
 says_of (Err SinkFault) f max taken ended more part h n top e = h
 says_of (Err NoMemory) f max taken ended more part h n top e = tt
+says_of (Err StoreFault) f max taken ended more part h n top e = h
+says_of (Err StashFull) f max taken ended more part h n top e = h
 says_of (Err SourceFault) f max taken ended more part h n top e = record {
   line = inl h;
   cut = e.0;
@@ -346,9 +349,9 @@ shown_ran base key result none start top below by read ran told =
 -- ---- before the input is read
 
 -- nothing was read
-unfoldable pub shown_unread : {F : Type 0} (tally : Tally) (tr : TraceSink) (settings : Option Config) (l : Option (List ℕ)) (gave : ℕ) (w : Option (List ℕ)) (s : StoreState) (ending : Ending) → IsFresh s → tr.new ≡ tr.old → EndsUntampered ending → EndingFlag ending [] → EndingTally ending [] tally
+unfoldable pub shown_unread : {F : Type 0} (tally : Tally) (tr : TraceSink) (settings : Option Config) (l : Option (List ℕ)) (gave : ℕ) (w : Option (List ℕ)) (s : StoreState) (ending : Ending) → IsFresh s → tr.new ≡ tr.old → EndsUntampered ending → EndsUnfaulted ending → EndingFlag ending [] → EndingTally ending [] tally
     → EndingSays ending (limit_of settings) [] l false (texts_of [] (after_line [])) [] → RunShown tally tr (fresh settings) l l gave w w s s 0 ending [] F
-shown_unread tally tr settings l gave w s ending fresh untraced untampered flag counted says = record {
+shown_unread tally tr settings l gave w s ending fresh untraced untampered unfaulted flag counted says = record {
   taken = [];
   ended = false;
   story = unserved (texts_of [] (after_line []));
@@ -362,7 +365,7 @@ shown_unread tally tr settings l gave w s ending fresh untraced untampered flag 
     few = omega arith;
     prompt = prompt_line gave [] [] (rw (after_line-none [] has_lf-nil) (omega arith));
   };
-  carried = unstarted tr settings _ s _ _ fresh untraced untampered;
+  carried = unstarted tr settings _ s _ _ fresh untraced untampered unfaulted;
   grew = no_bytes w;
   whole = took_none w;
   flag = flag;
@@ -379,6 +382,8 @@ takes_of (RanEnding (Err SourceFault)) not_usage t = t
 takes_of (RanEnding (Err SinkFault)) not_usage t = t
 takes_of (RanEnding (Err NoMemory)) not_usage t = tt
 takes_of (RanEnding (Err InputLimit)) not_usage t = t
+takes_of (RanEnding (Err StoreFault)) not_usage t = t
+takes_of (RanEnding (Err StashFull)) not_usage t = t
 
 -- ---- the last line
 
@@ -406,6 +411,8 @@ line_rose (RanEnding (Err (Tampered region place))) old mid new cause rose later
 line_rose (RanEnding (Err SourceFault)) old mid new cause rose later trace = inl (subst (λ (n : ℕ). Rises n new.out) cause.1 rose)
 line_rose (RanEnding (Err SinkFault)) old mid new cause rose later trace = rose_with old mid new cause.1 later trace
 line_rose (RanEnding (Err NoMemory)) old mid new cause rose later trace = inl (rises_earlier _ _ _ cause.1 rose)
+line_rose (RanEnding (Err StoreFault)) old mid new cause rose later trace = inl (rises_earlier _ _ _ cause.1 rose)
+line_rose (RanEnding (Err StashFull)) old mid new cause rose later trace = inl (rises_earlier _ _ _ cause.1 rose)
 line_rose (RanEnding (Err InputLimit)) old mid new cause rose later trace = inl (subst (λ (n : ℕ). Rises n new.out) cause.out rose)
 
 -- the counts after the last line
@@ -422,6 +429,8 @@ status_cause (RanEnding (Err (Tampered region place))) old mid new cause later t
 status_cause (RanEnding (Err SourceFault)) old mid new cause later trace source none = subst (λ (n : ℕ). Rises old.source n) (sym source) cause.0
 status_cause (RanEnding (Err SinkFault)) old mid new cause later trace source none = (source ∙ cause.0, rose_with old mid new cause.1 later trace)
 status_cause (RanEnding (Err NoMemory)) old mid new cause later trace source none = source ∙ cause.0
+status_cause (RanEnding (Err StoreFault)) old mid new cause later trace source none = source ∙ cause.0
+status_cause (RanEnding (Err StashFull)) old mid new cause later trace source none = source ∙ cause.0
 status_cause (RanEnding (Err InputLimit)) old mid new cause later trace source none = source ∙ cause.source
 
 -- nothing more may be written

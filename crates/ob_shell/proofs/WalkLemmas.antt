@@ -14,40 +14,37 @@ use Rattle.ob_base.specs.declared.refusal.Stop.TheVariants.{NoMemory}
 use Rattle.ob_base.specs.declared.seen.End.{End}
 use Rattle.ob_base.specs.declared.seen.Seen.{Seen}
 use Rattle.ob_exec.proofs.EmitLemmas.{unfit_none}
-use Rattle.ob_exec.specs.Agreeing.{engine_start, opened_from, public_of, seen_of, world_of}
+use Rattle.ob_exec.specs.Agreeing.{AreDraws, engine_start, opened_from, public_of, seen_of, world_of}
 use Rattle.ob_select.specs.Memory.{AtMake}
 use Rattle.ob_exec.specs.Refusals.{refused_end}
 use Rattle.ob_exec.specs.Running.{RefusedEarly, RunCause, is_fault, outcome_end}
 use Rattle.ob_verdict.specs.Outcomes.{refusal_now, by_fault, Emits}
 use Rattle.ob_exec.specs.Stops.{session_stop}
-use Rattle.ob_exec.specs.Telling.{IsNotTampered, meant_script, ReadsTrue, ReadsTrueUntil, Represents, answer_labels, is_refused}
+use Rattle.ob_exec.specs.Telling.{IsNotTampered, ReadsTrue, ReadsTrueUntil, Represents, answer_labels, is_refused}
 use Rattle.ob_verdict.specs.declared.outcome.Outcome.{Outcome}
 use Rattle.ob_verdict.specs.declared.outcome.Outcome.TheVariants.{Created, Inserted, Changed, Deleted, Dropped, Rows, Refused}
 use Rattle.ob_exec.specs.declared.stop.RunStop.{RunStop}
 use Rattle.ob_exec.specs.declared.stop.RunStop.TheVariants as Runs
-use Rattle.ob_headline.proofs.FlatLemmas.{IsFlat}
-use Rattle.ob_headline.specs.Bases.{undrawn}
 use Rattle.ob_headline.specs.Closing.{closing_line}
+use Rattle.ob_headline.proofs.FullLemmas.{asks_alone, asks_first, met_script}
 use Rattle.ob_headline.specs.Disturbed.{MeantUntil}
 use Rattle.ob_headline.specs.Words.{Answer, Begins, refused_at}
 use Rattle.ob_headline.specs.Statements.{SpellFirst, statements}
 use Rattle.ob_headline.specs.Accesses.{AreSeen, Says, StopsWithin, WantsMemory, any_cut, is_cut}
-use Rattle.ob_headline.specs.Meaning.{AnswersFrom, AnswersIn, BeginsAnswer}
+use Rattle.ob_headline.specs.Meaning.{AnswersFrom, AnswersIn, BeginsAnswer, PrintsUntil}
 use Rattle.ob_headline.specs.declared.ending.Ending.{Ending}
 use Rattle.ob_headline.specs.declared.ending.Ending.TheVariants.{Usage, BadKey, Ran}
-use Rattle.ob_mean.proofs.FlatLemmas.{no_access}
-use Rattle.ob_mean.proofs.FlatSessions.{room_flat}
 use Rattle.ob_mean.proofs.ReplayLemmas.{after_room, served_room}
-use Rattle.ob_mean.specs.Replay.{Broken, IsCutOff, Session, Spelt, after, after_all, all_served, cut_at, seen_now, seen_or_cut, served}
-use Rattle.ob_mean.specs.Verdict.{Tables}
+use Rattle.ob_mean.specs.Replay.{Broken, IsCutOff, Session, Spelt, after, after_all, all_served, cut_at, is_full_now, seen_now, seen_or_cut}
+use Rattle.ob_mean.specs.Verdict.{Draws, Tables}
 use Rattle.ob_print.specs.Rows.{events_text}
 use Rattle.ob_script.specs.Script.{script, whole_script}
 use Rattle.ob_script.specs.Trace.{Served as Entry, after_all as all_public, next, trace}
 use Rattle.ob_seal.specs.KeySet.{KeySet}
 use Rattle.ob_shell.proofs.DisturbLemmas.{before_less, begins_more, crosses, few_or_more, take_begins}
-use Rattle.ob_shell.proofs.ReplayLemmas.{counts_on, does_flat, fault_is, cut_early, cut_within, held_flat, outcome_cases, stands_after}
+use Rattle.ob_shell.proofs.ReplayLemmas.{counts_on, cut_early, cut_within, draws_after, fault_is, outcome_cases, stands_after}
 use Rattle.ob_shell.proofs.StepLemmas.{by_last}
-use Rattle.ob_shell.proofs.StopLemmas.{only_memory, only_sink, stop_untampered, tampered_as}
+use Rattle.ob_shell.proofs.StopLemmas.{only_memory, only_sink, only_stash, stop_untampered, tampered_as}
 use Rattle.ob_shell.specs.Running.{LastPart}
 use Rattle.ob_shell.specs.Steps.{CutStep, Does, Machine, Misspelt, PartlyAt, ServedStatement, Steps, asked_of, session_of}
 use Rattle.ob_shell.specs.Top.{EndsUntampered}
@@ -106,6 +103,9 @@ says (Some r) p stmt answer here events refused emits bytes same planned =
 sink_untampered : (run : RunStop) → run ≡ Runs.SinkFault → IsNotTampered run
 sink_untampered run fault = ap is_refused fault
 
+memory_untampered : (run : RunStop) → run ≡ Runs.NoMemory → IsNotTampered run
+memory_untampered run wanting = ap is_refused wanting
+
 or_first : (a b : Bool) → (a || b) ≡ false → a ≡ false
 or_first true b is = is
 or_first false b is = refl
@@ -152,16 +152,14 @@ module _ {R : Type 0} (state : R → RevState) where
   early_answered n s asked0 asked2 at spelt one answers seen is rest = record { meant = (is, rest.meant); begins = rest.begins; quiet = rest.quiet }
 
   -- a statement was begun
-  early_one : (m0 m2 : Machine R) (tables : Tables) (stmt : Stmt) (result : Result Outcome RunStop) (n : ℕ) (seen : List Entry) → IsFlat (public_of m0.engine) → Does state m0 m2 stmt result → IsTrue m0.store.tells → IsSteady m0.store
+  early_one : (m0 m2 : Machine R) (tables : Tables) (stmt : Stmt) (result : Result Outcome RunStop) (n : ℕ) (seen : List Entry) → (d : Draws) → AreDraws m0.engine d → Does state m0 m2 stmt result → IsTrue m0.store.tells → IsSteady m0.store
       → Represents state m0.engine m0.store tables → IsBefore m0.store.disturbed n → length m0.store.asked ≤ n
-      → EarlyFrom n (session_of m0 tables) m0.store.asked m2.store.asked (Ok stmt ∷ []) [] seen
+      → EarlyFrom n (session_of m0 d tables) m0.store.asked m2.store.asked (Ok stmt ∷ []) [] seen
   unfolding MeantUntil
-  early_one m0 m2 tables stmt result n seen flat does tells steady held before few =
-      let cross = crosses state m0 m2 tables stmt result flat does tells steady held n before few in
-      let s = session_of m0 tables in
-      let all = meant_script undrawn (public_of m0.engine) (asked_of m0) tables stmt in
-      let alone : all_served s (Ok stmt ∷ []) [] ≡ served None s stmt ∷ [] = served_room s stmt [] [] (room_flat s stmt (held_flat state m0 tables flat held)) in
-      let same : trace s.public (all_served s (Ok stmt ∷ []) []) ≡ all = ap (trace s.public) alone ∙ append-nil all in
+  early_one m0 m2 tables stmt result n seen d drawn does tells steady held before few =
+      let cross = crosses state m0 m2 d drawn tables stmt result does tells steady held n before few in
+      let s = session_of m0 d tables in
+      let same : trace s.public (all_served s (Ok stmt ∷ []) []) ≡ met_script s stmt = asks_alone s stmt in
       record {
         meant = tt;
         begins = subst (λ (l : List Access). Begins (take n m2.store.asked) (m0.store.asked ++ l)) (sym same) cross.begins;
@@ -188,12 +186,12 @@ module _ {R : Type 0} (state : R → RevState) where
     pub public : public_of m1.engine ≡ all_public (public_of m0.engine) seen
     pub unfailed : any_cut (seen ++ last) ≡ false → m2.store.faults ≡ m0.store.faults
     pub lie : (lie : Lie) → m0.store.lie ≡ Some lie → m2.store.lie ≡ Some lie
-    pub meant : IsFlat (public_of m0.engine) → IsTrue m0.store.tells → Calm (world m0) → IsUnfit (world m2) → (tables : Tables) → Represents state m0.engine m0.store tables
-        → (broken : Broken) × AnswersFrom ending (session_of m0 tables) spelt broken answers (seen ++ last) part
-        × (EndsWhole ending → Represents state m2.engine m2.store (after_all (session_of m0 tables) spelt broken).tables)
-    pub untampered : IsFlat (public_of m0.engine) → IsTrue m0.store.tells → (tables : Tables) → Represents state m0.engine m0.store tables → m2.store.lie ≡ None → EndsUntampered ending
-    pub early : IsFlat (public_of m0.engine) → IsTrue m0.store.tells → IsSteady m0.store → (tables : Tables) → Represents state m0.engine m0.store tables → (n : ℕ) → IsBefore m0.store.disturbed n → length m0.store.asked ≤ n
-        → EarlyFrom n (session_of m0 tables) m0.store.asked m2.store.asked spelt answers (seen ++ last)
+    pub meant : (d : Draws) → AreDraws m0.engine d → IsTrue m0.store.tells → Calm (world m0) → IsUnfit (world m2) → (tables : Tables) → Represents state m0.engine m0.store tables
+        → (broken : Broken) × AnswersFrom ending (session_of m0 d tables) spelt broken answers (seen ++ last) part
+        × (EndsWhole ending → Represents state m2.engine m2.store (after_all (session_of m0 d tables) spelt broken).tables)
+    pub untampered : (d : Draws) → AreDraws m0.engine d → IsTrue m0.store.tells → (tables : Tables) → Represents state m0.engine m0.store tables → m2.store.lie ≡ None → EndsUntampered ending
+    pub early : (d : Draws) → AreDraws m0.engine d → IsTrue m0.store.tells → IsSteady m0.store → (tables : Tables) → Represents state m0.engine m0.store tables → (n : ℕ) → IsBefore m0.store.disturbed n → length m0.store.asked ≤ n
+        → EarlyFrom n (session_of m0 d tables) m0.store.asked m2.store.asked spelt answers (seen ++ last)
 
   -- nothing was done
   walked_none : (ending : Ending) (Failed : Type 0) (m0 m2 : Machine R) (more : List (List ℕ)) (part : List ℕ) → m2 ≡ m0 → part ≡ [] → EndsUntampered ending → Walked ending Failed m0 m0 m2 [] more [] part
@@ -217,9 +215,9 @@ module _ {R : Type 0} (state : R → RevState) where
     public = refl;
     unfailed = λ not. ap (λ (m : Machine R). m.store.faults) same;
     lie = λ lie is. ap (λ (m : Machine R). m.store.lie) same ∙ is;
-    meant = λ flat tells calm unfit tables held. ([], (refl, none), λ whole. subst (λ (m : Machine R). Represents state m.engine m.store tables) (sym same) held);
-    untampered = λ flat tells tables held honest. fine;
-    early = λ flat tells steady tables held n before few. early_none n (session_of m0 tables) m0.store.asked m2.store.asked [] (ap (λ (m : Machine R). m.store.asked) same) few;
+    meant = λ d drawn tells calm unfit tables held. ([], (refl, none), λ whole. subst (λ (m : Machine R). Represents state m.engine m.store tables) (sym same) held);
+    untampered = λ d drawn tells tables held honest. fine;
+    early = λ d drawn tells steady tables held n before few. early_none n (session_of m0 d tables) m0.store.asked m2.store.asked [] (ap (λ (m : Machine R). m.store.asked) same) few;
   }
 
   -- a statement was stopped
@@ -238,20 +236,32 @@ module _ {R : Type 0} (state : R → RevState) where
         ];
       }
 
-  stopped_part : (m0 m2 : Machine R) (tables : Tables) (text : List ℕ) (run : RunStop) (part : List ℕ) → IsFlat (public_of m0.engine) → (cut : CutStep state m0 m2 text run part)
+  -- at a full stash nothing was emitted, so nothing is printed
+  nothing_printed : (run : RunStop) (part : List ℕ) (events : List Event) → run ≡ Runs.StashFull → events ≡ [] → PrintsUntil (session_stop run) part (events_text events) → part ≡ []
+  unfolding events_text
+  nothing_printed run part events stash none printed =
+      let as_text : part ≡ events_text events = subst (λ (r : RunStop). PrintsUntil (session_stop r) part (events_text events)) stash printed in
+      as_text ∙ ap events_text none
+
+  stopped_part : (m0 m2 : Machine R) (tables : Tables) (text : List ℕ) (run : RunStop) (part : List ℕ) → (d : Draws) → AreDraws m0.engine d → (cut : CutStep state m0 m2 text run part)
       → ReadsTrueUntil state m0.engine m0.store m2.engine m2.store tables
-      → BeginsAnswer (Ran (Err (session_stop run))) (session_of m0 tables) (Ok cut.stmt) (record { skeleton = skeleton cut.stmt; seen = seen_of m2.engine } ∷ []) part
-  stopped_part m0 m2 tables text run part flat cut reads =
+      → BeginsAnswer (Ran (Err (session_stop run))) (session_of m0 d tables) (Ok cut.stmt) (record { skeleton = skeleton cut.stmt; seen = seen_of m2.engine } ∷ []) part
+  stopped_part m0 m2 tables text run part d drawn cut reads =
       let n = length m2.store.asked - length m0.store.asked in
-      let seen_is = cut.does.means.held tables undrawn reads in
+      let seen_is = cut.does.means.held tables d drawn reads in
       inl (record {
-        started = cut_early state m0 m2 tables cut.stmt (Err run) flat cut.does (is_refused run) n seen_is reads.held;
+        started = cut_early state m0 m2 tables cut.stmt (Err run) d cut.does (is_refused run) n seen_is reads.held;
         n = n;
-        within = cut_within state m0 m2 tables cut.stmt (Err run) flat cut.does (is_refused run) n seen_is;
-        seen = subst (λ (failed : Bool). seen_of m2.engine ≡ cut_at failed n (public_of m0.engine) (skeleton cut.stmt) (seen_now (session_of m0 tables) cut.stmt)) (tampered_as run) seen_is;
+        within = cut_within state m0 m2 tables cut.stmt (Err run) d cut.does (is_refused run) n seen_is;
+        seen = subst (λ (failed : Bool). seen_of m2.engine ≡ cut_at failed n (public_of m0.engine) (skeleton cut.stmt) (seen_now (session_of m0 d tables) cut.stmt)) (tampered_as run) seen_is;
         events = cut.events;
         begun = cut.emitted tables reads;
         printed = cut.printed;
+        full = λ is.
+            let told = cut.does.means.full tables d drawn reads in
+            let stash : run ≡ Runs.StashFull = only_stash run (cc is) in
+            (told.full stash, told.reads stash, nothing_printed run part cut.events stash (cut.silent stash) cut.printed);
+        bound = (cut.does.means.full tables d drawn reads).bound;
       })
 
   walked_cut : (Failed : Type 0) (m0 m2 : Machine R) (text : List ℕ) (more : List (List ℕ)) (run : RunStop) (part : List ℕ) → CutStep state m0 m2 text run part
@@ -279,26 +289,28 @@ module _ {R : Type 0} (state : R → RevState) where
         public = refl;
         unfailed = λ not. absurd (cc (ap is_cut cut.does.ran.ends, or_first (is_cut here.end) false not));
         lie = cut.does.ran.later.lie;
-        meant = λ flat tells calm unfit tables held. ([], stopped_part m0 m2 tables text run part flat cut (record { tells = tells; held = held; calm = calm; unfit = unfit }), λ whole. absurd whole);
-        untampered = λ flat tells tables held honest. stop_untampered run (cut.does.means.honest tables (record { tells = tells; held = held; nolie = honest }));
-        early = λ flat tells steady tables held n before few. early_one m0 m2 tables cut.stmt (Err run) n _ flat cut.does tells steady held before few;
+        meant = λ d drawn tells calm unfit tables held. ([], stopped_part m0 m2 tables text run part d drawn cut (record { tells = tells; held = held; calm = calm; unfit = unfit }), λ whole. absurd whole);
+        untampered = λ d drawn tells tables held honest. stop_untampered run (cut.does.means.honest tables (record { tells = tells; held = held; nolie = honest }));
+        early = λ d drawn tells steady tables held n before few. early_one m0 m2 tables cut.stmt (Err run) n _ d drawn cut.does tells steady held before few;
       }
 
   -- how the model answers a statement that was answered
-  pub record AnsweredBy (m0 m1 : Machine R) (tables : Tables) (stmt : Stmt) (one : Answer) : Type 0 where
+  pub record AnsweredBy (m0 m1 : Machine R) (d : Draws) (tables : Tables) (stmt : Stmt) (one : Answer) : Type 0 where
+    pub room : is_full_now (session_of m0 d tables) stmt ≡ false
     pub how : Option ℕ
-    pub cuts : IsCutOff how (session_of m0 tables) stmt
-    pub answer : AnswersIn how (session_of m0 tables) stmt one
-    pub seen : seen_of m1.engine ≡ seen_or_cut how (session_of m0 tables) stmt
-    pub held : Represents state m1.engine m1.store (after how (session_of m0 tables) stmt).tables
+    pub cuts : IsCutOff how (session_of m0 d tables) stmt
+    pub answer : AnswersIn how (session_of m0 d tables) stmt one
+    pub seen : seen_of m1.engine ≡ seen_or_cut how (session_of m0 d tables) stmt
+    pub held : Represents state m1.engine m1.store (after how (session_of m0 d tables) stmt).tables
     pub whole : m1.store.faults ≡ 0 → how ≡ None
 
-  pub answered_by : (m0 m1 : Machine R) (tables : Tables) (text : List ℕ) (one : Answer) (did : ServedStatement state m0 m1 text one) → IsFlat (public_of m0.engine) → ReadsTrue state m0.engine m0.store m1.store tables
-      → AnsweredBy m0 m1 tables did.stmt one
-  answered_by m0 m1 tables text one did flat reads =
+  pub answered_by : (m0 m1 : Machine R) (tables : Tables) (text : List ℕ) (one : Answer) (did : ServedStatement state m0 m1 text one) → (d : Draws) → AreDraws m0.engine d → ReadsTrue state m0.engine m0.store m1.store tables
+      → AnsweredBy m0 m1 d tables did.stmt one
+  answered_by m0 m1 tables text one did d drawn reads =
       let n = length m1.store.asked - length m0.store.asked in
-      elim (outcome_cases one.outcome _ _ _ _ (did.does.means.told tables undrawn reads) (did.emitted tables reads)) [
+      elim (outcome_cases one.outcome _ _ _ _ (did.does.means.told tables d drawn reads) (did.emitted tables reads)) [
         | inl both ↦ record {
+          room = did.does.means.room tables d drawn reads;
           how = None;
           cuts = tt;
           answer = record { outcome = both.0.answer; events = did.events; prints = both.1; bytes = did.printed };
@@ -308,12 +320,13 @@ module _ {R : Type 0} (state : R → RevState) where
         }
         | inr by ↦ let some : length m0.store.asked < length m1.store.asked = did.does.ran.asks (ap is_fault by.is) in
             record {
+              room = did.does.means.room tables d drawn reads;
               how = Some n;
               cuts = (
-                cut_early state m0 m1 tables did.stmt _ flat did.does true n by.told.seen reads.held,
-                no_access tables did.stmt (held_flat state m0 tables flat reads.held),
+                cut_early state m0 m1 tables did.stmt _ d did.does true n by.told.seen reads.held,
+                by.told.unindexed,
                 omega (arith, some),
-                cut_within state m0 m1 tables did.stmt _ flat did.does true n by.told.seen,
+                cut_within state m0 m1 tables did.stmt _ d did.does true n by.told.seen,
               );
               answer = record { outcome = by.is; events = did.events; unfinished = by.too; bytes = did.printed };
               seen = by.told.seen;
@@ -355,11 +368,11 @@ module _ {R : Type 0} (state : R → RevState) where
         public = refl;
         unfailed = λ not. same_by one.outcome (world m0) (world m2) here.end _ did.does.ran.cause did.does.ran.ends (or_first (is_cut here.end) false not);
         lie = did.does.ran.later.lie;
-        meant = λ flat tells calm unfit tables held.
-            let by = answered_by m0 m2 tables text one did flat (reads_true m0 m2 tables text one did tells held calm unfit) in
-            ([], inr (record { broken = by.how; cuts = by.cuts; seen = by.seen; answer = one; answers = by.answer; whole = is }), λ whole. absurd whole);
-        untampered = λ flat tells tables held honest. stop_untampered run (sink_untampered run fault);
-        early = λ flat tells steady tables held n before few. early_one m0 m2 tables did.stmt (Ok one.outcome) n _ flat did.does tells steady held before few;
+        meant = λ d drawn tells calm unfit tables held.
+            let by = answered_by m0 m2 tables text one did d drawn (reads_true m0 m2 tables text one did tells held calm unfit) in
+            ([], inr (record { room = by.room; broken = by.how; cuts = by.cuts; seen = by.seen; answer = one; answers = by.answer; whole = is }), λ whole. absurd whole);
+        untampered = λ d drawn tells tables held honest. stop_untampered run (sink_untampered run fault);
+        early = λ d drawn tells steady tables held n before few. early_one m0 m2 tables did.stmt (Ok one.outcome) n _ d drawn did.does tells steady held before few;
       }
 
   refused_is : (m0 m1 : Machine R) (text : List ℕ) (one : Answer) → (bad : Misspelt m0 m1 text one) → one ≡ refused_at bad.at
@@ -387,16 +400,16 @@ module _ {R : Type 0} (state : R → RevState) where
     public = refl;
     unfailed = λ not. ap (λ (m : Machine R). m.store.faults) bad.same;
     lie = λ lie it. ap (λ (m : Machine R). m.store.lie) bad.same ∙ it;
-    meant = λ flat tells calm unfit tables held.
+    meant = λ d drawn tells calm unfit tables held.
         ([], is ∙ ap (λ (a : Answer). a.bytes) (refused_is m0 m2 text one bad), λ whole. subst (λ (m : Machine R). Represents state m.engine m.store tables) (sym bad.same) held);
-    untampered = λ flat tells tables held honest. fine;
-    early = λ flat tells steady tables held n before few. early_refused n (session_of m0 tables) m0.store.asked m2.store.asked bad.at [] [] refl (early_none n (session_of m0 tables) m0.store.asked m2.store.asked [] (ap (λ (m : Machine R). m.store.asked) bad.same) few);
+    untampered = λ d drawn tells tables held honest. fine;
+    early = λ d drawn tells steady tables held n before few. early_refused n (session_of m0 d tables) m0.store.asked m2.store.asked bad.at [] [] refl (early_none n (session_of m0 d tables) m0.store.asked m2.store.asked [] (ap (λ (m : Machine R). m.store.asked) bad.same) few);
   }
 
   walked_part : (Failed : Type 0) (m1 m2 : Machine R) (more : List (List ℕ)) (run : RunStop) (part : List ℕ) → (Rises m1.store.faults m2.store.faults → Failed) → PartlyAt state m1 m2 more run part
       → Walked (Ran (Err (session_stop run))) Failed m1 m1 m2 [] more [] part
-  walked_part Failed m1 m2 [] run part rose idle = walked_none _ Failed m1 m2 [] part idle.rests.machine idle.rests.none (stop_untampered run idle.untampered)
-  walked_part Failed m1 m2 (text ∷ more) run part rose (inl idle) = walked_none _ Failed m1 m2 (text ∷ more) part idle.rests.machine idle.rests.none (stop_untampered run idle.untampered)
+  walked_part Failed m1 m2 [] run part rose idle = walked_none _ Failed m1 m2 [] part idle.rests.machine idle.rests.none (stop_untampered run (memory_untampered run idle.memory))
+  walked_part Failed m1 m2 (text ∷ more) run part rose (inl idle) = walked_none _ Failed m1 m2 (text ∷ more) part idle.rests.machine idle.rests.none (stop_untampered run (memory_untampered run idle.memory))
   walked_part Failed m1 m2 (text ∷ more) run part rose (inr (inl cut)) = walked_cut Failed m1 m2 text more run part cut
   walked_part Failed m1 m2 (text ∷ more) run part rose (inr (inr done)) = elim done.step.done [
     | inl bad ↦ walked_refused _ Failed m1 m2 text more done.answer part done.whole bad (stop_untampered run (sink_untampered run done.fault))
@@ -434,11 +447,11 @@ module _ {R : Type 0} (state : R → RevState) where
         public = rest.public;
         unfailed = rest.unfailed;
         lie = rest.lie;
-        meant = λ flat tells calm unfit tables held. let from = rest.meant flat tells calm unfit tables held in (None ∷ from.0, (refused_is m0 m1 text one bad, from.1), from.2);
+        meant = λ d drawn tells calm unfit tables held. let from = rest.meant d drawn tells calm unfit tables held in (None ∷ from.0, (refused_is m0 m1 text one bad, from.1), from.2);
         untampered = rest.untampered;
-        early = λ flat tells steady tables held n before few.
-            early_answered n (session_of m0 tables) m0.store.asked m2.store.asked bad.at rest.spelt one answers (rest.seen ++ rest.last) (refused_is m0 m1 text one bad)
-            (rest.early flat tells steady tables held n before few);
+        early = λ d drawn tells steady tables held n before few.
+            early_answered n (session_of m0 d tables) m0.store.asked m2.store.asked bad.at rest.spelt one answers (rest.seen ++ rest.last) (refused_is m0 m1 text one bad)
+            (rest.early d drawn tells steady tables held n before few);
       }
 
   -- no lie was told before
@@ -448,50 +461,51 @@ module _ {R : Type 0} (state : R → RevState) where
 
   -- one statement more, and then those of which the rest tells
   early_served : (m0 m1 m2 : Machine R) (tables : Tables) (text : List ℕ) (one : Answer) (did : ServedStatement state m0 m1 text one) (n : ℕ) (spelt : List Spelt) (answers : List Answer) (seen : List Entry)
-      → IsFlat (public_of m0.engine) → IsTrue m0.store.tells → IsSteady m0.store → Represents state m0.engine m0.store tables → IsBefore m0.store.disturbed n → length m0.store.asked ≤ n
+      → (d : Draws) → AreDraws m0.engine d → IsTrue m0.store.tells → IsSteady m0.store → Represents state m0.engine m0.store tables → IsBefore m0.store.disturbed n → length m0.store.asked ≤ n
       → (asked : List Access) → m2.store.asked ≡ m1.store.asked ++ asked
-      → ((after_it : Tables) → Represents state m1.engine m1.store after_it → length m1.store.asked ≤ n → EarlyFrom n (session_of m1 after_it) m1.store.asked m2.store.asked spelt answers seen)
-      → EarlyFrom n (session_of m0 tables) m0.store.asked m2.store.asked (Ok did.stmt ∷ spelt) (one ∷ answers) (record { skeleton = skeleton did.stmt; seen = seen_of m1.engine } ∷ seen)
+      → ((later : Draws) → AreDraws m1.engine later → (after_it : Tables) → Represents state m1.engine m1.store after_it → length m1.store.asked ≤ n
+      → EarlyFrom n (session_of m1 later after_it) m1.store.asked m2.store.asked spelt answers seen)
+      → EarlyFrom n (session_of m0 d tables) m0.store.asked m2.store.asked (Ok did.stmt ∷ spelt) (one ∷ answers) (record { skeleton = skeleton did.stmt; seen = seen_of m1.engine } ∷ seen)
   unfolding MeantUntil
-  early_served m0 m1 m2 tables text one did n spelt answers seen flat tells steady held before few asked grew rest =
-      let s = session_of m0 tables in
+  early_served m0 m1 m2 tables text one did n spelt answers seen d drawn tells steady held before few asked grew rest =
+      let s = session_of m0 d tables in
       let p = public_of m0.engine in
       let sk = skeleton did.stmt in
-      let part = meant_script undrawn p (asked_of m0) tables did.stmt in
-      let tail = trace (after None s did.stmt).public (all_served (after None s did.stmt) spelt []) in
-      let all : trace p (all_served s (Ok did.stmt ∷ spelt) []) ≡ part ++ tail = ap (trace p) (served_room s did.stmt spelt [] (room_flat s did.stmt (held_flat state m0 tables flat held))) in
       let later = did.does.ran.later in
       let asked_is : length m1.store.asked ≡ length m0.store.asked + length (script p sk (seen_of m1.engine)) = ap length did.does.ran.asked ∙ length-append m0.store.asked (script p sk (seen_of m1.engine)) in
-      let cross = crosses state m0 m1 tables did.stmt (Ok one.outcome) flat did.does tells steady held n before few in
-      let split : m0.store.asked ++ trace p (all_served s (Ok did.stmt ∷ spelt) []) ≡ (m0.store.asked ++ part) ++ tail =
-      ap (λ (l : List Access). m0.store.asked ++ l) all ∙ sym (append_assoc m0.store.asked part tail) in
+      let cross = crosses state m0 m1 d drawn tables did.stmt (Ok one.outcome) did.does tells steady held n before few in
+      let first = asks_first s did.stmt spelt in
+      let split : m0.store.asked ++ trace p (all_served s (Ok did.stmt ∷ spelt) []) ≡ (m0.store.asked ++ met_script s did.stmt) ++ first.tail =
+      ap (λ (l : List Access). m0.store.asked ++ l) first.asks ∙ sym (append_assoc m0.store.asked (met_script s did.stmt) first.tail) in
       elim (few_or_more (length m1.store.asked) n) [
         | inl within ↦
             let quiet = (later.steady steady).quiet (before_less m1.store.disturbed (length m1.store.asked) n within (subst (λ (o : Option (List Disturbance)). IsBefore o n) (sym later.disturbed) before)) in
-            let by = answered_by m0 m1 tables text one did flat (record { tells = tells; held = held; nolie = quiet.lie }) in
+            let by = answered_by m0 m1 tables text one did d drawn (record { tells = tells; held = held; nolie = quiet.lie }) in
             let whole : by.how ≡ None = by.whole quiet.faults in
             let seen_is : seen_of m1.engine ≡ seen_now s did.stmt = by.seen ∙ ap (λ (o : Option ℕ). seen_or_cut o s did.stmt) whole in
             let answer : AnswersIn None s did.stmt one = subst (λ (o : Option ℕ). AnswersIn o s did.stmt one) whole by.answer in
-            let after_it = (after None s did.stmt).tables in
-            let held_there : Represents state m1.engine m1.store after_it = subst (λ (o : Option ℕ). Represents state m1.engine m1.store (after o s did.stmt).tables) whole by.held in
-            let stands : after None s did.stmt ≡ session_of m1 after_it = stands_after state m0 m1 tables text one did None after_it flat tt seen_is refl in
-            let there = rest after_it held_there within in
-            let joined : m1.store.asked ++ trace (public_of m1.engine) (all_served (session_of m1 after_it) spelt []) ≡ m0.store.asked ++ trace p (all_served s (Ok did.stmt ∷ spelt) []) =
-            (λ i. (did.does.ran.asked ∙ ap (λ (x : Seen). m0.store.asked ++ script p sk x) seen_is) i ++ trace (sym stands i).public (all_served (sym stands i) spelt [])) ∙ sym split in
+            let behind = after None s did.stmt in
+            let held_there : Represents state m1.engine m1.store behind.tables = subst (λ (o : Option ℕ). Represents state m1.engine m1.store (after o s did.stmt).tables) whole by.held in
+            let stands : behind ≡ session_of m1 behind.draws behind.tables = stands_after state m0 m1 d tables text one did None seen_is in
+            let there = rest behind.draws (draws_after state m0 m1 d tables text one did None seen_is drawn) behind.tables held_there within in
+            let all : trace p (all_served s (Ok did.stmt ∷ spelt) []) ≡ script p sk (seen_now s did.stmt) ++ trace behind.public (all_served behind spelt []) = ap (trace p) (served_room s did.stmt spelt [] by.room) in
+            let joined : m1.store.asked ++ trace (public_of m1.engine) (all_served (session_of m1 behind.draws behind.tables) spelt []) ≡ m0.store.asked ++ trace p (all_served s (Ok did.stmt ∷ spelt) []) =
+            (λ i. (did.does.ran.asked ∙ ap (λ (x : Seen). m0.store.asked ++ script p sk x) seen_is) i ++ trace (sym stands i).public (all_served (sym stands i) spelt []))
+            ∙ append_assoc m0.store.asked (script p sk (seen_now s did.stmt)) (trace behind.public (all_served behind spelt [])) ∙ ap (λ (l : List Access). m0.store.asked ++ l) (sym all) in
             record {
-              meant = λ few_here. (answer, seen_is, subst (λ (x : Session). MeantUntil n x spelt answers seen) (sym stands) there.meant);
+              meant = λ few_here. (by.room, answer, seen_is, subst (λ (x : Session). MeantUntil n x spelt answers seen) (sym stands) there.meant);
               begins = subst (λ (l : List Access). Begins (take n m2.store.asked) l) joined there.begins;
               quiet = λ le. there.quiet (subst (λ (l : List Access). length l ≤ n) (sym joined) le);
             }
         | inr more ↦
-            let first : take n m2.store.asked ≡ take n m1.store.asked = ap (take n) grew ∙ take-append-le n m1.store.asked asked (omega (arith, more)) in
+            let part : take n m2.store.asked ≡ take n m1.store.asked = ap (take n) grew ∙ take-append-le n m1.store.asked asked (omega (arith, more)) in
             record {
               meant = λ few_here. absurd (omega (arith, few_here, asked_is, more));
-              begins = subst (λ (l : List Access). Begins l (m0.store.asked ++ trace p (all_served s (Ok did.stmt ∷ spelt) []))) (sym first)
-                  (subst (λ (l : List Access). Begins (take n m1.store.asked) l) (sym split) (begins_more (take n m1.store.asked) (m0.store.asked ++ part) tail cross.begins));
+              begins = subst (λ (l : List Access). Begins l (m0.store.asked ++ trace p (all_served s (Ok did.stmt ∷ spelt) []))) (sym part)
+                  (subst (λ (l : List Access). Begins (take n m1.store.asked) l) (sym split) (begins_more (take n m1.store.asked) (m0.store.asked ++ met_script s did.stmt) first.tail cross.begins));
               quiet = λ le. absurd (
                   let most = ap length split in
-                  let long = length-append (m0.store.asked ++ part) tail in
+                  let long = length-append (m0.store.asked ++ met_script s did.stmt) first.tail in
                   let within = cross.within (omega (arith, le, most, long)) in omega (arith, within, more));
             }
       ]
@@ -550,14 +564,15 @@ module _ {R : Type 0} (state : R → RevState) where
             rest.unfailed (or_rest (is_cut here.end) (any_cut all) not)
             ∙ same_by one.outcome (world m0) (world m1) here.end _ did.does.ran.cause did.does.ran.ends (or_first (is_cut here.end) (any_cut all) not);
         lie = λ lie it. rest.lie lie (did.does.ran.later.lie lie it);
-        meant = λ flat tells calm unfit tables held.
-            let by = answered_by m0 m1 tables text one did flat (reads_true m0 m1 tables text one did tells held calm (unfit_before m1 m2 rest.keys rest.start rest.lie unfit)) in
-            let after_it = (after by.how (session_of m0 tables) did.stmt).tables in
-            let from = rest.meant (does_flat state m0 m1 did.stmt _ did.does flat) (subst (λ (b : Bool). IsTrue b) (sym did.does.ran.later.tells) tells) (did.does.ran.cause.1 calm) unfit after_it by.held in
-            let stands = stands_after state m0 m1 tables text one did by.how after_it flat by.cuts by.seen refl in
-            let behind = after_room (session_of m0 tables) did.stmt rest.spelt (by.how ∷ from.0) (room_flat (session_of m0 tables) did.stmt (held_flat state m0 tables flat held)) in (
+        meant = λ d drawn tells calm unfit tables held.
+            let by = answered_by m0 m1 tables text one did d drawn (reads_true m0 m1 tables text one did tells held calm (unfit_before m1 m2 rest.keys rest.start rest.lie unfit)) in
+            let behind_it = after by.how (session_of m0 d tables) did.stmt in
+            let from = rest.meant behind_it.draws (draws_after state m0 m1 d tables text one did by.how by.seen drawn) (subst (λ (b : Bool). IsTrue b) (sym did.does.ran.later.tells) tells) (did.does.ran.cause.1 calm) unfit behind_it.tables by.held in
+            let stands = stands_after state m0 m1 d tables text one did by.how by.seen in
+            let behind = after_room (session_of m0 d tables) did.stmt rest.spelt (by.how ∷ from.0) by.room in (
               by.how ∷ from.0,
               (
+                by.room,
                 by.cuts,
                 by.answer,
                 by.seen,
@@ -567,13 +582,15 @@ module _ {R : Type 0} (state : R → RevState) where
                   subst (λ (s : Session). Represents state m2.engine m2.store s.tables) (sym behind)
                   (subst (λ (s : Session). Represents state m2.engine m2.store (after_all s rest.spelt from.0).tables) (sym stands) (from.2 whole)),
             );
-        untampered = λ flat tells tables held honest.
+        untampered = λ d drawn tells tables held honest.
             let none : m1.store.lie ≡ None = none_before m1.store.lie m1 m2 refl rest.lie honest in
-            let by = answered_by m0 m1 tables text one did flat (record { tells = tells; held = held; nolie = none }) in
-            rest.untampered (does_flat state m0 m1 did.stmt _ did.does flat) (subst (λ (b : Bool). IsTrue b) (sym did.does.ran.later.tells) tells) (after by.how (session_of m0 tables) did.stmt).tables by.held honest;
-        early = λ flat tells steady tables held n before few.
-            early_served m0 m1 m2 tables text one did n rest.spelt answers all flat tells steady held before few (trace (public_of m1.engine) all) rest.asked
-            (λ after_it held_after few_there. rest.early (does_flat state m0 m1 did.stmt _ did.does flat) (subst (λ (b : Bool). IsTrue b) (sym did.does.ran.later.tells) tells) (did.does.ran.later.steady steady) after_it held_after n
+            let by = answered_by m0 m1 tables text one did d drawn (record { tells = tells; held = held; nolie = none }) in
+            let behind_it = after by.how (session_of m0 d tables) did.stmt in
+            rest.untampered behind_it.draws (draws_after state m0 m1 d tables text one did by.how by.seen drawn) (subst (λ (b : Bool). IsTrue b) (sym did.does.ran.later.tells) tells) behind_it.tables by.held honest;
+        early = λ d drawn tells steady tables held n before few.
+            early_served m0 m1 m2 tables text one did n rest.spelt answers all d drawn tells steady held before few (trace (public_of m1.engine) all) rest.asked
+            (λ later drawn_later after_it held_after few_there.
+            rest.early later drawn_later (subst (λ (b : Bool). IsTrue b) (sym did.does.ran.later.tells) tells) (did.does.ran.later.steady steady) after_it held_after n
             (subst (λ (o : Option (List Disturbance)). IsBefore o n) (sym did.does.ran.later.disturbed) before) few_there);
       }
 

@@ -10,7 +10,7 @@ use Rattle.ob_headline.specs.Failures.{RisesBy, failures}
 use Rattle.ob_headline.specs.Headline.{Headline}
 use Rattle.ob_headline.specs.Settings.{MeddleParses, ParsesChanges, settings_of}
 use Rattle.ob_headline.specs.Usage.{is_traced, meddle_usage}
-use Rattle.ob_headline.specs.Words.{Answer, Faults, IsHonest, Outside}
+use Rattle.ob_headline.specs.Words.{Answer, Faults, IsHonest, Outside, keys_in}
 use Rattle.ob_headline.specs.declared.ending.Report.{Report}
 use Rattle.ob_meddle.specs.Due.{are_later, disturbances, failed_among, has_acted, is_fail}
 use Rattle.ob_meddle.specs.Shows.{Shows, list_of}
@@ -42,6 +42,7 @@ pub record Undisturbed (answers : List Answer) (start end : StoreState)
     (report : Report) : Type 0 where
   pub honest : IsHonest start end
   pub untampered : report.status ≢ 4
+  pub sound : report.status ≢ 3
   pub unfailed : failures answers ≡ 0
 
 -- the store before its first access: no read lied and no region lives; it tells what it holds, and these changes
@@ -63,11 +64,12 @@ pub record Meddled (words : List Text) (old : StoreState → Outside) (new : Out
       (is_traced meddle_usage words) (old start) new report
   -- until the first change all is as it is meant
   pub always : (n : ℕ) → are_later (list_of store) n ≡ true
-      → Until (settings_of meddle_usage words) n headline.story.spelt headline.story.answers
+      → Until (settings_of meddle_usage words) (keys_in headline.taken) n headline.story.spelt headline.story.answers
       (headline.story.seen ++ headline.story.last) new.store.asked
   -- so is the whole run, where all changes come behind the accesses that its statements ask by their meaning
   pub undisturbed : (n : ℕ) → are_later (list_of store) n ≡ true
-      → length (meant_trace (settings_of meddle_usage words) headline.story.spelt) ≤ n
+      → length (meant_trace (settings_of meddle_usage words) (keys_in headline.taken)
+      headline.story.spelt) ≤ n
       → Undisturbed headline.story.answers start new.store report
   -- where accesses fail and no block is changed
   pub unchanged : IsTrue (list_all (λ m. is_fail m.act) (list_of store))

@@ -3,7 +3,7 @@ use Rattle.std.specs.Prelude.{ℕ, ◌≡◌, ◌+◌, ◌≤◌, ◌<◌, ◌�
 use Rattle.std.specs.Io.KnownBytes.{Appends, Consumes, IsAtEnd}
 use Rattle.ob_base.specs.Counts.{Rises}
 use Rattle.ob_base.specs.declared.refusal.Stop.{Stop}
-use Rattle.ob_base.specs.declared.refusal.Stop.TheVariants.{Tampered, SourceFault, SinkFault, NoMemory, InputLimit}
+use Rattle.ob_base.specs.declared.refusal.Stop.TheVariants.{Tampered, SourceFault, SinkFault, NoMemory, InputLimit, StoreFault, StashFull}
 use Rattle.ob_exec.specs.Agreeing.{high_of}
 use Rattle.ob_exec.specs.Stops.{session_stop}
 use Rattle.ob_exec.specs.declared.engine.Engine.{Engine}
@@ -37,6 +37,8 @@ StoppedBy Run AtFault AtLimit SinkFault = Run Runs.SinkFault
 StoppedBy Run AtFault AtLimit NoMemory = Run Runs.NoMemory
 StoppedBy Run AtFault AtLimit SourceFault = AtFault
 StoppedBy Run AtFault AtLimit InputLimit = AtLimit
+StoppedBy Run AtFault AtLimit StoreFault = Run Runs.StoreFault
+StoppedBy Run AtFault AtLimit StashFull = Run Runs.StashFull
 
 -- the stop, whether or not its line may still be written
 abbrev pub stop_of : {T : Type 0} → Result T Halted → Result T Stop
@@ -60,8 +62,8 @@ Silenced false old new = (new.out ≡ old.out) × (new.trace ≡ old.trace)
 abbrev pub OutFailed : (quiet : Bool) → (old new : ℕ) → Type 0
 OutFailed quiet old new = (quiet ≡ true) × Rises old new
 
--- when each stop comes: only where that count rose; those of the sinks may have risen behind a stop by a block or for want
--- of memory
+-- when each stop comes: only where that count rose; those of the sinks may have risen behind a stop by a block, for want of
+-- memory, by the store or for a full stash
 abbrev pub StopCause : {T : Type 0} (old new : Faults) → Result T Stop → Type 0
 StopCause old new (Ok x) = NoneRose old new
 StopCause old new (Err (Tampered region place)) = (new.source ≡ old.source)
@@ -72,6 +74,10 @@ StopCause old new (Err NoMemory) = (new.source ≡ old.source) × (old.out ≤ n
 StopCause old new (Err SourceFault) = Rises old.source new.source × (new.out ≡ old.out)
     × (new.trace ≡ old.trace)
 StopCause old new (Err InputLimit) = NoneRose old new
+StopCause old new (Err StoreFault) = (new.source ≡ old.source) × (old.out ≤ new.out)
+    × (old.trace ≤ new.trace)
+StopCause old new (Err StashFull) = (new.source ≡ old.source) × (old.out ≤ new.out)
+    × (old.trace ≤ new.trace)
 
 -- what was done while no stop came
 pub record SoFar {R : Type 0} (state : R → RevState) (feed0 feed1 : Fetch)
@@ -99,6 +105,8 @@ EndsBy feed1 ended bytes more part (Err InputLimit) =
 EndsBy feed1 ended bytes more part (Err (Tampered region place)) = Unit {0}
 EndsBy feed1 ended bytes more part (Err SinkFault) = Unit {0}
 EndsBy feed1 ended bytes more part (Err NoMemory) = Unit {0}
+EndsBy feed1 ended bytes more part (Err StoreFault) = Unit {0}
+EndsBy feed1 ended bytes more part (Err StashFull) = Unit {0}
 
 -- what was done after the last text that was served whole
 abbrev pub LastPart : {R : Type 0} → (R → RevState) → Machine R → Machine R → List (List ℕ) → List ℕ

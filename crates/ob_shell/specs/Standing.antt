@@ -4,14 +4,15 @@ use Rattle.std.specs.List.{list_any}
 use Rattle.ob_base.specs.Stored.{headings_of}
 use Rattle.ob_base.specs.declared.access.Access.{Access}
 use Rattle.ob_base.specs.declared.config.Config.{Config}
-use Rattle.ob_exec.specs.Agreeing.{count_of, engine_keys, engine_start, high_of, public_of, rows_of, world_of}
+use Rattle.ob_exec.specs.Agreeing.{AreDraws, count_of, first_draws, engine_keys, engine_start, high_of, public_of, rows_of, world_of}
 use Rattle.ob_select.specs.Opening.{is_of_rows}
 use Rattle.ob_select.specs.Selecting.{AcceptsRows}
 use Rattle.ob_exec.specs.Telling.{Represents}
 use Rattle.ob_exec.specs.declared.engine.Engine.{Engine}
-use Rattle.ob_headline.specs.Bases.{Base, FromEach, said_of, start}
+use Rattle.ob_headline.specs.Bases.{Base, FromEach, drawing, said_of, start}
 use Rattle.ob_headline.specs.Sealing.{PassesFrom}
 use Rattle.ob_mean.specs.Flats.{AreFlat}
+use Rattle.ob_seal.specs.KeySet.{KeySet}
 use Rattle.ob_seal.specs.Sealed.{keys_of}
 use Rattle.ob_shell.specs.Steps.{machine_of, session_of}
 use Rattle.ob_store.specs.Calls.{IsBefore, IsSteady}
@@ -24,12 +25,12 @@ abbrev pub IsUsed : List Access → ℕ → Type 0
 IsUsed asked high = IsTrue (list_any is_of_rows asked) → 1 ≤ high
 
 -- nothing was asked, there are no tables, and the store says what others do
-pub record IsFirst {R : Type 0} (state : R → RevState) (settings : Option Config) (e : Engine R)
-    (s : StoreState) : Type 0 where
+pub record IsFirst {R : Type 0} (state : R → RevState) (settings : Option Config) (keys : KeySet)
+    (e : Engine R) (s : StoreState) : Type 0 where
   pub steady : IsSteady s
   pub unasked : s.asked ≡ []
   pub nothing : Represents state e s []
-  pub here : session_of (machine_of e s) [] ≡ start settings
+  pub here : session_of (machine_of e s) (first_draws keys) [] ≡ drawing keys (start settings)
 
 -- an engine and its store are those that a base tells of, with the keys of a secret; no table is an index
 pub record StandsOn {R : Type 0} (state : R → RevState) (base : Base) (config : Config)
@@ -39,11 +40,13 @@ pub record StandsOn {R : Type 0} (state : R → RevState) (base : Base) (config 
   pub flat : AreFlat (headings_of base.public.tables)
   pub pack : base.public.pack ≡ config.pack
   pub buffer : base.public.buffer ≡ config.buffer
+  pub keep : base.public.keep ≡ config.keep
   pub rows : rows_of e ≡ config.buffer
   pub count : count_of e s ≡ base.count
   pub start : engine_start e ≡ base.start
   pub asked : s.asked ≡ base.before
   pub keyed : engine_keys e ≡ keys_of key
+  pub drawn : AreDraws e (first_draws (keys_of key))
   pub calm : Calm (world_of state e s)
   pub used : IsUsed s.asked (high_of e)
   pub held : FromEach base (λ x. Represents state e s x.tables)
@@ -54,4 +57,4 @@ pub record StandsOn {R : Type 0} (state : R → RevState) (base : Base) (config 
   pub passes : (good : List ℕ → Bool) → PassesFrom base good
       → AcceptsRows (λ r. good) config.pack × AcceptsRows (λ r. good) 1
   pub early : (n : ℕ) → IsBefore (said_of base.opened s) n
-      → IsFirst state base.settings e s × IsBefore s.disturbed n
+      → IsFirst state base.settings (keys_of key) e s × IsBefore s.disturbed n

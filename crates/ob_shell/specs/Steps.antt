@@ -10,21 +10,20 @@ use Rattle.ob_exec.specs.Running.{RanStatement, RefusedEarly}
 use Rattle.ob_verdict.specs.Outcomes.{refusal_now, Emits, MayEmit, Partly}
 use Rattle.ob_exec.specs.Serving.{Means}
 use Rattle.ob_exec.specs.Stops.{session_stop}
-use Rattle.ob_exec.specs.Telling.{IsNotTampered, KeepsSealed, ReadsTrue, ReadsTrueUntil, Emitted, answer_labels}
+use Rattle.ob_exec.specs.Telling.{KeepsSealed, ReadsTrue, ReadsTrueUntil, Emitted, answer_labels}
 use Rattle.ob_exec.specs.declared.engine.Engine.{Engine}
 use Rattle.ob_verdict.specs.declared.outcome.Outcome.{Outcome}
 use Rattle.ob_verdict.specs.declared.outcome.Outcome.TheVariants.{Refused}
 use Rattle.ob_exec.specs.declared.stop.RunStop.{RunStop}
-use Rattle.ob_exec.specs.declared.stop.RunStop.TheVariants.{SinkFault, NoMemory}
+use Rattle.ob_exec.specs.declared.stop.RunStop.TheVariants.{SinkFault, NoMemory, StashFull}
 use Rattle.ob_gen.specs.declared.tally.Tally.{Tally}
-use Rattle.ob_headline.specs.Bases.{undrawn}
 use Rattle.ob_headline.specs.Closing.{closing_line}
 use Rattle.ob_headline.specs.Words.{Answer, printed}
 use Rattle.ob_headline.specs.Statements.{Spells}
 use Rattle.ob_headline.specs.Meaning.{PrintsUntil}
 use Rattle.ob_mean.specs.Lawful.{Lawful}
 use Rattle.ob_mean.specs.Replay.{Session}
-use Rattle.ob_mean.specs.Verdict.{Tables, verdict}
+use Rattle.ob_mean.specs.Verdict.{Draws, Tables, verdict}
 use Rattle.ob_print.specs.Cuts.{Outputs}
 use Rattle.ob_print.specs.Rows.{events_text}
 use Rattle.ob_shell.specs.Tallies.{tally_after}
@@ -60,13 +59,13 @@ pub record Misspelt {R : Type 0} (m0 m1 : Machine R) (text : List ℕ)
 abbrev pub asked_of : {R : Type 0} → Machine R → ℕ
 asked_of m = count_of m.engine m.store
 
--- the session of the model at which a machine stands that holds these tables
-abbrev pub session_of : {R : Type 0} → Machine R → Tables → Session
-session_of m tables = record {
+-- the session of the model at which a machine stands that holds these tables and draws so
+abbrev pub session_of : {R : Type 0} → Machine R → Draws → Tables → Session
+session_of m d tables = record {
   public = public_of m.engine;
   tables = tables;
   asked = asked_of m;
-  draws = undrawn;
+  draws = d;
 }
 
 -- the engine carried out a statement, whatever it answered
@@ -123,6 +122,8 @@ pub record CutStep {R : Type 0} (state : R → RevState) (m0 m1 : Machine R) (te
       → ReadsTrueUntil state m0.engine m0.store m1.engine m1.store tables
       → Partly (answer_labels stmt (public_of m0.engine))
       (verdict (public_of m0.engine) (asked_of m0) tables stmt) events
+  -- an access of an index emits nothing before it gives up for a full stash
+  pub silent : stop ≡ StashFull → events ≡ []
   pub printed : PrintsUntil (session_stop stop) bytes (events_text events)
 
 -- these texts were answered, in order
@@ -146,10 +147,10 @@ pub record Finished {R : Type 0} (state : R → RevState) (m0 m1 : Machine R) (t
   pub whole : bytes ≡ answer.bytes
   pub fault : stop ≡ SinkFault
 
--- nothing was done before a stop, which is none by a block
+-- nothing was done before a stop for want of memory
 pub record Idle {R : Type 0} (m0 m1 : Machine R) (stop : RunStop) (bytes : List ℕ) : Type 0 where
   pub rests : IsUndone m0 m1 bytes
-  pub untampered : IsNotTampered stop
+  pub memory : stop ≡ NoMemory
 
 -- what a stop left of the first of these texts
 abbrev pub PartlyAt : {R : Type 0} → (R → RevState) → Machine R → Machine R → List (List ℕ)

@@ -3,7 +3,7 @@ use Rattle.std.specs.Prelude.{ℕ, ◌≡◌, ◌≢◌, ◌+◌, ◌⊎◌, Boo
 use Rattle.std.specs.Io.KnownBytes.{Consumes, IsAtEnd}
 use Rattle.ob_base.specs.Counts.{Rises}
 use Rattle.ob_base.specs.declared.refusal.Stop.{Stop}
-use Rattle.ob_base.specs.declared.refusal.Stop.TheVariants.{Tampered, SourceFault, SinkFault, NoMemory, InputLimit}
+use Rattle.ob_base.specs.declared.refusal.Stop.TheVariants.{Tampered, SourceFault, SinkFault, NoMemory, InputLimit, StoreFault, StashFull}
 use Rattle.ob_gen.specs.declared.tally.Tally.{Tally}
 use Rattle.ob_headline.specs.Bases.{Base, FromEach}
 use Rattle.ob_headline.specs.Endings.{last_line, status_of}
@@ -40,6 +40,11 @@ EndsUntampered BadKey = Unit {0}
 EndsUntampered (Ran (Err (Tampered region place))) = ⊥
 EndsUntampered (Ran _) = Unit {0}
 
+-- nor one by the store
+abbrev pub EndsUnfaulted : Ending → Type 0
+EndsUnfaulted (Ran (Err StoreFault)) = ⊥
+EndsUnfaulted _ = Unit {0}
+
 -- a store of which nothing was asked
 pub record IsFresh (store : StoreState) : Type 0 where
   pub unasked : store.asked ≡ []
@@ -68,6 +73,7 @@ pub record Carried (tr : TraceSink) (base : Base) (secret : Option (List ℕ))
   pub untampered : FromEach base (λ s. IsHonest store0 store1 → EndsUntampered ending)
   pub at_read : (region place : ℕ) → ending ≡ Ran (Err (Tampered region place))
       → EndsAtRead region place store1.asked
+  pub faulted : ending ≡ Ran (Err StoreFault) → Rises store0.faults store1.faults
 
 -- what was done from this base after the first line, which was this secret
 pub record RanAfter {R : Type 0} (state : R → RevState) (tr : TraceSink) (base : Base)
@@ -102,6 +108,8 @@ RanSays (Err SourceFault) max taken ended more part = ReadUntilFault taken ended
 RanSays (Err SinkFault) max taken ended more part = HasSecret taken
 RanSays (Err NoMemory) max taken ended more part = Unit {0}
 RanSays (Err InputLimit) max taken ended more part = ReadToLimit max taken ended more part
+RanSays (Err StoreFault) max taken ended more part = HasSecret taken
+RanSays (Err StashFull) max taken ended more part = HasSecret taken
 
 -- what each ending says of the bytes taken, where the words were taken
 abbrev pub EndingSays : Ending → (max : ℕ) (taken : List ℕ) (left1 : Option (List ℕ)) (ended : Bool)
@@ -119,6 +127,8 @@ RanWords (Err SourceFault) Takes = Takes
 RanWords (Err SinkFault) Takes = Takes
 RanWords (Err NoMemory) Takes = Unit {0}
 RanWords (Err InputLimit) Takes = Takes
+RanWords (Err StoreFault) Takes = Takes
+RanWords (Err StashFull) Takes = Takes
 
 abbrev pub EndingWords : Ending → Type 0 → Type 0
 EndingWords Usage Takes = ¬ Takes
@@ -154,6 +164,8 @@ StatusCause (Ran (Err SourceFault)) old new = Rises old.source new.source
 StatusCause (Ran (Err SinkFault)) old new = (new.source ≡ old.source) × SinksRose old new
 StatusCause (Ran (Err NoMemory)) old new = new.source ≡ old.source
 StatusCause (Ran (Err InputLimit)) old new = new.source ≡ old.source
+StatusCause (Ran (Err StoreFault)) old new = new.source ≡ old.source
+StatusCause (Ran (Err StashFull)) old new = new.source ≡ old.source
 
 -- what was taken, what of it was served, and what the sink took of the answers and the last line
 pub record RunShown (tally : Tally) (tr : TraceSink) (base : Base)
@@ -192,4 +204,5 @@ pub record Reported (tally : Tally) (tr : TraceSink) (Takes : Type 0) (base : Ba
   pub completes : Takes → (input : List ℕ) → left0 ≡ Some input
       → KeepsLimits (limit_of base.settings) input
       → ¬ Rises old.source new.source → ¬ SinksRose old new
-      → FromEach base (λ s. IsCompleted (IsHonest store0 store1) ending)
+      → FromEach base (λ s. IsCompleted (IsHonest store0 store1)
+      (Rises store0.faults store1.faults) ending)

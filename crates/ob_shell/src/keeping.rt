@@ -1,13 +1,15 @@
 //! Runs whose tables are kept for the next one.
 ghost use Rattle.std.specs.Prelude.{◌≡◌, ◌≤◌, ◌<◌, ◌+◌, ◌^◌, ℕ, List, [], Err, IfErr, IfOk, Some, false, map, string_bytes, true};
 ghost use Rattle.ob_base.specs.declared.config.Config.{Config};
-ghost use Rattle.ob_exec.specs.Agreeing.{count_of, high_of};
+ghost use Rattle.ob_base.specs.Stored.{headings_of};
+ghost use Rattle.ob_exec.specs.Agreeing.{count_of, high_of, public_of};
 ghost use Rattle.ob_gen.specs.Tally.{empty_tally};
 ghost use Rattle.ob_headline.specs.Bases.{Base};
 ghost use Rattle.ob_headline.specs.Keeping;
 ghost use Rattle.ob_headline.specs.Settings.{IsTaken, settings_of};
 ghost use Rattle.ob_headline.specs.Usage.{is_kept, is_traced, kept_usage};
 ghost use Rattle.ob_headline.specs.Words.{faults_of, outside_of};
+ghost use Rattle.ob_mean.specs.Flats.{AreFlat};
 ghost use Rattle.ob_shell.specs.Closed.{LineWritten, Untouched, Unwritten};
 ghost use Rattle.ob_shell.specs.Engaging.{ClosesRun, EndsUnserved, Engages, FindsEngine};
 ghost use Rattle.ob_shell.specs.Engaging.{KeptConcludedBy, KeptGenerated, RanKept, ServesRun, StartsRun};
@@ -210,6 +212,7 @@ fn close_run<R: Revisions, T: Sink, S: BlockStore, K: Keeper>(
 ) -> KeptEnded
     requires ready { IsReady R.state (machine_of engine (S.state store.old)) }
     requires few { count_of engine (S.state store.old) < 2 ^ 63 + 2 ^ 59 }
+    requires flat { AreFlat (headings_of (public_of engine).tables) }
     requires high { high ≡ high_of engine }
     ensures { ClosesRun R.state tally tracing engine result
         (S.state store.old) (S.state store.new) (T.written trace.old) (T.written trace.new)
@@ -245,6 +248,7 @@ fn serve_run<R: Revisions, I: Source, O: Sink, T: Sink, S: BlockStore, K: Keeper
 ) -> KeptEnded
     requires ready { IsReady R.state (machine_of engine (S.state store.old)) }
     requires few { count_of engine (S.state store.old) < 2 ^ 63 + 2 ^ 59 }
+    requires kept { (public_of engine).keep ≡ true }
     requires taken { feed.old.taken ≤ feed.old.limit }
     requires fed_by { IsFedBy feed.old (I.gave input.old) }
     ensures served { (base : Base) (config : Config) (key : List ℕ)
@@ -280,6 +284,7 @@ fn run_kept<I: Source, O: Sink, T: Sink, S: Lasting, K: Keeper>(
     keeper: &mut K,
 ) -> KeptEnded
     requires within { AreWithin words.config }
+    requires kept { words.config.keep ≡ true }
     requires fresh { (S.state store.old).asked ≡ [] }
     ensures { RanKept words.config words.trace result
         (outside_of (I.left input.old) (I.gave input.old) (O.written out.old) (T.written trace.old)
@@ -386,6 +391,7 @@ fn keep_generated<O: Sink, T: Sink, S: Lasting, K: Keeper>(
     keeper: &mut K,
 ) -> Report
     requires within { AreWithin words.config }
+    requires kept { words.config.keep ≡ true }
     requires fresh { (S.state store.old).asked ≡ [] }
     ensures { KeptGenerated words.config words.trace seed
         (T.written trace.old) (T.written trace.new) (S.state store.old) (S.state store.new)

@@ -61,6 +61,8 @@ pub(crate) fn status_of(ending: Ending) -> u8
             Stop::SinkFault => 6,
             Stop::NoMemory => 7,
             Stop::InputLimit => 8,
+            Stop::StoreFault => 3,
+            Stop::StashFull => 11,
         },
     }
 }

@@ -95,7 +95,7 @@ equal_asked cs name x z is = go (is_key cs (place_of name cs)) refl is
     go true key is = let same : x ≡ z = cc is in (λ j. key_is (is_some_key (key_place cs) (place_of name cs) key j) (same j))
     go false key is = absurd (cc is)
 
-where_is : (cs : Columns) (cond : Option Search) (z : ℤ) → key_asked cs cond ≡ Some z → where_at cond cs ≡ key_is (key_at cs) z
+pub where_is : (cs : Columns) (cond : Option Search) (z : ℤ) → key_asked cs cond ≡ Some z → where_at cond cs ≡ key_is (key_at cs) z
 where_is cs None z is = absurd (cc is)
 where_is cs (Some (Compare name Equal (LiteralAgainst (IntLiteral x)))) z is = equal_asked cs name x z is
 where_is cs (Some (Compare name Equal (LiteralAgainst OutOfRange))) z is = absurd (cc is)
@@ -111,12 +111,12 @@ where_is cs (Some (Not p)) z is = absurd (cc is)
 where_is cs (Some (And p q)) z is = absurd (cc is)
 where_is cs (Some (Or p q)) z is = absurd (cc is)
 
-record IsAsked (cs : Columns) (cond : Option Search) (of : ℤ → Ask) (ask : Ask) : Type 0 where
-  number : ℤ
-  asked : key_asked cs cond ≡ Some number
-  is : ask ≡ of number
+pub record IsAsked (cs : Columns) (cond : Option Search) (of : ℤ → Ask) (ask : Ask) : Type 0 where
+  pub number : ℤ
+  pub asked : key_asked cs cond ≡ Some number
+  pub is : ask ≡ of number
 
-asked_of : (cs : Columns) (cond : Option Search) (of : ℤ → Ask) (ask : Ask) → option_map of (key_asked cs cond) ≡ Some ask → IsAsked cs cond of ask
+pub asked_of : (cs : Columns) (cond : Option Search) (of : ℤ → Ask) (ask : Ask) → option_map of (key_asked cs cond) ≡ Some ask → IsAsked cs cond of ask
 asked_of cs cond of ask is = go (key_asked cs cond) refl is
   where
     go : (o : Option ℤ) → key_asked cs cond ≡ o → option_map of o ≡ Some ask → IsAsked cs cond of ask
@@ -180,7 +180,7 @@ next_of ts stmt t ask found asked = by stmt found asked
         of_source (Join a b on equals) found = absurd (cc found)
 
 -- ---- an index in place
-all_rows : (n : ℕ) (slots : Slots) → rows (take n slots) ++ rows (drop n slots) ≡ rows slots
+pub all_rows : (n : ℕ) (slots : Slots) → rows (take n slots) ++ rows (drop n slots) ≡ rows slots
 all_rows n slots = sym (rows-append (take n slots) (drop n slots)) ∙ ap rows (take-append-drop n slots)
 
 -- what an access leaves of the tables, where it leaves of the index the rows that f makes of those that there were

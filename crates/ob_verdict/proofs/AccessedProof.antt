@@ -51,7 +51,7 @@ set_apart (x ∷ xs) (suc i) zero v off = refl
 set_apart (x ∷ xs) (suc i) (suc j) v off = set_apart xs i j v (λ e. off (ap suc e))
 
 -- the test of the column at a place
-abbrev is_key_at : Columns → ℕ → Bool
+abbrev pub is_key_at : Columns → ℕ → Bool
 is_key_at cs i = option_map_or (λ (c : Column). c.key) (slice_get cs i) false
 
 abbrev KeyFrom : ℕ → ℕ → Columns → Type 0
@@ -65,7 +65,7 @@ key_there n j (c ∷ cs) h = go c.key refl (key_there (suc n) j cs) h where
   go true e rest is = let same : n ≡ j = cc in (0, omega arith, e)
   go false e rest is = let r = rest is in (suc r.0, (let same = r.1 in omega arith), r.2)
 
-off_key : (cs : Columns) (i j : ℕ) → key_place cs ≡ Some j → is_key_at cs i ≡ false → i ≢ j
+pub off_key : (cs : Columns) (i j : ℕ) → key_place cs ≡ Some j → is_key_at cs i ≡ false → i ≢ j
 off_key cs i j key other e =
     let there = key_there 0 j cs key in
     let same : there.0 ≡ i = let is = there.1 in omega arith in
@@ -245,17 +245,17 @@ module _ (groups draw : ℕ) (late : Bool) (limits : Limits) (ts : Tables) (t : 
   accepted stmt ask found asked none fits goes = inl (none, access_settles draw ts stmt t ask w found asked indexed fits goes)
 
   module _ (table : List ℕ) (columns : Option (List (List ℕ))) (values : List Literal) (found : stored_at table ts ≡ Some t) where
-    abbrev row : Row
+    abbrev pub row : Row
     row = new_row t.heading.schema columns values
 
     -- E10 and E17 of an index
-    abbrev refused_by : (there within : Bool) → Option Refusal
+    abbrev pub refused_by : (there within : Bool) → Option Refusal
     refused_by there within = if there then Some Duplicate else (if within then None else Some KeyRange)
 
     own_is : has_own_key t.heading row ≡ nat_lt (key_in t.heading row) n
     own_is = own_key n (cell_at row i)
 
-    refusal_is : late_refusal groups (database ts) (Insert table columns values) ≡ refused_by (has_key (Some i) row all) (nat_lt (key_in t.heading row) n)
+    pub refusal_is : late_refusal groups (database ts) (Insert table columns values) ≡ refused_by (has_key (Some i) row all) (nat_lt (key_in t.heading row) n)
     refusal_is =
         ap (λ (o : Option (Stored (List Row))). option_map_or (λ (u : Stored (List Row)). insert_refusal u (new_row u.heading.schema columns values)) o None)
         (stored-database table ts ∙ ap (option_map (λ (u : Stored Held). record { heading = u.heading; held = rows u.held.slots })) found)

@@ -1,7 +1,8 @@
 use Rattle.std.proofs.Common.{true, false, arith}
+use Rattle.ob_vault.proofs.WordLemmas.{honest_before}
 use Rattle.ob_oram.proofs.Seeing.{sees_spelt}
 use Rattle.ob_oram.proofs.AccessRuns.{asks_writes, ends_full, ends_reading, ends_writing, leaf_read_below, stored_lasts, went_all, all_sealed, stands_all}
-use Rattle.ob_oram.proofs.AccessTold.{all_slots, arranged_by, leaf_read_is, range_is, still_even, told_answers, told_full, told_map}
+use Rattle.ob_oram.proofs.AccessTold.{all_slots, arranged_by, leaf_read_is, range_is, still_even, told_answers, told_full, told_map, told_room}
 use Rattle.ob_oram.proofs.Overfull.{reads_too_many}
 use Rattle.ob_oram.proofs.WalkRows.{height_few}
 use Rattle.ob_oram.proofs.accessing.access_open.Goals as goal
@@ -73,7 +74,13 @@ returns-in-Err-write_index-clause-accesses g c = λ left by.
     let leaf = leaf_read_is index op c.args.draw c.leaf_before-leaf.result c.remap_for-remap.result c.remap_for-remap.ensures c.leaf_before-leaf.ensures in
     let reads = rw leaf at c.in-Ok.ensures.reads in
     let writes = rw leaf at c.in-Err-write_index.ensures.writes in
-    ends_writing index op c.args.draw _ c.requires.stored left _ reads.ok reads.seals c.in-Err-write_index.e _ _ writes by
+    let opens = c.in-Ok.ensures.opens in
+    let served = c.serve-got.ensures.serves opens.0 opens.1 opens.2.spare in
+    let placed = c.if-not-place.ensures.sees _ _ _ served.0 served.1.sees in
+    let count = all_slots index _ _ _ _ c.requires.open.sees.count c.requires.open.sees.same c.in-Ok.ensures.rows.count c.serve-got.ensures.rows.count in
+    let arranged = arranged_by index op c.args.draw c.remap_for-remap.result c.leaf_before-leaf.result _ opens.0 served.0 placed.0 c.serve-got.result true _ _ c.remap_for-remap.ensures leaf count opens.2 served.2 served.1.keyed placed.2 in
+    ends_writing index op c.args.draw _ c.requires.stored left _ reads.ok reads.seals (told_room index op c.args.draw c.requires.op c.requires.stored.shaped opens.0 served.0 placed.0 c.serve-got.result _ _ reads.ok arranged)
+    c.in-Err-write_index.e _ _ writes by
 
 pub returns-in-Ok-write_index-clause-accesses : goal.returns-in-Ok-write_index-clause-accesses
 returns-in-Ok-write_index-clause-accesses g c = λ left by.
@@ -99,4 +106,6 @@ returns-in-Ok-write_index-clause-accesses g c = λ left by.
       maps = λ honest m is. told_map index op c.args.draw c.requires.op c.requires.stored.shaped opens.0 served.0 placed.0 c.serve-got.result _ _ reads.ok arranged _ spelt _ writes left by.ok honest m is;
       full = λ no. absurd (cc no);
       told = λ honest s lies. told_answers index op c.args.draw c.requires.op c.requires.stored.shaped opens.0 served.0 placed.0 c.serve-got.result _ _ reads.ok arranged _ spelt _ writes left by.ok honest s lies;
+      room = λ honest s lies none.
+          absurd (told_room index op c.args.draw c.requires.op c.requires.stored.shaped opens.0 served.0 placed.0 c.serve-got.result _ _ reads.ok arranged s (honest_before writes.ok.lasts honest) lies none);
     }

@@ -2,10 +2,12 @@ use Rattle.std.proofs.Common.{◌≡◌, ◌∙◌, Ok, refl, sym, ap, subst, ar
 use Rattle.std.proofs.lemmas.Bool.Decides.{nat_tests}
 use Rattle.ob_base.specs.declared.mark.Mark.{Mark}
 use Rattle.ob_base.specs.declared.mark.Mark.TheVariants.{Fresh, Closed}
+use Rattle.ob_exec.specs.Agreeing.{AreDraws, first_draws}
 use Rattle.ob_headline.specs.Keeping.{EndsFrom, closing_named}
 use Rattle.ob_reopen.specs.Keepers.{IsMark}
 use Rattle.ob_reopen.specs.Limits.{IsMarked}
 use Rattle.ob_reopen.specs.declared.closing.Closing.{Closing}
+use Rattle.ob_seal.specs.KeySet.{KeySet}
 use Rattle.ob_seal.specs.Sealed.{keys_of}
 use Rattle.ob_shell.proofs.EngageLemmas.{engages_first, engages_opened, not_reopened, opens_closing, packs}
 use Rattle.ob_shell.proofs.keeping.find_engine.Goals as goal
@@ -21,7 +23,7 @@ returns-in-Ok-start g c =
         is = ap Ok c.in-Fresh.is;
         base = _;
         begins = (refl, refl);
-        engages = engages_first _ _ _ _ _ (e.agrees (g.S.BlockStore.state c.args.store.now) c.requires.fresh) e.public (e.keyed ∙ c.derive.ensures) e.started e.anew e.alive e.none_open e.rows
+        engages = engages_first _ _ _ _ _ (e.agrees (g.S.BlockStore.state c.args.store.now) c.requires.fresh) e.public (e.keyed ∙ c.derive.ensures) (subst (λ (k : KeySet). AreDraws _ (first_draws k)) c.derive.ensures e.drawn) e.started e.anew e.alive e.none_open e.rows
             (record {
               unasked = c.requires.fresh;
               honest = g.met.S.BlockStore.starts_honest c.args.store.now c.requires.fresh;

@@ -6,6 +6,7 @@ use Rattle.ob_shell.proofs.GeneratingLemmas.{asked_is, summarized}
 use Rattle.ob_shell.proofs.HeadLemmas.{headlined}
 use Rattle.ob_shell.proofs.KeptGenLemmas.{kept_summarized, may_keep, may_keep_unread}
 use Rattle.ob_shell.proofs.KeptLemmas.{kept_headlined}
+use Rattle.ob_headline.proofs.SettingLemmas.{kept_settings}
 use Rattle.ob_shell.proofs.keeping.keep_top.Goals as goal
 
 pub returns-in-Err-clause-ran : goal.returns-in-Err-clause-ran
@@ -48,3 +49,11 @@ returns-in-Some-generated-clause-ran g c =
     let read = c.in-Ok.ensures in
     may_keep _ _ _ _ _ _ _ _ _ _ _ (Some c.in-Some-generated.seed) (sym read.keep ∙ c.if-words.false) (asked_is kept_usage words read.generated c.in-Some-generated.is)
     (summarized _ (c.in-Ok.words.common.config, read.ok) read.ok.settings c.requires.fresh (rw read.trace at c.serve_generated.ensures), refl)
+
+pub run_kept-requires-clause-kept : goal.run_kept-requires-clause-kept
+run_kept-requires-clause-kept g c =
+    let read = c.in-Ok.ensures in kept_settings (map string_bytes c.args.words.now) c.in-Ok.words.common.config read.ok.settings ∙ sym read.keep ∙ c.if-words.true
+
+pub keep_generated-requires-clause-kept : goal.keep_generated-requires-clause-kept
+keep_generated-requires-clause-kept g c =
+    let read = c.in-Ok.ensures in kept_settings (map string_bytes c.args.words.now) c.in-Ok.words.common.config read.ok.settings ∙ sym read.keep ∙ c.if-words.true

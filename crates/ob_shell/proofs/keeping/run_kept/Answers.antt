@@ -1,4 +1,7 @@
-use Rattle.std.proofs.Common.{inl, inr}
+use Rattle.std.proofs.Common.{inl, inr, sym, ◌∙◌, ap, subst}
+use Rattle.ob_base.specs.Stored.{headings_of}
+use Rattle.ob_base.specs.declared.config.Public.{Public}
+use Rattle.ob_mean.specs.Flats.{AreFlat}
 use Rattle.ob_shell.proofs.KeepLemmas.{unbegun, unkeyed_fault, unkeyed_line}
 use Rattle.ob_shell.proofs.KeepRunLemmas.{last_ran, secret_ran}
 use Rattle.ob_shell.proofs.keeping.run_kept.Goals as goal
@@ -61,3 +64,12 @@ returns-in-Ok-start_run g c =
     let served = rw read.cause at (run.served starts.base c.args.words.config c.in-Ok-Secret.key starts.engages) in
     secret_ran _ c.args.words.config c.in-Ok-Secret.key c.args.words.trace _ _ new.unread new.taken new.limit _ _ _ _ c.in-Ok-start_run.engine _ _ _ _ _ _ _ _ _ _ _ _ starts c.serve_run.result
     _ _ _ _ read.read run.within run.fed_by served
+
+-- no table is an index yet, and none will be
+pub close_run-requires-clause-flat : goal.close_run-requires-clause-flat
+close_run-requires-clause-flat g c =
+    let on = c.in-Ok.ensures.ok.engages.stands in subst (λ (p : Public). AreFlat (headings_of p.tables)) (sym on.public) on.flat
+
+pub serve_run-requires-clause-kept : goal.serve_run-requires-clause-kept
+serve_run-requires-clause-kept g c =
+    let on = c.in-Ok-start_run.ensures.ok.engages.stands in ap (λ (p : Public). p.keep) on.public ∙ on.keep ∙ c.requires.kept

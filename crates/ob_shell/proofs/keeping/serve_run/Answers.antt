@@ -5,7 +5,10 @@ use Rattle.ob_shell.proofs.KeepLemmas.{serves_all, serves_stop}
 use Rattle.ob_shell.proofs.keeping.serve_run.Goals as goal
 
 pub close_run-requires-clause-few : goal.close_run-requires-clause-few
-close_run-requires-clause-few g c = session_few _ _ _ c.in-Ok.tally c.in-Ok.ensures.ran c.requires.ready.agrees c.requires.few
+close_run-requires-clause-few g c = (session_few _ _ _ c.in-Ok.tally c.in-Ok.ensures.ran c.requires.ready.agrees c.requires.kept c.requires.few).few
+
+pub close_run-requires-clause-flat : goal.close_run-requires-clause-flat
+close_run-requires-clause-flat g c = (session_few _ _ _ c.in-Ok.tally c.in-Ok.ensures.ran c.requires.ready.agrees c.requires.kept c.requires.few).flat
 
 pub returns-in-Ok-clause-served : goal.returns-in-Ok-clause-served
 returns-in-Ok-clause-served g c base config key engages =

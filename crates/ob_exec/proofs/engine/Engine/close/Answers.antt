@@ -19,7 +19,7 @@ returns-then-is_err g c =
     let s = g.S.BlockStore.state c.args.store.now in
     record {
       closes =
-          closes_none g.R.Revisions.state old s c.requires.agrees (sym (used_is g.R.Revisions.state old s c.requires.agrees) ∙ sym c.is_used_up.ensures ∙ c.if-is_used_up.false)
+          closes_none g.R.Revisions.state old s c.requires.agrees c.requires.flat (sym (used_is g.R.Revisions.state old s c.requires.agrees c.requires.flat) ∙ sym c.is_used_up.ensures ∙ c.if-is_used_up.false)
           (g.S.BlockStore.state c.room.new.self) c.room.ensures.rests;
     }
 
@@ -27,7 +27,7 @@ pub list_tables-requires : goal.list_tables-requires
 list_tables-requires g c =
     let old = c.args.self in
     subst (λ (ts : List Table). All (λ (t : Table). HasBlock t.region (g.R.Revisions.state old.vault.revs)) ts) (sym c.as_slice-tables.ensures)
-    (have_blocks g.R.Revisions.state old (g.S.BlockStore.state c.args.store.now) c.requires.agrees)
+    (have_blocks g.R.Revisions.state old (g.S.BlockStore.state c.args.store.now) c.requires.agrees c.requires.flat)
 
 pub returns-in_default : goal.returns-in_default
 returns-in_default g c =
@@ -35,7 +35,7 @@ returns-in_default g c =
     let s = g.S.BlockStore.state c.args.store.now in
     record {
       closes =
-          closes_none g.R.Revisions.state old s c.requires.agrees (sym (used_is g.R.Revisions.state old s c.requires.agrees) ∙ sym c.is_used_up.ensures ∙ c.if-is_used_up.false)
+          closes_none g.R.Revisions.state old s c.requires.agrees c.requires.flat (sym (used_is g.R.Revisions.state old s c.requires.agrees c.requires.flat) ∙ sym c.is_used_up.ensures ∙ c.if-is_used_up.false)
           (g.S.BlockStore.state c.room.new.self) c.room.ensures.rests;
     }
 
@@ -43,7 +43,7 @@ pub drop_closing-requires-clause-lives : goal.drop_closing-requires-clause-lives
 drop_closing-requires-clause-lives g c =
     let old = c.args.self in
     let s = g.S.BlockStore.state c.args.store.now in
-    lives_fore g.R.Revisions.state old s c.requires.agrees (sym (used_is g.R.Revisions.state old s c.requires.agrees) ∙ sym c.is_used_up.ensures ∙ c.if-is_used_up.false)
+    lives_fore g.R.Revisions.state old s c.requires.agrees c.requires.flat (sym (used_is g.R.Revisions.state old s c.requires.agrees c.requires.flat) ∙ sym c.is_used_up.ensures ∙ c.if-is_used_up.false)
     (g.S.BlockStore.state c.room.new.self) c.room.ensures.rests
 
 pub write_closing-requires-clause-asks : goal.write_closing-requires-clause-asks
@@ -55,7 +55,7 @@ write_closing-requires-clause-asks g c =
     let spare : 3 + length old.public.tables ≤ s1.spare = subst (λ (ts : List Table). 3 + length ts ≤ s1.spare) c.as_slice-tables.ensures
     (at_ok c.room.result _ (sym c.is_err.ensures.value ∙ c.if-is_err.false) c.room.ensures.spare) in
     subst (λ (l : List Listed). MayAsk (2 + length l) (at g.R.Revisions.state c.drop_closing.new.vault (g.S.BlockStore.state c.drop_closing.new.store))) (sym listed)
-    (may_write g.R.Revisions.state old s c.requires.agrees (sym (used_is g.R.Revisions.state old s c.requires.agrees) ∙ sym c.is_used_up.ensures ∙ c.if-is_used_up.false) s1 c.room.ensures.rests
+    (may_write g.R.Revisions.state old s c.requires.agrees c.requires.flat (sym (used_is g.R.Revisions.state old s c.requires.agrees c.requires.flat) ∙ sym c.is_used_up.ensures ∙ c.if-is_used_up.false) s1 c.room.ensures.rests
     c.drop_closing.new.vault (g.S.BlockStore.state c.drop_closing.new.store) c.drop_closing.ensures.drops c.requires.few spare)
 
 pub write_closing-requires-clause-few : goal.write_closing-requires-clause-few
@@ -64,7 +64,7 @@ write_closing-requires-clause-few g c =
     let s = g.S.BlockStore.state c.args.store.now in
     let listed = c.as_slice.ensures ∙ c.in-Ok.ensures ∙ ap (catalogue_of (g.R.Revisions.state old.vault.revs)) c.as_slice-tables.ensures in
     subst (λ (l : List Listed). length l ≤ 64) (sym listed)
-    (few_listed g.R.Revisions.state old s c.requires.agrees (sym (used_is g.R.Revisions.state old s c.requires.agrees) ∙ sym c.is_used_up.ensures ∙ c.if-is_used_up.false)
+    (few_listed g.R.Revisions.state old s c.requires.agrees c.requires.flat (sym (used_is g.R.Revisions.state old s c.requires.agrees c.requires.flat) ∙ sym c.is_used_up.ensures ∙ c.if-is_used_up.false)
     (g.S.BlockStore.state c.room.new.self) c.room.ensures.rests c.drop_closing.new.vault (g.S.BlockStore.state c.drop_closing.new.store) c.drop_closing.ensures.drops)
 
 pub write_closing-requires-clause-columns : goal.write_closing-requires-clause-columns
@@ -73,7 +73,7 @@ write_closing-requires-clause-columns g c =
     let s = g.S.BlockStore.state c.args.store.now in
     let listed = c.as_slice.ensures ∙ c.in-Ok.ensures ∙ ap (catalogue_of (g.R.Revisions.state old.vault.revs)) c.as_slice-tables.ensures in
     subst (λ (l : List Listed). All (λ (t : Listed). length t.table.heading.schema ≤ 16) l) (sym listed)
-    (few_columns g.R.Revisions.state old s c.requires.agrees (sym (used_is g.R.Revisions.state old s c.requires.agrees) ∙ sym c.is_used_up.ensures ∙ c.if-is_used_up.false)
+    (few_columns g.R.Revisions.state old s c.requires.agrees c.requires.flat (sym (used_is g.R.Revisions.state old s c.requires.agrees c.requires.flat) ∙ sym c.is_used_up.ensures ∙ c.if-is_used_up.false)
     (g.S.BlockStore.state c.room.new.self) c.room.ensures.rests c.drop_closing.new.vault (g.S.BlockStore.state c.drop_closing.new.store) c.drop_closing.ensures.drops)
 
 pub give_up-requires : goal.give_up-requires
@@ -97,7 +97,7 @@ returns g c =
     record {
       closes =
           subst (λ (t : StoreState). ClosesEngine g.R.Revisions.state (Err c.in-Err.e) old s t) (sym c.give_up.ensures.same)
-          (closes_cut g.R.Revisions.state old s c.requires.agrees (sym (used_is g.R.Revisions.state old s c.requires.agrees) ∙ sym c.is_used_up.ensures ∙ c.if-is_used_up.false)
+          (closes_cut g.R.Revisions.state old s c.requires.agrees c.requires.flat (sym (used_is g.R.Revisions.state old s c.requires.agrees c.requires.flat) ∙ sym c.is_used_up.ensures ∙ c.if-is_used_up.false)
           (g.S.BlockStore.state c.room.new.self) c.room.ensures.rests c.drop_closing.new.vault (g.S.BlockStore.state c.drop_closing.new.store) c.drop_closing.ensures.drops
           c.write_closing.new.vault (g.S.BlockStore.state c.write_closing.new.store) c.in-Err.e
           (subst (λ (l : List Listed). WritesClosing old.room.pack l (Err c.in-Err.e) mid last) listed c.in-Err.ensures.writes));
@@ -112,7 +112,7 @@ returns-in-Ok-write_closing g c =
     let last = at g.R.Revisions.state c.write_closing.new.vault (g.S.BlockStore.state c.write_closing.new.store) in
     record {
       closes =
-          closes_all g.R.Revisions.state old s c.requires.agrees (sym (used_is g.R.Revisions.state old s c.requires.agrees) ∙ sym c.is_used_up.ensures ∙ c.if-is_used_up.false)
+          closes_all g.R.Revisions.state old s c.requires.agrees c.requires.flat (sym (used_is g.R.Revisions.state old s c.requires.agrees c.requires.flat) ∙ sym c.is_used_up.ensures ∙ c.if-is_used_up.false)
           (g.S.BlockStore.state c.room.new.self) c.room.ensures.rests c.drop_closing.new.vault (g.S.BlockStore.state c.drop_closing.new.store) c.drop_closing.ensures.drops
           c.write_closing.new.vault (g.S.BlockStore.state c.write_closing.new.store) c.in-Ok-write_closing.written
           (subst (λ (l : List Listed). WritesClosing old.room.pack l (Ok c.in-Ok-write_closing.written) mid last) listed c.in-Ok-write_closing.ensures.writes)

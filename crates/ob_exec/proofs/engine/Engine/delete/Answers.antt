@@ -14,10 +14,20 @@ use Rattle.ob_exec.specs.declared.engine.Engine.{Engine}
 use Rattle.ob_verdict.specs.declared.outcome.Outcome.{Outcome}
 use Rattle.ob_verdict.specs.declared.outcome.Outcome.TheVariants.{Deleted}
 use Rattle.ob_exec.proofs.ChangeLemmas.{delete_alters}
+use Rattle.ob_exec.proofs.FoundLemmas.{shape_found}
 use Rattle.ob_exec.proofs.MutateLemmas.{mutated, unmutated}
+use Rattle.ob_exec.proofs.ReadLemmas.{read_flat}
 use Rattle.ob_exec.proofs.RunLemmas.{rests_refl}
 use Rattle.ob_exec.proofs.SilentLemmas.{serves_as, unasked}
 use Rattle.ob_exec.proofs.engine.Engine.delete.Goals as goal
+
+pub delete-requires-clause-flat : goal.delete-requires-clause-flat
+delete-requires-clause-flat g c =
+    let old = c.args.self.now in
+    let found = c.table_at-i.ensures in
+    let shape = shape_found c.args.table.now old.public.tables c.table_at-i.result.0 found.table c.requires.agrees.tables.names found.here.get found.here.named c.requires.flat in
+    read_flat g.R.Revisions.state old (g.S.BlockStore.state c.args.store.now) (g.S.BlockStore.state c.make_room.new.store) c.table_at-i.result.0 found.table c.requires.agrees c.make_room.ensures.rests found.here.get shape
+    c.table_at-i.result.1 found.is
 
 pub move_table-requires : goal.move_table-requires
 move_table-requires g c = slice_get_within c.args.self.now.public.tables c.table_at-i.result.0 c.table_at-i.ensures.table c.table_at-i.ensures.here.get
@@ -27,7 +37,7 @@ returns-in_default g c = record {
   serves =
       serves_as g.R.Revisions.state (Delete c.args.table.now c.args.cond.now) c.args.self.now (g.S.BlockStore.state c.args.store.now) (g.S.BlockStore.state c.args.store.now) _ _ _ _
       c.cut.ensures.answer c.cut.ensures.seen
-      (unasked g.R.Revisions.state (Delete c.args.table.now c.args.cond.now) c.args.self.now (g.S.BlockStore.state c.args.store.now) c.requires.agrees c.requires.allowed refl
+      (unasked g.R.Revisions.state (Delete c.args.table.now c.args.cond.now) c.args.self.now (g.S.BlockStore.state c.args.store.now) c.requires.agrees c.requires.allowed refl c.requires.flat tt
       (g.S.BlockStore.state c.args.store.now) c.args.self.now.public.tables (rests_refl (g.S.BlockStore.state c.args.store.now)));
 }
 
@@ -36,7 +46,7 @@ returns-then-is_err g c = record {
   serves =
       serves_as g.R.Revisions.state (Delete c.args.table.now c.args.cond.now) c.args.self.now (g.S.BlockStore.state c.args.store.now) (g.S.BlockStore.state c.make_room.new.store) _ _ _ _
       c.cut-then-is_err.ensures.answer c.cut-then-is_err.ensures.seen
-      (unasked g.R.Revisions.state (Delete c.args.table.now c.args.cond.now) c.args.self.now (g.S.BlockStore.state c.args.store.now) c.requires.agrees c.requires.allowed refl
+      (unasked g.R.Revisions.state (Delete c.args.table.now c.args.cond.now) c.args.self.now (g.S.BlockStore.state c.args.store.now) c.requires.agrees c.requires.allowed refl c.requires.flat tt
       (g.S.BlockStore.state c.make_room.new.store) c.args.self.now.public.tables c.make_room.ensures.rests);
 }
 
@@ -54,7 +64,7 @@ returns-in-Ok-delete g c =
       serves =
           mutated g.R.Revisions.state (Delete c.args.table.now c.args.cond.now) c.args.table.now rewrite_part Deleted (λ slots. count_by (is_true pred) (rows slots))
           (map (emptied (is_true pred))) old s (g.S.BlockStore.state c.make_room.new.store) c.delete.new.vault c.delete.new.room (g.S.BlockStore.state c.delete.new.store)
-          c.table_at-i.result.0 table flat c.delete.new.flat c.requires.agrees c.make_room.ensures.rests c.delete.ensures.room found.here found.is c.requires.allowed
+          c.table_at-i.result.0 table flat c.delete.new.flat c.requires.agrees c.make_room.ensures.rests c.delete.ensures.room found.here found.is c.requires.allowed c.requires.flat
           (delete_alters old.public (count_of old s) c.args.table.now c.args.cond.now table.heading pred pred_is)
           c.in-Ok-delete.deleted c.finish.new.self _ c.in-Ok-delete.ensures.deletes c.requires.lives (ap (λ (o : Outcome). Ok o) c.finish.ensures.answer)
           (c.finish.ensures.seen
@@ -75,7 +85,7 @@ returns g c =
       serves =
           unmutated g.R.Revisions.state (Delete c.args.table.now c.args.cond.now) c.args.table.now rewrite_part Deleted (λ slots. count_by (is_true pred) (rows slots))
           (map (emptied (is_true pred))) old s (g.S.BlockStore.state c.make_room.new.store) c.delete.new.vault c.delete.new.room (g.S.BlockStore.state c.delete.new.store)
-          c.table_at-i.result.0 table flat c.delete.new.flat c.requires.agrees c.make_room.ensures.rests c.delete.ensures.room found.here found.is c.requires.allowed
+          c.table_at-i.result.0 table flat c.delete.new.flat c.requires.agrees c.make_room.ensures.rests c.delete.ensures.room found.here found.is c.requires.allowed c.requires.flat
           (delete_alters old.public (count_of old s) c.args.table.now c.args.cond.now table.heading pred pred_is)
           c.in-Err.error (c.count.result - c.count-before.result) c.cut-in-Err.new.self _ c.in-Err.ensures.deletes (λ i. c.count.ensures i - c.count-before.ensures i) c.cut-in-Err.ensures.answer c.cut-in-Err.ensures.seen;
     }

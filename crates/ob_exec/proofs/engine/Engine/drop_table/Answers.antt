@@ -1,40 +1,32 @@
-use Rattle.std.proofs.Common.{refl, ◌∙◌, ap, Ok}
-use Rattle.std.proofs.lemmas.Option.{slice_get_within}
-use Rattle.ob_base.specs.declared.seen.End.TheVariants.{Whole}
+use Rattle.std.proofs.Common.{◌≡◌, List, sym, ◌∙◌, ap, subst}
+use Rattle.std.specs.Prelude.{slice_get}
+use Rattle.ob_base.specs.declared.schema.Shape.TheVariants.{Flat as FlatShape, Indexed}
+use Rattle.ob_base.specs.declared.schema.Table.{Table}
 use Rattle.ob_flat.specs.declared.flat.Flat.{Flat}
-use Rattle.ob_sql.specs.declared.stmt.Stmt.TheVariants.{Drop as DropTable}
-use Rattle.ob_mean.specs.Verdict.{ended as seen_to}
-use Rattle.ob_exec.specs.declared.engine.Engine.{Engine}
-use Rattle.ob_verdict.specs.declared.outcome.Outcome.{Outcome}
-use Rattle.ob_exec.proofs.DropLemmas.{dropped, lives_found}
-use Rattle.ob_exec.proofs.SilentLemmas.{serves_as, unasked}
+use Rattle.ob_exec.specs.Engines.{IsTreeOf}
+use Rattle.ob_exec.proofs.TableLemmas.{got_or, index_at}
 use Rattle.ob_exec.proofs.engine.Engine.drop_table.Goals as goal
 
-pub remove_table-requires : goal.remove_table-requires
-remove_table-requires g c = slice_get_within c.args.self.now.public.tables c.table_at-i.result.0 c.table_at-i.ensures.table c.table_at-i.ensures.here.get
-
-pub discard-requires-clause-lives : goal.discard-requires-clause-lives
-discard-requires-clause-lives g c =
+pub drop_flat-requires-clause-at : goal.drop_flat-requires-clause-at
+drop_flat-requires-clause-at g c =
     let found = c.table_at-i.ensures in
-    lives_found g.R.Revisions.state c.args.self.now (g.S.BlockStore.state c.args.store.now) (g.S.BlockStore.state c.room.new.self) c.table_at-i.result.0 found.table c.table_at-i.result.1 c.requires.agrees found.here.get found.is
-
-pub returns-then-is_err : goal.returns-then-is_err
-returns-then-is_err g c = record {
-  serves =
-      serves_as g.R.Revisions.state (DropTable c.args.table.now) c.args.self.now (g.S.BlockStore.state c.args.store.now) (g.S.BlockStore.state c.room.new.self) _ _ _ _
-      c.cut.ensures.answer c.cut.ensures.seen
-      (unasked g.R.Revisions.state (DropTable c.args.table.now) c.args.self.now (g.S.BlockStore.state c.args.store.now) c.requires.agrees c.requires.allowed refl
-      (g.S.BlockStore.state c.room.new.self) c.args.self.now.public.tables c.room.ensures.rests);
-}
-
-pub returns : goal.returns
-returns g c =
-    let found = c.table_at-i.ensures in
+    let here = got_or c.as_slice.result.now c.table_at-i.result.0 found.table _ (ap (λ (ts : List Table). slice_get ts c.table_at-i.result.0) c.as_slice.ensures ∙ found.here.get) in
     record {
-      serves =
-          dropped g.R.Revisions.state c.args.self.now (g.S.BlockStore.state c.args.store.now) (g.S.BlockStore.state c.room.new.self) c.discard.new.vault (g.S.BlockStore.state c.discard.new.store) c.args.table.now
-          c.table_at-i.result.0 found.table c.requires.agrees c.room.ensures.rests found.here c.requires.allowed _ c.discard.result _ _ (ap (λ (f : Flat). f.region) found.is)
-          c.discard.ensures.discards c.requires.lives (ap (λ (o : Outcome). Ok o) c.finish.ensures.answer)
-          (c.finish.ensures.seen
-          ∙ ap (λ (e : Engine g.row.R.Denot). record e { seen = seen_to Whole; public = record e.public { next_region = e.vault.next } }) c.remove_table.ensures);
+      table = found.table;
+      here = record { get = found.here.get; named = found.here.named };
+      shape = ap (λ (t : Table). t.heading.shape) (sym here) ∙ c.in-Flat.is;
+      is = found.is;
     }
+
+pub index_of-k-requires : goal.index_of-k-requires
+index_of-k-requires g c =
+    let found = c.table_at-i.ensures in
+    let here = got_or c.as_slice.result.now c.table_at-i.result.0 found.table _ (ap (λ (ts : List Table). slice_get ts c.table_at-i.result.0) c.as_slice.ensures ∙ found.here.get) in
+    subst (IsTreeOf c.args.self.now.indexes.items) (sym (ap (λ (f : Flat). f.region) found.is))
+    (c.requires.agrees.tables.has c.table_at-i.result.0 found.table found.here.get (ap (λ (t : Table). t.heading.shape) (sym here) ∙ c.in-Indexed.is))
+
+pub drop_index-requires-clause-at : goal.drop_index-requires-clause-at
+drop_index-requires-clause-at g c =
+    let found = c.table_at-i.ensures in
+    let at = c.index_of-k.ensures in
+    index_at c.requires.agrees.tables c.args.table.now c.table_at-i.result.0 found.table found.here c.index_of-k.result at.0 at.1 (at.2 ∙ ap (λ (f : Flat). f.region) found.is)

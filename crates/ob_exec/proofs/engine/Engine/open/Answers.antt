@@ -1,5 +1,6 @@
 use Rattle.std.proofs.Common.{◌≡◌, ◌≤◌, ◌+◌, ◌*◌, ℕ, false, List, [], replicate, Some, Ok, Err, refl, sym, ◌∙◌, ap, subst, arith, length}
 use Rattle.std.proofs.lemmas.Result.{err_from_is_err_and}
+use Rattle.rand_chacha.specs.ChaCha.{key_of}
 use Rattle.ob_base.specs.declared.config.Public.{Public}
 use Rattle.ob_base.specs.declared.schema.Table.{Table}
 use Rattle.ob_room.specs.RoomState.{clear}
@@ -36,6 +37,12 @@ returns-in_default g c =
           subst (λ (x : Closing). OpensEngine {R = g.row.R.Denot} g.R.Revisions.state c.args.config c.args.keys x (Err NoMemory) (g.S.BlockStore.state c.args.store.now) (g.S.BlockStore.state c.room.new.self)) same
           (not_begun g.R.Revisions.state c.args.config c.args.keys c.closing_of-closing.result marked (g.S.BlockStore.state c.args.store.now) (g.S.BlockStore.state c.room.new.self) c.requires.fresh (g.met.S.BlockStore.starts_honest c.args.store.now c.requires.fresh) c.room.ensures.rests);
     }
+
+pub read_closing-requires-clause-marked : goal.read_closing-requires-clause-marked
+read_closing-requires-clause-marked g c =
+    let closed = c.requires.closed in
+    let same = c.closing_of-closing.ensures c.args.config.pack closed.0 closed.1 in
+    subst (λ (x : Closing). IsMarked x) (sym same) (closed_marked c.args.mark.now c.args.config.pack closed.0 closed.1)
 
 pub read_closing-requires-clause-follows : goal.read_closing-requires-clause-follows
 read_closing-requires-clause-follows g c =
@@ -139,6 +146,8 @@ returns g c =
       seen = c.seen_to_end.result;
       ended = false;
       closing = Some c.closing_of-closing.result.region;
+      indexes = c.new-2.result;
+      draws = c.new-draws.result;
     } in
     let new : c.in-Ok.room ≡ record { rows = c.args.config.buffer; width = 1024; pack = c.args.config.pack; free = replicate c.args.config.buffer (clear 1024); shelf = []; high = 0 } =
     c.in-Ok.ensures ∙ (λ i. record { rows = c.args.config.buffer; width = 1024; pack = c.from-2.ensures i; free = replicate c.args.config.buffer (clear 1024); shelf = []; high = 0 }) in
@@ -151,5 +160,5 @@ returns g c =
           (opens_all g.R.Revisions.state c.args.config c.args.keys c.closing_of-closing.result marked pack c.requires.config (g.S.BlockStore.state c.args.store.now) (g.S.BlockStore.state c.room.new.self) c.requires.fresh (g.met.S.BlockStore.starts_honest c.args.store.now c.requires.fresh)
           (λ q. g.met.S.BlockStore.starts_empty c.args.store.now q c.requires.fresh) (λ q region kept. g.met.S.BlockStore.keeps_within c.args.store.now q region kept) c.room.ensures.rests
           c.start_at-vault.result c.start_at-vault.ensures.ready (started_as c.closing_of-closing.result _ _ _ c.from-3.result c.start_at-vault.ensures.started refl c.from-3.ensures (omega arith))
-          c.start_at-vault.ensures.keyed c.start_at-vault.ensures.empty c.read_closing.new.vault (g.S.BlockStore.state c.read_closing.new.store) c.in_ok-listed.listed c.in_ok-listed.ensures.reads c.in_ok-reopen_tables.field-0 (g.S.BlockStore.state c.reopen_tables.new.store) e reopens (ap public c.in-Ok-tables_of.ensures) refl refl (room_read c.args.config e.public c.in-Ok.room c.read_closing.new.room c.requires.config new c.read_closing.ensures.room refl refl) (high_read c.args.config c.in-Ok.room c.read_closing.new.room new c.read_closing.ensures.room) (rows_read c.args.config c.in-Ok.room c.read_closing.new.room new c.read_closing.ensures.room));
+          c.start_at-vault.ensures.keyed c.start_at-vault.ensures.empty c.read_closing.new.vault (g.S.BlockStore.state c.read_closing.new.store) c.in_ok-listed.listed c.in_ok-listed.ensures.reads c.in_ok-reopen_tables.field-0 (g.S.BlockStore.state c.reopen_tables.new.store) e reopens (ap public c.in-Ok-tables_of.ensures) refl c.new-2.ensures.items (c.new-draws.ensures ∙ (λ i. record { key = key_of (c.draw_seed.ensures i); next = 0 })) refl (room_read c.args.config e.public c.in-Ok.room c.read_closing.new.room c.requires.config new c.read_closing.ensures.room refl refl) (high_read c.args.config c.in-Ok.room c.read_closing.new.room new c.read_closing.ensures.room) (rows_read c.args.config c.in-Ok.room c.read_closing.new.room new c.read_closing.ensures.room));
     }

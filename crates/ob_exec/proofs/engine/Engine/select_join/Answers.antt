@@ -18,7 +18,6 @@ use Rattle.ob_exec.proofs.RowsNothing.{halts_first}
 use Rattle.ob_exec.proofs.RowsRoom.{lives_after, room_twice}
 use Rattle.ob_exec.proofs.RowsSource.{there_are}
 use Rattle.ob_exec.proofs.RunLemmas.{at_ok, rests_refl}
-use Rattle.ob_exec.proofs.TableLemmas.{tables_flat}
 use Rattle.ob_exec.proofs.engine.Engine.select_join.Goals as goal
 
 pub table_at-left-requires : goal.table_at-left-requires
@@ -40,7 +39,7 @@ returns-in_default-where_at-clause-selects g c =
     let y = join_of c.args.select.now c.requires.agrees c.requires.allowed c.in-Join.is c.table_at-left.ensures c.table_at-right.ensures in
     record {
       ended = tt;
-      halted = halts_first g.E.Emit.grew g.E.Emit.cut c.args.self.now.public c.args.select.now c.args.seen.now _ (g.S.BlockStore.state c.args.store.now) _ c.args.out.now c.requires.agrees.ready (rests_refl _) c.requires.fresh (join_some y) (tables_flat c.requires.agrees.tables);
+      halted = halts_first g.E.Emit.grew g.E.Emit.cut c.args.self.now.public c.args.select.now c.args.seen.now _ (g.S.BlockStore.state c.args.store.now) _ c.args.out.now c.requires.agrees.ready (rests_refl _) c.requires.fresh (join_some y) c.requires.flat;
       sink = refl;
     }
 
@@ -49,7 +48,7 @@ returns-in_default-new-clause-selects g c =
     let y = join_of c.args.select.now c.requires.agrees c.requires.allowed c.in-Join.is c.table_at-left.ensures c.table_at-right.ensures in
     record {
       ended = tt;
-      halted = halts_first g.E.Emit.grew g.E.Emit.cut c.args.self.now.public c.args.select.now c.args.seen.now _ (g.S.BlockStore.state c.args.store.now) _ c.args.out.now c.requires.agrees.ready (rests_refl _) c.requires.fresh (join_some y) (tables_flat c.requires.agrees.tables);
+      halted = halts_first g.E.Emit.grew g.E.Emit.cut c.args.self.now.public c.args.select.now c.args.seen.now _ (g.S.BlockStore.state c.args.store.now) _ c.args.out.now c.requires.agrees.ready (rests_refl _) c.requires.fresh (join_some y) c.requires.flat;
       sink = refl;
     }
 
@@ -58,7 +57,7 @@ returns-then-is_err-clause-selects g c =
     let y = join_of c.args.select.now c.requires.agrees c.requires.allowed c.in-Join.is c.table_at-left.ensures c.table_at-right.ensures in
     record {
       ended = tt;
-      halted = halts_first g.E.Emit.grew g.E.Emit.cut c.args.self.now.public c.args.select.now c.args.seen.now _ (g.S.BlockStore.state c.args.store.now) _ c.args.out.now c.requires.agrees.ready c.room.ensures.rests c.requires.fresh (join_some y) (tables_flat c.requires.agrees.tables);
+      halted = halts_first g.E.Emit.grew g.E.Emit.cut c.args.self.now.public c.args.select.now c.args.seen.now _ (g.S.BlockStore.state c.args.store.now) _ c.args.out.now c.requires.agrees.ready c.room.ensures.rests c.requires.fresh (join_some y) c.requires.flat;
       sink = refl;
     }
 

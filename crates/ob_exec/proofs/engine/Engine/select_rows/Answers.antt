@@ -12,7 +12,6 @@ use Rattle.ob_exec.proofs.RowsFound.{source_is}
 use Rattle.ob_exec.proofs.RowsReach.{stops_closing}
 use Rattle.ob_exec.proofs.RowsRun.{rows_after}
 use Rattle.ob_exec.proofs.RowsStops.{serves_stopped, stops_halted}
-use Rattle.ob_exec.proofs.TableLemmas.{tables_flat}
 use Rattle.ob_exec.proofs.engine.Engine.select_rows.Goals as goal
 
 pub returns-in-Ok-close_answer : goal.returns-in-Ok-close_answer
@@ -25,7 +24,7 @@ returns-in-Ok-close_answer g c =
     let room = c.select_source.new.self.room in
     let now = c.select_source.new.seen in
     let select = c.args.select.now in
-    let source = source_is state old s select c.requires.agrees c.requires.allowed in
+    let source = source_is state old s select c.requires.agrees c.requires.allowed c.requires.flat in
     let sink = c.in-Ok-close_answer.ensures.sink ∙ c.in-Ok.ensures.selects.sink in
     let serves = serves_ended state old s v room t select c.requires.agrees c.requires.allowed source g.E.Emit.grew g.met.E.Emit.starts now
     c.args.out.now c.select_source.new.out c.close_answer.new.out g.E.Emit.cut g.E.Emit.faults c.in-Ok.selected c.requires.lives c.in-Ok.ensures.room
@@ -50,9 +49,9 @@ returns-in-Err-close_answer g c =
     let e = c.in-Err-close_answer.error in
     let n = c.count.result - c.count-before.result in
     let count : n ≡ length t.asked - length s.asked = λ j. c.count.ensures j - c.count-before.ensures j in
-    let source = source_is state old s select c.requires.agrees c.requires.allowed in
+    let source = source_is state old s select c.requires.agrees c.requires.allowed c.requires.flat in
     let ended = c.in-Ok.ensures.selects.ended in
-    let stops = stops_closing g.E.Emit.grew g.E.Emit.cut old.public select now _ _ c.args.out.now c.select_source.new.out c.close_answer.new.out (tables_flat c.requires.agrees.tables)
+    let stops = stops_closing g.E.Emit.grew g.E.Emit.cut old.public select now _ _ c.args.out.now c.select_source.new.out c.close_answer.new.out c.requires.flat
     c.in-Ok.selected e c.in-Err-close_answer.ensures.never ended c.in-Err-close_answer.ensures.err in
     let sink = subst (λ (m : ℕ). SinkCause {T = Selected} (Err e) m (g.E.Emit.faults c.close_answer.new.out)) c.in-Ok.ensures.selects.sink c.in-Err-close_answer.ensures.sink in
     let serves = serves_stopped state old s v room t select c.requires.agrees c.requires.allowed source ended.ran.lasts g.E.Emit.grew g.E.Emit.cut g.E.Emit.faults g.met.E.Emit.starts
@@ -77,7 +76,7 @@ returns-in-Err g c =
     let e = c.in-Err.error in
     let n = c.count-in-Err.result - c.count-before.result in
     let count : n ≡ length t.asked - length s.asked = λ j. c.count-in-Err.ensures j - c.count-before.ensures j in
-    let source = source_is state old s select c.requires.agrees c.requires.allowed in
+    let source = source_is state old s select c.requires.agrees c.requires.allowed c.requires.flat in
     let halted = c.in-Err.ensures.selects.halted in
     let serves = serves_stopped state old s v room t select c.requires.agrees c.requires.allowed source halted.ran.lasts g.E.Emit.grew g.E.Emit.cut g.E.Emit.faults g.met.E.Emit.starts
     now n c.args.out.now c.select_source.new.out count e c.in-Err.ensures.room (stops_halted halted) c.in-Err.ensures.selects.sink in

@@ -16,7 +16,6 @@ use Rattle.ob_exec.proofs.FoundLemmas.{is_there}
 use Rattle.ob_exec.proofs.RowsNothing.{halts_first}
 use Rattle.ob_exec.proofs.RowsTable.{counts_some, table_may, table_query, table_selects}
 use Rattle.ob_exec.proofs.RunLemmas.{rests_refl, at_ok}
-use Rattle.ob_exec.proofs.TableLemmas.{tables_flat}
 use Rattle.ob_exec.proofs.engine.Engine.select_table.Goals as goal
 
 pub table_at-flat-requires : goal.table_at-flat-requires
@@ -37,7 +36,7 @@ returns-in_default-clause-selects g c =
     record {
       ended = tt;
       halted = halts_first g.E.Emit.grew g.E.Emit.cut old.public c.args.select.now c.args.seen.now (world_of state old s).vault s s c.args.out.now c.requires.agrees.ready (rests_refl s) c.requires.fresh
-          (counts_some state old s s c.table_at-flat.result.0 found.table c.args.table.now c.args.select.now c.requires.agrees here.get here.named c.requires.source) (tables_flat c.requires.agrees.tables);
+          (counts_some state old s s c.table_at-flat.result.0 found.table c.args.table.now c.args.select.now c.requires.agrees here.get here.named c.requires.source c.requires.flat) c.requires.flat;
       sink = refl;
     }
 
@@ -52,7 +51,7 @@ returns-then-is_err-clause-selects g c =
     record {
       ended = tt;
       halted = halts_first g.E.Emit.grew g.E.Emit.cut old.public c.args.select.now c.args.seen.now (world_of state old s).vault s s1 c.args.out.now c.requires.agrees.ready c.room.ensures.rests c.requires.fresh
-          (counts_some state old s s1 c.table_at-flat.result.0 found.table c.args.table.now c.args.select.now c.requires.agrees here.get here.named c.requires.source) (tables_flat c.requires.agrees.tables);
+          (counts_some state old s s1 c.table_at-flat.result.0 found.table c.args.table.now c.args.select.now c.requires.agrees here.get here.named c.requires.source c.requires.flat) c.requires.flat;
       sink = refl;
     }
 
@@ -65,11 +64,11 @@ select_from-requires-clause-may g c =
     let found = c.table_at-flat.ensures in
     let here = found.here in
     let flat_is = found.is in
-    let is = table_query state old s s1 c.table_at-flat.result.0 found.table c.args.table.now c.args.select.now c.requires.agrees here.get here.named c.requires.source
+    let is = table_query state old s s1 c.table_at-flat.result.0 found.table c.args.table.now c.args.select.now c.requires.agrees here.get here.named c.requires.source c.requires.flat
     c.table_at-flat.result.1 c.in-Ok.pred c.as_slice.result.now c.as_slice-columns.result.now flat_is c.as_slice-columns.ensures.value c.in-Ok.ensures
     (c.as_slice.ensures.value ∙ c.printed_places-cols.ensures) in
     let spare = at_ok c.room.result _ (sym c.is_err.ensures.value ∙ c.if-is_err.false) c.room.ensures.spare in
-    let may = table_may state old s s1 c.table_at-flat.result.0 found.table c.args.table.now c.args.select.now c.requires.agrees here.get here.named c.requires.source c.requires.allowed c.room.ensures.rests
+    let may = table_may state old s s1 c.table_at-flat.result.0 found.table c.args.table.now c.args.select.now c.requires.agrees here.get here.named c.requires.source c.requires.flat c.requires.allowed c.room.ensures.rests
     c.from-blocks.result c.padded_length-padded.result (c.from-blocks.ensures ∙ c.div_ceil.ensures ∙ (λ j. div_ceil (flat_is j).capacity (c.from.ensures j)))
     (λ x same size. c.padded_length-padded.ensures.length x same (size ∙ ap (λ (f : Flat). f.capacity) (sym flat_is))) spare in
     subst (λ (x : Selection). MaySelect x old.room (at state old.vault s1)) (sym is) may
@@ -86,10 +85,10 @@ returns-clause-selects g c =
     let found = c.table_at-flat.ensures in
     let here = found.here in
     let flat_is = found.is in
-    let is = table_query state old s s1 c.table_at-flat.result.0 found.table c.args.table.now c.args.select.now c.requires.agrees here.get here.named c.requires.source
+    let is = table_query state old s s1 c.table_at-flat.result.0 found.table c.args.table.now c.args.select.now c.requires.agrees here.get here.named c.requires.source c.requires.flat
     c.table_at-flat.result.1 c.in-Ok.pred c.as_slice.result.now c.as_slice-columns.result.now flat_is c.as_slice-columns.ensures.value c.in-Ok.ensures
     (c.as_slice.ensures.value ∙ c.printed_places-cols.ensures) in
     let selects = subst (λ (x : Selection). SelectsFrom g.E.Emit.grew g.E.Emit.cut g.E.Emit.faults x c.select_from.result now (at state old.vault s1) (at state v u) c.args.out.now c.select_from.new.out)
     is c.select_from.ensures.selects in
-    table_selects state old s s1 c.table_at-flat.result.0 found.table c.args.table.now c.args.select.now c.requires.agrees here.get here.named c.requires.source v u c.room.ensures.rests
+    table_selects state old s s1 c.table_at-flat.result.0 found.table c.args.table.now c.args.select.now c.requires.agrees here.get here.named c.requires.source c.requires.flat v u c.room.ensures.rests
     g.E.Emit.grew g.E.Emit.cut g.E.Emit.faults now c.args.out.now c.select_from.new.out c.select_from.result selects

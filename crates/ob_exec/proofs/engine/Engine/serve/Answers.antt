@@ -8,7 +8,6 @@ use Rattle.ob_exec.specs.Agreeing.{count_of}
 use Rattle.ob_verdict.specs.declared.outcome.Outcome.{Outcome}
 use Rattle.ob_exec.specs.Serving.{Serves}
 use Rattle.ob_exec.proofs.ServeLemmas.{served_as, serves_refused, serves_same}
-use Rattle.ob_exec.proofs.TableLemmas.{tables_flat}
 use Rattle.ob_exec.proofs.ToldLemmas.{now_is}
 use Rattle.ob_exec.proofs.engine.Engine.serve.Goals as goal
 
@@ -24,6 +23,9 @@ returns-in-Some g c =
           (serves_refused g.R.Revisions.state g.E.Emit.grew g.E.Emit.cut g.E.Emit.faults c.args.stmt.now old s c.args.out.now (g.met.E.Emit.starts c.args.out.now) c.requires.agrees c.requires.lives c.in-Some.refusal now);
     }
 
+pub accessed-requires : goal.accessed-requires
+accessed-requires g c = record { agrees = (g.S.BlockStore.state c.args.store.now, c.requires.agrees) }
+
 pub returns-in-Create : goal.returns-in-Create
 returns-in-Create g c =
     let old = c.args.self.now in
@@ -32,7 +34,7 @@ returns-in-Create g c =
     record {
       serves =
           served_as g.R.Revisions.state g.E.Emit.grew g.E.Emit.cut g.E.Emit.faults c.args.stmt.now (Create c.in-Create.table c.as_slice.result.now c.in-Create.capacity c.in-Create.shape) old s c.args.out.now c.create.result c.create.new.self
-          (g.S.BlockStore.state c.create.new.store) (g.met.E.Emit.starts c.args.out.now) (ap (λ (cs : List NewColumn). Create c.in-Create.table cs c.in-Create.capacity c.in-Create.shape) c.as_slice.ensures ∙ sym c.in-Create.is) now (tables_flat c.requires.agrees.tables) refl (λ tables. tt) c.create.ensures.serves;
+          (g.S.BlockStore.state c.create.new.store) (g.met.E.Emit.starts c.args.out.now) (ap (λ (cs : List NewColumn). Create c.in-Create.table cs c.in-Create.capacity c.in-Create.shape) c.as_slice.ensures ∙ sym c.in-Create.is) now c.in_default-accessed.ensures.none refl (λ tables. tt) c.create.ensures.serves;
     }
 
 pub returns-in-Insert : goal.returns-in-Insert
@@ -43,7 +45,7 @@ returns-in-Insert g c =
     record {
       serves =
           served_as g.R.Revisions.state g.E.Emit.grew g.E.Emit.cut g.E.Emit.faults c.args.stmt.now (Insert c.in-Insert.table c.in-Insert.columns c.as_slice-in-Insert.result.now) old s c.args.out.now c.insert.result c.insert.new.self
-          (g.S.BlockStore.state c.insert.new.store) (g.met.E.Emit.starts c.args.out.now) (ap (λ (vs : List Literal). Insert c.in-Insert.table c.in-Insert.columns vs) c.as_slice-in-Insert.ensures ∙ sym c.in-Insert.is) now (tables_flat c.requires.agrees.tables) refl (λ tables. tt) c.insert.ensures.serves;
+          (g.S.BlockStore.state c.insert.new.store) (g.met.E.Emit.starts c.args.out.now) (ap (λ (vs : List Literal). Insert c.in-Insert.table c.in-Insert.columns vs) c.as_slice-in-Insert.ensures ∙ sym c.in-Insert.is) now c.in_default-accessed.ensures.none refl (λ tables. tt) c.insert.ensures.serves;
     }
 
 pub returns-in-Update : goal.returns-in-Update
@@ -54,7 +56,7 @@ returns-in-Update g c =
     record {
       serves =
           served_as g.R.Revisions.state g.E.Emit.grew g.E.Emit.cut g.E.Emit.faults c.args.stmt.now (Update c.in-Update.table c.as_slice-in-Update.result.now c.in-Update.cond) old s c.args.out.now c.update.result c.update.new.self
-          (g.S.BlockStore.state c.update.new.store) (g.met.E.Emit.starts c.args.out.now) (ap (λ (sets : List Set). Update c.in-Update.table sets c.in-Update.cond) c.as_slice-in-Update.ensures ∙ sym c.in-Update.is) now (tables_flat c.requires.agrees.tables) refl (λ tables. tt) c.update.ensures.serves;
+          (g.S.BlockStore.state c.update.new.store) (g.met.E.Emit.starts c.args.out.now) (ap (λ (sets : List Set). Update c.in-Update.table sets c.in-Update.cond) c.as_slice-in-Update.ensures ∙ sym c.in-Update.is) now c.in_default-accessed.ensures.none refl (λ tables. tt) c.update.ensures.serves;
     }
 
 pub returns-in-Delete : goal.returns-in-Delete
@@ -65,7 +67,7 @@ returns-in-Delete g c =
     record {
       serves =
           served_as g.R.Revisions.state g.E.Emit.grew g.E.Emit.cut g.E.Emit.faults c.args.stmt.now (Delete c.in-Delete.table c.in-Delete.cond) old s c.args.out.now c.delete.result c.delete.new.self
-          (g.S.BlockStore.state c.delete.new.store) (g.met.E.Emit.starts c.args.out.now) (sym c.in-Delete.is) now (tables_flat c.requires.agrees.tables) refl (λ tables. tt) c.delete.ensures.serves;
+          (g.S.BlockStore.state c.delete.new.store) (g.met.E.Emit.starts c.args.out.now) (sym c.in-Delete.is) now c.in_default-accessed.ensures.none refl (λ tables. tt) c.delete.ensures.serves;
     }
 
 pub returns-in-Drop : goal.returns-in-Drop
@@ -76,7 +78,7 @@ returns-in-Drop g c =
     record {
       serves =
           served_as g.R.Revisions.state g.E.Emit.grew g.E.Emit.cut g.E.Emit.faults c.args.stmt.now (DropTable c.in-Drop.table) old s c.args.out.now c.drop_table.result c.drop_table.new.self
-          (g.S.BlockStore.state c.drop_table.new.store) (g.met.E.Emit.starts c.args.out.now) (sym c.in-Drop.is) now (tables_flat c.requires.agrees.tables) refl (λ tables. tt) c.drop_table.ensures.serves;
+          (g.S.BlockStore.state c.drop_table.new.store) (g.met.E.Emit.starts c.args.out.now) (sym c.in-Drop.is) now c.in_default-accessed.ensures.none refl (λ tables. tt) c.drop_table.ensures.serves;
     }
 
 pub returns-in-SelectRows : goal.returns-in-SelectRows

@@ -19,8 +19,9 @@ use Rattle.ob_verdict.specs.declared.outcome.Outcome.{Outcome}
 use Rattle.ob_verdict.specs.declared.outcome.Outcome.TheVariants.{Changed}
 use Rattle.ob_exec.specs.Schemas.{IsSet}
 use Rattle.ob_exec.proofs.ChangeLemmas.{sets_found, update_alters}
-use Rattle.ob_exec.proofs.FoundLemmas.{heading_found}
+use Rattle.ob_exec.proofs.FoundLemmas.{heading_found, shape_found}
 use Rattle.ob_exec.proofs.MutateLemmas.{mutated, unmutated}
+use Rattle.ob_exec.proofs.ReadLemmas.{read_flat}
 use Rattle.ob_exec.proofs.RunLemmas.{rests_refl}
 use Rattle.ob_exec.proofs.SilentLemmas.{serves_as, unasked}
 use Rattle.ob_exec.proofs.engine.Engine.update.Goals as goal
@@ -33,6 +34,14 @@ update-requires-clause-sets g c =
     c.requires.allowed (heading_found c.args.table.now c.args.self.now.public.tables c.table_at-i.result.0 found.table c.requires.agrees.tables.names found.here.get found.here.named) (ap (λ (f : Flat). f.schema) found.is)
     (c.as_slice-3.ensures.value ∙ c.in-Ok-set_cells.ensures.value ∙ ap (set_cells c.args.sets.now) c.as_slice-2.ensures.value) held
 
+pub update-requires-clause-flat : goal.update-requires-clause-flat
+update-requires-clause-flat g c =
+    let old = c.args.self.now in
+    let found = c.table_at-i.ensures in
+    let shape = shape_found c.args.table.now old.public.tables c.table_at-i.result.0 found.table c.requires.agrees.tables.names found.here.get found.here.named c.requires.flat in
+    read_flat g.R.Revisions.state old (g.S.BlockStore.state c.args.store.now) (g.S.BlockStore.state c.make_room.new.store) c.table_at-i.result.0 found.table c.requires.agrees c.make_room.ensures.rests found.here.get shape
+    c.table_at-i.result.1 found.is
+
 pub move_table-requires : goal.move_table-requires
 move_table-requires g c = slice_get_within c.args.self.now.public.tables c.table_at-i.result.0 c.table_at-i.ensures.table c.table_at-i.ensures.here.get
 
@@ -41,7 +50,7 @@ returns-in_default g c = record {
   serves =
       serves_as g.R.Revisions.state (Update c.args.table.now c.args.sets.now c.args.cond.now) c.args.self.now (g.S.BlockStore.state c.args.store.now) (g.S.BlockStore.state c.args.store.now) _ _ _ _
       c.cut.ensures.answer c.cut.ensures.seen
-      (unasked g.R.Revisions.state (Update c.args.table.now c.args.sets.now c.args.cond.now) c.args.self.now (g.S.BlockStore.state c.args.store.now) c.requires.agrees c.requires.allowed refl
+      (unasked g.R.Revisions.state (Update c.args.table.now c.args.sets.now c.args.cond.now) c.args.self.now (g.S.BlockStore.state c.args.store.now) c.requires.agrees c.requires.allowed refl c.requires.flat tt
       (g.S.BlockStore.state c.args.store.now) c.args.self.now.public.tables (rests_refl (g.S.BlockStore.state c.args.store.now)));
 }
 
@@ -50,7 +59,7 @@ returns-in_default-set_cells g c = record {
   serves =
       serves_as g.R.Revisions.state (Update c.args.table.now c.args.sets.now c.args.cond.now) c.args.self.now (g.S.BlockStore.state c.args.store.now) (g.S.BlockStore.state c.args.store.now) _ _ _ _
       c.cut-in_default-set_cells.ensures.answer c.cut-in_default-set_cells.ensures.seen
-      (unasked g.R.Revisions.state (Update c.args.table.now c.args.sets.now c.args.cond.now) c.args.self.now (g.S.BlockStore.state c.args.store.now) c.requires.agrees c.requires.allowed refl
+      (unasked g.R.Revisions.state (Update c.args.table.now c.args.sets.now c.args.cond.now) c.args.self.now (g.S.BlockStore.state c.args.store.now) c.requires.agrees c.requires.allowed refl c.requires.flat tt
       (g.S.BlockStore.state c.args.store.now) c.args.self.now.public.tables (rests_refl (g.S.BlockStore.state c.args.store.now)));
 }
 
@@ -59,7 +68,7 @@ returns-then-is_err g c = record {
   serves =
       serves_as g.R.Revisions.state (Update c.args.table.now c.args.sets.now c.args.cond.now) c.args.self.now (g.S.BlockStore.state c.args.store.now) (g.S.BlockStore.state c.make_room.new.store) _ _ _ _
       c.cut-then-is_err.ensures.answer c.cut-then-is_err.ensures.seen
-      (unasked g.R.Revisions.state (Update c.args.table.now c.args.sets.now c.args.cond.now) c.args.self.now (g.S.BlockStore.state c.args.store.now) c.requires.agrees c.requires.allowed refl
+      (unasked g.R.Revisions.state (Update c.args.table.now c.args.sets.now c.args.cond.now) c.args.self.now (g.S.BlockStore.state c.args.store.now) c.requires.agrees c.requires.allowed refl c.requires.flat tt
       (g.S.BlockStore.state c.make_room.new.store) c.args.self.now.public.tables c.make_room.ensures.rests);
 }
 
@@ -80,7 +89,7 @@ returns-in-Ok-update g c =
       serves =
           mutated g.R.Revisions.state (Update c.args.table.now c.args.sets.now c.args.cond.now) c.args.table.now rewrite_part Changed (λ slots. count_by (is_true pred) (rows slots))
           (map (option_map (updated pred cells))) old s (g.S.BlockStore.state c.make_room.new.store) c.update.new.vault c.update.new.room (g.S.BlockStore.state c.update.new.store)
-          c.table_at-i.result.0 table flat c.update.new.flat c.requires.agrees c.make_room.ensures.rests c.update.ensures.room found.here found.is c.requires.allowed
+          c.table_at-i.result.0 table flat c.update.new.flat c.requires.agrees c.make_room.ensures.rests c.update.ensures.room found.here found.is c.requires.allowed c.requires.flat
           (update_alters old.public (count_of old s) c.args.table.now c.args.sets.now c.args.cond.now table.heading pred cells pred_is cells_is)
           c.in-Ok-update.changed c.finish.new.self _ c.in-Ok-update.ensures.updates c.requires.lives (ap (λ (o : Outcome). Ok o) c.finish.ensures.answer)
           (c.finish.ensures.seen
@@ -104,7 +113,7 @@ returns g c =
       serves =
           unmutated g.R.Revisions.state (Update c.args.table.now c.args.sets.now c.args.cond.now) c.args.table.now rewrite_part Changed (λ slots. count_by (is_true pred) (rows slots))
           (map (option_map (updated pred cells))) old s (g.S.BlockStore.state c.make_room.new.store) c.update.new.vault c.update.new.room (g.S.BlockStore.state c.update.new.store)
-          c.table_at-i.result.0 table flat c.update.new.flat c.requires.agrees c.make_room.ensures.rests c.update.ensures.room found.here found.is c.requires.allowed
+          c.table_at-i.result.0 table flat c.update.new.flat c.requires.agrees c.make_room.ensures.rests c.update.ensures.room found.here found.is c.requires.allowed c.requires.flat
           (update_alters old.public (count_of old s) c.args.table.now c.args.sets.now c.args.cond.now table.heading pred cells pred_is cells_is)
           c.in-Err.error (c.count.result - c.count-before.result) c.cut-in-Err.new.self _ c.in-Err.ensures.updates (λ i. c.count.ensures i - c.count-before.ensures i) c.cut-in-Err.ensures.answer c.cut-in-Err.ensures.seen;
     }

@@ -1,0 +1,12 @@
+pub mod Sizes
+pub mod Joining
+pub mod Fitting
+pub mod Asked
+pub mod Served
+pub mod Arms
+pub mod Seen
+pub mod Ran
+pub mod Found
+pub mod Emitted
+pub mod Meant
+pub mod Told
