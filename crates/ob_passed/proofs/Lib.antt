@@ -1,0 +1,3 @@
+pub mod Beside
+pub mod Rested
+pub mod Sizes

@@ -1,0 +1,205 @@
+//! A block of lines, and what comes of it.
+ghost use Rattle.std.specs.Prelude.{◌≤◌};
+ghost use Rattle.ob_vault.specs.Places.{at};
+ghost use Rattle.ob_vault.specs.Words.{StartsAnew};
+ghost use Rattle.ob_blocks.specs.Idle.{IsIdle};
+ghost use Rattle.ob_flat.specs.Flats.{IsSized, IsFlat};
+ghost use Rattle.ob_passed.specs.Tables.{IsSmall};
+
+use crate::accesses::shown;
+use crate::answers::{aggregated, emit_discard, emitted, grouped, walked};
+use crate::emitter::Calls;
+use crate::joins::joined;
+use crate::orders::find_rows;
+use crate::room::{calls_of, room_of};
+use crate::selects::{hashed, selected};
+use crate::steps::is_step;
+use crate::stop::Stop;
+use crate::tables::made;
+use crate::words::{Words, head, number, parted};
+use ob_flat::Flat;
+use ob_room::Room;
+use ob_row::Pred;
+use ob_seal::Keys;
+use ob_store::{BlockStore, MemStore};
+use ob_test_stores::KeepingStore;
+use ob_vault::{BaseRevs, Revisions, Vault, VecRevs};
+use std::alloc::{AllocError, Global};
+
+// The line of a table and the lines of its steps, and the others.
+fn table_lines(lines: &[String]) -> (&[String], &[String]) {
+    for i in 1..lines.len() {
+        if !is_step(head(lines[i].as_str())) {
+            return lines.split_at(i);
+        }
+    }
+    (lines, &[])
+}
+
+// The lines before those that show what was asked of the store, and those.
+fn shown_last(lines: &[String]) -> (&[String], &[String]) {
+    for i in 0..lines.len() {
+        if matches!(head(lines[i].as_str()), "accesses" | "writes") {
+            return lines.split_at(i);
+        }
+    }
+    (lines, &[])
+}
+
+// What an operator selects of a table, which is emitted and discarded.
+fn select_emit<S: BlockStore, R: Revisions>(
+    alloc: Global,
+    out: &mut String,
+    store: &mut S,
+    vault: &mut Vault<R>,
+    room: &mut Room,
+    flat: &Flat,
+    operator: &str,
+    words: Words<'_>,
+    pred: &Pred,
+    calls: Calls,
+) -> Result<(), Stop>
+    requires ready { StartsAnew (at R.state vault.old (S.state store.old)) }
+    requires flat { IsFlat room.old.pack flat.now (at R.state vault.old (S.state store.old)) }
+    requires size { IsSized flat.now.schema flat.now.capacity }
+    requires small { IsSmall flat.now.schema flat.now.capacity }
+    requires room { IsIdle 1024 room.old }
+    requires pack { (1 ≤ room.old.pack) × (room.old.pack ≤ 16) }
+{
+    let mut words = words;
+    let Some(k) = number(&mut words) else {
+        return Err(Stop::Unread);
+    };
+    if operator == "hash" {
+        let Some(depth) = number(&mut words) else {
+            return Err(Stop::Unread);
+        };
+        let result = hashed(out, store, vault, room, flat, pred, k, depth)?;
+        return emit_discard(alloc, out, store, vault, room, result, words, calls);
+    }
+    let result = selected(store, vault, room, flat, pred, operator, k)?;
+    emit_discard(alloc, out, store, vault, room, result, words, calls)
+}
+
+// Answers what a line asks of a table.
+fn answered<S: BlockStore, R: Revisions>(
+    alloc: Global,
+    out: &mut String,
+    store: &mut S,
+    vault: &mut Vault<R>,
+    room: &mut Room,
+    flat: &Flat,
+    line: &str,
+    calls: Calls,
+) -> Result<(), Stop>
+    requires ready { StartsAnew (at R.state vault.old (S.state store.old)) }
+    requires flat { IsFlat room.old.pack flat.now (at R.state vault.old (S.state store.old)) }
+    requires size { IsSized flat.now.schema flat.now.capacity }
+    requires small { IsSmall flat.now.schema flat.now.capacity }
+    requires room { IsIdle 1024 room.old }
+    requires pack { (1 ≤ room.old.pack) × (room.old.pack ≤ 16) }
+{
+    let Some((mut words, pred)) = parted(line, &flat.schema) else {
+        return Err(Stop::Unread);
+    };
+    match words.next() {
+        Some("emit") => emitted(alloc, out, store, vault, room, flat, words, calls),
+        Some("walk") => walked(out, store, vault, room, flat),
+        Some("aggregate") => aggregated(alloc, out, store, vault, room, flat, words, &pred),
+        Some("group") => grouped(alloc, out, store, vault, room, flat, words, &pred, calls),
+        Some(operator) => select_emit(
+            alloc, out, store, vault, room, flat, operator, words, &pred, calls,
+        ),
+        None => Err(Stop::Unread),
+    }
+}
+
+// Makes a table, or two, does to each what its lines say, and answers what the line behind them asks.
+fn session<S: BlockStore, R: Revisions>(
+    alloc: Global,
+    out: &mut String,
+    store: &mut S,
+    vault: &mut Vault<R>,
+    room: &mut Room,
+    lines: &[String],
+    calls: Calls,
+) -> Result<(), Stop>
+    requires ready { StartsAnew (at R.state vault.old (S.state store.old)) }
+    requires room { IsIdle 1024 room.old }
+    requires pack { (1 ≤ room.old.pack) × (room.old.pack ≤ 16) }
+{
+    let (table, rest) = table_lines(lines);
+    let left = made(alloc, out, store, vault, room, table)?;
+    let Some((line, _)) = rest.split_first() else {
+        return Err(Stop::Unread);
+    };
+    out.push_str("\n")?;
+    if head(line.as_str()) != "table" {
+        write!(out, "{line} -> ")?;
+        return answered(alloc, out, store, vault, room, &left, line.as_str(), calls);
+    }
+    let (table, rest) = table_lines(rest);
+    let right = made(alloc, out, store, vault, room, table)?;
+    let Some((line, _)) = rest.split_first() else {
+        return Err(Stop::Unread);
+    };
+    write!(out, "\n{line} -> ")?;
+    joined(alloc, out, store, vault, room, &left, &right, line.as_str(), calls)
+}
+
+// Runs a block over a store of its own.
+fn run<R: Revisions>(alloc: Global, out: &mut String, lines: &[String]) -> Result<(), Stop> {
+    let Some((line, lines)) = lines.split_first() else {
+        return Err(Stop::Unread);
+    };
+    write!(out, "{line}\n")?;
+    let mut words = line.split_ascii_whitespace();
+    let _head = words.next();
+    let Some(mut room) = room_of(alloc, &mut words) else {
+        return Err(Stop::Unread);
+    };
+    let calls = calls_of(&mut words);
+    let mut store = KeepingStore::new(alloc, MemStore::new(alloc));
+    let mut vault: Vault<R> = Vault::new(alloc, Keys::derive(&[0; 32]));
+    let (lines, shows) = shown_last(lines);
+    if let Err(stop) = session(alloc, out, &mut store, &mut vault, &mut room, lines, calls) {
+        write!(out, "{stop}")?;
+    }
+    for line in shows {
+        write!(out, "\n{line} -> ")?;
+        shown(out, &store, line.as_str())?;
+    }
+    Ok(())
+}
+
+// What comes of a block, over one kind of revisions.
+fn outcome<R: Revisions>(alloc: Global, lines: &[String]) -> Result<String, AllocError> {
+    let mut out = String::new(alloc);
+    if let Err(stop) = run::<R>(alloc, &mut out, lines) {
+        write!(out, "{stop}")?;
+    }
+    out.push_str("\n")?;
+    Ok(out)
+}
+
+/// A block with what comes of each of its lines.
+pub(crate) fn answer(alloc: Global, lines: &[String]) -> Result<String, AllocError> {
+    let mut out = String::new(alloc);
+    let Some((line, _)) = lines.split_first() else {
+        return Ok(out);
+    };
+    if head(line.as_str()) == "rows" {
+        if let Err(stop) = find_rows(alloc, &mut out, lines) {
+            write!(out, "{stop}")?;
+        }
+        out.push_str("\n")?;
+        return Ok(out);
+    }
+    let bases = outcome::<BaseRevs>(alloc, lines)?;
+    let numbers = outcome::<VecRevs>(alloc, lines)?;
+    out.push_str(bases.as_str())?;
+    if bases.as_str() != numbers.as_str() {
+        write!(out, "Over a number for each block:\n{numbers}")?;
+    }
+    Ok(out)
+}

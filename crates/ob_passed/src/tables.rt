@@ -1,0 +1,101 @@
+//! Tables that are made and changed.
+ghost use Rattle.std.specs.Prelude.{◌≡◌, ◌≤◌, OnOk, IfOk, IfSome};
+ghost use Rattle.ob_base.specs.Schemas.{width};
+ghost use Rattle.ob_vault.specs.Places.{at};
+ghost use Rattle.ob_vault.specs.Words.{StartsAnew};
+ghost use Rattle.ob_blocks.specs.Idle.{IsIdle};
+ghost use Rattle.ob_flat.specs.Flats.{IsSized, IsFlat};
+ghost use Rattle.ob_passed.specs.Tables.{KeepsOthers, KeepsAll, IsSmall};
+
+use crate::columns::schema_of;
+use crate::room::make_room;
+use crate::steps::step;
+use crate::stop::Stop;
+use crate::words::number;
+use ob_base::Schema;
+use ob_flat::{Flat, create};
+use ob_room::Room;
+use ob_store::BlockStore;
+use ob_vault::{Revisions, Vault};
+use std::alloc::Global;
+
+// The columns and the slots that a line gives a table, at most 16 of either.
+fn heading(line: &str) -> Option<(Schema, u32)>
+    ensures size { IfSome result (λ heading. IsSized heading.0 heading.1) }
+    ensures small { IfSome result (λ heading. IsSmall heading.0 heading.1) }
+{
+    let mut words = line.split_ascii_whitespace();
+    let _head = words.next()?;
+    let slots = number(&mut words)?;
+    let schema = schema_of(words)?;
+    let columns = schema.as_slice().len();
+    if slots < 1 || slots > 16 || columns < 1 || columns > 16 || schema.width() > 256 {
+        return None;
+    }
+    Some((schema, slots))
+}
+
+// Does what lines say to a table, one after the other, and writes behind each what came of it.
+fn take_steps<S: BlockStore, R: Revisions>(
+    alloc: Global,
+    out: &mut String,
+    store: &mut S,
+    vault: &mut Vault<R>,
+    room: &mut Room,
+    flat: &mut Flat,
+    lines: &[String],
+) -> Result<(), Stop>
+    requires ready { StartsAnew (at R.state vault.old (S.state store.old)) }
+    requires flat { IsFlat room.old.pack flat.old (at R.state vault.old (S.state store.old)) }
+    requires size { IsSized flat.old.schema flat.old.capacity }
+    requires few { flat.old.capacity ≤ 16 }
+    requires room { IsIdle (width flat.old.schema) room.old }
+    ensures ready { OnOk result (StartsAnew (at R.state vault.new (S.state store.new))) }
+    ensures flat { OnOk result (IsFlat room.old.pack flat.new
+        (at R.state vault.new (S.state store.new))) }
+    ensures schema { OnOk result (flat.new.schema ≡ flat.old.schema) }
+    ensures capacity { OnOk result (flat.new.capacity ≡ flat.old.capacity) }
+    ensures room { OnOk result (room.new ≡ record room.old { high = room.new.high }) }
+    ensures beside { OnOk result (KeepsOthers room.old.pack flat.old flat.new
+        (at R.state vault.old (S.state store.old)) (at R.state vault.new (S.state store.new))) }
+{
+    for line in lines {
+        write!(out, "\n{line} -> ")?;
+        step(alloc, out, store, vault, room, flat, line.as_str())?;
+    }
+    Ok(())
+}
+
+/// Makes the table of the first line, and does to it what the others say. The tables that were there stay.
+pub(crate) fn made<S: BlockStore, R: Revisions>(
+    alloc: Global,
+    out: &mut String,
+    store: &mut S,
+    vault: &mut Vault<R>,
+    room: &mut Room,
+    lines: &[String],
+) -> Result<Flat, Stop>
+    requires ready { StartsAnew (at R.state vault.old (S.state store.old)) }
+    requires room { IsIdle 1024 room.old }
+    requires pack { 1 ≤ room.old.pack }
+    ensures ready { OnOk result (StartsAnew (at R.state vault.new (S.state store.new))) }
+    ensures flat { IfOk result (λ flat. IsFlat room.old.pack flat
+        (at R.state vault.new (S.state store.new))) }
+    ensures size { IfOk result (λ flat. IsSized flat.schema flat.capacity) }
+    ensures small { IfOk result (λ flat. IsSmall flat.schema flat.capacity) }
+    ensures room { OnOk result (room.new ≡ record room.old { high = room.new.high }) }
+    ensures beside { OnOk result (KeepsAll room.old.pack
+        (at R.state vault.old (S.state store.old)) (at R.state vault.new (S.state store.new))) }
+{
+    let Some((line, steps)) = lines.split_first() else {
+        return Err(Stop::Unread);
+    };
+    let Some((schema, slots)) = heading(line.as_str()) else {
+        return Err(Stop::Unread);
+    };
+    make_room(store)?;
+    let mut flat = create(store, vault, room, &schema, slots)?;
+    write!(out, "{line} -> made")?;
+    take_steps(alloc, out, store, vault, room, &mut flat, steps)?;
+    Ok(flat)
+}
