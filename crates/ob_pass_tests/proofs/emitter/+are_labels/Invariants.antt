@@ -1,5 +1,0 @@
-use Rattle.std.proofs.Common.{length}
-use Rattle.ob_pass_tests.proofs.emitter.+are_labels.Given as goal
-
-abbrev pub decreases-are_labels : goal.decreases-are_labels
-decreases-are_labels l = length l.labels.now
