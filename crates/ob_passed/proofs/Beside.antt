@@ -1,5 +1,5 @@
 -- A table beside another that changes.
-use Rattle.std.proofs.Common.{◌≢◌, ℕ, List, inl, inr}
+use Rattle.std.proofs.Common.{◌≡◌, ◌≢◌, ◌∙◌, ℕ, List, Result, Ok, Err, OnOk, inl, inr, ap}
 use Rattle.ob_base.specs.declared.access.Access.{Access}
 use Rattle.ob_vault.specs.State.{World}
 use Rattle.ob_vault.specs.Tied.{Ready}
@@ -7,7 +7,12 @@ use Rattle.ob_vault.specs.Calls.{Went, none, one, two}
 use Rattle.ob_vault.proofs.Runs.{lives_apart}
 use Rattle.ob_flat.specs.declared.flat.Flat.{Flat}
 use Rattle.ob_flat.specs.Flats.{IsFlat}
+use Rattle.ob_flat.specs.Words.{moved}
 use Rattle.ob_flat.proofs.Tables.{flat_lasts}
+
+pub on_ok : {T E P : Type 0} (r : Result T E) → P → OnOk r P
+on_ok (Ok x) p = p
+on_ok (Err e) p = tt
 
 -- it lies in no region that is made
 pub beside_made : (pack : ℕ) (other : Flat) (a : World) → Ready a → IsFlat pack other a → other.region ≢ a.vault.next
@@ -17,10 +22,14 @@ module _ (pack : ℕ) (other : Flat) (a b : World) (x : List Access) (ready : Re
   pub flat_made : Went x (one a.vault.next) a b → IsFlat pack other b
   flat_made went = flat_lasts pack other (one a.vault.next) a b went.lasts (beside_made pack other a ready is) is
 
-  pub flat_beside : (region : ℕ) → other.region ≢ region → Went x (two region a.vault.next) a b → IsFlat pack other b
-  flat_beside region apart went =
-      flat_lasts pack other (two region a.vault.next) a b went.lasts (λ s. elim s [ inl same ↦ apart same | inr same ↦ beside_made pack other a ready is same ]) is
-
   -- nothing is made or given up
   pub flat_read : Went x none a b → IsFlat pack other b
   flat_read went = flat_lasts pack other none a b went.lasts (λ made. made) is
+
+  -- the other goes to a fresh region
+  module _ (flat left : Flat) (apart : other.region ≢ flat.region) (went : Went x (two flat.region a.vault.next) a b) (moves : left ≡ moved flat a.vault.next) where
+    flat_beside : IsFlat pack other b
+    flat_beside = flat_lasts pack other (two flat.region a.vault.next) a b went.lasts (λ s. elim s [ inl same ↦ apart same | inr same ↦ beside_made pack other a ready is same ]) is
+
+    pub stays_beside : IsFlat pack other b × (other.region ≢ left.region)
+    stays_beside = (flat_beside, λ same. beside_made pack other a ready is (same ∙ ap (λ (f : Flat). f.region) moves))
