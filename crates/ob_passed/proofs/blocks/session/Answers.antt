@@ -6,7 +6,7 @@ use Rattle.ob_passed.proofs.blocks.session.Goals as goal
 
 pub joined-requires-clause-left : goal.joined-requires-clause-left
 joined-requires-clause-left g c =
-    let left = c.in_ok-left.result in
+    let left = c.in_ok-left.left in
     let before = at g.R.Revisions.state c.made.new.vault (g.S.BlockStore.state c.made.new.store) in
     let now = at g.R.Revisions.state c.made-2.new.vault (g.S.BlockStore.state c.made-2.new.store) in
     let pack : c.made.new.room.pack ≡ c.args.room.now.pack = ap (λ (r : RoomState). r.pack) c.in_ok-left.ensures.room in

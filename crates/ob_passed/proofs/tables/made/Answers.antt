@@ -13,7 +13,7 @@ returns-clause-beside g c = λ other is.
     let went = c.in_ok-flat.ensures.creates.ran.ok in
     let value = c.in_ok-flat.ensures.creates.makes.value in
     let made = flat_made c.args.room.now.pack other _ _ _ ready before went in
-    let apart : other.region ≢ c.in_ok-flat.result.region = λ same. beside_made c.args.room.now.pack other _ ready before (same ∙ ap (λ (f : Flat). f.region) value) in
+    let apart : other.region ≢ c.in_ok-flat.flat.region = λ same. beside_made c.args.room.now.pack other _ ready before (same ∙ ap (λ (f : Flat). f.region) value) in
     let pack : c.create.new.room.pack ≡ c.args.room.now.pack = ap (λ (r : RoomState). r.pack) c.create.ensures.room in
     let beside = rw pack at c.in_ok-take_steps.ensures.beside in
     (beside other made apart).0
