@@ -1,5 +1,5 @@
 -- What is asked of few slots.
-use Rattle.std.proofs.Common.{◌≡◌, ◌≤◌, ◌+◌, ◌*◌, ℕ, ◌++◌, length, arith, length-append}
+use Rattle.std.proofs.Common.{◌≤◌, ◌+◌, ◌*◌, ℕ, ◌++◌, length, arith, length-append}
 use Rattle.std.specs.Int.{div_ceil}
 use Rattle.ob_base.specs.Joins.{chunks, joined_blocks, joined_slots}
 use Rattle.ob_base.specs.Limits.{buffered_blocks}

@@ -53,7 +53,11 @@ fn writes(out: &mut String, store: &KeepingStore) -> Result<(), Stop> {
     let keys = Keys::derive(&[0; 32]);
     let mut comma = "";
     for (number, write) in (1..=1_000_000).zip(store.written()) {
-        let shut = if opens(&keys, number, write) { "" } else { " shut" };
+        let shut = if opens(&keys, number, write) {
+            ""
+        } else {
+            " shut"
+        };
         write!(out, "{comma}{} {}{shut}", write.0, write.1)?;
         comma = ", ";
     }

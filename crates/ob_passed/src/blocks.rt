@@ -144,7 +144,17 @@ fn session<S: BlockStore, R: Revisions>(
         return Err(Stop::Unread);
     };
     write!(out, "\n{line} -> ")?;
-    joined(alloc, out, store, vault, room, &left, &right, line.as_str(), calls)
+    joined(
+        alloc,
+        out,
+        store,
+        vault,
+        room,
+        &left,
+        &right,
+        line.as_str(),
+        calls,
+    )
 }
 
 // Runs a block over a store of its own.

@@ -20,11 +20,7 @@ fn are_columns(schema: &Schema, places: &[u8]) -> bool
 }
 
 /// The places of the columns that words name.
-pub(crate) fn columns_of(
-    alloc: Global,
-    schema: &Schema,
-    words: Words<'_>,
-) -> Result<Vec<u8>, Stop>
+pub(crate) fn columns_of(alloc: Global, schema: &Schema, words: Words<'_>) -> Result<Vec<u8>, Stop>
     ensures { IfOk result (λ places. AreColumns schema.now places.items) }
 {
     let mut places = Vec::new(alloc);

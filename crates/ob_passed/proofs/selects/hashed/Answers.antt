@@ -15,8 +15,8 @@ returns-clause-capacity g c =
     let deep : c.args.depth ≤ 8 = omega (arith, c.if-depth-gt8.false) in
     let most = slots_few c.args.k c.args.depth pack few deep c.requires.pack.1 in
     IfOk-weaker c.parts.result _ _ (λ found same.
-      let size : found.capacity ≡ (c.args.k * c.args.depth) * pack = ap (λ (f : Flat). f.capacity) same ∙ ap (λ (f : Flat). f.capacity) value in
-      omega (arith, size, most)) c.parts.ensures
+    let size : found.capacity ≡ (c.args.k * c.args.depth) * pack = ap (λ (f : Flat). f.capacity) same ∙ ap (λ (f : Flat). f.capacity) value in
+    omega (arith, size, most)) c.parts.ensures
 
 pub returns-clause-written : goal.returns-clause-written
 returns-clause-written g c =
