@@ -103,8 +103,7 @@ pub fn padded_reruns_ask_the_same()
 {}
 
 /// The same over the whole language, where the same is seen of each statement that accesses an index, and of each SELECT of
-/// rows that isn't padded: then of all statements the same is
-/// seen, and the runs ask the same.
+/// rows that isn't padded: then of all statements the same is seen, and the runs ask the same.
 pub fn reruns_show_the_same()
     ensures { (a b : SomeRun) → GoOnFromOne a b
         → EndsWell a.report.status (failures_of a) → EndsWell b.report.status (failures_of b)
