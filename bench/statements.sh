@@ -189,7 +189,8 @@ for it, pack in lines:
     verdict = "OVER" if is_over else "OK" if has_pass else "no pass"
     print(f"| {' | '.join(map(str, cells))} | {verdict} |", flush=True)
 
-# ---- statements on an index of so many keys: each reads and writes the stash and a path of buckets of four
+# ---- statements on an index of so many keys, a hundred typed at once: each reads and writes the stash and a path of buckets
+# of four
 EACH, HEIGHT = 100, (SLOTS - 1).bit_length()
 ON_INDEX = [
     ("INSERT", "INSERT INTO o VALUES ({n}, 9);"),
@@ -210,7 +211,7 @@ def all_keyed(stash):
         found["CREATE"].append((session.serve(create.format(name="n"))[1], passes.run("b", made, 0, WIDTH)[0]))
         session.serve("DROP TABLE n;")
         for name, text in ON_INDEX:
-            spent = sum(session.serve(text.format(n=(EACH * n + key) % SLOTS))[1] for key in range(EACH))
+            spent = session.serve_all([text.format(n=(EACH * n + key) % SLOTS) for key in range(EACH)])
             found[name].append((spent / EACH, passes.run("b", EACH * asked, EACH * asked, WIDTH)[0] / EACH))
     for driven in (passes, session):
         driven.end()
