@@ -6,6 +6,7 @@ at: others at work on the machine count only as far as they slow its processors 
 
 Other scripts import it; by itself it runs nothing. Needs python3, on Linux: it looks into /proc.
 """
+import itertools
 import statistics
 import subprocess
 import sys
@@ -85,6 +86,15 @@ class Session(Driven):
         if lines[-1].startswith("!") or lines[-1].startswith("E") and not refused:
             sys.exit(f"{text} is answered {lines[-1]}")
         return lines, spent
+
+    def serve_all(self, texts):
+        """The milliseconds of statements that are typed at once, each of which is carried out."""
+        closings = itertools.count(1)
+        lines, spent = self.timed("\n".join(texts) + "\n", lambda line: not line.startswith('"') and next(closings) == len(texts))
+        for line in lines:
+            if line.startswith(("!", "E")):
+                sys.exit(f"one of {texts} is answered {line}")
+        return spent
 
 
 class Passes(Driven):

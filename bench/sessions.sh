@@ -213,11 +213,12 @@ for n in range(rounds + 1):
 for session in keyed.values():
     session.end()
 print(f"\nA row by its key, in an index of {SLOTS:,} keys with 89 slots of the stash:\n")
-print("| Statement | memory | files | of memory's | goal: 2 | SQLCipher |")
-print("|---|---:|---:|---:|---|---:|")
+print("| Statement | memory | files | of memory's | goal: 2 | SQLCipher | memory, of SQLCipher's |")
+print("|---|---:|---:|---:|---|---:|---:|")
 for name, _, _ in BY_KEY:
     memory, files = (least(name, "keyed", side) for side in ("memory", "files"))
-    beside = f"{least(name, 'keyed', 'theirs'):.3f}" if cipher else ""
+    theirs = least(name, "keyed", "theirs") if cipher else None
+    beside = f"{theirs:.3f} | {memory / theirs:.1f}" if cipher else "|"
     print(f"| {name} | {memory:.3f} | {files:.3f} | {files / memory:.2f} | {verdict(files / memory, 2)} | {beside} |", flush=True)
 
 # ---- opening and closing: whole runs that serve nothing

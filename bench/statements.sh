@@ -189,7 +189,8 @@ for it, pack in lines:
     verdict = "OVER" if is_over else "OK" if has_pass else "no pass"
     print(f"| {' | '.join(map(str, cells))} | {verdict} |", flush=True)
 
-# ---- statements on an index of so many keys: each reads and writes the stash and a path of buckets of four
+# ---- statements on an index of so many keys, a hundred typed at once: each reads and writes the stash and a path of buckets
+# of four
 EACH, HEIGHT = 100, (SLOTS - 1).bit_length()
 ON_INDEX = [
     ("INSERT", "INSERT INTO o VALUES ({n}, 9);"),
@@ -210,7 +211,7 @@ def all_keyed(stash):
         found["CREATE"].append((session.serve(create.format(name="n"))[1], passes.run("b", made, 0, WIDTH)[0]))
         session.serve("DROP TABLE n;")
         for name, text in ON_INDEX:
-            spent = sum(session.serve(text.format(n=(EACH * n + key) % SLOTS))[1] for key in range(EACH))
+            spent = session.serve_all([text.format(n=(EACH * n + key) % SLOTS) for key in range(EACH)])
             found[name].append((spent / EACH, passes.run("b", EACH * asked, EACH * asked, WIDTH)[0] / EACH))
     for driven in (passes, session):
         driven.end()
@@ -226,6 +227,25 @@ if rounds:
             is_over = spent / alone > (1.2 if name == "CREATE" else 1.4)
             over_limit += is_over
             print(f"| {name} | {stash} | {spent:.3f} | {alone:.3f} | {spent / alone:.2f} | {low:.2f} to {high:.2f} | {'OVER' if is_over else 'OK'} |", flush=True)
+
+# ---- from how many keys on an index is the faster one: the milliseconds of a statement, one of these four in turn
+def of_four(capacity, words, tail=""):
+    session, least = Session(PROGRAM, *words), None
+    session.serve(f"CREATE TABLE o (id INT PRIMARY KEY, v INT) CAPACITY {capacity}{tail};")
+    # (the first round warms up)
+    for n in range(rounds + 1):
+        spent = sum(session.serve_all([text.format(n=key) for key in range(EACH)]) for _, text in ON_INDEX) / (EACH * len(ON_INDEX))
+        least = spent if n < 2 else min(least, spent)
+    session.end()
+    return least
+
+if rounds:
+    print("\nA statement by its key, milliseconds:\n")
+    print("| Keys | flat, 16 rows a block | index, 32 slots of the stash | index, 89 |\n|---:|---:|---:|---:|")
+    for capacity in (128, 256, 512, 1024):
+        flat = of_four(capacity, ["--pack", "16"])
+        keyed = (of_four(capacity, ["--buffer", "160", "--stash", str(stash)], " INDEXED") for stash in (32, 89))
+        print(f"| {capacity:,} | {flat:.2f} | {' | '.join(f'{it:.2f}' for it in keyed)} |", flush=True)
 
 # ---- a session of short statements: of each, how many blocks it seals and opens, one row in each of 16
 U = 16

@@ -1,8 +1,8 @@
 #!/usr/bin/env python3
 """Writes crates/ob_cases/data/examples.case: the sessions of examples/ with what stands beside them, and that of two days as
-one; each also as two runs, cut behind each statement, with 1, 2 and 16 rows in a block. Then it counts all cases, with those
-that lines `each ..` make, into crates/ob_cases/stdout, and looks whether README and the guide show what is served. Nothing
-that the program answers goes into any of it. It needs python3 alone, and takes a moment.
+one; each without an index also as two runs, cut behind each statement, with 1, 2 and 16 rows in a block. Then it counts all
+cases, with those that lines `each ..` make, into crates/ob_cases/stdout, and looks whether README and the guide show what is
+served. Nothing that the program answers goes into any of it. It needs python3 alone, and takes a moment.
 """
 import itertools
 import pathlib
@@ -53,15 +53,15 @@ def case(name, words, body, total, said, more=()):
     return "\n".join([*head, *body, *([f"total {total}"] if total else []), f"status {status}", *more]) + "\n"
 
 
-def session(*names, total=None):
-    """A session, or some as one, each answer behind its statement."""
+def session(*names, total=None, kept=True):
+    """A session, or some as one, each answer behind its statement; where its tables may be kept, in two runs, too."""
     sql, out = [lines_of(f"{name}.sql") for name in names], [lines_of(f"{name}.out") for name in names]
     texts, said = statements(sum((lines[1:] for lines in sql), [])), answers(sum(out, []))
     assert len(texts) == len(said) and len({lines[0] for lines in sql}) == 1
     body = [f"key {sql[0][0]}"]
     for typed, told in zip(texts, said):
         body += [f"> {line}".rstrip() for line in typed] + [f"< {line}" for line in told]
-    parts = [f"each statement parts --keep --pack {pack}" for pack in (1, 2, 16)]
+    parts = [f"each statement parts --keep --pack {pack}" for pack in (1, 2, 16) if kept]
     return case(" and ".join(f"examples/{name}.sql" for name in names), "", body, total, sum(said, []), parts)
 
 
@@ -114,6 +114,7 @@ def main():
         disturbed("first", "--meddle 179:old:8.0", [*first[:grouped], "! tampered 8 0"], 179),
         disturbed("first", "--meddle 100:fail", failed),
         *(session(name) for name in ("clinic", "payroll", "orders")),
+        session("stock", kept=False),
         session("first", "next/first"),
     ]
     (CASES / "data/examples.case").write_text("\n".join(examples))

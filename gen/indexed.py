@@ -6,6 +6,7 @@ that the program answers goes into it. It needs python3 alone, and takes some se
 import hashlib
 import hmac
 import pathlib
+import re
 import struct
 
 from generated import Run
@@ -15,6 +16,7 @@ ZEROS = "0" * 64
 COLUMNS = "(id INT PRIMARY KEY, v INT)"
 WIDTH = 17
 EACH = ["each access fails", "each block flipped 48", "each block put back", "each block exchanged"]
+SINKS = ["each answer fails", "each trace fails", "each byte last"]
 
 
 def stream(seed):
@@ -50,8 +52,12 @@ class Full(Exception):
 
 
 class Index:
-    def __init__(self, tree, capacity, leaves):
+    """An index with these columns, whose rows are kept by their keys."""
+
+    def __init__(self, tree, capacity, leaves, columns):
         self.tree, self.stash, self.capacity = tree, tree + 1, capacity
+        self.names = [it.split()[0] for it in columns[1:-1].split(", ")]
+        self.key = next(it.split()[0] for it in columns[1:-1].split(", ") if "PRIMARY" in it)
         self.height = (capacity - 1).bit_length()
         self.leaves = [draw % 2**self.height for draw in leaves]
         self.buckets, self.left, self.rows = {}, [], {}
@@ -89,28 +95,41 @@ class Session:
 
     def __init__(self, name, words, slots=32, secret=ZEROS, may_fill=False, **settings):
         self.run, self.slots, self.draws, self.may_fill = Run(**settings), slots, draws(secret), may_fill
-        self.lines = [f"case {name}", *([f"words {words}"] if words else []), *([f"key {secret}"] if secret != ZEROS else [])]
+        self.name, self.words, self.changes = name, words, []
+        self.lines = [f"key {secret}"] if secret != ZEROS else []
         self.status, self.indexes, self.flats = 0, {}, {}
 
     def says(self, text, before, answers, more=()):
-        self.lines += [f"> {text}", *[f"@ {line}" for line in joined(self.run.asked[before:])], *[f"< {line}" for line in answers], *more]
+        self.lines += [*[f"> {line}" for line in text.split("\n")], *[f"@ {line}" for line in joined(self.run.asked[before:])], *[f"< {line}" for line in answers], *more]
         if answers[-1][0] == "E":
             self.status = 1
 
-    def create(self, name, capacity, *behind):
+    def makes(self, capacity, columns):
+        """What CREATE asks of an index goes to the run."""
+        leaves = [next(self.draws) for _ in range(capacity)]
+        index = Index(self.run.next, capacity, leaves, columns)
+        for region, places in ((index.tree, 4 * (2 ** (index.height + 1) - 1)), (index.stash, self.slots)):
+            self.run.make(1, 0)
+            self.run.asked[-1] = f"M {region} {places} {width_of(columns) + 32}"
+            for place in range(places):
+                self.run.write(region, place)
+        return index
+
+    def create(self, name, capacity, *behind, columns=COLUMNS, text=None):
         """Where an access of it fails, this is answered behind it."""
-        before, leaves = len(self.run.asked), [next(self.draws) for _ in range(capacity)]
-        index = Index(self.run.next, capacity, leaves)
-        tree = self.run.make(1, 0)
-        self.run.asked[-1] = f"M {tree} {4 * (2 ** (index.height + 1) - 1)} {WIDTH + 32}"
-        for place in range(4 * (2 ** (index.height + 1) - 1)):
-            self.run.write(tree, place)
-        stash = self.run.make(1, 0)
-        self.run.asked[-1] = f"M {stash} {self.slots} {WIDTH + 32}"
-        for place in range(self.slots):
-            self.run.write(stash, place)
-        self.indexes[name] = index
-        self.says(f"CREATE TABLE {name} {COLUMNS} CAPACITY {capacity} INDEXED;", before, ["= created"], behind)
+        before = len(self.run.asked)
+        self.indexes[name] = self.makes(capacity, columns)
+        text = text or f"CREATE TABLE {name} {columns} CAPACITY {capacity} INDEXED;"
+        self.says(text, before, ["= created"], behind)
+
+    def fails_to_create(self, name, capacity, at):
+        """Its access of this number fails."""
+        before, region = len(self.run.asked), self.run.next
+        self.makes(capacity, COLUMNS)
+        del self.run.asked[before + at :]
+        self.run.next = region + sum(it[0] == "M" for it in self.run.asked[before:])
+        self.changes.append(f"{before + at}:fail")
+        self.says(f"CREATE TABLE {name} {COLUMNS} CAPACITY {capacity} INDEXED;", before, ["E15 store fault"])
 
     def goes(self, text, name, key, change, answers):
         index, before = self.indexes[name], len(self.run.asked)
@@ -121,38 +140,53 @@ class Session:
             self.status, answers = 11, ["! stash full"]
         self.says(text, before, answers, ["else stops"])
 
-    def insert(self, name, key, value, text=None):
-        index = self.indexes[name]
+    def reads_changed(self, name, key, change, region, place):
+        """A SELECT that reads this block, which others changed so just before."""
+        before = len(self.run.asked)
+        self.indexes[name].access(self.run, self.slots, key, next(self.draws), lambda: None)
+        del self.run.asked[self.run.asked.index(f"R {region} {place}", before) + 1 :]
+        self.changes.append(f"{len(self.run.asked)}:{change}")
+        self.status = 4
+        self.says(f"SELECT * FROM {name} WHERE id = {key};", before, [f"! tampered {region} {place}"])
+
+    def insert(self, name, key, *others, text=None):
+        """The others are the cells of the other columns, in order."""
+        index, cells = self.indexes[name], iter(others)
+        row = {it: key if it == index.key else next(cells) for it in index.names}
         there, known = key in index.rows, 0 <= key < index.capacity
         answer = "E10 duplicate" if there else "= inserted" if known else "E17 key range"
 
         def change():
             if known and not there:
-                index.rows[key] = value
+                index.rows[key] = row
 
-        self.goes(text or f"INSERT INTO {name} VALUES ({key}, {value});", name, key, change, [answer])
+        text = text or f"INSERT INTO {name} VALUES ({', '.join(map(literal, row.values()))});"
+        self.goes(text, name, key, change, [answer])
 
-    def update(self, name, key, value):
+    def update(self, name, key, text=None, **cells):
         index = self.indexes[name]
         there = int(key in index.rows)
 
         def change():
             if there:
-                index.rows[key] = value
+                index.rows[key] = {**index.rows[key], **cells}
 
-        self.goes(f"UPDATE {name} SET v = {value} WHERE id = {key};", name, key, change, [f"= {there} updated"])
+        said = ", ".join(f"{it} = {literal(cell)}" for it, cell in cells.items())
+        self.goes(text or f"UPDATE {name} SET {said} WHERE {index.key} = {key};", name, key, change, [f"= {there} updated"])
 
-    def delete(self, name, key):
+    def delete(self, name, key, text=None):
         index = self.indexes[name]
         there = int(key in index.rows)
-        self.goes(f"DELETE FROM {name} WHERE id = {key};", name, key, lambda: index.rows.pop(key, None), [f"= {there} deleted"])
+        text = text or f"DELETE FROM {name} WHERE {index.key} = {key};"
+        self.goes(text, name, key, lambda: index.rows.pop(key, None), [f"= {there} deleted"])
 
     def select(self, name, key, columns="*", where=None):
         index = self.indexes[name]
-        names = ["id", "v"] if columns == "*" else columns.split(", ")
-        rows = [{"id": key, "v": index.rows[key]}] if key in index.rows else []
-        shown = [",".join(f'"{cell}"' for cell in line) for line in [names, *[[row[it] for it in names] for row in rows]]]
-        self.goes(f"SELECT {columns} FROM {name} WHERE {where or f'id = {key}'};", name, key, lambda: None, [*shown, f"= {len(rows)} rows"])
+        names = index.names if columns == "*" else [it.split(".")[-1] for it in columns.split(", ")]
+        rows = [index.rows[key]] if key in index.rows else []
+        shown = [",".join('"' + str(cell).replace('"', '""') + '"' for cell in line) for line in [names, *[[row[it] for it in names] for row in rows]]]
+        text = f"SELECT {columns} FROM {name} WHERE {where or f'{index.key} = {key}'};"
+        self.goes(text, name, key, lambda: None, [*shown, f"= {len(rows)} rows"])
 
     def drop(self, name):
         before, index = len(self.run.asked), self.indexes.pop(name)
@@ -183,8 +217,19 @@ class Session:
 
     def case(self, *more):
         asked = self.run.asked
+        words = [*self.words.split(), *(["--meddle", ",".join(self.changes)] if self.changes else [])]
+        head = [f"case {self.name}", *([f"words {' '.join(words)}"] if words else [])]
         wants = [*([] if asked else ["@"]), f"total {len(asked)}", f"status {self.status}"]
-        return "\n".join([*self.lines, *wants, *more, ""])
+        return "\n".join([*head, *self.lines, *wants, *more, ""])
+
+
+def literal(cell):
+    return str(cell) if isinstance(cell, int) else "'" + cell.replace("'", "''") + "'"
+
+
+def width_of(columns):
+    """The bytes of a row."""
+    return 1 + 8 * columns.count(" INT") + sum(int(size) + 1 for size in re.findall(r"VARCHAR\((\d+)\)", columns))
 
 
 def joined(accesses):
@@ -212,6 +257,21 @@ def worked():
     return s.case(*EACH)
 
 
+def each_kind():
+    """Each kind of statement, of a key that is there and one that isn't, in the least buffer."""
+    s = Session("each statement on an index", "--buffer 15 --stash 2", 2)
+    s.create("o", 4, *["else < E02 no table"] * 8, "else @")
+    s.insert("o", 1, 10)
+    s.update("o", 1, v=11)
+    s.select("o", 1, "v")
+    s.update("o", 2, v=12)
+    s.delete("o", 1)
+    s.select("o", 1)
+    s.delete("o", 1)
+    s.drop("o")
+    return s.case(*EACH, "each block flipped 0", *SINKS)
+
+
 def ends_of_keys():
     """The keys 0, N - 1, N and -1, and those of no number in range."""
     s = Session("the first and the last key, and those beside them", "--buffer 19 --stash 2", 2)
@@ -219,7 +279,7 @@ def ends_of_keys():
     for key in (0, 4, 5, -1):
         s.insert("o", key, 10 + key)
         s.select("o", key)
-        s.update("o", key, 20 + key)
+        s.update("o", key, v=20 + key)
         s.select("o", key)
         s.delete("o", key)
         s.select("o", key)
@@ -238,7 +298,7 @@ def one_key():
         s.select("o", key)
     s.insert("o", 0, 6)
     s.delete("o", 0)
-    s.insert("o", 0, 6, "INSERT INTO o (v, id) VALUES (6, 0);")
+    s.insert("o", 0, 6, text="INSERT INTO o (v, id) VALUES (6, 0);")
     s.select("o", 0, "v")
     s.select("o", 0, "v, id", "(id = 0)")
     return s.case()
@@ -253,7 +313,7 @@ def all_kinds():
     for key in range(16):
         s.select("o", key)
     for key in range(0, 16, 3):
-        s.update("o", key, -key)
+        s.update("o", key, v=-key)
         s.insert("o", key, 0)
     for key in range(0, 16, 2):
         s.delete("o", key)
@@ -262,6 +322,158 @@ def all_kinds():
     s.drop("o")
     s.refuses("SELECT * FROM o WHERE id = 1;", answer="E02 no table")
     return s.case()
+
+
+def in_the_stash():
+    """Rows are read, changed, refused and deleted where they lie in the stash: one, and two at once."""
+    found = []
+    for kind, count, name in (
+        ("select", 1, "a row is selected that lies in the stash"),
+        ("update", 1, "a row is changed that lies in the stash"),
+        ("insert", 1, "a row is refused that lies in the stash"),
+        ("delete", 1, "a row is deleted that lies in the stash"),
+        ("select", 2, "two rows are selected that lie in the stash"),
+        ("delete", 2, "two rows are deleted that lie in the stash"),
+    ):
+        sessions = (Session(name, "--buffer 25 --stash 4", 4, f"{number:064x}") for number in range(4000))
+        found.append(next(s.case() for s in sessions if is_stashed(s, kind, count)))
+    return found
+
+
+def is_stashed(s, kind, count):
+    """Serves an index of sixteen keys until so many rows lie in its stash, and then this of them; whether there were any."""
+    s.create("o", 16)
+    index = s.indexes["o"]
+    for turn in range(24):
+        if turn < 16:
+            s.insert("o", turn, turn)
+        else:
+            s.select("o", turn - 16)
+        if len(index.left) == count:
+            break
+    keys = list(index.left) if len(index.left) == count else []
+    for key in keys:
+        if kind == "update":
+            s.update("o", key, v=100 + key)
+        elif kind == "insert":
+            s.insert("o", key, 0)
+        elif kind == "delete":
+            s.delete("o", key)
+        s.select("o", key)
+    return keys != []
+
+
+def other_columns():
+    """The key is the last of three columns, and the texts spell its condition in other ways."""
+    columns = "(s VARCHAR(4), v INT, k INT PRIMARY KEY)"
+    s = Session("an index whose key is its last column", "--buffer 16 --stash 2", 2)
+    s.create("o", 3, columns=columns, text=f"create table O {columns} capacity 3 Indexed;")
+    s.insert("o", 0, "it's", 7)
+    s.insert("o", 2, "", -1)
+    s.insert("o", 1, 'a"b;', 0, text="INSERT INTO o (k, v, s) VALUES (+1, -0, 'a\"b;');")
+    s.select("o", 0)
+    s.select("o", 1, "s, k, s")
+    s.select("o", 2, "o.v, k", "o.k = 2")
+    s.update("o", 2, s="z", v=5)
+    s.update("o", 2, s="zz", text="UPDATE o SET s = 'zz' WHERE ((o.k = +2));")
+    s.select("o", 2, where="((k = 2))")
+    s.select("o", 0, where="k = -0")
+    s.select("o", -2)
+    s.delete("o", 0, text="delete from O where K = 0 -- and no other;\n;")
+    s.select("o", 0, "v")
+    return s.case()
+
+
+def plans():
+    """An index is selected from by no plan, and padded by nothing."""
+    found = []
+    for words in ("small", "large", "continuous", "hash --depth 1"):
+        found.append(planned(f"an index beside the plan {words}", f"--plan {words}"))
+    for words in ("--pad 1", "--pad 2 --plan large"):
+        found.append(planned(f"an index beside {words}", words))
+    return found
+
+
+def planned(name, words):
+    s = Session(name, f"{words} --buffer 10 --stash 1", 1)
+    s.create("o", 2)
+    for key in range(3):
+        s.insert("o", key, key)
+    for key in range(3):
+        s.select("o", key)
+    s.refuses("SELECT * FROM o;", "SELECT v, COUNT(*) FROM o GROUP BY v;", answer="E18 needs key")
+    return s.case()
+
+
+def thousand():
+    """As many slots of a stash as there are without the word. What CREATE asks is counted alone."""
+    s = Session("a thousand keys, and the stash that is there without a word", "--buffer 77", 32)
+    s.create("o", 1000)
+    s.lines[1 : 1 + sum(it[0] == "@" for it in s.lines)] = [f"@ {len(s.run.asked)}"]
+    for key in (999, 0, 500, 1000, -1, 1023, 1024):
+        s.insert("o", key, key)
+    for key in (999, 0, 500, 1000, 1023):
+        s.select("o", key)
+    s.update("o", 500, v=1)
+    s.delete("o", 999)
+    s.select("o", 500)
+    s.select("o", 999)
+    return s.case()
+
+
+def many_tables():
+    """Indexes are among the 64 tables that there may be."""
+    s = Session("64 tables, of which half are indexes", "--buffer 6 --stash 1", 1, buffer=6)
+    for number in range(32):
+        s.create(f"o{number}", 1)
+        s.create_flat(f"t{number}", 1)
+    s.refuses(f"CREATE TABLE a {COLUMNS} CAPACITY 1 INDEXED;", f"CREATE TABLE a {COLUMNS} CAPACITY 1;", answer="E07 limit")
+    s.insert("o31", 0, 5)
+    s.drop("o0")
+    s.create("a", 1)
+    s.insert("a", 0, 6)
+    s.refuses(f"CREATE TABLE b {COLUMNS} CAPACITY 1 INDEXED;", answer="E07 limit")
+    s.select("a", 0)
+    s.select("o31", 0)
+    return s.case()
+
+
+def failed_creates():
+    """A CREATE whose access failed has drawn its numbers, and its regions are used up."""
+    s = Session("an index that is made at last", "--buffer 16 --stash 2", 2)
+    for at in (1, 5, 30, 32):
+        s.fails_to_create("o", 4, at)
+    s.refuses("SELECT * FROM o WHERE id = 0;", "DROP TABLE o;", answer="E02 no table")
+    s.create("o", 4)
+    for key in range(4):
+        s.insert("o", key, key)
+    s.select("o", 2)
+    s.select("o", 4)
+    return s.case()
+
+
+def others_change():
+    """Blocks of one length are exchanged over regions: of two indexes, of tree and stash, and of a flat table."""
+    found = []
+    for name, copied, region, place in (
+        ("a block of another index", "3.0", 1, 0),
+        ("a block of another stash", "4.1", 2, 1),
+        ("a block of the stash in the tree", "2.0", 1, 2),
+        ("a block of the tree in the stash", "1.1", 2, 0),
+        ("a block of a flat table in an index", "6.0", 1, 1),
+        ("a block of a flat table in a stash", "6.1", 2, 1),
+        ("a block of a region that was given up", "5.0", 1, 3),
+    ):
+        s = Session(f"{name} is put to its place", "--buffer 16 --stash 2", 2, buffer=16)
+        s.create("o", 2)
+        s.create("q", 2)
+        s.create_flat("t", 2)
+        s.insert_flat("t", 1, 1)
+        s.insert("o", 1, 1)
+        s.insert("q", 1, 1)
+        s.reads_changed("o", 1, f"copy:{copied}:{region}.{place}", region, place)
+        found.append(s.case())
+    return found
 
 
 def packed():
@@ -310,16 +522,26 @@ def needs_key():
     s.create_flat("t", 2)
     s.refuses(
         *["SELECT COUNT(*) FROM o;", "SELECT COUNT(*) FROM o WHERE id = 1;", "SELECT v, COUNT(*) FROM o GROUP BY v;", "SELECT * FROM o;"],
-        *[f"SELECT * FROM o WHERE {it};" for it in ("id > 1", "id <> 1", "v = 1", "id = 1 AND v = 1", "id = 1 OR id = 2", "NOT (id = 1)", "id = v")],
-        *["UPDATE o SET v = 1;", "UPDATE o SET v = 1 WHERE v = 1;", "DELETE FROM o;", "DELETE FROM o WHERE id < 1;"],
+        *["SELECT SUM(v) FROM o WHERE id = 1;", "SELECT MIN(v), MAX(id) FROM o;", "SELECT id FROM o WHERE id = 1 GROUP BY id;"],
+        *[f"SELECT * FROM o WHERE {it};" for it in ("id > 1", "id >= 1", "id < 1", "id <= 1", "id <> 1", "id != 1", "v = 1", "id = v", "id = id", "v = id")],
+        *[f"SELECT v FROM o WHERE {it};" for it in ("id = 1 AND v = 1", "v = 1 AND id = 1", "id = 1 OR id = 2", "id = 1 OR id = 1", "NOT (id = 1)", "NOT NOT id = 1")],
+        *["UPDATE o SET v = 1;", "UPDATE o SET v = 1 WHERE v = 1;", "UPDATE o SET v = 1 WHERE id = 1 AND id = 1;", "UPDATE o SET v = 1 WHERE NOT id = 1;"],
+        *["DELETE FROM o;", "DELETE FROM o WHERE id < 1;", "DELETE FROM o WHERE v = 1;", "DELETE FROM o WHERE id = 1 OR id = 2;"],
         *["SELECT * FROM o JOIN t ON o.id = t.id;", "SELECT * FROM t JOIN o ON t.id = o.id;", "SELECT o.v FROM t JOIN o ON t.id = o.v WHERE t.v = 1;"],
         answer="E18 needs key",
     )
     s.refuses("UPDATE o SET id = 2 WHERE id = 1;", "UPDATE o SET id = 2;", answer="E08 key rule")
-    s.refuses("SELECT * FROM o WHERE w = 1;", answer="E04 no column")
-    s.refuses("SELECT * FROM o WHERE id = 'a';", answer="E05 wrong type")
-    s.refuses("SELECT * FROM o WHERE id = 9223372036854775808;", answer="E06 out of range")
+    s.refuses("SELECT * FROM o JOIN n ON o.id = n.id;", "SELECT * FROM n JOIN o ON n.id = o.id;", "SELECT * FROM n WHERE id = 1;", answer="E02 no table")
+    s.refuses("SELECT * FROM o JOIN o ON o.id = o.id;", "UPDATE o SET v = 1, v = 2;", "INSERT INTO o (id, id) VALUES (1, 1);", answer="E03 name taken")
+    s.refuses("SELECT * FROM o WHERE w = 1;", "SELECT w FROM o WHERE id = 1;", "SELECT id, COUNT(*) FROM o GROUP BY v;", "UPDATE o SET w = 1 WHERE id = 1;", answer="E04 no column")
+    s.refuses("SELECT * FROM o WHERE id = 'a';", "UPDATE o SET v = 'a' WHERE id = 1;", "INSERT INTO o VALUES (1);", "DELETE FROM o WHERE v = 'a';", answer="E05 wrong type")
+    s.refuses("SELECT * FROM o WHERE id = 9223372036854775808;", "INSERT INTO o VALUES (9223372036854775808, 1);", "DELETE FROM o WHERE v < -9223372036854775809;", answer="E06 out of range")
+    s.refuses(f"SELECT {', '.join(['v'] * 33)} FROM o;", f"SELECT {', '.join(['v'] * 33)} FROM o WHERE id = 1;", answer="E07 limit")
     s.refuses("SELECT * FROM o JOIN t ON o.v = t.id;", answer="E09 join key")
+    for key in (1, 4):
+        s.insert("o", key, key)
+        s.select("o", key)
+    s.select("o", 1, ", ".join(["v"] * 32))
     return s.case()
 
 
@@ -329,11 +551,20 @@ def limits():
     s.create("a", 64)
     s.refuses(*[f"CREATE TABLE b {COLUMNS} CAPACITY {n} INDEXED;" for n in (0, 65, 1048577)], answer="E07 limit")
     s.refuses("CREATE TABLE b (id INT, v INT) CAPACITY 4 INDEXED;", "CREATE TABLE b (id VARCHAR(4) PRIMARY KEY) CAPACITY 4 INDEXED;", answer="E08 key rule")
-    s.refuses(f"CREATE TABLE a {COLUMNS} CAPACITY 4 INDEXED;", answer="E03 name taken")
+    s.refuses("CREATE TABLE b (id INT PRIMARY KEY, v INT PRIMARY KEY) CAPACITY 4 INDEXED;", answer="E08 key rule")
+    s.refuses("CREATE TABLE b (id INT, v INT) CAPACITY 65 INDEXED;", answer="E07 limit")
+    s.refuses(f"CREATE TABLE a {COLUMNS} CAPACITY 4 INDEXED;", f"CREATE TABLE a {COLUMNS} CAPACITY 65 INDEXED;", answer="E03 name taken")
+    s.create("c", 2)
+    for key in (1, 2):
+        s.insert("c", key, key)
+        s.select("c", key)
     found = [s.case()]
-    s = Session("an index that the buffer holds just", "--buffer 15 --stash 2", 2)
+    s = Session("an index that the buffer holds just", "--buffer 15 --stash 2", 2, buffer=15)
     s.create("a", 4)
     s.refuses(f"CREATE TABLE b {COLUMNS} CAPACITY 5 INDEXED;", answer="E07 limit")
+    s.insert("a", 1, 1)
+    s.create_flat("b", 5)
+    s.select("a", 1)
     found.append(s.case())
     s = Session("65,536 keys want a buffer of 158 rows beside a stash of 89", "--buffer 157 --stash 89", 89)
     s.refuses(f"CREATE TABLE a {COLUMNS} CAPACITY 65536 INDEXED;", answer="E07 limit")
@@ -345,8 +576,19 @@ def limits():
     for value in ("0", "1025", "-1", "x"):
         found.append(f"case --stash {value} is taken by nothing\nwords --stash={value}\n< ! usage\nstatus 2\n")
     found.append("case the greatest stash\nwords --stash 1024\n<\nstatus 0\n")
-    found.append(f"case no index where tables are kept\nkeeper fresh\nwords --keep --buffer 16 --stash 2\n> CREATE TABLE o {COLUMNS} CAPACITY 4 INDEXED;\n< E07 limit\nstatus 1\n")
+    found.append(kept())
     return found
+
+
+def kept():
+    """No index is made where tables are kept; the closing has the flat table alone."""
+    refused = [f"{COLUMNS} CAPACITY 4 INDEXED", f"{COLUMNS} CAPACITY 1 INDEXED", "(id INT, v INT) CAPACITY 4 INDEXED"]
+    lines = ["case no index where tables are kept", "keeper fresh", "words --keep --buffer 16 --stash 2"]
+    for said in refused:
+        lines += [f"> CREATE TABLE o {said};", "< E07 limit"]
+    lines += [f"> CREATE TABLE t {COLUMNS} CAPACITY 2;", "@ M 1 2 49, W 1 0, W 1 1", "< = created"]
+    lines += [f"> CREATE TABLE t {COLUMNS} CAPACITY 2 INDEXED;", "< E03 name taken"]
+    return "\n".join([*lines, "@ M 2 2 1056, W 2 0, W 2 1", "status 1", "mark closed 2 2 3 1", ""])
 
 
 def fills(secret):
@@ -370,6 +612,32 @@ def full():
         number += 1
 
 
+def fills_by(kind, keys, slots, number):
+    """All of so many keys go in, and then statements of this kind are of each in turn, until the stash is full."""
+    s = Session(f"{kind}, by which a stash of {slots} is full", f"--buffer 64 --stash {slots}", slots, f"{number:064x}", may_fill=True)
+    s.create("o", keys)
+    for turn in range(2 * keys):
+        key = turn * 5 % keys
+        if turn < keys or kind == "a refused INSERT":
+            s.insert("o", key, key)
+        elif kind == "an UPDATE":
+            s.update("o", key, v=0)
+        else:
+            s.select("o", key)
+        if s.status == 11:
+            return s, turn >= keys
+    return s, False
+
+
+def full_by():
+    """Of each kind of statement that can fill a stash the first secrets with which one does."""
+    found = []
+    for kind, keys, slots in (("a SELECT", 8, 1), ("an UPDATE", 16, 2), ("a refused INSERT", 32, 3)):
+        sessions = (fills_by(kind, keys, slots, number) for number in range(10000))
+        found.append(next(s.case() for s, is_full in sessions if is_full))
+    return found
+
+
 def filled(s):
     """Each access fails in turn: where one of CREATE does, no table is found."""
     inserts = sum(line[0] == ">" for line in s.lines) - 1
@@ -379,9 +647,11 @@ def filled(s):
 
 
 def main():
-    cases = [worked(), ends_of_keys(), one_key(), all_kinds(), *packed(), two_and_a_table(), needs_key(), *limits(), full()]
-    HEAD = """# Sessions with indexes, of two of which each access fails in turn, and each block that is read is changed just before. Written
-# by gen/indexed.py.
+    cases = [worked(), each_kind(), ends_of_keys(), one_key(), other_columns(), all_kinds(), *in_the_stash(), thousand()]
+    cases += [*packed(), *plans(), two_and_a_table(), many_tables(), needs_key(), *limits(), failed_creates(), *others_change()]
+    cases += [full(), *full_by()]
+    HEAD = """# Sessions with indexes, of three of which each access fails in turn, and each block that is read is changed just before.
+# Written by gen/indexed.py.
 """
     (DATA / "indexed.case").write_text(HEAD + "\n" + "\n".join(cases))
     print(f"{len(cases)} cases")

@@ -16,7 +16,7 @@ STYLE = (
 ARROW = '<marker id="e" viewBox="0 0 8 8" refX="8" refY="4" markerWidth="8" markerHeight="8" orient="auto"><path d="M0 0L8 4L0 8z" fill="#333"/></marker>'
 
 # What there is of each kind in the picture of layers, and the title of each layer.
-PROGRAMS = ("oblidb", "oblitrace", "ob_cases", "ob_answers", "ob_spelled", "ob_passed")
+PROGRAMS = ("oblidb", "oblitrace", "ob_cases", "ob_answers", "ob_spelled", "ob_stored", "ob_passed")
 MEASURED = ("ob_parse_bench", "ob_pass_bench", "ob_oram_bench")
 
 
@@ -61,8 +61,8 @@ def overview():
     drawn += [box(10, 262, 270, 118, "n"), box(290, 262, 290, 118, "n"), box(590, 262, 300, 118, "n")]
     drawn += [text(22, 282, "You learn", "h"), text(302, 282, "Who watches the calls learns at most", "h"), text(602, 282, "Who changes the store", "h")]
     drawn += lines(22, 303, ["the answers of SQL, exactly, unless a", "changed block's tag happens to fit;", "or, where a changed block was read,", "its place, and that the run ended"])
-    drawn += lines(302, 303, ["settings, kinds of statements, columns", "and sizes of tables, how each statement", "ended; of a SELECT of rows a number", "and a plan, or, padded, neither"])
-    drawn += lines(602, 303, ["can have a call fail: the statement is", "answered E15, and the run goes on;", "can change a block: where it is read first,", "the run ends, unless its tag fits"])
+    drawn += lines(302, 303, ["settings, kinds of statements, columns", "and sizes of tables, how each statement", "ended; of a SELECT of rows a number", "and a plan, or, padded, neither; of an", "access of an index a leaf, drawn"])
+    drawn += lines(602, 303, ["can have a call fail: the statement is", "answered E15, and the run goes on, or,", "in an access of an index, ends; can", "change a block: where it is read first,", "the run ends, unless its tag fits"])
     write("docs/overview.svg", 900, 392, drawn)
 
 

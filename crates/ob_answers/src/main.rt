@@ -44,7 +44,7 @@ impl From<EmitErr> for Fault {
 }
 
 // The settings of a session with so many rows open, so many of them in a block, and so many slots of a stash.
-fn settings(buffer: u32, pack: u8, stash: u16) -> Option<Config>
+fn settings(buffer: u32, pack: u8, stash: u32) -> Option<Config>
     ensures pack { IfSome result (λ c. 1 ≤ c.pack) }
     ensures buffer { IfSome result (λ c. 3 * c.pack + 1 ≤ c.buffer) }
 {
@@ -79,7 +79,7 @@ fn settings_of<R: Env + AllocGlobal>(rt: &R) -> Option<Config>
         None => 1,
     };
     let stash = match words.next() {
-        Some(word) => word.as_str().parse::<u16>().ok()?,
+        Some(word) => word.as_str().parse::<u32>().ok()?,
         None => 32,
     };
     settings(buffer, pack, stash)

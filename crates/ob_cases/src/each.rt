@@ -103,7 +103,8 @@ fn failing(alloc: Global, name: &str, items: &[Item], at: Item) -> Result<Case, 
 fn stops(items: &[Item], at: Item) -> bool {
     let mut found = false;
     for item in items {
-        found = found || item.statement == at.statement && item.head == "else" && item.rest == "stops";
+        found = found
+            || item.statement == at.statement && item.head == "else" && item.rest == "stops";
     }
     found
 }

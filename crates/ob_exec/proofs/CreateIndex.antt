@@ -1,5 +1,5 @@
 -- CREATE TABLE of an index.
-use Rattle.std.proofs.Common.{◌≡◌, ◌⊎◌, inl, inr, ◌<◌, ◌≤◌, ◌-◌, ◌+◌, ◌*◌, ◌%◌, ◌^◌, max, ℕ, zero, suc, Bool, true, false, IsTrue, List, [], ◌∷◌, ◌++◌, length, map, replicate, Option, Some, None, Ok, Err, Result, Global, refl, sym, ◌∙◌, ap, subst, arith, append_assoc}
+use Rattle.std.proofs.Common.{◌≡◌, ◌⊎◌, inl, inr, ◌<◌, ◌≤◌, ◌-◌, ◌+◌, ◌*◌, ◌%◌, ◌^◌, max, ℕ, zero, suc, Bool, false, IsTrue, List, [], ◌∷◌, ◌++◌, length, map, replicate, Option, Some, None, Ok, Err, Result, Global, refl, sym, ◌∙◌, ap, subst, arith, append_assoc}
 use Rattle.std.specs.Prelude.{nat_lt, not, slice_get, sum_by}
 use Rattle.std.specs.List.{All}
 use Rattle.std.specs.declared.vec.Vec.{Vec}
@@ -10,7 +10,6 @@ use Rattle.std.proofs.lemmas.List.{length-append, length-replicate, replicate-ap
 use Rattle.ob_base.specs.declared.access.Access.{Access}
 use Rattle.ob_base.specs.declared.access.Access.TheVariants.{Make}
 use Rattle.ob_base.specs.declared.refusal.Refusal.{Refusal}
-use Rattle.ob_base.specs.declared.schema.Heading.{Heading}
 use Rattle.ob_base.specs.declared.schema.Shape.TheVariants.{Indexed}
 use Rattle.ob_base.specs.declared.schema.Table.{Table}
 use Rattle.ob_base.specs.declared.seen.End.{End}
@@ -38,7 +37,6 @@ use Rattle.ob_vault.specs.Calls.{Seals, Went, two}
 use Rattle.ob_vault.proofs.Runs.{seals_join, went_join}
 use Rattle.ob_vault.proofs.WordLemmas.{seals_rests, went_rests}
 use Rattle.ob_flat.specs.declared.fault.OpErr.{OpErr}
-use Rattle.ob_flat.specs.declared.fault.OpErr.TheVariants as OpErrs
 use Rattle.ob_flat.specs.declared.flat.Flat.{Flat}
 use Rattle.ob_flat.specs.Creates.{create_script, make_script}
 use Rattle.ob_flat.specs.Flats.{table_region}
@@ -47,36 +45,33 @@ use Rattle.ob_flat.specs.Words.{blocks_of}
 use Rattle.ob_flat.proofs.Runs.{pass_after}
 use Rattle.ob_oram.specs.declared.index.Index.{Index}
 use Rattle.ob_oram.specs.Creating.{BeganBehind, CreatesIndex, CreatesRegions, IsFresh, create_index_script, new_stash, new_tree}
-use Rattle.ob_oram.specs.Indexes.{IsIndex, Lies, leaves_of, tree_of}
+use Rattle.ob_oram.specs.Indexes.{Lies, leaves_of, tree_of}
 use Rattle.ob_oram.specs.Keys.{IsIntKey}
 use Rattle.ob_oram.proofs.Creates.{one_each}
 use Rattle.ob_script.specs.Parts.{create_part}
 use Rattle.ob_script.specs.Script.{whole_script}
-use Rattle.ob_seal.specs.Draws.{DrawPlace, draw_at, draw_of}
+use Rattle.ob_seal.specs.Draws.{DrawPlace, draw_at}
 use Rattle.ob_seal.specs.KeySet.{draw_seed_of}
 use Rattle.ob_seal.proofs.Drawn.{draws_wrap}
 use Rattle.rand_chacha.specs.ChaCha.{key_of}
 use Rattle.ob_sql.specs.declared.stmt.Stmt.TheVariants.{Create as CreateStmt}
 use Rattle.ob_mean.specs.Refusals.{has_int_key, limits_of}
-use Rattle.ob_mean.specs.Replay.{draws_taken}
 use Rattle.ob_mean.specs.Settle.{new_held, settle, settled}
 use Rattle.ob_mean.specs.Step.{accepted_answer, answered as answered_by, followed}
-use Rattle.ob_mean.specs.Verdict.{Draws, Held, Tables, database, held_as, index_of, is_late, leaves_drawn, refusal, ended as seen_to}
+use Rattle.ob_mean.specs.Verdict.{Draws, Tables, database, held_as, index_of, is_late, leaves_drawn, refusal, ended as seen_to}
 use Rattle.ob_mean.proofs.EarlyLemmas.{allowed, neither}
 use Rattle.ob_mean.proofs.VerdictLemmas.{index_again, refused_late}
 use Rattle.ob_base.specs.Stored.{headings_of}
-use Rattle.ob_select.specs.Memory.{AtMake, AtResult, ends_with_make, starts_with_make}
+use Rattle.ob_select.specs.Memory.{ends_with_make, starts_with_make}
 use Rattle.ob_select.specs.Opening.{Opens}
 use Rattle.ob_select.specs.Settings.{IsFree}
 use Rattle.ob_select.proofs.RoomLemmas.{free_after}
-use Rattle.ob_verdict.specs.declared.outcome.Outcome.{Outcome}
 use Rattle.ob_verdict.specs.declared.outcome.Outcome.TheVariants.{Created}
 use Rattle.ob_verdict.specs.Outcomes.{outcome_of, refusal_now}
 use Rattle.ob_reopen.specs.Limits.{IsHeading}
 use Rattle.ob_exec.specs.declared.engine.Engine.{Engine}
-use Rattle.ob_exec.specs.declared.stop.RunStop.TheVariants as Stops
 use Rattle.ob_exec.specs.Agreeing.{Agrees, AreDraws, count_of, world_of}
-use Rattle.ob_exec.specs.Engines.{AreTables, FitsSettings, IsIndexOfTable, IsStashOf, IsTable, others_of}
+use Rattle.ob_exec.specs.Engines.{AreTables, FitsSettings, IsIndexOfTable, IsTable, others_of}
 use Rattle.ob_exec.specs.Leaves.{MovesLeaves}
 use Rattle.ob_exec.specs.Memory.{LacksMemory}
 use Rattle.ob_exec.specs.Running.{RanStatement, answer_of, is_stop}
@@ -91,7 +86,7 @@ use Rattle.ob_exec.proofs.PlainLemmas.{settle_is}
 use Rattle.ob_exec.proofs.RunLemmas.{IsAnswered, MayHave, asks_none, engine_left, left_on, may_have, only_memory, opens_some, stopped_left}
 use Rattle.ob_exec.proofs.SilentLemmas.{finished_left, means_left}
 use Rattle.ob_exec.proofs.TableLemmas.{beside_below, get_more, region_below, tables_kept}
-use Rattle.ob_exec.proofs.ToldLemmas.{IsFault, early_held, fault_made, silent_fault}
+use Rattle.ob_exec.proofs.ToldLemmas.{early_held, fault_made, silent_fault}
 
 -- an index with no row
 abbrev created : (height slots : ℕ) → List ℕ → State Row

@@ -10,7 +10,7 @@ use Rattle.std.specs.Prelude.{◌<◌, ◌≤◌, ◌&&◌, max, Bool, IsTrue, O
 use Rattle.std.proofs.lemmas.Slice.Eq.{bytes_eq-Decides}
 use Rattle.std.proofs.lemmas.Bool.{cases_eq}
 use Rattle.ob_base.specs.declared.schema.Shape.{Shape}
-use Rattle.ob_base.specs.declared.schema.Shape.TheVariants.{Flat as FlatShape, Indexed}
+use Rattle.ob_base.specs.declared.schema.Shape.TheVariants.{Flat as FlatShape}
 use Rattle.ob_base.specs.declared.access.Access.{Access}
 use Rattle.ob_base.specs.declared.config.Public.{Public}
 use Rattle.ob_base.specs.declared.refusal.Refusal.{Refusal}
@@ -60,7 +60,6 @@ use Rattle.ob_verdict.specs.declared.outcome.Outcome.{Outcome}
 use Rattle.ob_verdict.specs.declared.outcome.Outcome.TheVariants.{Created}
 use Rattle.ob_reopen.specs.Limits.{IsHeading, IsStored, is_column, is_kind}
 use Rattle.ob_exec.specs.Engines.{IsAt, IsTable, others_of}
-use Rattle.ob_oram.specs.declared.index.Index.{Index}
 use Rattle.ob_exec.specs.Agreeing.{Agrees, world_of, count_of}
 use Rattle.ob_exec.specs.Running.{answer_of, is_stop}
 use Rattle.ob_verdict.specs.Outcomes.{refusal_now, outcome_of}

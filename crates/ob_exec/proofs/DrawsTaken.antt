@@ -1,5 +1,5 @@
 -- Draws, one after the other.
-use Rattle.std.proofs.Common.{◌≡◌, ◌+◌, ◌%◌, ◌^◌, ℕ, suc, List, [], ◌∷◌, ◌++◌, refl, sym, ◌∙◌, ap, arith}
+use Rattle.std.proofs.Common.{◌≡◌, ◌+◌, ◌%◌, ◌^◌, ℕ, suc, List, [], ◌∷◌, ◌++◌, refl, ◌∙◌, ap, arith}
 use Rattle.ob_base.specs.Lists.{tabulate}
 use Rattle.ob_seal.specs.Draws.{DrawPlace, draw_at}
 use Rattle.ob_seal.proofs.Drawn.{draws_wrap}

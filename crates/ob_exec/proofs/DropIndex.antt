@@ -1,5 +1,5 @@
 -- DROP TABLE of an index.
-use Rattle.std.proofs.Common.{◌≡◌, ◌⊎◌, inl, inr, ◌+◌, ◌%◌, ◌^◌, ℕ, false, List, [], ◌++◌, length, Option, Some, None, Ok, Result, Global, refl, sym, ◌∙◌, ap, subst, arith}
+use Rattle.std.proofs.Common.{◌≡◌, inl, inr, ◌+◌, ◌%◌, ◌^◌, ℕ, false, List, [], ◌++◌, Option, Some, None, Ok, Result, Global, refl, sym, ◌∙◌, ap, subst, arith}
 use Rattle.std.specs.Prelude.{slice_get}
 use Rattle.std.specs.List.{remove}
 use Rattle.std.specs.Option.{option_map_or}
@@ -13,10 +13,10 @@ use Rattle.ob_base.specs.declared.seen.End.TheVariants.{Whole}
 use Rattle.ob_base.specs.declared.skeleton.Skeleton.TheVariants.{Drop as DropSkeleton}
 use Rattle.ob_base.specs.Accesses.{discard_at}
 use Rattle.ob_base.specs.Indexes.{by_shape}
-use Rattle.ob_base.specs.Stored.{Stored, dropped_at, stored_region}
+use Rattle.ob_base.specs.Stored.{Stored, dropped_at}
 use Rattle.ob_store.specs.State.{StoreState}
 use Rattle.ob_store.specs.Calls.{ChangesNothing}
-use Rattle.ob_vault.specs.State.{RevState, World}
+use Rattle.ob_vault.specs.State.{RevState}
 use Rattle.ob_vault.specs.declared.region.Region.{Region}
 use Rattle.ob_vault.specs.declared.vault.Vault.{Vault}
 use Rattle.ob_vault.specs.Places.{at}
@@ -34,11 +34,9 @@ use Rattle.ob_mean.specs.Settle.{settle, settled}
 use Rattle.ob_mean.specs.Step.{accepted_answer, answered as answered_by, followed}
 use Rattle.ob_mean.specs.Verdict.{Tables, database, refusal, ended as seen_to}
 use Rattle.ob_mean.proofs.VerdictLemmas.{refused_late}
-use Rattle.ob_verdict.specs.declared.outcome.Outcome.{Outcome}
 use Rattle.ob_verdict.specs.declared.outcome.Outcome.TheVariants.{Dropped}
 use Rattle.ob_verdict.specs.Outcomes.{refusal_now, outcome_of}
 use Rattle.ob_exec.specs.declared.engine.Engine.{Engine}
-use Rattle.ob_exec.specs.declared.stop.RunStop.{RunStop}
 use Rattle.ob_exec.specs.Agreeing.{Agrees, world_of, count_of}
 use Rattle.ob_exec.specs.Engines.{AreTables, IsAt, IsIndexIn, IsIndexOfTable, others_of}
 use Rattle.ob_exec.specs.Running.{RanStatement}
@@ -47,7 +45,7 @@ use Rattle.ob_select.specs.Opening.{Opens}
 use Rattle.ob_exec.proofs.DropLemmas.{held_removed, origin, origin_off, removed_is}
 use Rattle.ob_exec.proofs.HeldLemmas.{held_among}
 use Rattle.ob_exec.proofs.IndexTables.{apart_stash, apart_table, tables_unindexed, x_in}
-use Rattle.ob_exec.proofs.RunLemmas.{IsAnswered, MayHave, asks_none, engine_left, left_on}
+use Rattle.ob_exec.proofs.RunLemmas.{MayHave, asks_none, engine_left, left_on}
 use Rattle.ob_exec.proofs.TableLemmas.{no_entry, stored_found}
 use Rattle.ob_exec.specs.Serving.{ServesSilently}
 use Rattle.ob_exec.proofs.PlainLemmas.{settle_is}

@@ -4,7 +4,6 @@ use Rattle.std.proofs.Common.{◌≡◌, ◌⊎◌, inl, inr, ◌<◌, ◌≤◌
 use Rattle.std.specs.Prelude.{bytes_eq, filter, not}
 use Rattle.std.specs.List.{remove}
 use Rattle.std.specs.Option.{option_map_or}
-use Rattle.std.proofs.lemmas.Bool.{cases_eq}
 use Rattle.std.proofs.lemmas.Slice.Eq.{bytes_eq-Decides}
 use Rattle.ob_base.specs.declared.refusal.Refusal.{Refusal}
 use Rattle.ob_exec.specs.declared.stop.RunStop.{RunStop}
@@ -44,7 +43,7 @@ use Rattle.ob_select.specs.Opening.{Opens}
 use Rattle.ob_exec.specs.Agreeing.{Agrees, world_of, count_of}
 use Rattle.ob_verdict.specs.Outcomes.{refusal_now, outcome_of}
 use Rattle.ob_exec.specs.Serving.{ServesSilently}
-use Rattle.ob_exec.specs.Telling.{AreHeld, HoldsTable}
+use Rattle.ob_exec.specs.Telling.{AreHeld}
 use Rattle.ob_exec.proofs.HeldLemmas.{held_kept, holds_kept}
 use Rattle.ob_exec.proofs.PlainLemmas.{settle_is}
 use Rattle.ob_exec.proofs.RunLemmas.{IsAnswered, engine_after, ran_whole}

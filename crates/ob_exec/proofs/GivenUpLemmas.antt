@@ -1,5 +1,5 @@
 -- What the vault has no more once the store failed.
-use Rattle.std.proofs.Common.{◌≡◌, inl, inr, List, None, Ok, sym, ◌∙◌, ap, subst, arith, ◌<◌, Some, ℕ}
+use Rattle.std.proofs.Common.{◌≡◌, inl, inr, List, None, Ok, sym, ◌∙◌, ap, arith, ◌<◌, Some, ℕ}
 use Rattle.std.specs.Prelude.{slice_get}
 use Rattle.std.proofs.lemmas.Bool.{cases_eq}
 use Rattle.ob_base.specs.declared.config.Public.{Public}

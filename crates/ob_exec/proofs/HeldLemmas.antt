@@ -25,7 +25,7 @@ use Rattle.ob_sql.specs.Skeleton.{skeleton}
 use Rattle.ob_mean.specs.Keyed.{Ask, ask_of, keyed_name}
 use Rattle.ob_mean.specs.Refusals.{is_index, is_indexed}
 use Rattle.ob_mean.specs.Replay.{is_access}
-use Rattle.ob_mean.specs.Verdict.{Accessed, Held, Tables, access_of, accessed, in_slots, index_of}
+use Rattle.ob_mean.specs.Verdict.{Held, Tables, access_of, accessed, in_slots, index_of}
 use Rattle.ob_mean.proofs.VerdictLemmas.{heading-stored}
 use Rattle.ob_exec.specs.Engines.{flat_of}
 use Rattle.ob_exec.specs.Telling.{AreHeld, HoldsTable}

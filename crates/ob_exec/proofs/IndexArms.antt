@@ -1,9 +1,8 @@
 -- How a statement on an index is served, by the arms of its access.
-use Rattle.std.proofs.Common.{◌≡◌, ◌-◌, ◌+◌, ◌%◌, ◌^◌, ℕ, Bool, true, false, List, [], length, None, Ok, Err, Result, Global, refl, sym, ◌∙◌, ap, subst}
+use Rattle.std.proofs.Common.{◌≡◌, ◌-◌, ◌+◌, ◌%◌, ◌^◌, ℕ, true, false, List, [], length, None, Ok, Err, Global, sym, subst}
 use Rattle.std.specs.declared.vec.Vec.{Vec}
 use Rattle.ob_base.specs.declared.emit.EmitErr.{EmitErr}
 use Rattle.ob_base.specs.declared.seen.Seen.{Seen}
-use Rattle.ob_base.specs.declared.seen.End.TheVariants.{Cut}
 use Rattle.ob_base.specs.Events.{Event}
 use Rattle.ob_base.specs.Schemas.{Columns}
 use Rattle.ob_room.specs.RoomState.{RoomState}

@@ -1,5 +1,5 @@
 -- What a statement on an index emits.
-use Rattle.std.proofs.Common.{◌≡◌, ◌⊎◌, inl, inr, ◌<◌, ◌≤◌, ◌^◌, ℕ, Bool, false, IsTrue, List, [], ◌∷◌, ◌++◌, length, Option, Some, None, Ok, Err, Result, Global, refl, sym, ◌∙◌, ap, subst, arith}
+use Rattle.std.proofs.Common.{◌≡◌, ◌<◌, ◌^◌, ℕ, List, [], ◌∷◌, ◌++◌, length, Option, None, Ok, Result, Global, refl, sym, ◌∙◌, ap, subst, arith}
 use Rattle.std.specs.Option.{option_map_or}
 use Rattle.std.specs.declared.vec.Vec.{Vec}
 use Rattle.std.proofs.lemmas.List.{length-map}
@@ -18,7 +18,6 @@ use Rattle.ob_vault.specs.State.{RevState}
 use Rattle.ob_vault.specs.declared.vault.Vault.{Vault}
 use Rattle.ob_vault.specs.Places.{at}
 use Rattle.ob_emit.specs.Emitting.{labels_of}
-use Rattle.ob_oram.specs.declared.fault.OramErr.{OramErr}
 use Rattle.ob_oram.specs.declared.index.Index.{Index}
 use Rattle.ob_oram.specs.declared.op.Got.{Got}
 use Rattle.ob_oram.specs.Ops.{got_in}
@@ -29,7 +28,7 @@ use Rattle.ob_sql.specs.declared.stmt.SelectRows.{SelectRows}
 use Rattle.ob_sql.specs.declared.stmt.Stmt.{Stmt}
 use Rattle.ob_sql.specs.declared.stmt.Stmt.TheVariants.{Create, Insert, Update, Delete, Drop as DropTable, SelectRows as RowsStmt, SelectTotals as TotalsStmt}
 use Rattle.ob_mean.specs.declared.answer.Answer.{Answer}
-use Rattle.ob_mean.specs.Keyed.{keyed_name, one_table}
+use Rattle.ob_mean.specs.Keyed.{one_table}
 use Rattle.ob_mean.specs.Prints.{Prints}
 use Rattle.ob_mean.specs.Step.{printed_places, rows_answer, select_columns}
 use Rattle.ob_mean.specs.declared.answer.Answer.TheVariants as A
@@ -38,7 +37,6 @@ use Rattle.ob_row.specs.Spelling.{FitsColumns}
 use Rattle.std.specs.List.{All}
 use Rattle.ob_mean.specs.Verdict.{Draws, Tables, verdict}
 use Rattle.ob_verdict.specs.Answering.{found}
-use Rattle.ob_verdict.specs.declared.outcome.Outcome.{Outcome}
 use Rattle.ob_verdict.specs.Outcomes.{refusal_now}
 use Rattle.ob_keyed.specs.declared.keyed.Keyed.{Keyed}
 use Rattle.ob_keyed.specs.Answering.{got_answer, got_outcome, put_answer}
@@ -49,7 +47,7 @@ use Rattle.ob_exec.specs.Agreeing.{Agrees, count_of, world_of}
 use Rattle.ob_exec.specs.Indexed.{EmitsGot, IsAccessed, IsDone}
 use Rattle.ob_exec.specs.Running.{HasNoRows}
 use Rattle.ob_exec.specs.Serving.{Answered}
-use Rattle.ob_exec.specs.Telling.{Emitted, ReadsTrue, answer_labels}
+use Rattle.ob_exec.specs.Telling.{ReadsTrue, answer_labels}
 use Rattle.ob_exec.proofs.EmitLemmas.{are_rows}
 use Rattle.ob_exec.proofs.FoundLemmas.{heading_found}
 use Rattle.ob_exec.proofs.HeldLemmas.{held_headings}

@@ -6,7 +6,6 @@ use Rattle.std.proofs.lemmas.List.{length-set}
 use Rattle.std.specs.declared.vec.Vec.{Vec}
 use Rattle.std.proofs.lemmas.Bool.Decides.{nat_tests}
 use Rattle.ob_base.specs.declared.config.Public.{Public}
-use Rattle.ob_base.specs.declared.refusal.Refusal.{Refusal}
 use Rattle.ob_base.specs.declared.schema.Table.{Table}
 use Rattle.ob_base.specs.declared.seen.End.TheVariants.{Cut}
 use Rattle.ob_base.specs.Events.{Event, Head, Close, row_events}
@@ -44,7 +43,7 @@ use Rattle.ob_room.specs.RoomState.{RoomState}
 use Rattle.ob_keyed.specs.declared.keyed.Keyed.{Keyed}
 use Rattle.ob_keyed.specs.Asking.{IsKeyed}
 use Rattle.ob_keyed.specs.Serving.{GoneBy}
-use Rattle.ob_keyed.specs.Seeing.{seen_cut, seen_whole}
+use Rattle.ob_keyed.specs.Seeing.{seen_cut}
 use Rattle.ob_keyed.proofs.Seen.{cuts_alike}
 use Rattle.ob_keyed.proofs.Told.{finds_access}
 use Rattle.std.specs.List.{All}
@@ -76,7 +75,7 @@ use Rattle.ob_exec.specs.Agreeing.{Agrees, count_of, engine_start, world_of}
 use Rattle.ob_exec.specs.Indexed.{IsAccessed, IsDone}
 use Rattle.ob_exec.specs.Serving.{Serves}
 use Rattle.ob_exec.specs.Telling.{Represents, SeenCut, answer_labels}
-use Rattle.ob_exec.proofs.HeldLemmas.{Stood, held_headings, stood_at}
+use Rattle.ob_exec.proofs.HeldLemmas.{held_headings, stood_at}
 use Rattle.ob_exec.proofs.RunLemmas.{engine_left, ran_unasked}
 use Rattle.ob_exec.proofs.SealLemmas.{keeps_rests}
 use Rattle.ob_exec.proofs.TableLemmas.{stored_found}

@@ -1,5 +1,5 @@
 -- A statement on an index whose access is done, and whose emitter gave up.
-use Rattle.std.proofs.Common.{◌≡◌, ◌⊎◌, inl, inr, ◌≤◌, ◌<◌, ◌-◌, ◌+◌, ◌%◌, ◌^◌, ℕ, Bool, true, false, nat_lt, List, [], ◌++◌, length, Option, Some, None, Ok, Err, Result, Global, refl, sym, ◌∙◌, ap, subst, arith, append-nil}
+use Rattle.std.proofs.Common.{◌≡◌, inl, inr, ◌<◌, ◌-◌, ◌+◌, ◌%◌, ◌^◌, ℕ, Bool, true, nat_lt, List, [], length, Option, Some, None, Ok, Err, Global, refl, sym, ◌∙◌, ap, subst, arith, append-nil}
 use Rattle.std.specs.Prelude.{IsSome}
 use Rattle.std.specs.declared.vec.Vec.{Vec}
 use Rattle.std.proofs.lemmas.Bool.Decides.{nat_tests}
@@ -25,7 +25,7 @@ use Rattle.ob_oram.specs.Scripts.{access_script, read_script, write_script}
 use Rattle.ob_oram.proofs.AccessRuns.{access_parts, length-reads}
 use Rattle.ob_script.specs.Script.{index_part_of, whole_script}
 use Rattle.ob_seal.specs.Draws.{DrawPlace, draw_at}
-use Rattle.ob_select.specs.Memory.{AtEmission, HasHalted}
+use Rattle.ob_select.specs.Memory.{AtEmission}
 use Rattle.ob_sql.specs.declared.stmt.SelectRows.{SelectRows}
 use Rattle.ob_sql.specs.declared.stmt.Stmt.{Stmt}
 use Rattle.ob_sql.specs.declared.stmt.Stmt.TheVariants.{Create, Insert, Update, Delete, Drop as DropTable, SelectRows as RowsStmt, SelectTotals as TotalsStmt}
@@ -33,7 +33,7 @@ use Rattle.ob_sql.specs.Skeleton.{skeleton}
 use Rattle.ob_mean.specs.Lawful.{Lawful}
 use Rattle.ob_mean.specs.Replay.{held_if}
 use Rattle.ob_mean.specs.Step.{printed_places}
-use Rattle.ob_mean.specs.Verdict.{Draws, Tables, verdict}
+use Rattle.ob_mean.specs.Verdict.{Tables, verdict}
 use Rattle.ob_verdict.specs.Outcomes.{MayEmit, Partly, refusal_now}
 use Rattle.ob_keyed.specs.declared.keyed.Keyed.{Keyed}
 use Rattle.ob_keyed.specs.Emitting.{EmitsFound, answer_events}
@@ -44,7 +44,6 @@ use Rattle.ob_exec.specs.declared.stop.RunStop.{RunStop}
 use Rattle.ob_exec.specs.declared.stop.RunStop.TheVariants as Stops
 use Rattle.ob_exec.specs.Agreeing.{Agrees, count_of, world_of}
 use Rattle.ob_exec.specs.Indexed.{EmitsGot, IsAccessed, IsDone}
-use Rattle.ob_exec.specs.Memory.{LacksMemory}
 use Rattle.ob_exec.specs.Running.{RanStatement, SinkStops, answer_of, is_stop}
 use Rattle.ob_exec.specs.Serving.{Means, Serves, StopsEmission}
 use Rattle.ob_exec.specs.Telling.{IsNotTampered, ReadsTrue, ReadsTrueUntil, answer_labels, is_refused}

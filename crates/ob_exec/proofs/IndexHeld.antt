@@ -16,7 +16,7 @@ use Rattle.ob_oram.proofs.Lasting.{lies_kept}
 use Rattle.ob_mean.specs.Verdict.{Held, Tables, index_of}
 use Rattle.ob_exec.specs.Engines.{AreTables, flat_of, others_of}
 use Rattle.ob_exec.specs.Telling.{AreHeld, HoldsTable}
-use Rattle.ob_exec.proofs.IndexTables.{SetAt, this, that, apart_stash, apart_table, same_table, set_at, x_in}
+use Rattle.ob_exec.proofs.IndexTables.{this, that, apart_stash, apart_table, set_at, x_in}
 use Rattle.ob_exec.proofs.TableLemmas.{AreNamed, named}
 
 -- an index of the list after that lies in a table's region was one of the list before, and lies as it did

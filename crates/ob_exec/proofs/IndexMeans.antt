@@ -1,6 +1,6 @@
 -- What a statement on an index means, beside its access in the engine.
-use Rattle.std.proofs.Common.{◌≡◌, ◌≤◌, ◌-◌, ◌%◌, ◌^◌, ℕ, Bool, IsTrue, List, [], ◌++◌, length, Option, Some, None, Ok, Err, Result, Global, MatchResult, refl, sym, ◌∙◌, ap, subst, append_assoc}
-use Rattle.std.specs.Prelude.{slice_get, slice_set}
+use Rattle.std.proofs.Common.{◌≡◌, ◌-◌, ℕ, Bool, IsTrue, List, ◌++◌, length, None, Ok, Result, Global, MatchResult, sym, ◌∙◌, ap, subst, append_assoc}
+use Rattle.std.specs.Prelude.{slice_set}
 use Rattle.std.specs.declared.vec.Vec.{Vec}
 use Rattle.ob_base.specs.declared.access.Access.{Access}
 use Rattle.ob_base.specs.declared.schema.Heading.{Heading}
@@ -27,30 +27,24 @@ use Rattle.ob_oram.specs.Scripts.{access_script}
 use Rattle.ob_oram.proofs.Lasting.{lies_kept}
 use Rattle.ob_seal.specs.Draws.{DrawPlace, draw_at}
 use Rattle.ob_sql.specs.declared.stmt.Stmt.{Stmt}
-use Rattle.ob_sql.specs.Skeleton.{skeleton}
 use Rattle.ob_mean.specs.Settle.{settle}
-use Rattle.ob_mean.specs.Verdict.{Draws, Held, Tables, index_of, next_draw}
-use Rattle.ob_verdict.specs.Laws.{AreInPlace}
+use Rattle.ob_mean.specs.Verdict.{Draws, Tables, index_of, next_draw}
 use Rattle.ob_verdict.specs.Outcomes.{refusal_now}
 use Rattle.ob_verdict.specs.declared.outcome.Outcome.{Outcome}
 use Rattle.ob_verdict.proofs.InPlaceProof.{keeps_in_place}
 use Rattle.ob_keyed.specs.declared.keyed.Keyed.{Keyed}
 use Rattle.ob_keyed.specs.Answering.{got_outcome}
-use Rattle.ob_keyed.specs.Asking.{IsKeyed}
 use Rattle.ob_keyed.specs.Meant.{MeansKeyed, StopsKeyed, ToldKeyed}
 use Rattle.ob_keyed.specs.Seeing.{seen_cut, seen_whole}
 use Rattle.ob_keyed.specs.Serving.{ServesKeyed}
 use Rattle.ob_keyed.proofs.Told.{keyed_means}
 use Rattle.ob_exec.specs.declared.engine.Engine.{Engine}
-use Rattle.ob_exec.specs.declared.stop.RunStop.{RunStop}
 use Rattle.ob_exec.specs.Agreeing.{Agrees, AreDraws, count_of, world_of}
 use Rattle.ob_exec.specs.Indexed.{IsAccessed, IsDone}
-use Rattle.ob_exec.specs.Running.{RanStatement, stop_of}
 use Rattle.ob_exec.specs.Telling.{AreHeld, HoldsTable, ReadsTrue, Represents, SeenCut, Told, meant_script}
-use Rattle.ob_exec.proofs.BegunLemmas.{run_reads}
 use Rattle.ob_exec.proofs.HeldLemmas.{Stood, held_headings, stood_at}
 use Rattle.ob_exec.proofs.IndexHeld.{held_accessed}
-use Rattle.ob_exec.proofs.IndexRuns.{all, asked_ok, draw_is, from_old, got_answered, of_x, on, ran_stopped_access, served, short}
+use Rattle.ob_exec.proofs.IndexRuns.{all, asked_ok, draw_is, got_answered, of_x, on, served}
 use Rattle.ob_exec.proofs.RunLemmas.{engine_left}
 use Rattle.ob_exec.proofs.ToldLemmas.{told_whole}
 

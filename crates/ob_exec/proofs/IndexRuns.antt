@@ -1,10 +1,9 @@
 -- What an access of an index does, whatever the store answers.
-use Rattle.std.proofs.Common.{◌≡◌, ◌⊎◌, inl, inr, ◌<◌, ◌≤◌, ◌+◌, ◌-◌, ◌%◌, ◌^◌, max, ℕ, Bool, true, false, List, [], ◌++◌, length, Option, Some, None, Ok, Err, Result, OnOk, Global, refl, sym, ◌∙◌, ap, subst, arith}
+use Rattle.std.proofs.Common.{◌≡◌, ◌⊎◌, inl, inr, ◌≤◌, ◌+◌, ◌-◌, ◌%◌, ◌^◌, ℕ, Bool, true, false, List, [], ◌++◌, length, Option, Some, None, Ok, Err, Result, OnOk, Global, refl, sym, ◌∙◌, ap, subst, arith}
 use Rattle.std.specs.Prelude.{nat_lt, slice_get, slice_index_or, slice_set}
 use Rattle.std.specs.declared.vec.Vec.{Vec}
 use Rattle.ob_base.specs.declared.access.Access.{Access}
-use Rattle.ob_base.specs.declared.seen.End.TheVariants.{Static, Whole, Cut}
-use Rattle.ob_base.specs.declared.seen.Seen.{Seen}
+use Rattle.ob_base.specs.declared.seen.End.TheVariants.{Whole, Cut}
 use Rattle.ob_base.specs.declared.schema.Table.{Table}
 use Rattle.ob_base.specs.Indexes.{leaf_of_draw, rows_open}
 use Rattle.ob_base.specs.Stored.{stored_region}
@@ -14,7 +13,7 @@ use Rattle.ob_store.specs.Calls.{ChangesNothing}
 use Rattle.ob_vault.specs.State.{RevState, World}
 use Rattle.ob_vault.specs.declared.vault.Vault.{Vault}
 use Rattle.ob_vault.specs.Places.{at}
-use Rattle.ob_vault.specs.Calls.{Lasts, Went, none, two}
+use Rattle.ob_vault.specs.Calls.{Went, none, two}
 use Rattle.ob_vault.specs.Tied.{Calm}
 use Rattle.ob_vault.proofs.Runs.{lasts_trans, went_join}
 use Rattle.ob_vault.proofs.WordLemmas.{went_rests}
@@ -59,12 +58,12 @@ use Rattle.ob_select.specs.Settings.{IsFree}
 use Rattle.ob_select.specs.Opening.{Opens}
 use Rattle.ob_select.proofs.RoomLemmas.{free_after}
 use Rattle.ob_exec.specs.Agreeing.{Agrees, AreDraws, count_of, world_of}
-use Rattle.ob_exec.specs.Engines.{AreTables, IsIndexOfTable, IsStashOf, others_of}
+use Rattle.ob_exec.specs.Engines.{AreTables, IsIndexOfTable, others_of}
 use Rattle.ob_exec.specs.Indexed.{IsAccessed, IsDone}
 use Rattle.ob_exec.specs.Leaves.{MovesLeaves, ReadsKey}
-use Rattle.ob_exec.specs.Running.{RanStatement, RunCause, answer_of, is_fault, is_stop, outcome_end, stop_of}
-use Rattle.ob_exec.proofs.IndexTables.{SetAt, this, that, set_at, tables_accessed}
-use Rattle.ob_exec.proofs.RunLemmas.{IsAnswered, MayHave, asks_none, engine_left, left_on, may_have, of_other, opens_some}
+use Rattle.ob_exec.specs.Running.{RanStatement, RunCause, answer_of, is_fault, is_stop, stop_of}
+use Rattle.ob_exec.proofs.IndexTables.{this, that, set_at, tables_accessed}
+use Rattle.ob_exec.proofs.RunLemmas.{IsAnswered, MayHave, asks_none, engine_left, left_on, of_other, opens_some}
 use Rattle.ob_exec.proofs.TableLemmas.{no_entry, stored_found}
 
 -- what an access answers is no fault of the store, and none refuses before it

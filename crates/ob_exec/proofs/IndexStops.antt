@@ -1,19 +1,18 @@
 -- A statement on an index that was stopped, and what that means.
-use Rattle.std.proofs.Common.{◌≡◌, ◌⊎◌, inl, inr, ◌≤◌, ◌-◌, ◌+◌, ℕ, Bool, true, false, IsTrue, List, [], ◌++◌, length, Option, Some, None, Ok, Err, Result, Global, MatchResult, refl, sym, ◌∙◌, ap, subst, arith}
+use Rattle.std.proofs.Common.{◌≡◌, ◌≤◌, ◌-◌, ◌+◌, ℕ, Bool, true, IsTrue, length, Option, None, Err, Result, Global, MatchResult, refl, sym, ◌∙◌, ap, subst, arith}
 use Rattle.std.specs.Option.{option_map_or}
 use Rattle.std.specs.declared.vec.Vec.{Vec}
-use Rattle.ob_base.specs.declared.access.Access.{Access}
 use Rattle.ob_base.specs.declared.schema.Heading.{Heading}
 use Rattle.ob_base.specs.Indexes.{height_of, path_blocks}
 use Rattle.ob_base.proofs.IndexLemmas.{height_same}
 use Rattle.ob_room.specs.RoomState.{RoomState}
-use Rattle.ob_store.specs.State.{Lie, StoreState}
+use Rattle.ob_store.specs.State.{StoreState}
 use Rattle.ob_store.specs.Calls.{ChangesNothing}
 use Rattle.ob_vault.specs.State.{RevState, World}
 use Rattle.ob_vault.specs.declared.vault.Vault.{Vault}
 use Rattle.ob_vault.specs.Places.{at}
 use Rattle.ob_vault.specs.Calls.{none}
-use Rattle.ob_vault.specs.Tied.{Calm, ReadsIn}
+use Rattle.ob_vault.specs.Tied.{Calm}
 use Rattle.ob_vault.specs.Words.{IsHonest}
 use Rattle.ob_vault.proofs.WordLemmas.{went_rests}
 use Rattle.ob_oram.specs.declared.fault.OramErr.{OramErr}
@@ -23,20 +22,18 @@ use Rattle.ob_oram.specs.declared.op.Got.{Got}
 use Rattle.ob_oram.specs.Short.{AsksReads}
 use Rattle.ob_seal.specs.Draws.{DrawPlace, draw_at}
 use Rattle.ob_sql.specs.declared.stmt.Stmt.{Stmt}
-use Rattle.ob_sql.specs.Skeleton.{skeleton}
-use Rattle.ob_mean.specs.Verdict.{Accessed, Draws, Tables, accessed as meant_access, is_full}
+use Rattle.ob_mean.specs.Verdict.{Accessed, Draws, Tables, is_full}
 use Rattle.ob_verdict.specs.Outcomes.{refusal_now}
 use Rattle.ob_keyed.specs.declared.keyed.Keyed.{Keyed}
 use Rattle.ob_keyed.specs.Meant.{StopsKeyed, ToldKeyed}
 use Rattle.ob_keyed.specs.Seeing.{seen_cut}
 use Rattle.ob_keyed.proofs.Told.{finds_access}
 use Rattle.ob_exec.specs.declared.engine.Engine.{Engine}
-use Rattle.ob_exec.specs.declared.stop.RunStop.{RunStop}
 use Rattle.ob_exec.specs.declared.stop.RunStop.TheVariants as Stops
 use Rattle.ob_exec.specs.Agreeing.{Agrees, AreDraws, count_of, world_of}
 use Rattle.ob_exec.specs.Indexed.{IsAccessed, IsDone}
-use Rattle.ob_exec.specs.Running.{RanStatement, RunCause, stop_of}
-use Rattle.ob_exec.specs.Telling.{IsNotTampered, ReadsTrue, ReadsTrueUntil, Represents, StopsFull, access_reads}
+use Rattle.ob_exec.specs.Running.{RunCause, stop_of}
+use Rattle.ob_exec.specs.Telling.{ReadsTrueUntil, Represents, StopsFull, access_reads}
 use Rattle.ob_exec.proofs.EmitLemmas.{unfit_none}
 use Rattle.ob_exec.proofs.HeldLemmas.{held_headings}
 use Rattle.ob_exec.proofs.IndexMeans.{meant, stood}

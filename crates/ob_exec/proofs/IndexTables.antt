@@ -1,9 +1,8 @@
 -- The tables of an engine, after an access of one of its indexes, and after one is made or dropped.
-use Rattle.std.proofs.Common.{◌≡◌, ◌⊎◌, inl, inr, ◌<◌, ◌≤◌, ◌+◌, ℕ, zero, suc, List, [], ◌∷◌, ◌++◌, length, Option, Some, None, refl, sym, ◌∙◌, ap, subst, arith}
+use Rattle.std.proofs.Common.{◌≡◌, ◌⊎◌, inl, inr, ◌<◌, ◌+◌, ℕ, zero, suc, List, [], ◌∷◌, ◌++◌, length, Option, Some, refl, sym, ◌∙◌, ap, subst, arith}
 use Rattle.std.specs.Prelude.{slice_get, slice_set}
 use Rattle.std.specs.List.{remove}
 use Rattle.std.proofs.lemmas.Bool.{cases_eq}
-use Rattle.ob_base.specs.declared.schema.Shape.TheVariants.{Flat as FlatShape, Indexed}
 use Rattle.ob_base.specs.declared.schema.Table.{Table}
 use Rattle.ob_vault.specs.declared.region.Region.{Region}
 use Rattle.ob_vault.specs.State.{World}
@@ -16,7 +15,7 @@ use Rattle.ob_vault.specs.declared.region.Order.TheVariants.{Round, Any}
 use Rattle.ob_oram.proofs.Lasting.{index_kept}
 use Rattle.ob_reopen.proofs.Lists.{got_last}
 use Rattle.ob_exec.specs.Engines.{AreTables, IsBeside, IsIndexIn, IsIndexOfTable, IsStashOf, IsTable, IsTableRegion, IsTreeOf, others_of}
-use Rattle.ob_exec.proofs.DropLemmas.{Origin, left_at, origin, origin_off, same_origin, tables_without}
+use Rattle.ob_exec.proofs.DropLemmas.{left_at, origin, origin_off, same_origin, tables_without}
 use Rattle.ob_exec.proofs.TableLemmas.{beside_kept, get_front, get_more, region_below, table_kept, tables_more}
 
 -- ---- a list of which one element was set

@@ -1,5 +1,5 @@
 -- The leaves that a session's accesses read are those of distinct draws, whatever the store answers.
-use Rattle.std.proofs.Common.{◌≡◌, ◌⊎◌, inl, inr, ◌<◌, ◌≤◌, ◌≢◌, ◌+◌, ℕ, zero, suc, Bool, false, List, [], ◌∷◌, ◌++◌, get_or, length, map, Option, Some, None, refl, sym, ◌∙◌, ap, subst, arith}
+use Rattle.std.proofs.Common.{◌≡◌, ◌⊎◌, inl, inr, ◌<◌, ◌≤◌, ◌≢◌, ◌+◌, ℕ, zero, suc, Bool, false, List, [], ◌∷◌, ◌++◌, get_or, length, Option, Some, None, refl, sym, ◌∙◌, ap, subst, arith}
 use Rattle.std.specs.Prelude.{slice_get, slice_index_or, slice_set, IfSome}
 use Rattle.std.specs.List.{remove}
 use Rattle.std.specs.Option.{option_map}
@@ -11,8 +11,8 @@ use Rattle.ob_store.proofs.KeptLemmas.{length-tabulate, get_or-tabulate}
 use Rattle.ob_mean.specs.Verdict.{Draws, leaves_drawn, next_draw, next_draws}
 use Rattle.ob_oram.specs.declared.index.Index.{Index}
 use Rattle.ob_oram.specs.Indexes.{leaves_of}
-use Rattle.ob_exec.specs.Leaves.{DropsKeys, MakesKeys, MovesLeaves, ReadsKey, leaf_of_key}
-use Rattle.ob_exec.proofs.DropLemmas.{Origin, origin, same_origin}
+use Rattle.ob_exec.specs.Leaves.{MovesLeaves, ReadsKey}
+use Rattle.ob_exec.proofs.DropLemmas.{Origin, origin}
 use Rattle.ob_exec.proofs.IndexTables.{SetAt, this, that, set_at}
 
 -- a key of the index at a place has a leaf

@@ -1,6 +1,6 @@
 -- What a statement means that accesses no index.
-use Rattle.std.proofs.Common.{◌≡◌, ℕ, Bool, true, false, List, [], Option, Some, None, Result, Ok, Err, refl, sym, ◌∙◌, ap}
-use Rattle.std.specs.Prelude.{IfOk, IfErr, if◌then◌else◌, is_some, not, ⊤}
+use Rattle.std.proofs.Common.{◌≡◌, ℕ, Bool, true, false, List, [], Option, Some, None, Result, Ok, Err, refl, ◌∙◌, ap}
+use Rattle.std.specs.Prelude.{IfOk, IfErr, if◌then◌else◌, is_some, not}
 use Rattle.std.specs.Option.{is_none, option_map_or}
 use Rattle.ob_base.specs.declared.access.Access.{Access}
 use Rattle.ob_base.specs.declared.config.Public.{Public}
@@ -13,7 +13,7 @@ use Rattle.ob_base.specs.declared.seen.End.TheVariants.{Static, Whole, AfterCoun
 use Rattle.ob_base.specs.declared.skeleton.Skeleton.{Skeleton}
 use Rattle.ob_base.specs.declared.skeleton.Skeleton.TheVariants.{Create as CreateSkeleton, Insert as InsertSkeleton, Update as UpdateSkeleton, Delete as DeleteSkeleton, Drop as DropSkeleton, Rows, Groups}
 use Rattle.ob_base.specs.Indexes.{by_shape}
-use Rattle.ob_base.specs.Stored.{Stored, headings, headings_of, stored_at, stored_regions}
+use Rattle.ob_base.specs.Stored.{Stored, headings, stored_at, stored_regions}
 use Rattle.ob_flat.specs.declared.fault.OpErr.{OpErr}
 use Rattle.ob_flat.specs.declared.fault.OpErr.TheVariants as OpErrs
 use Rattle.ob_script.specs.Script.{with_table}

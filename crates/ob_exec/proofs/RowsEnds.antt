@@ -25,7 +25,7 @@ use Rattle.ob_verdict.specs.Outcomes.{refusal_now, by_fault, IsBegunAnswer}
 use Rattle.ob_exec.proofs.EmitLemmas.{are_rows}
 use Rattle.ob_select.specs.Selecting.{answer_events, selection_answer, emitted_unless, places, shown_rows}
 use Rattle.ob_exec.specs.Serving.{Answered, Serves}
-use Rattle.ob_exec.specs.Sources.{EndsRows, IsFew, UsesRoomFor, closing, rows_skeleton, selected_outcome, selection, slots_of}
+use Rattle.ob_exec.specs.Sources.{EndsRows, IsFew, UsesRoomFor, closing, selected_outcome, selection, slots_of}
 use Rattle.ob_exec.specs.Telling.{Emitted, ReadsTrue, Represents, Told, answer_labels}
 use Rattle.ob_exec.proofs.RowsLawful.{ended_late, ended_well, lawful_ended}
 use Rattle.ob_exec.proofs.RowsMeaning.{rows_outcome, rows_prints, rows_seen, rows_settle}

@@ -17,7 +17,7 @@ use Rattle.ob_base.specs.Plans.{choose_padded, padded_rows}
 use Rattle.ob_base.specs.Events.{Event}
 use Rattle.ob_emit.specs.Emitting.{header}
 use Rattle.ob_select.proofs.UntilLemmas.{until_none}
-use Rattle.ob_base.specs.Stored.{Stored, headings_of, stored_at, stored_regions}
+use Rattle.ob_base.specs.Stored.{Stored, stored_at, stored_regions}
 use Rattle.ob_row.specs.Slots.{Slots}
 use Rattle.ob_script.specs.Parts.{count_part}
 use Rattle.ob_script.specs.Script.{behind_count, extent_of, flat_script, join_script, plan_part, result_blocks, result_part, table_script, with_table}

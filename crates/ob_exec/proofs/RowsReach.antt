@@ -17,7 +17,7 @@ use Rattle.ob_base.specs.Accesses.{discard_at}
 use Rattle.ob_base.specs.Events.{Event, Leads, row_events}
 use Rattle.ob_base.specs.Joins.{joined_slots}
 use Rattle.ob_base.specs.Limits.{buffered_blocks}
-use Rattle.ob_base.specs.Stored.{Stored, headings_of, stored_at, stored_regions}
+use Rattle.ob_base.specs.Stored.{Stored, stored_at, stored_regions}
 use Rattle.ob_script.specs.Parts.{count_part, join_part}
 use Rattle.ob_mean.proofs.FlatLemmas.{shape_is}
 use Rattle.ob_exec.proofs.PlainLemmas.{table_is}

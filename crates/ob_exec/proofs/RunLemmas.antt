@@ -1,5 +1,5 @@
 -- How a statement of an engine ends.
-use Rattle.std.proofs.Common.{IsTrue, ◌≡◌, inl, ◌≤◌, ◌+◌, ◌-◌, ◌%◌, ◌^◌, max, ℕ, Bool, true, false, List, [], ◌++◌, length, take, Ok, Err, OnOk, Option, Some, Result, Global, slice_get, refl, sym, ◌∙◌, ap, subst, arith, append-nil}
+use Rattle.std.proofs.Common.{IsTrue, ◌≡◌, inl, ◌≤◌, ◌+◌, ◌-◌, ◌%◌, ◌^◌, max, ℕ, Bool, true, false, List, [], ◌++◌, length, take, Ok, Err, OnOk, Some, Result, Global, slice_get, refl, sym, ◌∙◌, ap, subst, arith, append-nil}
 use Rattle.std.specs.declared.vec.Vec.{Vec}
 use Rattle.ob_base.specs.declared.access.Access.{Access}
 use Rattle.ob_base.specs.declared.config.Public.{Public}

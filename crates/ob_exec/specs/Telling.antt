@@ -21,7 +21,7 @@ use Rattle.ob_vault.specs.Calls.{Seals}
 use Rattle.ob_flat.specs.Flats as F
 use Rattle.ob_sql.specs.declared.stmt.Stmt.{Stmt}
 use Rattle.ob_sql.specs.Skeleton.{skeleton}
-use Rattle.ob_mean.specs.Verdict.{Accessed, Draws, Held, Tables, accessed, index_of, is_full, verdict, seen}
+use Rattle.ob_mean.specs.Verdict.{Draws, Held, Tables, accessed, index_of, is_full, verdict, seen}
 use Rattle.ob_mean.specs.Settle.{settle}
 use Rattle.ob_mean.specs.Replay.{cut_at}
 use Rattle.ob_mean.specs.Prints.{Prints, Unfinished, labels_of}

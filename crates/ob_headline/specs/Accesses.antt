@@ -23,11 +23,14 @@ use Rattle.ob_mean.specs.Replay.{Spelt}
 use Rattle.ob_print.specs.Rows.{events_text}
 use Rattle.ob_script.specs.Script.{script, whole_script}
 use Rattle.ob_script.specs.Trace.{Served, next, trace}
+use Rattle.ob_seal.specs.Draws.{draw_of}
+use Rattle.ob_seal.specs.KeySet.{KeySet}
 use Rattle.ob_sql.specs.Skeleton.{skeleton}
 use Rattle.ob_sql.specs.declared.stmt.Stmt.{Stmt}
 use Rattle.ob_headline.specs.Words.{Answer, refused_as, refused_at}
 use Rattle.ob_headline.specs.Bases.{Base}
 use Rattle.ob_headline.specs.Failures.{FailsBeside, RisesBy, failures}
+use Rattle.ob_headline.specs.Leaves.{ReadsDraws}
 use Rattle.ob_headline.specs.Statements.{statements}
 use Rattle.ob_headline.specs.Story.{Story}
 use Rattle.ob_store.specs.State.{StoreState}
@@ -94,15 +97,17 @@ AreSeen Leaves p m (Ok stmt ∷ spelt) (one ∷ answers) (x ∷ seen) =
 
 -- They are those that the statements go on from, if there are any, and the trace of the skeletons and of what is seen of
 -- each: of those that were answered, and of the one begun, if it is a statement. No table that they go on from is an index.
--- Calls that discard a region are counted apart, and change no answer.
-pub record Accesses (base : Base) (ending : Ending) (story : Story) (old new : StoreState)
-    : Type 0 where
+-- The leaves of indexes that are read are those of draws of the keys, none of which is read twice. Calls that discard a region
+-- are counted apart, and change no answer.
+pub record Accesses (base : Base) (keys : KeySet) (ending : Ending) (story : Story)
+    (old new : StoreState) : Type 0 where
   pub flat : AreFlat (headings_of base.public.tables)
   pub one_last : length story.last ≤ 1
   pub each_seen : length story.seen
       ≡ length (statements (take (length story.served) story.spelt))
   pub lawful : AreSeen (StopsWithin ending (FailsBeside story.answers old.faults new.faults))
       base.public base.count story.spelt story.answers (story.seen ++ story.last)
+  pub drawn : ReadsDraws (draw_of keys) base.public (story.seen ++ story.last)
   pub asked : new.asked ≡ base.before ++ trace base.public (story.seen ++ story.last)
   pub failed : RisesBy (failures story.answers) old.faults new.faults
   pub unfailed : any_cut (story.seen ++ story.last) ≡ false → new.faults ≡ old.faults

@@ -34,8 +34,9 @@ pub record Headline (base : Base) (Takes : Type 0) (tracing : Bool)
   pub statements : Statements (secret_of (first_line taken)) story
   -- the answers were written, and a last line; and with tracing the accesses; until a sink failed
   pub output : Output base tracing ending story old new
-  -- what was asked follows from what is public and what is seen of each statement, whatever the store answers
-  pub accesses : Accesses base ending story old.store new.store
+  -- what was asked follows from what is public and what is seen of each statement, whatever the store answers; and a leaf that
+  -- is seen is that of a draw which isn't read again
+  pub accesses : Accesses base (keys_in taken) ending story old.store new.store
   -- and what was answered and seen is what SQL means over plain tables, unless a changed block passed for what was written
   pub answers : Answers base (keys_in taken) ending story old.store new.store
   -- a changed block that doesn't is the last thing that was read

@@ -5,6 +5,7 @@ pub mod Prompt
 pub mod Statements
 pub mod Output
 pub mod Accesses
+pub mod Leaves
 pub mod Answers
 pub mod Tampering
 pub mod Sealing

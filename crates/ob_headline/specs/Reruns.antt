@@ -186,8 +186,8 @@ AsksAsShown one = Begins (asked_by one) (one.base.before
     ++ trace one.base.public (shown one.base.public one.base.count (stmts_of one) (seen_by one)))
 
 -- if no text of a run was answered that the store failed, and each of its statements accesses no index, and is no SELECT of
--- rows or has its result padded, what it asks is a first part of one list, however it ends: behind what it begins with, of the accesses that
--- follow from the skeletons of its statements and from which are refused before any access
+-- rows or has its result padded, what it asks is a first part of one list, however it ends: behind what it begins with, of the
+-- accesses that follow from the skeletons of its statements and from which are refused before any access
 abbrev pub AsksByKinds : {base : Base} {Takes : Type 0} {tracing : Bool} {old new : Outside}
     {report : Report} → Headline base Takes tracing old new report → Type 0
 AsksByKinds {base = base} {new = new} run =

@@ -9,6 +9,7 @@ ghost use Rattle.ob_base.specs.declared.seen.Seen.{Seen};
 ghost use Rattle.ob_headline.specs.Bases.{Base, FromEach, drawing, fresh};
 ghost use Rattle.ob_headline.specs.Headline.{Headline};
 ghost use Rattle.ob_headline.specs.Keeping.{BeginsFrom};
+ghost use Rattle.ob_headline.specs.Leaves.{ReadsDraws};
 ghost use Rattle.ob_headline.specs.KeptMarks.{HeldAfter, KeptRun};
 ghost use Rattle.ob_headline.specs.KeptRuns.{AnswerAsOne, AnyRun, AreChained, GoOn, NumberOn, OneRun};
 ghost use Rattle.ob_headline.specs.Pieces.{BeginsWith};
@@ -27,6 +28,7 @@ ghost use Rattle.ob_headline.specs.Accesses.{is_cut};
 ghost use Rattle.ob_headline.specs.declared.ending.Report.{Report};
 ghost use Rattle.ob_mean.specs.Lawful.{Lawful};
 ghost use Rattle.ob_reopen.specs.Keepers.{KeeperState};
+ghost use Rattle.ob_seal.specs.Draws.{draw_of};
 ghost use Rattle.ob_seal.specs.KeySet.{KeySet};
 ghost use Rattle.ob_sql.specs.declared.stmt.Stmt.{Stmt};
 ghost use Rattle.ob_store.specs.State.{KeptRegion, StoreState};
@@ -64,6 +66,13 @@ pub fn one_asks_a_first_part()
         → OneBegins (asked_by a) (asked_by b) }
 {}
 
+/// In any run, over any store and however it ends, the leaves of indexes that are read are those of draws, which are made of
+/// the secret, and no draw is read twice, whatever the statements, their values and their rows.
+pub fn leaves_are_draws()
+    ensures { (one : SomeRun)
+        → ReadsDraws (draw_of (keys_in one.run.taken)) one.base.public (seen_by one) }
+{}
+
 /// Over a store that tells what it holds, gave what was written and failed at no statement, a run whose words are taken,
 /// whose input keeps to the limits, and whose source and sinks don't fail, is the run of the plain machine, unless it ends
 /// for want of memory: each text of its input is answered as SQL answers it over plain tables, from none or from those that
@@ -94,8 +103,7 @@ pub fn padded_reruns_ask_the_same()
 {}
 
 /// The same over the whole language, where the same is seen of each statement that accesses an index, and of each SELECT of
-/// rows that isn't padded: then of all statements the same is
-/// seen, and the runs ask the same.
+/// rows that isn't padded: then of all statements the same is seen, and the runs ask the same.
 pub fn reruns_show_the_same()
     ensures { (a b : SomeRun) → GoOnFromOne a b
         → EndsWell a.report.status (failures_of a) → EndsWell b.report.status (failures_of b)

@@ -51,6 +51,8 @@ fn public_of(alloc: Global, config: &Config, tables: &[Held]) -> Result<Public, 
     ensures tables { IfOk result (λ p. headings_of p.tables ≡ headings tables.now) }
     ensures pack { IfOk result (λ p. p.pack ≡ config.now.pack) }
     ensures buffer { IfOk result (λ p. p.buffer ≡ config.now.buffer) }
+    ensures stash { IfOk result (λ p. p.stash ≡ config.now.stash) }
+    ensures keep { IfOk result (λ p. p.keep ≡ config.now.keep) }
 {
     let mut items = Items::new(alloc);
     match add_headings(tables, &mut items) {

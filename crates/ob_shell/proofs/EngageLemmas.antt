@@ -70,7 +70,7 @@ cut_caused r f0 f1 cause cut = record { grown = cut.grown; appends = cut.appends
 pub engages_first : {R : Type 0} (state : R → RevState) (config : Config) (key : List ℕ) (e : Engine R) (s : StoreState) → Agrees state e s → public_of e ≡ first_public config → engine_keys e ≡ keys_of key → AreDraws e (first_draws (keys_of key))
     → engine_start e ≡ from_nothing → opened_from e ≡ None → has_ended e ≡ false → high_of e ≡ 0 → rows_of e ≡ config.buffer → IsFresh s → IsSteady s → Engages state (fresh (Some config)) config key e s
 engages_first state config key e s agrees public keyed drawn started anew alive low rows blank steady = record {
-  stands = stands_first state config key e s public keyed drawn started rows blank steady;
+  stands = stands_first state config key e s agrees public keyed drawn started rows blank steady;
   ready = record { agrees = agrees; lives = alive };
   few = omega (arith, none_asked e s started blank.unasked);
   from = anew;
@@ -117,6 +117,7 @@ module _ {R : Type 0} (state : R → RevState) (config : Config) (key : List ℕ
     settings = refl;
     public = is.public;
     flat = opened_flat config closing is.listed is.catalogue;
+    unindexed = is.unindexed;
     pack = refl;
     buffer = refl;
     keep = refl;

@@ -21,7 +21,8 @@ pub mod ReplayLemmas
 pub mod LastingLemmas
 pub mod CalmLemmas
 pub mod FailureLemmas
-pub mod WalkLemmas
+pub mod LeafLemmas
+mod WalkLemmas
 pub mod HeadLemmas
 pub mod OpenLemmas
 pub mod CloseLemmas

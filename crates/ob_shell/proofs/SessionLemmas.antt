@@ -14,13 +14,14 @@ use Rattle.ob_base.specs.declared.config.Public.{Public}
 use Rattle.ob_base.specs.declared.mark.Mark.{Mark}
 use Rattle.ob_base.specs.declared.refusal.Stop.{Stop}
 use Rattle.ob_base.specs.declared.refusal.Stop.TheVariants.{Tampered, SourceFault, SinkFault, NoMemory, InputLimit, StoreFault, StashFull}
-use Rattle.ob_exec.specs.Agreeing.{AreDraws, count_of, engine_keys, first_draws, engine_start, indexes_of, opened_from, public_of, high_of, rows_of, world_of}
+use Rattle.ob_exec.specs.Agreeing.{Agrees, AreDraws, count_of, engine_keys, first_draws, engine_start, indexes_of, opened_from, public_of, high_of, rows_of, world_of}
 use Rattle.ob_exec.specs.Closing.{ClosesEngine, closing_script, next_closing}
 use Rattle.ob_reopen.specs.Closed.{IsClosedAs, StaysInUse, is_used_up}
 use Rattle.ob_select.specs.Opening.{is_of_rows}
 use Rattle.ob_reopen.specs.Resting.{Rests, by_name}
 use Rattle.ob_select.specs.Selecting.{AcceptsRows}
 use Rattle.ob_exec.specs.Telling.{AreHeld, Represents}
+use Rattle.ob_exec.specs.Engines.{AreTables, others_of}
 use Rattle.ob_exec.specs.declared.engine.Engine.{Engine}
 use Rattle.ob_gen.specs.Tally.{empty_tally}
 use Rattle.ob_gen.specs.declared.tally.Tally.{Tally}
@@ -30,6 +31,7 @@ use Rattle.ob_headline.proofs.TextLemmas.{rest_of-nil, texts_of-nil}
 use Rattle.ob_headline.specs.Bases.{Base, Opened, drawing, fresh, session_at, start}
 use Rattle.ob_headline.specs.Disturbed.{MeantUntil, meant_trace}
 use Rattle.ob_headline.specs.Failures.{FailsBeside}
+use Rattle.ob_headline.specs.Leaves.{AreDrawn}
 use Rattle.ob_headline.specs.Keeping.{EndsWith, Writes, closing_behind, last_script, region_opened}
 use Rattle.ob_headline.specs.KeptHeadline.{ClosesTables, PassesBoth}
 use Rattle.ob_headline.specs.Texts.{texts_in}
@@ -55,6 +57,7 @@ use Rattle.ob_shell.proofs.CalmLemmas.{MeetsChange, first_calm, last_met, steps_
 use Rattle.ob_shell.proofs.FailureLemmas.{fails_beside, session_fails}
 use Rattle.ob_shell.proofs.LastingLemmas.{HasSizes, steps_sizes, last_rows, steps_sealed, last_sealed, steps_tell, none_sealed}
 use Rattle.ob_shell.proofs.LaterLemmas.{steps_later, last_later}
+use Rattle.ob_shell.proofs.LeafLemmas.{Reads, given_none, no_indexes}
 use Rattle.ob_shell.proofs.OpenLemmas.{session_opens}
 use Rattle.ob_shell.proofs.RunLemmas.{traces_all}
 use Rattle.ob_shell.proofs.StepLemmas.{Steps-none, printed-nil}
@@ -97,14 +100,15 @@ not_used : (asked : List Access) (high : ℕ) → asked ≡ [] → IsUsed asked 
 not_used asked high none some = let any : IsTrue (list_any is_of_rows []) = subst (λ (xs : List Access). IsTrue (list_any is_of_rows xs)) none some in absurd (cc any)
 
 -- an engine that was just started
-pub stands_first : {R : Type 0} (state : R → RevState) (config : Config) (key : List ℕ) (first : Engine R) (s : StoreState) → public_of first ≡ first_public config → first.vault.keys ≡ keys_of key → AreDraws first (first_draws (keys_of key))
+pub stands_first : {R : Type 0} (state : R → RevState) (config : Config) (key : List ℕ) (first : Engine R) (s : StoreState) → Agrees state first s → public_of first ≡ first_public config → first.vault.keys ≡ keys_of key → AreDraws first (first_draws (keys_of key))
     → engine_start first ≡ from_nothing → rows_of first ≡ config.buffer → IsFresh s → IsSteady s → StandsOn state (fresh (Some config)) config key first s
-stands_first state config key first s is keyed drawn from rows blank steady =
+stands_first state config key first s agrees is keyed drawn from rows blank steady =
     let nothing = nothing_held state first s config is in
     record {
       settings = refl;
       public = is;
       flat = tt;
+      unindexed = no_indexes (subst (λ (p : Public). AreTables p.tables (others_of first.closing (indexes_of first)) (indexes_of first) p.pack (world_of state first s)) is agrees.tables);
       count = none_asked first s from blank.unasked;
       start = from;
       asked = blank.unasked;
@@ -292,6 +296,10 @@ module _ {R : Type 0} {state : R → RevState} {Lost : Type 0} (base : Base) (co
   here : (tables : Tables) → session_of m0 d0 tables ≡ drawing (keys_of key) (session_at base tables)
   here tables = λ i. record { public = on.public i; tables = tables; asked = on.count i; draws = d0 }
 
+  -- the leaves that are read
+  reads : Reads d0 (indexes_of first) (given_none d0 (indexes_of first) on.unindexed) (public_of first) all
+  reads = walk.drawn d0 on.drawn (given_none d0 (indexes_of first) on.unindexed)
+
   -- what became of the texts
   abbrev pub story : Story
   story = record {
@@ -312,6 +320,7 @@ module _ {R : Type 0} {state : R → RevState} {Lost : Type 0} (base : Base) (co
       one_last = walk.one_last;
       each_seen = walk.each_seen;
       lawful = subst (λ (s : Session). AreSeen (StopsWithin (RanEnding result) Failed) s.public s.asked walk.spelt ran.answers all) (here []) walk.lawful;
+      drawn = record { numbers = reads.numbers; are = subst (λ (p : Public). AreDrawn d0.draw p all reads.numbers) on.public reads.are; apart = reads.apart };
       asked = walk.asked ∙ (λ i. on.asked i ++ trace (on.public i) all);
       failed = session_fails state m0 ran.middle m2 ran.served ran.more ran.answers ran.part result ran.steps ran.last;
       unfailed = walk.unfailed;

@@ -92,6 +92,7 @@ unstarted tr settings secret s more ending blank untraced untampered unfaulted =
     one_last = omega arith;
     each_seen = refl;
     lawful = refl;
+    drawn = record { numbers = []; are = refl; apart = λ i j x before within. absurd (omega (arith, within)) };
     asked = blank.unasked;
     failed = omega arith;
     unfailed = λ not. refl;

@@ -14,7 +14,8 @@ use Rattle.ob_base.specs.declared.refusal.Stop.TheVariants.{NoMemory}
 use Rattle.ob_base.specs.declared.seen.End.{End}
 use Rattle.ob_base.specs.declared.seen.Seen.{Seen}
 use Rattle.ob_exec.proofs.EmitLemmas.{unfit_none}
-use Rattle.ob_exec.specs.Agreeing.{AreDraws, engine_start, opened_from, public_of, seen_of, world_of}
+use Rattle.ob_exec.proofs.LeavesRead.{Given, behind}
+use Rattle.ob_exec.specs.Agreeing.{AreDraws, engine_start, indexes_of, opened_from, public_of, seen_of, world_of}
 use Rattle.ob_select.specs.Memory.{AtMake}
 use Rattle.ob_exec.specs.Refusals.{refused_end}
 use Rattle.ob_exec.specs.Running.{RefusedEarly, RunCause, is_fault, outcome_end}
@@ -35,13 +36,14 @@ use Rattle.ob_headline.specs.Meaning.{AnswersFrom, AnswersIn, BeginsAnswer, Prin
 use Rattle.ob_headline.specs.declared.ending.Ending.{Ending}
 use Rattle.ob_headline.specs.declared.ending.Ending.TheVariants.{Usage, BadKey, Ran}
 use Rattle.ob_mean.proofs.ReplayLemmas.{after_room, served_room}
-use Rattle.ob_mean.specs.Replay.{Broken, IsCutOff, Session, Spelt, after, after_all, all_served, cut_at, is_full_now, seen_now, seen_or_cut}
+use Rattle.ob_mean.specs.Replay.{Broken, IsCutOff, Session, Spelt, after, after_all, all_served, cut_at, draws_taken, is_full_now, seen_now, seen_or_cut}
 use Rattle.ob_mean.specs.Verdict.{Draws, Tables}
 use Rattle.ob_print.specs.Rows.{events_text}
 use Rattle.ob_script.specs.Script.{script, whole_script}
 use Rattle.ob_script.specs.Trace.{Served as Entry, after_all as all_public, next, trace}
 use Rattle.ob_seal.specs.KeySet.{KeySet}
 use Rattle.ob_shell.proofs.DisturbLemmas.{before_less, begins_more, crosses, few_or_more, take_begins}
+use Rattle.ob_shell.proofs.LeafLemmas.{Reads, reads_last, reads_more, reads_none}
 use Rattle.ob_shell.proofs.ReplayLemmas.{counts_on, cut_early, cut_within, draws_after, fault_is, outcome_cases, stands_after}
 use Rattle.ob_shell.proofs.StepLemmas.{by_last}
 use Rattle.ob_shell.proofs.StopLemmas.{only_memory, only_sink, only_stash, stop_untampered, tampered_as}
@@ -185,6 +187,7 @@ module _ {R : Type 0} (state : R → RevState) where
     pub from_closing : opened_from m2.engine ≡ opened_from m0.engine
     pub public : public_of m1.engine ≡ all_public (public_of m0.engine) seen
     pub unfailed : any_cut (seen ++ last) ≡ false → m2.store.faults ≡ m0.store.faults
+    pub drawn : (d : Draws) → AreDraws m0.engine d → (g : Given d (indexes_of m0.engine)) → Reads d (indexes_of m0.engine) g (public_of m0.engine) (seen ++ last)
     pub lie : (lie : Lie) → m0.store.lie ≡ Some lie → m2.store.lie ≡ Some lie
     pub meant : (d : Draws) → AreDraws m0.engine d → IsTrue m0.store.tells → Calm (world m0) → IsUnfit (world m2) → (tables : Tables) → Represents state m0.engine m0.store tables
         → (broken : Broken) × AnswersFrom ending (session_of m0 d tables) spelt broken answers (seen ++ last) part
@@ -214,6 +217,7 @@ module _ {R : Type 0} (state : R → RevState) where
     from_closing = ap (λ (m : Machine R). opened_from m.engine) same;
     public = refl;
     unfailed = λ not. ap (λ (m : Machine R). m.store.faults) same;
+    drawn = λ d drawn g. reads_none d (indexes_of m0.engine) g (public_of m0.engine);
     lie = λ lie is. ap (λ (m : Machine R). m.store.lie) same ∙ is;
     meant = λ d drawn tells calm unfit tables held. ([], (refl, none), λ whole. subst (λ (m : Machine R). Represents state m.engine m.store tables) (sym same) held);
     untampered = λ d drawn tells tables held honest. fine;
@@ -288,6 +292,7 @@ module _ {R : Type 0} (state : R → RevState) where
         from_closing = cut.does.ran.from_closing;
         public = refl;
         unfailed = λ not. absurd (cc (ap is_cut cut.does.ran.ends, or_first (is_cut here.end) false not));
+        drawn = reads_last state m0 m2 cut.stmt (Err run) cut.does;
         lie = cut.does.ran.later.lie;
         meant = λ d drawn tells calm unfit tables held. ([], stopped_part m0 m2 tables text run part d drawn cut (record { tells = tells; held = held; calm = calm; unfit = unfit }), λ whole. absurd whole);
         untampered = λ d drawn tells tables held honest. stop_untampered run (cut.does.means.honest tables (record { tells = tells; held = held; nolie = honest }));
@@ -367,6 +372,7 @@ module _ {R : Type 0} (state : R → RevState) where
         from_closing = did.does.ran.from_closing;
         public = refl;
         unfailed = λ not. same_by one.outcome (world m0) (world m2) here.end _ did.does.ran.cause did.does.ran.ends (or_first (is_cut here.end) false not);
+        drawn = reads_last state m0 m2 did.stmt (Ok one.outcome) did.does;
         lie = did.does.ran.later.lie;
         meant = λ d drawn tells calm unfit tables held.
             let by = answered_by m0 m2 tables text one did d drawn (reads_true m0 m2 tables text one did tells held calm unfit) in
@@ -399,6 +405,7 @@ module _ {R : Type 0} (state : R → RevState) where
     from_closing = ap (λ (m : Machine R). opened_from m.engine) bad.same;
     public = refl;
     unfailed = λ not. ap (λ (m : Machine R). m.store.faults) bad.same;
+    drawn = λ d drawn g. reads_none d (indexes_of m0.engine) g (public_of m0.engine);
     lie = λ lie it. ap (λ (m : Machine R). m.store.lie) bad.same ∙ it;
     meant = λ d drawn tells calm unfit tables held.
         ([], is ∙ ap (λ (a : Answer). a.bytes) (refused_is m0 m2 text one bad), λ whole. subst (λ (m : Machine R). Represents state m.engine m.store tables) (sym bad.same) held);
@@ -446,6 +453,7 @@ module _ {R : Type 0} (state : R → RevState) where
         from_closing = rest.from_closing;
         public = rest.public;
         unfailed = rest.unfailed;
+        drawn = rest.drawn;
         lie = rest.lie;
         meant = λ d drawn tells calm unfit tables held. let from = rest.meant d drawn tells calm unfit tables held in (None ∷ from.0, (refused_is m0 m1 text one bad, from.1), from.2);
         untampered = rest.untampered;
@@ -563,6 +571,11 @@ module _ {R : Type 0} (state : R → RevState) where
         unfailed = λ not.
             rest.unfailed (or_rest (is_cut here.end) (any_cut all) not)
             ∙ same_by one.outcome (world m0) (world m1) here.end _ did.does.ran.cause did.does.ran.ends (or_first (is_cut here.end) (any_cut all) not);
+        drawn = λ d drawn g.
+            reads_more state m0 m1 did.stmt (Ok one.outcome) did.does d drawn g all did.does.ran.goes_on.lives
+            (λ h.
+            let later = behind d (draws_taken p sk here.end) in
+            subst (λ (q : Public). Reads later (indexes_of m1.engine) h q all) public_is (rest.drawn later (did.does.ran.goes_on.drawn d drawn) h));
         lie = λ lie it. rest.lie lie (did.does.ran.later.lie lie it);
         meant = λ d drawn tells calm unfit tables held.
             let by = answered_by m0 m1 tables text one did d drawn (reads_true m0 m1 tables text one did tells held calm (unfit_before m1 m2 rest.keys rest.start rest.lie unfit)) in

@@ -4,7 +4,7 @@ use Rattle.std.specs.List.{list_any}
 use Rattle.ob_base.specs.Stored.{headings_of}
 use Rattle.ob_base.specs.declared.access.Access.{Access}
 use Rattle.ob_base.specs.declared.config.Config.{Config}
-use Rattle.ob_exec.specs.Agreeing.{AreDraws, count_of, first_draws, engine_keys, engine_start, high_of, public_of, rows_of, world_of}
+use Rattle.ob_exec.specs.Agreeing.{AreDraws, count_of, first_draws, engine_keys, engine_start, high_of, indexes_of, public_of, rows_of, world_of}
 use Rattle.ob_select.specs.Opening.{is_of_rows}
 use Rattle.ob_select.specs.Selecting.{AcceptsRows}
 use Rattle.ob_exec.specs.Telling.{Represents}
@@ -38,6 +38,7 @@ pub record StandsOn {R : Type 0} (state : R → RevState) (base : Base) (config 
   pub settings : base.settings ≡ Some config
   pub public : public_of e ≡ base.public
   pub flat : AreFlat (headings_of base.public.tables)
+  pub unindexed : indexes_of e ≡ []
   pub pack : base.public.pack ≡ config.pack
   pub buffer : base.public.buffer ≡ config.buffer
   pub keep : base.public.keep ≡ config.keep

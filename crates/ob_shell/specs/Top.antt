@@ -64,7 +64,7 @@ sink_of on old new = record { on = on; old = old; new = new }
 pub record Carried (tr : TraceSink) (base : Base) (secret : Option (List ℕ))
     (store0 store1 : StoreState) (high : ℕ) (story : Story) (ending : Ending) : Type 0 where
   pub statements : Statements secret story
-  pub accesses : Accesses base ending story store0 store1
+  pub accesses : Accesses base (keys_with secret) ending story store0 store1
   pub traced_whole : Took tr.old tr.new (traced tr.on (trace base.public story.seen))
   pub answers : Answers base (keys_with secret) ending story store0 store1
   pub tampering : Tampering (keys_with secret) base.start ending store0 store1

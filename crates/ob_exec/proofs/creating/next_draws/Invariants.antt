@@ -1,4 +1,4 @@
-use Rattle.std.proofs.Common.{◌≡◌, ◌≤◌, ◌+◌, ◌%◌, ◌^◌, vec_capacity, vec_len}
+use Rattle.std.proofs.Common.{◌≡◌, ◌≤◌, ◌+◌, vec_capacity, vec_len}
 use Rattle.ob_base.specs.Lists.{tabulate}
 use Rattle.ob_seal.specs.Draws.{draw_at}
 use Rattle.ob_exec.proofs.DrawsTaken.{HasTaken}

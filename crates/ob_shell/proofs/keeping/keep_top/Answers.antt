@@ -50,8 +50,8 @@ returns-in-Some-generated-clause-ran g c =
     may_keep _ _ _ _ _ _ _ _ _ _ _ (Some c.in-Some-generated.seed) (sym read.keep ∙ c.if-words.false) (asked_is kept_usage words read.generated c.in-Some-generated.is)
     (summarized _ (c.in-Ok.words.common.config, read.ok) read.ok.settings c.requires.fresh (rw read.trace at c.serve_generated.ensures), refl)
 
-pub run_kept-requires-clause-kept : goal.run_kept-requires-clause-kept
-run_kept-requires-clause-kept g c =
+pub run_kept-ended-requires-clause-kept : goal.run_kept-ended-requires-clause-kept
+run_kept-ended-requires-clause-kept g c =
     let read = c.in-Ok.ensures in kept_settings (map string_bytes c.args.words.now) c.in-Ok.words.common.config read.ok.settings ∙ sym read.keep ∙ c.if-words.true
 
 pub keep_generated-requires-clause-kept : goal.keep_generated-requires-clause-kept

@@ -20,7 +20,7 @@ returns-in-Err-clause-traced g c = traced_whole _ (traced_none _ _ _)
 pub returns-in-Ok-clause-ran : goal.returns-in-Ok-clause-ran
 returns-in-Ok-clause-ran g c =
     ran_after _ _ _ _ _ _ _ _ _
-    (stands_first _ _ _ _ _ c.in-Ok.ensures.public (c.in-Ok.ensures.keyed ∙ c.derive.ensures) (subst (λ (k : KeySet). AreDraws _ (first_draws k)) c.derive.ensures c.in-Ok.ensures.drawn) c.in-Ok.ensures.started c.in-Ok.ensures.rows
+    (stands_first _ _ _ _ _ (c.in-Ok.ensures.agrees (g.S.BlockStore.state c.args.store.now) c.requires.fresh) c.in-Ok.ensures.public (c.in-Ok.ensures.keyed ∙ c.derive.ensures) (subst (λ (k : KeySet). AreDraws c.in-Ok.engine (first_draws k)) c.derive.ensures c.in-Ok.ensures.drawn) c.in-Ok.ensures.started c.in-Ok.ensures.rows
     (record {
       unasked = c.requires.fresh;
       honest = g.met.S.BlockStore.starts_honest c.args.store.now c.requires.fresh;

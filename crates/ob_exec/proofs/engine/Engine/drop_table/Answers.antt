@@ -1,6 +1,5 @@
-use Rattle.std.proofs.Common.{◌≡◌, List, sym, ◌∙◌, ap, subst}
+use Rattle.std.proofs.Common.{List, sym, ◌∙◌, ap, subst}
 use Rattle.std.specs.Prelude.{slice_get}
-use Rattle.ob_base.specs.declared.schema.Shape.TheVariants.{Flat as FlatShape, Indexed}
 use Rattle.ob_base.specs.declared.schema.Table.{Table}
 use Rattle.ob_flat.specs.declared.flat.Flat.{Flat}
 use Rattle.ob_exec.specs.Engines.{IsTreeOf}

@@ -1,4 +1,4 @@
-use Rattle.std.proofs.Common.{◌≡◌, Some, sym, ◌∙◌, ap, arith}
+use Rattle.std.proofs.Common.{sym, ◌∙◌, ap, arith}
 use Rattle.rand_chacha.specs.ChaCha.{key_of}
 use Rattle.ob_seal.specs.Draws.{DrawPlace, draw_of}
 use Rattle.ob_seal.specs.KeySet.{KeySet, draw_seed_of}

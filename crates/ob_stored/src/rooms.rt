@@ -1,9 +1,10 @@
-ghost use Rattle.std.specs.Prelude.{◌≡◌, ◌<◌, ◌≤◌, [], length, slice_set, slice_index_or, replicate, max};
+//! A room of four rows.
+ghost use Rattle.std.specs.Prelude.{◌≡◌, ◌<◌, ◌≤◌, [], length, slice_set, slice_index_or, replicate, max, IfOk};
 ghost use Rattle.ob_room.specs.RoomState.{out, clear};
 ghost use Rattle.ob_room.specs.LendingRow.{with_shelved};
 
 use ob_room::Room;
-use std::test::Fail;
+use std::alloc::{AllocError, Global};
 
 // Writes the first byte of the first row on the shelf.
 fn mark_first(room: &mut Room, byte: u8)
@@ -61,28 +62,50 @@ fn shelve_one(room: &mut Room, byte: u8)
     room.give(row);
 }
 
-#[test]
-fn rows_come_back(rt: HostRuntime) -> Result<(), Fail> {
-    let mut room = Room::new(rt.alloc(), 4, 8, 1)?;
-    shelve_one(&mut room, 9);
-    assert_eq!(rt; room.high(), 1);
-    assert_eq!(rt; take_and_give(&mut room, 7), 7);
-    assert_eq!(rt; room.rows(), 4);
-    assert_eq!(rt; room.pack(), 1);
-    Ok(())
+// Writes what a room says of itself.
+fn put_room(out: &mut String, room: &Room) -> Result<(), AllocError> {
+    let high = room.high();
+    let rows = room.rows();
+    let pack = room.pack();
+    write!(out, "{rows} rows, {pack} a block, at most {high} out")
 }
 
-#[test]
-fn no_more_rows_than_it_has(rt: HostRuntime) -> Result<(), Fail> {
-    let mut room = Room::new(rt.alloc(), 4, 8, 1)?;
+fn room_of_four(alloc: Global) -> Result<Room, AllocError>
+    ensures { IfOk result (λ r. r ≡ record {
+      rows = 4;
+      width = 8;
+      pack = 1;
+      free = replicate 4 (clear 8);
+      shelf = [];
+      high = 0;
+    }) }
+{
+    match Room::new(alloc, 4, 8, 1) {
+        Ok(room) => Ok(room),
+        Err(_) => Err(AllocError),
+    }
+}
+
+/// Writes what comes of a row that is shelved, and of one that is taken and given back.
+pub fn one(alloc: Global, out: &mut String) -> Result<(), AllocError> {
+    let mut room = room_of_four(alloc)?;
+    shelve_one(&mut room, 9);
+    put_room(out, &room)?;
+    let seen = take_and_give(&mut room, 7);
+    write!(out, ", read {seen}; ")?;
+    put_room(out, &room)
+}
+
+/// Writes what comes of rows that are all shelved, where one more is wanted.
+pub fn all(alloc: Global, out: &mut String) -> Result<(), AllocError> {
+    let mut room = room_of_four(alloc)?;
     room.shelve_clear(4);
     match room.take() {
         None => {}
         Some(row) => room.give(row),
     }
-    assert_eq!(rt; room.high(), 4);
-    assert_eq!(rt; room.shelf().len(), 4);
+    put_room(out, &room)?;
+    write!(out, ", shelf of {}", room.shelf().len())?;
     room.clear_shelf();
-    assert_eq!(rt; room.shelf().len(), 0);
-    Ok(())
+    write!(out, ", then of {}", room.shelf().len())
 }

@@ -1,0 +1,111 @@
+-- The leaves that statements read are those of draws, of which none is read twice.
+use Rattle.std.specs.Prelude.{IfSome, slice_get}
+use Rattle.std.specs.List.{All, AllPairs}
+use Rattle.std.specs.Option.{option_map}
+use Rattle.std.proofs.Common.{◌≡◌, ◌≢◌, ℕ, zero, suc, false, List, [], ◌∷◌, Option, Some, None, Result, refl, sym, subst, arith}
+use Rattle.std.proofs.lemmas.List.Elements.{All-cons, All-nil, All-weaker}
+use Rattle.std.proofs.lemmas.List.Kept.{AllPairs-cons}
+use Rattle.ob_base.specs.Indexes.{leaf_of_draw}
+use Rattle.ob_base.specs.declared.config.Public.{Public}
+use Rattle.ob_exec.proofs.LeavesRead.{Given, Onwards, ReadsUnread, Unread, behind, none_given, reads_unread}
+use Rattle.ob_exec.specs.Agreeing.{AreDraws, indexes_of, public_of, seen_of}
+use Rattle.ob_exec.specs.Engines.{AreTables}
+use Rattle.ob_exec.specs.declared.stop.RunStop.{RunStop}
+use Rattle.ob_headline.specs.Leaves.{AreDrawn, IsDrawn}
+use Rattle.ob_mean.specs.Lawful.{height_at}
+use Rattle.ob_mean.specs.Replay.{draws_taken}
+use Rattle.ob_mean.specs.Verdict.{Draws}
+use Rattle.ob_oram.specs.declared.index.Index.{Index}
+use Rattle.ob_script.specs.Trace.{Served, next}
+use Rattle.ob_shell.specs.Steps.{Does, Machine}
+use Rattle.ob_sql.specs.Skeleton.{skeleton}
+use Rattle.ob_sql.specs.declared.stmt.Stmt.{Stmt}
+use Rattle.ob_vault.specs.State.{RevState, World}
+use Rattle.ob_verdict.specs.declared.outcome.Outcome.{Outcome}
+
+-- statements read leaves of draws, none twice, of which none was read before
+pub record Reads (d : Draws) (indexes : List Index) (g : Given d indexes) (p : Public) (seen : List Served) : Type 0 where
+  pub numbers : List ℕ
+  pub are : AreDrawn d.draw p seen numbers
+  pub apart : AllPairs (λ a b. a ≢ b) numbers
+  pub unread : All (Unread d indexes g.number) numbers
+
+none_apart : AllPairs (λ (a b : ℕ). a ≢ b) []
+none_apart i j x before within = absurd (omega (arith, within))
+
+pub reads_none : (d : Draws) (indexes : List Index) (g : Given d indexes) (p : Public) → Reads d indexes g p []
+reads_none d indexes g p = record { numbers = []; are = refl; apart = none_apart; unread = All-nil (Unread d indexes g.number) }
+
+-- ---- one statement
+module _ (d : Draws) (taken : ℕ) (old new : List Index) (g : Given d old) (p : Public) (x : Served) where
+  abbrev IsLeaf : Option ℕ → Type 0
+  IsLeaf read = x.seen.leaf ≡ option_map (λ (n : ℕ). leaf_of_draw (height_at p x.skeleton) (d.draw n)) read
+
+  abbrev behind_it : Public
+  behind_it = next p x.skeleton x.seen
+
+  drawn_at : (read : Option ℕ) (numbers : List ℕ) (seen : List Served) → IsLeaf read
+      → IsDrawn d.draw (height_at p x.skeleton) (option_map (λ (n : ℕ). leaf_of_draw (height_at p x.skeleton) (d.draw n)) read) numbers (AreDrawn d.draw behind_it seen) → AreDrawn d.draw p (x ∷ seen) numbers
+  drawn_at read numbers seen is are = subst (λ (o : Option ℕ). IsDrawn d.draw (height_at p x.skeleton) o numbers (AreDrawn d.draw behind_it seen)) (sym is) are
+
+  last_by : (read : Option ℕ) → IsLeaf read → IfSome read (λ n. Unread d old g.number n) → Reads d old g p (x ∷ [])
+  last_by None is fresh = record { numbers = []; are = drawn_at None [] [] is refl; apart = none_apart; unread = All-nil (Unread d old g.number) }
+  last_by (Some n) is fresh = record {
+    numbers = n ∷ [];
+    are = drawn_at (Some n) (n ∷ []) [] is (refl, refl);
+    apart = AllPairs-cons (λ (a b : ℕ). a ≢ b) n [] (All-nil (λ (m : ℕ). n ≢ m)) none_apart;
+    unread = All-cons (Unread d old g.number) n [] fresh (All-nil (Unread d old g.number));
+  }
+
+  more_by : (read : Option ℕ) (seen : List Served) → IsLeaf read → IfSome read (λ n. Unread d old g.number n) → (on : Onwards d taken old new g read)
+      → Reads (behind d taken) new on.given behind_it seen → Reads d old g p (x ∷ seen)
+  more_by None seen is fresh on rest = record {
+    numbers = rest.numbers;
+    are = drawn_at None rest.numbers seen is rest.are;
+    apart = rest.apart;
+    unread = All-weaker (Unread (behind d taken) new on.given.number) (Unread d old g.number) on.unread rest.numbers rest.unread;
+  }
+  more_by (Some n) seen is fresh on rest = record {
+    numbers = n ∷ rest.numbers;
+    are = drawn_at (Some n) (n ∷ rest.numbers) seen is (refl, rest.are);
+    apart = AllPairs-cons (λ (a b : ℕ). a ≢ b) n rest.numbers (All-weaker (Unread (behind d taken) new on.given.number) (λ (m : ℕ). n ≢ m) on.other rest.numbers rest.unread) rest.apart;
+    unread = All-cons (Unread d old g.number) n rest.numbers fresh (All-weaker (Unread (behind d taken) new on.given.number) (Unread d old g.number) on.unread rest.numbers rest.unread);
+  }
+
+-- ---- what the engine carried out
+module _ {R : Type 0} (state : R → RevState) (m0 m1 : Machine R) (stmt : Stmt) (result : Result Outcome RunStop) (does : Does state m0 m1 stmt result) where
+  abbrev here : Served
+  here = record { skeleton = skeleton stmt; seen = seen_of m1.engine }
+
+  abbrev taken : ℕ
+  taken = draws_taken (public_of m0.engine) (skeleton stmt) (seen_of m1.engine).end
+
+  module _ (d : Draws) (drawn : AreDraws m0.engine d) (g : Given d (indexes_of m0.engine)) where
+    reads : ReadsUnread d taken (height_at (public_of m0.engine) (skeleton stmt)) (indexes_of m0.engine) g (seen_of m1.engine).leaf m1.engine.ended (indexes_of m1.engine)
+    reads = reads_unread d taken (height_at (public_of m0.engine) (skeleton stmt)) (indexes_of m0.engine) g (seen_of m1.engine).leaf m1.engine.ended (indexes_of m1.engine) (does.ran.leaves d drawn)
+
+    pub reads_last : Reads d (indexes_of m0.engine) g (public_of m0.engine) (here ∷ [])
+    reads_last = last_by d taken (indexes_of m0.engine) (indexes_of m1.engine) g (public_of m0.engine) here reads.read reads.is reads.fresh
+
+    pub reads_more : (seen : List Served) → m1.engine.ended ≡ false
+        → ((h : Given (behind d taken) (indexes_of m1.engine)) → Reads (behind d taken) (indexes_of m1.engine) h (next (public_of m0.engine) (skeleton stmt) (seen_of m1.engine)) seen)
+        → Reads d (indexes_of m0.engine) g (public_of m0.engine) (here ∷ seen)
+    reads_more seen lives rest =
+        let on = reads.onwards lives in
+        more_by d taken (indexes_of m0.engine) (indexes_of m1.engine) g (public_of m0.engine) here reads.read seen reads.is reads.fresh on (rest on.given)
+
+-- ---- before the first statement
+empty : (xs : List Index) → ((k : ℕ) (x : Index) → slice_get xs k ≡ Some x → ⊥) → xs ≡ []
+empty [] none = refl
+empty (x ∷ xs) none = absurd (none zero x refl)
+
+-- without a table there is no index
+pub no_indexes : {other : ℕ → Type 0} {indexes : List Index} {pack : ℕ} {w : World} → AreTables [] other indexes pack w → indexes ≡ []
+no_indexes {indexes = indexes} tables = empty indexes (λ k x is. no_table (tables.stand k x is).place _ (tables.stand k x is).get)
+  where
+    no_table : {T : Type 0} (i : ℕ) (t : T) → slice_get [] i ≡ Some t → ⊥
+    no_table zero t is = cc is
+    no_table (suc i) t is = cc is
+
+pub given_none : (d : Draws) (indexes : List Index) → indexes ≡ [] → Given d indexes
+given_none d indexes none = subst (Given d) (sym none) (none_given d)

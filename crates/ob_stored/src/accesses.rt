@@ -1,0 +1,112 @@
+//! Accesses as texts spell them, and how the list of them is kept.
+use crate::bytes::{narrow, number, parted};
+use ob_base::Access;
+use ob_store::Log;
+use std::alloc::{AllocError, Global};
+
+/// The access that a text spells, as the trace does.
+pub fn access_of(text: &str) -> Option<Access> {
+    let (kind, rest) = parted(text);
+    let (region, rest) = parted(rest);
+    let region = number(region);
+    let (first, second) = parted(rest);
+    let (first, second) = (narrow(first), narrow(second));
+    match kind {
+        "M" => Some(Access::Make {
+            region,
+            blocks: first,
+            len: second,
+        }),
+        "O" => Some(Access::Open {
+            region,
+            blocks: first,
+            len: second,
+        }),
+        "R" => Some(Access::Read {
+            region,
+            place: first,
+        }),
+        "W" => Some(Access::Write {
+            region,
+            place: first,
+        }),
+        "D" => Some(Access::Discard { region }),
+        _ => None,
+    }
+}
+
+/// Writes an access, as the trace does.
+pub fn put_access(out: &mut String, access: Access) -> Result<(), AllocError> {
+    match access {
+        Access::Make {
+            region,
+            blocks,
+            len,
+        } => write!(out, "M {region} {blocks} {len}"),
+        Access::Open {
+            region,
+            blocks,
+            len,
+        } => write!(out, "O {region} {blocks} {len}"),
+        Access::Read { region, place } => write!(out, "R {region} {place}"),
+        Access::Write { region, place } => write!(out, "W {region} {place}"),
+        Access::Discard { region } => write!(out, "D {region}"),
+    }
+}
+
+// Lists one access more.
+fn list(log: &mut Log, access: Access) -> Result<(), AllocError> {
+    match log.room(1) {
+        Ok(()) => {
+            log.push(access);
+            Ok(())
+        }
+        Err(_) => Err(AllocError),
+    }
+}
+
+// Writes how many runs and accesses a list has, and the last access but one.
+fn put_log(out: &mut String, log: &Log) -> Result<(), AllocError> {
+    write!(
+        out,
+        "{} runs of {} accesses, the last but one ",
+        log.runs(),
+        log.count()
+    )?;
+    let count = log.count();
+    if count < 2 {
+        return out.push_str("none");
+    }
+    put_access(out, log.nth(count - 2))
+}
+
+/// Writes what a list of the accesses is that a text spells.
+pub fn listed(alloc: Global, out: &mut String, text: &str) -> Result<(), AllocError> {
+    let mut log = Log::new(alloc);
+    for word in text.split(", ") {
+        if let Some(access) = access_of(word) {
+            list(&mut log, access)?;
+        }
+    }
+    put_log(out, &log)
+}
+
+/// Likewise of those of an INSERT into a table of so many slots: region 1 is read, and then written to region 2.
+pub fn inserted(alloc: Global, out: &mut String, slots: u32) -> Result<(), AllocError> {
+    let mut log = Log::new(alloc);
+    let made = Access::Make {
+        region: 2,
+        blocks: slots,
+        len: 49,
+    };
+    list(&mut log, made)?;
+    for place in 0..slots {
+        list(&mut log, Access::Read { region: 1, place })?;
+    }
+    for place in 0..slots {
+        list(&mut log, Access::Read { region: 1, place })?;
+        list(&mut log, Access::Write { region: 2, place })?;
+    }
+    list(&mut log, Access::Discard { region: 1 })?;
+    put_log(out, &log)
+}

@@ -1,0 +1,54 @@
+//! Lines of marks, and names of regions' files.
+use crate::bytes::{parted, spelled_by};
+use ob_base::Mark;
+use ob_file::{mark_of, region_in, spell};
+use std::alloc::{AllocError, Global};
+
+// The line that a mark is spelt as.
+fn line_of(alloc: Global, mark: &Mark) -> Result<Vec<u8>, AllocError> {
+    let mut line = Vec::new(alloc);
+    match spell(&mut line, mark) {
+        Ok(()) => Ok(line),
+        Err(_) => Err(AllocError),
+    }
+}
+
+/// Writes the mark that a line spells, and whether that mark is spelt otherwise.
+pub fn read(alloc: Global, out: &mut String, text: &str) -> Result<(), AllocError> {
+    let line = spelled_by(alloc, text)?;
+    let Some(mark) = mark_of(line.as_slice()) else {
+        return out.push_str("none");
+    };
+    match mark {
+        Mark::Fresh => out.push_str("fresh")?,
+        Mark::InUse => out.push_str("in use")?,
+        Mark::Closed {
+            region,
+            blocks,
+            number,
+            pack,
+        } => write!(
+            out,
+            "region {region}, blocks {blocks}, number {number}, pack {pack}"
+        )?,
+    }
+    if line_of(alloc, &mark)?.as_slice() != line.as_slice() {
+        out.push_str(", and spelt otherwise")?;
+    }
+    Ok(())
+}
+
+/// Writes how many bytes the line of a fresh mark has.
+pub fn fresh(alloc: Global, out: &mut String) -> Result<(), AllocError> {
+    let len = line_of(alloc, &Mark::Fresh)?.len();
+    write!(out, "{len} bytes")
+}
+
+/// Writes the region whose file has a name, where the names of the store's files begin with the text before a colon.
+pub fn region(out: &mut String, text: &str) -> Result<(), AllocError> {
+    let (first, name) = text.split_once(':').unwrap_or((text, ""));
+    match region_in(name.as_bytes(), first) {
+        Some(digits) => out.push_str(digits),
+        None => out.push_str("none"),
+    }
+}

@@ -1,0 +1,9 @@
+0000000000000000000000000000000000000000000000000000000000000000
+-- 64 keys, as many as go without a word; 65,536 take --buffer 158 --stash 89.
+CREATE TABLE stock (id INT PRIMARY KEY, pieces INT) CAPACITY 64 INDEXED;
+INSERT INTO stock VALUES (3, 40);
+UPDATE stock SET pieces = 39 WHERE id = 3;
+SELECT pieces FROM stock WHERE id = 3;
+SELECT * FROM stock WHERE id = 4;
+INSERT INTO stock VALUES (64, 1);
+SELECT COUNT(*) FROM stock;
