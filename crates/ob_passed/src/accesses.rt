@@ -27,11 +27,11 @@ fn push_access(out: &mut String, access: Access) -> Result<(), Stop> {
 
 // The accesses of these indices.
 fn accesses(out: &mut String, store: &KeepingStore, from: u64, to: u64) -> Result<(), Stop> {
-    let mut comma = "";
     for at in from..to.min(store.count()) {
-        out.push_str(comma)?;
+        if from < at {
+            out.push_str(", ")?;
+        }
         push_access(out, store.nth(at))?;
-        comma = ", ";
     }
     Ok(())
 }
@@ -51,15 +51,14 @@ fn opens(keys: &Keys, number: u64, write: &(u64, u32, Block)) -> bool {
 // Where each write was, which opens under the number of all writes up to it, from 1 on.
 fn writes(out: &mut String, store: &KeepingStore) -> Result<(), Stop> {
     let keys = Keys::derive(&[0; 32]);
-    let mut comma = "";
     for (number, write) in (1..=1_000_000).zip(store.written()) {
-        let shut = if opens(&keys, number, write) {
-            ""
-        } else {
-            " shut"
-        };
-        write!(out, "{comma}{} {}{shut}", write.0, write.1)?;
-        comma = ", ";
+        if 1 < number {
+            out.push_str(", ")?;
+        }
+        write!(out, "{} {}", write.0, write.1)?;
+        if !opens(&keys, number, write) {
+            out.push_str(" shut")?;
+        }
     }
     Ok(())
 }
