@@ -1,10 +1,10 @@
 -- What is asked of few slots.
-use Rattle.std.proofs.Common.{◌≤◌, ◌+◌, ◌*◌, ℕ, ◌++◌, length, arith, length-append}
+use Rattle.std.proofs.Common.{◌≤◌, ◌+◌, ◌*◌, ℕ, ◌++◌, arith, length-append}
 use Rattle.std.specs.Int.{div_ceil}
 use Rattle.ob_base.specs.Joins.{chunks, joined_blocks, joined_slots}
 use Rattle.ob_base.specs.Limits.{buffered_blocks}
 use Rattle.ob_base.specs.Numbers.{blocks_for}
-use Rattle.ob_base.specs.Schemas.{Columns, width}
+use Rattle.ob_base.specs.Schemas.{Columns}
 use Rattle.ob_flat.specs.Flats.{IsSized}
 use Rattle.ob_flat.proofs.Tables.{blocks_few}
 use Rattle.ob_join.proofs.Pairs.{width-join}
