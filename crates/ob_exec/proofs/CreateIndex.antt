@@ -334,6 +334,7 @@ module _ {R : Type 0} (state : R → RevState) (old : Engine R) (s s1 : StoreSta
           went.did.asked (script_is Whole)
           (ap (λ (c : Columns). old.public.tables ++ record { heading = record { name = table; schema = c; capacity = capacity; shape = Indexed }; region = old.public.next_region } ∷ []) schema_is)
           are may (ap (λ (p : DrawPlace). p.key) next) drawn_next;
+      indexed = λ stops. absurd (cc stops);
     }
 
     -- what the tables hold

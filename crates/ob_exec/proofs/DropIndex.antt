@@ -121,6 +121,7 @@ module _ {R : Type 0} (state : R → RevState) (old : Engine R) (s s1 : StoreSta
       goes_on = left_on state (DropSkeleton name) old s v old.room t agrees agrees.room left old.draws (remove old.public.tables i) (seen_to Whole) part old.ended lives all.lasts.ready all.lasts.start all.lasts.keys
           all.did.asked (script_is Whole) (removed_is name old.public.tables i table agrees.tables.names here.get here.named) are may refl
           (λ d of_d. let sum : d.drawn ≡ d.drawn + 0 = omega (arith) in of_d.next ∙ ap (λ (n : ℕ). n % 2 ^ 67) sum);
+      indexed = λ stops. absurd (cc stops);
     }
 
     -- what the others hold stays

@@ -39,7 +39,7 @@ use Rattle.ob_sql.specs.declared.stmt.Stmt.{Stmt}
 use Rattle.ob_sql.specs.declared.stmt.Stmt.TheVariants.{Create, Insert, Update, Delete, Drop as DropTable, SelectRows as RowsStmt, SelectTotals as TotalsStmt}
 use Rattle.ob_sql.specs.Skeleton.{skeleton}
 use Rattle.ob_mean.specs.Lawful.{height_at}
-use Rattle.ob_mean.specs.Replay.{drawn_by, draws_taken, held_if}
+use Rattle.ob_mean.specs.Replay.{drawn_by, draws_taken, held_if, is_access}
 use Rattle.ob_mean.specs.Verdict.{Draws, next_draw}
 use Rattle.ob_verdict.specs.declared.outcome.Outcome.{Outcome}
 use Rattle.ob_verdict.specs.Outcomes.{refusal_now}
@@ -62,6 +62,7 @@ use Rattle.ob_exec.specs.Engines.{AreTables, IsIndexOfTable, others_of}
 use Rattle.ob_exec.specs.Indexed.{IsAccessed, IsDone}
 use Rattle.ob_exec.specs.Leaves.{MovesLeaves, ReadsKey}
 use Rattle.ob_exec.specs.Running.{RanStatement, RunCause, answer_of, is_fault, is_stop, stop_of}
+use Rattle.ob_exec.proofs.IndexKinds.{access_by}
 use Rattle.ob_exec.proofs.IndexTables.{this, that, set_at, tables_accessed}
 use Rattle.ob_exec.proofs.RunLemmas.{IsAnswered, MayHave, asks_none, engine_left, left_on, of_other, opens_some}
 use Rattle.ob_exec.proofs.TableLemmas.{no_entry, stored_found}
@@ -118,6 +119,11 @@ module _ {R : Type 0} (state : R → RevState) (stmt : Stmt) (old : Engine R) (s
       let there = accessed.is.get in
       let same : accessed.is.index ≡ x = cc (got, there) in
       subst (λ (i : Index). IsIndexOfTable table i) same accessed.is.of
+
+  is_an_access : is_access old.public (skeleton stmt) ≡ true
+  is_an_access =
+      let here = accessed.is.here in
+      access_by old.public accessed.place accessed.is.table accessed.name agrees.tables.names here.get here.named accessed.is.of.indexed stmt accessed.keyed
 
   pub stands : IsIndex x before
   stands =
@@ -248,6 +254,7 @@ module _ {R : Type 0} (state : R → RevState) (stmt : Stmt) (old : Engine R) (s
           leaves = λ d of. inr (inr (inr (reads_key drew d of (draws_taken old.public (skeleton stmt) Whole) (Some keyed.leaf) old.ended refl (λ goes. omega (arith, one)) (λ goes. moved_ok))));
           goes_on = left_on state (skeleton stmt) old s v room t agrees free indexes draws old.public.tables (seen_whole keyed.leaf) part old.ended lives all.lasts.ready all.lasts.start all.lasts.keys
               (from_old part ran_as.asked) refl same are may key drawn;
+          indexed = λ stops. absurd (cc stops);
         }
 
     -- its emitter gave up behind it
@@ -276,6 +283,7 @@ module _ {R : Type 0} (state : R → RevState) (stmt : Stmt) (old : Engine R) (s
           opened = opened part;
           leaves = λ d of. moves_cut drew d of (drawn_by old.public (skeleton stmt)) (nat_lt old.public.stash n);
           goes_on = refl;
+          indexed = λ stops. is_an_access;
         } in
         elim never [
           | inl sink ↦ subst (λ (z : OpErr). RanStatement state (skeleton stmt) (answer_of z) old s (engine_left old indexes draws v room old.public.tables (seen n) (is_stop (answer_of z))) t) (sym sink)
@@ -316,4 +324,5 @@ module _ {R : Type 0} (state : R → RevState) (stmt : Stmt) (old : Engine R) (s
           opened = opened part;
           leaves = λ d of. moves_cut drew d of (drawn_by old.public (skeleton stmt)) (nat_lt old.public.stash n);
           goes_on = refl;
+          indexed = λ stops. is_an_access;
         }

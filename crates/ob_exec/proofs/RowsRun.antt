@@ -30,7 +30,7 @@ use Rattle.ob_select.specs.Opening.{Opens}
 use Rattle.ob_exec.specs.Running.{RanStatement, RunCause, GoesOn, Continues, answer_of, is_fault, is_stop, result_end}
 use Rattle.ob_select.specs.Selecting.{from}
 use Rattle.ob_exec.specs.Sources.{EndsRows, LeavesNone, UsesRoomFor, rows_script, rows_skeleton, selected_outcome, selection}
-use Rattle.ob_exec.proofs.RunLemmas.{asks_cut, asks_none, left_on, may_have, of_other, taken_none}
+use Rattle.ob_exec.proofs.RunLemmas.{asks_cut, asks_none, left_on, may_have, no_access, of_other, taken_none}
 use Rattle.ob_exec.proofs.PlainLemmas.{none_drawn}
 use Rattle.ob_mean.specs.Replay.{draws_taken, is_access}
 use Rattle.ob_exec.proofs.RowsLawful.{ended_end, ended_whole, ended_well}
@@ -117,6 +117,7 @@ module _ {R : Type 0} (state : R → RevState) (old : Engine R) (s : StoreState)
         opened = subst (λ (y : List Access). Opens y old.room.high room.high) (sym whole) (opens_by all is.ran.did.asked);
         leaves = λ d of. inl (is.leaf, λ goes. refl);
         goes_on = rows_on seen all old.ended unkeyed lives is.ran.lasts.ready is.ran.lasts.start is.ran.lasts.keys is.ran.did.asked whole (rows_tables is.ran.lasts is.leaves);
+        indexed = λ stops. absurd (cc stops);
       }
 
   cut_on : (e : OpErr) (seen : Seen) → GoesOn state (rows_skeleton select) old (rows_after old v room seen false) t
@@ -149,4 +150,5 @@ module _ {R : Type 0} (state : R → RevState) (old : Engine R) (s : StoreState)
         leaves = λ d of. inl (leaf, λ goes. refl);
         goes_on = cut_on e (record seen { end = Cut n })
             (rows_on (record seen { end = Cut n }) (take n all) false unkeyed refl cut.lasts.ready cut.lasts.start cut.lasts.keys first refl (rows_tables cut.lasts leaves));
+        indexed = λ stops. absurd (no_access e stops);
       }

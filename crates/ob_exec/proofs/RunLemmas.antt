@@ -18,7 +18,7 @@ use Rattle.ob_store.specs.Runs.{Began}
 use Rattle.ob_store.proofs.Steps.{began_take, later_refl, later_rests}
 use Rattle.ob_vault.specs.State.{RevState, VaultState, Start, World}
 use Rattle.ob_vault.specs.Tied.{ReadsIn, Ready}
-use Rattle.ob_vault.specs.Calls.{Went, Lasts}
+use Rattle.ob_vault.specs.Calls.{Went}
 use Rattle.ob_flat.specs.declared.fault.OpErr.{OpErr}
 use Rattle.ob_flat.specs.declared.fault.OpErr.TheVariants as OpErrs
 use Rattle.ob_flat.specs.Passes.{PassCut, PassCause, is_of_access}
@@ -48,7 +48,7 @@ use Rattle.ob_verdict.specs.Outcomes.{by_fault}
 use Rattle.ob_base.specs.Refusals.{is_store_fault}
 use Rattle.ob_exec.specs.Agreeing.{Agrees, AreDraws, world_of}
 use Rattle.ob_select.specs.Opening.{Opens}
-use Rattle.ob_exec.specs.Running.{answer_of, is_fault, is_stop, outcome_end, result_end, RunCause, GoesOn, Continues, RanStatement, IsFaulted}
+use Rattle.ob_exec.specs.Running.{answer_of, is_fault, is_stop, outcome_end, result_end, stops_access, RunCause, GoesOn, Continues, RanStatement, IsFaulted}
 use Rattle.ob_select.proofs.RoomLemmas.{free_after}
 
 abbrev pub world : VaultState → StoreState → World
@@ -98,6 +98,13 @@ only_memory OpErrs.Failed is = absurd (cc is)
 only_memory (OpErrs.Tampered q x) is = absurd (cc is)
 only_memory OpErrs.Sink is = absurd (cc is)
 only_memory OpErrs.NoMemory is = refl
+
+-- no pass over a flat table ends the session as an access of an index does
+pub no_access : (e : OpErr) → stops_access (answer_of e) ≡ true → ⊥
+no_access OpErrs.Failed stops = cc stops
+no_access (OpErrs.Tampered q x) stops = cc stops
+no_access OpErrs.Sink stops = cc stops
+no_access OpErrs.NoMemory stops = cc stops
 
 -- an access that failed was asked
 pub asks_cut : (e : OpErr) (s t : StoreState) → (IsTrue (is_of_access e) → length s.asked < length t.asked) → IsFaulted (answer_of e) → length s.asked < length t.asked
@@ -164,6 +171,7 @@ module _ {R : Type 0} (state : R → RevState) (skeleton : Skeleton) (old : Engi
       lives = lives;
       drawn = λ d are. draws_same old (record old { seen = seen_to Static }) d 0 refl refl refl are;
     };
+    indexed = λ stops. absurd (cc stops);
   }
 
 -- an answer after all accesses
@@ -257,6 +265,7 @@ module _ {R : Type 0} (state : R → RevState) (skeleton : Skeleton) (old : Engi
         opened = opens;
         leaves = λ d of. inl (refl, λ goes. same);
         goes_on = cut_on e indexes draws n (left_on indexes draws old.public.tables (seen_to (Cut n)) (take n x) false refl cut.lasts.ready cut.lasts.start cut.lasts.keys first (ap (take n) is) refl are may key drawn);
+        indexed = λ stops. absurd (no_access e stops);
       }
 
 module _ {R : Type 0} (state : R → RevState) (skeleton : Skeleton) (old : Engine R) (s : StoreState) (v : Vault R) (room : RoomState) (t : StoreState)
@@ -287,6 +296,7 @@ module _ {R : Type 0} (state : R → RevState) (skeleton : Skeleton) (old : Engi
     opened = subst (λ (y : List Access). Opens y old.room.high room.high) (sym is) opens;
     leaves = λ d of. inl (refl, λ goes. refl);
     goes_on = went_on tables Whole x old.ended lives went.lasts.ready went.lasts.start went.lasts.keys went.did.asked is same are;
+    indexed = λ stops. absurd (cc stops);
   }
 
   -- a pass gave up
@@ -296,28 +306,6 @@ module _ {R : Type 0} (state : R → RevState) (skeleton : Skeleton) (old : Engi
   ran_stopped some n x e opens cut is count are =
       stopped_left state skeleton old s v room t agrees free old.indexes old.draws some n x e refl opens cut is count are (may_have state old s agrees) refl
       (λ d of. let sum : d.drawn ≡ d.drawn + drawn_by old.public skeleton = omega (arith, undrawn) in of.next ∙ ap (λ (k : ℕ). k % 2 ^ 67) sum)
-
--- what ends the session behind some accesses asks nothing of the tables
-module _ {R : Type 0} (state : R → RevState) (skeleton : Skeleton) (old : Engine R) (s : StoreState) (v : Vault R) (room : RoomState) (t : StoreState)
-    (free : IsFree old.public room) where
-  pub ran_ended : (some : ℕ → Type 0) (n : ℕ) (x : List Access) (stop : RunStop) → Opens (script old.public skeleton (seen_to (Cut n))) old.room.high room.high
-      → Lasts some (world_of state old s) (at state v t) → Began x s t → RunCause (Err stop) (world_of state old s) (at state v t)
-      → whole_script old.public skeleton (seen_to (Cut n)) ≡ x → n ≡ length t.asked - length s.asked
-      → RanStatement state skeleton (Err stop) old s (engine_after old v room old.public.tables (Cut n) true) t
-  ran_ended some n x stop opens lasts began cause is count = record {
-    asked = began_take x _ _ began ∙ ap (λ (k : ℕ). s.asked ++ take k x) (sym count) ∙ ap (λ (y : List Access). s.asked ++ take n y) (sym is);
-    later = lasts.later;
-    keys = lasts.keys;
-    start = lasts.start;
-    from_closing = refl;
-    ends = ap (λ (k : ℕ). Cut k) count;
-    asks = λ faulted. absurd faulted;
-    cause = cause;
-    room = free;
-    opened = opens;
-    leaves = λ d of. inl (refl, λ goes. refl);
-    goes_on = refl;
-  }
 
 module _ {R : Type 0} (state : R → RevState) (skeleton : Skeleton) (old : Engine R) (s : StoreState) (v : Vault R) (room : RoomState) (t : StoreState)
     (agrees : Agrees state old s) (room_is : room ≡ record old.room { high = max old.room.high old.room.pack }) (undrawn : drawn_by old.public skeleton ≡ 0) where
@@ -379,6 +367,7 @@ ran_unasked state skeleton old s t indexes draws tables agrees rests =
       opened = opens_none old.room.high;
       leaves = λ d of. inl (refl, λ goes. absurd (cc goes));
       goes_on = refl;
+      indexed = λ stops. absurd (cc stops);
     }
 
 -- no room for the accesses

@@ -16,7 +16,7 @@ use Rattle.ob_vault.specs.Calls.{EndsRead}
 use Rattle.ob_vault.specs.Tied.{Calm, EndsAt}
 use Rattle.ob_script.specs.Script.{script}
 use Rattle.ob_mean.specs.Lawful.{height_at}
-use Rattle.ob_mean.specs.Replay.{draws_taken}
+use Rattle.ob_mean.specs.Replay.{draws_taken, is_access}
 use Rattle.ob_mean.specs.Verdict.{Draws, ended as seen_to}
 use Rattle.ob_oram.specs.declared.fault.OramErr.{OramErr}
 use Rattle.ob_oram.specs.declared.fault.OramErr.TheVariants as OramErrs
@@ -89,6 +89,12 @@ RunCause (Err NoMemory) old new = (new.store.faults ≡ old.store.faults) × (Ca
 RunCause (Err StoreFault) old new = Rises old.store.faults new.store.faults × (Calm old → Calm new)
 RunCause (Err StashFull) old new = (new.store.faults ≡ old.store.faults) × (Calm old → Calm new)
 
+-- the stops that come in an access of an index alone: the store failed in it, or left more rows than the stash has slots
+abbrev pub stops_access : Result Outcome RunStop → Bool
+stops_access (Err StoreFault) = true
+stops_access (Err StashFull) = true
+stops_access _ = false
+
 -- the answer is that the store failed
 abbrev pub IsFaulted : Result Outcome RunStop → Type 0
 IsFaulted (Ok outcome) = IsTrue (is_fault outcome)
@@ -125,6 +131,7 @@ pub record RanStatement {R : Type 0} (state : R → RevState) (skeleton : Skelet
   pub leaves : (d : Draws) → AreDraws old d → MovesLeaves d (draws_taken old.public skeleton new.seen.end)
       (height_at old.public skeleton) old.indexes.items new.seen.leaf new.ended new.indexes.items
   pub goes_on : Continues state skeleton result old new t
+  pub indexed : stops_access result ≡ true → is_access old.public skeleton ≡ true
 
 -- a stop by the sink comes only where a call of the emitter failed, and always where one did
 abbrev pub SinkStops : Result Outcome RunStop → ℕ → ℕ → Type 0
