@@ -6,7 +6,7 @@ use Rattle.ob_base.specs.declared.access.Access.{Access}
 use Rattle.ob_base.specs.declared.config.Public.{Public}
 use Rattle.ob_base.specs.declared.refusal.Refusal.{Refusal}
 use Rattle.ob_base.specs.declared.refusal.Refusal.TheVariants.{StoreFault}
-use Rattle.ob_base.specs.declared.refusal.Stop.TheVariants.{SinkFault, NoMemory}
+use Rattle.ob_base.specs.declared.refusal.Stop.TheVariants.{SinkFault, NoMemory, StashFull, StoreFault as StoreFails}
 use Rattle.ob_base.specs.declared.seen.End.{End}
 use Rattle.ob_base.specs.declared.seen.End.TheVariants.{Cut}
 use Rattle.ob_base.specs.declared.seen.Seen.{Seen}
@@ -19,7 +19,7 @@ use Rattle.ob_headline.specs.declared.ending.Ending.TheVariants.{Ran}
 use Rattle.ob_mean.specs.Flats.{AreFlat}
 use Rattle.ob_mean.specs.Lawful.{Lawful}
 use Rattle.ob_mean.specs.Prints.{labels_of}
-use Rattle.ob_mean.specs.Replay.{Spelt}
+use Rattle.ob_mean.specs.Replay.{Spelt, is_access}
 use Rattle.ob_print.specs.Rows.{events_text}
 use Rattle.ob_script.specs.Script.{script, whole_script}
 use Rattle.ob_script.specs.Trace.{Served, next, trace}
@@ -67,11 +67,18 @@ pub record WantsMemory (p : Public) (stmt : Stmt) (seen : Seen) : Type 0 where
 abbrev pub MeetsSink : (Failed : Type 0) → Stmt → Seen → Type 0
 MeetsSink Failed stmt seen = IsTrue (is_cut seen.end) → MayEmit stmt ⊎ Failed
 
+-- how a run ends in an access of an index alone: the store failed in it, or it left more rows than the stash has slots
+abbrev pub ends_access : Ending → Bool
+ends_access (Ran (Err StoreFails)) = true
+ends_access (Ran (Err StashFull)) = true
+ends_access _ = false
+
 -- where a run that ended so left the statement that was begun
 abbrev pub StopsWithin : Ending → (Failed : Type 0) → Public → Stmt → Seen → Type 0
 StopsWithin ending Failed p stmt seen =
     (ending ≡ Ran (Err NoMemory) → WantsMemory p stmt seen)
     × (ending ≡ Ran (Err SinkFault) → MeetsSink Failed stmt seen)
+    × (ends_access ending ≡ true → is_access p (skeleton stmt) ≡ true)
 
 -- of each statement its skeleton and what is seen of it, which is lawful by what is public before it and m accesses;
 -- its answer is its early refusal, if there is one, says that the store failed exactly where it was cut off, and has the
@@ -96,13 +103,15 @@ AreSeen Leaves p m (Ok stmt ∷ spelt) (one ∷ answers) (x ∷ seen) =
     answers seen
 
 -- They are those that the statements go on from, if there are any, and the trace of the skeletons and of what is seen of
--- each: of those that were answered, and of the one begun, if it is a statement. No table that they go on from is an index.
+-- each: of those that were answered, and of the one begun, if it is a statement, as one is where a run ends in an access of
+-- an index. No table that they go on from is an index.
 -- The leaves of indexes that are read are those of draws of the keys, none of which is read twice. Calls that discard a region
 -- are counted apart, and change no answer.
 pub record Accesses (base : Base) (keys : KeySet) (ending : Ending) (story : Story)
     (old new : StoreState) : Type 0 where
   pub flat : AreFlat (headings_of base.public.tables)
   pub one_last : length story.last ≤ 1
+  pub begun : ends_access ending ≡ true → length story.last ≡ 1
   pub each_seen : length story.seen
       ≡ length (statements (take (length story.served) story.spelt))
   pub lawful : AreSeen (StopsWithin ending (FailsBeside story.answers old.faults new.faults))

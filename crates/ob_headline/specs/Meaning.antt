@@ -4,7 +4,7 @@ use Rattle.ob_base.specs.Events.{Event}
 use Rattle.ob_base.specs.Stored.{headings, headings_of}
 use Rattle.ob_base.specs.declared.refusal.Refusal.TheVariants.{StoreFault}
 use Rattle.ob_base.specs.declared.refusal.Stop.{Stop}
-use Rattle.ob_base.specs.declared.refusal.Stop.TheVariants.{NoMemory, StashFull}
+use Rattle.ob_base.specs.declared.refusal.Stop.TheVariants.{NoMemory, SinkFault, StashFull}
 use Rattle.ob_base.specs.declared.seen.Seen.{Seen}
 use Rattle.ob_verdict.specs.Outcomes.{outcome_of, Partly}
 use Rattle.ob_verdict.specs.declared.outcome.Outcome.TheVariants.{Refused}
@@ -76,7 +76,9 @@ pub record StopsAt (ending : Ending) (s : Session) (stmt : Stmt) (here : Seen)
   pub bound : is_full_now s stmt ≡ true → n ≤ reads_of s stmt
 
 -- or it was answered, and a sink failed within its last line or after it
-pub record AnswersLast (s : Session) (stmt : Stmt) (here : Seen) (part : List ℕ) : Type 0 where
+pub record AnswersLast (ending : Ending) (s : Session) (stmt : Stmt) (here : Seen)
+    (part : List ℕ) : Type 0 where
+  pub fault : ending ≡ Ran (Err SinkFault)
   pub room : is_full_now s stmt ≡ false
   pub broken : Option ℕ
   pub cuts : IsCutOff broken s stmt
@@ -89,7 +91,7 @@ abbrev pub BeginsAnswer : Ending → Session → Spelt → List Served → (part
 BeginsAnswer ending s (Err at) seen part = part ≡ (refused_at at).bytes
 BeginsAnswer ending s (Ok stmt) [] part = ⊥
 BeginsAnswer ending s (Ok stmt) (x ∷ seen) part =
-    StopsAt ending s stmt x.seen part ⊎ AnswersLast s stmt x.seen part
+    StopsAt ending s stmt x.seen part ⊎ AnswersLast ending s stmt x.seen part
 
 -- from a session of the model on: these statements, of which none meets a full stash and the store cut some off, each at
 -- one of its accesses, are answered so, this is seen of each, and what was printed after them is a first part of the next answer

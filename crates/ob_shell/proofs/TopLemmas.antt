@@ -24,7 +24,7 @@ use Rattle.ob_headline.specs.Texts.{is_over, rest_of, texts_of, texts_in}
 use Rattle.ob_headline.specs.Tracing.{traced}
 use Rattle.ob_headline.specs.Words.{Begins, Faults, SinksRose, Took, before_read, printed}
 use Rattle.ob_headline.specs.Statements.{SpellFirst, statements}
-use Rattle.ob_headline.specs.Accesses.{AreSeen, any_cut}
+use Rattle.ob_headline.specs.Accesses.{AreSeen, any_cut, ends_access}
 use Rattle.ob_headline.specs.Meaning.{AnswersFrom}
 use Rattle.ob_headline.specs.Status.{HasSecret}
 use Rattle.ob_headline.specs.declared.ending.Ending.{Ending}
@@ -82,6 +82,19 @@ after_line-more (x ∷ xs) ys h = after_line-step x xs ys (x == 10) refl h (afte
 pub nothing_over : is_over (rest_of [] []) ≡ false
 nothing_over = rw rest_of-nil
 
+-- so it ends in no access of an index
+unfaulted_ends : (ending : Ending) → EndsUnfaulted ending → ends_access ending ≡ true → ⊥
+unfaulted_ends Usage fine ends = cc ends
+unfaulted_ends BadKey fine ends = cc ends
+unfaulted_ends (RanEnding (Ok flag)) fine ends = cc ends
+unfaulted_ends (RanEnding (Err (Tampered region place))) fine ends = cc ends
+unfaulted_ends (RanEnding (Err SourceFault)) fine ends = cc ends
+unfaulted_ends (RanEnding (Err SinkFault)) fine ends = cc ends
+unfaulted_ends (RanEnding (Err NoMemory)) fine ends = cc ends
+unfaulted_ends (RanEnding (Err InputLimit)) fine ends = cc ends
+unfaulted_ends (RanEnding (Err StoreFault)) fine ends = fine
+unfaulted_ends (RanEnding (Err StashFull)) fine ends = fine
+
 pub unstarted : (tr : TraceSink) (settings : Option Config) (secret : Option (List ℕ)) (s : StoreState) (more : List (List ℕ)) (ending : Ending) → IsFresh s → tr.new ≡ tr.old → EndsUntampered ending → EndsUnfaulted ending
     → Carried tr (fresh settings) secret s s 0 (unserved more) ending
 unfolding SpellFirst AreSeen AnswersFrom MeantUntil failures any_cut statements
@@ -90,6 +103,7 @@ unstarted tr settings secret s more ending blank untraced untampered unfaulted =
   accesses = record {
     flat = start_flat settings;
     one_last = omega arith;
+    begun = λ ends. absurd (unfaulted_ends ending unfaulted ends);
     each_seen = refl;
     lawful = refl;
     drawn = record { numbers = []; are = refl; apart = λ i j x before within. absurd (omega (arith, within)) };

@@ -18,7 +18,7 @@ use Rattle.ob_exec.proofs.LeavesRead.{Given, behind}
 use Rattle.ob_exec.specs.Agreeing.{AreDraws, engine_start, indexes_of, opened_from, public_of, seen_of, world_of}
 use Rattle.ob_select.specs.Memory.{AtMake}
 use Rattle.ob_exec.specs.Refusals.{refused_end}
-use Rattle.ob_exec.specs.Running.{RefusedEarly, RunCause, is_fault, outcome_end}
+use Rattle.ob_exec.specs.Running.{RefusedEarly, RunCause, is_fault, outcome_end, stops_access}
 use Rattle.ob_verdict.specs.Outcomes.{refusal_now, by_fault, Emits}
 use Rattle.ob_exec.specs.Stops.{session_stop}
 use Rattle.ob_exec.specs.Telling.{IsNotTampered, ReadsTrue, ReadsTrueUntil, Represents, answer_labels, is_refused}
@@ -31,7 +31,7 @@ use Rattle.ob_headline.proofs.FullLemmas.{asks_alone, asks_first, met_script}
 use Rattle.ob_headline.specs.Disturbed.{MeantUntil}
 use Rattle.ob_headline.specs.Words.{Answer, Begins, refused_at}
 use Rattle.ob_headline.specs.Statements.{SpellFirst, statements}
-use Rattle.ob_headline.specs.Accesses.{AreSeen, Says, StopsWithin, WantsMemory, any_cut, is_cut}
+use Rattle.ob_headline.specs.Accesses.{AreSeen, Says, StopsWithin, WantsMemory, any_cut, ends_access, is_cut}
 use Rattle.ob_headline.specs.Meaning.{AnswersFrom, AnswersIn, BeginsAnswer, PrintsUntil}
 use Rattle.ob_headline.specs.declared.ending.Ending.{Ending}
 use Rattle.ob_headline.specs.declared.ending.Ending.TheVariants.{Usage, BadKey, Ran}
@@ -178,6 +178,7 @@ module _ {R : Type 0} (state : R → RevState) where
     pub seen : List Entry
     pub last : List Entry
     pub one_last : length last ≤ 1
+    pub in_access : ends_access ending ≡ true → length last ≡ 1
     pub each_seen : length seen ≡ length (statements (take (length texts) spelt))
     pub lawful : AreSeen (StopsWithin ending Failed) (public_of m0.engine) (asked_of m0) spelt answers (seen ++ last)
     pub passed : m1.store.asked ≡ m0.store.asked ++ trace (public_of m0.engine) seen
@@ -197,9 +198,9 @@ module _ {R : Type 0} (state : R → RevState) where
         → EarlyFrom n (session_of m0 d tables) m0.store.asked m2.store.asked spelt answers (seen ++ last)
 
   -- nothing was done
-  walked_none : (ending : Ending) (Failed : Type 0) (m0 m2 : Machine R) (more : List (List ℕ)) (part : List ℕ) → m2 ≡ m0 → part ≡ [] → EndsUntampered ending → Walked ending Failed m0 m0 m2 [] more [] part
+  walked_none : (ending : Ending) (Failed : Type 0) (m0 m2 : Machine R) (more : List (List ℕ)) (part : List ℕ) → m2 ≡ m0 → part ≡ [] → EndsUntampered ending → (ends_access ending ≡ true → ⊥) → Walked ending Failed m0 m0 m2 [] more [] part
   unfolding SpellFirst AreSeen AnswersFrom any_cut statements
-  walked_none ending Failed m0 m2 more part same none fine = record {
+  walked_none ending Failed m0 m2 more part same none fine off = record {
     spelt = [];
     spells = tt;
     reached = omega arith;
@@ -208,6 +209,7 @@ module _ {R : Type 0} (state : R → RevState) where
     seen = [];
     last = [];
     one_last = omega arith;
+    in_access = λ ends. absurd (off ends);
     each_seen = refl;
     lawful = refl;
     passed = sym (append-nil m0.store.asked);
@@ -223,6 +225,21 @@ module _ {R : Type 0} (state : R → RevState) where
     untampered = λ d drawn tells tables held honest. fine;
     early = λ d drawn tells steady tables held n before few. early_none n (session_of m0 d tables) m0.store.asked m2.store.asked [] (ap (λ (m : Machine R). m.store.asked) same) few;
   }
+
+  -- a stop that ends an access of an index is one of the engine's that does
+  access_stops : (run : RunStop) → ends_access (Ran (Err (session_stop run))) ≡ true → stops_access (Err run) ≡ true
+  access_stops Runs.StoreFault ends = refl
+  access_stops Runs.StashFull ends = refl
+  access_stops (Runs.Tampered q x) ends = absurd (cc ends)
+  access_stops Runs.SinkFault ends = absurd (cc ends)
+  access_stops Runs.NoMemory ends = absurd (cc ends)
+
+  -- and neither want of memory nor a sink's fault
+  memory_ends : (run : RunStop) → run ≡ Runs.NoMemory → ends_access (Ran (Err (session_stop run))) ≡ true → ⊥
+  memory_ends run memory ends = cc (ap (λ (r : RunStop). ends_access (Ran (Err (session_stop r)))) memory, ends)
+
+  sink_ends : (run : RunStop) → run ≡ Runs.SinkFault → ends_access (Ran (Err (session_stop run))) ≡ true → ⊥
+  sink_ends run fault ends = cc (ap (λ (r : RunStop). ends_access (Ran (Err (session_stop r)))) fault, ends)
 
   -- a statement was stopped
   wants : (m0 m2 : Machine R) (stmt : Stmt) (run : RunStop) → Does state m0 m2 stmt (Err run) → Ran (Err (session_stop run)) ≡ Ran (Err NoMemory)
@@ -283,8 +300,9 @@ module _ {R : Type 0} (state : R → RevState) where
         seen = [];
         last = record { skeleton = sk; seen = here } ∷ [];
         one_last = omega arith;
+        in_access = λ ends. refl;
         each_seen = refl;
-        lawful = (refl, cut.does.lawful, ((λ is. wants m0 m2 cut.stmt run cut.does is), (λ is off. inl (cut.does.emits (ap (λ (r : RunStop). Err r) (only_sink run (cc is)))))), refl);
+        lawful = (refl, cut.does.lawful, ((λ is. wants m0 m2 cut.stmt run cut.does is), (λ is off. inl (cut.does.emits (ap (λ (r : RunStop). Err r) (only_sink run (cc is))))), (λ ends. cut.does.ran.indexed (access_stops run ends))), refl);
         passed = sym (append-nil m0.store.asked);
         asked = cut.does.ran.asked ∙ ap (λ xs. m0.store.asked ++ xs) (sym (append-nil (script (public_of m0.engine) sk here)));
         keys = cut.does.ran.keys;
@@ -363,8 +381,9 @@ module _ {R : Type 0} (state : R → RevState) where
         seen = [];
         last = record { skeleton = sk; seen = here } ∷ [];
         one_last = omega arith;
+        in_access = λ ends. refl;
         each_seen = refl;
-        lawful = (refl, did.does.lawful, ((λ is. absurd (not_memory run fault is)), (λ is off. inr (rose (rose_by one.outcome (world m0) (world m2) here.end _ did.does.ran.cause did.does.ran.ends off)))), refl);
+        lawful = (refl, did.does.lawful, ((λ is. absurd (not_memory run fault is)), (λ is off. inr (rose (rose_by one.outcome (world m0) (world m2) here.end _ did.does.ran.cause did.does.ran.ends off))), (λ ends. absurd (sink_ends run fault ends))), refl);
         passed = sym (append-nil m0.store.asked);
         asked = did.does.ran.asked ∙ ap (λ xs. m0.store.asked ++ xs) (sym (append-nil (script (public_of m0.engine) sk here)));
         keys = did.does.ran.keys;
@@ -376,7 +395,7 @@ module _ {R : Type 0} (state : R → RevState) where
         lie = did.does.ran.later.lie;
         meant = λ d drawn tells calm unfit tables held.
             let by = answered_by m0 m2 tables text one did d drawn (reads_true m0 m2 tables text one did tells held calm unfit) in
-            ([], inr (record { room = by.room; broken = by.how; cuts = by.cuts; seen = by.seen; answer = one; answers = by.answer; whole = is }), λ whole. absurd whole);
+            ([], inr (record { fault = ap (λ (r : RunStop). Ran (Err (session_stop r))) fault; room = by.room; broken = by.how; cuts = by.cuts; seen = by.seen; answer = one; answers = by.answer; whole = is }), λ whole. absurd whole);
         untampered = λ d drawn tells tables held honest. stop_untampered run (sink_untampered run fault);
         early = λ d drawn tells steady tables held n before few. early_one m0 m2 tables did.stmt (Ok one.outcome) n _ d drawn did.does tells steady held before few;
       }
@@ -384,10 +403,10 @@ module _ {R : Type 0} (state : R → RevState) where
   refused_is : (m0 m1 : Machine R) (text : List ℕ) (one : Answer) → (bad : Misspelt m0 m1 text one) → one ≡ refused_at bad.at
   refused_is m0 m1 text one bad = λ i. record { outcome = bad.refused i; bytes = (bad.line ∙ ap closing_line bad.refused) i; plan = bad.unplanned i }
 
-  walked_refused : (ending : Ending) (Failed : Type 0) (m0 m2 : Machine R) (text : List ℕ) (more : List (List ℕ)) (one : Answer) (part : List ℕ) → part ≡ one.bytes → Misspelt m0 m2 text one → EndsUntampered ending
+  walked_refused : (ending : Ending) (Failed : Type 0) (m0 m2 : Machine R) (text : List ℕ) (more : List (List ℕ)) (one : Answer) (part : List ℕ) → part ≡ one.bytes → Misspelt m0 m2 text one → EndsUntampered ending → (ends_access ending ≡ true → ⊥)
       → Walked ending Failed m0 m0 m2 [] (text ∷ more) [] part
   unfolding SpellFirst AreSeen AnswersFrom any_cut statements
-  walked_refused ending Failed m0 m2 text more one part is bad fine = record {
+  walked_refused ending Failed m0 m2 text more one part is bad fine off = record {
     spelt = Err bad.at ∷ [];
     spells = (bad.spells, tt);
     reached = omega arith;
@@ -396,6 +415,7 @@ module _ {R : Type 0} (state : R → RevState) where
     seen = [];
     last = [];
     one_last = omega arith;
+    in_access = λ ends. absurd (off ends);
     each_seen = refl;
     lawful = refl;
     passed = sym (append-nil m0.store.asked);
@@ -415,19 +435,19 @@ module _ {R : Type 0} (state : R → RevState) where
 
   walked_part : (Failed : Type 0) (m1 m2 : Machine R) (more : List (List ℕ)) (run : RunStop) (part : List ℕ) → (Rises m1.store.faults m2.store.faults → Failed) → PartlyAt state m1 m2 more run part
       → Walked (Ran (Err (session_stop run))) Failed m1 m1 m2 [] more [] part
-  walked_part Failed m1 m2 [] run part rose idle = walked_none _ Failed m1 m2 [] part idle.rests.machine idle.rests.none (stop_untampered run (memory_untampered run idle.memory))
-  walked_part Failed m1 m2 (text ∷ more) run part rose (inl idle) = walked_none _ Failed m1 m2 (text ∷ more) part idle.rests.machine idle.rests.none (stop_untampered run (memory_untampered run idle.memory))
+  walked_part Failed m1 m2 [] run part rose idle = walked_none _ Failed m1 m2 [] part idle.rests.machine idle.rests.none (stop_untampered run (memory_untampered run idle.memory)) (memory_ends run idle.memory)
+  walked_part Failed m1 m2 (text ∷ more) run part rose (inl idle) = walked_none _ Failed m1 m2 (text ∷ more) part idle.rests.machine idle.rests.none (stop_untampered run (memory_untampered run idle.memory)) (memory_ends run idle.memory)
   walked_part Failed m1 m2 (text ∷ more) run part rose (inr (inl cut)) = walked_cut Failed m1 m2 text more run part cut
   walked_part Failed m1 m2 (text ∷ more) run part rose (inr (inr done)) = elim done.step.done [
-    | inl bad ↦ walked_refused _ Failed m1 m2 text more done.answer part done.whole bad (stop_untampered run (sink_untampered run done.fault))
+    | inl bad ↦ walked_refused _ Failed m1 m2 text more done.answer part done.whole bad (stop_untampered run (sink_untampered run done.fault)) (sink_ends run done.fault)
     | inr did ↦ walked_done Failed m1 m2 rose text more run done.answer part done.whole done.fault did
   ]
 
   pub walked_last : (Failed : Type 0) (m1 m2 : Machine R) (more : List (List ℕ)) (part : List ℕ) (result : Result Bool Stop) → (Rises m1.store.faults m2.store.faults → Failed) → LastPart state m1 m2 more part result → Walked (Ran result) Failed m1 m1 m2 [] more [] part
-  walked_last Failed m1 m2 more part (Ok flag) rose rests = walked_none (Ran (Ok flag)) Failed m1 m2 more part rests.machine rests.none tt
+  walked_last Failed m1 m2 more part (Ok flag) rose rests = walked_none (Ran (Ok flag)) Failed m1 m2 more part rests.machine rests.none tt (λ ends. cc ends)
   walked_last Failed m1 m2 more part (Err stop) rose last =
       by_last state m1 m2 more part (λ (s : Stop). Walked (Ran (Err s)) Failed m1 m1 m2 [] more [] part) stop last (λ run partly. walked_part Failed m1 m2 more run part rose partly)
-      (λ rests. walked_none _ Failed m1 m2 more part rests.machine rests.none tt) (λ rests. walked_none _ Failed m1 m2 more part rests.machine rests.none tt)
+      (λ rests. walked_none _ Failed m1 m2 more part rests.machine rests.none tt (λ ends. cc ends)) (λ rests. walked_none _ Failed m1 m2 more part rests.machine rests.none tt (λ ends. cc ends))
 
   -- one text more
   more_refused : (ending : Ending) (Failed : Type 0) (m0 m1 m m2 : Machine R) (text : List ℕ) (texts more : List (List ℕ)) (one : Answer) (answers : List Answer) (part : List ℕ) → Misspelt m0 m1 text one
@@ -444,6 +464,7 @@ module _ {R : Type 0} (state : R → RevState) where
         seen = rest.seen;
         last = rest.last;
         one_last = rest.one_last;
+        in_access = rest.in_access;
         each_seen = rest.each_seen;
         lawful = (refused_is m0 m1 text one bad, rest.lawful);
         passed = rest.passed;
@@ -549,6 +570,7 @@ module _ {R : Type 0} (state : R → RevState) where
         seen = record { skeleton = sk; seen = here } ∷ rest.seen;
         last = rest.last;
         one_last = rest.one_last;
+        in_access = rest.in_access;
         each_seen = ap (λ (n : ℕ). suc n) rest.each_seen;
         lawful = (
           refl,

@@ -40,9 +40,10 @@ EndsUntampered BadKey = Unit {0}
 EndsUntampered (Ran (Err (Tampered region place))) = ⊥
 EndsUntampered (Ran _) = Unit {0}
 
--- nor one by the store
+-- nor one by the store, or for a full stash
 abbrev pub EndsUnfaulted : Ending → Type 0
 EndsUnfaulted (Ran (Err StoreFault)) = ⊥
+EndsUnfaulted (Ran (Err StashFull)) = ⊥
 EndsUnfaulted _ = Unit {0}
 
 -- a store of which nothing was asked
