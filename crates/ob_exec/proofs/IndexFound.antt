@@ -188,6 +188,7 @@ module _ {R : Type 0} (state : R → RevState) (stmt : Stmt) (old : Engine R) (s
           asked = rests.asked ∙ sym (append-nil s.asked);
           place = inl (inl refl);
         };
+        full = λ is. absurd (cc is);
         seals = keeps_rests state old s s1 rests unasked refl;
         answered = tt;
         stopped = record {

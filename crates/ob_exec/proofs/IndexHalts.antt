@@ -179,6 +179,7 @@ module _ {R : Type 0} (state : R → RevState) (stmt : Stmt) (old : Engine R) (s
               asked = went.did.asked;
               place = inr (inr (at_emission, record { events = part; ends = ends }));
             };
+            full = λ full. absurd (never_full stop other (cc full));
             seals = sealed_access state stmt old s s1 v room t k draw keyed indexes draws agrees rests now accessed done drew next halted refl;
             answered = tt;
             stopped = record {

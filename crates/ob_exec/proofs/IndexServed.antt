@@ -55,7 +55,7 @@ use Rattle.ob_keyed.proofs.Told.{finds_access}
 use Rattle.ob_exec.specs.Running.{stop_of}
 use Rattle.ob_exec.specs.Telling.{IsNotTampered, ReadsTrue, is_refused}
 use Rattle.ob_exec.proofs.IndexFound.{partly_none}
-use Rattle.ob_exec.proofs.IndexStops.{stops_within}
+use Rattle.ob_exec.proofs.IndexStops.{fills, stops_within}
 use Rattle.ob_exec.proofs.HeldLemmas.{held_headings}
 use Rattle.ob_exec.proofs.IndexMeans.{lies_before, seen_access_cut, stood}
 use Rattle.ob_exec.proofs.IndexRuns.{from_old, on, ran_as_stopped, ran_stopped_access, short}
@@ -148,6 +148,7 @@ module _ {R : Type 0} (state : R → RevState) (stmt : Stmt) (old : Engine R) (s
       early = refused_none (refusal_now old.public (count_of old s) stmt) (Ok outcome) new.seen now (λ is. absurd (cc is));
       lawful = (ran_as state stmt old s s1 v room t k draw keyed indexes draws agrees rests now accessed done got answers).lawful;
       memory = λ is. absurd (cc is);
+      full = λ is. absurd (cc is);
       seals = sealed_access new refl;
       answered = answered;
       stopped = tt;
@@ -209,6 +210,7 @@ module _ {R : Type 0} (state : R → RevState) (stmt : Stmt) (old : Engine R) (s
       early = refused_none (refusal_now old.public (count_of old s) stmt) (Err (stop_of e)) (seen_cut old.public.stash keyed.leaf n) now (λ is. absurd (cc is));
       lawful = lawful_stop;
       memory = λ is. of_access e Stops.NoMemory tt is;
+      full = λ is d of. fills state stmt old s s1 v room t k draw keyed indexes draws agrees rests now accessed done drew e stops n count (cc is) d of;
       seals = sealed_access ended refl;
       answered = tt;
       stopped = record {

@@ -1,7 +1,8 @@
 -- A statement on an index that was stopped, and what that means.
-use Rattle.std.proofs.Common.{◌≡◌, ◌≤◌, ◌-◌, ◌+◌, ℕ, Bool, true, IsTrue, length, Option, None, Err, Result, Global, MatchResult, refl, sym, ◌∙◌, ap, subst, arith}
+use Rattle.std.proofs.Common.{◌≡◌, ◌≤◌, ◌<◌, ◌-◌, ◌+◌, ℕ, Bool, true, nat_lt, IsTrue, length, Option, Some, None, Err, Result, Global, MatchResult, refl, sym, ◌∙◌, ap, subst, arith}
 use Rattle.std.specs.Option.{option_map_or}
 use Rattle.std.specs.declared.vec.Vec.{Vec}
+use Rattle.std.proofs.lemmas.Bool.Decides.{nat_tests}
 use Rattle.ob_base.specs.declared.schema.Heading.{Heading}
 use Rattle.ob_base.specs.Indexes.{height_of, path_blocks}
 use Rattle.ob_base.proofs.IndexLemmas.{height_same}
@@ -22,22 +23,24 @@ use Rattle.ob_oram.specs.declared.op.Got.{Got}
 use Rattle.ob_oram.specs.Short.{AsksReads}
 use Rattle.ob_seal.specs.Draws.{DrawPlace, draw_at}
 use Rattle.ob_sql.specs.declared.stmt.Stmt.{Stmt}
-use Rattle.ob_mean.specs.Verdict.{Accessed, Draws, Tables, is_full}
+use Rattle.ob_mean.specs.Replay.{held_if}
+use Rattle.ob_mean.specs.Verdict.{Accessed, Draws, Tables, is_full, next_draw}
 use Rattle.ob_verdict.specs.Outcomes.{refusal_now}
 use Rattle.ob_keyed.specs.declared.keyed.Keyed.{Keyed}
 use Rattle.ob_keyed.specs.Meant.{StopsKeyed, ToldKeyed}
 use Rattle.ob_keyed.specs.Seeing.{seen_cut}
+use Rattle.ob_keyed.specs.Serving.{Overfills}
 use Rattle.ob_keyed.proofs.Told.{finds_access}
 use Rattle.ob_exec.specs.declared.engine.Engine.{Engine}
 use Rattle.ob_exec.specs.declared.stop.RunStop.TheVariants as Stops
 use Rattle.ob_exec.specs.Agreeing.{Agrees, AreDraws, count_of, world_of}
-use Rattle.ob_exec.specs.Indexed.{IsAccessed, IsDone}
+use Rattle.ob_exec.specs.Indexed.{FillsStash, IsAccessed, IsDone}
 use Rattle.ob_exec.specs.Running.{RunCause, stop_of}
 use Rattle.ob_exec.specs.Telling.{ReadsTrueUntil, Represents, StopsFull, access_reads}
 use Rattle.ob_exec.proofs.EmitLemmas.{unfit_none}
 use Rattle.ob_exec.proofs.HeldLemmas.{held_headings}
 use Rattle.ob_exec.proofs.IndexMeans.{meant, stood}
-use Rattle.ob_exec.proofs.IndexRuns.{of_x, on, short, short_cause, stands}
+use Rattle.ob_exec.proofs.IndexRuns.{draw_is, of_x, on, served, short, short_cause, stands}
 use Rattle.ob_exec.proofs.RunLemmas.{engine_left}
 
 module _ {R : Type 0} (state : R → RevState) (stmt : Stmt) (old : Engine R) (s s1 : StoreState) (v : Vault R) (room : RoomState) (t : StoreState) (k draw : ℕ) (keyed : Keyed) (indexes : Vec Index Global) (draws : DrawPlace)
@@ -128,3 +131,31 @@ module _ {R : Type 0} (state : R → RevState) (stmt : Stmt) (old : Engine R) (s
     pub stops_within : (tables : Tables) (d : Draws) → AreDraws old d → ReadsTrueUntil state old s new t tables
         → StopsFull d old.public (count_of old s) tables stmt (length t.asked - length s.asked) (stop_of e)
     stops_within tables d of reads = bound_by e refl tables d of reads
+
+    -- whatever the store answered, a full stash has read too many rows
+    only_full : (f : OramErr) → stop_of f ≡ Stops.StashFull → f ≡ OramErrs.StashFull
+    only_full OramErrs.Failed is = absurd (cc is)
+    only_full (OramErrs.Tampered q z) is = absurd (cc is)
+    only_full OramErrs.StashFull is = refl
+
+    pub fills : stop_of e ≡ Stops.StashFull → (d : Draws) → AreDraws old d → FillsStash (next_draw d) old.public (count_of old s) stmt old.indexes.items new.seen.leaf s.asked after
+    fills is d of =
+        let full = only_full e is in
+        let cut = short state stmt old s s1 v room t k draw keyed indexes draws agrees rests now accessed done e stops in
+        let all = cut.full full in
+        let same = ap length rests.asked in
+        let slots = (agrees.fit k x done.get).slots in
+        let past : old.public.stash < n = omega (arith, count, all, same, slots) in
+        let more : nat_lt old.public.stash n ≡ true = grind (arith, nat_tests) in
+        record {
+          place = k;
+          index = x;
+          get = done.get;
+          on = on state stmt old s s1 v room t k draw keyed indexes draws agrees rests now accessed done;
+          leaf = keyed.leaf;
+          shown = ap (λ (b : Bool). held_if b (Some keyed.leaf)) more;
+          old = before;
+          begun = rests.asked;
+          over = subst (λ (m : ℕ). Overfills stmt x m keyed.leaf before after) (draw_is state stmt old s s1 v room t k draw keyed indexes draws agrees rests now accessed done drew d of)
+              ((served state stmt old s s1 v room t k draw keyed indexes draws agrees rests now accessed done).full (stops ∙ ap Err full));
+        }

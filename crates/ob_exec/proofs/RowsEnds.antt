@@ -136,6 +136,7 @@ module _ {R : Type 0} (state : R → RevState) (old : Engine R) (s : StoreState)
     early = early_none old.public (count_of old s) select (Ok (selected_outcome answer)) now free (ended_late (selection old.public select) answer now is.ended);
     lawful = lawful_ended old.public select source.unkeyed (count_of old s) free answer now is.holds is.leaf is.ended;
     memory = λ wanted. absurd (cc wanted);
+    full = λ full. absurd (cc full);
     seals = λ good accepts single. is.seals good accepts;
     answered = answered_by answer is few closes;
     stopped = tt;

@@ -38,7 +38,7 @@ use Rattle.ob_exec.specs.declared.engine.Engine.{Engine}
 use Rattle.ob_verdict.specs.declared.outcome.Outcome.{Outcome}
 use Rattle.ob_select.specs.declared.selecting.Selected.{Selected}
 use Rattle.ob_exec.specs.Agreeing.{Agrees, AreDraws, world_of, count_of}
-use Rattle.ob_exec.specs.Running.{RefusedEarly, SinkStops, answer_of, is_stop}
+use Rattle.ob_exec.specs.Running.{RefusedEarly, SinkStops, answer_of, is_stop, stops_access}
 use Rattle.ob_verdict.specs.Outcomes.{refusal_now}
 use Rattle.ob_select.specs.Selecting.{MayHold, SealsRows, answer_events, selection_answer, from, places, selection_seen}
 use Rattle.ob_exec.specs.Serving.{Answered, StopsEmission, Serves, Stopped}
@@ -59,7 +59,7 @@ use Rattle.ob_exec.proofs.RowsRun.{rows_after, rows_cut}
 use Rattle.ob_exec.specs.Engines.{others_of}
 use Rattle.ob_exec.proofs.TableLemmas.{beside_below, region_below}
 use Rattle.ob_exec.proofs.ToldLemmas.{early_held}
-use Rattle.ob_exec.proofs.RunLemmas.{only_memory}
+use Rattle.ob_exec.proofs.RunLemmas.{no_access, only_memory}
 
 pub unfit_none : (w : World) → w.store.lie ≡ None → IsUnfit w
 unfit_none w none = record { unfit = λ lie is. absurd (cc (is, none)) }
@@ -316,6 +316,7 @@ module _ {R : Type 0} (state : R → RevState) (old : Engine R) (s : StoreState)
               ])
             ];
           };
+      full = λ full. absurd (no_access e (ap stops_access full));
       seals = λ good accepts single. (is.seals) good accepts;
       answered = stop_answered e is;
       stopped = stop_stopped e is;

@@ -26,7 +26,7 @@ use Rattle.ob_exec.specs.declared.engine.Engine.{Engine}
 use Rattle.ob_verdict.specs.declared.outcome.Outcome.{Outcome}
 use Rattle.ob_verdict.specs.declared.outcome.Outcome.TheVariants.{Created, Inserted, Changed, Deleted, Dropped, Rows, Refused}
 use Rattle.ob_exec.specs.Agreeing.{Agrees, world_of, count_of}
-use Rattle.ob_exec.specs.Running.{HasNoRows, IsSilent, RefusedEarly, SinkStops, is_fault}
+use Rattle.ob_exec.specs.Running.{HasNoRows, IsSilent, RefusedEarly, SinkStops, is_fault, stops_access}
 use Rattle.ob_verdict.specs.Outcomes.{refusal_now, outcome_of, by_fault, Emits, EmitsUntilFault}
 use Rattle.ob_exec.specs.Serving.{StopsEmission, Serves, ServesSilently, Stopped}
 use Rattle.ob_exec.proofs.MemoryLemmas.{lacks_less}
@@ -131,6 +131,7 @@ module _ {R E : Type 0} (state : R → RevState) (grew cut : E → E → List Ev
         early = early;
         lawful = lawful_now old.public (count_of old s) stmt result new.seen s.asked t.asked uncounted flat serves.plain serves.uncounted early serves.ran.asked serves.ran.ends;
         memory = λ is. lacks_less (λ none. absurd none) (serves.memory is);
+        full = λ is. let indexed = serves.ran.indexed (ap stops_access is) in absurd (cc (indexed, flat));
         seals = serves.seals;
         answered = silent_answered result serves.silent (λ outcome silent. record {
           events = [];
@@ -167,6 +168,7 @@ module _ {R E : Type 0} (state : R → RevState) (grew cut : E → E → List Ev
         early = subst (λ (o : Option Refusal). RefusedEarly o (Ok (Refused r)) (seen_to Static)) (sym now) (refl, refl);
         lawful = lawful_refused old.public (count_of old s) stmt r now;
         memory = λ is. absurd (cc is);
+        full = λ is. absurd (cc is);
         seals = keeps_none state old s new refl;
         answered = record {
           events = [];

@@ -55,7 +55,7 @@ use Rattle.ob_verdict.specs.declared.outcome.Outcome.{Outcome}
 use Rattle.ob_verdict.specs.declared.outcome.Outcome.TheVariants.{Refused}
 use Rattle.ob_exec.specs.Agreeing.{Agrees, world_of, count_of}
 use Rattle.ob_exec.specs.Engines.{IsAt, flat_of}
-use Rattle.ob_exec.specs.Running.{SinkStops, answer_of, is_stop}
+use Rattle.ob_exec.specs.Running.{SinkStops, answer_of, is_stop, stops_access}
 use Rattle.ob_verdict.specs.Outcomes.{refusal_now, outcome_of, Emits, Partly}
 use Rattle.ob_select.specs.Selecting.{UsesRoom}
 use Rattle.ob_exec.specs.Serving.{StopsEmission, Serves, Stopped}
@@ -72,7 +72,7 @@ use Rattle.ob_verdict.proofs.NamesFlatProof.{names_flat}
 use Rattle.std.proofs.lemmas.List.Elements.{All-head}
 use Rattle.ob_exec.proofs.LawfulLemmas.{lawful_now}
 use Rattle.ob_exec.proofs.ReadLemmas.{cut_after, held_read, read_cut, read_done, read_flat, read_size, reads, reads_is, went_all}
-use Rattle.ob_exec.proofs.RunLemmas.{IsAnswered, engine_after, ran_no_room, only_memory}
+use Rattle.ob_exec.proofs.RunLemmas.{IsAnswered, engine_after, no_access, ran_no_room, only_memory}
 use Rattle.ob_exec.proofs.SealLemmas.{keeps_pass, keeps_rests}
 use Rattle.ob_exec.proofs.ToldLemmas.{cut_seen, early_held, refused_none, started_seen, told_whole, followed_same}
 use Rattle.ob_exec.proofs.TotalsLemmas.{partly_none, totals_fit}
@@ -235,6 +235,7 @@ module _ {R E : Type 0} (state : R → RevState) (grew cut : E → E → List Ev
         early = early;
         lawful = lawful_now old.public (count_of old s) stmt (Err Stops.NoMemory) new.seen s.asked s1.asked refl refl refl (λ is. absurd (cc is)) early ran.asked ran.ends;
         memory = λ is. record { done = []; rest = _; split = refl; asked = rests.asked ∙ sym (append-nil s.asked); place = inl (inl refl) };
+        full = λ is. absurd (cc is);
         seals = keeps_rests state old s s1 rests new refl;
         answered = tt;
         stopped = record { events = []; ends = inl (starts out); told = λ tables reads. partly_none _ _ };
@@ -277,6 +278,7 @@ module _ {R E : Type 0} (state : R → RevState) (grew cut : E → E → List Ev
           early = early;
           lawful = lawful_now old.public (count_of old s) stmt (Ok outcome) new.seen s.asked t.asked refl refl refl (λ is. absurd (cc is)) early ran.asked ran.ends;
           memory = λ is. absurd (cc is);
+          full = λ is. absurd (cc is);
           seals = keeps_pass state old s s1 rests agrees new t now refl (λ good accepts. totals.seals.seals good);
           answered = record {
             events = given.events;
@@ -327,6 +329,7 @@ module _ {R E : Type 0} (state : R → RevState) (grew cut : E → E → List Ev
                 asked = went.did.asked;
                 place = inr (inr (refl, given_up grew cut given.events out_old out_new (starts out_old) e (only_memory e is) given.ends));
               };
+          full = λ full. absurd (no_access e (ap stops_access full));
           seals = keeps_pass state old s s1 rests agrees new t now refl (λ good accepts. totals.seals.seals good);
           answered = if_failed _ e (λ is. record {
             events = [];

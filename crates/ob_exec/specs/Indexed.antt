@@ -1,13 +1,16 @@
 -- A statement on an index, among an engine's indexes.
-use Rattle.std.specs.Prelude.{◌≡◌, ◌≤◌, ℕ, List, Some, Result, OnErr, max, slice_get, slice_set, length, ⊤}
+use Rattle.std.specs.Prelude.{◌≡◌, ◌≤◌, ℕ, List, Option, Some, Result, OnErr, max, slice_get, slice_set, length, ⊤}
+use Rattle.ob_base.specs.declared.access.Access.{Access}
+use Rattle.ob_base.specs.declared.config.Public.{Public}
 use Rattle.ob_base.specs.declared.emit.EmitErr.{EmitErr}
 use Rattle.ob_base.specs.Events.{Event}
 use Rattle.ob_base.specs.Schemas.{Columns}
 use Rattle.ob_base.specs.declared.schema.Table.{Table}
 use Rattle.ob_base.specs.Indexes.{rows_open}
 use Rattle.ob_keyed.specs.declared.keyed.Keyed.{Keyed}
+use Rattle.ob_keyed.specs.Asking.{IsKeyed}
 use Rattle.ob_keyed.specs.Emitting.{EmitsFound}
-use Rattle.ob_keyed.specs.Serving.{GoneBy}
+use Rattle.ob_keyed.specs.Serving.{GoneBy, Overfills}
 use Rattle.ob_mean.specs.Keyed.{keyed_name}
 use Rattle.ob_oram.specs.declared.index.Index.{Index}
 use Rattle.ob_path.specs.Access.{Got}
@@ -38,6 +41,19 @@ pub record IsDone (stmt : Stmt) (k draw : ℕ) (keyed : Keyed) (indexes left : L
   pub set : left ≡ slice_set indexes k after
   pub room : new_room ≡ record old_room { high = max old_room.high (rows_open before.height before.slots) }
   pub gone : GoneBy stmt before after draw keyed old new
+
+-- its access of one of these read more rows than fit on the path of the leaf that is seen and in the stash
+pub record FillsStash (draw : ℕ) (p : Public) (m : ℕ) (stmt : Stmt) (indexes : List Index)
+    (seen : Option ℕ) (asked : List Access) (new : World) : Type 0 where
+  pub place : ℕ
+  pub index : Index
+  pub get : slice_get indexes place ≡ Some index
+  pub on : IsKeyed p m stmt index
+  pub leaf : ℕ
+  pub shown : seen ≡ Some leaf
+  pub old : World
+  pub begun : old.store.asked ≡ asked
+  pub over : Overfills stmt index draw leaf old new
 
 -- the columns that a SELECT prints are some of these
 pub record PrintsColumns (q : SelectRows) (columns : Columns) : Type 0 where

@@ -10,10 +10,11 @@ use Rattle.ob_vault.specs.Tied.{ReadsIn}
 use Rattle.ob_sql.specs.declared.stmt.Stmt.{Stmt}
 use Rattle.ob_sql.specs.Skeleton.{skeleton}
 use Rattle.ob_mean.specs.Lawful.{Lawful}
-use Rattle.ob_mean.specs.Verdict.{Draws, Tables, is_full, verdict, ended as seen_to}
+use Rattle.ob_mean.specs.Verdict.{Draws, Tables, is_full, next_draw, verdict, ended as seen_to}
 use Rattle.ob_exec.specs.declared.engine.Engine.{Engine}
 use Rattle.ob_verdict.specs.declared.outcome.Outcome.{Outcome}
-use Rattle.ob_exec.specs.Agreeing.{AreDraws, count_of}
+use Rattle.ob_exec.specs.Agreeing.{AreDraws, count_of, world_of}
+use Rattle.ob_exec.specs.Indexed.{FillsStash}
 use Rattle.ob_exec.specs.Running.{RanStatement, RefusedEarly, SinkStops, IsSilent}
 use Rattle.ob_verdict.specs.Outcomes.{refusal_now, Emits, MayEmit, Partly}
 use Rattle.ob_select.specs.Memory.{HasHalted}
@@ -83,6 +84,9 @@ pub record Serves {R E : Type 0} (state : R → RevState) (grew cut : E → E �
   pub lawful : Lawful old.public (count_of old s) stmt new.seen
   -- want of memory tells nothing of rows
   pub memory : result ≡ Err NoMemory → LacksMemory old.public stmt new.seen s t (HasHalted cut out_old out_new)
+  -- a stash is full only where an access read more rows than fit
+  pub full : result ≡ Err StashFull → (d : Draws) → AreDraws old d → FillsStash (next_draw d)
+      old.public (count_of old s) stmt old.indexes.items new.seen.leaf s.asked (world_of state new t)
   -- nothing comes to lie in clear
   pub seals : KeepsSealed state old s new t
   pub answered : IfOk result (λ outcome. Answered state grew stmt outcome old s t out_old out_new)

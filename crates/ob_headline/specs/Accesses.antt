@@ -30,6 +30,7 @@ use Rattle.ob_sql.specs.declared.stmt.Stmt.{Stmt}
 use Rattle.ob_headline.specs.Words.{Answer, refused_as, refused_at}
 use Rattle.ob_headline.specs.Bases.{Base}
 use Rattle.ob_headline.specs.Failures.{FailsBeside, RisesBy, failures}
+use Rattle.ob_headline.specs.FullStash.{ReadsFullStash}
 use Rattle.ob_headline.specs.Leaves.{ReadsDraws}
 use Rattle.ob_headline.specs.Statements.{statements}
 use Rattle.ob_headline.specs.Story.{Story}
@@ -74,11 +75,13 @@ ends_access (Ran (Err StashFull)) = true
 ends_access _ = false
 
 -- where a run that ended so left the statement that was begun
-abbrev pub StopsWithin : Ending → (Failed : Type 0) → Public → Stmt → Seen → Type 0
-StopsWithin ending Failed p stmt seen =
+abbrev pub StopsWithin : Ending → (Failed : Type 0) → (Full : Public → Stmt → Seen → Type 0)
+    → Public → Stmt → Seen → Type 0
+StopsWithin ending Failed Full p stmt seen =
     (ending ≡ Ran (Err NoMemory) → WantsMemory p stmt seen)
     × (ending ≡ Ran (Err SinkFault) → MeetsSink Failed stmt seen)
     × (ends_access ending ≡ true → is_access p (skeleton stmt) ≡ true)
+    × (ending ≡ Ran (Err StashFull) → Full p stmt seen)
 
 -- of each statement its skeleton and what is seen of it, which is lawful by what is public before it and m accesses;
 -- its answer is its early refusal, if there is one, says that the store failed exactly where it was cut off, and has the
@@ -104,7 +107,7 @@ AreSeen Leaves p m (Ok stmt ∷ spelt) (one ∷ answers) (x ∷ seen) =
 
 -- They are those that the statements go on from, if there are any, and the trace of the skeletons and of what is seen of
 -- each: of those that were answered, and of the one begun, if it is a statement, as one is where a run ends in an access of
--- an index. No table that they go on from is an index.
+-- an index: for a full stash only where that read too many rows. No table that they go on from is an index.
 -- The leaves of indexes that are read are those of draws of the keys, none of which is read twice. Calls that discard a region
 -- are counted apart, and change no answer.
 pub record Accesses (base : Base) (keys : KeySet) (ending : Ending) (story : Story)
@@ -114,7 +117,8 @@ pub record Accesses (base : Base) (keys : KeySet) (ending : Ending) (story : Sto
   pub begun : ends_access ending ≡ true → length story.last ≡ 1
   pub each_seen : length story.seen
       ≡ length (statements (take (length story.served) story.spelt))
-  pub lawful : AreSeen (StopsWithin ending (FailsBeside story.answers old.faults new.faults))
+  pub lawful : AreSeen (StopsWithin ending (FailsBeside story.answers old.faults new.faults)
+      (ReadsFullStash keys base.start new))
       base.public base.count story.spelt story.answers (story.seen ++ story.last)
   pub drawn : ReadsDraws (draw_of keys) base.public (story.seen ++ story.last)
   pub asked : new.asked ≡ base.before ++ trace base.public (story.seen ++ story.last)

@@ -18,6 +18,7 @@ pub mod Closing
 pub mod Disturbed
 pub mod Endings
 pub mod Failures
+pub mod FullStash
 pub mod KeyLine
 pub mod Settings
 pub mod Texts

@@ -21,7 +21,7 @@ use Rattle.ob_vault.specs.Calls.{Went, two}
 use Rattle.ob_vault.specs.Words.{IsHonest}
 use Rattle.ob_keyed.specs.declared.keyed.Keyed.{Keyed}
 use Rattle.ob_keyed.specs.Meaning.{AnswersAsk, Asks, IsIndexOf, StopsAsk, leaf_went}
-use Rattle.ob_keyed.specs.Serving.{Asked, AsksRoom, GoneBy, ReadsLeaf, ServesKeyed, ShowsLeaf, TellsAccess}
+use Rattle.ob_keyed.specs.Serving.{Asked, AsksRoom, GoneBy, Overfills, ReadsLeaf, ServesKeyed, ShowsLeaf, TellsAccess}
 use Rattle.ob_keyed.proofs.Joining.{leaf_told, told_err, told_ok, told_room}
 
 module _ (stmt : Stmt) (index left : Index) (draw : ℕ) (keyed : Keyed) (old new : World) (shaped : IsShaped index) (by : GoneBy stmt index left draw keyed old new) where
@@ -45,6 +45,10 @@ module _ (stmt : Stmt) (index left : Index) (draw : ℕ) (keyed : Keyed) (old ne
 
   keys : ReadsLeaf index left draw keyed.leaf keyed.result
   keys = record { key = (remap_of index by.op draw).key; read = by.gone.leaf; moved = moved_of keyed.result by.gone.accesses }
+
+  overfills : keyed.result ≡ Err StashFull → Overfills stmt index draw keyed.leaf old new
+  overfills is =
+      record { ask = by.ask; op = by.op; asks = by.asks; asked = by.asked; read = by.gone.leaf; too_many = by.gone.accesses.full is }
 
   asked : Asked index left keyed.leaf keyed.result old new
   asked =
@@ -88,4 +92,4 @@ module _ (stmt : Stmt) (index left : Index) (draw : ℕ) (keyed : Keyed) (old ne
   room = λ honest t ask is asks lies none. room_by t ask is asks honest lies none
 
   pub serves : ServesKeyed stmt index left draw keyed old new
-  serves = record { asked = asked; keys = keys; leaf = shows_leaf; told = tells; room = room }
+  serves = record { asked = asked; keys = keys; full = overfills; leaf = shows_leaf; told = tells; room = room }

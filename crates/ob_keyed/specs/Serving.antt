@@ -1,15 +1,16 @@
 -- What a statement on an index does.
-use Rattle.std.specs.Prelude.{◌≡◌, ◌<◌, ◌^◌, ℕ, Some, None, Result, OnOk, OnErr, IfErr, MatchResult, slice_index_or, slice_set}
+use Rattle.std.specs.Prelude.{◌≡◌, ◌<◌, ◌^◌, ℕ, Some, None, Result, Err, OnOk, OnErr, IfErr, MatchResult, slice_index_or, slice_set}
 use Rattle.ob_base.specs.declared.schema.Heading.{Heading}
 use Rattle.ob_base.specs.Indexes.{leaf_of_draw}
 use Rattle.ob_base.specs.Stored.{Stored}
 use Rattle.ob_mean.specs.Keyed.{Ask, ask_of}
 use Rattle.ob_mean.specs.Verdict.{Held, index_of, went}
 use Rattle.ob_oram.specs.declared.fault.OramErr.{OramErr}
+use Rattle.ob_oram.specs.declared.fault.OramErr.TheVariants.{StashFull}
 use Rattle.ob_oram.specs.declared.index.Index.{Index}
 use Rattle.ob_oram.specs.declared.op.Got.{Got}
 use Rattle.ob_oram.specs.declared.op.Op.{Op}
-use Rattle.ob_oram.specs.Accessing.{Accesses, leaf_read}
+use Rattle.ob_oram.specs.Accessing.{Accesses, ReadsTooMany, leaf_read}
 use Rattle.ob_oram.specs.Indexes.{IsEnded, IsIndex, Lies, SealsIndex, leaves_of}
 use Rattle.ob_oram.specs.Ops.{FitsOp}
 use Rattle.ob_oram.specs.Scripts.{access_script}
@@ -59,6 +60,15 @@ pub record ReadsLeaf (index left : Index) (draw leaf : ℕ) (result : Result Got
   pub moved : OnOk result
       (leaves_of left ≡ slice_set (leaves_of index) key (leaf_of_draw index.height draw))
 
+-- more rows were read on the path of this leaf and in the stash than fit behind what the statement asks
+pub record Overfills (stmt : Stmt) (index : Index) (draw leaf : ℕ) (old new : World) : Type 0 where
+  pub ask : Ask
+  pub op : Op
+  pub asks : Asks ask op
+  pub asked : (h : Heading) → h.schema ≡ index.schema → ask_of h stmt ≡ Some ask
+  pub read : leaf ≡ leaf_read index op draw
+  pub too_many : ReadsTooMany index op draw old new
+
 -- ---- by the meaning, of the table of a heading that asks this of it
 -- the leaf is that of the meaning's access, whatever is read
 abbrev pub ShowsLeaf : Stmt → Index → (draw leaf : ℕ) → Type 0
@@ -85,6 +95,8 @@ pub record ServesKeyed (stmt : Stmt) (index left : Index) (draw : ℕ) (keyed : 
     (old new : World) : Type 0 where
   pub asked : Asked index left keyed.leaf keyed.result old new
   pub keys : ReadsLeaf index left draw keyed.leaf keyed.result
+  -- the stash is full only where too many rows were read
+  pub full : keyed.result ≡ Err StashFull → Overfills stmt index draw keyed.leaf old new
   pub leaf : ShowsLeaf stmt index draw keyed.leaf
   pub told : TellsAccess stmt index left draw keyed.result old new
   pub room : AsksRoom stmt index draw old new

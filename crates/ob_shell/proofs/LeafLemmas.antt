@@ -1,21 +1,24 @@
 -- The leaves that statements read are those of draws, of which none is read twice.
-use Rattle.std.specs.Prelude.{IfSome, slice_get}
+use Rattle.std.specs.Prelude.{IfSome, slice_get, slice_index_or}
 use Rattle.std.specs.List.{All, AllPairs}
 use Rattle.std.specs.Option.{option_map}
-use Rattle.std.proofs.Common.{◌≡◌, ◌≢◌, ℕ, zero, suc, false, List, [], ◌∷◌, Option, Some, None, Result, refl, sym, subst, arith}
+use Rattle.std.proofs.Common.{◌≡◌, ◌≢◌, ◌<◌, ℕ, zero, suc, false, List, [], ◌∷◌, length, Option, Some, None, Result, refl, sym, ◌∙◌, ap, subst, arith}
 use Rattle.std.proofs.lemmas.List.Elements.{All-cons, All-nil, All-weaker}
 use Rattle.std.proofs.lemmas.List.Kept.{AllPairs-cons}
+use Rattle.std.proofs.lemmas.Option.{slice_get-get_or}
 use Rattle.ob_base.specs.Indexes.{leaf_of_draw}
 use Rattle.ob_base.specs.declared.config.Public.{Public}
-use Rattle.ob_exec.proofs.LeavesRead.{Given, Onwards, ReadsUnread, Unread, behind, none_given, reads_unread}
+use Rattle.ob_exec.proofs.LeavesRead.{Given, KeyAt, Onwards, ReadsUnread, Unread, behind, none_given, reads_unread}
 use Rattle.ob_exec.specs.Agreeing.{AreDraws, indexes_of, public_of, seen_of}
 use Rattle.ob_exec.specs.Engines.{AreTables}
 use Rattle.ob_exec.specs.declared.stop.RunStop.{RunStop}
+use Rattle.ob_headline.specs.FullStash.{HasDrawnLeaves}
 use Rattle.ob_headline.specs.Leaves.{AreDrawn, IsDrawn}
 use Rattle.ob_mean.specs.Lawful.{height_at}
 use Rattle.ob_mean.specs.Replay.{draws_taken}
 use Rattle.ob_mean.specs.Verdict.{Draws}
 use Rattle.ob_oram.specs.declared.index.Index.{Index}
+use Rattle.ob_oram.specs.Indexes.{leaves_of}
 use Rattle.ob_script.specs.Trace.{Served, next}
 use Rattle.ob_shell.specs.Steps.{Does, Machine}
 use Rattle.ob_sql.specs.Skeleton.{skeleton}
@@ -93,6 +96,21 @@ module _ {R : Type 0} (state : R → RevState) (m0 m1 : Machine R) (stmt : Stmt)
     reads_more seen lives rest =
         let on = reads.onwards lives in
         more_by d taken (indexes_of m0.engine) (indexes_of m1.engine) g (public_of m0.engine) here reads.read seen reads.is reads.fresh on (rest on.given)
+
+    -- what is known behind it
+    pub given_after : m1.engine.ended ≡ false → Given (behind d taken) (indexes_of m1.engine)
+    given_after lives = (reads.onwards lives).given
+
+-- ---- the leaves of one index
+pub drawn_leaves : (d : Draws) (indexes : List Index) → Given d indexes → (draw : ℕ → ℕ) → ((n : ℕ) → d.draw n ≡ draw n) → (place : ℕ) (index : Index) → slice_get indexes place ≡ Some index → HasDrawnLeaves draw index
+drawn_leaves d indexes g draw same place index get = record {
+  number = g.number place;
+  are = λ key leaf at. g.leaf place key (record { index = index; leaf = leaf; get = get; at = at }) ∙ ap (leaf_of_draw index.height) (same (g.number place key));
+  apart = λ key other within too is. (g.apart place key place other (key_at key within) (key_at other too) is).1;
+}
+  where
+    key_at : (key : ℕ) → key < length (leaves_of index) → KeyAt indexes place key
+    key_at key within = record { index = index; leaf = slice_index_or (leaves_of index) key 0; get = get; at = slice_get-get_or (leaves_of index) key 0 within }
 
 -- ---- before the first statement
 empty : (xs : List Index) → ((k : ℕ) (x : Index) → slice_get xs k ≡ Some x → ⊥) → xs ≡ []

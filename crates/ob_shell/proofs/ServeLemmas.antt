@@ -46,6 +46,7 @@ module _ {R E : Type 0} (state : R → RevState) (grew cut : E → E → List Ev
       asked = lacks.asked;
       place = elim lacks.place [ inl make ↦ inl make | inr (inl result) ↦ inr (inl result) | inr (inr emits) ↦ inr (inr (emits.0, tt)) ];
     };
+    full = serves.full;
     emits = serves.emits;
     seals = serves.seals;
     means = serves.means;

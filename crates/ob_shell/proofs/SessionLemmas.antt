@@ -30,6 +30,7 @@ use Rattle.ob_headline.proofs.PromptLemmas.{prompt_all}
 use Rattle.ob_headline.proofs.TextLemmas.{rest_of-nil, texts_of-nil}
 use Rattle.ob_headline.specs.Bases.{Base, Opened, drawing, fresh, session_at, start}
 use Rattle.ob_headline.specs.Disturbed.{MeantUntil, meant_trace}
+use Rattle.ob_headline.specs.FullStash.{ReadsFullStash}
 use Rattle.ob_headline.specs.Failures.{FailsBeside}
 use Rattle.ob_headline.specs.Leaves.{AreDrawn}
 use Rattle.ob_headline.specs.Keeping.{EndsWith, Writes, closing_behind, last_script, region_opened}
@@ -68,7 +69,7 @@ use Rattle.ob_shell.proofs.WalkLemmas.{EndsWhole, Walked, walked, walked_last}
 use Rattle.ob_shell.specs.Feeding.{Fetch}
 use Rattle.ob_shell.specs.Running.{SessionRan, LastPart}
 use Rattle.ob_shell.specs.Standing.{IsUsed, StandsOn}
-use Rattle.ob_shell.specs.Steps.{Machine, machine_of, session_of}
+use Rattle.ob_shell.specs.Steps.{Machine, asked_of, machine_of, session_of}
 use Rattle.ob_shell.specs.Tallies.{flagged, has_refused}
 use Rattle.ob_shell.specs.Top.{EndsUntampered, IsFresh, TraceSink, Carried, RanAfter}
 use Rattle.ob_shell.specs.Traces.{Traced}
@@ -320,7 +321,10 @@ module _ {R : Type 0} {state : R → RevState} {Lost : Type 0} (base : Base) (co
       one_last = walk.one_last;
       begun = walk.in_access;
       each_seen = walk.each_seen;
-      lawful = subst (λ (s : Session). AreSeen (StopsWithin (RanEnding result) Failed) s.public s.asked walk.spelt ran.answers all) (here []) walk.lawful;
+      lawful = subst (λ (s : Session). AreSeen (StopsWithin (RanEnding result) Failed (ReadsFullStash (keys_of key) base.start s1)) s.public s.asked walk.spelt ran.answers all) (here [])
+          (subst (λ (k : KeySet). AreSeen (StopsWithin (RanEnding result) Failed (ReadsFullStash k base.start s1)) (public_of first) (asked_of m0) walk.spelt ran.answers all) keys_are
+          (subst (λ (x : Start). AreSeen (StopsWithin (RanEnding result) Failed (ReadsFullStash last.vault.keys x s1)) (public_of first) (asked_of m0) walk.spelt ran.answers all) start_is
+          (walk.lawful d0 on.drawn (given_none d0 (indexes_of first) on.unindexed))));
       drawn = record { numbers = reads.numbers; are = subst (λ (p : Public). AreDrawn d0.draw p all reads.numbers) on.public reads.are; apart = reads.apart };
       asked = walk.asked ∙ (λ i. on.asked i ++ trace (on.public i) all);
       failed = session_fails state m0 ran.middle m2 ran.served ran.more ran.answers ran.part result ran.steps ran.last;

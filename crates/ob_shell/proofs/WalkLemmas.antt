@@ -10,7 +10,7 @@ use Rattle.ob_base.specs.declared.config.Public.{Public}
 use Rattle.ob_base.specs.declared.refusal.Refusal.{Refusal}
 use Rattle.ob_base.specs.declared.refusal.Refusal.TheVariants.{StoreFault}
 use Rattle.ob_base.specs.declared.refusal.Stop.{Stop}
-use Rattle.ob_base.specs.declared.refusal.Stop.TheVariants.{NoMemory}
+use Rattle.ob_base.specs.declared.refusal.Stop.TheVariants.{NoMemory, StashFull}
 use Rattle.ob_base.specs.declared.seen.End.{End}
 use Rattle.ob_base.specs.declared.seen.Seen.{Seen}
 use Rattle.ob_exec.proofs.EmitLemmas.{unfit_none}
@@ -29,21 +29,24 @@ use Rattle.ob_exec.specs.declared.stop.RunStop.TheVariants as Runs
 use Rattle.ob_headline.specs.Closing.{closing_line}
 use Rattle.ob_headline.proofs.FullLemmas.{asks_alone, asks_first, met_script}
 use Rattle.ob_headline.specs.Disturbed.{MeantUntil}
+use Rattle.ob_headline.specs.FullStash.{ReadsFullStash}
 use Rattle.ob_headline.specs.Words.{Answer, Begins, refused_at}
 use Rattle.ob_headline.specs.Statements.{SpellFirst, statements}
 use Rattle.ob_headline.specs.Accesses.{AreSeen, Says, StopsWithin, WantsMemory, any_cut, ends_access, is_cut}
 use Rattle.ob_headline.specs.Meaning.{AnswersFrom, AnswersIn, BeginsAnswer, PrintsUntil}
 use Rattle.ob_headline.specs.declared.ending.Ending.{Ending}
 use Rattle.ob_headline.specs.declared.ending.Ending.TheVariants.{Usage, BadKey, Ran}
+use Rattle.ob_keyed.specs.Serving.{Overfills}
 use Rattle.ob_mean.proofs.ReplayLemmas.{after_room, served_room}
 use Rattle.ob_mean.specs.Replay.{Broken, IsCutOff, Session, Spelt, after, after_all, all_served, cut_at, draws_taken, is_full_now, seen_now, seen_or_cut}
 use Rattle.ob_mean.specs.Verdict.{Draws, Tables}
 use Rattle.ob_print.specs.Rows.{events_text}
 use Rattle.ob_script.specs.Script.{script, whole_script}
 use Rattle.ob_script.specs.Trace.{Served as Entry, after_all as all_public, next, trace}
+use Rattle.ob_seal.specs.Draws.{draw_of}
 use Rattle.ob_seal.specs.KeySet.{KeySet}
 use Rattle.ob_shell.proofs.DisturbLemmas.{before_less, begins_more, crosses, few_or_more, take_begins}
-use Rattle.ob_shell.proofs.LeafLemmas.{Reads, reads_last, reads_more, reads_none}
+use Rattle.ob_shell.proofs.LeafLemmas.{Reads, drawn_leaves, given_after, reads_last, reads_more, reads_none}
 use Rattle.ob_shell.proofs.ReplayLemmas.{counts_on, cut_early, cut_within, draws_after, fault_is, outcome_cases, stands_after}
 use Rattle.ob_shell.proofs.StepLemmas.{by_last}
 use Rattle.ob_shell.proofs.StopLemmas.{only_memory, only_sink, only_stash, stop_untampered, tampered_as}
@@ -128,6 +131,10 @@ module _ {R : Type 0} (state : R → RevState) where
   abbrev pub world : Machine R → World
   world m = world_of state m.engine m.store
 
+  -- too many rows were read until this machine stopped
+  abbrev pub Full : Machine R → Public → Stmt → Seen → Type 0
+  Full m p stmt seen = ReadsFullStash m.engine.vault.keys (engine_start m.engine) m.store p stmt seen
+
   -- what holds before the first disturbance, which comes behind n accesses
   pub record EarlyFrom (n : ℕ) (s : Session) (asked0 asked2 : List Access) (spelt : List Spelt) (answers : List Answer) (seen : List Entry) : Type 0 where
     pub meant : MeantUntil n s spelt answers seen
@@ -180,7 +187,7 @@ module _ {R : Type 0} (state : R → RevState) where
     pub one_last : length last ≤ 1
     pub in_access : ends_access ending ≡ true → length last ≡ 1
     pub each_seen : length seen ≡ length (statements (take (length texts) spelt))
-    pub lawful : AreSeen (StopsWithin ending Failed) (public_of m0.engine) (asked_of m0) spelt answers (seen ++ last)
+    pub lawful : (d : Draws) → AreDraws m0.engine d → Given d (indexes_of m0.engine) → AreSeen (StopsWithin ending Failed (Full m2)) (public_of m0.engine) (asked_of m0) spelt answers (seen ++ last)
     pub passed : m1.store.asked ≡ m0.store.asked ++ trace (public_of m0.engine) seen
     pub asked : m2.store.asked ≡ m0.store.asked ++ trace (public_of m0.engine) (seen ++ last)
     pub keys : m2.engine.vault.keys ≡ m0.engine.vault.keys
@@ -211,7 +218,7 @@ module _ {R : Type 0} (state : R → RevState) where
     one_last = omega arith;
     in_access = λ ends. absurd (off ends);
     each_seen = refl;
-    lawful = refl;
+    lawful = λ d drawn g. refl;
     passed = sym (append-nil m0.store.asked);
     asked = ap (λ (m : Machine R). m.store.asked) same ∙ sym (append-nil m0.store.asked);
     keys = ap (λ (m : Machine R). m.engine.vault.keys) same;
@@ -255,6 +262,26 @@ module _ {R : Type 0} (state : R → RevState) where
           | inl make ↦ inl (subst (λ (l : List Access). AtMake l) done make)
           | inr other ↦ inr (elim other [ inl before ↦ inl before | inr emits ↦ inr emits.0 ])
         ];
+      }
+
+  -- at a full stash too many rows were read
+  full_stash : (m0 m2 : Machine R) (stmt : Stmt) (run : RunStop) → Does state m0 m2 stmt (Err run) → (d : Draws) → AreDraws m0.engine d → Given d (indexes_of m0.engine) → run ≡ Runs.StashFull
+      → Full m2 (public_of m0.engine) stmt (seen_of m2.engine)
+  full_stash m0 m2 stmt run does d drawn g is =
+      let fills = does.full (ap (λ (r : RunStop). Err r) is) d drawn in
+      let draws : (n : ℕ) → d.draw n ≡ draw_of m2.engine.vault.keys n = λ n. drawn.draw n ∙ ap (λ (k : KeySet). draw_of k n) (sym does.ran.keys) in
+      record {
+        index = fills.index;
+        count = asked_of m0;
+        on = fills.on;
+        leaves = drawn_leaves d (indexes_of m0.engine) g (draw_of m2.engine.vault.keys) draws fills.place fills.index fills.get;
+        leaf = fills.leaf;
+        shown = fills.shown;
+        next = d.drawn;
+        old = fills.old;
+        new = world m2;
+        ends = record { keys_are = refl; start_is = refl; store_is = refl };
+        over = subst (λ (n : ℕ). Overfills stmt fills.index n fills.leaf fills.old (world m2)) (draws d.drawn) fills.over;
       }
 
   -- at a full stash nothing was emitted, so nothing is printed
@@ -302,7 +329,17 @@ module _ {R : Type 0} (state : R → RevState) where
         one_last = omega arith;
         in_access = λ ends. refl;
         each_seen = refl;
-        lawful = (refl, cut.does.lawful, ((λ is. wants m0 m2 cut.stmt run cut.does is), (λ is off. inl (cut.does.emits (ap (λ (r : RunStop). Err r) (only_sink run (cc is))))), (λ ends. cut.does.ran.indexed (access_stops run ends))), refl);
+        lawful = λ d drawn g. (
+          refl,
+          cut.does.lawful,
+          (
+            (λ is. wants m0 m2 cut.stmt run cut.does is),
+            (λ is off. inl (cut.does.emits (ap (λ (r : RunStop). Err r) (only_sink run (cc is))))),
+            (λ ends. cut.does.ran.indexed (access_stops run ends)),
+            (λ is. full_stash m0 m2 cut.stmt run cut.does d drawn g (only_stash run (cc is))),
+          ),
+          refl,
+        );
         passed = sym (append-nil m0.store.asked);
         asked = cut.does.ran.asked ∙ ap (λ xs. m0.store.asked ++ xs) (sym (append-nil (script (public_of m0.engine) sk here)));
         keys = cut.does.ran.keys;
@@ -363,6 +400,9 @@ module _ {R : Type 0} (state : R → RevState) where
   reads_true m0 m1 tables text one did tells held calm unfit = record { tells = tells; held = held; nolie = unfit_none (world m1) (did.does.ran.cause.1 calm) unfit }
 
   -- a text was answered, and a sink failed
+  not_full : (run : RunStop) → run ≡ Runs.SinkFault → Ran (Err (session_stop run)) ≡ Ran (Err StashFull) → ⊥
+  not_full run fault is = cc (ap session_stop fault, is)
+
   not_memory : (run : RunStop) → run ≡ Runs.SinkFault → Ran (Err (session_stop run)) ≡ Ran (Err NoMemory) → ⊥
   not_memory run fault is = cc (ap session_stop fault, is)
 
@@ -383,7 +423,7 @@ module _ {R : Type 0} (state : R → RevState) where
         one_last = omega arith;
         in_access = λ ends. refl;
         each_seen = refl;
-        lawful = (refl, did.does.lawful, ((λ is. absurd (not_memory run fault is)), (λ is off. inr (rose (rose_by one.outcome (world m0) (world m2) here.end _ did.does.ran.cause did.does.ran.ends off))), (λ ends. absurd (sink_ends run fault ends))), refl);
+        lawful = λ d drawn g. (refl, did.does.lawful, ((λ is. absurd (not_memory run fault is)), (λ is off. inr (rose (rose_by one.outcome (world m0) (world m2) here.end _ did.does.ran.cause did.does.ran.ends off))), (λ ends. absurd (sink_ends run fault ends)), (λ is. absurd (not_full run fault is))), refl);
         passed = sym (append-nil m0.store.asked);
         asked = did.does.ran.asked ∙ ap (λ xs. m0.store.asked ++ xs) (sym (append-nil (script (public_of m0.engine) sk here)));
         keys = did.does.ran.keys;
@@ -417,7 +457,7 @@ module _ {R : Type 0} (state : R → RevState) where
     one_last = omega arith;
     in_access = λ ends. absurd (off ends);
     each_seen = refl;
-    lawful = refl;
+    lawful = λ d drawn g. refl;
     passed = sym (append-nil m0.store.asked);
     asked = ap (λ (m : Machine R). m.store.asked) bad.same ∙ sym (append-nil m0.store.asked);
     keys = ap (λ (m : Machine R). m.engine.vault.keys) bad.same;
@@ -466,7 +506,7 @@ module _ {R : Type 0} (state : R → RevState) where
         one_last = rest.one_last;
         in_access = rest.in_access;
         each_seen = rest.each_seen;
-        lawful = (refused_is m0 m1 text one bad, rest.lawful);
+        lawful = λ d drawn g. (refused_is m0 m1 text one bad, rest.lawful d drawn g);
         passed = rest.passed;
         asked = rest.asked;
         keys = rest.keys;
@@ -572,7 +612,7 @@ module _ {R : Type 0} (state : R → RevState) where
         one_last = rest.one_last;
         in_access = rest.in_access;
         each_seen = ap (λ (n : ℕ). suc n) rest.each_seen;
-        lawful = (
+        lawful = λ d drawn g. (
           refl,
           did.does.lawful,
           (
@@ -581,8 +621,9 @@ module _ {R : Type 0} (state : R → RevState) where
             cut_by one.outcome here.end _ did.does.ran.ends,
             did.planned,
           ),
-          subst (λ (q : Public). AreSeen (StopsWithin ending Failed) q (asked_of m0 + length (script p sk here)) rest.spelt answers all) public_is
-              (subst (λ (n : ℕ). AreSeen (StopsWithin ending Failed) (public_of m1.engine) n rest.spelt answers all) asked_is rest.lawful),
+          subst (λ (q : Public). AreSeen (StopsWithin ending Failed (Full m2)) q (asked_of m0 + length (script p sk here)) rest.spelt answers all) public_is
+              (subst (λ (n : ℕ). AreSeen (StopsWithin ending Failed (Full m2)) (public_of m1.engine) n rest.spelt answers all) asked_is
+              (rest.lawful (behind d (draws_taken p sk here.end)) (did.does.ran.goes_on.drawn d drawn) (given_after state m0 m1 did.stmt (Ok one.outcome) did.does d drawn g did.does.ran.goes_on.lives))),
         );
         passed = asked_more m0 m1 m text one did rest.seen rest.passed;
         asked = asked_more m0 m1 m2 text one did all rest.asked;

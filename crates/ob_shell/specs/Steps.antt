@@ -4,7 +4,8 @@ use Rattle.std.specs.Io.KnownBytes.{Appends}
 use Rattle.ob_base.specs.Events.{Event}
 use Rattle.ob_base.specs.declared.config.Plan.{Plan}
 use Rattle.ob_base.specs.declared.refusal.Refusal.TheVariants.{Syntax}
-use Rattle.ob_exec.specs.Agreeing.{Agrees, count_of, has_ended, public_of, seen_of}
+use Rattle.ob_exec.specs.Agreeing.{Agrees, AreDraws, count_of, has_ended, indexes_of, public_of, seen_of, world_of}
+use Rattle.ob_exec.specs.Indexed.{FillsStash}
 use Rattle.ob_exec.specs.Memory.{LacksMemory}
 use Rattle.ob_exec.specs.Running.{RanStatement, RefusedEarly}
 use Rattle.ob_verdict.specs.Outcomes.{refusal_now, Emits, MayEmit, Partly}
@@ -23,7 +24,7 @@ use Rattle.ob_headline.specs.Statements.{Spells}
 use Rattle.ob_headline.specs.Meaning.{PrintsUntil}
 use Rattle.ob_mean.specs.Lawful.{Lawful}
 use Rattle.ob_mean.specs.Replay.{Session}
-use Rattle.ob_mean.specs.Verdict.{Draws, Tables, verdict}
+use Rattle.ob_mean.specs.Verdict.{Draws, Tables, next_draw, verdict}
 use Rattle.ob_print.specs.Cuts.{Outputs}
 use Rattle.ob_print.specs.Rows.{events_text}
 use Rattle.ob_shell.specs.Tallies.{tally_after}
@@ -78,6 +79,10 @@ pub record Does {R : Type 0} (state : R → RevState) (m0 m1 : Machine R) (stmt 
   -- want of memory shows how far it got, and nothing of rows
   pub memory : result ≡ Err NoMemory
       → LacksMemory (public_of m0.engine) stmt (seen_of m1.engine) m0.store m1.store ⊤
+  -- a stash is full only where an access read more rows than fit
+  pub full : result ≡ Err StashFull → (d : Draws) → AreDraws m0.engine d
+      → FillsStash (next_draw d) (public_of m0.engine) (asked_of m0) stmt (indexes_of m0.engine)
+      (seen_of m1.engine).leaf m0.store.asked (world_of state m1.engine m1.store)
   -- a sink's fault stops nothing but a SELECT
   pub emits : result ≡ Err SinkFault → MayEmit stmt
   pub seals : KeepsSealed state m0.engine m0.store m1.engine m1.store
