@@ -246,11 +246,11 @@ module _ {R : Type 0} (state : R → RevState) (stmt : Stmt) (old : Engine R) (s
       }
 
   may_by : (z : Stmt) → stmt ≡ z → MayEmitGot z index.schema
-  may_by (Create table columns capacity shape) is = tt
-  may_by (Insert table columns values) is = tt
-  may_by (Update table sets cond) is = tt
-  may_by (Delete table cond) is = tt
-  may_by (DropTable table) is = tt
+  may_by (Create _ columns capacity shape) is = tt
+  may_by (Insert _ columns values) is = tt
+  may_by (Update _ sets cond) is = tt
+  may_by (Delete _ cond) is = tt
+  may_by (DropTable _) is = tt
   may_by (RowsStmt q) is = shown_columns q is
   may_by (TotalsStmt q) is = tt
 
