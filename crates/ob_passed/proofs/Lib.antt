@@ -1,3 +1,3 @@
 pub mod Beside
-pub mod Rested
+pub mod Passes
 pub mod Sizes

@@ -1,10 +1,7 @@
 //! The passes that answer rows and totals.
-ghost use Rattle.std.specs.Prelude.{◌≤◌, OnOk};
-ghost use Rattle.ob_base.specs.Schemas.{width};
+ghost use Rattle.std.specs.Prelude.{OnOk};
 ghost use Rattle.ob_vault.specs.Places.{at};
-ghost use Rattle.ob_vault.specs.Words.{StartsAnew};
-ghost use Rattle.ob_blocks.specs.Idle.{IsIdle};
-ghost use Rattle.ob_flat.specs.Flats.{FitsRegion, IsSized, IsFlat, IsWritten};
+ghost use Rattle.ob_passed.specs.Tables.{Emitted, HasTable, IsAtRest, MayEmit};
 
 use crate::emitter::{Calls, Shower, push_cells};
 use crate::items::{aggregates_of, columns_of, items_of};
@@ -41,14 +38,8 @@ pub(crate) fn emitted<S: BlockStore, R: Revisions>(
     words: Words<'_>,
     calls: Calls,
 ) -> Result<(), Stop>
-    requires ready { StartsAnew (at R.state vault.old (S.state store.old)) }
-    requires written { IsWritten room.old.pack flat.now (at R.state vault.old (S.state store.old)) }
-    requires size { FitsRegion room.old.pack flat.now.schema flat.now.capacity }
-    requires slots { flat.now.capacity ≤ 4096 }
-    requires room { IsIdle (width flat.now.schema) room.old }
-    requires pack { 1 ≤ room.old.pack }
-    ensures ready { OnOk result (StartsAnew (at R.state vault.new (S.state store.new))) }
-    ensures written { OnOk result (IsWritten room.old.pack flat.now
+    requires { MayEmit room.old flat.now (at R.state vault.old (S.state store.old)) }
+    ensures { OnOk result (Emitted room.old.pack flat.now
         (at R.state vault.new (S.state store.new))) }
 {
     let columns = columns_of(alloc, &flat.schema, words)?;
@@ -69,12 +60,7 @@ pub(crate) fn emit_discard<S: BlockStore, R: Revisions>(
     words: Words<'_>,
     calls: Calls,
 ) -> Result<(), Stop>
-    requires ready { StartsAnew (at R.state vault.old (S.state store.old)) }
-    requires written { IsWritten room.old.pack flat (at R.state vault.old (S.state store.old)) }
-    requires size { FitsRegion room.old.pack flat.schema flat.capacity }
-    requires slots { flat.capacity ≤ 4096 }
-    requires room { IsIdle (width flat.schema) room.old }
-    requires pack { 1 ≤ room.old.pack }
+    requires { MayEmit room.old flat (at R.state vault.old (S.state store.old)) }
 {
     emitted(alloc, out, store, vault, room, &flat, words, calls)?;
     make_room(store)?;
@@ -89,12 +75,8 @@ pub(crate) fn walked<S: BlockStore, R: Revisions>(
     room: &mut Room,
     flat: &Flat,
 ) -> Result<(), Stop>
-    requires ready { StartsAnew (at R.state vault.old (S.state store.old)) }
-    requires flat { IsFlat room.old.pack flat.now (at R.state vault.old (S.state store.old)) }
-    requires size { IsSized flat.now.schema flat.now.capacity }
-    requires few { flat.now.capacity ≤ 16 }
-    requires room { IsIdle (width flat.now.schema) room.old }
-    requires pack { 1 ≤ room.old.pack }
+    requires rest { IsAtRest room.old (at R.state vault.old (S.state store.old)) }
+    requires table { HasTable room.old.pack flat.now (at R.state vault.old (S.state store.old)) }
 {
     make_room(store)?;
     walk(store, vault, room, flat)?;
@@ -112,11 +94,8 @@ pub(crate) fn aggregated<S: BlockStore, R: Revisions>(
     words: Words<'_>,
     pred: &Pred,
 ) -> Result<(), Stop>
-    requires ready { StartsAnew (at R.state vault.old (S.state store.old)) }
-    requires flat { IsFlat room.old.pack flat.now (at R.state vault.old (S.state store.old)) }
-    requires size { IsSized flat.now.schema flat.now.capacity }
-    requires few { flat.now.capacity ≤ 16 }
-    requires room { IsIdle (width flat.now.schema) room.old }
+    requires rest { IsAtRest room.old (at R.state vault.old (S.state store.old)) }
+    requires table { HasTable room.old.pack flat.now (at R.state vault.old (S.state store.old)) }
 {
     let aggregates = aggregates_of(alloc, &flat.schema, words)?;
     make_room(store)?;
@@ -137,12 +116,8 @@ pub(crate) fn grouped<S: BlockStore, R: Revisions>(
     pred: &Pred,
     calls: Calls,
 ) -> Result<(), Stop>
-    requires ready { StartsAnew (at R.state vault.old (S.state store.old)) }
-    requires flat { IsFlat room.old.pack flat.now (at R.state vault.old (S.state store.old)) }
-    requires size { IsSized flat.now.schema flat.now.capacity }
-    requires few { flat.now.capacity ≤ 16 }
-    requires room { IsIdle (width flat.now.schema) room.old }
-    requires wide { 768 ≤ room.old.width }
+    requires rest { IsAtRest room.old (at R.state vault.old (S.state store.old)) }
+    requires table { HasTable room.old.pack flat.now (at R.state vault.old (S.state store.old)) }
 {
     let mut words = words;
     let Some(key) = place_of(&flat.schema, words.next().unwrap_or("")) else {

@@ -1,10 +1,6 @@
 //! A block of lines, and what comes of it.
-ghost use Rattle.std.specs.Prelude.{◌≤◌};
 ghost use Rattle.ob_vault.specs.Places.{at};
-ghost use Rattle.ob_vault.specs.Words.{StartsAnew};
-ghost use Rattle.ob_blocks.specs.Idle.{IsIdle};
-ghost use Rattle.ob_flat.specs.Flats.{IsSized, IsFlat};
-ghost use Rattle.ob_passed.specs.Tables.{IsSmall};
+ghost use Rattle.ob_passed.specs.Tables.{HasTable, IsAtRest};
 
 use crate::accesses::shown;
 use crate::answers::{aggregated, emit_discard, emitted, grouped, walked};
@@ -59,12 +55,8 @@ fn select_emit<S: BlockStore, R: Revisions>(
     pred: &Pred,
     calls: Calls,
 ) -> Result<(), Stop>
-    requires ready { StartsAnew (at R.state vault.old (S.state store.old)) }
-    requires flat { IsFlat room.old.pack flat.now (at R.state vault.old (S.state store.old)) }
-    requires size { IsSized flat.now.schema flat.now.capacity }
-    requires small { IsSmall flat.now.schema flat.now.capacity }
-    requires room { IsIdle 1024 room.old }
-    requires pack { (1 ≤ room.old.pack) × (room.old.pack ≤ 16) }
+    requires rest { IsAtRest room.old (at R.state vault.old (S.state store.old)) }
+    requires table { HasTable room.old.pack flat.now (at R.state vault.old (S.state store.old)) }
 {
     let mut words = words;
     let Some(k) = number(&mut words) else {
@@ -92,12 +84,8 @@ fn answered<S: BlockStore, R: Revisions>(
     line: &str,
     calls: Calls,
 ) -> Result<(), Stop>
-    requires ready { StartsAnew (at R.state vault.old (S.state store.old)) }
-    requires flat { IsFlat room.old.pack flat.now (at R.state vault.old (S.state store.old)) }
-    requires size { IsSized flat.now.schema flat.now.capacity }
-    requires small { IsSmall flat.now.schema flat.now.capacity }
-    requires room { IsIdle 1024 room.old }
-    requires pack { (1 ≤ room.old.pack) × (room.old.pack ≤ 16) }
+    requires rest { IsAtRest room.old (at R.state vault.old (S.state store.old)) }
+    requires table { HasTable room.old.pack flat.now (at R.state vault.old (S.state store.old)) }
 {
     let Some((mut words, pred)) = parted(line, &flat.schema) else {
         return Err(Stop::Unread);
@@ -124,9 +112,7 @@ fn session<S: BlockStore, R: Revisions>(
     lines: &[String],
     calls: Calls,
 ) -> Result<(), Stop>
-    requires ready { StartsAnew (at R.state vault.old (S.state store.old)) }
-    requires room { IsIdle 1024 room.old }
-    requires pack { (1 ≤ room.old.pack) × (room.old.pack ≤ 16) }
+    requires { IsAtRest room.old (at R.state vault.old (S.state store.old)) }
 {
     let (table, rest) = table_lines(lines);
     let left = made(alloc, out, store, vault, room, table)?;

@@ -1,10 +1,6 @@
 //! The join of two tables.
-ghost use Rattle.std.specs.Prelude.{◌≤◌};
 ghost use Rattle.ob_vault.specs.Places.{at};
-ghost use Rattle.ob_vault.specs.Words.{StartsAnew};
-ghost use Rattle.ob_blocks.specs.Idle.{IsIdle};
-ghost use Rattle.ob_flat.specs.Flats.{IsSized, IsFlat};
-ghost use Rattle.ob_passed.specs.Tables.{IsSmall};
+ghost use Rattle.ob_passed.specs.Tables.{HasTable, IsAtRest};
 
 use crate::answers::emit_discard;
 use crate::emitter::Calls;
@@ -31,15 +27,9 @@ pub(crate) fn joined<S: BlockStore, R: Revisions>(
     line: &str,
     calls: Calls,
 ) -> Result<(), Stop>
-    requires ready { StartsAnew (at R.state vault.old (S.state store.old)) }
-    requires left { IsFlat room.old.pack left.now (at R.state vault.old (S.state store.old)) }
-    requires right { IsFlat room.old.pack right.now (at R.state vault.old (S.state store.old)) }
-    requires left_size { IsSized left.now.schema left.now.capacity }
-    requires right_size { IsSized right.now.schema right.now.capacity }
-    requires left_small { IsSmall left.now.schema left.now.capacity }
-    requires right_small { IsSmall right.now.schema right.now.capacity }
-    requires room { IsIdle 1024 room.old }
-    requires pack { (1 ≤ room.old.pack) × (room.old.pack ≤ 16) }
+    requires rest { IsAtRest room.old (at R.state vault.old (S.state store.old)) }
+    requires left { HasTable room.old.pack left.now (at R.state vault.old (S.state store.old)) }
+    requires right { HasTable room.old.pack right.now (at R.state vault.old (S.state store.old)) }
 {
     let mut words = line.split_ascii_whitespace();
     if words.next() != Some("join") {

@@ -1,7 +1,8 @@
 //! A store, a vault and a room.
-ghost use Rattle.std.specs.Prelude.{◌≤◌, ◌<◌, ℕ, OnOk, IfSome, length};
+ghost use Rattle.std.specs.Prelude.{◌≤◌, ℕ, OnOk, IfSome};
 ghost use Rattle.ob_store.specs.Calls.{ChangesNothing};
 ghost use Rattle.ob_blocks.specs.Idle.{IsIdle};
+ghost use Rattle.ob_passed.specs.Tables.{HasRoom};
 
 use crate::emitter::Calls;
 use crate::stop::Stop;
@@ -14,13 +15,27 @@ use std::alloc::Global;
 /// Makes room for the accesses of a pass over a few slots.
 pub(crate) fn make_room<S: BlockStore>(store: &mut S) -> Result<(), Stop>
     ensures rests { ChangesNothing (S.state store.old) (S.state store.new) }
-    ensures spare { OnOk result (10000 ≤ (S.state store.new).spare) }
-    ensures few { OnOk result (length (S.state store.new).asked < 1000000) }
+    ensures room { OnOk result (HasRoom (S.state store.new)) }
 {
     if store.room(10_000).is_err() || store.count() >= 1_000_000 {
         return Err(Stop::Memory);
     }
     Ok(())
+}
+
+// A room of so many rows of a width for blocks of so many.
+fn room_for(alloc: Global, rows: u32, width: u32, pack: u32) -> Option<Room>
+    ensures pack { IfSome result (λ room. (1 ≤ room.pack) × (room.pack ≤ 16)) }
+    ensures idle { IfSome result (λ room. (n : ℕ) → n ≤ width → IsIdle n room) }
+    ensures few { IfSome result (λ room. room.rows ≤ 65536) }
+{
+    if pack < 1 || pack > 16 || rows > 65_536 || rows < 3 * pack + 1 {
+        return None;
+    }
+    match Room::new(alloc, rows, width, pack) {
+        Ok(room) => Some(room),
+        Err(_) => None,
+    }
 }
 
 /// A room of so many rows of 1,024 bytes for blocks of so many.
@@ -31,13 +46,7 @@ pub(crate) fn room_of(alloc: Global, words: &mut Words<'_>) -> Option<Room>
 {
     let rows = number(words)?;
     let pack = number(words)?;
-    if pack < 1 || pack > 16 || rows > 65_536 || rows < 3 * pack + 1 {
-        return None;
-    }
-    match Room::new(alloc, rows, 1024, pack) {
-        Ok(room) => Some(room),
-        Err(_) => None,
-    }
+    room_for(alloc, rows, 1024, pack)
 }
 
 /// How many calls the answers are taken in, and what the next one answers.

@@ -1,11 +1,8 @@
 //! The select operators.
-ghost use Rattle.std.specs.Prelude.{◌≡◌, ◌≤◌, OnOk, IfOk};
-ghost use Rattle.ob_base.specs.Schemas.{width};
+ghost use Rattle.std.specs.Prelude.{◌≡◌, IfOk};
 ghost use Rattle.ob_vault.specs.Places.{at};
-ghost use Rattle.ob_vault.specs.Words.{StartsAnew};
-ghost use Rattle.ob_blocks.specs.Idle.{IsIdle};
-ghost use Rattle.ob_flat.specs.Flats.{FitsRegion, IsSized, IsFlat, IsWritten};
 ghost use Rattle.ob_hash.specs.Answers.{flat_of};
+ghost use Rattle.ob_passed.specs.Tables.{Found, HasTable, IsAtRest};
 
 use crate::room::make_room;
 use crate::stop::Stop;
@@ -26,17 +23,9 @@ pub(crate) fn selected<S: BlockStore, R: Revisions>(
     operator: &str,
     k: u32,
 ) -> Result<Flat, Stop>
-    requires ready { StartsAnew (at R.state vault.old (S.state store.old)) }
-    requires flat { IsFlat room.old.pack flat.now (at R.state vault.old (S.state store.old)) }
-    requires size { IsSized flat.now.schema flat.now.capacity }
-    requires room { IsIdle (width flat.now.schema) room.old }
-    requires pack { 1 ≤ room.old.pack }
-    requires few { flat.now.capacity ≤ 16 }
-    ensures ready { OnOk result (StartsAnew (at R.state vault.new (S.state store.new))) }
-    ensures room { OnOk result (room.new ≡ record room.old { high = room.new.high }) }
-    ensures schema { IfOk result (λ found. found.schema ≡ flat.now.schema) }
-    ensures capacity { IfOk result (λ found. (1 ≤ found.capacity) × (found.capacity ≤ 16)) }
-    ensures written { IfOk result (λ found. IsWritten room.old.pack found
+    requires rest { IsAtRest room.old (at R.state vault.old (S.state store.old)) }
+    requires table { HasTable room.old.pack flat.now (at R.state vault.old (S.state store.old)) }
+    ensures { IfOk result (λ found. Found 16 room.old room.new flat.now.schema found
         (at R.state vault.new (S.state store.new))) }
 {
     if k < 1 || k > flat.capacity {
@@ -76,18 +65,9 @@ pub(crate) fn hashed<S: BlockStore, R: Revisions>(
     k: u32,
     depth: u32,
 ) -> Result<Flat, Stop>
-    requires ready { StartsAnew (at R.state vault.old (S.state store.old)) }
-    requires flat { IsFlat room.old.pack flat.now (at R.state vault.old (S.state store.old)) }
-    requires size { IsSized flat.now.schema flat.now.capacity }
-    requires room { IsIdle (width flat.now.schema) room.old }
-    requires pack { (1 ≤ room.old.pack) × (room.old.pack ≤ 16) }
-    requires few { flat.now.capacity ≤ 16 }
-    ensures ready { OnOk result (StartsAnew (at R.state vault.new (S.state store.new))) }
-    ensures room { OnOk result (room.new ≡ record room.old { high = room.new.high }) }
-    ensures schema { IfOk result (λ found. found.schema ≡ flat.now.schema) }
-    ensures size { IfOk result (λ found. FitsRegion room.old.pack found.schema found.capacity) }
-    ensures capacity { IfOk result (λ found. found.capacity ≤ 2048) }
-    ensures written { IfOk result (λ found. IsWritten room.old.pack found
+    requires rest { IsAtRest room.old (at R.state vault.old (S.state store.old)) }
+    requires table { HasTable room.old.pack flat.now (at R.state vault.old (S.state store.old)) }
+    ensures { IfOk result (λ found. Found 2048 room.old room.new flat.now.schema found
         (at R.state vault.new (S.state store.new))) }
 {
     if k < 1 || k > flat.capacity || depth < 1 || depth > 8 {

@@ -1,11 +1,7 @@
 //! The passes that change a table or count its rows.
-ghost use Rattle.std.specs.Prelude.{◌≡◌, ◌≤◌, OnOk};
-ghost use Rattle.ob_base.specs.Schemas.{width};
+ghost use Rattle.std.specs.Prelude.{OnOk};
 ghost use Rattle.ob_vault.specs.Places.{at};
-ghost use Rattle.ob_vault.specs.Words.{StartsAnew};
-ghost use Rattle.ob_blocks.specs.Idle.{IsIdle};
-ghost use Rattle.ob_flat.specs.Flats.{IsSized, IsFlat};
-ghost use Rattle.ob_passed.specs.Tables.{KeepsOthers};
+ghost use Rattle.ob_passed.specs.Tables.{Changed, HasTable, IsAtRest};
 
 use crate::cells::{cells_of, set_of};
 use crate::room::make_room;
@@ -41,18 +37,9 @@ pub(crate) fn step<S: BlockStore, R: Revisions>(
     flat: &mut Flat,
     line: &str,
 ) -> Result<(), Stop>
-    requires ready { StartsAnew (at R.state vault.old (S.state store.old)) }
-    requires flat { IsFlat room.old.pack flat.old (at R.state vault.old (S.state store.old)) }
-    requires size { IsSized flat.old.schema flat.old.capacity }
-    requires few { flat.old.capacity ≤ 16 }
-    requires room { IsIdle (width flat.old.schema) room.old }
-    ensures ready { OnOk result (StartsAnew (at R.state vault.new (S.state store.new))) }
-    ensures flat { OnOk result (IsFlat room.old.pack flat.new
-        (at R.state vault.new (S.state store.new))) }
-    ensures schema { OnOk result (flat.new.schema ≡ flat.old.schema) }
-    ensures capacity { OnOk result (flat.new.capacity ≡ flat.old.capacity) }
-    ensures room { OnOk result (room.new ≡ record room.old { high = room.new.high }) }
-    ensures beside { OnOk result (KeepsOthers room.old.pack flat.old flat.new
+    requires rest { IsAtRest room.old (at R.state vault.old (S.state store.old)) }
+    requires table { HasTable room.old.pack flat.old (at R.state vault.old (S.state store.old)) }
+    ensures { OnOk result (Changed room.old room.new flat.old flat.new
         (at R.state vault.old (S.state store.old)) (at R.state vault.new (S.state store.new))) }
 {
     let Some((mut words, pred)) = parted(line, &flat.schema) else {

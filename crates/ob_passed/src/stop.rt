@@ -4,7 +4,7 @@ use std::alloc::AllocError;
 use thiserror::Error;
 
 /// The line says nothing that is known here, or asks for more than is done; memory ran out; or a pass gave up.
-#[derive(Clone, Copy, Debug, PartialEq, Eq, Error)]
+#[derive(Clone, Copy, Debug, Error)]
 pub(crate) enum Stop {
     #[error("not read")]
     Unread,

@@ -1,11 +1,8 @@
 //! Tables that are made and changed.
-ghost use Rattle.std.specs.Prelude.{◌≡◌, ◌≤◌, OnOk, IfOk, IfSome};
-ghost use Rattle.ob_base.specs.Schemas.{width};
+ghost use Rattle.std.specs.Prelude.{OnOk, IfOk, IfSome};
 ghost use Rattle.ob_vault.specs.Places.{at};
-ghost use Rattle.ob_vault.specs.Words.{StartsAnew};
-ghost use Rattle.ob_blocks.specs.Idle.{IsIdle};
-ghost use Rattle.ob_flat.specs.Flats.{IsSized, IsFlat};
-ghost use Rattle.ob_passed.specs.Tables.{KeepsOthers, KeepsAll, IsSmall};
+ghost use Rattle.ob_flat.specs.Flats.{IsSized};
+ghost use Rattle.ob_passed.specs.Tables.{Changed, HasTable, IsAtRest, IsSmall, Made};
 
 use crate::columns::schema_of;
 use crate::room::make_room;
@@ -45,18 +42,9 @@ fn take_steps<S: BlockStore, R: Revisions>(
     flat: &mut Flat,
     lines: &[String],
 ) -> Result<(), Stop>
-    requires ready { StartsAnew (at R.state vault.old (S.state store.old)) }
-    requires flat { IsFlat room.old.pack flat.old (at R.state vault.old (S.state store.old)) }
-    requires size { IsSized flat.old.schema flat.old.capacity }
-    requires few { flat.old.capacity ≤ 16 }
-    requires room { IsIdle (width flat.old.schema) room.old }
-    ensures ready { OnOk result (StartsAnew (at R.state vault.new (S.state store.new))) }
-    ensures flat { OnOk result (IsFlat room.old.pack flat.new
-        (at R.state vault.new (S.state store.new))) }
-    ensures schema { OnOk result (flat.new.schema ≡ flat.old.schema) }
-    ensures capacity { OnOk result (flat.new.capacity ≡ flat.old.capacity) }
-    ensures room { OnOk result (room.new ≡ record room.old { high = room.new.high }) }
-    ensures beside { OnOk result (KeepsOthers room.old.pack flat.old flat.new
+    requires rest { IsAtRest room.old (at R.state vault.old (S.state store.old)) }
+    requires table { HasTable room.old.pack flat.old (at R.state vault.old (S.state store.old)) }
+    ensures { OnOk result (Changed room.old room.new flat.old flat.new
         (at R.state vault.old (S.state store.old)) (at R.state vault.new (S.state store.new))) }
 {
     for line in lines {
@@ -75,16 +63,8 @@ pub(crate) fn made<S: BlockStore, R: Revisions>(
     room: &mut Room,
     lines: &[String],
 ) -> Result<Flat, Stop>
-    requires ready { StartsAnew (at R.state vault.old (S.state store.old)) }
-    requires room { IsIdle 1024 room.old }
-    requires pack { 1 ≤ room.old.pack }
-    ensures ready { OnOk result (StartsAnew (at R.state vault.new (S.state store.new))) }
-    ensures flat { IfOk result (λ flat. IsFlat room.old.pack flat
-        (at R.state vault.new (S.state store.new))) }
-    ensures size { IfOk result (λ flat. IsSized flat.schema flat.capacity) }
-    ensures small { IfOk result (λ flat. IsSmall flat.schema flat.capacity) }
-    ensures room { OnOk result (room.new ≡ record room.old { high = room.new.high }) }
-    ensures beside { OnOk result (KeepsAll room.old.pack
+    requires { IsAtRest room.old (at R.state vault.old (S.state store.old)) }
+    ensures { IfOk result (λ flat. Made room.old room.new flat
         (at R.state vault.old (S.state store.old)) (at R.state vault.new (S.state store.new))) }
 {
     let Some((line, steps)) = lines.split_first() else {

@@ -1,14 +1,21 @@
-use Rattle.std.proofs.Common.{◌≡◌, ℕ, sym, ap, subst}
-use Rattle.ob_room.specs.RoomState.{RoomState}
-use Rattle.ob_vault.specs.Places.{at}
-use Rattle.ob_flat.specs.Flats.{IsFlat}
+use Rattle.ob_passed.proofs.Passes.{made_beside, made_has, made_rests}
 use Rattle.ob_passed.proofs.blocks.session.Goals as goal
 
-pub joined-requires-clause-left : goal.joined-requires-clause-left
-joined-requires-clause-left g c =
-    let left = c.in_ok-left.left in
-    let before = at g.R.Revisions.state c.made.new.vault (g.S.BlockStore.state c.made.new.store) in
-    let now = at g.R.Revisions.state c.made-2.new.vault (g.S.BlockStore.state c.made-2.new.store) in
-    let pack : c.made.new.room.pack ≡ c.args.room.now.pack = ap (λ (r : RoomState). r.pack) c.in_ok-left.ensures.room in
-    let pack' : c.made-2.new.room.pack ≡ c.made.new.room.pack = ap (λ (r : RoomState). r.pack) c.in_ok-right.ensures.room in
-    subst (λ (n : ℕ). IsFlat n left now) (sym pack') (c.in_ok-right.ensures.beside left (subst (λ (n : ℕ). IsFlat n left before) (sym pack) c.in_ok-left.ensures.flat))
+pub made-requires : goal.made-requires
+made-requires g c = c.requires
+
+pub answered-requires : goal.answered-requires
+answered-requires g c = record { rest = made_rests c.in_ok-left.ensures c.requires; table = made_has c.in_ok-left.ensures }
+
+pub made-requires-2 : goal.made-requires-2
+made-requires-2 g c = made_rests c.in_ok-left.ensures c.requires
+
+pub joined-requires : goal.joined-requires
+joined-requires g c =
+    let left = c.in_ok-left.ensures in
+    let right = c.in_ok-right.ensures in
+    record {
+      rest = made_rests right (made_rests left c.requires);
+      left = made_beside right _ (made_has left);
+      right = made_has right;
+    }

@@ -1,19 +1,30 @@
-use Rattle.std.proofs.Common.{◌≡◌, ◌≢◌, ◌∙◌, ap}
-use Rattle.ob_room.specs.RoomState.{RoomState}
-use Rattle.ob_vault.proofs.WordLemmas.{ready_rests}
-use Rattle.ob_flat.specs.declared.flat.Flat.{Flat}
-use Rattle.ob_flat.proofs.Resting.{flat_rests}
-use Rattle.ob_passed.proofs.Beside.{beside_made, flat_made}
+use Rattle.ob_vault.specs.Places.{at}
+use Rattle.ob_passed.proofs.Passes.{idle_wide, made_changed, made_rest, made_table, may_start}
+use Rattle.ob_passed.proofs.Sizes.{create_asks}
 use Rattle.ob_passed.proofs.tables.made.Goals as goal
 
-pub returns-clause-beside : goal.returns-clause-beside
-returns-clause-beside g c = λ other is.
-    let ready = ready_rests _ _ _ c.make_room.ensures.rests c.requires.ready.ready in
-    let before = flat_rests _ _ _ c.make_room.ensures.rests c.args.room.now.pack other is in
-    let went = c.in_ok-flat.ensures.creates.ran.ok in
-    let value = c.in_ok-flat.ensures.creates.makes.value in
-    let made = flat_made c.args.room.now.pack other _ _ _ ready before went in
-    let apart : other.region ≢ c.in_ok-flat.flat.region = λ same. beside_made c.args.room.now.pack other _ ready before (same ∙ ap (λ (f : Flat). f.region) value) in
-    let pack : c.create.new.room.pack ≡ c.args.room.now.pack = ap (λ (r : RoomState). r.pack) c.create.ensures.room in
-    let beside = rw pack at c.in_ok-take_steps.ensures.beside in
-    (beside other made apart).0
+pub create-requires : goal.create-requires
+create-requires g c =
+    let rests = c.make_room.ensures.rests in
+    let rest = c.requires in
+    let sizes = c.in-Some-heading.ensures in
+    record {
+      starts = may_start _ _ _ rests c.in_ok-make_room.ensures.room _ rest.ready (create_asks _ _ rest.some sizes.small.slots);
+      size = sizes.size;
+      room = idle_wide _ _ sizes.size.wide rest.idle;
+    }
+
+pub take_steps-requires : goal.take_steps-requires
+take_steps-requires g c =
+    let did = c.in_ok-flat.ensures.creates in
+    let sizes = c.in-Some-heading.ensures in
+    record {
+      rest = made_rest _ _ _ c.make_room.ensures.rests c.args.room.now _ _ c.create.ensures.room (at g.R.Revisions.state c.create.new.vault (g.S.BlockStore.state c.create.new.store)) c.requires _ _ c.in_ok-flat.flat did.ran.ok.lasts did.makes.value;
+      table = made_table _ _ _ c.make_room.ensures.rests c.args.room.now _ _ c.create.ensures.room (at g.R.Revisions.state c.create.new.vault (g.S.BlockStore.state c.create.new.store)) c.requires _ _ c.in_ok-flat.flat did.ran.ok.lasts did.makes.value sizes.size sizes.small did.makes.flat;
+    }
+
+pub returns : goal.returns
+returns g c =
+    let did = c.in_ok-flat.ensures.creates in
+    let sizes = c.in-Some-heading.ensures in
+    made_changed _ _ _ c.make_room.ensures.rests c.args.room.now _ _ c.create.ensures.room (at g.R.Revisions.state c.create.new.vault (g.S.BlockStore.state c.create.new.store)) c.requires _ _ c.in_ok-flat.flat did.ran.ok.lasts did.makes.value _ _ _ sizes.size sizes.small did.makes.flat c.in_ok-take_steps.ensures
