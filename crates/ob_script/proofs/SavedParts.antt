@@ -1,6 +1,6 @@
 -- The parts of a statement where tables are saved.
-use Rattle.std.proofs.Common.{◌≡◌, ℕ, ◌+◌, ◌*◌, ◌++◌, List, length, refl, sym, ap, arith}
-use Rattle.std.proofs.lemmas.List.{append_assoc, length-append}
+use Rattle.std.proofs.Common.{◌≡◌, ℕ, ◌+◌, ◌*◌, ◌++◌, List, length, refl, sym, ap, arith, append_assoc}
+use Rattle.std.proofs.lemmas.List.{length-append}
 use Rattle.ob_base.specs.declared.access.Access.{Access}
 use Rattle.ob_base.specs.Accesses.{discard_at, make_at, makes}
 use Rattle.ob_script.specs.Parts.{copy_part, count_part, insert_part, rewrite_part}
