@@ -258,16 +258,16 @@ impl<R: Revisions> Vault<R> {
     }
 
     /// Takes a region that the vault has forgotten out of the store, too, whatever that answers.
-    pub fn discard<S: BlockStore>(&self, store: &mut S, region: u64) -> Result<(), VaultErr>
+    pub fn discard<S: BlockStore>(&self, store: &mut S, forgotten: u64) -> Result<(), VaultErr>
         requires ready { Ready (at R.state self.now (S.state store.old)) }
         requires spare { 1 ≤ (S.state store.old).spare }
-        requires live { IsLive (S.state store.old) region }
-        requires below { region < self.now.next }
-        requires forgotten { (R.state self.now.revs).live region ≡ None }
-        ensures drops { DropsRegion region result
+        requires live { IsLive (S.state store.old) forgotten }
+        requires below { forgotten < self.now.next }
+        requires gone { (R.state self.now.revs).live forgotten ≡ None }
+        ensures drops { DropsRegion forgotten result
             (at R.state self.now (S.state store.old)) (at R.state self.now (S.state store.new)) }
     {
-        match store.discard(region) {
+        match store.discard(forgotten) {
             Ok(()) => Ok(()),
             Err(_) => Err(VaultErr::Failed),
         }
