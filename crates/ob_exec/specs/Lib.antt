@@ -12,4 +12,5 @@ pub mod Totalling
 pub mod Sources
 pub mod Serving
 pub mod Reopening
+pub mod Saving
 pub mod Closing

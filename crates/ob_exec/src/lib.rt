@@ -12,6 +12,7 @@ mod laws;
 mod opening;
 mod rows;
 mod run;
+mod saving;
 mod stop;
 mod tables;
 mod totalling;
