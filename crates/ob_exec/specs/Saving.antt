@@ -70,6 +70,8 @@ pub record IsSaved {R : Type 0} (state : R → RevState) (mark : Mark) (e : Engi
   pub left : left_of saved ≡ left_of e
   pub replaced : replaced_of saved ≡ opened_from e
   pub waits : Waits state saved t
+  -- what waits can be discarded
+  pub spare : 2 ≤ t.spare
 
 -- an engine's tables were saved, or why not: then the session has ended
 pub record SavesEngine {R : Type 0} (state : R → RevState) (result : Result Mark CloseErr)
