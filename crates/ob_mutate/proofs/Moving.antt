@@ -44,10 +44,6 @@ three_parts : (former : Former) (pack : ℕ) (flat : Flat) (to : ℕ) → make_s
 three_parts Discard pack flat to = refl
 three_parts Keep pack flat to = ap (λ (l : List Access). make_script pack (moved flat to) ++ l) (append-nil (copy_script pack flat to))
 
-length-former_script : (former : Former) (region : ℕ) → length (former_script former region) ≤ 1
-length-former_script Discard region = omega arith
-length-former_script Keep region = omega arith
-
 -- what stays in the store while other regions change
 stays_stored : (some : ℕ → Type 0) (region : ℕ) (a b : World) → Lasts some a b → (some region → ⊥) → StaysStored region a.store b.store
 stays_stored some region a b lasts off = record {
