@@ -1,6 +1,9 @@
 //! A statement, by its kind.
-ghost use Rattle.std.specs.Prelude.{◌≡◌, false};
-ghost use Rattle.ob_exec.specs.Agreeing.{Agrees, has_ended};
+ghost use Rattle.std.specs.Prelude.{◌≡◌, None, false};
+ghost use Rattle.ob_exec.specs.Agreeing.{Agrees, has_ended, public_of, replaced_of, seen_of};
+ghost use Rattle.ob_exec.specs.Saving.{Waits};
+ghost use Rattle.ob_script.specs.Saved.{left_then};
+ghost use Rattle.ob_sql.specs.Skeleton.{skeleton};
 ghost use Rattle.ob_exec.specs.Serving.{Serves};
 
 use crate::engine::{Engine, LATE};
@@ -71,6 +74,9 @@ impl<R: Revisions> Engine<R> {
     /// the statement without its literals and conditions, and what is seen of it; and no row comes to
     /// lie there in clear. Of a SELECT of rows neither their number nor a plan is seen where results are
     /// padded; one of more rows than that is refused as `PadPassed`.
+    ///
+    /// Where tables are saved the region of a table that it changes or drops, which `left_by` gives, stays in the store
+    /// until `settle` discards it.
     pub fn run<S: BlockStore, E: Emit>(
         &mut self,
         store: &mut S,
@@ -81,6 +87,9 @@ impl<R: Revisions> Engine<R> {
         requires lives { has_ended self.old ≡ false }
         ensures serves { Serves R.state E.grew E.cut E.faults stmt.now result
             self.old (S.state store.old) self.new (S.state store.new) out.old out.new }
+        ensures waits { replaced_of self.old ≡ None → Waits R.state
+            (left_then (public_of self.old) (skeleton stmt.now) (seen_of self.new).end)
+            self.new (S.state store.new) }
     {
         let from = self.public.next_region;
         let answer = self.serve(store, stmt, out);
