@@ -15,10 +15,12 @@ salted_of t = record { region = t.table.region; salt = t.salt }
 
 -- the regions of a closing and of the tables that it lists, where the run that wrote it had this salt, or none
 abbrev pub salted_regions : (closed : Option (List ℕ)) → Closing → List Listed → List Salted
-salted_regions closed closing listed = record { region = closing.region; salt = closed } ∷ map salted_of listed
+salted_regions closed closing listed =
+    record { region = closing.region; salt = closed } ∷ map salted_of listed
 
 -- the keys of a run with this salt that goes on from them
-abbrev pub reopening_keys : (secret salt : List ℕ) → (closed : Option (List ℕ)) → Closing → List Listed → KeySet
+abbrev pub reopening_keys : (secret salt : List ℕ) → (closed : Option (List ℕ)) → Closing
+    → List Listed → KeySet
 reopening_keys secret salt closed closing listed =
     keys_salted secret salt (salted_regions closed closing listed)
 
