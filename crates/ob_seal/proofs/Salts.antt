@@ -1,12 +1,12 @@
 -- The keys of a region in a run with a salt are those of its own salt.
-use Rattle.std.proofs.Common.{◌≡◌, ◌≢◌, inl, inr, arith, zero, suc, ℕ, ◌==◌, Bool, true, false, List, [], ◌∷◌, Option, Some, map, if◌then◌else◌, refl, sym, ◌∙◌, ap}
+use Rattle.std.proofs.Common.{◌≡◌, ◌≢◌, inl, inr, arith, zero, suc, ℕ, ◌<◌, ◌==◌, Bool, true, false, List, [], ◌∷◌, Option, Some, map, if◌then◌else◌, refl, sym, ◌∙◌, ap}
 use Rattle.std.proofs.lemmas.Bool.{cases_eq}
 use Rattle.std.proofs.lemmas.Bool.Decides.{nat_tests}
 use Rattle.std.specs.Prelude.{slice_get}
 use Rattle.ob_seal.specs.declared.Salted.{Salted}
 use Rattle.ob_seal.specs.declared.pairs.Pair.{Pair}
 use Rattle.ob_seal.specs.KeySet.{pair_in, pair_of}
-use Rattle.ob_seal.specs.Sealed.{held_of, keys_salted, pair_by, relisted, salt_at}
+use Rattle.ob_seal.specs.Sealed.{AreBefore, held_of, keys_salted, pair_by, relisted, salt_at}
 
 module _ (secret salt : List ℕ) where
   chosen : (b : Bool) (x y : Option (List ℕ)) → (if b then pair_by secret x else pair_by secret y) ≡ pair_by secret (if b then x else y)
@@ -56,3 +56,16 @@ salts_agree secret s t one other q same = salted_pair secret s one q ∙ ap (pai
 pub relisted_pair : (secret s t : List ℕ) (earlier : List Salted) (regions : List ℕ) (i q : ℕ) → slice_get regions i ≡ Some q
     → pair_of (keys_salted secret t (relisted s earlier regions)) q ≡ pair_of (keys_salted secret s earlier) q
 relisted_pair secret s t earlier regions i q is = salts_agree secret t s (relisted s earlier regions) earlier q (kept_salt s t earlier regions i q is)
+
+-- a region behind those of earlier runs has the run's own salt
+own_salt : (salt : List ℕ) (earlier : List Salted) (q : ℕ) → AreBefore q earlier → salt_at salt earlier q ≡ Some salt
+unfolding salt_at
+own_salt salt [] q before = refl
+own_salt salt (e ∷ es) q before =
+    let less : e.region < q = before.0 in
+    let off : e.region ≢ q = λ same. absurd (omega (arith, same, less)) in
+    let test : (e.region == q) ≡ false = grind (arith, nat_tests) in
+    ap (λ (b : Bool). if b then e.salt else salt_at salt es q) test ∙ own_salt salt es q before.1
+
+pub own_pair : (secret salt : List ℕ) (earlier : List Salted) (q : ℕ) → AreBefore q earlier → pair_of (keys_salted secret salt earlier) q ≡ pair_by secret (Some salt)
+own_pair secret salt earlier q before = salted_pair secret salt earlier q ∙ ap (pair_by secret) (own_salt salt earlier q before)
