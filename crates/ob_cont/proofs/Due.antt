@@ -12,9 +12,9 @@ use Rattle.ob_vault.specs.declared.region.Order.{Order}
 use Rattle.ob_vault.specs.declared.region.Order.TheVariants.{Round, Any}
 use Rattle.ob_vault.specs.State.{World}
 use Rattle.ob_vault.specs.declared.region.Region.{Region}
-use Rattle.ob_vault.specs.Tied.{Lives, OnTurn}
+use Rattle.ob_vault.specs.Tied.{IsOwn, Lives, OnTurn}
 use Rattle.ob_vault.specs.Calls.{Went, none}
-use Rattle.ob_vault.proofs.Runs.{turn_any, lives_went, written_went}
+use Rattle.ob_vault.proofs.Runs.{turn_any, lives_went, own_lasts, written_went}
 use Rattle.ob_row.specs.Slots.{Slots}
 use Rattle.ob_blocks.specs.Blocks.{none_of}
 use Rattle.ob_flat.specs.declared.flat.Flat.{Flat}
@@ -48,12 +48,13 @@ turn_more pack i to w some is = elim (cases_eq pack 1) [
       (λ turn. subst (λ (place : ℕ). IsInTurn (order_for 1) 1 to place w) (next_place to.capacity i some) turn) is
   | inr more ↦
       let any : order_for pack ≡ Any = ap (λ (b : Bool). if b then Round else Any) (other_test pack 1 more) in
-      record { lives = is.lives; turn = turn_any to.region (table_region (order_for pack) pack to.schema to.capacity) (((i + 1) % to.capacity) / pack) w any; written = is.written }
+      record { own = is.own; lives = is.lives; turn = turn_any to.region (table_region (order_for pack) pack to.schema to.capacity) (((i + 1) % to.capacity) / pack) w any; written = is.written }
 ]
 
 -- so is that of the first one in a new table
-pub in_turn : (order : Order) (pack : ℕ) (to : Flat) (w : World) → Lives to.region (table_region order pack to.schema to.capacity) w → IsFlat pack to w → IsInTurn order pack to 0 w
-in_turn order pack to w lives is = record {
+pub in_turn : (order : Order) (pack : ℕ) (to : Flat) (w : World) → IsOwn to.region w → Lives to.region (table_region order pack to.schema to.capacity) w → IsFlat pack to w → IsInTurn order pack to 0 w
+in_turn order pack to w own lives is = record {
+  own = own;
   lives = lives;
   turn = subst (λ (shape : Region). OnTurn to.region shape 0 w) (same _ _ (sym is.made.lives.live ∙ lives.live)) is.made.turn;
   written = is.written;
@@ -76,6 +77,7 @@ due_first pack n to w least is = subst (λ (x : ℕ). IsInTurn (order_for pack) 
 pub due_read : (order : Order) (pack place : ℕ) (to : Flat) (a b : World) (x : List Access) → Went x none a b → ((q y : ℕ) (shape : Region) → OnTurn q shape y a → OnTurn q shape y b)
     → IsInTurn order pack to place a → IsInTurn order pack to place b
 due_read order pack place to a b x went turns is = record {
+  own = own_lasts none a b went.lasts to.region is.own;
   lives = lives_went none a b x to.region (table_region order pack to.schema to.capacity) went (λ s. s) is.lives;
   turn = turns to.region place (table_region order pack to.schema to.capacity) is.turn;
   written = λ p below. written_went none a b x to.region p went (λ s. s) (is.written p below);

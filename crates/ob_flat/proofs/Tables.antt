@@ -16,7 +16,7 @@ use Rattle.ob_vault.specs.State.{World}
 use Rattle.ob_vault.specs.Calls.{Lasts, Only}
 use Rattle.ob_vault.specs.Rows.{joined, Wide}
 use Rattle.ob_vault.proofs.RowsLemmas.{rows_room}
-use Rattle.ob_vault.proofs.Runs.{lives_lasts, written_lasts as place_lasts, holds_lasts, turn_lasts, holds_only, holds_rows}
+use Rattle.ob_vault.proofs.Runs.{own_lasts, lives_lasts, written_lasts as place_lasts, holds_lasts, turn_lasts, holds_only, holds_rows}
 use Rattle.std.proofs.lemmas.List.{length-replicate}
 use Rattle.std.proofs.lemmas.List.Elements.{All-replicate}
 use Rattle.ob_blocks.specs.Blocks.{block_at, with_block, map_at, none_of}
@@ -27,7 +27,7 @@ use Rattle.std.proofs.lemmas.Bool.Decides.{nat_tests}
 use Rattle.ob_flat.specs.declared.flat.Flat.{Flat}
 use Rattle.ob_row.specs.Slots.{Slots, empty_slots}
 use Rattle.ob_flat.specs.Slots.{FitsSlot, Spelt, AreSlots, block_bytes}
-use Rattle.ob_flat.specs.Flats.{IsSized, FitsRegion, IsMade, IsFlat, IsWritten, HoldsSlots, HoldsBlock, HoldsRows, Represents, Accepts, table_region, whole_blocks}
+use Rattle.ob_flat.specs.Flats.{IsSized, FitsRegion, IsAtFirst, IsMade, IsFlat, IsWritten, HoldsSlots, HoldsBlock, HoldsRows, Represents, Accepts, table_region, whole_blocks}
 use Rattle.ob_flat.proofs.Rows.{spelt_joined, joined_spelt, spelt_fits, width_each, block_size}
 
 -- how many accesses the reads of a table are
@@ -55,10 +55,13 @@ at_last i n same = grind (arith, nat_tests)
 -- a table of which no block was written, or that wasn't touched
 module _ (pack : ℕ) (flat : Flat) (some : ℕ → Type 0) (a b : World) (lasts : Lasts some a b) (off : some flat.region → ⊥) where
   pub made_lasts : IsMade pack flat a → IsMade pack flat b
-  made_lasts is = record { order = is.order; lives = lives_lasts some a b lasts _ _ off is.lives; turn = turn_lasts some a b lasts _ _ off is.turn }
+  made_lasts is = record { own = own_lasts some a b lasts flat.region is.own; order = is.order; lives = lives_lasts some a b lasts _ _ off is.lives; turn = turn_lasts some a b lasts _ _ off is.turn }
+
+  first_lasts : IsAtFirst pack flat a → IsAtFirst pack flat b
+  first_lasts is = record { order = is.order; lives = lives_lasts some a b lasts _ _ off is.lives; turn = turn_lasts some a b lasts _ _ off is.turn }
 
   pub flat_lasts : IsFlat pack flat a → IsFlat pack flat b
-  flat_lasts is = record { made = made_lasts is.made; written = λ p below. place_lasts some a b lasts flat.region p off (is.written p below) }
+  flat_lasts is = record { made = first_lasts is.made; written = λ p below. place_lasts some a b lasts flat.region p off (is.written p below) }
 
   pub written_lasts : IsWritten pack flat a → IsWritten pack flat b
   written_lasts is = record { order = is.order; lives = lives_lasts some a b lasts _ _ off is.lives; written = λ p below. place_lasts some a b lasts flat.region p off (is.written p below) }

@@ -6,7 +6,7 @@ use Rattle.ob_base.specs.Schemas.{Columns, width}
 use Rattle.ob_vault.specs.declared.region.Region.{Region}
 use Rattle.ob_vault.specs.declared.region.Order.{Order}
 use Rattle.ob_vault.specs.State.{World}
-use Rattle.ob_vault.specs.Tied.{Lives, Written, OnTurn, Holds}
+use Rattle.ob_vault.specs.Tied.{IsOwn, Lives, Written, OnTurn, Holds}
 use Rattle.ob_blocks.specs.Blocks.{up_to, block_at}
 use Rattle.ob_flat.specs.declared.flat.Flat.{Flat}
 use Rattle.ob_row.specs.Slots.{Slots}
@@ -33,14 +33,21 @@ abbrev pub table_region : Order → ℕ → Columns → ℕ → Region
 table_region order pack columns capacity = record { blocks = blocks_for pack capacity; width = pack * width columns; order = order }
 
 -- it is live, and where it is written round and round, its first place is the next
-pub record IsMade (pack : ℕ) (flat : Flat) (w : World) : Type 0 where
+pub record IsAtFirst (pack : ℕ) (flat : Flat) (w : World) : Type 0 where
   pub order : Order
   pub lives : Lives flat.region (table_region order pack flat.schema flat.capacity) w
   pub turn : OnTurn flat.region (table_region order pack flat.schema flat.capacity) 0 w
 
--- and each of its places was written
+-- and this run made it: it may be written
+pub record IsMade (pack : ℕ) (flat : Flat) (w : World) : Type 0 where
+  pub own : IsOwn flat.region w
+  pub order : Order
+  pub lives : Lives flat.region (table_region order pack flat.schema flat.capacity) w
+  pub turn : OnTurn flat.region (table_region order pack flat.schema flat.capacity) 0 w
+
+-- whichever run made it, each of its places was written
 pub record IsFlat (pack : ℕ) (flat : Flat) (w : World) : Type 0 where
-  pub made : IsMade pack flat w
+  pub made : IsAtFirst pack flat w
   pub written : (p : ℕ) → p < blocks_for pack flat.capacity → Written flat.region p w
 
 -- it is live in whichever order, and each of its places was written
@@ -49,8 +56,9 @@ pub record IsWritten (pack : ℕ) (flat : Flat) (w : World) : Type 0 where
   pub lives : Lives flat.region (table_region order pack flat.schema flat.capacity) w
   pub written : (p : ℕ) → p < blocks_for pack flat.capacity → Written flat.region p w
 
--- and in this order a write to this place is in turn
+-- and this run made it, and in this order a write to this place is in turn
 pub record IsInTurn (order : Order) (pack : ℕ) (flat : Flat) (place : ℕ) (w : World) : Type 0 where
+  pub own : IsOwn flat.region w
   pub lives : Lives flat.region (table_region order pack flat.schema flat.capacity) w
   pub turn : OnTurn flat.region (table_region order pack flat.schema flat.capacity) place w
   pub written : (p : ℕ) → p < blocks_for pack flat.capacity → Written flat.region p w

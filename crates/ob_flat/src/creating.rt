@@ -2,7 +2,7 @@ ghost use Rattle.std.specs.Prelude.{◌≡◌, ◌≤◌, ◌<◌, ◌+◌, ◌/
 ghost use Rattle.ob_base.specs.Numbers.{blocks_for};
 ghost use Rattle.ob_base.specs.Schemas.{width};
 ghost use Rattle.ob_vault.specs.declared.region.Order.TheVariants.{Round};
-ghost use Rattle.ob_vault.specs.Tied.{Lives, OnTurn};
+ghost use Rattle.ob_vault.specs.Tied.{IsOwn, Lives, OnTurn};
 ghost use Rattle.ob_vault.specs.Numbers.{spent};
 ghost use Rattle.ob_vault.specs.Places.{at, RowsFit};
 ghost use Rattle.ob_vault.specs.Rows.{joined};
@@ -59,8 +59,8 @@ pub fn make_table<S: BlockStore, R: Revisions>(
     Ok(region)
 }
 
-/// Writes the same rows to each place of a region, in order, as a block has rows. `Failed` where the
-/// store failed.
+/// Writes the same rows to each place of a region that this run made, in order, as a block has rows.
+/// `Failed` where the store failed.
 pub fn fill_blocks<S: BlockStore, R: Revisions>(
     store: &mut S,
     vault: &mut Vault<R>,
@@ -69,6 +69,7 @@ pub fn fill_blocks<S: BlockStore, R: Revisions>(
     shape: Region,
 ) -> Result<(), VaultErr>
     requires asks { MayAsk shape.blocks (at R.state vault.old (S.state store.old)) }
+    requires own { IsOwn region (at R.state vault.old (S.state store.old)) }
     requires lives { Lives region shape (at R.state vault.old (S.state store.old)) }
     requires turn { OnTurn region shape 0 (at R.state vault.old (S.state store.old)) }
     requires fit { RowsFit rows.now shape.width }

@@ -5,7 +5,7 @@ use Rattle.ob_base.specs.Numbers.{first_bucket, second_bucket}
 use Rattle.ob_vault.specs.Calls.{Went}
 use Rattle.ob_vault.specs.declared.region.Order.TheVariants.{Any}
 use Rattle.ob_vault.specs.State.{World}
-use Rattle.ob_vault.proofs.Runs.{turn_any, lives_went, written_went}
+use Rattle.ob_vault.proofs.Runs.{turn_any, lives_went, own_lasts, written_went}
 use Rattle.ob_row.specs.Rows.{Row}
 use Rattle.ob_row.specs.Results.{Buckets}
 use Rattle.ob_row.specs.Slots.{Slots}
@@ -20,11 +20,12 @@ holds_alike pack flat w a b same is = subst (λ (l : Slots). HoldsSlots pack fla
 
 -- each place is in turn in a region without order
 pub any_turn : (pack x y : ℕ) (flat : Flat) (w : World) → IsInTurn Any pack flat x w → IsInTurn Any pack flat y w
-any_turn pack x y flat w is = record { lives = is.lives; turn = turn_any flat.region (table_region Any pack flat.schema flat.capacity) y w refl; written = is.written }
+any_turn pack x y flat w is = record { own = is.own; lives = is.lives; turn = turn_any flat.region (table_region Any pack flat.schema flat.capacity) y w refl; written = is.written }
 
 -- it stays so where other regions were asked
 pub open_went : (pack x : ℕ) (flat : Flat) (some : ℕ → Type 0) (script : List Access) (a b : World) → Went script some a b → (some flat.region → ⊥) → IsInTurn Any pack flat x a → IsInTurn Any pack flat x b
 open_went pack x flat some script a b went off is = record {
+  own = own_lasts some a b went.lasts flat.region is.own;
   lives = lives_went some a b script flat.region _ went off is.lives;
   turn = turn_any flat.region (table_region Any pack flat.schema flat.capacity) x b refl;
   written = λ p below. written_went some a b script flat.region p went off (is.written p below);

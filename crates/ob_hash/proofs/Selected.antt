@@ -5,6 +5,7 @@ use Rattle.ob_script.specs.Parts.{create_part}
 use Rattle.ob_row.specs.Results.{RowTest, hash_slots}
 use Rattle.ob_vault.specs.declared.region.Order.TheVariants.{Any}
 use Rattle.ob_vault.specs.State.{World}
+use Rattle.ob_vault.specs.Tied.{IsOwn}
 use Rattle.ob_vault.specs.Calls.{Went, Seals, one}
 use Rattle.ob_vault.proofs.Runs.{tells_went, turn_any}
 use Rattle.ob_vault.proofs.WordLemmas.{honest_after, honest_same}
@@ -24,8 +25,8 @@ use Rattle.ob_hash.proofs.Sizes.{result_blocks}
 use Rattle.ob_hash.proofs.Whole.{begins_empty, is_result}
 
 -- a region that was made may be written in any order
-pub made_open : (l : Layout) {old : World} (mid : World) → CreatesRegion Any l.pack l.table (Ok l.table.region) old mid → IsOpen l mid
-made_open l mid created = record { lives = created.lives; turn = turn_any l.table.region (table_region Any l.pack l.table.schema l.table.capacity) 0 mid refl; written = created.table.written }
+pub made_open : (l : Layout) {old : World} (mid : World) → IsOwn l.table.region mid → CreatesRegion Any l.pack l.table (Ok l.table.region) old mid → IsOpen l mid
+made_open l mid own created = record { own = own; lives = created.lives; turn = turn_any l.table.region (table_region Any l.pack l.table.schema l.table.capacity) 0 mid refl; written = created.table.written }
 
 module _ (l : Layout) (flat : Flat) (p : RowTest) (old : World) (is : IsHashed l) (source : IsSource l flat) (table : IsTable l.pack flat old) where
   -- the region was not made, or not filled

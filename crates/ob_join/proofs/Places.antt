@@ -8,7 +8,7 @@ use Rattle.ob_vault.specs.Revs.{turn_after}
 use Rattle.ob_vault.specs.State.{World}
 use Rattle.ob_vault.specs.Tied.{Lives, Written, OnTurn, Holds}
 use Rattle.ob_vault.specs.Calls.{Went, Only, none}
-use Rattle.ob_vault.proofs.Runs.{lives_went, lives_only, written_went, written_only, holds_went, holds_only, next_turn}
+use Rattle.ob_vault.proofs.Runs.{lives_went, lives_only, own_lasts, own_only, written_went, written_only, holds_went, holds_only, next_turn}
 use Rattle.ob_row.specs.Slots.{Slots}
 use Rattle.ob_blocks.specs.Blocks.{block_at}
 use Rattle.ob_flat.specs.declared.flat.Flat.{Flat}
@@ -23,6 +23,7 @@ at_first i n h = grind (arith, nat_tests)
 module _ (pack : ℕ) (flat : Flat) where
   pub filling_first : (w : World) → IsMade pack flat w → IsFilling pack flat 0 w
   filling_first w made = record {
+    own = made.own;
     order = made.order;
     lives = made.lives;
     turn = subst (λ (i : ℕ). OnTurn flat.region (table_region made.order pack flat.schema flat.capacity) i w) (sym (at_first 0 (blocks_for pack flat.capacity) (omega arith))) made.turn;
@@ -52,6 +53,7 @@ module _ (pack : ℕ) (flat : Flat) where
     -- while other regions are read
     pub filling_read : (x : List Access) → Went x none a b → ((q y : ℕ) (shape : Region) → OnTurn q shape y a → OnTurn q shape y b) → IsFilling pack flat n a → IsFilling pack flat n b
     filling_read x went turns is = record {
+      own = own_lasts none a b went.lasts flat.region is.own;
       order = is.order;
       lives = lives_went none a b x flat.region (table_region is.order pack flat.schema flat.capacity) went (λ s. s) is.lives;
       turn = turns flat.region _ (table_region is.order pack flat.schema flat.capacity) is.turn;
@@ -65,6 +67,7 @@ module _ (pack : ℕ) (flat : Flat) where
     pub filling_more : Only flat.region n a b → ((shape : Region) → Lives flat.region shape a → OnTurn flat.region shape (turn_after shape n) b) → Written flat.region n b
         → IsFilling pack flat n a → IsFilling pack flat (n + 1) b
     filling_more only turn written is = record {
+      own = own_only flat.region n a b only flat.region is.own;
       order = is.order;
       lives = lives_only flat.region n a b only _ _ is.lives;
       turn = next_turn flat.region n (table_region is.order pack flat.schema flat.capacity) b (turn (table_region is.order pack flat.schema flat.capacity) is.lives);

@@ -1,5 +1,6 @@
 ghost use Rattle.std.specs.Prelude.{◌*◌, length};
 ghost use Rattle.ob_vault.specs.Places.{at};
+ghost use Rattle.ob_vault.specs.Tied.{IsOwn};
 ghost use Rattle.ob_vault.specs.Rows.{SameSizes};
 ghost use Rattle.ob_row.specs.Truth.{is_true};
 ghost use Rattle.ob_vault.specs.Words.{MayAsk};
@@ -13,7 +14,7 @@ use ob_row::Pred;
 use ob_store::BlockStore;
 use ob_vault::{Revisions, Vault};
 
-// Reads and writes each block of a table, in order, and empties each slot whose row doesn't make the
+// Reads and writes each block of a table that this run made, in order, and empties each slot whose row doesn't make the
 // condition true, through these rows, of which there are as many as a block has.
 pub(crate) fn empty_unselected<S: BlockStore, R: Revisions>(
     store: &mut S,
@@ -25,6 +26,7 @@ pub(crate) fn empty_unselected<S: BlockStore, R: Revisions>(
     requires asks { MayAsk (2 * blocks_of (length rows.old) flat.now)
         (at R.state vault.old (S.state store.old)) }
     requires table { IsTable (length rows.old) flat.now (at R.state vault.old (S.state store.old)) }
+    requires own { IsOwn flat.now.region (at R.state vault.old (S.state store.old)) }
     requires fit { FitBlock flat.now.schema rows.old }
     ensures rows { SameSizes rows.old rows.new }
     ensures empties { Empties (length rows.old) flat.now (is_true pred.now) result

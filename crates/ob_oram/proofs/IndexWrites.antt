@@ -12,7 +12,7 @@ use Rattle.ob_vault.specs.State.{World}
 use Rattle.ob_vault.specs.Tied.{Holds}
 use Rattle.ob_vault.specs.Calls.{Went, Lasts, one, two}
 use Rattle.ob_vault.specs.Words.{MayAsk}
-use Rattle.ob_vault.proofs.Runs.{went_join, went_wider, tells_went, seals_join, holds_rows, lives_lasts, turn_lasts, written_lasts as place_lasts}
+use Rattle.ob_vault.proofs.Runs.{went_join, went_wider, tells_went, seals_join, holds_rows, lives_lasts, own_lasts, turn_lasts, written_lasts as place_lasts}
 use Rattle.ob_vault.proofs.WordLemmas.{asks_after}
 use Rattle.ob_row.specs.Rows.{Row}
 use Rattle.ob_row.specs.Slots.{Slots}
@@ -59,6 +59,7 @@ asks_second index leaf old mid asks went = asks_after {m = index.slots} asks wen
 -- a table in turn that wasn't touched
 pub in_turn_lasts : (order : Order) (flat : Flat) (some : ℕ → Type 0) (a b : World) → Lasts some a b → (some flat.region → ⊥) → IsInTurn order 1 flat 0 a → IsInTurn order 1 flat 0 b
 in_turn_lasts order flat some a b lasts off is = record {
+  own = own_lasts some a b lasts flat.region is.own;
   lives = lives_lasts some a b lasts _ _ off is.lives;
   turn = turn_lasts some a b lasts _ _ off is.turn;
   written = λ p below. place_lasts some a b lasts flat.region p off (is.written p below);

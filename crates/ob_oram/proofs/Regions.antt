@@ -10,10 +10,10 @@ use Rattle.ob_store.proofs.Steps.{length-each}
 use Rattle.ob_vault.specs.declared.region.Region.{Region}
 use Rattle.ob_vault.specs.declared.region.Order.TheVariants.{Round, Any}
 use Rattle.ob_vault.specs.State.{Start, World}
-use Rattle.ob_vault.specs.Tied.{Ready, OnTurn}
+use Rattle.ob_vault.specs.Tied.{IsOwn, Ready, OnTurn}
 use Rattle.ob_vault.specs.Calls.{Went, one, two}
 use Rattle.ob_vault.specs.VaultCalls.{Forgets}
-use Rattle.ob_vault.proofs.Runs.{went_join, went_wider, lives_went, written_went, turn_any, tells_went, seals_join, seals_none}
+use Rattle.ob_vault.proofs.Runs.{went_join, went_wider, lives_went, own_lasts, own_made, written_went, turn_any, tells_went, seals_join, seals_none}
 use Rattle.ob_vault.proofs.WorldSteps.{lasts_none}
 use Rattle.std.proofs.lemmas.List.{append-nil}
 use Rattle.ob_row.specs.Slots.{empty_slots}
@@ -97,6 +97,9 @@ module _ (tree stash : Flat) (old : World) (ready : Ready old) (here : tree.regi
     wide : Went (create_script 1 tree) (two tree.region stash.region) old mid
     wide = went_wider (one tree.region) old mid (two tree.region stash.region) (λ q s. inl s) (create_script 1 tree) first.ran.ok
 
+    stash_own : IsOwn stash.region mid
+    stash_own = own_lasts (one tree.region) old mid first.ran.ok.lasts stash.region (record { above = omega (arith, behind, ready.tied.next) })
+
     -- the stash's wasn't
     pub regions_second : {T : Type 0} (e : OpErr) (late new : World) → CreatesRegion Round 1 stash (Err e) mid late → Forgets tree.region late new → new.store ≡ late.store
         → CreatesRegions {T = T} tree stash (Err e) old new
@@ -149,11 +152,13 @@ module _ (tree stash : Flat) (old : World) (ready : Ready old) (here : tree.regi
             tree_region = first.number;
             stash_region = second.number;
             tree_written = record {
+              own = own_lasts (one stash.region) mid new went.lasts tree.region (own_made (one tree.region) old mid first.ran.ok.lasts tree.region ready here);
               lives = lives_went (one stash.region) mid new (create_script 1 stash) tree.region (table_region Any 1 tree.schema tree.capacity) went off first.lives;
               turn = turn_any tree.region (table_region Any 1 tree.schema tree.capacity) 0 new refl;
               written = λ p below. written_went (one stash.region) mid new (create_script 1 stash) tree.region p went off (first.table.written p below);
             };
             stash_written = record {
+              own = own_lasts (one stash.region) mid new went.lasts stash.region stash_own;
               lives = second.lives;
               turn = subst (λ (s : Region). OnTurn stash.region s 0 new) round second.table.made.turn;
               written = second.table.written;

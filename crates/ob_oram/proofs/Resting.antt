@@ -12,6 +12,7 @@ use Rattle.ob_oram.specs.Indexes.{IsIndex, tree_of, stash_of}
 module _ (v : VaultState) (s t : StoreState) (rests : ChangesNothing s t) where
   turn_rests : (order : Order) (flat : Flat) → IsInTurn order 1 flat 0 (world v s) → IsInTurn order 1 flat 0 (world v t)
   turn_rests order flat is = record {
+    own = record { above = is.own.above };
     lives = record { live = is.lives.live };
     turn = record { turn = is.turn.turn; run = is.turn.run };
     written = λ p below. record { number = (is.written p below).number };

@@ -19,7 +19,7 @@ use Rattle.ob_vault.specs.Places.{MayPut, RowsFit}
 use Rattle.ob_vault.specs.Calls.{Went, one}
 use Rattle.ob_vault.specs.VaultCalls.{Puts}
 use Rattle.ob_vault.specs.Words.{MayAsk}
-use Rattle.ob_vault.proofs.Runs.{went_each, went_none, may_put, holds_rows, holds_only, lives_only, written_only, turn_any, next_turn, tells_went, seals_none}
+use Rattle.ob_vault.proofs.Runs.{went_each, went_none, may_put, holds_rows, holds_only, lives_only, own_only, written_only, turn_any, next_turn, tells_went, seals_none}
 use Rattle.ob_vault.proofs.WordLemmas.{asks_after}
 use Rattle.ob_row.specs.Rows.{Row}
 use Rattle.ob_row.specs.Slots.{Slots}
@@ -82,7 +82,7 @@ module _ (index : Index) (walk : Walk) (c : ℕ) (shaped : IsShaped index) (is :
 
   pub may_write : (slot : Option Row) (row : List ℕ) → Begins index.schema slot row → MayPut q x (row ∷ []) old
   may_write slot row begins =
-      may_put q x shape (row ∷ []) old turn.lives (omega (arith, place_below index walk c is within, one_each flat.capacity))
+      may_put q x shape (row ∷ []) old turn.own turn.lives (omega (arith, place_below index walk c is within, one_each flat.capacity))
       (subst (λ s. RowsFit (row ∷ []) (1 * width s)) (sym (schema_is index walk)) (one_row_fits (width index.schema) row (begins_wide index.schema slot row begins)))
       turn.turn
 
@@ -154,7 +154,7 @@ last_in_turn index (Path height leaf) c w last is = is
 place_in_turn : (index : Index) (walk : Walk) (c : ℕ) (w : World) → c < blocks_in walk → IsInTurn (order_in walk) 1 (table_in index walk) (next_place walk c) w → IsInTurn (order_in walk) 1 (table_in index walk) (place_in walk c) w
 unfolding next_place
 place_in_turn index (Stash slots height) c w within is = subst (λ p. IsInTurn Round 1 (table_in index (Stash slots height)) p w) (not_last c slots within) is
-place_in_turn index (Path height leaf) c w within is = record { lives = is.lives; turn = turn_any _ _ _ w refl; written = is.written }
+place_in_turn index (Path height leaf) c w within is = record { own = is.own; lives = is.lives; turn = turn_any _ _ _ w refl; written = is.written }
 
 behind_in_turn : (index : Index) (walk : Walk) (c : ℕ) (w : World) → IsWalkOf index walk
     → OnTurn (region_in index walk) (table_region (order_in walk) 1 (table_in index walk).schema (table_in index walk).capacity)
@@ -195,6 +195,7 @@ module _ (index : Index) (walk : Walk) (rows : List (List ℕ)) (c : ℕ) (is : 
       went = went_each (one (region_in index walk)) part old mid new c before.went row.ok;
       seals = seals_after before.went.lasts before.seals row.seals;
       turn = record {
+        own = own_only _ _ _ _ row.only (table_in index walk).region before.turn.own;
         lives = lives_only _ _ _ _ row.only _ _ before.turn.lives;
         turn = behind_in_turn index walk c new is (row.turn _ before.turn.lives);
         written = λ p below. written_at p below (cases_eq p (place_in walk c));

@@ -8,7 +8,7 @@ ghost use Rattle.ob_vault.specs.declared.region.Order.TheVariants.{Round};
 ghost use Rattle.ob_vault.specs.Calls.{Went, one};
 ghost use Rattle.ob_vault.specs.Places.{at};
 ghost use Rattle.ob_vault.specs.Rows.{SameSizes, Wide};
-ghost use Rattle.ob_vault.specs.Tied.{Lives, OnTurn};
+ghost use Rattle.ob_vault.specs.Tied.{IsOwn, Lives, OnTurn};
 ghost use Rattle.ob_vault.specs.Words.{MayAsk, StartsAnew};
 ghost use Rattle.ob_flat.specs.declared.flat.Flat.{Flat as Table};
 ghost use Rattle.ob_flat.specs.Flats.{IsSized, IsFlat, table_region};
@@ -123,6 +123,7 @@ fn fill_table<S: BlockStore, R: Revisions>(
     requires lives { Lives flat.now.region
         (table_region Round (length rows.old) flat.now.schema flat.now.capacity)
         (at R.state vault.old (S.state store.old)) }
+    requires own { IsOwn flat.now.region (at R.state vault.old (S.state store.old)) }
     requires turn { OnTurn flat.now.region
         (table_region Round (length rows.old) flat.now.schema flat.now.capacity) 0
         (at R.state vault.old (S.state store.old)) }

@@ -3,7 +3,7 @@ ghost use Rattle.std.specs.List.{All};
 ghost use Rattle.ob_blocks.specs.Idle.{IsIdle};
 ghost use Rattle.ob_vault.specs.Places.{at, RowsFit};
 ghost use Rattle.ob_vault.specs.Rows.{SameSizes};
-ghost use Rattle.ob_vault.specs.Tied.{Lives, OnTurn};
+ghost use Rattle.ob_vault.specs.Tied.{IsOwn, Lives, OnTurn};
 ghost use Rattle.ob_vault.specs.Words.{MayAsk};
 ghost use Rattle.ob_reopen.specs.declared.listed.Listed.{Listed as Entry};
 ghost use Rattle.ob_reopen.specs.Closings.{region_of, row_of};
@@ -76,6 +76,7 @@ fn put_rows<S: BlockStore, R: Revisions>(
         (at R.state vault.old (S.state store.old)) }
     requires turn { OnTurn region (region_of (length listed.now + 1)) 0
         (at R.state vault.old (S.state store.old)) }
+    requires own { IsOwn region (at R.state vault.old (S.state store.old)) }
     requires fit { RowsFit rows.old 1024 }
     requires one { length rows.old ≡ 1 }
     ensures rows { SameSizes rows.old rows.new }

@@ -8,7 +8,7 @@ use Rattle.ob_vault.specs.Revs.{turn_after}
 use Rattle.ob_vault.specs.State.{World}
 use Rattle.ob_vault.specs.Tied.{Lives, Written, OnTurn}
 use Rattle.ob_vault.specs.Calls.{Went, Only, none}
-use Rattle.ob_vault.proofs.Runs.{lives_went, lives_only, next_turn}
+use Rattle.ob_vault.proofs.Runs.{lives_went, lives_only, own_lasts, own_only, next_turn}
 use Rattle.ob_flat.specs.declared.flat.Flat.{Flat}
 use Rattle.ob_flat.specs.Flats.{IsMade, IsFlat, table_region}
 use Rattle.ob_flat.specs.Words.{blocks_of}
@@ -25,6 +25,7 @@ module _ (pack : ℕ) (flat : Flat) where
   -- before the first place is written
   pub next_first : (n : ℕ) (w : World) → n ≡ 0 → IsMade pack flat w → IsNext pack flat n w
   next_first n w first made = record {
+    own = made.own;
     order = made.order;
     lives = made.lives;
     turn = subst (λ (i : ℕ). OnTurn flat.region (table_region made.order pack flat.schema flat.capacity) i w) (sym (at_first n (blocks_of pack flat) first)) made.turn;
@@ -38,13 +39,13 @@ module _ (pack : ℕ) (flat : Flat) where
   pub next_more : (n : ℕ) (a b : World) (is : IsNext pack flat n a) → Only flat.region n a b → ((shape : Region) → Lives flat.region shape a → OnTurn flat.region shape (turn_after shape n) b) → IsNext pack flat (n + 1) b
   next_more n a b is only turn =
       let shape = table_region is.order pack flat.schema flat.capacity in
-      record { order = is.order; lives = lives_only flat.region n a b only flat.region shape is.lives; turn = next_turn flat.region n shape b (turn shape is.lives) }
+      record { own = own_only flat.region n a b only flat.region is.own; order = is.order; lives = lives_only flat.region n a b only flat.region shape is.lives; turn = next_turn flat.region n shape b (turn shape is.lives) }
 
   -- while other regions are read
   pub next_read : (n : ℕ) (x : List Access) (a b : World) → Went x none a b → ((q y : ℕ) (shape : Region) → OnTurn q shape y a → OnTurn q shape y b) → IsNext pack flat n a → IsNext pack flat n b
   next_read n x a b went turns is =
       let shape = table_region is.order pack flat.schema flat.capacity in
-      record { order = is.order; lives = lives_went none a b x flat.region shape went (λ s. s) is.lives; turn = turns flat.region _ shape is.turn }
+      record { own = own_lasts none a b went.lasts flat.region is.own; order = is.order; lives = lives_went none a b x flat.region shape went (λ s. s) is.lives; turn = turns flat.region _ shape is.turn }
 
   -- when all are written
   pub next_last : (n : ℕ) (w : World) → n ≡ blocks_of pack flat → IsNext pack flat n w → ((p : ℕ) → p < n → Written flat.region p w) → IsFlat pack flat w

@@ -16,7 +16,7 @@ use Rattle.ob_vault.specs.declared.region.Region.{Region}
 use Rattle.ob_vault.specs.declared.region.Order.{Order}
 use Rattle.ob_vault.specs.declared.region.Order.TheVariants.{Round}
 use Rattle.ob_vault.specs.State.{World}
-use Rattle.ob_vault.specs.Tied.{Lives, Written, OnTurn, Holds}
+use Rattle.ob_vault.specs.Tied.{IsOwn, Lives, Written, OnTurn, Holds}
 use Rattle.ob_vault.specs.Calls.{none, one}
 use Rattle.ob_vault.specs.Rows.{Wide}
 use Rattle.ob_vault.specs.Words.{IsHonest, SealsAll}
@@ -106,8 +106,9 @@ pub record AreBlocks (columns : Columns) (pack n : ℕ) (rows : List (List ℕ))
   pub wide : Wide (width columns) rows
   pub spells : AreSlots columns rows
 
--- a table is live, and the next write to it is in turn at place n, or, where it has n, at the first
+-- a table that this run made is live, and the next write to it is in turn at place n, or, where it has n, at the first
 pub record IsNext (pack : ℕ) (flat : Flat) (n : ℕ) (w : World) : Type 0 where
+  pub own : IsOwn flat.region w
   pub order : Order
   pub lives : Lives flat.region (table_region order pack flat.schema flat.capacity) w
   pub turn : OnTurn flat.region (table_region order pack flat.schema flat.capacity)

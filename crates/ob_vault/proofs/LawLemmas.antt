@@ -1,18 +1,18 @@
 -- Why no two writes have one number, and what a tag that fits at two heads shows.
-use Rattle.std.proofs.Common.{◌≡◌, ◌≢◌, inl, inr, ◌+◌, ◌-◌, ℕ, List, [], ◌∷◌, Some, length, length-append, drop, take, refl, sym, ◌∙◌, ap, arith}
+use Rattle.std.proofs.Common.{◌≡◌, ◌≢◌, inl, inr, ◌<◌, ◌+◌, ◌-◌, ℕ, zero, suc, List, [], ◌∷◌, Some, length, length-append, drop, take, slice_get, refl, sym, ◌∙◌, ap, arith}
 use Rattle.std.proofs.lemmas.List.{take_at, drop_at}
 use Rattle.ob_base.specs.declared.access.Access.{Access}
 use Rattle.ob_base.specs.declared.access.Access.TheVariants.{Make, Read, Write, Discard, Open}
 use Rattle.ob_base.specs.Accesses.{writes, nth_write}
 use Rattle.ob_base.proofs.AccessLemmas.{number_own, write_named, write_apart}
 use Rattle.ob_store.specs.State.{Lie}
-use Rattle.ob_seal.specs.KeySet.{KeySet}
-use Rattle.ob_seal.specs.Sealed.{InRange, TwoTexts, sealed, ciphered, tag_of}
+use Rattle.ob_seal.specs.KeySet.{KeySet, pair_of}
+use Rattle.ob_seal.specs.Sealed.{InRange, TwoSalts, TwoTexts, sealed, ciphered, tag_of}
 use Rattle.ob_seal.specs.declared.At.{At}
-use Rattle.ob_seal.proofs.HeadsApart.{heads_apart, length-tag_of}
+use Rattle.ob_seal.proofs.HeadsApart.{heads_apart, length-tag_of, salts_apart}
 use Rattle.ob_vault.specs.State.{Start, World}
-use Rattle.ob_vault.specs.Numbers.{IsNumber, IsWrite, last_number, write_number}
-use Rattle.ob_vault.specs.Tied.{Tied, TagFits, at_lie}
+use Rattle.ob_vault.specs.Numbers.{IsNumber, IsWrite, WritesBehind, last_number, write_number}
+use Rattle.ob_vault.specs.Tied.{IsOwn, Tied, TagFits, at_lie}
 
 pub writes_apart : (w : World) (i j q x r y : ℕ) → IsWrite i q x w → IsWrite j r y w → write_number i w ≡ write_number j w → i ≡ j
 writes_apart w i j q x r y is at same = write_apart w.store.asked i j q x r y is.is at.is (omega (arith, same))
@@ -51,12 +51,40 @@ numbers_alone w q x r y n tied (inl is) (inr given) = absurd (early w q x r y n 
 numbers_alone w q x r y n tied (inr given) (inl at) = absurd (early w r y q x n tied at given.0)
 numbers_alone w q x r y n tied (inr one) (inr other) = tied.start.alone q x r y (sym one.0 ∙ other.0) (λ zero. one.1 (one.0 ∙ zero))
 
+-- a write is to a region behind this one, where each is
+written_behind : (region : ℕ) (asked : List Access) (i q x : ℕ) → WritesBehind region asked → slice_get asked i ≡ Some (Write q x) → region < q
+written_behind region [] zero q x all is = absurd (cc is)
+written_behind region [] (suc i) q x all is = absurd (cc is)
+written_behind region (Make r blocks len ∷ rest) zero q x all is = absurd (cc is)
+written_behind region (Read r y ∷ rest) zero q x all is = absurd (cc is)
+written_behind region (Discard r ∷ rest) zero q x all is = absurd (cc is)
+written_behind region (Open r blocks len ∷ rest) zero q x all is = absurd (cc is)
+written_behind region (Write r y ∷ rest) zero q x all is = let same : r ≡ q = cc is in omega (arith, all.0, same)
+written_behind region (Make r blocks len ∷ rest) (suc i) q x all is = written_behind region rest i q x all is
+written_behind region (Read r y ∷ rest) (suc i) q x all is = written_behind region rest i q x all is
+written_behind region (Discard r ∷ rest) (suc i) q x all is = written_behind region rest i q x all is
+written_behind region (Open r blocks len ∷ rest) (suc i) q x all is = written_behind region rest i q x all is
+written_behind region (Write r y ∷ rest) (suc i) q x all is = written_behind region rest i q x all.1 is
+
+pub writes_own : (w : World) (i q x : ℕ) → Tied w → IsWrite i q x w → IsOwn q w
+writes_own w i q x tied is = record { above = written_behind w.vault.start.region w.store.asked i q x tied.own is.is }
+
+-- the tag of a block that was sealed under some keys, and is taken under others
+taken_tag : (k l : KeySet) (start : Start) (lie : Lie) (a : At) (rows : List ℕ) → lie.bytes ≡ sealed k a rows → TagFits l start lie
+    → tag_of k a (ciphered k a rows) ≡ tag_of l (at_lie start lie) (ciphered k a rows)
+taken_tag k l start lie a rows is fits =
+    let text = ciphered k a rows in
+    let tag = tag_of k a text in
+    let size : length lie.bytes - 32 ≡ length text = omega (arith, ap length is, length-append text tag, length-tag_of k a text) in
+    let front : take (length lie.bytes - 32) lie.bytes ≡ text = (λ i. take (size i) (is i)) ∙ take_at text tag (length text) refl in
+    let behind : drop (length lie.bytes - 32) lie.bytes ≡ tag = (λ i. drop (size i) (is i)) ∙ drop_at text tag (length text) refl in
+    sym behind ∙ fits.tag ∙ ap (tag_of l (at_lie start lie)) front
+
 pub lies_apart : (keys : KeySet) (start : Start) (lie : Lie) (a : At) (rows : List ℕ) → lie.bytes ≡ sealed keys a rows → InRange a → InRange (at_lie start lie) → a ≢ at_lie start lie
     → TagFits keys start lie → TwoTexts keys
 lies_apart keys start lie a rows is fa fb off fits =
-    let text = ciphered keys a rows in
-    let tag = tag_of keys a text in
-    let size : length lie.bytes - 32 ≡ length text = omega (arith, ap length is, length-append text tag, length-tag_of keys a text) in
-    let front : take (length lie.bytes - 32) lie.bytes ≡ text = (λ i. take (size i) (is i)) ∙ take_at text tag (length text) refl in
-    let behind : drop (length lie.bytes - 32) lie.bytes ≡ tag = (λ i. drop (size i) (is i)) ∙ drop_at text tag (length text) refl in
-    heads_apart keys a (at_lie start lie) text fa fb off (sym behind ∙ fits.tag ∙ ap (tag_of keys (at_lie start lie)) front)
+    heads_apart keys a (at_lie start lie) (ciphered keys a rows) fa fb off (taken_tag keys keys start lie a rows is fits)
+
+pub lies_salted : (k l : KeySet) (start : Start) (lie : Lie) (a : At) (rows : List ℕ) → lie.bytes ≡ sealed k a rows → (pair_of k a.region).salt ≢ (pair_of l lie.region).salt
+    → TagFits l start lie → TwoSalts k l
+lies_salted k l start lie a rows is off fits = salts_apart k l a (at_lie start lie) (ciphered k a rows) off (taken_tag k l start lie a rows is fits)

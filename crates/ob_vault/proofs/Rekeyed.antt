@@ -15,6 +15,7 @@ module _ (keys : KeySet) (w : World) where
       count = ready.tied.count;
       next = ready.tied.next;
       above = ready.tied.above;
+      own = ready.tied.own;
       live = ready.tied.live;
       numbers = ready.tied.numbers;
     };

@@ -18,12 +18,12 @@ use Rattle.ob_vault.specs.declared.fault.VaultErr.{VaultErr}
 use Rattle.ob_vault.specs.declared.fault.VaultErr.TheVariants.{Failed, NoMemory}
 use Rattle.ob_vault.specs.Revs.{OtherRegions, Resumes as Numbered}
 use Rattle.ob_vault.specs.State.{Start, RevState, VaultState, World, from_earlier}
-use Rattle.ob_vault.specs.Numbers.{number_after, IsNumber, IsStart}
+use Rattle.ob_vault.specs.Numbers.{number_after, IsNumber, IsStart, WritesBehind}
 use Rattle.ob_vault.specs.Places.{given_from}
 use Rattle.ob_vault.specs.Tied.{InLaps, Ready, Written, Holds, Scope, SealedAt, AllSealed, Calm, at_of}
 use Rattle.ob_vault.specs.Calls.{Apart, Lasts, Seals, one}
 use Rattle.ob_vault.specs.Resuming.{Unasked, MayResume, Gives, Stays, Reopened, KeptSealed, ResumesRegion, open_at}
-use Rattle.ob_vault.proofs.WorldSteps.{world, Moved, laps_same, ready_moved, apart_moved, next_none, lasts_forget, reads_on, sealed_keeps, seals_unasked}
+use Rattle.ob_vault.proofs.WorldSteps.{world, Moved, behind_more, laps_same, ready_moved, apart_moved, next_none, lasts_forget, reads_on, sealed_keeps, seals_unasked}
 
 -- ---- regions that no access was at
 pub unasked_append : (q : ℕ) (a b : List Access) → Unasked q a → Unasked q b → Unasked q (a ++ b)
@@ -137,6 +137,9 @@ module _ (v : VaultState) (revs : RevState) (start : Start) (old new : StoreStat
   above_on : AllBelow v.next new.asked
   above_on = subst (AllBelow v.next) (sym asked) (below_more v.next old.asked access ready.tied.above (omega (arith, may.earlier, ready.tied.next)))
 
+  own_on : WritesBehind v.start.region new.asked
+  own_on = subst (WritesBehind v.start.region) (sym asked) (behind_more v.start.region old.asked access ready.tied.own tt)
+
   count_on : v.count ≡ v.start.writes + writes new.asked
   count_on = omega (arith, ready.tied.count, ap writes asked, writes_open q shape.blocks (shape.width + 32) old.asked)
 
@@ -174,6 +177,7 @@ module _ (v : VaultState) (revs : RevState) (start : Start) (old new : StoreStat
             count = omega (arith, count_on, gives.writes);
             next = omega (arith, next_on, gives.region);
             above = above_on;
+            own = subst (λ (n : ℕ). WritesBehind n new.asked) (sym gives.region) own_on;
             live = λ r s l. elim (cases_eq r q) [
               | inl here ↦
                   let same : shape ≡ s = cc (numbered.here, sym (ap revs.live here) ∙ l) in
@@ -255,6 +259,7 @@ module _ (v : VaultState) (revs : RevState) (start : Start) (old new : StoreStat
       count = count_on;
       next = next_on;
       above = above_on;
+      own = own_on;
       up = omega arith;
       revs = others;
       only = record { live = λ r off. keeps.live r; last = λ r x off. keeps.last r x; kept = λ r off. keeps.kept r };

@@ -13,9 +13,9 @@ use Rattle.ob_vault.specs.declared.region.Order.TheVariants.{Round, Any}
 use Rattle.ob_vault.specs.Revs.{turn_after, place_after}
 use Rattle.ob_vault.specs.declared.fault.VaultErr.{VaultErr}
 use Rattle.ob_vault.specs.declared.fault.VaultErr.TheVariants.{Failed, Tampered, NoMemory}
-use Rattle.ob_vault.specs.State.{VaultState, World, earlier}
+use Rattle.ob_vault.specs.State.{Start, VaultState, World, earlier}
 use Rattle.ob_vault.specs.Numbers.{spent}
-use Rattle.ob_vault.specs.Tied.{Ready, Lives, Written, OnTurn, Holds, at_of}
+use Rattle.ob_vault.specs.Tied.{IsOwn, Ready, Lives, Written, OnTurn, Holds, at_of}
 use Rattle.ob_vault.specs.Rows.{SameSizes}
 use Rattle.ob_vault.specs.Places.{RowsFit, MayGet, MayPut}
 use Rattle.ob_vault.proofs.WorldSteps.{lasts_none}
@@ -132,6 +132,9 @@ module _ (some : ℕ → Type 0) (a b : World) where
 
 -- the same over a write to one place
 module _ (r y : ℕ) (a b : World) (only : Only r y a b) where
+  pub own_only : (q : ℕ) → IsOwn q a → IsOwn q b
+  own_only q own = record { above = subst (λ (s : Start). s.region < q) (sym only.start) own.above }
+
   pub lives_only : (q : ℕ) (shape : Region) → Lives q shape a → Lives q shape b
   lives_only q shape is = record { live = only.live q ∙ is.live }
 
@@ -212,8 +215,12 @@ fit_trans a b c first second = record { count = second.count ∙ first.count; si
 pub may_get : (q x : ℕ) (shape : Region) (rows : List (List ℕ)) (w : World) → Lives q shape w → x < shape.blocks → RowsFit rows shape.width → Written q x w → MayGet q x rows w
 may_get q x shape rows w lives within fit written = record { place = record { shape = shape; lives = lives; within = within; fit = fit }; written = written }
 
-pub may_put : (q x : ℕ) (shape : Region) (rows : List (List ℕ)) (w : World) → Lives q shape w → x < shape.blocks → RowsFit rows shape.width → OnTurn q shape x w → MayPut q x rows w
-may_put q x shape rows w lives within fit turn = record { place = record { shape = shape; lives = lives; within = within; fit = fit }; turn = turn }
+pub may_put : (q x : ℕ) (shape : Region) (rows : List (List ℕ)) (w : World) → IsOwn q w → Lives q shape w → x < shape.blocks → RowsFit rows shape.width → OnTurn q shape x w → MayPut q x rows w
+may_put q x shape rows w own lives within fit turn = record { own = own; place = record { shape = shape; lives = lives; within = within; fit = fit }; turn = turn }
+
+-- the region that is made next is one of this run
+pub own_next : (w : World) → Ready w → IsOwn w.vault.next w
+own_next w ready = record { above = omega (arith, ready.tied.next) }
 
 -- a write to any place of a region without order is in turn
 pub turn_any : (q : ℕ) (shape : Region) (x : ℕ) (w : World) → shape.order ≡ Any → OnTurn q shape x w
@@ -240,6 +247,13 @@ next_turn q u shape w turn = go shape.order refl
 
 -- the same after any answer
 module _ (some : ℕ → Type 0) (a b : World) (lasts : Lasts some a b) where
+  pub own_lasts : (q : ℕ) → IsOwn q a → IsOwn q b
+  own_lasts q own = record { above = subst (λ (s : Start). s.region < q) (sym lasts.start) own.above }
+
+  -- a region that was made before a call, or by it
+  pub own_made : (q : ℕ) → Ready a → q ≡ a.vault.next → IsOwn q b
+  own_made q ready next = own_lasts q (subst (λ (r : ℕ). IsOwn r a) (sym next) (own_next a ready))
+
   pub lives_lasts : (q : ℕ) (shape : Region) → (some q → ⊥) → Lives q shape a → Lives q shape b
   lives_lasts q shape off is = record { live = lasts.apart.live q off ∙ is.live }
 

@@ -7,7 +7,7 @@ use Rattle.ob_store.proofs.Steps.{none_before, later_rests}
 use Rattle.ob_base.specs.Accesses.{AllBelow, writes, makes, number_of, nth_write}
 use Rattle.ob_seal.specs.Sealed.{sealed, tag_of}
 use Rattle.ob_vault.specs.State.{Start, VaultState, World, from_nothing, earlier}
-use Rattle.ob_vault.specs.Numbers.{number_after, last_number, spent}
+use Rattle.ob_vault.specs.Numbers.{number_after, last_number, spent, WritesBehind}
 use Rattle.ob_vault.specs.Tied.{Ready, Scope, SealedAt, at_of}
 use Rattle.ob_vault.specs.Calls.{Went, Lasts, Seals, Unfit, Unsealed}
 use Rattle.ob_vault.specs.Words.{MayAsk, MayStart, StartsAnew, IsHonest}
@@ -71,6 +71,7 @@ module _ (v : VaultState) (s t : StoreState) (rests : ChangesNothing s t) where
           count = tied.count ∙ ap (λ (l : List Access). v.start.writes + writes l) (sym rests.asked);
           next = tied.next ∙ ap (λ (l : List Access). v.start.region + 1 + makes l) (sym rests.asked);
           above = subst (AllBelow v.next) (sym rests.asked) tied.above;
+          own = subst (WritesBehind v.start.region) (sym rests.asked) tied.own;
           live = λ q shape lives. record { live = rests.keeps.live q ∙ (tied.live q shape lives).live };
           numbers = λ q x shape lives within. tied.numbers q x shape lives within ∙ ap (λ (l : List Access). number_after v.start l q x) (sym rests.asked);
         };

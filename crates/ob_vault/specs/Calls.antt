@@ -23,6 +23,7 @@ pub record Apart (some : ℕ → Type 0) (old new : World) : Type 0 where
 -- no region came or went, and nothing has changed at any other place
 pub record Only (q x : ℕ) (old new : World) : Type 0 where
   pub keys : new.vault.keys ≡ old.vault.keys
+  pub start : new.vault.start ≡ old.vault.start
   pub live : (r : ℕ) → new.vault.revs.live r ≡ old.vault.revs.live r
   pub number : (r y : ℕ) → (r ≡ q → y ≡ x → ⊥) → new.vault.revs.number r y
       ≡ old.vault.revs.number r y

@@ -1,7 +1,7 @@
 -- The numbers of writes and of places, where a run goes on from an earlier one.
-use Rattle.std.specs.Prelude.{◌≡◌, ◌≢◌, ◌⊎◌, ◌<◌, ◌≤◌, ◌+◌, ◌-◌, ℕ, List, Some, length, slice_get, take}
+use Rattle.std.specs.Prelude.{◌≡◌, ◌≢◌, ◌⊎◌, ◌<◌, ◌≤◌, ◌+◌, ◌-◌, ℕ, List, [], ◌∷◌, Some, length, slice_get, take}
 use Rattle.ob_base.specs.declared.access.Access.{Access}
-use Rattle.ob_base.specs.declared.access.Access.TheVariants.{Write}
+use Rattle.ob_base.specs.declared.access.Access.TheVariants.{Make, Read, Write, Discard, Open}
 use Rattle.ob_base.specs.Accesses.{writes, number_from, nth_write}
 use Rattle.ob_vault.specs.State.{Start, World, earlier}
 
@@ -33,6 +33,15 @@ pub record IsWrite (i q x : ℕ) (w : World) : Type 0 where
 -- its number
 abbrev pub write_number : ℕ → World → ℕ
 write_number i w = w.vault.start.writes + (writes (take i w.store.asked) + 1)
+
+-- each write is to a region behind this one
+abbrev pub WritesBehind : ℕ → List Access → Type 0
+WritesBehind region [] = Unit {0}
+WritesBehind region (Write q x ∷ rest) = (region < q) × WritesBehind region rest
+WritesBehind region (Make q blocks len ∷ rest) = WritesBehind region rest
+WritesBehind region (Read q x ∷ rest) = WritesBehind region rest
+WritesBehind region (Discard q ∷ rest) = WritesBehind region rest
+WritesBehind region (Open q blocks len ∷ rest) = WritesBehind region rest
 
 -- the accesses so far, counted on from where an earlier run's numbers are: no number of a write or a region is above it
 abbrev pub spent : World → ℕ

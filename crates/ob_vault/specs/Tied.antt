@@ -11,15 +11,17 @@ use Rattle.ob_seal.specs.declared.At.{At}
 use Rattle.ob_vault.specs.declared.region.Region.{Region}
 use Rattle.ob_vault.specs.declared.region.Order.TheVariants.{Round}
 use Rattle.ob_vault.specs.State.{RevState, Start, World}
-use Rattle.ob_vault.specs.Numbers.{number_after, last_number, IsNumber, IsStart}
+use Rattle.ob_vault.specs.Numbers.{number_after, last_number, IsNumber, IsStart, WritesBehind}
 use Rattle.ob_base.specs.Accesses.{writes, makes}
 
--- the vault's numbers are those of the accesses, and its regions are live in the store
+-- the vault's numbers are those of the accesses, its regions are live in the store, and no region of an earlier run was
+-- written
 pub record Tied (w : World) : Type 0 where
   pub start : IsStart w.vault.start
   pub count : w.vault.count ≡ w.vault.start.writes + writes w.store.asked
   pub next : w.vault.next ≡ w.vault.start.region + 1 + makes w.store.asked
   pub above : AllBelow w.vault.next w.store.asked
+  pub own : WritesBehind w.vault.start.region w.store.asked
   pub live : (q : ℕ) (shape : Region) → w.vault.revs.live q ≡ Some shape
       → IsRegion q shape.blocks (shape.width + 32) w.store
   pub numbers : (q x : ℕ) (shape : Region) → w.vault.revs.live q ≡ Some shape → x < shape.blocks
@@ -47,6 +49,10 @@ pub record Lives (q : ℕ) (shape : Region) (w : World) : Type 0 where
 -- a place that was written
 pub record Written (q x : ℕ) (w : World) : Type 0 where
   pub number : w.vault.revs.number q x ≢ 0
+
+-- no earlier run has made the region: it is this one's, once it is made
+pub record IsOwn (q : ℕ) (w : World) : Type 0 where
+  pub above : w.vault.start.region < q
 
 -- a write to the place is in turn
 pub record OnTurn (q : ℕ) (shape : Region) (x : ℕ) (w : World) : Type 0 where

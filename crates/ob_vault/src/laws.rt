@@ -2,14 +2,15 @@
 ghost use Rattle.std.specs.Prelude.{◌≡◌, ◌≢◌, ◌≤◌, ℕ, Bool, List, None, Some};
 ghost use Rattle.ob_store.specs.State.{Lie};
 ghost use Rattle.ob_seal.specs.KeySet.{KeySet, pair_of};
-ghost use Rattle.ob_seal.specs.Sealed.{InRange, TwoTexts, sealed, tag_of};
+ghost use Rattle.ob_seal.specs.Sealed.{InRange, TwoSalts, TwoTexts, sealed, tag_of};
 ghost use Rattle.ob_seal.specs.declared.At.{At as Head};
 ghost use Rattle.ob_vault.specs.State.{Start, World};
 ghost use Rattle.ob_vault.specs.Numbers.{IsNumber, IsWrite, last_number, write_number};
-ghost use Rattle.ob_vault.specs.Tied.{AllSealed, Calm, TagFits, Holds, Ready, Scope, Tied, at_lie};
+ghost use Rattle.ob_vault.specs.Tied.{AllSealed, Calm, IsOwn, TagFits, Holds, Ready, Scope, Tied, at_lie};
 ghost use Rattle.ob_vault.specs.Rekeying.{rekeyed};
 
-/// No two writes have one number, and the number of a place is that of a write to it alone.
+/// No two writes have one number, and the number of a place is that of a write to it alone; and a run writes to
+/// regions of its own.
 pub fn numbers_are_apart()
     ensures writes { (w : World) (i j q x r y : ℕ) → IsWrite i q x w → IsWrite j r y w
         → write_number i w ≡ write_number j w → i ≡ j }
@@ -18,9 +19,11 @@ pub fn numbers_are_apart()
         → IsNumber w q x (last_number w q x) }
     ensures alone { (w : World) (q x r y n : ℕ) → Tied w → IsNumber w q x n → IsNumber w r y n
         → (q ≡ r) × (x ≡ y) }
+    ensures own { (w : World) (i q x : ℕ) → Tied w → IsWrite i q x w → IsOwn q w }
 {}
 
-/// A tag that is right for one text at two places, or under two numbers, is one tag of two texts.
+/// A tag that is right for one text at two places, or under two numbers, is one tag of two texts; and one that is
+/// right in two runs that have different salts is one tag under two keys.
 pub fn tags_tell_places()
     ensures heads { (keys : KeySet) (a b : Head) (text : List ℕ) → InRange a → InRange b → a ≢ b
         → tag_of keys a text ≡ tag_of keys b text → TwoTexts keys }
@@ -28,6 +31,10 @@ pub fn tags_tell_places()
     ensures lies { (keys : KeySet) (start : Start) (lie : Lie) (a : Head) (rows : List ℕ)
         → lie.bytes ≡ sealed keys a rows → InRange a → InRange (at_lie start lie)
         → a ≢ at_lie start lie → TagFits keys start lie → TwoTexts keys }
+    // one that a run under another salt has sealed, for whichever place, and is taken all the same
+    ensures salts { (k l : KeySet) (start : Start) (lie : Lie) (a : Head) (rows : List ℕ)
+        → lie.bytes ≡ sealed k a rows → (pair_of k a.region).salt ≢ (pair_of l lie.region).salt
+        → TagFits l start lie → TwoSalts k l }
 {}
 
 /// What is said of a vault goes on to be so under other keys, where these are the same for the regions of which it

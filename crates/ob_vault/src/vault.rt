@@ -197,7 +197,7 @@ impl<R: Revisions> Vault<R> {
         }
     }
 
-    /// Seals rows under the next write number, and writes their block.
+    /// Seals rows under the next write number, and writes their block, in a region that this run made.
     pub fn put<S: BlockStore>(
         &mut self,
         store: &mut S,

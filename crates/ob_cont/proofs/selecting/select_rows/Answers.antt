@@ -3,7 +3,7 @@ use Rattle.std.proofs.lemmas.Result.{err_from_is_err_and}
 use Rattle.ob_base.specs.Schemas.{width}
 use Rattle.ob_script.proofs.Numbers.{length-create_part}
 use Rattle.ob_vault.specs.Calls.{one}
-use Rattle.ob_vault.proofs.Runs.{lives_apart}
+use Rattle.ob_vault.proofs.Runs.{lives_apart, own_made}
 use Rattle.ob_vault.proofs.WordLemmas.{asks_start, asks_after}
 use Rattle.ob_flat.specs.Words.{blocks_of}
 use Rattle.ob_flat.specs.Creates.{create_script, table_of}
@@ -81,7 +81,7 @@ fill_result-requires g c =
         apart = λ same. off (same ∙ creates.number);
         schema = c.copied.ensures;
         size = rw c.copied.ensures (fits_sized _ _ _ table.some (sized_less table.size c.requires.number.0 c.requires.number.1));
-        turn = rw (c.copied.ensures, creates.number) (in_turn (order_for pack) pack to _ creates.lives creates.table);
+        turn = rw (c.copied.ensures, creates.number) (in_turn (order_for pack) pack to _ (own_made (one next) _ _ went.lasts next c.requires.starts.ready refl) creates.lives creates.table);
       };
       buffers = c.requires.buffers;
     }

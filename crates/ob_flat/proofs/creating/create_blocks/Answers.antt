@@ -4,7 +4,7 @@ use Rattle.ob_base.specs.Accesses.{write_at}
 use Rattle.ob_base.specs.Lists.{each}
 use Rattle.ob_vault.specs.Calls.{Went, one}
 use Rattle.ob_vault.specs.Places.{at}
-use Rattle.ob_vault.proofs.Runs.{tells_went, holds_rows, went_join}
+use Rattle.ob_vault.proofs.Runs.{own_made, tells_went, holds_rows, went_join}
 use Rattle.ob_vault.proofs.WordLemmas.{asks_start, asks_after}
 use Rattle.ob_blocks.specs.Blocks.{none_of}
 use Rattle.ob_flat.specs.declared.fault.OpErr.{OpErr}
@@ -57,7 +57,8 @@ fill_blocks-requires g c =
     let pack = length c.args.rows.now in
     let makes = c.in_ok-region.ensures.makes in
     let asks = asks_after {m = blocks_of pack (table_of c.args.schema.now c.args.capacity 0)} (asks_start c.requires.starts (omega (arith, c.requires.size.blocks))) makes.ran.ok (omega arith) in
-    rw (makes.number, c.region_of_table.ensures) (record { asks = asks; lives = makes.lives; turn = makes.turn; fit = c.requires.fit })
+    let own = own_made _ _ _ makes.ran.ok.lasts c.args.vault.now.next c.requires.starts.ready refl in
+    rw (makes.number, c.region_of_table.ensures) (record { asks = asks; own = own; lives = makes.lives; turn = makes.turn; fit = c.requires.fit })
 
 -- it was no want of memory
 no_error : {P : Type 0} (region : ℕ) → ◌≡◌ {A = Result ℕ OpErr} (Ok region) (Err NoMemory) → P

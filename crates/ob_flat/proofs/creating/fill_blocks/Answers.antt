@@ -4,7 +4,7 @@ use Rattle.ob_base.specs.Accesses.{write_at}
 use Rattle.ob_base.specs.Lists.{each}
 use Rattle.ob_store.proofs.Steps.{length-each}
 use Rattle.ob_vault.specs.Calls.{one}
-use Rattle.ob_vault.proofs.Runs.{went_each, cut_each, lives_only, written_only, holds_only, tells_went, may_put, seals_join, seals_none, went_none, next_turn}
+use Rattle.ob_vault.proofs.Runs.{went_each, cut_each, lives_only, written_only, holds_only, own_lasts, tells_went, may_put, seals_join, seals_none, went_none, next_turn}
 use Rattle.ob_vault.proofs.WordLemmas.{asks_after}
 use Rattle.ob_flat.proofs.Loops.{below_all, at_end, nearer, no_less, first_place, went_all}
 use Rattle.ob_flat.proofs.Tables.{not_last, at_last}
@@ -35,7 +35,7 @@ put-requires g c =
       ready = asks.ready;
       spare = asks.spare;
       few = omega (arith, asks.few);
-      place = may_put _ u shape _ _ before.lives c.loop-u-test.true c.requires.fit (rw here at turned);
+      place = may_put _ u shape _ _ (own_lasts _ _ _ before.went.lasts c.args.region c.requires.own) before.lives c.loop-u-test.true c.requires.fit (rw here at turned);
     }
 
 pub returns-in_err-put : goal.returns-in_err-put

@@ -1,5 +1,6 @@
-use Rattle.std.proofs.Common.{inl, inr, ap}
+use Rattle.std.proofs.Common.{inl, inr, refl, ap}
 use Rattle.std.proofs.lemmas.Result.{err_from_is_err_and}
+use Rattle.ob_vault.proofs.Runs.{own_made}
 use Rattle.ob_flat.specs.Passes.{pass_error}
 use Rattle.ob_flat.proofs.Runs.{pass_of, vault_memory}
 use Rattle.ob_flat.proofs.creating.make_table.Goals as goal
@@ -33,7 +34,7 @@ returns g c =
         number = made.number;
         lives = made.lives;
         turn = made.turn;
-        made = record { order = c.args.order; lives = made.lives; turn = made.turn };
+        made = record { own = own_made _ _ _ made.ok.lasts c.args.vault.now.next c.requires.spare.ready refl; order = c.args.order; lives = made.lives; turn = made.turn };
         gone = tt;
         seals = record { seals = c.make.ensures.makes.seals };
       };

@@ -6,7 +6,7 @@ use Rattle.std.proofs.lemmas.Bool.{cases_eq}
 use Rattle.ob_vault.specs.Calls.{none, one}
 use Rattle.ob_vault.specs.Tied.{Written}
 use Rattle.ob_vault.specs.Places.{at}
-use Rattle.ob_vault.proofs.Runs.{went_join, went_wider, went_spent, lives_went, lives_only, written_went, written_only, tells_went, fit_same, fit_trans, may_get, may_put, next_turn, holds_rows}
+use Rattle.ob_vault.proofs.Runs.{went_join, went_wider, went_spent, lives_went, lives_only, written_went, written_only, own_lasts, own_only, tells_went, fit_same, fit_trans, may_get, may_put, next_turn, holds_rows}
 use Rattle.ob_vault.proofs.WordLemmas.{honest_before, honest_after}
 use Rattle.ob_blocks.specs.Blocks.{block_at}
 use Rattle.ob_flat.specs.Flats.{HoldsBlock, table_region}
@@ -111,7 +111,7 @@ put-requires g c =
       ready = read.lasts.ready;
       spare = one_is_left c.requires.spare.spare read.spare;
       few = less_same (went_spent _ _ _ _ read) c.requires.few;
-      place = may_put _ x shape _ _ (lives_went none _ _ _ flat.region shape read (λ s. s) table.turn.lives) table.within (fit_same _ _ _ same c.requires.fit) (c.get.ensures.gets.turns flat.region x shape table.turn.turn);
+      place = may_put _ x shape _ _ (own_lasts _ _ _ read.lasts flat.region table.turn.own) (lives_went none _ _ _ flat.region shape read (λ s. s) table.turn.lives) table.within (fit_same _ _ _ same c.requires.fit) (c.get.ensures.gets.turns flat.region x shape table.turn.turn);
     }
 
 pub returns-in_err-put-clause-rows : goal.returns-in_err-put-clause-rows
@@ -173,6 +173,7 @@ returns-clause-reworks g c =
             let region = table_region order pack flat.schema flat.capacity in
             let here = lives_went none _ _ _ q region read (λ s. s) is.lives in
             record {
+              own = own_only _ _ _ _ only q (own_lasts _ _ _ read.lasts q is.own);
               lives = lives_only _ _ _ _ only _ _ here;
               turn = next_turn q x region _ (c.put.ensures.puts.turn region here);
               written = λ p less. elim (cases_eq p x) [

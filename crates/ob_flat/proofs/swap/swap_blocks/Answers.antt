@@ -5,7 +5,7 @@ use Rattle.ob_base.specs.Schemas.{width}
 use Rattle.ob_script.specs.Parts.{copy_at}
 use Rattle.ob_vault.specs.Calls.{none, one}
 use Rattle.ob_vault.specs.Places.{at}
-use Rattle.ob_vault.proofs.Runs.{went_wider, went_each, went_join, lives_went, lives_only, written_went, written_only, holds_went, holds_only, holds_rows, tells_went, fit_same, fit_trans, may_get, may_put, went_none, seals_none, next_turn}
+use Rattle.ob_vault.proofs.Runs.{went_wider, went_each, went_join, lives_went, lives_only, written_went, written_only, holds_went, holds_only, holds_rows, own_lasts, tells_went, fit_same, fit_trans, may_get, may_put, went_none, seals_none, next_turn}
 use Rattle.ob_vault.proofs.WordLemmas.{asks_after, honest_before, honest_after}
 use Rattle.ob_blocks.specs.Blocks.{block_at, map_at}
 use Rattle.ob_blocks.proofs.Blocks.{count_next, count_whole}
@@ -166,7 +166,7 @@ put-requires g c =
       ready = asks.ready;
       spare = asks.spare;
       few = omega (arith, asks.few);
-      place = may_put _ u shape _ _ (lives_went _ _ _ _ c.args.to shape read (λ s. s) before.lives) below (fit_same _ _ _ same c.requires.fit) (rw here at turned);
+      place = may_put _ u shape _ _ (own_lasts _ _ _ read.lasts c.args.to (own_lasts _ _ _ before.went.lasts c.args.to c.requires.made.own)) (lives_went _ _ _ _ c.args.to shape read (λ s. s) before.lives) below (fit_same _ _ _ same c.requires.fit) (rw here at turned);
     }
 
 pub returns-in_err-put-clause-rows : goal.returns-in_err-put-clause-rows

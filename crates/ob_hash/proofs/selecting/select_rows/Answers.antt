@@ -4,7 +4,7 @@ use Rattle.ob_base.specs.Numbers.{blocks_for}
 use Rattle.ob_base.specs.Schemas.{width}
 use Rattle.ob_script.proofs.Numbers.{length-create_part}
 use Rattle.ob_vault.specs.Calls.{one}
-use Rattle.ob_vault.proofs.Runs.{lives_apart}
+use Rattle.ob_vault.proofs.Runs.{lives_apart, own_made}
 use Rattle.ob_vault.proofs.WordLemmas.{asks_start, asks_after}
 use Rattle.ob_flat.specs.Flats.{FitsRegion}
 use Rattle.ob_flat.proofs.Rooms.{same_rows}
@@ -69,7 +69,7 @@ hash_blocks-requires g c =
       asks = asks;
       table = record { some = table.some; most = table.most; size = table.size; written = flat_lasts pack flat (one next) _ _ went.lasts off table.written };
       hashed = rw c.copied.ensures (hashed_at pack flat c.args.k c.args.depth c.in_ok-region.region _ table c.requires.sizes);
-      live = rw (c.copied.ensures, c.in_ok-region.ensures.creates.number) (made_open l _ created);
+      live = rw (c.copied.ensures, c.in_ok-region.ensures.creates.number) (made_open l _ (own_made (one next) _ _ went.lasts next c.requires.starts.ready refl) created);
       source = record { schema = c.copied.ensures; apart = λ same. off (same ∙ c.in_ok-region.ensures.creates.number) };
       buffers = record { rows_fit = rw c.copied.ensures c.requires.buffers.rows_fit; same = c.requires.buffers.same; block_fit = rw c.copied.ensures c.requires.buffers.block_fit };
     }

@@ -71,7 +71,7 @@ put-requires-clause-place g c =
     let shape = table_region filling.order pack to.schema to.capacity in
     let size = fit_trans _ _ _ c.loop-v.invariant.out c.join_rows.ensures.size in
     let fit = subst (λ (k : ℕ). RowsFit c.join_rows.new.to (k * width to.schema)) c.requires.buffers.same (fit_same _ _ _ size (out_fits c.requires.target.schema c.requires.buffers.out_fit)) in
-    rw c.div_ceil-blocks.ensures (may_put _ n shape _ _ filling.lives below fit (filling_turn pack to n _ filling below))
+    rw c.div_ceil-blocks.ensures (may_put _ n shape _ _ filling.own filling.lives below fit (filling_turn pack to n _ filling below))
 
 pub loop-v-init : goal.loop-v-init
 loop-v-init g c =

@@ -37,7 +37,7 @@ loop-u-init g c =
       went = went_none _ _ c.requires.asks.ready;
       seals = seals_any (λ good. seals_none good _);
       order = is.made.order;
-      turn = subst (λ (n : ℕ). IsInTurn is.made.order pack flat n old) (sym (either _ 0)) (record { lives = is.made.lives; turn = is.made.turn; written = is.written });
+      turn = subst (λ (n : ℕ). IsInTurn is.made.order pack flat n old) (sym (either _ 0)) (record { own = c.requires.own; lives = is.made.lives; turn = is.made.turn; written = is.written });
       same = record { count = refl; sizes = λ j. refl };
       holds = λ tells is. is;
       told = λ honest slots here.

@@ -3,7 +3,7 @@ use Rattle.std.proofs.lemmas.Result.{err_from_is_err_and}
 use Rattle.ob_script.specs.Parts.{copy_part}
 use Rattle.ob_vault.specs.State.{World}
 use Rattle.ob_vault.specs.Places.{at}
-use Rattle.ob_vault.proofs.Runs.{fit_same, fit_trans}
+use Rattle.ob_vault.proofs.Runs.{fit_same, fit_trans, own_lasts}
 use Rattle.ob_row.specs.Slots.{Slots}
 use Rattle.ob_blocks.specs.Blocks.{map_at}
 use Rattle.ob_flat.specs.declared.flat.Flat.{Flat}
@@ -73,6 +73,7 @@ empty_unselected-requires g c =
     record {
       asks = rw (sizes.count, same) asks;
       table = rw (sizes.count, same) table;
+      own = own_lasts _ _ _ swaps.ran.ok.lasts to.region c.requires.new.made.own;
       fit = rw (sizes.count, same) fit;
     }
 

@@ -4,7 +4,7 @@ use Rattle.ob_base.specs.Accesses.{write_at}
 use Rattle.ob_base.specs.Lists.{each}
 use Rattle.ob_vault.specs.Calls.{Went, one}
 use Rattle.ob_vault.specs.Places.{at}
-use Rattle.ob_vault.proofs.Runs.{tells_went, holds_rows, went_join}
+use Rattle.ob_vault.proofs.Runs.{own_made, tells_went, holds_rows, went_join}
 use Rattle.ob_vault.proofs.WordLemmas.{asks_after}
 use Rattle.ob_blocks.specs.Blocks.{none_of}
 use Rattle.ob_flat.specs.declared.fault.OpErr.{OpErr}
@@ -50,7 +50,8 @@ fill_blocks-requires g c =
     let pack : ℕ = 1 in
     let makes = c.in_ok-region.ensures.makes in
     let asks = asks_after {m = blocks_of pack (table_of c.args.schema.now c.args.slots 0)} c.requires.asks makes.ran.ok (omega arith) in
-    rw (makes.number, c.region_of_slots.ensures) (record { asks = asks; lives = makes.lives; turn = makes.turn; fit = (rw c.requires.one at c.requires.fit) })
+    let own = own_made _ _ _ makes.ran.ok.lasts c.args.vault.now.next c.requires.asks.ready refl in
+    rw (makes.number, c.region_of_slots.ensures) (record { asks = asks; own = own; lives = makes.lives; turn = makes.turn; fit = (rw c.requires.one at c.requires.fit) })
 
 -- it was no want of memory
 no_error : {P : Type 0} (region : ℕ) → ◌≡◌ {A = Result ℕ OpErr} (Ok region) (Err NoMemory) → P

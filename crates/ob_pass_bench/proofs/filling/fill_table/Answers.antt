@@ -5,7 +5,7 @@ use Rattle.ob_base.specs.Schemas.{width}
 use Rattle.ob_store.proofs.Steps.{length-each}
 use Rattle.ob_vault.specs.declared.region.Order.TheVariants.{Round}
 use Rattle.ob_vault.specs.Calls.{one}
-use Rattle.ob_vault.proofs.Runs.{went_spent, went_each, lives_only, written_only, fit_same, fit_trans, may_put, next_turn}
+use Rattle.ob_vault.proofs.Runs.{went_spent, went_each, lives_only, written_only, fit_same, fit_trans, may_put, next_turn, own_lasts}
 use Rattle.ob_flat.specs.Flats.{table_region}
 use Rattle.ob_flat.proofs.Rows.{wide_fit, wide_same}
 use Rattle.ob_flat.proofs.Tables.{index_fits, not_last}
@@ -37,7 +37,7 @@ put-requires-clause-place g c =
     let here : (if u == shape.blocks then 0 else u) ≡ u = not_last u shape.blocks (omega arith) in
     let turned = c.loop-u.invariant.turn in
     let same = fit_trans _ _ _ c.loop-u.invariant.sizes c.fill_rows.ensures in
-    may_put _ u shape _ _ c.loop-u.invariant.lives (omega arith) (fit_same _ _ _ same c.requires.fit) (rw here at turned)
+    may_put _ u shape _ _ (own_lasts _ _ _ c.loop-u.invariant.went.lasts c.args.flat.now.region c.requires.own) c.loop-u.invariant.lives (omega arith) (fit_same _ _ _ same c.requires.fit) (rw here at turned)
 
 pub loop-u-preserved : goal.loop-u-preserved
 loop-u-preserved g c =

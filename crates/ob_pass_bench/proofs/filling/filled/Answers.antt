@@ -1,13 +1,18 @@
 use Rattle.std.proofs.Common.{◌∙◌, arith}
 use Rattle.ob_base.specs.Schemas.{width}
 use Rattle.ob_vault.specs.Calls.{one}
-use Rattle.ob_vault.proofs.Runs.{lives_apart}
+use Rattle.ob_vault.proofs.Runs.{lives_apart, own_made}
 use Rattle.ob_vault.proofs.WordLemmas.{anew_lasts, anew_rests}
 use Rattle.ob_flat.proofs.Resting.{flat_rests}
 use Rattle.ob_flat.proofs.Rooms.{shelf_wide, room_after, rows_count}
 use Rattle.ob_flat.proofs.Tables.{flat_lasts}
 use Rattle.ob_pass_bench.proofs.Running.{runs_after, run_over}
 use Rattle.ob_pass_bench.proofs.filling.filled.Goals as goal
+
+pub fill_table-result-requires-clause-own : goal.fill_table-result-requires-clause-own
+fill_table-result-requires-clause-own g c =
+    let anew = anew_rests _ _ _ c.make_room.ensures.rests c.requires.ready in
+    own_made _ _ _ c.in_ok-region.ensures.makes.ran.ok.lasts c.in_ok-region.region anew.ready c.in_ok-region.ensures.makes.number
 
 pub clear_shelf-requires-clause-wide : goal.clear_shelf-requires-clause-wide
 clear_shelf-requires-clause-wide g c =

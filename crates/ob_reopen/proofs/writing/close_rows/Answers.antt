@@ -1,5 +1,6 @@
 use Rattle.std.proofs.Common.{◌+◌, length, refl, arith}
 use Rattle.ob_vault.specs.Places.{at}
+use Rattle.ob_vault.proofs.Runs.{own_made}
 use Rattle.ob_vault.proofs.WordLemmas.{asks_after}
 use Rattle.ob_reopen.specs.Closings.{region_of}
 use Rattle.ob_reopen.proofs.CloseLemmas.{next_few, unmade, writes_all, unwritten}
@@ -15,6 +16,9 @@ put_rows-requires-clause-region g c =
 
 pub put_rows-requires-clause-asks : goal.put_rows-requires-clause-asks
 put_rows-requires-clause-asks g c = asks_after {m = length c.args.listed.now + 1} c.requires.asks c.in-Ok.ensures.makes.ok (omega arith)
+
+pub put_rows-requires-clause-own : goal.put_rows-requires-clause-own
+put_rows-requires-clause-own g c = own_made _ _ _ c.in-Ok.ensures.makes.ok.lasts c.in-Ok.region c.requires.asks.ready c.in-Ok.ensures.makes.number
 
 pub number-requires : goal.number-requires
 number-requires g c = (region_of (length c.args.listed.now + 1), c.in-Ok-put_rows.ensures.fills.lives.live, omega arith)

@@ -5,7 +5,7 @@ use Rattle.ob_store.proofs.Steps.{length-each}
 use Rattle.ob_vault.specs.Rows.{row_at}
 use Rattle.ob_vault.specs.Tied.{OnTurn}
 use Rattle.ob_vault.specs.Places.{at}
-use Rattle.ob_vault.proofs.Runs.{fit_same, fit_trans, may_put}
+use Rattle.ob_vault.proofs.Runs.{fit_same, fit_trans, may_put, own_lasts}
 use Rattle.ob_vault.proofs.WordLemmas.{asks_after}
 use Rattle.ob_reopen.specs.Closings.{region_of}
 use Rattle.ob_reopen.proofs.OpenLemmas.{joined_one, row_wide, row_same, same_rows, set_sizes, set_row}
@@ -50,7 +50,7 @@ put-requires g c =
       ready = asks.ready;
       spare = asks.spare;
       few = omega (arith, asks.few);
-      place = may_put c.args.region p shape written now before.lives c.loop-place-test.true (fit_same _ _ _ sizes c.requires.fit) turned;
+      place = may_put c.args.region p shape written now (own_lasts _ _ _ before.went.lasts c.args.region c.requires.own) before.lives c.loop-place-test.true (fit_same _ _ _ sizes c.requires.fit) turned;
     }
 
 pub returns-in_err-put : goal.returns-in_err-put

@@ -117,7 +117,7 @@ put-requires-clause-place g c =
     let inside = row_inside x c.args.n pack (length kept) c.requires.kept.many c.loop-x-test.true in
     let same = row_count (x * pack) pack in
     let fit = subst (λ (m : ℕ). RowsFit (take m (drop (x * pack) kept)) (pack * width to.schema)) (sym same) (part_fit pack x (width to.schema) kept c.requires.some inside c.requires.kept.wide) in
-    may_put _ (c.args.first + x) shape _ _ next.lives below fit (next_turned pack to (c.args.first + x) _ next below)
+    may_put _ (c.args.first + x) shape _ _ next.own next.lives below fit (next_turned pack to (c.args.first + x) _ next below)
 
 pub returns-in_err-put : goal.returns-in_err-put
 returns-in_err-put g c =

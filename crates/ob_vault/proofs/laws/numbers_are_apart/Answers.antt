@@ -1,4 +1,4 @@
-use Rattle.ob_vault.proofs.LawLemmas.{writes_apart, write_is, last_is, numbers_alone}
+use Rattle.ob_vault.proofs.LawLemmas.{writes_apart, writes_own, write_is, last_is, numbers_alone}
 use Rattle.ob_vault.proofs.laws.numbers_are_apart.Goals as goal
 
 pub returns-clause-writes : goal.returns-clause-writes
@@ -12,3 +12,6 @@ returns-clause-last c = last_is
 
 pub returns-clause-alone : goal.returns-clause-alone
 returns-clause-alone c = numbers_alone
+
+pub returns-clause-own : goal.returns-clause-own
+returns-clause-own c = writes_own

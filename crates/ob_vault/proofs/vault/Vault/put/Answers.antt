@@ -39,21 +39,21 @@ returns-in-Ok g c =
     let wrote = c.wrote.ensures c.shape-shape.result lives in
     let write = c.write.ensures in
     let in_turn = turn_at _ _ _ _ _ c.requires.place.turn (same_shape _ _ _ c.requires.place.place.lives.live lives) in
-    let lasts = lasts_write _ _ _ _ _ _ _ c.requires.ready lives in_turn wrote write.asks write.only in
+    let lasts = lasts_write _ _ _ _ _ _ _ c.requires.ready lives c.requires.place.own in_turn wrote write.asks write.only in
     let shut = block_of c.args.self.now.keys (at_of c.args.region c.args.place (c.args.self.now.count + 1)) (length c.args.rows.now) c.args.rows.now _ c.shape-shape.result c.shut.ensures in
     record {
       puts = record {
         ok = went_call _ _ _ _ lasts write.asks c.in-Ok.ensures.cause write.lie;
         err = tt;
         never = tt;
-        only = only_write _ _ _ _ _ _ _ c.requires.ready lives in_turn wrote write.asks write.only;
+        only = only_write _ _ _ _ _ _ _ c.requires.ready lives c.requires.place.own in_turn wrote write.asks write.only;
         number = wrote.here;
         written = record { number = λ none. absurd (omega (arith, none, wrote.here)) };
-        turn = λ shape is. turn_of _ _ _ _ _ (turn_write _ _ _ _ _ _ _ c.requires.ready lives in_turn wrote write.asks write.only) (same_shape _ _ _ lives is.live);
+        turn = λ shape is. turn_of _ _ _ _ _ (turn_write _ _ _ _ _ _ _ c.requires.ready lives c.requires.place.own in_turn wrote write.asks write.only) (same_shape _ _ _ lives is.live);
         seals = λ good shape is fine.
-            seals_write _ _ _ _ _ _ _ c.requires.ready lives in_turn wrote write.asks write.only good _ _ fine (shut shape (same_shape _ _ _ lives is.live)) (λ tells. inr (c.in-Ok.ensures.ok.last tells));
+            seals_write _ _ _ _ _ _ _ c.requires.ready lives c.requires.place.own in_turn wrote write.asks write.only good _ _ fine (shut shape (same_shape _ _ _ lives is.live)) (λ tells. inr (c.in-Ok.ensures.ok.last tells));
         told = λ tells shape is.
-            holds_write _ _ _ _ _ _ _ c.requires.ready lives in_turn wrote write.asks write.only _ _ (shut shape (same_shape _ _ _ lives is.live)) (c.in-Ok.ensures.ok.last tells);
+            holds_write _ _ _ _ _ _ _ c.requires.ready lives c.requires.place.own in_turn wrote write.asks write.only _ _ (shut shape (same_shape _ _ _ lives is.live)) (c.in-Ok.ensures.ok.last tells);
         failed = tt;
       };
     }
@@ -64,23 +64,23 @@ returns-in-Err g c =
     let wrote = c.wrote.ensures c.shape-shape.result lives in
     let write = c.write.ensures in
     let in_turn = turn_at _ _ _ _ _ c.requires.place.turn (same_shape _ _ _ c.requires.place.place.lives.live lives) in
-    let lasts = lasts_write _ _ _ _ _ _ _ c.requires.ready lives in_turn wrote write.asks write.only in
+    let lasts = lasts_write _ _ _ _ _ _ _ c.requires.ready lives c.requires.place.own in_turn wrote write.asks write.only in
     let shut = block_of c.args.self.now.keys (at_of c.args.region c.args.place (c.args.self.now.count + 1)) (length c.args.rows.now) c.args.rows.now _ c.shape-shape.result c.shut.ensures in
     record {
       puts = record {
         ok = tt;
         err = cut_call _ _ _ _ lasts write.asks c.in-Err.ensures.cause write.lie;
         never = refl;
-        only = only_write _ _ _ _ _ _ _ c.requires.ready lives in_turn wrote write.asks write.only;
+        only = only_write _ _ _ _ _ _ _ c.requires.ready lives c.requires.place.own in_turn wrote write.asks write.only;
         number = wrote.here;
         written = record { number = λ none. absurd (omega (arith, none, wrote.here)) };
-        turn = λ shape is. turn_of _ _ _ _ _ (turn_write _ _ _ _ _ _ _ c.requires.ready lives in_turn wrote write.asks write.only) (same_shape _ _ _ lives is.live);
+        turn = λ shape is. turn_of _ _ _ _ _ (turn_write _ _ _ _ _ _ _ c.requires.ready lives c.requires.place.own in_turn wrote write.asks write.only) (same_shape _ _ _ lives is.live);
         seals = λ good shape is fine.
-            seals_write _ _ _ _ _ _ _ c.requires.ready lives in_turn wrote write.asks write.only good _ _ fine (shut shape (same_shape _ _ _ lives is.live)) (λ tells. elim c.in-Err.ensures.err.last [ inl same ↦ inl (c.in-Err.ensures.cause, same) | inr new ↦ inr new ]);
+            seals_write _ _ _ _ _ _ _ c.requires.ready lives c.requires.place.own in_turn wrote write.asks write.only good _ _ fine (shut shape (same_shape _ _ _ lives is.live)) (λ tells. elim c.in-Err.ensures.err.last [ inl same ↦ inl (c.in-Err.ensures.cause, same) | inr new ↦ inr new ]);
         told = tt;
         failed = λ tells shape is. elim c.in-Err.ensures.err.last [
           | inl same ↦ inl same
-          | inr new ↦ inr (holds_write _ _ _ _ _ _ _ c.requires.ready lives in_turn wrote write.asks write.only _ _ (shut shape (same_shape _ _ _ lives is.live)) new)
+          | inr new ↦ inr (holds_write _ _ _ _ _ _ _ c.requires.ready lives c.requires.place.own in_turn wrote write.asks write.only _ _ (shut shape (same_shape _ _ _ lives is.live)) new)
         ];
       };
     }
