@@ -13,4 +13,14 @@ pub enum Mark {
         number: u64,
         pack: u8,
     },
+    /// A run that saves its tables has begun, and none was saved yet: no region that lies in the store is wanted.
+    Begun,
+    /// Such a run saved its tables last into this region, as `Closed` says; its keys are those of this salt.
+    Saved {
+        region: u64,
+        blocks: u32,
+        number: u64,
+        pack: u8,
+        salt: [u8; 16],
+    },
 }

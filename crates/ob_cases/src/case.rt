@@ -371,13 +371,14 @@ pub fn push_case(cases: &mut Vec<Case>, case: Case) -> Result<(), LineErr> {
     }
 }
 
-/// The mark that a text spells: `fresh`, `in use`, or `closed REGION BLOCKS NUMBER PACK`.
+/// The mark that a text spells: `fresh`, `in use`, `begun`, or `closed REGION BLOCKS NUMBER PACK`.
 pub fn mark_of(text: &str) -> Result<Mark, LineErr>
     ensures { IfOk result IsMark }
 {
     match text {
         "fresh" => Ok(Mark::Fresh),
         "in use" => Ok(Mark::InUse),
+        "begun" => Ok(Mark::Begun),
         _ => closed_of(text),
     }
 }

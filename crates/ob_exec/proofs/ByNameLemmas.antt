@@ -68,37 +68,38 @@ kept_beside keys pack kept (t ∷ ts) [] all = absurd all
 kept_beside keys pack kept (t ∷ ts) (x ∷ xs) all = (all.0.heading, all.0.keeps, kept_beside keys pack kept ts xs all.1)
 
 -- what holds of each table beside the one in place
-listed_beside : (R : Listed → Stored Held → Type 0) (revs : RevState) (pack : ℕ) (w : World) (indexes : List Index) (ts : List Table) (tables : Tables) → AreFlat (headings_of ts) → AreHeld pack indexes ts tables w
-    → ((i : ℕ) (t : Table) (x : Stored Held) → slice_get ts i ≡ Some t → x.heading ≡ t.heading → FlatRepresents pack (flat_of t) x.held.slots w → R (listed_of revs t) x)
-    → Beside R (map (listed_of revs) ts) tables
-listed_beside R revs pack w indexes [] [] flat held each = tt
-listed_beside R revs pack w indexes [] (x ∷ xs) flat held each = absurd held
-listed_beside R revs pack w indexes (t ∷ ts) [] flat held each = absurd held
-listed_beside R revs pack w indexes (t ∷ ts) (x ∷ xs) flat held each = (
+listed_beside : (R : Listed → Stored Held → Type 0) (keys : KeySet) (revs : RevState) (pack : ℕ) (w : World) (indexes : List Index) (ts : List Table) (tables : Tables) → AreFlat (headings_of ts) → AreHeld pack indexes ts tables w
+    → ((i : ℕ) (t : Table) (x : Stored Held) → slice_get ts i ≡ Some t → x.heading ≡ t.heading → FlatRepresents pack (flat_of t) x.held.slots w → R (listed_of keys revs t) x)
+    → Beside R (map (listed_of keys revs) ts) tables
+listed_beside R keys revs pack w indexes [] [] flat held each = tt
+listed_beside R keys revs pack w indexes [] (x ∷ xs) flat held each = absurd held
+listed_beside R keys revs pack w indexes (t ∷ ts) [] flat held each = absurd held
+listed_beside R keys revs pack w indexes (t ∷ ts) (x ∷ xs) flat held each = (
   each 0 t x refl held.0 (subst (λ (shape : TableShape). HoldsTable shape pack indexes t x w) flat.0 held.1),
-  listed_beside R revs pack w indexes ts xs flat.1 held.2 (λ i u y is. each (suc i) u y is),
+  listed_beside R keys revs pack w indexes ts xs flat.1 held.2 (λ i u y is. each (suc i) u y is),
 )
 
 -- the tables in order of their names are kept, if each is
 pub named_kept : (keys : KeySet) (pack : ℕ) (kept : ℕ → Option KeptRegion) (revs : RevState) (w : World) (indexes : List Index) (ts : List Table) (tables : Tables) → AreFlat (headings_of ts) → AreHeld pack indexes ts tables w
-    → ((i : ℕ) (t : Table) (x : Stored Held) → slice_get ts i ≡ Some t → x.heading ≡ t.heading → FlatRepresents pack (flat_of t) x.held.slots w → KeepsBeside keys pack kept (listed_of revs t) x)
-    → AreKept keys pack (catalogue_of revs ts) (by_name tables) kept
+    → ((i : ℕ) (t : Table) (x : Stored Held) → slice_get ts i ≡ Some t → x.heading ≡ t.heading → FlatRepresents pack (flat_of t) x.held.slots w → KeepsBeside keys pack kept (listed_of keys revs t) x)
+    → AreKept keys pack (catalogue_of keys revs ts) (by_name tables) kept
 named_kept keys pack kept revs w indexes ts tables flat held each =
-    kept_beside keys pack kept (catalogue_of revs ts) (by_name tables)
+    kept_beside keys pack kept (catalogue_of keys revs ts) (by_name tables)
     (fold_beside (KeepsBeside keys pack kept) (λ (t : Listed). t.table.heading.name) (λ (x : Stored Held). x.heading.name)
-    (λ t x beside. ap (λ (h : Heading). h.name) (sym beside.heading)) [] (map (listed_of revs) ts) [] tables tt
-    (listed_beside (KeepsBeside keys pack kept) revs pack w indexes ts tables flat held each))
+    (λ t x beside. ap (λ (h : Heading). h.name) (sym beside.heading)) [] (map (listed_of keys revs) ts) [] tables tt
+    (listed_beside (KeepsBeside keys pack kept) keys revs pack w indexes ts tables flat held each))
 
 -- ---- a table of which the store keeps each block
 pub table_kept_as : (keys : KeySet) (pack : ℕ) (revs : RevState) (t : Table) (slots : Slots) (w : World) (s : StoreState) → s ≡ w.store → 1 ≤ pack → Ready w → IsTable pack t w → t.heading.shape ≡ FlatShape
     → FlatRepresents pack (flat_of t) slots w → w.vault.keys ≡ keys → w.vault.revs.number t.region 0 ≡ revs.number t.region 0
-    → ((shape : Shape) → s.live t.region ≡ Some shape → KeepsLive t.region shape s) → KeepsTable keys pack (listed_of revs t) slots s.kept
+    → ((shape : Shape) → s.live t.region ≡ Some shape → KeepsLive t.region shape s) → KeepsTable keys pack (listed_of keys revs t) slots s.kept
 table_kept_as keys pack revs t slots w s same some ready is flat represents keyed number keeps =
     let live = (ready.tied.live t.region (table_region Round pack t.heading.schema t.heading.capacity) (is.written flat).round.live).live in
     let kept = keeps _ (ap (λ (x : StoreState). x.live t.region) same ∙ live) in
     record {
       size = represents.size;
       fits = represents.fits;
+      salt = refl;
       region = kept.region;
       is = kept.is;
       blocks = ap (λ (x : Shape). x.blocks) kept.same;
@@ -110,5 +111,5 @@ table_kept_as keys pack revs t slots w s same some ready is flat represents keye
           kept.last p
           ∙ ap (λ (x : StoreState). x.last t.region p) same
           ∙ (represents.holds p below).last
-          ∙ (λ i. Some (sealed (keyed i) (at_of t.region p (count i)) (kept_block pack (listed_of revs t) slots p)));
+          ∙ (λ i. Some (sealed (keyed i) (at_of t.region p (count i)) (kept_block pack (listed_of keys revs t) slots p)));
     }

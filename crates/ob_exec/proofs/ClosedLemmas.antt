@@ -36,7 +36,7 @@ use Rattle.ob_reopen.specs.declared.listed.Listed.{Listed}
 use Rattle.ob_reopen.specs.Keepers.{IsMark}
 use Rattle.ob_reopen.specs.Limits.{IsCatalogue}
 use Rattle.ob_reopen.specs.Closings.{IsClosing, mark_of, write_script}
-use Rattle.ob_reopen.specs.Writings.{HasBlock, WritesClosing, catalogue_of, next_closing as written_closing, vault_error}
+use Rattle.ob_reopen.specs.Writings.{AreSalted, HasBlock, WritesClosing, catalogue_of, next_closing as written_closing, vault_error}
 use Rattle.ob_reopen.proofs.CatalogueLaws.{catalogue_has, catalogue_is}
 use Rattle.ob_exec.specs.declared.engine.Engine.{Engine}
 use Rattle.ob_exec.specs.Agreeing.{Agrees, count_of, world_of}
@@ -120,7 +120,7 @@ module _ {R : Type 0} (state : R → RevState) (e : Engine R) (s : StoreState) (
     fore = at state e.vault s1
 
     abbrev listed : List Listed
-    listed = catalogue_of (state e.vault.revs) e.public.tables
+    listed = catalogue_of e.vault.keys (state e.vault.revs) e.public.tables
 
     wents : Went [] (λ q. e.closing ≡ Some q) (world_of state e s) fore
     wents = went_rests _ s s1 room (λ q. e.closing ≡ Some q) agrees.ready
@@ -149,7 +149,7 @@ module _ {R : Type 0} (state : R → RevState) (e : Engine R) (s : StoreState) (
     lives_fore q is = let beside = agrees.tables.beside q (inl is) in (beside.shape, record { live = beside.lives.live })
 
     -- the list is a catalogue of the closing that is made
-    module _ (v1 : Vault R) (s2 : StoreState) (drops : DropsClosing e.closing fore (at state v1 s2)) where
+    module _ (salts : AreSalted e.vault.keys e.public.tables) (v1 : Vault R) (s2 : StoreState) (drops : DropsClosing e.closing fore (at state v1 s2)) where
       abbrev amid : World
       amid = at state v1 s2
 
@@ -157,7 +157,7 @@ module _ {R : Type 0} (state : R → RevState) (e : Engine R) (s : StoreState) (
       first = went_join (λ q. e.closing ≡ Some q) _ _ _ [] (drop_script e.closing) wents drops.went
 
       length-listed : length listed ≡ length e.public.tables
-      length-listed = (catalogue_has (state e.vault.revs) e.public.tables).count
+      length-listed = (catalogue_has e.vault.keys (state e.vault.revs) e.public.tables).count
 
       next_amid : v1.next ≡ e.public.next_region
       next_amid =
@@ -181,9 +181,9 @@ module _ {R : Type 0} (state : R → RevState) (e : Engine R) (s : StoreState) (
 
       is_catalogue : IsCatalogue (next_closing e s) listed
       is_catalogue =
-          catalogue_is (next_closing e s) (state e.vault.revs) e.public.tables
+          catalogue_is (next_closing e s) e.vault.keys (state e.vault.revs) e.public.tables
           (may_list (next_closing e s) e.public.tables (others_of e.closing e.indexes.items) e.indexes.items (world_of state e s) agrees.settings.pack_least agrees.ready agrees.tables flat agrees.next
-          (ap (λ (n : ℕ). n + 1) (sym agrees.ready.tied.count)) refl)
+          (ap (λ (n : ℕ). n + 1) (sym agrees.ready.tied.count)) refl salts)
 
       -- what is asked of writing it
       pub few_listed : length listed ≤ 64

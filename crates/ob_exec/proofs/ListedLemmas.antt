@@ -17,7 +17,7 @@ use Rattle.ob_vault.specs.Tied.{OnTurn, Ready}
 use Rattle.ob_vault.proofs.LawLemmas.{last_is, numbers_alone}
 use Rattle.ob_vault.proofs.Runs.{numbers_run}
 use Rattle.ob_reopen.specs.declared.closing.Closing.{Closing}
-use Rattle.ob_reopen.specs.Writings.{HasBlock, MayList}
+use Rattle.ob_reopen.specs.Writings.{AreSalted, HasBlock, MayList}
 use Rattle.ob_base.specs.declared.schema.Shape.TheVariants.{Flat as FlatShape}
 use Rattle.ob_base.specs.Stored.{headings_of}
 use Rattle.ob_mean.specs.Flats.{AreFlat}
@@ -147,8 +147,8 @@ module _ (pack : ℕ) (some : 1 ≤ pack) (w : World) (ready : Ready w) (t u : T
 
 -- ---- all of them
 pub may_list : (closing : Closing) (tables : List Table) (other : ℕ → Type 0) (indexes : List Index) (w : World) → 1 ≤ closing.pack → Ready w → AreTables tables other indexes closing.pack w → AreFlat (headings_of tables)
-    → closing.region ≡ w.vault.next → closing.number ≡ w.vault.count + 1 → closing.blocks ≡ length tables + 1 → MayList closing w.vault.revs tables
-may_list closing tables other indexes w some ready are flat next number blocks = record {
+    → closing.region ≡ w.vault.next → closing.number ≡ w.vault.count + 1 → closing.blocks ≡ length tables + 1 → AreSalted w.vault.keys tables → MayList closing w.vault.keys w.vault.revs tables
+may_list closing tables other indexes w some ready are flat next number blocks salts = record {
   each = λ i t is.
       let table = are.each i t is in
       let below = region_below closing.pack i tables t w ready are is in
@@ -160,6 +160,7 @@ may_list closing tables other indexes w some ready are flat next number blocks =
         region_most = omega (arith, below, next);
         number_least = table_first closing.pack some w ready t table (flat_each tables flat i t is);
         number_most = omega (arith, ends, number);
+        salt = salts i t is;
       };
   apart = λ i j t u is at off.
       let regions : t.region ≢ u.region = λ same. off (are.apart i j t u is at same) in

@@ -11,7 +11,7 @@ use Rattle.ob_base.specs.declared.access.Access.TheVariants.{Read}
 use Rattle.ob_base.specs.declared.config.Config.{Config}
 use Rattle.ob_base.specs.declared.config.Public.{Public}
 use Rattle.ob_base.specs.declared.mark.Mark.{Mark}
-use Rattle.ob_base.specs.declared.mark.Mark.TheVariants.{Fresh, InUse, Closed}
+use Rattle.ob_base.specs.declared.mark.Mark.TheVariants.{Fresh, InUse, Closed, Begun, Saved}
 use Rattle.ob_base.specs.declared.schema.Table.{Table}
 use Rattle.ob_base.specs.Accesses.{makes, read_at, region_of}
 use Rattle.ob_base.specs.Counts.{Rises}
@@ -636,11 +636,15 @@ rows_read config r0 r1 new read = ap (λ (r : RoomState). r.rows) read ∙ ap (�
 pub closed_marked : (mark : Mark) (pack : ℕ) (closing : Closing) → IsClosed mark pack closing → IsMarked closing
 closed_marked Fresh pack closing is = absurd is
 closed_marked InUse pack closing is = absurd is
+closed_marked Begun pack closing is = absurd is
+closed_marked (Saved region blocks number of salt) pack closing is = absurd is
 closed_marked (Closed region blocks number of) pack closing is = is.2
 
 pub closed_pack : (mark : Mark) (pack : ℕ) (closing : Closing) → IsClosed mark pack closing → closing.pack ≡ pack
 closed_pack Fresh pack closing is = absurd is
 closed_pack InUse pack closing is = absurd is
+closed_pack Begun pack closing is = absurd is
+closed_pack (Saved region blocks number of salt) pack closing is = absurd is
 closed_pack (Closed region blocks number of) pack closing is = ap (λ (c : Closing). c.pack) is.1 ∙ is.0
 
 -- what a vault goes on from that starts there

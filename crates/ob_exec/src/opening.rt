@@ -32,7 +32,7 @@ fn closing_of(mark: &Mark) -> Closing
             number,
             pack,
         },
-        Mark::Fresh | Mark::InUse => unreachable!(),
+        Mark::Fresh | Mark::InUse | Mark::Begun | Mark::Saved { .. } => unreachable!(),
     }
 }
 

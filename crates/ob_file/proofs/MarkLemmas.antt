@@ -6,10 +6,12 @@ use Rattle.std.proofs.lemmas.Str.{IsUtf8-append, IsUtf8-from_ascii}
 use Rattle.std.proofs.lemmas.Str.Ascii.{IsAscii-cons, IsAscii-nil}
 use Rattle.std.proofs.lemmas.Str.Parse.{digit_at}
 use Rattle.std.specs.Result.{result_ok}
+use Rattle.hex.specs.Hex.{encode_lower, lower_digits}
+use Rattle.hex.proofs.HexLemmas.{IsAscii-encode_with}
 use Rattle.ob_base.specs.declared.mark.Mark.{Mark}
-use Rattle.ob_base.specs.declared.mark.Mark.TheVariants.{Fresh, InUse, Closed}
-use Rattle.ob_reopen.specs.Keepers.{AreMarked}
-use Rattle.ob_file.specs.Marks.{HasNoBlank, Spells, mark_text}
+use Rattle.ob_base.specs.declared.mark.Mark.TheVariants.{Fresh, InUse, Closed, Begun, Saved}
+use Rattle.ob_reopen.specs.Keepers.{AreMarked, AreSaltBytes}
+use Rattle.ob_file.specs.Marks.{HasNoBlank, Spells, mark_text, numbers_text, salt_text}
 
 -- ---- words
 pub digits_are_word : (n : ℕ) → n < 2 ^ 64 → HasNoBlank (decimal n)
@@ -29,18 +31,33 @@ closed_is_word =
     word_more 99 (codes "losed") (λ is. cc is) (word_more 108 (codes "osed") (λ is. cc is) (word_more 111 (codes "sed") (λ is. cc is)
     (word_more 115 (codes "ed") (λ is. cc is) (word_more 101 (codes "d") (λ is. cc is) (word_more 100 [] (λ is. cc is) word_none)))))
 
--- ---- what follows each of them
-abbrev pub after_number : ℕ → List ℕ
-after_number pack = decimal pack ++ codes "\n"
+pub saved_is_word : HasNoBlank (codes "saved")
+saved_is_word =
+    word_more 115 (codes "aved") (λ is. cc is) (word_more 97 (codes "ved") (λ is. cc is) (word_more 118 (codes "ed") (λ is. cc is)
+    (word_more 101 (codes "d") (λ is. cc is) (word_more 100 [] (λ is. cc is) word_none))))
 
-abbrev pub after_blocks : (number pack : ℕ) → List ℕ
-after_blocks number pack = decimal number ++ (codes " " ++ after_number pack)
+-- ---- what follows each number
+abbrev pub after_number : (pack : ℕ) → List ℕ → List ℕ
+after_number pack end = decimal pack ++ end
 
-abbrev pub after_region : (blocks number pack : ℕ) → List ℕ
-after_region blocks number pack = decimal blocks ++ (codes " " ++ after_blocks number pack)
+abbrev pub after_blocks : (number pack : ℕ) → List ℕ → List ℕ
+after_blocks number pack end = decimal number ++ (codes " " ++ after_number pack end)
 
-abbrev pub after_head : (region blocks number pack : ℕ) → List ℕ
-after_head region blocks number pack = decimal region ++ (codes " " ++ after_region blocks number pack)
+abbrev pub after_region : (blocks number pack : ℕ) → List ℕ → List ℕ
+after_region blocks number pack end = decimal blocks ++ (codes " " ++ after_blocks number pack end)
+
+-- ---- the numbers by other names
+pub marked_as : {a b c d r k n p : ℕ} → a ≡ r → b ≡ k → c ≡ n → d ≡ p → AreMarked r k n p → AreMarked a b c d
+marked_as region blocks number pack is = record {
+  region_least = omega (arith, region, is.region_least);
+  region_most = omega (arith, region, is.region_most);
+  blocks_least = omega (arith, blocks, is.blocks_least);
+  blocks_most = omega (arith, blocks, is.blocks_most);
+  number_least = omega (arith, number, is.number_least);
+  number_most = omega (arith, number, is.number_most);
+  pack_least = omega (arith, pack, is.pack_least);
+  pack_most = omega (arith, pack, is.pack_most);
+}
 
 -- ---- it is a text
 abbrev are_low : List ℕ → Bool
@@ -62,18 +79,29 @@ utf8_number n few = IsUtf8-from_ascii (decimal n) (IsAscii-decimal n few)
 utf8_more : (n : ℕ) (rest : List ℕ) → n < 2 ^ 64 → IsUtf8 rest → IsUtf8 (decimal n ++ (codes " " ++ rest))
 utf8_more n rest few is = IsUtf8-append (decimal n) (codes " " ++ rest) (utf8_number n few) (IsUtf8-append (codes " ") rest (low_utf8 (codes " ") refl) is)
 
-utf8_closed : (region blocks number pack : ℕ) → AreMarked region blocks number pack → IsUtf8 (mark_text (Closed region blocks number pack))
-utf8_closed region blocks number pack within =
-    let last = IsUtf8-append (decimal pack) (codes "\n") (utf8_number pack (omega (arith, within.pack_most))) (low_utf8 (codes "\n") refl) in
-    let third = utf8_more number (after_number pack) (omega (arith, within.number_most)) last in
-    let second = utf8_more blocks (after_blocks number pack) (omega (arith, within.blocks_most)) third in
-    IsUtf8-append (codes "closed ") (after_head region blocks number pack) (low_utf8 (codes "closed ") refl)
-    (utf8_more region (after_region blocks number pack) (omega (arith, within.region_most)) second)
+utf8_numbers : (region blocks number pack : ℕ) (end : List ℕ) → AreMarked region blocks number pack → IsUtf8 end → IsUtf8 (numbers_text region blocks number pack end)
+utf8_numbers region blocks number pack end within last =
+    let third = IsUtf8-append (decimal pack) end (utf8_number pack (omega (arith, within.pack_most))) last in
+    let second = utf8_more number (after_number pack end) (omega (arith, within.number_most)) third in
+    let first = utf8_more blocks (after_blocks number pack end) (omega (arith, within.blocks_most)) second in
+    utf8_more region (after_region blocks number pack end) (omega (arith, within.region_most)) first
+
+utf8_salt : (salt : List ℕ) → IsUtf8 (codes " " ++ salt_text salt)
+utf8_salt salt =
+    let digits = IsUtf8-from_ascii (encode_lower salt) (IsAscii-encode_with lower_digits salt (low_ascii lower_digits refl)) in
+    IsUtf8-append (codes " ") (salt_text salt) (low_utf8 (codes " ") refl) (IsUtf8-append (encode_lower salt) (codes "\n") digits (low_utf8 (codes "\n") refl))
 
 pub utf8_spelt : (text : List ℕ) (mark : Mark) → Spells text mark → IsUtf8 text
 utf8_spelt text Fresh is = absurd is
 utf8_spelt text InUse is = subst IsUtf8 (sym is) (low_utf8 (codes "in use\n") refl)
-utf8_spelt text (Closed region blocks number pack) (within, is) = subst IsUtf8 (sym is) (utf8_closed region blocks number pack within)
+utf8_spelt text Begun is = subst IsUtf8 (sym is) (low_utf8 (codes "begun\n") refl)
+utf8_spelt text (Closed region blocks number pack) (within, is) =
+    let rest = utf8_numbers region blocks number pack (codes "\n") within (low_utf8 (codes "\n") refl) in
+    subst IsUtf8 (sym is) (IsUtf8-append (codes "closed ") (numbers_text region blocks number pack (codes "\n")) (low_utf8 (codes "closed ") refl) rest)
+utf8_spelt text (Saved region blocks number pack salt) (within, bytes, is) =
+    let end = codes " " ++ salt_text salt in
+    let rest = utf8_numbers region blocks number pack end within (utf8_salt salt) in
+    subst IsUtf8 (sym is) (IsUtf8-append (codes "saved ") (numbers_text region blocks number pack end) (low_utf8 (codes "saved ") refl) rest)
 
 -- what a test refuses only where it isn't so
 pub never_refused : {T E : Type 0} (r : Result T E) (P : T → Type 0) (Q : E → Type 0) (N : Type 0) → None ≡ result_ok r → MatchResult r P (λ e. ¬ N × Q e) → N → ⊥

@@ -10,7 +10,7 @@ use std::rt::Files;
 use std::str;
 
 /// The bytes of names that are read from a folder at once.
-const NAMES: usize = 4096;
+pub const NAMES: usize = 4096;
 
 /// The most digits of a region's number.
 const DIGITS: usize = 20;

@@ -6,20 +6,22 @@ use crate::folder::{RegionFiles, settle, split_path};
 use crate::mark::{mark_of, spell};
 use crate::region::clear;
 use ob_base::{Failed, Mark, NoMemory};
-use ob_reopen::Keeper;
+use ob_reopen::{Keeper, Salts};
 use std::alloc::Global;
 use std::fs;
 use std::fs::{File, OpenFile, OpenOptions, symlink_metadata};
 use std::io::{ErrorKind, Read};
+use std::random::RandomSource;
 use std::rt::Files;
 
 /// More bytes than the line of a mark has.
-const LONG: usize = 80;
+const LONG: usize = 128;
 
 /// What keeps the mark of a store in a file. Which mark it holds is not told: others may change the file at any time.
 ///
 /// No file is a fresh mark, else it is one line. A new line is written beside, as `PLACE.next`, and takes the file's
-/// place once it is on the disk; before it says that a run was closed, all files of the store are. No link is followed.
+/// place once it is on the disk; before it says that a run was closed, all files of the store are. Before it says that
+/// tables were saved the store has seen to that. No link is followed.
 /// Each error of a file, what isn't a file, and a file that spells no mark is `Failed`.
 #[derive(Drop)]
 pub struct FileKeeper<'a, R: Files> {
@@ -133,7 +135,7 @@ impl<'a, R: Files> FileKeeper<'a, R> {
     {
         match mark {
             Mark::Fresh => self.remove(),
-            Mark::InUse => self.replace(mark),
+            Mark::InUse | Mark::Begun | Mark::Saved { .. } => self.replace(mark),
             Mark::Closed { .. } => {
                 self.regions.settle_all()?;
                 self.replace(mark)
@@ -159,5 +161,19 @@ impl<'a, R: Files> Keeper for FileKeeper<'a, R> {
             self.faults = self.faults.saturating_add(1);
         }
         done
+    }
+}
+
+/// Salts are random bytes of the operating system.
+impl<'a, R: Files + RandomSource> Salts for FileKeeper<'a, R> {
+    fn salt(&mut self) -> Result<[u8; 16], Failed> {
+        let mut salt = [0; 16];
+        match self.files.fill_bytes(&mut salt) {
+            Ok(()) => Ok(salt),
+            Err(_) => {
+                self.faults = self.faults.saturating_add(1);
+                Err(Failed)
+            }
+        }
     }
 }

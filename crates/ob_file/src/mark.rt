@@ -1,9 +1,10 @@
 //! The line that a mark is spelt as.
 ghost use Rattle.std.specs.Prelude.{◌≡◌, ◌<◌, ◌^◌, ◌++◌, ◌∷◌, ℕ, List, codes, decimal, MatchOption, IfSome, Some, OnOk};
 ghost use Rattle.std.specs.Io.KnownBytes.{Appends};
+ghost use Rattle.hex.specs.Hex.{encode_lower};
 ghost use Rattle.ob_base.specs.declared.mark.Mark.{Mark as HeldMark};
-ghost use Rattle.ob_reopen.specs.Keepers.{AreMarked};
-ghost use Rattle.ob_file.specs.Marks.{HasNoBlank, Spells, mark_text};
+ghost use Rattle.ob_reopen.specs.Keepers.{AreMarked, AreSaltBytes};
+ghost use Rattle.ob_file.specs.Marks.{HasNoBlank, Spells, mark_text, numbers_text, salt_text};
 
 use itoa::{Buffer, Integer};
 use ob_base::{Failed, Mark};
@@ -33,6 +34,19 @@ fn put_number<W: Write, I: Integer>(out: &mut W, n: I, end: &[u8]) -> Result<(),
     put(out, end)
 }
 
+// Writes the digits of a salt, and the end of the line.
+fn put_salt<W: Write>(out: &mut W, salt: &[u8; 16]) -> Result<(), Failed>
+    ensures { OnOk result
+        (Appends (W.contents out.old) (W.contents out.new) (salt_text salt.now)) }
+{
+    let mut digits = [0; 32];
+    let Ok(()) = hex::encode_to_slice(salt, &mut digits) else {
+        unreachable!()
+    };
+    put(out, &digits)?;
+    put(out, b"\n")
+}
+
 /// Writes the line of a mark, or nothing of a fresh one. `Failed` where `out` did.
 pub fn spell<W: Write>(out: &mut W, mark: &Mark) -> Result<(), Failed>
     ensures { OnOk result
@@ -41,6 +55,7 @@ pub fn spell<W: Write>(out: &mut W, mark: &Mark) -> Result<(), Failed>
     match *mark {
         Mark::Fresh => Ok(()),
         Mark::InUse => put(out, b"in use\n"),
+        Mark::Begun => put(out, b"begun\n"),
         Mark::Closed {
             region,
             blocks,
@@ -52,6 +67,20 @@ pub fn spell<W: Write>(out: &mut W, mark: &Mark) -> Result<(), Failed>
             put_number(out, blocks, b" ")?;
             put_number(out, number, b" ")?;
             put_number(out, pack, b"\n")
+        }
+        Mark::Saved {
+            region,
+            blocks,
+            number,
+            pack,
+            salt,
+        } => {
+            put(out, b"saved ")?;
+            put_number(out, region, b" ")?;
+            put_number(out, blocks, b" ")?;
+            put_number(out, number, b" ")?;
+            put_number(out, pack, b" ")?;
+            put_salt(out, &salt)
         }
     }
 }
@@ -97,39 +126,107 @@ fn last_number(text: &str) -> Option<u64>
     number_of(text.strip_suffix('\n')?)
 }
 
-// The mark of a closing with these numbers, if it may have them.
-fn closing_mark(region: u64, blocks: u64, number: u64, pack: u64) -> Option<Mark>
-    ensures { MatchOption result (AreMarked region blocks number pack → ⊥)
-        (λ mark. (mark ≡ Mark.Closed region blocks number pack)
-        × AreMarked region blocks number pack) }
+// The salt that is spelt so, in 32 digits of lower case and in no other way.
+fn salt_of(digits: &str) -> Option<[u8; 16]>
+    ensures spelt { IfSome result (λ salt. (digits.now ≡ encode_lower salt) × AreSaltBytes salt) }
+    ensures read { (salt : List ℕ) → AreSaltBytes salt → digits.now ≡ encode_lower salt
+        → result ≡ Some salt }
 {
-    let are_places = 1 <= region && region < END && 1 <= number && number < END;
-    if are_places && 1 <= blocks && blocks <= 65 && 1 <= pack && pack <= 16 {
-        Some(Mark::Closed {
-            region,
-            blocks: blocks as u32,
-            number,
-            pack: pack as u8,
-        })
+    let mut salt = [0; 16];
+    let Ok(()) = hex::decode_to_slice(digits.as_bytes(), &mut salt) else {
+        return None;
+    };
+    let mut spelt = [0; 32];
+    let Ok(()) = hex::encode_to_slice(&salt, &mut spelt) else {
+        unreachable!()
+    };
+    if digits.as_bytes() == spelt {
+        Some(salt)
     } else {
         None
     }
 }
 
-// The mark of a closing that a line spells.
-fn closed_of(line: &str) -> Option<Mark>
-    ensures spelt { IfSome result (Spells line.now) }
-    ensures read { (region blocks number pack : ℕ)
-        → Spells line.now (Mark.Closed region blocks number pack)
+// The salt that a line ends with.
+fn last_salt(text: &str) -> Option<[u8; 16]>
+    ensures spelt { IfSome result (λ salt. (text.now ≡ salt_text salt) × AreSaltBytes salt) }
+    ensures read { (salt : List ℕ) → AreSaltBytes salt → text.now ≡ salt_text salt
+        → result ≡ Some salt }
+{
+    salt_of(text.strip_suffix('\n')?)
+}
+
+// How many blocks a closing has, and how many rows a block, if a mark may name one with these numbers.
+fn sizes_of(region: u64, blocks: u64, number: u64, pack: u64) -> Option<(u32, u8)>
+    ensures { MatchOption result (AreMarked region blocks number pack → ⊥)
+        (λ r. (r.0 ≡ blocks) × (r.1 ≡ pack) × AreMarked region blocks number pack) }
+{
+    let are_places = 1 <= region && region < END && 1 <= number && number < END;
+    if are_places && 1 <= blocks && blocks <= 65 && 1 <= pack && pack <= 16 {
+        Some((blocks as u32, pack as u8))
+    } else {
+        None
+    }
+}
+
+// The mark of a closed run, by what follows the word on its line.
+fn closed_of(text: &str) -> Option<Mark>
+    ensures spelt { IfSome result (Spells (codes "closed " ++ text.now)) }
+    ensures read { (region blocks number pack : ℕ) → AreMarked region blocks number pack
+        → text.now ≡ numbers_text region blocks number pack (codes "\n")
         → result ≡ Some (Mark.Closed region blocks number pack) }
 {
-    let (head, rest) = word(line)?;
-    let (region, rest) = numbered(rest)?;
+    let (region, rest) = numbered(text)?;
     let (blocks, rest) = numbered(rest)?;
     let (number, rest) = numbered(rest)?;
     let pack = last_number(rest)?;
+    let (count, rows) = sizes_of(region, blocks, number, pack)?;
+    Some(Mark::Closed {
+        region,
+        blocks: count,
+        number,
+        pack: rows,
+    })
+}
+
+// The same of a run that saved its tables.
+fn saved_of(text: &str) -> Option<Mark>
+    ensures spelt { IfSome result (Spells (codes "saved " ++ text.now)) }
+    ensures read { (region blocks number pack : ℕ) (salt : List ℕ)
+        → AreMarked region blocks number pack → AreSaltBytes salt
+        → text.now ≡ numbers_text region blocks number pack (codes " " ++ salt_text salt)
+        → result ≡ Some (Mark.Saved region blocks number pack salt) }
+{
+    let (region, rest) = numbered(text)?;
+    let (blocks, rest) = numbered(rest)?;
+    let (number, rest) = numbered(rest)?;
+    let (pack, rest) = numbered(rest)?;
+    let salt = last_salt(rest)?;
+    let (count, rows) = sizes_of(region, blocks, number, pack)?;
+    Some(Mark::Saved {
+        region,
+        blocks: count,
+        number,
+        pack: rows,
+        salt,
+    })
+}
+
+// The mark of a line that begins with a word and a blank.
+fn named_of(line: &str) -> Option<Mark>
+    ensures spelt { IfSome result (Spells line.now) }
+    ensures closed { (region blocks number pack : ℕ)
+        → Spells line.now (Mark.Closed region blocks number pack)
+        → result ≡ Some (Mark.Closed region blocks number pack) }
+    ensures saved { (region blocks number pack : ℕ) (salt : List ℕ)
+        → Spells line.now (Mark.Saved region blocks number pack salt)
+        → result ≡ Some (Mark.Saved region blocks number pack salt) }
+{
+    let (head, rest) = word(line)?;
     if head == "closed" {
-        closing_mark(region, blocks, number, pack)
+        closed_of(rest)
+    } else if head == "saved" {
+        saved_of(rest)
     } else {
         None
     }
@@ -143,7 +240,9 @@ pub fn mark_of(text: &[u8]) -> Option<Mark>
     let line = str::from_utf8(text).ok()?;
     if line == "in use\n" {
         Some(Mark::InUse)
+    } else if line == "begun\n" {
+        Some(Mark::Begun)
     } else {
-        closed_of(line)
+        named_of(line)
     }
 }

@@ -14,11 +14,12 @@ pub struct Size {
     pub len: u32,
 }
 
-/// The file of a region, which is open.
+/// The file of a region, which is open, and whether all that was written to it is on the disk.
 #[derive(Drop)]
 pub struct Opened<F> {
     pub path: String,
     pub file: F,
+    pub is_synced: bool,
 }
 
 /// Takes away what has this name, if anything has.

@@ -5,13 +5,14 @@ ghost use Rattle.std.specs.BTreeMap.{get};
 ghost use Rattle.ob_store.specs.Logs.{asked_of};
 ghost use Rattle.ob_file.specs.Regions.{IsFresh, fresh_live, shape_of};
 
+use crate::folder::{NAMES, RegionFiles, region_in, settle, split_path};
 use crate::region::{Opened, Size, create, read, remove, reopen, write};
 use ob_base::{Access, Failed, NoMemory, StoreErr};
-use ob_store::{BlockStore, Lasting, Log};
+use ob_store::{BlockStore, Lasting, Log, Saving};
 use std::alloc::Global;
 use std::collections::BTreeMap;
 use std::fs;
-use std::fs::OpenFile;
+use std::fs::{OpenDir, OpenFile};
 use std::os::unix::fs::FileExt;
 use std::rt::Files;
 
@@ -53,6 +54,23 @@ fn remove_from<R: Files>(files: &R, opened: &mut BTreeMap<u64, Opened<R::File>>,
     }
 }
 
+// Waits until the files that were written since the last time are on the disk, and the names in their folder.
+fn settle_written<R: Files>(
+    files: &R,
+    opened: &mut BTreeMap<u64, Opened<R::File>>,
+    name: &str,
+) -> Result<(), Failed> {
+    for file in opened.values_mut() {
+        if !file.is_synced {
+            if file.file.sync_all().is_err() {
+                return Err(Failed);
+            }
+            file.is_synced = true;
+        }
+    }
+    settle(files, split_path(name).0)
+}
+
 // Copies a block to the beginning of a buffer.
 fn keep(buffer: &mut [u8], block: &[u8])
     requires { length block.now ≤ length buffer.old }
@@ -90,6 +108,31 @@ impl<'a, R: Files> FileStore<'a, R> {
         match format!(in self.alloc; "{}.{}", self.name, region) {
             Ok(path) => Ok(path),
             Err(_) => Err(NoMemory),
+        }
+    }
+
+    // Removes the files of those regions among these names, each with a zero byte behind it, that aren't live.
+    fn sweep_named(&self, names: &[u8]) {
+        for name in names.split(|byte| *byte == 0) {
+            let digits = region_in(name, split_path(self.name.as_str()).1).unwrap_or("");
+            if let Ok(region) = digits.parse::<u64>() {
+                if !self.regions.contains_key(&region) {
+                    if let Ok(path) = self.path_of(region) {
+                        let _ = fs::remove_file(self.files, path.as_str());
+                    }
+                }
+            }
+        }
+    }
+
+    // Whether the folder has a file of a region.
+    fn is_empty(&self) -> Result<bool, Failed> {
+        let Ok(name) = String::from_str(self.alloc, self.name.as_str()) else {
+            return Err(Failed);
+        };
+        match RegionFiles::new(self.alloc, self.files, name) {
+            Ok(found) => Ok(!found.are_there()?),
+            Err(_) => Err(Failed),
         }
     }
 }
@@ -142,7 +185,12 @@ where
             self.faults = self.faults.saturating_add(1);
             return Err(StoreErr::Failed);
         };
-        if let Err(unmade) = self.opened.insert(region, Opened { path, file }) {
+        let opened = Opened {
+            path,
+            file,
+            is_synced: false,
+        };
+        if let Err(unmade) = self.opened.insert(region, opened) {
             remove(self.files, unmade.value.1);
             return Err(StoreErr::NoMemory);
         }
@@ -179,8 +227,11 @@ where
 
     fn write(&mut self, region: u64, place: u32, block: &[u8]) -> Result<(), Failed> {
         self.log.push(Access::Write { region, place });
-        let done = match self.opened.get(&region) {
-            Some(found) => write(&found.file, place, block),
+        let done = match self.opened.get_mut(&region) {
+            Some(found) => {
+                found.is_synced = false;
+                write(&found.file, place, block)
+            }
             None => Err(Failed),
         };
         if done.is_err() {
@@ -235,7 +286,12 @@ where
             self.faults = self.faults.saturating_add(1);
             return Err(StoreErr::Failed);
         };
-        if self.opened.insert(region, Opened { path, file }).is_err() {
+        let opened = Opened {
+            path,
+            file,
+            is_synced: true,
+        };
+        if self.opened.insert(region, opened).is_err() {
             return Err(StoreErr::NoMemory);
         }
         let found = Size { blocks, len };
@@ -244,6 +300,40 @@ where
             Err(_) => {
                 let _ = self.opened.remove(&region);
                 Err(StoreErr::NoMemory)
+            }
+        }
+    }
+}
+
+impl<'a, R: Files> Saving for FileStore<'a, R>
+where
+    R::File: FileExt,
+{
+    fn sync(&mut self) -> Result<(), Failed> {
+        let done = settle_written(self.files, &mut self.opened, self.name.as_str());
+        if done.is_err() {
+            self.faults = self.faults.saturating_add(1);
+        }
+        done
+    }
+
+    fn is_bare(&mut self) -> Result<bool, Failed> {
+        let found = self.is_empty();
+        if found.is_err() {
+            self.faults = self.faults.saturating_add(1);
+        }
+        found
+    }
+
+    fn sweep(&mut self) {
+        let Ok(mut folder) = self.files.open_dir(split_path(self.name.as_str()).0) else {
+            return;
+        };
+        let mut names = [0; NAMES];
+        for _ in 0..u64::MAX {
+            match folder.read(&mut names) {
+                Ok(0) | Err(_) => return,
+                Ok(len) => self.sweep_named(&names[..len]),
             }
         }
     }

@@ -6,7 +6,7 @@ use Rattle.clap.specs.Words.{Text}
 use Rattle.ob_base.specs.Stored.{headings, headings_of}
 use Rattle.ob_base.specs.declared.config.Config.{Config}
 use Rattle.ob_base.specs.declared.mark.Mark.{Mark}
-use Rattle.ob_base.specs.declared.mark.Mark.TheVariants.{Fresh, InUse, Closed}
+use Rattle.ob_base.specs.declared.mark.Mark.TheVariants.{Fresh, InUse, Closed, Begun, Saved}
 use Rattle.ob_base.specs.declared.refusal.Stop.TheVariants as Stops
 use Rattle.ob_reopen.proofs.ByNameAlike.{named_alike}
 use Rattle.ob_reopen.specs.Closed.{is_used_up}
@@ -32,7 +32,7 @@ use Rattle.ob_headline.specs.Meaning.{AnswersFrom}
 use Rattle.ob_headline.specs.declared.ending.Ending.{Ending}
 use Rattle.ob_headline.specs.declared.ending.Ending.TheVariants.{Usage, BadKey, Ran}
 use Rattle.ob_headline.specs.declared.ending.KeptEnding.{KeptEnding}
-use Rattle.ob_headline.specs.declared.ending.KeptEnding.TheVariants.{Plain, OtherPack, NotClosed as LeftOpen, KeeperFault, StoreFault}
+use Rattle.ob_headline.specs.declared.ending.KeptEnding.TheVariants.{Plain, OtherPack, Saved as SavedBefore, NotClosed as LeftOpen, KeeperFault, StoreFault}
 use Rattle.ob_headline.specs.declared.ending.Report.{Report}
 use Rattle.ob_mean.specs.Flats.{AreFlat}
 use Rattle.ob_mean.specs.Replay.{Broken, Session, Spelt, after_all}
@@ -64,6 +64,7 @@ well_ended (Plain (Ran (Err Stops.InputLimit))) few = absurd (omega (arith, few)
 well_ended (Plain (Ran (Err Stops.StoreFault))) few = absurd (omega (arith, few))
 well_ended (Plain (Ran (Err Stops.StashFull))) few = absurd (omega (arith, few))
 well_ended OtherPack few = absurd (omega (arith, few))
+well_ended SavedBefore few = absurd (omega (arith, few))
 well_ended StoreFault few = absurd (omega (arith, few))
 well_ended LeftOpen few = absurd (omega (arith, few))
 well_ended KeeperFault few = absurd (omega (arith, few))
@@ -109,6 +110,8 @@ unlied (Some lie) new stays none = absurd (cc (stays lie refl, none))
 abbrev WaitsAt : (secret : List ℕ) → Mark → (kept : ℕ → Option KeptRegion) → Tables → Type 0
 WaitsAt secret Fresh kept ts = AreAlike [] ts
 WaitsAt secret InUse kept ts = ⊤
+WaitsAt secret Begun kept ts = ⊤
+WaitsAt secret (Saved region blocks number pack salt) kept ts = ⊤
 WaitsAt secret (Closed region blocks number pack) kept ts =
     (tables : Tables) × Rests (keys_of secret) (closing_named region blocks number pack) kept tables × AreAlike tables ts
 
@@ -152,6 +155,8 @@ begins_at Fresh settings config secret base old new t set begins waits same kept
       from = λ P. subst (λ (b : Base). FromEach b P → P (session_at b [])) (sym is) (λ each. each);
     }
 begins_at InUse settings config secret base old new t set begins waits same kept drawn flat step tells honest = absurd begins
+begins_at Begun settings config secret base old new t set begins waits same kept drawn flat step tells honest = absurd begins
+begins_at (Saved region blocks number pack salt) settings config secret base old new t set begins waits same kept drawn flat step tells honest = absurd begins
 begins_at (Closed region blocks number pack) settings config secret base old new t set begins waits same kept drawn flat step tells honest =
     let closing = closing_named region blocks number pack in
     let o : Opened = record { keys = keys_of secret; closing = closing; listed = begins.1.listed; old = old; new = new } in
@@ -176,6 +181,8 @@ begins_at (Closed region blocks number pack) settings config secret base old new
 tells_on : (mark : Mark) (config : Config) (keys : KeySet) (base : Base) (old new : StoreState) → BeginsFrom mark config keys base old new → IsTrue old.tells → IsTrue new.tells
 tells_on Fresh config keys base old new begins tells = subst (λ (s : StoreState). IsTrue s.tells) (sym begins.1) tells
 tells_on InUse config keys base old new begins tells = absurd begins
+tells_on Begun config keys base old new begins tells = absurd begins
+tells_on (Saved region blocks number pack salt) config keys base old new begins tells = absurd begins
 tells_on (Closed region blocks number pack) config keys base old new begins tells = subst (λ (b : Bool). IsTrue b) (sym begins.1.tells) tells
 
 -- ---- one run, and those behind it

@@ -5,7 +5,7 @@ use Rattle.std.proofs.lemmas.Bool.Decides.{nat_tests}
 use Rattle.std.specs.Option.{option_map_or}
 use Rattle.ob_base.specs.declared.config.Config.{Config}
 use Rattle.ob_base.specs.declared.mark.Mark.{Mark}
-use Rattle.ob_base.specs.declared.mark.Mark.TheVariants.{Fresh, InUse, Closed}
+use Rattle.ob_base.specs.declared.mark.Mark.TheVariants.{Fresh, InUse, Closed, Begun, Saved}
 use Rattle.ob_reopen.specs.Reopened.{number_given}
 use Rattle.ob_headline.proofs.LeftLemmas.{shows_all}
 use Rattle.ob_headline.specs.Bases.{Base, fresh}
@@ -46,6 +46,8 @@ none_given closing (t ∷ ts) earlier q x own =
 pub begun_from : (mark : Mark) (config : Config) (keys : KeySet) (base : Base) (old new : StoreState) → BeginsFrom mark config keys base old new → IsBegun base
 begun_from Fresh config keys base old new begins = subst IsBegun (sym begins.0) (begun_fresh (Some config))
 begun_from InUse config keys base old new begins = absurd begins
+begun_from Begun config keys base old new begins = absurd begins
+begun_from (Saved region blocks number pack salt) config keys base old new begins = absurd begins
 begun_from (Closed region blocks number pack) config keys base old new begins =
     let opens = begins.1 in
     subst IsBegun (sym opens.is) (record {

@@ -4,7 +4,7 @@ use Rattle.std.proofs.Common.{◌≡◌, ℕ, Bool, true, false, Result, Ok, Err
 use Rattle.ob_base.specs.declared.config.Config.{Config}
 use Rattle.ob_base.specs.declared.fault.Failed.{Failed}
 use Rattle.ob_base.specs.declared.mark.Mark.{Mark}
-use Rattle.ob_base.specs.declared.mark.Mark.TheVariants.{Fresh, InUse, Closed}
+use Rattle.ob_base.specs.declared.mark.Mark.TheVariants.{Fresh, InUse, Closed, Begun, Saved}
 use Rattle.ob_headline.specs.Keeping.{EndsAtMark, NotBegun, NotReopened, closing_end, closing_named, opening_end}
 use Rattle.ob_headline.specs.declared.ending.Ending.TheVariants.{Ran}
 use Rattle.ob_headline.specs.declared.ending.KeptEnding.{KeptEnding}
@@ -33,6 +33,8 @@ mark_stops : (mark : Result Mark Failed) (config : Config) (keys : KeySet) (endi
 mark_stops (Err failed) config keys ending s t refused ends is = cc (ends.0, is)
 mark_stops (Ok Fresh) config keys ending s t refused ends is = cc (ends.0, is)
 mark_stops (Ok InUse) config keys ending s t refused ends is = cc (ends.0, is)
+mark_stops (Ok Begun) config keys ending s t refused ends is = cc (ends.0, is)
+mark_stops (Ok (Saved region blocks number pack salt)) config keys ending s t refused ends is = cc (ends.0, is)
 mark_stops (Ok (Closed region blocks number pack)) config keys ending s t refused ends is = go (pack == config.pack) ends
   where
     go : (b : Bool) → MatchBool b (NotReopened (closing_named region blocks number pack) keys ending s t) ((ending ≡ OtherPack) × (t ≡ s)) → ⊥

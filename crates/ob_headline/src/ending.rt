@@ -19,6 +19,8 @@ pub enum KeptEnding {
     Plain(Ending),
     /// The tables that are kept have another pack.
     OtherPack,
+    /// They are those of a run that saves them.
+    Saved,
     /// The store failed while tables were opened or closed.
     StoreFault,
     /// The run before was not closed.

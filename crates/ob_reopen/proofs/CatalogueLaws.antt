@@ -9,6 +9,7 @@ use Rattle.std.specs.FinMap.{nat_cmp-IsAntisymmetric, slice_cmp-IsAntisymmetric}
 use Rattle.std.specs.List.{list_all, prefix_len}
 use Rattle.std.specs.Ordering.{is_lt, nat_cmp, ordering_reverse}
 use Rattle.ob_base.specs.declared.schema.Table.{Table}
+use Rattle.ob_seal.specs.KeySet.{KeySet}
 use Rattle.ob_vault.specs.State.{RevState}
 use Rattle.ob_reopen.specs.declared.closing.Closing.{Closing}
 use Rattle.ob_reopen.specs.declared.listed.Listed.{Listed}
@@ -63,9 +64,9 @@ each_at P [] all i t is = absurd (cc is)
 each_at P (u ∷ us) all zero t is = let same : u ≡ t = cc is in subst P same all.0
 each_at P (u ∷ us) all (suc i) t is = each_at P us all.1 i t is
 
-each_of : (P : Listed → Type 0) (revs : RevState) (tables : List Table) → ((i : ℕ) (t : Table) → slice_get tables i ≡ Some t → P (listed_of revs t)) → Each P (map (listed_of revs) tables)
-each_of P revs [] fine = tt
-each_of P revs (t ∷ ts) fine = (fine zero t refl, each_of P revs ts (λ i u is. fine (suc i) u is))
+each_of : (P : Listed → Type 0) (keys : KeySet) (revs : RevState) (tables : List Table) → ((i : ℕ) (t : Table) → slice_get tables i ≡ Some t → P (listed_of keys revs t)) → Each P (map (listed_of keys revs) tables)
+each_of P keys revs [] fine = tt
+each_of P keys revs (t ∷ ts) fine = (fine zero t refl, each_of P keys revs ts (λ i u is. fine (suc i) u is))
 
 each_put : (P : Listed → Type 0) (us : List Listed) (t : Listed) → P t → Each P us → Each P (put us t)
 each_put P [] t fine all = (fine, tt)
@@ -137,13 +138,13 @@ abbrev AllApart : ℕ → List Listed → Type 0
 AllApart pack [] = Unit {0}
 AllApart pack (t ∷ ts) = Each (StandApart pack t) ts × AllApart pack ts
 
-all_apart : (pack : ℕ) (revs : RevState) (tables : List Table)
-    → ((i j : ℕ) (t u : Table) → slice_get tables i ≡ Some t → slice_get tables j ≡ Some u → i ≢ j → StandApart pack (listed_of revs t) (listed_of revs u))
-    → AllApart pack (map (listed_of revs) tables)
-all_apart pack revs [] apart = tt
-all_apart pack revs (t ∷ ts) apart = (
-  each_of (StandApart pack (listed_of revs t)) revs ts (λ i u is. apart zero (suc i) t u refl is (λ same. omega (arith, same))),
-  all_apart pack revs ts (λ i j u v at there off. apart (suc i) (suc j) u v at there (λ same. off (omega (arith, same)))),
+all_apart : (pack : ℕ) (keys : KeySet) (revs : RevState) (tables : List Table)
+    → ((i j : ℕ) (t u : Table) → slice_get tables i ≡ Some t → slice_get tables j ≡ Some u → i ≢ j → StandApart pack (listed_of keys revs t) (listed_of keys revs u))
+    → AllApart pack (map (listed_of keys revs) tables)
+all_apart pack keys revs [] apart = tt
+all_apart pack keys revs (t ∷ ts) apart = (
+  each_of (StandApart pack (listed_of keys revs t)) keys revs ts (λ i u is. apart zero (suc i) t u refl is (λ same. omega (arith, same))),
+  all_apart pack keys revs ts (λ i j u v at there off. apart (suc i) (suc j) u v at there (λ same. off (omega (arith, same)))),
 )
 
 module _ (pack : ℕ) where
@@ -181,15 +182,15 @@ module _ (pack : ℕ) where
       and_from (are_apart pack u t) (list_all (λ (v : Listed). are_apart pack v t) (take i us))
       (each_at (λ (v : Listed). IsTrue (are_apart pack u v)) us up.0 i t is) (apart_at us up.1 i t is)
 
-pub catalogue_is : (closing : Closing) (revs : RevState) (tables : List Table) → MayList closing revs tables → IsCatalogue closing (catalogue_of revs tables)
-catalogue_is closing revs tables may =
-    let ts = map (listed_of revs) tables in
+pub catalogue_is : (closing : Closing) (keys : KeySet) (revs : RevState) (tables : List Table) → MayList closing keys revs tables → IsCatalogue closing (catalogue_of keys revs tables)
+catalogue_is closing keys revs tables may =
+    let ts = map (listed_of keys revs) tables in
     let pack = closing.pack in
-    let listed = each_fold (IsListed closing) [] ts tt (each_of (IsListed closing) revs tables may.each) in
+    let listed = each_fold (IsListed closing) [] ts tt (each_of (IsListed closing) keys revs tables may.each) in
     let alone = each_all (λ (t : Listed). Each (λ (u : Listed). StandApart pack u t) []) (λ t. tt) ts in
-    let sorted = sorted_fold pack [] ts tt (all_apart pack revs tables may.apart) alone in
+    let sorted = sorted_fold pack [] ts tt (all_apart pack keys revs tables may.apart) alone in
     let n = length-fold [] ts in
-    let m = length-map tables (listed_of revs) in
+    let m = length-map tables (listed_of keys revs) in
     subst (IsCatalogue closing) (sym (fold_is [] ts)) (record {
       are = record {
         each = λ i t is. record {
@@ -231,23 +232,23 @@ fold_has us [] i t is = absurd (cc is)
 fold_has us (x ∷ xs) zero t is = let same : x ≡ t = cc is in subst (Has (fold put (put us x) xs)) same (has_fold (put us x) xs x (put_has us x))
 fold_has us (x ∷ xs) (suc i) t is = fold_has (put us x) xs i t is
 
-mapped : (revs : RevState) (tables : List Table) (i : ℕ) (t : Table) → slice_get tables i ≡ Some t → slice_get (map (listed_of revs) tables) i ≡ Some (listed_of revs t)
-mapped revs [] i t is = absurd (cc is)
-mapped revs (x ∷ xs) zero t is = let same : x ≡ t = cc is in ap (λ (u : Table). Some (listed_of revs u)) same
-mapped revs (x ∷ xs) (suc i) t is = mapped revs xs i t is
+mapped : (keys : KeySet) (revs : RevState) (tables : List Table) (i : ℕ) (t : Table) → slice_get tables i ≡ Some t → slice_get (map (listed_of keys revs) tables) i ≡ Some (listed_of keys revs t)
+mapped keys revs [] i t is = absurd (cc is)
+mapped keys revs (x ∷ xs) zero t is = let same : x ≡ t = cc is in ap (λ (u : Table). Some (listed_of keys revs u)) same
+mapped keys revs (x ∷ xs) (suc i) t is = mapped keys revs xs i t is
 
 -- one of these tables
-abbrev IsOne : RevState → List Table → Listed → Type 0
-IsOne revs tables x = (i : ℕ) × (t : Table) × (slice_get tables i ≡ Some t) × (x ≡ listed_of revs t)
+abbrev IsOne : KeySet → RevState → List Table → Listed → Type 0
+IsOne keys revs tables x = (i : ℕ) × (t : Table) × (slice_get tables i ≡ Some t) × (x ≡ listed_of keys revs t)
 
-pub catalogue_has : (revs : RevState) (tables : List Table) → ListsAll revs tables (catalogue_of revs tables)
-catalogue_has revs tables =
-    let ts = map (listed_of revs) tables in
-    let ones = each_fold (IsOne revs tables) [] ts tt (each_of (IsOne revs tables) revs tables (λ i t is. (i, t, is, refl))) in
+pub catalogue_has : (keys : KeySet) (revs : RevState) (tables : List Table) → ListsAll keys revs tables (catalogue_of keys revs tables)
+catalogue_has keys revs tables =
+    let ts = map (listed_of keys revs) tables in
+    let ones = each_fold (IsOne keys revs tables) [] ts tt (each_of (IsOne keys revs tables) keys revs tables (λ i t is. (i, t, is, refl))) in
     let n = length-fold [] ts in
-    let m = length-map tables (listed_of revs) in
-    subst (ListsAll revs tables) (sym (fold_is [] ts)) (record {
-      has = λ i t is. fold_has [] ts i (listed_of revs t) (mapped revs tables i t is);
-      only = λ j x is. each_at (IsOne revs tables) (fold put [] ts) ones j x is;
+    let m = length-map tables (listed_of keys revs) in
+    subst (ListsAll keys revs tables) (sym (fold_is [] ts)) (record {
+      has = λ i t is. fold_has [] ts i (listed_of keys revs t) (mapped keys revs tables i t is);
+      only = λ j x is. each_at (IsOne keys revs tables) (fold put [] ts) ones j x is;
       count = omega (arith, n, m);
     })

@@ -41,4 +41,5 @@ fits_text closing t marked is = record {
   capacity = omega (arith, is.heading.stored.most);
   number = omega (arith, is.number_most, marked.number_most);
   flat = is.flat;
+  salt = is.salt;
 }

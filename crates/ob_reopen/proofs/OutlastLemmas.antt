@@ -14,6 +14,7 @@ module _ (keys : KeySet) (old new : ℕ → Option KeptRegion) where
   table_lasts pack t slots keeps same = record {
     size = keeps.size;
     fits = keeps.fits;
+    salt = keeps.salt;
     region = keeps.region;
     is = same ∙ keeps.is;
     blocks = keeps.blocks;

@@ -1,5 +1,5 @@
 -- Where the parts of a closing's rows lie, and what they are read as.
-use Rattle.std.proofs.Common.{◌≡◌, ◌≢◌, ◌==◌, ℕ, zero, suc, ◌+◌, ◌-◌, ◌*◌, ◌≤◌, Bool, true, false, List, [], ◌∷◌, ◌++◌, length, replicate, take, drop, get_or, refl, sym, ◌∙◌, ap, arith, length-append}
+use Rattle.std.proofs.Common.{◌≡◌, ◌≢◌, ◌==◌, ℕ, zero, suc, ◌+◌, ◌-◌, ◌*◌, ◌≤◌, Bool, true, false, List, [], ◌∷◌, ◌++◌, Option, Some, None, length, replicate, take, drop, get_or, refl, sym, ◌∙◌, ap, arith, length-append}
 use Rattle.std.proofs.lemmas.List.{take_at, drop_at, length-replicate}
 use Rattle.std.specs.Int.{to_be_bytes, w32, w64}
 use Rattle.std.specs.List.{All, between}
@@ -7,8 +7,9 @@ use Rattle.ob_base.specs.declared.schema.Kind.{Kind}
 use Rattle.ob_base.specs.declared.schema.Kind.TheVariants.{Int, Varchar}
 use Rattle.ob_base.specs.declared.schema.Column.{Column}
 use Rattle.ob_base.specs.Schemas.{Columns}
+use Rattle.ob_seal.specs.Sealed.{IsSalt}
 use Rattle.ob_reopen.specs.declared.listed.Listed.{Listed}
-use Rattle.ob_reopen.specs.Spelling.{name_text, kind_text, key_text, column_text, columns_text, table_text, head_text, FitsColumn}
+use Rattle.ob_reopen.specs.Spelling.{name_text, kind_text, key_text, column_text, columns_text, salt_text, table_text, head_text, FitsColumn, FitsText}
 
 -- ---- lengths
 pub length-name_text : (name : List ℕ) → length name ≤ 32 → length (name_text name) ≡ 33
@@ -26,6 +27,17 @@ length-column_text c few = omega (
   length-name_text c.name few,
   length-kind_text c.kind,
 )
+
+length-salt_text : (salt : Option (List ℕ)) → IsSalt salt → length (salt_text salt) ≡ 17
+length-salt_text None is = length-replicate 17 0
+length-salt_text (Some salt) is = omega (arith, is)
+
+length-columns_text : (table : List ℕ) (n : ℕ) (cs : Columns) → All (FitsColumn table) cs → 36 * length cs ≤ n → length (columns_text n cs) ≡ n
+length-columns_text table n [] fits few = length-replicate n 0
+length-columns_text table n (c ∷ cs) fits few =
+    let here = length-column_text c (fits 0 c (omega arith)).name in
+    let rest = length-columns_text table (n - 36) cs (λ k d below. fits (suc k) d (omega (arith, below))) (omega (arith, few)) in
+    omega (arith, length-append (column_text c) (columns_text (n - 36) cs), here, rest, few)
 
 -- ---- a list in two parts
 pub record InTwo (n : ℕ) (whole xs ys : List ℕ) : Type 0 where
@@ -117,58 +129,59 @@ all_added table (x ∷ cs) c here all zero d below = all 0 x (omega arith)
 all_added table (x ∷ cs) c here all (suc k) d below = all_added table cs c here (λ j e less. all (suc j) e (omega (arith, less))) k d (omega (arith, below))
 
 -- ---- a table
-pub record TableParts (t : Listed) (name region capacity number count fields : List ℕ) : Type 0 where
+pub record TableParts (t : Listed) (name region capacity number count fields salt : List ℕ) : Type 0 where
   pub name_is : name ≡ name_text t.table.heading.name
   pub region_is : region ≡ to_be_bytes w64 t.table.region
   pub capacity_is : capacity ≡ to_be_bytes w32 t.table.heading.capacity
   pub number_is : number ≡ to_be_bytes w64 t.number
   pub count_is : count ≡ length t.table.heading.schema ∷ []
-  pub fields_is : fields ≡ columns_text 970 t.table.heading.schema
+  pub fields_is : fields ≡ columns_text 953 t.table.heading.schema
+  pub salt_is : salt ≡ salt_text t.salt
 
-pub table_parts : (t : Listed) (text name r1 region r2 capacity r3 number r4 count fields : List ℕ) → length t.table.heading.name ≤ 32 → text ≡ table_text t
+pub table_parts : (t : Listed) (text name r1 region r2 capacity r3 number r4 count r5 fields salt : List ℕ) → FitsText t → text ≡ table_text t
     → name ≡ take 33 text → r1 ≡ drop 33 text → region ≡ take 8 r1 → r2 ≡ drop 8 r1 → capacity ≡ take 4 r2 → r3 ≡ drop 4 r2
-    → number ≡ take 8 r3 → r4 ≡ drop 8 r3 → count ≡ take 1 r4 → fields ≡ drop 1 r4
-    → TableParts t name region capacity number count fields
+    → number ≡ take 8 r3 → r4 ≡ drop 8 r3 → count ≡ take 1 r4 → r5 ≡ drop 1 r4 → fields ≡ take 953 r5 → salt ≡ drop 953 r5
+    → TableParts t name region capacity number count fields salt
 unfolding table_text
-table_parts t text name r1 region r2 capacity r3 number r4 count fields few is e1 b1 e2 b2 e3 b3 e4 b4 e5 b5 =
+table_parts t text name r1 region r2 capacity r3 number r4 count r5 fields salt fits is e1 b1 e2 b2 e3 b3 e4 b4 e5 b5 e6 b6 =
     let columns = t.table.heading.schema in
-    let t4 = length columns ∷ columns_text 970 columns in
+    let few = fits.few in
+    let t5 = columns_text 953 columns ++ salt_text t.salt in
+    let t4 = length columns ∷ t5 in
     let t3 = to_be_bytes w64 t.number ++ t4 in
     let t2 = to_be_bytes w32 t.table.heading.capacity ++ t3 in
     let t1 = to_be_bytes w64 t.table.region ++ t2 in
-    let c1 = cut 33 text (name_text t.table.heading.name) t1 (length-name_text t.table.heading.name few) is in
+    let c1 = cut 33 text (name_text t.table.heading.name) t1 (length-name_text t.table.heading.name fits.name) is in
     let c2 = cut 8 r1 (to_be_bytes w64 t.table.region) t2 refl (b1 ∙ c1.back) in
     let c3 = cut 4 r2 (to_be_bytes w32 t.table.heading.capacity) t3 refl (b2 ∙ c2.back) in
     let c4 = cut 8 r3 (to_be_bytes w64 t.number) t4 refl (b3 ∙ c3.back) in
-    let c5 = cut 1 r4 (length columns ∷ []) (columns_text 970 columns) refl (b4 ∙ c4.back) in
+    let c5 = cut 1 r4 (length columns ∷ []) t5 refl (b4 ∙ c4.back) in
+    let c6 = cut 953 r5 (columns_text 953 columns) (salt_text t.salt) (length-columns_text t.table.heading.name 953 columns fits.columns (omega (arith, few))) (b5 ∙ c5.back) in
     record {
       name_is = e1 ∙ c1.front;
       region_is = e2 ∙ c2.front;
       capacity_is = e3 ∙ c3.front;
       number_is = e4 ∙ c4.front;
       count_is = e5 ∙ c5.front;
-      fields_is = b5 ∙ c5.back;
+      fields_is = e6 ∙ c6.front;
+      salt_is = b6 ∙ c6.back;
     }
 
 -- ---- how long the rows are
-length-columns_text : (table : List ℕ) (n : ℕ) (cs : Columns) → All (FitsColumn table) cs → 36 * length cs ≤ n → length (columns_text n cs) ≡ n
-length-columns_text table n [] fits few = length-replicate n 0
-length-columns_text table n (c ∷ cs) fits few =
-    let here = length-column_text c (fits 0 c (omega arith)).name in
-    let rest = length-columns_text table (n - 36) cs (λ k d below. fits (suc k) d (omega (arith, below))) (omega (arith, few)) in
-    omega (arith, length-append (column_text c) (columns_text (n - 36) cs), here, rest, few)
-
-pub length-table_text : (t : Listed) → length t.table.heading.name ≤ 32 → length t.table.heading.schema ≤ 16 → All (FitsColumn t.table.heading.name) t.table.heading.schema → length (table_text t) ≡ 1024
+pub length-table_text : (t : Listed) → length t.table.heading.name ≤ 32 → length t.table.heading.schema ≤ 16 → All (FitsColumn t.table.heading.name) t.table.heading.schema → IsSalt t.salt → length (table_text t) ≡ 1024
 unfolding table_text
-length-table_text t short few fits =
+length-table_text t short few fits long =
     let columns = t.table.heading.schema in
     let name = length-name_text t.table.heading.name short in
-    let fields = length-columns_text t.table.heading.name 970 columns fits (omega (arith, few)) in
+    let fields = length-columns_text t.table.heading.name 953 columns fits (omega (arith, few)) in
+    let salt = length-salt_text t.salt long in
     omega (
       arith,
-      length-append (name_text t.table.heading.name) (to_be_bytes w64 t.table.region ++ (to_be_bytes w32 t.table.heading.capacity ++ (to_be_bytes w64 t.number ++ (length columns ∷ columns_text 970 columns)))),
+      length-append (name_text t.table.heading.name) (to_be_bytes w64 t.table.region ++ (to_be_bytes w32 t.table.heading.capacity ++ (to_be_bytes w64 t.number ++ (length columns ∷ (columns_text 953 columns ++ salt_text t.salt))))),
+      length-append (columns_text 953 columns) (salt_text t.salt),
       name,
       fields,
+      salt,
     )
 
 pub length-head_text : (next count : ℕ) → length (head_text next count) ≡ 1024

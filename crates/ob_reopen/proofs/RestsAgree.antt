@@ -4,6 +4,7 @@ use Rattle.std.specs.Prelude.{slice_get}
 use Rattle.ob_mean.specs.Verdict.{Tables}
 use Rattle.ob_row.specs.Slots.{Slots}
 use Rattle.ob_seal.specs.KeySet.{KeySet, pair_of}
+use Rattle.ob_seal.specs.declared.pairs.Pair.{Pair}
 use Rattle.ob_seal.proofs.Agree.{sealed_agree}
 use Rattle.ob_store.specs.State.{KeptRegion}
 use Rattle.ob_vault.specs.Tied.{at_of}
@@ -17,6 +18,7 @@ module _ (k l : KeySet) (kept : ℕ → Option KeptRegion) where
   table_agree pack t slots same keeps = record {
     size = keeps.size;
     fits = keeps.fits;
+    salt = keeps.salt ∙ ap (λ (p : Pair). p.salt) same;
     region = keeps.region;
     is = keeps.is;
     blocks = keeps.blocks;

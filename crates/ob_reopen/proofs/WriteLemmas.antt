@@ -122,9 +122,10 @@ pub rows_long : (closing : Closing) (listed : List Listed) → IsCatalogue closi
 rows_long closing listed catalogue zero below = length-head_text (closing.region + 1) (length listed)
 rows_long closing listed catalogue (suc p) below =
     let at = got_some listed p (omega (arith, below)) in
-    let heading = (catalogue.are.each p at.0 at.1).listed.heading in
+    let listed_as = (catalogue.are.each p at.0 at.1).listed in
+    let heading = listed_as.heading in
     ap (λ (l : List ℕ). length l) (mapped_at table_text listed p at.0 at.1)
-    ∙ length-table_text at.0 heading.name heading.stored.few (fits_columns at.0.table.heading heading)
+    ∙ length-table_text at.0 heading.name heading.stored.few (fits_columns at.0.table.heading heading) listed_as.salt
 
 -- what is kept of a closing that is live
 pub keeps_rows : (closing : Closing) (listed : List Listed) (w : World) → IsCatalogue closing listed → w.store.live closing.region ≡ Some (record { blocks = closing.blocks; len = 1056 })

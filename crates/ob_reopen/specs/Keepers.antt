@@ -1,9 +1,9 @@
 -- What contracts see of a keeper, and what its calls do.
-use Rattle.std.specs.Prelude.{◌≡◌, ◌⊎◌, ◌↔◌, ◌==◌, ◌≤◌, ◌<◌, ◌+◌, ◌-◌, ◌^◌, ℕ, min, List, Option, Some, Result, Ok, Err, IsErr, IsTrue, IfOk, OnOk, OnErr, ⊤}
+use Rattle.std.specs.Prelude.{◌≡◌, ◌⊎◌, ◌↔◌, ◌==◌, ◌≤◌, ◌<◌, ◌+◌, ◌-◌, ◌^◌, ℕ, min, List, [], Option, Some, None, Vec, Result, Ok, Err, IsErr, IsTrue, IfOk, OnOk, OnErr, ⊤, length, slice_index}
 use Rattle.std.specs.List.{list_any}
 use Rattle.ob_base.specs.declared.fault.Failed.{Failed}
 use Rattle.ob_base.specs.declared.mark.Mark.{Mark}
-use Rattle.ob_base.specs.declared.mark.Mark.TheVariants.{Fresh, InUse, Closed}
+use Rattle.ob_base.specs.declared.mark.Mark.TheVariants.{Fresh, InUse, Closed, Begun, Saved}
 use Rattle.ob_base.specs.Counts.{Rises}
 
 pub record KeeperState : Type 0 where
@@ -23,11 +23,18 @@ pub record AreMarked (region blocks number pack : ℕ) : Type 0 where
   pub pack_least : 1 ≤ pack
   pub pack_most : pack ≤ 16
 
+-- the bytes of a salt that a mark may name
+pub record AreSaltBytes (salt : List ℕ) : Type 0 where
+  pub long : length salt ≡ 16
+  pub each : (i : ℕ) → slice_index salt i < 256
+
 -- a mark within its limits
 abbrev pub IsMark : Mark → Type 0
 IsMark Fresh = ⊤
 IsMark InUse = ⊤
 IsMark (Closed region blocks number pack) = AreMarked region blocks number pack
+IsMark Begun = ⊤
+IsMark (Saved region blocks number pack salt) = AreMarked region blocks number pack × AreSaltBytes salt
 
 -- `Failed` comes only where the count rose, and any other answer leaves it
 abbrev pub CountsFault : {T : Type 0} → Result T Failed → KeeperState → KeeperState → Type 0
@@ -51,6 +58,13 @@ pub record SetsMark {T : Type 0} (mark : Mark) (result : Result T Failed)
   pub failed : OnErr result ((held : Mark) → old.held ≡ Some held
       → (new.held ≡ Some held) ⊎ (new.held ≡ Some mark))
 
+-- a salt was drawn, and the mark stays
+pub record DrawsSalt (result : Result (List ℕ) Failed) (old new : KeeperState) : Type 0 where
+  pub cause : CountsFault result old new
+  pub faults : old.faults ≤ new.faults
+  pub within : IfOk result AreSaltBytes
+  pub stays : new.held ≡ old.held
+
 -- ---- a keeper in memory
 pub record MemoryState : Type 0 where
   pub mark : Mark
@@ -59,6 +73,12 @@ pub record MemoryState : Type 0 where
   -- the calls so far, and how many of them failed
   pub calls : ℕ
   pub faults : ℕ
+  -- the salts that are left, the last of them the next
+  pub salts : List (List ℕ)
+
+abbrev pub salts_in : {A : Type 0} → Option (Vec (List ℕ) A) → List (List ℕ)
+salts_in None = []
+salts_in (Some salts) = salts.items
 
 -- it tells
 abbrev pub told_by : MemoryState → KeeperState
@@ -67,5 +87,6 @@ told_by m = record { held = Some m.mark; faults = m.faults }
 -- one call more was made, which failed where its number is listed
 pub record Calls {T : Type 0} (result : Result T Failed) (old new : MemoryState) : Type 0 where
   pub fail : new.fail ≡ old.fail
+  pub salts : new.salts ≡ old.salts
   pub calls : new.calls ≡ min (old.calls + 1) (2 ^ 64 - 1)
   pub fails : IsErr result ↔ IsTrue (list_any (λ n. n == new.calls) old.fail)

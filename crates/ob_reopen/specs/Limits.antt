@@ -16,6 +16,7 @@ use Rattle.ob_base.specs.Stored.{NamesTable}
 use Rattle.ob_reopen.specs.declared.closing.Closing.{Closing}
 use Rattle.ob_reopen.specs.declared.listed.Listed.{Listed}
 use Rattle.ob_reopen.specs.Keepers.{AreMarked}
+use Rattle.ob_seal.specs.Sealed.{IsSalt}
 
 -- a closing that a mark may name
 abbrev pub IsMarked : Closing → Type 0
@@ -62,6 +63,7 @@ pub record IsListed (closing : Closing) (t : Listed) : Type 0 where
   pub region_most : t.table.region < closing.region
   pub number_least : 1 ≤ t.number
   pub number_most : end_of closing.pack t ≤ closing.number
+  pub salt : IsSalt t.salt
 
 -- the first has the smaller name, and they have neither a region nor a number together
 abbrev pub are_apart : (pack : ℕ) → Listed → Listed → Bool

@@ -14,7 +14,7 @@ use Rattle.ob_reopen.specs.Limits.{blocks_of}
 use Rattle.ob_reopen.specs.declared.closing.Closing.{Closing}
 use Rattle.ob_reopen.specs.declared.listed.Listed.{Listed}
 use Rattle.ob_row.specs.Slots.{Slots}
-use Rattle.ob_seal.specs.KeySet.{KeySet}
+use Rattle.ob_seal.specs.KeySet.{KeySet, pair_of}
 use Rattle.ob_seal.specs.Sealed.{sealed}
 use Rattle.ob_store.specs.State.{KeptRegion}
 use Rattle.ob_vault.specs.Tied.{at_of}
@@ -37,12 +37,13 @@ kept_block pack t slots p =
     block_bytes t.table.heading.schema
     (block_at pack (whole_blocks pack t.table.heading.capacity slots) p)
 
--- the region of a table that is listed is kept, and its blocks are those of these slots, each sealed for its place under
--- the number of its last write
+-- the region of a table that is listed, with the salt of the run that made it, is kept, and its blocks are those of these
+-- slots, each sealed for its place under the number of its last write
 pub record KeepsTable (keys : KeySet) (pack : ℕ) (t : Listed) (slots : Slots)
     (kept : ℕ → Option KeptRegion) : Type 0 where
   pub size : length slots ≡ t.table.heading.capacity
   pub fits : All (FitsSlot t.table.heading.schema) slots
+  pub salt : t.salt ≡ (pair_of keys t.table.region).salt
   pub region : KeptRegion
   pub is : kept t.table.region ≡ Some region
   pub blocks : region.shape.blocks ≡ blocks_of pack t

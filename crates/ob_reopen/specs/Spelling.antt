@@ -1,5 +1,5 @@
 -- How a closing is spelled: blocks of one row of 1,024 bytes, the first of them its head, and one for each table.
-use Rattle.std.specs.Prelude.{◌≡◌, ◌≤◌, ◌<◌, ◌+◌, ◌-◌, ◌^◌, ℕ, Bool, List, [], ◌∷◌, ◌++◌, length, map, replicate, codes, if◌then◌else◌}
+use Rattle.std.specs.Prelude.{◌≡◌, ◌≤◌, ◌<◌, ◌+◌, ◌-◌, ◌^◌, ℕ, Bool, List, [], ◌∷◌, ◌++◌, Option, Some, None, length, map, replicate, codes, if◌then◌else◌}
 use Rattle.std.specs.Int.{to_be_bytes, w32, w64}
 use Rattle.std.specs.List.{All}
 use Rattle.ob_base.specs.declared.schema.Kind.{Kind}
@@ -7,6 +7,7 @@ use Rattle.ob_base.specs.declared.schema.Kind.TheVariants.{Int, Varchar}
 use Rattle.ob_base.specs.declared.schema.Column.{Column}
 use Rattle.ob_base.specs.declared.schema.Shape.TheVariants.{Flat}
 use Rattle.ob_base.specs.Schemas.{Columns}
+use Rattle.ob_seal.specs.Sealed.{IsSalt}
 use Rattle.ob_reopen.specs.declared.listed.Listed.{Listed}
 
 -- a name behind its length, with zeros up to 32 bytes
@@ -30,12 +31,19 @@ abbrev pub columns_text : ℕ → Columns → List ℕ
 columns_text n [] = replicate n 0
 columns_text n (c ∷ cs) = column_text c ++ columns_text (n - 36) cs
 
--- a table: its name, region and capacity, the write number of its first block, and its columns behind their number
+-- whether a table's run had a salt, and the salt
+abbrev pub salt_text : Option (List ℕ) → List ℕ
+salt_text None = replicate 17 0
+salt_text (Some salt) = 1 ∷ salt
+
+-- a table: its name, region and capacity, the write number of its first block, its columns behind their number, and the
+-- salt of its run; where that had none the row is what it was before there were salts
 unfoldable pub table_text : Listed → List ℕ
 table_text t =
     name_text t.table.heading.name ++ (to_be_bytes w64 t.table.region
     ++ (to_be_bytes w32 t.table.heading.capacity ++ (to_be_bytes w64 t.number
-    ++ (length t.table.heading.schema ∷ columns_text 970 t.table.heading.schema))))
+    ++ (length t.table.heading.schema
+    ∷ (columns_text 953 t.table.heading.schema ++ salt_text t.salt)))))
 
 -- the head: the number of the next region, and how many tables there are
 unfoldable pub head_text : (next count : ℕ) → List ℕ
@@ -60,3 +68,4 @@ pub record FitsText (t : Listed) : Type 0 where
   pub capacity : t.table.heading.capacity < 2 ^ 32
   pub number : t.number < 2 ^ 64
   pub flat : t.table.heading.shape ≡ Flat
+  pub salt : IsSalt t.salt

@@ -10,6 +10,8 @@ use Rattle.ob_store.specs.Runs.{Began}
 use Rattle.ob_vault.specs.declared.fault.VaultErr.{VaultErr}
 use Rattle.ob_vault.specs.declared.fault.VaultErr.TheVariants as VaultErrs
 use Rattle.ob_vault.specs.declared.region.Region.{Region}
+use Rattle.ob_seal.specs.KeySet.{KeySet, pair_of}
+use Rattle.ob_seal.specs.Sealed.{IsSalt}
 use Rattle.ob_vault.specs.State.{RevState, World}
 use Rattle.ob_vault.specs.Tied.{Lives, Holds}
 use Rattle.ob_vault.specs.Calls.{Went, CutShort, Seals, one}
@@ -21,9 +23,9 @@ use Rattle.ob_reopen.specs.Limits.{IsCatalogue, IsListed, end_of}
 use Rattle.ob_reopen.specs.Closings.{IsClosing, region_of, closing_region, row_of, write_script}
 
 -- ---- the list
--- a table as it is listed: with the number of its first block
-abbrev pub listed_of : RevState → Table → Listed
-listed_of revs t = record { table = t; number = revs.number t.region 0 }
+-- a table as it is listed: with the number of its first block, and the salt of the run that made its region
+abbrev pub listed_of : KeySet → RevState → Table → Listed
+listed_of keys revs t = record { table = t; number = revs.number t.region 0; salt = (pair_of keys t.region).salt }
 
 -- a region is live, and has a block
 pub record HasBlock (region : ℕ) (revs : RevState) : Type 0 where
@@ -40,8 +42,8 @@ abbrev pub placed : List Listed → Listed → List Listed
 placed listed t = insert listed (prefix_len (is_before t) listed) t
 
 -- all of them, by their names
-abbrev pub catalogue_of : RevState → List Table → List Listed
-catalogue_of revs tables = fold placed [] (map (listed_of revs) tables)
+abbrev pub catalogue_of : KeySet → RevState → List Table → List Listed
+catalogue_of keys revs tables = fold placed [] (map (listed_of keys revs) tables)
 
 -- neither a name, nor a region, nor a number is that of both
 pub record StandApart (pack : ℕ) (t u : Listed) : Type 0 where
@@ -50,19 +52,27 @@ pub record StandApart (pack : ℕ) (t u : Listed) : Type 0 where
   pub numbers : (end_of pack t ≤ u.number) ⊎ (end_of pack u ≤ t.number)
 
 -- tables that this closing may list, in any order
-pub record MayList (closing : Closing) (revs : RevState) (tables : List Table) : Type 0 where
-  pub each : (i : ℕ) (t : Table) → slice_get tables i ≡ Some t → IsListed closing (listed_of revs t)
+pub record MayList (closing : Closing) (keys : KeySet) (revs : RevState)
+    (tables : List Table) : Type 0 where
+  pub each : (i : ℕ) (t : Table) → slice_get tables i ≡ Some t
+      → IsListed closing (listed_of keys revs t)
   pub apart : (i j : ℕ) (t u : Table) → slice_get tables i ≡ Some t → slice_get tables j ≡ Some u
-      → i ≢ j → StandApart closing.pack (listed_of revs t) (listed_of revs u)
+      → i ≢ j → StandApart closing.pack (listed_of keys revs t) (listed_of keys revs u)
   pub count : length tables + 1 ≡ closing.blocks
 
 -- each of these tables is listed, and as many as they are
-pub record ListsAll (revs : RevState) (tables : List Table) (listed : List Listed) : Type 0 where
+pub record ListsAll (keys : KeySet) (revs : RevState) (tables : List Table)
+    (listed : List Listed) : Type 0 where
   pub has : (i : ℕ) (t : Table) → slice_get tables i ≡ Some t
-      → (j : ℕ) × (slice_get listed j ≡ Some (listed_of revs t))
+      → (j : ℕ) × (slice_get listed j ≡ Some (listed_of keys revs t))
   pub only : (j : ℕ) (x : Listed) → slice_get listed j ≡ Some x
-      → (i : ℕ) × (t : Table) × (slice_get tables i ≡ Some t) × (x ≡ listed_of revs t)
+      → (i : ℕ) × (t : Table) × (slice_get tables i ≡ Some t) × (x ≡ listed_of keys revs t)
   pub count : length listed ≡ length tables
+
+-- the runs that made their regions had salts of 16 bytes, or none
+abbrev pub AreSalted : KeySet → List Table → Type 0
+AreSalted keys tables = (i : ℕ) (t : Table) → slice_get tables i ≡ Some t
+    → IsSalt (pair_of keys t.region).salt
 
 -- ---- the closing
 -- that of a vault's next region

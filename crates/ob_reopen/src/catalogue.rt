@@ -2,7 +2,8 @@
 ghost use Rattle.std.specs.Prelude.{◌≡◌, ◌≤◌, IfOk, length};
 ghost use Rattle.std.specs.List.{All, prefix_len};
 ghost use Rattle.ob_base.specs.declared.schema.Table.{Table as StoredTable};
-ghost use Rattle.ob_reopen.specs.Writings.{HasBlock, is_before, catalogue_of};
+ghost use Rattle.ob_reopen.specs.Writings.{AreSalted, HasBlock, is_before, catalogue_of};
+ghost use Rattle.ob_vault.specs.Places.{keys_in};
 
 use crate::listed::Listed;
 use ob_base::{Heading, Items, NoMemory, Table};
@@ -43,7 +44,7 @@ fn copied(table: &Table) -> Table
 }
 
 /// The tables in order of their names, each with the write number of the first block of its region, which is
-/// live in the vault.
+/// live in the vault, and with the salt of the run that made it.
 pub fn list_tables<R: Revisions>(
     alloc: Global,
     vault: &Vault<R>,
@@ -51,7 +52,9 @@ pub fn list_tables<R: Revisions>(
 ) -> Result<Items<Listed>, NoMemory>
     requires { All (λ (t : StoredTable). HasBlock t.region (R.state vault.now.revs))
         tables.now }
-    ensures { IfOk result (λ listed. listed ≡ catalogue_of (R.state vault.now.revs) tables.now) }
+    ensures listed { IfOk result (λ listed. listed
+        ≡ catalogue_of (keys_in vault.now) (R.state vault.now.revs) tables.now) }
+    ensures salts { IfOk result (λ listed. AreSalted (keys_in vault.now) tables.now) }
 {
     let Ok(mut listed) = Vec::with_capacity(alloc, tables.len()) else {
         return Err(NoMemory);
@@ -60,6 +63,7 @@ pub fn list_tables<R: Revisions>(
         let new = Listed {
             table: copied(table),
             number: vault.number(table.region, 0),
+            salt: vault.salt_of(table.region),
         };
         let place = place_of(&listed, &new);
         if listed.insert(place, new).is_err() {

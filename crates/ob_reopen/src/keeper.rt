@@ -1,4 +1,4 @@
-ghost use Rattle.ob_reopen.specs.Keepers.{KeeperState, IsMark, GivesMark, SetsMark};
+ghost use Rattle.ob_reopen.specs.Keepers.{KeeperState, DrawsSalt, IsMark, GivesMark, SetsMark};
 
 use ob_base::{Failed, Mark};
 
@@ -17,4 +17,12 @@ pub trait Keeper {
     fn set(&mut self, mark: &Mark) -> Result<(), Failed>
         requires { IsMark mark.now }
         ensures sets { SetsMark mark.now result (state self.old) (state self.new) };
+}
+
+/// A keeper that draws salts.
+pub trait Salts: Keeper {
+    /// Bytes that no other run has drawn: a run that saves its tables seals under keys of its own by them. That they
+    /// are others each time is what the keeper is trusted for, and no clause says it.
+    fn salt(&mut self) -> Result<[u8; 16], Failed>
+        ensures draws { DrawsSalt result (Self.state self.old) (Self.state self.new) };
 }

@@ -19,10 +19,11 @@ ghost use Rattle.ob_verdict.specs.Alike.{AreAlike};
 
 /// In order of their names, tables that a closing may list are a catalogue, which has each of them and no other.
 pub fn lists_are_catalogues()
-    ensures catalogue { (closing : Closing) (revs : RevState) (tables : List Table)
-        → MayList closing revs tables → IsCatalogue closing (catalogue_of revs tables) }
-    ensures all { (revs : RevState) (tables : List Table)
-        → ListsAll revs tables (catalogue_of revs tables) }
+    ensures catalogue { (closing : Closing) (keys : KeySet) (revs : RevState)
+        (tables : List Table) → MayList closing keys revs tables
+        → IsCatalogue closing (catalogue_of keys revs tables) }
+    ensures all { (keys : KeySet) (revs : RevState) (tables : List Table)
+        → ListsAll keys revs tables (catalogue_of keys revs tables) }
 {}
 
 /// A closing that was read first under some keys was read under all that are the same for its region: those of the

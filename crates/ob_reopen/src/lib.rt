@@ -19,7 +19,7 @@ mod writing;
 pub use catalogue::list_tables;
 pub use closing::Closing;
 pub use fault::{CloseErr, OpenErr};
-pub use keeper::Keeper;
+pub use keeper::{Keeper, Salts};
 pub use laws::{
     closings_keep_keys, lists_are_catalogues, names_order_tables, rests_outlast, tables_keep_keys,
 };

@@ -120,6 +120,7 @@ fn is_listed(closing: Closing, listed: &Listed) -> bool
     requires marked { IsMarked closing }
     requires table { NamesTable listed.now.table.heading }
     requires flat { listed.now.table.heading.shape ≡ Flat }
+    requires salt { IsSalt listed.now.salt }
     ensures yes { OnTrue result (IsListed closing listed.now) }
     ensures no { OnFalse result (IsListed closing listed.now → ⊥) }
 {
@@ -165,6 +166,7 @@ pub(crate) fn goes_on(closing: Closing, before: &[Listed], listed: &Listed) -> b
     requires before { AreListed closing before.now }
     requires table { NamesTable listed.now.table.heading }
     requires flat { listed.now.table.heading.shape ≡ Flat }
+    requires salt { IsSalt listed.now.salt }
     ensures yes { OnTrue result (GoesOn closing before.now listed.now) }
     ensures no { OnFalse result (GoesOn closing before.now listed.now → ⊥) }
 {

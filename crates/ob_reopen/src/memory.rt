@@ -1,7 +1,7 @@
-ghost use Rattle.std.specs.Prelude.{◌≡◌, ◌≤◌, OnErr};
-ghost use Rattle.ob_reopen.specs.Keepers.{IsMark, GivesMark, SetsMark, CountsFault, Calls, told_by};
+ghost use Rattle.std.specs.Prelude.{◌≡◌, ◌≤◌, [], OnErr};
+ghost use Rattle.ob_reopen.specs.Keepers.{DrawsSalt, IsMark, GivesMark, SetsMark, CountsFault, Calls, told_by};
 
-use crate::keeper::Keeper;
+use crate::keeper::{Keeper, Salts};
 use ob_base::{Failed, Mark};
 use std::marker::Model;
 
@@ -12,10 +12,12 @@ pub struct MemKeeper {
     fail: Vec<u64>,
     calls: u64,
     faults: u64,
+    // the last of them is the next
+    salts: Option<Vec<[u8; 16]>>,
 }
 
 impl Model for MemKeeper {
-    ghost use Rattle.ob_reopen.specs.Keepers.{IsMark, MemoryState};
+    ghost use Rattle.ob_reopen.specs.Keepers.{IsMark, MemoryState, salts_in};
 
     ghost Value = { MemoryState };
 
@@ -24,6 +26,7 @@ impl Model for MemKeeper {
       fail = k.fail.items;
       calls = k.calls;
       faults = k.faults;
+      salts = salts_in k.salts;
     } };
 
     ghost invariant = { λ k. IsMark k.mark };
@@ -33,13 +36,35 @@ impl MemKeeper {
     /// A keeper that holds this mark. Its calls, counted from 1, fail where `fail` has their number.
     pub fn new(mark: Mark, fail: Vec<u64>) -> MemKeeper
         requires { IsMark mark }
-        ensures { result ≡ record { mark = mark; fail = fail.items; calls = 0; faults = 0 } }
+        ensures { result
+            ≡ record { mark = mark; fail = fail.items; calls = 0; faults = 0; salts = [] } }
     {
         MemKeeper {
             mark,
             fail,
             calls: 0,
             faults: 0,
+            salts: None,
+        }
+    }
+
+    /// The same, which draws these salts, the last of them first. Once it has drawn them all it fails.
+    pub fn with_salts(self, salts: Vec<[u8; 16]>) -> MemKeeper
+        ensures { result ≡ record self { salts = salts.items } }
+    {
+        let MemKeeper {
+            mark,
+            fail,
+            calls,
+            faults,
+            ..
+        } = self;
+        MemKeeper {
+            mark,
+            fail,
+            calls,
+            faults,
+            salts: Some(salts),
         }
     }
 
@@ -79,5 +104,24 @@ impl Keeper for MemKeeper {
         self.call()?;
         self.mark = *mark;
         Ok(())
+    }
+}
+
+impl Salts for MemKeeper {
+    fn salt(&mut self) -> Result<[u8; 16], Failed>
+        ensures draws { DrawsSalt result (told_by self.old) (told_by self.new) }
+    {
+        self.call()?;
+        let next = match &mut self.salts {
+            Some(salts) => salts.pop(),
+            None => None,
+        };
+        match next {
+            Some(salt) => Ok(salt),
+            None => {
+                self.faults = self.faults.saturating_add(1);
+                Err(Failed)
+            }
+        }
     }
 }

@@ -1,5 +1,5 @@
 //! What a row of a closing says.
-ghost use Rattle.std.specs.Prelude.{◌≡◌, ◌≤◌, ◌<◌, ◌+◌, ◌-◌, ◌*◌, ◌^◌, [], ◌∷◌, ◌++◌, ℕ, List, Some, IfSome, true, length};
+ghost use Rattle.std.specs.Prelude.{◌≡◌, ◌≤◌, ◌<◌, ◌+◌, ◌-◌, ◌*◌, ◌^◌, [], ◌∷◌, ◌++◌, ℕ, List, Option, Some, IfSome, true, length};
 ghost use Rattle.std.specs.Bool.{OnTrue, OnFalse};
 ghost use Rattle.std.specs.Int.{to_be_bytes, w32, w64};
 ghost use Rattle.std.specs.List.{All};
@@ -9,7 +9,8 @@ ghost use Rattle.ob_base.specs.declared.schema.Kind.{Kind as ColumnKind};
 ghost use Rattle.ob_base.specs.declared.schema.Shape.TheVariants.{Flat};
 ghost use Rattle.ob_base.specs.Stored.{NamesTable};
 ghost use Rattle.ob_reopen.specs.declared.listed.Listed.{Listed as Entry};
-ghost use Rattle.ob_reopen.specs.Spelling.{FitsColumn, FitsText, name_text, kind_text, column_text, columns_text, table_text, head_text};
+ghost use Rattle.ob_seal.specs.Sealed.{IsSalt};
+ghost use Rattle.ob_reopen.specs.Spelling.{FitsColumn, FitsText, name_text, kind_text, column_text, columns_text, salt_text, table_text, head_text};
 ghost use Rattle.ob_reopen.specs.Limits.{IsMarked, AreListed, GoesOn};
 
 use crate::closing::Closing;
@@ -62,6 +63,22 @@ fn kind_in(kind: u8, n: u8) -> Kind
     }
 }
 
+// The salt that these bytes spell, or none; other bytes than those of `put_salt` spell some, too.
+fn salt_in(field: &[u8]) -> Option<[u8; 16]>
+    requires { length field.now ≡ 17 }
+    ensures long { IsSalt result }
+    ensures told { (salt : Option (List ℕ)) → IsSalt salt → field.now ≡ salt_text salt
+        → result ≡ salt }
+{
+    let (has, bytes) = field.split_at(1);
+    if has[0] == 0 {
+        return None;
+    }
+    let mut salt = [0; 16];
+    salt.copy_from_slice(bytes);
+    Some(salt)
+}
+
 // The column that these bytes spell, if any do.
 fn column_in(table: &Name, field: &[u8]) -> Option<Column>
     requires { length field.now ≡ 36 }
@@ -105,11 +122,11 @@ fn add_columns(table: &Name, count: u8, fields: &[u8], schema: &mut Schema) -> b
 
 // The columns that these bytes spell, if any do.
 fn columns_in(table: &Name, count: u8, fields: &[u8]) -> Option<Schema>
-    requires { length fields.now ≡ 970 }
+    requires { length fields.now ≡ 953 }
     ensures few { IfSome result (λ cs. length cs ≤ 16) }
     ensures table { IfSome result (λ cs. All (λ (c : TableColumn). c.table ≡ table.now) cs) }
     ensures told { (cs : Columns) → length cs ≤ 16 → length cs ≡ count
-        → All (FitsColumn table.now) cs → fields.now ≡ columns_text 970 cs → result ≡ Some cs }
+        → All (FitsColumn table.now) cs → fields.now ≡ columns_text 953 cs → result ≡ Some cs }
 {
     let mut schema = Schema::new();
     if count <= 16 && add_columns(table, count, fields, &mut schema) {
@@ -125,13 +142,15 @@ fn parsed(text: &[u8]) -> Option<Listed>
     ensures few { IfSome result (λ t. length t.table.heading.schema ≤ 16) }
     ensures table { IfSome result (λ t. NamesTable t.table.heading) }
     ensures flat { IfSome result (λ t. t.table.heading.shape ≡ Flat) }
+    ensures salt { IfSome result (λ t. IsSalt t.salt) }
     ensures told { (t : Entry) → FitsText t → text.now ≡ table_text t → result ≡ Some t }
 {
     let (name, rest) = text.split_at(33);
     let (region, rest) = rest.split_at(8);
     let (capacity, rest) = rest.split_at(4);
     let (number, rest) = rest.split_at(8);
-    let (count, fields) = rest.split_at(1);
+    let (count, rest) = rest.split_at(1);
+    let (fields, salt) = rest.split_at(953);
     let name = name_in(name)?;
     let schema = columns_in(&name, count[0], fields)?;
     Some(Listed {
@@ -145,6 +164,7 @@ fn parsed(text: &[u8]) -> Option<Listed>
             region: long_in(region),
         },
         number: long_in(number),
+        salt: salt_in(salt),
     })
 }
 
@@ -153,6 +173,7 @@ fn table_in(text: &[u8]) -> Option<Listed>
     requires { length text.now ≡ 1024 }
     ensures table { IfSome result (λ t. NamesTable t.table.heading) }
     ensures flat { IfSome result (λ t. t.table.heading.shape ≡ Flat) }
+    ensures salt { IfSome result (λ t. IsSalt t.salt) }
     ensures spelled { IfSome result (λ t. text.now ≡ table_text t) }
     ensures told { (t : Entry) → FitsText t → text.now ≡ table_text t → result ≡ Some t }
 {

@@ -1,6 +1,6 @@
 //! The bytes of a closing's rows.
 ghost use Rattle.std.specs.Prelude.{◌≡◌, ◌≤◌, ◌*◌, ◌-◌, length};
-ghost use Rattle.ob_reopen.specs.Spelling.{name_text, kind_text, column_text, columns_text, table_text, head_text};
+ghost use Rattle.ob_reopen.specs.Spelling.{name_text, kind_text, column_text, columns_text, salt_text, table_text, head_text};
 
 use crate::listed::Listed;
 use ob_base::{Column, Kind, Name};
@@ -55,6 +55,21 @@ fn put_columns(columns: &[Column], fields: &mut [u8])
     }
 }
 
+// Writes whether a table's run had a salt, and the salt.
+fn put_salt(salt: Option<[u8; 16]>, field: &mut [u8])
+    requires { length field.old ≡ 17 }
+    ensures { field.new ≡ salt_text salt }
+{
+    match salt {
+        None => field.fill(0),
+        Some(bytes) => {
+            let (has, rest) = field.split_at_mut(1);
+            has.fill(1);
+            rest.copy_from_slice(&bytes);
+        }
+    }
+}
+
 /// Writes what a closing says of a table.
 #[tactic(auto, unfolding(crate::specs::Spelling::table_text))]
 pub(crate) fn put_table(listed: &Listed, text: &mut [u8])
@@ -68,13 +83,15 @@ pub(crate) fn put_table(listed: &Listed, text: &mut [u8])
     let (region, rest) = rest.split_at_mut(8);
     let (capacity, rest) = rest.split_at_mut(4);
     let (number, rest) = rest.split_at_mut(8);
-    let (count, fields) = rest.split_at_mut(1);
+    let (count, rest) = rest.split_at_mut(1);
+    let (fields, salt) = rest.split_at_mut(953);
     put_name(&heading.name, name);
     region.copy_from_slice(&listed.table.region.to_be_bytes());
     capacity.copy_from_slice(&heading.capacity.to_be_bytes());
     number.copy_from_slice(&listed.number.to_be_bytes());
     count.fill(columns.len() as u8);
     put_columns(columns, fields);
+    put_salt(listed.salt, salt);
 }
 
 /// Writes the head of a closing of `count` tables, behind which `next` is the number of the next region.

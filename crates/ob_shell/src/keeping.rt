@@ -53,7 +53,7 @@ fn kept_status(ending: KeptEnding) -> u8
 {
     match ending {
         KeptEnding::Plain(ending) => status_of(ending),
-        KeptEnding::OtherPack => 2,
+        KeptEnding::OtherPack | KeptEnding::Saved => 2,
         KeptEnding::StoreFault => 3,
         KeptEnding::NotClosed => 9,
         KeptEnding::KeeperFault => 10,
@@ -66,6 +66,7 @@ fn kept_line(ending: KeptEnding) -> Line
     match ending {
         KeptEnding::Plain(ending) => last_line(ending),
         KeptEnding::OtherPack => Line::new(b"! pack\n"),
+        KeptEnding::Saved => Line::new(b"! saved\n"),
         KeptEnding::StoreFault => Line::new(b"! store fault\n"),
         KeptEnding::NotClosed => Line::new(b"! not closed\n"),
         KeptEnding::KeeperFault => Line::new(b"! keeper fault\n"),
@@ -147,6 +148,7 @@ fn find_engine<R: Revisions, S: Lasting, K: Keeper>(
     };
     match mark {
         Mark::InUse => Err(KeptEnding::NotClosed),
+        Mark::Begun | Mark::Saved { .. } => Err(KeptEnding::Saved),
         Mark::Fresh => match Engine::<R>::start(alloc, config, Keys::derive(key)) {
             Ok(engine) => Ok(engine),
             Err(_) => Err(stopped(Stop::NoMemory)),
@@ -373,6 +375,7 @@ fn conclude_kept<O: Sink, S: BlockStore>(ended: KeptEnded, store: &S, out: &mut 
         }
         KeptEnding::Plain(Ending::Usage | Ending::BadKey | Ending::Ran(Err(_)))
         | KeptEnding::OtherPack
+        | KeptEnding::Saved
         | KeptEnding::StoreFault
         | KeptEnding::NotClosed
         | KeptEnding::KeeperFault => close_kept(ended, out),

@@ -164,3 +164,34 @@ pub record Resumes (number blocks len : ℕ) (old new : StoreState) : Type 0 whe
   pub last : (region : KeptRegion) → IsTrue old.tells → old.kept number ≡ Some region
       → (x : ℕ) → new.last number x ≡ region.last x
   pub others : OnlyRegion number old new
+
+-- ---- a store that saves
+-- nothing has changed but that the store may have failed
+pub record Syncs (old new : StoreState) : Type 0 where
+  pub asked : new.asked ≡ old.asked
+  pub spare : new.spare ≡ old.spare
+  pub faults : old.faults ≤ new.faults
+  pub slips : new.slips ≡ old.slips
+  pub tells : new.tells ≡ old.tells
+  pub lie : new.lie ≡ old.lie
+  pub gave : new.gave ≡ old.gave
+  pub keeps : Keeps old new
+  pub steady : IsSteady old → IsSteady new
+
+-- no region is kept
+pub record IsBare (s : StoreState) : Type 0 where
+  pub none : (q : ℕ) → s.kept q ≡ None
+
+-- each region that is live stays, and of those that aren't none is kept but as one that was given up
+pub record Sweeps (old new : StoreState) : Type 0 where
+  pub asked : new.asked ≡ old.asked
+  pub spare : new.spare ≡ old.spare
+  pub faults : new.faults ≡ old.faults
+  pub slips : old.slips ≤ new.slips
+  pub tells : new.tells ≡ old.tells
+  pub lie : new.lie ≡ old.lie
+  pub live : (q : ℕ) → new.live q ≡ old.live q
+  pub last : (q x : ℕ) → old.live q ≢ None → new.last q x ≡ old.last q x
+  pub kept : (q : ℕ) → old.live q ≢ None → new.kept q ≡ old.kept q
+  pub gone : (q : ℕ) → old.live q ≡ None → IsGivenUp q new
+  pub steady : IsSteady old → IsSteady new

@@ -1,7 +1,7 @@
-ghost use Rattle.std.specs.Prelude.{◌≡◌, ◌⊎◌, ◌<◌, ◌≤◌, ℕ, IsTrue, [], Some, None, length, slice_get, OnOk, OnErr};
+ghost use Rattle.std.specs.Prelude.{◌≡◌, ◌⊎◌, ◌<◌, ◌≤◌, ℕ, IsTrue, [], Some, None, length, slice_get, true, IfOk, OnOk, OnErr};
 ghost use Rattle.ob_store.specs.State.{KeptRegion, Shape, StoreState};
 ghost use Rattle.ob_base.specs.Accesses.{highest};
-ghost use Rattle.ob_store.specs.Calls.{IsBounded, IsLive, IsPlace, IsGivenUp, KeepsLive, Reopens, Resumes, Asks, CountsFault, CountsSlip, CountsMakeFault, Keeps, Makes, ReadGives, OnlyAt, Holds, MayHold, OnlyRegion, ChangesNothing, IsSteady};
+ghost use Rattle.ob_store.specs.Calls.{IsBare, IsBounded, IsLive, IsPlace, IsGivenUp, KeepsLive, Reopens, Resumes, Asks, CountsFault, CountsSlip, CountsMakeFault, Keeps, Makes, ReadGives, OnlyAt, Holds, MayHold, OnlyRegion, ChangesNothing, IsSteady, Sweeps, Syncs};
 
 use ob_base::{Access, Failed, NoMemory, StoreErr};
 
@@ -142,4 +142,27 @@ pub trait Lasting: BlockStore {
             (Self.state self.old) (Self.state self.new)) }
         ensures err { OnErr result
             (Keeps (Self.state self.old) (Self.state self.new)) };
+}
+
+/// A store whose regions outlast a crash once it says so, and that is rid of those that nobody wants.
+///
+/// None of these calls is an access, and none takes memory.
+pub trait Saving: Lasting {
+    /// Waits until all that was written lies where a crash leaves it.
+    ///
+    /// After `Failed` some of it may be gone, though no call said so: it is of no use to try again.
+    fn sync(&mut self) -> Result<(), Failed>
+        ensures syncs { Syncs (Self.state self.old) (Self.state self.new) }
+        ensures cause { CountsFault result (Self.state self.old) (Self.state self.new) };
+
+    /// Whether there is no region, of this run or an earlier one. A store that tells says so of what it keeps.
+    fn is_bare(&mut self) -> Result<bool, Failed>
+        ensures syncs { Syncs (Self.state self.old) (Self.state self.new) }
+        ensures cause { CountsFault result (Self.state self.old) (Self.state self.new) }
+        ensures bare { IfOk result (λ bare. bare ≡ true → IsTrue (Self.state self.old).tells
+            → IsBare (Self.state self.old)) };
+
+    /// Takes out each region of an earlier run that isn't live again, as far as that can be done.
+    fn sweep(&mut self)
+        ensures sweeps { Sweeps (Self.state self.old) (Self.state self.new) };
 }

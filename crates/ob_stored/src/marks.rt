@@ -31,6 +31,20 @@ pub fn read(alloc: Global, out: &mut String, text: &str) -> Result<(), AllocErro
             out,
             "region {region}, blocks {blocks}, number {number}, pack {pack}"
         )?,
+        Mark::Begun => out.push_str("begun")?,
+        Mark::Saved {
+            region,
+            blocks,
+            number,
+            pack,
+            salt,
+        } => {
+            write!(
+                out,
+                "region {region}, blocks {blocks}, number {number}, pack {pack}, salt "
+            )?;
+            put(out, &salt)?;
+        }
     }
     if line_of(alloc, &mark)?.as_slice() != line.as_slice() {
         out.push_str(", and spelt otherwise")?;

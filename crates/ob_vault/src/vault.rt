@@ -33,7 +33,9 @@ impl<R: Revisions> Vault<R> {
     ghost use Rattle.ob_vault.specs.Numbers.{spent};
     ghost use Rattle.ob_vault.specs.Tied.{Ready, Lives};
     ghost use Rattle.ob_vault.specs.Rows.{SameSizes};
-    ghost use Rattle.ob_vault.specs.Places.{at, start_of, MayGet, MayPut};
+    ghost use Rattle.ob_seal.specs.KeySet.{pair_of};
+    ghost use Rattle.ob_seal.specs.Sealed.{IsSalt};
+    ghost use Rattle.ob_vault.specs.Places.{at, keys_in, start_of, MayGet, MayPut};
     ghost use Rattle.ob_vault.specs.Resuming.{MayResume, ResumesRegion};
     ghost use Rattle.ob_vault.specs.Rekeying.{rekeyed};
     ghost use Rattle.ob_vault.specs.VaultCalls.{MakesRegion, Gets, Puts, DropsRegion, Forgets};
@@ -269,6 +271,14 @@ impl<R: Revisions> Vault<R> {
             → at R.state self.new s ≡ rekeyed keys (at R.state self.old s) }
     {
         self.keys = keys;
+    }
+
+    /// The salt of the run that made a region, or `None` where that run had none.
+    pub fn salt_of(&self, region: u64) -> Option<[u8; 16]>
+        ensures value { result ≡ (pair_of (keys_in self.now) region).salt }
+        ensures long { IsSalt result }
+    {
+        self.keys.salt_of(region)
     }
 
     /// The number of the next region.

@@ -1,0 +1,14 @@
+use Rattle.std.proofs.Common.{◌≡◌, ◌∙◌, ◌++◌, ℕ, codes, get_or, ap, arith}
+use Rattle.std.proofs.lemmas.Bool.{both_ways}
+use Rattle.std.specs.Cmp.Lexicographic.{bytes_decides}
+use Rattle.ob_file.specs.Marks.{numbers_text, salt_text}
+use Rattle.ob_file.proofs.MarkLemmas.{closed_is_word, saved_is_word}
+use Rattle.ob_file.proofs.mark.named_of.Goals as goal
+
+pub returns-in_err-head-clause-closed : goal.returns-in_err-head-clause-closed
+returns-in_err-head-clause-closed c = λ region blocks number pack spells.
+    absurd (c.in_err-head.ensures.read (codes "closed") (numbers_text region blocks number pack (codes "\n")) closed_is_word spells.1)
+
+pub returns-in_err-head-clause-saved : goal.returns-in_err-head-clause-saved
+returns-in_err-head-clause-saved c = λ region blocks number pack salt spells.
+    absurd (c.in_err-head.ensures.read (codes "saved") (numbers_text region blocks number pack (codes " " ++ salt_text salt)) saved_is_word spells.2)

@@ -1,0 +1,55 @@
+use Rattle.std.proofs.Common.{◌≡◌, ◌∙◌, ◌++◌, ℕ, List, Some, codes, arith}
+use Rattle.ob_base.specs.declared.mark.Mark.{Mark}
+use Rattle.ob_base.specs.declared.mark.Mark.TheVariants.{Saved}
+use Rattle.ob_file.specs.Marks.{salt_text}
+use Rattle.ob_file.proofs.MarkLemmas.{after_region, after_blocks, after_number, marked_as}
+use Rattle.ob_file.proofs.mark.saved_of.Goals as goal
+
+pub returns-in_err-region-clause-read : goal.returns-in_err-region-clause-read
+returns-in_err-region-clause-read c = λ region blocks number pack salt within bytes is.
+    absurd (c.in_err-region.ensures.read region (after_region blocks number pack (codes " " ++ salt_text salt)) (omega (arith, within.region_most)) is)
+
+pub returns-in_err-blocks-clause-read : goal.returns-in_err-blocks-clause-read
+returns-in_err-blocks-clause-read c = λ region blocks number pack salt within bytes is.
+    let first = c.in_ok-region.ensures.read region (after_region blocks number pack (codes " " ++ salt_text salt)) (omega (arith, within.region_most)) is in
+    absurd (c.in_err-blocks.ensures.read blocks (after_blocks number pack (codes " " ++ salt_text salt)) (omega (arith, within.blocks_most)) first.1)
+
+pub returns-in_err-number-clause-read : goal.returns-in_err-number-clause-read
+returns-in_err-number-clause-read c = λ region blocks number pack salt within bytes is.
+    let first = c.in_ok-region.ensures.read region (after_region blocks number pack (codes " " ++ salt_text salt)) (omega (arith, within.region_most)) is in
+    let second = c.in_ok-blocks.ensures.read blocks (after_blocks number pack (codes " " ++ salt_text salt)) (omega (arith, within.blocks_most)) first.1 in
+    absurd (c.in_err-number.ensures.read number (after_number pack (codes " " ++ salt_text salt)) (omega (arith, within.number_most)) second.1)
+
+pub returns-in_err-pack-clause-read : goal.returns-in_err-pack-clause-read
+returns-in_err-pack-clause-read c = λ region blocks number pack salt within bytes is.
+    let first = c.in_ok-region.ensures.read region (after_region blocks number pack (codes " " ++ salt_text salt)) (omega (arith, within.region_most)) is in
+    let second = c.in_ok-blocks.ensures.read blocks (after_blocks number pack (codes " " ++ salt_text salt)) (omega (arith, within.blocks_most)) first.1 in
+    let third = c.in_ok-number.ensures.read number (after_number pack (codes " " ++ salt_text salt)) (omega (arith, within.number_most)) second.1 in
+    absurd (c.in_err-pack.ensures.read pack (salt_text salt) (omega (arith, within.pack_most)) third.1)
+
+pub returns-in_err-salt-clause-read : goal.returns-in_err-salt-clause-read
+returns-in_err-salt-clause-read c = λ region blocks number pack salt within bytes is.
+    let first = c.in_ok-region.ensures.read region (after_region blocks number pack (codes " " ++ salt_text salt)) (omega (arith, within.region_most)) is in
+    let second = c.in_ok-blocks.ensures.read blocks (after_blocks number pack (codes " " ++ salt_text salt)) (omega (arith, within.blocks_most)) first.1 in
+    let third = c.in_ok-number.ensures.read number (after_number pack (codes " " ++ salt_text salt)) (omega (arith, within.number_most)) second.1 in
+    let last = c.in_ok-pack.ensures.read pack (salt_text salt) (omega (arith, within.pack_most)) third.1 in
+    absurd (cc (c.in_err-salt.ensures.read salt bytes last.1))
+
+pub returns-in_err-count-clause-read : goal.returns-in_err-count-clause-read
+returns-in_err-count-clause-read c = λ region blocks number pack salt within bytes is.
+    let first = c.in_ok-region.ensures.read region (after_region blocks number pack (codes " " ++ salt_text salt)) (omega (arith, within.region_most)) is in
+    let second = c.in_ok-blocks.ensures.read blocks (after_blocks number pack (codes " " ++ salt_text salt)) (omega (arith, within.blocks_most)) first.1 in
+    let third = c.in_ok-number.ensures.read number (after_number pack (codes " " ++ salt_text salt)) (omega (arith, within.number_most)) second.1 in
+    let last = c.in_ok-pack.ensures.read pack (salt_text salt) (omega (arith, within.pack_most)) third.1 in
+    absurd (c.in_err-count.ensures (marked_as first.0 second.0 third.0 last.0 within))
+
+pub returns-clause-read : goal.returns-clause-read
+returns-clause-read c = λ region blocks number pack salt within bytes is.
+    let first = c.in_ok-region.ensures.read region (after_region blocks number pack (codes " " ++ salt_text salt)) (omega (arith, within.region_most)) is in
+    let second = c.in_ok-blocks.ensures.read blocks (after_blocks number pack (codes " " ++ salt_text salt)) (omega (arith, within.blocks_most)) first.1 in
+    let third = c.in_ok-number.ensures.read number (after_number pack (codes " " ++ salt_text salt)) (omega (arith, within.number_most)) second.1 in
+    let last = c.in_ok-pack.ensures.read pack (salt_text salt) (omega (arith, within.pack_most)) third.1 in
+    let count = c.in_ok-count.ensures.0 ∙ second.0 in
+    let rows = c.in_ok-count.ensures.1 ∙ last.0 in
+    let read : c.in_ok-salt.salt ≡ salt = cc (c.in_ok-salt.ensures.read salt bytes last.1) in
+    λ i. Some (Saved (first.0 i) (count i) (third.0 i) (rows i) (read i))
