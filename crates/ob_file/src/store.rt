@@ -310,11 +310,11 @@ where
     R::File: FileExt,
 {
     fn sync(&mut self) -> Result<(), Failed> {
-        let done = settle_written(self.files, &mut self.opened, self.name.as_str());
-        if done.is_err() {
+        let settled = settle_written(self.files, &mut self.opened, self.name.as_str());
+        if settled.is_err() {
             self.faults = self.faults.saturating_add(1);
         }
-        done
+        settled
     }
 
     fn is_bare(&mut self) -> Result<bool, Failed> {

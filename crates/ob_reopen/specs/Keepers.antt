@@ -34,7 +34,8 @@ IsMark Fresh = ⊤
 IsMark InUse = ⊤
 IsMark (Closed region blocks number pack) = AreMarked region blocks number pack
 IsMark Begun = ⊤
-IsMark (Saved region blocks number pack salt) = AreMarked region blocks number pack × AreSaltBytes salt
+IsMark (Saved region blocks number pack salt) =
+    AreMarked region blocks number pack × AreSaltBytes salt
 
 -- `Failed` comes only where the count rose, and any other answer leaves it
 abbrev pub CountsFault : {T : Type 0} → Result T Failed → KeeperState → KeeperState → Type 0

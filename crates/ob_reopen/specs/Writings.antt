@@ -25,7 +25,11 @@ use Rattle.ob_reopen.specs.Closings.{IsClosing, region_of, closing_region, row_o
 -- ---- the list
 -- a table as it is listed: with the number of its first block, and the salt of the run that made its region
 abbrev pub listed_of : KeySet → RevState → Table → Listed
-listed_of keys revs t = record { table = t; number = revs.number t.region 0; salt = (pair_of keys t.region).salt }
+listed_of keys revs t = record {
+  table = t;
+  number = revs.number t.region 0;
+  salt = (pair_of keys t.region).salt;
+}
 
 -- a region is live, and has a block
 pub record HasBlock (region : ℕ) (revs : RevState) : Type 0 where

@@ -116,8 +116,12 @@ impl Salts for MemKeeper {
             Some(salts) => salts.pop(),
             None => None,
         };
-        match next {
-            Some(salt) => Ok(salt),
+        let mut salt = [0; 16];
+        match &next {
+            Some(bytes) => {
+                salt.copy_from_slice(bytes);
+                Ok(salt)
+            }
             None => {
                 self.faults = self.faults.saturating_add(1);
                 Err(Failed)

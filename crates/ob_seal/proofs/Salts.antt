@@ -5,8 +5,8 @@ use Rattle.std.proofs.lemmas.Bool.Decides.{nat_tests}
 use Rattle.std.specs.Prelude.{slice_get}
 use Rattle.ob_seal.specs.declared.Salted.{Salted}
 use Rattle.ob_seal.specs.declared.pairs.Pair.{Pair}
-use Rattle.ob_seal.specs.KeySet.{pair_in, pair_of}
-use Rattle.ob_seal.specs.Sealed.{AreBefore, held_of, keys_salted, pair_by, relisted, salt_at}
+use Rattle.ob_seal.specs.KeySet.{KeySet, pair_in, pair_of}
+use Rattle.ob_seal.specs.Sealed.{AreBefore, AreOfSecret, AreSaltsOf, IsEarlier, held_of, keys_of, keys_salted, pair_by, relisted, salt_at}
 
 module _ (secret salt : List ℕ) where
   chosen : (b : Bool) (x y : Option (List ℕ)) → (if b then pair_by secret x else pair_by secret y) ≡ pair_by secret (if b then x else y)
@@ -69,3 +69,30 @@ own_salt salt (e ∷ es) q before =
 
 pub own_pair : (secret salt : List ℕ) (earlier : List Salted) (q : ℕ) → AreBefore q earlier → pair_of (keys_salted secret salt earlier) q ≡ pair_by secret (Some salt)
 own_pair secret salt earlier q before = salted_pair secret salt earlier q ∙ ap (pair_by secret) (own_salt salt earlier q before)
+
+-- ---- a run that lists regions with the salts that other keys of the secret have for them, has those keys for them
+module _ (secret salt : List ℕ) (keys : KeySet) where
+  found : (earlier : List Salted) (q : ℕ) → AreSaltsOf keys earlier → IsEarlier q earlier → salt_at salt earlier q ≡ (pair_of keys q).salt
+  unfolding salt_at
+  found [] q are is = absurd is
+  found (e ∷ es) q are is = elim (cases_eq e.region q) [
+    | inl same ↦
+        let test : (e.region == q) ≡ true = grind (arith, nat_tests) in
+        ap (λ (b : Bool). if b then e.salt else salt_at salt es q) test ∙ are.0 ∙ ap (λ (r : ℕ). (pair_of keys r).salt) same
+    | inr off ↦
+        let test : (e.region == q) ≡ false = grind (arith, nat_tests) in
+        let further : IsEarlier q es = elim is [ inl same ↦ absurd (off same) | inr more ↦ more ] in
+        ap (λ (b : Bool). if b then e.salt else salt_at salt es q) test ∙ found es q are.1 further
+  ]
+
+  pub known_pair : (earlier : List Salted) (q : ℕ) → AreOfSecret secret keys → AreSaltsOf keys earlier → IsEarlier q earlier → pair_of (keys_salted secret salt earlier) q ≡ pair_of keys q
+  known_pair earlier q of are is = salted_pair secret salt earlier q ∙ ap (pair_by secret) (found earlier q are is) ∙ sym (of q)
+
+pub salted_of_secret : (secret salt : List ℕ) (earlier : List Salted) → AreOfSecret secret (keys_salted secret salt earlier)
+salted_of_secret secret salt earlier q =
+    let is = salted_pair secret salt earlier q in
+    is ∙ ap (pair_by secret) (ap (λ (p : Pair). p.salt) (sym is))
+
+pub plain_of_secret : (secret : List ℕ) → AreOfSecret secret (keys_of secret)
+unfolding pair_in
+plain_of_secret secret q = refl

@@ -2,19 +2,25 @@
 ghost use Rattle.std.specs.Prelude.{◌≡◌, ◌≢◌, ◌%◌, ◌^◌, ℕ, List, Option, Some, slice_get};
 ghost use Rattle.ob_seal.specs.Draws.{draw_at};
 ghost use Rattle.ob_seal.specs.KeySet.{KeySet, pair_of};
-ghost use Rattle.ob_seal.specs.Sealed.{AreBefore, IsSalt, cipher_label, draw_label, keys_salted, mac_label, pair_by, relisted, salt_at, sealed};
+ghost use Rattle.ob_seal.specs.Sealed.{AreBefore, AreOfSecret, AreSaltsOf, IsEarlier, IsSalt, cipher_label, draw_label, keys_of, keys_salted, mac_label, pair_by, relisted, salt_at, sealed};
 ghost use Rattle.ob_seal.specs.declared.At.{At as Head};
 ghost use Rattle.ob_seal.specs.declared.Salted.{Salted as Earlier};
 
 /// A run's keys for a region are those of the region's salt, which for a region behind those of earlier runs is its
-/// own; a later run that lists the region with its salt has the same for it; and keys that are the same for a region
-/// seal its blocks alike.
+/// own; a later run that lists the region with its salt has the same for it, whatever keys of the secret sealed it; and
+/// keys that are the same for a region seal its blocks alike.
 pub fn salts_name_keys()
     ensures named { (secret salt : List ℕ) (earlier : List Earlier) (q : ℕ)
         → pair_of (keys_salted secret salt earlier) q
         ≡ pair_by secret (salt_at salt earlier q) }
     ensures own { (secret salt : List ℕ) (earlier : List Earlier) (q : ℕ) → AreBefore q earlier
         → pair_of (keys_salted secret salt earlier) q ≡ pair_by secret (Some salt) }
+    ensures known { (secret salt : List ℕ) (keys : KeySet) (earlier : List Earlier) (q : ℕ)
+        → AreOfSecret secret keys → AreSaltsOf keys earlier → IsEarlier q earlier
+        → pair_of (keys_salted secret salt earlier) q ≡ pair_of keys q }
+    ensures salted { (secret salt : List ℕ) (earlier : List Earlier)
+        → AreOfSecret secret (keys_salted secret salt earlier) }
+    ensures plain { (secret : List ℕ) → AreOfSecret secret (keys_of secret) }
     ensures later { (secret s t : List ℕ) (earlier : List Earlier) (regions : List ℕ) (i q : ℕ)
         → slice_get regions i ≡ Some q
         → pair_of (keys_salted secret t (relisted s earlier regions)) q

@@ -174,6 +174,7 @@ pub record Syncs (old new : StoreState) : Type 0 where
   pub slips : new.slips ≡ old.slips
   pub tells : new.tells ≡ old.tells
   pub lie : new.lie ≡ old.lie
+  pub disturbed : new.disturbed ≡ old.disturbed
   pub gave : new.gave ≡ old.gave
   pub keeps : Keeps old new
   pub steady : IsSteady old → IsSteady new
@@ -190,6 +191,7 @@ pub record Sweeps (old new : StoreState) : Type 0 where
   pub slips : old.slips ≤ new.slips
   pub tells : new.tells ≡ old.tells
   pub lie : new.lie ≡ old.lie
+  pub disturbed : new.disturbed ≡ old.disturbed
   pub live : (q : ℕ) → new.live q ≡ old.live q
   pub last : (q x : ℕ) → old.live q ≢ None → new.last q x ≡ old.last q x
   pub kept : (q : ℕ) → old.live q ≢ None → new.kept q ≡ old.kept q

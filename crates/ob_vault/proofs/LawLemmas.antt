@@ -1,5 +1,5 @@
 -- Why no two writes have one number, and what a tag that fits at two heads shows.
-use Rattle.std.proofs.Common.{◌≡◌, ◌≢◌, inl, inr, ◌<◌, ◌+◌, ◌-◌, ℕ, zero, suc, List, [], ◌∷◌, Some, length, length-append, drop, take, slice_get, refl, sym, ◌∙◌, ap, arith}
+use Rattle.std.proofs.Common.{◌≡◌, ◌≢◌, inl, inr, ◌<◌, ◌≤◌, ◌+◌, ◌-◌, ℕ, zero, suc, List, [], ◌∷◌, Some, length, length-append, drop, take, slice_get, refl, sym, ◌∙◌, ap, arith}
 use Rattle.std.proofs.lemmas.List.{take_at, drop_at}
 use Rattle.ob_base.specs.declared.access.Access.{Access}
 use Rattle.ob_base.specs.declared.access.Access.TheVariants.{Make, Read, Write, Discard, Open}
@@ -7,7 +7,9 @@ use Rattle.ob_base.specs.Accesses.{writes, nth_write}
 use Rattle.ob_base.proofs.AccessLemmas.{number_own, write_named, write_apart}
 use Rattle.ob_store.specs.State.{Lie}
 use Rattle.ob_seal.specs.KeySet.{KeySet, pair_of}
-use Rattle.ob_seal.specs.Sealed.{InRange, TwoSalts, TwoTexts, sealed, ciphered, tag_of}
+use Rattle.ob_seal.specs.Sealed.{AreBefore, InRange, TwoSalts, TwoTexts, sealed, ciphered, keys_salted, pair_by, tag_of}
+use Rattle.ob_seal.specs.declared.Salted.{Salted}
+use Rattle.ob_seal.proofs.Salts.{own_pair}
 use Rattle.ob_seal.specs.declared.At.{At}
 use Rattle.ob_seal.proofs.HeadsApart.{heads_apart, length-tag_of, salts_apart}
 use Rattle.ob_vault.specs.State.{Start, World}
@@ -68,6 +70,18 @@ written_behind region (Write r y ∷ rest) (suc i) q x all is = written_behind r
 
 pub writes_own : (w : World) (i q x : ℕ) → Tied w → IsWrite i q x w → IsOwn q w
 writes_own w i q x tied is = record { above = written_behind w.vault.start.region w.store.asked i q x tied.own is.is }
+
+-- what regions are before, is behind them further on, too
+before_more : (q r : ℕ) (earlier : List Salted) → r ≤ q → AreBefore r earlier → AreBefore q earlier
+before_more q r [] more before = tt
+before_more q r (e ∷ es) more before = (omega (arith, more, before.0), before_more q r es more before.1)
+
+-- what a run with a salt writes is sealed under that
+pub writes_salted : (secret salt : List ℕ) (earlier : List Salted) (w : World) (i q x : ℕ) → Tied w → w.vault.keys ≡ keys_salted secret salt earlier → AreBefore (w.vault.start.region + 1) earlier → IsWrite i q x w
+    → pair_of w.vault.keys q ≡ pair_by secret (Some salt)
+writes_salted secret salt earlier w i q x tied keys before is =
+    let own = (writes_own w i q x tied is).above in
+    ap (λ (k : KeySet). pair_of k q) keys ∙ own_pair secret salt earlier q (before_more q (w.vault.start.region + 1) earlier (omega (arith, own)) before)
 
 -- the tag of a block that was sealed under some keys, and is taken under others
 taken_tag : (k l : KeySet) (start : Start) (lie : Lie) (a : At) (rows : List ℕ) → lie.bytes ≡ sealed k a rows → TagFits l start lie

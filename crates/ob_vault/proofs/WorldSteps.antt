@@ -244,10 +244,10 @@ lasts_read v old new q x shape ready lives asks keeps =
       };
     }
 
--- a discard
-pub lasts_drop : (v : VaultState) (revs : RevState) (old new : StoreState) (g : ℕ) (shape : Region) → Ready (world v old) → v.revs.live g ≡ Some shape → OtherRegions g v.revs revs → revs.live g ≡ None
+-- a discard of a region that was made, or is one of an earlier run
+pub lasts_discard : (v : VaultState) (revs : RevState) (old new : StoreState) (g : ℕ) → Ready (world v old) → g < v.next → OtherRegions g v.revs revs → revs.live g ≡ None
     → Asks (Discard g) old new → OnlyRegion g old new → (new.live g ≡ None) ⊎ Keeps old new → Lasts (one g) (world v old) (world (record v { revs = revs }) new)
-lasts_drop v revs old new g shape ready lives others gone asks only left =
+lasts_discard v revs old new g ready below others gone asks only left =
     let tied = ready.tied in
     let was = world v old in
     let now = world (record v { revs = revs }) new in
@@ -256,7 +256,7 @@ lasts_drop v revs old new g shape ready lives others gone asks only left =
       start = refl;
       count = tied.count ∙ sym (ap (λ (l : List Access). v.start.writes + writes l) asks.asked ∙ ap (λ (n : ℕ). v.start.writes + n) (writes_discard g old.asked));
       next = omega (arith, tied.next, ap makes asks.asked, makes_more old.asked (Discard g));
-      above = subst (AllBelow v.next) (sym asks.asked) (below_more v.next old.asked (Discard g) tied.above (ready.below g shape lives));
+      above = subst (AllBelow v.next) (sym asks.asked) (below_more v.next old.asked (Discard g) tied.above below);
       own = behind_asked v.start.region (Discard g) old new asks tied.own tt;
       up = omega arith;
       revs = others;
@@ -269,6 +269,11 @@ lasts_drop v revs old new g shape ready lives others gone asks only left =
       here_fits = λ s l. absurd (cc (l, gone));
       here_laps = λ s l. absurd (cc (l, gone));
     }) (later_call _ _ _ asks)
+
+-- of one that is live in the vault
+pub lasts_drop : (v : VaultState) (revs : RevState) (old new : StoreState) (g : ℕ) (shape : Region) → Ready (world v old) → v.revs.live g ≡ Some shape → OtherRegions g v.revs revs → revs.live g ≡ None
+    → Asks (Discard g) old new → OnlyRegion g old new → (new.live g ≡ None) ⊎ Keeps old new → Lasts (one g) (world v old) (world (record v { revs = revs }) new)
+lasts_drop v revs old new g shape ready lives others gone asks only left = lasts_discard v revs old new g ready (ready.below g shape lives) others gone asks only left
 
 -- a region that the vault alone forgets
 pub lasts_forget : (v : VaultState) (revs : RevState) (s : StoreState) (g : ℕ) → Ready (world v s) → OtherRegions g v.revs revs → revs.live g ≡ None → Lasts (one g) (world v s) (world (record v { revs = revs }) s)

@@ -1,8 +1,9 @@
 //! Laws of the numbers of writes, and of tags.
-ghost use Rattle.std.specs.Prelude.{◌≡◌, ◌≢◌, ◌≤◌, ℕ, Bool, List, None, Some};
+ghost use Rattle.std.specs.Prelude.{◌≡◌, ◌≢◌, ◌≤◌, ◌+◌, ℕ, Bool, List, None, Some};
 ghost use Rattle.ob_store.specs.State.{Lie};
 ghost use Rattle.ob_seal.specs.KeySet.{KeySet, pair_of};
-ghost use Rattle.ob_seal.specs.Sealed.{InRange, TwoSalts, TwoTexts, sealed, tag_of};
+ghost use Rattle.ob_seal.specs.Sealed.{AreBefore, InRange, TwoSalts, TwoTexts, keys_salted, pair_by, sealed, tag_of};
+ghost use Rattle.ob_seal.specs.declared.Salted.{Salted};
 ghost use Rattle.ob_seal.specs.declared.At.{At as Head};
 ghost use Rattle.ob_vault.specs.State.{Start, World};
 ghost use Rattle.ob_vault.specs.Numbers.{IsNumber, IsWrite, last_number, write_number};
@@ -20,6 +21,12 @@ pub fn numbers_are_apart()
     ensures alone { (w : World) (q x r y n : ℕ) → Tied w → IsNumber w q x n → IsNumber w r y n
         → (q ≡ r) × (x ≡ y) }
     ensures own { (w : World) (i q x : ℕ) → Tied w → IsWrite i q x w → IsOwn q w }
+    // under its salt, if it has one: so no two blocks, of one run or of two that have different salts, are sealed under
+    // one salt and one number
+    ensures salted { (secret salt : List ℕ) (earlier : List Salted) (w : World) (i q x : ℕ) → Tied w
+        → w.vault.keys ≡ keys_salted secret salt earlier
+        → AreBefore (w.vault.start.region + 1) earlier → IsWrite i q x w
+        → pair_of w.vault.keys q ≡ pair_by secret (Some salt) }
 {}
 
 /// A tag that is right for one text at two places, or under two numbers, is one tag of two texts; and one that is

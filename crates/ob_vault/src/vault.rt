@@ -27,6 +27,7 @@ pub struct Vault<R> {
 
 impl<R: Revisions> Vault<R> {
     ghost use Rattle.std.specs.Prelude.{◌≡◌, ◌<◌, ◌≤◌, ◌+◌, ◌-◌, ◌^◌, [], ℕ, Some, None, min};
+    ghost use Rattle.ob_store.specs.Calls.{IsLive};
     ghost use Rattle.ob_store.specs.State.{StoreState};
     ghost use Rattle.ob_vault.specs.declared.region.Region.{Region as Layout};
     ghost use Rattle.ob_vault.specs.State.{HasNoneFrom, from_nothing, from_earlier};
@@ -254,6 +255,22 @@ impl<R: Revisions> Vault<R> {
             → Forgets region (at R.state self.old s) (at R.state self.new s) }
     {
         self.revs.end(region);
+    }
+
+    /// Takes a region that the vault has forgotten out of the store, too, whatever that answers.
+    pub fn discard<S: BlockStore>(&self, store: &mut S, forgotten: u64) -> Result<(), VaultErr>
+        requires ready { Ready (at R.state self.now (S.state store.old)) }
+        requires spare { 1 ≤ (S.state store.old).spare }
+        requires live { IsLive (S.state store.old) forgotten }
+        requires below { forgotten < self.now.next }
+        requires gone { (R.state self.now.revs).live forgotten ≡ None }
+        ensures drops { DropsRegion forgotten result
+            (at R.state self.now (S.state store.old)) (at R.state self.now (S.state store.new)) }
+    {
+        match store.discard(forgotten) {
+            Ok(()) => Ok(()),
+            Err(_) => Err(VaultErr::Failed),
+        }
     }
 
     /// Has the store give up the regions from this number on, none of which the vault has.

@@ -1,4 +1,4 @@
-use Rattle.ob_vault.proofs.LawLemmas.{writes_apart, writes_own, write_is, last_is, numbers_alone}
+use Rattle.ob_vault.proofs.LawLemmas.{writes_apart, writes_own, write_is, last_is, numbers_alone, writes_salted}
 use Rattle.ob_vault.proofs.laws.numbers_are_apart.Goals as goal
 
 pub returns-clause-writes : goal.returns-clause-writes
@@ -15,3 +15,6 @@ returns-clause-alone c = numbers_alone
 
 pub returns-clause-own : goal.returns-clause-own
 returns-clause-own c = writes_own
+
+pub returns-clause-salted : goal.returns-clause-salted
+returns-clause-salted c = writes_salted
