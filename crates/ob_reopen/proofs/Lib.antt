@@ -17,3 +17,4 @@ pub mod ReadsRekeyed
 pub mod ByNameAlike
 pub mod OutlastLemmas
 pub mod RestsAgree
+pub mod SavedLemmas

@@ -7,3 +7,4 @@ pub mod Writings
 pub mod Reopened
 pub mod Closed
 pub mod Resting
+pub mod Saved

@@ -4,6 +4,8 @@ ghost use Rattle.ob_base.specs.declared.schema.Table.{Table};
 ghost use Rattle.ob_base.specs.Stored.{AreApart, headings};
 ghost use Rattle.ob_mean.specs.Verdict.{Tables};
 ghost use Rattle.ob_seal.specs.KeySet.{KeySet, pair_of};
+ghost use Rattle.ob_seal.specs.Sealed.{AreBefore, keys_of, keys_salted};
+ghost use Rattle.ob_seal.specs.declared.Salted.{Salted};
 ghost use Rattle.ob_store.specs.State.{KeptRegion};
 ghost use Rattle.ob_vault.specs.Rekeying.{rekeyed};
 ghost use Rattle.ob_vault.specs.Resuming.{Unasked};
@@ -14,6 +16,7 @@ ghost use Rattle.ob_reopen.specs.declared.listed.Listed.{Listed};
 ghost use Rattle.ob_reopen.specs.Limits.{IsCatalogue};
 ghost use Rattle.ob_reopen.specs.Openings.{ReadsClosing};
 ghost use Rattle.ob_reopen.specs.Resting.{IsNeeded, Rests, by_name};
+ghost use Rattle.ob_reopen.specs.Saved.{RestsBy, reopening_keys};
 ghost use Rattle.ob_reopen.specs.Writings.{MayList, ListsAll, catalogue_of};
 ghost use Rattle.ob_verdict.specs.Alike.{AreAlike};
 
@@ -59,4 +62,21 @@ pub fn tables_keep_keys()
         → pair_of k closing.region ≡ pair_of l closing.region
         → ((i : ℕ) (t : Listed) → slice_get rests.listed i ≡ Some t
         → pair_of k t.table.region ≡ pair_of l t.table.region) → Rests l closing kept tables }
+{}
+
+/// What rests under keys of a secret rests under those of each run of the secret that goes on from it, whatever its
+/// salt is: by the salts that the mark and the closing name. So it is of what a run without a salt closed, and of what
+/// one with a salt saved in a region that comes behind those of earlier runs.
+pub fn tables_rest_by_salts()
+    ensures under { (secret salt : List ℕ) (closed : Option (List ℕ)) (closing : Closing)
+        (kept : ℕ → Option KeptRegion) (tables : Tables)
+        (by : RestsBy secret closed closing kept tables)
+        → Rests (reopening_keys secret salt closed closing by.rests.listed) closing kept tables }
+    ensures plain { (secret : List ℕ) (closing : Closing) (kept : ℕ → Option KeptRegion)
+        (tables : Tables) → Rests (keys_of secret) closing kept tables
+        → RestsBy secret None closing kept tables }
+    ensures salted { (secret salt : List ℕ) (earlier : List Salted) (closing : Closing)
+        (kept : ℕ → Option KeptRegion) (tables : Tables) → AreBefore closing.region earlier
+        → Rests (keys_salted secret salt earlier) closing kept tables
+        → RestsBy secret (Some salt) closing kept tables }
 {}

@@ -22,6 +22,7 @@ pub use fault::{CloseErr, OpenErr};
 pub use keeper::{Keeper, Salts};
 pub use laws::{
     closings_keep_keys, lists_are_catalogues, names_order_tables, rests_outlast, tables_keep_keys,
+    tables_rest_by_salts,
 };
 pub use listed::Listed;
 pub use memory::MemKeeper;
