@@ -22,6 +22,9 @@ returns c =
         last = λ q x off. ap (λ (b : Option Blocks). last_of b x) (region_stays (contains nat_cmp live q) _ _ off (c.keep_live.ensures q));
         kept = λ q off. ap kept_of (region_stays (contains nat_cmp live q) _ _ off (c.keep_live.ensures q));
         gone = λ q none. region_goes (contains nat_cmp live q) _ _ none (c.keep_live.ensures q);
-        steady = λ steady. record { quiet = steady.quiet; lied = steady.lied };
+        steady = λ steady. record {
+          quiet = λ before. record { faults = (steady.quiet before).faults; slips = (steady.quiet before).slips; lie = (steady.quiet before).lie };
+          lied = steady.lied;
+        };
       };
     }
