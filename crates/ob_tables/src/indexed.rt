@@ -110,8 +110,8 @@ impl<R: Revisions> Engine<R> {
 
     /// Carries out a statement on the index at a place, which is not refused before its access: takes one draw,
     /// makes the one access, and gives the rows that a SELECT found to the emitter. An access that gave up ends
-    /// the session, and so does an emitter that fails or wants memory. Want of memory before the access draws
-    /// nothing from the store.
+    /// the session, and so does an emitter that fails or wants memory. Want of memory before the access asks
+    /// nothing of the store.
     pub fn serve_index<S: BlockStore, E: Emit>(
         &mut self,
         store: &mut S,

@@ -23,7 +23,7 @@ returns c =
         kept = λ q off. ap kept_of (region_stays (contains nat_cmp live q) _ _ off (c.keep_live.ensures q));
         gone = λ q none. region_goes (contains nat_cmp live q) _ _ none (c.keep_live.ensures q);
         steady = λ steady. record {
-          quiet = λ before. record { faults = (steady.quiet before).faults; slips = (steady.quiet before).slips; lie = (steady.quiet before).lie };
+          quiet = λ early. let quiet = steady.quiet early in record { faults = quiet.faults; slips = quiet.slips; lie = quiet.lie };
           lied = steady.lied;
         };
       };
