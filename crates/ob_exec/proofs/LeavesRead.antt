@@ -11,9 +11,9 @@ use Rattle.ob_store.proofs.KeptLemmas.{length-tabulate, get_or-tabulate}
 use Rattle.ob_mean.specs.Verdict.{Draws, leaves_drawn, next_draw, next_draws}
 use Rattle.ob_oram.specs.declared.index.Index.{Index}
 use Rattle.ob_oram.specs.Indexes.{leaves_of}
-use Rattle.ob_exec.specs.Leaves.{MovesLeaves, ReadsKey}
-use Rattle.ob_exec.proofs.DropLemmas.{Origin, origin}
-use Rattle.ob_exec.proofs.IndexTables.{SetAt, this, that, set_at}
+use Rattle.ob_tables.specs.Leaves.{MovesLeaves, ReadsKey}
+use Rattle.ob_tables.proofs.DropLemmas.{Origin, origin}
+use Rattle.ob_tables.proofs.IndexTables.{SetAt, this, that, set_at}
 
 -- a key of the index at a place has a leaf
 pub record KeyAt (indexes : List Index) (k j : ℕ) : Type 0 where

@@ -41,7 +41,7 @@ use Rattle.ob_select.specs.declared.selecting.Selected.TheVariants.{Rows, Refuse
 use Rattle.ob_select.specs.Memory.{AtMake, HasCounted, HasHalted, is_reading}
 use Rattle.ob_select.specs.Selecting.{EmitsSelected, HoldsSeen, MayHold, SealsRows, Selection, SelectsFrom, SelectsToEnd, SelectsToHalt, answer_events, counted_after, from, places, region_of, selection_seen, selection_script, walked_after}
 use Rattle.ob_exec.specs.Sources.{EmitsRows, EndsRows, HaltsRows, HoldsRows, LacksRowMemory, LeavesNone, SourceToEnd, SourceToHalt, rows_script, rows_skeleton, slots_of, stated}
-use Rattle.ob_exec.specs.Telling.{AreHeld}
+use Rattle.ob_tables.specs.Telling.{AreHeld}
 use Rattle.ob_oram.specs.declared.index.Index.{Index}
 use Rattle.ob_select.proofs.SelectHeld.{held_empty}
 use Rattle.ob_exec.proofs.RowsSeconded.{Seconded, alone, followed, rows_seconded}
@@ -50,7 +50,7 @@ use Rattle.ob_exec.proofs.RowsStated.{ends_stated, may_stated}
 use Rattle.ob_exec.proofs.RowsTable.{an_error, emitted_from}
 use Rattle.ob_select.proofs.UntilLemmas.{until_from}
 use Rattle.ob_select.proofs.LieLemmas.{lie_before, went_in}
-use Rattle.ob_exec.proofs.EmitLemmas.{lie_none}
+use Rattle.ob_tables.proofs.EmitLemmas.{lie_none}
 use Rattle.ob_select.proofs.ResultParts.{starts-more}
 use Rattle.ob_select.proofs.SelectRuns.{ends-more}
 

@@ -15,23 +15,23 @@ use Rattle.ob_sql.specs.declared.stmt.SelectRows.{SelectRows}
 use Rattle.ob_sql.specs.declared.stmt.Stmt.TheVariants.{SelectRows as RowsStmt}
 use Rattle.ob_mean.specs.Prints.{Prints}
 use Rattle.ob_mean.specs.Verdict.{Draws, Tables, rows_refusal, verdict}
-use Rattle.ob_exec.proofs.PlainLemmas.{none_full}
-use Rattle.ob_exec.specs.declared.engine.Engine.{Engine}
+use Rattle.ob_tables.proofs.PlainLemmas.{none_full}
+use Rattle.ob_tables.specs.declared.engine.Engine.{Engine}
 use Rattle.ob_select.specs.declared.selecting.Selected.{Selected}
 use Rattle.ob_select.specs.declared.selecting.Selected.TheVariants.{Rows, Refused}
-use Rattle.ob_exec.specs.Agreeing.{Agrees, world_of, count_of}
-use Rattle.ob_exec.specs.Running.{is_fault}
+use Rattle.ob_tables.specs.Agreeing.{Agrees, world_of, count_of}
+use Rattle.ob_tables.specs.Running.{is_fault}
 use Rattle.ob_verdict.specs.Outcomes.{refusal_now, by_fault, IsBegunAnswer}
-use Rattle.ob_exec.proofs.EmitLemmas.{are_rows}
+use Rattle.ob_tables.proofs.EmitLemmas.{are_rows}
 use Rattle.ob_select.specs.Selecting.{answer_events, selection_answer, emitted_unless, places, shown_rows}
-use Rattle.ob_exec.specs.Serving.{Answered, Serves}
+use Rattle.ob_tables.specs.Serving.{Answered, Serves}
 use Rattle.ob_exec.specs.Sources.{EndsRows, IsFew, UsesRoomFor, closing, selected_outcome, selection, slots_of}
-use Rattle.ob_exec.specs.Telling.{Emitted, ReadsTrue, Represents, Told, answer_labels}
+use Rattle.ob_tables.specs.Telling.{Emitted, ReadsTrue, Represents, Told, answer_labels}
 use Rattle.ob_exec.proofs.RowsLawful.{ended_late, ended_well, lawful_ended}
 use Rattle.ob_exec.proofs.RowsMeaning.{rows_outcome, rows_prints, rows_seen, rows_settle}
 use Rattle.ob_exec.proofs.RowsRun.{rows_after, rows_ran}
 use Rattle.ob_exec.proofs.RowsStops.{IsSource, early, early_none, flat, headed, rows_begun, rows_of, still_held, to_end}
-use Rattle.ob_exec.proofs.RunLemmas.{of_other}
+use Rattle.ob_tables.proofs.RunLemmas.{of_other}
 use Rattle.ob_exec.proofs.RowsReach.{as_rows, as_refused}
 
 either_way : (labels : List (List ℕ)) (failed : Bool) → by_fault failed (IsBegunAnswer labels []) (◌≡◌ {A = List Event} [] [])

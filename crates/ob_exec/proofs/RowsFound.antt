@@ -1,51 +1,34 @@
 -- What is known of the source of a SELECT of rows, where it is not refused before any access.
 use Rattle.std.proofs.Common.{◌≡◌, false, List, None, refl, sym, ◌∙◌, ap, subst}
-use Rattle.std.specs.Prelude.{not}
-use Rattle.std.specs.List.{list_any}
 use Rattle.ob_base.specs.declared.schema.Heading.{Heading}
 use Rattle.ob_base.specs.declared.skeleton.Source.{Source}
 use Rattle.ob_base.specs.declared.skeleton.Source.TheVariants.{Table as OneTable, Join}
-use Rattle.ob_base.specs.Stored.{has_table, headings, headings_of}
-use Rattle.ob_emit.specs.Emitting.{is_joined}
+use Rattle.ob_base.specs.Stored.{headings, headings_of}
 use Rattle.ob_row.specs.Bags.{Same}
 use Rattle.ob_row.specs.Slots.{rows}
 use Rattle.ob_store.specs.State.{StoreState}
 use Rattle.ob_vault.specs.State.{RevState}
-use Rattle.ob_names.specs.Names.{source_columns}
-use Rattle.ob_mean.specs.Prints.{is_join}
 use Rattle.ob_mean.specs.Replay.{is_access}
 use Rattle.ob_sql.specs.Skeleton.{skeleton}
-use Rattle.ob_mean.specs.Refusals.{joins_itself, joins_off_key_at, source_tables, limits_of}
+use Rattle.ob_mean.specs.Refusals.{joins_off_key_at, limits_of}
 use Rattle.ob_mean.specs.Step.{source_rows}
 use Rattle.ob_mean.specs.Verdict.{Tables, database, is_late, source_slots}
-use Rattle.ob_mean.proofs.EarlyLemmas.{Allowed, allowed}
+use Rattle.ob_mean.proofs.EarlyLemmas.{Allowed}
 use Rattle.ob_sql.specs.declared.stmt.SelectRows.{SelectRows}
 use Rattle.ob_sql.specs.declared.stmt.Stmt.TheVariants.{SelectRows as RowsStmt}
 use Rattle.ob_verdict.specs.Laws.{AreInPlace}
-use Rattle.ob_exec.specs.declared.engine.Engine.{Engine}
-use Rattle.ob_exec.specs.Agreeing.{Agrees, count_of}
+use Rattle.ob_tables.specs.declared.engine.Engine.{Engine}
+use Rattle.ob_tables.specs.Agreeing.{Agrees, count_of}
 use Rattle.ob_verdict.specs.Outcomes.{refusal_now}
-use Rattle.ob_exec.proofs.RowsSource.{AreStored, join_joined, join_same, labels_are, table_same, table_unjoined}
-use Rattle.ob_emit.specs.Emitting.{labels_of}
-use Rattle.ob_mean.specs.Step.{printed_places}
-use Rattle.ob_exec.specs.Telling.{answer_labels}
 use Rattle.ob_exec.proofs.RowsStops.{IsSource}
 use Rattle.ob_select.proofs.ResultParts.{some_buffered}
+use Rattle.ob_exec.proofs.RowsSource.{join_same, table_same}
+use Rattle.ob_tables.proofs.SourceColumns.{fits, labelled_is}
 
 module _ {R : Type 0} (state : R → RevState) (old : Engine R) (s : StoreState) (select : SelectRows) (agrees : Agrees state old s)
     (free : refusal_now old.public (count_of old s) (RowsStmt select) ≡ None) where
-  stored : AreStored old.public.tables
-  stored i t at = (agrees.tables.each i t at).heading.stored
-
-  fits : Allowed (is_late (count_of old s)) (limits_of old.public) (headings_of old.public.tables) (RowsStmt select)
-  fits = allowed (is_late (count_of old s)) (limits_of old.public) (headings_of old.public.tables) (RowsStmt select) free
-
-  unjoined : (source : Source) → select.source ≡ source → is_joined (source_columns source (headings_of old.public.tables)) ≡ is_join source
-  unjoined (OneTable name) is = table_unjoined name old.public.tables stored
-  unjoined (Join a b on equals) is =
-      join_joined a b on equals old.public.tables stored
-      (sym (ap (λ (source : Source). list_any (λ name. not (has_table name (headings_of old.public.tables))) (source_tables source)) is) ∙ fits.tables)
-      (sym (ap joins_itself is) ∙ fits.names)
+  can : Allowed (is_late (count_of old s)) (limits_of old.public) (headings_of old.public.tables) (RowsStmt select)
+  can = fits state old s select agrees free
 
   same : (source : Source) → select.source ≡ source → (tables : Tables) → AreInPlace old.public.stash tables → headings tables ≡ headings_of old.public.tables
       → Same (source_rows source (database tables)) (rows (source_slots old.public source tables))
@@ -53,15 +36,11 @@ module _ {R : Type 0} (state : R → RevState) (old : Engine R) (s : StoreState)
   same (Join a b on equals) is tables in_place headed =
       join_same old.public a b on equals tables agrees.settings.pack_least (some_buffered old.public.pack old.public.buffer agrees.settings.pack_least agrees.settings.blocks) in_place
       (subst (λ (hs : List Heading). joins_off_key_at hs (Join a b on equals) ≡ false) (sym headed)
-      (sym (ap (joins_off_key_at (headings_of old.public.tables)) is) ∙ fits.joins))
-
-  -- the header is the statement's
-  pub labelled_is : labels_of (source_columns select.source (headings_of old.public.tables)) (printed_places select (source_columns select.source (headings_of old.public.tables))) ≡ answer_labels (RowsStmt select) old.public
-  labelled_is = labels_are select (headings_of old.public.tables) (unjoined select.source refl)
+      (sym (ap (joins_off_key_at (headings_of old.public.tables)) is) ∙ can.joins))
 
   pub source_is : is_access old.public (skeleton (RowsStmt select)) ≡ false → IsSource old.public select
   source_is none = record {
     unkeyed = none;
-    labelled = labelled_is;
+    labelled = labelled_is state old s select agrees free;
     rows_are = λ tables in_place headed. same select.source refl tables in_place headed;
   }

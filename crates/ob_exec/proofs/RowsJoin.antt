@@ -54,19 +54,19 @@ use Rattle.ob_verdict.proofs.AcceptedProof.{joins_fit}
 use Rattle.ob_verdict.specs.Outcomes.{refusal_now}
 use Rattle.ob_sql.specs.declared.stmt.SelectRows.{SelectRows}
 use Rattle.ob_sql.specs.declared.stmt.Stmt.TheVariants.{SelectRows as RowsStmt}
-use Rattle.ob_exec.specs.declared.engine.Engine.{Engine}
-use Rattle.ob_exec.specs.Agreeing.{Agrees, world_of, count_of}
-use Rattle.ob_exec.specs.Engines.{IsFound, flat_of}
+use Rattle.ob_tables.specs.declared.engine.Engine.{Engine}
+use Rattle.ob_tables.specs.Agreeing.{Agrees, world_of, count_of}
+use Rattle.ob_tables.specs.Engines.{IsFound, flat_of}
 use Rattle.ob_select.specs.Selecting.{Selection, counted_after, from, region_of, selection_script, walked_after}
 use Rattle.ob_exec.specs.Sources.{rows_script, rows_skeleton, selection, stated}
-use Rattle.ob_exec.proofs.FoundLemmas.{heading_found, shape_found}
+use Rattle.ob_tables.proofs.FoundLemmas.{heading_found, shape_found}
 use Rattle.ob_verdict.proofs.NamesFlatProof.{names_flat}
 use Rattle.std.specs.List.{All}
 use Rattle.std.proofs.lemmas.List.Elements.{All-head, All-tail}
 use Rattle.ob_exec.proofs.RowsBehind.{ending_for}
 use Rattle.ob_select.proofs.SelectLength.{select_length}
 use Rattle.ob_exec.proofs.RowsTable.{not_late, some_of, stated_is}
-use Rattle.ob_exec.proofs.TableLemmas.{flat_kept, region_below, stored_found}
+use Rattle.ob_tables.proofs.TableLemmas.{flat_kept, region_below, stored_found}
 use Rattle.ob_select.proofs.ResultParts.{some_buffered}
 
 -- what follows a selection stands behind it

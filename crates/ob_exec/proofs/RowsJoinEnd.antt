@@ -28,17 +28,17 @@ use Rattle.ob_flat.specs.Flats.{Accepts, Represents}
 use Rattle.ob_names.specs.Names.{left_place, right_place}
 use Rattle.ob_mean.specs.Verdict.{Held, Tables, source_slots}
 use Rattle.ob_sql.specs.declared.stmt.SelectRows.{SelectRows}
-use Rattle.ob_exec.specs.declared.engine.Engine.{Engine}
+use Rattle.ob_tables.specs.declared.engine.Engine.{Engine}
 use Rattle.ob_select.specs.declared.selecting.Selected.{Selected}
-use Rattle.ob_exec.specs.Agreeing.{world_of}
+use Rattle.ob_tables.specs.Agreeing.{world_of}
 use Rattle.ob_select.specs.Selecting.{SealsRows, SelectsFrom, from}
 use Rattle.ob_exec.specs.Sources.{EndsRows, HaltsRows, slots_of}
-use Rattle.ob_exec.specs.Telling.{AreHeld}
+use Rattle.ob_tables.specs.Telling.{AreHeld}
 use Rattle.ob_oram.specs.declared.index.Index.{Index}
-use Rattle.ob_exec.proofs.HeldLemmas.{held_at, held_headings}
+use Rattle.ob_tables.proofs.HeldLemmas.{held_at, held_headings}
 use Rattle.ob_exec.proofs.RowsBehind.{behind_ends, behind_halts}
 use Rattle.ob_exec.proofs.RowsJoin.{IsPaired, JoinOf, found_a, found_b, held_left, held_right, join_asks, join_count, join_least, join_walk, joins, q, table_is, flat_a, flat_b}
-use Rattle.ob_exec.proofs.RunLemmas.{next_after}
+use Rattle.ob_tables.proofs.RunLemmas.{next_after}
 
 module _ {R : Type 0} {state : R → RevState} {old : Engine R} {s s1 : StoreState} {select : SelectRows} {y : JoinOf state old s select} {lcol rcol : ℕ} {flat : Flat} {after : World}
     (z : IsPaired y lcol rcol s1 (Ok flat) after) where

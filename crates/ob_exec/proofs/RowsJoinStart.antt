@@ -43,18 +43,19 @@ use Rattle.ob_mean.proofs.EarlyLemmas.{allowed}
 use Rattle.ob_sql.specs.declared.stmt.SelectRows.{SelectRows}
 use Rattle.ob_sql.specs.declared.stmt.Stmt.TheVariants.{SelectRows as RowsStmt}
 use Rattle.ob_verdict.proofs.AcceptedProof.{places_fit}
-use Rattle.ob_exec.specs.declared.engine.Engine.{Engine}
+use Rattle.ob_tables.specs.declared.engine.Engine.{Engine}
 use Rattle.ob_select.specs.declared.selecting.Selected.{Selected}
-use Rattle.ob_exec.specs.Agreeing.{world_of, count_of}
+use Rattle.ob_tables.specs.Agreeing.{world_of, count_of}
 use Rattle.ob_select.specs.Selecting.{MaySelect, SealsRows, Selection, counted_after, from, padded_after, selection_script}
 use Rattle.ob_exec.specs.Sources.{LeavesNone, SelectsRows, SourceToEnd}
-use Rattle.ob_exec.proofs.HeldLemmas.{held_at}
+use Rattle.ob_tables.proofs.HeldLemmas.{held_at}
 use Rattle.ob_exec.proofs.RowsBehind.{ending_for}
 use Rattle.ob_exec.proofs.RowsJoin.{IsPaired, JoinOf, asked_for, both_slots, held_left, held_right, join_asks, join_count, join_least, join_may, joins, pass, q, slots_few, table_is, flat_a, flat_b, join_plain}
 use Rattle.ob_exec.proofs.RowsNothing.{leaves_ready}
 use Rattle.ob_exec.proofs.RowsPairs.{pairs_halt}
-use Rattle.ob_exec.proofs.RowsTable.{listed_few, not_late}
-use Rattle.ob_exec.proofs.RunLemmas.{rests_refl}
+use Rattle.ob_exec.proofs.RowsTable.{not_late}
+use Rattle.ob_tables.proofs.SourceColumns.{listed_few}
+use Rattle.ob_tables.proofs.RunLemmas.{rests_refl}
 use Rattle.ob_select.proofs.RoomLemmas.{free_after}
 use Rattle.ob_select.proofs.ResultParts.{some_buffered}
 

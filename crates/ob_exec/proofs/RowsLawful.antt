@@ -17,11 +17,11 @@ use Rattle.ob_sql.specs.declared.stmt.Stmt.TheVariants.{SelectRows as RowsStmt}
 use Rattle.ob_mean.specs.Lawful.{Lawful, Holds, EndsUncounted, EndsUnplanned as Unplanned, EndsFrom, CutUpTo}
 use Rattle.ob_select.specs.declared.selecting.Selected.{Selected}
 use Rattle.ob_select.specs.declared.selecting.Selected.TheVariants.{Rows, Refused}
-use Rattle.ob_exec.specs.Running.{is_fault, outcome_end}
+use Rattle.ob_tables.specs.Running.{is_fault, outcome_end}
 use Rattle.ob_verdict.specs.Outcomes.{refusal_now}
 use Rattle.ob_select.specs.Selecting.{Selection, MayHold, EndsSelected, EndsCounted, EndsPadded}
 use Rattle.ob_mean.specs.Replay.{ending_len, is_access}
-use Rattle.ob_exec.proofs.LawfulLemmas.{leaf_none}
+use Rattle.ob_tables.proofs.LawfulLemmas.{leaf_none}
 use Rattle.ob_verdict.proofs.LawfulProof.{same_script}
 use Rattle.ob_exec.specs.Sources.{selection, rows_script, rows_skeleton, ReachesRows, selected_outcome}
 

@@ -27,7 +27,7 @@ use Rattle.ob_mean.specs.Refusals.{early_refusal, limits_of}
 use Rattle.ob_mean.specs.Settle.{settle}
 use Rattle.ob_mean.specs.Step.{source_rows, selected_rows, rows_answer, select_columns, select_condition, printed_places, answered}
 use Rattle.ob_mean.specs.Verdict.{accessed, Draws, Tables, database, is_late, refusal, verdict, seen, seen_rows, selected_places, rows_refusal}
-use Rattle.ob_exec.proofs.PlainLemmas.{last_is, settle_is}
+use Rattle.ob_tables.proofs.PlainLemmas.{last_is, settle_is}
 use Rattle.ob_mean.proofs.VerdictLemmas.{headings-database, refused_late, seen_flat}
 use Rattle.ob_verdict.specs.Laws.{AreInPlace, printed_rows, selected_result}
 use Rattle.ob_verdict.proofs.AnswerProof.{prints_answer}
@@ -36,12 +36,12 @@ use Rattle.ob_verdict.specs.declared.outcome.Outcome.TheVariants.{Rows as RowsOu
 use Rattle.ob_select.specs.declared.selecting.Selected.TheVariants.{Rows}
 use Rattle.ob_select.specs.Selecting.{Selection, places, selection_answer, answer_events, emitted_unless, result_of, selection_seen, selected_as, shown_rows, shown_where}
 use Rattle.ob_exec.specs.Sources.{closing, selected_outcome, selection, slots_of}
-use Rattle.ob_exec.specs.Telling.{answer_labels}
+use Rattle.ob_tables.specs.Telling.{answer_labels}
 use Rattle.ob_verdict.specs.Outcomes.{outcome_of, Partly}
 use Rattle.ob_select.proofs.ResultRows.{length-bag, length-chosen}
 use Rattle.ob_select.proofs.UntilLemmas.{nothing}
 use Rattle.ob_select.proofs.ResultParts.{some_buffered}
-use Rattle.ob_exec.proofs.ToldLemmas.{followed_same}
+use Rattle.ob_tables.proofs.ToldLemmas.{followed_same}
 
 -- ---- bags and selected rows
 -- where no place is selected, no row is

@@ -37,7 +37,7 @@ use Rattle.ob_exec.proofs.RowsLawful.{seen_as}
 use Rattle.ob_select.proofs.SelectHeld.{held_empty}
 use Rattle.ob_exec.proofs.RowsSeconded.{Seconded, alone, followed, held_none, rows_seconded}
 use Rattle.ob_exec.proofs.RowsReach.{count_length, joined_part, joined_stored, part, part_length, table_asks, unpadded}
-use Rattle.ob_exec.proofs.RunLemmas.{world}
+use Rattle.ob_tables.proofs.RunLemmas.{world}
 
 -- ---- the first result is read back behind the count
 module _ (p : Public) (k : ℕ) (plan : Plan) (second : Option Plan) (end : End) where

@@ -20,7 +20,7 @@ use Rattle.ob_base.specs.Limits.{buffered_blocks}
 use Rattle.ob_base.specs.Stored.{Stored, stored_at, stored_regions}
 use Rattle.ob_script.specs.Parts.{count_part, join_part}
 use Rattle.ob_mean.proofs.FlatLemmas.{shape_is}
-use Rattle.ob_exec.proofs.PlainLemmas.{table_is}
+use Rattle.ob_tables.proofs.PlainLemmas.{table_is}
 use Rattle.ob_mean.specs.Replay.{has_index, is_access}
 use Rattle.ob_script.specs.Script.{after_count, behind_count, blocks_of, extent_of, flat_script, join_script, joined_extent, result_part, rows_width, select_part, table_script, with_table}
 use Rattle.ob_vault.specs.State.{World}
@@ -41,7 +41,7 @@ use Rattle.ob_exec.specs.Sources.{EndsRows, HoldsRows, SourceToEnd, SourceToHalt
 use Rattle.ob_select.specs.Memory.{HasCounted}
 use Rattle.ob_exec.proofs.RowsLawful.{seen_as, uncounted, unread}
 use Rattle.ob_exec.proofs.RowsStops.{StopsRows}
-use Rattle.ob_exec.proofs.EmitLemmas.{unfit_none}
+use Rattle.ob_tables.proofs.EmitLemmas.{unfit_none}
 
 -- ---- no more than is asked
 module _ (p : Public) (g : ℕ) (t : Stored ℕ) (pre ending : List Access) where

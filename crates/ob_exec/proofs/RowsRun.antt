@@ -21,20 +21,20 @@ use Rattle.ob_flat.specs.declared.fault.OpErr.TheVariants as OpErrs
 use Rattle.ob_flat.specs.Passes.{PassCut, PassCause}
 use Rattle.ob_sql.specs.declared.stmt.SelectRows.{SelectRows}
 use Rattle.ob_verdict.proofs.LawfulProof.{same_script}
-use Rattle.ob_exec.specs.declared.engine.Engine.{Engine}
+use Rattle.ob_tables.specs.declared.engine.Engine.{Engine}
 use Rattle.ob_select.specs.declared.selecting.Selected.{Selected}
-use Rattle.ob_exec.specs.Agreeing.{Agrees, world_of}
+use Rattle.ob_tables.specs.Agreeing.{Agrees, world_of}
 use Rattle.ob_select.specs.Settings.{IsFree}
-use Rattle.ob_exec.specs.Engines.{AreTables, others_of}
+use Rattle.ob_tables.specs.Engines.{AreTables, others_of}
 use Rattle.ob_select.specs.Opening.{Opens}
-use Rattle.ob_exec.specs.Running.{RanStatement, RunCause, GoesOn, Continues, answer_of, is_fault, is_stop, result_end}
+use Rattle.ob_tables.specs.Running.{RanStatement, RunCause, GoesOn, Continues, answer_of, is_fault, is_stop, result_end}
 use Rattle.ob_select.specs.Selecting.{from}
 use Rattle.ob_exec.specs.Sources.{EndsRows, LeavesNone, UsesRoomFor, rows_script, rows_skeleton, selected_outcome, selection}
-use Rattle.ob_exec.proofs.RunLemmas.{asks_cut, asks_none, left_on, may_have, no_access, of_other, taken_none}
-use Rattle.ob_exec.proofs.PlainLemmas.{none_drawn}
+use Rattle.ob_tables.proofs.RunLemmas.{asks_cut, asks_none, left_on, may_have, no_access, of_other, taken_none}
+use Rattle.ob_tables.proofs.PlainLemmas.{none_drawn}
 use Rattle.ob_mean.specs.Replay.{draws_taken, is_access}
 use Rattle.ob_exec.proofs.RowsLawful.{ended_end, ended_whole, ended_well}
-use Rattle.ob_exec.proofs.TableLemmas.{beside_below, tables_kept, region_below}
+use Rattle.ob_tables.proofs.TableLemmas.{beside_below, tables_kept, region_below}
 use Rattle.ob_select.proofs.RoomLemmas.{free_after}
 
 -- an engine after a SELECT

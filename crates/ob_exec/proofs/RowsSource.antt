@@ -1,104 +1,27 @@
--- The columns and the rows of the source of a SELECT.
-use Rattle.std.proofs.Common.{◌≡◌, ◌≤◌, ◌==◌, ℕ, suc, Bool, true, false, cond, List, [], ◌∷◌, ◌++◌, map, length, Option, Some, None, refl, sym, ◌∙◌, ap, subst, arith, append_assoc, length-append}
-use Rattle.std.specs.Prelude.{bytes_eq, not, ◌||◌, slice_get}
-use Rattle.std.specs.List.{All, list_any}
+-- The rows of the source of a SELECT.
+use Rattle.std.proofs.Common.{◌≡◌, ◌≤◌, ◌==◌, ℕ, true, false, cond, List, [], ◌∷◌, Option, Some, None, refl, sym, ap, subst}
+use Rattle.std.specs.Prelude.{bytes_eq}
 use Rattle.std.specs.Option.{option_map_or}
-use Rattle.std.proofs.lemmas.Slice.Eq.{bytes_eq-Decides}
 use Rattle.std.proofs.lemmas.Bool.Decides.{Decides-eqb}
 use Rattle.ob_base.specs.declared.config.Public.{Public}
-use Rattle.ob_base.specs.declared.schema.Column.{Column}
 use Rattle.ob_base.specs.declared.schema.Heading.{Heading}
-use Rattle.ob_base.specs.declared.schema.Table.{Table}
 use Rattle.ob_base.specs.declared.skeleton.ColumnName.{ColumnName}
-use Rattle.ob_base.specs.declared.skeleton.Source.TheVariants.{Table as OneTable, Join}
-use Rattle.ob_base.specs.Labels.{column_label}
-use Rattle.ob_base.specs.Lists.{places_from, places_of}
-use Rattle.ob_base.specs.Schemas.{Columns}
-use Rattle.ob_base.specs.Limits.{buffered_blocks}
+use Rattle.ob_base.specs.declared.skeleton.Source.TheVariants.{Join}
 use Rattle.ob_base.specs.Schemas.{key_place}
-use Rattle.ob_base.specs.Stored.{Stored, has_table, headings, headings_of, heading_at, stored_at}
+use Rattle.ob_base.specs.Limits.{buffered_blocks}
+use Rattle.ob_base.specs.Stored.{Stored, headings, heading_at, stored_at}
 use Rattle.ob_row.specs.Bags.{Same}
 use Rattle.ob_row.specs.Rows.{AreDistinct, Row, keys_repeat, pairs}
 use Rattle.ob_row.specs.Slots.{rows}
 use Rattle.ob_row.proofs.BagLemmas.{Same-refl}
-use Rattle.ob_emit.specs.Emitting.{is_joined, label_at, labels_of}
-use Rattle.ob_names.specs.Names.{columns_at, place_of, source_columns}
-use Rattle.ob_mean.specs.Prints.{is_join, rows_labels, label_at as named_label}
-use Rattle.ob_mean.specs.Refusals.{joins_itself, joins_off_key_at, source_tables}
-use Rattle.ob_mean.specs.Step.{join_places, printed_places, rows_at, source_rows}
-use Rattle.ob_mean.proofs.CondLemmas.{any_append}
+use Rattle.ob_names.specs.Names.{columns_at}
+use Rattle.ob_mean.specs.Refusals.{joins_off_key_at}
+use Rattle.ob_mean.specs.Step.{join_places, rows_at, source_rows}
 use Rattle.ob_mean.proofs.VerdictLemmas.{headings-database}
 use Rattle.ob_verdict.specs.Laws.{AreInPlace}
 use Rattle.ob_verdict.proofs.JoinLemmas.{rows-joined}
 use Rattle.ob_mean.specs.Verdict.{Held, Tables, database, slots_at, source_slots}
-use Rattle.ob_sql.specs.declared.stmt.SelectRows.{SelectRows}
-use Rattle.ob_reopen.specs.Limits.{IsStored}
 use Rattle.std.proofs.lemmas.Bool.{not-false}
-
--- ---- labels
-get_at : (xs : Columns) (x : Column) (ys : Columns) → slice_get (xs ++ x ∷ ys) (length xs) ≡ Some x
-get_at [] x ys = refl
-get_at (z ∷ xs) x ys = get_at xs x ys
-
-all_from : (joins : Bool) (front cs : Columns) → map (label_at joins (front ++ cs)) (places_from (length front) (λ _. true) cs) ≡ map (column_label joins) cs
-all_from joins front [] = refl
-all_from joins front (c ∷ cs) =
-    let whole : (front ++ c ∷ []) ++ cs ≡ front ++ c ∷ cs = append_assoc front (c ∷ []) cs in
-    let long : length (front ++ c ∷ []) ≡ suc (length front) = let sum = length-append front (c ∷ []) in omega (arith, sum) in
-    (λ i. option_map_or (column_label joins) (get_at front c cs i) [] ∷ map (label_at joins (sym whole i)) (places_from (sym long i) (λ _. true) cs))
-    ∙ ap (λ (labels : List (List ℕ)). column_label joins c ∷ labels) (all_from joins (front ++ c ∷ []) cs)
-
-names_labels : (joins : Bool) (cs : Columns) (names : List ColumnName) → map (label_at joins cs) (map (λ (name : ColumnName). place_of name cs) names) ≡ map (named_label joins cs) names
-names_labels joins cs [] = refl
-names_labels joins cs (name ∷ names) = ap (λ (labels : List (List ℕ)). named_label joins cs name ∷ labels) (names_labels joins cs names)
-
-list_labels : (joins : Bool) (cs : Columns) (list : Option (List ColumnName))
-    → map (label_at joins cs) (option_map_or (map (λ (name : ColumnName). place_of name cs)) list (places_of (λ _. true) cs)) ≡ option_map_or (map (named_label joins cs)) list (map (column_label joins) cs)
-list_labels joins cs None = all_from joins [] cs
-list_labels joins cs (Some names) = names_labels joins cs names
-
--- the header of a result is that of the statement
-pub labels_are : (select : SelectRows) (hs : List Heading) → is_joined (source_columns select.source hs) ≡ is_join select.source
-    → labels_of (source_columns select.source hs) (printed_places select (source_columns select.source hs)) ≡ rows_labels select hs
-labels_are select hs joins =
-    ap (λ (b : Bool). map (label_at b (source_columns select.source hs)) (printed_places select (source_columns select.source hs))) joins
-    ∙ list_labels (is_join select.source) (source_columns select.source hs) select.list
-
--- ---- columns of one table, and of two
-abbrev pub AreStored : List Table → Type 0
-AreStored ts = (i : ℕ) (t : Table) → slice_get ts i ≡ Some t → IsStored t.heading
-
-abbrev Of : List ℕ → Columns → Type 0
-Of name cs = All (λ (c : Column). c.table ≡ name) cs
-
-named_at : (name : List ℕ) (ts : List Table) → AreStored ts → Of name (columns_at name (headings_of ts))
-named_at name [] stored = λ k d less. absurd (omega (arith, less))
-named_at name (t ∷ ts) stored = by_name (bytes_eq t.heading.name name) refl (named_at name ts (λ i u at. stored (suc i) u at))
-  where
-    by_name : (b : Bool) → bytes_eq t.heading.name name ≡ b → Of name (columns_at name (headings_of ts))
-        → Of name (option_map_or (λ (h : Heading). h.schema) (cond b (Some t.heading) (heading_at name (headings_of ts))) [])
-    by_name true is later = subst (λ (own : List ℕ). Of own t.heading.schema) ((bytes_eq-Decides t.heading.name name).0 is) (stored 0 t refl).table
-    by_name false is later = later
-
-first_of_them : (own : List ℕ) (c : Column) (cs : Columns) → Of own (c ∷ cs) → c.table ≡ own
-first_of_them own c cs named = named 0 c (omega arith)
-
-others : (own : List ℕ) (c : Column) (cs : Columns) → Of own (c ∷ cs) → Of own cs
-others own c cs named = λ k d less. named (suc k) d (omega (arith, less))
-
-none_other : (own : List ℕ) (cs : Columns) → Of own cs → list_any (λ (d : Column). not (bytes_eq d.table own)) cs ≡ false
-none_other own [] named = refl
-none_other own (c ∷ cs) named =
-    ap (λ (b : Bool). not b || list_any (λ (d : Column). not (bytes_eq d.table own)) cs) ((bytes_eq-Decides c.table own).1 (first_of_them own c cs named))
-    ∙ none_other own cs (others own c cs named)
-
-one_joined : (name : List ℕ) (cs : Columns) → Of name cs → is_joined cs ≡ false
-one_joined name [] named = refl
-one_joined name (c ∷ cs) named =
-    ap (λ (own : List ℕ). list_any (λ (d : Column). not (bytes_eq d.table own)) cs) (first_of_them name c cs named) ∙ none_other name cs (others name c cs named)
-
-pub table_unjoined : (name : List ℕ) (ts : List Table) → AreStored ts → is_joined (source_columns (OneTable name) (headings_of ts)) ≡ is_join (OneTable name)
-table_unjoined name ts stored = one_joined name (columns_at name (headings_of ts)) (named_at name ts stored)
 
 -- ---- rows
 pub table_rows : (name : List ℕ) (ts : Tables) → rows_at name (database ts) ≡ rows (slots_at name ts)
@@ -110,53 +33,7 @@ table_rows name (t ∷ ts) =
 pub table_same : (name : List ℕ) (ts : Tables) → Same (rows_at name (database ts)) (rows (slots_at name ts))
 table_same name ts = subst (λ (w : List Row). Same (rows_at name (database ts)) w) (table_rows name ts) (Same-refl _)
 
--- ---- a join's columns are of two tables
-some_columns : (name : List ℕ) (ts : List Table) → AreStored ts → has_table name (headings_of ts) ≡ true → 1 ≤ length (columns_at name (headings_of ts))
-some_columns name [] stored there = absurd (cc there)
-some_columns name (t ∷ ts) stored there = by_name (bytes_eq t.heading.name name) there (λ later. some_columns name ts (λ i u at. stored (suc i) u at) later)
-  where
-    by_name : (b : Bool) → (b || has_table name (headings_of ts)) ≡ true → (has_table name (headings_of ts) ≡ true → 1 ≤ length (columns_at name (headings_of ts)))
-        → 1 ≤ length (option_map_or (λ (h : Heading). h.schema) (cond b (Some t.heading) (heading_at name (headings_of ts))) [])
-    by_name true there later = (stored 0 t refl).some
-    by_name false there later = later there
-
-apart : (a b : List ℕ) → bytes_eq a b ≡ false → not (bytes_eq b a) ≡ true
-apart a b off = by_test (bytes_eq b a) refl
-  where
-    by_test : (c : Bool) → bytes_eq b a ≡ c → not c ≡ true
-    by_test true is = let same = (bytes_eq-Decides b a).0 is in let hit = (bytes_eq-Decides a b).1 (sym same) in absurd (cc (hit, off))
-    by_test false is = refl
-
-or_true : (b c : Bool) → c ≡ true → (b || c) ≡ true
-or_true true c is = refl
-or_true false c is = is
-
-any_other : (a b : List ℕ) (cs : Columns) → Of b cs → 1 ≤ length cs → bytes_eq a b ≡ false → list_any (λ (d : Column). not (bytes_eq d.table a)) cs ≡ true
-any_other a b [] named some off = absurd (omega (arith, some))
-any_other a b (c ∷ cs) named some off =
-    ap (λ (own : List ℕ). not (bytes_eq own a) || list_any (λ (d : Column). not (bytes_eq d.table a)) cs) (first_of_them b c cs named)
-    ∙ ap (λ (x : Bool). x || list_any (λ (d : Column). not (bytes_eq d.table a)) cs) (apart a b off)
-
-two_joined : (a b : List ℕ) (left right : Columns) → Of a left → Of b right → 1 ≤ length left → 1 ≤ length right → bytes_eq a b ≡ false → is_joined (left ++ right) ≡ true
-two_joined a b [] right of_a of_b some others off = absurd (omega (arith, some))
-two_joined a b (c ∷ cs) right of_a of_b some others off =
-    ap (λ (own : List ℕ). list_any (λ (d : Column). not (bytes_eq d.table own)) (cs ++ right)) (first_of_them a c cs of_a)
-    ∙ any_append (λ (d : Column). not (bytes_eq d.table a)) cs right
-    ∙ or_true _ _ (any_other a b right of_b others off)
-
-pub there_are : (a b : Bool) → (not a || (not b || false)) ≡ false → (a ≡ true) × (b ≡ true)
-there_are true true is = (refl, refl)
-there_are true false is = absurd (cc is)
-there_are false b is = absurd (cc is)
-
-pub join_joined : (a b : List ℕ) (on equals : ColumnName) (ts : List Table) → AreStored ts → list_any (λ name. not (has_table name (headings_of ts))) (source_tables (Join a b on equals)) ≡ false
-    → joins_itself (Join a b on equals) ≡ false → is_joined (source_columns (Join a b on equals) (headings_of ts)) ≡ is_join (Join a b on equals)
-join_joined a b on equals ts stored there off =
-    let both = there_are (has_table a (headings_of ts)) (has_table b (headings_of ts)) there in
-    two_joined a b (columns_at a (headings_of ts)) (columns_at b (headings_of ts)) (named_at a ts stored) (named_at b ts stored)
-    (some_columns a ts stored both.0) (some_columns b ts stored both.1) off
-
--- ---- and its rows the pairs
+-- ---- a join's are the pairs
 keys_distinct : (stash : ℕ) (name : List ℕ) (ts : Tables) → AreInPlace stash ts → keys_repeat (key_place (columns_at name (headings ts))) (rows (slots_at name ts)) ≡ false
 keys_distinct stash name [] in_place = refl
 keys_distinct stash name (t ∷ ts) in_place =

@@ -2,8 +2,8 @@
 use Rattle.std.proofs.Common.{◌≡◌, ◌⊎◌, inl, inr, ◌≤◌, ◌-◌, if◌then◌else◌, ℕ, Bool, true, false, List, [], ◌∷◌, ◌++◌, length, Option, Some, None, Err, Result, refl, sym, ◌∙◌, ap, subst, arith, length-append}
 use Rattle.std.specs.Prelude.{IfOk, IfErr, nat_lt}
 use Rattle.ob_base.specs.declared.config.Public.{Public}
-use Rattle.ob_exec.specs.declared.stop.RunStop.{RunStop}
-use Rattle.ob_exec.specs.declared.stop.RunStop.TheVariants as Stops
+use Rattle.ob_tables.specs.declared.stop.RunStop.{RunStop}
+use Rattle.ob_tables.specs.declared.stop.RunStop.TheVariants as Stops
 use Rattle.ob_base.specs.declared.seen.Seen.{Seen}
 use Rattle.ob_base.specs.declared.seen.End.TheVariants.{Static, Cut}
 use Rattle.ob_base.specs.Events.{Event, Head, Leads, row_events}
@@ -34,32 +34,32 @@ use Rattle.ob_mean.specs.Step.{source_rows}
 use Rattle.ob_mean.specs.Verdict.{accessed, Draws, Tables, database, is_late, plan_for, seen, seen_by, seen_with}
 use Rattle.ob_verdict.specs.Laws.{AreInPlace}
 use Rattle.ob_verdict.proofs.LawfulProof.{same_script}
-use Rattle.ob_exec.specs.declared.engine.Engine.{Engine}
+use Rattle.ob_tables.specs.declared.engine.Engine.{Engine}
 use Rattle.ob_verdict.specs.declared.outcome.Outcome.{Outcome}
 use Rattle.ob_select.specs.declared.selecting.Selected.{Selected}
-use Rattle.ob_exec.specs.Agreeing.{Agrees, AreDraws, world_of, count_of}
-use Rattle.ob_exec.specs.Running.{RefusedEarly, SinkStops, answer_of, is_stop, stops_access}
+use Rattle.ob_tables.specs.Agreeing.{Agrees, AreDraws, world_of, count_of}
+use Rattle.ob_tables.specs.Running.{RefusedEarly, SinkStops, answer_of, is_stop, stops_access}
 use Rattle.ob_verdict.specs.Outcomes.{refusal_now}
 use Rattle.ob_select.specs.Selecting.{MayHold, SealsRows, answer_events, selection_answer, from, places, selection_seen}
-use Rattle.ob_exec.specs.Serving.{Answered, StopsEmission, Serves, Stopped}
+use Rattle.ob_tables.specs.Serving.{Answered, StopsEmission, Serves, Stopped}
 use Rattle.ob_select.specs.Halting.{EmitsUntil, TakesPart}
 use Rattle.ob_select.specs.Memory.{HasHalted}
-use Rattle.ob_exec.proofs.EmitLemmas.{are_rows, lie_none}
+use Rattle.ob_tables.proofs.EmitLemmas.{are_rows, lie_none}
 use Rattle.ob_select.proofs.UntilLemmas.{until_failed, until_more}
 use Rattle.ob_exec.specs.Sources.{HaltsRows, HoldsRows, LacksRowMemory, LeavesNone, ReachesRows, ReadsMeant, SourceToEnd, SourceToHalt, UsesRoomFor, closing, rows_script, rows_skeleton, selection, slots_of}
-use Rattle.ob_exec.specs.Telling.{IsNotTampered, ReadsTrue, ReadsTrueUntil, Represents, SeenCut, Told, answer_labels, is_refused, meant_script}
-use Rattle.ob_exec.proofs.HeldLemmas.{held_headings, held_kept, held_plain}
-use Rattle.ob_exec.proofs.PlainLemmas.{none_room, pass_stops}
+use Rattle.ob_tables.specs.Telling.{IsNotTampered, ReadsTrue, ReadsTrueUntil, Represents, SeenCut, Told, answer_labels, is_refused, meant_script}
+use Rattle.ob_tables.proofs.HeldLemmas.{held_headings, held_kept, held_plain}
+use Rattle.ob_tables.proofs.PlainLemmas.{none_room, pass_stops}
 use Rattle.ob_mean.specs.Replay.{is_access}
 use Rattle.ob_sql.specs.Skeleton.{skeleton}
 use Rattle.ob_exec.proofs.RowsLawful.{lawful_cut}
 use Rattle.ob_exec.proofs.RowsMeaning.{rows_partly, rows_seen, rows_unfinished, rows_unread}
 use Rattle.ob_select.proofs.SelectHeld.{held_empty}
 use Rattle.ob_exec.proofs.RowsRun.{rows_after, rows_cut}
-use Rattle.ob_exec.specs.Engines.{others_of}
-use Rattle.ob_exec.proofs.TableLemmas.{beside_below, region_below}
-use Rattle.ob_exec.proofs.ToldLemmas.{early_held}
-use Rattle.ob_exec.proofs.RunLemmas.{no_access, only_memory}
+use Rattle.ob_tables.specs.Engines.{others_of}
+use Rattle.ob_tables.proofs.TableLemmas.{beside_below, region_below}
+use Rattle.ob_tables.proofs.ToldLemmas.{early_held}
+use Rattle.ob_tables.proofs.RunLemmas.{no_access, only_memory}
 
 pub unfit_none : (w : World) → w.store.lie ≡ None → IsUnfit w
 unfit_none w none = record { unfit = λ lie is. absurd (cc (is, none)) }

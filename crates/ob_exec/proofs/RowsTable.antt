@@ -1,8 +1,7 @@
 -- A SELECT of the rows of a table.
-use Rattle.std.proofs.Common.{◌≡◌, inl, ◌≤◌, ◌<◌, ◌+◌, ◌-◌, ℕ, zero, suc, Bool, true, false, List, [], ◌∷◌, ◌++◌, map, length, length-append, Option, Some, None, Ok, Err, Result, refl, sym, ◌∙◌, ap, subst, arith, append-nil}
-use Rattle.std.specs.Prelude.{IsTrue, nat_le, slice_get, unwrap_or}
+use Rattle.std.proofs.Common.{◌≡◌, inl, ◌≤◌, ◌<◌, ◌+◌, ◌-◌, ℕ, Bool, false, List, [], ◌++◌, length, Option, Some, None, Ok, Err, Result, refl, sym, ◌∙◌, ap, subst, arith, append-nil}
+use Rattle.std.specs.Prelude.{IsTrue, nat_le, slice_get}
 use Rattle.std.proofs.lemmas.Bool.Decides.{nat_tests}
-use Rattle.std.proofs.lemmas.List.{length-map}
 use Rattle.std.specs.Int.{div_ceil}
 use Rattle.std.specs.Option.{option_map_or}
 use Rattle.ob_base.specs.declared.schema.Shape.TheVariants.{Flat as FlatShape}
@@ -17,8 +16,6 @@ use Rattle.ob_base.specs.declared.skeleton.Skeleton.TheVariants.{Rows as RowsSke
 use Rattle.ob_base.specs.declared.skeleton.Source.{Source}
 use Rattle.ob_base.specs.declared.skeleton.Source.TheVariants.{Table as OneTable}
 use Rattle.ob_base.specs.Events.{Event, IsEmitted}
-use Rattle.ob_base.specs.declared.skeleton.ColumnName.{ColumnName}
-use Rattle.ob_base.specs.Lists.{places_of, tabulate}
 use Rattle.ob_base.specs.Schemas.{Columns}
 use Rattle.ob_base.specs.Stored.{Stored, headings_of, heading_at, stored_region}
 use Rattle.ob_row.specs.Condition.{Condition}
@@ -45,7 +42,7 @@ use Rattle.ob_flat.specs.Passes.{PassCut, is_of_access}
 use Rattle.ob_flat.proofs.Resting.{represents_rests}
 use Rattle.ob_flat.proofs.Runs.{pass_after}
 use Rattle.ob_mean.specs.Lawful.{counted_slots}
-use Rattle.ob_names.specs.Names.{place_of, source_columns}
+use Rattle.ob_names.specs.Names.{source_columns}
 use Rattle.ob_mean.specs.Conditions.{where_at}
 use Rattle.ob_mean.specs.Refusals.{listed, limits_of}
 use Rattle.ob_mean.proofs.EarlyLemmas.{allowed}
@@ -57,33 +54,25 @@ use Rattle.ob_mean.specs.Verdict.{Held, Tables, is_late, source_slots, ended as 
 use Rattle.ob_sql.specs.declared.stmt.SelectRows.{SelectRows}
 use Rattle.ob_sql.specs.declared.stmt.Stmt.TheVariants.{SelectRows as RowsStmt}
 use Rattle.ob_verdict.specs.Outcomes.{refusal_now}
-use Rattle.ob_select.proofs.PlaceLemmas.{all_places}
-use Rattle.ob_exec.specs.declared.engine.Engine.{Engine}
+use Rattle.ob_tables.specs.declared.engine.Engine.{Engine}
 use Rattle.ob_select.specs.declared.selecting.Selected.{Selected}
 use Rattle.ob_select.specs.declared.selecting.Selected.TheVariants.{Rows, Refused}
-use Rattle.ob_exec.specs.Agreeing.{Agrees, world_of, count_of}
-use Rattle.ob_exec.specs.Engines.{flat_of}
+use Rattle.ob_tables.specs.Agreeing.{Agrees, world_of, count_of}
+use Rattle.ob_tables.specs.Engines.{flat_of}
 use Rattle.ob_select.specs.Selecting.{HoldsSeen, MaySelect, Selection, SelectsFrom, SelectsToEnd, SelectsToHalt, EmitsSelected, answer_events, counted_after, from, padded_after, region_of, selection_seen, selection_script, walked_after}
 use Rattle.ob_exec.specs.Sources.{EmitsRows, EndsRows, HaltsRows, HoldsRows, ReadsMeant, SelectsRows, SourceToEnd, SourceToHalt, rows_script, rows_skeleton, selection, slots_of, stated}
-use Rattle.ob_exec.specs.Telling.{AreHeld}
+use Rattle.ob_tables.specs.Telling.{AreHeld}
 use Rattle.ob_oram.specs.declared.index.Index.{Index}
-use Rattle.ob_exec.proofs.FoundLemmas.{heading_found, shape_found}
-use Rattle.ob_exec.proofs.HeldLemmas.{held_at}
+use Rattle.ob_tables.proofs.FoundLemmas.{heading_found, shape_found}
+use Rattle.ob_tables.proofs.HeldLemmas.{held_at}
 use Rattle.ob_select.proofs.SelectLength.{select_length}
 use Rattle.ob_exec.proofs.RowsStated.{ends_stated, may_stated}
-use Rattle.ob_exec.proofs.TableLemmas.{flat_kept, region_below, stored_found}
+use Rattle.ob_tables.proofs.TableLemmas.{flat_kept, region_below, stored_found}
 use Rattle.ob_select.proofs.ResultParts.{some_buffered}
+use Rattle.ob_tables.proofs.SourceColumns.{listed_few}
 
 pub not_late : (m : ℕ) → is_late m ≡ false → m < 9223372036854775808
 not_late m early = grind (arith, nat_tests)
-
-tabulate_length : (n : ℕ) → length (tabulate n (λ i. i)) ≡ n
-tabulate_length zero = refl
-tabulate_length (suc n) = let more = length-append (tabulate n (λ i. i)) (n ∷ []) in let same = tabulate_length n in omega (arith, more, same)
-
-pub listed_few : (list : Option (List ColumnName)) (cs : Columns) → length (unwrap_or list []) ≤ 32 → length cs ≤ 32 → length (option_map_or (map (λ c. place_of c cs)) list (places_of (λ _. true) cs)) ≤ 32
-listed_few None cs few wide = let same = ap length (all_places cs) in let long = tabulate_length (length cs) in omega (arith, same, long, wide)
-listed_few (Some names) cs few wide = let same = length-map names (λ (c : ColumnName). place_of c cs) in omega (arith, same, few)
 
 -- ---- of one source for another
 pub emitted_from : {E A B : Type 0} {grew : E → E → List Event → Type 0} {head : List Event} {from to : ℕ} {a b : E} (sa : A → List (List Shown)) (sb : B → List (List Shown)) (f : B → A) → ((x : B) → sa (f x) ≡ sb x)

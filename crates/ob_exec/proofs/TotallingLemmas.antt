@@ -49,8 +49,9 @@ use Rattle.ob_mean.specs.Refusals.{is_group}
 use Rattle.ob_mean.specs.Step.{agg_of, answered, item_of}
 use Rattle.ob_verdict.specs.declared.outcome.Outcome.{Outcome}
 use Rattle.ob_verdict.specs.declared.outcome.Outcome.TheVariants.{Rows, Refused}
-use Rattle.ob_exec.specs.Totalling.{Gives, HaltsTotals, Totals, TotalsFit, agg_at, totalled_answer, ends_by, error_of, labels_at, outcome_at}
-use Rattle.ob_exec.proofs.EmitLemmas.{unfit_none}
+use Rattle.ob_exec.specs.Totalling.{Gives, HaltsTotals, Totals, TotalsFit, agg_at, totalled_answer, ends_by, labels_at, outcome_at}
+use Rattle.ob_tables.specs.Stops.{error_of}
+use Rattle.ob_tables.proofs.EmitLemmas.{unfit_none}
 use Rattle.ob_exec.proofs.TotalsLemmas.{all_events, answer_grouped, answer_plain, are_many, begun_rows, group_labels, grouped_as, is_answer, items_within, leads_join, leads_none, not_many, partly_none, partly_rows, plain_aggs, plain_labels, prints_rows}
 
 -- ---- the emitter's failures

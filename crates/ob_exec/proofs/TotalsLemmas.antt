@@ -38,7 +38,7 @@ use Rattle.ob_verdict.specs.Accepted.{IsPlace, agg_places}
 use Rattle.ob_verdict.proofs.AcceptedProof.{totals_places_fit}
 use Rattle.ob_verdict.specs.declared.outcome.Outcome.{Outcome}
 use Rattle.ob_verdict.specs.declared.outcome.Outcome.TheVariants.{Rows, Refused}
-use Rattle.ob_exec.proofs.EmitLemmas.{are_rows}
+use Rattle.ob_tables.proofs.EmitLemmas.{are_rows}
 use Rattle.ob_verdict.specs.Outcomes.{outcome_of, IsAnswer, Partly}
 use Rattle.ob_exec.specs.Totalling.{Gives, TotalsFit, agg_at, totalled_answer, totalled}
 

@@ -5,8 +5,8 @@ use Rattle.std.specs.Option.{option_map, option_map_or, option_or}
 use Rattle.ob_base.specs.declared.config.Public.{Public}
 use Rattle.ob_base.specs.declared.refusal.Refusal.{Refusal}
 use Rattle.ob_base.specs.declared.refusal.Refusal.TheVariants.{TooManyGroups, StoreFault}
-use Rattle.ob_exec.specs.declared.stop.RunStop.{RunStop}
-use Rattle.ob_exec.specs.declared.stop.RunStop.TheVariants as Stops
+use Rattle.ob_tables.specs.declared.stop.RunStop.{RunStop}
+use Rattle.ob_tables.specs.declared.stop.RunStop.TheVariants as Stops
 use Rattle.ob_base.specs.declared.schema.Heading.{Heading}
 use Rattle.ob_base.specs.declared.schema.Table.{Table}
 use Rattle.ob_base.specs.declared.seen.End.TheVariants.{Whole, Cut}
@@ -50,33 +50,33 @@ use Rattle.ob_mean.specs.Settle.{settle}
 use Rattle.ob_mean.specs.Step.{accepted_answer, answered, overgroups, rows_at, totals_answer}
 use Rattle.ob_mean.specs.Verdict.{Draws, Held, Tables, database, is_late, refusal, verdict, seen, ended as seen_to}
 use Rattle.ob_mean.proofs.VerdictLemmas.{heading-stored, headings-database, stored-database, refused_late}
-use Rattle.ob_exec.specs.declared.engine.Engine.{Engine}
+use Rattle.ob_tables.specs.declared.engine.Engine.{Engine}
 use Rattle.ob_verdict.specs.declared.outcome.Outcome.{Outcome}
 use Rattle.ob_verdict.specs.declared.outcome.Outcome.TheVariants.{Refused}
-use Rattle.ob_exec.specs.Agreeing.{Agrees, world_of, count_of}
-use Rattle.ob_exec.specs.Engines.{IsAt, flat_of}
-use Rattle.ob_exec.specs.Running.{SinkStops, answer_of, is_stop, stops_access}
+use Rattle.ob_tables.specs.Agreeing.{Agrees, world_of, count_of}
+use Rattle.ob_tables.specs.Engines.{IsAt, flat_of}
+use Rattle.ob_tables.specs.Running.{SinkStops, answer_of, is_stop, stops_access}
 use Rattle.ob_verdict.specs.Outcomes.{refusal_now, outcome_of, Emits, Partly}
 use Rattle.ob_select.specs.Selecting.{UsesRoom}
-use Rattle.ob_exec.specs.Serving.{StopsEmission, Serves, Stopped}
+use Rattle.ob_tables.specs.Serving.{StopsEmission, Serves, Stopped}
 use Rattle.ob_select.specs.Memory.{HasHalted}
-use Rattle.ob_exec.proofs.BegunLemmas.{begun_plain}
-use Rattle.ob_exec.specs.Telling.{AreHeld, Represents, IsNotTampered, answer_labels, is_refused}
+use Rattle.ob_tables.proofs.BegunLemmas.{begun_plain}
+use Rattle.ob_tables.specs.Telling.{AreHeld, Represents, IsNotTampered, answer_labels, is_refused}
 use Rattle.ob_exec.specs.Totalling.{IsTotalled, MayTotal, Totals, TotalsFit, ends_by, labels_at, totalled_answer}
-use Rattle.ob_exec.proofs.FoundLemmas.{heading_found, shape_found}
-use Rattle.ob_exec.proofs.HeldLemmas.{Beside, held_at}
-use Rattle.ob_exec.proofs.PlainLemmas.{none_room, none_stops, pass_stops, settle_is}
+use Rattle.ob_tables.proofs.FoundLemmas.{heading_found, shape_found}
+use Rattle.ob_tables.proofs.HeldLemmas.{Beside, held_at}
+use Rattle.ob_tables.proofs.PlainLemmas.{none_room, none_stops, pass_stops, settle_is}
 use Rattle.ob_base.specs.declared.schema.Shape.TheVariants.{Flat as FlatShape}
 use Rattle.ob_mean.specs.Replay.{has_index}
 use Rattle.ob_verdict.proofs.NamesFlatProof.{names_flat}
 use Rattle.std.proofs.lemmas.List.Elements.{All-head}
-use Rattle.ob_exec.proofs.LawfulLemmas.{lawful_now}
-use Rattle.ob_exec.proofs.ReadLemmas.{cut_after, held_read, read_cut, read_done, read_flat, read_size, reads, reads_is, went_all}
-use Rattle.ob_exec.proofs.RunLemmas.{IsAnswered, engine_after, no_access, ran_no_room, only_memory}
-use Rattle.ob_exec.proofs.SealLemmas.{keeps_pass, keeps_rests}
-use Rattle.ob_exec.proofs.ToldLemmas.{cut_seen, early_held, refused_none, started_seen, told_whole, followed_same}
+use Rattle.ob_tables.proofs.LawfulLemmas.{lawful_now}
+use Rattle.ob_tables.proofs.ReadLemmas.{cut_after, held_read, read_cut, read_done, read_flat, read_size, reads, reads_is, went_all}
+use Rattle.ob_tables.proofs.RunLemmas.{IsAnswered, engine_after, no_access, ran_no_room, only_memory}
+use Rattle.ob_tables.proofs.SealLemmas.{keeps_pass, keeps_rests}
+use Rattle.ob_tables.proofs.ToldLemmas.{cut_seen, early_held, refused_none, started_seen, told_whole, followed_same}
 use Rattle.ob_exec.proofs.TotalsLemmas.{partly_none, totals_fit}
-use Rattle.ob_exec.proofs.EmitLemmas.{lie_none}
+use Rattle.ob_tables.proofs.EmitLemmas.{lie_none}
 
 -- ---- what it means
 -- nothing beside the refusal of too many groups

@@ -1,15 +1,2 @@
-pub mod Stops
-pub mod Schemas
-pub mod Engines
-pub mod Indexed
-pub mod Leaves
-pub mod Refusals
-pub mod Agreeing
-pub mod Running
-pub mod Memory
-pub mod Telling
 pub mod Totalling
 pub mod Sources
-pub mod Serving
-pub mod Reopening
-pub mod Closing

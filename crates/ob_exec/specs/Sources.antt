@@ -34,7 +34,7 @@ use Rattle.ob_verdict.specs.declared.outcome.Outcome.TheVariants.{Rows as RowsOu
 use Rattle.ob_select.specs.Halting.{EmitsUntil}
 use Rattle.ob_select.specs.Memory.{AtMake, BeforeResult, HasCounted, HasHalted, is_reading}
 use Rattle.ob_select.specs.Selecting.{Selection, SealsRows, MayHold, EndsSelected, from, shown_rows, selection_answer, answer_events, selection_seen}
-use Rattle.ob_exec.specs.Telling.{AreHeld}
+use Rattle.ob_tables.specs.Telling.{AreHeld}
 
 -- what is selected, as if the source were one region
 abbrev pub stated : Public → SelectRows → (region ending : ℕ) → Selection

@@ -3,7 +3,6 @@ use Rattle.std.specs.Prelude.{◌≡◌, ◌⊎◌, ◌≤◌, ◌<◌, ℕ, fal
 use Rattle.std.specs.Prelude.{map, filter, filter_map, unwrap_or, length, Option, Some, None, if◌then◌else◌}
 use Rattle.std.specs.Prelude.{IfSome, Result, Err, OnOk, OnErr, IfOk, IfErr, MatchResult}
 use Rattle.ob_base.specs.declared.emit.EmitErr.{EmitErr}
-use Rattle.ob_base.specs.declared.emit.EmitErr.TheVariants as EmitErrs
 use Rattle.ob_base.specs.declared.refusal.Refusal.{Refusal}
 use Rattle.ob_base.specs.declared.refusal.Refusal.TheVariants.{TooManyGroups}
 use Rattle.ob_base.specs.Events.{Event, EmitCause, Leads}
@@ -70,11 +69,6 @@ outcome_at s answer = outcome_of (TotalsStmt s) answer
 abbrev pub IsTotalled : Outcome → Type 0
 IsTotalled outcome =
     ((k : ℕ) × (outcome ≡ Outcomes.Rows k)) ⊎ (outcome ≡ Outcomes.Refused TooManyGroups)
-
--- the error of a pass that an emitter's makes
-abbrev pub error_of : EmitErr → OpErr
-error_of EmitErrs.Failed = Sink
-error_of EmitErrs.NoMemory = NoMemory
 
 -- ---- what is asked
 -- a select's items and key are among the columns of its table, and each plain column is the group's own

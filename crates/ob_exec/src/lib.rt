@@ -1,25 +1,21 @@
-//! The engine: statements over sealed tables in a block store that others watch and change.
+//! Statements over the tables of an engine, in a block store that others watch and change: SELECT of rows, from a
+//! table or a join, SELECT of totals, and `run`, which carries out any statement.
+//!
+//! What is promised of `run` is `Serves` of `ob_tables/specs/Serving`: its accesses follow from what is public, the
+//! statement without its literals and conditions, and what is seen of it, whatever the store answers; and where
+//! nobody changed a block, its answer is that of the meaning.
+//!
+//! `running` begins each statement, by what is refused before any access, by the index that it accesses, and else
+//! by its kind: what makes or changes a table is a call of `ob_tables`. `rows` and `totals` are the SELECTs;
+//! `specs/Sources` says what is done of the rows of a source (`SelectsRows`), and `specs/Totalling` of totals.
 #![tactic(auto)]
 
-mod closing;
-mod creating;
-mod deleting;
-mod dropping;
-mod engine;
-mod indexed;
-mod inserting;
-mod laws;
-mod opening;
 mod rows;
-mod run;
-mod stop;
-mod tables;
+mod running;
 mod totalling;
 mod totals;
-mod updating;
 
-pub use engine::Engine;
-pub use laws::names_are_apart;
-pub use ob_reopen::{CloseErr, Closing, Listed, OpenErr};
-pub use ob_verdict::Outcome;
-pub use stop::RunStop;
+pub use ob_tables::{
+    CloseErr, Closing, Engine, Listed, OpenErr, Outcome, RunStop, names_are_apart,
+};
+pub use running::run;

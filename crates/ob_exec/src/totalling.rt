@@ -6,7 +6,7 @@ ghost use Rattle.ob_vault.specs.Places.{at};
 ghost use Rattle.ob_group.specs.Labels.{agg_label};
 ghost use Rattle.ob_mean.specs.Step.{item_of};
 ghost use Rattle.ob_select.specs.Selecting.{UsesRoom};
-ghost use Rattle.ob_exec.specs.Totalling.{agg_at, error_of, Gives, MayTotal, Totals};
+ghost use Rattle.ob_exec.specs.Totalling.{agg_at, Gives, MayTotal, Totals};
 
 use ob_base::{Column, ColumnName, Emit, EmitErr, Label, NoMemory, Refusal, Schema, Shown};
 use ob_flat::{Flat, OpErr};
@@ -18,6 +18,7 @@ use ob_room::Room;
 use ob_row::{Agg, Item, Pred};
 use ob_sql::{Listed, SelectTotals};
 use ob_store::BlockStore;
+use ob_tables::error_of;
 use ob_vault::{Revisions, Vault};
 use ob_verdict::Outcome;
 use std::alloc::Global;
@@ -90,16 +91,6 @@ fn emit_row<E: Emit>(out: &mut E, labels: &[Label], cells: &[Shown]) -> Result<(
             Err(error) => Err(error),
         },
         Err(error) => Err(error),
-    }
-}
-
-// The error of a pass that an emitter's makes.
-pub(crate) fn error_of(error: EmitErr) -> OpErr
-    ensures { result ≡ error_of error }
-{
-    match error {
-        EmitErr::Failed => OpErr::Sink,
-        EmitErr::NoMemory => OpErr::NoMemory,
     }
 }
 

@@ -4,9 +4,9 @@ use Rattle.ob_gen.specs.declared.tally.Tally.{Tally}
 use Rattle.ob_base.specs.Counts.{Rises}
 use Rattle.ob_base.specs.declared.refusal.Stop.{Stop}
 use Rattle.ob_base.specs.declared.refusal.Stop.TheVariants.{Tampered, SourceFault, SinkFault, NoMemory, InputLimit, StoreFault, StashFull}
-use Rattle.ob_exec.specs.Stops.{session_stop}
-use Rattle.ob_exec.specs.declared.stop.RunStop.{RunStop}
-use Rattle.ob_exec.specs.declared.stop.RunStop.TheVariants as Runs
+use Rattle.ob_tables.specs.Stops.{session_stop}
+use Rattle.ob_tables.specs.declared.stop.RunStop.{RunStop}
+use Rattle.ob_tables.specs.declared.stop.RunStop.TheVariants as Runs
 use Rattle.ob_headline.specs.Words.{Faults, SinksRose, faults_of}
 use Rattle.ob_shell.specs.Running.{OutFailed, Silenced, StopCause}
 

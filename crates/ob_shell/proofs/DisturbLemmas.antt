@@ -6,13 +6,13 @@ use Rattle.std.proofs.lemmas.List.{length-append, take-append-drop, take-append-
 use Rattle.std.specs.List.{list_all}
 use Rattle.ob_base.specs.declared.access.Access.{Access}
 use Rattle.ob_base.specs.declared.access.Access.TheVariants.{Read}
-use Rattle.ob_exec.proofs.HeldLemmas.{held_headings}
-use Rattle.ob_exec.specs.Agreeing.{AreDraws, public_of, seen_of, world_of}
-use Rattle.ob_exec.specs.Running.{RunCause}
-use Rattle.ob_exec.specs.Telling.{Represents}
+use Rattle.ob_tables.proofs.HeldLemmas.{held_headings}
+use Rattle.ob_tables.specs.Agreeing.{AreDraws, public_of, seen_of, world_of}
+use Rattle.ob_tables.specs.Running.{RunCause}
+use Rattle.ob_tables.specs.Telling.{Represents}
 use Rattle.ob_verdict.specs.declared.outcome.Outcome.{Outcome}
-use Rattle.ob_exec.specs.declared.stop.RunStop.{RunStop}
-use Rattle.ob_exec.specs.declared.stop.RunStop.TheVariants.{Tampered, SinkFault, NoMemory, StoreFault, StashFull}
+use Rattle.ob_tables.specs.declared.stop.RunStop.{RunStop}
+use Rattle.ob_tables.specs.declared.stop.RunStop.TheVariants.{Tampered, SinkFault, NoMemory, StoreFault, StashFull}
 use Rattle.ob_headline.proofs.FullLemmas.{met_reads, met_script}
 use Rattle.ob_headline.specs.Words.{Begins}
 use Rattle.ob_mean.specs.Verdict.{Draws, Tables}

@@ -13,14 +13,14 @@ use Rattle.ob_base.specs.declared.config.Config.{Config}
 use Rattle.ob_base.specs.declared.config.Public.{Public}
 use Rattle.ob_base.specs.declared.mark.Mark.{Mark}
 use Rattle.ob_base.specs.declared.refusal.Stop.{Stop}
-use Rattle.ob_exec.proofs.HeldLemmas.{held_headings}
-use Rattle.ob_exec.specs.Agreeing.{Agrees, AreDraws, count_of, engine_keys, engine_start, first_draws, has_ended, high_of, indexes_of, opened_from, public_of, rows_of, world_of}
-use Rattle.ob_exec.specs.Closing.{ClosesEngine, closing_script, next_closing}
+use Rattle.ob_tables.proofs.HeldLemmas.{held_headings}
+use Rattle.ob_tables.specs.Agreeing.{Agrees, AreDraws, count_of, engine_keys, engine_start, first_draws, has_ended, high_of, indexes_of, opened_from, public_of, rows_of, world_of}
+use Rattle.ob_tables.specs.Closing.{ClosesEngine, closing_script, next_closing}
 use Rattle.ob_reopen.specs.Closed.{is_used_up}
-use Rattle.ob_exec.specs.Reopening.{IsOpened, OpensEngine}
+use Rattle.ob_tables.specs.Reopening.{IsOpened, OpensEngine}
 use Rattle.ob_reopen.specs.Reopened.{NotOpened, opened_start, opening_script}
 use Rattle.ob_reopen.specs.Resting.{Rests}
-use Rattle.ob_exec.specs.declared.engine.Engine.{Engine}
+use Rattle.ob_tables.specs.declared.engine.Engine.{Engine}
 use Rattle.ob_gen.specs.declared.tally.Tally.{Tally}
 use Rattle.ob_headline.proofs.FlatLemmas.{opened_flat}
 use Rattle.ob_headline.specs.Bases.{Opened, fresh, reopened}

@@ -5,7 +5,7 @@ use Rattle.ob_base.specs.Counts.{Rises}
 use Rattle.ob_base.specs.Refusals.{is_store_fault}
 use Rattle.ob_base.specs.declared.refusal.Stop.{Stop}
 use Rattle.ob_verdict.specs.Outcomes.{by_fault}
-use Rattle.ob_exec.specs.Running.{is_fault}
+use Rattle.ob_tables.specs.Running.{is_fault}
 use Rattle.ob_verdict.specs.declared.outcome.Outcome.{Outcome}
 use Rattle.ob_verdict.specs.declared.outcome.Outcome.TheVariants.{Created, Inserted, Changed, Deleted, Dropped, Rows, Refused}
 use Rattle.ob_headline.specs.Failures.{FailsBeside, outcome_failures, failures, RisesBy}

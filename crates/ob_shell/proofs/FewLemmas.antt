@@ -26,13 +26,13 @@ use Rattle.ob_base.specs.declared.skeleton.Skeleton.{Skeleton}
 use Rattle.ob_base.specs.declared.skeleton.Skeleton.TheVariants as K
 use Rattle.ob_base.specs.declared.skeleton.Source.{Source}
 use Rattle.ob_base.specs.declared.skeleton.Source.TheVariants.{Table as OneTable, Join}
-use Rattle.ob_exec.proofs.TableLemmas.{region_below, tables_flat}
-use Rattle.ob_exec.specs.Agreeing.{Agrees, count_of, public_of, seen_of, world_of}
-use Rattle.ob_exec.specs.Running.{RefusedEarly}
+use Rattle.ob_tables.proofs.TableLemmas.{region_below, tables_flat}
+use Rattle.ob_tables.specs.Agreeing.{Agrees, count_of, public_of, seen_of, world_of}
+use Rattle.ob_tables.specs.Running.{RefusedEarly}
 use Rattle.ob_verdict.specs.Outcomes.{refusal_now}
-use Rattle.ob_exec.specs.declared.engine.Engine.{Engine}
+use Rattle.ob_tables.specs.declared.engine.Engine.{Engine}
 use Rattle.ob_verdict.specs.declared.outcome.Outcome.{Outcome}
-use Rattle.ob_exec.specs.declared.stop.RunStop.{RunStop}
+use Rattle.ob_tables.specs.declared.stop.RunStop.{RunStop}
 use Rattle.ob_gen.specs.declared.tally.Tally.{Tally}
 use Rattle.ob_headline.proofs.FlatLemmas.{IsFlat}
 use Rattle.ob_headline.specs.Words.{Answer}

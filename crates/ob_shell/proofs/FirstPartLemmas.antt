@@ -9,12 +9,12 @@ use Rattle.ob_base.specs.declared.config.Public.{Public}
 use Rattle.ob_base.specs.declared.seen.End.{End}
 use Rattle.ob_base.specs.declared.seen.End.TheVariants.{Static, Whole, AfterCount, Cut}
 use Rattle.ob_base.specs.declared.seen.Seen.{Seen}
-use Rattle.ob_exec.proofs.HeldLemmas.{held_headings}
-use Rattle.ob_exec.specs.Agreeing.{AreDraws, public_of, seen_of}
-use Rattle.ob_exec.specs.Running.{is_fault}
-use Rattle.ob_exec.specs.Telling.{ReadsTrue, ReadsTrueUntil, Told, is_refused}
+use Rattle.ob_tables.proofs.HeldLemmas.{held_headings}
+use Rattle.ob_tables.specs.Agreeing.{AreDraws, public_of, seen_of}
+use Rattle.ob_tables.specs.Running.{is_fault}
+use Rattle.ob_tables.specs.Telling.{ReadsTrue, ReadsTrueUntil, Told, is_refused}
 use Rattle.ob_verdict.specs.declared.outcome.Outcome.{Outcome}
-use Rattle.ob_exec.specs.declared.stop.RunStop.{RunStop}
+use Rattle.ob_tables.specs.declared.stop.RunStop.{RunStop}
 use Rattle.ob_headline.proofs.CutLemmas.{cut_begins}
 use Rattle.ob_headline.proofs.FullLemmas.{met_begins, met_script}
 use Rattle.ob_headline.specs.Words.{Begins}

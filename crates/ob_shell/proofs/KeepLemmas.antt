@@ -4,8 +4,8 @@ use Rattle.ob_base.specs.Counts.{Rises}
 use Rattle.ob_base.specs.declared.config.Config.{Config}
 use Rattle.ob_base.specs.declared.refusal.Stop.{Stop}
 use Rattle.ob_base.specs.declared.refusal.Stop.TheVariants.{SourceFault}
-use Rattle.ob_exec.specs.Agreeing.{high_of, rows_of}
-use Rattle.ob_exec.specs.declared.engine.Engine.{Engine}
+use Rattle.ob_tables.specs.Agreeing.{high_of, rows_of}
+use Rattle.ob_tables.specs.declared.engine.Engine.{Engine}
 use Rattle.ob_gen.specs.Tally.{empty_tally}
 use Rattle.ob_gen.specs.declared.tally.Tally.{Tally}
 use Rattle.ob_headline.specs.Bases.{Base}

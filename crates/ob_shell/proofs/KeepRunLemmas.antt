@@ -1,8 +1,8 @@
 -- A run whose tables are kept, behind its first line.
 use Rattle.std.proofs.Common.{◌≡◌, ◌≤◌, ℕ, Bool, List, [], Option, Some, Ok, inl, inr, refl}
 use Rattle.ob_base.specs.declared.config.Config.{Config}
-use Rattle.ob_exec.specs.Agreeing.{high_of, rows_of}
-use Rattle.ob_exec.specs.declared.engine.Engine.{Engine}
+use Rattle.ob_tables.specs.Agreeing.{high_of, rows_of}
+use Rattle.ob_tables.specs.declared.engine.Engine.{Engine}
 use Rattle.ob_gen.specs.Tally.{empty_tally}
 use Rattle.ob_headline.specs.Settings.{limit_of}
 use Rattle.ob_headline.specs.Words.{Faults, outside_of}

@@ -3,9 +3,9 @@ use Rattle.std.proofs.Common.{◌≡◌, ◌≤◌, ℕ, Bool, IsTrue, List, [],
 use Rattle.ob_base.specs.declared.config.Config.{Config}
 use Rattle.ob_base.specs.declared.config.Public.{Public}
 use Rattle.ob_base.specs.declared.refusal.Stop.{Stop}
-use Rattle.ob_exec.specs.Agreeing.{public_of, rows_of, world_of}
+use Rattle.ob_tables.specs.Agreeing.{public_of, rows_of, world_of}
 use Rattle.ob_select.specs.Selecting.{AcceptsRows}
-use Rattle.ob_exec.specs.declared.engine.Engine.{Engine}
+use Rattle.ob_tables.specs.declared.engine.Engine.{Engine}
 use Rattle.ob_headline.specs.Words.{Answer}
 use Rattle.ob_shell.proofs.LaterLemmas.{step_later}
 use Rattle.ob_shell.proofs.ReplayLemmas.{step_goes}

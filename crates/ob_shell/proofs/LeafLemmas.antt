@@ -9,9 +9,9 @@ use Rattle.std.proofs.lemmas.Option.{slice_get-get_or}
 use Rattle.ob_base.specs.Indexes.{leaf_of_draw}
 use Rattle.ob_base.specs.declared.config.Public.{Public}
 use Rattle.ob_exec.proofs.LeavesRead.{Given, KeyAt, Onwards, ReadsUnread, Unread, behind, none_given, reads_unread}
-use Rattle.ob_exec.specs.Agreeing.{AreDraws, indexes_of, public_of, seen_of}
-use Rattle.ob_exec.specs.Engines.{AreTables}
-use Rattle.ob_exec.specs.declared.stop.RunStop.{RunStop}
+use Rattle.ob_tables.specs.Agreeing.{AreDraws, indexes_of, public_of, seen_of}
+use Rattle.ob_tables.specs.Engines.{AreTables}
+use Rattle.ob_tables.specs.declared.stop.RunStop.{RunStop}
 use Rattle.ob_headline.specs.FullStash.{HasDrawnLeaves}
 use Rattle.ob_headline.specs.Leaves.{AreDrawn, IsDrawn}
 use Rattle.ob_mean.specs.Lawful.{height_at}

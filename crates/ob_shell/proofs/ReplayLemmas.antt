@@ -9,14 +9,14 @@ use Rattle.ob_base.specs.declared.refusal.Refusal.TheVariants.{StoreFault}
 use Rattle.ob_base.specs.declared.schema.Heading.{Heading}
 use Rattle.ob_base.specs.declared.seen.End.TheVariants.{Cut}
 use Rattle.ob_base.specs.declared.seen.Seen.{Seen}
-use Rattle.ob_exec.proofs.HeldLemmas.{held_headings}
-use Rattle.ob_exec.specs.Agreeing.{AreDraws, engine_start, public_of, seen_of}
+use Rattle.ob_tables.proofs.HeldLemmas.{held_headings}
+use Rattle.ob_tables.specs.Agreeing.{AreDraws, engine_start, public_of, seen_of}
 use Rattle.ob_verdict.specs.Outcomes.{by_fault, refusal_now}
-use Rattle.ob_exec.specs.Running.{RefusedEarly, is_fault}
-use Rattle.ob_exec.specs.Telling.{Represents}
+use Rattle.ob_tables.specs.Running.{RefusedEarly, is_fault}
+use Rattle.ob_tables.specs.Telling.{Represents}
 use Rattle.ob_verdict.specs.declared.outcome.Outcome.{Outcome}
 use Rattle.ob_verdict.specs.declared.outcome.Outcome.TheVariants.{Created, Inserted, Changed, Deleted, Dropped, Rows, Refused}
-use Rattle.ob_exec.specs.declared.stop.RunStop.{RunStop}
+use Rattle.ob_tables.specs.declared.stop.RunStop.{RunStop}
 use Rattle.ob_headline.proofs.CutLemmas.{cut_shorter}
 use Rattle.ob_headline.specs.Words.{Answer}
 use Rattle.ob_mean.specs.Lawful.{CutUpTo}

@@ -6,14 +6,14 @@ use Rattle.std.specs.Io.KnownBytes.{Appends}
 use Rattle.std.specs.Result.{is_err}
 use Rattle.ob_base.specs.Events.{Event}
 use Rattle.ob_base.specs.declared.refusal.Refusal.TheVariants.{Syntax}
-use Rattle.ob_exec.specs.Agreeing.{seen_of}
-use Rattle.ob_exec.specs.Running.{SinkStops}
-use Rattle.ob_exec.specs.Serving.{StopsEmission, Serves}
-use Rattle.ob_exec.specs.Stops.{session_stop}
+use Rattle.ob_tables.specs.Agreeing.{seen_of}
+use Rattle.ob_tables.specs.Running.{SinkStops}
+use Rattle.ob_tables.specs.Serving.{StopsEmission, Serves}
+use Rattle.ob_tables.specs.Stops.{session_stop}
 use Rattle.ob_verdict.specs.declared.outcome.Outcome.{Outcome}
 use Rattle.ob_verdict.specs.declared.outcome.Outcome.TheVariants.{Refused}
-use Rattle.ob_exec.specs.declared.stop.RunStop.{RunStop}
-use Rattle.ob_exec.specs.declared.stop.RunStop.TheVariants.{NoMemory, SinkFault, StashFull, StoreFault, Tampered}
+use Rattle.ob_tables.specs.declared.stop.RunStop.{RunStop}
+use Rattle.ob_tables.specs.declared.stop.RunStop.TheVariants.{NoMemory, SinkFault, StashFull, StoreFault, Tampered}
 use Rattle.ob_headline.specs.Closing.{closing_line}
 use Rattle.ob_headline.specs.Words.{faults_of}
 use Rattle.ob_headline.specs.Statements.{Spells}

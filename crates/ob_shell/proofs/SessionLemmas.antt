@@ -14,15 +14,15 @@ use Rattle.ob_base.specs.declared.config.Public.{Public}
 use Rattle.ob_base.specs.declared.mark.Mark.{Mark}
 use Rattle.ob_base.specs.declared.refusal.Stop.{Stop}
 use Rattle.ob_base.specs.declared.refusal.Stop.TheVariants.{Tampered, SourceFault, SinkFault, NoMemory, InputLimit, StoreFault, StashFull}
-use Rattle.ob_exec.specs.Agreeing.{Agrees, AreDraws, count_of, engine_keys, first_draws, engine_start, indexes_of, opened_from, public_of, high_of, rows_of, world_of}
-use Rattle.ob_exec.specs.Closing.{ClosesEngine, closing_script, next_closing}
+use Rattle.ob_tables.specs.Agreeing.{Agrees, AreDraws, count_of, engine_keys, first_draws, engine_start, indexes_of, opened_from, public_of, high_of, rows_of, world_of}
+use Rattle.ob_tables.specs.Closing.{ClosesEngine, closing_script, next_closing}
 use Rattle.ob_reopen.specs.Closed.{IsClosedAs, StaysInUse, is_used_up}
 use Rattle.ob_select.specs.Opening.{is_of_rows}
 use Rattle.ob_reopen.specs.Resting.{Rests, by_name}
 use Rattle.ob_select.specs.Selecting.{AcceptsRows}
-use Rattle.ob_exec.specs.Telling.{AreHeld, Represents}
-use Rattle.ob_exec.specs.Engines.{AreTables, others_of}
-use Rattle.ob_exec.specs.declared.engine.Engine.{Engine}
+use Rattle.ob_tables.specs.Telling.{AreHeld, Represents}
+use Rattle.ob_tables.specs.Engines.{AreTables, others_of}
+use Rattle.ob_tables.specs.declared.engine.Engine.{Engine}
 use Rattle.ob_gen.specs.Tally.{empty_tally}
 use Rattle.ob_gen.specs.declared.tally.Tally.{Tally}
 use Rattle.ob_headline.proofs.BaseLemmas.{from_each}

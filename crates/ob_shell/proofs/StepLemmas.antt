@@ -4,9 +4,9 @@ use Rattle.std.proofs.KnownBytes.{Appends-nil}
 use Rattle.std.specs.Io.KnownBytes.{Appends}
 use Rattle.ob_base.specs.declared.refusal.Stop.{Stop}
 use Rattle.ob_base.specs.declared.refusal.Stop.TheVariants.{SourceFault, InputLimit}
-use Rattle.ob_exec.specs.Stops.{session_stop}
-use Rattle.ob_exec.specs.declared.stop.RunStop.{RunStop}
-use Rattle.ob_exec.specs.declared.stop.RunStop.TheVariants as Runs
+use Rattle.ob_tables.specs.Stops.{session_stop}
+use Rattle.ob_tables.specs.declared.stop.RunStop.{RunStop}
+use Rattle.ob_tables.specs.declared.stop.RunStop.TheVariants as Runs
 use Rattle.ob_gen.specs.declared.tally.Tally.{Tally}
 use Rattle.ob_headline.specs.Words.{Answer, printed}
 use Rattle.ob_print.proofs.CutLemmas.{Outputs-by, Outputs-whole}

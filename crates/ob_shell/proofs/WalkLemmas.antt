@@ -13,19 +13,19 @@ use Rattle.ob_base.specs.declared.refusal.Stop.{Stop}
 use Rattle.ob_base.specs.declared.refusal.Stop.TheVariants.{NoMemory, StashFull}
 use Rattle.ob_base.specs.declared.seen.End.{End}
 use Rattle.ob_base.specs.declared.seen.Seen.{Seen}
-use Rattle.ob_exec.proofs.EmitLemmas.{unfit_none}
+use Rattle.ob_tables.proofs.EmitLemmas.{unfit_none}
 use Rattle.ob_exec.proofs.LeavesRead.{Given, behind}
-use Rattle.ob_exec.specs.Agreeing.{AreDraws, engine_start, indexes_of, opened_from, public_of, seen_of, world_of}
+use Rattle.ob_tables.specs.Agreeing.{AreDraws, engine_start, indexes_of, opened_from, public_of, seen_of, world_of}
 use Rattle.ob_select.specs.Memory.{AtMake}
-use Rattle.ob_exec.specs.Refusals.{refused_end}
-use Rattle.ob_exec.specs.Running.{RefusedEarly, RunCause, is_fault, outcome_end, stops_access}
+use Rattle.ob_tables.specs.Refusals.{refused_end}
+use Rattle.ob_tables.specs.Running.{RefusedEarly, RunCause, is_fault, outcome_end, stops_access}
 use Rattle.ob_verdict.specs.Outcomes.{refusal_now, by_fault, Emits}
-use Rattle.ob_exec.specs.Stops.{session_stop}
-use Rattle.ob_exec.specs.Telling.{IsNotTampered, ReadsTrue, ReadsTrueUntil, Represents, answer_labels, is_refused}
+use Rattle.ob_tables.specs.Stops.{session_stop}
+use Rattle.ob_tables.specs.Telling.{IsNotTampered, ReadsTrue, ReadsTrueUntil, Represents, answer_labels, is_refused}
 use Rattle.ob_verdict.specs.declared.outcome.Outcome.{Outcome}
 use Rattle.ob_verdict.specs.declared.outcome.Outcome.TheVariants.{Created, Inserted, Changed, Deleted, Dropped, Rows, Refused}
-use Rattle.ob_exec.specs.declared.stop.RunStop.{RunStop}
-use Rattle.ob_exec.specs.declared.stop.RunStop.TheVariants as Runs
+use Rattle.ob_tables.specs.declared.stop.RunStop.{RunStop}
+use Rattle.ob_tables.specs.declared.stop.RunStop.TheVariants as Runs
 use Rattle.ob_headline.specs.Closing.{closing_line}
 use Rattle.ob_headline.proofs.FullLemmas.{asks_alone, asks_first, met_script}
 use Rattle.ob_headline.specs.Disturbed.{MeantUntil}

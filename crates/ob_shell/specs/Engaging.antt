@@ -7,9 +7,9 @@ use Rattle.ob_base.specs.declared.config.Config.{Config}
 use Rattle.ob_base.specs.declared.fault.Failed.{Failed}
 use Rattle.ob_base.specs.declared.mark.Mark.{Mark}
 use Rattle.ob_base.specs.declared.refusal.Stop.{Stop}
-use Rattle.ob_exec.specs.Agreeing.{count_of, high_of, opened_from}
-use Rattle.ob_exec.specs.Closing.{ClosesEngine}
-use Rattle.ob_exec.specs.declared.engine.Engine.{Engine}
+use Rattle.ob_tables.specs.Agreeing.{count_of, high_of, opened_from}
+use Rattle.ob_tables.specs.Closing.{ClosesEngine}
+use Rattle.ob_tables.specs.declared.engine.Engine.{Engine}
 use Rattle.ob_gen.specs.Generated.{generated}
 use Rattle.ob_gen.specs.SummaryText.{summary_of, summary_text}
 use Rattle.ob_gen.specs.declared.tally.Tally.{Tally}

@@ -4,11 +4,11 @@ use Rattle.std.specs.Io.KnownBytes.{Appends, Consumes, IsAtEnd}
 use Rattle.ob_base.specs.Counts.{Rises}
 use Rattle.ob_base.specs.declared.refusal.Stop.{Stop}
 use Rattle.ob_base.specs.declared.refusal.Stop.TheVariants.{Tampered, SourceFault, SinkFault, NoMemory, InputLimit, StoreFault, StashFull}
-use Rattle.ob_exec.specs.Agreeing.{high_of}
-use Rattle.ob_exec.specs.Stops.{session_stop}
-use Rattle.ob_exec.specs.declared.engine.Engine.{Engine}
-use Rattle.ob_exec.specs.declared.stop.RunStop.{RunStop}
-use Rattle.ob_exec.specs.declared.stop.RunStop.TheVariants as Runs
+use Rattle.ob_tables.specs.Agreeing.{high_of}
+use Rattle.ob_tables.specs.Stops.{session_stop}
+use Rattle.ob_tables.specs.declared.engine.Engine.{Engine}
+use Rattle.ob_tables.specs.declared.stop.RunStop.{RunStop}
+use Rattle.ob_tables.specs.declared.stop.RunStop.TheVariants as Runs
 use Rattle.ob_gen.specs.declared.tally.Tally.{Tally}
 use Rattle.ob_headline.specs.Texts.{is_over, rest_of, texts_of, texts_in}
 use Rattle.ob_headline.specs.Words.{Answer, Begins, Faults, NoneRose, SinksRose, Took, any_refused, before_read, printed}

@@ -4,11 +4,11 @@ use Rattle.std.specs.List.{list_any}
 use Rattle.ob_base.specs.Stored.{headings_of}
 use Rattle.ob_base.specs.declared.access.Access.{Access}
 use Rattle.ob_base.specs.declared.config.Config.{Config}
-use Rattle.ob_exec.specs.Agreeing.{AreDraws, count_of, first_draws, engine_keys, engine_start, high_of, indexes_of, public_of, rows_of, world_of}
+use Rattle.ob_tables.specs.Agreeing.{AreDraws, count_of, first_draws, engine_keys, engine_start, high_of, indexes_of, public_of, rows_of, world_of}
 use Rattle.ob_select.specs.Opening.{is_of_rows}
 use Rattle.ob_select.specs.Selecting.{AcceptsRows}
-use Rattle.ob_exec.specs.Telling.{Represents}
-use Rattle.ob_exec.specs.declared.engine.Engine.{Engine}
+use Rattle.ob_tables.specs.Telling.{Represents}
+use Rattle.ob_tables.specs.declared.engine.Engine.{Engine}
 use Rattle.ob_headline.specs.Bases.{Base, FromEach, drawing, said_of, start}
 use Rattle.ob_headline.specs.Sealing.{PassesFrom}
 use Rattle.ob_mean.specs.Flats.{AreFlat}

@@ -4,19 +4,19 @@ use Rattle.std.specs.Io.KnownBytes.{Appends}
 use Rattle.ob_base.specs.Events.{Event}
 use Rattle.ob_base.specs.declared.config.Plan.{Plan}
 use Rattle.ob_base.specs.declared.refusal.Refusal.TheVariants.{Syntax}
-use Rattle.ob_exec.specs.Agreeing.{Agrees, AreDraws, count_of, has_ended, indexes_of, public_of, seen_of, world_of}
-use Rattle.ob_exec.specs.Indexed.{FillsStash}
-use Rattle.ob_exec.specs.Memory.{LacksMemory}
-use Rattle.ob_exec.specs.Running.{RanStatement, RefusedEarly}
+use Rattle.ob_tables.specs.Agreeing.{Agrees, AreDraws, count_of, has_ended, indexes_of, public_of, seen_of, world_of}
+use Rattle.ob_tables.specs.Indexed.{FillsStash}
+use Rattle.ob_tables.specs.Memory.{LacksMemory}
+use Rattle.ob_tables.specs.Running.{RanStatement, RefusedEarly}
 use Rattle.ob_verdict.specs.Outcomes.{refusal_now, Emits, MayEmit, Partly}
-use Rattle.ob_exec.specs.Serving.{Means}
-use Rattle.ob_exec.specs.Stops.{session_stop}
-use Rattle.ob_exec.specs.Telling.{KeepsSealed, ReadsTrue, ReadsTrueUntil, Emitted, answer_labels}
-use Rattle.ob_exec.specs.declared.engine.Engine.{Engine}
+use Rattle.ob_tables.specs.Serving.{Means}
+use Rattle.ob_tables.specs.Stops.{session_stop}
+use Rattle.ob_tables.specs.Telling.{KeepsSealed, ReadsTrue, ReadsTrueUntil, Emitted, answer_labels}
+use Rattle.ob_tables.specs.declared.engine.Engine.{Engine}
 use Rattle.ob_verdict.specs.declared.outcome.Outcome.{Outcome}
 use Rattle.ob_verdict.specs.declared.outcome.Outcome.TheVariants.{Refused}
-use Rattle.ob_exec.specs.declared.stop.RunStop.{RunStop}
-use Rattle.ob_exec.specs.declared.stop.RunStop.TheVariants.{SinkFault, NoMemory, StashFull}
+use Rattle.ob_tables.specs.declared.stop.RunStop.{RunStop}
+use Rattle.ob_tables.specs.declared.stop.RunStop.TheVariants.{SinkFault, NoMemory, StashFull}
 use Rattle.ob_gen.specs.declared.tally.Tally.{Tally}
 use Rattle.ob_headline.specs.Closing.{closing_line}
 use Rattle.ob_headline.specs.Words.{Answer, printed}

@@ -2,7 +2,7 @@
 use Rattle.std.specs.Prelude.{◌≤◌, Bool, Option, Some, None, codes}
 use Rattle.clap.specs.Words.{Text}
 use Rattle.ob_base.specs.declared.config.Config.{Config}
-use Rattle.ob_exec.specs.Engines.{IsConfig}
+use Rattle.ob_tables.specs.Engines.{IsConfig}
 use Rattle.ob_headline.specs.Settings.{settings_by, seed_in}
 use Rattle.ob_headline.specs.Usage.{is_set}
 use Rattle.ob_headline.specs.declared.seed.Seed.{Seed}

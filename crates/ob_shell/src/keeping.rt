@@ -2,7 +2,7 @@
 ghost use Rattle.std.specs.Prelude.{◌≡◌, ◌≤◌, ◌<◌, ◌+◌, ◌^◌, ℕ, List, [], Err, IfErr, IfOk, Some, false, map, string_bytes, true};
 ghost use Rattle.ob_base.specs.declared.config.Config.{Config};
 ghost use Rattle.ob_base.specs.Stored.{headings_of};
-ghost use Rattle.ob_exec.specs.Agreeing.{count_of, high_of, public_of};
+ghost use Rattle.ob_tables.specs.Agreeing.{count_of, high_of, public_of};
 ghost use Rattle.ob_gen.specs.Tally.{empty_tally};
 ghost use Rattle.ob_headline.specs.Bases.{Base};
 ghost use Rattle.ob_headline.specs.Keeping;

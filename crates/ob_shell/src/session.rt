@@ -16,7 +16,7 @@ use crate::feed::{Feed, Halt};
 use crate::pending::{Grown, Pending, PushStop};
 use crate::trace::trace_from;
 use ob_base::{Failed, Plan, Refusal, Stop};
-use ob_exec::{Engine, Outcome, RunStop};
+use ob_exec::{Engine, Outcome, RunStop, run};
 use ob_gen::Tally;
 use ob_io::{Sink, Source};
 use ob_parse::{ParseErr, parse};
@@ -136,7 +136,7 @@ fn run_stmt<R: Revisions, S: BlockStore, K: Sink>(
     ensures asked { (seen : List Access) × ((S.state store.new).asked
         ≡ (S.state store.old).asked ++ seen) }
 {
-    match engine.run(store, stmt, printer) {
+    match run(engine, store, stmt, printer) {
         Ok(outcome) => match printer.out.flush() {
             Ok(()) => Ok(Answered {
                 outcome,

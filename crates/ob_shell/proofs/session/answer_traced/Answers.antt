@@ -1,5 +1,5 @@
 use Rattle.std.proofs.Common.{refl, rules}
-use Rattle.ob_exec.specs.declared.stop.RunStop.TheVariants.{SinkFault}
+use Rattle.ob_tables.specs.declared.stop.RunStop.TheVariants.{SinkFault}
 use Rattle.ob_shell.proofs.CountLemmas.{traced_cause}
 use Rattle.ob_shell.proofs.StepLemmas.{stops_after}
 use Rattle.ob_shell.proofs.session.answer_traced.Goals as goal

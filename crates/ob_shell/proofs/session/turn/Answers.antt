@@ -1,5 +1,5 @@
 use Rattle.std.proofs.Common.{◌∙◌, ℕ, List, [], ◌∷◌, ap, refl, rules, sym}
-use Rattle.ob_exec.specs.declared.stop.RunStop.TheVariants.{NoMemory}
+use Rattle.ob_tables.specs.declared.stop.RunStop.TheVariants.{NoMemory}
 use Rattle.ob_shell.proofs.StepLemmas.{answers_none, stops_before}
 use Rattle.ob_shell.proofs.RunLemmas.{at_limit_is_over, byte_stopped}
 use Rattle.ob_shell.proofs.TraceLemmas.{traced_none, traced_whole}

@@ -1,5 +1,5 @@
 use Rattle.std.proofs.Common.{◌∙◌, refl, subst}
-use Rattle.ob_exec.specs.Agreeing.{AreDraws, first_draws}
+use Rattle.ob_tables.specs.Agreeing.{AreDraws, first_draws}
 use Rattle.ob_seal.specs.KeySet.{KeySet}
 use Rattle.ob_shell.proofs.SessionLemmas.{ran_after, stands_first}
 use Rattle.ob_shell.proofs.TopLemmas.{ran_nothing}

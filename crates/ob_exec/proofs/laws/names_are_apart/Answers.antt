@@ -1,5 +1,0 @@
-use Rattle.ob_exec.proofs.NamesApart.{named_apart}
-use Rattle.ob_exec.proofs.laws.names_are_apart.Goals as goal
-
-pub returns : goal.returns
-returns g c = λ e s agrees. named_apart e.public.tables agrees.tables.names

@@ -1,8 +1,0 @@
-use Rattle.std.proofs.Common.{◌≡◌, take}
-use Rattle.std.specs.List.{All}
-use Rattle.ob_mean.specs.Step.{set_cells}
-use Rattle.ob_exec.specs.Schemas.{IsSet}
-use Rattle.ob_exec.proofs.updating.set_cells.Given as goal
-
-abbrev pub invariant-loop-set : goal.invariant-loop-set
-invariant-loop-set l = record { value : l.cells.items ≡ set_cells (take l.set-index l.sets) l.columns; held : All IsSet l.cells.items }

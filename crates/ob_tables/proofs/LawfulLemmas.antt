@@ -1,0 +1,120 @@
+-- What is seen of a statement is lawful, whatever the store does.
+use Rattle.std.proofs.Common.{◌≡◌, inl, ◌-◌, ◌≤◌, ℕ, false, List, ◌++◌, length, take, Option, Some, None, Result, Ok, Err, refl, sym, ◌∙◌, ap, subst, arith}
+use Rattle.std.specs.Prelude.{IsSome, Bool, not, ◌&&◌}
+use Rattle.std.proofs.lemmas.List.{length-append, length-take}
+use Rattle.ob_base.specs.declared.access.Access.{Access}
+use Rattle.ob_base.specs.declared.config.Public.{Public}
+use Rattle.ob_base.specs.declared.refusal.Refusal.{Refusal}
+use Rattle.ob_base.specs.declared.refusal.Refusal.TheVariants.{Syntax, NoTable, NameTaken, NoColumn, WrongType, ValueRange, Limit, KeyRule, JoinKey, Duplicate, Full, TooManyGroups, NotConsecutive, Overflow, StoreFault, PadPassed, KeyRange, NeedsKey}
+use Rattle.ob_tables.specs.declared.stop.RunStop.{RunStop}
+use Rattle.ob_base.specs.declared.seen.End.{End}
+use Rattle.ob_base.specs.declared.seen.End.TheVariants.{Static, Whole, AfterCount, Cut}
+use Rattle.ob_base.specs.declared.seen.Seen.{Seen}
+use Rattle.ob_base.specs.declared.skeleton.Skeleton.{Skeleton}
+use Rattle.ob_script.specs.Script.{script, whole_script}
+use Rattle.ob_sql.specs.declared.stmt.Stmt.{Stmt}
+use Rattle.ob_sql.specs.Skeleton.{skeleton}
+use Rattle.ob_mean.specs.Lawful.{Lawful, is_counted, selects_rows, EndsUncounted, CutUpTo, HoldsLeaf}
+use Rattle.ob_mean.specs.Replay.{is_access}
+use Rattle.ob_mean.specs.Verdict.{ended}
+use Rattle.ob_verdict.specs.declared.outcome.Outcome.{Outcome}
+use Rattle.ob_verdict.specs.declared.outcome.Outcome.TheVariants.{Created, Inserted, Changed, Deleted, Dropped, Rows, Refused}
+use Rattle.ob_tables.specs.Running.{RefusedEarly, result_end}
+use Rattle.ob_verdict.specs.Outcomes.{refusal_now}
+use Rattle.ob_tables.specs.Refusals.{refused_end}
+
+-- ---- how it ends
+refused_cut : (r : Refusal) (k n : ℕ) → Cut k ≡ refused_end r n → k ≡ n
+refused_cut StoreFault k n is = cc is
+refused_cut (Syntax at) k n is = absurd (cc is)
+refused_cut NoTable k n is = absurd (cc is)
+refused_cut NameTaken k n is = absurd (cc is)
+refused_cut NoColumn k n is = absurd (cc is)
+refused_cut WrongType k n is = absurd (cc is)
+refused_cut ValueRange k n is = absurd (cc is)
+refused_cut Limit k n is = absurd (cc is)
+refused_cut KeyRule k n is = absurd (cc is)
+refused_cut JoinKey k n is = absurd (cc is)
+refused_cut Duplicate k n is = absurd (cc is)
+refused_cut Full k n is = absurd (cc is)
+refused_cut TooManyGroups k n is = absurd (cc is)
+refused_cut NotConsecutive k n is = absurd (cc is)
+refused_cut (Overflow i) k n is = absurd (cc is)
+refused_cut PadPassed k n is = absurd (cc is)
+refused_cut KeyRange k n is = absurd (cc is)
+refused_cut NeedsKey k n is = absurd (cc is)
+
+-- it is cut off after the accesses that it asked
+ends_cut : (result : Result Outcome RunStop) (k n : ℕ) → Cut k ≡ result_end result n → k ≡ n
+ends_cut (Ok (Refused r)) k n is = refused_cut r k n is
+ends_cut (Ok Created) k n is = absurd (cc is)
+ends_cut (Ok Inserted) k n is = absurd (cc is)
+ends_cut (Ok (Changed m)) k n is = absurd (cc is)
+ends_cut (Ok (Deleted m)) k n is = absurd (cc is)
+ends_cut (Ok Dropped) k n is = absurd (cc is)
+ends_cut (Ok (Rows m)) k n is = absurd (cc is)
+ends_cut (Err stop) k n is = cc is
+
+-- no more is asked than the whole script
+take_short : (n : ℕ) (xs : List Access) → length (take n xs) ≤ length xs
+take_short n xs = let is = length-take n xs in omega (arith, is)
+
+within : (p : Public) (sk : Skeleton) (result : Result Outcome RunStop) (end : End) (before after : List Access) → after ≡ before ++ script p sk (ended end)
+    → end ≡ result_end result (length after - length before) → CutUpTo (length (whole_script p sk (ended end))) end
+within p sk result Static before after asked ends = tt
+within p sk result Whole before after asked ends = tt
+within p sk result AfterCount before after asked ends = tt
+within p sk result (Cut k) before after asked ends =
+    let is = ends_cut result k (length after - length before) ends in
+    let sum = ap length asked in
+    let parts = length-append before (take k (whole_script p sk (ended (Cut k)))) in
+    let few = take_short k (whole_script p sk (ended (Cut k))) in
+    omega (arith, is, sum, parts, few)
+
+-- refused before any access exactly where it is seen so
+static_as : (o : Option Refusal) (result : Result Outcome RunStop) (now : Seen) → RefusedEarly o result now → (now.end ≡ Static → IsSome o) × (IsSome o → now.end ≡ Static)
+static_as None result now early = (λ is. absurd (early is), λ some. absurd (cc some))
+static_as (Some r) result now early = (λ is. refl, λ some. ap (λ (x : Seen). x.end) early.1)
+
+-- no rows are counted where none are selected
+uncounted_is : (p : Public) (stmt : Stmt) → selects_rows stmt ≡ false → is_counted p stmt ≡ false
+uncounted_is p stmt plain = ap (λ (b : Bool). b && not (is_access p (skeleton stmt))) plain
+
+-- a statement that accesses no index holds no leaf
+pub leaf_none : (p : Public) (stmt : Stmt) (leaf : Option ℕ) (end : End) → is_access p (skeleton stmt) ≡ false → leaf ≡ None → HoldsLeaf p (skeleton stmt) leaf end
+leaf_none p stmt leaf end unkeyed none = subst (λ (l : Option ℕ). HoldsLeaf p (skeleton stmt) l end) (sym none) (λ keyed. absurd (cc (keyed, unkeyed)))
+
+-- nothing is held
+held_nothing : (p : Public) (stmt : Stmt) (end : End) → is_counted p stmt ≡ false → (end ≡ AfterCount → ⊥) → EndsUncounted p stmt end
+held_nothing p stmt Static uncounted after = tt
+held_nothing p stmt Whole uncounted after = inl uncounted
+held_nothing p stmt AfterCount uncounted after = after refl
+held_nothing p stmt (Cut n) uncounted after = tt
+
+plain : (p : Public) (m : ℕ) (stmt : Stmt) (result : Result Outcome RunStop) (end : End) (before after : List Access) → selects_rows stmt ≡ false → is_access p (skeleton stmt) ≡ false → (end ≡ AfterCount → ⊥)
+    → RefusedEarly (refusal_now p m stmt) result (ended end) → after ≡ before ++ script p (skeleton stmt) (ended end) → end ≡ result_end result (length after - length before)
+    → Lawful p m stmt (ended end)
+plain p m stmt result end before after uncounted unkeyed whole early asked ends = record {
+  static = static_as (refusal_now p m stmt) result (ended end) early;
+  holds = held_nothing p stmt end (uncounted_is p stmt uncounted) whole;
+  leaf = leaf_none p stmt None end unkeyed refl;
+  cut = within p (skeleton stmt) result end before after asked ends;
+}
+
+-- what is seen of a statement of which nothing is counted
+pub lawful_now : (p : Public) (m : ℕ) (stmt : Stmt) (result : Result Outcome RunStop) (now : Seen) (before after : List Access) → selects_rows stmt ≡ false → is_access p (skeleton stmt) ≡ false → now ≡ ended now.end
+    → (now.end ≡ AfterCount → ⊥) → RefusedEarly (refusal_now p m stmt) result now → after ≡ before ++ script p (skeleton stmt) now
+    → now.end ≡ result_end result (length after - length before) → Lawful p m stmt now
+lawful_now p m stmt result now before after uncounted unkeyed is whole early asked ends =
+    subst (λ (x : Seen). Lawful p m stmt x) (sym is)
+    (plain p m stmt result now.end before after uncounted unkeyed whole (subst (λ (x : Seen). RefusedEarly (refusal_now p m stmt) result x) is early)
+    (asked ∙ ap (λ (x : Seen). before ++ script p (skeleton stmt) x) is) ends)
+
+-- nor before any access
+pub lawful_refused : (p : Public) (m : ℕ) (stmt : Stmt) (r : Refusal) → refusal_now p m stmt ≡ Some r → Lawful p m stmt (ended Static)
+lawful_refused p m stmt r now = record {
+  static = (λ is. subst (λ (o : Option Refusal). IsSome o) (sym now) refl, λ some. refl);
+  holds = tt;
+  leaf = λ keyed. tt;
+  cut = tt;
+}

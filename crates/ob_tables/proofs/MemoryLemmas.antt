@@ -1,0 +1,17 @@
+-- Where want of memory may stop a statement.
+use Rattle.std.proofs.Common.{inl, inr}
+use Rattle.ob_base.specs.declared.config.Public.{Public}
+use Rattle.ob_base.specs.declared.seen.Seen.{Seen}
+use Rattle.ob_sql.specs.declared.stmt.Stmt.{Stmt}
+use Rattle.ob_store.specs.State.{StoreState}
+use Rattle.ob_tables.specs.Memory.{LacksMemory}
+
+-- less may be said of the emitter
+pub lacks_less : {p : Public} {stmt : Stmt} {seen : Seen} {s t : StoreState} {A B : Type 0} → (A → B) → LacksMemory p stmt seen s t A → LacksMemory p stmt seen s t B
+lacks_less less lacks = record {
+  done = lacks.done;
+  rest = lacks.rest;
+  split = lacks.split;
+  asked = lacks.asked;
+  place = elim lacks.place [ inl make ↦ inl make | inr other ↦ inr (elim other [ inl before ↦ inl before | inr emits ↦ inr (emits.0, less emits.1) ]) ];
+}
