@@ -140,7 +140,7 @@ fn salt_of(digits: &str) -> Option<[u8; 16]>
     let Ok(()) = hex::encode_to_slice(&salt, &mut spelt) else {
         unreachable!()
     };
-    if digits.as_bytes() == spelt {
+    if digits.as_bytes() == spelt.as_slice() {
         Some(salt)
     } else {
         None

@@ -12,7 +12,8 @@ use ob_store::{BlockStore, Lasting, Log, Saving};
 use std::alloc::Global;
 use std::collections::BTreeMap;
 use std::fs;
-use std::fs::{OpenDir, OpenFile};
+use std::fs::OpenFile;
+use std::io::Read;
 use std::os::unix::fs::FileExt;
 use std::rt::Files;
 

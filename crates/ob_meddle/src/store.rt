@@ -15,7 +15,7 @@ use crate::meddle::Meddle;
 use crate::region::Region;
 use crate::regions::{add, is_kept, read, retire, write};
 use ob_base::{Access, Failed, Items, NoMemory, StoreErr};
-use ob_store::{BlockStore, Lasting, Log, Saving};
+use ob_store::{BlockStore, Lasting, Log};
 use std::alloc::Global;
 use std::collections::{BTreeMap, BTreeSet};
 
@@ -302,39 +302,6 @@ impl Lasting for MeddledStore {
         match self.usable.insert(region) {
             Ok(_) => Ok(()),
             Err(_) => Err(StoreErr::NoMemory),
-        }
-    }
-}
-
-impl Saving for MeddledStore {
-    ghost use Rattle.std.specs.Prelude.{IsTrue, true, IfOk};
-    ghost use Rattle.ob_store.specs.Calls.{CountsFault, IsBare, Sweeps, Syncs};
-    ghost use Rattle.ob_meddle.specs.Shows.{state_of};
-
-    fn sync(&mut self) -> Result<(), Failed>
-        ensures syncs { Syncs (state_of self.old) (state_of self.new) }
-        ensures cause { CountsFault result (state_of self.old) (state_of self.new) }
-    {
-        Ok(())
-    }
-
-    fn is_bare(&mut self) -> Result<bool, Failed>
-        ensures syncs { Syncs (state_of self.old) (state_of self.new) }
-        ensures cause { CountsFault result (state_of self.old) (state_of self.new) }
-        ensures bare { IfOk result (λ bare. bare ≡ true → IsTrue (state_of self.old).tells
-            → IsBare (state_of self.old)) }
-    {
-        Ok(self.regions.is_empty())
-    }
-
-    fn sweep(&mut self)
-        ensures sweeps { Sweeps (state_of self.old) (state_of self.new) }
-    {
-        let usable = &self.usable;
-        for (number, region) in self.regions.iter_mut() {
-            if !usable.contains(number) {
-                region.live = false;
-            }
         }
     }
 }

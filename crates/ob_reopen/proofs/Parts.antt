@@ -29,7 +29,7 @@ length-column_text c few = omega (
 )
 
 length-salt_text : (salt : Option (List ℕ)) → IsSalt salt → length (salt_text salt) ≡ 17
-length-salt_text None is = length-replicate 17 0
+length-salt_text None is = length-replicate {A = ℕ} 17 0
 length-salt_text (Some salt) is = omega (arith, is)
 
 length-columns_text : (table : List ℕ) (n : ℕ) (cs : Columns) → All (FitsColumn table) cs → 36 * length cs ≤ n → length (columns_text n cs) ≡ n

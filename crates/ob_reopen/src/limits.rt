@@ -7,6 +7,7 @@ ghost use Rattle.ob_base.specs.Lists.{has_repeats};
 ghost use Rattle.ob_base.specs.Schemas.{width};
 ghost use Rattle.ob_base.specs.declared.schema.Shape.TheVariants.{Flat};
 ghost use Rattle.ob_base.specs.Stored.{NamesTable};
+ghost use Rattle.ob_seal.specs.Sealed.{IsSalt};
 ghost use Rattle.ob_reopen.specs.declared.listed.Listed.{Listed as Entry};
 ghost use Rattle.ob_reopen.specs.Limits.{is_kind, is_column, IsMarked, IsHeading, IsListed, GoesOn, AreListed, blocks_of, end_of, are_apart};
 
