@@ -21,8 +21,8 @@ pub fn numbers_are_apart()
     ensures alone { (w : World) (q x r y n : ℕ) → Tied w → IsNumber w q x n → IsNumber w r y n
         → (q ≡ r) × (x ≡ y) }
     ensures own { (w : World) (i q x : ℕ) → Tied w → IsWrite i q x w → IsOwn q w }
-    // under its salt, if it has one: so no two blocks, of one run or of two that have different salts, are sealed under
-    // one salt and one number
+    // under its salt, if it has one: so no two blocks, of one run or of two that have different
+    // salts, are sealed under one salt and one number
     ensures salted { (secret salt : List ℕ) (earlier : List Salted) (w : World) (i q x : ℕ) → Tied w
         → w.vault.keys ≡ keys_salted secret salt earlier
         → AreBefore (w.vault.start.region + 1) earlier → IsWrite i q x w
