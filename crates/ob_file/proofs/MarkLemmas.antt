@@ -1,17 +1,18 @@
 -- The words of a mark's line.
-use Rattle.std.proofs.Common.{◌≡◌, ◌≢◌, ◌<◌, ◌^◌, ℕ, zero, suc, Bool, true, ◌&&◌, nat_lt, List, [], ◌∷◌, ◌++◌, codes, decimal, IsAscii, IsUtf8, None, Result, Ok, Err, MatchResult, refl, sym, subst, arith}
+use Rattle.std.proofs.Common.{◌≡◌, ◌≢◌, ◌<◌, ◌^◌, ℕ, zero, suc, Bool, true, ◌&&◌, nat_lt, List, [], ◌∷◌, ◌++◌, codes, decimal, IsAscii, IsUtf8, Option, None, Some, Result, Ok, Err, MatchResult, refl, sym, subst, ap, ◌∙◌, arith}
 use Rattle.std.proofs.lemmas.Bool.{and_parts, ltb-true}
 use Rattle.std.proofs.lemmas.Fmt.{IsAscii-decimal, decimal_is_IsNumeral}
 use Rattle.std.proofs.lemmas.Str.{IsUtf8-append, IsUtf8-from_ascii}
 use Rattle.std.proofs.lemmas.Str.Ascii.{IsAscii-cons, IsAscii-nil}
 use Rattle.std.proofs.lemmas.Str.Parse.{digit_at}
 use Rattle.std.specs.Result.{result_ok}
-use Rattle.hex.specs.Hex.{encode_lower, lower_digits}
-use Rattle.hex.proofs.HexLemmas.{IsAscii-encode_with}
+use Rattle.hex.specs.Hex.{decode_sized, encode_lower, lower_digits}
+use Rattle.hex.specs.declared.error.FromHexError.{FromHexError}
+use Rattle.hex.proofs.HexLemmas.{IsAscii-encode_with, decode_of-ok, decode_sized-encode_lower, decode_sized-ok, decode_sized-twice}
 use Rattle.ob_base.specs.declared.mark.Mark.{Mark}
 use Rattle.ob_base.specs.declared.mark.Mark.TheVariants.{Fresh, InUse, Closed, Begun, Saved}
 use Rattle.ob_reopen.specs.Keepers.{AreMarked, AreSaltBytes}
-use Rattle.ob_file.specs.Marks.{HasNoBlank, Spells, mark_text, numbers_text, salt_text}
+use Rattle.ob_file.specs.Marks.{HasNoBlank, Spells, numbers_text, salt_text}
 
 -- ---- words
 pub digits_are_word : (n : ℕ) → n < 2 ^ 64 → HasNoBlank (decimal n)
@@ -107,3 +108,42 @@ utf8_spelt text (Saved region blocks number pack salt) (within, bytes, is) =
 pub never_refused : {T E : Type 0} (r : Result T E) (P : T → Type 0) (Q : E → Type 0) (N : Type 0) → None ≡ result_ok r → MatchResult r P (λ e. ¬ N × Q e) → N → ⊥
 never_refused (Ok x) P Q N is cases so = cc is
 never_refused (Err e) P Q N is cases so = cases.0 so
+
+-- what a test accepts is so
+pub accepted : {T E : Type 0} (r : Result T E) (P : T → Type 0) (Q : E → Type 0) (x : T) → Some x ≡ result_ok r → MatchResult r P Q → P x
+accepted (Ok y) P Q x is so = let same : x ≡ y = cc is in subst P (sym same) so
+accepted (Err e) P Q x is so = absurd (cc is)
+
+-- what reads the lines of a closing reads all but these two
+pub reads_others : (line : List ℕ) (r : Option Mark) → (line ≡ codes "in use\n" → ⊥) → (line ≡ codes "begun\n" → ⊥)
+    → ((region blocks number pack : ℕ) → Spells line (Closed region blocks number pack) → r ≡ Some (Closed region blocks number pack))
+    → ((region blocks number pack : ℕ) (salt : List ℕ) → Spells line (Saved region blocks number pack salt) → r ≡ Some (Saved region blocks number pack salt))
+    → (mark : Mark) → Spells line mark → r ≡ Some mark
+reads_others line r used begun closed saved Fresh is = absurd is
+reads_others line r used begun closed saved InUse is = absurd (used is)
+reads_others line r used begun closed saved Begun is = absurd (begun is)
+reads_others line r used begun closed saved (Closed region blocks number pack) is = closed region blocks number pack is
+reads_others line r used begun closed saved (Saved region blocks number pack salt) is = saved region blocks number pack salt is
+
+-- ---- a salt's digits, by what their decoding answers
+abbrev pub Decodes : List ℕ → Result Unit FromHexError → List ℕ → Type 0
+Decodes digits r out = MatchResult (decode_sized digits 16) (λ bytes. (r ≡ Ok tt) × (out ≡ bytes)) (λ e. r ≡ Err e)
+
+as_decoded : (digits out : List ℕ) (r : Result Unit FromHexError) (d : Result (List ℕ) FromHexError) → r ≡ Ok tt → decode_sized digits 16 ≡ d
+    → MatchResult d (λ bytes. (r ≡ Ok tt) × (out ≡ bytes)) (λ e. r ≡ Err e) → AreSaltBytes out
+as_decoded digits out r (Ok bytes) ok is (same, value) =
+    let twice = decode_sized-ok digits 16 bytes is in
+    let parts = decode_of-ok digits bytes (sym (decode_sized-twice digits 16 twice) ∙ is) in
+    subst AreSaltBytes (sym value) (record { long = omega (arith, twice, parts.2); each = parts.3 })
+as_decoded digits out r (Err e) ok is value = absurd (cc (ok, value))
+
+-- what decodes is a salt
+pub decoded_salt : (digits out : List ℕ) (r : Result Unit FromHexError) → r ≡ Ok tt → Decodes digits r out → AreSaltBytes out
+decoded_salt digits out r ok value = as_decoded digits out r (decode_sized digits 16) ok refl value
+
+-- a salt's digits decode to it
+pub salt_decoded : (digits out salt : List ℕ) (r : Result Unit FromHexError) → AreSaltBytes salt → digits ≡ encode_lower salt → Decodes digits r out
+    → (r ≡ Ok tt) × (out ≡ salt)
+salt_decoded digits out salt r bytes is value =
+    let read : decode_sized digits 16 ≡ Ok salt = ap (λ (s : List ℕ). decode_sized s 16) is ∙ decode_sized-encode_lower salt 16 bytes.long bytes.each in
+    rw read at value

@@ -1,6 +1,6 @@
 //! The mark of a store, in a file.
 ghost use Rattle.std.specs.Prelude.{◌≡◌, ◌≤◌, IfOk, length, None};
-ghost use Rattle.ob_reopen.specs.Keepers.{IsMark};
+ghost use Rattle.ob_reopen.specs.Keepers.{AreSaltBytes, IsMark};
 
 use crate::folder::{RegionFiles, settle, split_path};
 use crate::mark::{mark_of, spell};
@@ -46,6 +46,17 @@ fn fill<F: Read>(file: &mut F, buffer: &mut [u8]) -> Result<usize, Failed>
         }
     }
     Ok(len)
+}
+
+// A salt of these bytes.
+fn salt_of(bytes: &[u8]) -> [u8; 16]
+    requires { length bytes.now ≡ 16 }
+    ensures bytes { result ≡ bytes.now }
+    ensures within { AreSaltBytes result }
+{
+    let mut salt = [0; 16];
+    salt.copy_from_slice(bytes);
+    salt
 }
 
 impl<'a, R: Files> FileKeeper<'a, R> {
@@ -169,7 +180,7 @@ impl<'a, R: Files + RandomSource> Salts for FileKeeper<'a, R> {
     fn salt(&mut self) -> Result<[u8; 16], Failed> {
         let mut salt = [0; 16];
         match self.files.fill_bytes(&mut salt) {
-            Ok(()) => Ok(salt),
+            Ok(()) => Ok(salt_of(&salt)),
             Err(_) => {
                 self.faults = self.faults.saturating_add(1);
                 Err(Failed)

@@ -1,4 +1,4 @@
-use Rattle.std.proofs.Common.{◌≡◌, ap}
+use Rattle.std.proofs.Common.{◌≡◌, ◌∙◌, ap, sym}
 use Rattle.std.proofs.lemmas.Fmt.{parse-decimal}
 use Rattle.std.specs.Cmp.Lexicographic.{bytes_decides}
 use Rattle.std.specs.Result.{result_ok}
@@ -7,7 +7,7 @@ use Rattle.ob_file.proofs.mark.number_of.Goals as goal
 pub returns-in_err-n-clause-read : goal.returns-in_err-n-clause-read
 returns-in_err-n-clause-read c = λ n few is.
     let parsed = parse-decimal 64 n c.args.digits.now c.parse.result few few is c.parse.ensures.value.0 in
-    absurd (cc (c.in_err-n.was, c.ok.ensures.value, ap result_ok parsed))
+    absurd (cc (sym c.in_err-n.was ∙ c.ok.ensures.value ∙ ap result_ok parsed))
 
 pub returns-then-eq-clause-read : goal.returns-then-eq-clause-read
 returns-then-eq-clause-read c = λ n few is.

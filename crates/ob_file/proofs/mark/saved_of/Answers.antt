@@ -1,5 +1,4 @@
-use Rattle.std.proofs.Common.{◌≡◌, ◌∙◌, ◌++◌, ℕ, List, Some, codes, arith}
-use Rattle.ob_base.specs.declared.mark.Mark.{Mark}
+use Rattle.std.proofs.Common.{◌≡◌, ◌∙◌, ◌++◌, Some, codes, arith}
 use Rattle.ob_base.specs.declared.mark.Mark.TheVariants.{Saved}
 use Rattle.ob_file.specs.Marks.{salt_text}
 use Rattle.ob_file.proofs.MarkLemmas.{after_region, after_blocks, after_number, marked_as}
