@@ -6,10 +6,11 @@
 //! DROP and what accesses an index (`serve_index`) are calls of it; a SELECT over flat tables, and which call a
 //! statement is, stand above, in `ob_exec`.
 //!
-//! What is promised of each is `Serves` of `specs/Serving`: the accesses follow from what is public, the statement
-//! without its literals and conditions, and what is seen of it, whatever the store answers; and where nobody
-//! changed a block, the answer and the tables are those of the meaning. Begin with `specs/Agreeing`, what holds of an
-//! engine and its store between two statements, and with `refuse`, `finish` and `cut`, by which each one ends.
+//! What is promised of each is `Serves` of `specs/Serving`, or `ServesSilently` where nothing is emitted: the
+//! accesses follow from what is public, the statement without its literals and conditions, and what is seen of it,
+//! whatever the store answers; and where nobody changed a block, the answer and the tables are those of the meaning.
+//! Begin with `specs/Agreeing`, what holds of an engine and its store between two statements, and with `refuse`,
+//! `finish` and `cut`, by which each one ends.
 #![tactic(auto)]
 
 mod closing;
