@@ -1,5 +1,5 @@
 //! Lines of marks, and names of regions' files.
-use crate::bytes::{parted, spelled_by};
+use crate::bytes::{put, spelled_by};
 use ob_base::Mark;
 use ob_file::{mark_of, region_in, spell};
 use std::alloc::{AllocError, Global};
