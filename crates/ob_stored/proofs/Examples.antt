@@ -1,5 +1,5 @@
 -- Bytes of rows and of a closing, worked out.
-use Rattle.std.proofs.Common.{◌≡◌, ◌++◌, ◌-◌, ℕ, List, [], ◌∷◌, length, pos, true, false, refl}
+use Rattle.std.proofs.Common.{◌≡◌, ◌++◌, ◌-◌, ℕ, List, [], ◌∷◌, Option, Some, None, length, pos, true, false, refl}
 use Rattle.std.specs.Prelude.{Bool, codes, negsuc, replicate}
 use Rattle.ob_base.specs.declared.schema.Column.{Column}
 use Rattle.ob_base.specs.declared.schema.Kind.{Kind}
@@ -36,10 +36,11 @@ integer_and_text : written 16 int_and_text (Int (negsuc 0) ∷ Text (codes "ab")
     ≡ 1 ∷ 255 ∷ 255 ∷ 255 ∷ 255 ∷ 255 ∷ 255 ∷ 255 ∷ 255 ∷ 2 ∷ 97 ∷ 98 ∷ 0 ∷ 0 ∷ 0 ∷ 0 ∷ []
 integer_and_text = refl
 
-abbrev listed : (name : List ℕ) → Columns → (capacity region number : ℕ) → Listed
-listed name columns capacity region number = record {
+abbrev listed : (name : List ℕ) → Columns → (capacity region number : ℕ) → (salt : Option (List ℕ)) → Listed
+listed name columns capacity region number salt = record {
   table = record { heading = record { name = name; schema = columns; capacity = capacity; shape = Flat }; region = region };
   number = number;
+  salt = salt;
 }
 
 abbrev notes : List ℕ
@@ -55,15 +56,22 @@ head = refl
 
 -- the columns `id INT PRIMARY KEY` and `note VARCHAR(7)`, in region 0x0405, with the capacity 0x00010203 and the number
 -- 0x060708090a0b
-table_of_notes : table_text (listed notes (column notes (codes "id") IntKind true ∷ column notes (codes "note") (Varchar 7) false ∷ []) 0x00010203 0x0405 0x060708090a0b)
+table_of_notes : table_text (listed notes (column notes (codes "id") IntKind true ∷ column notes (codes "note") (Varchar 7) false ∷ []) 0x00010203 0x0405 0x060708090a0b None)
     ≡ 5 ∷ (codes "notes" ++ (replicate 27 0 ++ (0 ∷ 0 ∷ 0 ∷ 0 ∷ 0 ∷ 0 ∷ 4 ∷ 5 ∷ 0 ∷ 1 ∷ 2 ∷ 3 ∷ 0 ∷ 0 ∷ 6 ∷ 7 ∷ 8 ∷ 9 ∷ 10 ∷ 11 ∷ 2
     ∷ 2 ∷ (codes "id" ++ (replicate 30 0 ++ (0 ∷ 0 ∷ 1 ∷ 4 ∷ (codes "note" ++ (replicate 28 0 ++ (1 ∷ 7 ∷ 0 ∷ replicate 898 0)))))))))
 unfolding table_text
 table_of_notes = refl
 
 -- the column `id INT`
-table_of_ids : table_text (listed ids (column ids (codes "id") IntKind false ∷ []) 4 4 8)
+table_of_ids : table_text (listed ids (column ids (codes "id") IntKind false ∷ []) 4 4 8 None)
     ≡ 3 ∷ (codes "ids" ++ (replicate 29 0 ++ (0 ∷ 0 ∷ 0 ∷ 0 ∷ 0 ∷ 0 ∷ 0 ∷ 4 ∷ 0 ∷ 0 ∷ 0 ∷ 4 ∷ 0 ∷ 0 ∷ 0 ∷ 0 ∷ 0 ∷ 0 ∷ 0 ∷ 8 ∷ 1
     ∷ 2 ∷ (codes "id" ++ (replicate 30 0 ++ (0 ∷ 0 ∷ 0 ∷ replicate 934 0))))))
 unfolding table_text
 table_of_ids = refl
+
+-- the same of a run whose salt is the numbers from 1 to 16
+table_of_a_salt : table_text (listed ids (column ids (codes "id") IntKind false ∷ []) 4 4 8 (Some (1 ∷ 2 ∷ 3 ∷ 4 ∷ 5 ∷ 6 ∷ 7 ∷ 8 ∷ 9 ∷ 10 ∷ 11 ∷ 12 ∷ 13 ∷ 14 ∷ 15 ∷ 16 ∷ [])))
+    ≡ 3 ∷ (codes "ids" ++ (replicate 29 0 ++ (0 ∷ 0 ∷ 0 ∷ 0 ∷ 0 ∷ 0 ∷ 0 ∷ 4 ∷ 0 ∷ 0 ∷ 0 ∷ 4 ∷ 0 ∷ 0 ∷ 0 ∷ 0 ∷ 0 ∷ 0 ∷ 0 ∷ 8 ∷ 1
+    ∷ 2 ∷ (codes "id" ++ (replicate 30 0 ++ (0 ∷ 0 ∷ 0 ∷ (replicate 917 0 ++ (1 ∷ 1 ∷ 2 ∷ 3 ∷ 4 ∷ 5 ∷ 6 ∷ 7 ∷ 8 ∷ 9 ∷ 10 ∷ 11 ∷ 12 ∷ 13 ∷ 14 ∷ 15 ∷ 16 ∷ []))))))))
+unfolding table_text
+table_of_a_salt = refl

@@ -1,4 +1,3 @@
-use Rattle.std.proofs.Common.{ℕ}
 use Rattle.ob_stored.proofs.calls.+ask_all.Given as goal
 
 abbrev pub decreases-ask_all : goal.decreases-ask_all

@@ -1,4 +1,3 @@
-use Rattle.std.proofs.Common.{ℕ}
 use Rattle.ob_stored.proofs.runs.+go_on.Given as goal
 
 abbrev pub decreases-go_on : goal.decreases-go_on

@@ -1,4 +1,3 @@
-use Rattle.std.proofs.Common.{ℕ}
 use Rattle.ob_stored.proofs.runs.+in_memory.Given as goal
 
 abbrev pub decreases-in_memory : goal.decreases-in_memory
