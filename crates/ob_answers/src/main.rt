@@ -60,6 +60,7 @@ fn settings(buffer: u32, pack: u8, stash: u32) -> Option<Config>
         pad: None,
         stash,
         keep: false,
+        save: false,
         max_input: 1_073_741_824,
     })
 }

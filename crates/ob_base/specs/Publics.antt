@@ -1,9 +1,9 @@
 -- What is public before the first statement.
-use Rattle.std.specs.Prelude.{[]}
+use Rattle.std.specs.Prelude.{[], None}
 use Rattle.ob_base.specs.declared.config.Config.{Config}
 use Rattle.ob_base.specs.declared.config.Public.{Public}
 
--- no tables, and nothing asked
+-- no tables, none saved, and nothing asked
 abbrev pub first_public : Config → Public
 first_public config =
     record {
@@ -16,4 +16,6 @@ first_public config =
       pad = config.pad;
       stash = config.stash;
       keep = config.keep;
+      save = config.save;
+      closing = None;
     }

@@ -28,6 +28,8 @@ pub struct Config {
     pub stash: u32,
     /// Whether the tables are kept from a run to the next.
     pub keep: bool,
+    /// Whether they are saved behind each statement that changes them: then they are kept, too.
+    pub save: bool,
     /// The input has fewer bytes: 1,024 to 1,073,741,824.
     pub max_input: u64,
 }
@@ -44,4 +46,7 @@ pub struct Public {
     pub pad: Option<u32>,
     pub stash: u32,
     pub keep: bool,
+    pub save: bool,
+    /// The region in which the tables are listed, where they are saved and were once.
+    pub closing: Option<u64>,
 }

@@ -58,14 +58,14 @@ pad_too_great : pad_in (Some (codes "1048577")) ≡ None
 pad_too_great = refl
 
 -- ---- three blocks and one row, and a plan that may be padded
-room_enough : fitted 49 5 None 16 None 32 false 4096 ≡ Some (record { buffer = 49; depth = 5; pack = 16; plan = None; pad = None; stash = 32; keep = false; max_input = 4096 })
+room_enough : fitted 49 5 None 16 None 32 false 4096 ≡ Some (record { buffer = 49; depth = 5; pack = 16; plan = None; pad = None; stash = 32; keep = false; save = false; max_input = 4096 })
 room_enough = refl
 
 too_little : fitted 48 5 None 16 None 32 false 4096 ≡ None
 too_little = refl
 
 padded_by_large : fitted 64 5 (Some Large) 1 (Some 40) 32 false 4096
-    ≡ Some (record { buffer = 64; depth = 5; pack = 1; plan = Some Large; pad = Some 40; stash = 32; keep = false; max_input = 4096 })
+    ≡ Some (record { buffer = 64; depth = 5; pack = 1; plan = Some Large; pad = Some 40; stash = 32; keep = false; save = false; max_input = 4096 })
 padded_by_large = refl
 
 no_padded_continuous : fitted 64 5 (Some Continuous) 1 (Some 40) 32 false 4096 ≡ None
@@ -109,7 +109,7 @@ three_numbers : seed_in (Some (codes "0,1,2")) ≡ None
 three_numbers = refl
 
 -- ---- whole command lines
-no_words : settings_of usage [] ≡ Some (record { buffer = 64; depth = 5; pack = 1; plan = None; pad = None; stash = 32; keep = false; max_input = 1073741824 })
+no_words : settings_of usage [] ≡ Some (record { buffer = 64; depth = 5; pack = 1; plan = None; pad = None; stash = 32; keep = false; save = false; max_input = 1073741824 })
 unfolding clap_on_literals
 no_words = refl
 
@@ -118,7 +118,7 @@ unfolding clap_on_literals
 no_words_parse = refl
 
 two_words : settings_of usage (codes "--pack" ∷ codes "2" ∷ codes "--plan=hash" ∷ [])
-    ≡ Some (record { buffer = 64; depth = 5; pack = 2; plan = Some Hash; pad = None; stash = 32; keep = false; max_input = 1073741824 })
+    ≡ Some (record { buffer = 64; depth = 5; pack = 2; plan = Some Hash; pad = None; stash = 32; keep = false; save = false; max_input = 1073741824 })
 unfolding clap_on_literals
 two_words = refl
 
@@ -130,11 +130,11 @@ pack_is_too_great : settings_of usage (codes "--pack" ∷ codes "22" ∷ []) ≡
 unfolding clap_on_literals
 pack_is_too_great = refl
 
-padded : settings_of usage (codes "--pad" ∷ codes "40" ∷ []) ≡ Some (record { buffer = 64; depth = 5; pack = 1; plan = None; pad = Some 40; stash = 32; keep = false; max_input = 1073741824 })
+padded : settings_of usage (codes "--pad" ∷ codes "40" ∷ []) ≡ Some (record { buffer = 64; depth = 5; pack = 1; plan = None; pad = Some 40; stash = 32; keep = false; save = false; max_input = 1073741824 })
 unfolding clap_on_literals
 padded = refl
 
-stashed : settings_of meddle_usage (codes "--stash" ∷ codes "89" ∷ []) ≡ Some (record { buffer = 64; depth = 5; pack = 1; plan = None; pad = None; stash = 89; keep = false; max_input = 1073741824 })
+stashed : settings_of meddle_usage (codes "--stash" ∷ codes "89" ∷ []) ≡ Some (record { buffer = 64; depth = 5; pack = 1; plan = None; pad = None; stash = 89; keep = false; save = false; max_input = 1073741824 })
 unfolding clap_on_literals
 stashed = refl
 
@@ -179,7 +179,7 @@ no_value : fault_of usage (codes "--buffer" ∷ []) ≡ kind.InvalidValue ∷ []
 unfolding clap_on_literals
 no_value = refl
 
-input_bounded : settings_of usage (codes "--max-input" ∷ codes "1024" ∷ []) ≡ Some (record { buffer = 64; depth = 5; pack = 1; plan = None; pad = None; stash = 32; keep = false; max_input = 1024 })
+input_bounded : settings_of usage (codes "--max-input" ∷ codes "1024" ∷ []) ≡ Some (record { buffer = 64; depth = 5; pack = 1; plan = None; pad = None; stash = 32; keep = false; save = false; max_input = 1024 })
 unfolding clap_on_literals
 input_bounded = refl
 
@@ -208,7 +208,7 @@ unfolding clap_on_literals
 mark_unplaced = refl
 
 mark_with_keep : settings_of kept_usage (codes "--keep" ∷ codes "--mark" ∷ codes "safe" ∷ [])
-    ≡ Some (record { buffer = 64; depth = 5; pack = 1; plan = None; pad = None; stash = 32; keep = true; max_input = 1073741824 })
+    ≡ Some (record { buffer = 64; depth = 5; pack = 1; plan = None; pad = None; stash = 32; keep = true; save = false; max_input = 1073741824 })
 unfolding clap_on_literals
 mark_with_keep = refl
 

@@ -64,6 +64,7 @@ fitted buffer depth plan pack pad stash keep max_input =
       pad = pad;
       stash = stash;
       keep = keep;
+      save = false;
       max_input = max_input;
     })
     else None

@@ -33,7 +33,7 @@ k = codes "k"
 
 -- with a stash of one row
 abbrev by_one : Public
-by_one = first_public (record { buffer = 64; depth = 5; pack = 1; plan = None; pad = None; stash = 1; keep = false; max_input = 1048576 })
+by_one = first_public (record { buffer = 64; depth = 5; pack = 1; plan = None; pad = None; stash = 1; keep = false; save = false; max_input = 1048576 })
 
 -- the next draw is this number
 abbrev drawing : ℕ → Draws

@@ -67,6 +67,8 @@ fn public_of(alloc: Global, config: &Config, tables: &[Held]) -> Result<Public, 
             pad: config.pad,
             stash: config.stash,
             keep: config.keep,
+            save: config.save,
+            closing: None,
         }),
     }
 }

@@ -1,5 +1,5 @@
 -- What a run begins with that goes on from a closing, and why it doesn't.
-use Rattle.std.specs.Prelude.{◌≡◌, ◌⊎◌, ◌&&◌, ◌==◌, ◌<◌, ◌+◌, ◌-◌, ℕ, List, [], ◌∷◌, ◌++◌, map, Some, ltb, if◌then◌else◌}
+use Rattle.std.specs.Prelude.{◌≡◌, ◌⊎◌, ◌&&◌, ◌==◌, ◌<◌, ◌+◌, ◌-◌, ℕ, List, [], ◌∷◌, ◌++◌, map, Some, None, ltb, if◌then◌else◌}
 use Rattle.ob_base.specs.Counts.{Rises}
 use Rattle.ob_base.specs.declared.access.Access.{Access}
 use Rattle.ob_base.specs.declared.access.Access.TheVariants.{Read}
@@ -17,7 +17,8 @@ use Rattle.ob_reopen.specs.declared.listed.Listed.{Listed}
 use Rattle.ob_reopen.specs.Closings.{open_script, read_script}
 use Rattle.ob_reopen.specs.Limits.{IsCatalogue, blocks_of}
 
--- what is public of an engine that is opened: the tables that are listed, and the region behind the closing's as the next
+-- what is public of an engine that is opened: the tables that are listed, the region behind the closing's as the next, and
+-- where they are saved the closing's
 abbrev pub opened_public : Config → Closing → List Listed → Public
 opened_public config closing listed = record {
   tables = map (λ (t : Listed). t.table) listed;
@@ -29,6 +30,8 @@ opened_public config closing listed = record {
   pad = config.pad;
   stash = config.stash;
   keep = config.keep;
+  save = config.save;
+  closing = if config.save then Some closing.region else None;
 }
 
 -- the number that a place was last written under, in the closing or a table that it lists

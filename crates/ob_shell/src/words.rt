@@ -281,6 +281,7 @@ fn settings_in(matches: &ArgMatches) -> Option<Config>
         pad,
         stash,
         keep: is_set(matches.get_str("keep")),
+        save: false,
         max_input: max_input as u64,
     })
 }

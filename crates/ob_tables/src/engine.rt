@@ -89,6 +89,8 @@ impl<R: Revisions> Engine<R> {
                 pad: config.pad,
                 stash: config.stash,
                 keep: config.keep,
+                save: config.save,
+                closing: None,
             },
             seen: seen_to_end(End::Whole),
             ended: false,

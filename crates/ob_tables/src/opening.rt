@@ -1,5 +1,5 @@
 //! An engine that goes on from what an earlier run closed.
-ghost use Rattle.std.specs.Prelude.{◌≡◌, ℕ, [], map, IfOk};
+ghost use Rattle.std.specs.Prelude.{◌≡◌, ℕ, [], Some, None, map, IfOk, if◌then◌else◌};
 ghost use Rattle.ob_tables.specs.Reopening.{IsClosed, OpensEngine};
 ghost use Rattle.ob_tables.specs.Engines.{IsConfig};
 ghost use Rattle.ob_reopen.specs.declared.closing.Closing.{Closing as Named};
@@ -33,6 +33,17 @@ fn closing_of(mark: &Mark) -> Closing
             pack,
         },
         Mark::Fresh | Mark::InUse | Mark::Begun | Mark::Saved { .. } => unreachable!(),
+    }
+}
+
+// The region in which the tables of a closing are listed, where they are saved.
+fn saved_in(config: Config, closing: Closing) -> Option<u64>
+    ensures { result ≡ (if config.save then Some closing.region else None) }
+{
+    if config.save {
+        Some(closing.region)
+    } else {
+        None
     }
 }
 
@@ -102,6 +113,8 @@ impl<R: Revisions> Engine<R> {
                 pad: config.pad,
                 stash: config.stash,
                 keep: config.keep,
+                save: config.save,
+                closing: saved_in(config, closing),
             },
             seen: seen_to_end(End::Whole),
             ended: false,

@@ -86,7 +86,7 @@ update_v x c = Ok (Update t (record { column = v; value = int x } ∷ []) c)
 -- what is public before the first statement, by these settings
 abbrev pub by_settings : (buffer depth pack : ℕ) → Option Plan → (pad : Option ℕ) → Public
 by_settings buffer depth pack plan pad =
-    first_public (record { buffer = buffer; depth = depth; pack = pack; plan = plan; pad = pad; stash = 32; keep = false; max_input = 1048576 })
+    first_public (record { buffer = buffer; depth = depth; pack = pack; plan = plan; pad = pad; stash = 32; keep = false; save = false; max_input = 1048576 })
 
 abbrev pub by_four : Public
 by_four = by_settings 4 5 1 None None
