@@ -17,6 +17,11 @@ make_at region blocks width = Make region blocks (width + 32) ∷ []
 abbrev pub discard_at : ℕ → List Access
 discard_at region = Discard region ∷ []
 
+-- a region is discarded, if there is one
+abbrev pub drop_script : Option ℕ → List Access
+drop_script None = []
+drop_script (Some region) = discard_at region
+
 abbrev pub region_of : Access → ℕ
 region_of (Make region blocks len) = region
 region_of (Read region place) = region

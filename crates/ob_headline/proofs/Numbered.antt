@@ -1,14 +1,14 @@
 -- The numbers of writes go on over all runs of one keeper.
 use Rattle.std.specs.Prelude.{MatchBool, ⊤, if◌then◌else◌}
 use Rattle.std.proofs.Common.{◌≡◌, ◌≤◌, ◌+◌, ◌++◌, ℕ, zero, suc, Bool, true, false, List, [], ◌∷◌, Option, Some, None, Result, Ok, Err, inl, inr, refl, sym, ◌∙◌, ap, subst, arith}
-use Rattle.ob_base.specs.Accesses.{write_at, writes}
+use Rattle.ob_base.specs.Accesses.{drop_script, write_at, writes}
 use Rattle.ob_base.specs.Lists.{each}
 use Rattle.ob_base.specs.declared.access.Access.{Access}
 use Rattle.ob_base.specs.declared.access.Access.TheVariants as A
 use Rattle.ob_base.specs.declared.config.Config.{Config}
 use Rattle.ob_base.specs.declared.mark.Mark.{Mark}
 use Rattle.ob_base.specs.declared.mark.Mark.TheVariants.{Fresh, InUse, Closed, Begun, Saved}
-use Rattle.ob_reopen.specs.Closed.{IsClosedAs, StaysInUse, drop_script, is_used_up}
+use Rattle.ob_reopen.specs.Closed.{IsClosedAs, StaysInUse, is_used_up}
 use Rattle.ob_headline.proofs.MarkLemmas.{held_after}
 use Rattle.ob_headline.specs.Bases.{Base}
 use Rattle.ob_headline.specs.Keeping.{BeginsFrom, Writes, closing_behind, last_script}

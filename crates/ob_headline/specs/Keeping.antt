@@ -1,7 +1,7 @@
 -- How a run begins with tables that an earlier one kept, how it is closed so that the next one may, and how it ends.
 use Rattle.std.specs.Prelude.{ℕ, ◌≡◌, ◌⊎◌, ◌==◌, ◌+◌, ◌≤◌, Bool, false, IsTrue, List, ◌++◌, codes, length, MatchBool, Option, None, Some, Result, Ok, Err}
 use Rattle.std.specs.Io.KnownBytes.{Appends}
-use Rattle.ob_base.specs.Accesses.{writes}
+use Rattle.ob_base.specs.Accesses.{drop_script, writes}
 use Rattle.ob_base.specs.Counts.{Rises}
 use Rattle.ob_base.specs.Stored.{headings, headings_of}
 use Rattle.ob_base.specs.declared.access.Access.{Access}
@@ -12,7 +12,7 @@ use Rattle.ob_base.specs.declared.mark.Mark.{Mark}
 use Rattle.ob_base.specs.declared.mark.Mark.TheVariants as Marks
 use Rattle.ob_base.specs.declared.mark.Mark.TheVariants.{Fresh, InUse, Closed}
 use Rattle.ob_base.specs.declared.refusal.Stop.TheVariants.{NoMemory, SinkFault, Tampered}
-use Rattle.ob_reopen.specs.Closed.{IsClosedAs, NotClosed, StaysInUse, drop_script, is_used_up}
+use Rattle.ob_reopen.specs.Closed.{IsClosedAs, NotClosed, StaysInUse, is_used_up}
 use Rattle.ob_reopen.specs.Reopened.{NotOpened, opened_start, opening_script}
 use Rattle.ob_reopen.specs.Resting.{Rests}
 use Rattle.ob_headline.specs.Bases.{Base, Opened, fresh, reopened}

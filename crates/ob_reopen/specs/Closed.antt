@@ -1,6 +1,5 @@
 -- What a run leaves that is closed, and why it isn't.
-use Rattle.std.specs.Prelude.{◌≡◌, ◌||◌, ◌^◌, ℕ, Bool, List, [], Option, None, Some, nat_le}
-use Rattle.ob_base.specs.Accesses.{discard_at}
+use Rattle.std.specs.Prelude.{◌≡◌, ◌||◌, ◌^◌, ℕ, Bool, List, nat_le}
 use Rattle.ob_base.specs.Counts.{Rises}
 use Rattle.ob_base.specs.declared.access.Access.{Access}
 use Rattle.ob_base.specs.declared.mark.Mark.{Mark}
@@ -16,11 +15,6 @@ use Rattle.ob_reopen.specs.Keepers.{IsMark}
 -- whether its numbers are above what a mark may name
 abbrev pub is_used_up : Closing → Bool
 is_used_up closing = nat_le (2 ^ 63) closing.region || nat_le (2 ^ 63) closing.number
-
--- the closing that the engine was opened from is discarded
-abbrev pub drop_script : Option ℕ → List Access
-drop_script None = []
-drop_script (Some region) = discard_at region
 
 -- why an engine wasn't closed: `Failed` comes only where the store's faults rose, and no other error where they did
 abbrev pub ClosingCause : CloseErr → (s t : StoreState) → Type 0

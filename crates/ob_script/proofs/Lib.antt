@@ -9,3 +9,4 @@ pub mod Joined
 pub mod Numbers
 pub mod Few
 pub mod Makes
+pub mod SavedParts

@@ -23,7 +23,7 @@ made : (g blocks width : ℕ) → makes (make_at g blocks width) ≡ 1
 unfolding makes
 made g blocks width = refl
 
-one_made : (g blocks width : ℕ) (rest : List Access) → makes rest ≡ 0 → makes (make_at g blocks width ++ rest) ≡ 1
+pub one_made : (g blocks width : ℕ) (rest : List Access) → makes rest ≡ 0 → makes (make_at g blocks width ++ rest) ≡ 1
 one_made g blocks width rest none = both (make_at g blocks width) rest 1 0 (made g blocks width) none
 
 discarded : (g : ℕ) → makes (discard_at g) ≡ 0
@@ -46,13 +46,13 @@ paired : (b g rights q v : ℕ) → makes (pair_at b g rights q v) ≡ 0
 unfolding makes
 paired b g rights q v = refl
 
-none_in : (xs ys : List Access) → makes xs ≡ 0 → makes ys ≡ 0 → makes (xs ++ ys) ≡ 0
+pub none_in : (xs ys : List Access) → makes xs ≡ 0 → makes ys ≡ 0 → makes (xs ++ ys) ≡ 0
 none_in xs ys e f = both xs ys 0 0 e f
 
 pub makes-count_part : (t blocks : ℕ) → makes (count_part t blocks) ≡ 0
 makes-count_part t blocks = makes-each blocks (read_at t) (was_read t)
 
-makes-copy_part : (t g blocks : ℕ) → makes (copy_part t g blocks) ≡ 0
+pub makes-copy_part : (t g blocks : ℕ) → makes (copy_part t g blocks) ≡ 0
 makes-copy_part t g blocks = makes-each blocks (copy_at t g) (copied t g)
 
 pub makes-create_part : (g blocks width : ℕ) → makes (create_part g blocks width) ≡ 1

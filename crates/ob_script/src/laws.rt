@@ -1,9 +1,10 @@
 //! Laws of the scripts.
-ghost use Rattle.std.specs.Prelude.{◌≡◌, ◌≢◌, ◌<◌, ◌+◌, ◌*◌, ◌^◌, ℕ, length};
+ghost use Rattle.std.specs.Prelude.{◌≡◌, ◌≢◌, ◌<◌, ◌+◌, ◌++◌, ◌*◌, ◌^◌, ℕ, length};
 ghost use Rattle.ob_base.specs.declared.config.Public.{Public};
 ghost use Rattle.ob_base.specs.declared.seen.Seen.{Seen};
 ghost use Rattle.ob_base.specs.declared.skeleton.Skeleton.{Skeleton};
-ghost use Rattle.ob_base.specs.Accesses.{makes};
+ghost use Rattle.ob_base.specs.Accesses.{discard_at, makes};
+ghost use Rattle.ob_script.specs.Saved.{closing_part, insert_kept, rewrite_kept};
 ghost use Rattle.ob_script.specs.Script.{script};
 ghost use Rattle.ob_script.specs.Sizes.{IsPublic, IsWithin};
 ghost use Rattle.std.specs.Int.{div_ceil};
@@ -74,4 +75,21 @@ pub fn buffers_by_rows()
 pub fn scripts_are_short()
     ensures { (p : Public) (s : Skeleton) (seen : Seen) → IsPublic p →
         (seen.end ≢ End.Static → IsWithin p s seen) → length (script p s seen) < 2 ^ 49 }
+{}
+
+/// Where tables are saved a change asks what it asks elsewhere, but for the table's old region, which is discarded
+/// behind the closing; and how many accesses a closing of so many tables is, and how many regions it makes.
+pub fn saved_parts()
+    ensures insert { (t g blocks width : ℕ) → insert_part t g blocks width
+        ≡ insert_kept t g blocks width ++ discard_at t }
+    ensures rewrite { (t g blocks width : ℕ) → rewrite_part t g blocks width
+        ≡ rewrite_kept t g blocks width ++ discard_at t }
+    ensures inserted { (t g blocks width : ℕ) →
+        length (insert_kept t g blocks width) ≡ 3 * blocks + 1 }
+    ensures rewritten { (t g blocks width : ℕ) →
+        length (rewrite_kept t g blocks width) ≡ 2 * blocks + 1 }
+    ensures made { (t g blocks width : ℕ) → makes (insert_kept t g blocks width) ≡ 1 }
+    ensures made_too { (t g blocks width : ℕ) → makes (rewrite_kept t g blocks width) ≡ 1 }
+    ensures closing { (region tables : ℕ) → length (closing_part region tables) ≡ tables + 2 }
+    ensures listed { (region tables : ℕ) → makes (closing_part region tables) ≡ 1 }
 {}

@@ -7,7 +7,7 @@ use Rattle.ob_base.specs.declared.access.Access.{Access}
 use Rattle.ob_base.specs.declared.mark.Mark.{Mark}
 use Rattle.ob_base.specs.declared.mark.Mark.TheVariants.{InUse}
 use Rattle.ob_base.specs.declared.schema.Table.{Table}
-use Rattle.ob_base.specs.Accesses.{discard_at, makes, writes}
+use Rattle.ob_base.specs.Accesses.{discard_at, drop_script, makes, writes}
 use Rattle.ob_base.proofs.AccessLemmas.{writes_discard}
 use Rattle.ob_flat.proofs.Tables.{represents_lasts}
 use Rattle.ob_mean.specs.Verdict.{Tables}
@@ -41,7 +41,7 @@ use Rattle.ob_reopen.proofs.CatalogueLaws.{catalogue_has, catalogue_is}
 use Rattle.ob_tables.specs.declared.engine.Engine.{Engine}
 use Rattle.ob_tables.specs.Agreeing.{Agrees, count_of, world_of}
 use Rattle.ob_tables.specs.Closing.{ClosesEngine, DropsClosing, closing_script, next_closing}
-use Rattle.ob_reopen.specs.Closed.{ClosingCause, drop_script, is_used_up}
+use Rattle.ob_reopen.specs.Closed.{ClosingCause, is_used_up}
 use Rattle.ob_tables.specs.Engines.{flat_of, others_of}
 use Rattle.ob_reopen.specs.Resting.{AcceptsClosings, Rests, by_name}
 use Rattle.ob_tables.specs.Telling.{Represents}

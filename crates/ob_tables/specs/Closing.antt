@@ -1,6 +1,6 @@
 -- What closing an engine does.
 use Rattle.std.specs.Prelude.{◌≡◌, ◌+◌, ℕ, Bool, true, false, IsTrue, List, ◌++◌, Option, Some, Result, IfOk, IfErr, length}
-use Rattle.ob_base.specs.Accesses.{writes}
+use Rattle.ob_base.specs.Accesses.{drop_script, writes}
 use Rattle.ob_base.specs.declared.access.Access.{Access}
 use Rattle.ob_base.specs.declared.mark.Mark.{Mark}
 use Rattle.ob_tables.specs.Agreeing.{engine_keys, engine_start, opened_from, public_of, world_of}
@@ -18,7 +18,7 @@ use Rattle.ob_vault.specs.Calls.{Seals, Went}
 use Rattle.ob_vault.specs.State.{RevState, World}
 use Rattle.ob_vault.specs.Tied.{Calm}
 use Rattle.ob_vault.specs.Words.{SealsAll}
-use Rattle.ob_reopen.specs.Closed.{is_used_up, drop_script, NotClosed, StaysInUse, IsClosedAs}
+use Rattle.ob_reopen.specs.Closed.{is_used_up, NotClosed, StaysInUse, IsClosedAs}
 
 -- the closing that is made: the next region, and the next write number
 abbrev pub next_closing : {R : Type 0} → Engine R → StoreState → Closing
