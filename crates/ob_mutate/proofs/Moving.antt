@@ -9,7 +9,7 @@ use Rattle.ob_script.specs.Parts.{count_part}
 use Rattle.ob_vault.specs.declared.region.Order.TheVariants.{Round}
 use Rattle.ob_vault.specs.State.{World}
 use Rattle.ob_vault.specs.Tied.{Ready}
-use Rattle.ob_vault.specs.Calls.{Went, Seals, one, two}
+use Rattle.ob_vault.specs.Calls.{Went, Seals, one}
 use Rattle.ob_vault.specs.Words.{MayAsk, MayStart}
 use Rattle.ob_vault.proofs.Runs.{went_join, went_none, went_wider, lives_apart, lives_went, shape_lasts, tells_went}
 use Rattle.ob_vault.proofs.WordLemmas.{asks_start, asks_after, honest_before, honest_after, honest_same}
@@ -28,14 +28,38 @@ use Rattle.ob_flat.proofs.Runs.{not_memory, pass_more}
 use Rattle.ob_flat.proofs.Tables.{reads, copies, blocks_few, flat_lasts, rows_lasts, represents_lasts}
 use Rattle.ob_flat.proofs.WordLemmas.{cut_forgot, ran_more, seals_any, seals_after, tampered_after}
 use Rattle.ob_mutate.proofs.Counted.{match_ok}
-use Rattle.ob_mutate.specs.Mutating.{FillsFresh, IsDropped, Mutates, copy_script, place_script, insert_script}
+use Rattle.ob_mutate.specs.declared.settling.Former.{Former}
+use Rattle.ob_mutate.specs.declared.settling.Former.TheVariants.{Discard, Keep}
+use Rattle.ob_mutate.specs.Mutating.{FillsFresh, LeavesFormer, Mutates, changed_regions, copy_script, former_regions, former_script, insert_script, place_script, rewrite_script}
 
 -- what is asked where a row is inserted
 pub places : (pack : ℕ) (flat : Flat) (to : ℕ) → length (place_script pack flat to) ≤ 3 * blocks_of pack flat
 places pack flat to = omega (arith, length-append (count_part flat.region (blocks_of pack flat)) (copy_script pack flat to), reads flat.region (blocks_of pack flat), copies flat.region to (blocks_of pack flat))
 
-four_parts : (pack : ℕ) (flat : Flat) (to : ℕ) → make_script pack (moved flat to) ++ (place_script pack flat to ++ discard_at flat.region) ≡ insert_script pack flat to
-four_parts pack flat to = ap (λ (l : List Access). make_script pack (moved flat to) ++ l) (append_assoc (count_part flat.region (blocks_of pack flat)) (copy_script pack flat to) (discard_at flat.region))
+four_parts : (former : Former) (pack : ℕ) (flat : Flat) (to : ℕ) → make_script pack (moved flat to) ++ (place_script pack flat to ++ former_script former flat.region) ≡ insert_script former pack flat to
+four_parts Discard pack flat to = ap (λ (l : List Access). make_script pack (moved flat to) ++ l) (append_assoc (count_part flat.region (blocks_of pack flat)) (copy_script pack flat to) (discard_at flat.region))
+four_parts Keep pack flat to = ap (λ (l : List Access). make_script pack (moved flat to) ++ l) (append-nil (place_script pack flat to))
+
+three_parts : (former : Former) (pack : ℕ) (flat : Flat) (to : ℕ) → make_script pack (moved flat to) ++ (copy_script pack flat to ++ former_script former flat.region) ≡ rewrite_script former pack flat to
+three_parts Discard pack flat to = refl
+three_parts Keep pack flat to = ap (λ (l : List Access). make_script pack (moved flat to) ++ l) (append-nil (copy_script pack flat to))
+
+-- ---- the regions that are changed
+length-former_script : (former : Former) (region : ℕ) → length (former_script former region) ≤ 1
+length-former_script Discard region = omega arith
+length-former_script Keep region = omega arith
+
+next_in : (former : Former) (region next q : ℕ) → one next q → changed_regions former region next q
+next_in Discard region next q same = inr same
+next_in Keep region next q same = same
+
+former_in : (former : Former) (region next q : ℕ) → former_regions former region q → changed_regions former region next q
+former_in Discard region next q same = inl same
+former_in Keep region next q same = absurd same
+
+former_off : (former : Former) (region next : ℕ) → (next ≡ region → ⊥) → former_regions former region next → ⊥
+former_off Discard region next off same = off same
+former_off Keep region next off same = same
 
 -- a pass over its blocks filled a fresh region
 pub fills_swapped : (pack : ℕ) (flat : Flat) (to : ℕ) (picks : Option Row → Bool) (f : ℕ → Option Row → Option Row) (r : Result ℕ OpErr) (old new : World)
@@ -43,22 +67,22 @@ pub fills_swapped : (pack : ℕ) (flat : Flat) (to : ℕ) (picks : Option Row �
 fills_swapped pack flat to picks f r old new swaps = record { ran = swaps.ran; never = swaps.never; seals = swaps.seals; table = swaps.table; holds = swaps.holds; told = swaps.told }
 
 -- of a table that may be changed
-module _ {T : Type 0} (pack : ℕ) (flat : Flat) (fill : List Access) (answer : Slots → T) (after : Slots → Slots) (old : World) (ready : Ready old) (table : IsTable pack flat old) where
+module _ {T : Type 0} (former : Former) (pack : ℕ) (flat : Flat) (fill : List Access) (answer : Slots → T) (after : Slots → Slots) (old : World) (ready : Ready old) (table : IsTable pack flat old) where
   -- the whole script
   abbrev whole : List Access
-  whole = make_script pack (moved flat old.vault.next) ++ (fill ++ discard_at flat.region)
+  whole = make_script pack (moved flat old.vault.next) ++ (fill ++ former_script former flat.region)
 
   off : flat.region ≡ old.vault.next → ⊥
   off = lives_apart _ _ _ ready table.written.made.lives
 
   -- the region was not made
-  pub mutates_none : (e : OpErr) (new : World) → MakesTable Round pack (moved flat old.vault.next) (Err e) old new → Mutates pack flat flat whole answer after (Err e) old new
+  pub mutates_none : (e : OpErr) (new : World) → MakesTable Round pack (moved flat old.vault.next) (Err e) old new → Mutates former pack flat flat whole answer after (Err e) old new
   mutates_none e new makes =
       let next = old.vault.next in
       let lasts = makes.ran.err.lasts in
       record {
         ok = tt;
-        err = pass_more (one next) _ _ _ (make_script pack (moved flat next)) (fill ++ discard_at flat.region) makes.ran.err;
+        err = pass_more (one next) _ _ _ (make_script pack (moved flat next)) (fill ++ former_script former flat.region) makes.ran.err;
         never = elim makes.never [ inl failed ↦ inl failed | inr none ↦ inr (inl none) ];
         memory = record { did = λ is. makes.memory.did (cc is) };
         gone = makes.gone;
@@ -73,42 +97,45 @@ module _ {T : Type 0} (pack : ℕ) (flat : Flat) (fill : List Access) (answer : 
 
   module _ {g : ℕ} (mid : World) (makes : MakesTable Round pack (moved flat old.vault.next) (Ok g) old mid) where
     -- it was, and filled
-    pub mutates_ok : (x : T) (late new : World) → FillsFresh pack flat old.vault.next fill answer after (Ok x) mid late → IsDropped flat.region late new
-        → Mutates pack flat (moved flat old.vault.next) whole answer after (Ok x) old new
-    mutates_ok x late new fills dropped =
+    pub mutates_ok : (x : T) (late new : World) → FillsFresh pack flat old.vault.next fill answer after (Ok x) mid late → LeavesFormer former flat.region late new
+        → Mutates former pack flat (moved flat old.vault.next) whole answer after (Ok x) old new
+    mutates_ok x late new fills leaves =
         let next = old.vault.next in
         let fresh = moved flat next in
-        let both = two flat.region next in
+        let some = changed_regions former flat.region next in
+        let was = former_regions former flat.region in
+        let there = next_in former flat.region next in
+        let here = former_in former flat.region next in
         let made = makes.ran.ok in
         let filled = fills.ran.ok in
-        let away : next ≡ flat.region → ⊥ = λ same. off (sym same) in
+        let away : was next → ⊥ = former_off former flat.region next (λ same. off (sym same)) in
         let shape = table_region Round pack flat.schema flat.capacity in
         record {
-          ok = went_join both _ _ _ (make_script pack fresh) (fill ++ discard_at flat.region) (went_wider (one next) _ _ both (λ r s. inr s) _ made)
-              (went_join both _ _ _ fill (discard_at flat.region) (went_wider (one next) _ _ both (λ r s. inr s) _ filled) (went_wider (one flat.region) _ _ both (λ r s. inl s) _ dropped.went));
+          ok = went_join some _ _ _ (make_script pack fresh) (fill ++ former_script former flat.region) (went_wider (one next) _ _ some there _ made)
+              (went_join some _ _ _ fill (former_script former flat.region) (went_wider (one next) _ _ some there _ filled) (went_wider was _ _ some here _ leaves.went));
           err = tt;
           never = tt;
           memory = record { did = λ is. absurd (cc is) };
-          gone = dropped.gone;
-          seals = seals_after made.lasts (seals_any makes.seals.seals) (seals_after filled.lasts fills.seals (seals_any dropped.seals.seals));
+          gone = leaves.gone;
+          seals = seals_after made.lasts (seals_any makes.seals.seals) (seals_after filled.lasts fills.seals (seals_any leaves.seals.seals));
           moves = refl;
           same = tt;
-          lives = lives_went _ _ _ _ next shape dropped.went away (shape_lasts (one next) _ _ next shape _ made.lasts.ready filled.lasts makes.lives fills.table.made.lives);
-          table = flat_lasts pack fresh (one flat.region) _ _ dropped.went.lasts away fills.table;
-          holds = λ tells. rows_lasts pack fresh (one flat.region) _ _ dropped.went.lasts away (fills.holds (tells_went _ _ _ _ made tells));
+          lives = lives_went _ _ _ _ next shape leaves.went away (shape_lasts (one next) _ _ next shape _ made.lasts.ready filled.lasts makes.lives fills.table.made.lives);
+          table = flat_lasts pack fresh was _ _ leaves.went.lasts away fills.table;
+          holds = λ tells. rows_lasts pack fresh was _ _ leaves.went.lasts away (fills.holds (tells_went _ _ _ _ made tells));
           told = λ honest slots is.
               let there = represents_lasts pack flat (one next) _ _ made.lasts off slots is in
-              let done = fills.told (honest_after made (honest_before dropped.went.lasts honest)) slots there in
-              (done.0, represents_lasts pack fresh (one flat.region) _ _ dropped.went.lasts away (after slots) done.1);
+              let done = fills.told (honest_after made (honest_before leaves.went.lasts honest)) slots there in
+              (done.0, represents_lasts pack fresh was _ _ leaves.went.lasts away (after slots) done.1);
         }
 
     -- or was cut, and is forgotten
     pub mutates_err : (e : OpErr) (late new : World) → FillsFresh pack flat old.vault.next fill answer after (Err e) mid late → Went [] (one old.vault.next) late new → new.store ≡ late.store
-        → ((good : ℕ → List ℕ → Bool) → Seals good late new) → new.vault.revs.live old.vault.next ≡ None → Mutates pack flat flat whole answer after (Err e) old new
+        → ((good : ℕ → List ℕ → Bool) → Seals good late new) → new.vault.revs.live old.vault.next ≡ None → Mutates former pack flat flat whole answer after (Err e) old new
     mutates_err e late new fills forgot same sealed gone =
         let next = old.vault.next in
         let fresh = moved flat next in
-        let ended = cut_forgot Round pack fresh _ _ (make_script pack fresh) makes.ran.ok makes.seals.seals e (fill ++ discard_at flat.region) late new (ran_more {T = T} fill (discard_at flat.region) fills.ran.err) forgot same in
+        let ended = cut_forgot Round pack fresh _ _ (make_script pack fresh) makes.ran.ok makes.seals.seals e (fill ++ former_script former flat.region) late new (ran_more {T = T} fill (former_script former flat.region) fills.ran.err) forgot same in
         let lasts = ended.lasts in
         record {
           ok = tt;
@@ -129,12 +156,12 @@ module _ {T : Type 0} (pack : ℕ) (flat : Flat) (fill : List Access) (answer : 
 
     -- or there was no memory to fill it, and it is forgotten
     pub mutates_full : (new : World) → Went [] (one old.vault.next) mid new → new.store ≡ mid.store → ((good : ℕ → List ℕ → Bool) → Seals good mid new)
-        → new.vault.revs.live old.vault.next ≡ None → Mutates pack flat flat whole answer after (Err NoMemory) old new
+        → new.vault.revs.live old.vault.next ≡ None → Mutates former pack flat flat whole answer after (Err NoMemory) old new
     mutates_full new forgot same sealed gone =
         let next = old.vault.next in
         let fresh = moved flat next in
         let made = makes.ran.ok in
-        let rest = fill ++ discard_at flat.region in
+        let rest = fill ++ former_script former flat.region in
         let cut : PassCut NoMemory rest (one next) mid mid = record {
           lasts = (went_none (one next) mid made.lasts.ready).lasts;
           began = record { done = []; rest = rest; split = refl; asked = sym (append-nil mid.store.asked) };
@@ -173,10 +200,10 @@ module _ {T : Type 0} (pack : ℕ) (flat : Flat) (fill : List Access) (answer : 
     table_stands = record { some = table.some; most = table.most; size = table.size; written = flat_lasts pack flat (one old.vault.next) _ _ makes.ran.ok.lasts off table.written }
 
 -- the same, where the answer and the slots are written in other words
-pub rewrites_as : {T : Type 0} {pack : ℕ} {flat left : Flat} {script : List Access} {answer other : Slots → T} {after later : Slots → Slots} {r : Result T OpErr} {old new : World}
+pub rewrites_as : {T : Type 0} {former : Former} {pack : ℕ} {flat left : Flat} {script : List Access} {answer other : Slots → T} {after later : Slots → Slots} {r : Result T OpErr} {old new : World}
     → ((slots : Slots) → answer slots ≡ other slots) → ((slots : Slots) → after slots ≡ later slots)
-    → Mutates pack flat left script answer after r old new → Mutates pack flat left script other later r old new
-rewrites_as {T} {pack} {flat} {left} {script} {answer} {other} {after} {later} {r} {old} {new} words slots_are is = record {
+    → Mutates former pack flat left script answer after r old new → Mutates former pack flat left script other later r old new
+rewrites_as {T} {former} {pack} {flat} {left} {script} {answer} {other} {after} {later} {r} {old} {new} words slots_are is = record {
   ok = is.ok;
   err = is.err;
   never = is.never;
@@ -191,6 +218,10 @@ rewrites_as {T} {pack} {flat} {left} {script} {answer} {other} {after} {later} {
   told = λ honest slots here. match_ok _ r (λ x both. (both.0 ∙ words slots, subst (λ (l : Slots). Represents pack left l new) (slots_are slots) both.1)) (is.told honest slots here);
 }
 
-pub as_insert : {T : Type 0} {pack : ℕ} {flat left : Flat} (to : ℕ) {answer : Slots → T} {after : Slots → Slots} {r : Result T OpErr} {old new : World}
-    → Mutates pack flat left (make_script pack (moved flat to) ++ (place_script pack flat to ++ discard_at flat.region)) answer after r old new → Mutates pack flat left (insert_script pack flat to) answer after r old new
-as_insert {T} {pack} {flat} {left} to {answer} {after} {r} {old} {new} is = subst (λ (l : List Access). Mutates pack flat left l answer after r old new) (four_parts pack flat to) is
+pub as_insert : {T : Type 0} {former : Former} {pack : ℕ} {flat left : Flat} (to : ℕ) {answer : Slots → T} {after : Slots → Slots} {r : Result T OpErr} {old new : World}
+    → Mutates former pack flat left (make_script pack (moved flat to) ++ (place_script pack flat to ++ former_script former flat.region)) answer after r old new → Mutates former pack flat left (insert_script former pack flat to) answer after r old new
+as_insert {T} {former} {pack} {flat} {left} to {answer} {after} {r} {old} {new} is = subst (λ (l : List Access). Mutates former pack flat left l answer after r old new) (four_parts former pack flat to) is
+
+pub as_rewrite : {T : Type 0} {former : Former} {pack : ℕ} {flat left : Flat} (to : ℕ) {answer : Slots → T} {after : Slots → Slots} {r : Result T OpErr} {old new : World}
+    → Mutates former pack flat left (make_script pack (moved flat to) ++ (copy_script pack flat to ++ former_script former flat.region)) answer after r old new → Mutates former pack flat left (rewrite_script former pack flat to) answer after r old new
+as_rewrite {T} {former} {pack} {flat} {left} to {answer} {after} {r} {old} {new} is = subst (λ (l : List Access). Mutates former pack flat left l answer after r old new) (three_parts former pack flat to) is

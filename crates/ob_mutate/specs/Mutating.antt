@@ -1,14 +1,15 @@
 -- What INSERT, UPDATE and DELETE do to a table.
-use Rattle.std.specs.Prelude.{◌≡◌, ◌⊎◌, ◌*◌, ◌++◌, ℕ, IsTrue, List, None, Result, OnOk, OnErr, IfErr, MatchResult, map, count_by}
+use Rattle.std.specs.Prelude.{◌≡◌, ◌⊎◌, ◌*◌, ◌++◌, ℕ, IsTrue, List, [], None, ⊤, Result, OnOk, OnErr, IfErr, MatchResult, map, count_by}
 use Rattle.std.specs.Option.{option_map}
 use Rattle.ob_base.specs.declared.access.Access.{Access}
 use Rattle.ob_base.specs.Accesses.{discard_at}
 use Rattle.ob_base.specs.Schemas.{width}
 use Rattle.ob_script.specs.Parts.{count_part, copy_part, insert_part, rewrite_part}
+use Rattle.ob_script.specs.Saved.{insert_kept, rewrite_kept}
 use Rattle.ob_vault.specs.declared.region.Order.TheVariants.{Round}
 use Rattle.ob_vault.specs.State.{World}
 use Rattle.ob_vault.specs.Tied.{Lives}
-use Rattle.ob_vault.specs.Calls.{Went, one, two}
+use Rattle.ob_vault.specs.Calls.{Went, none, one, two}
 use Rattle.ob_vault.specs.Words.{IsHonest, SealsAll}
 use Rattle.ob_row.specs.declared.cell.Cell.{Cell}
 use Rattle.ob_row.specs.Condition.{Condition}
@@ -23,6 +24,8 @@ use Rattle.ob_flat.specs.Passes.{PassCut}
 use Rattle.ob_flat.specs.Words.{PassRan, TamperedIn, SealsTable, NoMemoryBehind, blocks_of, moved}
 use Rattle.ob_flat.specs.Creates.{make_script}
 use Rattle.ob_mutate.specs.declared.inserting.Inserted.{Inserted}
+use Rattle.ob_mutate.specs.declared.settling.Former.{Former}
+use Rattle.ob_mutate.specs.declared.settling.Former.TheVariants.{Discard, Keep}
 use Rattle.ob_mutate.specs.Inserting.{insert_answer}
 use Rattle.ob_mutate.specs.Batches.{answered, insert_answers, inserted_all, inserted_one}
 
@@ -33,14 +36,38 @@ copy_script pack flat to = copy_part flat.region to (blocks_of pack flat)
 abbrev pub place_script : ℕ → Flat → ℕ → List Access
 place_script pack flat to = count_part flat.region (blocks_of pack flat) ++ copy_script pack flat to
 
--- and to make that region before, and to discard the old one
-abbrev pub rewrite_script : ℕ → Flat → ℕ → List Access
-rewrite_script pack flat to =
+-- and to make that region before, and to discard the old one, where it isn't kept
+abbrev pub rewrite_script : Former → ℕ → Flat → ℕ → List Access
+rewrite_script Discard pack flat to =
     rewrite_part flat.region to (blocks_of pack flat) (pack * width flat.schema)
+rewrite_script Keep pack flat to =
+    rewrite_kept flat.region to (blocks_of pack flat) (pack * width flat.schema)
 
-abbrev pub insert_script : ℕ → Flat → ℕ → List Access
-insert_script pack flat to =
+abbrev pub insert_script : Former → ℕ → Flat → ℕ → List Access
+insert_script Discard pack flat to =
     insert_part flat.region to (blocks_of pack flat) (pack * width flat.schema)
+insert_script Keep pack flat to =
+    insert_kept flat.region to (blocks_of pack flat) (pack * width flat.schema)
+
+-- ---- the region that a table had
+-- what is asked for it, and what that changes
+abbrev pub former_script : Former → ℕ → List Access
+former_script Discard region = discard_at region
+former_script Keep region = []
+
+abbrev pub former_regions : Former → ℕ → ℕ → Type 0
+former_regions Discard region = one region
+former_regions Keep region = none
+
+-- that, and the fresh region
+abbrev pub changed_regions : Former → (region next : ℕ) → ℕ → Type 0
+changed_regions Discard region next = two region next
+changed_regions Keep region next = one next
+
+-- it is gone, unless it is kept
+abbrev pub IsFormer : Former → (region : ℕ) → World → Type 0
+IsFormer Discard region w = w.vault.revs.live region ≡ None
+IsFormer Keep region w = ⊤
 
 -- a fresh region was filled with the changed slots of a table
 pub record FillsFresh {T : Type 0} (pack : ℕ) (flat : Flat) (to : ℕ) (script : List Access)
@@ -56,23 +83,23 @@ pub record FillsFresh {T : Type 0} (pack : ℕ) (flat : Flat) (to : ℕ) (script
       (λ x. (x ≡ answer slots) × Represents pack (moved flat to) (after slots) new)
       (λ e. e ≡ Failed)
 
--- a region is gone, whatever the store answered to that
-pub record IsDropped (region : ℕ) (old new : World) : Type 0 where
-  pub went : Went (discard_at region) (one region) old new
-  pub gone : new.vault.revs.live region ≡ None
+-- a region is gone, whatever the store answered to that, or nothing was asked
+pub record LeavesFormer (former : Former) (region : ℕ) (old new : World) : Type 0 where
+  pub went : Went (former_script former region) (former_regions former region) old new
+  pub gone : IsFormer former region new
   pub seals : SealsAll old new
 
--- a table has a fresh region, with its changed slots, and its old one is gone; or it is as it was,
+-- a table has a fresh region, with its changed slots, and its old one is gone, unless it is kept; or it is as it was,
 -- and the fresh region is gone
-pub record Mutates {T : Type 0} (pack : ℕ) (flat left : Flat) (script : List Access)
-    (answer : Slots → T) (after : Slots → Slots)
+pub record Mutates {T : Type 0} (former : Former) (pack : ℕ) (flat left : Flat)
+    (script : List Access) (answer : Slots → T) (after : Slots → Slots)
     (result : Result T OpErr) (old new : World) : Type 0 where
-  pub ok : OnOk result (Went script (two flat.region old.vault.next) old new)
+  pub ok : OnOk result (Went script (changed_regions former flat.region old.vault.next) old new)
   pub err : IfErr result (λ e. PassCut e script (one old.vault.next) old new)
   pub never : IfErr result (λ e. (e ≡ Failed) ⊎ (e ≡ NoMemory) ⊎ TamperedIn pack flat e new)
   pub memory : NoMemoryBehind (make_script pack (moved flat old.vault.next)) result old new
   pub gone : MatchResult result
-      (λ _. new.vault.revs.live flat.region ≡ None)
+      (λ _. IsFormer former flat.region new)
       (λ _. new.vault.revs.live old.vault.next ≡ None)
   pub seals : SealsTable pack flat.schema old.vault.next old new
   pub moves : OnOk result (left ≡ moved flat old.vault.next)
@@ -89,22 +116,24 @@ pub record Mutates {T : Type 0} (pack : ℕ) (flat left : Flat) (script : List A
       (λ e. ((e ≡ Failed) ⊎ (e ≡ NoMemory)) × Represents pack left slots new)
 
 -- the slots that are counted were changed
-abbrev pub Rewrites : ℕ → Flat → Flat → (Slots → ℕ) → (Slots → Slots)
+abbrev pub Rewrites : Former → ℕ → Flat → Flat → (Slots → ℕ) → (Slots → Slots)
     → Result ℕ OpErr → World → World → Type 0
-Rewrites pack flat left count after result old new =
-    Mutates pack flat left (rewrite_script pack flat old.vault.next) count after result old new
+Rewrites former pack flat left count after result old new =
+    Mutates former pack flat left (rewrite_script former pack flat old.vault.next) count after
+    result old new
 
 -- each row that makes the condition true has these cells
-abbrev pub Updates : ℕ → Flat → Flat → Condition → List (ℕ × Cell)
+abbrev pub Updates : Former → ℕ → Flat → Flat → Condition → List (ℕ × Cell)
     → Result ℕ OpErr → World → World → Type 0
-Updates pack flat left p sets result old new =
-    Rewrites pack flat left (λ slots. count_by (is_true p) (rows slots))
+Updates former pack flat left p sets result old new =
+    Rewrites former pack flat left (λ slots. count_by (is_true p) (rows slots))
     (map (option_map (updated p sets))) result old new
 
 -- or is gone
-abbrev pub Deletes : ℕ → Flat → Flat → Condition → Result ℕ OpErr → World → World → Type 0
-Deletes pack flat left p result old new =
-    Rewrites pack flat left (λ slots. count_by (is_true p) (rows slots))
+abbrev pub Deletes : Former → ℕ → Flat → Flat → Condition → Result ℕ OpErr → World → World
+    → Type 0
+Deletes former pack flat left p result old new =
+    Rewrites former pack flat left (λ slots. count_by (is_true p) (rows slots))
     (map (emptied (is_true p))) result old new
 
 -- what the slots become where a row is inserted
@@ -112,14 +141,16 @@ abbrev pub inserted_slots : Flat → Row → Slots → Slots
 inserted_slots flat cells slots = inserted_one flat.schema cells slots
 
 -- a row was inserted into the first empty slot, or refused
-abbrev pub Inserts : ℕ → Flat → Flat → Row → Result Inserted OpErr → World → World → Type 0
-Inserts pack flat left cells result old new =
-    Mutates pack flat left (insert_script pack flat old.vault.next)
+abbrev pub Inserts : Former → ℕ → Flat → Flat → Row → Result Inserted OpErr → World → World
+    → Type 0
+Inserts former pack flat left cells result old new =
+    Mutates former pack flat left (insert_script former pack flat old.vault.next)
     (insert_answer flat.schema cells) (inserted_slots flat cells) result old new
 
 -- rows were inserted one after the other, and the answers are theirs
-abbrev pub InsertsAll : {T : Type 0} → ℕ → Flat → Flat → List Row → List Inserted → Result T OpErr → World → World → Type 0
-InsertsAll pack flat left batch answers result old new =
-    Mutates pack flat left (insert_script pack flat old.vault.next)
+abbrev pub InsertsAll : {T : Type 0} → Former → ℕ → Flat → Flat → List Row → List Inserted
+    → Result T OpErr → World → World → Type 0
+InsertsAll former pack flat left batch answers result old new =
+    Mutates former pack flat left (insert_script former pack flat old.vault.next)
     (insert_answers flat.schema batch) (inserted_all flat.schema batch)
     (answered answers result) old new

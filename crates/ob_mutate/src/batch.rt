@@ -15,7 +15,7 @@ use crate::inserting::Inserted;
 use crate::noting::{Notes, Noting};
 use crate::putting::Puts;
 use crate::searching::key_place;
-use crate::settling::move_table;
+use crate::settling::{Former, move_table};
 use ob_base::{Items, NoMemory, Schema};
 use ob_flat::{Flat, OpErr, make_table, scan_blocks, swap_blocks};
 use ob_order::Order;
@@ -163,6 +163,7 @@ fn insert_rows<S: BlockStore, R: Revisions>(
     flat: &mut Flat,
     batch: &[Items<Cell>],
     out: &mut [Inserted],
+    former: Former,
 ) -> Result<(), OpErr>
     requires starts { MayStart (3 * blocks_of (length rows.old) flat.old + 2)
         (at R.state vault.old (S.state store.old)) }
@@ -174,7 +175,7 @@ fn insert_rows<S: BlockStore, R: Revisions>(
     ensures kept { SameSizes kept.old kept.new }
     ensures most { order.new.most ≡ order.old.most }
     ensures out { length out.new ≡ length out.old }
-    ensures inserts { InsertsAll (length rows.old) flat.old flat.new batch.now out.new result
+    ensures inserts { InsertsAll former (length rows.old) flat.old flat.new batch.now out.new result
         (at R.state vault.old (S.state store.old)) (at R.state vault.new (S.state store.new)) }
 {
     let pack = rows.len() as u32;
@@ -192,7 +193,7 @@ fn insert_rows<S: BlockStore, R: Revisions>(
                 store, vault, rows, kept, order, flat, fresh, batch, notes, out,
             ) {
                 Ok(()) => {
-                    move_table(store, vault, flat, fresh);
+                    move_table(store, vault, flat, fresh, former);
                     Ok(())
                 }
                 Err(e) => {
@@ -210,8 +211,8 @@ fn insert_rows<S: BlockStore, R: Revisions>(
 
 /// Inserts rows one after the other, as `insert` inserts each, in one pass. A fresh region is made; each
 /// block of the table is read, in order; then each is read again and written to the fresh region, with
-/// the rows that are taken in its first empty slots; the table has the fresh region, and its old one is
-/// discarded, whatever the store answers to that. So the accesses are those of one INSERT, whatever the
+/// the rows that are taken in its first empty slots; the table has the fresh region, and of its old one
+/// becomes what `former` says. So the accesses are those of one INSERT, whatever the
 /// number of rows.
 ///
 /// On `Ok` each row's answer stands at its place in `out`. `order` has room for a place of each row; the
@@ -229,6 +230,7 @@ pub fn insert_all<S: BlockStore, R: Revisions>(
     flat: &mut Flat,
     batch: &[Items<Cell>],
     out: &mut [Inserted],
+    former: Former,
 ) -> Result<(), OpErr>
     requires starts { MayStart (3 * blocks_of room.old.pack flat.old + 2)
         (at R.state vault.old (S.state store.old)) }
@@ -244,14 +246,16 @@ pub fn insert_all<S: BlockStore, R: Revisions>(
     ensures room { room.new ≡ record room.old {
       high = max room.old.high (room.old.pack + length batch.now);
     } }
-    ensures inserts { InsertsAll room.old.pack flat.old flat.new batch.now out.new result
+    ensures inserts { InsertsAll former room.old.pack flat.old flat.new batch.now out.new result
         (at R.state vault.old (S.state store.old)) (at R.state vault.new (S.state store.new)) }
 {
     let pack = room.pack();
     let _ = room.rows();
     let open = room.open(pack + batch.len() as u32);
     let (rows, kept) = open.split_at_mut(pack as usize);
-    let result = insert_rows(store, vault, rows, kept, alloc, order, flat, batch, out);
+    let result = insert_rows(
+        store, vault, rows, kept, alloc, order, flat, batch, out, former,
+    );
     room.clear_shelf();
     result
 }

@@ -8,6 +8,7 @@ ghost use Rattle.ob_flat.specs.Words.{blocks_of};
 ghost use Rattle.ob_mutate.specs.Mutating.{Deletes};
 
 use crate::rewriting::rewrite;
+use crate::settling::Former;
 use ob_base::Schema;
 use ob_flat::{Change, Flat, OpErr, clear_row};
 use ob_room::{ClearRow, Room};
@@ -50,8 +51,7 @@ impl<'a> Change for Wipe<'a> {
 
 /// Empties each slot of a table whose row makes the condition true, and answers how many rows did. A
 /// fresh region is made; each block of the table is read, in order, and written to the fresh region,
-/// changed or not; the table has the fresh region, and its old one is discarded, whatever the store
-/// answers to that.
+/// changed or not; the table has the fresh region, and of its old one becomes what `former` says.
 ///
 /// `Failed` where the store failed, `Tampered` with the place of a block that is not what was written
 /// there last, or that has a malformed row, and `NoMemory` before anything is written. After an error
@@ -62,6 +62,7 @@ pub fn delete<S: BlockStore, R: Revisions>(
     room: &mut Room,
     flat: &mut Flat,
     pred: &Pred,
+    former: Former,
 ) -> Result<u64, OpErr>
     requires starts { MayStart (2 * blocks_of room.old.pack flat.old + 2)
         (at R.state vault.old (S.state store.old)) }
@@ -69,8 +70,8 @@ pub fn delete<S: BlockStore, R: Revisions>(
     requires size { IsSized flat.old.schema flat.old.capacity }
     requires room { IsIdle (width flat.old.schema) room.old }
     ensures room { room.new ≡ record room.old { high = max room.old.high room.old.pack } }
-    ensures deletes { Deletes room.old.pack flat.old flat.new pred.now result
+    ensures deletes { Deletes former room.old.pack flat.old flat.new pred.now result
         (at R.state vault.old (S.state store.old)) (at R.state vault.new (S.state store.new)) }
 {
-    rewrite(store, vault, room, flat, &Wipe { pred })
+    rewrite(store, vault, room, flat, &Wipe { pred }, former)
 }

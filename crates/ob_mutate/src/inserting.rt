@@ -11,7 +11,7 @@ ghost use Rattle.ob_mutate.specs.Inserting.{insert_answer};
 ghost use Rattle.ob_mutate.specs.Mutating.{FillsFresh, Inserts, place_script, inserted_slots};
 
 use crate::searching::{Finds, Search, key_place};
-use crate::settling::move_table;
+use crate::settling::{Former, move_table};
 use ob_base::Schema;
 use ob_flat::{Change, Flat, OpErr, make_table, scan_blocks, swap_blocks};
 use ob_room::{ClearRow, Room};
@@ -127,6 +127,7 @@ fn insert_rows<S: BlockStore, R: Revisions>(
     rows: &mut [ClearRow],
     flat: &mut Flat,
     cells: &[Cell],
+    former: Former,
 ) -> Result<Inserted, OpErr>
     requires starts { MayStart (3 * blocks_of (length rows.old) flat.old + 2)
         (at R.state vault.old (S.state store.old)) }
@@ -134,7 +135,7 @@ fn insert_rows<S: BlockStore, R: Revisions>(
     requires fit { FitBlock flat.old.schema rows.old }
     requires cells { FitsColumns flat.old.schema cells.now }
     ensures rows { SameSizes rows.old rows.new }
-    ensures inserts { Inserts (length rows.old) flat.old flat.new cells.now result
+    ensures inserts { Inserts former (length rows.old) flat.old flat.new cells.now result
         (at R.state vault.old (S.state store.old)) (at R.state vault.new (S.state store.new)) }
 {
     let pack = rows.len() as u32;
@@ -148,7 +149,7 @@ fn insert_rows<S: BlockStore, R: Revisions>(
     )?;
     match insert_blocks(store, vault, rows, flat, fresh, cells) {
         Ok(answer) => {
-            move_table(store, vault, flat, fresh);
+            move_table(store, vault, flat, fresh, former);
             Ok(answer)
         }
         Err(e) => {
@@ -160,8 +161,8 @@ fn insert_rows<S: BlockStore, R: Revisions>(
 
 /// Inserts a row into the first empty slot of a table. A fresh region is made; each block of the table
 /// is read, in order; then each is read again and written to the fresh region, with the row in its slot,
-/// or as it was where the row is refused; the table has the fresh region, and its old one is discarded,
-/// whatever the store answers to that.
+/// or as it was where the row is refused; the table has the fresh region, and of its old one becomes what
+/// `former` says.
 ///
 /// `Failed` where the store failed, `Tampered` with the place of a block that is not what was written
 /// there last, or that has a malformed row, and `NoMemory` before anything is written. After an error
@@ -172,6 +173,7 @@ pub fn insert<S: BlockStore, R: Revisions>(
     room: &mut Room,
     flat: &mut Flat,
     cells: &[Cell],
+    former: Former,
 ) -> Result<Inserted, OpErr>
     requires starts { MayStart (3 * blocks_of room.old.pack flat.old + 2)
         (at R.state vault.old (S.state store.old)) }
@@ -180,12 +182,12 @@ pub fn insert<S: BlockStore, R: Revisions>(
     requires room { IsIdle (width flat.old.schema) room.old }
     requires cells { FitsColumns flat.old.schema cells.now }
     ensures room { room.new ≡ record room.old { high = max room.old.high room.old.pack } }
-    ensures inserts { Inserts room.old.pack flat.old flat.new cells.now result
+    ensures inserts { Inserts former room.old.pack flat.old flat.new cells.now result
         (at R.state vault.old (S.state store.old)) (at R.state vault.new (S.state store.new)) }
 {
     let pack = room.pack();
     let rows = room.open(pack);
-    let result = insert_rows(store, vault, rows, flat, cells);
+    let result = insert_rows(store, vault, rows, flat, cells, former);
     room.clear_shelf();
     result
 }

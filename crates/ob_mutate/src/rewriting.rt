@@ -9,7 +9,7 @@ ghost use Rattle.ob_flat.specs.Flats.{IsSized, IsFlat};
 ghost use Rattle.ob_flat.specs.Words.{IsTable, FitBlock, blocks_of};
 ghost use Rattle.ob_mutate.specs.Mutating.{Rewrites};
 
-use crate::settling::move_table;
+use crate::settling::{Former, move_table};
 use ob_flat::{Change, Flat, OpErr, make_table, swap_blocks};
 use ob_room::{ClearRow, Room};
 use ob_store::BlockStore;
@@ -22,6 +22,7 @@ fn rewrite_rows<S: BlockStore, R: Revisions, C: Change>(
     rows: &mut [ClearRow],
     flat: &mut Flat,
     change: &C,
+    former: Former,
 ) -> Result<u64, OpErr>
     requires starts { MayStart (2 * blocks_of (length rows.old) flat.old + 2)
         (at R.state vault.old (S.state store.old)) }
@@ -30,7 +31,7 @@ fn rewrite_rows<S: BlockStore, R: Revisions, C: Change>(
     requires suits { C.Suits change.now flat.old.schema }
     requires past { (i : ℕ) → flat.old.capacity ≤ i → C.to change.now i None ≡ None }
     ensures rows { SameSizes rows.old rows.new }
-    ensures rewrites { Rewrites (length rows.old) flat.old flat.new
+    ensures rewrites { Rewrites former (length rows.old) flat.old flat.new
         (count_by (C.picks change.now)) (map_at (C.to change.now) 0) result
         (at R.state vault.old (S.state store.old)) (at R.state vault.new (S.state store.new)) }
 {
@@ -45,7 +46,7 @@ fn rewrite_rows<S: BlockStore, R: Revisions, C: Change>(
     )?;
     match swap_blocks(store, vault, rows, flat, fresh, change) {
         Ok(k) => {
-            move_table(store, vault, flat, fresh);
+            move_table(store, vault, flat, fresh, former);
             Ok(u64::from(k))
         }
         Err(e) => {
@@ -56,14 +57,15 @@ fn rewrite_rows<S: BlockStore, R: Revisions, C: Change>(
 }
 
 // Changes each slot of a table: a fresh region is made; each block of the table is read, in order, and
-// written to the fresh region, changed or not; the table has the fresh region, and its old one is
-// discarded, whatever the store answers to that. Answers how many slots were counted.
+// written to the fresh region, changed or not; the table has the fresh region, and of its old one
+// becomes what `former` says. Answers how many slots were counted.
 pub(crate) fn rewrite<S: BlockStore, R: Revisions, C: Change>(
     store: &mut S,
     vault: &mut Vault<R>,
     room: &mut Room,
     flat: &mut Flat,
     change: &C,
+    former: Former,
 ) -> Result<u64, OpErr>
     requires starts { MayStart (2 * blocks_of room.old.pack flat.old + 2)
         (at R.state vault.old (S.state store.old)) }
@@ -73,13 +75,13 @@ pub(crate) fn rewrite<S: BlockStore, R: Revisions, C: Change>(
     requires suits { C.Suits change.now flat.old.schema }
     requires past { (i : ℕ) → flat.old.capacity ≤ i → C.to change.now i None ≡ None }
     ensures room { room.new ≡ record room.old { high = max room.old.high room.old.pack } }
-    ensures rewrites { Rewrites room.old.pack flat.old flat.new
+    ensures rewrites { Rewrites former room.old.pack flat.old flat.new
         (count_by (C.picks change.now)) (map_at (C.to change.now) 0) result
         (at R.state vault.old (S.state store.old)) (at R.state vault.new (S.state store.new)) }
 {
     let pack = room.pack();
     let rows = room.open(pack);
-    let result = rewrite_rows(store, vault, rows, flat, change);
+    let result = rewrite_rows(store, vault, rows, flat, change, former);
     room.clear_shelf();
     result
 }

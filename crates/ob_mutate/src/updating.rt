@@ -10,6 +10,7 @@ ghost use Rattle.ob_mutate.specs.Mutating.{Updates};
 
 use crate::assigning::set_cells;
 use crate::rewriting::rewrite;
+use crate::settling::Former;
 use ob_base::Schema;
 use ob_flat::{Change, Flat, OpErr};
 use ob_room::{ClearRow, Room};
@@ -54,7 +55,7 @@ impl<'a> Change for Assign<'a> {
 /// Puts each of these cells, beside the place of its column, into each row of a table that makes the
 /// condition true, and answers how many rows did, those too that had these cells before. A fresh region
 /// is made; each block of the table is read, in order, and written to the fresh region, changed or not;
-/// the table has the fresh region, and its old one is discarded, whatever the store answers to that.
+/// the table has the fresh region, and of its old one becomes what `former` says.
 ///
 /// `Failed` where the store failed, `Tampered` with the place of a block that is not what was written
 /// there last, or that has a malformed row, and `NoMemory` before anything is written. After an error
@@ -66,6 +67,7 @@ pub fn update<S: BlockStore, R: Revisions>(
     flat: &mut Flat,
     pred: &Pred,
     sets: &[(u8, Cell)],
+    former: Former,
 ) -> Result<u64, OpErr>
     requires starts { MayStart (2 * blocks_of room.old.pack flat.old + 2)
         (at R.state vault.old (S.state store.old)) }
@@ -74,8 +76,8 @@ pub fn update<S: BlockStore, R: Revisions>(
     requires room { IsIdle (width flat.old.schema) room.old }
     requires sets { FitsSets flat.old.schema sets.now }
     ensures room { room.new ≡ record room.old { high = max room.old.high room.old.pack } }
-    ensures updates { Updates room.old.pack flat.old flat.new pred.now sets.now result
+    ensures updates { Updates former room.old.pack flat.old flat.new pred.now sets.now result
         (at R.state vault.old (S.state store.old)) (at R.state vault.new (S.state store.new)) }
 {
-    rewrite(store, vault, room, flat, &Assign { pred, sets })
+    rewrite(store, vault, room, flat, &Assign { pred, sets }, former)
 }

@@ -6,7 +6,7 @@ use crate::filling::make_room;
 use crate::schemas::cells_of;
 use ob_base::ComparisonOperator;
 use ob_flat::{Flat, OpErr, count};
-use ob_mutate::{Inserted, delete, insert, update};
+use ob_mutate::{Former, Inserted, delete, insert, update};
 use ob_room::Room;
 use ob_row::{Cell, Operand, Pred};
 use ob_store::BlockStore;
@@ -45,7 +45,14 @@ pub(crate) fn insert_one<S: BlockStore, R: Revisions>(
     make_room(store, 3 * u64::from(flat.capacity) + 2)?;
     match cells_of(alloc, &flat.schema, flat.capacity) {
         Ok(cells) => {
-            let inserted = insert(store, vault, room, flat, cells.as_slice())?;
+            let inserted = insert(
+                store,
+                vault,
+                room,
+                flat,
+                cells.as_slice(),
+                Former::Discard,
+            )?;
             Ok(u64::from(inserted == Inserted::Done))
         }
         Err(_) => Err(OpErr::NoMemory),
@@ -62,7 +69,15 @@ pub(crate) fn update_half<S: BlockStore, R: Revisions>(
     requires { MayRun room.old flat.old (at R.state vault.old (S.state store.old)) }
 {
     make_room(store, 2 * u64::from(flat.capacity) + 2)?;
-    update(store, vault, room, flat, &half(), &[(1, Cell::Int(16))])
+    update(
+        store,
+        vault,
+        room,
+        flat,
+        &half(),
+        &[(1, Cell::Int(16))],
+        Former::Discard,
+    )
 }
 
 /// Deletes half of the rows.
@@ -75,5 +90,5 @@ pub(crate) fn delete_half<S: BlockStore, R: Revisions>(
     requires { MayRun room.old flat.old (at R.state vault.old (S.state store.old)) }
 {
     make_room(store, 2 * u64::from(flat.capacity) + 2)?;
-    delete(store, vault, room, flat, &half())
+    delete(store, vault, room, flat, &half(), Former::Discard)
 }

@@ -8,7 +8,7 @@ use crate::room::make_room;
 use crate::stop::Stop;
 use crate::words::parted;
 use ob_flat::{Flat, count};
-use ob_mutate::{Inserted, delete, insert, update};
+use ob_mutate::{Former, Inserted, delete, insert, update};
 use ob_room::Room;
 use ob_store::BlockStore;
 use ob_vault::{Revisions, Vault};
@@ -49,18 +49,25 @@ pub(crate) fn step<S: BlockStore, R: Revisions>(
     match words.next() {
         Some("insert") => {
             let cells = cells_of(alloc, &flat.schema, &mut words)?;
-            let inserted = insert(store, vault, room, flat, cells.as_slice())?;
+            let inserted = insert(
+                store,
+                vault,
+                room,
+                flat,
+                cells.as_slice(),
+                Former::Discard,
+            )?;
             say_inserted(out, inserted)
         }
         Some("update") => {
             let Some(sets) = set_of(&flat.schema, &mut words) else {
                 return Err(Stop::Unread);
             };
-            let rows = update(store, vault, room, flat, &pred, &sets)?;
+            let rows = update(store, vault, room, flat, &pred, &sets, Former::Discard)?;
             say_rows(out, rows)
         }
         Some("delete") => {
-            let rows = delete(store, vault, room, flat, &pred)?;
+            let rows = delete(store, vault, room, flat, &pred, Former::Discard)?;
             say_rows(out, rows)
         }
         Some("count") => {

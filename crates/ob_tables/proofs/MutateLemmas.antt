@@ -33,6 +33,7 @@ use Rattle.ob_vault.specs.declared.region.Order.TheVariants.{Round}
 use Rattle.ob_flat.proofs.Resting.{represents_rests}
 use Rattle.ob_row.specs.Slots.{Slots}
 use Rattle.ob_mutate.specs.Mutating.{Mutates}
+use Rattle.ob_mutate.specs.declared.settling.Former.TheVariants.{Discard}
 use Rattle.ob_sql.specs.declared.stmt.Stmt.{Stmt}
 use Rattle.ob_sql.specs.Skeleton.{skeleton}
 use Rattle.ob_mean.specs.Refusals.{early_refusal, limits_of}
@@ -138,7 +139,7 @@ module _ {R T : Type 0} (state : R → RevState) (stmt : Stmt) (name : List ℕ)
       let less = beside_below old.public.pack old.public.tables (others_of old.closing old.indexes.items) w.stash _ agrees.ready agrees.tables (agrees.tables.stand k w get).beside in
       omega (arith, less, same)
 
-  changed : (y : T) → Mutates old.room.pack (flat_of table) left x answer after (Ok y) before done → old.ended ≡ false
+  changed : (y : T) → Mutates Discard old.room.pack (flat_of table) left x answer after (Ok y) before done → old.ended ≡ false
       → ServesSilently state stmt (Ok (outcome y)) old s (engine_after old v room (slice_set old.public.tables i moved_table) Whole old.ended) t
   changed y mutates lives =
       let r = table.region in
@@ -182,7 +183,7 @@ module _ {R T : Type 0} (state : R → RevState) (stmt : Stmt) (name : List ℕ)
             (subst (λ (ts : List Table). AreHeld old.public.pack old.indexes.items ts (changed_at name (in_slots meant.to) tables) done) (sym set) moved_are),
       ))
 
-  unchanged : (e : OpErr) (n : ℕ) → Mutates old.room.pack (flat_of table) left x answer after (Err e) before done → n ≡ length t.asked - length s.asked
+  unchanged : (e : OpErr) (n : ℕ) → Mutates Discard old.room.pack (flat_of table) left x answer after (Err e) before done → n ≡ length t.asked - length s.asked
       → ServesSilently state stmt (answer_of e) old s (engine_after old v room old.public.tables (Cut n) (is_stop (answer_of e))) t
   unchanged e n mutates count =
       cut_off state stmt old s agrees now alters.plain none alters.makes_none s1 v room t rests room_is x _ _ _ n e script_is (alters.makes _ _ _ _) mutates.err count mutates.gone
@@ -191,19 +192,19 @@ module _ {R T : Type 0} (state : R → RevState) (stmt : Stmt) (name : List ℕ)
       (λ good accepts. mutates.seals.seals good (accepts _ _))
 
   -- the table was changed
-  pub mutated : (y : T) (new : Engine R) (result : Result Outcome RunStop) → Mutates old.room.pack flat left (asks flat) answer after (Ok y) before done → old.ended ≡ false
+  pub mutated : (y : T) (new : Engine R) (result : Result Outcome RunStop) → Mutates Discard old.room.pack flat left (asks flat) answer after (Ok y) before done → old.ended ≡ false
       → result ≡ Ok (outcome y) → new ≡ engine_after old v room (slice_set old.public.tables i (record table { region = left.region })) Whole old.ended
       → ServesSilently state stmt result old s new t
   mutated y new result mutates lives answered is =
-      let all = subst (λ (f : Flat). Mutates old.room.pack f left (asks f) answer after (Ok y) before done) flat_is mutates in
+      let all = subst (λ (f : Flat). Mutates Discard old.room.pack f left (asks f) answer after (Ok y) before done) flat_is mutates in
       let region : left.region ≡ g = ap (λ (f : Flat). f.region) all.moves in
       serves_as state stmt old s t _ _ _ _ answered
       (is ∙ ap (λ (n : ℕ). engine_after old v room (slice_set old.public.tables i (record table { region = n })) Whole old.ended) region) (changed y all lives)
 
   -- it was not
-  pub unmutated : (e : OpErr) (n : ℕ) (new : Engine R) (result : Result Outcome RunStop) → Mutates old.room.pack flat left (asks flat) answer after (Err e) before done
+  pub unmutated : (e : OpErr) (n : ℕ) (new : Engine R) (result : Result Outcome RunStop) → Mutates Discard old.room.pack flat left (asks flat) answer after (Err e) before done
       → n ≡ length t.asked - length s.asked → result ≡ answer_of e → new ≡ engine_after old v room old.public.tables (Cut n) (is_stop (answer_of e))
       → ServesSilently state stmt result old s new t
   unmutated e n new result mutates count answered is =
       serves_as state stmt old s t _ _ _ _ answered is
-      (unchanged e n (subst (λ (f : Flat). Mutates old.room.pack f left (asks f) answer after (Err e) before done) flat_is mutates) count)
+      (unchanged e n (subst (λ (f : Flat). Mutates Discard old.room.pack f left (asks f) answer after (Err e) before done) flat_is mutates) count)

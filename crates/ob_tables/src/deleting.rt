@@ -12,6 +12,7 @@ use crate::stop::RunStop;
 use ob_base::Name;
 use ob_flat::OpErr;
 use ob_mean::where_at;
+use ob_mutate::Former;
 use ob_sql::Cond;
 use ob_store::BlockStore;
 use ob_vault::Revisions;
@@ -43,7 +44,14 @@ impl<R: Revisions> Engine<R> {
         if self.make_room(store, &flat, 2).is_err() {
             return self.cut(0, OpErr::NoMemory);
         }
-        match ob_mutate::delete(store, &mut self.vault, &mut self.room, &mut flat, &pred) {
+        match ob_mutate::delete(
+            store,
+            &mut self.vault,
+            &mut self.room,
+            &mut flat,
+            &pred,
+            Former::Discard,
+        ) {
             Ok(deleted) => {
                 self.move_table(i, flat.region);
                 Ok(self.finish(Outcome::Deleted(deleted)))

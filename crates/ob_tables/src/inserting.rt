@@ -13,7 +13,7 @@ use crate::stop::RunStop;
 use ob_base::{Items, Name, Refusal};
 use ob_flat::OpErr;
 use ob_mean::new_row;
-use ob_mutate::Inserted;
+use ob_mutate::{Former, Inserted};
 use ob_sql::Literal;
 use ob_store::BlockStore;
 use ob_vault::Revisions;
@@ -61,6 +61,7 @@ impl<R: Revisions> Engine<R> {
             &mut self.room,
             &mut flat,
             cells.as_slice(),
+            Former::Discard,
         );
         let accesses = store.count() - before;
         match result {

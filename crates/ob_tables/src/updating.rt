@@ -15,6 +15,7 @@ use crate::stop::RunStop;
 use ob_base::{Column, Name, NoMemory};
 use ob_flat::OpErr;
 use ob_mean::{set_cell, where_at};
+use ob_mutate::Former;
 use ob_row::Cell;
 use ob_sql::{Cond, Set};
 use ob_store::BlockStore;
@@ -74,6 +75,7 @@ impl<R: Revisions> Engine<R> {
             &mut flat,
             &pred,
             cells.as_slice(),
+            Former::Discard,
         ) {
             Ok(changed) => {
                 self.move_table(i, flat.region);

@@ -30,7 +30,7 @@ returns-in_err-fresh-clause-inserts g c =
     let flat = c.args.flat.now in
     let cells = c.args.cells.now in
     let next = c.args.vault.now.next in
-    let all = mutates_none pack flat (place_script pack flat next) (insert_answer flat.schema cells) (inserted_slots flat cells) _ c.requires.starts.ready c.requires.table _ _ c.in_err-fresh.ensures.makes in
+    let all = mutates_none c.args.former pack flat (place_script pack flat next) (insert_answer flat.schema cells) (inserted_slots flat cells) _ c.requires.starts.ready c.requires.table _ _ c.in_err-fresh.ensures.makes in
     rw (p.1, p.2) (as_insert next all)
 
 pub insert_blocks-requires : goal.insert_blocks-requires
@@ -43,8 +43,8 @@ insert_blocks-requires g c =
     let fill = place_script pack flat c.args.vault.now.next in
     let off = lives_apart _ _ _ ready c.requires.table.written.made.lives in
     record {
-      asks = fill_asks pack flat fill (insert_answer flat.schema cells) (inserted_slots flat cells) _ ready c.requires.table _ makes (3 * blocks_of pack flat) c.requires.starts (omega arith);
-      table = table_stands pack flat fill (insert_answer flat.schema cells) (inserted_slots flat cells) _ ready c.requires.table _ makes;
+      asks = fill_asks c.args.former pack flat fill (insert_answer flat.schema cells) (inserted_slots flat cells) _ ready c.requires.table _ makes (3 * blocks_of pack flat) c.requires.starts (omega arith);
+      table = table_stands c.args.former pack flat fill (insert_answer flat.schema cells) (inserted_slots flat cells) _ ready c.requires.table _ makes;
       made = rw makes.number makes.made;
       apart = λ same. off (same ∙ makes.number);
       fit = c.requires.fit;
@@ -62,7 +62,7 @@ move_table-requires g c =
     let off = lives_apart _ _ _ ready c.requires.table.written.made.lives in
     let fills = rw makes.number at c.in-Ok.ensures.fills in
     record {
-      spare = drop_spare pack flat (place_script pack flat next) (insert_answer flat.schema cells) (inserted_slots flat cells) _ ready c.requires.table _ makes (3 * blocks_of pack flat) _ c.requires.starts (places pack flat next) fills.ran.ok;
+      spare = drop_spare c.args.former pack flat (place_script pack flat next) (insert_answer flat.schema cells) (inserted_slots flat cells) _ ready c.requires.table _ makes (3 * blocks_of pack flat) _ c.requires.starts (places pack flat next) fills.ran.ok;
       lives = (_, lives_went _ _ _ _ _ _ fills.ran.ok off (lives_went _ _ _ _ _ _ makes.ran.ok off c.requires.table.written.made.lives));
     }
 
@@ -77,7 +77,7 @@ returns-in-Ok-clause-inserts g c =
     let next = c.args.vault.now.next in
     let makes = c.in_ok-fresh.ensures.makes in
     let fills = rw makes.number at c.in-Ok.ensures.fills in
-    let all = mutates_ok pack flat (place_script pack flat next) (insert_answer flat.schema cells) (inserted_slots flat cells) _ c.requires.starts.ready c.requires.table _ makes _ _ _ fills c.move_table.ensures.dropped in
+    let all = mutates_ok c.args.former pack flat (place_script pack flat next) (insert_answer flat.schema cells) (inserted_slots flat cells) _ c.requires.starts.ready c.requires.table _ makes _ _ _ fills c.move_table.ensures.leaves in
     rw (c.move_table.ensures.flat, makes.number) (as_insert next all)
 
 pub returns-in-Err-clause-rows : goal.returns-in-Err-clause-rows
@@ -94,5 +94,5 @@ returns-in-Err-clause-inserts g c =
     let forgets = c.forget.ensures.forgets (g.S.BlockStore.state c.insert_blocks.new.store) in
     let forgot = rw makes.number at forgets.went fills.ran.err.lasts.ready in
     let gone = rw makes.number at forgets.gone in
-    let all = mutates_err pack flat (place_script pack flat next) (insert_answer flat.schema cells) (inserted_slots flat cells) _ c.requires.starts.ready c.requires.table _ makes _ _ _ fills forgot refl forgets.seals gone in
+    let all = mutates_err c.args.former pack flat (place_script pack flat next) (insert_answer flat.schema cells) (inserted_slots flat cells) _ c.requires.starts.ready c.requires.table _ makes _ _ _ fills forgot refl forgets.seals gone in
     as_insert next all

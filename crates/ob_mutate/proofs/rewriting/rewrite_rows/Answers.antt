@@ -6,7 +6,7 @@ use Rattle.ob_flat.specs.Words.{blocks_of}
 use Rattle.ob_flat.proofs.Rooms.{same_rows}
 use Rattle.ob_flat.proofs.Tables.{copies, fits_sized}
 use Rattle.ob_mutate.specs.Mutating.{copy_script}
-use Rattle.ob_mutate.proofs.Moving.{mutates_none, mutates_ok, mutates_err, fill_asks, drop_spare, table_stands, fills_swapped}
+use Rattle.ob_mutate.proofs.Moving.{as_rewrite, mutates_none, mutates_ok, mutates_err, fill_asks, drop_spare, table_stands, fills_swapped}
 use Rattle.ob_mutate.proofs.rewriting.rewrite_rows.Goals as goal
 
 pub make_table-requires : goal.make_table-requires
@@ -29,7 +29,7 @@ returns-in_err-fresh-clause-rewrites g c =
     let pack = length c.args.rows.now in
     let flat = c.args.flat.now in
     let change = c.args.change.now in
-    rw (p.1, p.2) (mutates_none pack flat (copy_script pack flat c.args.vault.now.next) (count_by (g.C.Change.picks change)) (map_at (g.C.Change.to change) 0) _ c.requires.starts.ready c.requires.table _ _ c.in_err-fresh.ensures.makes)
+    rw (p.1, p.2) (as_rewrite c.args.vault.now.next (mutates_none c.args.former pack flat (copy_script pack flat c.args.vault.now.next) (count_by (g.C.Change.picks change)) (map_at (g.C.Change.to change) 0) _ c.requires.starts.ready c.requires.table _ _ c.in_err-fresh.ensures.makes))
 
 pub swap_blocks-requires : goal.swap_blocks-requires
 swap_blocks-requires g c =
@@ -41,8 +41,8 @@ swap_blocks-requires g c =
     let fill = copy_script pack flat c.args.vault.now.next in
     let off = lives_apart _ _ _ ready c.requires.table.written.made.lives in
     record {
-      asks = fill_asks pack flat fill (count_by (g.C.Change.picks change)) (map_at (g.C.Change.to change) 0) _ ready c.requires.table _ makes (2 * blocks_of pack flat) c.requires.starts (omega arith);
-      table = table_stands pack flat fill (count_by (g.C.Change.picks change)) (map_at (g.C.Change.to change) 0) _ ready c.requires.table _ makes;
+      asks = fill_asks c.args.former pack flat fill (count_by (g.C.Change.picks change)) (map_at (g.C.Change.to change) 0) _ ready c.requires.table _ makes (2 * blocks_of pack flat) c.requires.starts (omega arith);
+      table = table_stands c.args.former pack flat fill (count_by (g.C.Change.picks change)) (map_at (g.C.Change.to change) 0) _ ready c.requires.table _ makes;
       made = rw makes.number makes.made;
       apart = λ same. off (same ∙ makes.number);
       fit = c.requires.fit;
@@ -62,7 +62,7 @@ move_table-requires g c =
     let off = lives_apart _ _ _ ready c.requires.table.written.made.lives in
     let swaps = rw makes.number at c.in-Ok.ensures.swaps in
     record {
-      spare = drop_spare pack flat fill (count_by (g.C.Change.picks change)) (map_at (g.C.Change.to change) 0) _ ready c.requires.table _ makes (2 * blocks_of pack flat) _ c.requires.starts
+      spare = drop_spare c.args.former pack flat fill (count_by (g.C.Change.picks change)) (map_at (g.C.Change.to change) 0) _ ready c.requires.table _ makes (2 * blocks_of pack flat) _ c.requires.starts
           (omega (arith, copies flat.region next (blocks_of pack flat))) swaps.ran.ok;
       lives = (_, lives_went _ _ _ _ _ _ swaps.ran.ok off (lives_went _ _ _ _ _ _ makes.ran.ok off c.requires.table.written.made.lives));
     }
@@ -77,8 +77,8 @@ returns-in-Ok-clause-rewrites g c =
     let makes = c.in_ok-fresh.ensures.makes in
     let swaps = rw makes.number at c.in-Ok.ensures.swaps in
     let change = c.args.change.now in
-    rw (c.from.ensures, c.move_table.ensures.flat, makes.number) (mutates_ok pack flat (copy_script pack flat c.args.vault.now.next) (count_by (g.C.Change.picks change)) (map_at (g.C.Change.to change) 0) _ c.requires.starts.ready c.requires.table
-    _ makes _ _ _ (fills_swapped pack flat _ _ _ _ _ _ swaps) c.move_table.ensures.dropped)
+    rw (c.from.ensures, c.move_table.ensures.flat, makes.number) (as_rewrite c.args.vault.now.next (mutates_ok c.args.former pack flat (copy_script pack flat c.args.vault.now.next) (count_by (g.C.Change.picks change)) (map_at (g.C.Change.to change) 0) _ c.requires.starts.ready c.requires.table
+    _ makes _ _ _ (fills_swapped pack flat _ _ _ _ _ _ swaps) c.move_table.ensures.leaves))
 
 pub returns-in-Err-clause-rows : goal.returns-in-Err-clause-rows
 returns-in-Err-clause-rows g c = c.swap_blocks.ensures.rows
@@ -93,5 +93,5 @@ returns-in-Err-clause-rewrites g c =
     let forgot = rw makes.number at forgets.went swaps.ran.err.lasts.ready in
     let gone = rw makes.number at forgets.gone in
     let change = c.args.change.now in
-    mutates_err pack flat (copy_script pack flat c.args.vault.now.next) (count_by (g.C.Change.picks change)) (map_at (g.C.Change.to change) 0) _ c.requires.starts.ready c.requires.table
-    _ makes _ _ _ (fills_swapped pack flat _ _ _ _ _ _ swaps) forgot refl forgets.seals gone
+    as_rewrite c.args.vault.now.next (mutates_err c.args.former pack flat (copy_script pack flat c.args.vault.now.next) (count_by (g.C.Change.picks change)) (map_at (g.C.Change.to change) 0) _ c.requires.starts.ready c.requires.table
+    _ makes _ _ _ (fills_swapped pack flat _ _ _ _ _ _ swaps) forgot refl forgets.seals gone)
