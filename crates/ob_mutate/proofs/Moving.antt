@@ -9,7 +9,7 @@ use Rattle.ob_script.specs.Parts.{count_part}
 use Rattle.ob_vault.specs.declared.region.Order.TheVariants.{Round}
 use Rattle.ob_vault.specs.State.{World}
 use Rattle.ob_vault.specs.Tied.{Ready}
-use Rattle.ob_vault.specs.Calls.{Went, Seals, one}
+use Rattle.ob_vault.specs.Calls.{Lasts, Went, Seals, one, two}
 use Rattle.ob_vault.specs.Words.{MayAsk, MayStart}
 use Rattle.ob_vault.proofs.Runs.{went_join, went_none, went_wider, lives_apart, lives_went, shape_lasts, tells_went}
 use Rattle.ob_vault.proofs.WordLemmas.{asks_start, asks_after, honest_before, honest_after, honest_same}
@@ -30,7 +30,7 @@ use Rattle.ob_flat.proofs.WordLemmas.{cut_forgot, ran_more, seals_any, seals_aft
 use Rattle.ob_mutate.proofs.Counted.{match_ok}
 use Rattle.ob_mutate.specs.declared.settling.Former.{Former}
 use Rattle.ob_mutate.specs.declared.settling.Former.TheVariants.{Discard, Keep}
-use Rattle.ob_mutate.specs.Mutating.{FillsFresh, LeavesFormer, Mutates, changed_regions, copy_script, former_regions, former_script, insert_script, place_script, rewrite_script}
+use Rattle.ob_mutate.specs.Mutating.{FillsFresh, LeavesFormer, Mutates, StaysFormer, StaysStored, copy_script, former_script, insert_script, place_script, rewrite_script}
 
 -- what is asked where a row is inserted
 pub places : (pack : ℕ) (flat : Flat) (to : ℕ) → length (place_script pack flat to) ≤ 3 * blocks_of pack flat
@@ -44,22 +44,25 @@ three_parts : (former : Former) (pack : ℕ) (flat : Flat) (to : ℕ) → make_s
 three_parts Discard pack flat to = refl
 three_parts Keep pack flat to = ap (λ (l : List Access). make_script pack (moved flat to) ++ l) (append-nil (copy_script pack flat to))
 
--- ---- the regions that are changed
 length-former_script : (former : Former) (region : ℕ) → length (former_script former region) ≤ 1
 length-former_script Discard region = omega arith
 length-former_script Keep region = omega arith
 
-next_in : (former : Former) (region next q : ℕ) → one next q → changed_regions former region next q
-next_in Discard region next q same = inr same
-next_in Keep region next q same = same
+-- what stays in the store while other regions change
+stays_stored : (some : ℕ → Type 0) (region : ℕ) (a b : World) → Lasts some a b → (some region → ⊥) → StaysStored region a.store b.store
+stays_stored some region a b lasts off = record {
+  live = lasts.apart.kept region off;
+  last = λ x. lasts.apart.last region x off;
+  kept = lasts.apart.rests region off;
+}
 
-former_in : (former : Former) (region next q : ℕ) → former_regions former region q → changed_regions former region next q
-former_in Discard region next q same = inl same
-former_in Keep region next q same = absurd same
-
-former_off : (former : Former) (region next : ℕ) → (next ≡ region → ⊥) → former_regions former region next → ⊥
-former_off Discard region next off same = off same
-former_off Keep region next off same = same
+stays_on : (former : Former) (region : ℕ) (a b c : StoreState) → StaysStored region a b → StaysFormer former region b c → StaysFormer former region a c
+stays_on Discard region a b c first second = tt
+stays_on Keep region a b c first second = record {
+  live = second.live ∙ first.live;
+  last = λ x. second.last x ∙ first.last x;
+  kept = second.kept ∙ first.kept;
+}
 
 -- a pass over its blocks filled a fresh region
 pub fills_swapped : (pack : ℕ) (flat : Flat) (to : ℕ) (picks : Option Row → Bool) (f : ℕ → Option Row → Option Row) (r : Result ℕ OpErr) (old new : World)
@@ -86,6 +89,7 @@ module _ {T : Type 0} (former : Former) (pack : ℕ) (flat : Flat) (fill : List 
         never = elim makes.never [ inl failed ↦ inl failed | inr none ↦ inr (inl none) ];
         memory = record { did = λ is. makes.memory.did (cc is) };
         gone = makes.gone;
+        stays = tt;
         seals = seals_any makes.seals.seals;
         moves = tt;
         same = refl;
@@ -102,31 +106,30 @@ module _ {T : Type 0} (former : Former) (pack : ℕ) (flat : Flat) (fill : List 
     mutates_ok x late new fills leaves =
         let next = old.vault.next in
         let fresh = moved flat next in
-        let some = changed_regions former flat.region next in
-        let was = former_regions former flat.region in
-        let there = next_in former flat.region next in
-        let here = former_in former flat.region next in
+        let both = two flat.region next in
         let made = makes.ran.ok in
         let filled = fills.ran.ok in
-        let away : was next → ⊥ = former_off former flat.region next (λ same. off (sym same)) in
+        let away : next ≡ flat.region → ⊥ = λ same. off (sym same) in
         let shape = table_region Round pack flat.schema flat.capacity in
         record {
-          ok = went_join some _ _ _ (make_script pack fresh) (fill ++ former_script former flat.region) (went_wider (one next) _ _ some there _ made)
-              (went_join some _ _ _ fill (former_script former flat.region) (went_wider (one next) _ _ some there _ filled) (went_wider was _ _ some here _ leaves.went));
+          ok = went_join both _ _ _ (make_script pack fresh) (fill ++ former_script former flat.region) (went_wider (one next) _ _ both (λ r s. inr s) _ made)
+              (went_join both _ _ _ fill (former_script former flat.region) (went_wider (one next) _ _ both (λ r s. inr s) _ filled) (went_wider (one flat.region) _ _ both (λ r s. inl s) _ leaves.went));
           err = tt;
           never = tt;
           memory = record { did = λ is. absurd (cc is) };
           gone = leaves.gone;
+          stays = stays_on former flat.region _ _ _ (stays_stored (one next) flat.region _ _ made.lasts off)
+              (stays_on former flat.region _ _ _ (stays_stored (one next) flat.region _ _ filled.lasts off) leaves.stays);
           seals = seals_after made.lasts (seals_any makes.seals.seals) (seals_after filled.lasts fills.seals (seals_any leaves.seals.seals));
           moves = refl;
           same = tt;
           lives = lives_went _ _ _ _ next shape leaves.went away (shape_lasts (one next) _ _ next shape _ made.lasts.ready filled.lasts makes.lives fills.table.made.lives);
-          table = flat_lasts pack fresh was _ _ leaves.went.lasts away fills.table;
-          holds = λ tells. rows_lasts pack fresh was _ _ leaves.went.lasts away (fills.holds (tells_went _ _ _ _ made tells));
+          table = flat_lasts pack fresh (one flat.region) _ _ leaves.went.lasts away fills.table;
+          holds = λ tells. rows_lasts pack fresh (one flat.region) _ _ leaves.went.lasts away (fills.holds (tells_went _ _ _ _ made tells));
           told = λ honest slots is.
               let there = represents_lasts pack flat (one next) _ _ made.lasts off slots is in
               let done = fills.told (honest_after made (honest_before leaves.went.lasts honest)) slots there in
-              (done.0, represents_lasts pack fresh was _ _ leaves.went.lasts away (after slots) done.1);
+              (done.0, represents_lasts pack fresh (one flat.region) _ _ leaves.went.lasts away (after slots) done.1);
         }
 
     -- or was cut, and is forgotten
@@ -143,6 +146,7 @@ module _ {T : Type 0} (former : Former) (pack : ℕ) (flat : Flat) (fill : List 
           never = elim fills.never [ inl failed ↦ inl failed | inr there ↦ inr (inr (tampered_after forgot same there)) ];
           memory = record { did = λ is. elim fills.never [ inl failed ↦ not_memory failed is | inr there ↦ absurd (cc (is, there.is)) ] };
           gone = gone;
+          stays = tt;
           seals = seals_after makes.ran.ok.lasts (seals_any makes.seals.seals) (seals_after fills.ran.err.lasts fills.seals (seals_any sealed));
           moves = tt;
           same = refl;
@@ -176,6 +180,7 @@ module _ {T : Type 0} (former : Former) (pack : ℕ) (flat : Flat) (fill : List 
           never = inr (inl refl);
           memory = record { did = λ is. subst (λ (s : StoreState). Did (make_script pack fresh) old.store s) (sym same) made.did };
           gone = gone;
+          stays = tt;
           seals = seals_after made.lasts (seals_any makes.seals.seals) (seals_any sealed);
           moves = tt;
           same = refl;
@@ -209,6 +214,7 @@ rewrites_as {T} {former} {pack} {flat} {left} {script} {answer} {other} {after} 
   never = is.never;
   memory = is.memory;
   gone = is.gone;
+  stays = is.stays;
   seals = is.seals;
   moves = is.moves;
   same = is.same;

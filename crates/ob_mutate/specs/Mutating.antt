@@ -7,9 +7,10 @@ use Rattle.ob_base.specs.Schemas.{width}
 use Rattle.ob_script.specs.Parts.{count_part, copy_part, insert_part, rewrite_part}
 use Rattle.ob_script.specs.Saved.{insert_kept, rewrite_kept}
 use Rattle.ob_vault.specs.declared.region.Order.TheVariants.{Round}
+use Rattle.ob_store.specs.State.{StoreState}
 use Rattle.ob_vault.specs.State.{World}
 use Rattle.ob_vault.specs.Tied.{Lives}
-use Rattle.ob_vault.specs.Calls.{Went, none, one, two}
+use Rattle.ob_vault.specs.Calls.{Went, one, two}
 use Rattle.ob_vault.specs.Words.{IsHonest, SealsAll}
 use Rattle.ob_row.specs.declared.cell.Cell.{Cell}
 use Rattle.ob_row.specs.Condition.{Condition}
@@ -50,24 +51,21 @@ insert_script Keep pack flat to =
     insert_kept flat.region to (blocks_of pack flat) (pack * width flat.schema)
 
 -- ---- the region that a table had
--- what is asked for it, and what that changes
+-- what is asked for it
 abbrev pub former_script : Former → ℕ → List Access
 former_script Discard region = discard_at region
 former_script Keep region = []
 
-abbrev pub former_regions : Former → ℕ → ℕ → Type 0
-former_regions Discard region = one region
-former_regions Keep region = none
+-- it lies in the store as it did
+pub record StaysStored (region : ℕ) (old new : StoreState) : Type 0 where
+  pub live : new.live region ≡ old.live region
+  pub last : (x : ℕ) → new.last region x ≡ old.last region x
+  pub kept : new.kept region ≡ old.kept region
 
--- that, and the fresh region
-abbrev pub changed_regions : Former → (region next : ℕ) → ℕ → Type 0
-changed_regions Discard region next = two region next
-changed_regions Keep region next = one next
-
--- it is gone, unless it is kept
-abbrev pub IsFormer : Former → (region : ℕ) → World → Type 0
-IsFormer Discard region w = w.vault.revs.live region ≡ None
-IsFormer Keep region w = ⊤
+-- where it is kept
+abbrev pub StaysFormer : Former → (region : ℕ) → (old new : StoreState) → Type 0
+StaysFormer Discard region old new = ⊤
+StaysFormer Keep region old new = StaysStored region old new
 
 -- a fresh region was filled with the changed slots of a table
 pub record FillsFresh {T : Type 0} (pack : ℕ) (flat : Flat) (to : ℕ) (script : List Access)
@@ -83,24 +81,26 @@ pub record FillsFresh {T : Type 0} (pack : ℕ) (flat : Flat) (to : ℕ) (script
       (λ x. (x ≡ answer slots) × Represents pack (moved flat to) (after slots) new)
       (λ e. e ≡ Failed)
 
--- a region is gone, whatever the store answered to that, or nothing was asked
+-- a region is gone from the vault; from the store, too, whatever it answered to that, or it stays there
 pub record LeavesFormer (former : Former) (region : ℕ) (old new : World) : Type 0 where
-  pub went : Went (former_script former region) (former_regions former region) old new
-  pub gone : IsFormer former region new
+  pub went : Went (former_script former region) (one region) old new
+  pub gone : new.vault.revs.live region ≡ None
+  pub stays : StaysFormer former region old.store new.store
   pub seals : SealsAll old new
 
--- a table has a fresh region, with its changed slots, and its old one is gone, unless it is kept; or it is as it was,
+-- a table has a fresh region, with its changed slots, and its old one is gone, or kept in the store; or it is as it was,
 -- and the fresh region is gone
 pub record Mutates {T : Type 0} (former : Former) (pack : ℕ) (flat left : Flat)
     (script : List Access) (answer : Slots → T) (after : Slots → Slots)
     (result : Result T OpErr) (old new : World) : Type 0 where
-  pub ok : OnOk result (Went script (changed_regions former flat.region old.vault.next) old new)
+  pub ok : OnOk result (Went script (two flat.region old.vault.next) old new)
   pub err : IfErr result (λ e. PassCut e script (one old.vault.next) old new)
   pub never : IfErr result (λ e. (e ≡ Failed) ⊎ (e ≡ NoMemory) ⊎ TamperedIn pack flat e new)
   pub memory : NoMemoryBehind (make_script pack (moved flat old.vault.next)) result old new
   pub gone : MatchResult result
-      (λ _. IsFormer former flat.region new)
+      (λ _. new.vault.revs.live flat.region ≡ None)
       (λ _. new.vault.revs.live old.vault.next ≡ None)
+  pub stays : OnOk result (StaysFormer former flat.region old.store new.store)
   pub seals : SealsTable pack flat.schema old.vault.next old new
   pub moves : OnOk result (left ≡ moved flat old.vault.next)
   pub same : OnErr result (left ≡ flat)

@@ -14,11 +14,11 @@ use ob_vault::{Revisions, Vault};
 pub enum Former {
     /// It is discarded, whatever the store answers to that.
     Discard,
-    /// It stays as it is, and live, until the caller discards it.
+    /// The vault forgets it, and it stays in the store until the caller has it discarded.
     Keep,
 }
 
-// Discards a region, or leaves it as it is.
+// Discards a region, or forgets it.
 fn leave<S: BlockStore, R: Revisions>(
     store: &mut S,
     vault: &mut Vault<R>,
@@ -35,11 +35,11 @@ fn leave<S: BlockStore, R: Revisions>(
         Former::Discard => {
             let _ = vault.drop_region(store, region);
         }
-        Former::Keep => {}
+        Former::Keep => vault.forget(region),
     }
 }
 
-// Gives a table a fresh region, and discards its old one, where it is not to be kept.
+// Gives a table a fresh region, and discards its old one, or leaves it in the store.
 pub(crate) fn move_table<S: BlockStore, R: Revisions>(
     store: &mut S,
     vault: &mut Vault<R>,
