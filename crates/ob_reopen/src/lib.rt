@@ -12,6 +12,7 @@ mod listed;
 mod memory;
 mod parsing;
 mod reading;
+mod salts;
 mod spelling;
 mod tables;
 mod writing;
@@ -27,5 +28,6 @@ pub use laws::{
 pub use listed::Listed;
 pub use memory::MemKeeper;
 pub use reading::read_closing;
+pub use salts::salted_regions;
 pub use tables::reopen_tables;
 pub use writing::write_closing;

@@ -31,9 +31,17 @@ engine_start e = start_of e.vault
 abbrev pub seen_of : {R : Type 0} → Engine R → Seen
 seen_of e = e.seen
 
--- the region of the closing that it was opened from, until it is closed
+-- the region of the closing that it was opened from, until it is closed, or that its tables were saved in last
 abbrev pub opened_from : {R : Type 0} → Engine R → Option ℕ
 opened_from e = e.closing
+
+-- the region in which a table lay before the last statement changed it, until that is discarded
+abbrev pub left_of : {R : Type 0} → Engine R → Option ℕ
+left_of e = e.left
+
+-- the closing before the last, likewise
+abbrev pub replaced_of : {R : Type 0} → Engine R → Option ℕ
+replaced_of e = e.replaced
 
 -- its indexes
 abbrev pub indexes_of : {R : Type 0} → Engine R → List Index

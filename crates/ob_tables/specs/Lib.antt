@@ -10,4 +10,5 @@ pub mod Memory
 pub mod Telling
 pub mod Serving
 pub mod Reopening
+pub mod Saving
 pub mod Closing

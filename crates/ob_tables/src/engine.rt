@@ -39,8 +39,12 @@ pub struct Engine<R: Revisions> {
     pub public: Public,
     pub(crate) seen: Seen,
     pub(crate) ended: bool,
-    // the region of the closing that it was opened from
+    // the region of the closing that it was opened from, or that its tables were saved in last
     pub(crate) closing: Option<u64>,
+    // where tables are saved, the region in which one lay before it was changed last, and the closing before the last: the
+    // vault has forgotten them, and the store has them until the mark names the new closing
+    pub(crate) left: Option<u64>,
+    pub(crate) replaced: Option<u64>,
     // those of the tables that are one, in whichever order
     pub(crate) indexes: Vec<Index>,
     pub(crate) draws: Draws,
@@ -95,6 +99,8 @@ impl<R: Revisions> Engine<R> {
             seen: seen_to_end(End::Whole),
             ended: false,
             closing: None,
+            left: None,
+            replaced: None,
             indexes: Vec::new(alloc),
             draws,
         })

@@ -22,6 +22,7 @@ mod indexed;
 mod inserting;
 mod laws;
 mod opening;
+mod saving;
 mod stop;
 mod tables;
 mod updating;

@@ -1,4 +1,4 @@
-use Rattle.std.proofs.Common.{◌≡◌, ◌≤◌, ◌+◌, ◌*◌, ℕ, false, List, [], replicate, Option, Some, Ok, Err, refl, sym, ◌∙◌, ap, subst, arith, length}
+use Rattle.std.proofs.Common.{◌≡◌, ◌≤◌, ◌+◌, ◌*◌, ℕ, false, List, [], replicate, Option, Some, None, Ok, Err, refl, sym, ◌∙◌, ap, subst, arith, length}
 use Rattle.std.proofs.lemmas.Result.{err_from_is_err_and}
 use Rattle.rand_chacha.specs.ChaCha.{key_of}
 use Rattle.ob_base.specs.declared.config.Public.{Public}
@@ -148,6 +148,8 @@ returns g c =
       seen = c.seen_to_end.result;
       ended = false;
       closing = Some c.closing_of-closing.result.region;
+      left = None;
+      replaced = None;
       indexes = c.new-2.result;
       draws = c.new-draws.result;
     } in
