@@ -45,14 +45,7 @@ pub(crate) fn insert_one<S: BlockStore, R: Revisions>(
     make_room(store, 3 * u64::from(flat.capacity) + 2)?;
     match cells_of(alloc, &flat.schema, flat.capacity) {
         Ok(cells) => {
-            let inserted = insert(
-                store,
-                vault,
-                room,
-                flat,
-                cells.as_slice(),
-                Former::Discard,
-            )?;
+            let inserted = insert(store, vault, room, flat, cells.as_slice(), Former::Discard)?;
             Ok(u64::from(inserted == Inserted::Done))
         }
         Err(_) => Err(OpErr::NoMemory),

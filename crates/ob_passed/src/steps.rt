@@ -49,14 +49,7 @@ pub(crate) fn step<S: BlockStore, R: Revisions>(
     match words.next() {
         Some("insert") => {
             let cells = cells_of(alloc, &flat.schema, &mut words)?;
-            let inserted = insert(
-                store,
-                vault,
-                room,
-                flat,
-                cells.as_slice(),
-                Former::Discard,
-            )?;
+            let inserted = insert(store, vault, room, flat, cells.as_slice(), Former::Discard)?;
             say_inserted(out, inserted)
         }
         Some("update") => {

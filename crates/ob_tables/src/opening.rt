@@ -48,7 +48,7 @@ fn saved_in(config: Config, closing: Closing) -> Option<u64>
 }
 
 // The tables that a closing lists, without the numbers of their blocks.
-fn tables_of(alloc: Global, listed: Items<Listed>) -> Result<Items<Table>, NoMemory>
+pub(crate) fn tables_of(alloc: Global, listed: Items<Listed>) -> Result<Items<Table>, NoMemory>
     ensures { IfOk result (λ tables. tables ≡ map (λ (t : Entry). t.table) listed) }
 {
     let tables = listed.into_vec().into_iter().map(|entry| entry.table);

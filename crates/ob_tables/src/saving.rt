@@ -1,17 +1,27 @@
-//! An engine's tables are saved behind a statement that changed them.
-ghost use Rattle.std.specs.Prelude.{◌≡◌, ◌≢◌, ◌<◌, ◌≤◌, ◌+◌, ◌^◌, ℕ, None, false, length};
+//! An engine whose tables are saved: behind a statement that changed them they are listed in a closing, and a later run
+//! goes on from the one that was written last.
+ghost use Rattle.std.specs.Prelude.{◌≡◌, ◌≢◌, ◌<◌, ◌≤◌, ◌+◌, ◌^◌, ℕ, List, Option, [], Some, None, true, false};
 ghost use Rattle.ob_base.specs.Stored.{headings_of};
 ghost use Rattle.ob_tables.specs.Agreeing.{Agrees, count_of, engine_keys, has_ended, left_of, opened_from, public_of, replaced_of};
-ghost use Rattle.ob_tables.specs.Saving.{SavesEngine, SettlesEngine, Waits};
+ghost use Rattle.ob_tables.specs.Engines.{IsConfig};
+ghost use Rattle.ob_tables.specs.Saving.{NamesClosing, OpensSaved, SavesEngine, SettlesEngine, Waits};
 ghost use Rattle.ob_mean.specs.Flats.{AreFlat};
 ghost use Rattle.ob_reopen.specs.Closings.{saved_mark};
+ghost use Rattle.ob_reopen.specs.declared.closing.Closing.{Closing as Named};
 ghost use Rattle.ob_seal.specs.KeySet.{pair_of};
 
-use crate::engine::Engine;
-use ob_base::Mark;
-use ob_reopen::{CloseErr, Closing, list_tables, write_closing};
-use ob_store::BlockStore;
-use ob_vault::Revisions;
+use crate::engine::{Engine, ROW_WIDTH, seen_to_end};
+use crate::opening::tables_of;
+use ob_base::{Config, End, Mark, Public};
+use ob_reopen::{
+    CloseErr, Closing, OpenErr, list_tables, read_closing, reopen_tables, salted_regions,
+    write_closing,
+};
+use ob_room::Room;
+use ob_seal::{Draws, Keys, Salted};
+use ob_store::{BlockStore, Lasting};
+use ob_vault::{Revisions, Vault};
+use std::alloc::Global;
 
 // The mark that names a closing of a run with this salt.
 fn mark_of(closing: Closing, salt: [u8; 16]) -> Mark
@@ -26,7 +36,138 @@ fn mark_of(closing: Closing, salt: [u8; 16]) -> Mark
     }
 }
 
+// The closing that a mark names, and the salt of the run that wrote it, if it had one.
+fn closing_of(mark: &Mark) -> (Closing, Option<[u8; 16]>)
+    requires { (pack : ℕ) × (closed : Option (List ℕ)) × (closing : Named)
+        × NamesClosing mark.now pack closed closing }
+    ensures { (pack : ℕ) (closed : Option (List ℕ)) (closing : Named)
+        → NamesClosing mark.now pack closed closing
+        → (result.0 ≡ closing) × (result.1 ≡ closed) }
+{
+    match *mark {
+        Mark::Closed {
+            region,
+            blocks,
+            number,
+            pack,
+        } => {
+            let closing = Closing {
+                region,
+                blocks,
+                number,
+                pack,
+            };
+            (closing, None)
+        }
+        Mark::Saved {
+            region,
+            blocks,
+            number,
+            pack,
+            salt,
+        } => {
+            let closing = Closing {
+                region,
+                blocks,
+                number,
+                pack,
+            };
+            (closing, Some(salt))
+        }
+        Mark::Fresh | Mark::InUse | Mark::Begun => unreachable!(),
+    }
+}
+
 impl<R: Revisions> Engine<R> {
+    /// Opens the tables that a closing lists, for a run with this salt that saves them: the closing that `mark` names,
+    /// which a run with this secret and with blocks of so many rows closed or saved into this store. Nothing was asked of
+    /// the store in this run.
+    ///
+    /// It opens the closing, reads each of its blocks once, in order, and opens the region of each table that it lists, in
+    /// order of their names. Numbers of writes and of regions go on from the closing's. What is sealed from now on is sealed
+    /// under the keys of this run's salt; what lies there stays under those of the runs that made its regions, which the
+    /// mark and the closing name.
+    ///
+    /// `Failed` where the store failed, or doesn't keep a region of this number and size. `Tampered` names a block of the
+    /// closing that is not the one that was written there, or that spells no closing. `NoMemory` before the first access,
+    /// or behind the closing's reads.
+    pub fn open_saved<S: Lasting>(
+        alloc: Global,
+        config: Config,
+        secret: &[u8; 32],
+        salt: &[u8; 16],
+        store: &mut S,
+        mark: &Mark,
+    ) -> Result<Engine<R>, OpenErr>
+        requires config { IsConfig config }
+        requires keeps { config.keep ≡ true }
+        requires saves { config.save ≡ true }
+        requires closed { (closed : Option (List ℕ)) × (closing : Named)
+            × NamesClosing mark.now config.pack closed closing }
+        requires fresh { (S.state store.old).asked ≡ [] }
+        ensures opens { (closed : Option (List ℕ)) (closing : Named)
+            → NamesClosing mark.now config.pack closed closing
+            → OpensSaved R.state config secret.now salt.now closed closing result
+            (S.state store.old) (S.state store.new) }
+    {
+        let (closing, closed) = closing_of(mark);
+        // one to open the closing, one to read each of its blocks, one to open each table
+        if store.room(2 * u64::from(closing.blocks)).is_err() {
+            return Err(OpenErr::NoMemory);
+        }
+        let Ok(mut room) = Room::new(alloc, config.buffer, ROW_WIDTH, u32::from(config.pack)) else {
+            return Err(OpenErr::NoMemory);
+        };
+        // the salts of the tables lie in the closing: it is read under keys that know no other than its own
+        let first = [Salted {
+            region: closing.region,
+            salt: closed,
+        }];
+        let Ok(keys) = Keys::derive_salted(alloc, secret, salt, &first) else {
+            return Err(OpenErr::NoMemory);
+        };
+        let last = closing.number + u64::from(closing.blocks) - 1;
+        let mut vault = Vault::start_at(alloc, keys, closing.region + 1, last);
+        let listed = read_closing(alloc, store, &mut vault, &mut room, closing)?;
+        let Ok(regions) = salted_regions(alloc, closing, closed, listed.as_slice()) else {
+            return Err(OpenErr::NoMemory);
+        };
+        let Ok(keys) = Keys::derive_salted(alloc, secret, salt, regions.as_slice()) else {
+            return Err(OpenErr::NoMemory);
+        };
+        let draws = Draws::new(keys.draw_seed());
+        vault.rekey(keys);
+        reopen_tables(store, &mut vault, closing, listed.as_slice())?;
+        let Ok(tables) = tables_of(alloc, listed) else {
+            return Err(OpenErr::NoMemory);
+        };
+        Ok(Engine {
+            alloc,
+            vault,
+            room,
+            public: Public {
+                tables,
+                next_region: closing.region + 1,
+                buffer: config.buffer,
+                depth: config.depth,
+                pack: config.pack,
+                plan: config.plan,
+                pad: config.pad,
+                stash: config.stash,
+                keep: config.keep,
+                save: config.save,
+                closing: Some(closing.region),
+            },
+            seen: seen_to_end(End::Whole),
+            ended: false,
+            closing: Some(closing.region),
+            left: None,
+            replaced: None,
+            indexes: Vec::new(alloc),
+            draws,
+        })
+    }
+
     // A closing was written: the one before it waits until it is discarded.
     fn list_in(&mut self, region: u64)
         ensures { self.new ≡ record self.old {
