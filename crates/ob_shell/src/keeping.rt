@@ -90,7 +90,7 @@ fn opening_end(error: OpenErr) -> KeptEnding
     }
 }
 
-fn closing_end(error: CloseErr) -> KeptEnding
+pub(crate) fn closing_end(error: CloseErr) -> KeptEnding
     ensures { result ≡ Keeping.closing_end error }
 {
     match error {

@@ -6,6 +6,7 @@ mod generating;
 mod keeping;
 mod key;
 mod pending;
+mod saving;
 mod session;
 mod top;
 mod trace;
