@@ -1,10 +1,18 @@
 -- The parts of a statement where tables are saved.
-use Rattle.std.proofs.Common.{◌≡◌, ℕ, ◌+◌, ◌*◌, ◌++◌, List, length, refl, sym, ap, arith}
-use Rattle.std.proofs.lemmas.List.{append_assoc, length-append}
+use Rattle.std.proofs.Common.{◌≡◌, ℕ, ◌+◌, ◌*◌, ◌++◌, Bool, true, false, if◌then◌else◌, List, Some, length, refl, sym, ◌∙◌, ap, arith, append_assoc}
+use Rattle.std.specs.Prelude.{◌&&◌}
+use Rattle.std.proofs.lemmas.List.{length-append}
 use Rattle.ob_base.specs.declared.access.Access.{Access}
+use Rattle.ob_base.specs.declared.config.Public.{Public}
+use Rattle.ob_base.specs.declared.seen.Seen.{Seen}
+use Rattle.ob_base.specs.declared.seen.End.{End}
+use Rattle.ob_base.specs.declared.seen.End.TheVariants.{Static, Whole, AfterCount, Cut}
+use Rattle.ob_base.specs.declared.skeleton.Skeleton.{Skeleton}
 use Rattle.ob_base.specs.Accesses.{discard_at, make_at, makes}
 use Rattle.ob_script.specs.Parts.{copy_part, count_part, insert_part, rewrite_part}
-use Rattle.ob_script.specs.Saved.{closing_part, insert_kept, rewrite_kept}
+use Rattle.ob_script.specs.Saved.{change_script, changes_tables, closing_behind, closing_part, closing_then, insert_kept, is_saved, rewrite_kept, run_next, run_script, save_part, served_next, served_script, whole_run, whole_served}
+use Rattle.ob_script.specs.Script.{script, until_end, whole_script}
+use Rattle.ob_script.specs.Trace.{next, tables_then}
 use Rattle.ob_script.proofs.Lengths.{length-copy_part, length-count_part}
 use Rattle.ob_script.proofs.Makes.{makes-copy_part, makes-count_part, makes-create_part, none_in, one_made}
 use Rattle.ob_script.proofs.Numbers.{length-create_part}
@@ -38,3 +46,46 @@ length-closing_part region tables = let e = length-create_part region (tables + 
 
 pub makes-closing_part : (region tables : ℕ) → makes (closing_part region tables) ≡ 1
 makes-closing_part region tables = makes-create_part region (tables + 1) 1024
+
+-- ---- whole statements
+none_saved : (b c : Bool) → c ≡ false → (b && c) ≡ false
+none_saved true c is = is
+none_saved false c is = refl
+
+both_true : (b c : Bool) → b ≡ true → c ≡ true → (b && c) ≡ true
+both_true true c first second = second
+both_true false c first second = absurd (cc first)
+
+module _ (p : Public) (s : Skeleton) (seen : Seen) where
+  -- where tables aren't saved nothing is other than it is elsewhere
+  module _ (unsaved : p.save ≡ false) where
+    test : is_saved p s ≡ false
+    test = none_saved (changes_tables s) p.save unsaved
+
+    pub run_is : run_script p s seen ≡ script p s seen
+    run_is = ap (λ (b : Bool). until_end seen.end (if b then change_script p s else whole_script p s seen)) test
+
+    pub served_is : served_script p s seen ≡ script p s seen
+    served_is = ap (λ (b : Bool). until_end seen.end (if b then change_script p s ++ save_part p s else whole_script p s seen)) test
+
+    closing_stays : (end : End) → closing_then p s end ≡ p.closing
+    closing_stays Static = refl
+    closing_stays Whole = ap (λ (b : Bool). if b then Some (closing_behind p s) else p.closing) test
+    closing_stays AfterCount = refl
+    closing_stays (Cut n) = refl
+
+    pub next_is : served_next p s seen ≡ next p s seen
+    next_is = λ i. record p { tables = tables_then p s seen.end; next_region = p.next_region + makes (served_is i); closing = closing_stays seen.end i }
+
+    pub run_next_is : run_next p s seen ≡ next p s seen
+    run_next_is = λ i. record p { tables = tables_then p s seen.end; next_region = p.next_region + makes (run_is i) }
+
+  -- where they are, a closing follows each whole change, and then what is discarded
+  pub served_saved : p.save ≡ true → changes_tables s ≡ true → seen.end ≡ Whole → served_script p s seen ≡ run_script p s seen ++ save_part p s
+  served_saved saves changes ends =
+      let test : is_saved p s ≡ true = both_true (changes_tables s) p.save changes saves in
+      let served : served_script p s seen ≡ change_script p s ++ save_part p s =
+      ap (λ (e : End). until_end e (whole_served p s seen)) ends ∙ ap (λ (b : Bool). if b then change_script p s ++ save_part p s else whole_script p s seen) test in
+      let run : run_script p s seen ≡ change_script p s =
+      ap (λ (e : End). until_end e (whole_run p s seen)) ends ∙ ap (λ (b : Bool). if b then change_script p s else whole_script p s seen) test in
+      served ∙ ap (λ (l : List Access). l ++ save_part p s) (sym run)

@@ -1,6 +1,6 @@
 -- What a statement asks where tables are saved: behind one that changes them they are listed in a closing, and only then is
 -- discarded what nothing needs any more.
-use Rattle.std.specs.Prelude.{ℕ, ◌+◌, ◌*◌, Bool, true, false, List, [], ◌++◌, Option, None, Some, length, if◌then◌else◌}
+use Rattle.std.specs.Prelude.{ℕ, ◌+◌, ◌&&◌, Bool, true, false, List, [], ◌++◌, Option, None, Some, length, if◌then◌else◌}
 use Rattle.std.specs.Option.{option_map}
 use Rattle.ob_base.specs.declared.access.Access.{Access}
 use Rattle.ob_base.specs.declared.config.Public.{Public}
@@ -10,11 +10,10 @@ use Rattle.ob_base.specs.declared.seen.End.TheVariants.{Static, Whole, AfterCoun
 use Rattle.ob_base.specs.declared.skeleton.Skeleton.{Skeleton}
 use Rattle.ob_base.specs.declared.skeleton.Skeleton.TheVariants.{Create, Insert, Update, Delete, Drop as DropTable, Rows, Groups}
 use Rattle.ob_base.specs.Accesses.{drop_script, make_at, makes}
-use Rattle.ob_base.specs.Numbers.{blocks_for}
 use Rattle.ob_base.specs.Schemas.{width, columns_of}
 use Rattle.ob_base.specs.Stored.{Stored, stored_at, stored_regions}
 use Rattle.ob_script.specs.Parts.{count_part, copy_part, create_part}
-use Rattle.ob_script.specs.Script.{mutation_script, until_end, whole_script, with_table}
+use Rattle.ob_script.specs.Script.{created_script, mutation_script, until_end, whole_script, with_table}
 use Rattle.ob_script.specs.Trace.{tables_after, tables_then}
 
 -- INSERT, and UPDATE and DELETE, before the table's old region is discarded
@@ -38,9 +37,10 @@ changes_tables (DropTable table) = true
 changes_tables (Rows source cs) = false
 changes_tables (Groups table cs key) = false
 
--- its change of a table, all of which are flat; a table that is dropped stays until the closing lists it no more
+-- ---- what the engine asks
+-- its change of tables, all of which are flat; a table that is dropped stays until the closing lists it no more
 abbrev pub change_script : Public → Skeleton → List Access
-change_script p (Create table cs n shape) = create_part p.next_region (blocks_for p.pack n) (p.pack * width (columns_of table cs))
+change_script p (Create table cs n shape) = created_script p n (width (columns_of table cs)) shape
 change_script p (Insert table cs) = with_table table p (mutation_script p insert_kept)
 change_script p (Update table cs) = with_table table p (mutation_script p rewrite_kept)
 change_script p (Delete table) = with_table table p (mutation_script p rewrite_kept)
@@ -48,11 +48,22 @@ change_script p (DropTable table) = []
 change_script p (Rows source cs) = []
 change_script p (Groups table cs key) = []
 
+-- whether a statement is one behind which tables are saved
+abbrev pub is_saved : Public → Skeleton → Bool
+is_saved p s = changes_tables s && p.save
+
+abbrev pub whole_run : Public → Skeleton → Seen → List Access
+whole_run p s seen = if is_saved p s then change_script p s else whole_script p s seen
+
+abbrev pub run_script : Public → Skeleton → Seen → List Access
+run_script p s seen = until_end seen.end (whole_run p s seen)
+
+-- ---- and what is asked behind that
 -- the region that a table has, if there is one of this name
 abbrev pub region_at : List ℕ → Public → Option ℕ
 region_at name p = option_map (λ (t : Stored ℕ). t.held) (stored_at name (stored_regions p.tables))
 
--- the region in which its table lay before it
+-- the region in which the table of a statement lay before it
 abbrev pub left_region : Public → Skeleton → Option ℕ
 left_region p (Create table cs n shape) = None
 left_region p (Insert table cs) = region_at table p
@@ -62,35 +73,41 @@ left_region p (DropTable table) = region_at table p
 left_region p (Rows source cs) = None
 left_region p (Groups table cs key) = None
 
--- the region of the closing behind it
+-- the region of the closing
 abbrev pub closing_behind : Public → Skeleton → ℕ
 closing_behind p s = p.next_region + makes (change_script p s)
 
--- until the closing is written, and what is discarded then: the table's old region and the closing before
-abbrev pub until_saved : Public → Skeleton → List Access
-until_saved p s = change_script p s ++ closing_part (closing_behind p s) (length (tables_after p s))
-
+-- what is discarded once it is written: the table's old region, and the closing before
 abbrev pub settle_script : Public → Skeleton → List Access
 settle_script p s = drop_script (left_region p s) ++ drop_script p.closing
 
--- all accesses of a statement that is not refused before the first
-abbrev pub whole_saved : Public → Skeleton → Seen → List Access
-whole_saved p s seen = if changes_tables s then until_saved p s ++ settle_script p s else whole_script p s seen
+abbrev pub save_part : Public → Skeleton → List Access
+save_part p s = closing_part (closing_behind p s) (length (tables_after p s)) ++ settle_script p s
 
-abbrev pub saved_script : Public → Skeleton → Seen → List Access
-saved_script p s seen = until_end seen.end (whole_saved p s seen)
+-- ---- all accesses of a statement, saved or not
+abbrev pub whole_served : Public → Skeleton → Seen → List Access
+whole_served p s seen = if is_saved p s then change_script p s ++ save_part p s else whole_script p s seen
+
+abbrev pub served_script : Public → Skeleton → Seen → List Access
+served_script p s seen = until_end seen.end (whole_served p s seen)
 
 -- the closing that lists the tables behind a statement
 abbrev pub closing_then : Public → Skeleton → End → Option ℕ
 closing_then p s Static = p.closing
-closing_then p s Whole = if changes_tables s then Some (closing_behind p s) else p.closing
+closing_then p s Whole = if is_saved p s then Some (closing_behind p s) else p.closing
 closing_then p s AfterCount = p.closing
 closing_then p s (Cut n) = p.closing
 
--- what is public behind it
-abbrev pub saved_next : Public → Skeleton → Seen → Public
-saved_next p s seen = record p {
+-- what is public behind it, and between a statement's change and its closing
+abbrev pub served_next : Public → Skeleton → Seen → Public
+served_next p s seen = record p {
   tables = tables_then p s seen.end;
-  next_region = p.next_region + makes (saved_script p s seen);
+  next_region = p.next_region + makes (served_script p s seen);
   closing = closing_then p s seen.end;
+}
+
+abbrev pub run_next : Public → Skeleton → Seen → Public
+run_next p s seen = record p {
+  tables = tables_then p s seen.end;
+  next_region = p.next_region + makes (run_script p s seen);
 }

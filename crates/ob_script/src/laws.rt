@@ -1,12 +1,14 @@
 //! Laws of the scripts.
-ghost use Rattle.std.specs.Prelude.{◌≡◌, ◌≢◌, ◌<◌, ◌+◌, ◌++◌, ◌*◌, ◌^◌, ℕ, length};
+ghost use Rattle.std.specs.Prelude.{◌≡◌, ◌≢◌, ◌<◌, ◌+◌, ◌++◌, ◌*◌, ◌^◌, ℕ, true, false, length};
 ghost use Rattle.ob_base.specs.declared.config.Public.{Public};
 ghost use Rattle.ob_base.specs.declared.seen.Seen.{Seen};
 ghost use Rattle.ob_base.specs.declared.skeleton.Skeleton.{Skeleton};
 ghost use Rattle.ob_base.specs.Accesses.{discard_at, makes};
-ghost use Rattle.ob_script.specs.Saved.{closing_part, insert_kept, rewrite_kept};
+ghost use Rattle.ob_script.specs.Saved.{changes_tables, closing_part, insert_kept, rewrite_kept, run_script, save_part, served_script};
+ghost use Rattle.ob_script.specs.Saved.{run_next as run_then, served_next as served_then};
 ghost use Rattle.ob_script.specs.Script.{script};
 ghost use Rattle.ob_script.specs.Sizes.{IsPublic, IsWithin};
+ghost use Rattle.ob_script.specs.Trace.{next};
 ghost use Rattle.std.specs.Int.{div_ceil};
 ghost use Rattle.ob_base.specs.Indexes.{tree_blocks};
 ghost use Rattle.ob_base.specs.Numbers.{blocks_for};
@@ -92,4 +94,20 @@ pub fn saved_parts()
     ensures made_too { (t g blocks width : ℕ) → makes (rewrite_kept t g blocks width) ≡ 1 }
     ensures closing { (region tables : ℕ) → length (closing_part region tables) ≡ tables + 2 }
     ensures listed { (region tables : ℕ) → makes (closing_part region tables) ≡ 1 }
+{}
+
+/// Where tables aren't saved a statement asks what `script` says, and `next` is public behind it; and where they are a
+/// closing follows each change that comes to its end, and then what is discarded.
+pub fn saved_scripts()
+    ensures run { (p : Public) (s : Skeleton) (seen : Seen) → p.save ≡ false
+        → run_script p s seen ≡ script p s seen }
+    ensures run_next { (p : Public) (s : Skeleton) (seen : Seen) → p.save ≡ false
+        → run_then p s seen ≡ next p s seen }
+    ensures served { (p : Public) (s : Skeleton) (seen : Seen) → p.save ≡ false
+        → served_script p s seen ≡ script p s seen }
+    ensures served_next { (p : Public) (s : Skeleton) (seen : Seen) → p.save ≡ false
+        → served_then p s seen ≡ next p s seen }
+    ensures saved { (p : Public) (s : Skeleton) (seen : Seen) → p.save ≡ true
+        → changes_tables s ≡ true → seen.end ≡ End.Whole
+        → served_script p s seen ≡ run_script p s seen ++ save_part p s }
 {}
