@@ -1,5 +1,5 @@
 -- What a SELECT of rows leaves, whatever the store does.
-use Rattle.std.proofs.Common.{◌≡◌, inl, ◌+◌, ◌-◌, ◌%◌, ◌^◌, ℕ, Bool, false, List, [], ◌∷◌, ◌++◌, length, take, None, Ok, refl, sym, ◌∙◌, ap, subst, arith, length-append}
+use Rattle.std.proofs.Common.{◌≡◌, inl, inr, ◌+◌, ◌-◌, ◌%◌, ◌^◌, ℕ, Bool, false, List, [], ◌∷◌, ◌++◌, length, take, None, Ok, refl, sym, ◌∙◌, ap, subst, arith, length-append}
 use Rattle.ob_base.specs.declared.access.Access.{Access}
 use Rattle.ob_base.specs.declared.config.Public.{Public}
 use Rattle.ob_base.specs.declared.seen.Seen.{Seen}
@@ -9,7 +9,7 @@ use Rattle.ob_base.specs.Events.{Event}
 use Rattle.ob_room.specs.RoomState.{RoomState}
 use Rattle.ob_store.specs.State.{StoreState}
 use Rattle.ob_store.proofs.Steps.{began_take}
-use Rattle.ob_script.specs.Script.{script}
+use Rattle.ob_script.specs.Saved.{run_script}
 use Rattle.ob_script.specs.Trace.{tables_then}
 use Rattle.ob_vault.specs.State.{RevState, World}
 use Rattle.ob_vault.specs.Tied.{Ready}
@@ -30,7 +30,7 @@ use Rattle.ob_select.specs.Opening.{Opens}
 use Rattle.ob_tables.specs.Running.{RanStatement, RunCause, GoesOn, Continues, answer_of, is_fault, is_stop, result_end}
 use Rattle.ob_select.specs.Selecting.{from}
 use Rattle.ob_exec.specs.Sources.{EndsRows, LeavesNone, UsesRoomFor, rows_script, rows_skeleton, selected_outcome, selection}
-use Rattle.ob_tables.proofs.RunLemmas.{asks_cut, asks_none, left_on, may_have, no_access, of_other, taken_none}
+use Rattle.ob_tables.proofs.RunLemmas.{asks_cut, asks_none, leaves_none, left_on, may_have, no_access, none_by, of_other, taken_none}
 use Rattle.ob_tables.proofs.PlainLemmas.{none_drawn}
 use Rattle.ob_mean.specs.Replay.{draws_taken, is_access}
 use Rattle.ob_exec.proofs.RowsLawful.{ended_end, ended_whole, ended_well}
@@ -87,7 +87,7 @@ module _ {R : Type 0} (state : R → RevState) (old : Engine R) (s : StoreState)
 
   rows_on : (seen : Seen) (x : List Access) (ended : Bool) → is_access old.public (rows_skeleton select) ≡ false → ended ≡ false → Ready (at state v t) → start_of v ≡ start_of old.vault
       → v.keys ≡ old.vault.keys → t.asked ≡ s.asked ++ x
-      → script old.public (rows_skeleton select) seen ≡ x → AreTables old.public.tables (others_of old.closing old.indexes.items) old.indexes.items old.public.pack (at state v t)
+      → run_script old.public (rows_skeleton select) seen ≡ x → AreTables old.public.tables (others_of old.closing old.indexes.items) old.indexes.items old.public.pack (at state v t)
       → GoesOn state (rows_skeleton select) old (rows_after old v room seen ended) t
   rows_on seen x ended unkeyed lives ready start keys asked is are =
       left_on state (rows_skeleton select) old s v room t agrees rows_free old.indexes old.draws old.public.tables seen x ended lives ready start keys asked is (same_tables old.public select seen.end) are
@@ -103,7 +103,7 @@ module _ {R : Type 0} (state : R → RevState) (old : Engine R) (s : StoreState)
       → RanStatement state (rows_skeleton select) (Ok (selected_outcome answer)) old s (rows_after old v room seen old.ended) t
   rows_ran unkeyed answer seen lives is =
       let all = rows_script old.public select seen in
-      let whole : script old.public (rows_skeleton select) seen ≡ all = ended_whole (selection old.public select) answer seen all is.ended in
+      let whole : run_script old.public (rows_skeleton select) seen ≡ all = ended_whole (selection old.public select) answer seen all is.ended in
       record {
         asked = is.ran.did.asked ∙ ap (λ (y : List Access). s.asked ++ y) (sym whole);
         later = is.ran.lasts.later;
@@ -117,6 +117,7 @@ module _ {R : Type 0} (state : R → RevState) (old : Engine R) (s : StoreState)
         opened = subst (λ (y : List Access). Opens y old.room.high room.high) (sym whole) (opens_by all is.ran.did.asked);
         leaves = λ d of. inl (is.leaf, λ goes. refl);
         goes_on = rows_on seen all old.ended unkeyed lives is.ran.lasts.ready is.ran.lasts.start is.ran.lasts.keys is.ran.did.asked whole (rows_tables is.ran.lasts is.leaves);
+        stays = λ q left. leaves_none old.public (rows_skeleton select) seen.end q _ (none_by old.public.save None (inr refl)) left;
         indexed = λ stops. absurd (cc stops);
       }
 
@@ -150,5 +151,6 @@ module _ {R : Type 0} (state : R → RevState) (old : Engine R) (s : StoreState)
         leaves = λ d of. inl (leaf, λ goes. refl);
         goes_on = cut_on e (record seen { end = Cut n })
             (rows_on (record seen { end = Cut n }) (take n all) false unkeyed refl cut.lasts.ready cut.lasts.start cut.lasts.keys first refl (rows_tables cut.lasts leaves));
+        stays = λ q left. absurd (cc left);
         indexed = λ stops. absurd (no_access e stops);
       }

@@ -14,7 +14,8 @@ use Rattle.ob_row.specs.Slots.{rows, is_consecutive}
 use Rattle.ob_base.specs.declared.access.Access.{Access}
 use Rattle.ob_base.specs.declared.config.Plan.{Plan}
 use Rattle.ob_base.specs.declared.config.Plan.TheVariants.{Small, Large, Continuous, Hash}
-use Rattle.ob_script.specs.Script.{script, until_end}
+use Rattle.ob_script.specs.Saved.{run_script}
+use Rattle.ob_script.specs.Script.{until_end}
 use Rattle.ob_store.specs.State.{StoreState, Lie}
 use Rattle.ob_store.proofs.Steps.{none_before}
 use Rattle.ob_vault.specs.State.{RevState, World}
@@ -206,7 +207,7 @@ module _ {R : Type 0} (state : R → RevState) (old : Engine R) (s : StoreState)
       let slots = slots_of old.public select tables in
       let meant = rows_seen old.public (count_of old s) select tables (headed tables reads.held) reads.held.in_place (flat tables reads.held) (early tables reads.held) agrees.settings.pack_least agrees.settings.blocks agrees.settings.padded source.labelled (rows_of tables reads.held) d in
       subst (λ (l : List Access). ReadsIn lie (s.asked ++ l))
-      (sym (ap (script old.public (rows_skeleton select)) meant ∙ until_rows old.public.pad old.public (length slots) (places q slots) (rows_script old.public select (selection_seen q slots))))
+      (sym (ap (run_script old.public (rows_skeleton select)) meant ∙ until_rows old.public.pad old.public (length slots) (places q slots) (rows_script old.public select (selection_seen q slots))))
       (begun (record { tells = reads.tells; tables = tables; indexes = old.indexes.items; held = reads.held.held; in_place = reads.held.in_place; nolie = reads.nolie }) lie told)
 
   module _ {E : Type 0} (grew cut : E → E → List Event → Type 0) (faults : E → ℕ) (starts : (x : E) → grew x x []) (now : Seen) (n : ℕ) (out_old out_new : E)

@@ -1,6 +1,9 @@
 //! A statement, by its kind.
-ghost use Rattle.std.specs.Prelude.{◌≡◌, false};
-ghost use Rattle.ob_tables.specs.Agreeing.{Agrees, has_ended};
+ghost use Rattle.std.specs.Prelude.{◌≡◌, None, false};
+ghost use Rattle.ob_script.specs.Saved.{left_then};
+ghost use Rattle.ob_sql.specs.Skeleton.{skeleton};
+ghost use Rattle.ob_tables.specs.Agreeing.{Agrees, has_ended, public_of, replaced_of, seen_of};
+ghost use Rattle.ob_tables.specs.Saving.{Waits};
 ghost use Rattle.ob_tables.specs.Serving.{Serves};
 
 use crate::rows::select_rows;
@@ -71,6 +74,9 @@ fn serve<S: BlockStore, R: Revisions, E: Emit>(
 /// the statement without its literals and conditions, and what is seen of it; and no row comes to
 /// lie there in clear. Of a SELECT of rows neither their number nor a plan is seen where results are
 /// padded; one of more rows than that is refused as `PadPassed`.
+///
+/// Where tables are saved the region of a table that it changes or drops, which `left_by` gives, stays in the store
+/// until `settle` discards it.
 pub fn run<S: BlockStore, R: Revisions, E: Emit>(
     engine: &mut Engine<R>,
     store: &mut S,
@@ -81,6 +87,9 @@ pub fn run<S: BlockStore, R: Revisions, E: Emit>(
     requires lives { has_ended engine.old ≡ false }
     ensures serves { Serves R.state E.grew E.cut E.faults stmt.now result
         engine.old (S.state store.old) engine.new (S.state store.new) out.old out.new }
+    ensures waits { replaced_of engine.old ≡ None → Waits R.state
+        (left_then (public_of engine.old) (skeleton stmt.now) (seen_of engine.new).end)
+        engine.new (S.state store.new) }
 {
     let from = engine.public.next_region;
     let answer = serve(engine, store, stmt, out);

@@ -38,17 +38,21 @@ abbrev pub place_script : ℕ → Flat → ℕ → List Access
 place_script pack flat to = count_part flat.region (blocks_of pack flat) ++ copy_script pack flat to
 
 -- and to make that region before, and to discard the old one, where it isn't kept
+abbrev pub rewrite_parts : Former → (t g blocks width : ℕ) → List Access
+rewrite_parts Discard = rewrite_part
+rewrite_parts Keep = rewrite_kept
+
+abbrev pub insert_parts : Former → (t g blocks width : ℕ) → List Access
+insert_parts Discard = insert_part
+insert_parts Keep = insert_kept
+
 abbrev pub rewrite_script : Former → ℕ → Flat → ℕ → List Access
-rewrite_script Discard pack flat to =
-    rewrite_part flat.region to (blocks_of pack flat) (pack * width flat.schema)
-rewrite_script Keep pack flat to =
-    rewrite_kept flat.region to (blocks_of pack flat) (pack * width flat.schema)
+rewrite_script former pack flat to =
+    rewrite_parts former flat.region to (blocks_of pack flat) (pack * width flat.schema)
 
 abbrev pub insert_script : Former → ℕ → Flat → ℕ → List Access
-insert_script Discard pack flat to =
-    insert_part flat.region to (blocks_of pack flat) (pack * width flat.schema)
-insert_script Keep pack flat to =
-    insert_kept flat.region to (blocks_of pack flat) (pack * width flat.schema)
+insert_script former pack flat to =
+    insert_parts former flat.region to (blocks_of pack flat) (pack * width flat.schema)
 
 -- ---- the region that a table had
 -- what is asked for it

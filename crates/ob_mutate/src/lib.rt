@@ -17,5 +17,5 @@ mod updating;
 pub use batch::insert_all;
 pub use deleting::delete;
 pub use inserting::{Inserted, insert};
-pub use settling::Former;
+pub use settling::{Former, leave};
 pub use updating::update;

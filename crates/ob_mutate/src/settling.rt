@@ -18,8 +18,8 @@ pub enum Former {
     Keep,
 }
 
-// Discards a region, or forgets it.
-fn leave<S: BlockStore, R: Revisions>(
+/// Discards the region in which a table lay, whatever the store answers to that, or has the vault forget it.
+pub fn leave<S: BlockStore, R: Revisions>(
     store: &mut S,
     vault: &mut Vault<R>,
     region: u64,

@@ -7,11 +7,15 @@ use Rattle.ob_base.specs.declared.config.Public.{Public}
 use Rattle.ob_base.specs.declared.seen.Seen.{Seen}
 use Rattle.ob_base.specs.declared.seen.End.{End}
 use Rattle.ob_base.specs.declared.seen.End.TheVariants.{Static, Whole, AfterCount, Cut}
+use Rattle.ob_base.specs.declared.schema.Shape.{Shape}
+use Rattle.ob_base.specs.declared.skeleton.NewColumn.{NewColumn}
 use Rattle.ob_base.specs.declared.skeleton.Skeleton.{Skeleton}
+use Rattle.ob_base.specs.declared.skeleton.Skeleton.TheVariants.{Create}
 use Rattle.ob_base.specs.Accesses.{discard_at, make_at, makes}
+use Rattle.ob_base.specs.Schemas.{columns_of, width}
 use Rattle.ob_script.specs.Parts.{copy_part, count_part, insert_part, rewrite_part}
 use Rattle.ob_script.specs.Saved.{change_script, changes_tables, closing_behind, closing_part, closing_then, insert_kept, is_saved, rewrite_kept, run_next, run_script, save_part, served_next, served_script, whole_run, whole_served}
-use Rattle.ob_script.specs.Script.{script, until_end, whole_script}
+use Rattle.ob_script.specs.Script.{created_script, script, until_end, whole_script}
 use Rattle.ob_script.specs.Trace.{next, tables_then}
 use Rattle.ob_script.proofs.Lengths.{length-copy_part, length-count_part}
 use Rattle.ob_script.proofs.Makes.{makes-copy_part, makes-count_part, makes-create_part, none_in, one_made}
@@ -56,11 +60,22 @@ both_true : (b c : Bool) → b ≡ true → c ≡ true → (b && c) ≡ true
 both_true true c first second = second
 both_true false c first second = absurd (cc first)
 
+same_either : (b : Bool) (l : List Access) → (if b then l else l) ≡ l
+same_either true l = refl
+same_either false l = refl
+
+-- a new table is made as it is elsewhere
+pub created_run : (p : Public) (table : List ℕ) (cs : List NewColumn) (n : ℕ) (shape : Shape) (seen : Seen) → whole_run p (Create table cs n shape) seen ≡ created_script p n (width (columns_of table cs)) shape
+created_run p table cs n shape seen = same_either p.save (created_script p n (width (columns_of table cs)) shape)
+
 module _ (p : Public) (s : Skeleton) (seen : Seen) where
   -- where tables aren't saved nothing is other than it is elsewhere
   module _ (unsaved : p.save ≡ false) where
     test : is_saved p s ≡ false
     test = none_saved (changes_tables s) p.save unsaved
+
+    pub whole_is : whole_run p s seen ≡ whole_script p s seen
+    whole_is = ap (λ (b : Bool). if b then change_script p s else whole_script p s seen) test
 
     pub run_is : run_script p s seen ≡ script p s seen
     run_is = ap (λ (b : Bool). until_end seen.end (if b then change_script p s else whole_script p s seen)) test

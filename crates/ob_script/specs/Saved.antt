@@ -73,13 +73,23 @@ left_region p (DropTable table) = region_at table p
 left_region p (Rows source cs) = None
 left_region p (Groups table cs key) = None
 
+-- the region that a statement leaves where tables are saved, and that it has left once it came to its end
+abbrev pub left_by : Public → Skeleton → Option ℕ
+left_by p s = if p.save then left_region p s else None
+
+abbrev pub left_then : Public → Skeleton → End → Option ℕ
+left_then p s Static = None
+left_then p s Whole = left_by p s
+left_then p s AfterCount = None
+left_then p s (Cut n) = None
+
 -- the region of the closing
 abbrev pub closing_behind : Public → Skeleton → ℕ
 closing_behind p s = p.next_region + makes (change_script p s)
 
 -- what is discarded once it is written: the table's old region, and the closing before
 abbrev pub settle_script : Public → Skeleton → List Access
-settle_script p s = drop_script (left_region p s) ++ drop_script p.closing
+settle_script p s = drop_script (left_by p s) ++ drop_script p.closing
 
 abbrev pub save_part : Public → Skeleton → List Access
 save_part p s = closing_part (closing_behind p s) (length (tables_after p s)) ++ settle_script p s

@@ -6,7 +6,7 @@ use Rattle.ob_base.specs.declared.config.Config.{Config}
 use Rattle.ob_base.specs.declared.mark.Mark.{Mark}
 use Rattle.ob_base.specs.declared.mark.Mark.TheVariants.{Fresh, InUse, Closed, Begun, Saved}
 use Rattle.ob_base.specs.declared.refusal.Stop.TheVariants.{NoMemory}
-use Rattle.ob_tables.specs.Agreeing.{Agrees, engine_keys, engine_start, has_ended, left_of, opened_from, public_of, replaced_of}
+use Rattle.ob_tables.specs.Agreeing.{Agrees, engine_keys, engine_start, has_ended, opened_from, public_of, replaced_of}
 use Rattle.ob_tables.specs.Closing.{next_closing}
 use Rattle.ob_tables.specs.Saving.{save_script, saved_public}
 use Rattle.ob_tables.specs.Telling.{Represents}
@@ -57,7 +57,6 @@ pub record FoundSaved {R : Type 0} (state : R → RevState) (config : Config) (s
   pub before : AreBefore (public_of e).next_region earlier
   pub agrees : Agrees state e t
   pub lives : has_ended e ≡ false
-  pub none_left : left_of e ≡ None
   pub settled : replaced_of e ≡ None
   pub saves : (public_of e).save ≡ true
   pub keeps : (public_of e).keep ≡ true
@@ -112,8 +111,8 @@ SavingCause ending s t old new =
     ⊎ ((ending ≡ KeeperFault) × (t.faults ≡ s.faults) × Rises old.faults new.faults)
 
 pub record SavesTables {T : Type 0} {R : Type 0} (state : R → RevState)
-    (result : Result T KeptEnding) (e : Engine R) (s : StoreState) (saved : Engine R)
-    (t : StoreState) (old new : KeeperState) : Type 0 where
+    (left : Option ℕ) (result : Result T KeptEnding) (e : Engine R) (s : StoreState)
+    (saved : Engine R) (t : StoreState) (old new : KeeperState) : Type 0 where
   -- a keeper that tells holds the new mark, or, where it wasn't saved, the one that it held
   pub held : OnOk result ((mark : Mark) → old.held ≡ Some mark → HoldsSaved state e s t new)
   pub stays : OnErr result ((mark : Mark) → old.held ≡ Some mark
@@ -122,7 +121,7 @@ pub record SavesTables {T : Type 0} {R : Type 0} (state : R → RevState)
   pub kept : OnErr result ((q : ℕ) → q ≢ (next_closing e s).region → t.kept q ≡ s.kept q)
   -- what is discarded is so only once the keeper holds the new mark
   pub asked : OnOk result (Did
-      (save_script e s ++ (drop_script (left_of e) ++ drop_script (opened_from e))) s t)
+      (save_script e s ++ (drop_script left ++ drop_script (opened_from e))) s t)
   pub began : OnErr result (Began (save_script e s) s t)
   pub goes_on : OnOk result (GoesOnSaved state e s saved t)
   pub cause : IfErr result (λ ending. SavingCause ending s t old new)

@@ -128,16 +128,17 @@ pub(crate) fn save_tables<R: Revisions, S: Saving, K: Keeper>(
     engine: &mut Engine<R>,
     store: &mut S,
     keeper: &mut K,
+    left: Option<u64>,
 ) -> Result<(), KeptEnding>
     requires agrees { Agrees R.state engine.old (S.state store.old) }
     requires lives { has_ended engine.old ≡ false }
-    requires waits { Waits R.state engine.old (S.state store.old) }
+    requires waits { Waits R.state left.now engine.old (S.state store.old) }
     requires settled { replaced_of engine.old ≡ None }
     requires flat { AreFlat (headings_of (public_of engine.old).tables) }
     requires few { count_of engine.old (S.state store.old) + 2 < 2 ^ 63 }
     requires salted { (pair_of (engine_keys engine.old) (public_of engine.old).next_region).salt
         ≢ None }
-    ensures saves { SavesTables R.state result engine.old (S.state store.old)
+    ensures saves { SavesTables R.state left.now result engine.old (S.state store.old)
         engine.new (S.state store.new) (K.state keeper.old) (K.state keeper.new) }
 {
     let mark = match engine.save(store) {
@@ -150,6 +151,6 @@ pub(crate) fn save_tables<R: Revisions, S: Saving, K: Keeper>(
     if keeper.set(&mark).is_err() {
         return Err(KeptEnding::KeeperFault);
     }
-    engine.settle(store);
+    engine.settle(store, left);
     Ok(())
 }

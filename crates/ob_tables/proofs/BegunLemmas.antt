@@ -1,5 +1,5 @@
 -- The first changed block that a statement reads is one that its meaning reads.
-use Rattle.std.proofs.Common.{◌≡◌, ℕ, false, Option, List, [], ◌++◌, drop, None, Some, Ok, Err, Result, refl, sym, ◌∙◌, ap, append_assoc}
+use Rattle.std.proofs.Common.{◌≡◌, ℕ, false, if◌then◌else◌, Option, List, [], ◌++◌, drop, None, Some, Ok, Err, Result, refl, sym, ◌∙◌, ap, append_assoc}
 use Rattle.std.proofs.lemmas.List.{append-nil, take-append-drop}
 use Rattle.ob_base.specs.declared.access.Access.{Access}
 use Rattle.ob_base.specs.declared.config.Public.{Public}
@@ -9,7 +9,8 @@ use Rattle.ob_base.specs.declared.seen.Seen.{Seen}
 use Rattle.ob_base.specs.declared.seen.End.{End}
 use Rattle.ob_base.specs.declared.seen.End.TheVariants.{Static, Whole, AfterCount, Cut}
 use Rattle.ob_script.specs.Parts.{insert_part, rewrite_part}
-use Rattle.ob_script.specs.Script.{mutation_script, script, shape_script, until_end, whole_script, with_table}
+use Rattle.ob_script.specs.Saved.{change_script, is_saved, run_script, whole_run}
+use Rattle.ob_script.specs.Script.{mutation_script, shape_script, until_end, whole_script, with_table}
 use Rattle.ob_store.specs.State.{Lie, StoreState}
 use Rattle.ob_vault.specs.State.{RevState, World}
 use Rattle.ob_vault.specs.Tied.{ReadsIn}
@@ -50,13 +51,17 @@ plain_script p (DropTable table) a b plain leaf = refl
 plain_script p (RowsStmt s) a b plain leaf = absurd (cc plain)
 plain_script p (TotalsStmt s) a b plain leaf = refl
 
+-- so do those that the engine asks
+plain_run : (p : Public) (stmt : Stmt) (a b : Seen) → selects_rows stmt ≡ false → a.leaf ≡ b.leaf → whole_run p (skeleton stmt) a ≡ whole_run p (skeleton stmt) b
+plain_run p stmt a b plain leaf = ap (λ (l : List Access). if is_saved p (skeleton stmt) then change_script p (skeleton stmt) else l) (plain_script p stmt a b plain leaf)
+
 pub begun_plain : {R : Type 0} (state : R → RevState) (stmt : Stmt) (result : Result Outcome RunStop) (old : Engine R) (s : StoreState) (new : Engine R) (t : StoreState) (tables : Tables) (d : Draws)
     → selects_rows stmt ≡ false → new.seen.leaf ≡ None → RanStatement state (skeleton stmt) result old s new t → seen d old.public (count_of old s) tables stmt ≡ seen_to Whole → s.lie ≡ None
     → (lie : Lie) → t.lie ≡ Some lie → ReadsIn lie (s.asked ++ meant_script d old.public (count_of old s) tables stmt)
 begun_plain state stmt result old s new t tables d plain unread ran whole none lie told =
-    let all = whole_script old.public (skeleton stmt) new.seen in
+    let all = whole_run old.public (skeleton stmt) new.seen in
     let part = until_part new.seen.end all in
-    let meant : meant_script d old.public (count_of old s) tables stmt ≡ all = ap (script old.public (skeleton stmt)) whole ∙ plain_script old.public stmt (seen_to Whole) new.seen plain (sym unread) in
+    let meant : meant_script d old.public (count_of old s) tables stmt ≡ all = ap (run_script old.public (skeleton stmt)) whole ∙ plain_run old.public stmt (seen_to Whole) new.seen plain (sym unread) in
     reads_on lie t.asked part.0 (s.asked ++ meant_script d old.public (count_of old s) tables stmt)
     (ap (λ (l : List Access). s.asked ++ l) (meant ∙ sym part.1) ∙ sym (append_assoc s.asked (until_end new.seen.end all) part.0) ∙ ap (λ (l : List Access). l ++ part.0) (sym ran.asked))
     (run_reads result (world_of state old s) (world_of state new t) lie ran.cause none told)

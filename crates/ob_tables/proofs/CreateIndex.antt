@@ -49,7 +49,8 @@ use Rattle.ob_oram.specs.Indexes.{Lies, leaves_of, tree_of}
 use Rattle.ob_oram.specs.Keys.{IsIntKey}
 use Rattle.ob_oram.proofs.Creates.{one_each}
 use Rattle.ob_script.specs.Parts.{create_part}
-use Rattle.ob_script.specs.Script.{whole_script}
+use Rattle.ob_script.proofs.SavedParts.{created_run}
+use Rattle.ob_script.specs.Saved.{whole_run}
 use Rattle.ob_seal.specs.Draws.{DrawPlace, draw_at}
 use Rattle.ob_seal.specs.KeySet.{draw_seed_of}
 use Rattle.ob_seal.proofs.Drawn.{draws_wrap}
@@ -172,11 +173,12 @@ module _ {R : Type 0} (state : R → RevState) (old : Engine R) (s s1 : StoreSta
   abbrev new_table : Table
   new_table = record { heading = record { name = table; schema = schema; capacity = capacity; shape = Indexed }; region = old.public.next_region }
 
-  script_is : (end : End) → whole_script old.public (Create table columns capacity Indexed) (seen_to end) ≡ part
+  script_is : (end : End) → whole_run old.public (Create table columns capacity Indexed) (seen_to end) ≡ part
   script_is end =
       let wide : width (columns_of table columns) ≡ 1 * width schema = ap width (sym schema_is) ∙ (let one : width schema ≡ 1 * width schema = omega (arith) in one) in
       let few : old.public.stash ≡ blocks_of 1 stash = sym slots_is ∙ sym (one_each slots) in
-      λ i. create_part (agrees.next i) (sym (one_each (tree_blocks height)) i) (wide i) ++ create_part (agrees.next i + 1) (few i) (wide i)
+      created_run old.public table columns capacity Indexed (seen_to end)
+      ∙ (λ i. create_part (agrees.next i) (sym (one_each (tree_blocks height)) i) (wide i) ++ create_part (agrees.next i + 1) (few i) (wide i))
 
   -- ---- what it draws
   drawn_same : (d : Draws) → AreDraws old d → (i : ℕ) → draw_at old.draws.key (old.draws.next + i) ≡ d.draw (d.drawn + i)
@@ -334,6 +336,7 @@ module _ {R : Type 0} (state : R → RevState) (old : Engine R) (s s1 : StoreSta
           went.did.asked (script_is Whole)
           (ap (λ (c : Columns). old.public.tables ++ record { heading = record { name = table; schema = c; capacity = capacity; shape = Indexed }; region = old.public.next_region } ∷ []) schema_is)
           are may (ap (λ (p : DrawPlace). p.key) next) drawn_next;
+      stays = λ q left. leaves_none old.public (Create table columns capacity Indexed) Whole q _ (none_by old.public.save None (inr refl)) left;
       indexed = λ stops. absurd (cc stops);
     }
 

@@ -4,7 +4,7 @@ use Rattle.std.proofs.lemmas.Bool.Decides.{nat_tests}
 use Rattle.std.proofs.lemmas.List.{length-map}
 use Rattle.std.proofs.lemmas.List.Elements.{All-map, All-head, All-tail}
 use Rattle.std.proofs.lemmas.List.Sums.{sum_by-cons}
-use Rattle.std.proofs.Common.{◌≡◌, ◌-◌, ◌*◌, ℕ, zero, suc, cond, true, false, List, [], ◌∷◌, ◌++◌, length, Some, Ok, Err, Result, refl, sym, ◌∙◌, ap, subst, arith}
+use Rattle.std.proofs.Common.{◌≡◌, inr, ◌-◌, ◌*◌, ℕ, zero, suc, cond, true, false, List, [], ◌∷◌, ◌++◌, length, Some, Ok, Err, Result, refl, sym, ◌∙◌, ap, subst, arith}
 use Rattle.std.specs.List.{All, list_all, list_any}
 use Rattle.std.specs.Prelude.{◌<◌, ◌≤◌, ◌&&◌, max, Bool, IsTrue, Option, None, MatchOption, count_by, map, nat_lt, not, sum_by, bytes_eq}
 use Rattle.std.proofs.lemmas.Slice.Eq.{bytes_eq-Decides}
@@ -38,7 +38,9 @@ use Rattle.ob_vault.specs.Calls.{Went, one}
 use Rattle.ob_vault.specs.Tied.{Lives}
 use Rattle.ob_vault.proofs.Runs.{went_join}
 use Rattle.ob_script.specs.Parts.{create_part}
-use Rattle.ob_script.specs.Script.{created_script, whole_script}
+use Rattle.ob_script.proofs.SavedParts.{created_run}
+use Rattle.ob_script.specs.Saved.{whole_run}
+use Rattle.ob_script.specs.Script.{created_script}
 use Rattle.ob_flat.specs.declared.fault.OpErr.{OpErr}
 use Rattle.ob_flat.specs.Flats.{IsFlat, IsSized, Represents as FlatRepresents, table_region}
 use Rattle.ob_flat.specs.declared.flat.Flat.{Flat}
@@ -72,7 +74,7 @@ use Rattle.ob_tables.proofs.SealLemmas.{keeps_pass}
 use Rattle.ob_tables.proofs.SilentLemmas.{cut_off, finished, serves_as}
 use Rattle.ob_tables.proofs.ToldLemmas.{early_held, fault_made, silent_fault}
 use Rattle.ob_vault.proofs.WordLemmas.{went_rests}
-use Rattle.ob_tables.proofs.RunLemmas.{IsAnswered, early_few, engine_after, ran_done}
+use Rattle.ob_tables.proofs.RunLemmas.{IsAnswered, early_few, engine_after, leaves_none, none_by, ran_done}
 
 -- ---- what is known of a CREATE that is not refused early
 named_alike : (table : List ℕ) (columns : List NewColumn) → map (λ (c : Column). c.name) (columns_of table columns) ≡ map (λ (c : NewColumn). c.name) columns
@@ -196,9 +198,10 @@ module _ {R : Type 0} (state : R → RevState) (old : Engine R) (s s1 : StoreSta
   abbrev part : List Access
   part = create_part old.vault.next (blocks_for old.room.pack capacity) (old.room.pack * width schema)
 
-  script_is : (end : End) → whole_script old.public (Create table columns capacity shape) (seen_to end) ≡ part
+  script_is : (end : End) → whole_run old.public (Create table columns capacity shape) (seen_to end) ≡ part
   script_is end =
-      ap (λ (x : Shape). created_script old.public capacity (width (columns_of table columns)) x) flat_shape
+      created_run old.public table columns capacity shape (seen_to end)
+      ∙ ap (λ (x : Shape). created_script old.public capacity (width (columns_of table columns)) x) flat_shape
       ∙ (λ i. create_part (agrees.next i) (blocks_for (sym agrees.room.pack i) capacity) (sym agrees.room.pack i * width (sym schema_is i)))
 
   abbrev new_table : Table
@@ -239,7 +242,8 @@ module _ {R : Type 0} (state : R → RevState) (old : Engine R) (s s1 : StoreSta
       (ap (λ (c : Columns). old.public.tables ++ record { heading = record { name = table; schema = c; capacity = capacity; shape = shape }; region = old.public.next_region } ∷ []) schema_is)
       (tables_added old.public.pack old.vault.next old.public.tables (others_of old.closing old.indexes.items) old.indexes.items new_table _ _ all.lasts agrees.ready refl agrees.tables
       (new_place old.public (count_of old s) table columns capacity shape now) agrees.next flat_shape is_table
-      (λ i u is same. unnamed i u (record { get = is; named = same })) (λ q. cases_eq q old.vault.next)) in
+      (λ i u is same. unnamed i u (record { get = is; named = same })) (λ q. cases_eq q old.vault.next))
+      (λ q left. leaves_none old.public (Create table columns capacity shape) Whole q _ (none_by old.public.save None (inr refl)) left) in
       finished state stmt old s agrees now refl refl flat_shape v room t (old.public.tables ++ new_table ∷ []) Created answered tt ran
       (keeps_pass state old s s1 rests agrees (engine_after old v room (old.public.tables ++ new_table ∷ []) Whole old.ended) t done refl (λ good accepts. seals.seals good (accepts _ _)))
       (λ tables d reads.

@@ -28,7 +28,9 @@ use Rattle.ob_oram.specs.declared.index.Index.{Index}
 use Rattle.ob_oram.specs.Discards.{DiscardsIndex}
 use Rattle.ob_oram.specs.Indexes.{IsStored}
 use Rattle.ob_oram.proofs.Lasting.{stored_kept}
-use Rattle.ob_script.specs.Script.{dropped_script, whole_script}
+use Rattle.ob_script.proofs.SavedParts.{whole_is}
+use Rattle.ob_script.specs.Saved.{left_region, whole_run}
+use Rattle.ob_script.specs.Script.{dropped_script}
 use Rattle.ob_sql.specs.declared.stmt.Stmt.TheVariants.{Drop as DropTable}
 use Rattle.ob_mean.specs.Settle.{settle, settled}
 use Rattle.ob_mean.specs.Step.{accepted_answer, answered as answered_by, followed}
@@ -45,7 +47,7 @@ use Rattle.ob_select.specs.Opening.{Opens}
 use Rattle.ob_tables.proofs.DropLemmas.{held_removed, origin, origin_off, removed_is}
 use Rattle.ob_tables.proofs.HeldLemmas.{held_among}
 use Rattle.ob_tables.proofs.IndexTables.{apart_stash, apart_table, tables_unindexed, x_in}
-use Rattle.ob_tables.proofs.RunLemmas.{MayHave, asks_none, engine_left, left_on}
+use Rattle.ob_tables.proofs.RunLemmas.{MayHave, asks_none, engine_left, leaves_none, left_on, none_by, unsaved}
 use Rattle.ob_tables.proofs.TableLemmas.{no_entry, stored_found}
 use Rattle.ob_tables.specs.Serving.{ServesSilently}
 use Rattle.ob_tables.proofs.PlainLemmas.{settle_is}
@@ -64,11 +66,15 @@ module _ {R : Type 0} (state : R → RevState) (old : Engine R) (s s1 : StoreSta
   abbrev part : List Access
   part = discard_at index.tree ++ discard_at index.stash
 
-  script_is : (end : End) → whole_script old.public (DropSkeleton name) (seen_to end) ≡ part
+  unsaved_here : old.public.save ≡ false
+  unsaved_here = unsaved state old s k index agrees taken
+
+  script_is : (end : End) → whole_run old.public (DropSkeleton name) (seen_to end) ≡ part
   script_is end =
       let tree = of.tree in
       let stash : index.stash ≡ table.region + 1 = of.stash in
-      ap (λ (o : Option (Stored ℕ)). option_map_or dropped_script o []) (stored_found name old.public.tables i table agrees.tables.names here.get here.named)
+      whole_is old.public (DropSkeleton name) (seen_to end) unsaved_here
+      ∙ ap (λ (o : Option (Stored ℕ)). option_map_or dropped_script o []) (stored_found name old.public.tables i table agrees.tables.names here.get here.named)
       ∙ ap (λ (shape : Shape). by_shape shape (discard_at table.region) (discard_at table.region ++ discard_at (table.region + 1))) of.indexed
       ∙ (λ j. discard_at (sym tree j) ++ discard_at (sym stash j))
 
@@ -121,6 +127,7 @@ module _ {R : Type 0} (state : R → RevState) (old : Engine R) (s s1 : StoreSta
       goes_on = left_on state (DropSkeleton name) old s v old.room t agrees agrees.room left old.draws (remove old.public.tables i) (seen_to Whole) part old.ended lives all.lasts.ready all.lasts.start all.lasts.keys
           all.did.asked (script_is Whole) (removed_is name old.public.tables i table agrees.tables.names here.get here.named) are may refl
           (λ d of_d. let sum : d.drawn ≡ d.drawn + 0 = omega (arith) in of_d.next ∙ ap (λ (n : ℕ). n % 2 ^ 67) sum);
+      stays = λ q is. leaves_none old.public (DropSkeleton name) Whole q _ (none_by old.public.save (left_region old.public (DropSkeleton name)) (inl unsaved_here)) is;
       indexed = λ stops. absurd (cc stops);
     }
 

@@ -3,7 +3,7 @@ use Rattle.ob_oram.specs.declared.index.Index.{Index}
 use Rattle.std.proofs.Common.{◌≡◌, ◌⊎◌, inl, inr, ◌<◌, ◌≤◌, ℕ, zero, suc, Bool, true, false, if◌then◌else◌, List, [], ◌∷◌, length, Some, None, Option, Ok, Result, refl, sym, ◌∙◌, ap, subst, arith, slice_get}
 use Rattle.std.specs.Prelude.{bytes_eq, filter, not}
 use Rattle.std.specs.List.{remove}
-use Rattle.std.specs.Option.{option_map_or}
+use Rattle.std.specs.Option.{option_map, option_map_or}
 use Rattle.std.proofs.lemmas.Slice.Eq.{bytes_eq-Decides}
 use Rattle.ob_base.specs.declared.refusal.Refusal.{Refusal}
 use Rattle.ob_tables.specs.declared.stop.RunStop.{RunStop}
@@ -13,8 +13,7 @@ use Rattle.ob_base.specs.declared.schema.Table.{Table}
 use Rattle.ob_base.specs.declared.seen.End.{End}
 use Rattle.ob_base.specs.declared.seen.End.TheVariants.{Whole}
 use Rattle.ob_base.specs.declared.skeleton.Skeleton.TheVariants.{Drop as DropSkeleton}
-use Rattle.ob_base.specs.Accesses.{discard_at}
-use Rattle.ob_base.specs.Stored.{Stored, dropped_at, stored_region}
+use Rattle.ob_base.specs.Stored.{Stored, dropped_at, stored_at, stored_region, stored_regions}
 use Rattle.ob_store.specs.State.{StoreState}
 use Rattle.ob_store.specs.Calls.{ChangesNothing}
 use Rattle.ob_vault.specs.State.{RevState, World}
@@ -22,14 +21,16 @@ use Rattle.ob_vault.specs.declared.region.Region.{Region}
 use Rattle.ob_vault.specs.declared.vault.Vault.{Vault}
 use Rattle.ob_vault.specs.Places.{at}
 use Rattle.ob_vault.specs.Tied.{Lives}
-use Rattle.ob_vault.specs.Calls.{Lasts, Went, one}
+use Rattle.ob_vault.specs.Calls.{Lasts, one}
 use Rattle.ob_vault.proofs.Runs.{went_join}
 use Rattle.ob_vault.proofs.WordLemmas.{went_rests}
-use Rattle.ob_flat.specs.declared.fault.OpErr.{OpErr}
 use Rattle.ob_flat.specs.declared.flat.Flat.{Flat}
-use Rattle.ob_flat.specs.Discards.{Discards}
+use Rattle.ob_mutate.specs.declared.settling.Former.{Former}
+use Rattle.ob_mutate.specs.declared.settling.Former.TheVariants.{Discard, Keep}
+use Rattle.ob_mutate.specs.Mutating.{LeavesFormer, StaysFormer, StaysStored, former_script}
 use Rattle.ob_mean.proofs.FlatLemmas.{dropped_is}
-use Rattle.ob_script.specs.Script.{dropped_script, whole_script}
+use Rattle.ob_script.specs.Saved.{region_at, whole_run}
+use Rattle.ob_script.specs.Script.{dropped_script, with_table}
 use Rattle.ob_sql.specs.declared.stmt.Stmt.TheVariants.{Drop as DropTable}
 use Rattle.ob_mean.specs.Settle.{settle, settled}
 use Rattle.ob_mean.specs.Step.{accepted_answer, answered as answered_by, followed}
@@ -38,7 +39,7 @@ use Rattle.ob_mean.proofs.VerdictLemmas.{refused_late}
 use Rattle.ob_tables.specs.declared.engine.Engine.{Engine}
 use Rattle.ob_verdict.specs.declared.outcome.Outcome.{Outcome}
 use Rattle.ob_verdict.specs.declared.outcome.Outcome.TheVariants.{Dropped}
-use Rattle.ob_tables.specs.Engines.{AreTables, IsAt, IsBeside, IsTable, IsTableRegion, IsTreeOf, flat_of, others_of, IsIndexIn}
+use Rattle.ob_tables.specs.Engines.{AreTables, IsAt, IsBeside, IsTable, IsTableRegion, IsTreeOf, flat_of, others_of, IsIndexIn, former_of}
 use Rattle.ob_select.specs.Opening.{Opens}
 use Rattle.ob_tables.specs.Agreeing.{Agrees, world_of, count_of}
 use Rattle.ob_verdict.specs.Outcomes.{refusal_now, outcome_of}
@@ -272,36 +273,56 @@ lives_found state old s s1 i table flat agrees get is =
     let lives = (agrees.tables.each i table get).live.lives.live in (_, record { live = ap (λ (f : Flat). (state old.vault.revs).live f.region) is ∙ lives })
 
 -- nothing was opened
-opens_discard : (r high : ℕ) → Opens (discard_at r) high high
-opens_discard r high = record { kept = omega (arith); some = λ none. absurd (cc none) }
+opens_former : (former : Former) (r high : ℕ) → Opens (former_script former r) high high
+opens_former Discard r high = record { kept = omega (arith); some = λ none. absurd (cc none) }
+opens_former Keep r high = record { kept = omega (arith); some = λ none. absurd (cc none) }
+
+-- its region stays in the store, where tables are saved
+pub left_stays : (saves : Bool) (region : ℕ) (s s1 t : StoreState) (o : Option ℕ) (q : ℕ) → o ≡ Some region → ChangesNothing s s1 → StaysFormer (if saves then Keep else Discard) region s1 t
+    → (if saves then o else None) ≡ Some q → StaysStored q s t
+left_stays true region s s1 t o q found rests stays is =
+    let same : region ≡ q = cc (found, is) in
+    subst (λ (n : ℕ). StaysStored n s t) same
+    (record {
+      live = stays.live ∙ rests.keeps.live region;
+      last = λ x. stays.last x ∙ rests.keeps.last region x;
+      kept = stays.kept ∙ rests.keeps.kept region;
+    })
+left_stays false region s s1 t o q found rests stays is = absurd (cc is)
 
 module _ {R : Type 0} (state : R → RevState) (old : Engine R) (s s1 : StoreState) (v : Vault R) (t : StoreState) (name : List ℕ) (i : ℕ) (table : Table)
     (agrees : Agrees state old s) (rests : ChangesNothing s s1) (here : IsAt name i table old.public.tables) (shape : table.heading.shape ≡ FlatShape) (now : refusal_now old.public (count_of old s) (DropTable name) ≡ None) where
-  script_is : (end : End) → whole_script old.public (DropSkeleton name) (seen_to end) ≡ discard_at table.region
-  script_is end =
-      ap (λ (o : Option (Stored ℕ)). option_map_or dropped_script o [])
-      (stored_found name old.public.tables i table agrees.tables.names here.get here.named)
-      ∙ dropped_is (stored_region table) shape
+  found : stored_at name (stored_regions old.public.tables) ≡ Some (stored_region table)
+  found = stored_found name old.public.tables i table agrees.tables.names here.get here.named
+
+  asked_by : (saves : Bool) → (if saves then [] else with_table name old.public dropped_script) ≡ former_script (if saves then Keep else Discard) table.region
+  asked_by true = refl
+  asked_by false = ap (λ (o : Option (Stored ℕ)). option_map_or dropped_script o []) found ∙ dropped_is (stored_region table) shape
+
+  script_is : (end : End) → whole_run old.public (DropSkeleton name) (seen_to end) ≡ former_script (former_of old.public) table.region
+  script_is end = asked_by old.public.save
 
   -- the table was dropped, whatever the store answered
-  pub dropped : (region : ℕ) (answer : Result Unit OpErr) (new : Engine R) (result : Result Outcome RunStop) → region ≡ table.region
-      → Discards region answer (at state old.vault s1) (at state v t) → old.ended ≡ false → result ≡ Ok Dropped
+  pub dropped : (region : ℕ) (former : Former) (new : Engine R) (result : Result Outcome RunStop) → region ≡ table.region → former ≡ former_of old.public
+      → LeavesFormer former region (at state old.vault s1) (at state v t) → old.ended ≡ false → result ≡ Ok Dropped
       → new ≡ engine_after old v old.room (remove old.public.tables i) Whole old.ended → ServesSilently state (DropTable name) result old s new t
-  dropped region answer new result region_is discards lives answered is =
+  dropped region former new result region_is former_is leaves_it lives answered is =
       let stmt = DropTable name in
       let r = table.region in
-      let went = subst (λ (q : ℕ). Went (discard_at q) (one q) (at state old.vault s1) (at state v t)) region_is discards.went in
-      let gone : (state v.revs).live r ≡ None = ap (state v.revs).live (sym region_is) ∙ discards.gone in
-      let all = went_join (one r) _ _ _ [] (discard_at r) (went_rests _ s s1 rests (one r) agrees.ready) went in
+      let part = former_script (former_of old.public) r in
+      let leaves : LeavesFormer (former_of old.public) r (at state old.vault s1) (at state v t) =
+      subst (λ (f : Former). LeavesFormer f r (at state old.vault s1) (at state v t)) former_is (subst (λ (q : ℕ). LeavesFormer former q (at state old.vault s1) (at state v t)) region_is leaves_it) in
+      let all = went_join (one r) _ _ _ [] part (went_rests _ s s1 rests (one r) agrees.ready) leaves.went in
       let apart : (j : ℕ) (u : Table) → slice_get old.public.tables j ≡ Some u → (j ≡ i → ⊥) → one r u.region → ⊥ = λ j u js off same. off (agrees.tables.apart j i u table js here.get same) in
       let removed = removed_is name old.public.tables i table agrees.tables.names here.get here.named in
       let is_answered : IsAnswered Dropped = record { whole = λ n. refl; own = refl } in
-      let ran = ran_whole state (DropSkeleton name) old s v old.room t agrees agrees.room refl (one r) (remove old.public.tables i) (discard_at r) Dropped lives is_answered (opens_discard r old.room.high) all
+      let ran = ran_whole state (DropSkeleton name) old s v old.room t agrees agrees.room refl (one r) (remove old.public.tables i) part Dropped lives is_answered (opens_former (former_of old.public) r old.room.high) all
       (script_is Whole) removed
-      (tables_removed old.public.pack r old.public.tables (others_of old.closing old.indexes.items) old.indexes.items table i _ _ all.lasts agrees.tables here.get refl shape (λ region live. absurd (cc (live, gone)))) in
+      (tables_removed old.public.pack r old.public.tables (others_of old.closing old.indexes.items) old.indexes.items table i _ _ all.lasts agrees.tables here.get refl shape (λ region live. absurd (cc (live, leaves.gone))))
+      (λ q is. left_stays old.public.save table.region s s1 t (region_at name old.public) q (ap (option_map (λ (u : Stored ℕ). u.held)) found) rests leaves.stays is) in
       serves_as state stmt old s t _ _ _ _ answered is
       (finished state stmt old s agrees now refl refl tt v old.room t (remove old.public.tables i) Dropped is_answered tt ran
-      (keeps_pass state old s s1 rests agrees (engine_after old v old.room (remove old.public.tables i) Whole old.ended) t (at state v t) refl (λ good accepts. discards.seals.seals good))
+      (keeps_pass state old s s1 rests agrees (engine_after old v old.room (remove old.public.tables i) Whole old.ended) t (at state v t) refl (λ good accepts. leaves.seals.seals good))
       (λ tables d reads.
       let early = early_held old.public (count_of old s) stmt tables old.indexes.items (world_of state old s) None reads.held.held now in
       let none : refusal old.public (count_of old s) tables stmt ≡ None = refused_late old.public (count_of old s) tables stmt early in

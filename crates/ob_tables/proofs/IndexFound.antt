@@ -27,7 +27,7 @@ use Rattle.ob_oram.specs.Indexes.{IsIndex}
 use Rattle.ob_oram.specs.Scripts.{script_length}
 use Rattle.ob_oram.proofs.Lasting.{index_kept}
 use Rattle.ob_seal.specs.Draws.{DrawPlace}
-use Rattle.ob_script.specs.Script.{whole_script}
+use Rattle.ob_script.specs.Saved.{whole_run}
 use Rattle.ob_sql.specs.declared.stmt.Stmt.{Stmt}
 use Rattle.ob_sql.specs.Skeleton.{skeleton}
 use Rattle.ob_mean.specs.declared.answer.Answer.{Answer}
@@ -183,7 +183,7 @@ module _ {R : Type 0} (state : R → RevState) (stmt : Stmt) (old : Engine R) (s
         lawful = lawful_none old.public (count_of old s) stmt now;
         memory = λ is. record {
           done = [];
-          rest = whole_script old.public (skeleton stmt) (seen_to (Cut 0));
+          rest = whole_run old.public (skeleton stmt) (seen_to (Cut 0));
           split = refl;
           asked = rests.asked ∙ sym (append-nil s.asked);
           place = inl (inl refl);

@@ -23,7 +23,8 @@ use Rattle.ob_oram.specs.declared.op.Got.{Got}
 use Rattle.ob_oram.specs.Ops.{got_in}
 use Rattle.ob_oram.specs.Scripts.{access_script, read_script, write_script}
 use Rattle.ob_oram.proofs.AccessRuns.{access_parts, length-reads}
-use Rattle.ob_script.specs.Script.{index_part_of, whole_script}
+use Rattle.ob_script.specs.Saved.{whole_run}
+use Rattle.ob_script.specs.Script.{index_part_of}
 use Rattle.ob_seal.specs.Draws.{DrawPlace, draw_at}
 use Rattle.ob_select.specs.Memory.{AtEmission}
 use Rattle.ob_sql.specs.declared.stmt.SelectRows.{SelectRows}
@@ -54,7 +55,8 @@ use Rattle.ob_tables.proofs.IndexEmits.{found_prints}
 use Rattle.ob_tables.proofs.IndexMeans.{begun_access, seen_access_cut, told_keyed}
 use Rattle.ob_tables.proofs.IndexRuns.{all, asked_ok, on, ran_as_cut, ran_emission}
 use Rattle.ob_tables.proofs.IndexServed.{IsOfOthers, sealed_access}
-use Rattle.ob_tables.proofs.RunLemmas.{engine_left}
+use Rattle.ob_tables.proofs.RunLemmas.{engine_left, unsaved}
+use Rattle.ob_script.proofs.SavedParts.{whole_is}
 use Rattle.ob_tables.proofs.ToldLemmas.{refused_none}
 
 -- a stop that an emitter makes
@@ -116,12 +118,13 @@ module _ {R : Type 0} (state : R → RevState) (stmt : Stmt) (old : Engine R) (s
       ap (λ (b : Bool). held_if b (Some keyed.leaf)) more
 
   -- all of its accesses were asked
-  all_asked : whole_script old.public (skeleton stmt) now_seen ≡ access_script x keyed.leaf
+  all_asked : whole_run old.public (skeleton stmt) now_seen ≡ access_script x keyed.leaf
   all_asked =
       let keyed_on = on state stmt old s s1 v room t k draw keyed indexes draws agrees rests now accessed done in
       let below = (asked_ok state stmt old s s1 v room t k draw keyed indexes draws agrees rests now accessed done got answers).below in
       let m = count_of old s in
-      script_is old.public m stmt x keyed_on now_seen
+      whole_is old.public (skeleton stmt) now_seen (unsaved state old s k x agrees done.get)
+      ∙ script_is old.public m stmt x keyed_on now_seen
       ∙ ap (λ (o : Option ℕ). index_part_of old.public o keyed_on.table) leaf_seen
       ∙ sym (script_is old.public m stmt x keyed_on (seen_whole keyed.leaf))
       ∙ (shows_script old.public m stmt x keyed_on keyed.leaf below).whole

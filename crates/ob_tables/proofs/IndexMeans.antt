@@ -28,7 +28,7 @@ use Rattle.ob_oram.proofs.Lasting.{lies_kept}
 use Rattle.ob_seal.specs.Draws.{DrawPlace, draw_at}
 use Rattle.ob_sql.specs.declared.stmt.Stmt.{Stmt}
 use Rattle.ob_mean.specs.Settle.{settle}
-use Rattle.ob_mean.specs.Verdict.{Draws, Tables, index_of, next_draw}
+use Rattle.ob_mean.specs.Verdict.{Draws, Tables, index_of, next_draw, seen}
 use Rattle.ob_verdict.specs.Outcomes.{refusal_now}
 use Rattle.ob_verdict.specs.declared.outcome.Outcome.{Outcome}
 use Rattle.ob_verdict.proofs.InPlaceProof.{keeps_in_place}
@@ -45,7 +45,8 @@ use Rattle.ob_tables.specs.Telling.{AreHeld, HoldsTable, ReadsTrue, Represents, 
 use Rattle.ob_tables.proofs.HeldLemmas.{Stood, held_headings, stood_at}
 use Rattle.ob_tables.proofs.IndexHeld.{held_accessed}
 use Rattle.ob_tables.proofs.IndexRuns.{all, asked_ok, draw_is, got_answered, of_x, on, served}
-use Rattle.ob_tables.proofs.RunLemmas.{engine_left}
+use Rattle.ob_tables.proofs.RunLemmas.{engine_left, unsaved}
+use Rattle.ob_script.proofs.SavedParts.{run_is}
 use Rattle.ob_tables.proofs.ToldLemmas.{told_whole}
 
 module _ {R : Type 0} (state : R → RevState) (stmt : Stmt) (old : Engine R) (s s1 : StoreState) (v : Vault R) (room : RoomState) (t : StoreState) (k draw : ℕ) (keyed : Keyed) (indexes : Vec Index Global) (draws : DrawPlace)
@@ -157,4 +158,4 @@ module _ {R : Type 0} (state : R → RevState) (stmt : Stmt) (old : Engine R) (s
       → ReadsIn lie t.asked → ReadsIn lie (s.asked ++ meant_script d old.public (count_of old s) tables stmt)
   begun_access part rest split asked tables d of reads lie read =
       reads_on lie t.asked rest (s.asked ++ meant_script d old.public (count_of old s) tables stmt)
-      (ap (λ (l : List Access). s.asked ++ l) ((meant tables reads.held d of).asks ∙ sym split) ∙ sym (append_assoc s.asked part rest) ∙ ap (λ (l : List Access). l ++ rest) (sym asked)) read
+      (ap (λ (l : List Access). s.asked ++ l) (run_is old.public (skeleton stmt) (seen d old.public (count_of old s) tables stmt) (unsaved state old s k x agrees done.get) ∙ (meant tables reads.held d of).asks ∙ sym split) ∙ sym (append_assoc s.asked part rest) ∙ ap (λ (l : List Access). l ++ rest) (sym asked)) read

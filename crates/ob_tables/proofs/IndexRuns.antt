@@ -3,7 +3,9 @@ use Rattle.std.proofs.Common.{◌≡◌, ◌⊎◌, inl, inr, ◌≤◌, ◌+◌
 use Rattle.std.specs.Prelude.{nat_lt, slice_get, slice_index_or, slice_set}
 use Rattle.std.specs.declared.vec.Vec.{Vec}
 use Rattle.ob_base.specs.declared.access.Access.{Access}
+use Rattle.ob_base.specs.declared.seen.End.{End}
 use Rattle.ob_base.specs.declared.seen.End.TheVariants.{Whole, Cut}
+use Rattle.ob_base.specs.declared.seen.Seen.{Seen}
 use Rattle.ob_base.specs.declared.schema.Table.{Table}
 use Rattle.ob_base.specs.Indexes.{leaf_of_draw, rows_open}
 use Rattle.ob_base.specs.Stored.{stored_region}
@@ -33,6 +35,9 @@ use Rattle.ob_seal.specs.Draws.{DrawPlace, draw_at}
 use Rattle.ob_seal.specs.KeySet.{draw_seed_of}
 use Rattle.ob_seal.proofs.Drawn.{draws_wrap}
 use Rattle.rand_chacha.specs.ChaCha.{key_of}
+use Rattle.ob_mutate.specs.Mutating.{StaysStored}
+use Rattle.ob_script.proofs.SavedParts.{run_is}
+use Rattle.ob_script.specs.Saved.{left_region, left_then, run_script}
 use Rattle.ob_script.specs.Script.{script}
 use Rattle.ob_script.specs.Trace.{tables_then}
 use Rattle.ob_sql.specs.declared.stmt.Stmt.{Stmt}
@@ -64,7 +69,7 @@ use Rattle.ob_tables.specs.Leaves.{MovesLeaves, ReadsKey}
 use Rattle.ob_tables.specs.Running.{RanStatement, RunCause, answer_of, is_fault, is_stop, stop_of}
 use Rattle.ob_tables.proofs.IndexKinds.{access_by}
 use Rattle.ob_tables.proofs.IndexTables.{this, that, set_at, tables_accessed}
-use Rattle.ob_tables.proofs.RunLemmas.{IsAnswered, MayHave, asks_none, engine_left, left_on, of_other, opens_some}
+use Rattle.ob_tables.proofs.RunLemmas.{IsAnswered, MayHave, asks_none, engine_left, leaves_none, left_on, none_by, of_other, opens_some, unsaved}
 use Rattle.ob_tables.proofs.TableLemmas.{no_entry, stored_found}
 
 -- what an access answers is no fault of the store, and none refuses before it
@@ -163,6 +168,14 @@ module _ {R : Type 0} (state : R → RevState) (stmt : Stmt) (old : Engine R) (s
   abbrev height : ℕ
   height = height_at old.public (skeleton stmt)
 
+  -- where there is an index tables aren't saved: all that is asked is the script, and no region is left
+  run_same : (now : Seen) → run_script old.public (skeleton stmt) now ≡ script old.public (skeleton stmt) now
+  run_same now = run_is old.public (skeleton stmt) now (unsaved state old s k x agrees done.get)
+
+  none_stays : (end : End) (q : ℕ) → left_then old.public (skeleton stmt) end ≡ Some q → StaysStored q s t
+  none_stays end q = leaves_none old.public (skeleton stmt) end q _
+      (none_by old.public.save (left_region old.public (skeleton stmt)) (inl (unsaved state old s k x agrees done.get)))
+
   module _ (drew : draw ≡ draw_at old.draws.key old.draws.next) where
     -- the number that it drew is the meaning's next
     pub draw_is : (d : Draws) → AreDraws old d → draw ≡ next_draw d
@@ -239,9 +252,10 @@ module _ {R : Type 0} (state : R → RevState) (stmt : Stmt) (old : Engine R) (s
         → ((d : Draws) → AreDraws old d → draws.next ≡ (d.drawn + draws_taken old.public (skeleton stmt) Whole) % 2 ^ 67)
         → RanStatement state (skeleton stmt) (Ok outcome) old s (engine_left old indexes draws v room old.public.tables (seen_whole keyed.leaf) old.ended) t
     ran_whole_access drew one outcome lives answered same key drawn =
-        let part = script old.public (skeleton stmt) (seen_whole keyed.leaf) in
+        let part = run_script old.public (skeleton stmt) (seen_whole keyed.leaf) in
+        let asked : t.asked ≡ s.asked ++ part = from_old part (ran_as.asked ∙ ap (λ (l : List Access). s1.asked ++ l) (sym (run_same (seen_whole keyed.leaf)))) in
         record {
-          asked = from_old part ran_as.asked;
+          asked = asked;
           later = all.lasts.later;
           keys = all.lasts.keys;
           start = all.lasts.start;
@@ -253,7 +267,8 @@ module _ {R : Type 0} (state : R → RevState) (stmt : Stmt) (old : Engine R) (s
           opened = opened part;
           leaves = λ d of. inr (inr (inr (reads_key drew d of (draws_taken old.public (skeleton stmt) Whole) (Some keyed.leaf) old.ended refl (λ goes. omega (arith, one)) (λ goes. moved_ok))));
           goes_on = left_on state (skeleton stmt) old s v room t agrees free indexes draws old.public.tables (seen_whole keyed.leaf) part old.ended lives all.lasts.ready all.lasts.start all.lasts.keys
-              (from_old part ran_as.asked) refl same are may key drawn;
+              asked refl same are may key drawn;
+          stays = none_stays (seen_whole keyed.leaf).end;
           indexed = λ stops. absurd (cc stops);
         }
 
@@ -266,9 +281,10 @@ module _ {R : Type 0} (state : R → RevState) (stmt : Stmt) (old : Engine R) (s
     ran_emission drew e n never count =
         let is : length t.asked - length s1.asked ≡ n = same_count ∙ sym count in
         let seen = seen_cut old.public.stash keyed.leaf in
-        let part = script old.public (skeleton stmt) (seen n) in
+        let part = run_script old.public (skeleton stmt) (seen n) in
         let asked : t.asked ≡ s.asked ++ part =
-        from_old part (subst (λ (m : ℕ). t.asked ≡ s1.asked ++ script old.public (skeleton stmt) (seen m)) is ran_as_cut.asked) in
+        from_old part (subst (λ (m : ℕ). t.asked ≡ s1.asked ++ run_script old.public (skeleton stmt) (seen m)) is
+        (ran_as_cut.asked ∙ ap (λ (l : List Access). s1.asked ++ l) (sym (run_same (seen (length t.asked - length s1.asked)))))) in
         let at_stop : (stop : RunStop) → (RunCause (Err stop) (world_of state old s) after)
         → RanStatement state (skeleton stmt) (Err stop) old s (engine_left old indexes draws v room old.public.tables (seen n) true) t = λ stop cause. record {
           asked = asked;
@@ -283,6 +299,7 @@ module _ {R : Type 0} (state : R → RevState) (stmt : Stmt) (old : Engine R) (s
           opened = opened part;
           leaves = λ d of. moves_cut drew d of (drawn_by old.public (skeleton stmt)) (nat_lt old.public.stash n);
           goes_on = refl;
+          stays = none_stays (seen n).end;
           indexed = λ stops. is_an_access;
         } in
         elim never [
@@ -308,11 +325,12 @@ module _ {R : Type 0} (state : R → RevState) (stmt : Stmt) (old : Engine R) (s
     ran_stopped_access drew n count =
         let is : length t.asked - length s1.asked ≡ n = same_count ∙ sym count in
         let seen = seen_cut old.public.stash keyed.leaf in
-        let part = script old.public (skeleton stmt) (seen n) in
+        let part = run_script old.public (skeleton stmt) (seen n) in
         let first = went_rests _ s s1 rests (two x.tree x.stash) agrees.ready in
         let lasts = lasts_trans (two x.tree x.stash) _ _ _ first.lasts short.lasts in
         record {
-          asked = from_old part (subst (λ (m : ℕ). t.asked ≡ s1.asked ++ script old.public (skeleton stmt) (seen m)) is ran_as_stopped.asked);
+          asked = from_old part (subst (λ (m : ℕ). t.asked ≡ s1.asked ++ run_script old.public (skeleton stmt) (seen m)) is
+              (ran_as_stopped.asked ∙ ap (λ (l : List Access). s1.asked ++ l) (sym (run_same (seen (length t.asked - length s1.asked))))));
           later = lasts.later;
           keys = lasts.keys;
           start = lasts.start;
@@ -324,5 +342,6 @@ module _ {R : Type 0} (state : R → RevState) (stmt : Stmt) (old : Engine R) (s
           opened = opened part;
           leaves = λ d of. moves_cut drew d of (drawn_by old.public (skeleton stmt)) (nat_lt old.public.stash n);
           goes_on = refl;
+          stays = none_stays (seen n).end;
           indexed = λ stops. is_an_access;
         }

@@ -1,7 +1,7 @@
 -- INSERT, UPDATE and DELETE: a table's slots change, and it lies in a fresh region.
 use Rattle.std.proofs.Common.{◌≡◌, inl, inr, ◌-◌, ◌*◌, max, ℕ, Bool, false, List, [], ◌++◌, length, Some, None, Option, Ok, Err, Result, refl, sym, ◌∙◌, ap, subst, arith, slice_get, slice_set}
-use Rattle.std.specs.Option.{option_map_or}
-use Rattle.std.specs.Prelude.{IsTrue}
+use Rattle.std.specs.Option.{option_map, option_map_or}
+use Rattle.std.specs.Prelude.{IsTrue, true, if◌then◌else◌}
 use Rattle.std.proofs.lemmas.Bool.{cases_eq}
 use Rattle.ob_base.specs.declared.access.Access.{Access}
 use Rattle.ob_base.specs.declared.config.Public.{Public}
@@ -13,7 +13,7 @@ use Rattle.ob_base.specs.declared.seen.End.TheVariants.{Whole, Cut}
 use Rattle.ob_base.specs.Accesses.{make_at}
 use Rattle.ob_base.specs.Numbers.{blocks_for}
 use Rattle.ob_base.specs.Schemas.{width}
-use Rattle.ob_base.specs.Stored.{Stored, headings, stored_at, stored_region, changed_at}
+use Rattle.ob_base.specs.Stored.{Stored, headings, stored_at, stored_region, stored_regions, changed_at}
 use Rattle.ob_room.specs.RoomState.{RoomState}
 use Rattle.ob_store.specs.State.{StoreState}
 use Rattle.ob_store.specs.Calls.{ChangesNothing}
@@ -24,7 +24,8 @@ use Rattle.ob_vault.specs.Calls.{two}
 use Rattle.ob_vault.specs.Words.{IsHonest}
 use Rattle.ob_vault.proofs.Runs.{went_join}
 use Rattle.ob_vault.proofs.WordLemmas.{went_rests}
-use Rattle.ob_script.specs.Script.{whole_script, with_table, mutation_script, shape_script}
+use Rattle.ob_script.specs.Saved.{left_region, region_at, whole_run}
+use Rattle.ob_script.specs.Script.{with_table, mutation_script, shape_script}
 use Rattle.ob_script.specs.Trace.{moved, tables_after}
 use Rattle.ob_flat.specs.declared.fault.OpErr.{OpErr}
 use Rattle.ob_flat.specs.declared.flat.Flat.{Flat}
@@ -33,7 +34,8 @@ use Rattle.ob_vault.specs.declared.region.Order.TheVariants.{Round}
 use Rattle.ob_flat.proofs.Resting.{represents_rests}
 use Rattle.ob_row.specs.Slots.{Slots}
 use Rattle.ob_mutate.specs.Mutating.{Mutates}
-use Rattle.ob_mutate.specs.declared.settling.Former.TheVariants.{Discard}
+use Rattle.ob_mutate.specs.declared.settling.Former.{Former}
+use Rattle.ob_mutate.specs.declared.settling.Former.TheVariants.{Discard, Keep}
 use Rattle.ob_sql.specs.declared.stmt.Stmt.{Stmt}
 use Rattle.ob_sql.specs.Skeleton.{skeleton}
 use Rattle.ob_mean.specs.Refusals.{early_refusal, limits_of}
@@ -46,12 +48,13 @@ use Rattle.ob_mean.specs.Lawful.{selects_rows}
 use Rattle.ob_mean.specs.Verdict.{Draws, Held, accessed, in_slots, Tables, is_late, verdict, ended as seen_to}
 use Rattle.ob_tables.specs.declared.engine.Engine.{Engine}
 use Rattle.ob_verdict.specs.declared.outcome.Outcome.{Outcome}
-use Rattle.ob_tables.specs.Engines.{IsAt, IsTable, AreTables, flat_of, others_of}
+use Rattle.ob_tables.specs.Engines.{IsAt, IsTable, AreTables, flat_of, former_of, others_of}
 use Rattle.ob_tables.specs.Agreeing.{Agrees, world_of, count_of}
 use Rattle.ob_tables.specs.Running.{HasNoRows, answer_of, is_stop}
 use Rattle.ob_verdict.specs.Outcomes.{refusal_now, outcome_of}
 use Rattle.ob_tables.specs.Serving.{ServesSilently}
 use Rattle.ob_tables.specs.Telling.{AreHeld, ReadsTrue, Represents}
+use Rattle.ob_tables.proofs.DropLemmas.{left_stays}
 use Rattle.ob_tables.proofs.HeldLemmas.{Beside, held_at, held_plain, held_moved}
 use Rattle.ob_tables.proofs.FoundLemmas.{named_flat, shape_found}
 use Rattle.ob_tables.proofs.PlainLemmas.{none_drawn}
@@ -69,11 +72,13 @@ pub record MeansFor {T : Type 0} (p : Public) (m : ℕ) (stmt : Stmt) (name : Li
   pub here : to slots ≡ after slots
 
 -- a statement that changes the slots of the table of a name
-pub record Alters {T : Type 0} (p : Public) (m : ℕ) (stmt : Stmt) (name : List ℕ) (heading : Heading) (part : ℕ → ℕ → ℕ → ℕ → List Access)
+pub record Alters {T : Type 0} (p : Public) (m : ℕ) (stmt : Stmt) (name : List ℕ) (heading : Heading) (parts : Former → ℕ → ℕ → ℕ → ℕ → List Access)
     (outcome : T → Outcome) (answer : Slots → T) (after : Slots → Slots) : Type 0 where
-  pub script : (end : End) → whole_script p (skeleton stmt) (seen_to end) ≡ with_table name p (shape_script p None (mutation_script p part))
+  pub script : (end : End) (t : Stored ℕ) → stored_at name (stored_regions p.tables) ≡ Some t → t.heading.shape ≡ FlatShape
+      → whole_run p (skeleton stmt) (seen_to end) ≡ mutation_script p (parts (former_of p)) t
+  pub leaves : left_region p (skeleton stmt) ≡ region_at name p
   pub more : ℕ → ℕ → ℕ → ℕ → List Access
-  pub makes : (t g blocks size : ℕ) → part t g blocks size ≡ make_at g blocks size ++ more t g blocks size
+  pub makes : (t g blocks size : ℕ) → parts (former_of p) t g blocks size ≡ make_at g blocks size ++ more t g blocks size
   pub tables : tables_after p (skeleton stmt) ≡ moved name p.next_region p.tables
   pub answers : (x : T) → IsAnswered (outcome x)
   pub silent : (x : T) → HasNoRows (outcome x)
@@ -83,11 +88,20 @@ pub record Alters {T : Type 0} (p : Public) (m : ℕ) (stmt : Stmt) (name : List
   pub meant : (tables : Tables) (x : Stored Held) → accessed tables stmt ≡ None → early_refusal (is_late m) (limits_of p) (headings tables) stmt ≡ None → stored_at name tables ≡ Some x
       → length x.held.slots ≡ x.heading.capacity → x.heading ≡ heading → MeansFor p m stmt name outcome answer after tables x.held.slots
 
-module _ {R T : Type 0} (state : R → RevState) (stmt : Stmt) (name : List ℕ) (part : ℕ → ℕ → ℕ → ℕ → List Access) (outcome : T → Outcome) (answer : Slots → T) (after : Slots → Slots)
+-- a flat table's change as the engine asks it
+pub mutation_run : (p : Public) (name : List ℕ) (parts : Former → ℕ → ℕ → ℕ → ℕ → List Access) (t : Stored ℕ) → stored_at name (stored_regions p.tables) ≡ Some t → t.heading.shape ≡ FlatShape
+    → (saves : Bool) → (if saves then with_table name p (mutation_script p (parts Keep)) else with_table name p (shape_script p None (mutation_script p (parts Discard))))
+    ≡ mutation_script p (parts (if saves then Keep else Discard)) t
+mutation_run p name parts t found flat true = ap (λ (o : Option (Stored ℕ)). option_map_or (mutation_script p (parts Keep)) o []) found
+mutation_run p name parts t found flat false =
+    ap (λ (o : Option (Stored ℕ)). option_map_or (shape_script p None (mutation_script p (parts Discard))) o []) found
+    ∙ shape_is p None (mutation_script p (parts Discard)) t flat
+
+module _ {R T : Type 0} (state : R → RevState) (stmt : Stmt) (name : List ℕ) (parts : Former → ℕ → ℕ → ℕ → ℕ → List Access) (outcome : T → Outcome) (answer : Slots → T) (after : Slots → Slots)
     (old : Engine R) (s s1 : StoreState) (v : Vault R) (room : RoomState) (t : StoreState) (i : ℕ) (table : Table) (flat left : Flat)
     (agrees : Agrees state old s) (rests : ChangesNothing s s1) (room_is : room ≡ record old.room { high = max old.room.high old.room.pack })
     (here : IsAt name i table old.public.tables) (flat_is : flat ≡ flat_of table) (now : refusal_now old.public (count_of old s) stmt ≡ None) (none : is_access old.public (skeleton stmt) ≡ false)
-    (alters : Alters old.public (count_of old s) stmt name table.heading part outcome answer after) where
+    (alters : Alters old.public (count_of old s) stmt name table.heading parts outcome answer after) where
   abbrev before : World
   before = at state old.vault s1
 
@@ -97,20 +111,27 @@ module _ {R T : Type 0} (state : R → RevState) (stmt : Stmt) (name : List ℕ)
   abbrev g : ℕ
   g = old.vault.next
 
+  abbrev kept : Former
+  kept = former_of old.public
+
+  abbrev part : ℕ → ℕ → ℕ → ℕ → List Access
+  part = parts kept
+
   abbrev x : List Access
   x = part table.region g (blocks_for old.room.pack table.heading.capacity) (old.room.pack * width table.heading.schema)
 
-  abbrev pub asks : Flat → List Access
-  asks f = part f.region old.vault.next (blocks_for old.room.pack f.capacity) (old.room.pack * width f.schema)
+  abbrev pub asks : Former → Flat → List Access
+  asks former f = parts former f.region old.vault.next (blocks_for old.room.pack f.capacity) (old.room.pack * width f.schema)
 
   shape_is_flat : table.heading.shape ≡ FlatShape
   shape_is_flat = shape_found name old.public.tables i table agrees.tables.names here.get here.named (alters.unindexed none)
 
-  script_is : (end : End) → whole_script old.public (skeleton stmt) (seen_to end) ≡ x
+  found_region : stored_at name (stored_regions old.public.tables) ≡ Some (stored_region table)
+  found_region = stored_found name old.public.tables i table agrees.tables.names here.get here.named
+
+  script_is : (end : End) → whole_run old.public (skeleton stmt) (seen_to end) ≡ x
   script_is end =
-      alters.script end
-      ∙ ap (λ (o : Option (Stored ℕ)). option_map_or (shape_script old.public None (mutation_script old.public part)) o []) (stored_found name old.public.tables i table agrees.tables.names here.get here.named)
-      ∙ shape_is old.public None (mutation_script old.public part) (stored_region table) shape_is_flat
+      alters.script end (stored_region table) found_region shape_is_flat
       ∙ (λ j. part table.region (agrees.next j) (blocks_for (sym agrees.room.pack j) table.heading.capacity) (sym agrees.room.pack j * width table.heading.schema))
 
   -- the table in place beside it, and its slots where room was made
@@ -139,7 +160,7 @@ module _ {R T : Type 0} (state : R → RevState) (stmt : Stmt) (name : List ℕ)
       let less = beside_below old.public.pack old.public.tables (others_of old.closing old.indexes.items) w.stash _ agrees.ready agrees.tables (agrees.tables.stand k w get).beside in
       omega (arith, less, same)
 
-  changed : (y : T) → Mutates Discard old.room.pack (flat_of table) left x answer after (Ok y) before done → old.ended ≡ false
+  changed : (y : T) → Mutates kept old.room.pack (flat_of table) left x answer after (Ok y) before done → old.ended ≡ false
       → ServesSilently state stmt (Ok (outcome y)) old s (engine_after old v room (slice_set old.public.tables i moved_table) Whole old.ended) t
   changed y mutates lives =
       let r = table.region in
@@ -159,7 +180,8 @@ module _ {R T : Type 0} (state : R → RevState) (stmt : Stmt) (name : List ℕ)
       (set ∙ ap (λ (n : ℕ). shifted name n old.public.tables) (sym agrees.next) ∙ sym (shifted_is name old.public.next_region old.public.tables (named_flat name old.public.tables agrees.tables.names (alters.unindexed none))) ∙ sym alters.tables)
       (subst (λ (ts : List Table). AreTables ts (others_of old.closing old.indexes.items) old.indexes.items old.public.pack done) (sym set)
       (tables_moved old.public.pack g r name old.public.tables (others_of old.closing old.indexes.items) old.indexes.items table i _ _ all.lasts agrees.ready refl agrees.tables here.get here.named refl shape_is_flat is_table
-      (λ shape live. absurd (cc (live, mutates.gone))) (λ q z. cases_eq q z))) in
+      (λ shape live. absurd (cc (live, mutates.gone))) (λ q z. cases_eq q z)))
+      (λ q is. left_stays old.public.save r s s1 t (left_region old.public (skeleton stmt)) q (alters.leaves ∙ ap (option_map (λ (u : Stored ℕ). u.held)) found_region) rests mutates.stays is) in
       finished state stmt old s agrees now alters.plain none alters.makes_none v room t (slice_set old.public.tables i moved_table) (outcome y) (alters.answers y) (alters.silent y) ran
       (keeps_pass state old s s1 rests agrees (engine_after old v room (slice_set old.public.tables i moved_table) Whole old.ended) t done refl (λ good accepts. mutates.seals.seals good (accepts _ _)))
       (λ tables d reads.
@@ -183,7 +205,7 @@ module _ {R T : Type 0} (state : R → RevState) (stmt : Stmt) (name : List ℕ)
             (subst (λ (ts : List Table). AreHeld old.public.pack old.indexes.items ts (changed_at name (in_slots meant.to) tables) done) (sym set) moved_are),
       ))
 
-  unchanged : (e : OpErr) (n : ℕ) → Mutates Discard old.room.pack (flat_of table) left x answer after (Err e) before done → n ≡ length t.asked - length s.asked
+  unchanged : (e : OpErr) (n : ℕ) → Mutates kept old.room.pack (flat_of table) left x answer after (Err e) before done → n ≡ length t.asked - length s.asked
       → ServesSilently state stmt (answer_of e) old s (engine_after old v room old.public.tables (Cut n) (is_stop (answer_of e))) t
   unchanged e n mutates count =
       cut_off state stmt old s agrees now alters.plain none alters.makes_none s1 v room t rests room_is x _ _ _ n e script_is (alters.makes _ _ _ _) mutates.err count mutates.gone
@@ -192,19 +214,21 @@ module _ {R T : Type 0} (state : R → RevState) (stmt : Stmt) (name : List ℕ)
       (λ good accepts. mutates.seals.seals good (accepts _ _))
 
   -- the table was changed
-  pub mutated : (y : T) (new : Engine R) (result : Result Outcome RunStop) → Mutates Discard old.room.pack flat left (asks flat) answer after (Ok y) before done → old.ended ≡ false
+  pub mutated : (former : Former) → former ≡ kept → (y : T) (new : Engine R) (result : Result Outcome RunStop) → Mutates former old.room.pack flat left (asks former flat) answer after (Ok y) before done → old.ended ≡ false
       → result ≡ Ok (outcome y) → new ≡ engine_after old v room (slice_set old.public.tables i (record table { region = left.region })) Whole old.ended
       → ServesSilently state stmt result old s new t
-  mutated y new result mutates lives answered is =
-      let all = subst (λ (f : Flat). Mutates Discard old.room.pack f left (asks f) answer after (Ok y) before done) flat_is mutates in
+  mutated former former_is y new result mutates lives answered is =
+      let all = subst (λ (f : Flat). Mutates kept old.room.pack f left (asks kept f) answer after (Ok y) before done) flat_is
+      (subst (λ (k : Former). Mutates k old.room.pack flat left (asks k flat) answer after (Ok y) before done) former_is mutates) in
       let region : left.region ≡ g = ap (λ (f : Flat). f.region) all.moves in
       serves_as state stmt old s t _ _ _ _ answered
       (is ∙ ap (λ (n : ℕ). engine_after old v room (slice_set old.public.tables i (record table { region = n })) Whole old.ended) region) (changed y all lives)
 
   -- it was not
-  pub unmutated : (e : OpErr) (n : ℕ) (new : Engine R) (result : Result Outcome RunStop) → Mutates Discard old.room.pack flat left (asks flat) answer after (Err e) before done
+  pub unmutated : (former : Former) → former ≡ kept → (e : OpErr) (n : ℕ) (new : Engine R) (result : Result Outcome RunStop) → Mutates former old.room.pack flat left (asks former flat) answer after (Err e) before done
       → n ≡ length t.asked - length s.asked → result ≡ answer_of e → new ≡ engine_after old v room old.public.tables (Cut n) (is_stop (answer_of e))
       → ServesSilently state stmt result old s new t
-  unmutated e n new result mutates count answered is =
+  unmutated former former_is e n new result mutates count answered is =
       serves_as state stmt old s t _ _ _ _ answered is
-      (unchanged e n (subst (λ (f : Flat). Mutates Discard old.room.pack f left (asks f) answer after (Err e) before done) flat_is mutates) count)
+      (unchanged e n (subst (λ (f : Flat). Mutates kept old.room.pack f left (asks kept f) answer after (Err e) before done) flat_is
+      (subst (λ (k : Former). Mutates k old.room.pack flat left (asks k flat) answer after (Err e) before done) former_is mutates)) count)

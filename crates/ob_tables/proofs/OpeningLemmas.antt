@@ -1,6 +1,6 @@
 -- An engine is opened: what is asked, how it may end, and which tables it has.
 use Rattle.ob_tables.proofs.TableLemmas.{no_entry, no_stash}
-use Rattle.std.proofs.Common.{◌≡◌, ◌≢◌, ◌⊎◌, inl, inr, ℕ, zero, suc, ◌+◌, ◌-◌, ◌*◌, ◌<◌, ◌≤◌, false, List, [], ◌∷◌, ◌++◌, length, length-append, map, Option, Some, None, Ok, Err, refl, sym, ◌∙◌, ap, subst, arith, append-nil}
+use Rattle.std.proofs.Common.{◌≡◌, ◌≢◌, ◌⊎◌, inl, inr, ℕ, zero, suc, ◌+◌, ◌-◌, ◌*◌, ◌<◌, ◌≤◌, true, false, List, [], ◌∷◌, ◌++◌, length, length-append, map, Option, Some, None, Ok, Err, refl, sym, ◌∙◌, ap, subst, arith, append-nil}
 use Rattle.std.specs.Prelude.{Bool, IsTrue, max, replicate, slice_get}
 use Rattle.std.specs.Option.{option_map}
 use Rattle.std.proofs.lemmas.Bool.{cases_eq, cases_lt}
@@ -553,6 +553,7 @@ module _ {R : Type 0} (state : R → RevState) (config : Config) (keys : KeySet)
           aside = λ q closed of. no_stash e.indexes.items q unindexed of;
           seeded = ap (λ (p : DrawPlace). p.key) draws_are ∙ ap (λ (k : KeySet). key_of (draw_seed_of k)) (sym keys_are);
           kept = λ keep. unindexed;
+          saved = subst (λ (p : Public). p.save ≡ true → p.keep ≡ true) (sym public_is) is_config.2;
         }
 
         nolie_before : t.lie ≡ None → s2.lie ≡ None

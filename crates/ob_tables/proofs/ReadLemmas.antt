@@ -1,5 +1,5 @@
 -- A statement that reads a table and changes none.
-use Rattle.std.proofs.Common.{◌≡◌, ◌-◌, ℕ, false, List, [], length, Some, Option, Ok, refl, sym, ◌∙◌, ap, subst, arith, slice_get}
+use Rattle.std.proofs.Common.{◌≡◌, inr, ◌-◌, ℕ, false, List, [], length, Some, None, Option, Ok, refl, sym, ◌∙◌, ap, subst, arith, slice_get}
 use Rattle.std.specs.Option.{option_map_or}
 use Rattle.ob_base.specs.declared.access.Access.{Access}
 use Rattle.ob_base.specs.declared.schema.Table.{Table}
@@ -14,7 +14,8 @@ use Rattle.ob_room.specs.RoomState.{RoomState}
 use Rattle.ob_store.specs.State.{StoreState}
 use Rattle.ob_store.specs.Calls.{ChangesNothing}
 use Rattle.ob_script.specs.Parts.{count_part}
-use Rattle.ob_script.specs.Script.{whole_script, blocks_of, extent_of}
+use Rattle.ob_script.specs.Saved.{whole_run}
+use Rattle.ob_script.specs.Script.{blocks_of, extent_of}
 use Rattle.ob_vault.specs.State.{RevState, World}
 use Rattle.ob_vault.specs.Calls.{Lasts, Went, none}
 use Rattle.ob_vault.specs.Places.{at}
@@ -38,7 +39,7 @@ use Rattle.ob_tables.specs.Running.{answer_of, is_stop, RanStatement}
 use Rattle.ob_select.specs.Selecting.{UsesRoom}
 use Rattle.ob_tables.specs.Telling.{AreHeld}
 use Rattle.ob_tables.proofs.HeldLemmas.{held_kept}
-use Rattle.ob_tables.proofs.RunLemmas.{IsAnswered, engine_after, ran_stopped, ran_whole}
+use Rattle.ob_tables.proofs.RunLemmas.{IsAnswered, engine_after, leaves_none, none_by, ran_stopped, ran_whole}
 use Rattle.ob_tables.proofs.TableLemmas.{flat_kept, tables_kept, stored_found}
 use Rattle.ob_select.proofs.RoomLemmas.{free_after}
 
@@ -72,7 +73,7 @@ module _ {R : Type 0} (state : R → RevState) (old : Engine R) (s s1 : StoreSta
   abbrev now : World
   now = at state v t
 
-  pub reads_is : (end : End) → whole_script old.public select (seen_to end) ≡ reads
+  pub reads_is : (end : End) → whole_run old.public select (seen_to end) ≡ reads
   reads_is end =
       ap (λ (o : Option (Stored ℕ)). option_map_or (λ (u : Stored ℕ). count_part u.held (blocks_of old.public (extent_of u))) o [])
       (stored_found name old.public.tables i table agrees.tables.names here.get here.named)
@@ -99,6 +100,7 @@ module _ {R : Type 0} (state : R → RevState) (old : Engine R) (s s1 : StoreSta
   read_done outcome answered went lives =
       let all = went_all went in
       ran_whole state select old s v room t agrees free refl none old.public.tables reads outcome lives answered (opened reads) all (reads_is Whole) refl (tables_read all.lasts)
+      (λ q is. leaves_none old.public select Whole q _ (none_by old.public.save None (inr refl)) is)
 
   -- the pass gave up
   pub cut_after : (e : OpErr) → PassCut e reads none (at state old.vault s1) now → PassCut e reads none (world_of state old s) now

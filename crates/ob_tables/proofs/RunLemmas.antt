@@ -1,5 +1,5 @@
 -- How a statement of an engine ends.
-use Rattle.std.proofs.Common.{IsTrue, ◌≡◌, inl, ◌≤◌, ◌+◌, ◌-◌, ◌%◌, ◌^◌, max, ℕ, Bool, true, false, List, [], ◌++◌, length, take, Ok, Err, OnOk, Some, Result, Global, slice_get, refl, sym, ◌∙◌, ap, subst, arith, append-nil}
+use Rattle.std.proofs.Common.{IsTrue, ◌≡◌, ◌⊎◌, inl, inr, ◌≤◌, ◌+◌, ◌-◌, ◌%◌, ◌^◌, max, ℕ, Bool, true, false, if◌then◌else◌, List, [], ◌++◌, length, take, Ok, Err, OnOk, Option, Some, None, Result, Global, slice_get, refl, sym, ◌∙◌, ap, subst, arith, append-nil}
 use Rattle.std.specs.declared.vec.Vec.{Vec}
 use Rattle.ob_base.specs.declared.access.Access.{Access}
 use Rattle.ob_base.specs.declared.config.Public.{Public}
@@ -22,7 +22,8 @@ use Rattle.ob_vault.specs.Calls.{Went}
 use Rattle.ob_flat.specs.declared.fault.OpErr.{OpErr}
 use Rattle.ob_flat.specs.declared.fault.OpErr.TheVariants as OpErrs
 use Rattle.ob_flat.specs.Passes.{PassCut, PassCause, is_of_access}
-use Rattle.ob_script.specs.Script.{script, whole_script}
+use Rattle.ob_mutate.specs.Mutating.{StaysStored}
+use Rattle.ob_script.specs.Saved.{left_by, left_then, run_script, whole_run}
 use Rattle.std.specs.Prelude.{◌<◌}
 use Rattle.std.specs.Result.{is_err}
 use Rattle.std.proofs.lemmas.Bool.Decides.{nat_tests}
@@ -50,6 +51,7 @@ use Rattle.ob_tables.specs.Agreeing.{Agrees, AreDraws, world_of}
 use Rattle.ob_select.specs.Opening.{Opens}
 use Rattle.ob_tables.specs.Running.{answer_of, is_fault, is_stop, outcome_end, result_end, stops_access, RunCause, GoesOn, Continues, RanStatement, IsFaulted}
 use Rattle.ob_select.proofs.RoomLemmas.{free_after}
+use Rattle.ob_tables.proofs.TableLemmas.{no_entry}
 
 abbrev pub world : VaultState → StoreState → World
 world v s = record { vault = v; store = s }
@@ -113,6 +115,28 @@ asks_cut (OpErrs.Tampered q x) s t asks faulted = absurd faulted
 asks_cut OpErrs.Sink s t asks faulted = absurd faulted
 asks_cut OpErrs.NoMemory s t asks faulted = absurd faulted
 
+-- ---- what a statement leaves in the store
+-- nothing, where it leaves no region
+pub leaves_none : (p : Public) (s : Skeleton) (end : End) (q : ℕ) (P : Type 0) → left_by p s ≡ None → left_then p s end ≡ Some q → P
+leaves_none p s Static q P none is = absurd (cc is)
+leaves_none p s Whole q P none is = absurd (cc (none, is))
+leaves_none p s AfterCount q P none is = absurd (cc is)
+leaves_none p s (Cut n) q P none is = absurd (cc is)
+
+-- as where tables aren't saved, or none is changed
+pub none_by : (saves : Bool) (o : Option ℕ) → (saves ≡ false) ⊎ (o ≡ None) → (if saves then o else None) ≡ None
+none_by true o (inl not) = absurd (cc not)
+none_by true o (inr none) = none
+none_by false o why = refl
+
+-- where there is an index tables aren't saved
+pub unsaved : {R : Type 0} (state : R → RevState) (old : Engine R) (s : StoreState) (k : ℕ) (x : Index) → Agrees state old s → slice_get old.indexes.items k ≡ Some x → old.public.save ≡ false
+unsaved state old s k x agrees get = go old.public.save refl
+  where
+    go : (b : Bool) → old.public.save ≡ b → old.public.save ≡ false
+    go true saves = absurd (no_entry old.indexes.items k x (agrees.kept (agrees.saved saves)) get)
+    go false not = not
+
 -- ---- indexes and draws beside the tables
 -- an engine may go on with these indexes
 pub record MayHave {R : Type 0} (old : Engine R) (indexes : List Index) : Type 0 where
@@ -166,11 +190,13 @@ module _ {R : Type 0} (state : R → RevState) (skeleton : Skeleton) (old : Engi
         aside = agrees.aside;
         seeded = agrees.seeded;
         kept = agrees.kept;
+        saved = agrees.saved;
       };
       public = let same : old.public.next_region ≡ old.public.next_region + makes [] = omega (arith, makes_none) in λ i. record old.public { next_region = same i };
       lives = lives;
       drawn = λ d are. draws_same old (record old { seen = seen_to Static }) d 0 refl refl refl are;
     };
+    stays = λ q is. absurd (cc is);
     indexed = λ stops. absurd (cc stops);
   }
 
@@ -199,13 +225,13 @@ module _ {R : Type 0} (state : R → RevState) (skeleton : Skeleton) (old : Engi
     (agrees : Agrees state old s) (free : IsFree old.public room) where
   pub left_on : (indexes : Vec Index Global) (draws : DrawPlace) (tables : List Table) (seen : Seen) (x : List Access) (ended : Bool) → ended ≡ false → Ready (at state v t)
       → start_of v ≡ start_of old.vault → v.keys ≡ old.vault.keys → t.asked ≡ s.asked ++ x
-      → script old.public skeleton seen ≡ x → tables ≡ tables_then old.public skeleton seen.end → AreTables tables (others_of old.closing indexes.items) indexes.items old.public.pack (at state v t)
+      → run_script old.public skeleton seen ≡ x → tables ≡ tables_then old.public skeleton seen.end → AreTables tables (others_of old.closing indexes.items) indexes.items old.public.pack (at state v t)
       → MayHave old indexes.items → draws.key ≡ old.draws.key
       → ((d : Draws) → AreDraws old d → draws.next ≡ (d.drawn + draws_taken old.public skeleton seen.end) % 2 ^ 67)
       → GoesOn state skeleton old (engine_left old indexes draws v room tables seen ended) t
   left_on indexes draws tables seen x ended lives ready start keys asked is same are may key drawn =
       let number = next_after (world_of state old s) (at state v t) x agrees.ready ready start asked in
-      let region : v.next ≡ old.public.next_region + makes (script old.public skeleton seen) =
+      let region : v.next ≡ old.public.next_region + makes (run_script old.public skeleton seen) =
       number ∙ ap (λ (n : ℕ). n + makes x) (sym agrees.next) ∙ ap (λ (y : List Access). old.public.next_region + makes y) (sym is) in
       record {
         agrees = record {
@@ -219,6 +245,7 @@ module _ {R : Type 0} (state : R → RevState) (skeleton : Skeleton) (old : Engi
           aside = may.aside;
           seeded = key ∙ agrees.seeded ∙ ap (λ (ks : KeySet). key_of (draw_seed_of ks)) (sym keys);
           kept = may.kept;
+          saved = agrees.saved;
         };
         public = λ i. record old.public { tables = same i; next_region = region i };
         lives = lives;
@@ -246,8 +273,8 @@ module _ {R : Type 0} (state : R → RevState) (skeleton : Skeleton) (old : Engi
 
   -- a pass gave up, which left the indexes
   pub stopped_left : (indexes : Vec Index Global) (draws : DrawPlace) (some : ℕ → Type 0) (n : ℕ) (x : List Access) (e : OpErr) → indexes.items ≡ old.indexes.items
-      → Opens (script old.public skeleton (seen_to (Cut n))) old.room.high room.high → PassCut e x some (world_of state old s) (at state v t)
-      → whole_script old.public skeleton (seen_to (Cut n)) ≡ x → n ≡ length t.asked - length s.asked → AreTables old.public.tables (others_of old.closing indexes.items) indexes.items old.public.pack (at state v t)
+      → Opens (run_script old.public skeleton (seen_to (Cut n))) old.room.high room.high → PassCut e x some (world_of state old s) (at state v t)
+      → whole_run old.public skeleton (seen_to (Cut n)) ≡ x → n ≡ length t.asked - length s.asked → AreTables old.public.tables (others_of old.closing indexes.items) indexes.items old.public.pack (at state v t)
       → MayHave old indexes.items → draws.key ≡ old.draws.key → ((d : Draws) → AreDraws old d → draws.next ≡ (d.drawn + drawn_by old.public skeleton) % 2 ^ 67)
       → RanStatement state skeleton (answer_of e) old s (engine_left old indexes draws v room old.public.tables (seen_to (Cut n)) (is_stop (answer_of e))) t
   stopped_left indexes draws some n x e same opens cut is count are may key drawn =
@@ -265,13 +292,14 @@ module _ {R : Type 0} (state : R → RevState) (skeleton : Skeleton) (old : Engi
         opened = opens;
         leaves = λ d of. inl (refl, λ goes. same);
         goes_on = cut_on e indexes draws n (left_on indexes draws old.public.tables (seen_to (Cut n)) (take n x) false refl cut.lasts.ready cut.lasts.start cut.lasts.keys first (ap (take n) is) refl are may key drawn);
+        stays = λ q is. absurd (cc is);
         indexed = λ stops. absurd (no_access e stops);
       }
 
 module _ {R : Type 0} (state : R → RevState) (skeleton : Skeleton) (old : Engine R) (s : StoreState) (v : Vault R) (room : RoomState) (t : StoreState)
     (agrees : Agrees state old s) (free : IsFree old.public room) (undrawn : drawn_by old.public skeleton ≡ 0) where
   went_on : (tables : List Table) (end : End) (x : List Access) (ended : Bool) → ended ≡ false → Ready (at state v t) → start_of v ≡ start_of old.vault → v.keys ≡ old.vault.keys → t.asked ≡ s.asked ++ x
-      → script old.public skeleton (seen_to end) ≡ x → tables ≡ tables_then old.public skeleton end → AreTables tables (others_of old.closing old.indexes.items) old.indexes.items old.public.pack (at state v t)
+      → run_script old.public skeleton (seen_to end) ≡ x → tables ≡ tables_then old.public skeleton end → AreTables tables (others_of old.closing old.indexes.items) old.indexes.items old.public.pack (at state v t)
       → GoesOn state skeleton old (engine_after old v room tables end ended) t
   went_on tables end x ended lives ready start keys asked is same are =
       left_on state skeleton old s v room t agrees free old.indexes old.draws tables (seen_to end) x ended lives ready start keys asked is same are (may_have state old s agrees) refl
@@ -281,9 +309,10 @@ module _ {R : Type 0} (state : R → RevState) (skeleton : Skeleton) (old : Engi
 
   -- all of it was asked
   pub ran_whole : (some : ℕ → Type 0) (tables : List Table) (x : List Access) (outcome : Outcome) → old.ended ≡ false → IsAnswered outcome → Opens x old.room.high room.high
-      → Went x some (world_of state old s) (at state v t) → whole_script old.public skeleton (seen_to Whole) ≡ x → tables ≡ tables_after old.public skeleton
-      → AreTables tables (others_of old.closing old.indexes.items) old.indexes.items old.public.pack (at state v t) → RanStatement state skeleton (Ok outcome) old s (engine_after old v room tables Whole old.ended) t
-  ran_whole some tables x outcome lives answered opens went is same are = record {
+      → Went x some (world_of state old s) (at state v t) → whole_run old.public skeleton (seen_to Whole) ≡ x → tables ≡ tables_after old.public skeleton
+      → AreTables tables (others_of old.closing old.indexes.items) old.indexes.items old.public.pack (at state v t) → ((q : ℕ) → left_by old.public skeleton ≡ Some q → StaysStored q s t)
+      → RanStatement state skeleton (Ok outcome) old s (engine_after old v room tables Whole old.ended) t
+  ran_whole some tables x outcome lives answered opens went is same are stays = record {
     asked = went.did.asked ∙ ap (λ (y : List Access). s.asked ++ y) (sym is);
     later = went.lasts.later;
     keys = went.lasts.keys;
@@ -296,12 +325,13 @@ module _ {R : Type 0} (state : R → RevState) (skeleton : Skeleton) (old : Engi
     opened = subst (λ (y : List Access). Opens y old.room.high room.high) (sym is) opens;
     leaves = λ d of. inl (refl, λ goes. refl);
     goes_on = went_on tables Whole x old.ended lives went.lasts.ready went.lasts.start went.lasts.keys went.did.asked is same are;
+    stays = stays;
     indexed = λ stops. absurd (cc stops);
   }
 
   -- a pass gave up
-  pub ran_stopped : (some : ℕ → Type 0) (n : ℕ) (x : List Access) (e : OpErr) → Opens (script old.public skeleton (seen_to (Cut n))) old.room.high room.high → PassCut e x some (world_of state old s) (at state v t)
-      → whole_script old.public skeleton (seen_to (Cut n)) ≡ x → n ≡ length t.asked - length s.asked → AreTables old.public.tables (others_of old.closing old.indexes.items) old.indexes.items old.public.pack (at state v t)
+  pub ran_stopped : (some : ℕ → Type 0) (n : ℕ) (x : List Access) (e : OpErr) → Opens (run_script old.public skeleton (seen_to (Cut n))) old.room.high room.high → PassCut e x some (world_of state old s) (at state v t)
+      → whole_run old.public skeleton (seen_to (Cut n)) ≡ x → n ≡ length t.asked - length s.asked → AreTables old.public.tables (others_of old.closing old.indexes.items) old.indexes.items old.public.pack (at state v t)
       → RanStatement state skeleton (answer_of e) old s (engine_after old v room old.public.tables (Cut n) (is_stop (answer_of e))) t
   ran_stopped some n x e opens cut is count are =
       stopped_left state skeleton old s v room t agrees free old.indexes old.draws some n x e refl opens cut is count are (may_have state old s agrees) refl
@@ -318,14 +348,15 @@ module _ {R : Type 0} (state : R → RevState) (skeleton : Skeleton) (old : Engi
 
   -- all of a pass over the room was asked
   pub ran_done : (some : ℕ → Type 0) (tables : List Table) (x : List Access) (outcome : Outcome) → old.ended ≡ false → IsAnswered outcome → Went x some (world_of state old s) (at state v t)
-      → whole_script old.public skeleton (seen_to Whole) ≡ x → tables ≡ tables_after old.public skeleton → AreTables tables (others_of old.closing old.indexes.items) old.indexes.items old.public.pack (at state v t)
+      → whole_run old.public skeleton (seen_to Whole) ≡ x → tables ≡ tables_after old.public skeleton → AreTables tables (others_of old.closing old.indexes.items) old.indexes.items old.public.pack (at state v t)
+      → ((q : ℕ) → left_by old.public skeleton ≡ Some q → StaysStored q s t)
       → RanStatement state skeleton (Ok outcome) old s (engine_after old v room tables Whole old.ended) t
-  ran_done some tables x outcome lives answered went is same are =
-      ran_whole state skeleton old s v room t agrees free undrawn some tables x outcome lives answered (opened x) went is same are
+  ran_done some tables x outcome lives answered went is same are stays =
+      ran_whole state skeleton old s v room t agrees free undrawn some tables x outcome lives answered (opened x) went is same are stays
 
   -- a pass over the room gave up
   pub ran_cut : (some : ℕ → Type 0) (n : ℕ) (x : List Access) (e : OpErr) → PassCut e x some (world_of state old s) (at state v t)
-      → whole_script old.public skeleton (seen_to (Cut n)) ≡ x → n ≡ length t.asked - length s.asked → AreTables old.public.tables (others_of old.closing old.indexes.items) old.indexes.items old.public.pack (at state v t)
+      → whole_run old.public skeleton (seen_to (Cut n)) ≡ x → n ≡ length t.asked - length s.asked → AreTables old.public.tables (others_of old.closing old.indexes.items) old.indexes.items old.public.pack (at state v t)
       → RanStatement state skeleton (answer_of e) old s (engine_after old v room old.public.tables (Cut n) (is_stop (answer_of e))) t
   ran_cut some n x e cut is count are = ran_stopped state skeleton old s v room t agrees free undrawn some n x e (opened _) cut is count are
 
@@ -367,6 +398,7 @@ ran_unasked state skeleton old s t indexes draws tables agrees rests =
       opened = opens_none old.room.high;
       leaves = λ d of. inl (refl, λ goes. absurd (cc goes));
       goes_on = refl;
+      stays = λ q is. absurd (cc is);
       indexed = λ stops. absurd (cc stops);
     }
 

@@ -24,7 +24,7 @@ use Rattle.ob_flat.specs.declared.fault.OpErr.TheVariants as OpErrs
 use Rattle.ob_flat.specs.Flats.{Accepts}
 use Rattle.ob_flat.specs.Passes.{PassCut}
 use Rattle.ob_flat.proofs.Runs.{pass_after}
-use Rattle.ob_script.specs.Script.{whole_script}
+use Rattle.ob_script.specs.Saved.{whole_run}
 use Rattle.ob_sql.specs.declared.stmt.Stmt.{Stmt}
 use Rattle.ob_sql.specs.Skeleton.{skeleton}
 use Rattle.ob_mean.proofs.FlatLemmas.{MakesFlat}
@@ -83,7 +83,7 @@ module _ {R : Type 0} (state : R → RevState) (stmt : Stmt) (old : Engine R) (s
         silent = tt;
         memory = λ is. record {
           done = [];
-          rest = whole_script old.public (skeleton stmt) (seen_to (Cut 0));
+          rest = whole_run old.public (skeleton stmt) (seen_to (Cut 0));
           split = refl;
           asked = rests.asked ∙ sym (append-nil s.asked);
           place = inl (inl refl);
@@ -194,7 +194,7 @@ module _ {R : Type 0} (state : R → RevState) (stmt : Stmt) (old : Engine R) (s
 
   module _ (s1 : StoreState) (v : Vault R) (room : RoomState) (t : StoreState) (rests : ChangesNothing s s1) (room_is : room ≡ record old.room { high = max old.room.high old.room.pack }) where
     -- a pass that makes a region first gave up
-    pub cut_off : (x more : List Access) (blocks size n : ℕ) (e : OpErr) → ((end : End) → whole_script old.public (skeleton stmt) (seen_to end) ≡ x)
+    pub cut_off : (x more : List Access) (blocks size n : ℕ) (e : OpErr) → ((end : End) → whole_run old.public (skeleton stmt) (seen_to end) ≡ x)
         → x ≡ make_at old.vault.next blocks size ++ more → PassCut e x (one old.vault.next) (at state old.vault s1) (at state v t) → n ≡ length t.asked - length s.asked
         → ((state v.revs).live old.vault.next ≡ None) → (e ≡ OpErrs.NoMemory → Did (make_at old.vault.next blocks size) s1 t) → IsSilent (answer_of e)
         → ((tables : Tables) → ReadsTrue state old s t tables → IsFault e)

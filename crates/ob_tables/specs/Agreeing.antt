@@ -35,11 +35,7 @@ seen_of e = e.seen
 abbrev pub opened_from : {R : Type 0} → Engine R → Option ℕ
 opened_from e = e.closing
 
--- the region in which a table lay before the last statement changed it, until that is discarded
-abbrev pub left_of : {R : Type 0} → Engine R → Option ℕ
-left_of e = e.left
-
--- the closing before the last, likewise
+-- the closing before the last, until it is discarded
 abbrev pub replaced_of : {R : Type 0} → Engine R → Option ℕ
 replaced_of e = e.replaced
 
@@ -94,5 +90,6 @@ pub record Agrees {R : Type 0} (state : R → RevState) (e : Engine R) (s : Stor
   pub aside : (q : ℕ) → e.closing ≡ Some q → IsStashOf e.indexes.items q → ⊥
   -- draws come of the keys
   pub seeded : e.draws.key ≡ key_of (draw_seed_of e.vault.keys)
-  -- where tables are kept none is an index
+  -- where tables are kept none is an index, and those that are saved are kept
   pub kept : e.public.keep ≡ true → e.indexes.items ≡ []
+  pub saved : e.public.save ≡ true → e.public.keep ≡ true

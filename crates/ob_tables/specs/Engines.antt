@@ -1,5 +1,5 @@
 -- The tables of an engine, and the store that it is used with.
-use Rattle.std.specs.Prelude.{◌≡◌, ◌⊎◌, ◌≤◌, ◌+◌, ℕ, List, Option, Some, length, slice_get}
+use Rattle.std.specs.Prelude.{◌≡◌, ◌⊎◌, ◌≤◌, ◌+◌, ℕ, true, if◌then◌else◌, List, Option, Some, length, slice_get}
 use Rattle.ob_base.specs.declared.config.Config.{Config}
 use Rattle.ob_base.specs.declared.config.Public.{Public}
 use Rattle.ob_base.specs.declared.schema.Shape.TheVariants.{Flat as FlatShape, Indexed}
@@ -13,6 +13,8 @@ use Rattle.ob_vault.specs.Tied.{Lives}
 use Rattle.ob_vault.specs.declared.region.Region.{Region}
 use Rattle.ob_vault.specs.declared.region.Order.TheVariants.{Round}
 use Rattle.ob_flat.specs.declared.flat.Flat.{Flat}
+use Rattle.ob_mutate.specs.declared.settling.Former.{Former}
+use Rattle.ob_mutate.specs.declared.settling.Former.TheVariants.{Discard, Keep}
 use Rattle.ob_select.specs.Settings.{IsSettings}
 use Rattle.ob_flat.specs.Flats.{IsFlat, table_region}
 
@@ -42,9 +44,15 @@ pub record IsStash (slots : ℕ) : Type 0 where
   pub some : 1 ≤ slots
   pub few : slots ≤ 1024
 
--- settings that an engine may be started with
+-- settings that an engine may be started with: tables that are saved are kept
 abbrev pub IsConfig : Config → Type 0
-IsConfig config = IsSettings config.buffer config.depth config.pack config.plan config.pad × IsStash config.stash
+IsConfig config =
+    IsSettings config.buffer config.depth config.pack config.plan config.pad × IsStash config.stash
+    × (config.save ≡ true → config.keep ≡ true)
+
+-- the region in which a table lay before it was changed stays in the store where tables are saved
+abbrev pub former_of : Public → Former
+former_of p = if p.save then Keep else Discard
 
 -- one of the tables lies in this region
 pub record IsTableRegion (tables : List Table) (q : ℕ) : Type 0 where

@@ -14,13 +14,13 @@ use Rattle.ob_store.specs.Runs.{Later}
 use Rattle.ob_vault.specs.State.{RevState, World}
 use Rattle.ob_vault.specs.Calls.{EndsRead}
 use Rattle.ob_vault.specs.Tied.{Calm, EndsAt}
-use Rattle.ob_script.specs.Script.{script}
+use Rattle.ob_mutate.specs.Mutating.{StaysStored}
+use Rattle.ob_script.specs.Saved.{left_then, run_next, run_script}
 use Rattle.ob_mean.specs.Lawful.{height_at}
 use Rattle.ob_mean.specs.Replay.{draws_taken, is_access}
 use Rattle.ob_mean.specs.Verdict.{Draws, ended as seen_to}
 use Rattle.ob_oram.specs.declared.fault.OramErr.{OramErr}
 use Rattle.ob_oram.specs.declared.fault.OramErr.TheVariants as OramErrs
-use Rattle.ob_script.specs.Trace.{next}
 use Rattle.ob_flat.specs.declared.fault.OpErr.{OpErr}
 use Rattle.ob_flat.specs.declared.fault.OpErr.TheVariants as OpErrs
 use Rattle.ob_mutate.specs.declared.inserting.Inserted.{Inserted as InsertedAs}
@@ -104,7 +104,7 @@ IsFaulted (Err stop) = ⊥
 -- what follows from the statement and what was seen of it
 pub record GoesOn {R : Type 0} (state : R → RevState) (skeleton : Skeleton) (old new : Engine R) (t : StoreState) : Type 0 where
   pub agrees : Agrees state new t
-  pub public : new.public ≡ next old.public skeleton new.seen
+  pub public : new.public ≡ run_next old.public skeleton new.seen
   pub lives : new.ended ≡ false
   -- it drew as many numbers as its statement does
   pub drawn : (d : Draws) → AreDraws old d
@@ -118,7 +118,7 @@ Continues state skeleton (Err stop) old new t = new.ended ≡ true
 -- was open where a block was read or written
 pub record RanStatement {R : Type 0} (state : R → RevState) (skeleton : Skeleton) (result : Result Outcome RunStop)
     (old : Engine R) (s : StoreState) (new : Engine R) (t : StoreState) : Type 0 where
-  pub asked : t.asked ≡ s.asked ++ script old.public skeleton new.seen
+  pub asked : t.asked ≡ s.asked ++ run_script old.public skeleton new.seen
   pub later : Later s t
   pub keys : new.vault.keys ≡ old.vault.keys
   pub start : engine_start new ≡ engine_start old
@@ -127,10 +127,12 @@ pub record RanStatement {R : Type 0} (state : R → RevState) (skeleton : Skelet
   pub asks : IsFaulted result → length s.asked < length t.asked
   pub cause : RunCause result (world_of state old s) (world_of state new t)
   pub room : IsFree old.public new.room
-  pub opened : Opens (script old.public skeleton new.seen) old.room.high new.room.high
+  pub opened : Opens (run_script old.public skeleton new.seen) old.room.high new.room.high
   pub leaves : (d : Draws) → AreDraws old d → MovesLeaves d (draws_taken old.public skeleton new.seen.end)
       (height_at old.public skeleton) old.indexes.items new.seen.leaf new.ended new.indexes.items
   pub goes_on : Continues state skeleton result old new t
+  -- the region that it leaves stays in the store
+  pub stays : (q : ℕ) → left_then old.public skeleton new.seen.end ≡ Some q → StaysStored q s t
   pub indexed : stops_access result ≡ true → is_access old.public skeleton ≡ true
 
 -- a stop by the sink comes only where a call of the emitter failed, and always where one did

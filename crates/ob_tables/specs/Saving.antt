@@ -26,7 +26,7 @@ use Rattle.ob_store.specs.State.{StoreState}
 use Rattle.ob_vault.specs.Calls.{Seals}
 use Rattle.ob_vault.specs.State.{RevState}
 use Rattle.ob_vault.specs.Tied.{AllSealed, Calm, Scope, next_fault}
-use Rattle.ob_tables.specs.Agreeing.{Agrees, draws_of, engine_keys, engine_start, has_ended, left_of, opened_from, public_of, replaced_of, world_of}
+use Rattle.ob_tables.specs.Agreeing.{Agrees, draws_of, engine_keys, engine_start, has_ended, opened_from, public_of, replaced_of, world_of}
 use Rattle.ob_tables.specs.Closing.{next_closing}
 use Rattle.ob_tables.specs.Reopening.{IsOpened}
 use Rattle.ob_tables.specs.Running.{is_stop}
@@ -42,10 +42,11 @@ pub record WaitsAt {R : Type 0} (state : R → RevState) (q : ℕ) (e : Engine R
   pub forgotten : (state e.vault.revs).live q ≡ None
 
 -- the region in which a table lay before it was changed, and the closing before the last, if there are such
-pub record Waits {R : Type 0} (state : R → RevState) (e : Engine R) (s : StoreState) : Type 0 where
-  pub left : (q : ℕ) → left_of e ≡ Some q → WaitsAt state q e s
+pub record Waits {R : Type 0} (state : R → RevState) (left : Option ℕ) (e : Engine R)
+    (s : StoreState) : Type 0 where
+  pub former : (q : ℕ) → left ≡ Some q → WaitsAt state q e s
   pub replaced : (q : ℕ) → replaced_of e ≡ Some q → WaitsAt state q e s
-  pub apart : (q : ℕ) → left_of e ≡ Some q → replaced_of e ≡ Some q → ⊥
+  pub apart : (q : ℕ) → left ≡ Some q → replaced_of e ≡ Some q → ⊥
 
 -- ---- saving
 -- the tables are listed in the next closing, and no region that was there before is asked for
@@ -67,9 +68,10 @@ pub record IsSaved {R : Type 0} (state : R → RevState) (mark : Mark) (e : Engi
   pub agrees : Agrees state saved t
   pub public : public_of saved ≡ saved_public (public_of e)
   pub closing : opened_from saved ≡ Some (next_closing e s).region
-  pub left : left_of saved ≡ left_of e
   pub replaced : replaced_of saved ≡ opened_from e
-  pub waits : Waits state saved t
+  pub waits : (left : Option ℕ) → Waits state left e s → Waits state left saved t
+  -- what waits can be discarded
+  pub spare : 2 ≤ t.spare
 
 -- an engine's tables were saved, or why not: then the session has ended
 pub record SavesEngine {R : Type 0} (state : R → RevState) (result : Result Mark CloseErr)
@@ -94,15 +96,15 @@ pub record SavesEngine {R : Type 0} (state : R → RevState) (result : Result Ma
       → AcceptsClosings good → Seals good (world_of state e s) (world_of state saved t)
 
 -- ---- discarding what the mark doesn't need any more
-pub record SettlesEngine {R : Type 0} (state : R → RevState) (e : Engine R) (s : StoreState)
-    (settled : Engine R) (t : StoreState) : Type 0 where
-  pub asked : t.asked ≡ s.asked ++ (drop_script (left_of e) ++ drop_script (replaced_of e))
+pub record SettlesEngine {R : Type 0} (state : R → RevState) (left : Option ℕ) (e : Engine R)
+    (s : StoreState) (settled : Engine R) (t : StoreState) : Type 0 where
+  pub asked : t.asked ≡ s.asked ++ (drop_script left ++ drop_script (replaced_of e))
   pub faults : t.faults ≡ s.faults
   pub later : Later s t
   pub calm : Calm (world_of state e s) → Calm (world_of state settled t)
-  pub is : settled ≡ record e { left = None; replaced = None }
+  pub is : settled ≡ record e { replaced = None }
   pub agrees : Agrees state settled t
-  pub kept : (q : ℕ) → (left_of e ≡ Some q → ⊥) → (replaced_of e ≡ Some q → ⊥)
+  pub kept : (q : ℕ) → (left ≡ Some q → ⊥) → (replaced_of e ≡ Some q → ⊥)
       → t.kept q ≡ s.kept q
   pub told : (tables : Tables) → Represents state e s tables → Represents state settled t tables
   pub sealed : (good : ℕ → List ℕ → Bool) → Seals good (world_of state e s) (world_of state settled t)
@@ -128,7 +130,6 @@ pub record IsOpenedBy {R : Type 0} (state : R → RevState) (config : Config) (s
   pub keys : KeySet
   pub opened : IsOpened state config keys closing e s t
   pub keyed : keys ≡ reopening_keys secret salt closed closing opened.listed
-  pub left : left_of e ≡ None
   pub replaced : replaced_of e ≡ None
 
 -- it was opened, or why not

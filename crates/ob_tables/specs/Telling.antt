@@ -14,7 +14,7 @@ use Rattle.ob_oram.specs.declared.index.Index.{Index}
 use Rattle.ob_base.specs.declared.schema.Table.{Table}
 use Rattle.ob_base.specs.Events.{Event}
 use Rattle.ob_store.specs.State.{StoreState}
-use Rattle.ob_script.specs.Script.{script}
+use Rattle.ob_script.specs.Saved.{run_script}
 use Rattle.ob_vault.specs.State.{RevState, World}
 use Rattle.ob_vault.specs.Tied.{Calm, IsUnfit}
 use Rattle.ob_vault.specs.Calls.{Seals}
@@ -71,7 +71,7 @@ pub record ReadsTrueUntil {R : Type 0} (state : R → RevState) (old : Engine R)
 -- ---- the accesses
 -- those of a statement by its meaning, before which m were asked
 abbrev pub meant_script : Draws → Public → (m : ℕ) → Tables → Stmt → List Access
-meant_script d p m tables stmt = script p (skeleton stmt) (seen d p m tables stmt)
+meant_script d p m tables stmt = run_script p (skeleton stmt) (seen d p m tables stmt)
 
 -- a statement that went to its end, or was refused before: its answer is the verdict, and what is seen and what the tables are
 -- follows from the tables before, of which m accesses were asked

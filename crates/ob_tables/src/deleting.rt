@@ -12,7 +12,6 @@ use crate::stop::RunStop;
 use ob_base::Name;
 use ob_flat::OpErr;
 use ob_mean::where_at;
-use ob_mutate::Former;
 use ob_sql::Cond;
 use ob_store::BlockStore;
 use ob_vault::Revisions;
@@ -37,6 +36,7 @@ impl<R: Revisions> Engine<R> {
             self.old (S.state store.old) self.new (S.state store.new) }
     {
         let (i, mut flat) = self.table_at(table);
+        let former = self.former();
         let Ok(pred) = where_at(self.alloc, cond, flat.schema.as_slice(), &[]) else {
             return self.cut(0, OpErr::NoMemory);
         };
@@ -50,7 +50,7 @@ impl<R: Revisions> Engine<R> {
             &mut self.room,
             &mut flat,
             &pred,
-            Former::Discard,
+            former,
         ) {
             Ok(deleted) => {
                 self.move_table(i, flat.region);

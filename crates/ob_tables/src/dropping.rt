@@ -29,27 +29,27 @@ impl<R: Revisions> Engine<R> {
         self.indexes.remove(k)
     }
 
-    // The flat table at a place leaves the catalogue, and its region is discarded.
+    // The flat table at a place leaves the catalogue, and its region is discarded, or stays until that is listed.
     fn drop_flat<S: BlockStore>(
         &mut self,
         store: &mut S,
         table: &Name,
         i: usize,
-        flat: Flat,
+        flat: &Flat,
     ) -> Result<Outcome, RunStop>
         requires agrees { Agrees R.state self.old (S.state store.old) }
         requires lives { has_ended self.old ≡ false }
         requires allowed { refusal_now (public_of self.old) (count_of self.old (S.state store.old))
             (DropTable table.now) ≡ None }
-        requires at { IsFlatAt table.now i flat (public_of self.old).tables }
+        requires at { IsFlatAt table.now i flat.now (public_of self.old).tables }
         ensures serves { ServesSilently R.state (DropTable table.now) result
             self.old (S.state store.old) self.new (S.state store.new) }
     {
         if store.room(1).is_err() {
             return self.cut(0, OpErr::NoMemory);
         }
-        // A store that fails here has counted it.
-        let _ = ob_flat::discard(store, &mut self.vault, flat);
+        let former = self.former();
+        ob_mutate::leave(store, &mut self.vault, flat.region, former);
         self.remove_table(i);
         Ok(self.finish(Outcome::Dropped))
     }
@@ -94,7 +94,7 @@ impl<R: Revisions> Engine<R> {
     {
         let (i, flat) = self.table_at(table);
         match self.public.tables.as_slice()[i].heading.shape {
-            Shape::Flat => self.drop_flat(store, table, i, flat),
+            Shape::Flat => self.drop_flat(store, table, i, &flat),
             Shape::Indexed => {
                 let k = self.index_of(flat.region);
                 self.drop_index(store, table, i, k)

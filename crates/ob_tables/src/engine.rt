@@ -41,9 +41,8 @@ pub struct Engine<R: Revisions> {
     pub(crate) ended: bool,
     // the region of the closing that it was opened from, or that its tables were saved in last
     pub(crate) closing: Option<u64>,
-    // where tables are saved, the region in which one lay before it was changed last, and the closing before the last: the
-    // vault has forgotten them, and the store has them until the mark names the new closing
-    pub(crate) left: Option<u64>,
+    // where tables are saved, the closing before the last: the vault has forgotten it, and the store has it until the mark
+    // names the new one
     pub(crate) replaced: Option<u64>,
     // those of the tables that are one, in whichever order
     pub(crate) indexes: Vec<Index>,
@@ -99,7 +98,6 @@ impl<R: Revisions> Engine<R> {
             seen: seen_to_end(End::Whole),
             ended: false,
             closing: None,
-            left: None,
             replaced: None,
             indexes: Vec::new(alloc),
             draws,

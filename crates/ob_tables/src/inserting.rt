@@ -13,7 +13,7 @@ use crate::stop::RunStop;
 use ob_base::{Items, Name, Refusal};
 use ob_flat::OpErr;
 use ob_mean::new_row;
-use ob_mutate::{Former, Inserted};
+use ob_mutate::Inserted;
 use ob_sql::Literal;
 use ob_store::BlockStore;
 use ob_vault::Revisions;
@@ -48,6 +48,7 @@ impl<R: Revisions> Engine<R> {
             self.old (S.state store.old) self.new (S.state store.new) }
     {
         let (i, mut flat) = self.table_at(table);
+        let former = self.former();
         let Ok(cells) = new_row(self.alloc, &flat.schema, columns, values) else {
             return self.cut(0, OpErr::NoMemory);
         };
@@ -61,7 +62,7 @@ impl<R: Revisions> Engine<R> {
             &mut self.room,
             &mut flat,
             cells.as_slice(),
-            Former::Discard,
+            former,
         );
         let accesses = store.count() - before;
         match result {

@@ -119,7 +119,6 @@ impl<R: Revisions> Engine<R> {
             seen: seen_to_end(End::Whole),
             ended: false,
             closing: Some(closing.region),
-            left: None,
             replaced: None,
             indexes: Vec::new(alloc),
             draws,

@@ -2,23 +2,28 @@
 //! goes on from the one that was written last.
 ghost use Rattle.std.specs.Prelude.{◌≡◌, ◌≢◌, ◌<◌, ◌≤◌, ◌+◌, ◌^◌, ℕ, List, Option, [], Some, None, true, false};
 ghost use Rattle.ob_base.specs.Stored.{headings_of};
-ghost use Rattle.ob_tables.specs.Agreeing.{Agrees, count_of, engine_keys, has_ended, left_of, opened_from, public_of, replaced_of};
-ghost use Rattle.ob_tables.specs.Engines.{IsConfig};
+ghost use Rattle.ob_tables.specs.Agreeing.{Agrees, count_of, engine_keys, has_ended, opened_from, public_of, replaced_of};
+ghost use Rattle.ob_tables.specs.Engines.{IsConfig, former_of};
 ghost use Rattle.ob_tables.specs.Saving.{NamesClosing, OpensSaved, SavesEngine, SettlesEngine, Waits};
 ghost use Rattle.ob_mean.specs.Flats.{AreFlat};
+ghost use Rattle.ob_script.specs.Saved.{left_by};
+ghost use Rattle.ob_sql.specs.Skeleton.{skeleton};
 ghost use Rattle.ob_reopen.specs.Closings.{saved_mark};
 ghost use Rattle.ob_reopen.specs.declared.closing.Closing.{Closing as Named};
 ghost use Rattle.ob_seal.specs.KeySet.{pair_of};
 
 use crate::engine::{Engine, ROW_WIDTH, seen_to_end};
 use crate::opening::tables_of;
+use crate::tables::find_table;
 use ob_base::{Config, End, Mark, Public};
+use ob_mutate::Former;
 use ob_reopen::{
     CloseErr, Closing, OpenErr, list_tables, read_closing, reopen_tables, salted_regions,
     write_closing,
 };
 use ob_room::Room;
 use ob_seal::{Draws, Keys, Salted};
+use ob_sql::Stmt;
 use ob_store::{BlockStore, Lasting};
 use ob_vault::{Revisions, Vault};
 use std::alloc::Global;
@@ -79,6 +84,36 @@ fn closing_of(mark: &Mark) -> (Closing, Option<[u8; 16]>)
 }
 
 impl<R: Revisions> Engine<R> {
+    // What becomes of the region of a table that is changed, or dropped.
+    pub(crate) fn former(&self) -> Former
+        ensures { result ≡ former_of (public_of self.now) }
+    {
+        if self.public.save {
+            Former::Keep
+        } else {
+            Former::Discard
+        }
+    }
+
+    /// The region that a statement leaves in the store, once it comes to its end: that of the table that it changes or
+    /// drops, where tables are saved.
+    pub fn left_by(&self, stmt: &Stmt) -> Option<u64>
+        ensures { result ≡ left_by (public_of self.now) (skeleton stmt.now) }
+    {
+        if !self.public.save {
+            return None;
+        }
+        let table = match stmt {
+            Stmt::Insert { table, .. }
+            | Stmt::Update { table, .. }
+            | Stmt::Delete { table, .. }
+            | Stmt::Drop { table } => table,
+            Stmt::Create { .. } | Stmt::SelectRows(_) | Stmt::SelectTotals(_) => return None,
+        };
+        let tables = self.public.tables.as_slice();
+        find_table(tables, table).map(|i| tables[i].region)
+    }
+
     /// Opens the tables that a closing lists, for a run with this salt that saves them: the closing that `mark` names,
     /// which a run with this secret and with blocks of so many rows closed or saved into this store. Nothing was asked of
     /// the store in this run.
@@ -161,7 +196,6 @@ impl<R: Revisions> Engine<R> {
             seen: seen_to_end(End::Whole),
             ended: false,
             closing: Some(closing.region),
-            left: None,
             replaced: None,
             indexes: Vec::new(alloc),
             draws,
@@ -197,7 +231,6 @@ impl<R: Revisions> Engine<R> {
     pub fn save<S: BlockStore>(&mut self, store: &mut S) -> Result<Mark, CloseErr>
         requires agrees { Agrees R.state self.old (S.state store.old) }
         requires lives { has_ended self.old ≡ false }
-        requires waits { Waits R.state self.old (S.state store.old) }
         requires settled { replaced_of self.old ≡ None }
         requires flat { AreFlat (headings_of (public_of self.old).tables) }
         requires few { count_of self.old (S.state store.old) + 2 < 2 ^ 63 }
@@ -224,17 +257,17 @@ impl<R: Revisions> Engine<R> {
         Ok(mark_of(written, salt))
     }
 
-    /// Discards what the mark needs no more that was set: the region in which a table lay before it was changed, and the
-    /// closing before the last, whatever the store answers to that.
-    pub fn settle<S: BlockStore>(&mut self, store: &mut S)
+    /// Discards what the mark needs no more that was set: the region in which a table lay before it was changed, if there
+    /// is one, and the closing before the last, whatever the store answers to that.
+    pub fn settle<S: BlockStore>(&mut self, store: &mut S, left: Option<u64>)
         requires agrees { Agrees R.state self.old (S.state store.old) }
-        requires waits { Waits R.state self.old (S.state store.old) }
+        requires waits { Waits R.state left.now self.old (S.state store.old) }
         requires spare { 2 ≤ (S.state store.old).spare }
-        ensures settles { SettlesEngine R.state self.old (S.state store.old)
+        ensures settles { SettlesEngine R.state left.now self.old (S.state store.old)
             self.new (S.state store.new) }
     {
         // A store that fails here has counted it.
-        if let Some(region) = self.left.take() {
+        if let Some(region) = left {
             let _ = self.vault.discard(store, region);
         }
         if let Some(region) = self.replaced.take() {

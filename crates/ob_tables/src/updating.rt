@@ -15,7 +15,6 @@ use crate::stop::RunStop;
 use ob_base::{Column, Name, NoMemory};
 use ob_flat::OpErr;
 use ob_mean::{set_cell, where_at};
-use ob_mutate::Former;
 use ob_row::Cell;
 use ob_sql::{Cond, Set};
 use ob_store::BlockStore;
@@ -58,6 +57,7 @@ impl<R: Revisions> Engine<R> {
             self.old (S.state store.old) self.new (S.state store.new) }
     {
         let (i, mut flat) = self.table_at(table);
+        let former = self.former();
         let Ok(pred) = where_at(self.alloc, cond, flat.schema.as_slice(), &[]) else {
             return self.cut(0, OpErr::NoMemory);
         };
@@ -75,7 +75,7 @@ impl<R: Revisions> Engine<R> {
             &mut flat,
             &pred,
             cells.as_slice(),
-            Former::Discard,
+            former,
         ) {
             Ok(changed) => {
                 self.move_table(i, flat.region);

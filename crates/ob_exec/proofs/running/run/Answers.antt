@@ -23,11 +23,8 @@ give_up-requires g c =
     let ran = subst (λ (r : Result Outcome RunStop). RanStatement g.R.Revisions.state (skeleton c.args.stmt.now) r old s c.serve-answer.new.engine t) is c.serve-answer.ensures.serves.ran in
     record { forgotten = none_left g.R.Revisions.state (skeleton c.args.stmt.now) old s c.serve-answer.new.engine t c.requires.agrees ran }
 
-pub returns-in-Ok-Refused-StoreFault : goal.returns-in-Ok-Refused-StoreFault
-returns-in-Ok-Refused-StoreFault g c =
+pub returns-in-Ok-Refused-StoreFault-clause-serves : goal.returns-in-Ok-Refused-StoreFault-clause-serves
+returns-in-Ok-Refused-StoreFault-clause-serves g c =
     let s = g.S.BlockStore.state c.args.store.now in
-    record {
-      serves =
-          subst (λ (t : StoreState). Serves g.R.Revisions.state g.E.Emit.grew g.E.Emit.cut g.E.Emit.faults c.args.stmt.now c.serve-answer.result c.args.engine.now s c.serve-answer.new.engine t c.args.out.now c.serve-answer.new.out)
-          (sym c.give_up.ensures.same) c.serve-answer.ensures.serves;
-    }
+    subst (λ (t : StoreState). Serves g.R.Revisions.state g.E.Emit.grew g.E.Emit.cut g.E.Emit.faults c.args.stmt.now c.serve-answer.result c.args.engine.now s c.serve-answer.new.engine t c.args.out.now c.serve-answer.new.out)
+    (sym c.give_up.ensures.same) c.serve-answer.ensures.serves

@@ -148,7 +148,6 @@ returns g c =
       seen = c.seen_to_end.result;
       ended = false;
       closing = Some c.closing_of-closing.result.region;
-      left = None;
       replaced = None;
       indexes = c.new-2.result;
       draws = c.new-draws.result;

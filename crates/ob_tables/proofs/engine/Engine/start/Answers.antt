@@ -37,6 +37,7 @@ returns-clause-agrees g c = λ s none. record {
       ap (λ (p : DrawPlace). p.key) c.new-draws.ensures ∙ ap key_of c.draw_seed.ensures
       ∙ ap (λ (ks : KeySet). key_of (draw_seed_of ks)) (sym c.new-2.ensures.keyed);
   kept = λ keep. c.new-4.ensures.items;
+  saved = c.requires.2;
 }
 
 pub returns-clause-drawn : goal.returns-clause-drawn
