@@ -110,6 +110,7 @@ module _ {R : Type 0} (state : R → RevState) (old : Engine R) (s : StoreState)
         keys = is.ran.lasts.keys;
         start = is.ran.lasts.start;
         from_closing = refl;
+        replaced = refl;
         ends = ended_end (selection old.public select) answer seen _ is.ended;
         asks = asks_none (selected_outcome answer) _ (ended_well (selection old.public select) answer seen is.ended);
         cause = (of_other _ _ (is_fault (selected_outcome answer)) (ended_well (selection old.public select) answer seen is.ended) is.ran.did.faults, is.ran.calm);
@@ -143,6 +144,7 @@ module _ {R : Type 0} (state : R → RevState) (old : Engine R) (s : StoreState)
         keys = cut.lasts.keys;
         start = cut.lasts.start;
         from_closing = refl;
+        replaced = refl;
         ends = cut_ends e n ∙ ap (result_end (answer_of e)) count;
         asks = asks_cut e s t cut.asks;
         cause = cut_cause e _ _ cut.cause;

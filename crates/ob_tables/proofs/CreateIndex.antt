@@ -326,6 +326,7 @@ module _ {R : Type 0} (state : R → RevState) (old : Engine R) (s s1 : StoreSta
       keys = went.lasts.keys;
       start = went.lasts.start;
       from_closing = refl;
+      replaced = refl;
       ends = refl;
       asks = asks_none Created _ refl;
       cause = (went.did.faults, went.calm);

@@ -118,6 +118,7 @@ module _ {R : Type 0} (state : R → RevState) (old : Engine R) (s s1 : StoreSta
       keys = all.lasts.keys;
       start = all.lasts.start;
       from_closing = refl;
+      replaced = refl;
       ends = refl;
       asks = asks_none Dropped _ refl;
       cause = (all.did.faults, all.calm);

@@ -278,17 +278,19 @@ opens_former Discard r high = record { kept = omega (arith); some = λ none. abs
 opens_former Keep r high = record { kept = omega (arith); some = λ none. absurd (cc none) }
 
 -- its region stays in the store, where tables are saved
-pub left_stays : (saves : Bool) (region : ℕ) (s s1 t : StoreState) (o : Option ℕ) (q : ℕ) → o ≡ Some region → ChangesNothing s s1 → StaysFormer (if saves then Keep else Discard) region s1 t
-    → (if saves then o else None) ≡ Some q → StaysStored q s t
-left_stays true region s s1 t o q found rests stays is =
-    let same : region ≡ q = cc (found, is) in
-    subst (λ (n : ℕ). StaysStored n s t) same
-    (record {
-      live = stays.live ∙ rests.keeps.live region;
-      last = λ x. stays.last x ∙ rests.keeps.last region x;
-      kept = stays.kept ∙ rests.keeps.kept region;
-    })
-left_stays false region s s1 t o q found rests stays is = absurd (cc is)
+pub left_stays : (saves : Bool) (region : ℕ) (s s1 t : StoreState) (o : Option ℕ) (q : ℕ) (live : ℕ → Option Region) → o ≡ Some region → ChangesNothing s s1 → StaysFormer (if saves then Keep else Discard) region s1 t
+    → live region ≡ None → (if saves then o else None) ≡ Some q → StaysStored q s t × (live q ≡ None)
+left_stays true region s s1 t o q live found rests stays gone is =
+    let same : region ≡ q = cc (found, is) in (
+      subst (λ (n : ℕ). StaysStored n s t) same
+          (record {
+            live = stays.live ∙ rests.keeps.live region;
+            last = λ x. stays.last x ∙ rests.keeps.last region x;
+            kept = stays.kept ∙ rests.keeps.kept region;
+          }),
+      ap live (sym same) ∙ gone,
+    )
+left_stays false region s s1 t o q live found rests stays gone is = absurd (cc is)
 
 module _ {R : Type 0} (state : R → RevState) (old : Engine R) (s s1 : StoreState) (v : Vault R) (t : StoreState) (name : List ℕ) (i : ℕ) (table : Table)
     (agrees : Agrees state old s) (rests : ChangesNothing s s1) (here : IsAt name i table old.public.tables) (shape : table.heading.shape ≡ FlatShape) (now : refusal_now old.public (count_of old s) (DropTable name) ≡ None) where
@@ -319,7 +321,7 @@ module _ {R : Type 0} (state : R → RevState) (old : Engine R) (s s1 : StoreSta
       let ran = ran_whole state (DropSkeleton name) old s v old.room t agrees agrees.room refl (one r) (remove old.public.tables i) part Dropped lives is_answered (opens_former (former_of old.public) r old.room.high) all
       (script_is Whole) removed
       (tables_removed old.public.pack r old.public.tables (others_of old.closing old.indexes.items) old.indexes.items table i _ _ all.lasts agrees.tables here.get refl shape (λ region live. absurd (cc (live, leaves.gone))))
-      (λ q is. left_stays old.public.save table.region s s1 t (region_at name old.public) q (ap (option_map (λ (u : Stored ℕ). u.held)) found) rests leaves.stays is) in
+      (λ q is. left_stays old.public.save table.region s s1 t (region_at name old.public) q (state v.revs).live (ap (option_map (λ (u : Stored ℕ). u.held)) found) rests leaves.stays leaves.gone is) in
       serves_as state stmt old s t _ _ _ _ answered is
       (finished state stmt old s agrees now refl refl tt v old.room t (remove old.public.tables i) Dropped is_answered tt ran
       (keeps_pass state old s s1 rests agrees (engine_after old v old.room (remove old.public.tables i) Whole old.ended) t (at state v t) refl (λ good accepts. leaves.seals.seals good))

@@ -27,8 +27,8 @@ pub shape_found : (name : List ℕ) (ts : List Table) (i : ℕ) (t : Table) → 
 shape_found name ts i t names at is none = heading_flat name (headings_of ts) t.heading none (heading_found name ts i t names at is)
 
 -- so is the one that is found by such a name
-pub region_flat : (name : List ℕ) (ts : List Table) (t : Stored ℕ) → is_index (headings_of ts) name ≡ false → stored_at name (stored_regions ts) ≡ Some t → t.heading.shape ≡ FlatShape
-region_flat name ts t none found =
+pub unindexed_flat : (name : List ℕ) (ts : List Table) (t : Stored ℕ) → is_index (headings_of ts) name ≡ false → stored_at name (stored_regions ts) ≡ Some t → t.heading.shape ≡ FlatShape
+unindexed_flat name ts t none found =
     heading_flat name (headings_of ts) t.heading none
     (ap (heading_at name) (sym (region_headings ts)) ∙ heading-stored name (stored_regions ts) ∙ ap (option_map (λ (u : Stored ℕ). u.heading)) found)
 

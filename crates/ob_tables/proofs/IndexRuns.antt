@@ -35,7 +35,6 @@ use Rattle.ob_seal.specs.Draws.{DrawPlace, draw_at}
 use Rattle.ob_seal.specs.KeySet.{draw_seed_of}
 use Rattle.ob_seal.proofs.Drawn.{draws_wrap}
 use Rattle.rand_chacha.specs.ChaCha.{key_of}
-use Rattle.ob_mutate.specs.Mutating.{StaysStored}
 use Rattle.ob_script.proofs.SavedParts.{run_is}
 use Rattle.ob_script.specs.Saved.{left_region, left_then, run_script}
 use Rattle.ob_script.specs.Script.{script}
@@ -172,8 +171,8 @@ module _ {R : Type 0} (state : R → RevState) (stmt : Stmt) (old : Engine R) (s
   run_same : (now : Seen) → run_script old.public (skeleton stmt) now ≡ script old.public (skeleton stmt) now
   run_same now = run_is old.public (skeleton stmt) now (unsaved state old s k x agrees done.get)
 
-  none_stays : (end : End) (q : ℕ) → left_then old.public (skeleton stmt) end ≡ Some q → StaysStored q s t
-  none_stays end q = leaves_none old.public (skeleton stmt) end q _
+  none_left : (end : End) (q : ℕ) (P : Type 0) → left_then old.public (skeleton stmt) end ≡ Some q → P
+  none_left end q P = leaves_none old.public (skeleton stmt) end q P
       (none_by old.public.save (left_region old.public (skeleton stmt)) (inl (unsaved state old s k x agrees done.get)))
 
   module _ (drew : draw ≡ draw_at old.draws.key old.draws.next) where
@@ -260,6 +259,7 @@ module _ {R : Type 0} (state : R → RevState) (stmt : Stmt) (old : Engine R) (s
           keys = all.lasts.keys;
           start = all.lasts.start;
           from_closing = refl;
+          replaced = refl;
           ends = sym (answered.whole _);
           asks = asks_none outcome _ answered.own;
           cause = (of_other _ _ (is_fault outcome) answered.own all.did.faults, all.calm);
@@ -268,7 +268,7 @@ module _ {R : Type 0} (state : R → RevState) (stmt : Stmt) (old : Engine R) (s
           leaves = λ d of. inr (inr (inr (reads_key drew d of (draws_taken old.public (skeleton stmt) Whole) (Some keyed.leaf) old.ended refl (λ goes. omega (arith, one)) (λ goes. moved_ok))));
           goes_on = left_on state (skeleton stmt) old s v room t agrees free indexes draws old.public.tables (seen_whole keyed.leaf) part old.ended lives all.lasts.ready all.lasts.start all.lasts.keys
               asked refl same are may key drawn;
-          stays = none_stays (seen_whole keyed.leaf).end;
+          stays = λ q is. none_left (seen_whole keyed.leaf).end q _ is;
           indexed = λ stops. absurd (cc stops);
         }
 
@@ -292,6 +292,7 @@ module _ {R : Type 0} (state : R → RevState) (stmt : Stmt) (old : Engine R) (s
           keys = all.lasts.keys;
           start = all.lasts.start;
           from_closing = refl;
+          replaced = refl;
           ends = ap (λ (m : ℕ). Cut m) count;
           asks = λ faulted. absurd faulted;
           cause = cause;
@@ -299,7 +300,7 @@ module _ {R : Type 0} (state : R → RevState) (stmt : Stmt) (old : Engine R) (s
           opened = opened part;
           leaves = λ d of. moves_cut drew d of (drawn_by old.public (skeleton stmt)) (nat_lt old.public.stash n);
           goes_on = refl;
-          stays = none_stays (seen n).end;
+          stays = λ q is. none_left (seen n).end q _ is;
           indexed = λ stops. is_an_access;
         } in
         elim never [
@@ -335,6 +336,7 @@ module _ {R : Type 0} (state : R → RevState) (stmt : Stmt) (old : Engine R) (s
           keys = lasts.keys;
           start = lasts.start;
           from_closing = refl;
+          replaced = refl;
           ends = ap (λ (m : ℕ). Cut m) count;
           asks = λ faulted. absurd faulted;
           cause = cause_after (stop_of e) (world_of state old s) before after first.did.faults first.calm (short_cause e before after short.cause);
@@ -342,6 +344,6 @@ module _ {R : Type 0} (state : R → RevState) (stmt : Stmt) (old : Engine R) (s
           opened = opened part;
           leaves = λ d of. moves_cut drew d of (drawn_by old.public (skeleton stmt)) (nat_lt old.public.stash n);
           goes_on = refl;
-          stays = none_stays (seen n).end;
+          stays = λ q is. none_left (seen n).end q _ is;
           indexed = λ stops. is_an_access;
         }

@@ -30,7 +30,7 @@ use Rattle.ob_verdict.specs.declared.outcome.Outcome.TheVariants.{Created, Inser
 use Rattle.ob_tables.specs.Running.{RefusedEarly, result_end}
 use Rattle.ob_verdict.specs.Outcomes.{refusal_now}
 use Rattle.ob_tables.specs.Refusals.{refused_end}
-use Rattle.ob_tables.proofs.FoundLemmas.{region_flat}
+use Rattle.ob_tables.proofs.FoundLemmas.{unindexed_flat}
 
 -- ---- how it ends
 refused_cut : (r : Refusal) (k n : ℕ) → Cut k ≡ refused_end r n → k ≡ n
@@ -81,7 +81,7 @@ module _ (p : Public) (name : List ℕ) (kept part : ℕ → ℕ → ℕ → ℕ
       → length (option_map_or (mutation_script p kept) o []) ≤ length (option_map_or (shape_script p leaf (mutation_script p part)) o [])
   by_found None found = omega (arith)
   by_found (Some t) found =
-      let whole = ap (λ (l : List Access). length l) (shape_is p leaf (mutation_script p part) t (region_flat name p.tables t none found)) in
+      let whole = ap (λ (l : List Access). length l) (shape_is p leaf (mutation_script p part) t (unindexed_flat name p.tables t none found)) in
       let short = less_by (mutation_script p kept t) (mutation_script p part t) t.held (is t.held p.next_region (blocks_of p (extent_of t)) (rows_width p (extent_of t))) in
       omega (arith, whole, short)
 

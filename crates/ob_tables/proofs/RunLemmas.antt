@@ -172,6 +172,7 @@ module _ {R : Type 0} (state : R → RevState) (skeleton : Skeleton) (old : Engi
     keys = refl;
     start = refl;
     from_closing = refl;
+    replaced = refl;
     ends = sym (early.static _);
     asks = asks_none (Refused r) _ early.own;
     cause = (of_other _ _ (is_store_fault r) early.own refl, λ calm. calm);
@@ -285,6 +286,7 @@ module _ {R : Type 0} (state : R → RevState) (skeleton : Skeleton) (old : Engi
         keys = cut.lasts.keys;
         start = cut.lasts.start;
         from_closing = refl;
+        replaced = refl;
         ends = cut_ends e n ∙ ap (result_end (answer_of e)) count;
         asks = asks_cut e s t cut.asks;
         cause = cut_cause e _ _ cut.cause;
@@ -310,7 +312,7 @@ module _ {R : Type 0} (state : R → RevState) (skeleton : Skeleton) (old : Engi
   -- all of it was asked
   pub ran_whole : (some : ℕ → Type 0) (tables : List Table) (x : List Access) (outcome : Outcome) → old.ended ≡ false → IsAnswered outcome → Opens x old.room.high room.high
       → Went x some (world_of state old s) (at state v t) → whole_run old.public skeleton (seen_to Whole) ≡ x → tables ≡ tables_after old.public skeleton
-      → AreTables tables (others_of old.closing old.indexes.items) old.indexes.items old.public.pack (at state v t) → ((q : ℕ) → left_by old.public skeleton ≡ Some q → StaysStored q s t)
+      → AreTables tables (others_of old.closing old.indexes.items) old.indexes.items old.public.pack (at state v t) → ((q : ℕ) → left_by old.public skeleton ≡ Some q → StaysStored q s t × ((state v.revs).live q ≡ None))
       → RanStatement state skeleton (Ok outcome) old s (engine_after old v room tables Whole old.ended) t
   ran_whole some tables x outcome lives answered opens went is same are stays = record {
     asked = went.did.asked ∙ ap (λ (y : List Access). s.asked ++ y) (sym is);
@@ -318,6 +320,7 @@ module _ {R : Type 0} (state : R → RevState) (skeleton : Skeleton) (old : Engi
     keys = went.lasts.keys;
     start = went.lasts.start;
     from_closing = refl;
+    replaced = refl;
     ends = sym (answered.whole _);
     asks = asks_none outcome _ answered.own;
     cause = (of_other _ _ (is_fault outcome) answered.own went.did.faults, went.calm);
@@ -325,7 +328,7 @@ module _ {R : Type 0} (state : R → RevState) (skeleton : Skeleton) (old : Engi
     opened = subst (λ (y : List Access). Opens y old.room.high room.high) (sym is) opens;
     leaves = λ d of. inl (refl, λ goes. refl);
     goes_on = went_on tables Whole x old.ended lives went.lasts.ready went.lasts.start went.lasts.keys went.did.asked is same are;
-    stays = stays;
+    stays = λ q is. let left = stays q is in record { stored = left.0; forgotten = left.1 };
     indexed = λ stops. absurd (cc stops);
   }
 
@@ -349,7 +352,7 @@ module _ {R : Type 0} (state : R → RevState) (skeleton : Skeleton) (old : Engi
   -- all of a pass over the room was asked
   pub ran_done : (some : ℕ → Type 0) (tables : List Table) (x : List Access) (outcome : Outcome) → old.ended ≡ false → IsAnswered outcome → Went x some (world_of state old s) (at state v t)
       → whole_run old.public skeleton (seen_to Whole) ≡ x → tables ≡ tables_after old.public skeleton → AreTables tables (others_of old.closing old.indexes.items) old.indexes.items old.public.pack (at state v t)
-      → ((q : ℕ) → left_by old.public skeleton ≡ Some q → StaysStored q s t)
+      → ((q : ℕ) → left_by old.public skeleton ≡ Some q → StaysStored q s t × ((state v.revs).live q ≡ None))
       → RanStatement state skeleton (Ok outcome) old s (engine_after old v room tables Whole old.ended) t
   ran_done some tables x outcome lives answered went is same are stays =
       ran_whole state skeleton old s v room t agrees free undrawn some tables x outcome lives answered (opened x) went is same are stays
@@ -391,6 +394,7 @@ ran_unasked state skeleton old s t indexes draws tables agrees rests =
       keys = refl;
       start = refl;
       from_closing = refl;
+      replaced = refl;
       ends = ap (λ (n : ℕ). Cut n) none;
       asks = λ faulted. absurd faulted;
       cause = (rests.faults, λ calm. record { calm = λ lie is. calm.calm lie (sym rests.lie ∙ is); within = λ lie is. subst (ReadsIn lie) (sym rests.asked) (calm.within lie (sym rests.lie ∙ is)) });

@@ -28,7 +28,7 @@ use Rattle.ob_mutate.specs.declared.inserting.Inserted.TheVariants.{Done, Duplic
 use Rattle.ob_tables.specs.declared.engine.Engine.{Engine}
 use Rattle.ob_verdict.specs.declared.outcome.Outcome.{Outcome}
 use Rattle.ob_verdict.specs.declared.outcome.Outcome.TheVariants.{Inserted, Rows, Refused}
-use Rattle.ob_tables.specs.Agreeing.{Agrees, AreDraws, engine_start, opened_from, world_of}
+use Rattle.ob_tables.specs.Agreeing.{Agrees, AreDraws, engine_start, opened_from, replaced_of, world_of}
 use Rattle.ob_select.specs.Settings.{IsFree}
 use Rattle.ob_select.specs.Opening.{Opens}
 use Rattle.ob_tables.specs.Leaves.{MovesLeaves}
@@ -114,6 +114,12 @@ abbrev pub Continues : {R : Type 0} → (R → RevState) → Skeleton → Result
 Continues state skeleton (Ok outcome) old new t = GoesOn state skeleton old new t
 Continues state skeleton (Err stop) old new t = new.ended ≡ true
 
+-- a region that a statement left lies in the store as it did, and the vault has forgotten it
+pub record LeftBehind {R : Type 0} (state : R → RevState) (q : ℕ) (s : StoreState) (new : Engine R)
+    (t : StoreState) : Type 0 where
+  pub stored : StaysStored q s t
+  pub forgotten : (state new.vault.revs).live q ≡ None
+
 -- what a statement did: exactly the accesses of what is seen of it; all rows of the room are free again, and one at least
 -- was open where a block was read or written
 pub record RanStatement {R : Type 0} (state : R → RevState) (skeleton : Skeleton) (result : Result Outcome RunStop)
@@ -131,8 +137,10 @@ pub record RanStatement {R : Type 0} (state : R → RevState) (skeleton : Skelet
   pub leaves : (d : Draws) → AreDraws old d → MovesLeaves d (draws_taken old.public skeleton new.seen.end)
       (height_at old.public skeleton) old.indexes.items new.seen.leaf new.ended new.indexes.items
   pub goes_on : Continues state skeleton result old new t
-  -- the region that it leaves stays in the store
-  pub stays : (q : ℕ) → left_then old.public skeleton new.seen.end ≡ Some q → StaysStored q s t
+  -- the region that it leaves stays in the store, and what was left before it waits as it did
+  pub stays : (q : ℕ) → left_then old.public skeleton new.seen.end ≡ Some q
+      → LeftBehind state q s new t
+  pub replaced : replaced_of new ≡ replaced_of old
   pub indexed : stops_access result ≡ true → is_access old.public skeleton ≡ true
 
 -- a stop by the sink comes only where a call of the emitter failed, and always where one did

@@ -1,0 +1,82 @@
+-- What waits in the store behind a statement, where tables are saved.
+use Rattle.std.proofs.Common.{◌≡◌, ℕ, suc, cond, Bool, true, false, if◌then◌else◌, List, [], ◌∷◌, Option, Some, None, Ok, Err, Result, refl, sym, ◌∙◌, ap, arith}
+use Rattle.std.specs.Prelude.{bytes_eq}
+use Rattle.std.specs.Option.{option_map}
+use Rattle.ob_base.specs.declared.config.Public.{Public}
+use Rattle.ob_base.specs.declared.schema.Table.{Table}
+use Rattle.ob_base.specs.declared.seen.End.{End}
+use Rattle.ob_base.specs.declared.seen.End.TheVariants.{Static, Whole, AfterCount, Cut}
+use Rattle.ob_base.specs.declared.skeleton.Skeleton.{Skeleton}
+use Rattle.ob_base.specs.declared.skeleton.Skeleton.TheVariants.{Create, Insert, Update, Delete, Drop as DropTable, Rows, Groups}
+use Rattle.ob_base.specs.Stored.{Stored, stored_at, stored_region, stored_regions}
+use Rattle.ob_script.specs.Saved.{left_by, left_region, left_then}
+use Rattle.ob_store.specs.State.{StoreState}
+use Rattle.ob_vault.specs.State.{RevState}
+use Rattle.ob_verdict.specs.declared.outcome.Outcome.{Outcome}
+use Rattle.ob_tables.specs.Agreeing.{Agrees, replaced_of}
+use Rattle.ob_tables.specs.Engines.{IsTableRegion}
+use Rattle.ob_tables.specs.Running.{GoesOn, LeftBehind, RanStatement}
+use Rattle.ob_tables.specs.Saving.{Waits, WaitsAt}
+use Rattle.ob_tables.specs.declared.engine.Engine.{Engine}
+use Rattle.ob_tables.specs.declared.stop.RunStop.{RunStop}
+
+-- the region of a name, behind a first table that has it or hasn't
+abbrev behind : (name : List ℕ) (t : Table) (ts : List Table) → Bool → Option ℕ
+behind name t ts b = option_map (λ (u : Stored ℕ). u.held) (cond b (Some (stored_region t)) (stored_at name (stored_regions ts)))
+
+-- it is that of a table
+region_table : (name : List ℕ) (ts : List Table) (q : ℕ) → option_map (λ (u : Stored ℕ). u.held) (stored_at name (stored_regions ts)) ≡ Some q → IsTableRegion ts q
+region_table name [] q is = absurd (cc is)
+region_table name (t ∷ ts) q is = head (bytes_eq t.heading.name name) refl (region_table name ts q)
+  where
+    head : (b : Bool) → bytes_eq t.heading.name name ≡ b → (behind name t ts false ≡ Some q → IsTableRegion ts q) → IsTableRegion (t ∷ ts) q
+    head true hit rest =
+        let here = ap (behind name t ts) hit in
+        record { place = 0; table = t; get = refl; region = cc (here, is) }
+    head false miss rest =
+        let there = rest (sym (ap (behind name t ts) miss) ∙ is) in
+        record { place = suc there.place; table = there.table; get = there.get; region = there.region }
+
+module _ {R : Type 0} (state : R → RevState) (old : Engine R) (s : StoreState) (new : Engine R) (t : StoreState) (agrees : Agrees state old s) where
+  -- a statement leaves that of a table
+  left_table : (saves : Bool) (skeleton : Skeleton) (q : ℕ) → (if saves then left_region old.public skeleton else None) ≡ Some q → IsTableRegion old.public.tables q
+  left_table false skeleton q is = absurd (cc is)
+  left_table true (Create table cs n shape) q is = absurd (cc is)
+  left_table true (Insert table cs) q is = region_table table old.public.tables q is
+  left_table true (Update table cs) q is = region_table table old.public.tables q is
+  left_table true (Delete table) q is = region_table table old.public.tables q is
+  left_table true (DropTable table) q is = region_table table old.public.tables q is
+  left_table true (Rows source cs) q is = absurd (cc is)
+  left_table true (Groups table cs key) q is = absurd (cc is)
+
+  module _ (skeleton : Skeleton) where
+    -- which lies in the store then, until it is discarded
+    left_waits : GoesOn state skeleton old new t → (q : ℕ) → left_by old.public skeleton ≡ Some q → LeftBehind state q s new t → WaitsAt state q new t
+    left_waits on q is left =
+        let at = left_table old.public.save skeleton q is in
+        let live = (agrees.tables.each at.place at.table at.get).live in
+        let here = (agrees.ready.tied.live at.table.region live.shape live.lives.live).live in
+        let low = agrees.ready.below at.table.region live.shape live.lives.live in
+        let was = agrees.next in
+        let now = on.agrees.next in
+        let made = ap (λ (p : Public). p.next_region) on.public in
+        let region = at.region in
+        record {
+          live = record { shape = _; live = left.stored.live ∙ ap s.live (sym region) ∙ here };
+          below = omega (arith, low, was, now, made, region);
+          forgotten = left.forgotten;
+        }
+
+    left_at : (result : Result Outcome RunStop) (end : End) → new.seen.end ≡ end → RanStatement state skeleton result old s new t → (q : ℕ) → left_then old.public skeleton new.seen.end ≡ Some q → WaitsAt state q new t
+    left_at (Err stop) end same ran q is = let none = ap (left_then old.public skeleton) ran.ends in absurd (cc (none, is))
+    left_at (Ok outcome) Static same ran q is = let none = ap (left_then old.public skeleton) same in absurd (cc (none, is))
+    left_at (Ok outcome) Whole same ran q is = left_waits ran.goes_on q (sym (ap (left_then old.public skeleton) same) ∙ is) (ran.stays q is)
+    left_at (Ok outcome) AfterCount same ran q is = let none = ap (left_then old.public skeleton) same in absurd (cc (none, is))
+    left_at (Ok outcome) (Cut n) same ran q is = let none = ap (left_then old.public skeleton) same in absurd (cc (none, is))
+
+    pub waits_behind : (result : Result Outcome RunStop) → RanStatement state skeleton result old s new t → replaced_of old ≡ None → Waits state (left_then old.public skeleton new.seen.end) new t
+    waits_behind result ran none = record {
+      former = left_at result new.seen.end refl ran;
+      replaced = λ q is. absurd (cc (none, ran.replaced, is));
+      apart = λ q left is. absurd (cc (none, ran.replaced, is));
+    }
