@@ -1,5 +1,5 @@
 -- The parts of a statement where tables are saved.
-use Rattle.std.proofs.Common.{◌≡◌, ℕ, ◌+◌, ◌*◌, ◌++◌, Bool, true, false, if◌then◌else◌, List, Some, length, refl, sym, ◌∙◌, ap, arith, append_assoc}
+use Rattle.std.proofs.Common.{◌≡◌, ℕ, ◌+◌, ◌*◌, ◌++◌, Bool, true, false, if◌then◌else◌, List, Option, None, Some, length, refl, sym, ◌∙◌, ap, arith, append_assoc}
 use Rattle.std.specs.Prelude.{◌&&◌}
 use Rattle.std.proofs.lemmas.List.{length-append}
 use Rattle.ob_base.specs.declared.access.Access.{Access}
@@ -11,12 +11,13 @@ use Rattle.ob_base.specs.declared.schema.Shape.{Shape}
 use Rattle.ob_base.specs.declared.skeleton.NewColumn.{NewColumn}
 use Rattle.ob_base.specs.declared.skeleton.Skeleton.{Skeleton}
 use Rattle.ob_base.specs.declared.skeleton.Skeleton.TheVariants.{Create}
-use Rattle.ob_base.specs.Accesses.{discard_at, make_at, makes}
+use Rattle.ob_base.proofs.AccessLemmas.{makes-append}
+use Rattle.ob_base.specs.Accesses.{discard_at, drop_script, make_at, makes}
 use Rattle.ob_base.specs.Schemas.{columns_of, width}
 use Rattle.ob_script.specs.Parts.{copy_part, count_part, insert_part, rewrite_part}
-use Rattle.ob_script.specs.Saved.{change_script, changes_tables, closing_behind, closing_part, closing_then, insert_kept, is_saved, rewrite_kept, run_next, run_script, save_part, served_next, served_script, whole_run, whole_served}
+use Rattle.ob_script.specs.Saved.{change_script, changes_tables, closing_behind, closing_part, closing_then, insert_kept, is_saved, left_by, rewrite_kept, run_next, run_script, save_part, saved_public, served_next, served_script, settle_script, whole_run, whole_served}
 use Rattle.ob_script.specs.Script.{created_script, script, until_end, whole_script}
-use Rattle.ob_script.specs.Trace.{next, tables_then}
+use Rattle.ob_script.specs.Trace.{next, tables_after, tables_then}
 use Rattle.ob_script.proofs.Lengths.{length-copy_part, length-count_part}
 use Rattle.ob_script.proofs.Makes.{makes-copy_part, makes-count_part, makes-create_part, none_in, one_made}
 use Rattle.ob_script.proofs.Numbers.{length-create_part}
@@ -50,6 +51,23 @@ length-closing_part region tables = let e = length-create_part region (tables + 
 
 pub makes-closing_part : (region tables : ℕ) → makes (closing_part region tables) ≡ 1
 makes-closing_part region tables = makes-create_part region (tables + 1) 1024
+
+-- a closing makes one region, and what is discarded none
+makes-drop : (o : Option ℕ) → makes (drop_script o) ≡ 0
+unfolding makes
+makes-drop None = refl
+makes-drop (Some region) = refl
+
+makes-save_part : (p : Public) (s : Skeleton) → makes (save_part p s) ≡ 1
+makes-save_part p s =
+    let region = closing_behind p s in
+    let tables = length (tables_after p s) in
+    let all = makes-append (closing_part region tables) (settle_script p s) in
+    let one = makes-closing_part region tables in
+    let two = makes-append (drop_script (left_by p s)) (drop_script p.closing) in
+    let left = makes-drop (left_by p s) in
+    let before = makes-drop p.closing in
+    omega (arith, all, one, two, left, before)
 
 -- ---- whole statements
 none_saved : (b c : Bool) → c ≡ false → (b && c) ≡ false
@@ -104,3 +122,18 @@ module _ (p : Public) (s : Skeleton) (seen : Seen) where
       let run : run_script p s seen ≡ change_script p s =
       ap (λ (e : End). until_end e (whole_run p s seen)) ends ∙ ap (λ (b : Bool). if b then change_script p s else whole_script p s seen) test in
       served ∙ ap (λ (l : List Access). l ++ save_part p s) (sym run)
+
+  -- and that is public
+  pub next_saved : p.save ≡ true → changes_tables s ≡ true → seen.end ≡ Whole → served_next p s seen ≡ saved_public (run_next p s seen)
+  next_saved saves changes ends =
+      let test : is_saved p s ≡ true = both_true (changes_tables s) p.save changes saves in
+      let run : run_script p s seen ≡ change_script p s =
+      ap (λ (e : End). until_end e (whole_run p s seen)) ends ∙ ap (λ (b : Bool). if b then change_script p s else whole_script p s seen) test in
+      let sum = ap makes (served_saved saves changes ends) in
+      let parts = makes-append (run_script p s seen) (save_part p s) in
+      let one = makes-save_part p s in
+      let region : p.next_region + makes (served_script p s seen) ≡ p.next_region + makes (run_script p s seen) + 1 = omega (arith, sum, parts, one) in
+      let closing : closing_then p s seen.end ≡ Some (p.next_region + makes (run_script p s seen)) =
+      ap (closing_then p s) ends ∙ ap (λ (b : Bool). if b then Some (closing_behind p s) else p.closing) test
+      ∙ ap (λ (l : List Access). Some (p.next_region + makes l)) (sym run) in
+      λ i. record p { tables = tables_then p s seen.end; next_region = region i; closing = closing i }

@@ -108,6 +108,10 @@ closing_then p s Whole = if is_saved p s then Some (closing_behind p s) else p.c
 closing_then p s AfterCount = p.closing
 closing_then p s (Cut n) = p.closing
 
+-- what is public once a closing was written
+abbrev pub saved_public : Public → Public
+saved_public p = record p { next_region = p.next_region + 1; closing = Some p.next_region }
+
 -- what is public behind it, and between a statement's change and its closing
 abbrev pub served_next : Public → Skeleton → Seen → Public
 served_next p s seen = record p {

@@ -4,7 +4,7 @@ ghost use Rattle.ob_base.specs.declared.config.Public.{Public};
 ghost use Rattle.ob_base.specs.declared.seen.Seen.{Seen};
 ghost use Rattle.ob_base.specs.declared.skeleton.Skeleton.{Skeleton};
 ghost use Rattle.ob_base.specs.Accesses.{discard_at, makes};
-ghost use Rattle.ob_script.specs.Saved.{changes_tables, closing_part, insert_kept, rewrite_kept, run_script, save_part, served_script};
+ghost use Rattle.ob_script.specs.Saved.{changes_tables, closing_part, insert_kept, rewrite_kept, run_script, save_part, saved_public, served_script};
 ghost use Rattle.ob_script.specs.Saved.{run_next as run_then, served_next as served_then};
 ghost use Rattle.ob_script.specs.Script.{script};
 ghost use Rattle.ob_script.specs.Sizes.{IsPublic, IsWithin};
@@ -110,4 +110,7 @@ pub fn saved_scripts()
     ensures saved { (p : Public) (s : Skeleton) (seen : Seen) → p.save ≡ true
         → changes_tables s ≡ true → seen.end ≡ End.Whole
         → served_script p s seen ≡ run_script p s seen ++ save_part p s }
+    ensures follows { (p : Public) (s : Skeleton) (seen : Seen) → p.save ≡ true
+        → changes_tables s ≡ true → seen.end ≡ End.Whole
+        → served_then p s seen ≡ saved_public (run_then p s seen) }
 {}

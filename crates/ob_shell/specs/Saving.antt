@@ -8,7 +8,7 @@ use Rattle.ob_base.specs.declared.mark.Mark.TheVariants.{Fresh, InUse, Closed, B
 use Rattle.ob_base.specs.declared.refusal.Stop.TheVariants.{NoMemory}
 use Rattle.ob_tables.specs.Agreeing.{Agrees, engine_keys, engine_start, has_ended, opened_from, public_of, replaced_of}
 use Rattle.ob_tables.specs.Closing.{next_closing}
-use Rattle.ob_tables.specs.Saving.{save_script, saved_public}
+use Rattle.ob_tables.specs.Saving.{save_script}
 use Rattle.ob_tables.specs.Telling.{Represents}
 use Rattle.ob_tables.specs.declared.engine.Engine.{Engine}
 use Rattle.ob_headline.specs.declared.ending.Ending.TheVariants.{Ran}
@@ -20,6 +20,7 @@ use Rattle.ob_reopen.specs.Keepers.{KeeperState}
 use Rattle.ob_headline.specs.Keeping.{closing_named}
 use Rattle.ob_reopen.specs.Resting.{Rests, by_name}
 use Rattle.ob_reopen.specs.Saved.{RestsBy}
+use Rattle.ob_script.specs.Saved.{saved_public}
 use Rattle.ob_seal.specs.KeySet.{pair_of}
 use Rattle.ob_seal.specs.Sealed.{AreBefore, keys_salted}
 use Rattle.ob_seal.specs.declared.Salted.{Salted}

@@ -18,6 +18,7 @@ use Rattle.ob_reopen.specs.declared.closing.Closing.{Closing}
 use Rattle.ob_reopen.specs.declared.fault.CloseErr.{CloseErr}
 use Rattle.ob_reopen.specs.declared.fault.OpenErr.{OpenErr}
 use Rattle.ob_reopen.specs.declared.fault.OpenErr.TheVariants.{Failed, NoMemory}
+use Rattle.ob_script.specs.Saved.{saved_public}
 use Rattle.ob_seal.specs.KeySet.{KeySet, pair_of}
 use Rattle.ob_select.specs.Selecting.{AcceptsRows}
 use Rattle.ob_store.specs.Calls.{IsLive}
@@ -52,10 +53,6 @@ pub record Waits {R : Type 0} (state : R → RevState) (left : Option ℕ) (e : 
 -- the tables are listed in the next closing, and no region that was there before is asked for
 abbrev pub save_script : {R : Type 0} → Engine R → StoreState → List Access
 save_script e s = write_script (next_closing e s)
-
--- what is public then
-abbrev pub saved_public : Public → Public
-saved_public p = record p { next_region = p.next_region + 1; closing = Some p.next_region }
 
 -- the closing was written, and the mark names it with the run's salt; the closing before it waits for being discarded
 pub record IsSaved {R : Type 0} (state : R → RevState) (mark : Mark) (e : Engine R) (s : StoreState)

@@ -1,4 +1,4 @@
-use Rattle.ob_script.proofs.SavedParts.{next_is, run_is, run_next_is, served_is, served_saved}
+use Rattle.ob_script.proofs.SavedParts.{next_is, next_saved, run_is, run_next_is, served_is, served_saved}
 use Rattle.ob_script.proofs.laws.saved_scripts.Goals as goal
 
 pub returns : goal.returns
@@ -8,4 +8,5 @@ returns c = record {
   served = served_is;
   served_next = next_is;
   saved = served_saved;
+  follows = next_saved;
 }
