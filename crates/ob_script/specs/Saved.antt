@@ -18,7 +18,8 @@ use Rattle.ob_script.specs.Trace.{tables_after, tables_then}
 
 -- INSERT, and UPDATE and DELETE, before the table's old region is discarded
 abbrev pub insert_kept : ℕ → ℕ → ℕ → ℕ → List Access
-insert_kept t g blocks width = make_at g blocks width ++ (count_part t blocks ++ copy_part t g blocks)
+insert_kept t g blocks width =
+    make_at g blocks width ++ (count_part t blocks ++ copy_part t g blocks)
 
 abbrev pub rewrite_kept : ℕ → ℕ → ℕ → ℕ → List Access
 rewrite_kept t g blocks width = make_at g blocks width ++ copy_part t g blocks
@@ -96,7 +97,8 @@ save_part p s = closing_part (closing_behind p s) (length (tables_after p s)) ++
 
 -- ---- all accesses of a statement, saved or not
 abbrev pub whole_served : Public → Skeleton → Seen → List Access
-whole_served p s seen = if is_saved p s then change_script p s ++ save_part p s else whole_script p s seen
+whole_served p s seen =
+    if is_saved p s then change_script p s ++ save_part p s else whole_script p s seen
 
 abbrev pub served_script : Public → Skeleton → Seen → List Access
 served_script p s seen = until_end seen.end (whole_served p s seen)

@@ -75,7 +75,8 @@ pub record NotFound (secret : List ℕ) (mark : Mark) (s t : StoreState) (old ne
   pub kept : (q : ℕ) → t.kept q ≡ s.kept q
 
 pub record FindsSaved {R : Type 0} (state : R → RevState) (config : Config) (secret : List ℕ)
-    (result : Result (Engine R) KeptEnding) (s t : StoreState) (old new : KeeperState) : Type 0 where
+    (result : Result (Engine R) KeptEnding) (s t : StoreState) (old new : KeeperState)
+    : Type 0 where
   pub mark : Mark
   pub given : (held : Mark) → old.held ≡ Some held → mark ≡ held
   pub ok : IfOk result (λ e. FoundSaved state config secret mark e s t old new

@@ -29,7 +29,8 @@ fn may_begin<S: Saving>(mark: &Mark, store: &mut S) -> Result<(), KeptEnding>
     requires fresh { (S.state store.old).asked ≡ [] }
     ensures syncs { Syncs (S.state store.old) (S.state store.new) }
     ensures begins { OnOk result (mark.now ≢ Mark.InUse) }
-    ensures ends { IfErr result (λ ending. ((mark.now ≡ Mark.InUse) × (ending ≡ KeptEnding.NotClosed))
+    ensures ends { IfErr result (λ ending.
+        ((mark.now ≡ Mark.InUse) × (ending ≡ KeptEnding.NotClosed))
         ⊎ ((mark.now ≡ Mark.Fresh) × ((ending ≡ KeptEnding.NoMark)
         ⊎ ((ending ≡ KeptEnding.StoreFault)
         × Rises (S.state store.old).faults (S.state store.new).faults)))) }

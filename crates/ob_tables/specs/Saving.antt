@@ -104,7 +104,8 @@ pub record SettlesEngine {R : Type 0} (state : R → RevState) (left : Option �
   pub kept : (q : ℕ) → (left ≡ Some q → ⊥) → (replaced_of e ≡ Some q → ⊥)
       → t.kept q ≡ s.kept q
   pub told : (tables : Tables) → Represents state e s tables → Represents state settled t tables
-  pub sealed : (good : ℕ → List ℕ → Bool) → Seals good (world_of state e s) (world_of state settled t)
+  pub sealed : (good : ℕ → List ℕ → Bool)
+      → Seals good (world_of state e s) (world_of state settled t)
 
 -- ---- going on
 -- the closing that a mark names, of a pack, and the salt of the run that wrote it, if it had one
