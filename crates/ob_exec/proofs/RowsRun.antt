@@ -10,7 +10,7 @@ use Rattle.ob_room.specs.RoomState.{RoomState}
 use Rattle.ob_store.specs.State.{StoreState}
 use Rattle.ob_store.proofs.Steps.{began_take}
 use Rattle.ob_script.specs.Saved.{run_script}
-use Rattle.ob_script.specs.Trace.{tables_then}
+use Rattle.ob_script.specs.Tables.{tables_then}
 use Rattle.ob_vault.specs.State.{RevState, World}
 use Rattle.ob_vault.specs.Tied.{Ready}
 use Rattle.ob_vault.specs.Calls.{Lasts}

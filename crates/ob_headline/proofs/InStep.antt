@@ -25,7 +25,8 @@ use Rattle.ob_mean.specs.Replay.{Session, after}
 use Rattle.ob_mean.specs.Settle.{new_held, settle, settled}
 use Rattle.ob_mean.specs.Step.{followed, late_refusal}
 use Rattle.ob_mean.specs.Verdict.{Draws, Held, Tables, database, ended, is_late, last_refusal, refusal, seen, seen_started}
-use Rattle.ob_script.specs.Trace.{next, tables_after, tables_then}
+use Rattle.ob_script.specs.Tables.{tables_after, tables_then}
+use Rattle.ob_script.specs.Trace.{next}
 use Rattle.ob_sql.specs.Skeleton.{skeleton}
 use Rattle.ob_sql.specs.declared.stmt.Stmt.{Stmt}
 use Rattle.ob_sql.specs.declared.stmt.Stmt.TheVariants.{Create, Insert, Update, Delete, Drop as DropTable, SelectRows as RowsStmt, SelectTotals as TotalsStmt}

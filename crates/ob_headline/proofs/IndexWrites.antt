@@ -22,7 +22,8 @@ use Rattle.ob_headline.specs.Shown.{IsOfIndex, OfIndex, WritesIndexes}
 use Rattle.ob_mean.specs.Replay.{is_access}
 use Rattle.ob_script.specs.Parts.{count_part, path_read, path_write}
 use Rattle.ob_script.specs.Script.{index_part_of, script, until_end, whole_script}
-use Rattle.ob_script.specs.Trace.{moved, moved_to, next, tables_after, tables_then}
+use Rattle.ob_script.specs.Tables.{moved, moved_to, tables_after, tables_then}
+use Rattle.ob_script.specs.Trace.{next}
 
 -- ---- accesses of which each write goes to such a region
 module _ (P : ℕ → Type 0) where

@@ -12,7 +12,8 @@ use Rattle.ob_base.specs.declared.skeleton.Skeleton.{Skeleton}
 use Rattle.ob_base.specs.declared.skeleton.Skeleton.TheVariants.{Create as CreateSkeleton, Insert as InsertSkeleton, Update as UpdateSkeleton, Delete as DeleteSkeleton, Drop as DropSkeleton, Rows, Groups}
 use Rattle.ob_base.specs.Indexes.{by_shape}
 use Rattle.ob_base.specs.Stored.{Stored, changed_at, dropped_at, headings, headings_of}
-use Rattle.ob_script.specs.Trace.{moved, moved_to, next, tables_after, tables_then}
+use Rattle.ob_script.specs.Tables.{moved, moved_to, tables_after, tables_then}
+use Rattle.ob_script.specs.Trace.{next}
 use Rattle.ob_sql.specs.declared.stmt.Stmt.{Stmt}
 use Rattle.ob_sql.specs.declared.stmt.Stmt.TheVariants.{Create, Insert, Update, Delete, Drop as DropTable, SelectRows as RowsStmt, SelectTotals as TotalsStmt}
 use Rattle.ob_sql.specs.Skeleton.{skeleton}

@@ -1,6 +1,6 @@
 -- No statement asks 2^49 accesses or more.
-use Rattle.std.proofs.Common.{◌≡◌, ℕ, suc, ◌+◌, ◌-◌, ◌*◌, ◌/◌, ◌^◌, ◌≤◌, ◌<◌, List, [], ◌∷◌, ◌++◌, length, ◌≢◌, ◌∙◌, ap, inl, inr, arith}
-use Rattle.std.specs.Prelude.{Option, Some, None, IfSome, All, Bool, true, false, bytes_eq, if◌then◌else◌}
+use Rattle.std.proofs.Common.{◌≡◌, ℕ, suc, ◌+◌, ◌-◌, ◌*◌, ◌/◌, ◌^◌, ◌≤◌, ◌<◌, List, [], ◌∷◌, ◌++◌, length, ◌≢◌, ◌∙◌, ap, inl, inr, refl, arith}
+use Rattle.std.specs.Prelude.{Option, Some, None, IfSome, All, Bool, true, false, not, bytes_eq, if◌then◌else◌}
 use Rattle.std.specs.Option.{option_map_or}
 use Rattle.ob_base.specs.declared.access.Access.{Access}
 use Rattle.ob_base.specs.declared.schema.Table.{Table}
@@ -13,7 +13,7 @@ use Rattle.ob_base.specs.declared.skeleton.Skeleton.{Skeleton}
 use Rattle.ob_base.specs.declared.skeleton.Skeleton.TheVariants.{Create, Insert, Update, Delete, Drop as DropTable, Rows, Groups}
 use Rattle.ob_base.specs.declared.schema.Shape.{Shape}
 use Rattle.ob_base.specs.declared.schema.Shape.TheVariants.{Flat, Indexed}
-use Rattle.ob_base.specs.Accesses.{discard_at}
+use Rattle.ob_base.specs.Accesses.{discard_at, drop_script}
 use Rattle.ob_base.specs.Indexes.{by_shape, height_of}
 use Rattle.ob_base.proofs.IndexLemmas.{is_height_of}
 use Rattle.ob_base.specs.Schemas.{width, columns_of}
@@ -21,7 +21,8 @@ use Rattle.ob_script.proofs.Joined.{few_blocks}
 use Rattle.ob_base.specs.Stored.{Stored, stored_at, stored_regions}
 use Rattle.std.specs.Int.{div_ceil}
 use Rattle.std.proofs.lemmas.Bool.{cases_lt}
-use Rattle.std.proofs.lemmas.List.{length-append, length-take}
+use Rattle.std.proofs.lemmas.List.{length-append, length-map, length-take}
+use Rattle.std.proofs.lemmas.List.Sums.{count_by-le-length, length-filter}
 use Rattle.std.proofs.lemmas.Grind.{div_ceil_times}
 use Rattle.std.proofs.Math.Nat.{mul-le-mul, mul-le-mul_right, mul-le-mul_left, le-div_iff_mul-le}
 use Rattle.ob_base.specs.declared.config.Public.{Public}
@@ -31,12 +32,13 @@ use Rattle.ob_base.specs.Limits.{buffered, buffered_blocks}
 use Rattle.ob_base.specs.Plans.{choose_padded, padded_rows}
 use Rattle.ob_base.specs.Numbers.{blocks_for}
 use Rattle.ob_script.specs.declared.extent.Extent.{Extent}
-use Rattle.ob_script.specs.Parts.{count_part, insert_part, rewrite_part, emission_part, join_part}
-use Rattle.ob_script.specs.Script.{created_script, dropped_script, extent_of, flat_script, index_part_of, shape_script, with_table, mutation_script, joined_extent, table_script, join_script, source_script, whole_script, until_end, script, select_part, after_count, behind_count, padded_part, plan_part, result_part, result_blocks, blocks_of, rows_width}
+use Rattle.ob_script.specs.Parts.{closing_part, count_part, create_part, insert_part, rewrite_part, emission_part, join_part}
+use Rattle.ob_script.specs.Script.{Behind, behind_change, closing_behind, created_script, dropped_script, extent_of, flat_script, index_part_of, shape_script, with_table, mutation_script, joined_extent, table_script, join_script, source_script, whole_script, until_end, save_part, script, select_part, after_count, behind_count, padded_part, plan_part, result_part, result_blocks, blocks_of, rows_width}
+use Rattle.ob_script.specs.Tables.{moved, moved_to, tables_after}
 use Rattle.ob_script.specs.Sizes.{IfFlat, IsHeld, IsPublic, IsCounted, IsTable, IfTable, IsSourceCounted, IsWithin}
 use Rattle.ob_script.proofs.Leaves.{blocks_few as tree_few}
 use Rattle.ob_script.proofs.Lengths.{length-count_part}
-use Rattle.ob_script.proofs.Numbers.{ceil-ceil, length-access_part, length-index_part, length-create_part, length-insert_part, length-rewrite_part, length-join_part, length-small_part, length-large_part, length-continuous_part, length-hash_part, length-emission_part}
+use Rattle.ob_script.proofs.Numbers.{ceil-ceil, length-access_part, length-closing_part, length-index_part, length-create_part, length-insert_part, length-rewrite_part, length-join_part, length-small_part, length-large_part, length-continuous_part, length-hash_part, length-emission_part}
 
 -- at least one block may be buffered, and at least two rows
 buffer_some : (p : Public) → IsPublic p → 1 ≤ buffered_blocks p.pack p.buffer
@@ -158,14 +160,51 @@ of_table name p f n P given h = go (stored_at name (stored_regions p.tables)) gi
   go None given = omega arith
   go (Some t) given = h t given
 
-rewrite_few : (p : Public) (t : Stored ℕ) → IsPublic p → IsStored t → length (mutation_script p rewrite_part t) ≤ 2 ^ 40
-rewrite_few p t h few =
-    let e = length-rewrite_part t.held p.next_region (blocks_of p (extent_of t)) (rows_width p (extent_of t)) in
+-- ---- what follows a change of tables
+-- it adds one table at most
+moved_few : (name : List ℕ) (p : Public) → length (moved name p.next_region p.tables) ≤ length p.tables + 1
+moved_few name p =
+    let same = length-map p.tables (λ (t : Table). if bytes_eq t.heading.name name then moved_to p.next_region t else t) in omega (arith, same)
+
+tables_few : (p : Public) (s : Skeleton) → length (tables_after p s) ≤ length p.tables + 1
+tables_few p (Create table cs n shape) =
+    let e = length-append p.tables (record { heading = record { name = table; schema = columns_of table cs; capacity = n; shape = shape }; region = p.next_region } ∷ []) in omega (arith, e)
+tables_few p (Insert table cs) = moved_few table p
+tables_few p (Update table cs) = moved_few table p
+tables_few p (Delete table) = moved_few table p
+tables_few p (DropTable table) =
+    let others = λ (t : Table). not (bytes_eq t.heading.name table) in
+    omega (arith, length-filter others p.tables, count_by-le-length others p.tables)
+tables_few p (Rows source cs) = omega arith
+tables_few p (Groups table cs key) = omega arith
+
+dropped_one : (o : Option ℕ) → length (drop_script o) ≤ 1
+dropped_one None = omega arith
+dropped_one (Some region) = omega arith
+
+behind_few : (p : Public) (s : Skeleton) (left : Option ℕ) → IsPublic p → length (behind_change p s left) ≤ 2 ^ 12
+behind_few p s left h = go p.save refl
+  where
+    go : (b : Bool) → p.save ≡ b → length (if b then save_part p s left else drop_script left) ≤ 2 ^ 12
+    go false is = let e = dropped_one left in omega (arith, e)
+    go true is =
+        let all = length-append (closing_part (closing_behind p s) (length (tables_after p s))) (drop_script left ++ drop_script p.closing) in
+        let closing = length-closing_part (closing_behind p s) (length (tables_after p s)) in
+        let discards = length-append (drop_script left) (drop_script p.closing) in
+        let few = tables_few p s in
+        let listed = h.listed is in
+        let one = dropped_one left in
+        let two = dropped_one p.closing in
+        omega (arith, all, closing, discards, few, listed, one, two)
+
+rewrite_few : (p : Public) (behind : Behind) (t : Stored ℕ) → IsPublic p → IsStored t → length (behind (Some t.held)) ≤ 2 ^ 12 → length (mutation_script p rewrite_part behind t) ≤ 2 ^ 40
+rewrite_few p behind t h few less =
+    let e = length-rewrite_part t.held p.next_region (blocks_of p (extent_of t)) (rows_width p (extent_of t)) (behind (Some t.held)) in
     let b = blocks_few p.pack t.heading.capacity h.pack_some (let c = few.capacity in omega arith) in omega arith
 
-insert_few : (p : Public) (t : Stored ℕ) → IsPublic p → IsStored t → length (mutation_script p insert_part t) ≤ 2 ^ 40
-insert_few p t h few =
-    let e = length-insert_part t.held p.next_region (blocks_of p (extent_of t)) (rows_width p (extent_of t)) in
+insert_few : (p : Public) (behind : Behind) (t : Stored ℕ) → IsPublic p → IsStored t → length (behind (Some t.held)) ≤ 2 ^ 12 → length (mutation_script p insert_part behind t) ≤ 2 ^ 40
+insert_few p behind t h few less =
+    let e = length-insert_part t.held p.next_region (blocks_of p (extent_of t)) (rows_width p (extent_of t)) (behind (Some t.held)) in
     let b = blocks_few p.pack t.heading.capacity h.pack_some (let c = few.capacity in omega arith) in omega arith
 
 join_few : (p : Public) (seen : Seen) (left right : Stored ℕ) → IsPublic p → IsStored left → IsStored right → IsCounted seen (joined_extent p left.heading right.heading) →
@@ -206,23 +245,24 @@ either_few : (shape : Shape) (xs ys : List Access) (n : ℕ) → length xs ≤ n
 either_few Flat xs ys n a b = a
 either_few Indexed xs ys n a b = b
 
-mutation_few : (p : Public) (leaf : Option ℕ) (table : List ℕ) (part : ℕ → ℕ → ℕ → ℕ → List Access) → IsPublic p
-    → ((t : Stored ℕ) → IsStored t → length (mutation_script p part t) ≤ 2 ^ 40) → length (with_table table p (shape_script p leaf (mutation_script p part))) ≤ 2 ^ 40
-mutation_few p leaf table part h flat =
-    of_table table p (shape_script p leaf (mutation_script p part)) (2 ^ 40) IsStored (stored-sized table p.tables h.tables)
-    (λ t few. either_few t.heading.shape (mutation_script p part t) (index_part_of p leaf t) (2 ^ 40) (flat t few) (let e = index_few p leaf t h few in omega arith))
+mutation_few : (p : Public) (leaf : Option ℕ) (table : List ℕ) (f : Stored ℕ → List Access) → IsPublic p
+    → ((t : Stored ℕ) → IsStored t → length (f t) ≤ 2 ^ 40) → length (with_table table p (shape_script p leaf f)) ≤ 2 ^ 40
+mutation_few p leaf table f h flat =
+    of_table table p (shape_script p leaf f) (2 ^ 40) IsStored (stored-sized table p.tables h.tables)
+    (λ t few. either_few t.heading.shape (f t) (index_part_of p leaf t) (2 ^ 40) (flat t few) (let e = index_few p leaf t h few in omega arith))
 
-created_few : (p : Public) (n width : ℕ) (shape : Shape) → IsPublic p → n ≤ 2 ^ 20 → length (created_script p n width shape) < 2 ^ 49
-created_few p n width Flat h few =
+created_few : (p : Public) (n width : ℕ) (behind : Behind) (shape : Shape) → IsPublic p → n ≤ 2 ^ 20 → length (behind None) ≤ 2 ^ 12 → length (created_script p n width behind shape) < 2 ^ 49
+created_few p n width behind Flat h few less =
+    let a = length-append (create_part p.next_region (blocks_for p.pack n) (p.pack * width)) (behind None) in
     let e = length-create_part p.next_region (blocks_for p.pack n) (p.pack * width) in
-    let b = blocks_few p.pack n h.pack_some (omega arith) in omega arith
-created_few p n width Indexed h few =
+    let b = blocks_few p.pack n h.pack_some (omega arith) in omega (arith, a, e, b, less)
+created_few p n width behind Indexed h few less =
     let e = length-index_part p.next_region (p.next_region + 1) p.stash (height_of n) width in
     let s = h.stash in
     let b = tree_few (height_of n) (height_few n few) in omega arith
 
-dropped_few : (t : Stored ℕ) → length (dropped_script t) ≤ 2
-dropped_few t = either_few t.heading.shape (discard_at t.held) (discard_at t.held ++ discard_at (t.held + 1)) 2 (omega arith) (omega arith)
+dropped_few : (behind : Behind) (t : Stored ℕ) → length (behind (Some t.held)) ≤ 2 ^ 12 → length (dropped_script behind t) ≤ 2 ^ 12
+dropped_few behind t less = either_few t.heading.shape (behind (Some t.held)) (discard_at t.held ++ discard_at (t.held + 1)) (2 ^ 12) less (omega arith)
 
 source_few : (p : Public) (source : Source) (seen : Seen) → IsPublic p → IsSourceCounted p seen source → length (source_script p seen source) < 2 ^ 49
 source_few p (OneTable name) seen h w =
@@ -241,12 +281,21 @@ source_few p (Join a b on equals) seen h w =
 
 -- any statement that is not refused before
 whole_few : (p : Public) (s : Skeleton) (seen : Seen) → IsPublic p → IsWithin p s seen → length (whole_script p s seen) < 2 ^ 49
-whole_few p (Create table cs n shape) seen h w = created_few p n (width (columns_of table cs)) shape h w.0
-whole_few p (Insert table cs) seen h w = let m = mutation_few p seen.leaf table insert_part h (λ t few. insert_few p t h few) in omega arith
-whole_few p (Update table cs) seen h w = let m = mutation_few p seen.leaf table rewrite_part h (λ t few. rewrite_few p t h few) in omega arith
-whole_few p (Delete table) seen h w = let m = mutation_few p seen.leaf table rewrite_part h (λ t few. rewrite_few p t h few) in omega arith
+whole_few p (Create table cs n shape) seen h w =
+    created_few p n (width (columns_of table cs)) (behind_change p (Create table cs n shape)) shape h w.0 (behind_few p (Create table cs n shape) None h)
+whole_few p (Insert table cs) seen h w =
+    let behind = behind_change p (Insert table cs) in
+    let m = mutation_few p seen.leaf table (mutation_script p insert_part behind) h (λ t few. insert_few p behind t h few (behind_few p (Insert table cs) (Some t.held) h)) in omega arith
+whole_few p (Update table cs) seen h w =
+    let behind = behind_change p (Update table cs) in
+    let m = mutation_few p seen.leaf table (mutation_script p rewrite_part behind) h (λ t few. rewrite_few p behind t h few (behind_few p (Update table cs) (Some t.held) h)) in omega arith
+whole_few p (Delete table) seen h w =
+    let behind = behind_change p (Delete table) in
+    let m = mutation_few p seen.leaf table (mutation_script p rewrite_part behind) h (λ t few. rewrite_few p behind t h few (behind_few p (Delete table) (Some t.held) h)) in omega arith
 whole_few p (DropTable table) seen h w =
-    let m = of_table table p dropped_script (2 ^ 40) IsStored (stored-sized table p.tables h.tables) (λ t few. let e = dropped_few t in omega arith) in omega arith
+    let behind = behind_change p (DropTable table) in
+    let m = of_table table p (dropped_script behind) (2 ^ 40) IsStored (stored-sized table p.tables h.tables)
+    (λ t few. let e = dropped_few behind t (behind_few p (DropTable table) (Some t.held) h) in omega arith) in omega arith
 whole_few p (Rows source cs) seen h w = source_few p source seen h w
 whole_few p (Groups table cs key) seen h w =
     let m = of_table table p (λ t. count_part t.held (blocks_of p (extent_of t))) (2 ^ 40) IsStored (stored-sized table p.tables h.tables)

@@ -1,13 +1,13 @@
 -- How many regions each part of a statement asks for.
-use Rattle.std.proofs.Common.{◌≡◌, ℕ, zero, suc, ◌+◌, ◌-◌, ◌*◌, ◌/◌, ◌%◌, min, List, ◌++◌, refl, ◌∙◌, arith}
+use Rattle.std.proofs.Common.{◌≡◌, ℕ, zero, suc, ◌+◌, ◌-◌, ◌*◌, ◌/◌, ◌%◌, min, List, Option, Some, None, ◌++◌, refl, ◌∙◌, arith}
 use Rattle.std.specs.Int.{div_ceil}
 use Rattle.ob_base.specs.declared.access.Access.{Access}
-use Rattle.ob_base.specs.Accesses.{makes, read_at, write_at, make_at, discard_at}
+use Rattle.ob_base.specs.Accesses.{drop_script, makes, read_at, write_at, make_at, discard_at}
 use Rattle.ob_base.specs.Indexes.{tree_blocks}
 use Rattle.ob_base.specs.Lists.{each}
 use Rattle.ob_base.specs.Numbers.{blocks_for, first_bucket, second_bucket}
 use Rattle.ob_base.proofs.AccessLemmas.{makes-append}
-use Rattle.ob_script.specs.Parts.{copy_at, read_from, write_from, count_part, copy_part, create_part, index_part, insert_part, rewrite_part, small_pass, small_part, large_part, slots_in, continuous_block, continuous_part, bucket_part, hash_slot, hash_block, hash_part, emission_part, pair_at, join_chunk, join_part, access_part, path_place, path_read, path_write}
+use Rattle.ob_script.specs.Parts.{copy_at, read_from, write_from, closing_part, count_part, copy_part, create_part, index_part, insert_part, rewrite_part, small_pass, small_part, large_part, slots_in, continuous_block, continuous_part, bucket_part, hash_slot, hash_block, hash_part, emission_part, pair_at, join_chunk, join_part, access_part, path_place, path_read, path_write}
 
 -- lists of which none asks for a region, joined
 makes-each : (n : ℕ) (f : ℕ → List Access) → ((i : ℕ) → makes (f i) ≡ 0) → makes (each n f) ≡ 0
@@ -23,7 +23,7 @@ made : (g blocks width : ℕ) → makes (make_at g blocks width) ≡ 1
 unfolding makes
 made g blocks width = refl
 
-pub one_made : (g blocks width : ℕ) (rest : List Access) → makes rest ≡ 0 → makes (make_at g blocks width ++ rest) ≡ 1
+one_made : (g blocks width : ℕ) (rest : List Access) → makes rest ≡ 0 → makes (make_at g blocks width ++ rest) ≡ 1
 one_made g blocks width rest none = both (make_at g blocks width) rest 1 0 (made g blocks width) none
 
 discarded : (g : ℕ) → makes (discard_at g) ≡ 0
@@ -46,28 +46,39 @@ paired : (b g rights q v : ℕ) → makes (pair_at b g rights q v) ≡ 0
 unfolding makes
 paired b g rights q v = refl
 
-pub none_in : (xs ys : List Access) → makes xs ≡ 0 → makes ys ≡ 0 → makes (xs ++ ys) ≡ 0
+none_in : (xs ys : List Access) → makes xs ≡ 0 → makes ys ≡ 0 → makes (xs ++ ys) ≡ 0
 none_in xs ys e f = both xs ys 0 0 e f
 
 pub makes-count_part : (t blocks : ℕ) → makes (count_part t blocks) ≡ 0
 makes-count_part t blocks = makes-each blocks (read_at t) (was_read t)
 
-pub makes-copy_part : (t g blocks : ℕ) → makes (copy_part t g blocks) ≡ 0
+makes-copy_part : (t g blocks : ℕ) → makes (copy_part t g blocks) ≡ 0
 makes-copy_part t g blocks = makes-each blocks (copy_at t g) (copied t g)
 
 pub makes-create_part : (g blocks width : ℕ) → makes (create_part g blocks width) ≡ 1
 makes-create_part g blocks width = one_made g blocks width (each blocks (write_at g)) (makes-each blocks (write_at g) (was_written g))
 
-copied_over : (t g blocks : ℕ) → makes (copy_part t g blocks ++ discard_at t) ≡ 0
-copied_over t g blocks = none_in (copy_part t g blocks) (discard_at t) (makes-copy_part t g blocks) (discarded t)
+copied_over : (t g blocks : ℕ) (behind : List Access) → makes (copy_part t g blocks ++ behind) ≡ makes behind
+copied_over t g blocks behind = both (copy_part t g blocks) behind 0 (makes behind) (makes-copy_part t g blocks) refl ∙ omega arith
 
-pub makes-insert_part : (t g blocks width : ℕ) → makes (insert_part t g blocks width) ≡ 1
-makes-insert_part t g blocks width =
-    one_made g blocks width (count_part t blocks ++ (copy_part t g blocks ++ discard_at t))
-    (none_in (count_part t blocks) (copy_part t g blocks ++ discard_at t) (makes-count_part t blocks) (copied_over t g blocks))
+pub makes-insert_part : (t g blocks width : ℕ) (behind : List Access) → makes (insert_part t g blocks width behind) ≡ 1 + makes behind
+makes-insert_part t g blocks width behind =
+    let first = both (make_at g blocks width) (count_part t blocks ++ (copy_part t g blocks ++ behind)) 1 _ (made g blocks width) refl in
+    let then = both (count_part t blocks) (copy_part t g blocks ++ behind) 0 _ (makes-count_part t blocks) (copied_over t g blocks behind) in
+    omega (arith, first, then)
 
-pub makes-rewrite_part : (t g blocks width : ℕ) → makes (rewrite_part t g blocks width) ≡ 1
-makes-rewrite_part t g blocks width = one_made g blocks width (copy_part t g blocks ++ discard_at t) (copied_over t g blocks)
+pub makes-rewrite_part : (t g blocks width : ℕ) (behind : List Access) → makes (rewrite_part t g blocks width behind) ≡ 1 + makes behind
+makes-rewrite_part t g blocks width behind =
+    both (make_at g blocks width) (copy_part t g blocks ++ behind) 1 _ (made g blocks width) (copied_over t g blocks behind)
+
+pub makes-closing_part : (region tables : ℕ) → makes (closing_part region tables) ≡ 1
+makes-closing_part region tables = makes-create_part region (tables + 1) 1024
+
+-- what is discarded makes no region
+pub makes-drop_script : (o : Option ℕ) → makes (drop_script o) ≡ 0
+unfolding makes
+makes-drop_script None = refl
+makes-drop_script (Some region) = refl
 
 pub makes-small_part : (t g blocks results buffered width : ℕ) → makes (small_part t g blocks results buffered width) ≡ 1
 makes-small_part t g blocks results buffered width =

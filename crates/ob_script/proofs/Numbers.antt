@@ -1,15 +1,16 @@
 -- The number of accesses of each part of a statement.
-use Rattle.std.proofs.Common.{◌≡◌, ℕ, suc, ◌+◌, ◌*◌, ◌≤◌, ◌<◌, ◌++◌, length, ◌∙◌, ap, mul-pos, inl, inr, arith}
+use Rattle.std.proofs.Common.{◌≡◌, ℕ, List, suc, ◌+◌, ◌*◌, ◌≤◌, ◌<◌, ◌++◌, length, ◌∙◌, ap, mul-pos, inl, inr, arith}
 use Rattle.std.proofs.lemmas.Bool.{cases_lt}
 use Rattle.std.specs.Int.{div_ceil}
 use Rattle.std.proofs.lemmas.List.{length-append}
 use Rattle.std.proofs.lemmas.Grind.{div_ceil_times}
 use Rattle.std.proofs.Math.Nat.{mul-le-mul_right}
+use Rattle.ob_base.specs.declared.access.Access.{Access}
 use Rattle.ob_base.specs.Accesses.{discard_at, write_at}
 use Rattle.ob_base.specs.Indexes.{tree_blocks}
 use Rattle.ob_base.specs.Lists.{each}
 use Rattle.ob_base.specs.Numbers.{blocks_for}
-use Rattle.ob_script.specs.Parts.{count_part, copy_part, create_part, index_part, insert_part, rewrite_part, small_part, large_part, continuous_part, continuous_block, hash_part, hash_block, emission_part, join_part, access_part, path_read, path_write}
+use Rattle.ob_script.specs.Parts.{closing_part, count_part, copy_part, create_part, index_part, insert_part, rewrite_part, small_part, large_part, continuous_part, continuous_block, hash_part, hash_block, emission_part, join_part, access_part, path_read, path_write}
 use Rattle.ob_script.proofs.Lengths.{length-count_part, length-writes, length-copy_part, length-passes, length-turns, length-buckets, length-pairs, length-path_reads, length-path_writes}
 
 pub length-create_part : (g blocks width : ℕ) → length (create_part g blocks width) ≡ 1 + blocks
@@ -18,17 +19,20 @@ length-create_part g blocks width = let e = length-writes g blocks in omega arit
 pub length-emission_part : (g blocks : ℕ) → length (emission_part g blocks) ≡ blocks + 1
 length-emission_part g blocks = length-append (count_part g blocks) (discard_at g) ∙ ap (λ n. n + 1) (length-count_part g blocks)
 
-pub length-insert_part : (t g blocks width : ℕ) → length (insert_part t g blocks width) ≡ 3 * blocks + 2
-length-insert_part t g blocks width =
-    let a = length-append (count_part t blocks) (copy_part t g blocks ++ discard_at t) in
-    let b = length-append (copy_part t g blocks) (discard_at t) in
+pub length-insert_part : (t g blocks width : ℕ) (behind : List Access) → length (insert_part t g blocks width behind) ≡ 3 * blocks + 1 + length behind
+length-insert_part t g blocks width behind =
+    let a = length-append (count_part t blocks) (copy_part t g blocks ++ behind) in
+    let b = length-append (copy_part t g blocks) behind in
     let c = length-count_part t blocks in
     let d = length-copy_part t g blocks in omega (arith, a, b)
 
-pub length-rewrite_part : (t g blocks width : ℕ) → length (rewrite_part t g blocks width) ≡ 2 * blocks + 2
-length-rewrite_part t g blocks width =
-    let b = length-append (copy_part t g blocks) (discard_at t) in
+pub length-rewrite_part : (t g blocks width : ℕ) (behind : List Access) → length (rewrite_part t g blocks width behind) ≡ 2 * blocks + 1 + length behind
+length-rewrite_part t g blocks width behind =
+    let b = length-append (copy_part t g blocks) behind in
     let d = length-copy_part t g blocks in omega (arith, b)
+
+pub length-closing_part : (region tables : ℕ) → length (closing_part region tables) ≡ tables + 2
+length-closing_part region tables = let e = length-create_part region (tables + 1) 1024 in omega (arith, e)
 
 pub length-small_part : (t g blocks results q width : ℕ) → 0 < q → length (small_part t g blocks results q width) ≡ 1 + (div_ceil results q * blocks + results)
 length-small_part t g blocks results q width pos = let e = length-passes t g blocks results q pos in omega arith

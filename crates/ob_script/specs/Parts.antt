@@ -31,13 +31,17 @@ copy_part t g blocks = each blocks (copy_at t g)
 abbrev pub create_part : ℕ → ℕ → ℕ → List Access
 create_part g blocks width = make_at g blocks width ++ each blocks (write_at g)
 
--- INSERT: a new region is made, the table is read whole, and then copied to it and discarded
-abbrev pub insert_part : ℕ → ℕ → ℕ → ℕ → List Access
-insert_part t g blocks width = make_at g blocks width ++ (count_part t blocks ++ (copy_part t g blocks ++ discard_at t))
+-- INSERT: a new region is made, the table is read whole, and then copied to it, before what follows
+abbrev pub insert_part : ℕ → ℕ → ℕ → ℕ → (behind : List Access) → List Access
+insert_part t g blocks width behind = make_at g blocks width ++ (count_part t blocks ++ (copy_part t g blocks ++ behind))
 
--- UPDATE and DELETE: a new region is made, and the table copied to it and discarded
-abbrev pub rewrite_part : ℕ → ℕ → ℕ → ℕ → List Access
-rewrite_part t g blocks width = make_at g blocks width ++ (copy_part t g blocks ++ discard_at t)
+-- UPDATE and DELETE: a new region is made, and the table copied to it, before what follows
+abbrev pub rewrite_part : ℕ → ℕ → ℕ → ℕ → (behind : List Access) → List Access
+rewrite_part t g blocks width behind = make_at g blocks width ++ (copy_part t g blocks ++ behind)
+
+-- a closing lists so many tables: its head and each of them have a block
+abbrev pub closing_part : (region tables : ℕ) → List Access
+closing_part region tables = create_part region (tables + 1) 1024
 
 -- Small, pass j: the table is read whole, and the next blocks of the result are written, as many as are buffered
 abbrev pub small_pass : ℕ → ℕ → ℕ → ℕ → ℕ → ℕ → List Access

@@ -1,5 +1,5 @@
 -- The accesses of a statement, from what is public and what was seen of it.
-use Rattle.std.specs.Prelude.{ℕ, ◌+◌, ◌*◌, List, [], ◌++◌, take, Option, Some, None}
+use Rattle.std.specs.Prelude.{ℕ, ◌+◌, ◌*◌, ◌&&◌, Bool, true, false, List, [], ◌++◌, length, take, Option, Some, None, if◌then◌else◌}
 use Rattle.std.specs.Option.{option_map_or}
 use Rattle.ob_base.specs.declared.access.Access.{Access}
 use Rattle.ob_base.specs.declared.config.Public.{Public}
@@ -14,7 +14,7 @@ use Rattle.ob_base.specs.declared.skeleton.Source.{Source}
 use Rattle.ob_base.specs.declared.skeleton.Source.TheVariants.{Table as OneTable, Join}
 use Rattle.ob_base.specs.declared.skeleton.Skeleton.{Skeleton}
 use Rattle.ob_base.specs.declared.skeleton.Skeleton.TheVariants.{Create, Insert, Update, Delete, Drop as DropTable, Rows, Groups}
-use Rattle.ob_base.specs.Accesses.{discard_at}
+use Rattle.ob_base.specs.Accesses.{discard_at, drop_script}
 use Rattle.ob_base.specs.Indexes.{by_shape, height_of}
 use Rattle.ob_base.specs.Joins.{joined_slots}
 use Rattle.ob_base.specs.Limits.{buffered, buffered_blocks}
@@ -23,7 +23,8 @@ use Rattle.ob_base.specs.Plans.{choose_padded, padded_rows}
 use Rattle.ob_base.specs.Schemas.{width, columns_of}
 use Rattle.ob_base.specs.Stored.{Stored, stored_at, stored_regions}
 use Rattle.ob_script.specs.declared.extent.Extent.{Extent}
-use Rattle.ob_script.specs.Parts.{access_part, count_part, create_part, index_part, insert_part, rewrite_part, small_part, large_part, continuous_part, hash_part, emission_part, join_part}
+use Rattle.ob_script.specs.Parts.{access_part, closing_part, count_part, create_part, index_part, insert_part, rewrite_part, small_part, large_part, continuous_part, hash_part, emission_part, join_part}
+use Rattle.ob_script.specs.Tables.{tables_after}
 
 abbrev pub extent_of : Stored ℕ → Extent
 extent_of t = record { region = t.held; slots = t.heading.capacity; width = width t.heading.schema }
@@ -117,31 +118,85 @@ source_script p seen (OneTable name) = with_table name p (table_script p seen)
 source_script p seen (Join a b on equals) =
     with_table a p (λ left. with_table b p (λ right. join_script p seen left right))
 
+-- ---- what follows a change of tables
+-- whether a statement changes tables, or which there are
+abbrev pub changes_tables : Skeleton → Bool
+changes_tables (Create table cs n shape) = true
+changes_tables (Insert table cs) = true
+changes_tables (Update table cs) = true
+changes_tables (Delete table) = true
+changes_tables (DropTable table) = true
+changes_tables (Rows source cs) = false
+changes_tables (Groups table cs key) = false
+
+-- how many regions its change makes of a flat table
+abbrev pub made_by : Skeleton → ℕ
+made_by (Create table cs n shape) = 1
+made_by (Insert table cs) = 1
+made_by (Update table cs) = 1
+made_by (Delete table) = 1
+made_by (DropTable table) = 0
+made_by (Rows source cs) = 0
+made_by (Groups table cs key) = 0
+
+-- the region of the closing that lists the tables behind it
+abbrev pub closing_behind : Public → Skeleton → ℕ
+closing_behind p s = p.next_region + made_by s
+
+-- where tables are saved they are listed in a closing, and only then is discarded what nothing needs any more: the region
+-- that the change left, and the closing before
+abbrev pub save_part : Public → Skeleton → (left : Option ℕ) → List Access
+save_part p s left =
+    closing_part (closing_behind p s) (length (tables_after p s)) ++ (drop_script left ++ drop_script p.closing)
+
+-- elsewhere that region is discarded at once
+abbrev pub behind_change : Public → Skeleton → (left : Option ℕ) → List Access
+behind_change p s left = if p.save then save_part p s left else drop_script left
+
+-- whether tables are saved behind a statement
+abbrev pub is_saved : Public → Skeleton → Bool
+is_saved p s = changes_tables s && p.save
+
+-- the closing that lists the tables behind one
+abbrev pub closing_then : Public → Skeleton → End → Option ℕ
+closing_then p s Static = p.closing
+closing_then p s Whole = if is_saved p s then Some (closing_behind p s) else p.closing
+closing_then p s AfterCount = p.closing
+closing_then p s (Cut n) = p.closing
+
 -- ---- all statements
+-- what a flat table's change is followed by, from the region that it leaves
+abbrev pub Behind : Type 0
+Behind = Option ℕ → List Access
+
 -- a mutation of a table goes into the next region
-abbrev pub mutation_script : Public → (ℕ → ℕ → ℕ → ℕ → List Access) → Stored ℕ → List Access
-mutation_script p part t = part t.held p.next_region (blocks_of p (extent_of t)) (rows_width p (extent_of t))
+abbrev pub mutation_script : Public → (ℕ → ℕ → ℕ → ℕ → List Access → List Access) → Behind → Stored ℕ → List Access
+mutation_script p part behind t =
+    part t.held p.next_region (blocks_of p (extent_of t)) (rows_width p (extent_of t)) (behind (Some t.held))
 
 -- a new table, in the next region, and the stash of an index in the one behind it
-abbrev pub created_script : Public → (keys width : ℕ) → Shape → List Access
-created_script p n width shape =
-    by_shape shape (create_part p.next_region (blocks_for p.pack n) (p.pack * width))
+abbrev pub created_script : Public → (keys width : ℕ) → Behind → Shape → List Access
+created_script p n width behind shape =
+    by_shape shape (create_part p.next_region (blocks_for p.pack n) (p.pack * width) ++ behind None)
     (index_part p.next_region (p.next_region + 1) p.stash (height_of n) width)
 
 -- the regions of a table are given up
-abbrev pub dropped_script : Stored ℕ → List Access
-dropped_script t =
-    by_shape t.heading.shape (discard_at t.held) (discard_at t.held ++ discard_at (t.held + 1))
+abbrev pub dropped_script : Behind → Stored ℕ → List Access
+dropped_script behind t =
+    by_shape t.heading.shape (behind (Some t.held)) (discard_at t.held ++ discard_at (t.held + 1))
 
--- all accesses of a statement that is not refused before the first
+-- all accesses of a statement that is not refused before the first, by what follows a change
+abbrev pub whole_by : Behind → Public → Skeleton → Seen → List Access
+whole_by behind p (Create table cs n shape) seen = created_script p n (width (columns_of table cs)) behind shape
+whole_by behind p (Insert table cs) seen = with_table table p (shape_script p seen.leaf (mutation_script p insert_part behind))
+whole_by behind p (Update table cs) seen = with_table table p (shape_script p seen.leaf (mutation_script p rewrite_part behind))
+whole_by behind p (Delete table) seen = with_table table p (shape_script p seen.leaf (mutation_script p rewrite_part behind))
+whole_by behind p (DropTable table) seen = with_table table p (dropped_script behind)
+whole_by behind p (Rows source cs) seen = source_script p seen source
+whole_by behind p (Groups table cs key) seen = with_table table p (λ t. count_part t.held (blocks_of p (extent_of t)))
+
 abbrev pub whole_script : Public → Skeleton → Seen → List Access
-whole_script p (Create table cs n shape) seen = created_script p n (width (columns_of table cs)) shape
-whole_script p (Insert table cs) seen = with_table table p (shape_script p seen.leaf (mutation_script p insert_part))
-whole_script p (Update table cs) seen = with_table table p (shape_script p seen.leaf (mutation_script p rewrite_part))
-whole_script p (Delete table) seen = with_table table p (shape_script p seen.leaf (mutation_script p rewrite_part))
-whole_script p (DropTable table) seen = with_table table p dropped_script
-whole_script p (Rows source cs) seen = source_script p seen source
-whole_script p (Groups table cs key) seen = with_table table p (λ t. count_part t.held (blocks_of p (extent_of t)))
+whole_script p s seen = whole_by (behind_change p s) p s seen
 
 abbrev pub until_end : End → List Access → List Access
 until_end Static all = []

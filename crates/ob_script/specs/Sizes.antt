@@ -1,5 +1,5 @@
 -- The limits within which a script is counted out.
-use Rattle.std.specs.Prelude.{◌≤◌, ◌<◌, ◌^◌, ℕ, ◌+◌, ◌*◌, List, ⊤, Option, Some, None, IfSome}
+use Rattle.std.specs.Prelude.{◌≡◌, ◌≤◌, ◌<◌, ◌^◌, ℕ, ◌+◌, ◌*◌, true, List, length, ⊤, Option, Some, None, IfSome}
 use Rattle.std.specs.List.{All}
 use Rattle.ob_base.specs.declared.config.Plan.{Plan}
 use Rattle.ob_base.specs.declared.config.Plan.TheVariants.{Small, Large, Continuous, Hash}
@@ -38,6 +38,8 @@ pub record IsPublic (p : Public) : Type 0 where
   pub padded : IsPadded p.pad p.plan
   pub stash : p.stash ≤ 1024
   pub tables : All IsTable p.tables
+  -- where tables are saved a closing lists them
+  pub listed : p.save ≡ true → length p.tables ≤ 64
 
 -- no more rows are selected than there are slots, and at least one where a plan is taken
 pub record IsCounted (seen : Seen) (t : Extent) : Type 0 where

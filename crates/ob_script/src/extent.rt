@@ -1,5 +1,6 @@
 //! Where rows lie.
-ghost use Rattle.std.specs.Prelude.{◌≡◌, ◌≤◌, ℕ, List, [], All, IfSome, IfNone};
+ghost use Rattle.std.specs.Prelude.{◌≡◌, ◌≤◌, ℕ, List, [], All, IfSome, IfNone, bytes_eq, filter, length, not};
+ghost use Rattle.ob_base.specs.declared.schema.Table.{Table};
 ghost use Rattle.ob_base.specs.Schemas.{width, kind_width, kind_of, columns_of};
 ghost use Rattle.ob_base.specs.Stored.{stored_at, stored_region, stored_regions};
 ghost use Rattle.ob_script.specs.Script.{extent_of};
@@ -29,6 +30,19 @@ pub(crate) fn table_at<'a>(tables: &'a [Table], name: &Name) -> Option<&'a Table
         }
     }
     None
+}
+
+/// How many tables have another name.
+pub(crate) fn others(tables: &[Table], name: &Name) -> u32
+    requires few { length tables.now ≤ 64 }
+    ensures value { result
+        ≡ length (filter (λ (t : Table). not (bytes_eq t.heading.name name.now)) tables.now) }
+    ensures few { result ≤ 64 }
+{
+    let others = tables
+        .iter()
+        .filter(|table| table.heading.name.as_bytes() != name.as_bytes());
+    others.count() as u32
 }
 
 /// Where its rows lie.

@@ -1,28 +1,29 @@
 //! Laws of the scripts.
-ghost use Rattle.std.specs.Prelude.{◌≡◌, ◌≢◌, ◌<◌, ◌+◌, ◌++◌, ◌*◌, ◌^◌, ℕ, true, false, length};
+ghost use Rattle.std.specs.Prelude.{◌≡◌, ◌≢◌, ◌<◌, ◌+◌, ◌++◌, ◌*◌, ◌^◌, ℕ, List, true, false, length};
+ghost use Rattle.ob_base.specs.declared.access.Access.{Access};
 ghost use Rattle.ob_base.specs.declared.config.Public.{Public};
 ghost use Rattle.ob_base.specs.declared.seen.Seen.{Seen};
 ghost use Rattle.ob_base.specs.declared.skeleton.Skeleton.{Skeleton};
-ghost use Rattle.ob_base.specs.Accesses.{discard_at, makes};
-ghost use Rattle.ob_script.specs.Saved.{changes_tables, closing_part, insert_kept, rewrite_kept, run_script, save_part, saved_public, served_script};
-ghost use Rattle.ob_script.specs.Saved.{run_next as run_then, served_next as served_then};
-ghost use Rattle.ob_script.specs.Script.{script};
+ghost use Rattle.ob_base.specs.Accesses.{makes};
+ghost use Rattle.ob_script.specs.Saved.{ChangesFlat, left_by, run_next, run_script, saved_public, whole_run};
+ghost use Rattle.ob_script.specs.Script.{made_by, save_part, script};
 ghost use Rattle.ob_script.specs.Sizes.{IsPublic, IsWithin};
 ghost use Rattle.ob_script.specs.Trace.{next};
 ghost use Rattle.std.specs.Int.{div_ceil};
 ghost use Rattle.ob_base.specs.Indexes.{tree_blocks};
 ghost use Rattle.ob_base.specs.Numbers.{blocks_for};
-ghost use Rattle.ob_script.specs.Parts.{count_part, create_part, insert_part, rewrite_part, small_part, large_part, continuous_part, hash_part, emission_part, join_part, access_part, index_part};
+ghost use Rattle.ob_script.specs.Parts.{closing_part, count_part, create_part, insert_part, rewrite_part, small_part, large_part, continuous_part, hash_part, emission_part, join_part, access_part, index_part};
 
 use ob_base::End;
 
 /// How many accesses each part of a statement asks.
 pub fn part_lengths()
     ensures create { (g blocks width : ℕ) → length (create_part g blocks width) ≡ 1 + blocks }
-    ensures insert { (t g blocks width : ℕ) →
-        length (insert_part t g blocks width) ≡ 3 * blocks + 2 }
-    ensures rewrite { (t g blocks width : ℕ) →
-        length (rewrite_part t g blocks width) ≡ 2 * blocks + 2 }
+    ensures insert { (t g blocks width : ℕ) (behind : List Access) →
+        length (insert_part t g blocks width behind) ≡ 3 * blocks + 1 + length behind }
+    ensures rewrite { (t g blocks width : ℕ) (behind : List Access) →
+        length (rewrite_part t g blocks width behind) ≡ 2 * blocks + 1 + length behind }
+    ensures closing { (region tables : ℕ) → length (closing_part region tables) ≡ tables + 2 }
     ensures count { (t blocks : ℕ) → length (count_part t blocks) ≡ blocks }
     ensures small { (t g blocks results buffered width : ℕ) → 0 < buffered →
         length (small_part t g blocks results buffered width)
@@ -48,8 +49,11 @@ pub fn part_lengths()
 /// How many regions each part of a statement asks for: one where it writes to a new region, else none.
 pub fn part_makes()
     ensures create { (g blocks width : ℕ) → makes (create_part g blocks width) ≡ 1 }
-    ensures insert { (t g blocks width : ℕ) → makes (insert_part t g blocks width) ≡ 1 }
-    ensures rewrite { (t g blocks width : ℕ) → makes (rewrite_part t g blocks width) ≡ 1 }
+    ensures insert { (t g blocks width : ℕ) (behind : List Access) →
+        makes (insert_part t g blocks width behind) ≡ 1 + makes behind }
+    ensures rewrite { (t g blocks width : ℕ) (behind : List Access) →
+        makes (rewrite_part t g blocks width behind) ≡ 1 + makes behind }
+    ensures closing { (region tables : ℕ) → makes (closing_part region tables) ≡ 1 }
     ensures count { (t blocks : ℕ) → makes (count_part t blocks) ≡ 0 }
     ensures small { (t g blocks results buffered width : ℕ) →
         makes (small_part t g blocks results buffered width) ≡ 1 }
@@ -79,38 +83,19 @@ pub fn scripts_are_short()
         (seen.end ≢ End.Static → IsWithin p s seen) → length (script p s seen) < 2 ^ 49 }
 {}
 
-/// Where tables are saved a change asks what it asks elsewhere, but for the table's old region, which is discarded
-/// behind the closing; and how many accesses a closing of so many tables is, and how many regions it makes.
-pub fn saved_parts()
-    ensures insert { (t g blocks width : ℕ) → insert_part t g blocks width
-        ≡ insert_kept t g blocks width ++ discard_at t }
-    ensures rewrite { (t g blocks width : ℕ) → rewrite_part t g blocks width
-        ≡ rewrite_kept t g blocks width ++ discard_at t }
-    ensures inserted { (t g blocks width : ℕ) →
-        length (insert_kept t g blocks width) ≡ 3 * blocks + 1 }
-    ensures rewritten { (t g blocks width : ℕ) →
-        length (rewrite_kept t g blocks width) ≡ 2 * blocks + 1 }
-    ensures made { (t g blocks width : ℕ) → makes (insert_kept t g blocks width) ≡ 1 }
-    ensures made_too { (t g blocks width : ℕ) → makes (rewrite_kept t g blocks width) ≡ 1 }
-    ensures closing { (region tables : ℕ) → length (closing_part region tables) ≡ tables + 2 }
-    ensures listed { (region tables : ℕ) → makes (closing_part region tables) ≡ 1 }
-{}
-
-/// Where tables aren't saved a statement asks what `script` says, and `next` is public behind it; and where they are a
-/// closing follows each change that comes to its end, and then what is discarded.
+/// Where tables aren't saved a statement's script is the engine's part alone. Where they are, a closing follows each change
+/// of flat tables that comes to its end, and then what is discarded; the change makes as many regions as `made_by` says.
 pub fn saved_scripts()
-    ensures run { (p : Public) (s : Skeleton) (seen : Seen) → p.save ≡ false
+    ensures unsaved { (p : Public) (s : Skeleton) (seen : Seen) → p.save ≡ false
         → run_script p s seen ≡ script p s seen }
-    ensures run_next { (p : Public) (s : Skeleton) (seen : Seen) → p.save ≡ false
-        → run_then p s seen ≡ next p s seen }
-    ensures served { (p : Public) (s : Skeleton) (seen : Seen) → p.save ≡ false
-        → served_script p s seen ≡ script p s seen }
-    ensures served_next { (p : Public) (s : Skeleton) (seen : Seen) → p.save ≡ false
-        → served_then p s seen ≡ next p s seen }
+    ensures unsaved_next { (p : Public) (s : Skeleton) (seen : Seen) → p.save ≡ false
+        → run_next p s seen ≡ next p s seen }
     ensures saved { (p : Public) (s : Skeleton) (seen : Seen) → p.save ≡ true
-        → changes_tables s ≡ true → seen.end ≡ End.Whole
-        → served_script p s seen ≡ run_script p s seen ++ save_part p s }
-    ensures follows { (p : Public) (s : Skeleton) (seen : Seen) → p.save ≡ true
-        → changes_tables s ≡ true → seen.end ≡ End.Whole
-        → served_then p s seen ≡ saved_public (run_then p s seen) }
+        → ChangesFlat p s → seen.end ≡ End.Whole
+        → script p s seen ≡ run_script p s seen ++ save_part p s (left_by p s) }
+    ensures saved_next { (p : Public) (s : Skeleton) (seen : Seen) → p.save ≡ true
+        → ChangesFlat p s → seen.end ≡ End.Whole
+        → next p s seen ≡ saved_public (run_next p s seen) }
+    ensures made { (p : Public) (s : Skeleton) (seen : Seen) → p.save ≡ true
+        → ChangesFlat p s → makes (whole_run p s seen) ≡ made_by s }
 {}

@@ -1,7 +1,7 @@
 //! The accesses of a statement.
 ghost use Rattle.std.specs.Prelude.{◌≡◌, ◌≢◌, ◌≤◌, ◌<◌, ◌+◌, ◌*◌, ◌^◌, ◌-◌, Option, Some, IfSome, [], length, slice_get, if◌then◌else◌, ⊤};
 ghost use Rattle.std.specs.Option.{option_map_or};
-ghost use Rattle.ob_base.specs.Accesses.{discard_at};
+ghost use Rattle.ob_base.specs.Accesses.{discard_at, drop_script};
 ghost use Rattle.ob_base.specs.Indexes.{height_of};
 ghost use Rattle.ob_base.specs.Numbers.{blocks_for};
 ghost use Rattle.ob_base.specs.Plans.{MayPad};
@@ -10,10 +10,11 @@ ghost use Rattle.ob_base.specs.Limits.{buffered_blocks};
 ghost use Rattle.ob_base.specs.Stored.{stored_region};
 ghost use Rattle.ob_script.specs.Parts.{access_part, count_part, create_part, index_part, insert_part, rewrite_part, small_part, large_part, emission_part};
 ghost use Rattle.ob_script.specs.Sections.{all_accesses, Adds, IsFew, IsLeaf};
-ghost use Rattle.ob_script.specs.Script.{script, whole_script, with_table, created_script, dropped_script, flat_script, index_part_of, table_script, mutation_script, shape_script, blocks_of, extent_of, source_script, join_script, joined_extent, select_part, padded_part, result_part, plan_part, result_blocks};
+ghost use Rattle.ob_script.specs.Tables.{tables_after};
+ghost use Rattle.ob_script.specs.Script.{behind_change, made_by, save_part, script, whole_script, with_table, created_script, dropped_script, flat_script, index_part_of, table_script, mutation_script, shape_script, blocks_of, extent_of, source_script, join_script, joined_extent, select_part, padded_part, result_part, plan_part, result_blocks};
 ghost use Rattle.ob_script.specs.Sizes.{HasRows, IfTable, IsHeld, IsPublic, IsCounted, IsWithin, IsSourceCounted, IsTable};
 
-use crate::extent::{Extent, extent_of, new_width, table_at};
+use crate::extent::{Extent, extent_of, new_width, others, table_at};
 use crate::section::Section;
 use crate::sections::Sections;
 use crate::tree::tree_blocks;
@@ -36,12 +37,83 @@ fn push_create(sections: &mut Sections, region: u64, blocks: u32, width: u32)
     sections.push(Section::Writes { region, blocks });
 }
 
-// INSERT.
+// What is discarded, if there is something.
+#[tactic(auto, using(crate::proofs::Joined::all_more))]
+fn push_discard(sections: &mut Sections, region: Option<u64>)
+    requires room { length sections.old ≤ 15 }
+    ensures adds { Adds sections.old sections.new (drop_script region) }
+    ensures few { length sections.new ≤ length sections.old + 1 }
+{
+    if let Some(region) = region {
+        sections.push(Section::Discard { region });
+    }
+}
+
+// How many tables there are behind a statement.
+fn listed_after(public: &Public, skeleton: &Skeleton) -> u32
+    requires few { length public.now.tables ≤ 64 }
+    ensures value { result ≡ length (tables_after public.now skeleton.now) }
+    ensures few { result ≤ 65 }
+{
+    let tables = public.tables.as_slice();
+    match skeleton {
+        Skeleton::Create { .. } => tables.len() as u32 + 1,
+        Skeleton::Drop { table } => others(tables, table),
+        Skeleton::Insert { .. }
+        | Skeleton::Update { .. }
+        | Skeleton::Delete { .. }
+        | Skeleton::Rows { .. }
+        | Skeleton::Groups { .. } => tables.len() as u32,
+    }
+}
+
+// How many regions its change makes.
+fn made_by(skeleton: &Skeleton) -> u64
+    ensures value { result ≡ made_by skeleton.now }
+    ensures few { result ≤ 1 }
+{
+    match skeleton {
+        Skeleton::Create { .. }
+        | Skeleton::Insert { .. }
+        | Skeleton::Update { .. }
+        | Skeleton::Delete { .. } => 1,
+        Skeleton::Drop { .. } | Skeleton::Rows { .. } | Skeleton::Groups { .. } => 0,
+    }
+}
+
+// What follows a change of tables, which left this region.
+fn push_behind(sections: &mut Sections, public: &Public, skeleton: &Skeleton, left: Option<u64>)
+    requires room { length sections.old ≤ 12 }
+    requires public { IsPublic public.now }
+    ensures { Adds sections.old sections.new (behind_change public.now skeleton.now left) }
+{
+    if public.save {
+        push_saving(sections, public, skeleton, left);
+    } else {
+        push_discard(sections, left);
+    }
+}
+
+// Where tables are saved.
+fn push_saving(sections: &mut Sections, public: &Public, skeleton: &Skeleton, left: Option<u64>)
+    requires room { length sections.old ≤ 12 }
+    requires few { length public.now.tables ≤ 64 }
+    requires next { public.now.next_region ≤ 2 ^ 63 + 2 ^ 60 }
+    ensures { Adds sections.old sections.new (save_part public.now skeleton.now left) }
+{
+    let region = public.next_region + made_by(skeleton);
+    push_create(sections, region, listed_after(public, skeleton) + 1, 1024);
+    push_discard(sections, left);
+    push_discard(sections, public.closing);
+}
+
+// INSERT, but for what follows.
 #[tactic(auto, using(crate::proofs::Joined::all_more))]
 fn push_insert(sections: &mut Sections, from: u64, to: u64, blocks: u32, width: u32)
     requires room { length sections.old ≤ 12 }
     requires width { width ≤ 2 ^ 24 }
-    ensures { Adds sections.old sections.new (insert_part from to blocks width) }
+    ensures adds { Adds sections.old sections.new (insert_part from to blocks width []) }
+    ensures few { length sections.new ≡ length sections.old + 3 }
 {
     sections.push(Section::Make {
         region: to,
@@ -53,15 +125,15 @@ fn push_insert(sections: &mut Sections, from: u64, to: u64, blocks: u32, width: 
         blocks,
     });
     sections.push(Section::Copies { from, to, blocks });
-    sections.push(Section::Discard { region: from });
 }
 
-// UPDATE and DELETE.
+// UPDATE and DELETE, but for what follows.
 #[tactic(auto, using(crate::proofs::Joined::all_more))]
 fn push_rewrite(sections: &mut Sections, from: u64, to: u64, blocks: u32, width: u32)
     requires room { length sections.old ≤ 13 }
     requires width { width ≤ 2 ^ 24 }
-    ensures { Adds sections.old sections.new (rewrite_part from to blocks width) }
+    ensures adds { Adds sections.old sections.new (rewrite_part from to blocks width []) }
+    ensures few { length sections.new ≡ length sections.old + 2 }
 {
     sections.push(Section::Make {
         region: to,
@@ -69,7 +141,6 @@ fn push_rewrite(sections: &mut Sections, from: u64, to: u64, blocks: u32, width:
         width,
     });
     sections.push(Section::Copies { from, to, blocks });
-    sections.push(Section::Discard { region: from });
 }
 
 // An access of an index, for the leaf that is read.
@@ -500,13 +571,19 @@ fn push_source(sections: &mut Sections, public: &Public, seen: &Seen, source: &S
 }
 
 // INSERT, UPDATE or DELETE of a flat table.
-fn push_change(sections: &mut Sections, public: &Public, table: &Table, inserts: bool)
+fn push_change(
+    sections: &mut Sections,
+    public: &Public,
+    skeleton: &Skeleton,
+    table: &Table,
+    inserts: bool,
+)
     requires room { sections.old ≡ [] }
     requires public { IsPublic public.now }
     requires table { IsTable table.now }
     ensures { all_accesses sections.new
         ≡ mutation_script public.now (if inserts then insert_part else rewrite_part)
-        (stored_region table.now) }
+        (behind_change public.now skeleton.now) (stored_region table.now) }
 {
     let from = extent_of(table);
     let to = public.next_region;
@@ -517,20 +594,29 @@ fn push_change(sections: &mut Sections, public: &Public, table: &Table, inserts:
     } else {
         push_rewrite(sections, from.region, to, blocks, width);
     }
+    push_behind(sections, public, skeleton, Some(from.region));
 }
 
 // INSERT, UPDATE or DELETE of a table, of an index for the leaf that is held.
-fn push_mutation(sections: &mut Sections, public: &Public, seen: &Seen, name: &Name, inserts: bool)
+fn push_mutation(
+    sections: &mut Sections,
+    public: &Public,
+    skeleton: &Skeleton,
+    seen: &Seen,
+    name: &Name,
+    inserts: bool,
+)
     requires room { sections.old ≡ [] }
     requires public { IsPublic public.now }
     requires held { IfTable name.now public.now (IsHeld public.now seen.now ⊤) }
     ensures { all_accesses sections.new ≡ with_table name.now public.now
         (shape_script public.now seen.now.leaf
-        (mutation_script public.now (if inserts then insert_part else rewrite_part))) }
+        (mutation_script public.now (if inserts then insert_part else rewrite_part)
+        (behind_change public.now skeleton.now))) }
 {
     if let Some(table) = table_at(public.tables.as_slice(), name) {
         match table.heading.shape {
-            Shape::Flat => push_change(sections, public, table, inserts),
+            Shape::Flat => push_change(sections, public, skeleton, table, inserts),
             Shape::Indexed => push_held(sections, public, seen.leaf, table),
         }
     }
@@ -538,19 +624,23 @@ fn push_mutation(sections: &mut Sections, public: &Public, seen: &Seen, name: &N
 
 // DROP of a table.
 #[tactic(auto, using(crate::proofs::Joined::all_more))]
-fn push_drop(sections: &mut Sections, public: &Public, name: &Name)
+fn push_drop(sections: &mut Sections, public: &Public, skeleton: &Skeleton, name: &Name)
     requires room { sections.old ≡ [] }
     requires public { IsPublic public.now }
-    ensures { all_accesses sections.new ≡ with_table name.now public.now dropped_script }
+    ensures { all_accesses sections.new ≡ with_table name.now public.now
+        (dropped_script (behind_change public.now skeleton.now)) }
 {
     if let Some(table) = table_at(public.tables.as_slice(), name) {
-        sections.push(Section::Discard {
-            region: table.region,
-        });
-        if table.heading.shape == Shape::Indexed {
-            sections.push(Section::Discard {
-                region: table.region + 1,
-            });
+        match table.heading.shape {
+            Shape::Flat => push_behind(sections, public, skeleton, Some(table.region)),
+            Shape::Indexed => {
+                sections.push(Section::Discard {
+                    region: table.region,
+                });
+                sections.push(Section::Discard {
+                    region: table.region + 1,
+                });
+            }
         }
     }
 }
@@ -573,18 +663,27 @@ fn push_groups(sections: &mut Sections, public: &Public, name: &Name)
 
 // CREATE.
 #[tactic(auto, using(crate::proofs::Joined::all_more))]
-fn push_created(sections: &mut Sections, public: &Public, keys: u32, width: u32, shape: Shape)
+fn push_created(
+    sections: &mut Sections,
+    public: &Public,
+    skeleton: &Skeleton,
+    keys: u32,
+    width: u32,
+    shape: Shape,
+)
     requires room { sections.old ≡ [] }
     requires public { IsPublic public.now }
     requires keys { keys ≤ 2 ^ 20 }
     requires width { width ≤ 1024 }
-    ensures { all_accesses sections.new ≡ created_script public.now keys width shape }
+    ensures { all_accesses sections.new
+        ≡ created_script public.now keys width (behind_change public.now skeleton.now) shape }
 {
     let region = public.next_region;
     match shape {
         Shape::Flat => {
             let blocks = blocks_of(public, keys);
             push_create(sections, region, blocks, u32::from(public.pack) * width);
+            push_behind(sections, public, skeleton, None);
         }
         Shape::Indexed => push_index(sections, region, public.stash, keys, width),
     }
@@ -605,12 +704,15 @@ fn whole(public: &Public, skeleton: &Skeleton, seen: &Seen) -> Sections
             ..
         } => {
             let width = new_width(columns.as_slice());
-            push_created(&mut sections, public, *capacity, width, *shape);
+            push_created(&mut sections, public, skeleton, *capacity, width, *shape);
         }
-        Skeleton::Insert { table, .. } => push_mutation(&mut sections, public, seen, table, true),
-        Skeleton::Update { table, .. } => push_mutation(&mut sections, public, seen, table, false),
-        Skeleton::Delete { table } => push_mutation(&mut sections, public, seen, table, false),
-        Skeleton::Drop { table } => push_drop(&mut sections, public, table),
+        Skeleton::Insert { table, .. } => {
+            push_mutation(&mut sections, public, skeleton, seen, table, true);
+        }
+        Skeleton::Update { table, .. } | Skeleton::Delete { table } => {
+            push_mutation(&mut sections, public, skeleton, seen, table, false);
+        }
+        Skeleton::Drop { table } => push_drop(&mut sections, public, skeleton, table),
         Skeleton::Rows { source, .. } => push_source(&mut sections, public, seen, source),
         Skeleton::Groups { table, .. } => push_groups(&mut sections, public, table),
     }

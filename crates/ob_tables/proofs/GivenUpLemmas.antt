@@ -7,7 +7,7 @@ use Rattle.ob_base.specs.declared.refusal.Refusal.{Refusal}
 use Rattle.ob_base.specs.declared.schema.Table.{Table}
 use Rattle.ob_base.specs.declared.seen.End.{End}
 use Rattle.ob_base.specs.declared.skeleton.Skeleton.{Skeleton}
-use Rattle.ob_script.specs.Trace.{tables_then}
+use Rattle.ob_script.specs.Tables.{tables_then}
 use Rattle.ob_store.specs.State.{StoreState}
 use Rattle.ob_vault.specs.State.{HasNoneFrom, RevState, World}
 use Rattle.ob_vault.specs.Calls.{Lasts, one}

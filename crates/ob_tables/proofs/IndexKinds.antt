@@ -12,7 +12,7 @@ use Rattle.ob_base.specs.declared.skeleton.Source.TheVariants.{Table as OneTable
 use Rattle.ob_base.specs.declared.skeleton.Skeleton.TheVariants.{Rows as RowsSkeleton}
 use Rattle.ob_base.specs.Indexes.{by_shape}
 use Rattle.ob_base.specs.Stored.{heading_at, headings_of}
-use Rattle.ob_script.specs.Trace.{moved, moved_to, tables_after}
+use Rattle.ob_script.specs.Tables.{moved, moved_to, tables_after}
 use Rattle.ob_sql.specs.declared.stmt.Stmt.{Stmt}
 use Rattle.ob_sql.specs.declared.stmt.Stmt.TheVariants.{Create, Insert, Update, Delete, Drop as DropTable, SelectRows as RowsStmt, SelectTotals as TotalsStmt}
 use Rattle.ob_sql.specs.Skeleton.{skeleton}

@@ -38,7 +38,7 @@ use Rattle.rand_chacha.specs.ChaCha.{key_of}
 use Rattle.ob_script.proofs.SavedParts.{run_is}
 use Rattle.ob_script.specs.Saved.{left_region, left_then, run_script}
 use Rattle.ob_script.specs.Script.{script}
-use Rattle.ob_script.specs.Trace.{tables_then}
+use Rattle.ob_script.specs.Tables.{tables_then}
 use Rattle.ob_sql.specs.declared.stmt.Stmt.{Stmt}
 use Rattle.ob_sql.specs.declared.stmt.Stmt.TheVariants.{Create, Insert, Update, Delete, Drop as DropTable, SelectRows as RowsStmt, SelectTotals as TotalsStmt}
 use Rattle.ob_sql.specs.Skeleton.{skeleton}

@@ -26,7 +26,7 @@ use Rattle.ob_vault.proofs.Runs.{went_join}
 use Rattle.ob_vault.proofs.WordLemmas.{went_rests}
 use Rattle.ob_script.specs.Saved.{left_region, region_at, whole_run}
 use Rattle.ob_script.specs.Script.{with_table, mutation_script, shape_script}
-use Rattle.ob_script.specs.Trace.{moved, tables_after}
+use Rattle.ob_script.specs.Tables.{moved, tables_after}
 use Rattle.ob_flat.specs.declared.fault.OpErr.{OpErr}
 use Rattle.ob_flat.specs.declared.flat.Flat.{Flat}
 use Rattle.ob_flat.specs.Flats.{IsFlat, Represents as FlatRepresents, table_region}

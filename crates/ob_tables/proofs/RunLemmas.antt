@@ -28,7 +28,7 @@ use Rattle.std.specs.Prelude.{◌<◌}
 use Rattle.std.specs.Result.{is_err}
 use Rattle.std.proofs.lemmas.Bool.Decides.{nat_tests}
 use Rattle.std.proofs.lemmas.List.{length-append}
-use Rattle.ob_script.specs.Trace.{tables_after, tables_then}
+use Rattle.ob_script.specs.Tables.{tables_after, tables_then}
 use Rattle.ob_base.specs.declared.schema.Table.{Table}
 use Rattle.ob_room.specs.RoomState.{RoomState}
 use Rattle.ob_vault.specs.declared.vault.Vault.{Vault}

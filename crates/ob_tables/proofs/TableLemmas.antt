@@ -13,7 +13,7 @@ use Rattle.ob_base.specs.declared.schema.Table.{Table}
 use Rattle.ob_base.specs.Indexes.{by_shape}
 use Rattle.ob_base.specs.Stored.{Stored, headings_of, stored_at, stored_regions}
 use Rattle.ob_mean.specs.Flats.{AreFlat}
-use Rattle.ob_script.specs.Trace.{moved}
+use Rattle.ob_script.specs.Tables.{moved}
 use Rattle.ob_vault.specs.declared.region.Region.{Region}
 use Rattle.ob_vault.specs.State.{World}
 use Rattle.ob_vault.specs.Tied.{Ready}

@@ -13,7 +13,7 @@ use Rattle.ob_base.specs.Lists.{has_repeats}
 use Rattle.ob_base.specs.Schemas.{columns_of}
 use Rattle.ob_base.specs.Stored.{Stored, AreApart, has_table, headings_of, stored_region}
 use Rattle.ob_mean.proofs.EarlyLemmas.{neither}
-use Rattle.ob_script.specs.Trace.{moved, moved_to}
+use Rattle.ob_script.specs.Tables.{moved, moved_to}
 use Rattle.ob_verdict.proofs.InPlaceProof.{none_either}
 use Rattle.ob_verdict.specs.Moving.{table_at, Moves, CreatesNew, DropsOne}
 

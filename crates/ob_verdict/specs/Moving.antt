@@ -9,7 +9,7 @@ use Rattle.ob_base.specs.declared.skeleton.Skeleton.TheVariants.{Create, Drop as
 use Rattle.ob_base.specs.Indexes.{by_shape}
 use Rattle.ob_base.specs.Schemas.{columns_of}
 use Rattle.ob_base.specs.Stored.{Stored, AreApart, has_table, headings_of, stored_at, stored_regions}
-use Rattle.ob_script.specs.Trace.{moved, tables_after}
+use Rattle.ob_script.specs.Tables.{moved, tables_after}
 
 -- the table of a name, and where it lies
 abbrev pub table_at : List ℕ → List Table → Option (Stored ℕ)
