@@ -23,7 +23,7 @@ use Rattle.ob_base.specs.declared.skeleton.Source.TheVariants.{Table as OneTable
 use Rattle.ob_headline.specs.Words.{Begins}
 use Rattle.ob_mean.specs.Replay.{cut_at, count_end, done_of, ending_len, held_if, walk_end}
 use Rattle.ob_script.specs.Parts.{count_part, insert_part, join_part, path_read, path_write, rewrite_part}
-use Rattle.ob_script.specs.Script.{behind_count, blocks_of, extent_of, join_script, joined_extent, padded_part, result_part, rows_width, flat_script, index_part_of, mutation_script, shape_script, table_script, whole_script}
+use Rattle.ob_script.specs.Script.{behind_change, behind_count, blocks_of, extent_of, join_script, joined_extent, padded_part, result_part, rows_width, flat_script, index_part_of, mutation_script, shape_script, table_script, whole_script}
 
 take_begins : (n : ℕ) (part rest : List Access) → Begins (take n part) (part ++ rest)
 take_begins n part rest = record {
@@ -130,16 +130,16 @@ table_parts p (Some t) = go t.heading.shape refl
     go Indexed indexed = inr (inr (indexed_parts p t (λ k plan then end. flat_script p (holding k plan then end) t) indexed))
 
 -- a mutation of a table
-mutation_parts : (p : Public) (part : ℕ → ℕ → ℕ → ℕ → List Access) (o : Option (Stored ℕ)) → Parts (λ k plan then end. option_map_or (shape_script p end.0 (mutation_script p part)) o []) 0
-mutation_parts p part None = inl (record { all = []; is = λ k plan then end. refl })
-mutation_parts p part (Some t) = go t.heading.shape refl
+mutation_parts : (p : Public) (f : Stored ℕ → List Access) (o : Option (Stored ℕ)) → Parts (λ k plan then end. option_map_or (shape_script p end.0 f) o []) 0
+mutation_parts p f None = inl (record { all = []; is = λ k plan then end. refl })
+mutation_parts p f (Some t) = go t.heading.shape refl
   where
-    go : (shape : Shape) → t.heading.shape ≡ shape → Parts (λ k plan then end. shape_script p end.0 (mutation_script p part) t) 0
+    go : (shape : Shape) → t.heading.shape ≡ shape → Parts (λ k plan then end. shape_script p end.0 f t) 0
     go Flat flat = inl (record {
-      all = mutation_script p part t;
-      is = λ k plan then end. ap (λ (s : Shape). by_shape s (mutation_script p part t) (index_part_of p end.0 t)) flat;
+      all = f t;
+      is = λ k plan then end. ap (λ (s : Shape). by_shape s (f t) (index_part_of p end.0 t)) flat;
     })
-    go Indexed indexed = inr (inr (indexed_parts p t (λ k plan then end. mutation_script p part t) indexed))
+    go Indexed indexed = inr (inr (indexed_parts p t (λ k plan then end. f t) indexed))
 
 join_parts : (p : Public) (l r : Option (Stored ℕ))
     → Fixed (λ k plan then end. option_map_or (λ left. option_map_or (λ right. join_script p (holding k plan then end) left right) r []) l [])
@@ -154,9 +154,9 @@ join_parts p (Some left) (Some right) =
 
 parts : (p : Public) (sk : Skeleton) → HasParts p sk
 parts p (Create table cs n shape) = inl (record { all = whole_script p (Create table cs n shape) (holding None None None (None, Whole)); is = λ k plan then end. refl })
-parts p (Insert table cs) = mutation_parts p insert_part (stored_at table (stored_regions p.tables))
-parts p (Update table cs) = mutation_parts p rewrite_part (stored_at table (stored_regions p.tables))
-parts p (Delete table) = mutation_parts p rewrite_part (stored_at table (stored_regions p.tables))
+parts p (Insert table cs) = mutation_parts p (mutation_script p insert_part (behind_change p (Insert table cs))) (stored_at table (stored_regions p.tables))
+parts p (Update table cs) = mutation_parts p (mutation_script p rewrite_part (behind_change p (Update table cs))) (stored_at table (stored_regions p.tables))
+parts p (Delete table) = mutation_parts p (mutation_script p rewrite_part (behind_change p (Delete table))) (stored_at table (stored_regions p.tables))
 parts p (DropTable table) = inl (record { all = whole_script p (DropTable table) (holding None None None (None, Whole)); is = λ k plan then end. refl })
 parts p (Groups table cs key) = inl (record { all = whole_script p (Groups table cs key) (holding None None None (None, Whole)); is = λ k plan then end. refl })
 parts p (Rows (OneTable name) cs) = table_parts p (stored_at name (stored_regions p.tables))

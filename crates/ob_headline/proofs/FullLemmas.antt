@@ -26,7 +26,7 @@ use Rattle.ob_mean.specs.Replay.{Session, Spelt, after, all_served, cut_at, has_
 use Rattle.ob_mean.specs.Verdict.{Accessed, accessed_now, gone, is_late, leaf_gone, seen_access}
 use Rattle.ob_script.proofs.Lengths.{length-count_part, length-path_reads}
 use Rattle.ob_script.specs.Parts.{count_part, insert_part, path_read, path_write, rewrite_part}
-use Rattle.ob_script.specs.Script.{flat_script, index_part_of, mutation_script, script, shape_script, whole_script, with_table}
+use Rattle.ob_script.specs.Script.{behind_change, flat_script, index_part_of, mutation_script, script, shape_script, whole_script, with_table}
 use Rattle.ob_script.specs.Trace.{Served, trace}
 use Rattle.ob_sql.specs.Skeleton.{skeleton}
 use Rattle.ob_sql.specs.declared.stmt.Stmt.{Stmt}
@@ -183,13 +183,13 @@ pub on_index : (p : Public) (sk : Skeleton) → is_access p sk ≡ true → OnIn
 on_index p (CreateSkeleton table cs n shape) keyed = absurd (cc keyed)
 on_index p (InsertSkeleton table cs) keyed =
     let there = index_there p table keyed in
-    record { name = table; table = there.table; found = there.found; indexed = there.shaped; height = there.height; whole = λ x. there.whole x.leaf (mutation_script p insert_part) }
+    record { name = table; table = there.table; found = there.found; indexed = there.shaped; height = there.height; whole = λ x. there.whole x.leaf (mutation_script p insert_part (behind_change p (InsertSkeleton table cs))) }
 on_index p (UpdateSkeleton table cs) keyed =
     let there = index_there p table keyed in
-    record { name = table; table = there.table; found = there.found; indexed = there.shaped; height = there.height; whole = λ x. there.whole x.leaf (mutation_script p rewrite_part) }
+    record { name = table; table = there.table; found = there.found; indexed = there.shaped; height = there.height; whole = λ x. there.whole x.leaf (mutation_script p rewrite_part (behind_change p (UpdateSkeleton table cs))) }
 on_index p (DeleteSkeleton table) keyed =
     let there = index_there p table keyed in
-    record { name = table; table = there.table; found = there.found; indexed = there.shaped; height = there.height; whole = λ x. there.whole x.leaf (mutation_script p rewrite_part) }
+    record { name = table; table = there.table; found = there.found; indexed = there.shaped; height = there.height; whole = λ x. there.whole x.leaf (mutation_script p rewrite_part (behind_change p (DeleteSkeleton table))) }
 on_index p (DropSkeleton table) keyed = absurd (cc keyed)
 on_index p (Rows (OneTable name) cs) keyed =
     let there = index_there p name keyed in

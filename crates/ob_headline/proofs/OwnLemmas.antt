@@ -1,12 +1,12 @@
 -- Each statement that accesses no index writes to those regions alone that it makes.
 use Rattle.std.specs.Prelude.{⊤, slice_get}
-use Rattle.std.proofs.Common.{◌≡◌, ◌+◌, ◌<◌, ◌-◌, ◌*◌, ◌/◌, ◌%◌, ◌≤◌, ◌++◌, ℕ, zero, suc, min, false, List, [], ◌∷◌, length, Option, Some, None, Ok, Err, take, refl, sym, ◌∙◌, subst, append_assoc, append-nil, arith}
+use Rattle.std.proofs.Common.{◌≡◌, ◌+◌, ◌<◌, ◌-◌, ◌*◌, ◌/◌, ◌%◌, ◌≤◌, ◌++◌, ℕ, zero, suc, min, Bool, true, false, if◌then◌else◌, List, [], ◌∷◌, length, Option, Some, None, Ok, Err, take, refl, sym, ◌∙◌, subst, append_assoc, append-nil, arith}
 use Rattle.std.specs.Int.{div_ceil}
 use Rattle.std.specs.Option.{option_map_or}
 use Rattle.ob_base.specs.declared.schema.Shape.{Shape}
 use Rattle.ob_base.specs.declared.schema.Shape.TheVariants.{Flat, Indexed}
 use Rattle.ob_base.specs.Indexes.{by_shape, height_of, tree_blocks}
-use Rattle.ob_base.specs.Accesses.{discard_at, make_at, makes, read_at, write_at}
+use Rattle.ob_base.specs.Accesses.{discard_at, drop_script, make_at, makes, read_at, write_at}
 use Rattle.ob_base.specs.Joins.{joined_slots}
 use Rattle.ob_base.specs.Limits.{buffered, buffered_blocks}
 use Rattle.ob_base.specs.Lists.{each}
@@ -34,7 +34,8 @@ use Rattle.ob_mean.specs.Lawful.{Holds, Lawful}
 use Rattle.ob_mean.specs.Refusals.{is_indexed}
 use Rattle.ob_mean.specs.Replay.{Spelt, has_index, is_access}
 use Rattle.ob_script.specs.Parts.{bucket_part, continuous_block, continuous_part, copy_at, copy_part, count_part, create_part, emission_part, hash_block, hash_part, hash_slot, insert_part, join_chunk, join_part, large_part, pair_at, read_from, rewrite_part, slots_in, small_part, small_pass, write_from}
-use Rattle.ob_script.specs.Script.{after_count, behind_count, blocks_of, dropped_script, extent_of, flat_script, index_part_of, join_script, mutation_script, plan_part, result_blocks, result_part, rows_width, script, select_part, shape_script, until_end, whole_script, with_table}
+use Rattle.ob_script.specs.Script.{after_count, behind_change, behind_count, blocks_of, dropped_script, extent_of, flat_script, index_part_of, join_script, made_by, mutation_script, plan_part, result_blocks, result_part, rows_width, save_part, script, select_part, shape_script, until_end, whole_script, with_table}
+use Rattle.ob_script.specs.Tables.{tables_after}
 use Rattle.ob_script.specs.Trace.{Served as Entry, next}
 use Rattle.ob_sql.specs.declared.stmt.Stmt.{Stmt}
 use Rattle.ob_verdict.proofs.LawfulProof.{region_index}
@@ -114,6 +115,11 @@ discards : (from below t : ℕ) → Within from below (discard_at t)
 unfolding Within
 discards from below t = tt
 
+gives_up : (from below : ℕ) (region : Option ℕ) → Within from below (drop_script region)
+unfolding Within
+gives_up from below None = tt
+gives_up from below (Some region) = tt
+
 reads : (from below t x : ℕ) → Within from below (read_at t x)
 unfolding Within
 reads from below t x = tt
@@ -152,9 +158,6 @@ module _ (n g : ℕ) (from : n ≤ g) where
   fills : (blocks : ℕ) → Within n (g + 1) (each blocks (write_at g))
   fills blocks = in_each n (g + 1) blocks (write_at g) wrote
 
-  moves : (t blocks : ℕ) → Within n (g + 1) (copy_part t g blocks ++ discard_at t)
-  moves t blocks = both n (g + 1) (copy_part t g blocks) (discard_at t) (copies t blocks) (discards n (g + 1) t)
-
   passes : (t blocks results few j : ℕ) → Within n (g + 1) (small_pass t g blocks results few j)
   passes t blocks results few j =
       let m = min few (results - j * few) in
@@ -187,13 +190,14 @@ module _ (n g : ℕ) (from : n ≤ g) where
     creates : (blocks width : ℕ) → InTurn n g (create_part g blocks width ++ rest)
     creates blocks width = made blocks width (each blocks (write_at g)) rest (fills blocks) then
 
-    inserts : (t blocks width : ℕ) → InTurn n g (insert_part t g blocks width ++ rest)
+    inserts : (t blocks width : ℕ) → InTurn n g (insert_part t g blocks width rest)
     inserts t blocks width =
-        made blocks width (count_part t blocks ++ (copy_part t g blocks ++ discard_at t)) rest
-        (both n (g + 1) (count_part t blocks) (copy_part t g blocks ++ discard_at t) (counts n (g + 1) t blocks) (moves t blocks)) then
+        subst (λ (xs : List Access). InTurn n g (make_at g blocks width ++ xs)) (append_assoc (count_part t blocks) (copy_part t g blocks) rest)
+        (made blocks width (count_part t blocks ++ copy_part t g blocks) rest
+        (both n (g + 1) (count_part t blocks) (copy_part t g blocks) (counts n (g + 1) t blocks) (copies t blocks)) then)
 
-    rewrites : (t blocks width : ℕ) → InTurn n g (rewrite_part t g blocks width ++ rest)
-    rewrites t blocks width = made blocks width (copy_part t g blocks ++ discard_at t) rest (moves t blocks) then
+    rewrites : (t blocks width : ℕ) → InTurn n g (rewrite_part t g blocks width rest)
+    rewrites t blocks width = made blocks width (copy_part t g blocks) rest (copies t blocks) then
 
     smalls : (t blocks results few width : ℕ) → InTurn n g (small_part t g blocks results few width ++ rest)
     smalls t blocks results few width =
@@ -309,30 +313,61 @@ module _ (p : Public) (seen : Seen) (order : InOrder seen.plan seen.then) where
   joins_all a b =
       found p.next_region p.next_region (λ left. with_table b p (λ right. join_script p seen left right)) (λ left. found p.next_region p.next_region (λ right. join_script p seen left right) (joined left) b p) a p
 
+  -- ---- what follows a change of tables
+  -- the closing is the next region that is made
+  saves : (s : Skeleton) (left : Option ℕ) → InTurn p.next_region (p.next_region + made_by s) (save_part p s left)
+  saves s left =
+      let g = p.next_region + made_by s in
+      creates p.next_region g (omega arith) (drop_script left ++ drop_script p.closing)
+      (ending p.next_region (g + 1) (drop_script left ++ drop_script p.closing)
+      (both p.next_region (g + 1) (drop_script left) (drop_script p.closing) (gives_up p.next_region (g + 1) left) (gives_up p.next_region (g + 1) p.closing)))
+      (length (tables_after p s) + 1) 1024
+
+  follows : (s : Skeleton) (left : Option ℕ) → InTurn p.next_region (p.next_region + made_by s) (behind_change p s left)
+  follows s left =
+      elim p.save as (λ (b : Bool). InTurn p.next_region (p.next_region + made_by s) (if b then save_part p s left else drop_script left))
+      [ true ↦ saves s left | false ↦ ending p.next_region (p.next_region + made_by s) (drop_script left) (gives_up p.next_region (p.next_region + made_by s) left) ]
+
   -- a region is given up, and of an index two are
-  drops : (t : Stored ℕ) (shape : Shape) → InTurn p.next_region p.next_region (by_shape shape (discard_at t.held) (discard_at t.held ++ discard_at (t.held + 1)))
-  drops t Flat = ending p.next_region p.next_region (discard_at t.held) (discards p.next_region p.next_region t.held)
-  drops t Indexed =
+  drops : (table : List ℕ) (t : Stored ℕ) (shape : Shape)
+      → InTurn p.next_region p.next_region (by_shape shape (behind_change p (DropTable table) (Some t.held)) (discard_at t.held ++ discard_at (t.held + 1)))
+  drops table t Flat =
+      subst (λ (g : ℕ). InTurn p.next_region g (behind_change p (DropTable table) (Some t.held))) (omega arith) (follows (DropTable table) (Some t.held))
+  drops table t Indexed =
       ending p.next_region p.next_region (discard_at t.held ++ discard_at (t.held + 1))
       (both p.next_region p.next_region (discard_at t.held) (discard_at (t.held + 1)) (discards p.next_region p.next_region t.held) (discards p.next_region p.next_region (t.held + 1)))
 
-  inserts_all : (t : Stored ℕ) → InTurn p.next_region p.next_region (mutation_script p insert_part t)
-  inserts_all t = ends p.next_region p.next_region _ (inserts p.next_region p.next_region same [] none t.held (blocks_of p (extent_of t)) (rows_width p (extent_of t)))
+  -- a table lies in the next region then
+  inserts_all : (table : List ℕ) (cs : Option (List (List ℕ))) (t : Stored ℕ)
+      → InTurn p.next_region p.next_region (mutation_script p insert_part (behind_change p (Insert table cs)) t)
+  inserts_all table cs t =
+      inserts p.next_region p.next_region same (behind_change p (Insert table cs) (Some t.held)) (follows (Insert table cs) (Some t.held)) t.held (blocks_of p (extent_of t)) (rows_width p (extent_of t))
 
-  rewrites_all : (t : Stored ℕ) → InTurn p.next_region p.next_region (mutation_script p rewrite_part t)
-  rewrites_all t = ends p.next_region p.next_region _ (rewrites p.next_region p.next_region same [] none t.held (blocks_of p (extent_of t)) (rows_width p (extent_of t)))
+  rewrites_all : (s : Skeleton) (t : Stored ℕ) → made_by s ≡ 1 → InTurn p.next_region p.next_region (mutation_script p rewrite_part (behind_change p s) t)
+  rewrites_all s t one =
+      rewrites p.next_region p.next_region same (behind_change p s (Some t.held))
+      (subst (λ (g : ℕ). InTurn p.next_region g (behind_change p s (Some t.held))) (omega (arith, one)) (follows s (Some t.held)))
+      t.held (blocks_of p (extent_of t)) (rows_width p (extent_of t))
 
   wholes : (s : Skeleton) → is_access p s ≡ false → InTurn p.next_region p.next_region (whole_script p s seen)
-  wholes (Create table cs capacity Flat) flat = ends p.next_region p.next_region _ (creates p.next_region p.next_region same [] none (blocks_for p.pack capacity) (p.pack * width (columns_of table cs)))
+  wholes (Create table cs capacity Flat) flat =
+      let s = Create table cs capacity Flat in
+      creates p.next_region p.next_region same (behind_change p s None) (follows s None) (blocks_for p.pack capacity) (p.pack * width (columns_of table cs))
   wholes (Create table cs capacity Indexed) flat =
       let wide = width (columns_of table cs) in
       let stash : InTurn p.next_region (p.next_region + 1) (create_part (p.next_region + 1) p.stash wide) =
       ends p.next_region (p.next_region + 1) _ (creates p.next_region (p.next_region + 1) (omega arith) [] (nothing p.next_region (p.next_region + 1 + 1)) p.stash wide) in
       creates p.next_region p.next_region same (create_part (p.next_region + 1) p.stash wide) stash (tree_blocks (height_of capacity)) wide
-  wholes (Insert table cs) flat = found_flat p.next_region p.next_region seen.leaf (mutation_script p insert_part) inserts_all table p flat
-  wholes (Update table cs) flat = found_flat p.next_region p.next_region seen.leaf (mutation_script p rewrite_part) rewrites_all table p flat
-  wholes (Delete table) flat = found_flat p.next_region p.next_region seen.leaf (mutation_script p rewrite_part) rewrites_all table p flat
-  wholes (DropTable table) flat = found p.next_region p.next_region dropped_script (λ t. drops t t.heading.shape) table p
+  wholes (Insert table cs) flat =
+      found_flat p.next_region p.next_region seen.leaf (mutation_script p insert_part (behind_change p (Insert table cs))) (inserts_all table cs) table p flat
+  wholes (Update table cs) flat =
+      let s = Update table cs in
+      found_flat p.next_region p.next_region seen.leaf (mutation_script p rewrite_part (behind_change p s)) (λ t. rewrites_all s t refl) table p flat
+  wholes (Delete table) flat =
+      let s = Delete table in
+      found_flat p.next_region p.next_region seen.leaf (mutation_script p rewrite_part (behind_change p s)) (λ t. rewrites_all s t refl) table p flat
+  wholes (DropTable table) flat =
+      found p.next_region p.next_region (dropped_script (behind_change p (DropTable table))) (λ t. drops table t t.heading.shape) table p
   wholes (Rows (OneTable name) cs) flat = found_flat p.next_region p.next_region seen.leaf (flat_script p seen) (λ t. selects p.next_region p.next_region same p seen t [] order (nothing p.next_region)) name p flat
   wholes (Rows (Join a b on equals) cs) flat = joins_all a b
   wholes (Groups table cs key) flat =

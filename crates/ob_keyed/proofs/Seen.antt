@@ -26,7 +26,7 @@ use Rattle.ob_oram.specs.declared.index.Index.{Index}
 use Rattle.ob_oram.specs.Scripts.{access_script}
 use Rattle.ob_oram.proofs.Scripting.{scripts_join}
 use Rattle.ob_script.specs.Parts.{access_part, count_part, insert_part, path_read, path_write, rewrite_part}
-use Rattle.ob_script.specs.Script.{flat_script, index_part_of, mutation_script, shape_script, source_script, whole_script, with_table}
+use Rattle.ob_script.specs.Script.{behind_change, flat_script, index_part_of, mutation_script, shape_script, source_script, whole_script, with_table}
 use Rattle.ob_script.proofs.Lengths.{length-count_part}
 use Rattle.ob_sql.specs.declared.stmt.Stmt.{Stmt}
 use Rattle.ob_sql.specs.declared.stmt.Stmt.TheVariants.{Create, Insert, Update, Delete, Drop as DropTable, SelectRows as RowsStmt, SelectTotals as TotalsStmt}
@@ -53,9 +53,12 @@ module _ (p : Public) (m : ℕ) (stmt : Stmt) (index : Index) (on : IsKeyed p m 
 
   script_by : (s : Stmt) (seen : Seen) → keyed_name s ≡ Some on.name → whole_script p (skeleton s) seen ≡ index_part_of p seen.leaf on.table
   script_by (Create table columns capacity shape) seen keyed = absurd (cc keyed)
-  script_by (Insert table columns values) seen keyed = named table (mutation_script p insert_part) seen.leaf (cc keyed)
-  script_by (Update table sets cond) seen keyed = named table (mutation_script p rewrite_part) seen.leaf (cc keyed)
-  script_by (Delete table cond) seen keyed = named table (mutation_script p rewrite_part) seen.leaf (cc keyed)
+  script_by (Insert table columns values) seen keyed =
+      named table (mutation_script p insert_part (behind_change p (skeleton (Insert table columns values)))) seen.leaf (cc keyed)
+  script_by (Update table sets cond) seen keyed =
+      named table (mutation_script p rewrite_part (behind_change p (skeleton (Update table sets cond)))) seen.leaf (cc keyed)
+  script_by (Delete table cond) seen keyed =
+      named table (mutation_script p rewrite_part (behind_change p (skeleton (Delete table cond)))) seen.leaf (cc keyed)
   script_by (DropTable table) seen keyed = absurd (cc keyed)
   script_by (TotalsStmt q) seen keyed = absurd (cc keyed)
   script_by (RowsStmt q) seen keyed = of_source q.source keyed

@@ -23,7 +23,7 @@ use Rattle.ob_base.specs.Schemas.{columns_of, width}
 use Rattle.ob_base.specs.Stored.{Stored, heading_at, headings, headings_of, stored_at, stored_regions}
 use Rattle.ob_row.specs.Slots.{empty_slots}
 use Rattle.ob_script.specs.Parts.{count_part, create_part, insert_part, rewrite_part}
-use Rattle.ob_script.specs.Script.{blocks_of, created_script, dropped_script, extent_of, flat_script, index_part_of, join_script, mutation_script, shape_script, whole_script, with_table}
+use Rattle.ob_script.specs.Script.{Behind, behind_change, blocks_of, created_script, dropped_script, extent_of, flat_script, index_part_of, join_script, mutation_script, shape_script, whole_script, with_table}
 use Rattle.ob_sql.specs.declared.stmt.SelectRows.{SelectRows}
 use Rattle.ob_sql.specs.declared.stmt.Stmt.{Stmt}
 use Rattle.ob_sql.specs.declared.stmt.Stmt.TheVariants.{Create, Insert, Update, Delete, Drop as DropTable, SelectRows as RowsStmt, SelectTotals as TotalsStmt}
@@ -169,8 +169,8 @@ no_draws p s (Cut n) flat made = none_drawn p s flat made
 pub shape_is : (p : Public) (leaf : Option ℕ) (f : Stored ℕ → List Access) (t : Stored ℕ) → t.heading.shape ≡ Flat → shape_script p leaf f t ≡ f t
 shape_is p leaf f t flat = ap (λ (shape : Shape). by_shape shape (f t) (index_part_of p leaf t)) flat
 
-pub dropped_is : (t : Stored ℕ) → t.heading.shape ≡ Flat → dropped_script t ≡ discard_at t.held
-dropped_is t flat = ap (λ (shape : Shape). by_shape shape (discard_at t.held) (discard_at t.held ++ discard_at (t.held + 1))) flat
+pub dropped_is : (behind : Behind) (t : Stored ℕ) → t.heading.shape ≡ Flat → dropped_script behind t ≡ behind (Some t.held)
+dropped_is behind t flat = ap (λ (shape : Shape). by_shape shape (behind (Some t.held)) (discard_at t.held ++ discard_at (t.held + 1))) flat
 
 abbrev pub flat_source : Public → Seen → Source → List Access
 flat_source p seen (OneTable name) = with_table name p (flat_script p seen)
@@ -178,11 +178,12 @@ flat_source p seen (Join a b on equals) = with_table a p (λ left. with_table b 
 
 -- all accesses of a statement on flat tables
 abbrev pub flat_whole : Public → Skeleton → Seen → List Access
-flat_whole p (CreateSkeleton table cs n shape) seen = create_part p.next_region (blocks_for p.pack n) (p.pack * width (columns_of table cs))
-flat_whole p (InsertSkeleton table cs) seen = with_table table p (mutation_script p insert_part)
-flat_whole p (UpdateSkeleton table cs) seen = with_table table p (mutation_script p rewrite_part)
-flat_whole p (DeleteSkeleton table) seen = with_table table p (mutation_script p rewrite_part)
-flat_whole p (DropSkeleton table) seen = with_table table p (λ t. discard_at t.held)
+flat_whole p (CreateSkeleton table cs n shape) seen =
+    create_part p.next_region (blocks_for p.pack n) (p.pack * width (columns_of table cs)) ++ behind_change p (CreateSkeleton table cs n shape) None
+flat_whole p (InsertSkeleton table cs) seen = with_table table p (mutation_script p insert_part (behind_change p (InsertSkeleton table cs)))
+flat_whole p (UpdateSkeleton table cs) seen = with_table table p (mutation_script p rewrite_part (behind_change p (UpdateSkeleton table cs)))
+flat_whole p (DeleteSkeleton table) seen = with_table table p (mutation_script p rewrite_part (behind_change p (DeleteSkeleton table)))
+flat_whole p (DropSkeleton table) seen = with_table table p (λ t. behind_change p (DropSkeleton table) (Some t.held))
 flat_whole p (Rows source cs) seen = flat_source p seen source
 flat_whole p (Groups table cs key) seen = with_table table p (λ t. count_part t.held (blocks_of p (extent_of t)))
 
@@ -196,11 +197,14 @@ module _ (p : Public) (flat : AreFlat (headings_of p.tables)) where
 
   pub script_is : (s : Skeleton) (seen : Seen) → MakesFlat s → whole_script p s seen ≡ flat_whole p s seen
   script_is (CreateSkeleton table cs n shape) seen made =
-      ap (λ (x : Shape). created_script p n (width (columns_of table cs)) x) made
-  script_is (InsertSkeleton table cs) seen made = table_is table _ _ (λ t is. shape_is p seen.leaf (mutation_script p insert_part) t is)
-  script_is (UpdateSkeleton table cs) seen made = table_is table _ _ (λ t is. shape_is p seen.leaf (mutation_script p rewrite_part) t is)
-  script_is (DeleteSkeleton table) seen made = table_is table _ _ (λ t is. shape_is p seen.leaf (mutation_script p rewrite_part) t is)
-  script_is (DropSkeleton table) seen made = table_is table _ _ dropped_is
+      ap (λ (x : Shape). created_script p n (width (columns_of table cs)) (behind_change p (CreateSkeleton table cs n shape)) x) made
+  script_is (InsertSkeleton table cs) seen made =
+      table_is table _ _ (λ t is. shape_is p seen.leaf (mutation_script p insert_part (behind_change p (InsertSkeleton table cs))) t is)
+  script_is (UpdateSkeleton table cs) seen made =
+      table_is table _ _ (λ t is. shape_is p seen.leaf (mutation_script p rewrite_part (behind_change p (UpdateSkeleton table cs))) t is)
+  script_is (DeleteSkeleton table) seen made =
+      table_is table _ _ (λ t is. shape_is p seen.leaf (mutation_script p rewrite_part (behind_change p (DeleteSkeleton table))) t is)
+  script_is (DropSkeleton table) seen made = table_is table _ _ (dropped_is (behind_change p (DropSkeleton table)))
   script_is (Rows (OneTable name) cs) seen made = table_is name _ _ (λ t is. shape_is p seen.leaf (flat_script p seen) t is)
   script_is (Rows (Join a b on equals) cs) seen made = refl
   script_is (Groups table cs key) seen made = refl

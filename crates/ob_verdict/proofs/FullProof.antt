@@ -15,7 +15,7 @@ use Rattle.ob_base.specs.declared.skeleton.Source.TheVariants.{Table as OneTable
 use Rattle.ob_base.specs.Indexes.{by_shape, height_of, path_blocks}
 use Rattle.ob_base.specs.Stored.{Stored, headings_of, stored_at, stored_regions}
 use Rattle.ob_script.specs.Parts.{insert_part, rewrite_part}
-use Rattle.ob_script.specs.Script.{flat_script, index_part_of, mutation_script, shape_script, whole_script, with_table}
+use Rattle.ob_script.specs.Script.{behind_change, flat_script, index_part_of, mutation_script, shape_script, whole_script, with_table}
 use Rattle.ob_script.proofs.Numbers.{length-access_part}
 use Rattle.ob_sql.specs.Skeleton.{skeleton}
 use Rattle.ob_mean.specs.Lawful.{Lawful, capacity_at, height_at}
@@ -50,9 +50,9 @@ module _ (p : Public) (name : List ℕ) (f : Stored ℕ → List Access) (leaf :
 
 access_asks : (p : Public) (s : Skeleton) (leaf : ℕ) → is_access p s ≡ true → length (whole_script p s (record (ended Whole) { leaf = Some leaf })) ≡ 2 * p.stash + 8 * (height_at p s + 1)
 access_asks p (CreateSkeleton table cs n shape) leaf keyed = absurd (cc keyed)
-access_asks p (InsertSkeleton table cs) leaf keyed = access_of p table (mutation_script p insert_part) leaf keyed
-access_asks p (UpdateSkeleton table cs) leaf keyed = access_of p table (mutation_script p rewrite_part) leaf keyed
-access_asks p (DeleteSkeleton table) leaf keyed = access_of p table (mutation_script p rewrite_part) leaf keyed
+access_asks p (InsertSkeleton table cs) leaf keyed = access_of p table (mutation_script p insert_part (behind_change p (InsertSkeleton table cs))) leaf keyed
+access_asks p (UpdateSkeleton table cs) leaf keyed = access_of p table (mutation_script p rewrite_part (behind_change p (UpdateSkeleton table cs))) leaf keyed
+access_asks p (DeleteSkeleton table) leaf keyed = access_of p table (mutation_script p rewrite_part (behind_change p (DeleteSkeleton table))) leaf keyed
 access_asks p (DropSkeleton table) leaf keyed = absurd (cc keyed)
 access_asks p (Rows (OneTable name) cs) leaf keyed = access_of p name (flat_script p (record (ended Whole) { leaf = Some leaf })) leaf keyed
 access_asks p (Rows (Join a b on equals) cs) leaf keyed = absurd (cc keyed)

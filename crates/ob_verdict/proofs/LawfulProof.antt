@@ -35,7 +35,7 @@ use Rattle.ob_mean.specs.Step.{select_condition}
 use Rattle.ob_row.specs.Truth.{is_true}
 use Rattle.ob_mean.specs.Verdict.{Accessed, Draws, Held, IsIndexed, Tables, accessed, index_of, keyed_table, leaf_gone, next_draw, seen, seen_access, seen_served, seen_started, seen_by, seen_unpadded, seen_with, ended, counted, is_late, plan_for, fallback, first_unplaced, source_slots, slots_at, selected_places}
 use Rattle.ob_mean.specs.Replay.{count_end, cut_at, has_index, is_access, walk_end, ending_len, done_of, held_if}
-use Rattle.ob_script.specs.Script.{whole_script, with_table, table_script, flat_script, shape_script, index_part_of, mutation_script, join_script, select_part, behind_count, extent_of, blocks_of, rows_width, joined_extent, plan_part, result_blocks}
+use Rattle.ob_script.specs.Script.{behind_change, whole_script, with_table, table_script, flat_script, shape_script, index_part_of, mutation_script, join_script, select_part, behind_count, extent_of, blocks_of, rows_width, joined_extent, plan_part, result_blocks}
 use Rattle.ob_script.specs.Parts.{count_part, insert_part, join_part, rewrite_part}
 use Rattle.ob_script.proofs.Lengths.{length-count_part}
 use Rattle.ob_row.specs.Rows.{Row}
@@ -584,9 +584,9 @@ stash_of p name f indexed = go (stored_at name (stored_regions p.tables)) refl
 
 stash_alone : (p : Public) (s : Skeleton) (end : End) → is_access p s ≡ true → length (whole_script p s (seen_of None None None end)) ≡ p.stash
 stash_alone p (CreateSkeleton table cs n shape) end yes = absurd (cc yes)
-stash_alone p (InsertSkeleton table cs) end yes = stash_of p table (mutation_script p insert_part) yes
-stash_alone p (UpdateSkeleton table cs) end yes = stash_of p table (mutation_script p rewrite_part) yes
-stash_alone p (DeleteSkeleton table) end yes = stash_of p table (mutation_script p rewrite_part) yes
+stash_alone p (InsertSkeleton table cs) end yes = stash_of p table (mutation_script p insert_part (behind_change p (InsertSkeleton table cs))) yes
+stash_alone p (UpdateSkeleton table cs) end yes = stash_of p table (mutation_script p rewrite_part (behind_change p (UpdateSkeleton table cs))) yes
+stash_alone p (DeleteSkeleton table) end yes = stash_of p table (mutation_script p rewrite_part (behind_change p (DeleteSkeleton table))) yes
 stash_alone p (DropSkeleton table) end yes = absurd (cc yes)
 stash_alone p (Rows (OneTable name) cs) end yes = stash_of p name (flat_script p (seen_of None None None end)) yes
 stash_alone p (Rows (Join a b on equals) cs) end yes = absurd (cc yes)
