@@ -30,19 +30,15 @@ use Rattle.ob_flat.proofs.WordLemmas.{cut_forgot, ran_more, seals_any, seals_aft
 use Rattle.ob_mutate.proofs.Counted.{match_ok}
 use Rattle.ob_mutate.specs.declared.settling.Former.{Former}
 use Rattle.ob_mutate.specs.declared.settling.Former.TheVariants.{Discard, Keep}
-use Rattle.ob_mutate.specs.Mutating.{FillsFresh, LeavesFormer, Mutates, StaysFormer, StaysStored, copy_script, former_script, insert_script, place_script, rewrite_script}
+use Rattle.ob_mutate.specs.Mutating.{FillsFresh, LeavesFormer, Mutates, StaysFormer, StaysStored, copy_script, former_script, insert_script, place_script}
 
 -- what is asked where a row is inserted
 pub places : (pack : ℕ) (flat : Flat) (to : ℕ) → length (place_script pack flat to) ≤ 3 * blocks_of pack flat
 places pack flat to = omega (arith, length-append (count_part flat.region (blocks_of pack flat)) (copy_script pack flat to), reads flat.region (blocks_of pack flat), copies flat.region to (blocks_of pack flat))
 
 four_parts : (former : Former) (pack : ℕ) (flat : Flat) (to : ℕ) → make_script pack (moved flat to) ++ (place_script pack flat to ++ former_script former flat.region) ≡ insert_script former pack flat to
-four_parts Discard pack flat to = ap (λ (l : List Access). make_script pack (moved flat to) ++ l) (append_assoc (count_part flat.region (blocks_of pack flat)) (copy_script pack flat to) (discard_at flat.region))
-four_parts Keep pack flat to = ap (λ (l : List Access). make_script pack (moved flat to) ++ l) (append-nil (place_script pack flat to))
-
-three_parts : (former : Former) (pack : ℕ) (flat : Flat) (to : ℕ) → make_script pack (moved flat to) ++ (copy_script pack flat to ++ former_script former flat.region) ≡ rewrite_script former pack flat to
-three_parts Discard pack flat to = refl
-three_parts Keep pack flat to = ap (λ (l : List Access). make_script pack (moved flat to) ++ l) (append-nil (copy_script pack flat to))
+four_parts former pack flat to =
+    ap (λ (l : List Access). make_script pack (moved flat to) ++ l) (append_assoc (count_part flat.region (blocks_of pack flat)) (copy_script pack flat to) (former_script former flat.region))
 
 length-former_script : (former : Former) (region : ℕ) → length (former_script former region) ≤ 1
 length-former_script Discard region = omega arith
@@ -227,7 +223,3 @@ rewrites_as {T} {former} {pack} {flat} {left} {script} {answer} {other} {after} 
 pub as_insert : {T : Type 0} {former : Former} {pack : ℕ} {flat left : Flat} (to : ℕ) {answer : Slots → T} {after : Slots → Slots} {r : Result T OpErr} {old new : World}
     → Mutates former pack flat left (make_script pack (moved flat to) ++ (place_script pack flat to ++ former_script former flat.region)) answer after r old new → Mutates former pack flat left (insert_script former pack flat to) answer after r old new
 as_insert {T} {former} {pack} {flat} {left} to {answer} {after} {r} {old} {new} is = subst (λ (l : List Access). Mutates former pack flat left l answer after r old new) (four_parts former pack flat to) is
-
-pub as_rewrite : {T : Type 0} {former : Former} {pack : ℕ} {flat left : Flat} (to : ℕ) {answer : Slots → T} {after : Slots → Slots} {r : Result T OpErr} {old new : World}
-    → Mutates former pack flat left (make_script pack (moved flat to) ++ (copy_script pack flat to ++ former_script former flat.region)) answer after r old new → Mutates former pack flat left (rewrite_script former pack flat to) answer after r old new
-as_rewrite {T} {former} {pack} {flat} {left} to {answer} {after} {r} {old} {new} is = subst (λ (l : List Access). Mutates former pack flat left l answer after r old new) (three_parts former pack flat to) is

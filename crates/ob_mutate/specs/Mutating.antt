@@ -5,7 +5,6 @@ use Rattle.ob_base.specs.declared.access.Access.{Access}
 use Rattle.ob_base.specs.Accesses.{discard_at}
 use Rattle.ob_base.specs.Schemas.{width}
 use Rattle.ob_script.specs.Parts.{count_part, copy_part, insert_part, rewrite_part}
-use Rattle.ob_script.specs.Saved.{insert_kept, rewrite_kept}
 use Rattle.ob_vault.specs.declared.region.Order.TheVariants.{Round}
 use Rattle.ob_store.specs.State.{StoreState}
 use Rattle.ob_vault.specs.State.{World}
@@ -37,29 +36,23 @@ copy_script pack flat to = copy_part flat.region to (blocks_of pack flat)
 abbrev pub place_script : ℕ → Flat → ℕ → List Access
 place_script pack flat to = count_part flat.region (blocks_of pack flat) ++ copy_script pack flat to
 
--- and to make that region before, and to discard the old one, where it isn't kept
-abbrev pub rewrite_parts : Former → (t g blocks width : ℕ) → List Access
-rewrite_parts Discard = rewrite_part
-rewrite_parts Keep = rewrite_kept
-
-abbrev pub insert_parts : Former → (t g blocks width : ℕ) → List Access
-insert_parts Discard = insert_part
-insert_parts Keep = insert_kept
-
-abbrev pub rewrite_script : Former → ℕ → Flat → ℕ → List Access
-rewrite_script former pack flat to =
-    rewrite_parts former flat.region to (blocks_of pack flat) (pack * width flat.schema)
-
-abbrev pub insert_script : Former → ℕ → Flat → ℕ → List Access
-insert_script former pack flat to =
-    insert_parts former flat.region to (blocks_of pack flat) (pack * width flat.schema)
-
--- ---- the region that a table had
--- what is asked for it
+-- what is asked for the region that a table had
 abbrev pub former_script : Former → ℕ → List Access
 former_script Discard region = discard_at region
 former_script Keep region = []
 
+-- the fresh region is made, filled, and the old one discarded, where it isn't kept
+abbrev pub rewrite_script : Former → ℕ → Flat → ℕ → List Access
+rewrite_script former pack flat to =
+    rewrite_part flat.region to (blocks_of pack flat) (pack * width flat.schema)
+    (former_script former flat.region)
+
+abbrev pub insert_script : Former → ℕ → Flat → ℕ → List Access
+insert_script former pack flat to =
+    insert_part flat.region to (blocks_of pack flat) (pack * width flat.schema)
+    (former_script former flat.region)
+
+-- ---- the region that a table had
 -- it lies in the store as it did
 pub record StaysStored (region : ℕ) (old new : StoreState) : Type 0 where
   pub live : new.live region ≡ old.live region

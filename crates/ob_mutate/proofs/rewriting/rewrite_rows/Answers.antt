@@ -6,7 +6,7 @@ use Rattle.ob_flat.specs.Words.{blocks_of}
 use Rattle.ob_flat.proofs.Rooms.{same_rows}
 use Rattle.ob_flat.proofs.Tables.{copies, fits_sized}
 use Rattle.ob_mutate.specs.Mutating.{copy_script}
-use Rattle.ob_mutate.proofs.Moving.{as_rewrite, mutates_none, mutates_ok, mutates_err, fill_asks, drop_spare, table_stands, fills_swapped}
+use Rattle.ob_mutate.proofs.Moving.{mutates_none, mutates_ok, mutates_err, fill_asks, drop_spare, table_stands, fills_swapped}
 use Rattle.ob_mutate.proofs.rewriting.rewrite_rows.Goals as goal
 
 pub make_table-requires : goal.make_table-requires
@@ -29,7 +29,7 @@ returns-in_err-fresh-clause-rewrites g c =
     let pack = length c.args.rows.now in
     let flat = c.args.flat.now in
     let change = c.args.change.now in
-    rw (p.1, p.2) (as_rewrite c.args.vault.now.next (mutates_none c.args.former pack flat (copy_script pack flat c.args.vault.now.next) (count_by (g.C.Change.picks change)) (map_at (g.C.Change.to change) 0) _ c.requires.starts.ready c.requires.table _ _ c.in_err-fresh.ensures.makes))
+    rw (p.1, p.2) (mutates_none c.args.former pack flat (copy_script pack flat c.args.vault.now.next) (count_by (g.C.Change.picks change)) (map_at (g.C.Change.to change) 0) _ c.requires.starts.ready c.requires.table _ _ c.in_err-fresh.ensures.makes)
 
 pub swap_blocks-requires : goal.swap_blocks-requires
 swap_blocks-requires g c =
@@ -77,8 +77,8 @@ returns-in-Ok-clause-rewrites g c =
     let makes = c.in_ok-fresh.ensures.makes in
     let swaps = rw makes.number at c.in-Ok.ensures.swaps in
     let change = c.args.change.now in
-    rw (c.from.ensures, c.move_table.ensures.flat, makes.number) (as_rewrite c.args.vault.now.next (mutates_ok c.args.former pack flat (copy_script pack flat c.args.vault.now.next) (count_by (g.C.Change.picks change)) (map_at (g.C.Change.to change) 0) _ c.requires.starts.ready c.requires.table
-    _ makes _ _ _ (fills_swapped pack flat _ _ _ _ _ _ swaps) c.move_table.ensures.leaves))
+    rw (c.from.ensures, c.move_table.ensures.flat, makes.number) (mutates_ok c.args.former pack flat (copy_script pack flat c.args.vault.now.next) (count_by (g.C.Change.picks change)) (map_at (g.C.Change.to change) 0) _ c.requires.starts.ready c.requires.table
+    _ makes _ _ _ (fills_swapped pack flat _ _ _ _ _ _ swaps) c.move_table.ensures.leaves)
 
 pub returns-in-Err-clause-rows : goal.returns-in-Err-clause-rows
 returns-in-Err-clause-rows g c = c.swap_blocks.ensures.rows
@@ -93,5 +93,5 @@ returns-in-Err-clause-rewrites g c =
     let forgot = rw makes.number at forgets.went swaps.ran.err.lasts.ready in
     let gone = rw makes.number at forgets.gone in
     let change = c.args.change.now in
-    as_rewrite c.args.vault.now.next (mutates_err c.args.former pack flat (copy_script pack flat c.args.vault.now.next) (count_by (g.C.Change.picks change)) (map_at (g.C.Change.to change) 0) _ c.requires.starts.ready c.requires.table
-    _ makes _ _ _ (fills_swapped pack flat _ _ _ _ _ _ swaps) forgot refl forgets.seals gone)
+    mutates_err c.args.former pack flat (copy_script pack flat c.args.vault.now.next) (count_by (g.C.Change.picks change)) (map_at (g.C.Change.to change) 0) _ c.requires.starts.ready c.requires.table
+    _ makes _ _ _ (fills_swapped pack flat _ _ _ _ _ _ swaps) forgot refl forgets.seals gone
