@@ -9,7 +9,6 @@ use Rattle.ob_base.specs.declared.seen.Seen.{Seen}
 use Rattle.ob_base.specs.declared.seen.End.{End}
 use Rattle.ob_base.specs.declared.seen.End.TheVariants.{Static, Whole, AfterCount, Cut}
 use Rattle.ob_base.specs.declared.schema.Shape.{Shape}
-use Rattle.ob_base.specs.declared.schema.Shape.TheVariants.{Flat}
 use Rattle.ob_base.specs.declared.skeleton.Skeleton.{Skeleton}
 use Rattle.ob_base.specs.declared.skeleton.Skeleton.TheVariants.{Create, Insert, Update, Delete, Drop as DropTable, Rows, Groups}
 use Rattle.ob_base.proofs.AccessLemmas.{makes-append}
@@ -17,10 +16,10 @@ use Rattle.ob_base.specs.Accesses.{discard_at, drop_script, make_at, makes}
 use Rattle.ob_base.specs.Indexes.{by_shape}
 use Rattle.ob_base.specs.Numbers.{blocks_for}
 use Rattle.ob_base.specs.Schemas.{columns_of, width}
-use Rattle.ob_base.specs.Stored.{Stored, stored_at, stored_regions}
+use Rattle.ob_base.specs.Stored.{Stored}
 use Rattle.ob_script.specs.Parts.{closing_part, copy_part, count_part, create_part, insert_part, rewrite_part}
-use Rattle.ob_script.specs.Saved.{ChangesFlat, HasFlat, behind_run, left_by, left_region, region_at, run_next, run_script, saved_public, whole_run}
-use Rattle.ob_script.specs.Script.{Behind, behind_change, blocks_of, changes_tables, closing_behind, closing_then, created_script, dropped_script, extent_of, index_part_of, is_saved, made_by, mutation_script, rows_width, save_part, script, shape_script, until_end, whole_by, whole_script, with_table}
+use Rattle.ob_script.specs.Saved.{ChangesFlat, HasFlat, left_by, left_region, region_at, run_next, run_script, saved_public, whole_run}
+use Rattle.ob_script.specs.Script.{Behind, blocks_of, changes_tables, closing_behind, closing_then, created_script, dropped_script, extent_of, index_part_of, made_by, mutation_script, rows_width, save_part, script, shape_script, until_end, whole_by, whole_script, with_table}
 use Rattle.ob_script.specs.Tables.{tables_after, tables_then}
 use Rattle.ob_script.specs.Trace.{next}
 use Rattle.ob_script.proofs.Makes.{makes-closing_part, makes-create_part, makes-drop_script, makes-insert_part, makes-rewrite_part}
