@@ -15,11 +15,12 @@ use Rattle.ob_tables.specs.declared.stop.RunStop.{RunStop}
 use Rattle.ob_tables.specs.declared.stop.RunStop.TheVariants.{Tampered, SinkFault, NoMemory, StoreFault, StashFull}
 use Rattle.ob_headline.proofs.FullLemmas.{met_reads, met_script}
 use Rattle.ob_headline.specs.Words.{Begins}
-use Rattle.ob_mean.specs.Verdict.{Draws, Tables}
+use Rattle.ob_mean.specs.Verdict.{Draws, Tables, seen}
+use Rattle.ob_script.proofs.SavedParts.{run_is}
 use Rattle.ob_script.specs.Script.{script}
 use Rattle.ob_shell.proofs.CalmLemmas.{first_calm}
 use Rattle.ob_shell.proofs.FirstPartLemmas.{begins_length, begins_met}
-use Rattle.ob_shell.specs.Steps.{Does, Machine, session_of}
+use Rattle.ob_shell.specs.Steps.{Does, Machine, asked_of, session_of}
 use Rattle.ob_sql.specs.Skeleton.{skeleton}
 use Rattle.ob_sql.specs.declared.stmt.Stmt.{Stmt}
 use Rattle.ob_store.specs.Calls.{IsBefore, IsSteady}
@@ -107,7 +108,9 @@ module _ {R : Type 0} (state : R → RevState) (m0 m1 : Machine R) (d : Draws) (
   crosses_lied lie is =
       let later = does.ran.later in
       let meant : ReadsIn lie all_met =
-      met_reads (session_of m0 d tables) stmt (held_headings _ _ _ tables _ held.held) lie m0.store.asked (does.means.begun tables d drawn (record { tells = tells; held = held; nolie = honest }) lie is) in
+      met_reads (session_of m0 d tables) stmt (held_headings _ _ _ tables _ held.held) lie m0.store.asked
+      (subst (λ (xs : List Access). ReadsIn lie (m0.store.asked ++ xs)) (run_is (public_of m0.engine) (skeleton stmt) (seen d (public_of m0.engine) (asked_of m0) tables stmt) does.unsaved)
+      (does.means.begun tables d drawn (record { tells = tells; held = held; nolie = honest }) lie is)) in
       let asked : ReadsIn lie m1.store.asked = lie_within result (world_of state m0.engine m0.store) (world_of state m1.engine m1.store) lie does.ran.cause (first_calm state m0.engine m0.store honest) is in
       let there : IsBefore m1.store.disturbed n = subst (λ (o : Option (List Disturbance)). IsBefore o n) (sym later.disturbed) before in
       let behind : length lie.before + 1 ≤ n → ⊥ = λ le. (later.steady steady).lied lie is (before_less m1.store.disturbed (length lie.before + 1) n le there) in

@@ -68,10 +68,10 @@ cut_caused r f0 f1 cause cut = record { grown = cut.grown; appends = cut.appends
 
 -- ---- an engine that was just started
 pub engages_first : {R : Type 0} (state : R → RevState) (config : Config) (key : List ℕ) (e : Engine R) (s : StoreState) → Agrees state e s → public_of e ≡ first_public config → engine_keys e ≡ keys_of key → AreDraws e (first_draws (keys_of key))
-    → engine_start e ≡ from_nothing → opened_from e ≡ None → has_ended e ≡ false → high_of e ≡ 0 → rows_of e ≡ config.buffer → IsFresh s → IsSteady s → Engages state (fresh (Some config)) config key e s
-engages_first state config key e s agrees public keyed drawn started anew alive low rows blank steady = record {
+    → engine_start e ≡ from_nothing → opened_from e ≡ None → has_ended e ≡ false → high_of e ≡ 0 → rows_of e ≡ config.buffer → IsFresh s → IsSteady s → config.save ≡ false → Engages state (fresh (Some config)) config key e s
+engages_first state config key e s agrees public keyed drawn started anew alive low rows blank steady unsaved = record {
   stands = stands_first state config key e s agrees public keyed drawn started rows blank steady;
-  ready = record { agrees = agrees; lives = alive };
+  ready = record { agrees = agrees; lives = alive; unsaved = ap (λ (p : Public). p.save) public ∙ unsaved };
   few = omega (arith, none_asked e s started blank.unasked);
   from = anew;
   high = omega (arith, low);
@@ -96,7 +96,7 @@ unfolding earlier
 earlier_opened closing listed marked = omega (arith, marked.number_most, marked.blocks_most, marked.region_most)
 
 module _ {R : Type 0} (state : R → RevState) (config : Config) (key : List ℕ) (keys : KeySet) (same : keys ≡ keys_of key) (closing : Closing) (marked : IsMarked closing) (pack : closing.pack ≡ config.pack)
-    (e : Engine R) (s t : StoreState) (none : s.asked ≡ []) (opens : OpensEngine state config keys closing (Ok e) s t) where
+    (e : Engine R) (s t : StoreState) (none : s.asked ≡ []) (opens : OpensEngine state config keys closing (Ok e) s t) (unsaved : config.save ≡ false) where
   abbrev is : IsOpened state config keys closing e s t
   is = opens.ok
 
@@ -144,7 +144,7 @@ module _ {R : Type 0} (state : R → RevState) (config : Config) (key : List ℕ
   pub engages_opened : Engages state (reopened config opened) config key e t
   engages_opened = record {
     stands = stands;
-    ready = record { agrees = is.agrees; lives = is.alive };
+    ready = record { agrees = is.agrees; lives = is.alive; unsaved = ap (λ (p : Public). p.save) is.public ∙ unsaved };
     few =
         let most = earlier_opened closing is.listed marked in
         let long = length-opening closing is.listed in

@@ -92,6 +92,7 @@ public_is state e s agrees few =
       tables = tables_are e.public.tables (λ i t is.
           let below = region_below e.public.pack i e.public.tables t (world_of state e s) agrees.ready agrees.tables is in
           ((agrees.tables.each i t is).heading.stored, omega (arith, below, tied, made, region, few)));
+      listed = λ saves. agrees.tables.few;
     }
 
 -- ---- a table that there is

@@ -1,13 +1,15 @@
 -- What the engine was given and what it left.
 use Rattle.std.specs.Prelude.{IsErr}
-use Rattle.std.proofs.Common.{ℕ, List, [], ◌∷◌, ◌++◌, ◌≡◌, ◌≤◌, Bool, Option, None, Result, Ok, Err, refl, sym, ◌∙◌, inl, inr, subst, append-nil, arith}
+use Rattle.std.proofs.Common.{ℕ, List, [], ◌∷◌, ◌++◌, ◌≡◌, ◌≤◌, Bool, false, Option, None, Result, Ok, Err, refl, sym, ◌∙◌, inl, inr, subst, append-nil, arith}
 use Rattle.std.proofs.KnownBytes.{Appends-nil}
 use Rattle.std.specs.Io.KnownBytes.{Appends}
 use Rattle.std.specs.Result.{is_err}
 use Rattle.ob_base.specs.Events.{Event}
+use Rattle.ob_base.specs.declared.access.Access.{Access}
+use Rattle.ob_base.specs.declared.config.Public.{Public}
 use Rattle.ob_base.specs.declared.refusal.Refusal.TheVariants.{Syntax}
-use Rattle.ob_tables.specs.Agreeing.{seen_of}
-use Rattle.ob_tables.specs.Running.{SinkStops}
+use Rattle.ob_tables.specs.Agreeing.{public_of, seen_of}
+use Rattle.ob_tables.specs.Running.{RanAs, SinkStops}
 use Rattle.ob_tables.specs.Serving.{StopsEmission, Serves}
 use Rattle.ob_tables.specs.Stops.{session_stop}
 use Rattle.ob_verdict.specs.declared.outcome.Outcome.{Outcome}
@@ -25,18 +27,34 @@ use Rattle.ob_print.specs.Rows.{events_text}
 use Rattle.ob_shell.proofs.CountLemmas.{rises_earlier, rises_later}
 use Rattle.ob_shell.specs.Running.{OutFailed, Silenced, StopCause}
 use Rattle.ob_shell.specs.Steps.{Machine, Does, HasBody, ServedStatement, StopsIn}
+use Rattle.ob_script.proofs.SavedParts.{next_is, run_is}
+use Rattle.ob_script.specs.Saved.{run_script}
+use Rattle.ob_script.specs.Script.{script}
+use Rattle.ob_script.specs.Trace.{next}
+use Rattle.ob_sql.specs.Skeleton.{skeleton}
 use Rattle.ob_sql.specs.declared.stmt.Stmt.{Stmt}
 use Rattle.ob_vault.specs.State.{RevState}
 
 module _ {R E : Type 0} (state : R → RevState) (grew cut : E → E → List Event → Type 0) (faults : E → ℕ)
-    (m0 m1 : Machine R) (out_old out_new : E) (stmt : Stmt) where
+    (m0 m1 : Machine R) (out_old out_new : E) (stmt : Stmt) (unsaved : (public_of m0.engine).save ≡ false) where
   abbrev pub Called : Result Outcome RunStop → Type 0
   Called result = Serves state grew cut faults stmt result m0.engine m0.store m1.engine m1.store out_old out_new
+
+  -- where tables aren't saved the engine's part is all that a statement asks
+  ran_plain : (result : Result Outcome RunStop) → Called result
+      → RanAs state (skeleton stmt) (script (public_of m0.engine) (skeleton stmt) (seen_of m1.engine)) (next (public_of m0.engine) (skeleton stmt) (seen_of m1.engine)) result m0.engine m0.store m1.engine m1.store
+  ran_plain result serves =
+      let p = public_of m0.engine in
+      let sk = skeleton stmt in
+      let now = seen_of m1.engine in
+      subst (λ (l : List Access). RanAs state sk l (next p sk now) result m0.engine m0.store m1.engine m1.store) (run_is p sk now unsaved)
+      (subst (λ (q : Public). RanAs state sk (run_script p sk now) q result m0.engine m0.store m1.engine m1.store) (next_is p sk now unsaved) serves.ran)
 
   -- what a call of the engine did
   done : (result : Result Outcome RunStop) → Called result → Does state m0 m1 stmt result
   done result serves = record {
-    ran = serves.ran;
+    ran = ran_plain result serves;
+    unsaved = unsaved;
     early = serves.early;
     lawful = serves.lawful;
     memory = λ is. let lacks = serves.memory is in record {

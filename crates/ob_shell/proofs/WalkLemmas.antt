@@ -41,6 +41,7 @@ use Rattle.ob_mean.proofs.ReplayLemmas.{after_room, served_room}
 use Rattle.ob_mean.specs.Replay.{Broken, IsCutOff, Session, Spelt, after, after_all, all_served, cut_at, draws_taken, is_full_now, seen_now, seen_or_cut}
 use Rattle.ob_mean.specs.Verdict.{Draws, Tables}
 use Rattle.ob_print.specs.Rows.{events_text}
+use Rattle.ob_script.proofs.SavedParts.{whole_is}
 use Rattle.ob_script.specs.Script.{script, whole_script}
 use Rattle.ob_script.specs.Trace.{Served as Entry, after_all as all_public, next, trace}
 use Rattle.ob_seal.specs.Draws.{draw_of}
@@ -257,7 +258,7 @@ module _ {R : Type 0} (state : R → RevState) where
       let done : lacks.done ≡ script p (skeleton stmt) (seen_of m2.engine) = append_cancel_left m0.store.asked _ _ (sym lacks.asked ∙ does.ran.asked) in
       record {
         rest = lacks.rest;
-        split = subst (λ (l : List Access). l ++ lacks.rest ≡ whole_script p (skeleton stmt) (seen_of m2.engine)) done lacks.split;
+        split = subst (λ (l : List Access). l ++ lacks.rest ≡ whole_script p (skeleton stmt) (seen_of m2.engine)) done (lacks.split ∙ whole_is p (skeleton stmt) (seen_of m2.engine) does.unsaved);
         place = elim lacks.place [
           | inl make ↦ inl (subst (λ (l : List Access). AtMake l) done make)
           | inr other ↦ inr (elim other [ inl before ↦ inl before | inr emits ↦ inr emits.0 ])

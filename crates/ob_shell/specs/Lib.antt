@@ -1,6 +1,5 @@
 pub mod Feeding
 pub mod Engaging
-pub mod Saving
 pub mod KeptSummary
 pub mod Pushed
 pub mod Generating

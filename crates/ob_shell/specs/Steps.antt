@@ -7,7 +7,7 @@ use Rattle.ob_base.specs.declared.refusal.Refusal.TheVariants.{Syntax}
 use Rattle.ob_tables.specs.Agreeing.{Agrees, AreDraws, count_of, has_ended, indexes_of, public_of, seen_of, world_of}
 use Rattle.ob_tables.specs.Indexed.{FillsStash}
 use Rattle.ob_tables.specs.Memory.{LacksMemory}
-use Rattle.ob_tables.specs.Running.{RanStatement, RefusedEarly}
+use Rattle.ob_tables.specs.Running.{RanAs, RefusedEarly}
 use Rattle.ob_verdict.specs.Outcomes.{refusal_now, Emits, MayEmit, Partly}
 use Rattle.ob_tables.specs.Serving.{Means}
 use Rattle.ob_tables.specs.Stops.{session_stop}
@@ -27,6 +27,8 @@ use Rattle.ob_mean.specs.Replay.{Session}
 use Rattle.ob_mean.specs.Verdict.{Draws, Tables, next_draw, verdict}
 use Rattle.ob_print.specs.Cuts.{Outputs}
 use Rattle.ob_print.specs.Rows.{events_text}
+use Rattle.ob_script.specs.Script.{script}
+use Rattle.ob_script.specs.Trace.{next}
 use Rattle.ob_shell.specs.Tallies.{tally_after}
 use Rattle.ob_sql.specs.Skeleton.{skeleton}
 use Rattle.ob_sql.specs.declared.stmt.Stmt.{Stmt}
@@ -45,6 +47,7 @@ machine_of engine store = record { engine = engine; store = store }
 pub record IsReady {R : Type 0} (state : R → RevState) (m : Machine R) : Type 0 where
   pub agrees : Agrees state m.engine m.store
   pub lives : has_ended m.engine ≡ false
+  pub unsaved : (public_of m.engine).save ≡ false
 
 -- the text is no statement: nothing was asked
 pub record Misspelt {R : Type 0} (m0 m1 : Machine R) (text : List ℕ)
@@ -72,7 +75,11 @@ session_of m d tables = record {
 -- the engine carried out a statement, whatever it answered
 pub record Does {R : Type 0} (state : R → RevState) (m0 m1 : Machine R) (stmt : Stmt)
     (result : Result Outcome RunStop) : Type 0 where
-  pub ran : RanStatement state (skeleton stmt) result m0.engine m0.store m1.engine m1.store
+  pub ran : RanAs state (skeleton stmt)
+      (script (public_of m0.engine) (skeleton stmt) (seen_of m1.engine))
+      (next (public_of m0.engine) (skeleton stmt) (seen_of m1.engine))
+      result m0.engine m0.store m1.engine m1.store
+  pub unsaved : (public_of m0.engine).save ≡ false
   pub early : RefusedEarly (refusal_now (public_of m0.engine) (asked_of m0) stmt) result
       (seen_of m1.engine)
   pub lawful : Lawful (public_of m0.engine) (asked_of m0) stmt (seen_of m1.engine)

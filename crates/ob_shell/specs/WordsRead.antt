@@ -1,5 +1,5 @@
 -- What the words that were read give a run.
-use Rattle.std.specs.Prelude.{◌≤◌, Bool, Option, Some, None, codes}
+use Rattle.std.specs.Prelude.{◌≡◌, ◌≤◌, Bool, false, Option, Some, None, codes}
 use Rattle.clap.specs.Words.{Text}
 use Rattle.ob_base.specs.declared.config.Config.{Config}
 use Rattle.ob_tables.specs.Engines.{IsConfig}
@@ -21,7 +21,8 @@ abbrev pub words_by : (Text → Option Text) → Option Words
 words_by value = words_with (is_set (value (codes "trace"))) (settings_by value)
     (seed_in (value (codes "gen")))
 
--- settings within their limits
+-- settings within their limits; no word has tables saved
 pub record AreWithin (config : Config) : Type 0 where
   pub engine : IsConfig config
+  pub unsaved : config.save ≡ false
   pub input : 1024 ≤ config.max_input

@@ -1,18 +1,16 @@
 //! The words of the command line.
 ghost use Rattle.std.specs.Prelude.{option_map, string_bytes, true, false};
-ghost use Rattle.std.specs.Prelude.{◌≡◌, ◌≢◌, ◌≤◌, ◌^◌, codes, map, Some, None, Err, IfOk, IfSome};
+ghost use Rattle.std.specs.Prelude.{◌≡◌, ◌≢◌, ◌≤◌, ◌^◌, map, Some, None, Err, IfOk, IfSome};
 ghost use Rattle.clap.specs.Words.{Text};
 ghost use Rattle.clap.specs.Words.{app_of, first_value, found_of, kind_of, rule_of};
 ghost use Rattle.clap.specs.declared.error.kind.ErrorKind.TheVariants.{OutOfMemory};
 ghost use Rattle.ob_base.specs.Plans.{MayPad};
 ghost use Rattle.ob_headline.specs.Settings.{ParsesAs, IsTaken, ParsesChanges, MeddleParses};
-ghost use Rattle.ob_headline.specs.Settings.{IsTakenSaved, ParsesSaved, saved_settings_by};
 ghost use Rattle.ob_headline.specs.Settings.{at_least, may_pad, number_in, pad_in, plan_in};
 ghost use Rattle.ob_headline.specs.Settings.{generated_by, seed_in, seed_of};
 ghost use Rattle.ob_headline.specs.Settings.{may_mark, settings_by, settings_in};
 ghost use Rattle.ob_headline.specs.Usage.{common, usage, meddle_usage, flag, valued, is_set, is_traced, changes_in};
 ghost use Rattle.ob_headline.specs.Usage.{default_store, is_kept, kept_usage, mark_of, store_of, value_of};
-ghost use Rattle.ob_headline.specs.Usage.{is_saved, saved_usage};
 ghost use Rattle.ob_meddle.specs.Changes.{number};
 ghost use Rattle.ob_shell.specs.WordsRead.{AreWithin};
 ghost use Rattle.ob_shell.specs.WordsRead.{words_by};
@@ -61,15 +59,6 @@ pub struct MeddleWords {
 pub struct KeptWords {
     pub common: Words,
     pub keep: bool,
-}
-
-/// The same, and whether the tables are to be kept for the next run, or to be saved behind each statement that changes
-/// them: then the settings say so.
-#[derive(Clone, Copy, Debug, PartialEq, Eq)]
-pub struct SavedWords {
-    pub common: Words,
-    pub keep: bool,
-    pub save: bool,
 }
 
 // A flag `--NAME`.
@@ -125,17 +114,6 @@ fn kept_command<'a>(alloc: Global) -> Result<Command<'a>, AllocError>
         .arg(valued(alloc, "store"))?
         .arg(flag(alloc, "keep"))?
         .arg(valued(alloc, "mark"))?;
-    Ok(command.no_binary_name(true))
-}
-
-fn saved_command<'a>(alloc: Global) -> Result<Command<'a>, AllocError>
-    ensures { IfOk result (λ c. app_of c ≡ saved_usage) }
-{
-    let command = common(alloc, "oblidb")?
-        .arg(valued(alloc, "store"))?
-        .arg(flag(alloc, "keep"))?
-        .arg(valued(alloc, "mark"))?
-        .arg(flag(alloc, "save"))?;
     Ok(command.no_binary_name(true))
 }
 
@@ -404,65 +382,6 @@ pub fn read_kept_words(alloc: Global, words: &[String]) -> Result<KeptWords, Wor
         }),
         None => Err(WordsErr::Usage),
     }
-}
-
-// The settings that the values spell of a run whose tables may be saved.
-fn saved_settings(matches: &ArgMatches) -> Option<Config>
-    ensures settings { result ≡ saved_settings_by (first_value (found_of matches.now)) }
-    ensures within { IfSome result AreWithin }
-{
-    if !is_set(matches.get_str("save")) {
-        return settings(matches);
-    }
-    if is_set(matches.get_str("keep")) {
-        return None;
-    }
-    let config = settings_in(matches)?;
-    Some(Config {
-        keep: true,
-        save: true,
-        ..config
-    })
-}
-
-/// Reads the words of a program that may keep its tables for the next run, or save them behind each statement that
-/// changes them, the program's name left out.
-pub fn read_saved_words(alloc: Global, words: &[String]) -> Result<SavedWords, WordsErr>
-    ensures ok { IfOk result (λ w.
-        ParsesSaved (map string_bytes words.now) w.common.config) }
-    ensures usage { result ≡ Err WordsErr.Usage →
-        ¬ IsTakenSaved (map string_bytes words.now) }
-    ensures trace { IfOk result (λ w.
-        w.common.trace ≡ is_traced saved_usage (map string_bytes words.now)) }
-    ensures generated { IfOk result (λ w.
-        generated_by saved_usage (map string_bytes words.now) ≡ Some w.common.generated) }
-    ensures keep { IfOk result (λ w. w.keep
-        ≡ is_set (value_of saved_usage (map string_bytes words.now) (codes "keep"))) }
-    ensures save { IfOk result (λ w. w.save ≡ is_saved (map string_bytes words.now)) }
-    ensures within { IfOk result (λ w. AreWithin w.common.config) }
-{
-    let Ok(command) = saved_command(alloc) else {
-        return Err(WordsErr::NoMemory);
-    };
-    let matches = match command.try_get_matches_from(words) {
-        Ok(matches) => matches,
-        Err(error) => return Err(words_err(&error)),
-    };
-    let Some(config) = saved_settings(&matches) else {
-        return Err(WordsErr::Usage);
-    };
-    let Some(generated) = seed_in(matches.get_str("gen")) else {
-        return Err(WordsErr::Usage);
-    };
-    Ok(SavedWords {
-        common: Words {
-            trace: is_set(matches.get_str("trace")),
-            config,
-            generated,
-        },
-        keep: is_set(matches.get_str("keep")),
-        save: is_set(matches.get_str("save")),
-    })
 }
 
 /// Reads the words of a program over a store that others change, the program's name left out.

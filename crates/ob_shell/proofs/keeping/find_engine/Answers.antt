@@ -29,7 +29,7 @@ returns-in-Ok-start g c =
               honest = g.met.S.BlockStore.starts_honest c.args.store.now c.requires.fresh;
               empty = λ q. g.met.S.BlockStore.starts_empty c.args.store.now q c.requires.fresh;
             })
-            (g.met.S.BlockStore.starts_steady c.args.store.now c.requires.fresh);
+            (g.met.S.BlockStore.starts_steady c.args.store.now c.requires.fresh) c.requires.within.unsaved;
       };
       err = tt;
     }
@@ -49,7 +49,7 @@ returns-in-Ok-open g c =
         is = ap Ok c.in-Closed.is;
         base = _;
         begins = (pack, opens_closing _ _ c.args.key.now _ keys closing marked pack _ _ _ c.requires.fresh opens);
-        engages = engages_opened _ _ c.args.key.now _ keys closing marked pack _ _ _ c.requires.fresh opens;
+        engages = engages_opened _ _ c.args.key.now _ keys closing marked pack _ _ _ c.requires.fresh opens c.requires.within.unsaved;
       };
       err = tt;
     }

@@ -1,4 +1,5 @@
-use Rattle.std.proofs.Common.{◌≡◌, false, true, ap, arith, refl, rules}
+use Rattle.std.proofs.Common.{◌≡◌, false, true, ◌∙◌, ap, arith, refl, rules}
+use Rattle.ob_base.specs.declared.config.Public.{Public}
 use Rattle.ob_base.specs.declared.seen.Seen.{Seen}
 use Rattle.ob_print.proofs.CutLemmas.{Outputs-by}
 use Rattle.ob_print.proofs.SentLemmas.{Sends-cut, flushed, flushed_cut, flushed_whole}
@@ -10,10 +11,11 @@ use Rattle.ob_shell.proofs.session.run_stmt.Goals as goal
 
 pub returns-in-Ok-flush-clause-serves : goal.returns-in-Ok-flush-clause-serves
 returns-in-Ok-flush-clause-serves g c =
+    let on = c.in-Ok.ensures.serves.ran.goes_on in
     record {
-      ready = search rules;
+      ready = record { agrees = on.agrees; lives = on.lives; unsaved = ap (λ (p : Public). p.save) on.public ∙ c.requires.ready.unsaved };
       done = rw (ap (λ (s : Seen). s.plan) c.seen.ensures)
-          (answered_by _ _ _ _ _ _ _ _ c.args.stmt.now _ _ c.args.text.now c.requires.spells c.in-Ok.outcome c.in-Ok.ensures.serves
+          (answered_by _ _ _ _ _ _ _ _ c.args.stmt.now c.requires.ready.unsaved _ _ c.args.text.now c.requires.spells c.in-Ok.outcome c.in-Ok.ensures.serves
           (λ events took. flushed_whole (events_text events) c.requires.none took.0 c.in-Ok-flush.ensures.cut (λ (h : false ≡ true). absurd (cc))));
       stopped = tt;
       cause = search rules;
@@ -25,7 +27,7 @@ returns-in-Err-flush-clause-serves g c =
     record {
       ready = tt;
       done = tt;
-      stopped = finished_by _ _ _ _ _ _ _ _ c.args.stmt.now _ _ c.args.text.now c.requires.spells c.in-Ok.outcome c.in-Ok.ensures.serves (refl, rises_earlier _ _ _ (omega (arith, c.in-Ok.ensures.serves.sink)) c.in-Err-flush.ensures.cause.failed)
+      stopped = finished_by _ _ _ _ _ _ _ _ c.args.stmt.now c.requires.ready.unsaved _ _ c.args.text.now c.requires.spells c.in-Ok.outcome c.in-Ok.ensures.serves (refl, rises_earlier _ _ _ (omega (arith, c.in-Ok.ensures.serves.sink)) c.in-Err-flush.ensures.cause.failed)
           (λ events took. flushed_cut (events_text events) c.requires.none took.0 c.flush.ensures.cut);
       cause = search rules;
       quiet = search rules;
@@ -37,7 +39,7 @@ returns-in-SinkFault-clause-serves g c =
     record {
       ready = tt;
       done = tt;
-      stopped = failed_by _ _ _ _ _ _ _ _ c.args.stmt.now _ _ c.args.text.now c.requires.spells serves (refl, serves.sink) (λ events began. Sends-cut (events_text events) c.requires.none began.0);
+      stopped = failed_by _ _ _ _ _ _ _ _ c.args.stmt.now c.requires.ready.unsaved _ _ c.args.text.now c.requires.spells serves (refl, serves.sink) (λ events began. Sends-cut (events_text events) c.requires.none began.0);
       cause = search rules;
       quiet = search rules;
     }
@@ -48,7 +50,7 @@ returns-in_default-clause-serves g c =
     record {
       ready = tt;
       done = tt;
-      stopped = stopped_by _ _ _ _ _ _ _ _ c.args.stmt.now _ _ c.args.text.now c.requires.spells c.in-Err.stop c.in_default.not-SinkFault c.in-Err.ensures.serves
+      stopped = stopped_by _ _ _ _ _ _ _ _ c.args.stmt.now c.requires.ready.unsaved _ _ c.args.text.now c.requires.spells c.in-Err.stop c.in_default.not-SinkFault c.in-Err.ensures.serves
           (λ events took. Outputs-by lost (flushed (events_text events) c.requires.none took.0 c.flush-in_default.ensures.cut))
           (λ events began. flushed_cut (events_text events) c.requires.none began.0 c.flush-in_default.ensures.cut);
       cause = stop_cause Answered c.in-Err.stop _ _ _ c.in-Err.ensures.serves.sink c.flush-in_default.ensures.cause.later;

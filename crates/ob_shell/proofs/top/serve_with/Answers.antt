@@ -1,4 +1,5 @@
-use Rattle.std.proofs.Common.{◌∙◌, refl, subst}
+use Rattle.std.proofs.Common.{◌∙◌, ap, refl, subst}
+use Rattle.ob_base.specs.declared.config.Public.{Public}
 use Rattle.ob_tables.specs.Agreeing.{AreDraws, first_draws}
 use Rattle.ob_seal.specs.KeySet.{KeySet}
 use Rattle.ob_shell.proofs.SessionLemmas.{ran_after, stands_first}
@@ -28,4 +29,4 @@ returns-in-Ok-clause-ran g c =
     }) (g.met.S.BlockStore.starts_steady c.args.store.now c.requires.fresh)) c.high.ensures.most c.high.ensures.value _ _ _ _ _ _ _ _ c.serve-ran.ensures.ran
 
 pub serve-ran-requires-clause-ready : goal.serve-ran-requires-clause-ready
-serve-ran-requires-clause-ready g c = record { agrees = c.in-Ok.ensures.agrees (g.S.BlockStore.state c.args.store.now) c.requires.fresh; lives = c.in-Ok.ensures.alive }
+serve-ran-requires-clause-ready g c = record { agrees = c.in-Ok.ensures.agrees (g.S.BlockStore.state c.args.store.now) c.requires.fresh; unsaved = ap (λ (p : Public). p.save) c.in-Ok.ensures.public ∙ c.requires.within.unsaved; lives = c.in-Ok.ensures.alive }
