@@ -9,7 +9,7 @@ use Rattle.ob_base.specs.declared.seen.End.TheVariants.{Static, Whole, AfterCoun
 use Rattle.ob_base.specs.declared.skeleton.Skeleton.{Skeleton}
 use Rattle.ob_base.specs.declared.skeleton.Skeleton.TheVariants.{Create, Insert, Update, Delete, Drop as DropTable, Rows, Groups}
 use Rattle.ob_base.specs.Stored.{Stored, stored_at, stored_region, stored_regions}
-use Rattle.ob_script.specs.Saved.{left_by, left_region, left_then}
+use Rattle.ob_script.specs.Saved.{left_by, left_region, left_then, run_next}
 use Rattle.ob_store.specs.State.{StoreState}
 use Rattle.ob_vault.specs.State.{RevState}
 use Rattle.ob_verdict.specs.declared.outcome.Outcome.{Outcome}
@@ -51,7 +51,7 @@ module _ {R : Type 0} (state : R → RevState) (old : Engine R) (s : StoreState)
 
   module _ (skeleton : Skeleton) where
     -- which lies in the store then, until it is discarded
-    left_waits : GoesOn state skeleton old new t → (q : ℕ) → left_by old.public skeleton ≡ Some q → LeftBehind state q s new t → WaitsAt state q new t
+    left_waits : GoesOn state skeleton (run_next old.public skeleton new.seen) old new t → (q : ℕ) → left_by old.public skeleton ≡ Some q → LeftBehind state q s new t → WaitsAt state q new t
     left_waits on q is left =
         let at = left_table old.public.save skeleton q is in
         let live = (agrees.tables.each at.place at.table at.get).live in
