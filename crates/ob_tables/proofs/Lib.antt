@@ -3,6 +3,8 @@ pub mod GivenUpLemmas
 pub mod RunLemmas
 pub mod FormerLemmas
 pub mod SavedLemmas
+pub mod SaveLemmas
+pub mod SettleLemmas
 pub mod ToldLemmas
 pub mod SealLemmas
 pub mod HeldLemmas

@@ -27,7 +27,7 @@ use Rattle.ob_store.specs.State.{StoreState}
 use Rattle.ob_vault.specs.Calls.{Seals}
 use Rattle.ob_vault.specs.State.{RevState}
 use Rattle.ob_vault.specs.Tied.{AllSealed, Calm, Scope, next_fault}
-use Rattle.ob_tables.specs.Agreeing.{Agrees, draws_of, engine_keys, engine_start, has_ended, opened_from, public_of, replaced_of, world_of}
+use Rattle.ob_tables.specs.Agreeing.{Agrees, draws_of, engine_keys, engine_start, has_ended, opened_from, public_of, replaced_of, seen_of, world_of}
 use Rattle.ob_tables.specs.Closing.{next_closing}
 use Rattle.ob_tables.specs.Reopening.{IsOpened}
 use Rattle.ob_tables.specs.Running.{is_stop}
@@ -79,6 +79,7 @@ pub record SavesEngine {R : Type 0} (state : R → RevState) (result : Result Ma
   pub keys : engine_keys saved ≡ engine_keys e
   pub start : engine_start saved ≡ engine_start e
   pub draws : draws_of saved ≡ draws_of e
+  pub seen : seen_of saved ≡ seen_of e
   pub later : Later s t
   pub calm : Calm (world_of state e s) → Calm (world_of state saved t)
   -- whatever comes of it, what is kept of the regions that there were stays: what a mark names that is held goes on to

@@ -3,6 +3,7 @@
 ghost use Rattle.std.specs.Prelude.{◌≡◌, ◌≢◌, ◌<◌, ◌≤◌, ◌+◌, ◌^◌, ℕ, List, Option, [], Some, None, true, false};
 ghost use Rattle.ob_base.specs.Stored.{headings_of};
 ghost use Rattle.ob_tables.specs.Agreeing.{Agrees, count_of, engine_keys, has_ended, opened_from, public_of, replaced_of};
+ghost use Rattle.ob_tables.specs.Closing.{DropsClosing};
 ghost use Rattle.ob_tables.specs.Engines.{IsConfig, former_of};
 ghost use Rattle.ob_tables.specs.Saving.{NamesClosing, OpensSaved, SavesEngine, SettlesEngine, Waits};
 ghost use Rattle.ob_mean.specs.Flats.{AreFlat};
@@ -11,6 +12,11 @@ ghost use Rattle.ob_sql.specs.Skeleton.{skeleton};
 ghost use Rattle.ob_reopen.specs.Closings.{saved_mark};
 ghost use Rattle.ob_reopen.specs.declared.closing.Closing.{Closing as Named};
 ghost use Rattle.ob_seal.specs.KeySet.{pair_of};
+ghost use Rattle.ob_store.specs.Calls.{IsLive};
+ghost use Rattle.ob_store.specs.State.{StoreState};
+ghost use Rattle.ob_vault.specs.Places.{at};
+ghost use Rattle.ob_vault.specs.Tied.{Ready};
+ghost use Rattle.ob_vault.specs.VaultCalls.{Forgets};
 
 use crate::engine::{Engine, ROW_WIDTH, seen_to_end};
 use crate::opening::tables_of;
@@ -80,6 +86,21 @@ fn closing_of(mark: &Mark) -> (Closing, Option<[u8; 16]>)
             (closing, Some(salt))
         }
         Mark::Fresh | Mark::InUse | Mark::Begun => unreachable!(),
+    }
+}
+
+// Takes a region that the vault has forgotten out of the store, if there is one, whatever that answers.
+fn discard_left<S: BlockStore, R: Revisions>(store: &mut S, vault: &Vault<R>, left: Option<u64>)
+    requires ready { Ready (at R.state vault.now (S.state store.old)) }
+    requires spare { 1 ≤ (S.state store.old).spare }
+    requires waits { (q : ℕ) → left ≡ Some q → IsLive (S.state store.old) q
+        × (q < vault.now.next) × ((R.state vault.now.revs).live q ≡ None) }
+    ensures drops { DropsClosing left (at R.state vault.now (S.state store.old))
+        (at R.state vault.now (S.state store.new)) }
+{
+    if let Some(region) = left {
+        // A store that fails here has counted it.
+        let _ = vault.discard(store, region);
     }
 }
 
@@ -202,9 +223,9 @@ impl<R: Revisions> Engine<R> {
         })
     }
 
-    // A closing was written: the one before it waits until it is discarded.
+    // A closing was written: the vault forgets the one before it, which waits until it is discarded.
     fn list_in(&mut self, region: u64)
-        ensures { self.new ≡ record self.old {
+        ensures listed { self.new ≡ record self.old {
           vault = self.new.vault;
           public = record self.old.public {
             next_region = self.old.vault.next;
@@ -213,13 +234,18 @@ impl<R: Revisions> Engine<R> {
           closing = Some region;
           replaced = self.old.closing;
         } }
+        ensures forgets { (q : ℕ) → self.old.closing ≡ Some q → (s : StoreState)
+            → Forgets q (at R.state self.old.vault s) (at R.state self.new.vault s) }
+        ensures stays { self.old.closing ≡ None → self.new.vault ≡ self.old.vault }
     {
-        self.replaced = self.closing.replace(region);
-        if let Some(before) = self.replaced {
-            self.vault.forget(before);
-        }
+        let before = self.closing;
         self.public.next_region = self.vault.next_region();
         self.public.closing = Some(region);
+        self.closing = Some(region);
+        self.replaced = before;
+        if let Some(q) = before {
+            self.vault.forget(q);
+        }
     }
 
     /// Writes a closing, a region that lists the tables by their names, and gives the mark that names it with the salt of
@@ -266,12 +292,8 @@ impl<R: Revisions> Engine<R> {
         ensures settles { SettlesEngine R.state left.now self.old (S.state store.old)
             self.new (S.state store.new) }
     {
-        // A store that fails here has counted it.
-        if let Some(region) = left {
-            let _ = self.vault.discard(store, region);
-        }
-        if let Some(region) = self.replaced.take() {
-            let _ = self.vault.discard(store, region);
-        }
+        discard_left(store, &self.vault, left);
+        discard_left(store, &self.vault, self.replaced);
+        self.replaced = None;
     }
 }
