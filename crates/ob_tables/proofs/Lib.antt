@@ -41,6 +41,7 @@ pub mod BegunLemmas
 pub mod GivenNumbers
 pub mod KeptLemmas
 pub mod OpeningLemmas
+pub mod OpenSavedLemmas
 pub mod ListedLemmas
 pub mod ByNameLemmas
 pub mod ClosedLemmas
