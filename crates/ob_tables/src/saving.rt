@@ -1,6 +1,6 @@
 //! An engine whose tables are saved: behind a statement that changed them they are listed in a closing, and a later run
 //! goes on from the one that was written last.
-ghost use Rattle.std.specs.Prelude.{◌≡◌, ◌≢◌, ◌<◌, ◌≤◌, ◌+◌, ◌^◌, ℕ, List, Option, [], Some, None, true, false};
+ghost use Rattle.std.specs.Prelude.{◌≡◌, ◌≢◌, ◌<◌, ◌≤◌, ◌+◌, ◌^◌, ℕ, List, Option, [], Some, None, IfOk, true, false};
 ghost use Rattle.ob_base.specs.Stored.{headings_of};
 ghost use Rattle.ob_tables.specs.Agreeing.{Agrees, count_of, engine_keys, has_ended, opened_from, public_of, replaced_of};
 ghost use Rattle.ob_tables.specs.Closing.{DropsClosing};
@@ -10,6 +10,7 @@ ghost use Rattle.ob_mean.specs.Flats.{AreFlat};
 ghost use Rattle.ob_script.specs.Saved.{left_by};
 ghost use Rattle.ob_sql.specs.Skeleton.{skeleton};
 ghost use Rattle.ob_reopen.specs.Closings.{saved_mark};
+ghost use Rattle.ob_reopen.specs.Saved.{reopening_keys};
 ghost use Rattle.ob_reopen.specs.declared.closing.Closing.{Closing as Named};
 ghost use Rattle.ob_seal.specs.KeySet.{pair_of};
 ghost use Rattle.ob_store.specs.Calls.{IsLive};
@@ -19,16 +20,16 @@ ghost use Rattle.ob_vault.specs.Tied.{Ready};
 ghost use Rattle.ob_vault.specs.VaultCalls.{Forgets};
 
 use crate::engine::{Engine, ROW_WIDTH, seen_to_end};
-use crate::opening::tables_of;
+use crate::opening::{public_at, tables_of};
 use crate::tables::find_table;
-use ob_base::{Config, End, Mark, Public};
+use ob_base::{Config, End, Mark, NoMemory};
 use ob_mutate::Former;
 use ob_reopen::{
-    CloseErr, Closing, OpenErr, list_tables, read_closing, reopen_tables, salted_regions,
+    CloseErr, Closing, Listed, OpenErr, list_tables, read_closing, reopen_tables, salted_regions,
     write_closing,
 };
 use ob_room::Room;
-use ob_seal::{Draws, Keys, Salted};
+use ob_seal::{Draws, Keys};
 use ob_sql::Stmt;
 use ob_store::{BlockStore, Lasting};
 use ob_vault::{Revisions, Vault};
@@ -104,6 +105,25 @@ fn discard_left<S: BlockStore, R: Revisions>(store: &mut S, vault: &Vault<R>, le
     }
 }
 
+// The keys of a run with this salt that goes on from a closing, of which the run that wrote it had a salt or none, and
+// from these of its tables.
+fn keys_from(
+    alloc: Global,
+    secret: &[u8; 32],
+    salt: &[u8; 16],
+    closing: Closing,
+    closed: Option<[u8; 16]>,
+    listed: &[Listed],
+) -> Result<Keys, NoMemory>
+    ensures { IfOk result (λ keys.
+        keys ≡ reopening_keys secret.now salt.now closed closing listed.now) }
+{
+    let Ok(regions) = salted_regions(alloc, closing, closed, listed) else {
+        return Err(NoMemory);
+    };
+    Keys::derive_salted(alloc, secret, salt, regions.as_slice())
+}
+
 impl<R: Revisions> Engine<R> {
     // What becomes of the region of a table that is changed, or dropped.
     pub(crate) fn former(&self) -> Former
@@ -175,20 +195,13 @@ impl<R: Revisions> Engine<R> {
             return Err(OpenErr::NoMemory);
         };
         // the salts of the tables lie in the closing: it is read under keys that know no other than its own
-        let first = [Salted {
-            region: closing.region,
-            salt: closed,
-        }];
-        let Ok(keys) = Keys::derive_salted(alloc, secret, salt, &first) else {
+        let Ok(keys) = keys_from(alloc, secret, salt, closing, closed, &[]) else {
             return Err(OpenErr::NoMemory);
         };
         let last = closing.number + u64::from(closing.blocks) - 1;
         let mut vault = Vault::start_at(alloc, keys, closing.region + 1, last);
         let listed = read_closing(alloc, store, &mut vault, &mut room, closing)?;
-        let Ok(regions) = salted_regions(alloc, closing, closed, listed.as_slice()) else {
-            return Err(OpenErr::NoMemory);
-        };
-        let Ok(keys) = Keys::derive_salted(alloc, secret, salt, regions.as_slice()) else {
+        let Ok(keys) = keys_from(alloc, secret, salt, closing, closed, listed.as_slice()) else {
             return Err(OpenErr::NoMemory);
         };
         let draws = Draws::new(keys.draw_seed());
@@ -201,19 +214,7 @@ impl<R: Revisions> Engine<R> {
             alloc,
             vault,
             room,
-            public: Public {
-                tables,
-                next_region: closing.region + 1,
-                buffer: config.buffer,
-                depth: config.depth,
-                pack: config.pack,
-                plan: config.plan,
-                pad: config.pad,
-                stash: config.stash,
-                keep: config.keep,
-                save: config.save,
-                closing: Some(closing.region),
-            },
+            public: public_at(config, closing, tables),
             seen: seen_to_end(End::Whole),
             ended: false,
             closing: Some(closing.region),
