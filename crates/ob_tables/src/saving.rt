@@ -1,7 +1,8 @@
 //! An engine whose tables are saved: behind a statement that changed them they are listed in a closing, and a later run
 //! goes on from the one that was written last.
 ghost use Rattle.std.specs.Prelude.{◌≡◌, ◌≢◌, ◌<◌, ◌≤◌, ◌+◌, ◌^◌, ℕ, List, Option, [], Some, None, IfOk, true, false};
-ghost use Rattle.ob_base.specs.Stored.{headings_of};
+ghost use Rattle.std.specs.Option.{option_map};
+ghost use Rattle.ob_base.specs.Stored.{Stored, headings_of, stored_at, stored_regions};
 ghost use Rattle.ob_tables.specs.Agreeing.{Agrees, count_of, engine_keys, has_ended, opened_from, public_of, replaced_of};
 ghost use Rattle.ob_tables.specs.Closing.{DropsClosing};
 ghost use Rattle.ob_tables.specs.Engines.{IsConfig, former_of};
@@ -22,7 +23,7 @@ ghost use Rattle.ob_vault.specs.VaultCalls.{Forgets};
 use crate::engine::{Engine, ROW_WIDTH, seen_to_end};
 use crate::opening::{public_at, tables_of};
 use crate::tables::find_table;
-use ob_base::{Config, End, Mark, NoMemory};
+use ob_base::{Config, End, Mark, Name, NoMemory, Table};
 use ob_mutate::Former;
 use ob_reopen::{
     CloseErr, Closing, Listed, OpenErr, list_tables, read_closing, reopen_tables, salted_regions,
@@ -90,6 +91,17 @@ fn closing_of(mark: &Mark) -> (Closing, Option<[u8; 16]>)
     }
 }
 
+// The region of the first table of this name, if there is one.
+fn region_of(tables: &[Table], name: &Name) -> Option<u64>
+    ensures { result ≡ option_map (λ (t : Stored ℕ). t.held)
+        (stored_at name.now (stored_regions tables.now)) }
+{
+    match find_table(tables, name) {
+        Some(i) => Some(tables[i].region),
+        None => None,
+    }
+}
+
 // Takes a region that the vault has forgotten out of the store, if there is one, whatever that answers.
 fn discard_left<S: BlockStore, R: Revisions>(store: &mut S, vault: &Vault<R>, left: Option<u64>)
     requires ready { Ready (at R.state vault.now (S.state store.old)) }
@@ -144,15 +156,14 @@ impl<R: Revisions> Engine<R> {
         if !self.public.save {
             return None;
         }
-        let table = match stmt {
-            Stmt::Insert { table, .. }
-            | Stmt::Update { table, .. }
-            | Stmt::Delete { table, .. }
-            | Stmt::Drop { table } => table,
-            Stmt::Create { .. } | Stmt::SelectRows(_) | Stmt::SelectTotals(_) => return None,
-        };
         let tables = self.public.tables.as_slice();
-        find_table(tables, table).map(|i| tables[i].region)
+        match stmt {
+            Stmt::Insert { table, .. } => region_of(tables, table),
+            Stmt::Update { table, .. } => region_of(tables, table),
+            Stmt::Delete { table, .. } => region_of(tables, table),
+            Stmt::Drop { table } => region_of(tables, table),
+            Stmt::Create { .. } | Stmt::SelectRows(_) | Stmt::SelectTotals(_) => None,
+        }
     }
 
     /// Opens the tables that a closing lists, for a run with this salt that saves them: the closing that `mark` names,
