@@ -1,8 +1,8 @@
 -- The tables of an engine are listed in a closing, and it goes on.
 use Rattle.std.proofs.Common.{◌≡◌, ◌≢◌, ◌⊎◌, inl, inr, ℕ, zero, suc, ◌+◌, ◌<◌, ◌≤◌, ◌^◌, max, Bool, true, false, List, [], ◌∷◌, ◌++◌, get_or, length, Option, Some, None, Result, Ok, Err, refl, sym, ◌∙◌, ap, subst, arith, append-nil}
-use Rattle.std.specs.Prelude.{IsTrue, slice_get}
+use Rattle.std.specs.Prelude.{IsTrue, ◌||◌, nat_le, slice_get}
 use Rattle.std.specs.List.{All}
-use Rattle.std.proofs.lemmas.Bool.{cases_eq}
+use Rattle.std.proofs.lemmas.Bool.{cases_eq, leb-false}
 use Rattle.rand_chacha.specs.ChaCha.{key_of}
 use Rattle.ob_base.specs.declared.access.Access.{Access}
 use Rattle.ob_base.specs.declared.config.Public.{Public}
@@ -23,12 +23,11 @@ use Rattle.ob_select.proofs.RoomLemmas.{free_after}
 use Rattle.ob_store.specs.State.{Shape, StoreState}
 use Rattle.ob_store.specs.Calls.{IsLive, KeepsLive, ChangesNothing as OnlyRoom}
 use Rattle.ob_store.specs.Runs.{Began}
-use Rattle.ob_store.proofs.Steps.{later_rests}
+use Rattle.ob_store.proofs.Steps.{later_refl, later_rests}
 use Rattle.ob_vault.specs.declared.region.Region.{Region}
 use Rattle.ob_vault.specs.declared.vault.Vault.{Vault}
 use Rattle.ob_vault.specs.State.{RevState, World}
-use Rattle.ob_vault.proofs.WorldSteps.{earlier_region, earlier_writes}
-use Rattle.ob_base.proofs.AccessLemmas.{makes_few, writes_few}
+use Rattle.ob_mean.proofs.EarlyLemmas.{neither}
 use Rattle.ob_vault.specs.Places.{at, start_of}
 use Rattle.ob_vault.specs.Tied.{Calm}
 use Rattle.ob_vault.specs.Calls.{Cause, CutShort, Seals, Went, one}
@@ -40,7 +39,7 @@ use Rattle.ob_reopen.specs.declared.closing.Closing.{Closing}
 use Rattle.ob_reopen.specs.declared.fault.CloseErr.{CloseErr}
 use Rattle.ob_reopen.specs.declared.fault.CloseErr.TheVariants.{Failed, NoMemory}
 use Rattle.ob_reopen.specs.declared.listed.Listed.{Listed}
-use Rattle.ob_reopen.specs.Closed.{ClosingCause}
+use Rattle.ob_reopen.specs.Closed.{ClosingCause, is_used_up}
 use Rattle.ob_reopen.specs.Closings.{IsClosing, saved_mark, write_script}
 use Rattle.ob_reopen.specs.Keepers.{AreMarked, AreSaltBytes, IsMark}
 use Rattle.ob_reopen.specs.Limits.{IsCatalogue}
@@ -59,7 +58,25 @@ use Rattle.ob_tables.proofs.ListedLemmas.{may_list}
 use Rattle.ob_tables.proofs.RunLemmas.{next_after}
 use Rattle.ob_tables.proofs.TableLemmas.{flat_each, region_below, table_kept}
 
-module _ {R : Type 0} (state : R → RevState) (e : Engine R) (s s1 : StoreState) (agrees : Agrees state e s) (flat : AreFlat (headings_of e.public.tables)) (room : OnlyRoom s s1) where
+-- its numbers are used up
+pub saves_used : {R : Type 0} (state : R → RevState) (e : Engine R) (s : StoreState) → is_used_up (next_closing e s) ≡ true → SavesEngine state (Err Failed) e s (record e { ended = true }) s
+saves_used state e s used = record {
+  ok = tt;
+  used_up = λ full. (refl, refl);
+  err = λ free. absurd (cc (used, free));
+  ended = refl;
+  keys = refl;
+  start = refl;
+  draws = refl;
+  seen = refl;
+  later = later_refl s;
+  calm = λ calm. calm;
+  kept = λ q other. refl;
+  told = λ tells tables held. tt;
+  sealed = λ good rows closings. seals_none good (world_of state e s);
+}
+
+module _ {R : Type 0} (state : R → RevState) (e : Engine R) (s s1 : StoreState) (agrees : Agrees state e s) (flat : AreFlat (headings_of e.public.tables)) (free : is_used_up (next_closing e s) ≡ false) (room : OnlyRoom s s1) where
   abbrev before : World
   before = world_of state e s
 
@@ -82,7 +99,8 @@ module _ {R : Type 0} (state : R → RevState) (e : Engine R) (s s1 : StoreState
   pub saves_none : SavesEngine state (Err NoMemory) e s (record e { ended = true }) s1
   saves_none = record {
     ok = tt;
-    err = record {
+    used_up = λ full. absurd (cc (full, free));
+    err = λ _. record {
       began = record { done = []; rest = script; split = refl; asked = room.asked ∙ sym (append-nil s.asked) };
       cause = room.faults;
     };
@@ -132,7 +150,7 @@ module _ {R : Type 0} (state : R → RevState) (e : Engine R) (s s1 : StoreState
         got_or (t ∷ ts) zero d below = refl
         got_or (t ∷ ts) (suc i) d below = got_or ts i d (omega (arith, below))
 
-    module _ (few : count_of e s + 2 < 2 ^ 63) (spare : 4 + length e.public.tables ≤ s1.spare) where
+    module _ (few : count_of e s < 2 ^ 63 + 2 ^ 59) (spare : 4 + length e.public.tables ≤ s1.spare) where
       pub may_save : MayAsk (2 + length listed) fore
       may_save =
           let count = went_spent (one g) [] before fore first in
@@ -167,7 +185,8 @@ module _ {R : Type 0} (state : R → RevState) (e : Engine R) (s s1 : StoreState
             let why = cause_as err cut.cause in
             record {
               ok = tt;
-              err = record { began = subst (λ (x : List Access). Began x s t) script_is cut.began; cause = why.0 };
+              used_up = λ full. absurd (cc (full, free));
+              err = λ _. record { began = subst (λ (x : List Access). Began x s t) script_is cut.began; cause = why.0 };
               ended = refl;
               keys = cut.lasts.keys;
               start = cut.lasts.start;
@@ -419,21 +438,18 @@ module _ {R : Type 0} (state : R → RevState) (e : Engine R) (s s1 : StoreState
 
             marked : (salt : List ℕ) → AreSaltBytes salt → IsMark (saved_mark (next_closing e s) salt)
             marked salt bytes =
+                let parts = neither (nat_le (2 ^ 63) (next_closing e s).region) (nat_le (2 ^ 63) (next_closing e s).number) free in
                 let next = agrees.ready.tied.next in
                 let same = agrees.next in
                 let tables = agrees.tables.few in
-                let made_few = makes_few s.asked in
-                let written_few = writes_few s.asked in
-                let first_region = earlier_region (start_of e.vault) in
-                let first_number = earlier_writes (start_of e.vault) in
                 (
                   record {
                     region_least = omega (arith, next, same);
-                    region_most = omega (arith, next, same, made_few, first_region, few);
+                    region_most = leb-false (2 ^ 63) (next_closing e s).region parts.0;
                     blocks_least = omega (arith);
                     blocks_most = omega (arith, tables);
                     number_least = omega (arith);
-                    number_most = omega (arith, written_few, first_number, few);
+                    number_most = leb-false (2 ^ 63) (next_closing e s).number parts.1;
                     pack_least = agrees.settings.pack_least;
                     pack_most = agrees.settings.pack_most;
                   },
@@ -457,7 +473,8 @@ module _ {R : Type 0} (state : R → RevState) (e : Engine R) (s s1 : StoreState
                     waits = waits_now;
                     spare = spare_left;
                   };
-                  err = tt;
+                  used_up = λ full. absurd (cc (full, free));
+                  err = λ _. tt;
                   ended = refl;
                   keys = all.lasts.keys;
                   start = all.lasts.start;

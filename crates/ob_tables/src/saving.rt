@@ -264,20 +264,24 @@ impl<R: Revisions> Engine<R> {
     /// this run: from this mark the next run opens them again. No other region is asked for: the closing before it, and the
     /// region in which a table lay before, stay in the store until `settle`.
     ///
-    /// `Failed` where the store failed; `NoMemory` before the first access, or where the region is made. After an error
-    /// the session has ended, and what was kept in the store for an earlier mark is as it was.
+    /// `Failed` where the store failed, and also, with nothing asked, where the closing's region or its first write would
+    /// have a number above 2^63 - 1; `NoMemory` before the first access, or where the region is made. After an error the
+    /// session has ended, and what was kept in the store for an earlier mark is as it was.
     pub fn save<S: BlockStore>(&mut self, store: &mut S) -> Result<Mark, CloseErr>
         requires agrees { Agrees R.state self.old (S.state store.old) }
         requires lives { has_ended self.old ≡ false }
         requires settled { replaced_of self.old ≡ None }
         requires flat { AreFlat (headings_of (public_of self.old).tables) }
-        requires few { count_of self.old (S.state store.old) + 2 < 2 ^ 63 }
+        requires few { count_of self.old (S.state store.old) < 2 ^ 63 + 2 ^ 59 }
         requires salted { (pair_of (engine_keys self.old) (public_of self.old).next_region).salt
             ≢ None }
         ensures saves { SavesEngine R.state result self.old (S.state store.old)
             self.new (S.state store.new) }
     {
         self.ended = true;
+        if self.is_used_up() {
+            return Err(CloseErr::Failed);
+        }
         let tables = self.public.tables.as_slice();
         // one to make the closing, one to write each of its blocks, and two to discard what it makes needless
         if store.room(4 + tables.len() as u64).is_err() {
