@@ -20,6 +20,7 @@ use Rattle.ob_script.proofs.Makes.{makes-create_part}
 use Rattle.ob_script.proofs.Numbers.{length-create_part}
 use Rattle.ob_seal.specs.KeySet.{KeySet, draw_seed_of, pair_of}
 use Rattle.ob_select.proofs.RoomLemmas.{free_after}
+use Rattle.ob_select.specs.Settings.{IsFree}
 use Rattle.ob_store.specs.State.{Shape, StoreState}
 use Rattle.ob_store.specs.Calls.{IsLive, KeepsLive, ChangesNothing as OnlyRoom}
 use Rattle.ob_store.specs.Runs.{Began}
@@ -59,8 +60,8 @@ use Rattle.ob_tables.proofs.RunLemmas.{next_after}
 use Rattle.ob_tables.proofs.TableLemmas.{flat_each, region_below, table_kept}
 
 -- its numbers are used up
-pub saves_used : {R : Type 0} (state : R → RevState) (e : Engine R) (s : StoreState) → is_used_up (next_closing e s) ≡ true → SavesEngine state (Err Failed) e s (record e { ended = true }) s
-saves_used state e s used = record {
+pub saves_used : {R : Type 0} (state : R → RevState) (e : Engine R) (s : StoreState) → Agrees state e s → is_used_up (next_closing e s) ≡ true → SavesEngine state (Err Failed) e s (record e { ended = true }) s
+saves_used state e s agrees used = record {
   ok = tt;
   used_up = λ full. (refl, refl);
   err = λ free. absurd (cc (used, free));
@@ -69,6 +70,9 @@ saves_used state e s used = record {
   start = refl;
   draws = refl;
   seen = refl;
+  room = agrees.room;
+  high = omega (arith);
+  opened = tt;
   later = later_refl s;
   calm = λ calm. calm;
   kept = λ q other. refl;
@@ -109,6 +113,9 @@ module _ {R : Type 0} (state : R → RevState) (e : Engine R) (s s1 : StoreState
     start = refl;
     draws = refl;
     seen = refl;
+    room = agrees.room;
+    high = omega (arith);
+    opened = tt;
     later = later_rests s s1 room;
     calm = first.calm;
     kept = λ q other. room.keeps.kept q;
@@ -162,13 +169,19 @@ module _ {R : Type 0} (state : R → RevState) (e : Engine R) (s s1 : StoreState
             few = omega (arith, count, few, same, tables);
           }
 
-      module _ (v2 : Vault R) (room2 : RoomState) (t : StoreState) where
+      module _ (v2 : Vault R) (room2 : RoomState) (room_is : room2 ≡ record e.room { high = max e.room.high 1 }) (t : StoreState) where
         abbrev last : World
         last = at state v2 t
 
         seals_all : {result : Result Closing CloseErr} → WritesClosing e.room.pack listed result fore last → (good : ℕ → List ℕ → Bool) → AcceptsClosings good → Seals good before last
         seals_all is good closings =
             seals_join good before fore last (later_rests s s1 room) (seals_rests _ s s1 room good) (is.seals good (λ p below. closings g listed p below))
+
+        free_rows : IsFree e.public room2
+        free_rows = free_after e.public e.room room2 (max e.room.high 1) agrees.room room_is
+
+        high_is : room2.high ≡ max e.room.high 1
+        high_is = ap (λ (r : RoomState). r.high) room_is
 
         -- ---- it was not written
         cause_as : (err : CloseErr) → Cause (vault_error err) before last → ClosingCause err s t × (Calm before → Calm last)
@@ -192,6 +205,9 @@ module _ {R : Type 0} (state : R → RevState) (e : Engine R) (s s1 : StoreState
               start = cut.lasts.start;
               draws = refl;
               seen = refl;
+              room = free_rows;
+              high = let same = high_is in omega (arith, same);
+              opened = tt;
               later = cut.lasts.later;
               calm = why.1;
               kept = λ q other. cut.lasts.apart.rests q (off_region q other);
@@ -348,141 +364,143 @@ module _ {R : Type 0} (state : R → RevState) (e : Engine R) (s s1 : StoreState
             replaced = e.closing;
           }
 
-          module _ (room_is : room2 ≡ record e.room { high = max e.room.high 1 }) where
-            agrees_now : Agrees state saved t
-            agrees_now = record {
-              ready = all.lasts.ready;
-              next = sym next_now;
-              settings = agrees.settings;
-              stash = agrees.stash;
-              room = let free = free_after e.public e.room room2 (max e.room.high 1) agrees.room room_is in record { idle = free.idle; rows = free.rows; pack = free.pack };
-              tables = tables_now;
-              fit = λ k x get. absurd (no_index k x get);
-              aside = λ q is of. no_stash q of;
-              seeded = agrees.seeded ∙ ap (λ (ks : KeySet). key_of (draw_seed_of ks)) (sym all.lasts.keys);
-              kept = agrees.kept;
-              saved = agrees.saved;
-            }
+          agrees_now : Agrees state saved t
+          agrees_now = record {
+            ready = all.lasts.ready;
+            next = sym next_now;
+            settings = agrees.settings;
+            stash = agrees.stash;
+            room = record { idle = free_rows.idle; rows = free_rows.rows; pack = free_rows.pack };
+            tables = tables_now;
+            fit = λ k x get. absurd (no_index k x get);
+            aside = λ q is of. no_stash q of;
+            seeded = agrees.seeded ∙ ap (λ (ks : KeySet). key_of (draw_seed_of ks)) (sym all.lasts.keys);
+            kept = agrees.kept;
+            saved = agrees.saved;
+          }
 
-            -- ---- what waits
-            waits_on : (q : ℕ) → WaitsAt state q e s → WaitsAt state q saved t
-            waits_on q waits =
-                let away : both q → ⊥ = λ hit. elim hit [
-                  | inl fresh ↦ let below = waits.below in omega (arith, below, fresh)
-                  | inr closed ↦ let beside = closing_beside q closed in let none = waits.forgotten in absurd (cc (none, beside.lives.live))
-                ] in
-                let next = all.lasts.shapes.next in
-                let below = waits.below in
+          -- ---- what waits
+          waits_on : (q : ℕ) → WaitsAt state q e s → WaitsAt state q saved t
+          waits_on q waits =
+              let away : both q → ⊥ = λ hit. elim hit [
+                | inl fresh ↦ let below = waits.below in omega (arith, below, fresh)
+                | inr closed ↦ let beside = closing_beside q closed in let none = waits.forgotten in absurd (cc (none, beside.lives.live))
+              ] in
+              let next = all.lasts.shapes.next in
+              let below = waits.below in
+              record {
+                live = record { shape = waits.live.shape; live = all.lasts.apart.kept q away ∙ waits.live.live };
+                below = omega (arith, next, below);
+                forgotten = all.lasts.apart.live q away ∙ waits.forgotten;
+              }
+
+          waits_closing : (q : ℕ) → e.closing ≡ Some q → WaitsAt state q saved t
+          waits_closing q closed =
+              let beside = closing_beside q closed in
+              let below = closing_below q closed in
+              let next = all.lasts.shapes.next in
+              let lives_last : (state v2.revs).live q ≡ Some beside.shape = went.lasts.apart.live q (λ fresh. omega (arith, below, fresh)) ∙ beside.lives.live in
+              record {
+                live = record { shape = _; live = (went.lasts.ready.tied.live q beside.shape lives_last).live };
+                below = omega (arith, next, below);
+                forgotten = gone q closed;
+              }
+
+          waits_now : (left : Option ℕ) → Waits state left e s → Waits state left saved t
+          waits_now left waits = record {
+            former = λ q is. waits_on q (waits.former q is);
+            replaced = λ q is. waits_closing q is;
+            apart = λ q is closed. let beside = closing_beside q closed in let none = (waits.former q is).forgotten in absurd (cc (none, beside.lives.live));
+          }
+
+          -- ---- what rests
+          rests : IsTrue s.tells → (tables : Tables) → Represents state e s tables → Rests e.vault.keys (next_closing e s) t.kept (by_name tables)
+          rests tells tables held =
+              let tells_fore : IsTrue s1.tells = subst IsTrue (sym first.lasts.later.tells) tells in
+              let tells_last : IsTrue t.tells = subst IsTrue (sym went.lasts.later.tells) tells in
+              let written : IsClosing v2.keys made listed t.kept = is.told tells_fore (subst (λ (x : Closing). IsCatalogue x listed) (sym made_is) is_catalogue) in
+              let away : (i : ℕ) (u : Table) → slice_get e.public.tables i ≡ Some u → one g u.region → ⊥ = λ i u at_i fresh. off i u at_i (inl fresh) in
+              record {
+                listed = listed;
+                closing_is =
+                    subst (λ (x : Closing). IsClosing e.vault.keys x listed t.kept) made_is
+                    (subst (λ (k : KeySet). IsClosing k made listed t.kept) went.lasts.keys written);
+                held = named_kept e.vault.keys e.public.pack t.kept (state e.vault.revs) before e.indexes.items e.public.tables tables flat held.held
+                    (λ i u x at_i heading represents. record {
+                      heading = heading;
+                      keeps =
+                          table_kept_as e.vault.keys e.public.pack (state e.vault.revs) u x.held.slots last t refl agrees.settings.pack_least went.lasts.ready
+                          (table_kept (one g) e.public.pack u before last went.lasts (away i u at_i) (agrees.tables.each i u at_i)) (flat_each e.public.tables flat i u at_i)
+                          (represents_lasts e.public.pack (flat_of u) (one g) before last went.lasts (away i u at_i) x.held.slots represents)
+                          went.lasts.keys (went.lasts.apart.number u.region 0 (away i u at_i))
+                          (λ shape live. keeps u.region shape tells_last live);
+                    });
+                in_place = λ stash. named_in e.public.stash stash tables
+                    (subst (λ (hs : List Heading). AreFlat hs) (sym (held_headings e.public.pack e.indexes.items e.public.tables tables before held.held)) flat) held.in_place;
+              }
+
+          holds : (tables : Tables) → Represents state e s tables → Represents state saved t tables
+          holds tables held = record {
+            held = held_kept both e.public.pack e.indexes.items e.public.tables tables before after all.lasts off (λ k x get. absurd (no_index k x get)) held.held;
+            in_place = held.in_place;
+          }
+
+          spare_left : 2 ≤ t.spare
+          spare_left =
+              let used = went.spare in
+              let long : length script ≡ 1 + (length e.public.tables + 1) = length-create_part (next_closing e s).region (next_closing e s).blocks 1024 in
+              omega (arith, used, long, spare)
+
+          marked : (salt : List ℕ) → AreSaltBytes salt → IsMark (saved_mark (next_closing e s) salt)
+          marked salt bytes =
+              let parts = neither (nat_le (2 ^ 63) (next_closing e s).region) (nat_le (2 ^ 63) (next_closing e s).number) free in
+              let next = agrees.ready.tied.next in
+              let same = agrees.next in
+              let tables = agrees.tables.few in
+              (
                 record {
-                  live = record { shape = waits.live.shape; live = all.lasts.apart.kept q away ∙ waits.live.live };
-                  below = omega (arith, next, below);
-                  forgotten = all.lasts.apart.live q away ∙ waits.forgotten;
-                }
+                  region_least = omega (arith, next, same);
+                  region_most = leb-false (2 ^ 63) (next_closing e s).region parts.0;
+                  blocks_least = omega (arith);
+                  blocks_most = omega (arith, tables);
+                  number_least = omega (arith);
+                  number_most = leb-false (2 ^ 63) (next_closing e s).number parts.1;
+                  pack_least = agrees.settings.pack_least;
+                  pack_most = agrees.settings.pack_most;
+                },
+                bytes,
+              )
 
-            waits_closing : (q : ℕ) → e.closing ≡ Some q → WaitsAt state q saved t
-            waits_closing q closed =
-                let beside = closing_beside q closed in
-                let below = closing_below q closed in
-                let next = all.lasts.shapes.next in
-                let lives_last : (state v2.revs).live q ≡ Some beside.shape = went.lasts.apart.live q (λ fresh. omega (arith, below, fresh)) ∙ beside.lives.live in
-                record {
-                  live = record { shape = _; live = (went.lasts.ready.tied.live q beside.shape lives_last).live };
-                  below = omega (arith, next, below);
-                  forgotten = gone q closed;
-                }
-
-            waits_now : (left : Option ℕ) → Waits state left e s → Waits state left saved t
-            waits_now left waits = record {
-              former = λ q is. waits_on q (waits.former q is);
-              replaced = λ q is. waits_closing q is;
-              apart = λ q is closed. let beside = closing_beside q closed in let none = (waits.former q is).forgotten in absurd (cc (none, beside.lives.live));
-            }
-
-            -- ---- what rests
-            rests : IsTrue s.tells → (tables : Tables) → Represents state e s tables → Rests e.vault.keys (next_closing e s) t.kept (by_name tables)
-            rests tells tables held =
-                let tells_fore : IsTrue s1.tells = subst IsTrue (sym first.lasts.later.tells) tells in
-                let tells_last : IsTrue t.tells = subst IsTrue (sym went.lasts.later.tells) tells in
-                let written : IsClosing v2.keys made listed t.kept = is.told tells_fore (subst (λ (x : Closing). IsCatalogue x listed) (sym made_is) is_catalogue) in
-                let away : (i : ℕ) (u : Table) → slice_get e.public.tables i ≡ Some u → one g u.region → ⊥ = λ i u at_i fresh. off i u at_i (inl fresh) in
-                record {
-                  listed = listed;
-                  closing_is =
-                      subst (λ (x : Closing). IsClosing e.vault.keys x listed t.kept) made_is
-                      (subst (λ (k : KeySet). IsClosing k made listed t.kept) went.lasts.keys written);
-                  held = named_kept e.vault.keys e.public.pack t.kept (state e.vault.revs) before e.indexes.items e.public.tables tables flat held.held
-                      (λ i u x at_i heading represents. record {
-                        heading = heading;
-                        keeps =
-                            table_kept_as e.vault.keys e.public.pack (state e.vault.revs) u x.held.slots last t refl agrees.settings.pack_least went.lasts.ready
-                            (table_kept (one g) e.public.pack u before last went.lasts (away i u at_i) (agrees.tables.each i u at_i)) (flat_each e.public.tables flat i u at_i)
-                            (represents_lasts e.public.pack (flat_of u) (one g) before last went.lasts (away i u at_i) x.held.slots represents)
-                            went.lasts.keys (went.lasts.apart.number u.region 0 (away i u at_i))
-                            (λ shape live. keeps u.region shape tells_last live);
-                      });
-                  in_place = λ stash. named_in e.public.stash stash tables
-                      (subst (λ (hs : List Heading). AreFlat hs) (sym (held_headings e.public.pack e.indexes.items e.public.tables tables before held.held)) flat) held.in_place;
-                }
-
-            holds : (tables : Tables) → Represents state e s tables → Represents state saved t tables
-            holds tables held = record {
-              held = held_kept both e.public.pack e.indexes.items e.public.tables tables before after all.lasts off (λ k x get. absurd (no_index k x get)) held.held;
-              in_place = held.in_place;
-            }
-
-            spare_left : 2 ≤ t.spare
-            spare_left =
-                let used = went.spare in
-                let long : length script ≡ 1 + (length e.public.tables + 1) = length-create_part (next_closing e s).region (next_closing e s).blocks 1024 in
-                omega (arith, used, long, spare)
-
-            marked : (salt : List ℕ) → AreSaltBytes salt → IsMark (saved_mark (next_closing e s) salt)
-            marked salt bytes =
-                let parts = neither (nat_le (2 ^ 63) (next_closing e s).region) (nat_le (2 ^ 63) (next_closing e s).number) free in
-                let next = agrees.ready.tied.next in
-                let same = agrees.next in
-                let tables = agrees.tables.few in
-                (
-                  record {
-                    region_least = omega (arith, next, same);
-                    region_most = leb-false (2 ^ 63) (next_closing e s).region parts.0;
-                    blocks_least = omega (arith);
-                    blocks_most = omega (arith, tables);
-                    number_least = omega (arith);
-                    number_most = leb-false (2 ^ 63) (next_closing e s).number parts.1;
-                    pack_least = agrees.settings.pack_least;
-                    pack_most = agrees.settings.pack_most;
-                  },
-                  bytes,
-                )
-
-            pub saves_all : (mark : Mark) (salt : List ℕ) → AreSaltBytes salt → (pair_of v2.keys made.region).salt ≡ Some salt → mark ≡ saved_mark made salt → SavesEngine state (Ok mark) e s saved t
-            saves_all mark salt bytes of mark_is =
-                let named : mark ≡ saved_mark (next_closing e s) salt = mark_is ∙ ap (λ (c : Closing). saved_mark c salt) made_is in
-                record {
-                  ok = record {
-                    salt = salt;
-                    of = (λ i. (pair_of (sym went.lasts.keys i) (ap (λ (c : Closing). c.region) (sym made_is) i)).salt) ∙ of;
-                    is = named;
-                    within = subst IsMark (sym named) (marked salt bytes);
-                    did = went.did;
-                    agrees = agrees_now;
-                    public = λ i. record e.public { next_region = next_last i; closing = Some (made_is i).region };
-                    closing = ap (λ (c : Closing). Some c.region) made_is;
-                    replaced = refl;
-                    waits = waits_now;
-                    spare = spare_left;
-                  };
-                  used_up = λ full. absurd (cc (full, free));
-                  err = λ _. tt;
-                  ended = refl;
-                  keys = all.lasts.keys;
-                  start = all.lasts.start;
-                  draws = refl;
-                  seen = refl;
-                  later = all.lasts.later;
-                  calm = all.calm;
-                  kept = λ q other. went.lasts.apart.rests q (off_region q other);
-                  told = λ tells tables held. (rests tells tables held, holds tables held);
-                  sealed = λ good rows closings. seals_join good before last after went.lasts.later (seals_all is good closings) (leaves_sealed good);
-                }
+          pub saves_all : (mark : Mark) (salt : List ℕ) → AreSaltBytes salt → (pair_of v2.keys made.region).salt ≡ Some salt → mark ≡ saved_mark made salt → SavesEngine state (Ok mark) e s saved t
+          saves_all mark salt bytes of mark_is =
+              let named : mark ≡ saved_mark (next_closing e s) salt = mark_is ∙ ap (λ (c : Closing). saved_mark c salt) made_is in
+              record {
+                ok = record {
+                  salt = salt;
+                  of = (λ i. (pair_of (sym went.lasts.keys i) (ap (λ (c : Closing). c.region) (sym made_is) i)).salt) ∙ of;
+                  is = named;
+                  within = subst IsMark (sym named) (marked salt bytes);
+                  did = went.did;
+                  agrees = agrees_now;
+                  public = λ i. record e.public { next_region = next_last i; closing = Some (made_is i).region };
+                  closing = ap (λ (c : Closing). Some c.region) made_is;
+                  replaced = refl;
+                  waits = waits_now;
+                  spare = spare_left;
+                };
+                used_up = λ full. absurd (cc (full, free));
+                err = λ _. tt;
+                ended = refl;
+                keys = all.lasts.keys;
+                start = all.lasts.start;
+                draws = refl;
+                seen = refl;
+                room = free_rows;
+                high = let same = high_is in omega (arith, same);
+                opened = record { kept = let same = high_is in omega (arith, same); some = λ any. let same = high_is in omega (arith, same) };
+                later = all.lasts.later;
+                calm = all.calm;
+                kept = λ q other. went.lasts.apart.rests q (off_region q other);
+                told = λ tells tables held. (rests tells tables held, holds tables held);
+                sealed = λ good rows closings. seals_join good before last after went.lasts.later (seals_all is good closings) (leaves_sealed good);
+              }

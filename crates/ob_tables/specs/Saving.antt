@@ -1,5 +1,5 @@
 -- What saving an engine's tables does, what is discarded then, and how an engine goes on from what was saved.
-use Rattle.std.specs.Prelude.{◌≡◌, ◌≢◌, ◌⊎◌, ◌<◌, ◌≤◌, ◌+◌, ◌++◌, ℕ, Bool, true, false, IsTrue, List, [], Option, None, Some, Result, Err, IfOk, IfErr, MatchResult}
+use Rattle.std.specs.Prelude.{◌≡◌, ◌≢◌, ◌⊎◌, ◌<◌, ◌≤◌, ◌+◌, ◌++◌, ℕ, Bool, true, false, IsTrue, List, [], Option, None, Some, Result, Err, OnOk, IfOk, IfErr, MatchResult}
 use Rattle.ob_base.specs.Accesses.{drop_script}
 use Rattle.ob_base.specs.declared.access.Access.{Access}
 use Rattle.ob_base.specs.declared.config.Config.{Config}
@@ -21,14 +21,16 @@ use Rattle.ob_reopen.specs.declared.fault.OpenErr.{OpenErr}
 use Rattle.ob_reopen.specs.declared.fault.OpenErr.TheVariants.{Failed, NoMemory}
 use Rattle.ob_script.specs.Saved.{saved_public}
 use Rattle.ob_seal.specs.KeySet.{KeySet, pair_of}
+use Rattle.ob_select.specs.Opening.{Opens}
 use Rattle.ob_select.specs.Selecting.{AcceptsRows}
+use Rattle.ob_select.specs.Settings.{IsFree}
 use Rattle.ob_store.specs.Calls.{IsLive}
 use Rattle.ob_store.specs.Runs.{Did, Later}
 use Rattle.ob_store.specs.State.{StoreState}
 use Rattle.ob_vault.specs.Calls.{Seals}
 use Rattle.ob_vault.specs.State.{RevState}
 use Rattle.ob_vault.specs.Tied.{AllSealed, Calm, Scope, next_fault}
-use Rattle.ob_tables.specs.Agreeing.{Agrees, draws_of, engine_keys, engine_start, has_ended, opened_from, public_of, replaced_of, seen_of, world_of}
+use Rattle.ob_tables.specs.Agreeing.{Agrees, draws_of, engine_keys, engine_start, has_ended, high_of, opened_from, public_of, replaced_of, seen_of, world_of}
 use Rattle.ob_tables.specs.Closing.{next_closing}
 use Rattle.ob_tables.specs.Reopening.{IsOpened}
 use Rattle.ob_tables.specs.Running.{is_stop}
@@ -84,6 +86,10 @@ pub record SavesEngine {R : Type 0} (state : R → RevState) (result : Result Ma
   pub start : engine_start saved ≡ engine_start e
   pub draws : draws_of saved ≡ draws_of e
   pub seen : seen_of saved ≡ seen_of e
+  -- all rows of the room are free again, and one at least was open where the closing was written
+  pub room : IsFree (public_of e) saved.room
+  pub high : high_of e ≤ high_of saved
+  pub opened : OnOk result (Opens (save_script e s) (high_of e) (high_of saved))
   pub later : Later s t
   pub calm : Calm (world_of state e s) → Calm (world_of state saved t)
   -- whatever comes of it, what is kept of the regions that there were stays: what a mark names that is held goes on to
