@@ -227,3 +227,14 @@ named_pack InUse pack closed closing is = absurd is
 named_pack Begun pack closed closing is = absurd is
 named_pack (Closed region blocks number of) pack closed closing is = ap (λ (c : Closing). c.pack) is.2 ∙ is.0
 named_pack (Saved region blocks number of salt) pack closed closing is = ap (λ (c : Closing). c.pack) is.3 ∙ is.0
+
+-- by the closing that was found for a mark, it is so by the one that the mark names
+pub named_saved : {R : Type 0} (state : R → RevState) (config : Config) (secret salt : List ℕ) (mark : Mark) (found : Closing) (by : Option (List ℕ)) (result : Result (Engine R) OpenErr) (s t : StoreState)
+    → ((pack : ℕ) (closed : Option (List ℕ)) (closing : Closing) → NamesClosing mark pack closed closing → (found ≡ closing) × (by ≡ closed))
+    → (IsMarked found → found.pack ≡ config.pack → OpensSaved state config secret salt by found result s t)
+    → (closed : Option (List ℕ)) (closing : Closing) → NamesClosing mark config.pack closed closing → OpensSaved state config secret salt closed closing result s t
+named_saved state config secret salt mark found by result s t same opens closed closing is =
+    let both = same config.pack closed closing is in
+    subst (λ (x : Closing). OpensSaved state config secret salt closed x result s t) both.0
+    (subst (λ (o : Option (List ℕ)). OpensSaved state config secret salt o found result s t) both.1
+    (opens (subst (λ (x : Closing). IsMarked x) (sym both.0) (named_marked mark config.pack closed closing is)) (ap (λ (x : Closing). x.pack) both.0 ∙ named_pack mark config.pack closed closing is)))

@@ -183,6 +183,13 @@ module _ {R : Type 0} (state : R → RevState) (e : Engine R) (s s1 : StoreState
         high_is : room2.high ≡ max e.room.high 1
         high_is = ap (λ (r : RoomState). r.high) room_is
 
+        -- the salt of the closing's region is the run's
+        pub written_salt : (made : Closing) → WritesClosing e.room.pack listed (Ok made) fore last → (pair_of v2.keys made.region).salt ≡ (pair_of e.vault.keys e.public.next_region).salt
+        written_salt made is =
+            let keys : v2.keys ≡ e.vault.keys = is.ok.lasts.keys in
+            let region : made.region ≡ e.public.next_region = ap (λ (c : Closing). c.region) is.value ∙ sym agrees.next in
+            λ i. (pair_of (keys i) (region i)).salt
+
         -- ---- it was not written
         cause_as : (err : CloseErr) → Cause (vault_error err) before last → ClosingCause err s t × (Calm before → Calm last)
         cause_as Failed cause = (cause.0, cause.1)

@@ -11,6 +11,7 @@ ghost use Rattle.ob_mean.specs.Flats.{AreFlat};
 ghost use Rattle.ob_script.specs.Saved.{left_by};
 ghost use Rattle.ob_sql.specs.Skeleton.{skeleton};
 ghost use Rattle.ob_reopen.specs.Closings.{saved_mark};
+ghost use Rattle.ob_reopen.specs.Keepers.{AreSaltBytes};
 ghost use Rattle.ob_reopen.specs.Saved.{reopening_keys};
 ghost use Rattle.ob_reopen.specs.declared.closing.Closing.{Closing as Named};
 ghost use Rattle.ob_seal.specs.KeySet.{pair_of};
@@ -38,7 +39,8 @@ use std::alloc::Global;
 
 // The mark that names a closing of a run with this salt.
 fn mark_of(closing: Closing, salt: [u8; 16]) -> Mark
-    ensures { result ≡ saved_mark closing salt }
+    ensures named { result ≡ saved_mark closing salt }
+    ensures bytes { AreSaltBytes salt }
 {
     Mark::Saved {
         region: closing.region,
@@ -290,13 +292,17 @@ impl<R: Revisions> Engine<R> {
         let Ok(listed) = list_tables(self.alloc, &self.vault, tables) else {
             return Err(CloseErr::NoMemory);
         };
-        let written = write_closing(store, &mut self.vault, &mut self.room, listed.as_slice())?;
-        let Some(salt) = self.vault.salt_of(written.region) else {
-            unreachable!()
-        };
-        self.list_in(written.region);
-        self.ended = false;
-        Ok(mark_of(written, salt))
+        match write_closing(store, &mut self.vault, &mut self.room, listed.as_slice()) {
+            Ok(written) => {
+                let Some(salt) = self.vault.salt_of(written.region) else {
+                    unreachable!()
+                };
+                self.list_in(written.region);
+                self.ended = false;
+                Ok(mark_of(written, salt))
+            }
+            Err(e) => Err(e),
+        }
     }
 
     /// Discards what the mark needs no more that was set: the region in which a table lay before it was changed, if there
