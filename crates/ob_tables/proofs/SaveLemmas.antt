@@ -59,6 +59,10 @@ use Rattle.ob_tables.proofs.ListedLemmas.{may_list}
 use Rattle.ob_tables.proofs.RunLemmas.{next_after}
 use Rattle.ob_tables.proofs.TableLemmas.{flat_each, region_below, table_kept}
 
+none_made : makes [] ≡ 0
+unfolding makes
+none_made = refl
+
 -- its numbers are used up
 pub saves_used : {R : Type 0} (state : R → RevState) (e : Engine R) (s : StoreState) → Agrees state e s → is_used_up (next_closing e s) ≡ true → SavesEngine state (Err Failed) e s (record e { ended = true }) s
 saves_used state e s agrees used = record {
@@ -285,10 +289,6 @@ module _ {R : Type 0} (state : R → RevState) (e : Engine R) (s s1 : StoreState
           next_now =
               let next = next_after last after [] went.lasts.ready leaves.lasts.ready leaves.lasts.start leaves.did.asked in
               omega (arith, next, none_made)
-            where
-              none_made : makes [] ≡ 0
-              unfolding makes
-              none_made = refl
 
           -- ---- regions
           -- no table is an index
@@ -330,10 +330,10 @@ module _ {R : Type 0} (state : R → RevState) (e : Engine R) (s s1 : StoreState
             | inl here ↦ inr (inl (ap (λ (n : ℕ). Some n) (region_is ∙ sym here)))
             | inr away ↦ elim (agrees.tables.only q shape
                 (sym (all.lasts.apart.live q (λ hit. elim hit [ inl fresh ↦ away fresh | inr closed ↦ absurd (cc (gone q closed, live)) ])) ∙ live)) [
-              | inl of ↦ inl of
-              | inr (inl closed) ↦ absurd (cc (gone q closed, live))
-              | inr (inr of) ↦ absurd (no_stash q of)
-            ]
+                  | inl of ↦ inl of
+                  | inr (inl closed) ↦ absurd (cc (gone q closed, live))
+                  | inr (inr of) ↦ absurd (no_stash q of)
+                ]
           ]
 
           beside_now : (q : ℕ) → others_now q → IsBeside e.public.tables q after
@@ -463,8 +463,7 @@ module _ {R : Type 0} (state : R → RevState) (e : Engine R) (s s1 : StoreState
               let parts = neither (nat_le (2 ^ 63) (next_closing e s).region) (nat_le (2 ^ 63) (next_closing e s).number) free in
               let next = agrees.ready.tied.next in
               let same = agrees.next in
-              let tables = agrees.tables.few in
-              (
+              let tables = agrees.tables.few in (
                 record {
                   region_least = omega (arith, next, same);
                   region_most = leb-false (2 ^ 63) (next_closing e s).region parts.0;

@@ -36,8 +36,7 @@ module _ {R : Type 0} (state : R → RevState) (e : Engine R) (s : StoreState) (
 
     pub replaced_waits : (q : ℕ) → e.replaced ≡ Some q → IsLive s1 q × (q < e.vault.next) × ((state e.vault.revs).live q ≡ None)
     replaced_waits q is =
-        let at = waits.replaced q is in
-        (
+        let at = waits.replaced q is in (
           record { shape = at.live.shape; live = first.went.lasts.apart.kept q (λ hit. waits.apart q hit is) ∙ at.live.live },
           at.below,
           at.forgotten,
