@@ -454,9 +454,10 @@ module _ {R : Type 0} (state : R → RevState) (e : Engine R) (s s1 : StoreState
 
           spare_left : 2 ≤ t.spare
           spare_left =
-              let used = went.spare in
-              let long : length script ≡ 1 + (length e.public.tables + 1) = length-create_part (next_closing e s).region (next_closing e s).blocks 1024 in
-              omega (arith, used, long, spare)
+              let used = is.ok.spare in
+              let long : length (write_script (written_closing e.room.pack listed fore)) ≡ 1 + (length listed + 1) = length-create_part e.vault.next (length listed + 1) 1024 in
+              let same = length-listed in
+              omega (arith, used, long, same, spare)
 
           marked : (salt : List ℕ) → AreSaltBytes salt → IsMark (saved_mark (next_closing e s) salt)
           marked salt bytes =

@@ -309,9 +309,9 @@ impl<R: Revisions> Engine<R> {
     /// is one, and the closing before the last, whatever the store answers to that.
     pub fn settle<S: BlockStore>(&mut self, store: &mut S, left: Option<u64>)
         requires agrees { Agrees R.state self.old (S.state store.old) }
-        requires waits { Waits R.state left.now self.old (S.state store.old) }
+        requires waits { Waits R.state left self.old (S.state store.old) }
         requires spare { 2 ≤ (S.state store.old).spare }
-        ensures settles { SettlesEngine R.state left.now self.old (S.state store.old)
+        ensures settles { SettlesEngine R.state left self.old (S.state store.old)
             self.new (S.state store.new) }
     {
         discard_left(store, &self.vault, left);

@@ -1,4 +1,4 @@
-use Rattle.std.proofs.Common.{◌≡◌, ℕ, ◌≤◌, ◌+◌, List, Some, None, Ok, Err, refl, sym, ◌∙◌, ap, subst, length}
+use Rattle.std.proofs.Common.{◌≡◌, ℕ, ◌≤◌, ◌+◌, false, List, Some, None, Ok, Err, refl, sym, ◌∙◌, ap, subst, length}
 use Rattle.std.specs.List.{All}
 use Rattle.ob_base.specs.declared.schema.Table.{Table}
 use Rattle.ob_seal.specs.KeySet.{KeySet, pair_of}
