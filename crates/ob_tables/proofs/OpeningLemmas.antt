@@ -531,16 +531,16 @@ module _ {R : Type 0} (state : R → RevState) (config : Config) (keys : KeySet)
             (subst (λ (n : ℕ). AreTables (map (λ (x : Listed). x.table) listed) (others_of (Some closing.region) []) [] n (world_of state e t)) pack_is
             (tables_last state config keys closing marked s s1 fresh honest room v0 ready started keyed none v1 s2 listed reads e.vault t value reopens))))
 
-        keys_are : e.vault.keys ≡ keys
+        pub keys_are : e.vault.keys ≡ keys
         keys_are = keys_last state config keys closing marked s s1 fresh honest room v0 ready started keyed none v1 s2 listed reads e.vault t value reopens
 
-        drawn : AreDraws e (first_draws keys)
+        pub drawn : AreDraws e (first_draws keys)
         drawn = record {
           draw = λ n. ap (λ (k : KeySet). draw_of k n) (sym keys_are);
           next = let first = ap (λ (p : DrawPlace). p.next) draws_are in omega (arith, first);
         }
 
-        agrees : Agrees state e t
+        pub agrees : Agrees state e t
         agrees = record {
           ready = reopens.opens.ok.stays.ready;
           next = ap (λ (p : Public). p.next_region) public_is
@@ -570,13 +570,13 @@ module _ {R : Type 0} (state : R → RevState) (config : Config) (keys : KeySet)
         }
 
         -- and no region above the closing's has come
-        none_above : (q : ℕ) → closing.region < q → t.live q ≡ None
+        pub none_above : (q : ℕ) → closing.region < q → t.live q ≡ None
         none_above q above =
             let early : (i : ℕ) (x : Listed) → slice_get listed i ≡ Some x → x.table.region < closing.region = λ i x is. omega (arith, (table_is closing listed reads.catalogue i x is).region_most) in
             let off : IsOf listed q → ⊥ = λ of. omega (arith, early of.place of.table of.is, of.region, above) in
             reopens.opens.ok.stays.apart.kept q off ∙ reads.opens.ok.stays.apart.kept q (λ same. omega (arith, same, above)) ∙ room.keeps.live q ∙ empty q
 
-        did : Did (opening_script closing listed) s t
+        pub did : Did (opening_script closing listed) s t
         did = did_open state config keys closing marked s s1 fresh honest room v0 ready started keyed none v1 s2 listed reads e.vault t value reopens
 
         abbrev pub opened_as : IsOpened state config keys closing e s t
