@@ -9,7 +9,7 @@ use Rattle.ob_base.specs.Events.{Event}
 use Rattle.ob_room.specs.RoomState.{RoomState}
 use Rattle.ob_store.specs.State.{StoreState}
 use Rattle.ob_store.proofs.Steps.{began_take}
-use Rattle.ob_script.specs.Saved.{run_script}
+use Rattle.ob_script.specs.Saved.{run_next, run_script}
 use Rattle.ob_script.specs.Tables.{tables_then}
 use Rattle.ob_vault.specs.State.{RevState, World}
 use Rattle.ob_vault.specs.Tied.{Ready}
@@ -88,7 +88,7 @@ module _ {R : Type 0} (state : R → RevState) (old : Engine R) (s : StoreState)
   rows_on : (seen : Seen) (x : List Access) (ended : Bool) → is_access old.public (rows_skeleton select) ≡ false → ended ≡ false → Ready (at state v t) → start_of v ≡ start_of old.vault
       → v.keys ≡ old.vault.keys → t.asked ≡ s.asked ++ x
       → run_script old.public (rows_skeleton select) seen ≡ x → AreTables old.public.tables (others_of old.closing old.indexes.items) old.indexes.items old.public.pack (at state v t)
-      → GoesOn state (rows_skeleton select) old (rows_after old v room seen ended) t
+      → GoesOn state (rows_skeleton select) (run_next old.public (rows_skeleton select) seen) old (rows_after old v room seen ended) t
   rows_on seen x ended unkeyed lives ready start keys asked is are =
       left_on state (rows_skeleton select) old s v room t agrees rows_free old.indexes old.draws old.public.tables seen x ended lives ready start keys asked is (same_tables old.public select seen.end) are
       (may_have state old s agrees) refl
@@ -122,8 +122,8 @@ module _ {R : Type 0} (state : R → RevState) (old : Engine R) (s : StoreState)
         indexed = λ stops. absurd (cc stops);
       }
 
-  cut_on : (e : OpErr) (seen : Seen) → GoesOn state (rows_skeleton select) old (rows_after old v room seen false) t
-      → Continues state (rows_skeleton select) (answer_of e) old (rows_after old v room seen (is_stop (answer_of e))) t
+  cut_on : (e : OpErr) (seen : Seen) → GoesOn state (rows_skeleton select) (run_next old.public (rows_skeleton select) seen) old (rows_after old v room seen false) t
+      → Continues state (rows_skeleton select) (run_next old.public (rows_skeleton select) seen) (answer_of e) old (rows_after old v room seen (is_stop (answer_of e))) t
   cut_on OpErrs.Failed seen on = on
   cut_on (OpErrs.Tampered q x) seen on = refl
   cut_on OpErrs.Sink seen on = refl

@@ -1,5 +1,5 @@
 -- The first changed block that a statement reads is one that its meaning reads.
-use Rattle.std.proofs.Common.{◌≡◌, ℕ, false, if◌then◌else◌, Option, List, [], ◌++◌, drop, None, Some, Ok, Err, Result, refl, sym, ◌∙◌, ap, append_assoc}
+use Rattle.std.proofs.Common.{◌≡◌, ℕ, false, Option, List, [], ◌++◌, drop, None, Some, Ok, Err, Result, refl, sym, ◌∙◌, ap, append_assoc}
 use Rattle.std.proofs.lemmas.List.{append-nil, take-append-drop}
 use Rattle.ob_base.specs.declared.access.Access.{Access}
 use Rattle.ob_base.specs.declared.config.Public.{Public}
@@ -9,8 +9,8 @@ use Rattle.ob_base.specs.declared.seen.Seen.{Seen}
 use Rattle.ob_base.specs.declared.seen.End.{End}
 use Rattle.ob_base.specs.declared.seen.End.TheVariants.{Static, Whole, AfterCount, Cut}
 use Rattle.ob_script.specs.Parts.{insert_part, rewrite_part}
-use Rattle.ob_script.specs.Saved.{change_script, is_saved, run_script, whole_run}
-use Rattle.ob_script.specs.Script.{mutation_script, shape_script, until_end, whole_script, with_table}
+use Rattle.ob_script.specs.Saved.{behind_run, run_script, whole_run}
+use Rattle.ob_script.specs.Script.{mutation_script, shape_script, until_end, with_table}
 use Rattle.ob_store.specs.State.{Lie, StoreState}
 use Rattle.ob_vault.specs.State.{RevState, World}
 use Rattle.ob_vault.specs.Tied.{ReadsIn}
@@ -42,18 +42,14 @@ until_part Whole all = ([], append-nil all)
 until_part AfterCount all = ([], append-nil all)
 until_part (Cut n) all = (drop n all, take-append-drop n all)
 
-plain_script : (p : Public) (stmt : Stmt) (a b : Seen) → selects_rows stmt ≡ false → a.leaf ≡ b.leaf → whole_script p (skeleton stmt) a ≡ whole_script p (skeleton stmt) b
-plain_script p (Create table columns capacity shape) a b plain leaf = refl
-plain_script p (Insert table columns values) a b plain leaf = ap (λ (l : Option ℕ). with_table table p (shape_script p l (mutation_script p insert_part))) leaf
-plain_script p (Update table sets cond) a b plain leaf = ap (λ (l : Option ℕ). with_table table p (shape_script p l (mutation_script p rewrite_part))) leaf
-plain_script p (Delete table cond) a b plain leaf = ap (λ (l : Option ℕ). with_table table p (shape_script p l (mutation_script p rewrite_part))) leaf
-plain_script p (DropTable table) a b plain leaf = refl
-plain_script p (RowsStmt s) a b plain leaf = absurd (cc plain)
-plain_script p (TotalsStmt s) a b plain leaf = refl
-
--- so do those that the engine asks
 plain_run : (p : Public) (stmt : Stmt) (a b : Seen) → selects_rows stmt ≡ false → a.leaf ≡ b.leaf → whole_run p (skeleton stmt) a ≡ whole_run p (skeleton stmt) b
-plain_run p stmt a b plain leaf = ap (λ (l : List Access). if is_saved p (skeleton stmt) then change_script p (skeleton stmt) else l) (plain_script p stmt a b plain leaf)
+plain_run p (Create table columns capacity shape) a b plain leaf = refl
+plain_run p (Insert table columns values) a b plain leaf = ap (λ (l : Option ℕ). with_table table p (shape_script p l (mutation_script p insert_part (behind_run p)))) leaf
+plain_run p (Update table sets cond) a b plain leaf = ap (λ (l : Option ℕ). with_table table p (shape_script p l (mutation_script p rewrite_part (behind_run p)))) leaf
+plain_run p (Delete table cond) a b plain leaf = ap (λ (l : Option ℕ). with_table table p (shape_script p l (mutation_script p rewrite_part (behind_run p)))) leaf
+plain_run p (DropTable table) a b plain leaf = refl
+plain_run p (RowsStmt s) a b plain leaf = absurd (cc plain)
+plain_run p (TotalsStmt s) a b plain leaf = refl
 
 pub begun_plain : {R : Type 0} (state : R → RevState) (stmt : Stmt) (result : Result Outcome RunStop) (old : Engine R) (s : StoreState) (new : Engine R) (t : StoreState) (tables : Tables) (d : Draws)
     → selects_rows stmt ≡ false → new.seen.leaf ≡ None → RanStatement state (skeleton stmt) result old s new t → seen d old.public (count_of old s) tables stmt ≡ seen_to Whole → s.lie ≡ None

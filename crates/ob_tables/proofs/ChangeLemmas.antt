@@ -7,10 +7,9 @@ use Rattle.ob_base.specs.declared.config.Public.{Public}
 use Rattle.ob_base.specs.declared.refusal.Refusal.{Refusal}
 use Rattle.ob_base.specs.declared.schema.Heading.{Heading}
 use Rattle.ob_base.specs.declared.access.Access.{Access}
-use Rattle.ob_base.specs.Accesses.{discard_at, make_at}
 use Rattle.ob_base.specs.Schemas.{Columns}
 use Rattle.ob_base.specs.Stored.{Stored, headings, headings_of, heading_at, stored_at, changed_at}
-use Rattle.ob_script.specs.Parts.{copy_part}
+use Rattle.ob_script.specs.Parts.{copy_part, rewrite_part}
 use Rattle.ob_row.specs.declared.cell.Cell.{Cell}
 use Rattle.ob_row.specs.Condition.{Condition}
 use Rattle.ob_row.specs.Rows.{Row}
@@ -22,9 +21,6 @@ use Rattle.ob_sql.specs.Search.{Search}
 use Rattle.ob_names.specs.Names.{columns_at, place_of, unqualified}
 use Rattle.ob_mean.specs.Conditions.{literal_cell, where_at}
 use Rattle.ob_mutate.specs.Changing.{FitsSets}
-use Rattle.ob_mutate.specs.Mutating.{rewrite_parts}
-use Rattle.ob_mutate.specs.declared.settling.Former.{Former}
-use Rattle.ob_mutate.specs.declared.settling.Former.TheVariants.{Discard, Keep}
 use Rattle.ob_verdict.specs.Accepted.{SetFits}
 use Rattle.ob_verdict.proofs.AcceptedProof.{sets_fit}
 use Rattle.ob_mean.specs.Step.{accepted_answer, answered, followed, rows_at, set_cells}
@@ -34,9 +30,8 @@ use Rattle.ob_mean.specs.Verdict.{Held, in_slots, Tables, database, is_late, ref
 use Rattle.ob_mean.specs.Refusals.{limits_of}
 use Rattle.ob_verdict.specs.declared.outcome.Outcome.TheVariants.{Changed, Deleted}
 use Rattle.ob_verdict.specs.Outcomes.{refusal_now, outcome_of}
-use Rattle.ob_tables.specs.Engines.{former_of}
 use Rattle.ob_tables.specs.Schemas.{IsSet}
-use Rattle.ob_tables.proofs.MutateLemmas.{Alters, mutation_run}
+use Rattle.ob_tables.proofs.MutateLemmas.{Alters}
 use Rattle.ob_tables.proofs.PlainLemmas.{settle_is}
 
 -- the columns and the rows of a table in place
@@ -56,23 +51,14 @@ count_found name cond tables x found =
     ap (λ (cs : Columns). count_by (is_true (where_at cond cs)) (rows_at name (database tables))) (ap (columns_at name) (headings-database tables) ∙ columns_found name tables x found)
     ∙ ap (count_by (is_true (where_at cond x.heading.schema))) (rows_found name tables x found)
 
--- what follows the fresh region
-rewrite_more : Former → ℕ → ℕ → ℕ → List Access
-rewrite_more Discard t g blocks = copy_part t g blocks ++ discard_at t
-rewrite_more Keep t g blocks = copy_part t g blocks
-
-rewrite_makes : (former : Former) (t g blocks size : ℕ) → rewrite_parts former t g blocks size ≡ make_at g blocks size ++ rewrite_more former t g blocks
-rewrite_makes Discard t g blocks size = refl
-rewrite_makes Keep t g blocks size = refl
-
 pub update_alters : (p : Public) (m : ℕ) (name : List ℕ) (sets : List Set) (cond : Option Search) (heading : Heading) (pred : Condition) (cells : List (ℕ × Cell))
     → pred ≡ where_at cond heading.schema → cells ≡ set_cells sets heading.schema
-    → Alters p m (Update name sets cond) name heading rewrite_parts Changed (λ slots. count_by (is_true pred) (rows slots)) (map (option_map (updated pred cells)))
+    → Alters p m (Update name sets cond) name heading rewrite_part Changed (λ slots. count_by (is_true pred) (rows slots)) (map (option_map (updated pred cells)))
 update_alters p m name sets cond heading pred cells pred_is cells_is = record {
-  script = λ end t found flat. mutation_run p name rewrite_parts t found flat p.save;
+  script = λ end. refl;
   leaves = refl;
-  more = λ t g blocks size. rewrite_more (former_of p) t g blocks;
-  makes = rewrite_makes (former_of p);
+  more = λ t g blocks size behind. copy_part t g blocks ++ behind;
+  makes = λ t g blocks size behind. refl;
   tables = refl;
   answers = λ n. record { whole = λ k. refl; own = refl };
   silent = λ n. tt;
@@ -97,12 +83,12 @@ update_alters p m name sets cond heading pred cells pred_is cells_is = record {
 }
 
 pub delete_alters : (p : Public) (m : ℕ) (name : List ℕ) (cond : Option Search) (heading : Heading) (pred : Condition) → pred ≡ where_at cond heading.schema
-    → Alters p m (Delete name cond) name heading rewrite_parts Deleted (λ slots. count_by (is_true pred) (rows slots)) (map (emptied (is_true pred)))
+    → Alters p m (Delete name cond) name heading rewrite_part Deleted (λ slots. count_by (is_true pred) (rows slots)) (map (emptied (is_true pred)))
 delete_alters p m name cond heading pred pred_is = record {
-  script = λ end t found flat. mutation_run p name rewrite_parts t found flat p.save;
+  script = λ end. refl;
   leaves = refl;
-  more = λ t g blocks size. rewrite_more (former_of p) t g blocks;
-  makes = rewrite_makes (former_of p);
+  more = λ t g blocks size behind. copy_part t g blocks ++ behind;
+  makes = λ t g blocks size behind. refl;
   tables = refl;
   answers = λ n. record { whole = λ k. refl; own = refl };
   silent = λ n. tt;

@@ -64,7 +64,7 @@ writes_drop : (o : Option ℕ) (asked : List Access) → writes (asked ++ drop_s
 writes_drop None asked = ap writes (append-nil asked)
 writes_drop (Some q) asked = writes_discard q asked
 
-length-drop_script : (o : Option ℕ) → length (drop_script o) ≤ 1
+pub length-drop_script : (o : Option ℕ) → length (drop_script o) ≤ 1
 length-drop_script None = omega (arith)
 length-drop_script (Some q) = omega (arith)
 

@@ -49,7 +49,6 @@ use Rattle.ob_oram.specs.Indexes.{Lies, leaves_of, tree_of}
 use Rattle.ob_oram.specs.Keys.{IsIntKey}
 use Rattle.ob_oram.proofs.Creates.{one_each}
 use Rattle.ob_script.specs.Parts.{create_part}
-use Rattle.ob_script.proofs.SavedParts.{created_run}
 use Rattle.ob_script.specs.Saved.{whole_run}
 use Rattle.ob_seal.specs.Draws.{DrawPlace, draw_at}
 use Rattle.ob_seal.specs.KeySet.{draw_seed_of}
@@ -177,8 +176,7 @@ module _ {R : Type 0} (state : R → RevState) (old : Engine R) (s s1 : StoreSta
   script_is end =
       let wide : width (columns_of table columns) ≡ 1 * width schema = ap width (sym schema_is) ∙ (let one : width schema ≡ 1 * width schema = omega (arith) in one) in
       let few : old.public.stash ≡ blocks_of 1 stash = sym slots_is ∙ sym (one_each slots) in
-      created_run old.public table columns capacity Indexed (seen_to end)
-      ∙ (λ i. create_part (agrees.next i) (sym (one_each (tree_blocks height)) i) (wide i) ++ create_part (agrees.next i + 1) (few i) (wide i))
+      λ i. create_part (agrees.next i) (sym (one_each (tree_blocks height)) i) (wide i) ++ create_part (agrees.next i + 1) (few i) (wide i)
 
   -- ---- what it draws
   drawn_same : (d : Draws) → AreDraws old d → (i : ℕ) → draw_at old.draws.key (old.draws.next + i) ≡ d.draw (d.drawn + i)

@@ -38,8 +38,7 @@ use Rattle.ob_vault.specs.Calls.{Went, one}
 use Rattle.ob_vault.specs.Tied.{Lives}
 use Rattle.ob_vault.proofs.Runs.{went_join}
 use Rattle.ob_script.specs.Parts.{create_part}
-use Rattle.ob_script.proofs.SavedParts.{created_run}
-use Rattle.ob_script.specs.Saved.{whole_run}
+use Rattle.ob_script.specs.Saved.{behind_run, whole_run}
 use Rattle.ob_script.specs.Script.{created_script}
 use Rattle.ob_flat.specs.declared.fault.OpErr.{OpErr}
 use Rattle.ob_flat.specs.Flats.{IsFlat, IsSized, Represents as FlatRepresents, table_region}
@@ -70,6 +69,7 @@ use Rattle.ob_tables.specs.Telling.{AreHeld, HoldsTable, Represents}
 use Rattle.ob_tables.proofs.TableLemmas.{beside_below, tables_added, region_below}
 use Rattle.ob_tables.proofs.HeldLemmas.{held_kept, held_added}
 use Rattle.ob_tables.proofs.PlainLemmas.{none_drawn, settle_is}
+use Rattle.ob_tables.proofs.FormerLemmas.{alone_behind}
 use Rattle.ob_tables.proofs.SealLemmas.{keeps_pass}
 use Rattle.ob_tables.proofs.SilentLemmas.{cut_off, finished, serves_as}
 use Rattle.ob_tables.proofs.ToldLemmas.{early_held, fault_made, silent_fault}
@@ -200,8 +200,8 @@ module _ {R : Type 0} (state : R → RevState) (old : Engine R) (s s1 : StoreSta
 
   script_is : (end : End) → whole_run old.public (Create table columns capacity shape) (seen_to end) ≡ part
   script_is end =
-      created_run old.public table columns capacity shape (seen_to end)
-      ∙ ap (λ (x : Shape). created_script old.public capacity (width (columns_of table columns)) x) flat_shape
+      ap (λ (x : Shape). created_script old.public capacity (width (columns_of table columns)) (behind_run old.public) x) flat_shape
+      ∙ alone_behind old.public (create_part old.public.next_region (blocks_for old.public.pack capacity) (old.public.pack * width (columns_of table columns)))
       ∙ (λ i. create_part (agrees.next i) (blocks_for (sym agrees.room.pack i) capacity) (sym agrees.room.pack i * width (sym schema_is i)))
 
   abbrev new_table : Table

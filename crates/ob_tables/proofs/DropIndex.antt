@@ -28,8 +28,7 @@ use Rattle.ob_oram.specs.declared.index.Index.{Index}
 use Rattle.ob_oram.specs.Discards.{DiscardsIndex}
 use Rattle.ob_oram.specs.Indexes.{IsStored}
 use Rattle.ob_oram.proofs.Lasting.{stored_kept}
-use Rattle.ob_script.proofs.SavedParts.{whole_is}
-use Rattle.ob_script.specs.Saved.{left_region, whole_run}
+use Rattle.ob_script.specs.Saved.{behind_run, left_region, whole_run}
 use Rattle.ob_script.specs.Script.{dropped_script}
 use Rattle.ob_sql.specs.declared.stmt.Stmt.TheVariants.{Drop as DropTable}
 use Rattle.ob_mean.specs.Settle.{settle, settled}
@@ -73,9 +72,8 @@ module _ {R : Type 0} (state : R → RevState) (old : Engine R) (s s1 : StoreSta
   script_is end =
       let tree = of.tree in
       let stash : index.stash ≡ table.region + 1 = of.stash in
-      whole_is old.public (DropSkeleton name) (seen_to end) unsaved_here
-      ∙ ap (λ (o : Option (Stored ℕ)). option_map_or dropped_script o []) (stored_found name old.public.tables i table agrees.tables.names here.get here.named)
-      ∙ ap (λ (shape : Shape). by_shape shape (discard_at table.region) (discard_at table.region ++ discard_at (table.region + 1))) of.indexed
+      ap (λ (o : Option (Stored ℕ)). option_map_or (dropped_script (behind_run old.public)) o []) (stored_found name old.public.tables i table agrees.tables.names here.get here.named)
+      ∙ ap (λ (shape : Shape). by_shape shape (behind_run old.public (Some table.region)) (discard_at table.region ++ discard_at (table.region + 1))) of.indexed
       ∙ (λ j. discard_at (sym tree j) ++ discard_at (sym stash j))
 
   abbrev it : IsIndexIn old.public.tables (others_of old.closing old.indexes.items) index (world_of state old s)

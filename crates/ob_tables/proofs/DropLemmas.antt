@@ -27,10 +27,10 @@ use Rattle.ob_vault.proofs.WordLemmas.{went_rests}
 use Rattle.ob_flat.specs.declared.flat.Flat.{Flat}
 use Rattle.ob_mutate.specs.declared.settling.Former.{Former}
 use Rattle.ob_mutate.specs.declared.settling.Former.TheVariants.{Discard, Keep}
-use Rattle.ob_mutate.specs.Mutating.{LeavesFormer, StaysFormer, StaysStored, former_script}
+use Rattle.ob_mutate.specs.Mutating.{LeavesFormer, former_script}
 use Rattle.ob_mean.proofs.FlatLemmas.{dropped_is}
-use Rattle.ob_script.specs.Saved.{region_at, whole_run}
-use Rattle.ob_script.specs.Script.{dropped_script, with_table}
+use Rattle.ob_script.specs.Saved.{behind_run, region_at, whole_run}
+use Rattle.ob_script.specs.Script.{dropped_script}
 use Rattle.ob_sql.specs.declared.stmt.Stmt.TheVariants.{Drop as DropTable}
 use Rattle.ob_mean.specs.Settle.{settle, settled}
 use Rattle.ob_mean.specs.Step.{accepted_answer, answered as answered_by, followed}
@@ -45,6 +45,7 @@ use Rattle.ob_tables.specs.Agreeing.{Agrees, world_of, count_of}
 use Rattle.ob_verdict.specs.Outcomes.{refusal_now, outcome_of}
 use Rattle.ob_tables.specs.Serving.{ServesSilently}
 use Rattle.ob_tables.specs.Telling.{AreHeld}
+use Rattle.ob_tables.proofs.FormerLemmas.{former_is, left_stays}
 use Rattle.ob_tables.proofs.HeldLemmas.{held_kept, holds_kept}
 use Rattle.ob_tables.proofs.PlainLemmas.{settle_is}
 use Rattle.ob_tables.proofs.RunLemmas.{IsAnswered, engine_after, ran_whole}
@@ -277,32 +278,16 @@ opens_former : (former : Former) (r high : ℕ) → Opens (former_script former 
 opens_former Discard r high = record { kept = omega (arith); some = λ none. absurd (cc none) }
 opens_former Keep r high = record { kept = omega (arith); some = λ none. absurd (cc none) }
 
--- its region stays in the store, where tables are saved
-pub left_stays : (saves : Bool) (region : ℕ) (s s1 t : StoreState) (o : Option ℕ) (q : ℕ) (live : ℕ → Option Region) → o ≡ Some region → ChangesNothing s s1 → StaysFormer (if saves then Keep else Discard) region s1 t
-    → live region ≡ None → (if saves then o else None) ≡ Some q → StaysStored q s t × (live q ≡ None)
-left_stays true region s s1 t o q live found rests stays gone is =
-    let same : region ≡ q = cc (found, is) in (
-      subst (λ (n : ℕ). StaysStored n s t) same
-          (record {
-            live = stays.live ∙ rests.keeps.live region;
-            last = λ x. stays.last x ∙ rests.keeps.last region x;
-            kept = stays.kept ∙ rests.keeps.kept region;
-          }),
-      ap live (sym same) ∙ gone,
-    )
-left_stays false region s s1 t o q live found rests stays gone is = absurd (cc is)
-
 module _ {R : Type 0} (state : R → RevState) (old : Engine R) (s s1 : StoreState) (v : Vault R) (t : StoreState) (name : List ℕ) (i : ℕ) (table : Table)
     (agrees : Agrees state old s) (rests : ChangesNothing s s1) (here : IsAt name i table old.public.tables) (shape : table.heading.shape ≡ FlatShape) (now : refusal_now old.public (count_of old s) (DropTable name) ≡ None) where
   found : stored_at name (stored_regions old.public.tables) ≡ Some (stored_region table)
   found = stored_found name old.public.tables i table agrees.tables.names here.get here.named
 
-  asked_by : (saves : Bool) → (if saves then [] else with_table name old.public dropped_script) ≡ former_script (if saves then Keep else Discard) table.region
-  asked_by true = refl
-  asked_by false = ap (λ (o : Option (Stored ℕ)). option_map_or dropped_script o []) found ∙ dropped_is (stored_region table) shape
-
   script_is : (end : End) → whole_run old.public (DropSkeleton name) (seen_to end) ≡ former_script (former_of old.public) table.region
-  script_is end = asked_by old.public.save
+  script_is end =
+      ap (λ (o : Option (Stored ℕ)). option_map_or (dropped_script (behind_run old.public)) o []) found
+      ∙ dropped_is (behind_run old.public) (stored_region table) shape
+      ∙ sym (former_is old.public table.region)
 
   -- the table was dropped, whatever the store answered
   pub dropped : (region : ℕ) (former : Former) (new : Engine R) (result : Result Outcome RunStop) → region ≡ table.region → former ≡ former_of old.public

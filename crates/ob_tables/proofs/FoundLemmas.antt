@@ -4,7 +4,7 @@ use Rattle.std.specs.Prelude.{slice_get, bytes_eq, not, ◌||◌}
 use Rattle.std.specs.Option.{option_map}
 use Rattle.ob_base.specs.declared.schema.Heading.{Heading}
 use Rattle.ob_base.specs.declared.schema.Table.{Table}
-use Rattle.ob_base.specs.Stored.{Stored, headings, heading_at, has_table, stored_at, stored_regions}
+use Rattle.ob_base.specs.Stored.{Stored, headings, heading_at, has_table, stored_regions}
 use Rattle.ob_base.specs.Stored.{headings_of}
 use Rattle.ob_mean.proofs.VerdictLemmas.{heading-stored}
 use Rattle.ob_tables.specs.Engines.{IsAt}
@@ -25,12 +25,6 @@ heading_found name ts i t names at is =
 -- it is flat, where the name is no index's
 pub shape_found : (name : List ℕ) (ts : List Table) (i : ℕ) (t : Table) → AreNamed ts → slice_get ts i ≡ Some t → t.heading.name ≡ name → is_index (headings_of ts) name ≡ false → t.heading.shape ≡ FlatShape
 shape_found name ts i t names at is none = heading_flat name (headings_of ts) t.heading none (heading_found name ts i t names at is)
-
--- so is the one that is found by such a name
-pub unindexed_flat : (name : List ℕ) (ts : List Table) (t : Stored ℕ) → is_index (headings_of ts) name ≡ false → stored_at name (stored_regions ts) ≡ Some t → t.heading.shape ≡ FlatShape
-unindexed_flat name ts t none found =
-    heading_flat name (headings_of ts) t.heading none
-    (ap (heading_at name) (sym (region_headings ts)) ∙ heading-stored name (stored_regions ts) ∙ ap (option_map (λ (u : Stored ℕ). u.heading)) found)
 
 pub named_flat : (name : List ℕ) (ts : List Table) → AreNamed ts → is_index (headings_of ts) name ≡ false → NamedFlat name ts
 named_flat name ts names none = λ i t at is. shape_found name ts i t names at is none

@@ -6,19 +6,14 @@ use Rattle.ob_base.specs.declared.refusal.Refusal.{Refusal}
 use Rattle.ob_base.specs.declared.refusal.Refusal.TheVariants as R
 use Rattle.ob_base.specs.declared.schema.Shape.TheVariants.{Flat}
 use Rattle.ob_base.specs.declared.schema.Heading.{Heading}
-use Rattle.ob_base.specs.declared.access.Access.{Access}
-use Rattle.ob_base.specs.Accesses.{discard_at, make_at}
 use Rattle.ob_base.specs.Schemas.{Columns, key_place}
 use Rattle.ob_base.specs.Stored.{Stored, headings, stored_at, changed_at}
-use Rattle.ob_script.specs.Parts.{count_part, copy_part}
+use Rattle.ob_script.specs.Parts.{count_part, copy_part, insert_part}
 use Rattle.ob_row.specs.Rows.{Row, has_key}
 use Rattle.ob_row.specs.Slots.{rows, fill_first}
 use Rattle.ob_mutate.specs.declared.inserting.Inserted.{Inserted as InsertedAs}
 use Rattle.ob_mutate.specs.declared.inserting.Inserted.TheVariants.{Done, Duplicate, Full}
 use Rattle.ob_mutate.specs.Inserting.{insert_answer, slots_after}
-use Rattle.ob_mutate.specs.Mutating.{insert_parts}
-use Rattle.ob_mutate.specs.declared.settling.Former.{Former}
-use Rattle.ob_mutate.specs.declared.settling.Former.TheVariants.{Discard, Keep}
 use Rattle.ob_sql.specs.declared.stmt.Literal.{Literal}
 use Rattle.ob_sql.specs.declared.stmt.Stmt.{Stmt}
 use Rattle.ob_sql.specs.declared.stmt.Stmt.TheVariants.{Insert as InsertStmt}
@@ -30,11 +25,10 @@ use Rattle.ob_mean.specs.Settle.{settle, settled}
 use Rattle.ob_mean.proofs.VerdictLemmas.{flat_refusal, heading-stored, stored-database, refused_late}
 use Rattle.ob_mean.specs.Verdict.{Draws, Held, accessed, in_slots, Tables, is_late, refusal, verdict}
 use Rattle.ob_verdict.specs.declared.outcome.Outcome.TheVariants.{Inserted}
-use Rattle.ob_tables.specs.Engines.{former_of}
 use Rattle.ob_tables.specs.Running.{HasNoRows, inserted_as}
 use Rattle.ob_verdict.specs.Outcomes.{done_of, outcome_of}
 use Rattle.ob_tables.proofs.HeldLemmas.{changed_same}
-use Rattle.ob_tables.proofs.MutateLemmas.{Alters, mutation_run}
+use Rattle.ob_tables.proofs.MutateLemmas.{Alters}
 use Rattle.ob_tables.proofs.PlainLemmas.{settle_is}
 use Rattle.ob_tables.proofs.RunLemmas.{IsAnswered}
 
@@ -93,23 +87,14 @@ silent_inserted Done = tt
 silent_inserted Duplicate = tt
 silent_inserted Full = tt
 
--- what follows the fresh region
-insert_more : Former → ℕ → ℕ → ℕ → List Access
-insert_more Discard t g blocks = count_part t blocks ++ (copy_part t g blocks ++ discard_at t)
-insert_more Keep t g blocks = count_part t blocks ++ copy_part t g blocks
-
-insert_makes : (former : Former) (t g blocks size : ℕ) → insert_parts former t g blocks size ≡ make_at g blocks size ++ insert_more former t g blocks
-insert_makes Discard t g blocks size = refl
-insert_makes Keep t g blocks size = refl
-
 pub insert_alters : (p : Public) (m : ℕ) (name : List ℕ) (columns : Option (List (List ℕ))) (values : List Literal) (heading : Heading) (cs : Columns) (row : Row)
     → heading.shape ≡ Flat → cs ≡ heading.schema → row ≡ new_row heading.schema columns values
-    → Alters p m (InsertStmt name columns values) name heading insert_parts inserted_as (insert_answer cs row) (λ slots. slots_after (insert_answer cs row slots) row slots)
+    → Alters p m (InsertStmt name columns values) name heading insert_part inserted_as (insert_answer cs row) (λ slots. slots_after (insert_answer cs row slots) row slots)
 insert_alters p m name columns values heading cs row flat schema_is row_is = record {
-  script = λ end t found is_flat. mutation_run p name insert_parts t found is_flat p.save;
+  script = λ end. refl;
   leaves = refl;
-  more = λ t g blocks size. insert_more (former_of p) t g blocks;
-  makes = insert_makes (former_of p);
+  more = λ t g blocks size behind. count_part t blocks ++ (copy_part t g blocks ++ behind);
+  makes = λ t g blocks size behind. refl;
   tables = refl;
   answers = is_answered;
   silent = silent_inserted;

@@ -1,6 +1,6 @@
 -- What is seen of a statement is lawful, whatever the store does.
-use Rattle.std.proofs.Common.{◌≡◌, inl, ◌-◌, ◌≤◌, ℕ, false, List, ◌++◌, length, take, Option, Some, None, Result, Ok, Err, refl, sym, ◌∙◌, ap, subst, arith}
-use Rattle.std.specs.Prelude.{IsSome, Bool, true, not, ◌&&◌, if◌then◌else◌, []}
+use Rattle.std.proofs.Common.{◌≡◌, inl, ◌-◌, ◌≤◌, ◌+◌, ◌*◌, ℕ, true, false, if◌then◌else◌, List, [], ◌++◌, length, take, Option, Some, None, Result, Ok, Err, refl, sym, ◌∙◌, ap, subst, arith}
+use Rattle.std.specs.Prelude.{IsSome, Bool, not, ◌&&◌}
 use Rattle.std.specs.Option.{option_map_or}
 use Rattle.std.proofs.lemmas.List.{length-append, length-take}
 use Rattle.ob_base.specs.declared.access.Access.{Access}
@@ -12,25 +12,27 @@ use Rattle.ob_base.specs.declared.seen.End.{End}
 use Rattle.ob_base.specs.declared.seen.End.TheVariants.{Static, Whole, AfterCount, Cut}
 use Rattle.ob_base.specs.declared.seen.Seen.{Seen}
 use Rattle.ob_base.specs.declared.skeleton.Skeleton.{Skeleton}
-use Rattle.ob_base.specs.Accesses.{discard_at}
-use Rattle.ob_base.specs.Stored.{Stored, stored_at, stored_regions}
+use Rattle.ob_base.specs.declared.schema.Shape.{Shape}
+use Rattle.ob_base.specs.declared.schema.Shape.TheVariants.{Flat, Indexed}
 use Rattle.ob_base.specs.declared.skeleton.Skeleton.TheVariants.{Create, Insert, Update, Delete, Drop as DropTable, Rows as RowsOf, Groups}
-use Rattle.ob_script.specs.Parts.{insert_part, rewrite_part}
-use Rattle.ob_script.specs.Saved.{change_script, changes_tables, insert_kept, rewrite_kept, run_script, whole_run}
-use Rattle.ob_script.specs.Script.{blocks_of, extent_of, mutation_script, rows_width, shape_script, whole_script, with_table}
-use Rattle.ob_script.proofs.SavedParts.{insert_is, rewrite_is}
+use Rattle.ob_base.specs.Accesses.{discard_at, drop_script, make_at}
+use Rattle.ob_base.specs.Indexes.{by_shape, height_of}
+use Rattle.ob_base.specs.Numbers.{blocks_for}
+use Rattle.ob_base.specs.Schemas.{columns_of, width}
+use Rattle.ob_base.specs.Stored.{Stored, stored_at, stored_regions}
+use Rattle.ob_script.specs.Parts.{copy_part, count_part, create_part, index_part, insert_part, rewrite_part}
+use Rattle.ob_script.specs.Saved.{behind_run, run_script, whole_run}
+use Rattle.ob_script.specs.Script.{Behind, behind_change, blocks_of, dropped_script, extent_of, index_part_of, mutation_script, rows_width, save_part, shape_script, whole_by, whole_script, with_table}
 use Rattle.ob_sql.specs.declared.stmt.Stmt.{Stmt}
 use Rattle.ob_sql.specs.Skeleton.{skeleton}
 use Rattle.ob_mean.specs.Lawful.{Lawful, is_counted, selects_rows, EndsUncounted, CutUpTo, HoldsLeaf}
-use Rattle.ob_mean.proofs.FlatLemmas.{shape_is}
-use Rattle.ob_mean.specs.Replay.{has_index, is_access}
+use Rattle.ob_mean.specs.Replay.{is_access}
 use Rattle.ob_mean.specs.Verdict.{ended}
 use Rattle.ob_verdict.specs.declared.outcome.Outcome.{Outcome}
 use Rattle.ob_verdict.specs.declared.outcome.Outcome.TheVariants.{Created, Inserted, Changed, Deleted, Dropped, Rows, Refused}
 use Rattle.ob_tables.specs.Running.{RefusedEarly, result_end}
 use Rattle.ob_verdict.specs.Outcomes.{refusal_now}
 use Rattle.ob_tables.specs.Refusals.{refused_end}
-use Rattle.ob_tables.proofs.FoundLemmas.{unindexed_flat}
 
 -- ---- how it ends
 refused_cut : (r : Refusal) (k n : ℕ) → Cut k ≡ refused_end r n → k ≡ n
@@ -68,56 +70,72 @@ ends_cut (Err stop) k n is = cc is
 take_short : (n : ℕ) (xs : List Access) → length (take n xs) ≤ length xs
 take_short n xs = let is = length-take n xs in omega (arith, is)
 
--- ---- the engine asks no more of a flat table where tables are saved
-less_by : (kept part : List Access) (t : ℕ) → part ≡ kept ++ discard_at t → length kept ≤ length part
-less_by kept part t is =
-    let all = ap (λ (l : List Access). length l) is in
-    let sum = length-append kept (discard_at t) in
-    omega (arith, all, sum)
-
-module _ (p : Public) (name : List ℕ) (kept part : ℕ → ℕ → ℕ → ℕ → List Access) (leaf : Option ℕ)
-    (is : (t g blocks width : ℕ) → part t g blocks width ≡ kept t g blocks width ++ discard_at t) (none : has_index p name ≡ false) where
-  by_found : (o : Option (Stored ℕ)) → stored_at name (stored_regions p.tables) ≡ o
-      → length (option_map_or (mutation_script p kept) o []) ≤ length (option_map_or (shape_script p leaf (mutation_script p part)) o [])
-  by_found None found = omega (arith)
-  by_found (Some t) found =
-      let whole = ap (λ (l : List Access). length l) (shape_is p leaf (mutation_script p part) t (unindexed_flat name p.tables t none found)) in
-      let short = less_by (mutation_script p kept t) (mutation_script p part t) t.held (is t.held p.next_region (blocks_of p (extent_of t)) (rows_width p (extent_of t))) in
-      omega (arith, whole, short)
-
-  mutation_short : length (with_table name p (mutation_script p kept)) ≤ length (with_table name p (shape_script p leaf (mutation_script p part)))
-  mutation_short = by_found (stored_at name (stored_regions p.tables)) refl
-
+-- ---- nor does the engine: what follows a change is no longer where a closing is written behind it
 -- a script is no longer than itself
 itself : (xs : List Access) → length xs ≤ length xs
 itself xs = omega (arith)
 
-run_short : (p : Public) (s : Skeleton) (now : Seen) (saves : Bool) → is_access p s ≡ false
-    → length (if changes_tables s && saves then change_script p s else whole_script p s now) ≤ length (whole_script p s now)
-run_short p (Create table cs n shape) now true none = itself (whole_script p (Create table cs n shape) now)
-run_short p (Create table cs n shape) now false none = itself (whole_script p (Create table cs n shape) now)
-run_short p (Insert table cs) now true none = mutation_short p table insert_kept insert_part now.leaf insert_is none
-run_short p (Insert table cs) now false none = itself (whole_script p (Insert table cs) now)
-run_short p (Update table cs) now true none = mutation_short p table rewrite_kept rewrite_part now.leaf rewrite_is none
-run_short p (Update table cs) now false none = itself (whole_script p (Update table cs) now)
-run_short p (Delete table) now true none = mutation_short p table rewrite_kept rewrite_part now.leaf rewrite_is none
-run_short p (Delete table) now false none = itself (whole_script p (Delete table) now)
-run_short p (DropTable table) now true none = omega (arith)
-run_short p (DropTable table) now false none = itself (whole_script p (DropTable table) now)
-run_short p (RowsOf source cs) now saves none = itself (whole_script p (RowsOf source cs) now)
-run_short p (Groups table cs key) now saves none = itself (whole_script p (Groups table cs key) now)
+behind_less : (xs a b : List Access) → length a ≤ length b → length (xs ++ a) ≤ length (xs ++ b)
+behind_less xs a b less = let one = length-append xs a in let two = length-append xs b in omega (arith, one, two, less)
 
-within : (p : Public) (sk : Skeleton) (result : Result Outcome RunStop) (end : End) (before after : List Access) → is_access p sk ≡ false → after ≡ before ++ run_script p sk (ended end)
+shape_less : (shape : Shape) (a b c : List Access) → length a ≤ length b → length (by_shape shape a c) ≤ length (by_shape shape b c)
+shape_less Flat a b c less = less
+shape_less Indexed a b c less = itself c
+
+insert_less : (t g blocks size : ℕ) (a b : List Access) → length a ≤ length b → length (insert_part t g blocks size a) ≤ length (insert_part t g blocks size b)
+insert_less t g blocks size a b less =
+    behind_less (make_at g blocks size) _ _ (behind_less (count_part t blocks) _ _ (behind_less (copy_part t g blocks) a b less))
+
+rewrite_less : (t g blocks size : ℕ) (a b : List Access) → length a ≤ length b → length (rewrite_part t g blocks size a) ≤ length (rewrite_part t g blocks size b)
+rewrite_less t g blocks size a b less = behind_less (make_at g blocks size) _ _ (behind_less (copy_part t g blocks) a b less)
+
+module _ (p : Public) (few more : Behind) (less : (left : Option ℕ) → length (few left) ≤ length (more left)) where
+  found_less : (f h : Stored ℕ → List Access) → ((t : Stored ℕ) → length (f t) ≤ length (h t)) → (o : Option (Stored ℕ)) → length (option_map_or f o []) ≤ length (option_map_or h o [])
+  found_less f h each None = itself []
+  found_less f h each (Some t) = each t
+
+  changed_less : (name : List ℕ) (leaf : Option ℕ) (part : ℕ → ℕ → ℕ → ℕ → List Access → List Access)
+      → ((t g blocks size : ℕ) (a b : List Access) → length a ≤ length b → length (part t g blocks size a) ≤ length (part t g blocks size b))
+      → length (with_table name p (shape_script p leaf (mutation_script p part few))) ≤ length (with_table name p (shape_script p leaf (mutation_script p part more)))
+  changed_less name leaf part each =
+      found_less (shape_script p leaf (mutation_script p part few)) (shape_script p leaf (mutation_script p part more))
+      (λ t. shape_less t.heading.shape (mutation_script p part few t) (mutation_script p part more t) (index_part_of p leaf t)
+      (each t.held p.next_region (blocks_of p (extent_of t)) (rows_width p (extent_of t)) (few (Some t.held)) (more (Some t.held)) (less (Some t.held))))
+      (stored_at name (stored_regions p.tables))
+
+  whole_less : (s : Skeleton) (now : Seen) → length (whole_by few p s now) ≤ length (whole_by more p s now)
+  whole_less (Create table cs n shape) now =
+      let created = create_part p.next_region (blocks_for p.pack n) (p.pack * width (columns_of table cs)) in
+      shape_less shape (created ++ few None) (created ++ more None) (index_part p.next_region (p.next_region + 1) p.stash (height_of n) (width (columns_of table cs)))
+      (behind_less created (few None) (more None) (less None))
+  whole_less (Insert table cs) now = changed_less table now.leaf insert_part insert_less
+  whole_less (Update table cs) now = changed_less table now.leaf rewrite_part rewrite_less
+  whole_less (Delete table) now = changed_less table now.leaf rewrite_part rewrite_less
+  whole_less (DropTable table) now =
+      found_less (dropped_script few) (dropped_script more)
+      (λ t. shape_less t.heading.shape (few (Some t.held)) (more (Some t.held)) (discard_at t.held ++ discard_at (t.held + 1)) (less (Some t.held)))
+      (stored_at table (stored_regions p.tables))
+  whole_less (RowsOf source cs) now = itself (whole_by few p (RowsOf source cs) now)
+  whole_less (Groups table cs key) now = itself (whole_by few p (Groups table cs key) now)
+
+run_short : (p : Public) (s : Skeleton) (now : Seen) → length (whole_run p s now) ≤ length (whole_script p s now)
+run_short p s now = whole_less p (behind_run p) (behind_change p s) (λ left. by_flag p.save left) s now
+  where
+    by_flag : (saves : Bool) (left : Option ℕ) → length (if saves then [] else drop_script left) ≤ length (if saves then save_part p s left else drop_script left)
+    by_flag true left = omega (arith)
+    by_flag false left = itself (drop_script left)
+
+within : (p : Public) (sk : Skeleton) (result : Result Outcome RunStop) (end : End) (before after : List Access) → after ≡ before ++ run_script p sk (ended end)
     → end ≡ result_end result (length after - length before) → CutUpTo (length (whole_script p sk (ended end))) end
-within p sk result Static before after unkeyed asked ends = tt
-within p sk result Whole before after unkeyed asked ends = tt
-within p sk result AfterCount before after unkeyed asked ends = tt
-within p sk result (Cut k) before after unkeyed asked ends =
+within p sk result Static before after asked ends = tt
+within p sk result Whole before after asked ends = tt
+within p sk result AfterCount before after asked ends = tt
+within p sk result (Cut k) before after asked ends =
     let is = ends_cut result k (length after - length before) ends in
     let sum = ap length asked in
     let parts = length-append before (take k (whole_run p sk (ended (Cut k)))) in
     let few = take_short k (whole_run p sk (ended (Cut k))) in
-    let short = run_short p sk (ended (Cut k)) p.save unkeyed in
+    let short = run_short p sk (ended (Cut k)) in
     omega (arith, is, sum, parts, few, short)
 
 -- refused before any access exactly where it is seen so
@@ -147,7 +165,7 @@ plain p m stmt result end before after uncounted unkeyed whole early asked ends 
   static = static_as (refusal_now p m stmt) result (ended end) early;
   holds = held_nothing p stmt end (uncounted_is p stmt uncounted) whole;
   leaf = leaf_none p stmt None end unkeyed refl;
-  cut = within p (skeleton stmt) result end before after unkeyed asked ends;
+  cut = within p (skeleton stmt) result end before after asked ends;
 }
 
 -- what is seen of a statement of which nothing is counted

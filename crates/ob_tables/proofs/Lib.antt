@@ -1,7 +1,10 @@
 pub mod TableLemmas
 pub mod GivenUpLemmas
 pub mod RunLemmas
+pub mod FormerLemmas
 pub mod SavedLemmas
+pub mod SaveLemmas
+pub mod SettleLemmas
 pub mod ToldLemmas
 pub mod SealLemmas
 pub mod HeldLemmas
@@ -38,6 +41,7 @@ pub mod BegunLemmas
 pub mod GivenNumbers
 pub mod KeptLemmas
 pub mod OpeningLemmas
+pub mod OpenSavedLemmas
 pub mod ListedLemmas
 pub mod ByNameLemmas
 pub mod ClosedLemmas

@@ -1,7 +1,7 @@
 -- INSERT, UPDATE and DELETE: a table's slots change, and it lies in a fresh region.
 use Rattle.std.proofs.Common.{◌≡◌, inl, inr, ◌-◌, ◌*◌, max, ℕ, Bool, false, List, [], ◌++◌, length, Some, None, Option, Ok, Err, Result, refl, sym, ◌∙◌, ap, subst, arith, slice_get, slice_set}
 use Rattle.std.specs.Option.{option_map, option_map_or}
-use Rattle.std.specs.Prelude.{IsTrue, true, if◌then◌else◌}
+use Rattle.std.specs.Prelude.{IsTrue}
 use Rattle.std.proofs.lemmas.Bool.{cases_eq}
 use Rattle.ob_base.specs.declared.access.Access.{Access}
 use Rattle.ob_base.specs.declared.config.Public.{Public}
@@ -24,7 +24,7 @@ use Rattle.ob_vault.specs.Calls.{two}
 use Rattle.ob_vault.specs.Words.{IsHonest}
 use Rattle.ob_vault.proofs.Runs.{went_join}
 use Rattle.ob_vault.proofs.WordLemmas.{went_rests}
-use Rattle.ob_script.specs.Saved.{left_region, region_at, whole_run}
+use Rattle.ob_script.specs.Saved.{behind_run, left_region, region_at, whole_run}
 use Rattle.ob_script.specs.Script.{with_table, mutation_script, shape_script}
 use Rattle.ob_script.specs.Tables.{moved, tables_after}
 use Rattle.ob_flat.specs.declared.fault.OpErr.{OpErr}
@@ -33,9 +33,8 @@ use Rattle.ob_flat.specs.Flats.{IsFlat, Represents as FlatRepresents, table_regi
 use Rattle.ob_vault.specs.declared.region.Order.TheVariants.{Round}
 use Rattle.ob_flat.proofs.Resting.{represents_rests}
 use Rattle.ob_row.specs.Slots.{Slots}
-use Rattle.ob_mutate.specs.Mutating.{Mutates}
+use Rattle.ob_mutate.specs.Mutating.{Mutates, former_script}
 use Rattle.ob_mutate.specs.declared.settling.Former.{Former}
-use Rattle.ob_mutate.specs.declared.settling.Former.TheVariants.{Discard, Keep}
 use Rattle.ob_sql.specs.declared.stmt.Stmt.{Stmt}
 use Rattle.ob_sql.specs.Skeleton.{skeleton}
 use Rattle.ob_mean.specs.Refusals.{early_refusal, limits_of}
@@ -54,7 +53,7 @@ use Rattle.ob_tables.specs.Running.{HasNoRows, answer_of, is_stop}
 use Rattle.ob_verdict.specs.Outcomes.{refusal_now, outcome_of}
 use Rattle.ob_tables.specs.Serving.{ServesSilently}
 use Rattle.ob_tables.specs.Telling.{AreHeld, ReadsTrue, Represents}
-use Rattle.ob_tables.proofs.DropLemmas.{left_stays}
+use Rattle.ob_tables.proofs.FormerLemmas.{former_is, left_stays}
 use Rattle.ob_tables.proofs.HeldLemmas.{Beside, held_at, held_plain, held_moved}
 use Rattle.ob_tables.proofs.FoundLemmas.{named_flat, shape_found}
 use Rattle.ob_tables.proofs.PlainLemmas.{none_drawn}
@@ -72,13 +71,12 @@ pub record MeansFor {T : Type 0} (p : Public) (m : ℕ) (stmt : Stmt) (name : Li
   pub here : to slots ≡ after slots
 
 -- a statement that changes the slots of the table of a name
-pub record Alters {T : Type 0} (p : Public) (m : ℕ) (stmt : Stmt) (name : List ℕ) (heading : Heading) (parts : Former → ℕ → ℕ → ℕ → ℕ → List Access)
+pub record Alters {T : Type 0} (p : Public) (m : ℕ) (stmt : Stmt) (name : List ℕ) (heading : Heading) (part : ℕ → ℕ → ℕ → ℕ → List Access → List Access)
     (outcome : T → Outcome) (answer : Slots → T) (after : Slots → Slots) : Type 0 where
-  pub script : (end : End) (t : Stored ℕ) → stored_at name (stored_regions p.tables) ≡ Some t → t.heading.shape ≡ FlatShape
-      → whole_run p (skeleton stmt) (seen_to end) ≡ mutation_script p (parts (former_of p)) t
+  pub script : (end : End) → whole_run p (skeleton stmt) (seen_to end) ≡ with_table name p (shape_script p None (mutation_script p part (behind_run p)))
   pub leaves : left_region p (skeleton stmt) ≡ region_at name p
-  pub more : ℕ → ℕ → ℕ → ℕ → List Access
-  pub makes : (t g blocks size : ℕ) → parts (former_of p) t g blocks size ≡ make_at g blocks size ++ more t g blocks size
+  pub more : ℕ → ℕ → ℕ → ℕ → List Access → List Access
+  pub makes : (t g blocks size : ℕ) (behind : List Access) → part t g blocks size behind ≡ make_at g blocks size ++ more t g blocks size behind
   pub tables : tables_after p (skeleton stmt) ≡ moved name p.next_region p.tables
   pub answers : (x : T) → IsAnswered (outcome x)
   pub silent : (x : T) → HasNoRows (outcome x)
@@ -88,20 +86,11 @@ pub record Alters {T : Type 0} (p : Public) (m : ℕ) (stmt : Stmt) (name : List
   pub meant : (tables : Tables) (x : Stored Held) → accessed tables stmt ≡ None → early_refusal (is_late m) (limits_of p) (headings tables) stmt ≡ None → stored_at name tables ≡ Some x
       → length x.held.slots ≡ x.heading.capacity → x.heading ≡ heading → MeansFor p m stmt name outcome answer after tables x.held.slots
 
--- a flat table's change as the engine asks it
-pub mutation_run : (p : Public) (name : List ℕ) (parts : Former → ℕ → ℕ → ℕ → ℕ → List Access) (t : Stored ℕ) → stored_at name (stored_regions p.tables) ≡ Some t → t.heading.shape ≡ FlatShape
-    → (saves : Bool) → (if saves then with_table name p (mutation_script p (parts Keep)) else with_table name p (shape_script p None (mutation_script p (parts Discard))))
-    ≡ mutation_script p (parts (if saves then Keep else Discard)) t
-mutation_run p name parts t found flat true = ap (λ (o : Option (Stored ℕ)). option_map_or (mutation_script p (parts Keep)) o []) found
-mutation_run p name parts t found flat false =
-    ap (λ (o : Option (Stored ℕ)). option_map_or (shape_script p None (mutation_script p (parts Discard))) o []) found
-    ∙ shape_is p None (mutation_script p (parts Discard)) t flat
-
-module _ {R T : Type 0} (state : R → RevState) (stmt : Stmt) (name : List ℕ) (parts : Former → ℕ → ℕ → ℕ → ℕ → List Access) (outcome : T → Outcome) (answer : Slots → T) (after : Slots → Slots)
+module _ {R T : Type 0} (state : R → RevState) (stmt : Stmt) (name : List ℕ) (part : ℕ → ℕ → ℕ → ℕ → List Access → List Access) (outcome : T → Outcome) (answer : Slots → T) (after : Slots → Slots)
     (old : Engine R) (s s1 : StoreState) (v : Vault R) (room : RoomState) (t : StoreState) (i : ℕ) (table : Table) (flat left : Flat)
     (agrees : Agrees state old s) (rests : ChangesNothing s s1) (room_is : room ≡ record old.room { high = max old.room.high old.room.pack })
     (here : IsAt name i table old.public.tables) (flat_is : flat ≡ flat_of table) (now : refusal_now old.public (count_of old s) stmt ≡ None) (none : is_access old.public (skeleton stmt) ≡ false)
-    (alters : Alters old.public (count_of old s) stmt name table.heading parts outcome answer after) where
+    (alters : Alters old.public (count_of old s) stmt name table.heading part outcome answer after) where
   abbrev before : World
   before = at state old.vault s1
 
@@ -114,14 +103,11 @@ module _ {R T : Type 0} (state : R → RevState) (stmt : Stmt) (name : List ℕ)
   abbrev kept : Former
   kept = former_of old.public
 
-  abbrev part : ℕ → ℕ → ℕ → ℕ → List Access
-  part = parts kept
-
   abbrev x : List Access
-  x = part table.region g (blocks_for old.room.pack table.heading.capacity) (old.room.pack * width table.heading.schema)
+  x = part table.region g (blocks_for old.room.pack table.heading.capacity) (old.room.pack * width table.heading.schema) (former_script kept table.region)
 
   abbrev pub asks : Former → Flat → List Access
-  asks former f = parts former f.region old.vault.next (blocks_for old.room.pack f.capacity) (old.room.pack * width f.schema)
+  asks former f = part f.region old.vault.next (blocks_for old.room.pack f.capacity) (old.room.pack * width f.schema) (former_script former f.region)
 
   shape_is_flat : table.heading.shape ≡ FlatShape
   shape_is_flat = shape_found name old.public.tables i table agrees.tables.names here.get here.named (alters.unindexed none)
@@ -131,8 +117,10 @@ module _ {R T : Type 0} (state : R → RevState) (stmt : Stmt) (name : List ℕ)
 
   script_is : (end : End) → whole_run old.public (skeleton stmt) (seen_to end) ≡ x
   script_is end =
-      alters.script end (stored_region table) found_region shape_is_flat
-      ∙ (λ j. part table.region (agrees.next j) (blocks_for (sym agrees.room.pack j) table.heading.capacity) (sym agrees.room.pack j * width table.heading.schema))
+      alters.script end
+      ∙ ap (λ (o : Option (Stored ℕ)). option_map_or (shape_script old.public None (mutation_script old.public part (behind_run old.public))) o []) found_region
+      ∙ shape_is old.public None (mutation_script old.public part (behind_run old.public)) (stored_region table) shape_is_flat
+      ∙ (λ j. part table.region (agrees.next j) (blocks_for (sym agrees.room.pack j) table.heading.capacity) (sym agrees.room.pack j * width table.heading.schema) (sym (former_is old.public table.region) j))
 
   -- the table in place beside it, and its slots where room was made
   beside : (tables : Tables) → Represents state old s tables → Beside old.public.pack name table tables (world_of state old s)
@@ -208,7 +196,7 @@ module _ {R T : Type 0} (state : R → RevState) (stmt : Stmt) (name : List ℕ)
   unchanged : (e : OpErr) (n : ℕ) → Mutates kept old.room.pack (flat_of table) left x answer after (Err e) before done → n ≡ length t.asked - length s.asked
       → ServesSilently state stmt (answer_of e) old s (engine_after old v room old.public.tables (Cut n) (is_stop (answer_of e))) t
   unchanged e n mutates count =
-      cut_off state stmt old s agrees now alters.plain none alters.makes_none s1 v room t rests room_is x _ _ _ n e script_is (alters.makes _ _ _ _) mutates.err count mutates.gone
+      cut_off state stmt old s agrees now alters.plain none alters.makes_none s1 v room t rests room_is x _ _ _ n e script_is (alters.makes _ _ _ _ _) mutates.err count mutates.gone
       (λ is. mutates.memory.did (ap (λ (z : OpErr). Err z) is)) (silent_pass e mutates.never)
       (λ tables reads. fault_made e (mutates.told (honest tables reads) (beside tables reads.held).table.held.slots (slots_before tables reads.held)).0)
       (λ good accepts. mutates.seals.seals good (accepts _ _))

@@ -49,7 +49,7 @@ use Rattle.ob_tables.specs.Engines.{AreTables, IsBeside, IsConfig, IsTable, othe
 use Rattle.ob_oram.specs.declared.index.Index.{Index}
 use Rattle.ob_seal.specs.Draws.{DrawPlace, draw_of}
 use Rattle.rand_chacha.specs.ChaCha.{key_of}
-use Rattle.ob_tables.specs.Reopening.{IsClosed, OpensEngine}
+use Rattle.ob_tables.specs.Reopening.{IsClosed, IsOpened, OpensEngine}
 use Rattle.ob_reopen.specs.Reopened.{NotOpened, OpeningCause, opened_public, opened_start, opening_script}
 use Rattle.ob_reopen.specs.Resting.{AcceptsClosings, AreKept, Rests}
 use Rattle.ob_select.specs.Selecting.{AcceptsRows}
@@ -59,7 +59,7 @@ use Rattle.ob_tables.proofs.KeptLemmas.{closing_sealed, held_open, tables_sealed
 
 -- ---- why it ended
 -- the same cause of an error, where so many calls had failed before
-cause_opening : (closing : Closing) (e : OpenErr) (a b : World) (s : StoreState) → a.store.faults ≡ s.faults → OpenCause e a b
+pub cause_opening : (closing : Closing) (e : OpenErr) (a b : World) (s : StoreState) → a.store.faults ≡ s.faults → OpenCause e a b
     → ((q p : ℕ) → e ≡ Tampered q p → (q ≡ closing.region) × (p < closing.blocks)) → OpeningCause e closing s b.store
 cause_opening closing Failed a b s same cause there = subst (λ (n : ℕ). Rises n b.store.faults) same cause.0
 cause_opening closing (Tampered q p) a b s same cause there = (cause.0 ∙ same, (there q p refl).0, (there q p refl).1)
@@ -326,15 +326,15 @@ module _ {R : Type 0} (state : R → RevState) (config : Config) (keys : KeySet)
         region_below : (i : ℕ) (t : Listed) → slice_get listed i ≡ Some t → t.table.region < closing.region
         region_below i t is = (table_is closing listed reads.catalogue i t is).region_most
 
-        fits_read : (lie : Lie) → s2.lie ≡ Some lie → TagFits keys (opened_start closing listed) lie
+        pub fits_read : (lie : Lie) → s2.lie ≡ Some lie → TagFits keys (opened_start closing listed) lie
         fits_read lie told =
             fits_listed closing keys listed lie (lie_there lie told (cases_eq lie.region closing.region)) region_below
             (fits_as v1.keys keys (start_of v1) (opened_start closing []) lie (keys_mid reads.opens.ok.stays) start_read (calm_mid.calm lie told))
 
-        faults_mid : s2.faults ≡ s.faults
+        pub faults_mid : s2.faults ≡ s.faults
         faults_mid = reads.opens.ok.did.faults ∙ room.faults
 
-        began_all : (t : StoreState) → Began (open_script closing.pack listed) s2 t → Began (opening_script closing listed) s t
+        pub began_all : (t : StoreState) → Began (open_script closing.pack listed) s2 t → Began (opening_script closing listed) s t
         began_all t began =
             let all = began_join (read_script closing) (open_script closing.pack listed) s1 s2 t reads.opens.ok.did began in
             record { done = all.done; rest = all.rest; split = all.split; asked = all.asked ∙ ap (λ (l : List Access). l ++ all.done) room.asked }
@@ -531,16 +531,16 @@ module _ {R : Type 0} (state : R → RevState) (config : Config) (keys : KeySet)
             (subst (λ (n : ℕ). AreTables (map (λ (x : Listed). x.table) listed) (others_of (Some closing.region) []) [] n (world_of state e t)) pack_is
             (tables_last state config keys closing marked s s1 fresh honest room v0 ready started keyed none v1 s2 listed reads e.vault t value reopens))))
 
-        keys_are : e.vault.keys ≡ keys
+        pub keys_are : e.vault.keys ≡ keys
         keys_are = keys_last state config keys closing marked s s1 fresh honest room v0 ready started keyed none v1 s2 listed reads e.vault t value reopens
 
-        drawn : AreDraws e (first_draws keys)
+        pub drawn : AreDraws e (first_draws keys)
         drawn = record {
           draw = λ n. ap (λ (k : KeySet). draw_of k n) (sym keys_are);
           next = let first = ap (λ (p : DrawPlace). p.next) draws_are in omega (arith, first);
         }
 
-        agrees : Agrees state e t
+        pub agrees : Agrees state e t
         agrees = record {
           ready = reopens.opens.ok.stays.ready;
           next = ap (λ (p : Public). p.next_region) public_is
@@ -570,33 +570,38 @@ module _ {R : Type 0} (state : R → RevState) (config : Config) (keys : KeySet)
         }
 
         -- and no region above the closing's has come
-        none_above : (q : ℕ) → closing.region < q → t.live q ≡ None
+        pub none_above : (q : ℕ) → closing.region < q → t.live q ≡ None
         none_above q above =
             let early : (i : ℕ) (x : Listed) → slice_get listed i ≡ Some x → x.table.region < closing.region = λ i x is. omega (arith, (table_is closing listed reads.catalogue i x is).region_most) in
             let off : IsOf listed q → ⊥ = λ of. omega (arith, early of.place of.table of.is, of.region, above) in
             reopens.opens.ok.stays.apart.kept q off ∙ reads.opens.ok.stays.apart.kept q (λ same. omega (arith, same, above)) ∙ room.keeps.live q ∙ empty q
 
+        pub did : Did (opening_script closing listed) s t
+        did = did_open state config keys closing marked s s1 fresh honest room v0 ready started keyed none v1 s2 listed reads e.vault t value reopens
+
+        abbrev pub opened_as : IsOpened state config keys closing e s t
+        opened_as = record {
+          listed = listed;
+          catalogue = reads.catalogue;
+          agrees = agrees;
+          public = public_is;
+          keyed = keys_are;
+          drawn = drawn;
+          unindexed = unindexed;
+          start = start_last state config keys closing marked s s1 fresh honest room v0 ready started keyed none v1 s2 listed reads e.vault t value reopens;
+          from_closing = from_is;
+          alive = alive;
+          high = high_is;
+          rows = rows_is;
+          did = did;
+          calm = calm_last state config keys closing marked s s1 fresh honest room v0 ready started keyed none v1 s2 listed reads e.vault t value reopens;
+          earlier = none_above;
+        }
+
         pub opens_all : OpensEngine state config keys closing (Ok e) s t
         opens_all =
-            let did = did_open state config keys closing marked s s1 fresh honest room v0 ready started keyed none v1 s2 listed reads e.vault t value reopens in
             record {
-              ok = record {
-                listed = listed;
-                catalogue = reads.catalogue;
-                agrees = agrees;
-                public = public_is;
-                keyed = keys_are;
-                drawn = drawn;
-                unindexed = unindexed;
-                start = start_last state config keys closing marked s s1 fresh honest room v0 ready started keyed none v1 s2 listed reads e.vault t value reopens;
-                from_closing = from_is;
-                alive = alive;
-                high = high_is;
-                rows = rows_is;
-                did = did;
-                calm = calm_last state config keys closing marked s s1 fresh honest room v0 ready started keyed none v1 s2 listed reads e.vault t value reopens;
-                earlier = none_above;
-              };
+              ok = opened_as;
               err = tt;
               faults = let same = did.faults in omega (arith, same);
               tells = reopens.opens.ok.stays.tells ∙ reads.opens.ok.stays.tells ∙ room.tells;

@@ -23,7 +23,7 @@ use Rattle.ob_flat.specs.declared.fault.OpErr.{OpErr}
 use Rattle.ob_flat.specs.declared.fault.OpErr.TheVariants as OpErrs
 use Rattle.ob_flat.specs.Passes.{PassCut, PassCause, is_of_access}
 use Rattle.ob_mutate.specs.Mutating.{StaysStored}
-use Rattle.ob_script.specs.Saved.{left_by, left_then, run_script, whole_run}
+use Rattle.ob_script.specs.Saved.{left_by, left_then, run_next, run_script, whole_run}
 use Rattle.std.specs.Prelude.{◌<◌}
 use Rattle.std.specs.Result.{is_err}
 use Rattle.std.proofs.lemmas.Bool.Decides.{nat_tests}
@@ -229,7 +229,7 @@ module _ {R : Type 0} (state : R → RevState) (skeleton : Skeleton) (old : Engi
       → run_script old.public skeleton seen ≡ x → tables ≡ tables_then old.public skeleton seen.end → AreTables tables (others_of old.closing indexes.items) indexes.items old.public.pack (at state v t)
       → MayHave old indexes.items → draws.key ≡ old.draws.key
       → ((d : Draws) → AreDraws old d → draws.next ≡ (d.drawn + draws_taken old.public skeleton seen.end) % 2 ^ 67)
-      → GoesOn state skeleton old (engine_left old indexes draws v room tables seen ended) t
+      → GoesOn state skeleton (run_next old.public skeleton seen) old (engine_left old indexes draws v room tables seen ended) t
   left_on indexes draws tables seen x ended lives ready start keys asked is same are may key drawn =
       let number = next_after (world_of state old s) (at state v t) x agrees.ready ready start asked in
       let region : v.next ≡ old.public.next_region + makes (run_script old.public skeleton seen) =
@@ -265,8 +265,8 @@ module _ {R : Type 0} (state : R → RevState) (skeleton : Skeleton) (old : Engi
   cut_cause OpErrs.Sink a b cause = cause
   cut_cause OpErrs.NoMemory a b cause = cause
 
-  cut_on : (e : OpErr) (indexes : Vec Index Global) (draws : DrawPlace) (n : ℕ) → GoesOn state skeleton old (engine_left old indexes draws v room old.public.tables (seen_to (Cut n)) false) t
-      → Continues state skeleton (answer_of e) old (engine_left old indexes draws v room old.public.tables (seen_to (Cut n)) (is_stop (answer_of e))) t
+  cut_on : (e : OpErr) (indexes : Vec Index Global) (draws : DrawPlace) (n : ℕ) → GoesOn state skeleton (run_next old.public skeleton (seen_to (Cut n))) old (engine_left old indexes draws v room old.public.tables (seen_to (Cut n)) false) t
+      → Continues state skeleton (run_next old.public skeleton (seen_to (Cut n))) (answer_of e) old (engine_left old indexes draws v room old.public.tables (seen_to (Cut n)) (is_stop (answer_of e))) t
   cut_on OpErrs.Failed indexes draws n on = on
   cut_on (OpErrs.Tampered q x) indexes draws n on = refl
   cut_on OpErrs.Sink indexes draws n on = refl
@@ -302,7 +302,7 @@ module _ {R : Type 0} (state : R → RevState) (skeleton : Skeleton) (old : Engi
     (agrees : Agrees state old s) (free : IsFree old.public room) (undrawn : drawn_by old.public skeleton ≡ 0) where
   went_on : (tables : List Table) (end : End) (x : List Access) (ended : Bool) → ended ≡ false → Ready (at state v t) → start_of v ≡ start_of old.vault → v.keys ≡ old.vault.keys → t.asked ≡ s.asked ++ x
       → run_script old.public skeleton (seen_to end) ≡ x → tables ≡ tables_then old.public skeleton end → AreTables tables (others_of old.closing old.indexes.items) old.indexes.items old.public.pack (at state v t)
-      → GoesOn state skeleton old (engine_after old v room tables end ended) t
+      → GoesOn state skeleton (run_next old.public skeleton (seen_to end)) old (engine_after old v room tables end ended) t
   went_on tables end x ended lives ready start keys asked is same are =
       left_on state skeleton old s v room t agrees free old.indexes old.draws tables (seen_to end) x ended lives ready start keys asked is same are (may_have state old s agrees) refl
       (λ d of. let none = taken_none old.public skeleton undrawn end in

@@ -1,6 +1,7 @@
 -- What waits in the store behind a statement, where tables are saved.
-use Rattle.std.proofs.Common.{◌≡◌, ℕ, suc, cond, Bool, true, false, if◌then◌else◌, List, [], ◌∷◌, Option, Some, None, Ok, Err, Result, refl, sym, ◌∙◌, ap, arith}
-use Rattle.std.specs.Prelude.{bytes_eq}
+use Rattle.std.proofs.Common.{◌≡◌, ◌<◌, ℕ, zero, suc, cond, Bool, true, false, if◌then◌else◌, List, [], ◌∷◌, Option, Some, None, Ok, Err, Result, refl, sym, ◌∙◌, ap, arith}
+use Rattle.std.specs.Prelude.{bytes_eq, slice_get}
+use Rattle.std.proofs.lemmas.Slice.Eq.{bytes_eq-Decides}
 use Rattle.std.specs.Option.{option_map}
 use Rattle.ob_base.specs.declared.config.Public.{Public}
 use Rattle.ob_base.specs.declared.schema.Table.{Table}
@@ -9,7 +10,7 @@ use Rattle.ob_base.specs.declared.seen.End.TheVariants.{Static, Whole, AfterCoun
 use Rattle.ob_base.specs.declared.skeleton.Skeleton.{Skeleton}
 use Rattle.ob_base.specs.declared.skeleton.Skeleton.TheVariants.{Create, Insert, Update, Delete, Drop as DropTable, Rows, Groups}
 use Rattle.ob_base.specs.Stored.{Stored, stored_at, stored_region, stored_regions}
-use Rattle.ob_script.specs.Saved.{left_by, left_region, left_then}
+use Rattle.ob_script.specs.Saved.{left_by, left_region, left_then, run_next}
 use Rattle.ob_store.specs.State.{StoreState}
 use Rattle.ob_vault.specs.State.{RevState}
 use Rattle.ob_verdict.specs.declared.outcome.Outcome.{Outcome}
@@ -37,6 +38,31 @@ region_table name (t ∷ ts) q is = head (bytes_eq t.heading.name name) refl (re
         let there = rest (sym (ap (behind name t ts) miss) ∙ is) in
         record { place = suc there.place; table = there.table; get = there.get; region = there.region }
 
+-- ---- the first table of a name is found by it
+pub region_first : (name : List ℕ) (ts : List Table) (i : ℕ) (t : Table) → slice_get ts i ≡ Some t → t.heading.name ≡ name
+    → ((j : ℕ) (u : Table) → j < i → slice_get ts j ≡ Some u → u.heading.name ≡ name → ⊥) → option_map (λ (u : Stored ℕ). u.held) (stored_at name (stored_regions ts)) ≡ Some t.region
+region_first name [] zero t get named first = absurd (cc get)
+region_first name [] (suc i) t get named first = absurd (cc get)
+region_first name (x ∷ xs) zero t get named first =
+    let same : x ≡ t = cc get in
+    let hit = (bytes_eq-Decides x.heading.name name).1 (ap (λ (u : Table). u.heading.name) same ∙ named) in
+    ap (behind name x xs) hit ∙ ap (λ (u : Table). Some u.region) same
+region_first name (x ∷ xs) (suc i) t get named first =
+    head (bytes_eq x.heading.name name) refl
+    (region_first name xs i t get named (λ j u below at is. first (suc j) u (omega (arith, below)) at is))
+  where
+    head : (b : Bool) → bytes_eq x.heading.name name ≡ b → behind name x xs false ≡ Some t.region → option_map (λ (u : Stored ℕ). u.held) (stored_at name (stored_regions (x ∷ xs))) ≡ Some t.region
+    head true hit rest = absurd (first 0 x (omega arith) refl ((bytes_eq-Decides x.heading.name name).0 hit))
+    head false miss rest = ap (behind name x xs) miss ∙ rest
+
+pub region_none : (name : List ℕ) (ts : List Table) → ((j : ℕ) (u : Table) → slice_get ts j ≡ Some u → u.heading.name ≡ name → ⊥) → option_map (λ (u : Stored ℕ). u.held) (stored_at name (stored_regions ts)) ≡ None
+region_none name [] none = refl
+region_none name (x ∷ xs) none = head (bytes_eq x.heading.name name) refl (region_none name xs (λ j u at is. none (suc j) u at is))
+  where
+    head : (b : Bool) → bytes_eq x.heading.name name ≡ b → behind name x xs false ≡ None → option_map (λ (u : Stored ℕ). u.held) (stored_at name (stored_regions (x ∷ xs))) ≡ None
+    head true hit rest = absurd (none 0 x refl ((bytes_eq-Decides x.heading.name name).0 hit))
+    head false miss rest = ap (behind name x xs) miss ∙ rest
+
 module _ {R : Type 0} (state : R → RevState) (old : Engine R) (s : StoreState) (new : Engine R) (t : StoreState) (agrees : Agrees state old s) where
   -- a statement leaves that of a table
   left_table : (saves : Bool) (skeleton : Skeleton) (q : ℕ) → (if saves then left_region old.public skeleton else None) ≡ Some q → IsTableRegion old.public.tables q
@@ -51,7 +77,7 @@ module _ {R : Type 0} (state : R → RevState) (old : Engine R) (s : StoreState)
 
   module _ (skeleton : Skeleton) where
     -- which lies in the store then, until it is discarded
-    left_waits : GoesOn state skeleton old new t → (q : ℕ) → left_by old.public skeleton ≡ Some q → LeftBehind state q s new t → WaitsAt state q new t
+    left_waits : GoesOn state skeleton (run_next old.public skeleton new.seen) old new t → (q : ℕ) → left_by old.public skeleton ≡ Some q → LeftBehind state q s new t → WaitsAt state q new t
     left_waits on q is left =
         let at = left_table old.public.save skeleton q is in
         let live = (agrees.tables.each at.place at.table at.get).live in

@@ -1,5 +1,7 @@
 -- What a statement does, whatever it is answered.
-use Rattle.std.specs.Prelude.{◌≡◌, ◌⊎◌, ◌+◌, ◌-◌, ◌<◌, ℕ, Bool, true, false, ◌++◌, length, IsTrue, Result, Ok, Err, Option, Some, None}
+use Rattle.std.specs.Prelude.{◌≡◌, ◌⊎◌, ◌+◌, ◌-◌, ◌<◌, ℕ, Bool, true, false, List, ◌++◌, length, IsTrue, Result, Ok, Err, Option, Some, None}
+use Rattle.ob_base.specs.declared.access.Access.{Access}
+use Rattle.ob_base.specs.declared.config.Public.{Public}
 use Rattle.ob_base.specs.declared.refusal.Refusal.{Refusal}
 use Rattle.ob_tables.specs.declared.stop.RunStop.{RunStop}
 use Rattle.ob_tables.specs.declared.stop.RunStop.TheVariants.{Tampered, SinkFault, NoMemory, StoreFault, StashFull}
@@ -100,19 +102,20 @@ abbrev pub IsFaulted : Result Outcome RunStop → Type 0
 IsFaulted (Ok outcome) = IsTrue (is_fault outcome)
 IsFaulted (Err stop) = ⊥
 
--- what lasts where the session goes on: the engine and the store belong together, and what is public is
--- what follows from the statement and what was seen of it
-pub record GoesOn {R : Type 0} (state : R → RevState) (skeleton : Skeleton) (old new : Engine R) (t : StoreState) : Type 0 where
+-- what lasts where the session goes on: the engine and the store belong together, and what is public is this
+pub record GoesOn {R : Type 0} (state : R → RevState) (skeleton : Skeleton) (after : Public)
+    (old new : Engine R) (t : StoreState) : Type 0 where
   pub agrees : Agrees state new t
-  pub public : new.public ≡ run_next old.public skeleton new.seen
+  pub public : new.public ≡ after
   pub lives : new.ended ≡ false
   -- it drew as many numbers as its statement does
   pub drawn : (d : Draws) → AreDraws old d
       → AreDraws new (record d { drawn = d.drawn + draws_taken old.public skeleton new.seen.end })
 
-abbrev pub Continues : {R : Type 0} → (R → RevState) → Skeleton → Result Outcome RunStop → Engine R → Engine R → StoreState → Type 0
-Continues state skeleton (Ok outcome) old new t = GoesOn state skeleton old new t
-Continues state skeleton (Err stop) old new t = new.ended ≡ true
+abbrev pub Continues : {R : Type 0} → (R → RevState) → Skeleton → (after : Public) → Result Outcome RunStop
+    → Engine R → Engine R → StoreState → Type 0
+Continues state skeleton after (Ok outcome) old new t = GoesOn state skeleton after old new t
+Continues state skeleton after (Err stop) old new t = new.ended ≡ true
 
 -- a region that a statement left lies in the store as it did, and the vault has forgotten it
 pub record LeftBehind {R : Type 0} (state : R → RevState) (q : ℕ) (s : StoreState) (new : Engine R)
@@ -120,11 +123,11 @@ pub record LeftBehind {R : Type 0} (state : R → RevState) (q : ℕ) (s : Store
   pub stored : StaysStored q s t
   pub forgotten : (state new.vault.revs).live q ≡ None
 
--- what a statement did: exactly the accesses of what is seen of it; all rows of the room are free again, and one at least
--- was open where a block was read or written
-pub record RanStatement {R : Type 0} (state : R → RevState) (skeleton : Skeleton) (result : Result Outcome RunStop)
-    (old : Engine R) (s : StoreState) (new : Engine R) (t : StoreState) : Type 0 where
-  pub asked : t.asked ≡ s.asked ++ run_script old.public skeleton new.seen
+-- what a statement did: exactly these accesses, and then this is public; all rows of the room are free again, and one at
+-- least was open where a block was read or written
+pub record RanAs {R : Type 0} (state : R → RevState) (skeleton : Skeleton) (script : List Access) (after : Public)
+    (result : Result Outcome RunStop) (old : Engine R) (s : StoreState) (new : Engine R) (t : StoreState) : Type 0 where
+  pub asked : t.asked ≡ s.asked ++ script
   pub later : Later s t
   pub keys : new.vault.keys ≡ old.vault.keys
   pub start : engine_start new ≡ engine_start old
@@ -133,15 +136,22 @@ pub record RanStatement {R : Type 0} (state : R → RevState) (skeleton : Skelet
   pub asks : IsFaulted result → length s.asked < length t.asked
   pub cause : RunCause result (world_of state old s) (world_of state new t)
   pub room : IsFree old.public new.room
-  pub opened : Opens (run_script old.public skeleton new.seen) old.room.high new.room.high
+  pub opened : Opens script old.room.high new.room.high
   pub leaves : (d : Draws) → AreDraws old d → MovesLeaves d (draws_taken old.public skeleton new.seen.end)
       (height_at old.public skeleton) old.indexes.items new.seen.leaf new.ended new.indexes.items
-  pub goes_on : Continues state skeleton result old new t
+  pub goes_on : Continues state skeleton after result old new t
   -- the region that it leaves stays in the store, and what was left before it waits as it did
   pub stays : (q : ℕ) → left_then old.public skeleton new.seen.end ≡ Some q
       → LeftBehind state q s new t
   pub replaced : replaced_of new ≡ replaced_of old
   pub indexed : stops_access result ≡ true → is_access old.public skeleton ≡ true
+
+-- as the engine does it: the accesses, and what is public, follow from the statement and what is seen of it
+abbrev pub RanStatement : {R : Type 0} → (R → RevState) → Skeleton → Result Outcome RunStop
+    → Engine R → StoreState → Engine R → StoreState → Type 0
+RanStatement state skeleton result old s new t =
+    RanAs state skeleton (run_script old.public skeleton new.seen) (run_next old.public skeleton new.seen)
+    result old s new t
 
 -- a stop by the sink comes only where a call of the emitter failed, and always where one did
 abbrev pub SinkStops : Result Outcome RunStop → ℕ → ℕ → Type 0

@@ -1,5 +1,5 @@
 -- What saving an engine's tables does, what is discarded then, and how an engine goes on from what was saved.
-use Rattle.std.specs.Prelude.{◌≡◌, ◌≢◌, ◌⊎◌, ◌<◌, ◌≤◌, ◌+◌, ◌++◌, ℕ, Bool, IsTrue, List, [], Option, None, Some, Result, IfOk, IfErr, MatchResult}
+use Rattle.std.specs.Prelude.{◌≡◌, ◌≢◌, ◌⊎◌, ◌<◌, ◌≤◌, ◌+◌, ◌++◌, ℕ, Bool, true, false, IsTrue, List, [], Option, None, Some, Result, Err, OnOk, IfOk, IfErr, MatchResult}
 use Rattle.ob_base.specs.Accesses.{drop_script}
 use Rattle.ob_base.specs.declared.access.Access.{Access}
 use Rattle.ob_base.specs.declared.config.Config.{Config}
@@ -7,7 +7,7 @@ use Rattle.ob_base.specs.declared.config.Public.{Public}
 use Rattle.ob_base.specs.declared.mark.Mark.{Mark}
 use Rattle.ob_base.specs.declared.mark.Mark.TheVariants.{Fresh, InUse, Closed, Begun, Saved}
 use Rattle.ob_mean.specs.Verdict.{Tables}
-use Rattle.ob_reopen.specs.Closed.{NotClosed}
+use Rattle.ob_reopen.specs.Closed.{NotClosed, is_used_up}
 use Rattle.ob_reopen.specs.Closings.{saved_mark, write_script}
 use Rattle.ob_reopen.specs.Keepers.{AreSaltBytes, IsMark}
 use Rattle.ob_reopen.specs.Limits.{IsMarked}
@@ -16,18 +16,21 @@ use Rattle.ob_reopen.specs.Reopened.{NotOpened}
 use Rattle.ob_reopen.specs.Saved.{RestsBy, reopening_keys}
 use Rattle.ob_reopen.specs.declared.closing.Closing.{Closing}
 use Rattle.ob_reopen.specs.declared.fault.CloseErr.{CloseErr}
+use Rattle.ob_reopen.specs.declared.fault.CloseErr.TheVariants as CloseErrs
 use Rattle.ob_reopen.specs.declared.fault.OpenErr.{OpenErr}
 use Rattle.ob_reopen.specs.declared.fault.OpenErr.TheVariants.{Failed, NoMemory}
 use Rattle.ob_script.specs.Saved.{saved_public}
 use Rattle.ob_seal.specs.KeySet.{KeySet, pair_of}
+use Rattle.ob_select.specs.Opening.{Opens}
 use Rattle.ob_select.specs.Selecting.{AcceptsRows}
+use Rattle.ob_select.specs.Settings.{IsFree}
 use Rattle.ob_store.specs.Calls.{IsLive}
 use Rattle.ob_store.specs.Runs.{Did, Later}
 use Rattle.ob_store.specs.State.{StoreState}
 use Rattle.ob_vault.specs.Calls.{Seals}
 use Rattle.ob_vault.specs.State.{RevState}
 use Rattle.ob_vault.specs.Tied.{AllSealed, Calm, Scope, next_fault}
-use Rattle.ob_tables.specs.Agreeing.{Agrees, draws_of, engine_keys, engine_start, has_ended, opened_from, public_of, replaced_of, world_of}
+use Rattle.ob_tables.specs.Agreeing.{Agrees, draws_of, engine_keys, engine_start, has_ended, high_of, opened_from, public_of, replaced_of, seen_of, world_of}
 use Rattle.ob_tables.specs.Closing.{next_closing}
 use Rattle.ob_tables.specs.Reopening.{IsOpened}
 use Rattle.ob_tables.specs.Running.{is_stop}
@@ -74,11 +77,19 @@ pub record IsSaved {R : Type 0} (state : R → RevState) (mark : Mark) (e : Engi
 pub record SavesEngine {R : Type 0} (state : R → RevState) (result : Result Mark CloseErr)
     (e : Engine R) (s : StoreState) (saved : Engine R) (t : StoreState) : Type 0 where
   pub ok : IfOk result (λ mark. IsSaved state mark e s saved t)
-  pub err : IfErr result (λ err. NotClosed (save_script e s) err s t)
+  -- where the closing would have a number that no mark may name nothing is asked
+  pub used_up : is_used_up (next_closing e s) ≡ true → (result ≡ Err CloseErrs.Failed) × (t ≡ s)
+  pub err : is_used_up (next_closing e s) ≡ false
+      → IfErr result (λ err. NotClosed (save_script e s) err s t)
   pub ended : has_ended saved ≡ is_stop result
   pub keys : engine_keys saved ≡ engine_keys e
   pub start : engine_start saved ≡ engine_start e
   pub draws : draws_of saved ≡ draws_of e
+  pub seen : seen_of saved ≡ seen_of e
+  -- all rows of the room are free again, and one at least was open where the closing was written
+  pub room : IsFree (public_of e) saved.room
+  pub high : high_of e ≤ high_of saved
+  pub opened : OnOk result (Opens (save_script e s) (high_of e) (high_of saved))
   pub later : Later s t
   pub calm : Calm (world_of state e s) → Calm (world_of state saved t)
   -- whatever comes of it, what is kept of the regions that there were stays: what a mark names that is held goes on to

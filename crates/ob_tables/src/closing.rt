@@ -48,7 +48,7 @@ fn drop_closing<S: BlockStore, R: Revisions>(
 
 impl<R: Revisions> Engine<R> {
     // Whether the next region or the next write would have a number that no mark may name.
-    fn is_used_up(&self) -> bool
+    pub(crate) fn is_used_up(&self) -> bool
         ensures { result ≡ (nat_le (2 ^ 63) self.now.vault.next
             || nat_le (2 ^ 63) (self.now.vault.count + 1)) }
     {

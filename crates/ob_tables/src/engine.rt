@@ -6,7 +6,7 @@ ghost use Rattle.ob_vault.specs.State.{from_nothing};
 ghost use Rattle.ob_mean.specs.Verdict.{ended as seen_to};
 ghost use Rattle.ob_tables.specs.Engines.{IsConfig};
 ghost use Rattle.ob_base.specs.Publics.{first_public};
-ghost use Rattle.ob_tables.specs.Agreeing.{Agrees, AreDraws, public_of, seen_of, engine_keys, engine_start, first_draws, has_ended, high_of, opened_from, rows_of};
+ghost use Rattle.ob_tables.specs.Agreeing.{Agrees, AreDraws, public_of, seen_of, engine_keys, engine_start, first_draws, has_ended, high_of, opened_from, replaced_of, rows_of};
 ghost use Rattle.ob_tables.specs.Running.{answer_of, is_stop, stop_of};
 
 use crate::stop::RunStop;
@@ -72,6 +72,7 @@ impl<R: Revisions> Engine<R> {
         ensures drawn { IfOk result (λ e. AreDraws e (first_draws keys)) }
         ensures started { IfOk result (λ e. engine_start e ≡ from_nothing) }
         ensures anew { IfOk result (λ e. opened_from e ≡ None) }
+        ensures settled { IfOk result (λ e. replaced_of e ≡ None) }
         ensures alive { IfOk result (λ e. has_ended e ≡ false) }
         ensures none_open { IfOk result (λ e. high_of e ≡ 0) }
         ensures rows { IfOk result (λ e. rows_of e ≡ config.buffer) }

@@ -1,9 +1,10 @@
 //! An engine that goes on from what an earlier run closed.
-ghost use Rattle.std.specs.Prelude.{◌≡◌, ℕ, [], Some, None, map, IfOk, if◌then◌else◌};
+ghost use Rattle.std.specs.Prelude.{◌≡◌, ◌<◌, ◌-◌, ◌^◌, ℕ, List, [], map, IfOk};
 ghost use Rattle.ob_tables.specs.Reopening.{IsClosed, OpensEngine};
 ghost use Rattle.ob_tables.specs.Engines.{IsConfig};
 ghost use Rattle.ob_reopen.specs.declared.closing.Closing.{Closing as Named};
 ghost use Rattle.ob_reopen.specs.declared.listed.Listed.{Listed as Entry};
+ghost use Rattle.ob_reopen.specs.Reopened.{opened_public};
 
 use crate::engine::{Engine, ROW_WIDTH, seen_to_end};
 use ob_base::{Config, End, Items, Mark, NoMemory, Public, Table};
@@ -36,14 +37,29 @@ fn closing_of(mark: &Mark) -> Closing
     }
 }
 
-// The region in which the tables of a closing are listed, where they are saved.
-fn saved_in(config: Config, closing: Closing) -> Option<u64>
-    ensures { result ≡ (if config.save then Some closing.region else None) }
+// What is public of an engine that goes on from a closing.
+pub(crate) fn public_at(config: Config, closing: Closing, tables: Items<Table>) -> Public
+    requires { closing.region < 2 ^ 64 - 1 }
+    ensures { (listed : List Entry) → tables ≡ map (λ (t : Entry). t.table) listed
+        → result ≡ opened_public config closing listed }
 {
-    if config.save {
+    let saved = if config.save {
         Some(closing.region)
     } else {
         None
+    };
+    Public {
+        tables,
+        next_region: closing.region + 1,
+        buffer: config.buffer,
+        depth: config.depth,
+        pack: config.pack,
+        plan: config.plan,
+        pad: config.pad,
+        stash: config.stash,
+        keep: config.keep,
+        save: config.save,
+        closing: saved,
     }
 }
 
@@ -103,19 +119,7 @@ impl<R: Revisions> Engine<R> {
             alloc,
             vault,
             room,
-            public: Public {
-                tables,
-                next_region: closing.region + 1,
-                buffer: config.buffer,
-                depth: config.depth,
-                pack: config.pack,
-                plan: config.plan,
-                pad: config.pad,
-                stash: config.stash,
-                keep: config.keep,
-                save: config.save,
-                closing: saved_in(config, closing),
-            },
+            public: public_at(config, closing, tables),
             seen: seen_to_end(End::Whole),
             ended: false,
             closing: Some(closing.region),

@@ -1,28 +1,37 @@
 //! An engine whose tables are saved: behind a statement that changed them they are listed in a closing, and a later run
 //! goes on from the one that was written last.
-ghost use Rattle.std.specs.Prelude.{◌≡◌, ◌≢◌, ◌<◌, ◌≤◌, ◌+◌, ◌^◌, ℕ, List, Option, [], Some, None, true, false};
-ghost use Rattle.ob_base.specs.Stored.{headings_of};
+ghost use Rattle.std.specs.Prelude.{◌≡◌, ◌≢◌, ◌<◌, ◌≤◌, ◌+◌, ◌^◌, ℕ, List, Option, [], Some, None, IfOk, true, false};
+ghost use Rattle.std.specs.Option.{option_map};
+ghost use Rattle.ob_base.specs.Stored.{Stored, headings_of, stored_at, stored_regions};
 ghost use Rattle.ob_tables.specs.Agreeing.{Agrees, count_of, engine_keys, has_ended, opened_from, public_of, replaced_of};
+ghost use Rattle.ob_tables.specs.Closing.{DropsClosing};
 ghost use Rattle.ob_tables.specs.Engines.{IsConfig, former_of};
 ghost use Rattle.ob_tables.specs.Saving.{NamesClosing, OpensSaved, SavesEngine, SettlesEngine, Waits};
 ghost use Rattle.ob_mean.specs.Flats.{AreFlat};
 ghost use Rattle.ob_script.specs.Saved.{left_by};
 ghost use Rattle.ob_sql.specs.Skeleton.{skeleton};
 ghost use Rattle.ob_reopen.specs.Closings.{saved_mark};
+ghost use Rattle.ob_reopen.specs.Keepers.{AreSaltBytes};
+ghost use Rattle.ob_reopen.specs.Saved.{reopening_keys};
 ghost use Rattle.ob_reopen.specs.declared.closing.Closing.{Closing as Named};
 ghost use Rattle.ob_seal.specs.KeySet.{pair_of};
+ghost use Rattle.ob_store.specs.Calls.{IsLive};
+ghost use Rattle.ob_store.specs.State.{StoreState};
+ghost use Rattle.ob_vault.specs.Places.{at};
+ghost use Rattle.ob_vault.specs.Tied.{Ready};
+ghost use Rattle.ob_vault.specs.VaultCalls.{Forgets};
 
 use crate::engine::{Engine, ROW_WIDTH, seen_to_end};
-use crate::opening::tables_of;
+use crate::opening::{public_at, tables_of};
 use crate::tables::find_table;
-use ob_base::{Config, End, Mark, Public};
+use ob_base::{Config, End, Mark, Name, NoMemory, Table};
 use ob_mutate::Former;
 use ob_reopen::{
-    CloseErr, Closing, OpenErr, list_tables, read_closing, reopen_tables, salted_regions,
+    CloseErr, Closing, Listed, OpenErr, list_tables, read_closing, reopen_tables, salted_regions,
     write_closing,
 };
 use ob_room::Room;
-use ob_seal::{Draws, Keys, Salted};
+use ob_seal::{Draws, Keys};
 use ob_sql::Stmt;
 use ob_store::{BlockStore, Lasting};
 use ob_vault::{Revisions, Vault};
@@ -30,7 +39,8 @@ use std::alloc::Global;
 
 // The mark that names a closing of a run with this salt.
 fn mark_of(closing: Closing, salt: [u8; 16]) -> Mark
-    ensures { result ≡ saved_mark closing salt }
+    ensures named { result ≡ saved_mark closing salt }
+    ensures bytes { AreSaltBytes salt }
 {
     Mark::Saved {
         region: closing.region,
@@ -83,6 +93,51 @@ fn closing_of(mark: &Mark) -> (Closing, Option<[u8; 16]>)
     }
 }
 
+// The region of the first table of this name, if there is one.
+fn region_of(tables: &[Table], name: &Name) -> Option<u64>
+    ensures { result ≡ option_map (λ (t : Stored ℕ). t.held)
+        (stored_at name.now (stored_regions tables.now)) }
+{
+    match find_table(tables, name) {
+        Some(i) => Some(tables[i].region),
+        None => None,
+    }
+}
+
+// Takes a region that the vault has forgotten out of the store, if there is one, whatever that answers.
+fn discard_left<S: BlockStore, R: Revisions>(store: &mut S, vault: &Vault<R>, left: Option<u64>)
+    requires ready { Ready (at R.state vault.now (S.state store.old)) }
+    requires spare { 1 ≤ (S.state store.old).spare }
+    requires waits { (q : ℕ) → left ≡ Some q → IsLive (S.state store.old) q
+        × (q < vault.now.next) × ((R.state vault.now.revs).live q ≡ None) }
+    ensures drops { DropsClosing left (at R.state vault.now (S.state store.old))
+        (at R.state vault.now (S.state store.new)) }
+{
+    if let Some(region) = left {
+        // A store that fails here has counted it.
+        let _ = vault.discard(store, region);
+    }
+}
+
+// The keys of a run with this salt that goes on from a closing, of which the run that wrote it had a salt or none, and
+// from these of its tables.
+fn keys_from(
+    alloc: Global,
+    secret: &[u8; 32],
+    salt: &[u8; 16],
+    closing: Closing,
+    closed: Option<[u8; 16]>,
+    listed: &[Listed],
+) -> Result<Keys, NoMemory>
+    ensures { IfOk result (λ keys.
+        keys ≡ reopening_keys secret.now salt.now closed closing listed.now) }
+{
+    let Ok(regions) = salted_regions(alloc, closing, closed, listed) else {
+        return Err(NoMemory);
+    };
+    Keys::derive_salted(alloc, secret, salt, regions.as_slice())
+}
+
 impl<R: Revisions> Engine<R> {
     // What becomes of the region of a table that is changed, or dropped.
     pub(crate) fn former(&self) -> Former
@@ -103,15 +158,14 @@ impl<R: Revisions> Engine<R> {
         if !self.public.save {
             return None;
         }
-        let table = match stmt {
-            Stmt::Insert { table, .. }
-            | Stmt::Update { table, .. }
-            | Stmt::Delete { table, .. }
-            | Stmt::Drop { table } => table,
-            Stmt::Create { .. } | Stmt::SelectRows(_) | Stmt::SelectTotals(_) => return None,
-        };
         let tables = self.public.tables.as_slice();
-        find_table(tables, table).map(|i| tables[i].region)
+        match stmt {
+            Stmt::Insert { table, .. } => region_of(tables, table),
+            Stmt::Update { table, .. } => region_of(tables, table),
+            Stmt::Delete { table, .. } => region_of(tables, table),
+            Stmt::Drop { table } => region_of(tables, table),
+            Stmt::Create { .. } | Stmt::SelectRows(_) | Stmt::SelectTotals(_) => None,
+        }
     }
 
     /// Opens the tables that a closing lists, for a run with this salt that saves them: the closing that `mark` names,
@@ -154,20 +208,13 @@ impl<R: Revisions> Engine<R> {
             return Err(OpenErr::NoMemory);
         };
         // the salts of the tables lie in the closing: it is read under keys that know no other than its own
-        let first = [Salted {
-            region: closing.region,
-            salt: closed,
-        }];
-        let Ok(keys) = Keys::derive_salted(alloc, secret, salt, &first) else {
+        let Ok(keys) = keys_from(alloc, secret, salt, closing, closed, &[]) else {
             return Err(OpenErr::NoMemory);
         };
         let last = closing.number + u64::from(closing.blocks) - 1;
         let mut vault = Vault::start_at(alloc, keys, closing.region + 1, last);
         let listed = read_closing(alloc, store, &mut vault, &mut room, closing)?;
-        let Ok(regions) = salted_regions(alloc, closing, closed, listed.as_slice()) else {
-            return Err(OpenErr::NoMemory);
-        };
-        let Ok(keys) = Keys::derive_salted(alloc, secret, salt, regions.as_slice()) else {
+        let Ok(keys) = keys_from(alloc, secret, salt, closing, closed, listed.as_slice()) else {
             return Err(OpenErr::NoMemory);
         };
         let draws = Draws::new(keys.draw_seed());
@@ -180,19 +227,7 @@ impl<R: Revisions> Engine<R> {
             alloc,
             vault,
             room,
-            public: Public {
-                tables,
-                next_region: closing.region + 1,
-                buffer: config.buffer,
-                depth: config.depth,
-                pack: config.pack,
-                plan: config.plan,
-                pad: config.pad,
-                stash: config.stash,
-                keep: config.keep,
-                save: config.save,
-                closing: Some(closing.region),
-            },
+            public: public_at(config, closing, tables),
             seen: seen_to_end(End::Whole),
             ended: false,
             closing: Some(closing.region),
@@ -202,9 +237,9 @@ impl<R: Revisions> Engine<R> {
         })
     }
 
-    // A closing was written: the one before it waits until it is discarded.
+    // A closing was written: the vault forgets the one before it, which waits until it is discarded.
     fn list_in(&mut self, region: u64)
-        ensures { self.new ≡ record self.old {
+        ensures listed { self.new ≡ record self.old {
           vault = self.new.vault;
           public = record self.old.public {
             next_region = self.old.vault.next;
@@ -213,33 +248,42 @@ impl<R: Revisions> Engine<R> {
           closing = Some region;
           replaced = self.old.closing;
         } }
+        ensures forgets { (q : ℕ) → self.old.closing ≡ Some q → (s : StoreState)
+            → Forgets q (at R.state self.old.vault s) (at R.state self.new.vault s) }
+        ensures stays { self.old.closing ≡ None → self.new.vault ≡ self.old.vault }
     {
-        self.replaced = self.closing.replace(region);
-        if let Some(before) = self.replaced {
-            self.vault.forget(before);
-        }
+        let before = self.closing;
         self.public.next_region = self.vault.next_region();
         self.public.closing = Some(region);
+        self.closing = Some(region);
+        self.replaced = before;
+        if let Some(q) = before {
+            self.vault.forget(q);
+        }
     }
 
     /// Writes a closing, a region that lists the tables by their names, and gives the mark that names it with the salt of
     /// this run: from this mark the next run opens them again. No other region is asked for: the closing before it, and the
     /// region in which a table lay before, stay in the store until `settle`.
     ///
-    /// `Failed` where the store failed; `NoMemory` before the first access, or where the region is made. After an error
-    /// the session has ended, and what was kept in the store for an earlier mark is as it was.
+    /// `Failed` where the store failed, and also, with nothing asked, where the closing's region or its first write would
+    /// have a number above 2^63 - 1; `NoMemory` before the first access, or where the region is made. After an error the
+    /// session has ended, and what was kept in the store for an earlier mark is as it was.
     pub fn save<S: BlockStore>(&mut self, store: &mut S) -> Result<Mark, CloseErr>
         requires agrees { Agrees R.state self.old (S.state store.old) }
         requires lives { has_ended self.old ≡ false }
         requires settled { replaced_of self.old ≡ None }
         requires flat { AreFlat (headings_of (public_of self.old).tables) }
-        requires few { count_of self.old (S.state store.old) + 2 < 2 ^ 63 }
+        requires few { count_of self.old (S.state store.old) < 2 ^ 63 + 2 ^ 59 }
         requires salted { (pair_of (engine_keys self.old) (public_of self.old).next_region).salt
             ≢ None }
         ensures saves { SavesEngine R.state result self.old (S.state store.old)
             self.new (S.state store.new) }
     {
         self.ended = true;
+        if self.is_used_up() {
+            return Err(CloseErr::Failed);
+        }
         let tables = self.public.tables.as_slice();
         // one to make the closing, one to write each of its blocks, and two to discard what it makes needless
         if store.room(4 + tables.len() as u64).is_err() {
@@ -248,30 +292,30 @@ impl<R: Revisions> Engine<R> {
         let Ok(listed) = list_tables(self.alloc, &self.vault, tables) else {
             return Err(CloseErr::NoMemory);
         };
-        let written = write_closing(store, &mut self.vault, &mut self.room, listed.as_slice())?;
-        let Some(salt) = self.vault.salt_of(written.region) else {
-            unreachable!()
-        };
-        self.list_in(written.region);
-        self.ended = false;
-        Ok(mark_of(written, salt))
+        match write_closing(store, &mut self.vault, &mut self.room, listed.as_slice()) {
+            Ok(written) => {
+                let Some(salt) = self.vault.salt_of(written.region) else {
+                    unreachable!()
+                };
+                self.list_in(written.region);
+                self.ended = false;
+                Ok(mark_of(written, salt))
+            }
+            Err(e) => Err(e),
+        }
     }
 
     /// Discards what the mark needs no more that was set: the region in which a table lay before it was changed, if there
     /// is one, and the closing before the last, whatever the store answers to that.
     pub fn settle<S: BlockStore>(&mut self, store: &mut S, left: Option<u64>)
         requires agrees { Agrees R.state self.old (S.state store.old) }
-        requires waits { Waits R.state left.now self.old (S.state store.old) }
+        requires waits { Waits R.state left self.old (S.state store.old) }
         requires spare { 2 ≤ (S.state store.old).spare }
-        ensures settles { SettlesEngine R.state left.now self.old (S.state store.old)
+        ensures settles { SettlesEngine R.state left self.old (S.state store.old)
             self.new (S.state store.new) }
     {
-        // A store that fails here has counted it.
-        if let Some(region) = left {
-            let _ = self.vault.discard(store, region);
-        }
-        if let Some(region) = self.replaced.take() {
-            let _ = self.vault.discard(store, region);
-        }
+        discard_left(store, &self.vault, left);
+        discard_left(store, &self.vault, self.replaced);
+        self.replaced = None;
     }
 }

@@ -15,9 +15,11 @@ use ob_store::BlockStore;
 use ob_vault::Revisions;
 use std::mem;
 
-/// The place of the table of this name, if there is one.
+/// The place of the first table of this name, if there is one.
 pub(crate) fn find_table(tables: &[Table], name: &Name) -> Option<usize>
     ensures found { IfSome result (λ i. (t : TableOf) × IsAt name.now i t tables.now) }
+    ensures first { IfSome result (λ i. (j : ℕ) (t : TableOf) → j < i
+        → IsAt name.now j t tables.now → ⊥) }
     ensures none { IfNone result ((i : ℕ) (t : TableOf) → IsAt name.now i t tables.now → ⊥) }
 {
     for (i, table) in tables.iter().enumerate() {

@@ -14,6 +14,9 @@ returns-then-eq-clause-found c = (
   },
 )
 
+pub returns-then-eq-clause-first : goal.returns-then-eq-clause-first
+returns-then-eq-clause-first c = λ j t below at. c.loop-i.invariant j t below at.get at.named
+
 pub loop-i-preserved : goal.loop-i-preserved
 loop-i-preserved c = λ j t less is same. elim (cases_eq j c.loop-i.i) [
   | inl here ↦

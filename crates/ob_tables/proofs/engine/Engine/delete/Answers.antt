@@ -2,7 +2,7 @@ use Rattle.std.proofs.Common.{◌≡◌, ◌-◌, Ok, refl, ◌∙◌, ap, appen
 use Rattle.std.specs.Prelude.{count_by}
 use Rattle.std.proofs.lemmas.Option.{slice_get_within}
 use Rattle.ob_base.specs.declared.seen.End.TheVariants.{Whole}
-use Rattle.ob_mutate.specs.Mutating.{rewrite_parts}
+use Rattle.ob_script.specs.Parts.{rewrite_part}
 use Rattle.ob_flat.specs.declared.flat.Flat.{Flat}
 use Rattle.ob_row.specs.Slots.{rows, emptied}
 use Rattle.ob_row.specs.Truth.{is_true}
@@ -62,7 +62,7 @@ returns-in-Ok-delete g c =
     c.in-Ok.ensures ∙ ap (where_at c.args.cond.now) (append-nil c.as_slice.result.now ∙ c.as_slice.ensures.value ∙ ap (λ (f : Flat). f.schema) found.is) in
     record {
       serves =
-          mutated g.R.Revisions.state (Delete c.args.table.now c.args.cond.now) c.args.table.now rewrite_parts Deleted (λ slots. count_by (is_true pred) (rows slots))
+          mutated g.R.Revisions.state (Delete c.args.table.now c.args.cond.now) c.args.table.now rewrite_part Deleted (λ slots. count_by (is_true pred) (rows slots))
           (map (emptied (is_true pred))) old s (g.S.BlockStore.state c.make_room.new.store) c.delete.new.vault c.delete.new.room (g.S.BlockStore.state c.delete.new.store)
           c.table_at-i.result.0 table flat c.delete.new.flat c.requires.agrees c.make_room.ensures.rests c.delete.ensures.room found.here found.is c.requires.allowed c.requires.flat
           (delete_alters old.public (count_of old s) c.args.table.now c.args.cond.now table.heading pred pred_is)
@@ -83,7 +83,7 @@ returns g c =
     c.in-Ok.ensures ∙ ap (where_at c.args.cond.now) (append-nil c.as_slice.result.now ∙ c.as_slice.ensures.value ∙ ap (λ (f : Flat). f.schema) found.is) in
     record {
       serves =
-          unmutated g.R.Revisions.state (Delete c.args.table.now c.args.cond.now) c.args.table.now rewrite_parts Deleted (λ slots. count_by (is_true pred) (rows slots))
+          unmutated g.R.Revisions.state (Delete c.args.table.now c.args.cond.now) c.args.table.now rewrite_part Deleted (λ slots. count_by (is_true pred) (rows slots))
           (map (emptied (is_true pred))) old s (g.S.BlockStore.state c.make_room.new.store) c.delete.new.vault c.delete.new.room (g.S.BlockStore.state c.delete.new.store)
           c.table_at-i.result.0 table flat c.delete.new.flat c.requires.agrees c.make_room.ensures.rests c.delete.ensures.room found.here found.is c.requires.allowed c.requires.flat
           (delete_alters old.public (count_of old s) c.args.table.now c.args.cond.now table.heading pred pred_is)

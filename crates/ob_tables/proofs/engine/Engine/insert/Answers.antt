@@ -4,7 +4,7 @@ use Rattle.std.proofs.lemmas.Option.{slice_get_within}
 use Rattle.ob_base.specs.declared.seen.End.TheVariants.{Whole}
 use Rattle.ob_base.specs.Schemas.{Columns}
 use Rattle.ob_base.specs.Stored.{headings_of}
-use Rattle.ob_mutate.specs.Mutating.{insert_parts}
+use Rattle.ob_script.specs.Parts.{insert_part}
 use Rattle.ob_flat.specs.declared.flat.Flat.{Flat}
 use Rattle.ob_row.specs.Rows.{Row}
 use Rattle.ob_row.specs.Spelling.{FitsColumns, IsCell}
@@ -82,7 +82,7 @@ returns-in-Ok-result g c =
     let alters = insert_alters old.public (count_of old s) c.args.table.now c.args.columns.now c.args.values.now table.heading flat.schema row (shape_found c.args.table.now old.public.tables c.table_at-i.result.0 table c.requires.agrees.tables.names found.here.get found.here.named c.requires.flat) schema_is row_is in
     record {
       serves =
-          mutated g.R.Revisions.state (Insert c.args.table.now c.args.columns.now c.args.values.now) c.args.table.now insert_parts inserted_as (insert_answer flat.schema row)
+          mutated g.R.Revisions.state (Insert c.args.table.now c.args.columns.now c.args.values.now) c.args.table.now insert_part inserted_as (insert_answer flat.schema row)
           (λ slots. slots_after (insert_answer flat.schema row slots) row slots) old s (g.S.BlockStore.state c.make_room.new.store) c.insert-result.new.vault c.insert-result.new.room (g.S.BlockStore.state c.insert-result.new.store)
           c.table_at-i.result.0 table flat c.insert-result.new.flat c.requires.agrees c.make_room.ensures.rests c.insert-result.ensures.room found.here found.is c.requires.allowed c.requires.flat alters
           c.former-former.result c.former-former.ensures c.in-Ok-result.inserted c.finish.new.self _ c.in-Ok-result.ensures.inserts c.requires.lives (ap (λ (o : Outcome). Ok o) (c.finish.ensures.answer ∙ c.outcome_of.ensures))
@@ -104,7 +104,7 @@ returns g c =
     let alters = insert_alters old.public (count_of old s) c.args.table.now c.args.columns.now c.args.values.now table.heading flat.schema row (shape_found c.args.table.now old.public.tables c.table_at-i.result.0 table c.requires.agrees.tables.names found.here.get found.here.named c.requires.flat) schema_is row_is in
     record {
       serves =
-          unmutated g.R.Revisions.state (Insert c.args.table.now c.args.columns.now c.args.values.now) c.args.table.now insert_parts inserted_as (insert_answer flat.schema row)
+          unmutated g.R.Revisions.state (Insert c.args.table.now c.args.columns.now c.args.values.now) c.args.table.now insert_part inserted_as (insert_answer flat.schema row)
           (λ slots. slots_after (insert_answer flat.schema row slots) row slots) old s (g.S.BlockStore.state c.make_room.new.store) c.insert-result.new.vault c.insert-result.new.room (g.S.BlockStore.state c.insert-result.new.store)
           c.table_at-i.result.0 table flat c.insert-result.new.flat c.requires.agrees c.make_room.ensures.rests c.insert-result.ensures.room found.here found.is c.requires.allowed c.requires.flat alters
           c.former-former.result c.former-former.ensures c.in-Err.error (c.count.result - c.count-before.result) c.cut-in-Err.new.self _ c.in-Err.ensures.inserts (λ i. c.count.ensures i - c.count-before.ensures i) c.cut-in-Err.ensures.answer c.cut-in-Err.ensures.seen;

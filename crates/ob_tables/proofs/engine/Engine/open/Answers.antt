@@ -10,6 +10,7 @@ use Rattle.ob_reopen.specs.declared.fault.OpenErr.TheVariants.{NoMemory}
 use Rattle.ob_reopen.specs.declared.listed.Listed.{Listed}
 use Rattle.ob_reopen.specs.Limits.{IsMarked}
 use Rattle.ob_reopen.specs.Openings.{ReopensTables}
+use Rattle.ob_reopen.specs.Reopened.{opened_public}
 use Rattle.ob_tables.specs.declared.engine.Engine.{Engine}
 use Rattle.ob_tables.specs.Reopening.{OpensEngine}
 use Rattle.ob_tables.proofs.RunLemmas.{at_ok}
@@ -127,24 +128,11 @@ returns g c =
     let mid = at g.R.Revisions.state c.read_closing.new.vault (g.S.BlockStore.state c.read_closing.new.store) in
     let last = at g.R.Revisions.state c.reopen_tables.new.vault (g.S.BlockStore.state c.reopen_tables.new.store) in
     let reopens = subst (λ (l : List Listed). ReopensTables c.closing_of-closing.result l (Ok c.in_ok-reopen_tables.field-0) mid last) c.as_slice.ensures c.in_ok-reopen_tables.ensures.reopens in
-    let public : List Table → Option ℕ → Public = λ ts saved. record {
-      tables = ts;
-      next_region = c.closing_of-closing.result.region + 1;
-      buffer = c.args.config.buffer;
-      depth = c.args.config.depth;
-      pack = c.args.config.pack;
-      plan = c.args.config.plan;
-      pad = c.args.config.pad;
-      stash = c.args.config.stash;
-      keep = c.args.config.keep;
-      save = c.args.config.save;
-      closing = saved;
-    } in
     let e : Engine g.row.R.Denot = record {
       alloc = c.args.alloc;
       vault = c.reopen_tables.new.vault;
       room = c.read_closing.new.room;
-      public = public c.in-Ok-tables_of.tables c.saved_in.result;
+      public = c.public_at.result;
       seen = c.seen_to_end.result;
       ended = false;
       closing = Some c.closing_of-closing.result.region;
@@ -152,6 +140,7 @@ returns g c =
       indexes = c.new-2.result;
       draws = c.new-draws.result;
     } in
+    let public : e.public ≡ opened_public c.args.config c.closing_of-closing.result c.in_ok-listed.listed = c.public_at.ensures c.in_ok-listed.listed c.in-Ok-tables_of.ensures in
     let new : c.in-Ok.room ≡ record { rows = c.args.config.buffer; width = 1024; pack = c.args.config.pack; free = replicate c.args.config.buffer (clear 1024); shelf = []; high = 0 } =
     c.in-Ok.ensures ∙ (λ i. record { rows = c.args.config.buffer; width = 1024; pack = c.from-2.ensures i; free = replicate c.args.config.buffer (clear 1024); shelf = []; high = 0 }) in
     record {
@@ -163,5 +152,5 @@ returns g c =
           (opens_all g.R.Revisions.state c.args.config c.args.keys c.closing_of-closing.result marked pack c.requires.config (g.S.BlockStore.state c.args.store.now) (g.S.BlockStore.state c.room.new.self) c.requires.fresh (g.met.S.BlockStore.starts_honest c.args.store.now c.requires.fresh)
           (λ q. g.met.S.BlockStore.starts_empty c.args.store.now q c.requires.fresh) (λ q region kept. g.met.S.BlockStore.keeps_within c.args.store.now q region kept) c.room.ensures.rests
           c.start_at-vault.result c.start_at-vault.ensures.ready (started_as c.closing_of-closing.result _ _ _ c.from-3.result c.start_at-vault.ensures.started refl c.from-3.ensures (omega arith))
-          c.start_at-vault.ensures.keyed c.start_at-vault.ensures.empty c.read_closing.new.vault (g.S.BlockStore.state c.read_closing.new.store) c.in_ok-listed.listed c.in_ok-listed.ensures.reads c.in_ok-reopen_tables.field-0 (g.S.BlockStore.state c.reopen_tables.new.store) e reopens (λ i. public (c.in-Ok-tables_of.ensures i) (c.saved_in.ensures i)) refl c.new-2.ensures.items (c.new-draws.ensures ∙ (λ i. record { key = key_of (c.draw_seed.ensures i); next = 0 })) refl (room_read c.args.config e.public c.in-Ok.room c.read_closing.new.room c.requires.config new c.read_closing.ensures.room refl refl) (high_read c.args.config c.in-Ok.room c.read_closing.new.room new c.read_closing.ensures.room) (rows_read c.args.config c.in-Ok.room c.read_closing.new.room new c.read_closing.ensures.room));
+          c.start_at-vault.ensures.keyed c.start_at-vault.ensures.empty c.read_closing.new.vault (g.S.BlockStore.state c.read_closing.new.store) c.in_ok-listed.listed c.in_ok-listed.ensures.reads c.in_ok-reopen_tables.field-0 (g.S.BlockStore.state c.reopen_tables.new.store) e reopens public refl c.new-2.ensures.items (c.new-draws.ensures ∙ (λ i. record { key = key_of (c.draw_seed.ensures i); next = 0 })) refl (room_read c.args.config e.public c.in-Ok.room c.read_closing.new.room c.requires.config new c.read_closing.ensures.room (ap (λ (p : Public). p.buffer) public) (ap (λ (p : Public). p.pack) public)) (high_read c.args.config c.in-Ok.room c.read_closing.new.room new c.read_closing.ensures.room) (rows_read c.args.config c.in-Ok.room c.read_closing.new.room new c.read_closing.ensures.room));
     }

@@ -4,7 +4,7 @@ use Rattle.std.specs.List.{All}
 use Rattle.std.specs.Prelude.{count_by}
 use Rattle.std.proofs.lemmas.Option.{slice_get_within}
 use Rattle.ob_base.specs.declared.seen.End.TheVariants.{Whole}
-use Rattle.ob_mutate.specs.Mutating.{rewrite_parts}
+use Rattle.ob_script.specs.Parts.{rewrite_part}
 use Rattle.ob_flat.specs.declared.flat.Flat.{Flat}
 use Rattle.ob_row.specs.declared.cell.Cell.{Cell}
 use Rattle.ob_row.specs.Slots.{rows}
@@ -87,7 +87,7 @@ returns-in-Ok-update g c =
     c.as_slice-3.ensures.value ∙ c.in-Ok-set_cells.ensures.value ∙ ap (set_cells c.args.sets.now) (c.as_slice-2.ensures.value ∙ ap (λ (f : Flat). f.schema) found.is) in
     record {
       serves =
-          mutated g.R.Revisions.state (Update c.args.table.now c.args.sets.now c.args.cond.now) c.args.table.now rewrite_parts Changed (λ slots. count_by (is_true pred) (rows slots))
+          mutated g.R.Revisions.state (Update c.args.table.now c.args.sets.now c.args.cond.now) c.args.table.now rewrite_part Changed (λ slots. count_by (is_true pred) (rows slots))
           (map (option_map (updated pred cells))) old s (g.S.BlockStore.state c.make_room.new.store) c.update.new.vault c.update.new.room (g.S.BlockStore.state c.update.new.store)
           c.table_at-i.result.0 table flat c.update.new.flat c.requires.agrees c.make_room.ensures.rests c.update.ensures.room found.here found.is c.requires.allowed c.requires.flat
           (update_alters old.public (count_of old s) c.args.table.now c.args.sets.now c.args.cond.now table.heading pred cells pred_is cells_is)
@@ -111,7 +111,7 @@ returns g c =
     c.as_slice-3.ensures.value ∙ c.in-Ok-set_cells.ensures.value ∙ ap (set_cells c.args.sets.now) (c.as_slice-2.ensures.value ∙ ap (λ (f : Flat). f.schema) found.is) in
     record {
       serves =
-          unmutated g.R.Revisions.state (Update c.args.table.now c.args.sets.now c.args.cond.now) c.args.table.now rewrite_parts Changed (λ slots. count_by (is_true pred) (rows slots))
+          unmutated g.R.Revisions.state (Update c.args.table.now c.args.sets.now c.args.cond.now) c.args.table.now rewrite_part Changed (λ slots. count_by (is_true pred) (rows slots))
           (map (option_map (updated pred cells))) old s (g.S.BlockStore.state c.make_room.new.store) c.update.new.vault c.update.new.room (g.S.BlockStore.state c.update.new.store)
           c.table_at-i.result.0 table flat c.update.new.flat c.requires.agrees c.make_room.ensures.rests c.update.ensures.room found.here found.is c.requires.allowed c.requires.flat
           (update_alters old.public (count_of old s) c.args.table.now c.args.sets.now c.args.cond.now table.heading pred cells pred_is cells_is)
