@@ -37,6 +37,7 @@ reads_shut {T} closing a b e resumes =
       catalogue = tt;
       lives = tt;
       awaits = tt;
+      kept = resumes.kept;
       numbered = inr resumes.lie;
       seals = λ good kept. resumes.seals good kept;
       told = λ honest rows kept. record { spelled = tt; read = λ listed catalogue are. either };
@@ -81,6 +82,7 @@ module _ {T : Type 0} (value : T) (closing : Closing) (marked : IsMarked closing
         catalogue = reads.catalogue;
         lives = record { live = reads.opens.ok.stays.apart.live closing.region (λ nowhere. nowhere) ∙ resumes.ok.lives.live };
         awaits = awaits closing marked a b resumes.ok c follows gone first reads.opens.ok;
+        kept = λ q. reads.opens.ok.stays.apart.rests q (λ nowhere. nowhere) ∙ resumes.kept q;
         numbered = numbered_on reads.opens.ok.stays;
         seals = sealed_on reads.seals.seals;
         told = told_on (Ok listed) reads.told;
@@ -100,6 +102,7 @@ module _ {T : Type 0} (value : T) (closing : Closing) (marked : IsMarked closing
         catalogue = tt;
         lives = tt;
         awaits = tt;
+        kept = λ q. reads.opens.err.stays.apart.rests q (λ nowhere. nowhere) ∙ resumes.kept q;
         numbered = inl (numbered_on reads.opens.err.stays);
         seals = sealed_on reads.seals.seals;
         told = told_on (Err e) reads.told;

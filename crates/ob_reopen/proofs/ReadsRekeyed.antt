@@ -167,6 +167,7 @@ module _ (closing : Closing) (keys : KeySet) (old new : World)
     catalogue = reads.catalogue;
     lives = record { live = reads.lives.live };
     awaits = awaits_rekeyed reads.awaits;
+    kept = reads.kept;
     numbered = numbered_rekeyed reads.numbered;
     seals = λ good kept. seals_rekeyed good (reads.seals good (kept_back good kept));
     told = λ is rows keeps.
@@ -188,6 +189,7 @@ module _ (closing : Closing) (keys : KeySet) (old new : World)
     catalogue = tt;
     lives = tt;
     awaits = tt;
+    kept = reads.kept;
     numbered = elim reads.numbered [ inl is ↦ inl (numbered_rekeyed is) | inr none ↦ inr none ];
     seals = λ good kept. seals_rekeyed good (reads.seals good (kept_back good kept));
     told = λ is rows keeps.

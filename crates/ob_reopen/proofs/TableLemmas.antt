@@ -145,6 +145,7 @@ same_region pack t blocks each wide i = record { blocks = blocks i; width = each
 pub record OpenedUpTo (closing : Closing) (listed : List Listed) (i : ℕ) (old now : World) : Type 0 where
   pub all : OpensAll (open_script closing.pack (take i listed)) (IsOf (take i listed)) old now
   pub lie : now.store.lie ≡ old.store.lie
+  pub kept : (q : ℕ) → now.store.kept q ≡ old.store.kept q
   pub given : (j : ℕ) (t : Listed) → j < i → slice_get listed j ≡ Some t → (x : ℕ) → x < blocks_of closing.pack t
       → now.vault.start.given t.table.region x ≡ t.number + x
   pub beyond : (j : ℕ) (t : Listed) → j < i → slice_get listed j ≡ Some t → (x : ℕ) → blocks_of closing.pack t ≤ x
@@ -200,6 +201,7 @@ pub opened_none : (closing : Closing) (listed : List Listed) (w : World) → Rea
 opened_none closing listed w ready = record {
   all = opens_went [] (IsOf []) w w (went_none (IsOf []) w ready);
   lie = refl;
+  kept = λ q. refl;
   given = λ j t below is x within. absurd (omega (arith, below));
   beyond = λ j t below is x past. absurd (omega (arith, below));
   tables = λ j t below is. absurd (omega (arith, below));
@@ -258,6 +260,7 @@ module _ {T : Type 0} (value : T) (closing : Closing) (listed : List Listed) (ca
         (all_wider (IsOf (take i listed)) old now (IsOf (take (i + 1) listed)) up (open_script closing.pack (take i listed)) opened.all)
         (all_wider (one t.table.region) now new (IsOf (take (i + 1) listed)) this (open_table closing.pack t) (opens_region t.table.region t.number (listed_region closing.pack t) now new value resumes)));
     lie = resumes.lie ∙ opened.lie;
+    kept = λ q. resumes.kept q ∙ opened.kept q;
     given = λ j u below at x within. elim (either j u below at) [
       | inl before ↦ resumes.ok.gives.others u.table.region x (λ same here. absurd (other j u before at same)) ∙ opened.given j u before at x within
       | inr same ↦
@@ -346,6 +349,7 @@ tables_cut {T} e closing listed catalogue old now new i t is opened resumes = re
     | inr memory ↦ inr (ap open_error memory)
   ];
   lie = resumes.lie ∙ opened.lie;
+  kept = λ q. resumes.kept q ∙ opened.kept q;
   tables = tt;
   seals = λ good kept. record {
     seals = λ scope few tells all.
@@ -359,6 +363,7 @@ tables_all value closing listed old new i end opened = record {
   opens = record { ok = opened_all closing listed old new i end opened; err = tt };
   never = tt;
   lie = opened.lie;
+  kept = opened.kept;
   tables = λ j t is. opened.tables j t (omega (arith, end, got_within listed j t is)) is;
   seals = opened.seals;
 }

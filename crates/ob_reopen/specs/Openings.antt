@@ -165,6 +165,7 @@ pub record ReadsClosing (closing : Closing) (result : Result (List Listed) OpenE
   pub catalogue : IfOk result (IsCatalogue closing)
   pub lives : OnOk result (Lives closing.region (closing_region closing) new)
   pub awaits : OnOk result (AwaitsTables closing new)
+  pub kept : (q : ℕ) → new.store.kept q ≡ old.store.kept q
   -- its places have their numbers, unless none of them was read
   pub numbered : MatchResult result (λ listed. IsNumbered closing new)
       (λ e. IsNumbered closing new ⊎ (new.store.lie ≡ old.store.lie))
@@ -201,6 +202,7 @@ pub record ReopensTables {T : Type 0} (closing : Closing) (listed : List Listed)
   pub opens : Opens (open_script closing.pack listed) (IsOf listed) result old new
   pub never : IfErr result (λ e. (e ≡ Failed) ⊎ (e ≡ NoMemory))
   pub lie : new.store.lie ≡ old.store.lie
+  pub kept : (q : ℕ) → new.store.kept q ≡ old.store.kept q
   pub tables : OnOk result ((i : ℕ) (t : Listed) → slice_get listed i ≡ Some t
       → IsReopened closing.pack t old new)
   pub seals : (good : ℕ → List ℕ → Bool)

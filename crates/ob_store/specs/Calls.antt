@@ -157,6 +157,8 @@ pub record Reopens (access : Access) (old new : StoreState) : Type 0 where
   pub tells : new.tells ≡ old.tells
   pub lie : new.lie ≡ old.lie
   pub disturbed : new.disturbed ≡ None
+  -- what is kept of each region stays
+  pub kept : (q : ℕ) → new.kept q ≡ old.kept q
 
 -- it is live again, with this size and what was written there last
 pub record Resumes (number blocks len : ℕ) (old new : StoreState) : Type 0 where

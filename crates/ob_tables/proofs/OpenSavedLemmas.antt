@@ -108,12 +108,12 @@ module _ {R : Type 0} (state : R → RevState) (config : Config) (secret salt : 
         }
 
     -- its closing was not read
-    pub saved_unread : (e : OpenErr) → ReadsClosing closing (Err e) fore amid → ((q : ℕ) → s2.kept q ≡ s.kept q) → OpensSaved {R = R} state config secret salt closed closing (Err e) s s2
-    saved_unread e reads kept =
+    pub saved_unread : (e : OpenErr) → ReadsClosing closing (Err e) fore amid → OpensSaved {R = R} state config secret salt closed closing (Err e) s s2
+    saved_unread e reads =
         let more = reads.opens.err.stays.faults in
         let same = room.faults in
         ends e s2 (not_read state config first_keys closing marked s s1 fresh honest room v0 ready started keyed none v1 s2 e reads) (omega (arith, more, same))
-        (reads.opens.err.stays.tells ∙ room.tells) kept
+        (reads.opens.err.stays.tells ∙ room.tells) (λ q. reads.kept q ∙ room.keeps.kept q)
         (λ tells nolie tables rests.
         (reads.told (read_true tells nolie) (catalogue_rows closing.region rests.rests.listed) (rows_there tables rests)).read rests.rests.listed rests.rests.closing_is.catalogue refl)
 
@@ -142,12 +142,12 @@ module _ {R : Type 0} (state : R → RevState) (config : Config) (secret salt : 
       }
 
       -- no memory for the keys
-      pub saved_unkeyed : ((q : ℕ) → s2.kept q ≡ s.kept q) → OpensSaved {R = R} state config secret salt closed closing (Err NoMemory) s s2
-      saved_unkeyed kept =
+      pub saved_unkeyed : OpensSaved {R = R} state config secret salt closed closing (Err NoMemory) s s2
+      saved_unkeyed =
           let same = faults_mid state config first_keys closing marked s s1 fresh honest room v0 ready started keyed none v1 s2 listed reads in
           ends NoMemory s2
           (shut_by NoMemory s2 (record { done = []; rest = open_script closing.pack listed; split = refl; asked = sym (append-nil s2.asked) }) same refl)
-          (omega (arith, same)) (reads.opens.ok.stays.tells ∙ room.tells) kept (λ tells nolie tables rests. inr refl)
+          (omega (arith, same)) (reads.opens.ok.stays.tells ∙ room.tells) (λ q. reads.kept q ∙ room.keeps.kept q) (λ tells nolie tables rests. inr refl)
 
       module _ (v2 : Vault R) (rekeys : (x : StoreState) → at state v2 x ≡ rekeyed keys (at state v1 x)) where
         -- as if it had had these keys from the first
@@ -167,21 +167,21 @@ module _ {R : Type 0} (state : R → RevState) (config : Config) (secret salt : 
 
         module _ (pack_is : closing.pack ≡ config.pack) (is_config : IsConfig config) (bounded : (q : ℕ) (region : KeptRegion) → s.kept q ≡ Some region → IsBounded region) where
           -- a table stayed shut
-          pub saved_shut : {T : Type 0} (e : OpenErr) (v3 : Vault R) (t : StoreState) → ReopensTables {T = T} closing listed (Err e) (at state v2 s2) (at state v3 t) → ((q : ℕ) → t.kept q ≡ s.kept q)
+          pub saved_shut : {T : Type 0} (e : OpenErr) (v3 : Vault R) (t : StoreState) → ReopensTables {T = T} closing listed (Err e) (at state v2 s2) (at state v3 t)
               → OpensSaved {R = R} state config secret salt closed closing (Err e) s t
-          saved_shut {T} e v3 t reopens kept =
+          saved_shut {T} e v3 t reopens =
               let is = opens_shut state config keys closing marked pack_is is_config s s1 fresh honest empty bounded room from_first ready_first started refl none v2 s2 listed reads_first {T = T} e v3 t reopens in
-              ends e t (shut_by e t reopens.opens.err.began is.err.cause reopens.lie) is.faults is.tells kept (λ tells nolie tables rests. reopens.never)
+              ends e t (shut_by e t reopens.opens.err.began is.err.cause reopens.lie) is.faults is.tells (λ q. reopens.kept q ∙ reads.kept q ∙ room.keeps.kept q) (λ tells nolie tables rests. reopens.never)
 
           module _ {T : Type 0} (value : T) (t : StoreState) where
             -- no memory for the list of tables
-            pub saved_unlisted : (v3 : Vault R) → ReopensTables closing listed (Ok value) (at state v2 s2) (at state v3 t) → ((q : ℕ) → t.kept q ≡ s.kept q)
+            pub saved_unlisted : (v3 : Vault R) → ReopensTables closing listed (Ok value) (at state v2 s2) (at state v3 t)
                 → OpensSaved {R = R} state config secret salt closed closing (Err NoMemory) s t
-            saved_unlisted v3 reopens kept =
+            saved_unlisted v3 reopens =
                 let is = opens_unlisted state config keys closing marked pack_is is_config s s1 fresh honest empty bounded room from_first ready_first started refl none v2 s2 listed reads_first value t v3 reopens in
                 let all = open_script closing.pack listed in
                 ends NoMemory t (shut_by NoMemory t (record { done = all; rest = []; split = append-nil all; asked = reopens.opens.ok.did.asked }) is.err.cause reopens.lie)
-                is.faults is.tells kept (λ tells nolie tables rests. inr refl)
+                is.faults is.tells (λ q. reopens.kept q ∙ reads.kept q ∙ room.keeps.kept q) (λ tells nolie tables rests. inr refl)
 
             -- all is open
             module _ (e : Engine R) (reopens : ReopensTables closing listed (Ok value) (at state v2 s2) (at state e.vault t))
@@ -202,13 +202,13 @@ module _ {R : Type 0} (state : R → RevState) (config : Config) (secret salt : 
                   subst (λ (l : List Listed). Rests (reopening_keys secret salt closed closing l) closing s.kept tables) (sym (same_list tells (sym reopens.lie ∙ nolie) tables rests))
                   (rests_under secret salt closed closing s.kept tables rests)
 
-              pub saved_open : e.replaced ≡ None → ((q : ℕ) → t.kept q ≡ s.kept q) → OpensSaved state config secret salt closed closing (Ok e) s t
-              saved_open none_replaced kept = record {
+              pub saved_open : e.replaced ≡ None → OpensSaved state config secret salt closed closing (Ok e) s t
+              saved_open none_replaced = record {
                 ok = record { keys = keys; opened = opened; keyed = refl; replaced = none_replaced };
                 err = tt;
                 faults = all_open.faults;
                 tells = all_open.tells;
-                kept = kept;
+                kept = λ q. reopens.kept q ∙ reads.kept q ∙ room.keeps.kept q;
                 told = λ tells nolie tables rests. all_open.told tells nolie tables (rests_here tells nolie tables rests);
                 sealed = λ tells nolie tables rests. all_open.sealed tells nolie tables (rests_here tells nolie tables rests);
               }

@@ -369,6 +369,7 @@ module _ (v : VaultState) (revs : RevState) (old new : StoreState) (q number : â
       apart = apart_opened v revs start old new q number shape ready may asks.asked gives numbered resumes;
     };
     lie = asks.lie;
+    kept = asks.kept;
     spare = asks.spare;
     next = refl;
     calm = calm_on v revs start old new q number shape ready may asks.asked asks.lie (number_gives number q shape.blocks v.start start gives);
@@ -426,6 +427,7 @@ module _ (v : VaultState) (revs : RevState) (old new : StoreState) (q number : â
     resumes_failed rises = record {
       stays = shut_stays;
       lie = asks.lie;
+      kept = asks.kept;
       spare = asks.spare;
       next = refl;
       calm = calm_shut;
@@ -441,6 +443,7 @@ module _ (v : VaultState) (revs : RevState) (old new : StoreState) (q number : â
     resumes_none faults = record {
       stays = shut_stays;
       lie = asks.lie;
+      kept = asks.kept;
       spare = asks.spare;
       next = refl;
       calm = calm_shut;
@@ -457,6 +460,7 @@ pub resumes_unasked : {T : Type 0} (v : VaultState) (revs : RevState) (s : Store
 resumes_unasked v revs s q number shape ready others gone = record {
   stays = stays_lasts (lasts_forget v revs s q ready others gone);
   lie = refl;
+  kept = Î» r. refl;
   spare = omega arith;
   next = refl;
   calm = calm_same;

@@ -94,6 +94,7 @@ pub record ResumesRegion {T : Type 0} (q : ℕ) (shape : Region) (number : ℕ)
     (result : Result T VaultErr) (old new : World) : Type 0 where
   pub stays : Stays (one q) old new
   pub lie : new.store.lie ≡ old.store.lie
+  pub kept : (r : ℕ) → new.store.kept r ≡ old.store.kept r
   pub spare : old.store.spare ≤ new.store.spare + 1
   pub next : new.vault.next ≡ old.vault.next
   pub calm : Calm old → Calm new

@@ -63,14 +63,14 @@ returns-in_err-listed g c =
     let p = err_from_is_err_and c.from_residual.result c.from_residual.ensures.1 in
     rw (p.1, p.2) (record {
       opens = named_saved {R = g.row.R.Denot} g.R.Revisions.state c.args.config c.args.secret.now c.args.salt.now c.args.mark.now c.closing_of-closed.result.0 c.closing_of-closed.result.1 (Err c.in_err-listed.field-0.0) (g.S.BlockStore.state c.args.store.now) (g.S.BlockStore.state c.read_closing.new.store) c.closing_of-closed.ensures
-          (λ marked pack. saved_unread g.R.Revisions.state c.args.config c.args.secret.now c.args.salt.now c.closing_of-closed.result.1 c.closing_of-closed.result.0 marked (g.S.BlockStore.state c.args.store.now) (g.S.BlockStore.state c.room.new.self) c.requires.fresh (g.met.S.BlockStore.starts_honest c.args.store.now c.requires.fresh) (λ q. g.met.S.BlockStore.starts_empty c.args.store.now q c.requires.fresh) c.room.ensures.rests c.start_at-vault.result c.start_at-vault.ensures.ready (started_as c.closing_of-closed.result.0 _ _ _ c.from-3.result c.start_at-vault.ensures.started refl c.from-3.ensures (omega arith)) (c.start_at-vault.ensures.keyed ∙ c.in-Ok-keys_from.ensures) c.start_at-vault.ensures.empty c.read_closing.new.vault (g.S.BlockStore.state c.read_closing.new.store) c.in_err-listed.field-0.0 c.in_err-listed.ensures.reads ?kept_unread);
+          (λ marked pack. saved_unread g.R.Revisions.state c.args.config c.args.secret.now c.args.salt.now c.closing_of-closed.result.1 c.closing_of-closed.result.0 marked (g.S.BlockStore.state c.args.store.now) (g.S.BlockStore.state c.room.new.self) c.requires.fresh (g.met.S.BlockStore.starts_honest c.args.store.now c.requires.fresh) (λ q. g.met.S.BlockStore.starts_empty c.args.store.now q c.requires.fresh) c.room.ensures.rests c.start_at-vault.result c.start_at-vault.ensures.ready (started_as c.closing_of-closed.result.0 _ _ _ c.from-3.result c.start_at-vault.ensures.started refl c.from-3.ensures (omega arith)) (c.start_at-vault.ensures.keyed ∙ c.in-Ok-keys_from.ensures) c.start_at-vault.ensures.empty c.read_closing.new.vault (g.S.BlockStore.state c.read_closing.new.store) c.in_err-listed.field-0.0 c.in_err-listed.ensures.reads);
     })
 
 pub returns-in_default-keys_from-2 : goal.returns-in_default-keys_from-2
 returns-in_default-keys_from-2 g c =
     record {
       opens = named_saved {R = g.row.R.Denot} g.R.Revisions.state c.args.config c.args.secret.now c.args.salt.now c.args.mark.now c.closing_of-closed.result.0 c.closing_of-closed.result.1 (Err NoMemory) (g.S.BlockStore.state c.args.store.now) (g.S.BlockStore.state c.read_closing.new.store) c.closing_of-closed.ensures
-          (λ marked pack. saved_unkeyed g.R.Revisions.state c.args.config c.args.secret.now c.args.salt.now c.closing_of-closed.result.1 c.closing_of-closed.result.0 marked (g.S.BlockStore.state c.args.store.now) (g.S.BlockStore.state c.room.new.self) c.requires.fresh (g.met.S.BlockStore.starts_honest c.args.store.now c.requires.fresh) (λ q. g.met.S.BlockStore.starts_empty c.args.store.now q c.requires.fresh) c.room.ensures.rests c.start_at-vault.result c.start_at-vault.ensures.ready (started_as c.closing_of-closed.result.0 _ _ _ c.from-3.result c.start_at-vault.ensures.started refl c.from-3.ensures (omega arith)) (c.start_at-vault.ensures.keyed ∙ c.in-Ok-keys_from.ensures) c.start_at-vault.ensures.empty c.read_closing.new.vault (g.S.BlockStore.state c.read_closing.new.store) c.in_ok-listed.listed c.in_ok-listed.ensures.reads ?kept_unkeyed);
+          (λ marked pack. saved_unkeyed g.R.Revisions.state c.args.config c.args.secret.now c.args.salt.now c.closing_of-closed.result.1 c.closing_of-closed.result.0 marked (g.S.BlockStore.state c.args.store.now) (g.S.BlockStore.state c.room.new.self) c.requires.fresh (g.met.S.BlockStore.starts_honest c.args.store.now c.requires.fresh) (λ q. g.met.S.BlockStore.starts_empty c.args.store.now q c.requires.fresh) c.room.ensures.rests c.start_at-vault.result c.start_at-vault.ensures.ready (started_as c.closing_of-closed.result.0 _ _ _ c.from-3.result c.start_at-vault.ensures.started refl c.from-3.ensures (omega arith)) (c.start_at-vault.ensures.keyed ∙ c.in-Ok-keys_from.ensures) c.start_at-vault.ensures.empty c.read_closing.new.vault (g.S.BlockStore.state c.read_closing.new.store) c.in_ok-listed.listed c.in_ok-listed.ensures.reads);
     }
 
 pub reopen_tables-requires-clause-marked : goal.reopen_tables-requires-clause-marked
@@ -114,7 +114,7 @@ returns-in_err-reopen_tables g c =
     let reopens = subst (λ (l : List Listed). ReopensTables {T = Unit {0}} c.closing_of-closed.result.0 l (Err c.in_err-reopen_tables.field-0.0) mid last) c.as_slice-2.ensures c.in_err-reopen_tables.ensures.reopens in
     rw (p.1, p.2) (record {
       opens = named_saved {R = g.row.R.Denot} g.R.Revisions.state c.args.config c.args.secret.now c.args.salt.now c.args.mark.now c.closing_of-closed.result.0 c.closing_of-closed.result.1 (Err c.in_err-reopen_tables.field-0.0) (g.S.BlockStore.state c.args.store.now) (g.S.BlockStore.state c.reopen_tables.new.store) c.closing_of-closed.ensures
-          (λ marked pack. saved_shut g.R.Revisions.state c.args.config c.args.secret.now c.args.salt.now c.closing_of-closed.result.1 c.closing_of-closed.result.0 marked (g.S.BlockStore.state c.args.store.now) (g.S.BlockStore.state c.room.new.self) c.requires.fresh (g.met.S.BlockStore.starts_honest c.args.store.now c.requires.fresh) (λ q. g.met.S.BlockStore.starts_empty c.args.store.now q c.requires.fresh) c.room.ensures.rests c.start_at-vault.result c.start_at-vault.ensures.ready (started_as c.closing_of-closed.result.0 _ _ _ c.from-3.result c.start_at-vault.ensures.started refl c.from-3.ensures (omega arith)) (c.start_at-vault.ensures.keyed ∙ c.in-Ok-keys_from.ensures) c.start_at-vault.ensures.empty c.read_closing.new.vault (g.S.BlockStore.state c.read_closing.new.store) c.in_ok-listed.listed c.in_ok-listed.ensures.reads c.rekey.new.self (λ x. c.rekey.ensures x ∙ ap (λ (k : KeySet). rekeyed k (at g.R.Revisions.state c.read_closing.new.vault x)) keyed) pack c.requires.config (λ q region kept. g.met.S.BlockStore.keeps_within c.args.store.now q region kept) c.in_err-reopen_tables.field-0.0 c.reopen_tables.new.vault (g.S.BlockStore.state c.reopen_tables.new.store) reopens ?kept_shut);
+          (λ marked pack. saved_shut g.R.Revisions.state c.args.config c.args.secret.now c.args.salt.now c.closing_of-closed.result.1 c.closing_of-closed.result.0 marked (g.S.BlockStore.state c.args.store.now) (g.S.BlockStore.state c.room.new.self) c.requires.fresh (g.met.S.BlockStore.starts_honest c.args.store.now c.requires.fresh) (λ q. g.met.S.BlockStore.starts_empty c.args.store.now q c.requires.fresh) c.room.ensures.rests c.start_at-vault.result c.start_at-vault.ensures.ready (started_as c.closing_of-closed.result.0 _ _ _ c.from-3.result c.start_at-vault.ensures.started refl c.from-3.ensures (omega arith)) (c.start_at-vault.ensures.keyed ∙ c.in-Ok-keys_from.ensures) c.start_at-vault.ensures.empty c.read_closing.new.vault (g.S.BlockStore.state c.read_closing.new.store) c.in_ok-listed.listed c.in_ok-listed.ensures.reads c.rekey.new.self (λ x. c.rekey.ensures x ∙ ap (λ (k : KeySet). rekeyed k (at g.R.Revisions.state c.read_closing.new.vault x)) keyed) pack c.requires.config (λ q region kept. g.met.S.BlockStore.keeps_within c.args.store.now q region kept) c.in_err-reopen_tables.field-0.0 c.reopen_tables.new.vault (g.S.BlockStore.state c.reopen_tables.new.store) reopens);
     })
 
 pub returns-in_default-tables_of : goal.returns-in_default-tables_of
@@ -126,7 +126,7 @@ returns-in_default-tables_of g c =
     let reopens = subst (λ (l : List Listed). ReopensTables c.closing_of-closed.result.0 l (Ok c.in_ok-reopen_tables.field-0) mid last) c.as_slice-2.ensures c.in_ok-reopen_tables.ensures.reopens in
     record {
       opens = named_saved {R = g.row.R.Denot} g.R.Revisions.state c.args.config c.args.secret.now c.args.salt.now c.args.mark.now c.closing_of-closed.result.0 c.closing_of-closed.result.1 (Err NoMemory) (g.S.BlockStore.state c.args.store.now) (g.S.BlockStore.state c.reopen_tables.new.store) c.closing_of-closed.ensures
-          (λ marked pack. saved_unlisted g.R.Revisions.state c.args.config c.args.secret.now c.args.salt.now c.closing_of-closed.result.1 c.closing_of-closed.result.0 marked (g.S.BlockStore.state c.args.store.now) (g.S.BlockStore.state c.room.new.self) c.requires.fresh (g.met.S.BlockStore.starts_honest c.args.store.now c.requires.fresh) (λ q. g.met.S.BlockStore.starts_empty c.args.store.now q c.requires.fresh) c.room.ensures.rests c.start_at-vault.result c.start_at-vault.ensures.ready (started_as c.closing_of-closed.result.0 _ _ _ c.from-3.result c.start_at-vault.ensures.started refl c.from-3.ensures (omega arith)) (c.start_at-vault.ensures.keyed ∙ c.in-Ok-keys_from.ensures) c.start_at-vault.ensures.empty c.read_closing.new.vault (g.S.BlockStore.state c.read_closing.new.store) c.in_ok-listed.listed c.in_ok-listed.ensures.reads c.rekey.new.self (λ x. c.rekey.ensures x ∙ ap (λ (k : KeySet). rekeyed k (at g.R.Revisions.state c.read_closing.new.vault x)) keyed) pack c.requires.config (λ q region kept. g.met.S.BlockStore.keeps_within c.args.store.now q region kept) c.in_ok-reopen_tables.field-0 (g.S.BlockStore.state c.reopen_tables.new.store) c.reopen_tables.new.vault reopens ?kept_unlisted);
+          (λ marked pack. saved_unlisted g.R.Revisions.state c.args.config c.args.secret.now c.args.salt.now c.closing_of-closed.result.1 c.closing_of-closed.result.0 marked (g.S.BlockStore.state c.args.store.now) (g.S.BlockStore.state c.room.new.self) c.requires.fresh (g.met.S.BlockStore.starts_honest c.args.store.now c.requires.fresh) (λ q. g.met.S.BlockStore.starts_empty c.args.store.now q c.requires.fresh) c.room.ensures.rests c.start_at-vault.result c.start_at-vault.ensures.ready (started_as c.closing_of-closed.result.0 _ _ _ c.from-3.result c.start_at-vault.ensures.started refl c.from-3.ensures (omega arith)) (c.start_at-vault.ensures.keyed ∙ c.in-Ok-keys_from.ensures) c.start_at-vault.ensures.empty c.read_closing.new.vault (g.S.BlockStore.state c.read_closing.new.store) c.in_ok-listed.listed c.in_ok-listed.ensures.reads c.rekey.new.self (λ x. c.rekey.ensures x ∙ ap (λ (k : KeySet). rekeyed k (at g.R.Revisions.state c.read_closing.new.vault x)) keyed) pack c.requires.config (λ q region kept. g.met.S.BlockStore.keeps_within c.args.store.now q region kept) c.in_ok-reopen_tables.field-0 (g.S.BlockStore.state c.reopen_tables.new.store) c.reopen_tables.new.vault reopens);
     }
 
 pub returns : goal.returns
@@ -157,5 +157,5 @@ returns g c =
       opens = named_saved {R = g.row.R.Denot} g.R.Revisions.state c.args.config c.args.secret.now c.args.salt.now c.args.mark.now c.closing_of-closed.result.0 c.closing_of-closed.result.1 (Ok e) (g.S.BlockStore.state c.args.store.now) (g.S.BlockStore.state c.reopen_tables.new.store) c.closing_of-closed.ensures
           (λ marked pack. saved_open g.R.Revisions.state c.args.config c.args.secret.now c.args.salt.now c.closing_of-closed.result.1 c.closing_of-closed.result.0 marked (g.S.BlockStore.state c.args.store.now) (g.S.BlockStore.state c.room.new.self) c.requires.fresh (g.met.S.BlockStore.starts_honest c.args.store.now c.requires.fresh) (λ q. g.met.S.BlockStore.starts_empty c.args.store.now q c.requires.fresh) c.room.ensures.rests c.start_at-vault.result c.start_at-vault.ensures.ready (started_as c.closing_of-closed.result.0 _ _ _ c.from-3.result c.start_at-vault.ensures.started refl c.from-3.ensures (omega arith)) (c.start_at-vault.ensures.keyed ∙ c.in-Ok-keys_from.ensures) c.start_at-vault.ensures.empty c.read_closing.new.vault (g.S.BlockStore.state c.read_closing.new.store) c.in_ok-listed.listed c.in_ok-listed.ensures.reads c.rekey.new.self (λ x. c.rekey.ensures x ∙ ap (λ (k : KeySet). rekeyed k (at g.R.Revisions.state c.read_closing.new.vault x)) keyed) pack c.requires.config (λ q region kept. g.met.S.BlockStore.keeps_within c.args.store.now q region kept) c.in_ok-reopen_tables.field-0 (g.S.BlockStore.state c.reopen_tables.new.store) e reopens public refl c.new-2.ensures.items drawn refl
           (room_read c.args.config e.public c.in-Ok.room c.read_closing.new.room c.requires.config new c.read_closing.ensures.room (ap (λ (p : Public). p.buffer) public) (ap (λ (p : Public). p.pack) public))
-          (high_read c.args.config c.in-Ok.room c.read_closing.new.room new c.read_closing.ensures.room) (rows_read c.args.config c.in-Ok.room c.read_closing.new.room new c.read_closing.ensures.room) refl ?kept_open);
+          (high_read c.args.config c.in-Ok.room c.read_closing.new.room new c.read_closing.ensures.room) (rows_read c.args.config c.in-Ok.room c.read_closing.new.room new c.read_closing.ensures.room) refl);
     }
