@@ -56,4 +56,6 @@ pub enum Stop {
     StoreFault,
     /// The stash of an index has no room for the rows that an access leaves.
     StashFull,
+    /// The keeper failed while tables were saved.
+    KeeperFault,
 }

@@ -5,7 +5,7 @@ use Rattle.ob_base.specs.declared.access.Access.TheVariants.{Make, Read, Write, 
 use Rattle.ob_base.specs.declared.refusal.Refusal.{Refusal}
 use Rattle.ob_base.specs.declared.refusal.Refusal.TheVariants.{Syntax, NoTable, NameTaken, NoColumn, WrongType, ValueRange, Limit, KeyRule, JoinKey, Duplicate, Full, TooManyGroups, NotConsecutive, Overflow, StoreFault, PadPassed, KeyRange, NeedsKey}
 use Rattle.ob_base.specs.declared.refusal.Stop.{Stop}
-use Rattle.ob_base.specs.declared.refusal.Stop.TheVariants.{Tampered, SourceFault, SinkFault, NoMemory, InputLimit, StoreFault, StashFull}
+use Rattle.ob_base.specs.declared.refusal.Stop.TheVariants.{Tampered, SourceFault, SinkFault, NoMemory, InputLimit, StoreFault, StashFull, KeeperFault}
 
 abbrev pub access_line : Access → List ℕ
 access_line (Make region blocks len) = codes "M " ++ (decimal region ++ (codes " " ++ (decimal blocks ++ (codes " " ++ (decimal len ++ codes "\n")))))
@@ -51,3 +51,4 @@ stop_line NoMemory = codes "! no memory\n"
 stop_line InputLimit = codes "! input limit\n"
 stop_line StoreFault = codes "! store fault\n"
 stop_line StashFull = codes "! stash full\n"
+stop_line KeeperFault = codes "! keeper fault\n"

@@ -173,5 +173,6 @@ pub fn stop_line(stop: Stop) -> Line
         Stop::InputLimit => Line::new(b"! input limit\n"),
         Stop::StoreFault => Line::new(b"! store fault\n"),
         Stop::StashFull => Line::new(b"! stash full\n"),
+        Stop::KeeperFault => Line::new(b"! keeper fault\n"),
     }
 }
