@@ -74,6 +74,7 @@ saves_used state e s agrees used = record {
   start = refl;
   draws = refl;
   seen = refl;
+  indexes = refl;
   room = agrees.room;
   high = omega (arith);
   opened = tt;
@@ -117,6 +118,7 @@ module _ {R : Type 0} (state : R → RevState) (e : Engine R) (s s1 : StoreState
     start = refl;
     draws = refl;
     seen = refl;
+    indexes = refl;
     room = agrees.room;
     high = omega (arith);
     opened = tt;
@@ -216,6 +218,7 @@ module _ {R : Type 0} (state : R → RevState) (e : Engine R) (s s1 : StoreState
               start = cut.lasts.start;
               draws = refl;
               seen = refl;
+              indexes = refl;
               room = free_rows;
               high = let same = high_is in omega (arith, same);
               opened = tt;
@@ -502,6 +505,7 @@ module _ {R : Type 0} (state : R → RevState) (e : Engine R) (s s1 : StoreState
                 start = all.lasts.start;
                 draws = refl;
                 seen = refl;
+                indexes = refl;
                 room = free_rows;
                 high = let same = high_is in omega (arith, same);
                 opened = record { kept = let same = high_is in omega (arith, same); some = λ any. let same = high_is in omega (arith, same) };

@@ -30,7 +30,7 @@ use Rattle.ob_store.specs.State.{StoreState}
 use Rattle.ob_vault.specs.Calls.{Seals}
 use Rattle.ob_vault.specs.State.{RevState}
 use Rattle.ob_vault.specs.Tied.{AllSealed, Calm, Scope, next_fault}
-use Rattle.ob_tables.specs.Agreeing.{Agrees, draws_of, engine_keys, engine_start, has_ended, high_of, opened_from, public_of, replaced_of, seen_of, world_of}
+use Rattle.ob_tables.specs.Agreeing.{Agrees, draws_of, engine_keys, engine_start, has_ended, high_of, indexes_of, opened_from, public_of, replaced_of, seen_of, world_of}
 use Rattle.ob_tables.specs.Closing.{next_closing}
 use Rattle.ob_tables.specs.Reopening.{IsOpened}
 use Rattle.ob_tables.specs.Running.{is_stop}
@@ -86,6 +86,7 @@ pub record SavesEngine {R : Type 0} (state : R → RevState) (result : Result Ma
   pub start : engine_start saved ≡ engine_start e
   pub draws : draws_of saved ≡ draws_of e
   pub seen : seen_of saved ≡ seen_of e
+  pub indexes : indexes_of saved ≡ indexes_of e
   -- all rows of the room are free again, and one at least was open where the closing was written
   pub room : IsFree (public_of e) saved.room
   pub high : high_of e ≤ high_of saved
