@@ -68,7 +68,8 @@ fn serve<S: BlockStore, R: Revisions, E: Emit>(
 /// region is made, or from the emitter while rows are emitted, so that it tells nothing of rows. What
 /// was emitted until then is a first part of the answer. `StoreFault` says that the store failed in an
 /// access of an index, and `StashFull` that its stash has no room. After each of them the session has
-/// ended: the engine takes no statement any more. After an answer it takes the next one.
+/// ended: the engine takes no statement any more. After an answer it takes the next one. `KeeperFault`
+/// comes of none of them: a statement asks no keeper.
 ///
 /// Whatever the store does, its accesses are exactly those that follow from what was public before,
 /// the statement without its literals and conditions, and what is seen of it; and no row comes to

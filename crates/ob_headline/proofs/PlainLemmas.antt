@@ -4,7 +4,7 @@ use Rattle.std.proofs.Common.{◌≡◌, ◌+◌, ◌≤◌, ◌++◌, inl, inr,
 use Rattle.std.specs.Io.KnownBytes.{Appends, Consumes, IsAtEnd}
 use Rattle.ob_base.specs.Counts.{Rises}
 use Rattle.ob_base.specs.declared.config.Public.{Public}
-use Rattle.ob_base.specs.declared.refusal.Stop.TheVariants.{Tampered, SourceFault, SinkFault, NoMemory, InputLimit, StoreFault, StashFull}
+use Rattle.ob_base.specs.declared.refusal.Stop.TheVariants.{Tampered, SourceFault, SinkFault, NoMemory, InputLimit, StoreFault, StashFull, KeeperFault}
 use Rattle.ob_headline.proofs.RerunLemmas.{AreUncut, answered_all, failure_is, run_uncut}
 use Rattle.ob_headline.specs.Bases.{FromEach, HoldsFrom, Opened, drawing, session_at}
 use Rattle.ob_headline.specs.Endings.{last_line, status_of}
@@ -70,6 +70,7 @@ module _ (one : SomeRun) (input : List ℕ) (free : IsUnhindered one input) wher
   ends (Ran (Err InputLimit)) is done = absurd done
   ends (Ran (Err StoreFault)) is done = absurd (free.sound done)
   ends (Ran (Err StashFull)) is done = absurd (free.room (one.run.status.status ∙ ap status_of is))
+  ends (Ran (Err KeeperFault)) is done = absurd done
 
   undeceived : IsUndeceived (keys_in one.run.taken) one.base.start one.old.store one.new.store
   undeceived = record { tells = free.honest.tells; unfit = λ lie told. let none = free.honest.no_lie in absurd (cc (told, none)) }

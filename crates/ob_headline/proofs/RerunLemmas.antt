@@ -200,6 +200,7 @@ no_more base status (Ran (Err Stops.NoMemory)) Takes max taken at_end more answe
 no_more base status (Ran (Err Stops.InputLimit)) Takes max taken at_end more answers part old new is few why = absurd (omega (arith, is, few))
 no_more base status (Ran (Err Stops.StoreFault)) Takes max taken at_end more answers part old new is few why = absurd (omega (arith, is, few))
 no_more base status (Ran (Err Stops.StashFull)) Takes max taken at_end more answers part old new is few why = absurd (omega (arith, is, few))
+no_more base status (Ran (Err Stops.KeeperFault)) Takes max taken at_end more answers part old new is few why = absurd (omega (arith, is, few))
 
 pub answered_all : {base : Base} {Takes : Type 0} {tracing : Bool} {old new : Outside} {report : Report} (a : Headline base Takes tracing old new report) → report.status ≤ 1 → length a.story.answers ≡ length a.story.spelt
 answered_all {base} {Takes} {old = old} {new = new} {report = report} a few =

@@ -1,7 +1,7 @@
 -- How a run ends, its status and its last line.
 use Rattle.std.specs.Prelude.{ℕ, Bool, true, false, List, [], codes, Result, Ok, Err}
 use Rattle.ob_base.specs.declared.refusal.Stop.{Stop}
-use Rattle.ob_base.specs.declared.refusal.Stop.TheVariants.{Tampered, SourceFault, SinkFault, NoMemory, InputLimit, StoreFault, StashFull}
+use Rattle.ob_base.specs.declared.refusal.Stop.TheVariants.{Tampered, SourceFault, SinkFault, NoMemory, InputLimit, StoreFault, StashFull, KeeperFault}
 use Rattle.ob_headline.specs.declared.ending.Ending.{Ending}
 use Rattle.ob_headline.specs.declared.ending.Ending.TheVariants.{Usage, BadKey, Ran}
 use Rattle.ob_print.specs.Lines.{stop_line}
@@ -16,6 +16,7 @@ ran_status (Err NoMemory) = 7
 ran_status (Err InputLimit) = 8
 ran_status (Err StoreFault) = 3
 ran_status (Err StashFull) = 11
+ran_status (Err KeeperFault) = 10
 
 abbrev pub status_of : Ending → ℕ
 status_of Usage = 2

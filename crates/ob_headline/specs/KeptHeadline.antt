@@ -3,7 +3,7 @@ use Rattle.std.specs.Prelude.{ℕ, ◌≡◌, ◌≢◌, ◌≤◌, ◌⊎◌, �
 use Rattle.std.specs.Io.KnownBytes.{Consumes}
 use Rattle.ob_base.specs.declared.config.Config.{Config}
 use Rattle.ob_base.specs.declared.mark.Mark.{Mark}
-use Rattle.ob_base.specs.declared.refusal.Stop.TheVariants.{Tampered, SourceFault, SinkFault, NoMemory, InputLimit, StoreFault, StashFull}
+use Rattle.ob_base.specs.declared.refusal.Stop.TheVariants.{Tampered, SourceFault, SinkFault, NoMemory, InputLimit, StoreFault, StashFull, KeeperFault}
 use Rattle.ob_reopen.specs.Closed.{is_used_up}
 use Rattle.ob_reopen.specs.Resting.{AcceptsClosings, Rests, by_name}
 use Rattle.ob_headline.specs.Bases.{Base, FromEach, drawing, fresh}
@@ -45,6 +45,7 @@ EndsUnkeyed (Ran (Err NoMemory)) taken = taken ≡ []
 EndsUnkeyed (Ran (Err InputLimit)) taken = has_lf taken ≡ false
 EndsUnkeyed (Ran (Err StoreFault)) taken = ⊥
 EndsUnkeyed (Ran (Err StashFull)) taken = ⊥
+EndsUnkeyed (Ran (Err KeeperFault)) taken = ⊥
 
 -- the run ended as one does whose tables aren't kept, and neither the keeper nor the store was asked for anything
 pub record Unkeyed (settings : Option Config) (Takes : Type 0) (tracing : Bool) (old new : Outside)

@@ -3,7 +3,7 @@ use Rattle.std.specs.Prelude.{ℕ, ◌≡◌, ◌<◌, ◌⊎◌, ⊤, Bool, tru
 use Rattle.ob_base.specs.Counts.{Rises}
 use Rattle.ob_base.specs.declared.access.Access.{Access}
 use Rattle.ob_base.specs.declared.access.Access.TheVariants.{Read}
-use Rattle.ob_base.specs.declared.refusal.Stop.TheVariants.{Tampered, SourceFault, SinkFault, NoMemory, InputLimit, StoreFault, StashFull}
+use Rattle.ob_base.specs.declared.refusal.Stop.TheVariants.{Tampered, SourceFault, SinkFault, NoMemory, InputLimit, StoreFault, StashFull, KeeperFault}
 use Rattle.ob_headline.specs.Bases.{Base, FromEach}
 use Rattle.ob_headline.specs.KeyLine.{LineTaken, after_line, first_line, has_lf, line_max, secret_of}
 use Rattle.ob_headline.specs.Texts.{is_over, rest_of as pending_of}
@@ -53,7 +53,8 @@ pub record EndsAtRead (region place : ℕ) (asked : List Access) : Type 0 where
   pub before : List Access
   pub is : asked ≡ before ++ Read region place ∷ []
 
--- of the words, the bytes taken, what was served, the store and the counts of faults
+-- of the words, the bytes taken, what was served, the store and the counts of faults; tables aren't saved while texts are
+-- served, so no run ends as one whose keeper failed then
 abbrev pub Because : Base → Ending → (Takes : Type 0) (max : ℕ) (taken : List ℕ) (ended : Bool)
     (more : List (List ℕ)) (answers : List Answer) (part : List ℕ) (old new : Outside) → Type 0
 Because base Usage Takes max taken ended more answers part old new =
@@ -81,6 +82,7 @@ Because base (Ran (Err StoreFault)) Takes max taken ended more answers part old 
     × (new.faults.source ≡ old.faults.source)
 Because base (Ran (Err StashFull)) Takes max taken ended more answers part old new =
     Takes × HasSecret taken × (new.faults.source ≡ old.faults.source)
+Because base (Ran (Err KeeperFault)) Takes max taken ended more answers part old new = ⊥
 
 -- an input that keeps to the limits: its first line is a secret, and neither it nor a text of it is too long
 pub record KeepsLimits (max : ℕ) (input : List ℕ) : Type 0 where

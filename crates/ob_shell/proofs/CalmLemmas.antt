@@ -28,6 +28,7 @@ met Runs.SinkFault w calm = calm
 met Runs.NoMemory w calm = calm
 met Runs.StoreFault w calm = calm
 met Runs.StashFull w calm = calm
+met Runs.KeeperFault w calm = calm
 
 stop_met : (run : RunStop) (a b : World) → RunCause (Err run) a b → Calm a → MeetsChange (Err (session_stop run)) b
 stop_met (Runs.Tampered region place) a b cause calm = cause.2 calm
@@ -35,6 +36,7 @@ stop_met Runs.SinkFault a b cause calm = cause.1 calm
 stop_met Runs.NoMemory a b cause calm = cause.1 calm
 stop_met Runs.StoreFault a b cause calm = cause.1 calm
 stop_met Runs.StashFull a b cause calm = cause.1 calm
+stop_met Runs.KeeperFault a b cause calm = absurd cause
 
 module _ {R : Type 0} (state : R → RevState) where
   abbrev IsCalm : Machine R → Type 0

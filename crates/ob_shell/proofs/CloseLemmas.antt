@@ -3,7 +3,7 @@ use Rattle.std.specs.Prelude.{⊤, ◌≢◌}
 use Rattle.std.proofs.Common.{◌≡◌, ◌⊎◌, ℕ, Bool, true, false, List, [], ◌++◌, Option, Ok, Err, refl, sym, subst, arith}
 use Rattle.ob_base.specs.Counts.{Rises}
 use Rattle.ob_base.specs.declared.config.Config.{Config}
-use Rattle.ob_base.specs.declared.refusal.Stop.TheVariants.{Tampered, SourceFault, SinkFault, NoMemory, InputLimit, StoreFault, StashFull}
+use Rattle.ob_base.specs.declared.refusal.Stop.TheVariants.{Tampered, SourceFault, SinkFault, NoMemory, InputLimit, StoreFault, StashFull, KeeperFault}
 use Rattle.ob_gen.specs.declared.tally.Tally.{Tally}
 use Rattle.ob_headline.specs.Bases.{Base, fresh}
 use Rattle.ob_headline.specs.Endings.{status_of, last_line}
@@ -88,6 +88,7 @@ words_taken (Ran (Err NoMemory)) taken t = tt
 words_taken (Ran (Err InputLimit)) taken t = t
 words_taken (Ran (Err StoreFault)) taken t = t
 words_taken (Ran (Err StashFull)) taken t = t
+words_taken (Ran (Err KeeperFault)) taken t = t
 
 unfoldable pub reported_taken : {tally : Tally} {tr : TraceSink} {Takes : Type 0} {settings asked : Option Config} {gave : ℕ}
     {l0 l1 w0 w1 : Option (List ℕ)} {s0 s1 : StoreState} {old new : Faults} {report : Report}

@@ -3,7 +3,7 @@ use Rattle.std.proofs.Common.{◌≡◌, ℕ, ◌≤◌, Bool, true, false, List
 use Rattle.std.proofs.KnownBytes.{Appends-nil}
 use Rattle.std.specs.Io.KnownBytes.{Consumes}
 use Rattle.ob_base.specs.Counts.{Rises}
-use Rattle.ob_base.specs.declared.refusal.Stop.TheVariants.{Tampered, SourceFault, SinkFault, NoMemory, InputLimit, StoreFault, StashFull}
+use Rattle.ob_base.specs.declared.refusal.Stop.TheVariants.{Tampered, SourceFault, SinkFault, NoMemory, InputLimit, StoreFault, StashFull, KeeperFault}
 use Rattle.ob_gen.specs.declared.tally.Tally.{Tally}
 use Rattle.ob_headline.proofs.BaseLemmas.{from_each}
 use Rattle.ob_headline.proofs.TextLemmas.{rest_of-append, rest_of-over, rest_of-nil}
@@ -70,6 +70,7 @@ limits_kept (Ran (Err SinkFault)) max taken rest ended more part t words k says 
 limits_kept (Ran (Err NoMemory)) max taken rest ended more part t words k says old new cause a c calm faulted = tt
 limits_kept (Ran (Err StoreFault)) max taken rest ended more part t words k says old new cause a c calm faulted = faulted refl
 limits_kept (Ran (Err StashFull)) max taken rest ended more part t words k says old new cause a c calm faulted = tt
+limits_kept (Ran (Err KeeperFault)) max taken rest ended more part t words k says old new cause a c calm faulted = absurd cause
 limits_kept (Ran (Err InputLimit)) max taken rest ended more part t words k says old new cause a c calm faulted =
     elim says.limit [
       | inl over ↦ not_over taken rest k.secret (has_lf taken) refl k.texts over

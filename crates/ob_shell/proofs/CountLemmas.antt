@@ -3,7 +3,7 @@ use Rattle.std.proofs.Common.{◌≡◌, ℕ, ◌≤◌, Bool, true, false, Err,
 use Rattle.ob_gen.specs.declared.tally.Tally.{Tally}
 use Rattle.ob_base.specs.Counts.{Rises}
 use Rattle.ob_base.specs.declared.refusal.Stop.{Stop}
-use Rattle.ob_base.specs.declared.refusal.Stop.TheVariants.{Tampered, SourceFault, SinkFault, NoMemory, InputLimit, StoreFault, StashFull}
+use Rattle.ob_base.specs.declared.refusal.Stop.TheVariants.{Tampered, SourceFault, SinkFault, NoMemory, InputLimit, StoreFault, StashFull, KeeperFault}
 use Rattle.ob_tables.specs.Stops.{session_stop}
 use Rattle.ob_tables.specs.declared.stop.RunStop.{RunStop}
 use Rattle.ob_tables.specs.declared.stop.RunStop.TheVariants as Runs
@@ -33,6 +33,7 @@ same_cause A B NoMemory old new cause = cause
 same_cause A B InputLimit old new cause = cause
 same_cause A B StoreFault old new cause = cause
 same_cause A B StashFull old new cause = cause
+same_cause A B KeeperFault old new cause = cause
 
 -- what was lost since a count that hadn't risen before
 pub lost_since : {quiet : Bool} {k0 k1 k2 : ℕ} → k1 ≡ k0 → OutFailed quiet k1 k2 → OutFailed quiet k0 k2
@@ -49,4 +50,5 @@ traced_cause told stop out0 out1 trace0 trace1 is cause later =
     go Runs.NoMemory cause = (cause.0, cause.1, later)
     go Runs.StoreFault cause = (cause.0, cause.1, later)
     go Runs.StashFull cause = (cause.0, cause.1, later)
+    go Runs.KeeperFault cause = absurd cause
     go Runs.SinkFault cause = (cause.0, elim cause.1 [ inl rose ↦ inl rose | inr none ↦ absurd (omega (arith, none)) ])

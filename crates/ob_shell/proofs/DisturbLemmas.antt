@@ -12,7 +12,7 @@ use Rattle.ob_tables.specs.Running.{RunCause}
 use Rattle.ob_tables.specs.Telling.{Represents}
 use Rattle.ob_verdict.specs.declared.outcome.Outcome.{Outcome}
 use Rattle.ob_tables.specs.declared.stop.RunStop.{RunStop}
-use Rattle.ob_tables.specs.declared.stop.RunStop.TheVariants.{Tampered, SinkFault, NoMemory, StoreFault, StashFull}
+use Rattle.ob_tables.specs.declared.stop.RunStop.TheVariants.{Tampered, SinkFault, NoMemory, StoreFault, StashFull, KeeperFault}
 use Rattle.ob_headline.proofs.FullLemmas.{met_reads, met_script}
 use Rattle.ob_headline.specs.Words.{Begins}
 use Rattle.ob_mean.specs.Verdict.{Draws, Tables, seen}
@@ -89,6 +89,7 @@ lie_within (Err SinkFault) old new lie cause calm is = (cause.1 calm).within lie
 lie_within (Err NoMemory) old new lie cause calm is = (cause.1 calm).within lie is
 lie_within (Err StoreFault) old new lie cause calm is = (cause.1 calm).within lie is
 lie_within (Err StashFull) old new lie cause calm is = (cause.1 calm).within lie is
+lie_within (Err KeeperFault) old new lie cause calm is = absurd cause
 
 module _ {R : Type 0} (state : R → RevState) (m0 m1 : Machine R) (d : Draws) (drawn : AreDraws m0.engine d) (tables : Tables) (stmt : Stmt) (result : Result Outcome RunStop) (does : Does state m0 m1 stmt result)
     (tells : IsTrue m0.store.tells) (steady : IsSteady m0.store) (held : Represents state m0.engine m0.store tables) (n : ℕ) (before : IsBefore m0.store.disturbed n)

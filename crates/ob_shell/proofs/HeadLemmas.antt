@@ -3,7 +3,7 @@ use Rattle.std.proofs.Common.{◌≡◌, ℕ, Bool, List, ◌++◌, Ok, Err, ref
 use Rattle.std.proofs.lemmas.List.{append_cancel_left}
 use Rattle.ob_base.specs.Counts.{Rises}
 use Rattle.ob_base.specs.declared.access.Access.{Access}
-use Rattle.ob_base.specs.declared.refusal.Stop.TheVariants.{Tampered, SourceFault, SinkFault, NoMemory, InputLimit, StoreFault, StashFull}
+use Rattle.ob_base.specs.declared.refusal.Stop.TheVariants.{Tampered, SourceFault, SinkFault, NoMemory, InputLimit, StoreFault, StashFull, KeeperFault}
 use Rattle.ob_gen.specs.declared.tally.Tally.{Tally}
 use Rattle.ob_headline.specs.Bases.{Base, FromEach}
 use Rattle.ob_headline.specs.Headline.{Headline}
@@ -32,6 +32,7 @@ because base (Ran (Err NoMemory)) Takes max taken ended more answers part old ne
 because base (Ran (Err InputLimit)) Takes max taken ended more answers part old new takes flag says cause honest read faulted = (takes, says, cause)
 because base (Ran (Err StoreFault)) Takes max taken ended more answers part old new takes flag says cause honest read faulted = (takes, says, faulted refl, cause)
 because base (Ran (Err StashFull)) Takes max taken ended more answers part old new takes flag says cause honest read faulted = (takes, says, cause)
+because base (Ran (Err KeeperFault)) Takes max taken ended more answers part old new takes flag says cause honest read faulted = absurd cause
 
 unfoldable pub headlined : {tally : Tally} (Takes : Type 0) (base : Base) (tracing : Bool) (old new : Outside) (report : Report) → old.store.asked ≡ base.before
     → Reported tally (sink_of tracing old.traced new.traced) Takes base old.left new.left new.gave old.written new.written old.store new.store old.faults new.faults report

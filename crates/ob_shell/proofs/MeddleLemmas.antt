@@ -6,7 +6,7 @@ use Rattle.std.specs.List.{list_all}
 use Rattle.clap.specs.Words.{Text}
 use Rattle.ob_base.specs.declared.access.Access.{Access}
 use Rattle.ob_base.specs.declared.config.Config.{Config}
-use Rattle.ob_base.specs.declared.refusal.Stop.TheVariants.{Tampered, SourceFault, SinkFault, NoMemory, InputLimit, StoreFault, StashFull}
+use Rattle.ob_base.specs.declared.refusal.Stop.TheVariants.{Tampered, SourceFault, SinkFault, NoMemory, InputLimit, StoreFault, StashFull, KeeperFault}
 use Rattle.ob_gen.specs.declared.tally.Tally.{Tally}
 use Rattle.ob_headline.specs.Bases.{fresh}
 use Rattle.ob_headline.specs.Endings.{status_of}
@@ -64,6 +64,7 @@ status_not (Ran (Err NoMemory)) untampered is = absurd (omega (arith, is))
 status_not (Ran (Err InputLimit)) untampered is = absurd (omega (arith, is))
 status_not (Ran (Err StoreFault)) untampered is = absurd (omega (arith, is))
 status_not (Ran (Err StashFull)) untampered is = absurd (omega (arith, is))
+status_not (Ran (Err KeeperFault)) untampered is = absurd (omega (arith, is))
 
 -- one by the store alone has this status
 fault_status : (ending : Ending) → status_of ending ≡ 3 → ending ≡ Ran (Err StoreFault)
@@ -78,6 +79,7 @@ fault_status (Ran (Err NoMemory)) is = absurd (omega (arith, is))
 fault_status (Ran (Err InputLimit)) is = absurd (omega (arith, is))
 fault_status (Ran (Err StoreFault)) is = refl
 fault_status (Ran (Err StashFull)) is = absurd (omega (arith, is))
+fault_status (Ran (Err KeeperFault)) is = absurd (omega (arith, is))
 
 acted_or_not : (b : Bool) → (b ≡ false → ⊥) → b ≡ true
 acted_or_not true not = refl

@@ -6,7 +6,7 @@ use Rattle.std.proofs.lemmas.List.{append_cancel_left}
 use Rattle.std.specs.Io.KnownBytes.{Appends, IsAtEnd}
 use Rattle.ob_base.specs.declared.access.Access.{Access}
 use Rattle.ob_base.specs.declared.refusal.Stop.{Stop}
-use Rattle.ob_base.specs.declared.refusal.Stop.TheVariants.{Tampered, SourceFault, SinkFault, NoMemory, InputLimit, StoreFault, StashFull}
+use Rattle.ob_base.specs.declared.refusal.Stop.TheVariants.{Tampered, SourceFault, SinkFault, NoMemory, InputLimit, StoreFault, StashFull, KeeperFault}
 use Rattle.ob_tables.specs.Stops.{session_stop}
 use Rattle.ob_tables.specs.declared.stop.RunStop.{RunStop}
 use Rattle.ob_tables.specs.declared.stop.RunStop.TheVariants as Runs
@@ -166,6 +166,7 @@ run_ends f ended bytes more part Runs.SinkFault = tt
 run_ends f ended bytes more part Runs.NoMemory = tt
 run_ends f ended bytes more part Runs.StoreFault = tt
 run_ends f ended bytes more part Runs.StashFull = tt
+run_ends f ended bytes more part Runs.KeeperFault = tt
 
 -- it stopped while it served the text that a byte had ended
 pub ran_stop : {R : Type 0} {state : R → RevState} {Lost : Type 0} {on : Bool} {t0 t2 : Option (List ℕ)} {f0 f1 f2 : Fetch} {gave : ℕ} {l0 l1 l2 w0 w1 w2 : Option (List ℕ)} {p : List ℕ} {r : Tally} {b : ℕ} {m0 m1 m2 : Machine R} (run : RunStop)
@@ -303,6 +304,7 @@ ran_turn quiet SinkFault so fed late st same t1 before cut = ran_stop Runs.SinkF
 ran_turn quiet NoMemory so fed late st same t1 before cut = ran_stop Runs.NoMemory so fed late (stops_by (lost_since same) st) (traces_more before cut)
 ran_turn quiet StoreFault so fed late st same t1 before cut = ran_stop Runs.StoreFault so fed late (stops_by (lost_since same) st) (traces_more before cut)
 ran_turn quiet StashFull so fed late st same t1 before cut = ran_stop Runs.StashFull so fed late (stops_by (lost_since same) st) (traces_more before cut)
+ran_turn quiet KeeperFault so fed late st same t1 before cut = ran_stop Runs.KeeperFault so fed late (stops_by (lost_since same) st) (traces_more before cut)
 ran_turn quiet SourceFault so fed late none same t1 before cut = absurd none
 ran_turn {f2 = f2} {p = p} {b = b} {m1 = m1} {m2 = m2} quiet InputLimit so fed late h same t1 before cut =
     let now = so_far_turn so fed refl (sym h.0) h.2 in

@@ -9,13 +9,13 @@ use Rattle.ob_base.specs.declared.access.Access.{Access}
 use Rattle.ob_base.specs.declared.config.Public.{Public}
 use Rattle.ob_base.specs.declared.refusal.Refusal.TheVariants.{Syntax}
 use Rattle.ob_tables.specs.Agreeing.{public_of, seen_of}
-use Rattle.ob_tables.specs.Running.{RanAs, SinkStops}
+use Rattle.ob_tables.specs.Running.{RanAs, RunCause, SinkStops}
 use Rattle.ob_tables.specs.Serving.{StopsEmission, Serves}
 use Rattle.ob_tables.specs.Stops.{session_stop}
 use Rattle.ob_verdict.specs.declared.outcome.Outcome.{Outcome}
 use Rattle.ob_verdict.specs.declared.outcome.Outcome.TheVariants.{Refused}
 use Rattle.ob_tables.specs.declared.stop.RunStop.{RunStop}
-use Rattle.ob_tables.specs.declared.stop.RunStop.TheVariants.{NoMemory, SinkFault, StashFull, StoreFault, Tampered}
+use Rattle.ob_tables.specs.declared.stop.RunStop.TheVariants.{KeeperFault, NoMemory, SinkFault, StashFull, StoreFault, Tampered}
 use Rattle.ob_headline.specs.Closing.{closing_line}
 use Rattle.ob_headline.specs.Words.{faults_of}
 use Rattle.ob_headline.specs.Statements.{Spells}
@@ -33,7 +33,7 @@ use Rattle.ob_script.specs.Script.{script}
 use Rattle.ob_script.specs.Trace.{next}
 use Rattle.ob_sql.specs.Skeleton.{skeleton}
 use Rattle.ob_sql.specs.declared.stmt.Stmt.{Stmt}
-use Rattle.ob_vault.specs.State.{RevState}
+use Rattle.ob_vault.specs.State.{RevState, World}
 
 module _ {R E : Type 0} (state : R → RevState) (grew cut : E → E → List Event → Type 0) (faults : E → ℕ)
     (m0 m1 : Machine R) (out_old out_new : E) (stmt : Stmt) (unsaved : (public_of m0.engine).save ≡ false) where
@@ -143,6 +143,7 @@ module _ {R E : Type 0} (state : R → RevState) (grew cut : E → E → List Ev
       stopped_by SinkFault other serves whole began = absurd (other refl)
       stopped_by StoreFault other serves whole began = cut_short StoreFault serves (events_text serves.stopped.events) refl (whole serves.stopped.events serves.stopped.ends.0)
       stopped_by StashFull other serves whole began = cut_short StashFull serves (events_text serves.stopped.events) refl (whole serves.stopped.events serves.stopped.ends.0)
+      stopped_by KeeperFault other serves whole began = cut_short KeeperFault serves (events_text serves.stopped.events) refl (whole serves.stopped.events serves.stopped.ends.0)
       stopped_by NoMemory other serves whole began = elim serves.stopped.ends [
         | inl took ↦ cut_short NoMemory serves (events_text serves.stopped.events) (record { lost = []; whole = sym (append-nil (events_text serves.stopped.events)) }) (whole serves.stopped.events took)
         | inr ends ↦ let printed = began serves.stopped.events ends in cut_short NoMemory serves printed.grown printed.prefix (Outputs-whole _ _ _ _ printed.appends)
@@ -163,15 +164,18 @@ stop_keeps (Tampered region place) out0 out1 not cause = cause
 stop_keeps NoMemory out0 out1 not cause = cause
 stop_keeps StoreFault out0 out1 not cause = cause
 stop_keeps StashFull out0 out1 not cause = cause
+stop_keeps KeeperFault out0 out1 not cause = cause
 stop_keeps SinkFault out0 out1 not cause = absurd (not refl)
 
 -- a stop of the engine, and what waited was flushed after it
-pub stop_cause : (T : Type 0) (stop : RunStop) (out0 out1 out2 : ℕ) → SinkStops (Err stop) out0 out1 → out1 ≤ out2 → StopCause {T = T} (faults_of 0 out0 0) (faults_of 0 out2 0) (Err (session_stop stop))
-stop_cause T (Tampered region place) out0 out1 out2 cause later = (refl, omega arith, omega arith)
-stop_cause T NoMemory out0 out1 out2 cause later = (refl, omega arith, omega arith)
-stop_cause T StoreFault out0 out1 out2 cause later = (refl, omega arith, omega arith)
-stop_cause T StashFull out0 out1 out2 cause later = (refl, omega arith, omega arith)
-stop_cause T SinkFault out0 out1 out2 cause later = (refl, inl (rises_later out0 out1 out2 cause later))
+pub stop_cause : (T : Type 0) (stop : RunStop) (old new : World) (out0 out1 out2 : ℕ) → RunCause (Err stop) old new → SinkStops (Err stop) out0 out1 → out1 ≤ out2
+    → StopCause {T = T} (faults_of 0 out0 0) (faults_of 0 out2 0) (Err (session_stop stop))
+stop_cause T (Tampered region place) old new out0 out1 out2 by cause later = (refl, omega arith, omega arith)
+stop_cause T NoMemory old new out0 out1 out2 by cause later = (refl, omega arith, omega arith)
+stop_cause T StoreFault old new out0 out1 out2 by cause later = (refl, omega arith, omega arith)
+stop_cause T StashFull old new out0 out1 out2 by cause later = (refl, omega arith, omega arith)
+stop_cause T KeeperFault old new out0 out1 out2 by cause later = absurd by
+stop_cause T SinkFault old new out0 out1 out2 by cause later = (refl, inl (rises_later out0 out1 out2 cause later))
 
 -- whether what waited could be flushed after it
 pub flush_silences : {T E : Type 0} (stop : RunStop) (r : Result T E) (quiet : Bool) (out0 out1 out2 : ℕ) → (stop ≡ SinkFault → ⊥) → SinkStops (Err stop) out0 out1 → quiet ≡ is_err r → HasCause out1 out2 r

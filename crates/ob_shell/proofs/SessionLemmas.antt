@@ -13,7 +13,7 @@ use Rattle.ob_base.specs.declared.config.Config.{Config}
 use Rattle.ob_base.specs.declared.config.Public.{Public}
 use Rattle.ob_base.specs.declared.mark.Mark.{Mark}
 use Rattle.ob_base.specs.declared.refusal.Stop.{Stop}
-use Rattle.ob_base.specs.declared.refusal.Stop.TheVariants.{Tampered, SourceFault, SinkFault, NoMemory, InputLimit, StoreFault, StashFull}
+use Rattle.ob_base.specs.declared.refusal.Stop.TheVariants.{Tampered, SourceFault, SinkFault, NoMemory, InputLimit, StoreFault, StashFull, KeeperFault}
 use Rattle.ob_tables.specs.Agreeing.{Agrees, AreDraws, count_of, engine_keys, first_draws, engine_start, indexes_of, opened_from, public_of, high_of, rows_of, world_of}
 use Rattle.ob_tables.specs.Closing.{ClosesEngine, closing_script, next_closing}
 use Rattle.ob_reopen.specs.Closed.{IsClosedAs, StaysInUse, is_used_up}
@@ -168,6 +168,7 @@ meets (Err NoMemory) w lie calm is unfit = absurd (unfit (calm.calm lie is))
 meets (Err InputLimit) w lie calm is unfit = absurd (unfit (calm.calm lie is))
 meets (Err StoreFault) w lie calm is unfit = absurd (unfit (calm.calm lie is))
 meets (Err StashFull) w lie calm is unfit = absurd (unfit (calm.calm lie is))
+meets (Err KeeperFault) w lie calm is unfit = absurd (unfit (calm.calm lie is))
 
 -- a session that ends as tampered ends with the read of that place
 last_read : {R : Type 0} (state : R → RevState) (m1 m2 : Machine R) (more : List (List ℕ)) (part : List ℕ) (region place : ℕ) → LastPart state m1 m2 more part (Err (Tampered region place))

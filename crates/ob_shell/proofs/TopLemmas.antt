@@ -8,7 +8,7 @@ use Rattle.ob_base.specs.Counts.{Rises}
 use Rattle.ob_base.specs.declared.access.Access.{Access}
 use Rattle.ob_base.specs.declared.config.Config.{Config}
 use Rattle.ob_base.specs.declared.refusal.Stop.{Stop}
-use Rattle.ob_base.specs.declared.refusal.Stop.TheVariants.{Tampered, SourceFault, SinkFault, NoMemory, InputLimit, StoreFault, StashFull}
+use Rattle.ob_base.specs.declared.refusal.Stop.TheVariants.{Tampered, SourceFault, SinkFault, NoMemory, InputLimit, StoreFault, StashFull, KeeperFault}
 use Rattle.ob_select.specs.Opening.{is_of_rows}
 use Rattle.ob_gen.specs.declared.tally.Tally.{Tally}
 use Rattle.ob_headline.proofs.FlatLemmas.{start_flat}
@@ -94,6 +94,7 @@ unfaulted_ends (RanEnding (Err NoMemory)) fine ends = cc ends
 unfaulted_ends (RanEnding (Err InputLimit)) fine ends = cc ends
 unfaulted_ends (RanEnding (Err StoreFault)) fine ends = fine
 unfaulted_ends (RanEnding (Err StashFull)) fine ends = fine
+unfaulted_ends (RanEnding (Err KeeperFault)) fine ends = fine
 
 pub unstarted : (tr : TraceSink) (settings : Option Config) (secret : Option (List ℕ)) (s : StoreState) (more : List (List ℕ)) (ending : Ending) → IsFresh s → tr.new ≡ tr.old → EndsUntampered ending → EndsUnfaulted ending
     → Carried tr (fresh settings) secret s s 0 (unserved more) ending
@@ -281,6 +282,7 @@ says_of (Err SinkFault) f max taken ended more part h n top e = h
 says_of (Err NoMemory) f max taken ended more part h n top e = tt
 says_of (Err StoreFault) f max taken ended more part h n top e = h
 says_of (Err StashFull) f max taken ended more part h n top e = h
+says_of (Err KeeperFault) f max taken ended more part h n top e = h
 says_of (Err SourceFault) f max taken ended more part h n top e = record {
   line = inl h;
   cut = e.0;
@@ -399,6 +401,7 @@ takes_of (RanEnding (Err NoMemory)) not_usage t = tt
 takes_of (RanEnding (Err InputLimit)) not_usage t = t
 takes_of (RanEnding (Err StoreFault)) not_usage t = t
 takes_of (RanEnding (Err StashFull)) not_usage t = t
+takes_of (RanEnding (Err KeeperFault)) not_usage t = t
 
 -- ---- the last line
 
@@ -428,6 +431,7 @@ line_rose (RanEnding (Err SinkFault)) old mid new cause rose later trace = rose_
 line_rose (RanEnding (Err NoMemory)) old mid new cause rose later trace = inl (rises_earlier _ _ _ cause.1 rose)
 line_rose (RanEnding (Err StoreFault)) old mid new cause rose later trace = inl (rises_earlier _ _ _ cause.1 rose)
 line_rose (RanEnding (Err StashFull)) old mid new cause rose later trace = inl (rises_earlier _ _ _ cause.1 rose)
+line_rose (RanEnding (Err KeeperFault)) old mid new cause rose later trace = absurd cause
 line_rose (RanEnding (Err InputLimit)) old mid new cause rose later trace = inl (subst (λ (n : ℕ). Rises n new.out) cause.out rose)
 
 -- the counts after the last line
@@ -446,6 +450,7 @@ status_cause (RanEnding (Err SinkFault)) old mid new cause later trace source no
 status_cause (RanEnding (Err NoMemory)) old mid new cause later trace source none = source ∙ cause.0
 status_cause (RanEnding (Err StoreFault)) old mid new cause later trace source none = source ∙ cause.0
 status_cause (RanEnding (Err StashFull)) old mid new cause later trace source none = source ∙ cause.0
+status_cause (RanEnding (Err KeeperFault)) old mid new cause later trace source none = absurd cause
 status_cause (RanEnding (Err InputLimit)) old mid new cause later trace source none = source ∙ cause.source
 
 -- nothing more may be written

@@ -241,6 +241,7 @@ module _ {R : Type 0} (state : R → RevState) where
   access_stops (Runs.Tampered q x) ends = absurd (cc ends)
   access_stops Runs.SinkFault ends = absurd (cc ends)
   access_stops Runs.NoMemory ends = absurd (cc ends)
+  access_stops Runs.KeeperFault ends = absurd (cc ends)
 
   -- and neither want of memory nor a sink's fault
   memory_ends : (run : RunStop) → run ≡ Runs.NoMemory → ends_access (Ran (Err (session_stop run))) ≡ true → ⊥

@@ -3,7 +3,7 @@ use Rattle.std.specs.Prelude.{ℕ, ◌≡◌, ◌+◌, ◌≤◌, ◌<◌, ◌�
 use Rattle.std.specs.Io.KnownBytes.{Appends, Consumes, IsAtEnd}
 use Rattle.ob_base.specs.Counts.{Rises}
 use Rattle.ob_base.specs.declared.refusal.Stop.{Stop}
-use Rattle.ob_base.specs.declared.refusal.Stop.TheVariants.{Tampered, SourceFault, SinkFault, NoMemory, InputLimit, StoreFault, StashFull}
+use Rattle.ob_base.specs.declared.refusal.Stop.TheVariants.{Tampered, SourceFault, SinkFault, NoMemory, InputLimit, StoreFault, StashFull, KeeperFault}
 use Rattle.ob_tables.specs.Agreeing.{high_of}
 use Rattle.ob_tables.specs.Stops.{session_stop}
 use Rattle.ob_tables.specs.declared.engine.Engine.{Engine}
@@ -39,6 +39,7 @@ StoppedBy Run AtFault AtLimit SourceFault = AtFault
 StoppedBy Run AtFault AtLimit InputLimit = AtLimit
 StoppedBy Run AtFault AtLimit StoreFault = Run Runs.StoreFault
 StoppedBy Run AtFault AtLimit StashFull = Run Runs.StashFull
+StoppedBy Run AtFault AtLimit KeeperFault = Run Runs.KeeperFault
 
 -- the stop, whether or not its line may still be written
 abbrev pub stop_of : {T : Type 0} → Result T Halted → Result T Stop
@@ -63,7 +64,7 @@ abbrev pub OutFailed : (quiet : Bool) → (old new : ℕ) → Type 0
 OutFailed quiet old new = (quiet ≡ true) × Rises old new
 
 -- when each stop comes: only where that count rose; those of the sinks may have risen behind a stop by a block, for want of
--- memory, by the store or for a full stash
+-- memory, by the store or for a full stash; tables aren't saved while texts are served, so none comes by their keeper
 abbrev pub StopCause : {T : Type 0} (old new : Faults) → Result T Stop → Type 0
 StopCause old new (Ok x) = NoneRose old new
 StopCause old new (Err (Tampered region place)) = (new.source ≡ old.source)
@@ -78,6 +79,7 @@ StopCause old new (Err StoreFault) = (new.source ≡ old.source) × (old.out ≤
     × (old.trace ≤ new.trace)
 StopCause old new (Err StashFull) = (new.source ≡ old.source) × (old.out ≤ new.out)
     × (old.trace ≤ new.trace)
+StopCause old new (Err KeeperFault) = ⊥
 
 -- what was done while no stop came
 pub record SoFar {R : Type 0} (state : R → RevState) (feed0 feed1 : Fetch)
@@ -107,6 +109,7 @@ EndsBy feed1 ended bytes more part (Err SinkFault) = Unit {0}
 EndsBy feed1 ended bytes more part (Err NoMemory) = Unit {0}
 EndsBy feed1 ended bytes more part (Err StoreFault) = Unit {0}
 EndsBy feed1 ended bytes more part (Err StashFull) = Unit {0}
+EndsBy feed1 ended bytes more part (Err KeeperFault) = Unit {0}
 
 -- what was done after the last text that was served whole
 abbrev pub LastPart : {R : Type 0} → (R → RevState) → Machine R → Machine R → List (List ℕ) → List ℕ

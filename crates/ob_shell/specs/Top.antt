@@ -3,7 +3,7 @@ use Rattle.std.specs.Prelude.{ℕ, ◌≡◌, ◌≢◌, ◌+◌, ◌⊎◌, Boo
 use Rattle.std.specs.Io.KnownBytes.{Consumes, IsAtEnd}
 use Rattle.ob_base.specs.Counts.{Rises}
 use Rattle.ob_base.specs.declared.refusal.Stop.{Stop}
-use Rattle.ob_base.specs.declared.refusal.Stop.TheVariants.{Tampered, SourceFault, SinkFault, NoMemory, InputLimit, StoreFault, StashFull}
+use Rattle.ob_base.specs.declared.refusal.Stop.TheVariants.{Tampered, SourceFault, SinkFault, NoMemory, InputLimit, StoreFault, StashFull, KeeperFault}
 use Rattle.ob_gen.specs.declared.tally.Tally.{Tally}
 use Rattle.ob_headline.specs.Bases.{Base, FromEach}
 use Rattle.ob_headline.specs.Endings.{last_line, status_of}
@@ -40,10 +40,11 @@ EndsUntampered BadKey = Unit {0}
 EndsUntampered (Ran (Err (Tampered region place))) = ⊥
 EndsUntampered (Ran _) = Unit {0}
 
--- nor one by the store, or for a full stash
+-- nor one by the store, for a full stash, or by the keeper
 abbrev pub EndsUnfaulted : Ending → Type 0
 EndsUnfaulted (Ran (Err StoreFault)) = ⊥
 EndsUnfaulted (Ran (Err StashFull)) = ⊥
+EndsUnfaulted (Ran (Err KeeperFault)) = ⊥
 EndsUnfaulted _ = Unit {0}
 
 -- a store of which nothing was asked
@@ -111,6 +112,7 @@ RanSays (Err NoMemory) max taken ended more part = Unit {0}
 RanSays (Err InputLimit) max taken ended more part = ReadToLimit max taken ended more part
 RanSays (Err StoreFault) max taken ended more part = HasSecret taken
 RanSays (Err StashFull) max taken ended more part = HasSecret taken
+RanSays (Err KeeperFault) max taken ended more part = HasSecret taken
 
 -- what each ending says of the bytes taken, where the words were taken
 abbrev pub EndingSays : Ending → (max : ℕ) (taken : List ℕ) (left1 : Option (List ℕ)) (ended : Bool)
@@ -130,6 +132,7 @@ RanWords (Err NoMemory) Takes = Unit {0}
 RanWords (Err InputLimit) Takes = Takes
 RanWords (Err StoreFault) Takes = Takes
 RanWords (Err StashFull) Takes = Takes
+RanWords (Err KeeperFault) Takes = Takes
 
 abbrev pub EndingWords : Ending → Type 0 → Type 0
 EndingWords Usage Takes = ¬ Takes
@@ -167,6 +170,7 @@ StatusCause (Ran (Err NoMemory)) old new = new.source ≡ old.source
 StatusCause (Ran (Err InputLimit)) old new = new.source ≡ old.source
 StatusCause (Ran (Err StoreFault)) old new = new.source ≡ old.source
 StatusCause (Ran (Err StashFull)) old new = new.source ≡ old.source
+StatusCause (Ran (Err KeeperFault)) old new = ⊥
 
 -- what was taken, what of it was served, and what the sink took of the answers and the last line
 pub record RunShown (tally : Tally) (tr : TraceSink) (base : Base)

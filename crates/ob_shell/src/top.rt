@@ -63,6 +63,7 @@ pub(crate) fn status_of(ending: Ending) -> u8
             Stop::InputLimit => 8,
             Stop::StoreFault => 3,
             Stop::StashFull => 11,
+            Stop::KeeperFault => 10,
         },
     }
 }

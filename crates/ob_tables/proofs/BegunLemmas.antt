@@ -34,6 +34,7 @@ run_reads (Err Stops.SinkFault) old new lie cause none told = calm_reads old new
 run_reads (Err Stops.NoMemory) old new lie cause none told = calm_reads old new lie cause.1 none told
 run_reads (Err Stops.StoreFault) old new lie cause none told = calm_reads old new lie cause.1 none told
 run_reads (Err Stops.StashFull) old new lie cause none told = calm_reads old new lie cause.1 none told
+run_reads (Err Stops.KeeperFault) old new lie cause none told = absurd cause
 
 -- ---- a statement whose accesses follow from what is public, where it reads no leaf
 until_part : (end : End) (all : List Access) → (rest : List Access) × (until_end end all ++ rest ≡ all)

@@ -66,6 +66,7 @@ never_full Stops.SinkFault other is = absurd (cc is)
 never_full (Stops.Tampered q x) other is = other
 never_full Stops.StoreFault other is = other
 never_full Stops.StashFull other is = other
+never_full Stops.KeeperFault other is = other
 
 refuses_none : (stop : RunStop) → IsOfOthers stop → IsNotTampered stop
 refuses_none Stops.NoMemory other = refl
@@ -73,6 +74,7 @@ refuses_none Stops.SinkFault other = refl
 refuses_none (Stops.Tampered q x) other = absurd other
 refuses_none Stops.StoreFault other = absurd other
 refuses_none Stops.StashFull other = absurd other
+refuses_none Stops.KeeperFault other = absurd other
 
 ends_cut : {E : Type 0} (grew cut : E → E → List Event → Type 0) (stop : RunStop) (a b : E) (part : List Event) → IsOfOthers stop → cut a b part → StopsEmission grew cut stop a b part
 ends_cut grew cut Stops.NoMemory a b part other ends = inr ends
@@ -80,6 +82,7 @@ ends_cut grew cut Stops.SinkFault a b part other ends = ends
 ends_cut grew cut (Stops.Tampered q x) a b part other ends = absurd other
 ends_cut grew cut Stops.StoreFault a b part other ends = absurd other
 ends_cut grew cut Stops.StashFull a b part other ends = absurd other
+ends_cut grew cut Stops.KeeperFault a b part other ends = absurd other
 
 module _ {R : Type 0} (state : R → RevState) (stmt : Stmt) (old : Engine R) (s s1 : StoreState) (v : Vault R) (room : RoomState) (t : StoreState) (k draw : ℕ) (keyed : Keyed) (indexes : Vec Index Global) (draws : DrawPlace)
     (agrees : Agrees state old s) (rests : ChangesNothing s s1) (now : refusal_now old.public (count_of old s) stmt ≡ None)

@@ -97,6 +97,7 @@ cause_after Stops.SinkFault a b c faults calm cause = (cause.0 ∙ faults, λ wa
 cause_after Stops.NoMemory a b c faults calm cause = (cause.0 ∙ faults, λ was. cause.1 (calm was))
 cause_after Stops.StoreFault a b c faults calm cause = (let rise = cause.0 in omega (arith, rise, faults), λ was. cause.1 (calm was))
 cause_after Stops.StashFull a b c faults calm cause = (cause.0 ∙ faults, λ was. cause.1 (calm was))
+cause_after Stops.KeeperFault a b c faults calm cause = absurd cause
 
 module _ {R : Type 0} (state : R → RevState) (stmt : Stmt) (old : Engine R) (s s1 : StoreState) (v : Vault R) (room : RoomState) (t : StoreState) (k draw : ℕ) (keyed : Keyed) (indexes : Vec Index Global) (draws : DrawPlace)
     (agrees : Agrees state old s) (rests : ChangesNothing s s1) (now : refusal_now old.public (count_of old s) stmt ≡ None)

@@ -51,6 +51,7 @@ not_full Stops.StoreFault plain is = absurd (cc is)
 not_full Stops.SinkFault plain is = absurd (cc is)
 not_full Stops.NoMemory plain is = absurd (cc is)
 not_full (Stops.Tampered q x) plain is = absurd (cc is)
+not_full Stops.KeeperFault plain is = absurd (cc is)
 
 module _ (p : Public) (ts : Tables) (stmt : Stmt) (none : accessed ts stmt ≡ None) where
   pub no_access_now : (m : ℕ) → accessed_now p m ts stmt ≡ None

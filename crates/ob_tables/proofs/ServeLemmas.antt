@@ -100,6 +100,7 @@ silent_sink (Err (Stops.Tampered region place)) n silent = refl
 silent_sink (Err Stops.NoMemory) n silent = refl
 silent_sink (Err Stops.StoreFault) n silent = refl
 silent_sink (Err Stops.StashFull) n silent = refl
+silent_sink (Err Stops.KeeperFault) n silent = refl
 
 silent_meets : {P : Type 0} (r : Result Outcome RunStop) → IsSilent r → r ≡ Err Stops.SinkFault → P
 silent_meets r silent is = absurd (subst (λ (x : Result Outcome RunStop). IsSilent x) is silent)
@@ -116,6 +117,7 @@ silent_stopped grew cut P out starts (Err (Stops.Tampered region place)) silent 
 silent_stopped grew cut P out starts (Err Stops.NoMemory) silent h = h Stops.NoMemory (inl starts)
 silent_stopped grew cut P out starts (Err Stops.StoreFault) silent h = h Stops.StoreFault (starts, refl)
 silent_stopped grew cut P out starts (Err Stops.StashFull) silent h = h Stops.StashFull (starts, refl)
+silent_stopped grew cut P out starts (Err Stops.KeeperFault) silent h = h Stops.KeeperFault (starts, refl)
 
 module _ {R E : Type 0} (state : R → RevState) (grew cut : E → E → List Event → Type 0) (faults : E → ℕ) (stmt : Stmt) (old : Engine R) (s : StoreState) (out : E) (starts : grew out out []) where
   -- a statement that emits nothing and of which nothing is counted

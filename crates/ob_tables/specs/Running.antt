@@ -4,7 +4,7 @@ use Rattle.ob_base.specs.declared.access.Access.{Access}
 use Rattle.ob_base.specs.declared.config.Public.{Public}
 use Rattle.ob_base.specs.declared.refusal.Refusal.{Refusal}
 use Rattle.ob_tables.specs.declared.stop.RunStop.{RunStop}
-use Rattle.ob_tables.specs.declared.stop.RunStop.TheVariants.{Tampered, SinkFault, NoMemory, StoreFault, StashFull}
+use Rattle.ob_tables.specs.declared.stop.RunStop.TheVariants.{Tampered, SinkFault, NoMemory, StoreFault, StashFull, KeeperFault}
 use Rattle.ob_base.specs.declared.seen.Seen.{Seen}
 use Rattle.ob_base.specs.declared.seen.End.{End}
 use Rattle.ob_base.specs.declared.seen.End.TheVariants.{Static, Whole, Cut}
@@ -81,7 +81,8 @@ result_end (Ok outcome) n = outcome_end outcome n
 result_end (Err stop) n = Cut n
 
 -- the store's faults rose exactly where the answer is that it failed; a session that ends as tampered ends with the
--- read of that place, and a changed block was read only there, or its tag fits
+-- read of that place, and a changed block was read only there, or its tag fits; a statement asks no keeper, so none ends as
+-- one whose keeper failed
 abbrev pub RunCause : Result Outcome RunStop → World → World → Type 0
 RunCause (Ok outcome) old new =
     by_fault (is_fault outcome) (Rises old.store.faults new.store.faults) (new.store.faults ≡ old.store.faults) × (Calm old → Calm new)
@@ -90,6 +91,7 @@ RunCause (Err SinkFault) old new = (new.store.faults ≡ old.store.faults) × (C
 RunCause (Err NoMemory) old new = (new.store.faults ≡ old.store.faults) × (Calm old → Calm new)
 RunCause (Err StoreFault) old new = Rises old.store.faults new.store.faults × (Calm old → Calm new)
 RunCause (Err StashFull) old new = (new.store.faults ≡ old.store.faults) × (Calm old → Calm new)
+RunCause (Err KeeperFault) old new = ⊥
 
 -- the stops that come in an access of an index alone: the store failed in it, or left more rows than the stash has slots
 abbrev pub stops_access : Result Outcome RunStop → Bool
@@ -161,6 +163,7 @@ SinkStops (Err (Tampered region place)) old new = new ≡ old
 SinkStops (Err NoMemory) old new = new ≡ old
 SinkStops (Err StoreFault) old new = new ≡ old
 SinkStops (Err StashFull) old new = new ≡ old
+SinkStops (Err KeeperFault) old new = new ≡ old
 
 -- an answer that is no rows
 abbrev pub HasNoRows : Outcome → Type 0
@@ -175,3 +178,4 @@ IsSilent (Err (Tampered region place)) = Unit {0}
 IsSilent (Err NoMemory) = Unit {0}
 IsSilent (Err StoreFault) = Unit {0}
 IsSilent (Err StashFull) = Unit {0}
+IsSilent (Err KeeperFault) = Unit {0}

@@ -1,7 +1,7 @@
 -- What a call of the engine does.
 use Rattle.std.specs.Prelude.{◌≡◌, ◌⊎◌, ◌-◌, ℕ, false, List, [], ◌++◌, length, Some, Result, Err, IfOk, IfErr}
 use Rattle.ob_tables.specs.declared.stop.RunStop.{RunStop}
-use Rattle.ob_tables.specs.declared.stop.RunStop.TheVariants.{NoMemory, SinkFault, StashFull, StoreFault, Tampered}
+use Rattle.ob_tables.specs.declared.stop.RunStop.TheVariants.{KeeperFault, NoMemory, SinkFault, StashFull, StoreFault, Tampered}
 use Rattle.ob_base.specs.declared.seen.End.TheVariants.{Static, AfterCount}
 use Rattle.ob_base.specs.Events.{Event}
 use Rattle.ob_store.specs.State.{Lie, StoreState}
@@ -31,13 +31,14 @@ pub record Answered {R E : Type 0} (state : R → RevState) (grew : E → E → 
       → Emitted stmt old.public (count_of old s) tables outcome events
 
 -- until a stop the emitter took these events, and its output ends within them where it failed; an access that gives up comes
--- before the first
+-- before the first, and so does a keeper that fails
 abbrev pub StopsEmission : {E : Type 0} → (grew cut : E → E → List Event → Type 0) → RunStop → (out_old out_new : E) → List Event → Type 0
 StopsEmission grew cut SinkFault out_old out_new events = cut out_old out_new events
 StopsEmission grew cut (Tampered region place) out_old out_new events = grew out_old out_new events
 StopsEmission grew cut NoMemory out_old out_new events = grew out_old out_new events ⊎ cut out_old out_new events
 StopsEmission grew cut StoreFault out_old out_new events = grew out_old out_new events × (events ≡ [])
 StopsEmission grew cut StashFull out_old out_new events = grew out_old out_new events × (events ≡ [])
+StopsEmission grew cut KeeperFault out_old out_new events = grew out_old out_new events × (events ≡ [])
 
 -- what was emitted until a stop
 pub record Stopped {R E : Type 0} (state : R → RevState) (grew cut : E → E → List Event → Type 0)

@@ -18,6 +18,8 @@ pub enum RunStop {
     StoreFault,
     /// The stash of an index has no room for the rows that its access leaves.
     StashFull,
+    /// The keeper failed while tables were saved.
+    KeeperFault,
 }
 
 impl From<RunStop> for Stop {
@@ -33,6 +35,7 @@ impl From<RunStop> for Stop {
             RunStop::NoMemory => Stop::NoMemory,
             RunStop::StoreFault => Stop::StoreFault,
             RunStop::StashFull => Stop::StashFull,
+            RunStop::KeeperFault => Stop::KeeperFault,
         }
     }
 }

@@ -53,6 +53,6 @@ returns-in_default-clause-serves g c =
       stopped = stopped_by _ _ _ _ _ _ _ _ c.args.stmt.now c.requires.ready.unsaved _ _ c.args.text.now c.requires.spells c.in-Err.stop c.in_default.not-SinkFault c.in-Err.ensures.serves
           (λ events took. Outputs-by lost (flushed (events_text events) c.requires.none took.0 c.flush-in_default.ensures.cut))
           (λ events began. flushed_cut (events_text events) c.requires.none began.0 c.flush-in_default.ensures.cut);
-      cause = stop_cause Answered c.in-Err.stop _ _ _ c.in-Err.ensures.serves.sink c.flush-in_default.ensures.cause.later;
+      cause = stop_cause Answered c.in-Err.stop _ _ _ _ _ c.in-Err.ensures.serves.ran.cause c.in-Err.ensures.serves.sink c.flush-in_default.ensures.cause.later;
       quiet = flush_silences c.in-Err.stop c.flush-in_default.result c.is_err-quiet.result _ _ _ c.in_default.not-SinkFault c.in-Err.ensures.serves.sink c.is_err-quiet.ensures.value c.flush-in_default.ensures.cause;
     }
