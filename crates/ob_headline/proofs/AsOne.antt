@@ -32,7 +32,7 @@ use Rattle.ob_headline.specs.Meaning.{AnswersFrom}
 use Rattle.ob_headline.specs.declared.ending.Ending.{Ending}
 use Rattle.ob_headline.specs.declared.ending.Ending.TheVariants.{Usage, BadKey, Ran}
 use Rattle.ob_headline.specs.declared.ending.KeptEnding.{KeptEnding}
-use Rattle.ob_headline.specs.declared.ending.KeptEnding.TheVariants.{Plain, OtherPack, Saved as SavedBefore, NotClosed as LeftOpen, KeeperFault, StoreFault}
+use Rattle.ob_headline.specs.declared.ending.KeptEnding.TheVariants.{Plain, OtherPack, Saved as SavedBefore, NoMark, NotClosed as LeftOpen, KeeperFault, StoreFault}
 use Rattle.ob_headline.specs.declared.ending.Report.{Report}
 use Rattle.ob_mean.specs.Flats.{AreFlat}
 use Rattle.ob_mean.specs.Replay.{Broken, Session, Spelt, after_all}
@@ -66,6 +66,7 @@ well_ended (Plain (Ran (Err Stops.StashFull))) few = absurd (omega (arith, few))
 well_ended (Plain (Ran (Err Stops.KeeperFault))) few = absurd (omega (arith, few))
 well_ended OtherPack few = absurd (omega (arith, few))
 well_ended SavedBefore few = absurd (omega (arith, few))
+well_ended NoMark few = absurd (omega (arith, few))
 well_ended StoreFault few = absurd (omega (arith, few))
 well_ended LeftOpen few = absurd (omega (arith, few))
 well_ended KeeperFault few = absurd (omega (arith, few))

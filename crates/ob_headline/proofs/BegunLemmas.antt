@@ -65,7 +65,7 @@ sealed_behind (Ran (Ok refused)) base taken secret tracing story begun served ne
 sealed_behind (Ran (Err stop)) base taken secret tracing story begun served new run report k0 k1 ending keyed behind is = λ tells.
     let keys : keys_in taken ≡ keys_of secret = ap (λ (o : Option (List ℕ)). option_map_or keys_of o (keys_of [])) keyed in
     let both : IsSealed (PassesBoth base.public.pack) (keys_in taken) base.start (base.start.region + 1) begun.store served.store = record {
-      each = λ region place block own live last good passes. (is tells).each region place block own live last good passes.0;
+      each = λ region place block own live last good passes. (is tells).each region place block own live last good (passes.0, λ saves. passes.1);
     } in
     subst (λ (o : Outside). IsSealed (PassesBoth base.public.pack) (keys_of secret) base.start (base.start.region + 1) begun.store o.store) (sym behind.same)
     (subst (λ (k : KeySet). IsSealed (PassesBoth base.public.pack) k base.start (base.start.region + 1) begun.store served.store) keys both)

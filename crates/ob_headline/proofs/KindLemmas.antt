@@ -23,7 +23,7 @@ use Rattle.ob_headline.specs.Bases.{Base}
 use Rattle.ob_headline.specs.Failures.{failures}
 use Rattle.ob_headline.specs.Headline.{Headline}
 use Rattle.ob_headline.specs.Reruns.{ArePlain, AsksByKinds, IsPlain, plainly, seen_plainly, shown_plainly}
-use Rattle.ob_headline.specs.Settings.{IsTaken, MeddleParses}
+use Rattle.ob_headline.specs.Settings.{IsTaken, IsTakenSaved, MeddleParses}
 use Rattle.ob_headline.specs.Words.{Answer, Begins, Outside}
 use Rattle.ob_headline.specs.Statements.{statements}
 use Rattle.ob_headline.specs.Accesses.{AreSeen, is_cut}
@@ -33,6 +33,7 @@ use Rattle.ob_mean.specs.Replay.{Spelt}
 use Rattle.ob_script.specs.Parts.{count_part, join_part}
 use Rattle.ob_script.specs.Script.{script, whole_script, behind_count, with_table, extent_of, blocks_of, index_part_of, joined_extent, rows_width}
 use Rattle.ob_script.specs.Trace.{Served as Entry, next, trace}
+use Rattle.ob_seal.specs.KeySet.{KeySet}
 use Rattle.ob_sql.specs.Skeleton.{skeleton}
 use Rattle.ob_sql.specs.declared.stmt.Stmt.{Stmt}
 
@@ -138,14 +139,17 @@ begins_plainly Leaves (Ok stmt ∷ spelt) (one ∷ answers) p m (x ∷ seen) law
     (begins_more (script p x.skeleton x.seen) _ _ rest)
 
 -- ---- a run, by its headline
-asks : {base : Base} {Takes : Type 0} {tracing : Bool} {old new : Outside} {report : Report} (run : Headline base Takes tracing old new report) → AsksByKinds run
+asks : {base : Base} {keys : List ℕ → KeySet} {Takes : Type 0} {tracing : Bool} {old new : Outside} {report : Report} (run : Headline base keys Takes tracing old new report) → AsksByKinds run
 asks {base} {new = new} run none plain =
     let few : length run.story.spelt ≤ length run.story.answers + 1 = omega (arith, run.statements.begun, run.statements.each) in
     let begins = begins_plainly _ run.story.spelt run.story.answers base.public base.count (run.story.seen ++ run.story.last) run.accesses.lawful few none plain in
     subst (λ (l : List Access). Begins l (base.before ++ trace base.public (shown_plainly base.public base.count (statements run.story.spelt)))) (sym run.accesses.asked) (begins_more base.before _ _ begins)
 
-pub asks_taken : (base : Base) (app : App) (words : List Text) (tracing : Bool) (old new : Outside) (report : Report) (run : Headline base (IsTaken app words) tracing old new report) → AsksByKinds run
-asks_taken base app words tracing old new report run = asks run
+pub asks_taken : (base : Base) (keys : List ℕ → KeySet) (app : App) (words : List Text) (tracing : Bool) (old new : Outside) (report : Report) (run : Headline base keys (IsTaken app words) tracing old new report) → AsksByKinds run
+asks_taken base keys app words tracing old new report run = asks run
 
-pub asks_meddled : (base : Base) (words : List Text) (tracing : Bool) (old new : Outside) (report : Report) (run : Headline base (MeddleParses words) tracing old new report) → AsksByKinds run
-asks_meddled base words tracing old new report run = asks run
+pub asks_meddled : (base : Base) (keys : List ℕ → KeySet) (words : List Text) (tracing : Bool) (old new : Outside) (report : Report) (run : Headline base keys (MeddleParses words) tracing old new report) → AsksByKinds run
+asks_meddled base keys words tracing old new report run = asks run
+
+pub asks_saved : (base : Base) (keys : List ℕ → KeySet) (words : List Text) (tracing : Bool) (old new : Outside) (report : Report) (run : Headline base keys (IsTakenSaved words) tracing old new report) → AsksByKinds run
+asks_saved base keys words tracing old new report run = asks run

@@ -13,9 +13,8 @@ use Rattle.ob_headline.proofs.AloneLemmas.{At, alone, no_later, position_of}
 use Rattle.ob_headline.proofs.BetweenLemmas.{written_by}
 use Rattle.ob_headline.proofs.OwnLemmas.{runs_write_own}
 use Rattle.ob_headline.specs.Bases.{Base}
-use Rattle.ob_headline.specs.Reruns.{SomeRun, asked_by, seen_by}
+use Rattle.ob_headline.specs.Reruns.{SomeRun, asked_by, keys_by, seen_by}
 use Rattle.ob_headline.specs.Shown.{AreNumberedAlike, AskedTheSame, IsBegun, IsBetween, IsShown, OfIndex, ShowNumbersAlike, Shows, ShowsBehind, ShowsBetween, ShowsSealed, Wrote, asked_behind, number_at, public_behind}
-use Rattle.ob_headline.specs.Words.{keys_in}
 use Rattle.ob_headline.specs.Sealing.{IsSealed, IsSealedAt, PassesHere}
 use Rattle.ob_script.proofs.Eaches.{get_front}
 use Rattle.ob_seal.specs.KeySet.{KeySet}
@@ -73,7 +72,7 @@ shows_all Passes keys start old new fresh is = record {
 }
 
 pub shows_sealed : (one : SomeRun) → IsBegun one.base → ShowsSealed one
-shows_sealed one begun tells = shows_all (PassesHere one.base) (keys_in one.run.taken) one.base.start one.old.store one.new.store begun.fresh (one.run.sealing.sealed tells)
+shows_sealed one begun tells = shows_all (PassesHere one.base) (keys_by one) one.base.start one.old.store one.new.store begun.fresh (one.run.sealing.sealed tells)
 
 -- a write to a region that was made by then, and is no index's, came by then
 pub written_behind : (one : SomeRun) (k i region place : ℕ) → region < (public_behind one k).next_region → (OfIndex (public_behind one k).tables region → ⊥) → Wrote (asked_by one) i region place → i < length (asked_behind one k)
@@ -85,7 +84,7 @@ module _ (one : SomeRun) (begun : IsBegun one.base) (tells : IsTrue one.old.stor
   shows_between = record {
     each = λ region place block mine lives last left good passes.
         let at_end = (shows_sealed one begun tells).each region place block mine lives.now (is.stays region place lives left ∙ last) good passes in
-        shown_earlier good (keys_in one.run.taken) one.base.start (Rises one.old.store.faults one.new.store.faults) between.asked is.begins.rest (asked_by one) region place block is.begins.joined at_end
+        shown_earlier good (keys_by one) one.base.start (Rises one.old.store.faults one.new.store.faults) between.asked is.begins.rest (asked_by one) region place block is.begins.joined at_end
         (left at_end.position at_end.wrote);
   }
 
@@ -119,14 +118,17 @@ no_test block = true
 
 none_refused : (base : Base) → PassesHere base no_test
 unfolding no_test
-none_refused base = ((λ columns region. record { accepts = λ slots size fits. refl }), (λ columns region. record { accepts = λ slots size fits. refl }))
+none_refused base = (
+  ((λ columns region. record { accepts = λ slots size fits. refl }), (λ columns region. record { accepts = λ slots size fits. refl })),
+  λ saves region listed p less. refl,
+)
 
 pub numbers_alike : (a b : SomeRun) → AskedTheSame a b → ShowNumbersAlike a b
 numbers_alike a b same = record {
   each = λ region place block0 block1 own live0 last0 live1 last1.
       let next = ap (λ (p : Public). p.next_region) same.from.public in
       let own_too : b.base.start.region < region = omega (arith, own, next, same.told.begun.next, same.told_too.begun.next) in
-      one_last (keys_in a.run.taken) (keys_in b.run.taken) a.base.start b.base.start no_test _ _ (asked_by a) (asked_by b) region place block0 block1 same.told.unfailed same.told_too.unfailed same.writes same.asked
+      one_last (keys_by a) (keys_by b) a.base.start b.base.start no_test _ _ (asked_by a) (asked_by b) region place block0 block1 same.told.unfailed same.told_too.unfailed same.writes same.asked
       ((shows_sealed a same.told.begun same.told.tells).each region place block0 own live0 last0 no_test (none_refused a.base))
       ((shows_sealed b same.told_too.begun same.told_too.tells).each region place block1 own_too live1 last1 no_test (none_refused b.base));
 }

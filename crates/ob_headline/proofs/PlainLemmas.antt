@@ -11,15 +11,15 @@ use Rattle.ob_headline.specs.Endings.{last_line, status_of}
 use Rattle.ob_headline.specs.Failures.{failures, outcome_failures}
 use Rattle.ob_headline.specs.KeyLine.{after_line}
 use Rattle.ob_headline.specs.Plainly.{AnsweredPlainly, IsUnhindered, RunsPlainly}
-use Rattle.ob_headline.specs.Reruns.{SomeRun, TakesWords, seen_by}
+use Rattle.ob_headline.specs.Reruns.{SomeRun, TakesWords, keys_by, seen_by}
 use Rattle.ob_headline.specs.Settings.{limit_of}
 use Rattle.ob_headline.specs.Texts.{texts_in}
 use Rattle.ob_headline.specs.Tracing.{traced}
-use Rattle.ob_headline.specs.Words.{Answer, IsHonest, keys_in, printed}
+use Rattle.ob_headline.specs.Words.{Answer, IsHonest, printed}
 use Rattle.ob_headline.specs.Statements.{statements}
 use Rattle.ob_headline.specs.Meaning.{AnswersFrom, AnswersIn}
 use Rattle.ob_headline.specs.Answers.{IsUndeceived}
-use Rattle.ob_headline.specs.Status.{Because, IsCompleted}
+use Rattle.ob_headline.specs.Status.{Because, IsCompleted, StoreFails}
 use Rattle.ob_headline.specs.declared.ending.Ending.{Ending}
 use Rattle.ob_headline.specs.declared.ending.Ending.TheVariants.{Usage, BadKey, Ran}
 use Rattle.ob_mean.proofs.ReplayLemmas.{served_room}
@@ -59,7 +59,11 @@ module _ (one : SomeRun) (input : List ℕ) (free : IsUnhindered one input) wher
   abbrev Ends : Type 0
   Ends = (refused : Bool) × (one.run.ending ≡ Ran (Ok refused))
 
-  ends : (ending : Ending) → one.run.ending ≡ ending → IsCompleted (IsHonest one.old.store one.new.store) (Rises one.old.store.faults one.new.store.faults) ending → Ends
+  -- it came to its end, or was hindered
+  abbrev Completes : Ending → Type 0
+  Completes ending = IsCompleted (IsHonest one.old.store one.new.store) (StoreFails one.base one.old.store one.new.store) (one.base.public.save ≡ true) ending
+
+  ends : (ending : Ending) → one.run.ending ≡ ending → Completes ending → Ends
   ends Usage is done = absurd done
   ends BadKey is done = absurd done
   ends (Ran (Ok refused)) is done = (refused, is)
@@ -68,11 +72,11 @@ module _ (one : SomeRun) (input : List ℕ) (free : IsUnhindered one input) wher
   ends (Ran (Err SinkFault)) is done = absurd done
   ends (Ran (Err NoMemory)) is done = absurd (free.memory (one.run.status.status ∙ ap status_of is))
   ends (Ran (Err InputLimit)) is done = absurd done
-  ends (Ran (Err StoreFault)) is done = absurd (free.sound done)
+  ends (Ran (Err StoreFault)) is done = elim done [ inl failed ↦ absurd (free.sound failed) | inr used ↦ absurd (free.numbers used) ]
   ends (Ran (Err StashFull)) is done = absurd (free.room (one.run.status.status ∙ ap status_of is))
-  ends (Ran (Err KeeperFault)) is done = absurd done
+  ends (Ran (Err KeeperFault)) is done = absurd (free.keeper done (one.run.status.status ∙ ap status_of is))
 
-  undeceived : IsUndeceived (keys_in one.run.taken) one.base.start one.old.store one.new.store
+  undeceived : IsUndeceived (keys_by one) one.base.start one.old.store one.new.store
   undeceived = record { tells = free.honest.tells; unfit = λ lie told. let none = free.honest.no_lie in absurd (cc (told, none)) }
 
   status_few : (refused : Bool) → one.run.ending ≡ Ran (Ok refused) → one.report.status ≤ 1
@@ -96,8 +100,8 @@ module _ (one : SomeRun) (input : List ℕ) (free : IsUnhindered one input) wher
   plainly : (s : Session) (refused : Bool) → one.run.ending ≡ Ran (Ok refused) → (broken : Broken) → AnswersFrom one.run.ending s one.run.story.spelt broken one.run.story.answers (seen_by one) one.run.story.part
       → RunsPlainly one input s
   plainly s refused is broken all =
-      let why : Because one.base (Ran (Ok refused)) (TakesWords one.app one.words) (limit_of one.base.settings) one.run.taken one.run.ended one.run.story.more one.run.story.answers one.run.story.part one.old one.new =
-      subst (λ (ending : Ending). Because one.base ending (TakesWords one.app one.words) (limit_of one.base.settings) one.run.taken one.run.ended one.run.story.more one.run.story.answers one.run.story.part one.old one.new) is one.run.status.because in
+      let why : Because one.base (Ran (Ok refused)) (TakesWords one.program one.words) (limit_of one.base.settings) one.run.taken one.run.ended one.run.story.more one.run.story.answers one.run.story.part one.old one.new =
+      subst (λ (ending : Ending). Because one.base ending (TakesWords one.program one.words) (limit_of one.base.settings) one.run.taken one.run.ended one.run.story.more one.run.story.answers one.run.story.part one.old one.new) is one.run.status.because in
       let few = status_few refused is in
       let meant = answers_plainly one.run.ending s one.run.story.spelt broken one.run.story.answers (seen_by one) one.run.story.part one.base.public one.base.count all
       (run_uncut one (record { ended = few; none = free.unfailed })) (answered_all one.run few) free.unfailed in
@@ -116,13 +120,13 @@ module _ (one : SomeRun) (input : List ℕ) (free : IsUnhindered one input) wher
       }
 
   abbrev s_of : Session → Session
-  s_of s = drawing (keys_in one.run.taken) s
+  s_of s = drawing (keys_by one) s
 
   abbrev Meant : Session → Type 0
   Meant s = (broken : Broken) × AnswersFrom one.run.ending (s_of s) one.run.story.spelt broken one.run.story.answers (seen_by one) one.run.story.part
 
   abbrev Done : Session → Type 0
-  Done s = IsCompleted (IsHonest one.old.store one.new.store) (Rises one.old.store.faults one.new.store.faults) one.run.ending
+  Done s = Completes one.run.ending
 
   pub runs_plainly : FromEach one.base (λ s. RunsPlainly one input (s_of s))
   runs_plainly = go one.base.opened (one.run.status.completes free.takes input free.left free.limits free.source free.sinks) (one.run.answers.meant undeceived) where

@@ -32,6 +32,7 @@ use Rattle.ob_mean.specs.Lawful.{EndsUncounted, Holds, IsCount, Lawful, is_count
 use Rattle.ob_mean.specs.Replay.{Spelt, is_access}
 use Rattle.ob_script.specs.Script.{script}
 use Rattle.ob_script.specs.Trace.{Served as Entry, next, trace}
+use Rattle.ob_seal.specs.KeySet.{KeySet}
 use Rattle.ob_sql.specs.Skeleton.{skeleton}
 use Rattle.ob_sql.specs.declared.stmt.Stmt.{Stmt}
 use Rattle.ob_sql.specs.declared.stmt.Stmt.TheVariants.{Create, Insert, Update, Delete, Drop as DropTable, SelectRows, SelectTotals}
@@ -202,8 +203,9 @@ no_more base status (Ran (Err Stops.StoreFault)) Takes max taken at_end more ans
 no_more base status (Ran (Err Stops.StashFull)) Takes max taken at_end more answers part old new is few why = absurd (omega (arith, is, few))
 no_more base status (Ran (Err Stops.KeeperFault)) Takes max taken at_end more answers part old new is few why = absurd (omega (arith, is, few))
 
-pub answered_all : {base : Base} {Takes : Type 0} {tracing : Bool} {old new : Outside} {report : Report} (a : Headline base Takes tracing old new report) → report.status ≤ 1 → length a.story.answers ≡ length a.story.spelt
-answered_all {base} {Takes} {old = old} {new = new} {report = report} a few =
+pub answered_all : {base : Base} {keys : List ℕ → KeySet} {Takes : Type 0} {tracing : Bool} {old new : Outside} {report : Report} (a : Headline base keys Takes tracing old new report) → report.status ≤ 1
+    → length a.story.answers ≡ length a.story.spelt
+answered_all {base} {Takes = Takes} {old = old} {new = new} {report = report} a few =
     let none : a.story.more ≡ [] = no_more base report.status a.ending Takes (limit_of base.settings) a.taken a.ended a.story.more a.story.answers a.story.part old new a.status.status few a.status.because in
     let most : length a.story.spelt ≤ length a.story.served =
     subst (λ (ts : List (List ℕ)). length a.story.spelt ≤ length ts) (ap (λ (ts : List (List ℕ)). a.story.served ++ ts) none ∙ append-nil a.story.served) (spell_few (a.story.served ++ a.story.more) a.story.spelt a.statements.spells) in

@@ -6,11 +6,12 @@ use Rattle.ob_base.specs.declared.access.Access.{Access}
 use Rattle.ob_base.specs.declared.config.Public.{Public}
 use Rattle.ob_base.specs.declared.refusal.Refusal.{Refusal}
 use Rattle.ob_base.specs.declared.refusal.Refusal.TheVariants.{StoreFault}
-use Rattle.ob_base.specs.declared.refusal.Stop.TheVariants.{SinkFault, NoMemory, StashFull, StoreFault as StoreFails}
+use Rattle.ob_base.specs.declared.refusal.Stop.TheVariants.{SinkFault, NoMemory, StashFull, StoreFault as StoreFails, KeeperFault}
 use Rattle.ob_base.specs.declared.seen.End.{End}
 use Rattle.ob_base.specs.declared.seen.End.TheVariants.{Cut}
 use Rattle.ob_base.specs.declared.seen.Seen.{Seen}
-use Rattle.ob_select.specs.Memory.{AtMake, AtResult, AtEmission}
+use Rattle.ob_base.specs.declared.skeleton.Skeleton.{Skeleton}
+use Rattle.ob_select.specs.Memory.{AtMake, AtResult, AtEmission, starts_with_make}
 use Rattle.ob_verdict.specs.Outcomes.{refusal_now, Emits, MayEmit}
 use Rattle.ob_verdict.specs.declared.outcome.Outcome.TheVariants.{Refused}
 use Rattle.ob_headline.specs.Closing.{closing_line}
@@ -21,7 +22,7 @@ use Rattle.ob_mean.specs.Lawful.{Lawful}
 use Rattle.ob_mean.specs.Prints.{labels_of}
 use Rattle.ob_mean.specs.Replay.{Spelt, is_access}
 use Rattle.ob_print.specs.Rows.{events_text}
-use Rattle.ob_script.specs.Script.{script, whole_script}
+use Rattle.ob_script.specs.Script.{is_saved, script, whole_script}
 use Rattle.ob_script.specs.Trace.{Served, next, trace}
 use Rattle.ob_seal.specs.Draws.{draw_of}
 use Rattle.ob_seal.specs.KeySet.{KeySet}
@@ -56,23 +57,37 @@ abbrev pub Says : Option Refusal → Public → Stmt → Answer → Type 0
 Says None p stmt answer = HasForm p stmt answer
 Says (Some r) p stmt answer = answer ≡ refused_as r
 
--- a stop for want of memory comes before the first access, where a region is made, where rows are emitted, or, of a SELECT
--- of rows that isn't padded, just before its result is made
+-- just before the closing is made that lists the tables behind it, where they are saved
+abbrev pub AtClosing : Public → Stmt → (rest : List Access) → Type 0
+AtClosing p stmt rest =
+    (is_saved p (skeleton stmt) ≡ true) × IsTrue (starts_with_make rest)
+
+-- a stop for want of memory comes before the first access, where a region is made, where rows are emitted, of a SELECT of
+-- rows that isn't padded, just before its result is made, or, where tables are saved, just before their closing is
 pub record WantsMemory (p : Public) (stmt : Stmt) (seen : Seen) : Type 0 where
   pub rest : List Access
   pub split : script p (skeleton stmt) seen ++ rest ≡ whole_script p (skeleton stmt) seen
   pub place : AtMake (script p (skeleton stmt) seen) ⊎ AtResult p stmt seen rest
-      ⊎ AtEmission p stmt seen rest
+      ⊎ AtEmission p stmt seen rest ⊎ AtClosing p stmt rest
 
 -- a stop by a sink's fault cuts a statement off only where it may emit rows, unless the store had failed in it
 abbrev pub MeetsSink : (Failed : Type 0) → Stmt → Seen → Type 0
 MeetsSink Failed stmt seen = IsTrue (is_cut seen.end) → MayEmit stmt ⊎ Failed
 
--- how a run ends in an access of an index alone: the store failed in it, or it left more rows than the stash has slots
-abbrev pub ends_access : Ending → Bool
-ends_access (Ran (Err StoreFails)) = true
-ends_access (Ran (Err StashFull)) = true
-ends_access _ = false
+-- how a run ends within a statement alone: in an access of an index the store failed, or it left more rows than the stash
+-- has slots; or, while tables were saved, the store failed, or the keeper
+abbrev pub ends_within : Ending → Bool
+ends_within (Ran (Err StoreFails)) = true
+ends_within (Ran (Err StashFull)) = true
+ends_within (Ran (Err KeeperFault)) = true
+ends_within _ = false
+
+-- so it ends within such a statement
+abbrev pub may_end : Ending → Public → Skeleton → Bool
+may_end (Ran (Err StoreFails)) p s = is_access p s || is_saved p s
+may_end (Ran (Err StashFull)) p s = is_access p s
+may_end (Ran (Err KeeperFault)) p s = is_saved p s
+may_end _ p s = true
 
 -- where a run that ended so left the statement that was begun
 abbrev pub StopsWithin : Ending → (Failed : Type 0) → (Full : Public → Stmt → Seen → Type 0)
@@ -80,7 +95,7 @@ abbrev pub StopsWithin : Ending → (Failed : Type 0) → (Full : Public → Stm
 StopsWithin ending Failed Full p stmt seen =
     (ending ≡ Ran (Err NoMemory) → WantsMemory p stmt seen)
     × (ending ≡ Ran (Err SinkFault) → MeetsSink Failed stmt seen)
-    × (ends_access ending ≡ true → is_access p (skeleton stmt) ≡ true)
+    × (ends_within ending ≡ true → may_end ending p (skeleton stmt) ≡ true)
     × (ending ≡ Ran (Err StashFull) → Full p stmt seen)
 
 -- of each statement its skeleton and what is seen of it, which is lawful by what is public before it and m accesses;
@@ -107,14 +122,15 @@ AreSeen Leaves p m (Ok stmt ∷ spelt) (one ∷ answers) (x ∷ seen) =
 
 -- They are those that the statements go on from, if there are any, and the trace of the skeletons and of what is seen of
 -- each: of those that were answered, and of the one begun, if it is a statement, as one is where a run ends in an access of
--- an index: for a full stash only where that read too many rows. No table that they go on from is an index.
+-- an index, for a full stash only where that read too many rows, or while tables are saved. No table that they go on from is
+-- an index.
 -- The leaves of indexes that are read are those of draws of the keys, none of which is read twice. Calls that discard a region
 -- are counted apart, and change no answer.
 pub record Accesses (base : Base) (keys : KeySet) (ending : Ending) (story : Story)
     (old new : StoreState) : Type 0 where
   pub flat : AreFlat (headings_of base.public.tables)
   pub one_last : length story.last ≤ 1
-  pub begun : ends_access ending ≡ true → length story.last ≡ 1
+  pub begun : ends_within ending ≡ true → length story.last ≡ 1
   pub each_seen : length story.seen
       ≡ length (statements (take (length story.served) story.spelt))
   pub lawful : AreSeen (StopsWithin ending (FailsBeside story.answers old.faults new.faults)

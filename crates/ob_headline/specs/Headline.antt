@@ -14,12 +14,14 @@ use Rattle.ob_headline.specs.Statements.{Statements}
 use Rattle.ob_headline.specs.Status.{Status}
 use Rattle.ob_headline.specs.Story.{Story}
 use Rattle.ob_headline.specs.Tampering.{Tampering}
-use Rattle.ob_headline.specs.Words.{Outside, keys_in}
+use Rattle.ob_headline.specs.Words.{Outside}
 use Rattle.ob_headline.specs.declared.ending.Ending.{Ending}
 use Rattle.ob_headline.specs.declared.ending.Report.{Report}
+use Rattle.ob_seal.specs.KeySet.{KeySet}
 
--- of words that the program takes, or doesn't, and of what its statements go on from, with the settings
-pub record Headline (base : Base) (Takes : Type 0) (tracing : Bool)
+-- of words that the program takes, or doesn't, of what its statements go on from, with the settings, and of the keys that
+-- its bytes come to
+pub record Headline (base : Base) (keys : List ℕ → KeySet) (Takes : Type 0) (tracing : Bool)
     (old new : Outside) (report : Report) : Type 0 where
   -- the bytes that were taken, whether they are the whole input, how the run ended, and what became of its texts
   pub taken : List ℕ
@@ -36,13 +38,13 @@ pub record Headline (base : Base) (Takes : Type 0) (tracing : Bool)
   pub output : Output base tracing ending story old new
   -- what was asked follows from what is public and what is seen of each statement, whatever the store answers; and a leaf that
   -- is seen is that of a draw which isn't read again
-  pub accesses : Accesses base (keys_in taken) ending story old.store new.store
+  pub accesses : Accesses base (keys taken) ending story old.store new.store
   -- and what was answered and seen is what SQL means over plain tables, unless a changed block passed for what was written
-  pub answers : Answers base (keys_in taken) ending story old.store new.store
+  pub answers : Answers base (keys taken) ending story old.store new.store
   -- a changed block that doesn't is the last thing that was read
-  pub tampering : Tampering (keys_in taken) base.start ending old.store new.store
+  pub tampering : Tampering (keys taken) base.start ending old.store new.store
   -- what lies in the store is sealed
-  pub sealing : Sealing base (keys_in taken) old.store new.store
+  pub sealing : Sealing base (keys taken) old.store new.store
   -- no more rows were open than the settings say
   pub rows : OpenRows base.settings report.high new.store.asked
   -- the status says how the run ended, and that has its cause

@@ -20,7 +20,7 @@ use Rattle.ob_headline.specs.Endings.{last_line, status_of}
 use Rattle.ob_headline.specs.Tracing.{traced}
 use Rattle.ob_headline.specs.declared.ending.Ending.TheVariants.{Ran}
 use Rattle.ob_headline.specs.declared.ending.KeptEnding.{KeptEnding}
-use Rattle.ob_headline.specs.declared.ending.KeptEnding.TheVariants.{Plain, OtherPack, Saved, NotClosed as LeftOpen, KeeperFault, StoreFault}
+use Rattle.ob_headline.specs.declared.ending.KeptEnding.TheVariants.{Plain, OtherPack, Saved, NoMark, NotClosed as LeftOpen, KeeperFault, StoreFault}
 use Rattle.ob_mean.specs.Verdict.{Tables}
 use Rattle.ob_print.specs.Cuts.{Outputs}
 use Rattle.ob_reopen.specs.Closings.{write_script}
@@ -45,6 +45,7 @@ kept_status OtherPack = 2
 kept_status Saved = 2
 kept_status StoreFault = 3
 kept_status LeftOpen = 9
+kept_status NoMark = 9
 kept_status KeeperFault = 10
 
 abbrev pub kept_line : KeptEnding → List ℕ
@@ -53,6 +54,7 @@ kept_line OtherPack = codes "! pack\n"
 kept_line Saved = codes "! saved\n"
 kept_line StoreFault = codes "! store fault\n"
 kept_line LeftOpen = codes "! not closed\n"
+kept_line NoMark = codes "! no mark\n"
 kept_line KeeperFault = codes "! keeper fault\n"
 
 -- where its tables can't be opened, and where they can't be closed

@@ -11,7 +11,7 @@ use Rattle.ob_headline.specs.Headline.{Headline}
 use Rattle.ob_headline.specs.Keeping.{BeganKept, Closes, NotBegun, closing_behind, kept_line, kept_status, region_opened}
 use Rattle.ob_headline.specs.KeyLine.{first_line, has_lf, secret_of}
 use Rattle.ob_headline.specs.Tracing.{traced}
-use Rattle.ob_headline.specs.Words.{Answer, IsHonest, Outside, SinksRose, outside_of}
+use Rattle.ob_headline.specs.Words.{Answer, IsHonest, Outside, SinksRose, keys_in, outside_of}
 use Rattle.ob_headline.specs.Meaning.{AnswersFrom}
 use Rattle.ob_headline.specs.Sealing.{PassesRows, SealsEach, SealsOwn}
 use Rattle.ob_headline.specs.declared.ending.Ending.{Ending}
@@ -51,7 +51,7 @@ EndsUnkeyed (Ran (Err KeeperFault)) taken = ⊥
 pub record Unkeyed (settings : Option Config) (Takes : Type 0) (tracing : Bool) (old new : Outside)
     (keeper0 keeper1 : KeeperState) (ending : KeptEnding) (answers : List Answer) (report : Report)
     : Type 0 where
-  pub headline : Headline (fresh settings) Takes tracing old new report
+  pub headline : Headline (fresh settings) keys_in Takes tracing old new report
   pub ends : EndsUnkeyed headline.ending headline.taken
   pub is : ending ≡ Plain headline.ending
   pub unanswered : answers ≡ []
@@ -166,7 +166,7 @@ pub record SessionKept (settings : Option Config) (Takes : Type 0) (tracing : Bo
       keeper0 in_use
   pub served : Outside
   pub run : Report
-  pub session : Headline base Takes tracing (begun_at old opened traced) served run
+  pub session : Headline base keys_in Takes tracing (begun_at old opened traced) served run
   pub keyed : secret_of (first_line session.taken) ≡ Some secret
   pub answered : answers ≡ session.story.answers
   pub high : report.high ≡ run.high

@@ -9,7 +9,7 @@ use Rattle.ob_headline.specs.Texts.{texts_in}
 use Rattle.ob_headline.specs.Tracing.{traced}
 use Rattle.ob_headline.specs.Words.{Answer, IsHonest, SinksRose, any_refused, printed, refused_at}
 use Rattle.ob_headline.specs.Meaning.{AnswersIn}
-use Rattle.ob_headline.specs.Status.{KeepsLimits}
+use Rattle.ob_headline.specs.Status.{IsUsedUp, KeepsLimits}
 use Rattle.ob_mean.specs.Replay.{Session, Spelt, after, all_served, is_full_now}
 use Rattle.ob_script.specs.Trace.{trace}
 
@@ -24,9 +24,10 @@ AnsweredPlainly s (Ok stmt ∷ spelt) (one ∷ more) =
     × AnsweredPlainly (after None s stmt) spelt more
 
 -- the words are taken, the input keeps to the limits, neither the source nor a sink fails, the store tells what it holds,
--- gave what was written and failed at no statement, and neither memory nor the stash of an index was wanting
+-- gave what was written and failed at no statement, neither memory nor the stash of an index was wanting, and, where tables
+-- are saved, neither the keeper failed nor were numbers wanting
 pub record IsUnhindered (one : SomeRun) (input : List ℕ) : Type 0 where
-  pub takes : TakesWords one.app one.words
+  pub takes : TakesWords one.program one.words
   pub left : one.old.left ≡ Some input
   pub limits : KeepsLimits (limit_of one.base.settings) input
   pub source : ¬ Rises one.old.faults.source one.new.faults.source
@@ -36,6 +37,8 @@ pub record IsUnhindered (one : SomeRun) (input : List ℕ) : Type 0 where
   pub sound : ¬ Rises one.old.store.faults one.new.store.faults
   pub memory : one.report.status ≢ 7
   pub room : one.report.status ≢ 11
+  pub keeper : one.base.public.save ≡ true → one.report.status ≢ 10
+  pub numbers : ¬ IsUsedUp one.base one.new.store
 
 -- each text of the input is answered as the plain machine answers it from this session on; it printed these answers, it
 -- asked what they ask by their meaning, that is what was traced, and the status says whether a text was refused

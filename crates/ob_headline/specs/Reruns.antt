@@ -1,5 +1,5 @@
 -- What runs ask, and when two of them ask the same.
-use Rattle.std.specs.Prelude.{ℕ, ◌≡◌, ◌≤◌, ◌+◌, ◌⊎◌, ◌&&◌, ◌||◌, ⊤, Bool, true, false, not, if◌then◌else◌, List, [], ◌∷◌, ◌++◌, length, IsSome, IsTrue, Option, Some, None, is_some}
+use Rattle.std.specs.Prelude.{ℕ, ◌≡◌, ◌≤◌, ◌+◌, ◌⊎◌, ◌&&◌, ◌||◌, ⊤, Bool, true, false, not, if◌then◌else◌, List, [], ◌∷◌, ◌++◌, length, IsSome, IsTrue, None, is_some}
 use Rattle.clap.specs.Words.{App, Text}
 use Rattle.ob_base.specs.declared.access.Access.{Access}
 use Rattle.ob_base.specs.declared.config.Public.{Public}
@@ -9,46 +9,56 @@ use Rattle.ob_verdict.specs.Outcomes.{refusal_now}
 use Rattle.ob_headline.specs.Bases.{Base, fresh}
 use Rattle.ob_headline.specs.Failures.{failures}
 use Rattle.ob_headline.specs.Headline.{Headline}
-use Rattle.ob_headline.specs.Settings.{IsTaken, MeddleParses, settings_of}
+use Rattle.ob_headline.specs.Settings.{IsTaken, IsTakenSaved, MeddleParses, settings_of}
 use Rattle.ob_headline.specs.Usage.{is_traced, usage}
-use Rattle.ob_headline.specs.Words.{Begins, Outside}
+use Rattle.ob_headline.specs.Words.{Begins, Outside, keys_in}
 use Rattle.ob_headline.specs.Statements.{statements}
 use Rattle.ob_headline.specs.declared.ending.Report.{Report}
 use Rattle.ob_mean.specs.Lawful.{selects_rows}
 use Rattle.ob_mean.specs.Replay.{is_access}
 use Rattle.ob_script.specs.Script.{script}
 use Rattle.ob_script.specs.Trace.{Served, next, trace}
+use Rattle.ob_seal.specs.KeySet.{KeySet}
 use Rattle.ob_sql.specs.Skeleton.{skeleton}
 use Rattle.ob_sql.specs.declared.stmt.Stmt.{Stmt}
 
 -- what `shell_top` promises of a run that reads its input
 abbrev pub ShellRun : List Text → (old new : Outside) → Report → Type 0
 ShellRun words old new report =
-    Headline (fresh (settings_of usage words)) (IsTaken usage words) (is_traced usage words)
-    old new report
+    Headline (fresh (settings_of usage words)) keys_in (IsTaken usage words)
+    (is_traced usage words) old new report
 
--- ---- one run, by the words of any program and from any base
--- a program takes these words, or the one does over whose store others do what the words say
-abbrev pub TakesWords : Option App → List Text → Type 0
-TakesWords None words = MeddleParses words
-TakesWords (Some app) words = IsTaken app words
+-- ---- one run, by the words of any program, from any base and by any keys
+-- a program with these words, the one over whose store others do what the words say, and the one that may save its tables
+pub data Program : Type 0 where
+  of_words : App → Program
+  of_meddling : Program
+  of_saving : Program
+
+-- it takes these words
+abbrev pub TakesWords : Program → List Text → Type 0
+TakesWords (of_words app) words = IsTaken app words
+TakesWords of_meddling words = MeddleParses words
+TakesWords of_saving words = IsTakenSaved words
 
 pub record SomeRun : Type 0 where
   pub base : Base
-  pub app : Option App
+  pub keys : List ℕ → KeySet
+  pub program : Program
   pub words : List Text
   pub tracing : Bool
   pub old : Outside
   pub new : Outside
   pub report : Report
-  pub run : Headline base (TakesWords app words) tracing old new report
+  pub run : Headline base keys (TakesWords program words) tracing old new report
 
 -- a run of `shell_top`
 abbrev pub shell_run : {words : List Text} {old new : Outside} {report : Report}
     → ShellRun words old new report → SomeRun
 shell_run {words} {old} {new} {report} run = record {
   base = fresh (settings_of usage words);
-  app = Some usage;
+  keys = keys_in;
+  program = of_words usage;
   words = words;
   tracing = is_traced usage words;
   old = old;
@@ -65,6 +75,10 @@ seen_by one = one.run.story.seen ++ one.run.story.last
 
 abbrev pub asked_by : SomeRun → List Access
 asked_by one = one.new.store.asked
+
+-- the keys of its blocks
+abbrev pub keys_by : SomeRun → KeySet
+keys_by one = one.keys one.run.taken
 
 abbrev pub failures_of : SomeRun → ℕ
 failures_of one = failures one.run.story.answers
@@ -188,8 +202,9 @@ AsksAsShown one = Begins (asked_by one) (one.base.before
 -- if no text of a run was answered that the store failed, and each of its statements accesses no index, and is no SELECT of
 -- rows or has its result padded, what it asks is a first part of one list, however it ends: behind what it begins with, of the
 -- accesses that follow from the skeletons of its statements and from which are refused before any access
-abbrev pub AsksByKinds : {base : Base} {Takes : Type 0} {tracing : Bool} {old new : Outside}
-    {report : Report} → Headline base Takes tracing old new report → Type 0
+abbrev pub AsksByKinds : {base : Base} {keys : List ℕ → KeySet} {Takes : Type 0}
+    {tracing : Bool} {old new : Outside} {report : Report}
+    → Headline base keys Takes tracing old new report → Type 0
 AsksByKinds {base = base} {new = new} run =
     failures run.story.answers ≡ 0 → ArePlain base.public base.count (statements run.story.spelt)
     → Begins new.store.asked (base.before

@@ -1,5 +1,5 @@
 -- Sealing: no block of a live region lies in clear.
-use Rattle.std.specs.Prelude.{ℕ, ◌≡◌, ◌≢◌, ◌≤◌, ◌+◌, ◌-◌, ◌⊎◌, Bool, List, IsTrue, Option, Some, None}
+use Rattle.std.specs.Prelude.{ℕ, ◌≡◌, ◌≢◌, ◌≤◌, ◌+◌, ◌-◌, ◌⊎◌, Bool, true, List, IsTrue, Option, Some, None}
 use Rattle.ob_base.specs.Accesses.{nth_write}
 use Rattle.ob_base.specs.Counts.{Rises}
 use Rattle.ob_base.specs.declared.access.Access.{Access}
@@ -22,12 +22,17 @@ abbrev pub PassesWith : Option Opened → (pack : ℕ) → (good : List ℕ → 
 PassesWith None pack good = PassesRows good pack
 PassesWith (Some o) pack good = PassesRows good pack × AcceptsClosings (λ region. good)
 
-abbrev pub PassesFrom : Base → (good : List ℕ → Bool) → Type 0
-PassesFrom base good = PassesWith base.opened base.public.pack good
+-- and where tables are saved: then closings are written
+abbrev pub PassesSaved : (saves : Bool) → (good : List ℕ → Bool) → Type 0
+PassesSaved saves good = saves ≡ true → AcceptsClosings (λ region. good)
 
--- those of the tables pass it alone
+abbrev pub PassesFrom : Base → (good : List ℕ → Bool) → Type 0
+PassesFrom base good =
+    PassesWith base.opened base.public.pack good × PassesSaved base.public.save good
+
+-- those that the statements write pass it
 abbrev pub PassesHere : Base → (good : List ℕ → Bool) → Type 0
-PassesHere base good = PassesRows good base.public.pack
+PassesHere base good = PassesRows good base.public.pack × PassesSaved base.public.save good
 
 -- the number of a write to a place: of one of these, which count on from an earlier run's, or of its last one there
 abbrev pub IsWriteTo : Start → List Access → (region place number : ℕ) → Type 0

@@ -4,7 +4,7 @@ use Rattle.clap.specs.Words.{App, Text}
 use Rattle.ob_base.specs.declared.config.Config.{Config}
 use Rattle.ob_base.specs.declared.config.Plan.{Plan}
 use Rattle.ob_base.specs.declared.config.Plan.TheVariants.{Small, Large, Continuous, Hash}
-use Rattle.ob_headline.specs.Usage.{Parses, changes_of, is_set, meddle_usage, value_of}
+use Rattle.ob_headline.specs.Usage.{Parses, changes_of, is_set, meddle_usage, saved_usage, value_of}
 use Rattle.ob_headline.specs.declared.seed.Seed.{Seed}
 use Rattle.ob_meddle.specs.Changes.{comma, front, number, rest, wide}
 use Rattle.ob_meddle.specs.declared.meddle.Meddle.{Meddle}
@@ -107,6 +107,21 @@ settings_by value =
 abbrev pub settings_of : App → List Text → Option Config
 settings_of app words = settings_by (value_of app words)
 
+-- ---- tables that are saved
+-- they are kept, too
+abbrev pub saving : Config → Config
+saving config = record config { keep = true; save = true }
+
+-- with `--save` these settings, unless `--keep` is given beside it; without, as ever
+abbrev pub saved_settings_by : (Text → Option Text) → Option Config
+saved_settings_by value =
+    if is_set (value (codes "save"))
+    then (if is_set (value (codes "keep")) then None else option_map saving (settings_in value))
+    else settings_by value
+
+abbrev pub saved_settings_of : List Text → Option Config
+saved_settings_of words = saved_settings_by (value_of saved_usage words)
+
 -- ---- what is generated in place of the input
 
 -- from a start and a number of rows
@@ -132,6 +147,12 @@ seed_in (Some text) = option_map Some (seed_of text)
 abbrev pub generated_by : App → List Text → Option (Option Seed)
 generated_by app words = seed_in (value_of app words (codes "gen"))
 
+-- the command takes these words, where tables may be saved, and they spell these settings, and what is generated
+pub record ParsesSaved (words : List Text) (config : Config) : Type 0 where
+  pub parses : Parses saved_usage words
+  pub settings : saved_settings_of words ≡ Some config
+  pub generated : IsSome (generated_by saved_usage words)
+
 -- the command takes these words, and they spell these settings, and what is generated, if something is
 pub record ParsesAs (app : App) (words : List Text) (config : Config) : Type 0 where
   pub parses : Parses app words
@@ -141,6 +162,9 @@ pub record ParsesAs (app : App) (words : List Text) (config : Config) : Type 0 w
 -- the words are those of a program
 abbrev pub IsTaken : App → List Text → Type 0
 IsTaken app words = (config : Config) × ParsesAs app words config
+
+abbrev pub IsTakenSaved : List Text → Type 0
+IsTakenSaved words = (config : Config) × ParsesSaved words config
 
 -- the same of a program over a store that others change, where they also spell these changes
 pub record ParsesChanges (words : List Text) (config : Config) (list : List Meddle) : Type 0 where

@@ -13,8 +13,8 @@ use Rattle.ob_base.specs.declared.schema.Shape.TheVariants.{Indexed}
 use Rattle.ob_base.specs.declared.schema.Table.{Table}
 use Rattle.ob_headline.specs.Bases.{Base}
 use Rattle.ob_headline.specs.KeptHeadline.{PassesBoth, RunKept}
-use Rattle.ob_headline.specs.Reruns.{GoOnFromOne, SomeRun, asked_by, seen_by}
-use Rattle.ob_headline.specs.Words.{Answer, Begins, Outside, keys_in}
+use Rattle.ob_headline.specs.Reruns.{GoOnFromOne, SomeRun, asked_by, keys_by, seen_by}
+use Rattle.ob_headline.specs.Words.{Answer, Begins, Outside}
 use Rattle.ob_headline.specs.Sealing.{PassesHere}
 use Rattle.ob_headline.specs.declared.ending.KeptEnding.{KeptEnding}
 use Rattle.ob_headline.specs.declared.ending.Report.{Report}
@@ -105,7 +105,7 @@ pub record IsBegun (base : Base) : Type 0 where
 
 -- once a run ended, over a store that tells what it holds, each block of a live region that the run made is shown
 abbrev pub ShowsSealed : SomeRun → Type 0
-ShowsSealed one = IsTrue one.old.store.tells → Shows (PassesHere one.base) (keys_in one.run.taken)
+ShowsSealed one = IsTrue one.old.store.tells → Shows (PassesHere one.base) (keys_by one)
     one.base.start one.old.store one.new.store
 
 -- ---- within a run
@@ -131,7 +131,7 @@ pub record IsBetween (one : SomeRun) (between : StoreState) : Type 0 where
 abbrev pub IsShownIn : SomeRun → (between : StoreState) → (region place : ℕ) → (block : List ℕ)
     → Type 0
 IsShownIn one between region place block = (good : List ℕ → Bool) → PassesHere one.base good
-    → IsShown good (keys_in one.run.taken) one.base.start
+    → IsShown good (keys_by one) one.base.start
     (Rises one.old.store.faults one.new.store.faults) between.asked region place block
 
 -- each one is of a region that the run had made and that lives on to its end, unless its place is written again
@@ -196,4 +196,4 @@ pub record ShowNumbersAlike (a b : SomeRun) : Type 0 where
   pub each : (region place : ℕ) (block0 block1 : List ℕ) → a.base.start.region < region
       → a.new.store.live region ≢ None → a.new.store.last region place ≡ Some block0
       → b.new.store.live region ≢ None → b.new.store.last region place ≡ Some block1
-      → AreNumberedAlike (keys_in a.run.taken) (keys_in b.run.taken) region place block0 block1
+      → AreNumberedAlike (keys_by a) (keys_by b) region place block0 block1

@@ -1,5 +1,5 @@
 -- The status of a run, and why it ends.
-use Rattle.std.specs.Prelude.{ℕ, ◌≡◌, ◌<◌, ◌⊎◌, ⊤, Bool, true, false, List, [], ◌∷◌, ◌++◌, length, IsSome, None, Ok, Err, Some}
+use Rattle.std.specs.Prelude.{ℕ, ◌≡◌, ◌<◌, ◌≤◌, ◌+◌, ◌^◌, ◌⊎◌, ⊤, Bool, true, false, List, [], ◌∷◌, ◌++◌, length, IsSome, None, Ok, Err, Some}
 use Rattle.ob_base.specs.Counts.{Rises}
 use Rattle.ob_base.specs.declared.access.Access.{Access}
 use Rattle.ob_base.specs.declared.access.Access.TheVariants.{Read}
@@ -13,6 +13,8 @@ use Rattle.ob_headline.specs.Words.{Outside, SinksRose, NoneRose, IsHonest, Answ
 use Rattle.ob_headline.specs.Endings.{status_of}
 use Rattle.ob_headline.specs.Settings.{limit_of}
 use Rattle.ob_headline.specs.Story.{Story}
+use Rattle.ob_store.specs.State.{StoreState}
+use Rattle.ob_vault.specs.State.{earlier}
 
 -- the first line is a secret
 abbrev pub HasSecret : List ℕ → Type 0
@@ -53,8 +55,17 @@ pub record EndsAtRead (region place : ℕ) (asked : List Access) : Type 0 where
   pub before : List Access
   pub is : asked ≡ before ++ Read region place ∷ []
 
--- of the words, the bytes taken, what was served, the store and the counts of faults; tables aren't saved while texts are
--- served, so no run ends as one whose keeper failed then
+-- tables were to be saved, and no number is left that a mark may name
+pub record IsUsedUp (base : Base) (store : StoreState) : Type 0 where
+  pub saves : base.public.save ≡ true
+  pub late : 2 ^ 63 ≤ earlier base.start + length store.asked + 1
+
+-- the store failed, or has no number left
+abbrev pub StoreFails : Base → (old new : StoreState) → Type 0
+StoreFails base old new = Rises old.faults new.faults ⊎ IsUsedUp base new
+
+-- of the words, the bytes taken, what was served, the store and the counts of faults; a keeper is handed something only where
+-- tables are saved
 abbrev pub Because : Base → Ending → (Takes : Type 0) (max : ℕ) (taken : List ℕ) (ended : Bool)
     (more : List (List ℕ)) (answers : List Answer) (part : List ℕ) (old new : Outside) → Type 0
 Because base Usage Takes max taken ended more answers part old new =
@@ -78,11 +89,13 @@ Because base (Ran (Err NoMemory)) Takes max taken ended more answers part old ne
 Because base (Ran (Err InputLimit)) Takes max taken ended more answers part old new =
     Takes × ReadToLimit max taken ended more part × (new.faults.source ≡ old.faults.source)
 Because base (Ran (Err StoreFault)) Takes max taken ended more answers part old new =
-    Takes × HasSecret taken × Rises old.store.faults new.store.faults
+    Takes × HasSecret taken × StoreFails base old.store new.store
     × (new.faults.source ≡ old.faults.source)
 Because base (Ran (Err StashFull)) Takes max taken ended more answers part old new =
     Takes × HasSecret taken × (new.faults.source ≡ old.faults.source)
-Because base (Ran (Err KeeperFault)) Takes max taken ended more answers part old new = ⊥
+Because base (Ran (Err KeeperFault)) Takes max taken ended more answers part old new =
+    Takes × HasSecret taken × (base.public.save ≡ true)
+    × (new.faults.source ≡ old.faults.source)
 
 -- an input that keeps to the limits: its first line is a secret, and neither it nor a text of it is too long
 pub record KeepsLimits (max : ℕ) (input : List ℕ) : Type 0 where
@@ -91,14 +104,15 @@ pub record KeepsLimits (max : ℕ) (input : List ℕ) : Type 0 where
   pub texts : is_over (pending_of [] (after_line input)) ≡ false
 
 -- the input was read to its end, or memory was wanting, or a block was not what was written there, or the store failed, or
--- the stash of an index was full
-abbrev pub IsCompleted : (honest faulted : Type 0) → Ending → Type 0
-IsCompleted honest faulted (Ran (Ok refused)) = ⊤
-IsCompleted honest faulted (Ran (Err (Tampered region place))) = ¬ honest
-IsCompleted honest faulted (Ran (Err NoMemory)) = ⊤
-IsCompleted honest faulted (Ran (Err StoreFault)) = faulted
-IsCompleted honest faulted (Ran (Err StashFull)) = ⊤
-IsCompleted honest faulted _ = ⊥
+-- the stash of an index was full, or, where tables are saved, the keeper failed
+abbrev pub IsCompleted : (honest faulted saving : Type 0) → Ending → Type 0
+IsCompleted honest faulted saving (Ran (Ok refused)) = ⊤
+IsCompleted honest faulted saving (Ran (Err (Tampered region place))) = ¬ honest
+IsCompleted honest faulted saving (Ran (Err NoMemory)) = ⊤
+IsCompleted honest faulted saving (Ran (Err StoreFault)) = faulted
+IsCompleted honest faulted saving (Ran (Err StashFull)) = ⊤
+IsCompleted honest faulted saving (Ran (Err KeeperFault)) = saving
+IsCompleted honest faulted saving _ = ⊥
 
 -- it says how the run ended, for its cause; and one that nothing hinders comes to the end of its input
 pub record Status (base : Base) (Takes : Type 0) (taken : List ℕ) (ended : Bool)
@@ -110,4 +124,4 @@ pub record Status (base : Base) (Takes : Type 0) (taken : List ℕ) (ended : Boo
       → KeepsLimits (limit_of base.settings) input
       → ¬ Rises old.faults.source new.faults.source → ¬ SinksRose old.faults new.faults
       → FromEach base (λ s. IsCompleted (IsHonest old.store new.store)
-      (Rises old.store.faults new.store.faults) ending)
+      (StoreFails base old.store new.store) (base.public.save ≡ true) ending)

@@ -1,5 +1,5 @@
 -- The words of the command lines: the flag `--trace`, the settings of a run, `--gen`, where a store is given `--store`,
--- `--keep` and `--mark`, and of the program whose store others change `--meddle`.
+-- `--keep` and `--mark`, where tables may be saved `--save`, and of the program whose store others change `--meddle`.
 use Rattle.std.specs.Prelude.{◌≡◌, Bool, true, false, List, [], Option, Some, None, codes, bytes_eq}
 use Rattle.clap.specs.Words.{App, Rule, Text, fault_of, first_of, matches_of, new_app, new_rule, with_rule}
 use Rattle.clap.specs.declared.builder.ArgAction.TheVariants.{SetTrue, Set}
@@ -44,6 +44,11 @@ abbrev pub kept_usage : App
 kept_usage = nameless (with_rule (with_rule (with_rule (common (codes "oblidb"))
     (valued (codes "store"))) (flag (codes "keep"))) (valued (codes "mark")))
 
+-- of a program that may save them behind each statement, too
+abbrev pub saved_usage : App
+saved_usage = nameless (with_rule (with_rule (with_rule (with_rule (common (codes "oblidb"))
+    (valued (codes "store"))) (flag (codes "keep"))) (valued (codes "mark"))) (flag (codes "save")))
+
 -- the command takes these words
 abbrev pub Parses : App → List Text → Type 0
 Parses app words = fault_of app words ≡ []
@@ -75,6 +80,10 @@ is_traced app words = is_set (value_of app words (codes "trace"))
 -- whether the tables are to be kept for the next run
 abbrev pub is_kept : List Text → Bool
 is_kept words = is_set (value_of kept_usage words (codes "keep"))
+
+-- whether the tables are to be saved behind each statement that changes them
+abbrev pub is_saved : List Text → Bool
+is_saved words = is_set (value_of saved_usage words (codes "save"))
 
 -- the changes that a value spells: at most 64
 abbrev pub changes_in : Option Text → Option (List Meddle)

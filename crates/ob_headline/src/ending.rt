@@ -21,6 +21,8 @@ pub enum KeptEnding {
     OtherPack,
     /// They are those of a run that saves them.
     Saved,
+    /// There is no mark, and the store has regions of a run.
+    NoMark,
     /// The store failed while tables were opened or closed.
     StoreFault,
     /// The run before was not closed.

@@ -15,15 +15,15 @@ ghost use Rattle.ob_headline.specs.KeptRuns.{AnswerAsOne, AnyRun, AreChained, Go
 ghost use Rattle.ob_headline.specs.Pieces.{BeginsWith};
 ghost use Rattle.ob_headline.specs.Plainly.{IsUnhindered, RunsPlainly};
 ghost use Rattle.ob_headline.specs.Reruns.{Alike, AlikeSoFar, AsksAsShown, AsksByKinds, EndsWell, GoOnFromOne, IsPlain};
-ghost use Rattle.ob_headline.specs.Reruns.{OneBegins, ShowAlike, SomeRun, any_counted, asked_by, failures_of, plainly};
+ghost use Rattle.ob_headline.specs.Reruns.{OneBegins, ShowAlike, SomeRun, any_counted, asked_by, failures_of, keys_by, plainly};
 ghost use Rattle.ob_headline.specs.Reruns.{seen_by, stmts_of};
-ghost use Rattle.ob_headline.specs.Settings.{IsTaken, MeddleParses};
+ghost use Rattle.ob_headline.specs.Settings.{IsTaken, IsTakenSaved, MeddleParses};
 ghost use Rattle.ob_headline.specs.Shown.{AskedTheSame, IsBegun, IsBetween, OfIndex, ShowNumbersAlike, ShowsBehind};
 ghost use Rattle.ob_headline.specs.Shown.{ShowsBetween, ShowsKept, ShowsSealed, WriteOwn, Wrote, asked_behind};
 ghost use Rattle.ob_headline.specs.Shown.{public_behind};
 ghost use Rattle.ob_headline.specs.Texts.{is_over, rest_of, texts_of};
 ghost use Rattle.ob_headline.specs.Usage.{is_kept};
-ghost use Rattle.ob_headline.specs.Words.{Outside, keys_in};
+ghost use Rattle.ob_headline.specs.Words.{Outside};
 ghost use Rattle.ob_headline.specs.Accesses.{is_cut};
 ghost use Rattle.ob_headline.specs.declared.ending.Report.{Report};
 ghost use Rattle.ob_mean.specs.Lawful.{Lawful};
@@ -70,7 +70,7 @@ pub fn one_asks_a_first_part()
 /// the secret, and no draw is read twice, whatever the statements, their values and their rows.
 pub fn leaves_are_draws()
     ensures { (one : SomeRun)
-        → ReadsDraws (draw_of (keys_in one.run.taken)) one.base.public (seen_by one) }
+        → ReadsDraws (draw_of (keys_by one)) one.base.public (seen_by one) }
 {}
 
 /// Over a store that tells what it holds, gave what was written and failed at no statement, a run whose words are taken,
@@ -79,7 +79,7 @@ pub fn leaves_are_draws()
 /// rested, it printed these answers, asked and traced what they ask by their meaning, and has their status.
 pub fn unhindered_runs_are_plain()
     ensures { (one : SomeRun) (input : List ℕ) → IsUnhindered one input
-        → FromEach one.base (λ s. RunsPlainly one input (drawing (keys_in one.run.taken) s)) }
+        → FromEach one.base (λ s. RunsPlainly one input (drawing (keys_by one) s)) }
 {}
 
 /// Two runs that go on from the same, over any stores, that came to their end, and of which no text was answered that the
@@ -142,12 +142,15 @@ pub fn numbers_go_on()
 /// skeletons of its statements, and from which are refused before any access, alone: from no tables or from those of an
 /// earlier run, by the words of any program, with `--meddle` among them or without.
 pub fn asks_by_kinds()
-    ensures taken { (base : Base) (app : App) (words : List Text) (tracing : Bool)
-        (old new : Outside) (report : Report)
-        (run : Headline base (IsTaken app words) tracing old new report) → AsksByKinds run }
-    ensures meddled { (base : Base) (words : List Text) (tracing : Bool)
-        (old new : Outside) (report : Report)
-        (run : Headline base (MeddleParses words) tracing old new report) → AsksByKinds run }
+    ensures taken { (base : Base) (keys : List ℕ → KeySet) (app : App) (words : List Text)
+        (tracing : Bool) (old new : Outside) (report : Report)
+        (run : Headline base keys (IsTaken app words) tracing old new report) → AsksByKinds run }
+    ensures meddled { (base : Base) (keys : List ℕ → KeySet) (words : List Text)
+        (tracing : Bool) (old new : Outside) (report : Report)
+        (run : Headline base keys (MeddleParses words) tracing old new report) → AsksByKinds run }
+    ensures saved { (base : Base) (keys : List ℕ → KeySet) (words : List Text)
+        (tracing : Bool) (old new : Outside) (report : Report)
+        (run : Headline base keys (IsTakenSaved words) tracing old new report) → AsksByKinds run }
 {}
 
 /// Each statement of a run that accesses no index writes to the regions that it makes, and to no other, and one that
