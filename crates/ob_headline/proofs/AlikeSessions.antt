@@ -1,5 +1,5 @@
--- Sessions of the model that differ in the order of their tables, in where these lie, and in how many accesses were asked: they
--- answer alike, as long as no statement comes too late.
+-- Sessions of the model that differ in the order of their tables, in where these lie, in how many accesses were asked, and in
+-- what is drawn: they answer alike, as long as no table is an index, and no statement comes too late.
 use Rattle.std.specs.Prelude.{is_some, if◌then◌else◌}
 use Rattle.std.proofs.Common.{◌≡◌, ◌<◌, ◌≤◌, ◌+◌, ◌^◌, ◌++◌, ℕ, Bool, true, false, List, [], ◌∷◌, length, map, Option, Some, None, Ok, Err, refl, sym, ◌∙◌, ap, subst, arith, length-append}
 use Rattle.std.proofs.lemmas.Bool.Decides.{nat_tests}
@@ -12,20 +12,22 @@ use Rattle.ob_base.specs.declared.config.Plan.TheVariants.{Small, Large, Continu
 use Rattle.ob_base.specs.declared.config.Public.{Public}
 use Rattle.ob_base.specs.declared.refusal.Refusal.{Refusal}
 use Rattle.ob_base.specs.declared.schema.Heading.{Heading}
+use Rattle.ob_base.specs.declared.schema.Shape.{Shape}
 use Rattle.ob_base.specs.declared.seen.End.TheVariants.{Static}
 use Rattle.ob_base.specs.declared.seen.Seen.{Seen}
+use Rattle.ob_base.specs.declared.skeleton.NewColumn.{NewColumn}
 use Rattle.ob_base.specs.declared.skeleton.Source.{Source}
 use Rattle.ob_base.specs.declared.skeleton.Source.TheVariants.{Table as OneTable, Join}
-use Rattle.ob_headline.proofs.FlatLemmas.{nothing_drawn}
 use Rattle.ob_headline.proofs.InStep.{InStep, keeps_step}
 use Rattle.ob_headline.specs.Failures.{failures, outcome_failures}
 use Rattle.ob_headline.specs.Words.{Answer}
 use Rattle.ob_headline.specs.Accesses.{AreSeen}
 use Rattle.ob_headline.specs.Meaning.{AnswersFrom, AnswersAs, AnswersIn}
 use Rattle.ob_headline.specs.declared.ending.Ending.{Ending}
-use Rattle.ob_mean.proofs.FlatLemmas.{seen_is, settle_is}
+use Rattle.ob_mean.proofs.FlatLemmas.{created_flat, makes_flat, seen_is, settle_is}
 use Rattle.ob_mean.proofs.FlatSessions.{after_flat, room_flat}
 use Rattle.ob_mean.proofs.ReplayLemmas.{after_room}
+use Rattle.ob_mean.proofs.VerdictLemmas.{headings-database}
 use Rattle.ob_mean.specs.Flats.{AreFlat}
 use Rattle.ob_mean.specs.Prints.{is_join, item_label, label_at, labels_of}
 use Rattle.ob_mean.specs.Refusals.{early_refusal, limits_of}
@@ -45,16 +47,14 @@ use Rattle.ob_verdict.proofs.AlikeHeadings.{SameHeadings, columns_same, headings
 use Rattle.ob_verdict.proofs.AlikeProof.{order_is_nothing}
 use Rattle.ob_verdict.specs.Alike.{ActsAlike, AreAlike}
 
--- what is public but for the tables and the next region
+-- what is public but for the tables, the next region and the last closing
 abbrev pub plain : Public → Public
-plain p = record p { tables = []; next_region = 0 }
+plain p = record p { tables = []; next_region = 0; closing = None }
 
--- their tables are kept, and both draw from here on
-pub record SessionsAlike (d : Draws) (s t : Session) : Type 0 where
+-- their tables are kept, so that none of them is an index
+pub record SessionsAlike (s t : Session) : Type 0 where
   pub settings : plain s.public ≡ plain t.public
   pub kept : s.public.keep ≡ true
-  pub drawn : s.draws ≡ d
-  pub drawn_too : t.draws ≡ d
   pub tables : AreAlike s.tables t.tables
   pub flat : AreFlat (headings s.tables)
   pub flat_too : AreFlat (headings t.tables)
@@ -164,6 +164,44 @@ module _ (d : Draws) (p q : Public) (settings : plain p ≡ plain q) (m n : ℕ)
       ∙ (λ i. followed (refusal_same i) (settled_same i) ts)
       ∙ sym (settle_is q ts stmt flat d n)
 
+-- ---- what is drawn, which is nothing where tables are kept
+module _ (d e : Draws) (p : Public) (m : ℕ) (ts : Tables) (flat : AreFlat (headings ts)) where
+  undrawn_seen : (stmt : Stmt) → seen d p m ts stmt ≡ seen e p m ts stmt
+  undrawn_seen stmt = seen_is p ts stmt flat d m ∙ sym (seen_is p ts stmt flat e m)
+
+  -- a table is made of which nothing is drawn, or none is
+  undrawn_made : (table : List ℕ) (columns : List NewColumn) (capacity : ℕ) (shape : Shape) → p.keep ≡ true
+      → settle d p m ts (Create table columns capacity shape) ≡ settle e p m ts (Create table columns capacity shape)
+  undrawn_made table columns capacity shape kept = go (early_refusal (is_late m) (limits_of p) (headings ts) stmt) refl
+    where
+      stmt : Stmt
+      stmt = Create table columns capacity shape
+
+      refuses : (o : Option Refusal) → early_refusal (is_late m) (limits_of p) (headings ts) stmt ≡ o → refusal p m ts stmt ≡ option_or (option_or o None) None
+      refuses o early =
+          let both : early_refusal (is_late m) (limits_of p) (headings (database ts)) stmt ≡ o = ap (λ (hs : List Heading). early_refusal (is_late m) (limits_of p) hs stmt) (headings-database ts) ∙ early in
+          λ i. option_or (option_or (both i) None) None
+
+      go : (o : Option Refusal) → early_refusal (is_late m) (limits_of p) (headings ts) stmt ≡ o → settle d p m ts stmt ≡ settle e p m ts stmt
+      go None early =
+          let flat_too = makes_flat (is_late m) (limits_of p) (headings ts) stmt kept early in
+          settle_is p ts stmt flat d m
+          ∙ ap (λ (us : Tables). followed (refusal p m ts stmt) us ts) (created_flat d p ts table columns capacity shape flat_too ∙ sym (created_flat e p ts table columns capacity shape flat_too))
+          ∙ sym (settle_is p ts stmt flat e m)
+      go (Some r) early =
+          settle_is p ts stmt flat d m
+          ∙ ap (λ (o : Option Refusal). followed o (settled d p ts stmt) ts) (refuses (Some r) early)
+          ∙ sym (settle_is p ts stmt flat e m ∙ ap (λ (o : Option Refusal). followed o (settled e p ts stmt) ts) (refuses (Some r) early))
+
+  undrawn_settle : (stmt : Stmt) → p.keep ≡ true → settle d p m ts stmt ≡ settle e p m ts stmt
+  undrawn_settle (Create table columns capacity shape) kept = undrawn_made table columns capacity shape kept
+  undrawn_settle (Insert table columns values) kept = settle_is p ts (Insert table columns values) flat d m ∙ sym (settle_is p ts (Insert table columns values) flat e m)
+  undrawn_settle (Update table sets cond) kept = settle_is p ts (Update table sets cond) flat d m ∙ sym (settle_is p ts (Update table sets cond) flat e m)
+  undrawn_settle (Delete table cond) kept = settle_is p ts (Delete table cond) flat d m ∙ sym (settle_is p ts (Delete table cond) flat e m)
+  undrawn_settle (DropTable table) kept = settle_is p ts (DropTable table) flat d m ∙ sym (settle_is p ts (DropTable table) flat e m)
+  undrawn_settle (RowsStmt q) kept = settle_is p ts (RowsStmt q) flat d m ∙ sym (settle_is p ts (RowsStmt q) flat e m)
+  undrawn_settle (TotalsStmt q) kept = settle_is p ts (TotalsStmt q) flat d m ∙ sym (settle_is p ts (TotalsStmt q) flat e m)
+
 -- ---- labels
 labels_same : (hs gs : List Heading) → SameHeadings hs gs → (stmt : Stmt) → labels_of stmt hs ≡ labels_of stmt gs
 labels_same hs gs same (Create table columns capacity shape) = refl
@@ -179,12 +217,9 @@ labels_same hs gs same (TotalsStmt q) = ap (λ (cs : Columns). map (item_label c
 early : (m : ℕ) → m < 2 ^ 63 → is_late m ≡ false
 early m few = grind (arith, nat_tests)
 
-module _ (d : Draws) (s t : Session) (alike : SessionsAlike d s t) (few : s.asked < 2 ^ 63) (few_too : t.asked < 2 ^ 63) (stmt : Stmt) where
+module _ (s t : Session) (alike : SessionsAlike s t) (few : s.asked < 2 ^ 63) (few_too : t.asked < 2 ^ 63) (stmt : Stmt) where
   late : is_late s.asked ≡ is_late t.asked
   late = early s.asked few ∙ sym (early t.asked few_too)
-
-  draws_same : s.draws ≡ t.draws
-  draws_same = alike.drawn ∙ sym alike.drawn_too
 
   acts : ActsAlike t.draws t.public t.asked s.tables t.tables stmt
   acts = order_is_nothing t.draws t.public t.asked s.tables t.tables stmt alike.tables
@@ -192,9 +227,9 @@ module _ (d : Draws) (s t : Session) (alike : SessionsAlike d s t) (few : s.aske
   answer_alike : verdict s.public s.asked s.tables stmt ≡ verdict t.public t.asked t.tables stmt
   answer_alike = verdict_same t.draws s.public t.public alike.settings s.asked t.asked late s.tables stmt alike.flat ∙ acts.answer
 
-  shows_alike : seen_now s stmt ≡ seen_now t stmt
+  pub shows_alike : seen_now s stmt ≡ seen_now t stmt
   shows_alike =
-      ap (λ (x : Draws). seen x s.public s.asked s.tables stmt) draws_same
+      undrawn_seen s.draws t.draws s.public s.asked s.tables alike.flat stmt
       ∙ seen_same t.draws s.public t.public alike.settings s.asked t.asked late s.tables stmt alike.flat ∙ acts.shows
 
   labels_alike : labels_of stmt (headings_of s.public.tables) ≡ labels_of stmt (headings_of t.public.tables)
@@ -203,25 +238,23 @@ module _ (d : Draws) (s t : Session) (alike : SessionsAlike d s t) (few : s.aske
       ∙ labels_same (headings s.tables) (headings t.tables) (headings_same s.tables t.tables alike.tables.count alike.tables.found) stmt
       ∙ ap (labels_of stmt) alike.there
 
-  answers_alike : (one : Answer) → AnswersIn None s stmt one → AnswersIn None t stmt one
+  pub answers_alike : (one : Answer) → AnswersIn None s stmt one → AnswersIn None t stmt one
   answers_alike one told =
       subst (λ (labels : List (List ℕ)). AnswersAs labels stmt (verdict t.public t.asked t.tables stmt) one) labels_alike
       (subst (λ (meaning : Meaning). AnswersAs (labels_of stmt (headings_of s.public.tables)) stmt meaning one) answer_alike told)
 
   settles_alike : settle s.draws s.public s.asked s.tables stmt ≡ settle t.draws t.public t.asked s.tables stmt
   settles_alike =
-      ap (λ (x : Draws). settle x s.public s.asked s.tables stmt) draws_same
+      undrawn_settle s.draws t.draws s.public s.asked s.tables alike.flat stmt alike.kept
       ∙ settle_same t.draws s.public t.public alike.settings s.asked t.asked late s.tables stmt alike.flat
 
   kept_too : t.public.keep ≡ true
   kept_too = sym (ap (λ (p : Public). p.keep) alike.settings) ∙ alike.kept
 
-  after_alike : SessionsAlike d (after None s stmt) (after None t stmt)
+  pub after_alike : SessionsAlike (after None s stmt) (after None t stmt)
   after_alike = record {
     settings = alike.settings;
     kept = alike.kept;
-    drawn = nothing_drawn s stmt None alike.kept (subst AreFlat alike.here alike.flat) tt ∙ alike.drawn;
-    drawn_too = nothing_drawn t stmt None kept_too (subst AreFlat alike.there alike.flat_too) tt ∙ alike.drawn_too;
     tables = subst (λ (ts : Tables). AreAlike ts (settle t.draws t.public t.asked t.tables stmt)) (sym settles_alike) acts.after;
     flat = after_flat None s stmt alike.kept alike.flat;
     flat_too = after_flat None t stmt kept_too alike.flat_too;
@@ -251,23 +284,23 @@ uncut None s stmt one none told = refl
 uncut (Some n) s stmt one none told = let failed = ap outcome_failures told.outcome in absurd (omega (arith, failed, none))
 
 -- more texts behind sessions that are alike
-abbrev Goes : Draws → Ending → (more : List Spelt) → (others : List Answer) → (behind : List Served) → (u v : Session) → Type 0
-Goes d f more others behind u v = SessionsAlike d u v → (after_all v more []).asked < 2 ^ 63 → AnswersFrom f v more [] others behind []
+abbrev Goes : Ending → (more : List Spelt) → (others : List Answer) → (behind : List Served) → (u v : Session) → Type 0
+Goes f more others behind u v = SessionsAlike u v → (after_all v more []).asked < 2 ^ 63 → AnswersFrom f v more [] others behind []
 
 -- these texts, each of which was answered and none by the store's fault, are answered alike, and so are more behind them
-pub answers_on : (d : Draws) (Leaves : Public → Stmt → Seen → Type 0) (e f : Ending) (spelt : List Spelt) (s t : Session) (broken : Broken) (answers : List Answer) (seen : List Served) (part : List ℕ) (more : List Spelt) (others : List Answer) (behind : List Served)
-    → SessionsAlike d s t → length answers ≡ length spelt → failures answers ≡ 0 → AnswersFrom e s spelt broken answers seen part → AreSeen Leaves s.public s.asked spelt answers seen
+pub answers_on : (Leaves : Public → Stmt → Seen → Type 0) (e f : Ending) (spelt : List Spelt) (s t : Session) (broken : Broken) (answers : List Answer) (seen : List Served) (part : List ℕ) (more : List Spelt) (others : List Answer) (behind : List Served)
+    → SessionsAlike s t → length answers ≡ length spelt → failures answers ≡ 0 → AnswersFrom e s spelt broken answers seen part → AreSeen Leaves s.public s.asked spelt answers seen
     → s.asked + length (trace s.public seen) < 2 ^ 63 → (after_all t (spelt ++ more) []).asked < 2 ^ 63
-    → Goes d f more others behind (after_all s spelt broken) (after_all t spelt []) → AnswersFrom f t (spelt ++ more) [] (answers ++ others) (seen ++ behind) []
+    → Goes f more others behind (after_all s spelt broken) (after_all t spelt []) → AnswersFrom f t (spelt ++ more) [] (answers ++ others) (seen ++ behind) []
 unfolding AnswersFrom AreSeen failures
-answers_on d Leaves e f [] s t broken answers seen part more others behind alike each none told lawful few few_too follows =
+answers_on Leaves e f [] s t broken answers seen part more others behind alike each none told lawful few few_too follows =
     subst (λ (a : List Answer). AnswersFrom f t more [] (a ++ others) (seen ++ behind) []) (sym told.0)
     (subst (λ (x : List Served). AnswersFrom f t more [] ([] ++ others) (x ++ behind) []) (sym lawful) (follows alike few_too))
-answers_on d Leaves e f (x ∷ spelt) s t broken [] seen part more others behind alike each none told lawful few few_too follows = absurd (omega (arith, each))
-answers_on d Leaves e f (Err at ∷ spelt) s t broken (one ∷ answers) seen part more others behind alike each none told lawful few few_too follows =
-    (told.0, answers_on d Leaves e f spelt s t (rest_of broken) answers seen part more others behind alike (omega (arith, each)) (omega (arith, none)) told.1 lawful.1 few few_too follows)
-answers_on d Leaves e f (Ok stmt ∷ spelt) s t broken (one ∷ answers) [] part more others behind alike each none told lawful few few_too follows = absurd told
-answers_on d Leaves e f (Ok stmt ∷ spelt) s t broken (one ∷ answers) (x ∷ seen) part more others behind alike each none told lawful few few_too follows =
+answers_on Leaves e f (x ∷ spelt) s t broken [] seen part more others behind alike each none told lawful few few_too follows = absurd (omega (arith, each))
+answers_on Leaves e f (Err at ∷ spelt) s t broken (one ∷ answers) seen part more others behind alike each none told lawful few few_too follows =
+    (told.0, answers_on Leaves e f spelt s t (rest_of broken) answers seen part more others behind alike (omega (arith, each)) (omega (arith, none)) told.1 lawful.1 few few_too follows)
+answers_on Leaves e f (Ok stmt ∷ spelt) s t broken (one ∷ answers) [] part more others behind alike each none told lawful few few_too follows = absurd told
+answers_on Leaves e f (Ok stmt ∷ spelt) s t broken (one ∷ answers) (x ∷ seen) part more others behind alike each none told lawful few few_too follows =
     let whole = uncut (head_of broken) s stmt one (omega (arith, none)) told.2 in
     let here = subst (λ (o : Option ℕ). (is_full_now s stmt ≡ false) × IsCutOff o s stmt × AnswersIn o s stmt one × (x.seen ≡ seen_or_cut o s stmt) × AnswersFrom e (after o s stmt) spelt (rest_of broken) answers seen part) whole told in
     let entry : x ≡ served None s stmt = λ i. record { skeleton = lawful.0 i; seen = here.3 i } in
@@ -281,14 +314,14 @@ answers_on d Leaves e f (Ok stmt ∷ spelt) s t broken (one ∷ answers) (x ∷ 
     let rest : s.asked + length (script s.public x.skeleton x.seen) + length (trace (next s.public x.skeleton x.seen) seen) < 2 ^ 63 = omega (arith, few_all, long) in (
       room_flat t stmt alike.flat_too,
       tt,
-      answers_alike d s t alike soon soon_too stmt one here.2,
-      here.3 ∙ shows_alike d s t alike soon soon_too stmt,
-      answers_on d Leaves e f spelt (after None s stmt) (after None t stmt) (rest_of broken) answers seen part more others behind
-          (after_alike d s t alike soon soon_too stmt) (omega (arith, each)) (omega (arith, none)) here.4
+      answers_alike s t alike soon soon_too stmt one here.2,
+      here.3 ∙ shows_alike s t alike soon soon_too stmt,
+      answers_on Leaves e f spelt (after None s stmt) (after None t stmt) (rest_of broken) answers seen part more others behind
+          (after_alike s t alike soon soon_too stmt) (omega (arith, each)) (omega (arith, none)) here.4
           (subst (λ (y : Served). AreSeen Leaves (next s.public y.skeleton y.seen) (s.asked + length (script s.public y.skeleton y.seen)) spelt answers seen) entry lawful.3)
           (subst (λ (y : Served). s.asked + length (script s.public y.skeleton y.seen) + length (trace (next s.public y.skeleton y.seen) seen) < 2 ^ 63) entry rest)
           few_behind
-          (subst (λ (o : Option ℕ). Goes d f more others behind (after_all (after o s stmt) spelt (rest_of broken)) (after_all (after None t stmt) spelt [])) whole
-          (subst (λ (u : Session). Goes d f more others behind u (after_all (after None t stmt) spelt [])) (after_room s stmt spelt broken (room_flat s stmt alike.flat))
-          (subst (λ (v : Session). Goes d f more others behind (after_all s (Ok stmt ∷ spelt) broken) v) (after_room t stmt spelt [] (room_flat t stmt alike.flat_too)) follows))),
+          (subst (λ (o : Option ℕ). Goes f more others behind (after_all (after o s stmt) spelt (rest_of broken)) (after_all (after None t stmt) spelt [])) whole
+          (subst (λ (u : Session). Goes f more others behind u (after_all (after None t stmt) spelt [])) (after_room s stmt spelt broken (room_flat s stmt alike.flat))
+          (subst (λ (v : Session). Goes f more others behind (after_all s (Ok stmt ∷ spelt) broken) v) (after_room t stmt spelt [] (room_flat t stmt alike.flat_too)) follows))),
     )

@@ -36,13 +36,12 @@ use Rattle.ob_headline.specs.declared.ending.KeptEnding.TheVariants.{Plain, Othe
 use Rattle.ob_headline.specs.declared.ending.Report.{Report}
 use Rattle.ob_mean.specs.Flats.{AreFlat}
 use Rattle.ob_mean.specs.Replay.{Broken, Session, Spelt, after_all}
-use Rattle.ob_mean.specs.Verdict.{Draws, Tables}
+use Rattle.ob_mean.specs.Verdict.{Tables}
 use Rattle.ob_reopen.specs.Closings.{mark_of}
 use Rattle.ob_reopen.specs.Keepers.{KeeperState}
 use Rattle.ob_reopen.specs.declared.closing.Closing.{Closing}
 use Rattle.ob_reopen.specs.declared.fault.CloseErr.{CloseErr}
 use Rattle.ob_script.specs.Trace.{Served, trace}
-use Rattle.ob_seal.specs.Draws.{draw_of}
 use Rattle.ob_seal.specs.KeySet.{KeySet}
 use Rattle.ob_seal.specs.Sealed.{keys_of}
 use Rattle.ob_store.specs.State.{KeptRegion, Lie, StoreState}
@@ -117,16 +116,11 @@ WaitsAt secret (Saved region blocks number pack salt) kept ts = ⊤
 WaitsAt secret (Closed region blocks number pack) kept ts =
     (tables : Tables) × Rests (keys_of secret) (closing_named region blocks number pack) kept tables × AreAlike tables ts
 
--- what a session with this secret draws
-abbrev draws_with : (secret : List ℕ) → Draws
-draws_with secret = record { draw = draw_of (keys_of secret); drawn = 0 }
-
 -- and what is public of a session with them has these settings
 record Waits (words : List Text) (secret : List ℕ) (held : Option Mark) (kept : ℕ → Option KeptRegion) (t : Session) : Type 0 where
   mark : Mark
   is : held ≡ Some mark
   settings : plain t.public ≡ plain (public_with (settings_of kept_usage words))
-  drawn : t.draws ≡ draws_with secret
   flat : AreFlat (headings t.tables)
   step : InStep t
   at : WaitsAt secret mark kept t.tables
@@ -134,20 +128,18 @@ record Waits (words : List Text) (secret : List ℕ) (held : Option Mark) (kept 
 -- a session of the model that the run goes on from
 record Begins (secret : List ℕ) (base : Base) (t : Session) : Type 1 where
   tables : Tables
-  alike : SessionsAlike (draws_with secret) (drawing (keys_of secret) (session_at base tables)) t
+  alike : SessionsAlike (drawing (keys_of secret) (session_at base tables)) t
   from : (P : Session → Type 0) → FromEach base P → P (session_at base tables)
 
 begins_at : (mark : Mark) (settings : Option Config) (config : Config) (secret : List ℕ) (base : Base) (old new : StoreState) (t : Session) → settings ≡ Some config → BeginsFrom mark config (keys_of secret) base old new
-    → WaitsAt secret mark old.kept t.tables → plain t.public ≡ plain (public_with settings) → config.keep ≡ true → t.draws ≡ draws_with secret → AreFlat (headings t.tables) → InStep t → IsTrue old.tells → new.lie ≡ None → Begins secret base t
-begins_at Fresh settings config secret base old new t set begins waits same kept drawn flat step tells honest =
+    → WaitsAt secret mark old.kept t.tables → plain t.public ≡ plain (public_with settings) → config.keep ≡ true → AreFlat (headings t.tables) → InStep t → IsTrue old.tells → new.lie ≡ None → Begins secret base t
+begins_at Fresh settings config secret base old new t set begins waits same kept flat step tells honest =
     let is : base ≡ fresh (Some config) = begins.0 in
     record {
       tables = [];
       alike = record {
         settings = ap (λ (b : Base). plain b.public) is ∙ sym (ap (λ (o : Option Config). plain (public_with o)) set) ∙ sym same;
         kept = ap (λ (b : Base). b.public.keep) is ∙ kept;
-        drawn = refl;
-        drawn_too = drawn;
         tables = waits;
         flat = tt;
         flat_too = flat;
@@ -156,10 +148,10 @@ begins_at Fresh settings config secret base old new t set begins waits same kept
       };
       from = λ P. subst (λ (b : Base). FromEach b P → P (session_at b [])) (sym is) (λ each. each);
     }
-begins_at InUse settings config secret base old new t set begins waits same kept drawn flat step tells honest = absurd begins
-begins_at Begun settings config secret base old new t set begins waits same kept drawn flat step tells honest = absurd begins
-begins_at (Saved region blocks number pack salt) settings config secret base old new t set begins waits same kept drawn flat step tells honest = absurd begins
-begins_at (Closed region blocks number pack) settings config secret base old new t set begins waits same kept drawn flat step tells honest =
+begins_at InUse settings config secret base old new t set begins waits same kept flat step tells honest = absurd begins
+begins_at Begun settings config secret base old new t set begins waits same kept flat step tells honest = absurd begins
+begins_at (Saved region blocks number pack salt) settings config secret base old new t set begins waits same kept flat step tells honest = absurd begins
+begins_at (Closed region blocks number pack) settings config secret base old new t set begins waits same kept flat step tells honest =
     let closing = closing_named region blocks number pack in
     let o : Opened = record { keys = keys_of secret; closing = closing; listed = begins.1.listed; old = old; new = new } in
     let is : base ≡ reopened config o = begins.1.is in
@@ -169,8 +161,6 @@ begins_at (Closed region blocks number pack) settings config secret base old new
       alike = record {
         settings = ap (λ (b : Base). plain b.public) is ∙ sym (ap (λ (o : Option Config). plain (public_with o)) set) ∙ sym same;
         kept = ap (λ (b : Base). b.public.keep) is ∙ kept;
-        drawn = refl;
-        drawn_too = drawn;
         tables = waits.2;
         flat = rested_flat (keys_of secret) closing old.kept tables waits.1;
         flat_too = flat;
@@ -219,7 +209,7 @@ module _ (words : List Text) (secret : List ℕ) (f : Ending) (one : OneRun word
       subst (λ (x : List ℕ). Begins x run.base t) keyed
       (begins_at run.began.mark (settings_of kept_usage words) run.config run.secret run.base s0 run.opened t run.set run.began.begins
       (subst (λ (x : List ℕ). WaitsAt x run.began.mark s0.kept t.tables) (sym keyed) (subst (λ (m : Mark). WaitsAt secret m s0.kept t.tables) (sym mark_read) waits.at))
-      waits.settings (kept_settings words run.config run.set ∙ kept) (waits.drawn ∙ ap draws_with (sym keyed)) waits.flat waits.step tells honest_opened)
+      waits.settings (kept_settings words run.config run.set ∙ kept) waits.flat waits.step tells honest_opened)
 
   tells_opened : IsTrue run.opened.tells
   tells_opened = tells_on run.began.mark run.config (keys_of run.secret) run.base s0 run.opened run.began.begins tells
@@ -264,13 +254,12 @@ module _ (words : List Text) (secret : List ℕ) (f : Ending) (one : OneRun word
   waits_made true ts is rests = subst (λ (m : Mark). WaitsAt secret m one.new.store.kept ts) (sym (ap (λ (b : Bool). if b then InUse else mark_of tables.closing) is)) tt
   waits_made false ts is rests = subst (λ (m : Mark). WaitsAt secret m one.new.store.kept ts) (sym (ap (λ (b : Bool). if b then InUse else mark_of tables.closing) is)) (rests refl)
 
-  waits_behind : (used : Bool) → is_used_up tables.closing ≡ used → (broken : Broken) → Leaves used broken → (u : Session) → u ≡ after_all t run.session.story.spelt [] → SessionsAlike (draws_with secret) (after_all s run.session.story.spelt broken) u
+  waits_behind : (used : Bool) → is_used_up tables.closing ≡ used → (broken : Broken) → Leaves used broken → (u : Session) → u ≡ after_all t run.session.story.spelt [] → SessionsAlike (after_all s run.session.story.spelt broken) u
       → Waits words secret one.keeper1.held one.new.store.kept u
   waits_behind used is broken leaves u same alike = record {
     mark = mark_made tables.closing;
     is = held_behind;
     settings = ap (λ (v : Session). plain v.public) same ∙ keeps_plain t run.session.story.spelt [] ∙ waits.settings;
-    drawn = alike.drawn_too;
     flat = alike.flat_too;
     step = alike.there;
     at = waits_made used u.tables is (λ free.
@@ -293,7 +282,7 @@ module _ (words : List Text) (secret : List ℕ) (f : Ending) (one : OneRun word
       let failed = subst (λ (a : List Answer). failures a ≡ 0) run.answered none in
       let lawful = run.session.accesses.lawful in
       subst (λ (a : List Answer). AnswersFrom f t (run.session.story.spelt ++ more) [] (a ++ others) (all ++ behind) []) (sym run.answered)
-      (answers_on (draws_with secret) _ (Ran (Ok closed.0)) f run.session.story.spelt s t told.0 run.session.story.answers all run.session.story.part more others behind begins.alike each failed told.1
+      (answers_on _ (Ran (Ok closed.0)) f run.session.story.spelt s t told.0 run.session.story.answers all run.session.story.part more others behind begins.alike each failed told.1
       lawful soon few
       (λ alike enough. follows (after_all t run.session.story.spelt []) (waits_behind used refl told.0 told.2 (after_all t run.session.story.spelt []) refl alike) enough))
 
@@ -320,7 +309,7 @@ all_as_one words keeps secret f (one ∷ runs) held kept t goes waits few =
 pub answer_as_one : (words : List Text) (keeps : is_kept words ≡ true) (secret : List ℕ) (kept : ℕ → Option KeptRegion) (runs : List (OneRun words)) → GoOn secret (Some Fresh) kept runs → AnswerAsOne secret runs
 answer_as_one words keeps secret kept runs goes few =
     all_as_one words keeps secret (Ran (Ok (any_refused (all_answers runs)))) runs (Some Fresh) kept (first_of words secret) goes
-    (record { mark = Fresh; is = refl; settings = refl; drawn = refl; flat = tt; step = none_there (settings_of kept_usage words); at = record { count = refl; found = λ name. refl; apart = refl; too = refl } }) few
+    (record { mark = Fresh; is = refl; settings = refl; flat = tt; step = none_there (settings_of kept_usage words); at = record { count = refl; found = λ name. refl; apart = refl; too = refl } }) few
   where
     none_there : (settings : Option Config) → InStep (start settings)
     none_there None = refl

@@ -1,29 +1,24 @@
--- What statements go on from is flat, and stays so where the tables are kept.
+-- What statements go on from is flat.
 use Rattle.std.specs.Prelude.{map, slice_get}
 use Rattle.std.proofs.Common.{◌≡◌, ℕ, zero, suc, false, true, List, [], ◌∷◌, Option, Some, None, refl, ◌∙◌, ap}
 use Rattle.ob_base.specs.Stored.{headings, headings_of}
 use Rattle.ob_base.specs.declared.config.Config.{Config}
 use Rattle.ob_base.specs.declared.config.Public.{Public}
-use Rattle.ob_base.specs.declared.refusal.Refusal.{Refusal}
 use Rattle.ob_base.specs.declared.schema.Heading.{Heading}
 use Rattle.ob_base.specs.declared.schema.Shape.TheVariants.{Flat}
 use Rattle.ob_base.specs.declared.seen.End.{End}
 use Rattle.ob_base.specs.declared.skeleton.Skeleton.{Skeleton}
 use Rattle.ob_headline.specs.Bases.{public_with}
-use Rattle.ob_mean.proofs.FlatLemmas.{makes_flat}
-use Rattle.ob_mean.proofs.FlatSessions.{draws_rest, draws_stay}
 use Rattle.ob_mean.specs.Flats.{AreFlat}
 use Rattle.ob_mean.specs.Lawful.{HoldsLeaf}
-use Rattle.ob_mean.specs.Refusals.{early_refusal, limits_of}
-use Rattle.ob_mean.specs.Replay.{IsCutOff, Session, after, is_access}
-use Rattle.ob_mean.specs.Verdict.{Tables, is_late}
+use Rattle.ob_mean.specs.Replay.{is_access}
+use Rattle.ob_mean.specs.Verdict.{Tables}
 use Rattle.ob_reopen.specs.Limits.{IsCatalogue}
 use Rattle.ob_reopen.specs.Reopened.{opened_public}
 use Rattle.ob_reopen.specs.Resting.{AreKept, Rests}
 use Rattle.ob_reopen.specs.declared.closing.Closing.{Closing}
 use Rattle.ob_reopen.specs.declared.listed.Listed.{Listed}
 use Rattle.ob_seal.specs.KeySet.{KeySet}
-use Rattle.ob_sql.specs.declared.stmt.Stmt.{Stmt}
 use Rattle.ob_store.specs.State.{KeptRegion}
 
 -- each table is flat, by what is public
@@ -31,15 +26,6 @@ abbrev pub IsFlat : Public → Type 0
 IsFlat p = AreFlat (headings_of p.tables)
 
 -- ---- a statement
--- where the tables are kept it draws nothing, whether the store cuts it off or not
-pub nothing_drawn : (s : Session) (stmt : Stmt) (broken : Option ℕ) → s.public.keep ≡ true → IsFlat s.public → IsCutOff broken s stmt → (after broken s stmt).draws ≡ s.draws
-nothing_drawn s stmt (Some n) kept flat cuts = draws_stay s stmt flat (makes_flat (is_late s.asked) (limits_of s.public) (headings s.tables) stmt kept cuts.0) (Some n)
-nothing_drawn s stmt None kept flat cuts = go (early_refusal (is_late s.asked) (limits_of s.public) (headings s.tables) stmt) refl
-  where
-    go : (o : Option Refusal) → early_refusal (is_late s.asked) (limits_of s.public) (headings s.tables) stmt ≡ o → (after None s stmt).draws ≡ s.draws
-    go None free = draws_stay s stmt flat (makes_flat (is_late s.asked) (limits_of s.public) (headings s.tables) stmt kept free) None
-    go (Some r) refused = draws_rest s stmt r refused
-
 -- one that accesses no index holds no leaf
 pub no_leaf : (p : Public) (s : Skeleton) (leaf : Option ℕ) (end : End) → is_access p s ≡ false → HoldsLeaf p s leaf end → leaf ≡ None
 no_leaf p s None end none holds = refl
