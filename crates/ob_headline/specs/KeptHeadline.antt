@@ -59,11 +59,11 @@ pub record Unkeyed (settings : Option Config) (Takes : Type 0) (tracing : Bool) 
   pub kept : keeper1 ≡ keeper0
 
 -- ---- before a statement is served
--- the first line was taken, and the run ended at what the keeper held, while tables were opened, or right behind that: its
--- last line says why
-pub record Unbegun (settings : Option Config) (Takes : Type 0) (tracing : Bool) (old new : Outside)
-    (keeper0 keeper1 : KeeperState) (ending : KeptEnding) (answers : List Answer) (report : Report)
-    : Type 0 where
+-- the first line was taken, and the run ended before the first statement, for this reason, by the settings and the secret:
+-- its last line says why
+pub record Unserved (Why : Config → (secret : List ℕ) → Type 0) (settings : Option Config)
+    (Takes : Type 0) (tracing : Bool) (old new : Outside) (ending : KeptEnding)
+    (answers : List Answer) (report : Report) : Type 0 where
   pub takes : Takes
   pub config : Config
   pub set : settings ≡ Some config
@@ -73,8 +73,7 @@ pub record Unbegun (settings : Option Config) (Takes : Type 0) (tracing : Bool) 
   pub prompt : Prompt taken [] new.gave
   pub secret : List ℕ
   pub keyed : secret_of (first_line taken) ≡ Some secret
-  pub begun : NotBegun config (keys_of secret) ending old.store new.store
-      old.faults.trace new.faults.trace keeper0 keeper1
+  pub begun : Why config secret
   pub unanswered : answers ≡ []
   pub grew : Outputs old.written new.written (SinksRose old.faults new.faults) (kept_line ending)
   pub silent : new.faults.trace ≢ old.faults.trace → new.written ≡ old.written
@@ -82,6 +81,15 @@ pub record Unbegun (settings : Option Config) (Takes : Type 0) (tracing : Bool) 
       (traced tracing new.store.asked)
   pub source : new.faults.source ≡ old.faults.source
   pub most_open : report.high ≤ 1
+
+-- it ended at what the keeper held, while tables were opened, or right behind that
+abbrev pub Unbegun : (settings : Option Config) → (Takes : Type 0) → (tracing : Bool)
+    → (old new : Outside) → (keeper0 keeper1 : KeeperState) → (ending : KeptEnding)
+    → (answers : List Answer) → (report : Report) → Type 0
+Unbegun settings Takes tracing old new keeper0 keeper1 ending answers report =
+    Unserved (λ config secret. NotBegun config (keys_of secret) ending old.store new.store
+    old.faults.trace new.faults.trace keeper0 keeper1) settings Takes tracing old new ending
+    answers report
 
 -- ---- the closing
 -- tests of bytes that the blocks of tables and those of closings pass

@@ -28,6 +28,9 @@ pub mod Keeping
 pub mod KeptHeadline
 pub mod KeptMarks
 pub mod KeptRuns
+pub mod Saving
+pub mod SavedHeadline
+pub mod SavedRuns
 pub mod Pieces
 pub mod Plainly
 pub mod Reruns
