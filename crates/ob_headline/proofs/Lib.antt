@@ -23,3 +23,4 @@ pub mod BetweenLemmas
 pub mod LeftLemmas
 pub mod BegunLemmas
 pub mod StopLemmas
+pub mod SavedMarks

@@ -1,6 +1,6 @@
 -- The headline of a run that saves its tables: an opening, a session that goes on from it, and what is held and rests once it
 -- ended, in whichever way.
-use Rattle.std.specs.Prelude.{ℕ, ◌≡◌, ◌<◌, ◌+◌, ◌⊎◌, Bool, true, List, ◌++◌, if◌then◌else◌, length, take, Option, Some, Ok, Err}
+use Rattle.std.specs.Prelude.{ℕ, ◌≡◌, ◌<◌, ◌+◌, ◌⊎◌, Bool, true, List, ◌++◌, if◌then◌else◌, length, take, Option, Some, Err}
 use Rattle.ob_base.specs.Counts.{Rises}
 use Rattle.ob_base.specs.declared.config.Config.{Config}
 use Rattle.ob_base.specs.declared.mark.Mark.{Mark}

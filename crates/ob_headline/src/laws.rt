@@ -1,5 +1,5 @@
 //! What follows of whole runs, and how bytes are cut into texts.
-ghost use Rattle.std.specs.Prelude.{◌≡◌, ◌<◌, Bool, List, [], ℕ, IsSome, IsTrue, Option, Some, false, true, length};
+ghost use Rattle.std.specs.Prelude.{◌≡◌, ◌<◌, Bool, List, [], ℕ, IsSome, IsTrue, Option, Some, false, true, length, slice_get};
 ghost use Rattle.clap.specs.Words.{App, Text};
 ghost use Rattle.ob_base.specs.declared.config.Config.{Config};
 ghost use Rattle.ob_base.specs.declared.config.Public.{Public};
@@ -17,12 +17,15 @@ ghost use Rattle.ob_headline.specs.Plainly.{IsUnhindered, RunsPlainly};
 ghost use Rattle.ob_headline.specs.Reruns.{Alike, AlikeSoFar, AsksAsShown, AsksByKinds, EndsWell, GoOnFromOne, IsPlain};
 ghost use Rattle.ob_headline.specs.Reruns.{OneBegins, ShowAlike, SomeRun, any_counted, asked_by, failures_of, keys_by, plainly};
 ghost use Rattle.ob_headline.specs.Reruns.{seen_by, stmts_of};
+ghost use Rattle.ob_headline.specs.SavedRuns.{AnswerInOne, AnySaved, GoOnSaved, HaveOwnSalts, LeavesHeld, OneSaved};
+ghost use Rattle.ob_headline.specs.SavedRuns.{SavedRun, Seals, SealsAlone};
+ghost use Rattle.ob_headline.specs.Saving.{BeginsSaved};
 ghost use Rattle.ob_headline.specs.Settings.{IsTaken, IsTakenSaved, MeddleParses};
 ghost use Rattle.ob_headline.specs.Shown.{AskedTheSame, IsBegun, IsBetween, OfIndex, ShowNumbersAlike, ShowsBehind};
 ghost use Rattle.ob_headline.specs.Shown.{ShowsBetween, ShowsKept, ShowsSealed, WriteOwn, Wrote, asked_behind};
 ghost use Rattle.ob_headline.specs.Shown.{public_behind};
 ghost use Rattle.ob_headline.specs.Texts.{is_over, rest_of, texts_of};
-ghost use Rattle.ob_headline.specs.Usage.{is_kept};
+ghost use Rattle.ob_headline.specs.Usage.{is_kept, is_saved};
 ghost use Rattle.ob_headline.specs.Words.{Outside};
 ghost use Rattle.ob_headline.specs.Accesses.{is_cut};
 ghost use Rattle.ob_headline.specs.declared.ending.Report.{Report};
@@ -183,6 +186,9 @@ pub fn runs_begin_behind_earlier_ones()
     ensures fresh { (settings : Option Config) → IsBegun (fresh settings) }
     ensures kept { (mark : Mark) (config : Config) (keys : KeySet) (base : Base)
         (old new : StoreState) → BeginsFrom mark config keys base old new → IsBegun base }
+    ensures saved { (mark : Mark) (config : Config) (secret salt : List ℕ) (keys : KeySet)
+        (base : Base) (old new : StoreState)
+        → BeginsSaved mark config secret salt keys base old new → IsBegun base }
 {}
 
 /// So it is once a run with `--keep` ended, over a store that tells: of the blocks of its statements and of its closing.
@@ -196,4 +202,39 @@ pub fn kept_blocks_are_sealed_alone()
 /// stores differ in the secret and the rows alone: they are sealed under one number.
 pub fn blocks_are_numbered_alike()
     ensures { (a b : SomeRun) → AskedTheSame a b → ShowNumbersAlike a b }
+{}
+
+/// The mark that a keeper holds, where it tells, once a run with `--save` ended, in whichever way and whichever calls of
+/// the store and of the keeper failed: the one that was held, or `Begun` in place of a fresh one, or, behind a session, one
+/// that names tables which this run saved, under its own salt. If no statement was served, what rested for the mark that
+/// was held rests for it.
+pub fn saved_marks_are_held()
+    ensures { (words : List Text) (old new : Outside) (keeper0 keeper1 : KeeperState)
+        (report : Report) (run : SavedRun words old new keeper0 keeper1 report)
+        (held : Mark) → keeper0.held ≡ Some held → LeavesHeld run.ran held }
+{}
+
+/// Runs with the same words, `--save` among them, and of one secret, each ended in any way, the first over a fresh mark
+/// and each later one over the mark and the regions that the one before it left, where the store tells and gave what was
+/// written: they answer as one run does over the texts that took effect, which are those that were answered otherwise
+/// than that the store had failed, and for each run maybe one more, and what rests then is what that run leaves. Only
+/// that so many accesses were asked that a statement is refused for it may come at another place.
+pub fn saved_runs_answer_as_one()
+    ensures { (words : List Text) → is_saved words ≡ true
+        → (secret : List ℕ) (kept : ℕ → Option KeptRegion) (runs : List (OneSaved words))
+        → GoOnSaved secret (Some Fresh) kept runs → AnswerInOne secret (Some Fresh) kept runs }
+{}
+
+/// Of all runs with `--save` to which the keeper gave distinct salts, by whatever words, over whatever stores and marks,
+/// and whatever became of them, no two writes seal a block under one salt and one number. Each goes to a region that its
+/// run made, whose keys are those of its run's salt, and each block that lies in such a region once the run ended, over a
+/// store that tells, is sealed by one of them.
+pub fn saved_numbers_are_apart()
+    ensures apart { (runs : List AnySaved) → HaveOwnSalts runs → (i j k l : ℕ) (a b : AnySaved)
+        (salt : Option (List ℕ)) (number : ℕ) → slice_get runs i ≡ Some a
+        → slice_get runs j ≡ Some b → Seals a.one.run.ran k salt number
+        → Seals b.one.run.ran l salt number → (i ≡ j) × (k ≡ l) }
+    ensures alone { (words : List Text) (old new : Outside) (keeper0 keeper1 : KeeperState)
+        (report : Report) (run : SavedRun words old new keeper0 keeper1 report)
+        → SealsAlone run.ran }
 {}
