@@ -3,7 +3,7 @@ use Rattle.std.specs.Prelude.{MatchBool, ⊤, if◌then◌else◌}
 use Rattle.std.proofs.Common.{◌≡◌, ◌<◌, ◌≤◌, ◌+◌, ◌^◌, ◌++◌, ℕ, Bool, true, false, IsTrue, List, [], ◌∷◌, length, Option, Some, None, Result, Ok, Err, inl, inr, refl, sym, ◌∙◌, ap, subst, arith}
 use Rattle.std.specs.Option.{option_map_or}
 use Rattle.clap.specs.Words.{Text}
-use Rattle.ob_base.specs.Stored.{headings, headings_of}
+use Rattle.ob_base.specs.Stored.{headings}
 use Rattle.ob_base.specs.declared.config.Config.{Config}
 use Rattle.ob_base.specs.declared.mark.Mark.{Mark}
 use Rattle.ob_base.specs.declared.mark.Mark.TheVariants.{Fresh, InUse, Closed, Begun, Saved}
@@ -12,13 +12,13 @@ use Rattle.ob_reopen.proofs.ByNameAlike.{named_alike}
 use Rattle.ob_reopen.specs.Closed.{is_used_up}
 use Rattle.ob_reopen.specs.Resting.{Rests, by_name}
 use Rattle.ob_headline.proofs.AlikeSessions.{SessionsAlike, answers_on, keeps_plain, plain}
-use Rattle.ob_headline.proofs.FlatLemmas.{rested_flat}
+use Rattle.ob_headline.proofs.BeginsAlike.{Begins, begins_anew, begins_reopened}
 use Rattle.ob_headline.proofs.InStep.{InStep}
 use Rattle.ob_headline.proofs.SettingLemmas.{kept_settings}
 use Rattle.ob_headline.proofs.MarkLemmas.{marks_held}
 use Rattle.ob_headline.proofs.RerunLemmas.{answered_all}
 use Rattle.ob_headline.proofs.StopLemmas.{begun_stops, closing_stops}
-use Rattle.ob_headline.specs.Bases.{Base, FromEach, Opened, drawing, fresh, public_with, reopened, session_at, start}
+use Rattle.ob_headline.specs.Bases.{Base, Opened, drawing, public_with, session_at, start}
 use Rattle.ob_headline.specs.Endings.{status_of}
 use Rattle.ob_headline.specs.Failures.{failures}
 use Rattle.ob_headline.specs.Keeping.{BeginsFrom, EndsWith, closing_named, kept_status}
@@ -102,7 +102,7 @@ closed_well (Ok mark) whole ending f0 f1 k0 k1 refused ends well = (mark, refl)
 closed_well (Err error) whole ending f0 f1 k0 k1 refused ends well = absurd (closing_stops error refused (sym ends.0 ∙ well))
 
 -- a lie stays
-unlied : (old new : Option Lie) → ((lie : Lie) → old ≡ Some lie → new ≡ Some lie) → new ≡ None → old ≡ None
+pub unlied : (old new : Option Lie) → ((lie : Lie) → old ≡ Some lie → new ≡ Some lie) → new ≡ None → old ≡ None
 unlied None new stays none = refl
 unlied (Some lie) new stays none = absurd (cc (stays lie refl, none))
 
@@ -125,50 +125,16 @@ record Waits (words : List Text) (secret : List ℕ) (held : Option Mark) (kept 
   step : InStep t
   at : WaitsAt secret mark kept t.tables
 
--- a session of the model that the run goes on from
-record Begins (secret : List ℕ) (base : Base) (t : Session) : Type 1 where
-  tables : Tables
-  alike : SessionsAlike (drawing (keys_of secret) (session_at base tables)) t
-  from : (P : Session → Type 0) → FromEach base P → P (session_at base tables)
-
 begins_at : (mark : Mark) (settings : Option Config) (config : Config) (secret : List ℕ) (base : Base) (old new : StoreState) (t : Session) → settings ≡ Some config → BeginsFrom mark config (keys_of secret) base old new
-    → WaitsAt secret mark old.kept t.tables → plain t.public ≡ plain (public_with settings) → config.keep ≡ true → AreFlat (headings t.tables) → InStep t → IsTrue old.tells → new.lie ≡ None → Begins secret base t
+    → WaitsAt secret mark old.kept t.tables → plain t.public ≡ plain (public_with settings) → config.keep ≡ true → AreFlat (headings t.tables) → InStep t → IsTrue old.tells → new.lie ≡ None → Begins (keys_of secret) base t
 begins_at Fresh settings config secret base old new t set begins waits same kept flat step tells honest =
-    let is : base ≡ fresh (Some config) = begins.0 in
-    record {
-      tables = [];
-      alike = record {
-        settings = ap (λ (b : Base). plain b.public) is ∙ sym (ap (λ (o : Option Config). plain (public_with o)) set) ∙ sym same;
-        kept = ap (λ (b : Base). b.public.keep) is ∙ kept;
-        tables = waits;
-        flat = tt;
-        flat_too = flat;
-        here = ap (λ (b : Base). headings_of b.public.tables) (sym is);
-        there = step;
-      };
-      from = λ P. subst (λ (b : Base). FromEach b P → P (session_at b [])) (sym is) (λ each. each);
-    }
+    begins_anew settings config set kept (keys_of secret) base t same flat step begins.0 waits
 begins_at InUse settings config secret base old new t set begins waits same kept flat step tells honest = absurd begins
 begins_at Begun settings config secret base old new t set begins waits same kept flat step tells honest = absurd begins
 begins_at (Saved region blocks number pack salt) settings config secret base old new t set begins waits same kept flat step tells honest = absurd begins
 begins_at (Closed region blocks number pack) settings config secret base old new t set begins waits same kept flat step tells honest =
-    let closing = closing_named region blocks number pack in
-    let o : Opened = record { keys = keys_of secret; closing = closing; listed = begins.1.listed; old = old; new = new } in
-    let is : base ≡ reopened config o = begins.1.is in
-    let tables = waits.0 in
-    record {
-      tables = tables;
-      alike = record {
-        settings = ap (λ (b : Base). plain b.public) is ∙ sym (ap (λ (o : Option Config). plain (public_with o)) set) ∙ sym same;
-        kept = ap (λ (b : Base). b.public.keep) is ∙ kept;
-        tables = waits.2;
-        flat = rested_flat (keys_of secret) closing old.kept tables waits.1;
-        flat_too = flat;
-        here = begins.1.told tells honest tables waits.1;
-        there = step;
-      };
-      from = λ P. subst (λ (b : Base). FromEach b P → P (session_at b tables)) (sym is) (λ each. each tables (record { tells = tells; honest = honest; rests = waits.1 }));
-    }
+    let o : Opened = record { keys = keys_of secret; closing = closing_named region blocks number pack; listed = begins.1.listed; old = old; new = new } in
+    begins_reopened settings config set kept (keys_of secret) base t same flat step o waits.0 begins.1.is (record { tells = tells; honest = honest; rests = waits.1 }) (begins.1.told tells honest waits.0 waits.1) waits.2
 
 tells_on : (mark : Mark) (config : Config) (keys : KeySet) (base : Base) (old new : StoreState) → BeginsFrom mark config keys base old new → IsTrue old.tells → IsTrue new.tells
 tells_on Fresh config keys base old new begins tells = subst (λ (s : StoreState). IsTrue s.tells) (sym begins.1) tells
@@ -204,9 +170,9 @@ module _ (words : List Text) (secret : List ℕ) (f : Ending) (one : OneRun word
   mark_read : run.began.mark ≡ waits.mark
   mark_read = run.began.gives.told waits.mark (same_mark ∙ waits.is)
 
-  begins : Begins secret run.base t
+  begins : Begins (keys_of secret) run.base t
   begins =
-      subst (λ (x : List ℕ). Begins x run.base t) keyed
+      subst (λ (x : List ℕ). Begins (keys_of x) run.base t) keyed
       (begins_at run.began.mark (settings_of kept_usage words) run.config run.secret run.base s0 run.opened t run.set run.began.begins
       (subst (λ (x : List ℕ). WaitsAt x run.began.mark s0.kept t.tables) (sym keyed) (subst (λ (m : Mark). WaitsAt secret m s0.kept t.tables) (sym mark_read) waits.at))
       waits.settings (kept_settings words run.config run.set ∙ kept) waits.flat waits.step tells honest_opened)
@@ -306,11 +272,12 @@ all_as_one words keeps secret f (one ∷ runs) held kept t goes waits few =
     (after_all t (spelt_in r ++ all_spelt runs) []).asked < 2 ^ 63) found.1 few)
     (λ u later enough. all_as_one words keeps secret f runs one.keeper1.held one.new.store.kept u goes.3 later enough))
 
+-- no tables are public before the first statement
+pub none_there : (settings : Option Config) → InStep (start settings)
+none_there None = refl
+none_there (Some config) = refl
+
 pub answer_as_one : (words : List Text) (keeps : is_kept words ≡ true) (secret : List ℕ) (kept : ℕ → Option KeptRegion) (runs : List (OneRun words)) → GoOn secret (Some Fresh) kept runs → AnswerAsOne secret runs
 answer_as_one words keeps secret kept runs goes few =
     all_as_one words keeps secret (Ran (Ok (any_refused (all_answers runs)))) runs (Some Fresh) kept (first_of words secret) goes
     (record { mark = Fresh; is = refl; settings = refl; flat = tt; step = none_there (settings_of kept_usage words); at = record { count = refl; found = λ name. refl; apart = refl; too = refl } }) few
-  where
-    none_there : (settings : Option Config) → InStep (start settings)
-    none_there None = refl
-    none_there (Some config) = refl

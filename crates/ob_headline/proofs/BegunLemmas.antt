@@ -36,7 +36,7 @@ begun_fresh (Some config) = record { next = refl; fresh = λ region place own. r
 other_region : (q r : ℕ) → r < q → (q == r) ≡ false
 other_region q r less = grind (arith, nat_tests)
 
-none_given : (closing : Closing) (listed : List Listed) → ((i : ℕ) (t : Listed) → slice_get listed i ≡ Some t → t.table.region < closing.region) → (q x : ℕ) → closing.region < q → number_given closing listed q x ≡ 0
+pub none_given : (closing : Closing) (listed : List Listed) → ((i : ℕ) (t : Listed) → slice_get listed i ≡ Some t → t.table.region < closing.region) → (q x : ℕ) → closing.region < q → number_given closing listed q x ≡ 0
 none_given closing [] earlier q x own = ap (λ (b : Bool). if b && ltb x closing.blocks then closing.number + x else 0) (other_region q closing.region own)
 none_given closing (t ∷ ts) earlier q x own =
     let here : t.table.region < q = omega (arith, own, earlier 0 t refl) in

@@ -24,3 +24,6 @@ pub mod LeftLemmas
 pub mod BegunLemmas
 pub mod StopLemmas
 pub mod SavedMarks
+pub mod EffectLemmas
+pub mod BeginsAlike
+pub mod SavedAsOne

@@ -1,11 +1,11 @@
 -- Whether the tables are kept, by the words and by the settings that they spell.
-use Rattle.std.specs.Prelude.{nat_le, codes}
+use Rattle.std.specs.Prelude.{nat_le, codes, option_map}
 use Rattle.std.proofs.Common.{◌&&◌, ◌+◌, ◌*◌, ℕ, if◌then◌else◌, sym, ap, subst, refl, Bool, true, false, ◌≡◌, ◌∙◌, List, Option, Some, None}
 use Rattle.clap.specs.Words.{Text}
 use Rattle.ob_base.specs.declared.config.Config.{Config}
 use Rattle.ob_base.specs.declared.config.Plan.{Plan}
-use Rattle.ob_headline.specs.Settings.{joined, may_mark, may_pad, number_in, pad_in, plan_in, settings_in, settings_of}
-use Rattle.ob_headline.specs.Usage.{is_kept, is_set, kept_usage, value_of}
+use Rattle.ob_headline.specs.Settings.{joined, may_mark, may_pad, number_in, pad_in, plan_in, saved_settings_of, saving, settings_by, settings_in, settings_of}
+use Rattle.ob_headline.specs.Usage.{is_kept, is_saved, is_set, kept_usage, saved_usage, value_of}
 
 module _ (keep : Bool) (config : Config) where
   fits_keep : (fits : Bool) (c : Config) → c.keep ≡ keep → (if fits then Some c else None) ≡ Some config → config.keep ≡ keep
@@ -43,3 +43,16 @@ pub kept_settings : (words : List Text) (config : Config) → settings_of kept_u
 kept_settings words config is =
     let value = value_of kept_usage words in
     marked_keep (is_kept words) config value (may_mark (value (codes "mark")) (is_set (value (codes "keep")))) refl is
+
+-- ---- tables that are saved
+saving_keeps : (save keep : Bool) (settings other : Option Config) (config : Config) → save ≡ true → (if save then (if keep then None else option_map saving settings) else other) ≡ Some config → config.keep ≡ true
+saving_keeps false keep settings other config on is = absurd (cc on)
+saving_keeps true true settings other config on is = absurd (cc is)
+saving_keeps true false None other config on is = absurd (cc is)
+saving_keeps true false (Some c) other config on is = let of : saving c ≡ config = cc is in ap (λ (x : Config). x.keep) (sym of)
+
+-- then they are kept, too
+pub saved_settings : (words : List Text) (config : Config) → is_saved words ≡ true → saved_settings_of words ≡ Some config → config.keep ≡ true
+saved_settings words config saves is =
+    let value = value_of saved_usage words in
+    saving_keeps (is_saved words) (is_set (value (codes "keep"))) (settings_in value) (settings_by value) config saves is
