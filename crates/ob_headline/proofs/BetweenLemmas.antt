@@ -13,7 +13,7 @@ use Rattle.ob_script.specs.Script.{script}
 use Rattle.ob_script.specs.Trace.{Served, after_all, next, trace}
 
 -- all that they write is in regions from the next one on, or in those of an index that there is
-from_next : (p : Public) (seen : List Served) → WriteOwn p seen → (i q x : ℕ) → slice_get (trace p seen) i ≡ Some (Write q x) → (p.next_region ≤ q) ⊎ OfIndex p.tables q
+pub from_next : (p : Public) (seen : List Served) → WriteOwn p seen → (i q x : ℕ) → slice_get (trace p seen) i ≡ Some (Write q x) → (p.next_region ≤ q) ⊎ OfIndex p.tables q
 unfolding WriteOwn
 from_next p [] own i q x is = absurd (cc is)
 from_next p (y ∷ seen) own i q x is =

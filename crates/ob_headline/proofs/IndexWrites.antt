@@ -27,7 +27,7 @@ use Rattle.ob_script.specs.Trace.{next}
 
 -- ---- accesses of which each write goes to such a region
 module _ (P : ℕ → Type 0) where
-  abbrev Onto : List Access → Type 0
+  abbrev pub Onto : List Access → Type 0
   Onto [] = ⊤
   Onto (Write q x ∷ rest) = P q × Onto rest
   Onto (Make q blocks len ∷ rest) = Onto rest
@@ -35,7 +35,7 @@ module _ (P : ℕ → Type 0) where
   Onto (Discard q ∷ rest) = Onto rest
   Onto (Open q blocks len ∷ rest) = Onto rest
 
-  onto_both : (xs ys : List Access) → Onto xs → Onto ys → Onto (xs ++ ys)
+  pub onto_both : (xs ys : List Access) → Onto xs → Onto ys → Onto (xs ++ ys)
   onto_both [] ys a b = b
   onto_both (Write q x ∷ xs) ys a b = (a.0, onto_both xs ys a.1 b)
   onto_both (Make q blocks len ∷ xs) ys a b = onto_both xs ys a b
@@ -43,7 +43,7 @@ module _ (P : ℕ → Type 0) where
   onto_both (Discard q ∷ xs) ys a b = onto_both xs ys a b
   onto_both (Open q blocks len ∷ xs) ys a b = onto_both xs ys a b
 
-  onto_each : (m : ℕ) (f : ℕ → List Access) → ((i : ℕ) → Onto (f i)) → Onto (each m f)
+  pub onto_each : (m : ℕ) (f : ℕ → List Access) → ((i : ℕ) → Onto (f i)) → Onto (each m f)
   onto_each zero f all = tt
   onto_each (suc m) f all = onto_both (each m f) (f m) (onto_each m f all) (all m)
 
@@ -62,7 +62,7 @@ module _ (P : ℕ → Type 0) where
   onto_until AfterCount all a = a
   onto_until (Cut k) all a = onto_first k all a
 
-  onto_at : (xs : List Access) (i q x : ℕ) → Onto xs → slice_get xs i ≡ Some (Write q x) → P q
+  pub onto_at : (xs : List Access) (i q x : ℕ) → Onto xs → slice_get xs i ≡ Some (Write q x) → P q
   onto_at [] i q x a is = absurd (cc is)
   onto_at (Write r y ∷ xs) zero q x a is = let same : r ≡ q = cc is in subst P same a.0
   onto_at (Make r blocks len ∷ xs) zero q x a is = absurd (cc is)

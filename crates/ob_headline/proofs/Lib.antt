@@ -27,3 +27,4 @@ pub mod SavedMarks
 pub mod EffectLemmas
 pub mod BeginsAlike
 pub mod SavedAsOne
+pub mod SavedNumbers

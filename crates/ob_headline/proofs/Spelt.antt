@@ -5,8 +5,8 @@ use Rattle.clap.proofs.OnLiterals.{clap_on_literals}
 use Rattle.clap.specs.Words.{fault_of}
 use Rattle.clap.specs.declared.error.kind.ErrorKind.TheVariants as kind
 use Rattle.ob_base.specs.declared.config.Plan.TheVariants.{Continuous, Large, Hash}
-use Rattle.ob_headline.specs.Settings.{fitted, generated_by, number_in, pad_in, plan_in, seed_in, settings_of}
-use Rattle.ob_headline.specs.Usage.{Parses, kept_usage, mark_of, meddle_usage, store_of, usage}
+use Rattle.ob_headline.specs.Settings.{fitted, generated_by, number_in, pad_in, plan_in, saved_settings_of, seed_in, settings_of}
+use Rattle.ob_headline.specs.Usage.{Parses, is_saved, kept_usage, mark_of, meddle_usage, store_of, usage}
 
 -- ---- one value
 the_least : number_in 4 65536 64 (Some (codes "4")) ≡ Some 4
@@ -219,3 +219,38 @@ mark_without_keep = refl
 no_mark_of_others : fault_of meddle_usage (codes "--mark" ∷ codes "safe" ∷ []) ≡ kind.UnknownArgument ∷ []
 unfolding clap_on_literals
 no_mark_of_others = refl
+
+-- ---- tables that are saved
+
+saves : is_saved (codes "--save" ∷ []) ≡ true
+unfolding clap_on_literals
+saves = refl
+
+saves_not : is_saved (codes "--keep" ∷ []) ≡ false
+unfolding clap_on_literals
+saves_not = refl
+
+saves_and_keeps : saved_settings_of (codes "--save" ∷ []) ≡ Some (record { buffer = 64; depth = 5; pack = 1; plan = None; pad = None; stash = 32; keep = true; save = true; max_input = 1073741824 })
+unfolding clap_on_literals
+saves_and_keeps = refl
+
+mark_with_save : saved_settings_of (codes "--save" ∷ codes "--mark" ∷ codes "safe" ∷ [])
+    ≡ Some (record { buffer = 64; depth = 5; pack = 1; plan = None; pad = None; stash = 32; keep = true; save = true; max_input = 1073741824 })
+unfolding clap_on_literals
+mark_with_save = refl
+
+no_save_beside_keep : saved_settings_of (codes "--save" ∷ codes "--keep" ∷ []) ≡ None
+unfolding clap_on_literals
+no_save_beside_keep = refl
+
+keeps_alone : saved_settings_of (codes "--keep" ∷ []) ≡ Some (record { buffer = 64; depth = 5; pack = 1; plan = None; pad = None; stash = 32; keep = true; save = false; max_input = 1073741824 })
+unfolding clap_on_literals
+keeps_alone = refl
+
+mark_without_save : saved_settings_of (codes "--mark" ∷ codes "safe" ∷ []) ≡ None
+unfolding clap_on_literals
+mark_without_save = refl
+
+no_save_where_kept : fault_of kept_usage (codes "--save" ∷ []) ≡ kind.UnknownArgument ∷ []
+unfolding clap_on_literals
+no_save_where_kept = refl
