@@ -109,16 +109,16 @@ rest_taken n (b ∷ bs) = refl
 taken_more : (more : Bool) (one : Answer) (answers : List Answer) → taken_by more (one ∷ answers) ≡ suc (taken_by more answers)
 taken_more more one answers = omega arith
 
-left_end : (more : Bool) (s : Session) (answers : List Answer) (broken : Broken) → left_by more s [] answers broken ≡ s
+pub left_end : (more : Bool) (s : Session) (answers : List Answer) (broken : Broken) → left_by more s [] answers broken ≡ s
 left_end more s answers broken = ap (λ (xs : List Spelt). after_all s xs (take (length answers) broken)) (no_take (taken_by more answers))
 
 module _ (more : Bool) (s : Session) (spelt : List Spelt) (one : Answer) (answers : List Answer) (broken : Broken) where
-  left_refused : (at : ℕ) → left_by more s (Err at ∷ spelt) (one ∷ answers) broken ≡ left_by more s spelt answers (rest_of broken)
+  pub left_refused : (at : ℕ) → left_by more s (Err at ∷ spelt) (one ∷ answers) broken ≡ left_by more s spelt answers (rest_of broken)
   left_refused at =
       ap (λ (n : ℕ). after_all s (take n (Err at ∷ spelt)) (take (suc (length answers)) broken)) (taken_more more one answers)
       ∙ ap (λ (bs : Broken). after_all s (take (taken_by more answers) spelt) bs) (rest_taken (length answers) broken)
 
-  left_served : (stmt : Stmt) → is_full_now s stmt ≡ false → left_by more s (Ok stmt ∷ spelt) (one ∷ answers) broken ≡ left_by more (after (head_of broken) s stmt) spelt answers (rest_of broken)
+  pub left_served : (stmt : Stmt) → is_full_now s stmt ≡ false → left_by more s (Ok stmt ∷ spelt) (one ∷ answers) broken ≡ left_by more (after (head_of broken) s stmt) spelt answers (rest_of broken)
   left_served stmt room =
       ap (λ (n : ℕ). after_all s (take n (Ok stmt ∷ spelt)) (take (suc (length answers)) broken)) (taken_more more one answers)
       ∙ after_room s stmt (take (taken_by more answers) spelt) (take (suc (length answers)) broken) room

@@ -16,8 +16,8 @@ use Rattle.ob_headline.proofs.SavedMarks.{begun_held, leaves_held}
 use Rattle.ob_headline.proofs.SettingLemmas.{saved_settings}
 use Rattle.ob_headline.specs.Bases.{Base, Opened, drawing, fresh, public_with, session_at, start}
 use Rattle.ob_headline.specs.Keeping.{closing_named}
-use Rattle.ob_headline.specs.SavedHeadline.{LeavesMark, RestsBehind, RunSaved, SessionSaved, left_by}
-use Rattle.ob_headline.specs.SavedRuns.{AnswerInOne, AnsweredInOne, Effect, GoOnSaved, OneSaved, Outlasts, TakesEffect, all_effects, effects_of, held_by, kept_by, saved_count, saved_effects, saved_secret, session_behind, texts_of}
+use Rattle.ob_headline.specs.SavedHeadline.{LeavesMark, MayTakeMore, RestsBehind, RunSaved, SessionSaved, left_by}
+use Rattle.ob_headline.specs.SavedRuns.{AnswerInOne, AnsweredInOne, Effect, GoOnSaved, MayHaveAll, MayHaveMore, OneSaved, Outlasts, TakesEffect, all_effects, effects_of, held_by, kept_by, saved_count, saved_effects, saved_secret, session_behind, texts_of}
 use Rattle.ob_headline.specs.Saving.{BeginsSaved, ReopensSaved, RestsAlike, RestsAt, begun_mark}
 use Rattle.ob_headline.specs.Settings.{IsTakenSaved, saved_settings_of}
 use Rattle.ob_headline.specs.Usage.{is_saved, is_traced, saved_usage}
@@ -105,16 +105,18 @@ tells_on (Saved region blocks number pack closed) config secret salt keys base o
 
 -- ---- one run
 -- what it leaves, unless a text comes too late in the one run: of its texts these took effect
-record Leaves (words : List Text) (secret : List ℕ) (held : Option Mark) (kept : ℕ → Option KeptRegion) (t : Session) (effects : Bool → List Effect) : Type 0 where
+record Leaves (words : List Text) (secret : List ℕ) (held : Option Mark) (kept : ℕ → Option KeptRegion) (t : Session) (May : Type 0) (effects : Bool → List Effect) : Type 0 where
   more : Bool
+  may : more ≡ true → May
   took : (after_all t (texts_of (effects more)) []).asked < 2 ^ 63 → AnsweredInOne t (effects more) × Waits words secret held kept (after_all t (texts_of (effects more)) [])
 
 -- no statement was served
 leaves_none : (words : List Text) (secret : List ℕ) (held mark : Mark) (old new : StoreState) (k1 : Option Mark) (t : Session) → Waits words secret (Some held) old.kept t → k1 ≡ Some mark → IsTrue old.tells → new.lie ≡ None → Outlasts secret held mark old new
-    → Leaves words secret k1 new.kept t (λ more. [])
+    → Leaves words secret k1 new.kept t ⊥ (λ more. [])
 unfolding AnsweredInOne
 leaves_none words secret held mark old new k1 t waits is tells honest outlasts = record {
   more = false;
+  may = λ is_more. cc is_more;
   took = λ few. (
     tt,
     record {
@@ -168,9 +170,10 @@ module _ (words : List Text) (secret : List ℕ) (one : OneSaved words) (run : S
       begins.from (λ (u : Session). RestsBehind run.secret run.keys run.session.ending run.session.story left.0 one.new.store.kept u)
       (left.2.rests (record { tells = tells_opened; no_lie = honest }))
 
-  leaves_session : Leaves words secret one.keeper1.held one.new.store.kept t (λ more. effects_of more run.session.story.spelt run.session.story.answers)
+  leaves_session : Leaves words secret one.keeper1.held one.new.store.kept t (MayTakeMore run.session.ending) (λ more. effects_of more run.session.story.spelt run.session.story.answers)
   leaves_session = record {
     more = behind.more;
+    may = behind.unanswered;
     took = λ few.
         let effects = effects_of behind.more run.session.story.spelt run.session.story.answers in
         let u = after_all t (texts_of effects) [] in
@@ -195,7 +198,7 @@ module _ (words : List Text) (secret : List ℕ) (one : OneSaved words) (run : S
 -- whichever it is
 leaves_by : (words : List Text) (secret : List ℕ) (one : OneSaved words) → is_saved words ≡ true → IsTrue one.old.store.tells → one.new.store.lie ≡ None → (held : Mark) → one.keeper0.held ≡ Some held → (t : Session) → Waits words secret (Some held) one.old.store.kept t
     → (ran : RunSaved (saved_settings_of words) (IsTakenSaved words) (is_traced saved_usage words) one.old one.new one.keeper0 one.keeper1 one.run.ending one.run.answers one.report) → ((other : List ℕ) → saved_secret ran ≡ Some other → other ≡ secret) → saved_count ran < 2 ^ 63
-    → Leaves words secret one.keeper1.held one.new.store.kept t (λ more. saved_effects more ran)
+    → Leaves words secret one.keeper1.held one.new.store.kept t (MayHaveMore ran) (λ more. saved_effects more ran)
 leaves_by words secret one saves tells honest held is t waits (inl run) keyed soon =
     let left = leaves_held (inl run) held is in
     leaves_none words secret held left.mark one.old.store one.new.store one.keeper1.held t waits left.is tells honest (left.rests secret)
@@ -208,6 +211,7 @@ leaves_by words secret one saves tells honest held is t waits (inr (inr run)) ke
 -- ---- all of them
 record InOne (words : List Text) (secret : List ℕ) (held : Option Mark) (kept : ℕ → Option KeptRegion) (t : Session) (runs : List (OneSaved words)) : Type 0 where
   more : List Bool
+  may : MayHaveAll more runs
   took : (after_all t (texts_of (all_effects more runs)) []).asked < 2 ^ 63
       → AnsweredInOne t (all_effects more runs) × Waits words secret (held_by held runs) (kept_by kept runs) (after_all t (texts_of (all_effects more runs)) [])
 
@@ -217,8 +221,13 @@ is_few n is = grind (arith, nat_tests)
 is_many : (n : ℕ) → nat_lt n (2 ^ 63) ≡ false → 2 ^ 63 ≤ n
 is_many n is = grind (arith, nat_tests)
 
+-- of none one more took effect
+none_have : {words : List Text} (runs : List (OneSaved words)) → MayHaveAll [] runs
+none_have [] = tt
+none_have (one ∷ runs) = ((λ is. absurd (cc is)), none_have runs)
+
 -- a run, and those behind it
-module _ (words : List Text) (secret : List ℕ) (one : OneSaved words) (runs : List (OneSaved words)) (held : Option Mark) (kept : ℕ → Option KeptRegion) (t : Session) (leaves : Leaves words secret one.keeper1.held one.new.store.kept t (λ more. saved_effects more one.run.ran))
+module _ (words : List Text) (secret : List ℕ) (one : OneSaved words) (runs : List (OneSaved words)) (held : Option Mark) (kept : ℕ → Option KeptRegion) (t : Session) (leaves : Leaves words secret one.keeper1.held one.new.store.kept t (MayHaveMore one.run.ran) (λ more. saved_effects more one.run.ran))
     (follows : (u : Session) → Waits words secret one.keeper1.held one.new.store.kept u → InOne words secret one.keeper1.held one.new.store.kept u runs) where
   abbrev here : List Effect
   here = saved_effects leaves.more one.run.ran
@@ -230,6 +239,7 @@ module _ (words : List Text) (secret : List ℕ) (one : OneSaved words) (runs : 
       let joined = after_joined t here (all_effects rest.more runs) took.0 in
       record {
         more = leaves.more ∷ rest.more;
+        may = (leaves.may, rest.may);
         took = λ few.
             let later = rest.took (subst (λ (u : Session). u.asked < 2 ^ 63) joined few) in (
               answered_joined t here (all_effects rest.more runs) took.0 later.0,
@@ -238,6 +248,7 @@ module _ (words : List Text) (secret : List ℕ) (one : OneSaved words) (runs : 
       }
   go_on false is = record {
     more = leaves.more ∷ [];
+    may = (leaves.may, none_have runs);
     took = λ few.
         let many = is_many _ is in
         let grown = grows_more t (texts_of here) (texts_of (all_effects [] runs)) in
@@ -250,7 +261,7 @@ module _ (words : List Text) (secret : List ℕ) (one : OneSaved words) (runs : 
 
 all_in_one : (words : List Text) (saves : is_saved words ≡ true) (secret : List ℕ) (runs : List (OneSaved words)) (held : Option Mark) (kept : ℕ → Option KeptRegion) (t : Session) → GoOnSaved secret held kept runs → Waits words secret held kept t → InOne words secret held kept t runs
 unfolding AnsweredInOne
-all_in_one words saves secret [] held kept t goes waits = record { more = []; took = λ few. (tt, waits) }
+all_in_one words saves secret [] held kept t goes waits = record { more = []; may = tt; took = λ few. (tt, waits) }
 all_in_one words saves secret (one ∷ runs) held kept t goes waits =
     let good = goes.2 in
     let here = subst (λ (k : ℕ → Option KeptRegion). Waits words secret held k t) (sym (λ i q. goes.1 q i)) waits in
@@ -271,6 +282,7 @@ answer_in_one words saves secret kept runs goes =
     }) in
     record {
       more = all.more;
+      may = all.may;
       answered = λ few. (all.took few).0;
       left = λ few. let waits = (all.took few).1 in (waits.mark, waits.is, waits.at);
     }

@@ -1,5 +1,5 @@
 -- Runs that save their tables, each over the mark and the store that the one before it left, whatever became of that.
-use Rattle.std.specs.Prelude.{ℕ, ◌≡◌, ◌⊎◌, ◌<◌, ◌+◌, ◌^◌, ⊤, Bool, false, IsTrue, if◌then◌else◌, List, [], ◌∷◌, ◌++◌, length, map, slice_get, Option, Some, None, Ok, Err}
+use Rattle.std.specs.Prelude.{ℕ, ◌≡◌, ◌⊎◌, ◌<◌, ◌+◌, ◌^◌, ⊤, Bool, true, false, IsTrue, if◌then◌else◌, List, [], ◌∷◌, ◌++◌, length, map, slice_get, Option, Some, None, Ok, Err}
 use Rattle.std.proofs.Common.{inl, inr}
 use Rattle.clap.specs.Words.{Text}
 use Rattle.ob_base.specs.Refusals.{is_store_fault}
@@ -10,7 +10,7 @@ use Rattle.ob_headline.specs.Bases.{Base, start}
 use Rattle.ob_headline.specs.KeptHeadline.{PassesBoth, begun_at}
 use Rattle.ob_headline.specs.Meaning.{AnswersIn}
 use Rattle.ob_headline.specs.Reruns.{SomeRun, of_saving}
-use Rattle.ob_headline.specs.SavedHeadline.{RunSaved, SavedHeadline, SavesAs, SessionSaved}
+use Rattle.ob_headline.specs.SavedHeadline.{MayTakeMore, RunSaved, SavedHeadline, SavesAs, SessionSaved}
 use Rattle.ob_headline.specs.Saving.{RestsAlike, RestsAt, begun_mark}
 use Rattle.ob_headline.specs.Settings.{IsTakenSaved, saved_settings_of}
 use Rattle.ob_headline.specs.Shown.{Shows, Wrote, number_at}
@@ -155,6 +155,15 @@ saved_effects more (inr (inl run)) = []
 saved_effects more (inr (inr run)) =
     effects_of more run.session.story.spelt run.session.story.answers
 
+-- whether one more may have, which wasn't answered
+abbrev pub MayHaveMore : {settings : Option Config} {Takes : Type 0} {tracing : Bool}
+    {old new : Outside} {keeper0 keeper1 : KeeperState} {ending : KeptEnding}
+    {answers : List Answer} {report : Report}
+    → RunSaved settings Takes tracing old new keeper0 keeper1 ending answers report → Type 0
+MayHaveMore (inl run) = ⊥
+MayHaveMore (inr (inl run)) = ⊥
+MayHaveMore (inr (inr run)) = MayTakeMore run.session.ending
+
 -- how many accesses its statements came to, counted on from where its numbers are
 abbrev pub saved_count : {settings : Option Config} {Takes : Type 0} {tracing : Bool}
     {old new : Outside} {keeper0 keeper1 : KeeperState} {ending : KeptEnding}
@@ -207,6 +216,12 @@ all_effects more [] = []
 all_effects more (one ∷ runs) =
     saved_effects (head_more more) one.run.ran ++ all_effects (rest_more more) runs
 
+-- so it is of each of these runs where one more took effect
+abbrev pub MayHaveAll : {words : List Text} → (more : List Bool) → List (OneSaved words) → Type 0
+MayHaveAll more [] = ⊤
+MayHaveAll more (one ∷ runs) = (head_more more ≡ true → MayHaveMore one.run.ran)
+    × MayHaveAll (rest_more more) runs
+
 -- from a session of the model on: a text that takes effect meets no full stash, and is answered as it is meant, if it is
 abbrev pub TakesEffect : Session → Spelt → Option Answer → Type 0
 TakesEffect s (Ok stmt) None = is_full_now s stmt ≡ false
@@ -229,11 +244,12 @@ abbrev pub one_run : (words : List Text) → List Effect → Session
 one_run words effects = after_all (start (saved_settings_of words)) (texts_of effects) []
 
 -- in one run over the texts that took effect, of each run those that were answered otherwise than that the store had failed,
--- and maybe one more, each is answered as it was; and the tables that it leaves rest for the mark that is held: unless one of
--- them comes too late there
+-- and maybe one more, where the answer of that couldn't be written or the keeper failed, each is answered as it was; and the
+-- tables that it leaves rest for the mark that is held: unless one of them comes too late there
 pub record AnswerInOne {words : List Text} (secret : List ℕ) (held : Option Mark)
     (kept : ℕ → Option KeptRegion) (runs : List (OneSaved words)) : Type 0 where
   pub more : List Bool
+  pub may : MayHaveAll more runs
   pub answered : (one_run words (all_effects more runs)).asked < 2 ^ 63
       → AnsweredInOne (start (saved_settings_of words)) (all_effects more runs)
   pub left : (one_run words (all_effects more runs)).asked < 2 ^ 63 → (mark : Mark)
