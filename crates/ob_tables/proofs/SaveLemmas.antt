@@ -21,7 +21,7 @@ use Rattle.ob_script.proofs.Numbers.{length-create_part}
 use Rattle.ob_seal.specs.KeySet.{KeySet, draw_seed_of, pair_of}
 use Rattle.ob_select.proofs.RoomLemmas.{free_after}
 use Rattle.ob_select.specs.Settings.{IsFree}
-use Rattle.ob_store.specs.State.{Shape, StoreState}
+use Rattle.ob_store.specs.State.{KeptRegion, Shape, StoreState}
 use Rattle.ob_store.specs.Calls.{IsLive, KeepsLive, ChangesNothing as OnlyRoom}
 use Rattle.ob_store.specs.Runs.{Began}
 use Rattle.ob_store.proofs.Steps.{later_refl, later_rests}
@@ -47,6 +47,7 @@ use Rattle.ob_reopen.specs.Limits.{IsCatalogue}
 use Rattle.ob_reopen.specs.Resting.{AcceptsClosings, IsNeeded, Rests, by_name}
 use Rattle.ob_reopen.specs.Writings.{AreSalted, WritesClosing, catalogue_of, next_closing as written_closing, vault_error}
 use Rattle.ob_reopen.proofs.CatalogueLaws.{catalogue_has, catalogue_is}
+use Rattle.ob_reopen.proofs.OutlastLemmas.{rests_last}
 use Rattle.ob_tables.specs.declared.engine.Engine.{Engine}
 use Rattle.ob_tables.specs.Agreeing.{Agrees, count_of, replaced_of, world_of}
 use Rattle.ob_tables.specs.Closing.{next_closing}
@@ -474,6 +475,11 @@ module _ {R : Type 0} (state : R → RevState) (e : Engine R) (s s1 : StoreState
               let from = (catalogue_has e.vault.keys (state e.vault.revs) e.public.tables).only of.0 of.1 of.2 in
               inr (record { place = from.0; table = from.1; get = from.2; region = ap (λ (x : Listed). x.table.region) (sym from.3) ∙ sym of.3 })
 
+          outlasts : (tells : IsTrue s.tells) (tables : Tables) → Represents state e s tables → (now : ℕ → Option KeptRegion)
+              → ((q : ℕ) → (q ≡ (next_closing e s).region) ⊎ IsTableRegion e.public.tables q → now q ≡ t.kept q) → Rests e.vault.keys (next_closing e s) now (by_name tables)
+          outlasts tells tables held now same =
+              rests_last e.vault.keys t.kept now (next_closing e s) (by_name tables) (rests tells tables held) (λ q at. same q (needed q at))
+
           holds : (tables : Tables) → Represents state e s tables → Represents state saved t tables
           holds tables held = record {
             held = held_kept both e.public.pack e.indexes.items e.public.tables tables before after all.lasts off (λ k x get. absurd (no_index k x get)) held.held;
@@ -539,6 +545,6 @@ module _ {R : Type 0} (state : R → RevState) (e : Engine R) (s s1 : StoreState
                 later = all.lasts.later;
                 calm = all.calm;
                 kept = λ q other. went.lasts.apart.rests q (off_region q other);
-                told = λ tells tables held. (record { rests = rests tells tables held; needed = needed }, holds tables held);
+                told = λ tells tables held. (record { rests = outlasts tells tables held }, holds tables held);
                 sealed = λ good rows closings. seals_join good before last after went.lasts.later (seals_all is good closings) (leaves_sealed good);
               }

@@ -12,7 +12,7 @@ use Rattle.ob_reopen.specs.Closed.{NotClosed, is_used_up}
 use Rattle.ob_reopen.specs.Closings.{saved_mark, write_script}
 use Rattle.ob_reopen.specs.Keepers.{AreSaltBytes, IsMark}
 use Rattle.ob_reopen.specs.Limits.{IsMarked}
-use Rattle.ob_reopen.specs.Resting.{AcceptsClosings, IsNeeded, Rests, by_name}
+use Rattle.ob_reopen.specs.Resting.{AcceptsClosings, Rests, by_name}
 use Rattle.ob_reopen.specs.Reopened.{NotOpened}
 use Rattle.ob_reopen.specs.Saved.{RestsBy, reopening_keys}
 use Rattle.ob_reopen.specs.declared.closing.Closing.{Closing}
@@ -75,12 +75,12 @@ pub record IsSaved {R : Type 0} (state : R → RevState) (mark : Mark) (e : Engi
   -- what waits can be discarded
   pub spare : 2 ≤ t.spare
 
--- these tables in place rest in the store, of which the mark needs the closing's region and those of an engine's tables alone
+-- these tables in place rest in the store, for as long as the closing's region and those of an engine's tables are kept as they are
 pub record RestsIn (keys : KeySet) (closing : Closing) (kept : ℕ → Option KeptRegion)
     (tables : Tables) (own : List Table) : Type 0 where
-  pub rests : Rests keys closing kept tables
-  pub needed : (q : ℕ) → IsNeeded closing rests.listed q
-      → (q ≡ closing.region) ⊎ IsTableRegion own q
+  pub rests : (now : ℕ → Option KeptRegion)
+      → ((q : ℕ) → (q ≡ closing.region) ⊎ IsTableRegion own q → now q ≡ kept q)
+      → Rests keys closing now tables
 
 -- an engine's tables were saved, or why not: then the session has ended
 pub record SavesEngine {R : Type 0} (state : R → RevState) (result : Result Mark CloseErr)
