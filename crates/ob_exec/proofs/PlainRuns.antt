@@ -179,6 +179,7 @@ module _ {R : Type 0} (state : R → RevState) (stmt : Stmt) (result : Result Ou
     later = ran.later;
     keys = ran.keys;
     start = ran.start;
+    from_closing = λ not. ran.from_closing;
     ends = ran.ends;
     asks = ran.asks;
     cause = cause_plain p sk result (world_of state old s) (world_of state new t) ran.cause;

@@ -42,6 +42,7 @@ use Rattle.ob_script.specs.Trace.{next}
 use Rattle.ob_seal.specs.Draws.{draw_of}
 use Rattle.ob_seal.specs.KeySet.{KeySet, pair_of}
 use Rattle.ob_select.proofs.LieLemmas.{lie_before}
+use Rattle.ob_select.proofs.SelectRuns.{ends-more}
 use Rattle.ob_select.specs.Memory.{AtMake, HasHalted, ends_with_make}
 use Rattle.ob_select.specs.Opening.{Opens, is_of_rows}
 use Rattle.ob_select.specs.Selecting.{AcceptsRows}
@@ -54,7 +55,7 @@ use Rattle.ob_store.specs.Runs.{Began, Did, Later}
 use Rattle.ob_store.specs.State.{Lie, StoreState}
 use Rattle.ob_tables.proofs.HeldLemmas.{held_plain}
 use Rattle.ob_tables.proofs.LawfulLemmas.{leaf_none}
-use Rattle.ob_tables.proofs.PlainLemmas.{none_stops}
+use Rattle.ob_tables.proofs.PlainLemmas.{IsPlain, none_stops}
 use Rattle.ob_tables.proofs.RunLemmas.{of_other}
 use Rattle.ob_tables.proofs.ServeLemmas.{IsBare, bare_prints}
 use Rattle.ob_tables.proofs.TableLemmas.{tables_flat}
@@ -243,8 +244,11 @@ module _ {R E : Type 0} (state : R → RevState) (grew cut : E → E → List Ev
   pub few_mid : count_of mid s1 < 2 ^ 63 + 2 ^ 59
   few_mid = few_behind state old s mid s1 stmt mid.seen agrees saves flat changed changes early whole serves.ran.start serves.ran.asked
 
-  pub left_mid : left_then p sk mid.seen.end ≡ left_by p sk
-  left_mid = ap (left_then p sk) whole
+  pub waits_mid : (left : Option ℕ) → left ≡ left_by p sk → Waits state (left_then p sk mid.seen.end) mid s1 → Waits state left mid s1
+  waits_mid left left_is waits = subst (λ (o : Option ℕ). Waits state o mid s1) (ap (left_then p sk) whole ∙ sym left_is) waits
+
+  pub settled_mid : replaced_of old ≡ None → replaced_of mid ≡ None
+  settled_mid settled = serves.ran.replaced ∙ settled
 
   module _ {Saves : Type 0} (may : MaySave Saves old) where
     pub salted_mid : (pair_of (engine_keys mid) (public_of mid).next_region).salt ≢ None
@@ -338,6 +342,7 @@ module _ {R E : Type 0} (state : R → RevState) (grew cut : E → E → List Ev
       later = later_trans s s1 t serves.ran.later done.later;
       keys = done.keys ∙ serves.ran.keys;
       start = done.start ∙ serves.ran.start;
+      from_closing = λ not. absurd (cc (not, saved));
       ends = ap (λ (y : Seen). y.end) done.seen ∙ whole ∙ sym (end_stays outcome _ _ (sym serves.ran.ends ∙ whole));
       asks = λ faulted.
           let less = serves.ran.asks faulted in
@@ -431,4 +436,276 @@ module _ {R E : Type 0} (state : R → RevState) (grew cut : E → E → List Ev
           let more : p.next_region ≤ q = omega (arith, made, above) in
           may.salted saves q more (ap (λ (k : KeySet). (pair_of k q).salt) (sym (done.keys ∙ serves.ran.keys)) ∙ none);
       listed = λ still. done.goes_on.listed;
+    }
+
+  -- ---- they were not: the session has ended
+  module _ {T : Type 0} (stop : RunStop) (left : Option ℕ) (last : Engine R) (t : StoreState) (k0 k1 : KeeperState) (halts : SavesTables {T = T} state left (Err stop) mid s1 last t k0 k1)
+      (n : ℕ) (count : n ≡ length t.asked - length s.asked) where
+    abbrev now : Seen
+    now = seen_to (Cut n)
+
+    abbrev new : Engine R
+    new = record last { seen = seen_to (Cut n); public = record last.public { next_region = last.vault.next }; ended = true }
+
+    abbrev begun : Began closing s1 t
+    begun = halts.began
+
+    abbrev dropped : List Access
+    dropped = drop_script (left_by p sk) ++ drop_script p.closing
+
+    -- its accesses are a first part of what it is to ask
+    front : run ≡ whole_run p sk now
+    front = run_all ∙ run_same p sk mid.seen now changes (ap (λ (y : Seen). y.leaf) plain)
+
+    whole_is : run ++ (closing ++ dropped) ≡ whole_script p sk now
+    whole_is = (λ i. front i ++ (closing_written i ++ dropped)) ∙ sym (whole_saved p sk now saves changed changes)
+
+    abbrev total : Began (whole_script p sk now) s t
+    total = record {
+      done = run ++ begun.done;
+      rest = begun.rest ++ dropped;
+      split =
+          append_assoc run begun.done (begun.rest ++ dropped) ∙ ap (λ (l : List Access). run ++ l) (sym (append_assoc begun.done begun.rest dropped))
+          ∙ ap (λ (l : List Access). run ++ (l ++ dropped)) begun.split ∙ whole_is;
+      asked = begun.asked ∙ ap (λ (l : List Access). l ++ begun.done) serves.ran.asked ∙ append_assoc s.asked run begun.done;
+    }
+
+    size : n ≡ length (run ++ begun.done)
+    size = let sum = ap length total.asked in let parts = length-append s.asked (run ++ begun.done) in omega (arith, count, sum, parts)
+
+    cut_is : script p sk now ≡ run ++ begun.done
+    cut_is =
+        ap (λ (k : ℕ). take k (whole_script p sk now)) size ∙ ap (λ (l : List Access). take (length (run ++ begun.done)) l) (sym total.split)
+        ∙ take_at (run ++ begun.done) (begun.rest ++ dropped) (length (run ++ begun.done)) refl
+
+    asked_cut : t.asked ≡ s.asked ++ script p sk now
+    asked_cut = total.asked ∙ ap (λ (l : List Access). s.asked ++ l) (sym cut_is)
+
+    -- ---- why
+    used_up : IsUsedUp mid s1 t → RunsOut (world_of state new t)
+    used_up used = elim (either_true (nat_le (2 ^ 63) (next_closing mid s1).region) (nat_le (2 ^ 63) (next_closing mid s1).number) used.used_up) [
+      | inl region ↦
+          let large = least (2 ^ 63) (next_closing mid s1).region region in
+          let next_is = on.agrees.next in
+          let tied = on.agrees.ready.tied.next in
+          let start = ap (λ (x : Start). x.region) halts.start in
+          let made = ap (λ (x : StoreState). makes x.asked) used.same in
+          inl (omega (arith, large, next_is, tied, start, made))
+      | inr number ↦
+          let large = least (2 ^ 63) (next_closing mid s1).number number in
+          let start = ap (λ (x : Start). x.writes) halts.start in
+          let written = ap (λ (x : StoreState). writes x.asked) used.same in
+          inr (omega (arith, large, start, written))
+    ]
+
+    calm_cut : Calm (world_of state old s) → Calm (world_of state new t)
+    calm_cut calm = halts.calm (serves.ran.cause.1 calm)
+
+    store_cause : Rises s1.faults t.faults ⊎ IsUsedUp mid s1 t → Rises s.faults t.faults ⊎ LacksNumber p sk (world_of state old s) (world_of state new t)
+    store_cause (inl rise) = inl (subst (λ (k : ℕ). Rises k t.faults) faults_mid rise)
+    store_cause (inr used) = inr (record { saved = saved; faults = ap (λ (x : StoreState). x.faults) used.same ∙ faults_mid; runs_out = used_up used })
+
+    served : (r : RunStop) → SavingCause r mid s1 t k0 k1 → ServedCause p sk (Err r) (world_of state old s) (world_of state new t)
+    served StoreFault cause = (store_cause cause.0, calm_cut)
+    served NoMemory cause = (cause.1 ∙ faults_mid, calm_cut)
+    served KeeperFault cause = (cause.0.faults ∙ faults_mid, calm_cut)
+    served SinkFault cause = absurd cause
+    served StashFull cause = absurd cause
+    served (Tampered q x) cause = absurd cause
+
+    counted : (r : RunStop) → SavingCause r mid s1 t k0 k1 → CountsKeeper (Err r) k0 k1
+    counted StoreFault cause = ap (λ (k : KeeperState). k.faults) cause.1
+    counted NoMemory cause = ap (λ (k : KeeperState). k.faults) cause.2
+    counted KeeperFault cause = cause.1
+    counted SinkFault cause = absurd cause
+    counted StashFull cause = absurd cause
+    counted (Tampered q x) cause = absurd cause
+
+    where_stopped : (r : RunStop) → SavingCause r mid s1 t k0 k1 → StopsWhere p sk (Err r)
+    where_stopped StoreFault cause = inr saved
+    where_stopped NoMemory cause = tt
+    where_stopped KeeperFault cause = saved
+    where_stopped SinkFault cause = absurd cause
+    where_stopped StashFull cause = absurd cause
+    where_stopped (Tampered q x) cause = absurd cause
+
+    honest_stop : (r : RunStop) → SavingCause r mid s1 t k0 k1 → IsNotTampered r
+    honest_stop StoreFault cause = refl
+    honest_stop NoMemory cause = refl
+    honest_stop KeeperFault cause = refl
+    honest_stop SinkFault cause = absurd cause
+    honest_stop StashFull cause = absurd cause
+    honest_stop (Tampered q x) cause = absurd cause
+
+    plain_stop : (r : RunStop) → SavingCause r mid s1 t k0 k1 → IsPlain r
+    plain_stop StoreFault cause = tt
+    plain_stop NoMemory cause = tt
+    plain_stop KeeperFault cause = tt
+    plain_stop SinkFault cause = absurd cause
+    plain_stop StashFull cause = absurd cause
+    plain_stop (Tampered q x) cause = absurd cause
+
+    ends_stop : (r : RunStop) → SavingCause r mid s1 t k0 k1 → grew out_old out_new [] → StopsEmission grew cut r out_old out_new []
+    ends_stop StoreFault cause took = (took, refl)
+    ends_stop NoMemory cause took = inl took
+    ends_stop KeeperFault cause took = (took, refl)
+    ends_stop SinkFault cause took = absurd cause
+    ends_stop StashFull cause took = absurd cause
+    ends_stop (Tampered q x) cause took = absurd cause
+
+    sink_stop : (r : RunStop) → SavingCause r mid s1 t k0 k1 → SinkStops (Err r) (faults out_old) (faults out_new)
+    sink_stop StoreFault cause = serves.sink
+    sink_stop NoMemory cause = serves.sink
+    sink_stop KeeperFault cause = serves.sink
+    sink_stop SinkFault cause = absurd cause
+    sink_stop StashFull cause = absurd cause
+    sink_stop (Tampered q x) cause = absurd cause
+
+    -- ---- rows that were open
+    opened_cut : Opens (script p sk now) (high_of old) (high_of last)
+    opened_cut = record {
+      kept = let kept = serves.ran.opened.kept in let high = halts.high in omega (arith, kept, high);
+      some = λ any. by_done begun.done refl (subst (λ (l : List Access). IsTrue (list_any is_of_rows l)) cut_is any);
+    }
+      where
+        by_done : (l : List Access) → begun.done ≡ l → IsTrue (list_any is_of_rows (run ++ begun.done)) → 1 ≤ high_of last
+        by_done [] is any =
+            let same : run ++ begun.done ≡ run = ap (λ (l : List Access). run ++ l) is ∙ append-nil run in
+            let one = serves.ran.opened.some (subst (λ (l : List Access). IsTrue (list_any is_of_rows l)) same any) in
+            let high = halts.high in
+            omega (arith, one, high)
+        by_done (x ∷ xs) is any =
+            let sum = ap length begun.asked in
+            let parts = length-append s1.asked begun.done in
+            let long = ap length is in
+            halts.some (λ same. let short = ap length same in omega (arith, sum, parts, long, short))
+
+    free_cut : IsFree p last.room
+    free_cut = let free = halts.room in record { idle = free.idle; rows = free.rows ∙ ap (λ (q : Public). q.buffer) on.public; pack = free.pack ∙ ap (λ (q : Public). q.pack) on.public }
+
+    ran_cut : RanWhole state sk (Err stop) old s new t
+    ran_cut = record {
+      asked = asked_cut;
+      later = later_trans s s1 t serves.ran.later halts.later;
+      keys = halts.keys ∙ serves.ran.keys;
+      start = halts.start ∙ serves.ran.start;
+      from_closing = λ not. absurd (cc (not, saved));
+      ends = ap (λ (k : ℕ). Cut k) count;
+      asks = λ faulted. absurd faulted;
+      cause = served stop halts.cause;
+      room = free_cut;
+      opened = opened_cut;
+      leaves = λ d of. inl (refl, λ goes. absurd (cc goes));
+      goes_on = refl;
+      settled = tt;
+      stops = where_stopped stop halts.cause;
+    }
+
+    -- ---- want of memory
+    wants : Began (make_at (next_closing mid s1).region (next_closing mid s1).blocks 1024) s1 t → WantsMemory p stmt now s t (HasHalted cut out_old out_new)
+    wants made = by_done made.done made.rest made.split made.asked
+      where
+        by_done : (done rest : List Access) → done ++ rest ≡ make_at (next_closing mid s1).region (next_closing mid s1).blocks 1024 → t.asked ≡ s1.asked ++ done
+            → WantsMemory p stmt now s t (HasHalted cut out_old out_new)
+        by_done [] rest split asked = record {
+          done = run;
+          rest = saving;
+          split = ap (λ (l : List Access). l ++ saving) front ∙ sym (whole_saved p sk now saves changed changes);
+          asked = asked ∙ append-nil s1.asked ∙ serves.ran.asked;
+          place = inr (inr (inr (saved, refl)));
+        }
+        by_done (x ∷ []) rest split asked =
+            let alone : x ∷ rest ≡ Make (next_closing mid s1).region (next_closing mid s1).blocks 1056 ∷ [] = split in
+            let is : x ≡ Make (next_closing mid s1).region (next_closing mid s1).blocks 1056 = cc alone in
+            let writes_then = each (next_closing mid s1).blocks (write_at (next_closing mid s1).region) ++ dropped in
+            record {
+              done = run ++ x ∷ [];
+              rest = writes_then;
+              split = append_assoc run (x ∷ []) writes_then ∙ ap (λ (y : Access). run ++ y ∷ writes_then) is ∙ whole_is;
+              asked = asked ∙ ap (λ (l : List Access). l ++ x ∷ []) serves.ran.asked ∙ append_assoc s.asked run (x ∷ []);
+              place = inl (inr (ends-more run (x ∷ []) (subst (λ (y : Access). IsTrue (ends_with_make (y ∷ []))) (sym is) refl)));
+            }
+        by_done (x ∷ y ∷ done) rest split asked =
+            let alone : x ∷ y ∷ (done ++ rest) ≡ Make (next_closing mid s1).region (next_closing mid s1).blocks 1056 ∷ [] = split in absurd (cc alone)
+
+    -- ---- what it means
+    abbrev before : World
+    before = world_of state old s
+
+    unread_mid : (tables : Tables) → Represents state old s tables → accessed tables stmt ≡ None
+    unread_mid tables held = held_plain p old.indexes.items tables before stmt held.held unkeyed
+
+    meant_whole : (tables : Tables) (d : Draws) → Represents state old s tables → seen d p m tables stmt ≡ seen_to Whole
+    meant_whole tables d held =
+        shows_kind_alone d p m tables stmt (early_held p m stmt tables old.indexes.items before None held.held early) (unread_mid tables held) (changes_plain stmt changes)
+
+    unread_begun : Unread begun.done
+    unread_begun = unread_first begun.done begun.rest (subst Unread (sym begun.split) (unread_closing (next_closing mid s1).region (next_closing mid s1).blocks 1024))
+
+    means_cut : Means state stmt (Err stop) old s new t
+    means_cut = record {
+      told = λ tables d of reads. tt;
+      room = λ tables d of reads. tt;
+      honest = λ tables reads. honest_stop stop halts.cause;
+      held = λ tables d of reads. cut_seen (is_refused stop) p sk n _ _ (meant_whole tables d reads.held) count;
+      full = λ tables d of reads. none_stops p tables stmt (unread_mid tables reads.held) d m _ stop (plain_stop stop halts.cause);
+      begun = begun_then new t begun.done unread_begun begun.asked halts.later halts.calm;
+    }
+
+    stopped_cut : Stopped state grew cut stmt stop old s new t out_old out_new
+    stopped_cut =
+        let answer = serves.answered in
+        let silent = (shows saves changes).silent in
+        let none : answer.events ≡ [] = none_emitted stmt (answer_labels stmt p) outcome answer.events silent own answer.emits in
+        record {
+          events = [];
+          ends = ends_stop stop halts.cause (subst (λ (events : List Event). grew out_old out_new events) none answer.took);
+          told = λ tables reads. record {
+            whole = [];
+            prints = bare_prints (answer_labels stmt p) (verdict p m tables stmt) (bare_refused (refusal p m tables stmt) (accepted_answer (database tables) stmt) (bare_change tables stmt changes));
+            begun = ([], refl);
+          };
+        }
+
+    lawful_cut : Lawful p m stmt now
+    lawful_cut = record {
+      static = (λ is. absurd (cc is), λ some. let static = serves.lawful.static.1 some in absurd (cc (static, whole)));
+      holds = tt;
+      leaf = leaf_none p stmt None (Cut n) unkeyed refl;
+      cut = let long = ap length total.split in let parts = length-append (run ++ begun.done) (begun.rest ++ dropped) in let same = size in omega (arith, long, parts, same);
+    }
+
+    as_stop : (r : RunStop) → stop ≡ r → SavingCause r mid s1 t k0 k1
+    as_stop r is = subst (λ (x : RunStop). SavingCause x mid s1 t k0 k1) is halts.cause
+
+    pub ran_halted : Ran state grew cut faults stmt (Err stop) old s new t out_old out_new k0 k1
+    ran_halted = record {
+      ran = ran_cut;
+      early = refused_none (refusal_now p m stmt) (Err stop) now early (λ is. absurd (cc is));
+      lawful = lawful_cut;
+      memory = λ is. wants (as_stop NoMemory (cc is)).0;
+      full = λ is. absurd (as_stop StashFull (cc is));
+      seals = λ good rows one closings.
+          seals_join good (world_of state old s) (world_of state mid s1) (world_of state new t) serves.ran.later (serves.seals good rows one)
+          (halts.sealed good (subst (λ (q : Public). AcceptsRows good q.pack) (sym on.public) rows) (closings saves));
+      answered = tt;
+      stopped = stopped_cut;
+      sink = sink_stop stop halts.cause;
+      emits = λ is. absurd (as_stop SinkFault (cc is));
+      means = means_cut;
+      keeper = inr (record {
+        saved = saved;
+        outcome = outcome;
+        engine = mid;
+        store = s1;
+        ran = serves.ran;
+        whole = whole;
+        means = serves.means;
+        later = halts.later;
+        answered = halts.cause;
+        held = tt;
+        stays = halts.stays;
+        kept = halts.kept;
+      });
+      counts = counted stop halts.cause;
     }

@@ -31,7 +31,7 @@ use Rattle.ob_vault.specs.State.{RevState, World}
 use Rattle.ob_vault.specs.Tied.{Calm}
 use Rattle.ob_verdict.specs.Outcomes.{MayEmit, refusal_now}
 use Rattle.ob_verdict.specs.declared.outcome.Outcome.{Outcome}
-use Rattle.ob_tables.specs.Agreeing.{AreDraws, count_of, engine_keys, engine_start, has_ended, high_of, indexes_of, public_of, replaced_of, seen_of, world_of}
+use Rattle.ob_tables.specs.Agreeing.{AreDraws, count_of, engine_keys, engine_start, has_ended, high_of, indexes_of, opened_from, public_of, replaced_of, seen_of, world_of}
 use Rattle.ob_tables.specs.Indexed.{FillsStash}
 use Rattle.ob_tables.specs.Leaves.{MovesLeaves}
 use Rattle.ob_tables.specs.Running.{Continues, IsFaulted, IsSilent, RanStatement, RefusedEarly, RunCause, SinkStops, result_end}
@@ -130,6 +130,7 @@ pub record RanWhole {R : Type 0} (state : R → RevState) (outline : Skeleton)
   pub later : Later s t
   pub keys : engine_keys new ≡ engine_keys old
   pub start : engine_start new ≡ engine_start old
+  pub from_closing : is_saved (public_of old) outline ≡ false → opened_from new ≡ opened_from old
   pub ends : (seen_of new).end ≡ result_end result (length t.asked - length s.asked)
   pub asks : IsFaulted result → length s.asked < length t.asked
   pub cause : ServedCause (public_of old) outline result (world_of state old s)
