@@ -20,3 +20,9 @@ pub mod RowsPairs
 pub mod RowsRoom
 pub mod RowsJoinEnd
 pub mod RowsJoinStart
+pub mod Unread
+pub mod ChangedScripts
+pub mod FewAsked
+pub mod SavingLemmas
+pub mod PlainRuns
+pub mod SavedRuns

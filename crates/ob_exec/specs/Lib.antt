@@ -1,2 +1,4 @@
-pub mod Totalling
 pub mod Sources
+pub mod Totalling
+pub mod Saving
+pub mod Ran

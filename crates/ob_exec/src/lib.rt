@@ -1,20 +1,24 @@
 //! Statements over the tables of an engine, in a block store that others watch and change: SELECT of rows, from a
 //! table or a join, SELECT of totals, and `run`, which carries out any statement.
 //!
-//! What is promised of `run` is `Serves` of `ob_tables/specs/Serving`: its accesses follow from what is public, the
-//! statement without its literals and conditions, and what is seen of it, whatever the store answers; and where
-//! nobody changed a block, its answer is that of the meaning.
+//! What is promised of `run` is `Ran` of `specs/Ran`: its accesses follow from what is public, the statement without its
+//! literals and conditions, and what is seen of it, whatever the store answers; and where nobody changed a block, its
+//! answer is that of the meaning. Where tables are saved, what it is handed as `Behind` does so before the answer
+//! (`SavesTables` of `specs/Saving`), as `SavedBy` a keeper; else it is handed `Unsaved`.
 //!
 //! `running` begins each statement, by what is refused before any access, by the index that it accesses, and else
 //! by its kind: what makes or changes a table is a call of `ob_tables`. `rows` and `totals` are the SELECTs;
 //! `specs/Sources` says what is done of the rows of a source (`SelectsRows`), and `specs/Totalling` of totals.
+//! `behind` has what becomes of the tables behind a statement.
 #![tactic(auto)]
 
+mod behind;
 mod rows;
 mod running;
 mod totalling;
 mod totals;
 
+pub use behind::{Behind, SavedBy, Unsaved};
 pub use ob_tables::{
     CloseErr, Closing, Engine, Listed, OpenErr, Outcome, RunStop, names_are_apart,
 };

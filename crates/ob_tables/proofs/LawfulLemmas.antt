@@ -56,7 +56,7 @@ refused_cut KeyRange k n is = absurd (cc is)
 refused_cut NeedsKey k n is = absurd (cc is)
 
 -- it is cut off after the accesses that it asked
-ends_cut : (result : Result Outcome RunStop) (k n : ℕ) → Cut k ≡ result_end result n → k ≡ n
+pub ends_cut : (result : Result Outcome RunStop) (k n : ℕ) → Cut k ≡ result_end result n → k ≡ n
 ends_cut (Ok (Refused r)) k n is = refused_cut r k n is
 ends_cut (Ok Created) k n is = absurd (cc is)
 ends_cut (Ok Inserted) k n is = absurd (cc is)

@@ -9,7 +9,7 @@ use Rattle.ob_base.specs.declared.config.Public.{Public}
 use Rattle.ob_base.specs.declared.mark.Mark.{Mark}
 use Rattle.ob_base.specs.declared.schema.Heading.{Heading}
 use Rattle.ob_base.specs.declared.schema.Table.{Table}
-use Rattle.ob_base.specs.Accesses.{makes, writes}
+use Rattle.ob_base.specs.Accesses.{make_at, makes, writes}
 use Rattle.ob_base.specs.Stored.{headings_of}
 use Rattle.ob_mean.specs.Flats.{AreFlat}
 use Rattle.ob_mean.specs.Verdict.{Tables}
@@ -21,7 +21,7 @@ use Rattle.ob_script.proofs.Numbers.{length-create_part}
 use Rattle.ob_seal.specs.KeySet.{KeySet, draw_seed_of, pair_of}
 use Rattle.ob_select.proofs.RoomLemmas.{free_after}
 use Rattle.ob_select.specs.Settings.{IsFree}
-use Rattle.ob_store.specs.State.{Shape, StoreState}
+use Rattle.ob_store.specs.State.{KeptRegion, Shape, StoreState}
 use Rattle.ob_store.specs.Calls.{IsLive, KeepsLive, ChangesNothing as OnlyRoom}
 use Rattle.ob_store.specs.Runs.{Began}
 use Rattle.ob_store.proofs.Steps.{later_refl, later_rests}
@@ -44,9 +44,10 @@ use Rattle.ob_reopen.specs.Closed.{ClosingCause, is_used_up}
 use Rattle.ob_reopen.specs.Closings.{IsClosing, saved_mark, write_script}
 use Rattle.ob_reopen.specs.Keepers.{AreMarked, AreSaltBytes, IsMark}
 use Rattle.ob_reopen.specs.Limits.{IsCatalogue}
-use Rattle.ob_reopen.specs.Resting.{AcceptsClosings, Rests, by_name}
+use Rattle.ob_reopen.specs.Resting.{AcceptsClosings, IsNeeded, Rests, by_name}
 use Rattle.ob_reopen.specs.Writings.{AreSalted, WritesClosing, catalogue_of, next_closing as written_closing, vault_error}
 use Rattle.ob_reopen.proofs.CatalogueLaws.{catalogue_has, catalogue_is}
+use Rattle.ob_reopen.proofs.OutlastLemmas.{rests_last}
 use Rattle.ob_tables.specs.declared.engine.Engine.{Engine}
 use Rattle.ob_tables.specs.Agreeing.{Agrees, count_of, replaced_of, world_of}
 use Rattle.ob_tables.specs.Closing.{next_closing}
@@ -69,6 +70,7 @@ saves_used state e s agrees used = record {
   ok = tt;
   used_up = λ full. (refl, refl);
   err = λ free. absurd (cc (used, free));
+  memory = λ wants. absurd (cc wants);
   ended = refl;
   keys = refl;
   start = refl;
@@ -77,6 +79,7 @@ saves_used state e s agrees used = record {
   indexes = refl;
   room = agrees.room;
   high = omega (arith);
+  some = λ more. absurd (more refl);
   opened = tt;
   later = later_refl s;
   calm = λ calm. calm;
@@ -98,6 +101,10 @@ module _ {R : Type 0} (state : R → RevState) (e : Engine R) (s s1 : StoreState
   abbrev script : List Access
   script = write_script (next_closing e s)
 
+  -- that of its region
+  abbrev making : List Access
+  making = make_at (next_closing e s).region (next_closing e s).blocks 1024
+
   abbrev listed : List Listed
   listed = catalogue_of e.vault.keys (state e.vault.revs) e.public.tables
 
@@ -113,6 +120,7 @@ module _ {R : Type 0} (state : R → RevState) (e : Engine R) (s s1 : StoreState
       began = record { done = []; rest = script; split = refl; asked = room.asked ∙ sym (append-nil s.asked) };
       cause = room.faults;
     };
+    memory = λ wants. record { done = []; rest = making; split = refl; asked = room.asked ∙ sym (append-nil s.asked) };
     ended = refl;
     keys = refl;
     start = refl;
@@ -121,6 +129,7 @@ module _ {R : Type 0} (state : R → RevState) (e : Engine R) (s s1 : StoreState
     indexes = refl;
     room = agrees.room;
     high = omega (arith);
+    some = λ more. absurd (more room.asked);
     opened = tt;
     later = later_rests s s1 room;
     calm = first.calm;
@@ -141,6 +150,9 @@ module _ {R : Type 0} (state : R → RevState) (e : Engine R) (s s1 : StoreState
 
   script_is : write_script (written_closing e.room.pack listed fore) ≡ script
   script_is = ap write_script written_is
+
+  making_is : make_at e.vault.next (length listed + 1) 1024 ≡ making
+  making_is = ap (λ (c : Closing). make_at c.region c.blocks 1024) written_is
 
   module _ (salts : AreSalted e.vault.keys e.public.tables) where
     is_catalogue : IsCatalogue (next_closing e s) listed
@@ -213,6 +225,12 @@ module _ {R : Type 0} (state : R → RevState) (e : Engine R) (s s1 : StoreState
               ok = tt;
               used_up = λ full. absurd (cc (full, free));
               err = λ _. record { began = subst (λ (x : List Access). Began x s t) script_is cut.began; cause = why.0 };
+              memory = λ wants. let first_part = is.memory wants in record {
+                done = first_part.done;
+                rest = first_part.rest;
+                split = first_part.split ∙ making_is;
+                asked = first_part.asked ∙ ap (λ (l : List Access). l ++ first_part.done) room.asked;
+              };
               ended = refl;
               keys = cut.lasts.keys;
               start = cut.lasts.start;
@@ -221,6 +239,7 @@ module _ {R : Type 0} (state : R → RevState) (e : Engine R) (s s1 : StoreState
               indexes = refl;
               room = free_rows;
               high = let same = high_is in omega (arith, same);
+              some = λ more. let same = high_is in omega (arith, same);
               opened = tt;
               later = cut.lasts.later;
               calm = why.1;
@@ -424,7 +443,7 @@ module _ {R : Type 0} (state : R → RevState) (e : Engine R) (s s1 : StoreState
           }
 
           -- ---- what rests
-          rests : IsTrue s.tells → (tables : Tables) → Represents state e s tables → Rests e.vault.keys (next_closing e s) t.kept (by_name tables)
+          abbrev rests : IsTrue s.tells → (tables : Tables) → Represents state e s tables → Rests e.vault.keys (next_closing e s) t.kept (by_name tables)
           rests tells tables held =
               let tells_fore : IsTrue s1.tells = subst IsTrue (sym first.lasts.later.tells) tells in
               let tells_last : IsTrue t.tells = subst IsTrue (sym went.lasts.later.tells) tells in
@@ -448,6 +467,18 @@ module _ {R : Type 0} (state : R → RevState) (e : Engine R) (s s1 : StoreState
                 in_place = λ stash. named_in e.public.stash stash tables
                     (subst (λ (hs : List Heading). AreFlat hs) (sym (held_headings e.public.pack e.indexes.items e.public.tables tables before held.held)) flat) held.in_place;
               }
+
+          -- of what is listed nothing is needed but the regions of the tables
+          needed : (q : ℕ) → IsNeeded (next_closing e s) listed q → (q ≡ (next_closing e s).region) ⊎ IsTableRegion e.public.tables q
+          needed q (inl own) = inl own
+          needed q (inr of) =
+              let from = (catalogue_has e.vault.keys (state e.vault.revs) e.public.tables).only of.0 of.1 of.2 in
+              inr (record { place = from.0; table = from.1; get = from.2; region = ap (λ (x : Listed). x.table.region) (sym from.3) ∙ sym of.3 })
+
+          outlasts : (tells : IsTrue s.tells) (tables : Tables) → Represents state e s tables → (now : ℕ → Option KeptRegion)
+              → ((q : ℕ) → (q ≡ (next_closing e s).region) ⊎ IsTableRegion e.public.tables q → now q ≡ t.kept q) → Rests e.vault.keys (next_closing e s) now (by_name tables)
+          outlasts tells tables held now same =
+              rests_last e.vault.keys t.kept now (next_closing e s) (by_name tables) (rests tells tables held) (λ q at. same q (needed q at))
 
           holds : (tables : Tables) → Represents state e s tables → Represents state saved t tables
           holds tables held = record {
@@ -500,6 +531,7 @@ module _ {R : Type 0} (state : R → RevState) (e : Engine R) (s s1 : StoreState
                 };
                 used_up = λ full. absurd (cc (full, free));
                 err = λ _. tt;
+                memory = λ wants. absurd (cc wants);
                 ended = refl;
                 keys = all.lasts.keys;
                 start = all.lasts.start;
@@ -508,10 +540,11 @@ module _ {R : Type 0} (state : R → RevState) (e : Engine R) (s s1 : StoreState
                 indexes = refl;
                 room = free_rows;
                 high = let same = high_is in omega (arith, same);
+                some = λ more. let same = high_is in omega (arith, same);
                 opened = record { kept = let same = high_is in omega (arith, same); some = λ any. let same = high_is in omega (arith, same) };
                 later = all.lasts.later;
                 calm = all.calm;
                 kept = λ q other. went.lasts.apart.rests q (off_region q other);
-                told = λ tells tables held. (rests tells tables held, holds tables held);
+                told = λ tells tables held. (record { rests = outlasts tells tables held }, holds tables held);
                 sealed = λ good rows closings. seals_join good before last after went.lasts.later (seals_all is good closings) (leaves_sealed good);
               }

@@ -1,11 +1,12 @@
 -- What saving an engine's tables does, what is discarded then, and how an engine goes on from what was saved.
 use Rattle.std.specs.Prelude.{◌≡◌, ◌≢◌, ◌⊎◌, ◌<◌, ◌≤◌, ◌+◌, ◌++◌, ℕ, Bool, true, false, IsTrue, List, [], Option, None, Some, Result, Err, OnOk, IfOk, IfErr, MatchResult}
-use Rattle.ob_base.specs.Accesses.{drop_script}
+use Rattle.ob_base.specs.Accesses.{drop_script, make_at}
 use Rattle.ob_base.specs.declared.access.Access.{Access}
 use Rattle.ob_base.specs.declared.config.Config.{Config}
 use Rattle.ob_base.specs.declared.config.Public.{Public}
 use Rattle.ob_base.specs.declared.mark.Mark.{Mark}
 use Rattle.ob_base.specs.declared.mark.Mark.TheVariants.{Fresh, InUse, Closed, Begun, Saved}
+use Rattle.ob_base.specs.declared.schema.Table.{Table}
 use Rattle.ob_mean.specs.Verdict.{Tables}
 use Rattle.ob_reopen.specs.Closed.{NotClosed, is_used_up}
 use Rattle.ob_reopen.specs.Closings.{saved_mark, write_script}
@@ -25,13 +26,14 @@ use Rattle.ob_select.specs.Opening.{Opens}
 use Rattle.ob_select.specs.Selecting.{AcceptsRows}
 use Rattle.ob_select.specs.Settings.{IsFree}
 use Rattle.ob_store.specs.Calls.{IsLive}
-use Rattle.ob_store.specs.Runs.{Did, Later}
-use Rattle.ob_store.specs.State.{StoreState}
+use Rattle.ob_store.specs.Runs.{Began, Did, Later}
+use Rattle.ob_store.specs.State.{KeptRegion, StoreState}
 use Rattle.ob_vault.specs.Calls.{Seals}
 use Rattle.ob_vault.specs.State.{RevState}
 use Rattle.ob_vault.specs.Tied.{AllSealed, Calm, Scope, next_fault}
 use Rattle.ob_tables.specs.Agreeing.{Agrees, draws_of, engine_keys, engine_start, has_ended, high_of, indexes_of, opened_from, public_of, replaced_of, seen_of, world_of}
 use Rattle.ob_tables.specs.Closing.{next_closing}
+use Rattle.ob_tables.specs.Engines.{IsTableRegion}
 use Rattle.ob_tables.specs.Reopening.{IsOpened}
 use Rattle.ob_tables.specs.Running.{is_stop}
 use Rattle.ob_tables.specs.Telling.{Represents}
@@ -73,6 +75,13 @@ pub record IsSaved {R : Type 0} (state : R → RevState) (mark : Mark) (e : Engi
   -- what waits can be discarded
   pub spare : 2 ≤ t.spare
 
+-- these tables in place rest in the store, for as long as the closing's region and those of an engine's tables are kept as they are
+pub record RestsIn (keys : KeySet) (closing : Closing) (kept : ℕ → Option KeptRegion)
+    (tables : Tables) (own : List Table) : Type 0 where
+  pub rests : (now : ℕ → Option KeptRegion)
+      → ((q : ℕ) → (q ≡ closing.region) ⊎ IsTableRegion own q → now q ≡ kept q)
+      → Rests keys closing now tables
+
 -- an engine's tables were saved, or why not: then the session has ended
 pub record SavesEngine {R : Type 0} (state : R → RevState) (result : Result Mark CloseErr)
     (e : Engine R) (s : StoreState) (saved : Engine R) (t : StoreState) : Type 0 where
@@ -81,15 +90,19 @@ pub record SavesEngine {R : Type 0} (state : R → RevState) (result : Result Ma
   pub used_up : is_used_up (next_closing e s) ≡ true → (result ≡ Err CloseErrs.Failed) × (t ≡ s)
   pub err : is_used_up (next_closing e s) ≡ false
       → IfErr result (λ err. NotClosed (save_script e s) err s t)
+  -- memory is wanted before the first access, or where the closing's region is made
+  pub memory : result ≡ Err CloseErrs.NoMemory
+      → Began (make_at (next_closing e s).region (next_closing e s).blocks 1024) s t
   pub ended : has_ended saved ≡ is_stop result
   pub keys : engine_keys saved ≡ engine_keys e
   pub start : engine_start saved ≡ engine_start e
   pub draws : draws_of saved ≡ draws_of e
   pub seen : seen_of saved ≡ seen_of e
   pub indexes : indexes_of saved ≡ indexes_of e
-  -- all rows of the room are free again, and one at least was open where the closing was written
+  -- all rows of the room are free again, and one at least was open where anything was asked
   pub room : IsFree (public_of e) saved.room
   pub high : high_of e ≤ high_of saved
+  pub some : (t.asked ≡ s.asked → ⊥) → 1 ≤ high_of saved
   pub opened : OnOk result (Opens (save_script e s) (high_of e) (high_of saved))
   pub later : Later s t
   pub calm : Calm (world_of state e s) → Calm (world_of state saved t)
@@ -98,8 +111,8 @@ pub record SavesEngine {R : Type 0} (state : R → RevState) (result : Result Ma
   pub kept : (q : ℕ) → q ≢ (next_closing e s).region → t.kept q ≡ s.kept q
   -- the tables that the engine holds rest in the store, and it holds them
   pub told : IsTrue s.tells → (tables : Tables) → Represents state e s tables
-      → IfOk result (λ mark. Rests (engine_keys e) (next_closing e s) t.kept (by_name tables)
-      × Represents state saved t tables)
+      → IfOk result (λ mark. RestsIn (engine_keys e) (next_closing e s) t.kept (by_name tables)
+      (public_of e).tables × Represents state saved t tables)
   -- and nothing comes to lie in clear
   pub sealed : (good : ℕ → List ℕ → Bool) → AcceptsRows good (public_of e).pack
       → AcceptsClosings good → Seals good (world_of state e s) (world_of state saved t)

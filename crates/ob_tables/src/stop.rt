@@ -14,7 +14,7 @@ pub enum RunStop {
     SinkFault,
     /// Want of memory.
     NoMemory,
-    /// The store failed in an access of an index, which can't be accessed again.
+    /// The store failed in an access of an index, which can't be accessed again, or while tables were saved.
     StoreFault,
     /// The stash of an index has no room for the rows that its access leaves.
     StashFull,

@@ -12,7 +12,7 @@ use Rattle.ob_tables.specs.Saving.{Waits}
 use Rattle.ob_tables.specs.Serving.{Serves}
 use Rattle.ob_tables.proofs.GivenUpLemmas.{none_left}
 use Rattle.ob_tables.proofs.SavedLemmas.{waits_behind}
-use Rattle.ob_exec.proofs.running.run.Goals as goal
+use Rattle.ob_exec.proofs.running.carry_out.Goals as goal
 
 pub give_up-requires : goal.give_up-requires
 give_up-requires g c =

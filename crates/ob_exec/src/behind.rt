@@ -1,0 +1,120 @@
+//! What becomes of the tables of an engine behind a statement that changed them: they are saved, or they aren't.
+ghost use Rattle.std.specs.Prelude.{◌≡◌, ◌≢◌, ◌<◌, ◌+◌, ◌^◌, ⊤, ℕ, None, false};
+ghost use Rattle.ob_base.specs.Stored.{headings_of};
+ghost use Rattle.ob_exec.specs.Saving.{SavesTables, saving_stop};
+ghost use Rattle.ob_mean.specs.Flats.{AreFlat};
+ghost use Rattle.ob_reopen.specs.Keepers.{KeeperState};
+ghost use Rattle.ob_seal.specs.KeySet.{pair_of};
+ghost use Rattle.ob_tables.specs.Agreeing.{Agrees, count_of, engine_keys, has_ended, public_of, replaced_of};
+ghost use Rattle.ob_tables.specs.Saving.{Waits};
+
+use ob_reopen::Keeper;
+use ob_store::{BlockStore, Saving};
+use ob_tables::{CloseErr, Engine, RunStop};
+use ob_vault::Revisions;
+
+/// What becomes of the tables behind a statement that changed them, before it is answered.
+pub trait Behind<S: BlockStore> {
+    /// What its keeper has come to.
+    ghost state: { Self → KeeperState };
+
+    /// It can save tables.
+    ghost Saves: { Self → Type 0 };
+
+    /// Which keeper it has, by a name that stays.
+    ghost name: { Self → ℕ };
+
+    /// Saves the tables of an engine: they are listed in a closing, whose mark the keeper then holds, and what the mark
+    /// before needed alone is discarded, the region `left` in which a changed table lay among it.
+    ///
+    /// `StoreFault` where the store failed, or where the closing would have a number that no mark may name; `NoMemory`
+    /// before the first access, or where the closing's region is made; `KeeperFault` where the keeper failed. After an
+    /// error the tables of the old mark rest as they did, the new one's may rest beside them, and the engine is to take no
+    /// statement any more.
+    fn save<R: Revisions>(
+        &mut self,
+        engine: &mut Engine<R>,
+        store: &mut S,
+        left: Option<u64>,
+    ) -> Result<(), RunStop>
+        requires agrees { Agrees R.state engine.old (S.state store.old) }
+        requires lives { has_ended engine.old ≡ false }
+        requires waits { Waits R.state left engine.old (S.state store.old) }
+        requires settled { replaced_of engine.old ≡ None }
+        requires flat { AreFlat (headings_of (public_of engine.old).tables) }
+        requires few { count_of engine.old (S.state store.old) < 2 ^ 63 + 2 ^ 59 }
+        requires salted { (pair_of (engine_keys engine.old) (public_of engine.old).next_region).salt
+            ≢ None }
+        requires saves { Saves self.old }
+        ensures saves { SavesTables R.state left result engine.old (S.state store.old)
+            engine.new (S.state store.new) (state self.old) (state self.new) }
+        ensures stays { Saves self.new }
+        ensures same { name self.new ≡ name self.old };
+}
+
+/// No tables are saved: of an engine whose settings don't say so.
+#[derive(Clone, Copy, Debug, PartialEq, Eq)]
+pub struct Unsaved;
+
+impl<S: BlockStore> Behind<S> for Unsaved {
+    ghost state = { λ behind. record { held = None; faults = 0 } };
+
+    ghost Saves = { λ behind. ⊥ };
+
+    ghost name = { λ behind. 0 };
+
+    fn save<R: Revisions>(
+        &mut self,
+        _engine: &mut Engine<R>,
+        _store: &mut S,
+        _left: Option<u64>,
+    ) -> Result<(), RunStop> {
+        unreachable!()
+    }
+}
+
+/// Tables are saved in a store that outlasts a crash, and this keeper holds the mark of the closing that lists them.
+#[derive(Drop)]
+pub struct SavedBy<'a, K: Keeper> {
+    pub keeper: &'a mut K,
+}
+
+// The stop of a session whose tables could not be saved.
+fn saving_stop(error: CloseErr) -> RunStop
+    ensures { result ≡ saving_stop error }
+{
+    match error {
+        CloseErr::Failed => RunStop::StoreFault,
+        CloseErr::NoMemory => RunStop::NoMemory,
+    }
+}
+
+impl<'a, S: Saving, K: Keeper> Behind<S> for SavedBy<'a, K> {
+    ghost state = { λ behind. K.state behind.keeper.now };
+
+    ghost Saves = { λ behind. ⊤ };
+
+    ghost name = { λ behind. behind.keeper.ghost_name };
+
+    fn save<R: Revisions>(
+        &mut self,
+        engine: &mut Engine<R>,
+        store: &mut S,
+        left: Option<u64>,
+    ) -> Result<(), RunStop> {
+        let mark = match engine.save(store) {
+            Ok(mark) => mark,
+            Err(error) => return Err(saving_stop(error)),
+        };
+        match store.sync() {
+            Ok(()) => {}
+            Err(_) => return Err(RunStop::StoreFault),
+        }
+        match self.keeper.set(&mark) {
+            Ok(()) => {}
+            Err(_) => return Err(RunStop::KeeperFault),
+        }
+        engine.settle(store, left);
+        Ok(())
+    }
+}
