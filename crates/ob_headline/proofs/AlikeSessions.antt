@@ -45,9 +45,9 @@ use Rattle.ob_verdict.proofs.AlikeHeadings.{SameHeadings, columns_same, headings
 use Rattle.ob_verdict.proofs.AlikeProof.{order_is_nothing}
 use Rattle.ob_verdict.specs.Alike.{ActsAlike, AreAlike}
 
--- what is public but for the tables and the next region
+-- what is public but for the tables, the next region and the last closing
 abbrev pub plain : Public → Public
-plain p = record p { tables = []; next_region = 0 }
+plain p = record p { tables = []; next_region = 0; closing = None }
 
 -- their tables are kept, and both draw from here on
 pub record SessionsAlike (d : Draws) (s t : Session) : Type 0 where

@@ -186,46 +186,46 @@ module _ (n g : ℕ) (from : n ≤ g) where
       let m = min few (lefts - q * few) in
       both n (g + 1) (each m (read_from a (q * few))) (each rights (pair_at b g rights q)) (in_each n (g + 1) m (read_from a (q * few)) (λ x. reads n (g + 1) a (q * few + x))) (in_each n (g + 1) rights (pair_at b g rights q) (paired b rights q))
 
-  module _ (rest : List Access) (then : InTurn n (g + 1) rest) where
+  module _ (rest : List Access) (onward : InTurn n (g + 1) rest) where
     creates : (blocks width : ℕ) → InTurn n g (create_part g blocks width ++ rest)
-    creates blocks width = made blocks width (each blocks (write_at g)) rest (fills blocks) then
+    creates blocks width = made blocks width (each blocks (write_at g)) rest (fills blocks) onward
 
     inserts : (t blocks width : ℕ) → InTurn n g (insert_part t g blocks width rest)
     inserts t blocks width =
         subst (λ (xs : List Access). InTurn n g (make_at g blocks width ++ xs)) (append_assoc (count_part t blocks) (copy_part t g blocks) rest)
         (made blocks width (count_part t blocks ++ copy_part t g blocks) rest
-        (both n (g + 1) (count_part t blocks) (copy_part t g blocks) (counts n (g + 1) t blocks) (copies t blocks)) then)
+        (both n (g + 1) (count_part t blocks) (copy_part t g blocks) (counts n (g + 1) t blocks) (copies t blocks)) onward)
 
     rewrites : (t blocks width : ℕ) → InTurn n g (rewrite_part t g blocks width rest)
-    rewrites t blocks width = made blocks width (copy_part t g blocks) rest (copies t blocks) then
+    rewrites t blocks width = made blocks width (copy_part t g blocks) rest (copies t blocks) onward
 
     smalls : (t blocks results few width : ℕ) → InTurn n g (small_part t g blocks results few width ++ rest)
     smalls t blocks results few width =
         made results width (each (div_ceil results few) (small_pass t g blocks results few)) rest
-        (in_each n (g + 1) (div_ceil results few) (small_pass t g blocks results few) (passes t blocks results few)) then
+        (in_each n (g + 1) (div_ceil results few) (small_pass t g blocks results few) (passes t blocks results few)) onward
 
     larges : (t blocks width : ℕ) → InTurn n g (large_part t g blocks width ++ rest)
     larges t blocks width =
-        made blocks width (copy_part t g blocks ++ copy_part g g blocks) rest (both n (g + 1) (copy_part t g blocks) (copy_part g g blocks) (copies t blocks) (copies g blocks)) then
+        made blocks width (copy_part t g blocks ++ copy_part g g blocks) rest (both n (g + 1) (copy_part t g blocks) (copy_part g g blocks) (copies t blocks) (copies g blocks)) onward
 
     continuous : (t pack slots k width : ℕ) → InTurn n g (continuous_part t g pack slots k width ++ rest)
     continuous t pack slots k width =
         let filled = each (blocks_for pack k) (write_at g) in
         let turned = each (blocks_for pack slots) (continuous_block t g pack slots k) in
         made (blocks_for pack k) width (filled ++ turned) rest
-        (both n (g + 1) filled turned (fills (blocks_for pack k)) (in_each n (g + 1) (blocks_for pack slots) (continuous_block t g pack slots k) (turns t pack slots k))) then
+        (both n (g + 1) filled turned (fills (blocks_for pack k)) (in_each n (g + 1) (blocks_for pack slots) (continuous_block t g pack slots k) (turns t pack slots k))) onward
 
     hashes : (t pack slots k depth width : ℕ) → InTurn n g (hash_part t g pack slots k depth width ++ rest)
     hashes t pack slots k depth width =
         let filled = each (k * depth) (write_at g) in
         let turned = each (blocks_for pack slots) (hash_block t g pack slots k depth) in
         made (k * depth) width (filled ++ turned) rest
-        (both n (g + 1) filled turned (fills (k * depth)) (in_each n (g + 1) (blocks_for pack slots) (hash_block t g pack slots k depth) (hashed t pack slots k depth))) then
+        (both n (g + 1) filled turned (fills (k * depth)) (in_each n (g + 1) (blocks_for pack slots) (hash_block t g pack slots k depth) (hashed t pack slots k depth))) onward
 
     joins : (a b lefts rights few width : ℕ) → InTurn n g (join_part a b g lefts rights few width ++ rest)
     joins a b lefts rights few width =
         made (div_ceil lefts few * rights) width (each (div_ceil lefts few) (join_chunk a b g lefts rights few)) rest
-        (in_each n (g + 1) (div_ceil lefts few) (join_chunk a b g lefts rights few) (chunks a b lefts rights few)) then
+        (in_each n (g + 1) (div_ceil lefts few) (join_chunk a b g lefts rights few) (chunks a b lefts rights few)) onward
 
     -- ---- a SELECT of rows, whose result is in region g
     plans : (p : Public) (plan : Plan) (k : ℕ) (t : Stored ℕ) → InTurn n g (plan_part p plan k g (extent_of t) ++ rest)
@@ -235,10 +235,10 @@ module _ (n g : ℕ) (from : n ≤ g) where
     plans p Hash k t = hashes t.held p.pack t.heading.capacity k p.depth (rows_width p (extent_of t))
 
   results : (rest : List Access) → InTurn n (g + 1) rest → (p : Public) (plan : Plan) (k : ℕ) (t : Stored ℕ) → InTurn n g (result_part p (Some plan) k g (extent_of t) ++ rest)
-  results rest then p plan k t =
+  results rest onward p plan k t =
       let part = plan_part p plan k g (extent_of t) in
       let emitted = emission_part g (result_blocks p plan k (extent_of t)) in
-      subst (InTurn n g) (sym (append_assoc part emitted rest)) (plans (emitted ++ rest) (goes_on n (g + 1) emitted rest (emits n (g + 1) g (result_blocks p plan k (extent_of t))) then) p plan k t)
+      subst (InTurn n g) (sym (append_assoc part emitted rest)) (plans (emitted ++ rest) (goes_on n (g + 1) emitted rest (emits n (g + 1) g (result_blocks p plan k (extent_of t))) onward) p plan k t)
 
 -- a second plan comes behind a first one alone
 abbrev InOrder : Option Plan → Option Plan → Type 0

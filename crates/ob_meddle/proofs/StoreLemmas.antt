@@ -1,9 +1,10 @@
 -- What holds of a store after one access more.
-use Rattle.std.proofs.Common.{◌≡◌, ◌≢◌, ◌⊎◌, inl, inr, ℕ, suc, ◌+◌, Bool, List, [], ◌∷◌, ◌++◌, Option, Some, None, length, refl, ap, ◌∙◌, sym, rules, arith}
+use Rattle.std.proofs.Common.{◌≡◌, ◌≢◌, ◌⊎◌, inl, inr, ℕ, suc, ◌+◌, Bool, List, [], ◌∷◌, ◌++◌, true, Option, Some, None, length, refl, ap, ◌∙◌, sym, rules, arith}
+use Rattle.std.proofs.lemmas.Bool.Decides.{nat_tests}
 use Rattle.std.specs.Prelude.{Result, Ok, Err, OnOk, OnErr, if◌then◌else◌}
 use Rattle.ob_base.specs.declared.fault.NoMemory.{NoMemory}
 use Rattle.std.specs.Ordering.{nat_cmp}
-use Rattle.std.specs.BTreeMap.{BTreeMap, is_at}
+use Rattle.std.specs.BTreeMap.{BTreeMap, btree_map_len, is_at}
 use Rattle.std.specs.BTreeSet.{BTreeSet}
 use Rattle.std.specs.Map.{lookup}
 use Rattle.ob_base.specs.declared.access.Access.{Access}
@@ -12,7 +13,7 @@ use Rattle.ob_meddle.specs.declared.region.Region.{Region}
 use Rattle.ob_meddle.specs.declared.caught.Caught.{Caught}
 use Rattle.ob_meddle.specs.Held.{Rest}
 use Rattle.ob_meddle.specs.Acts.{RegionRests, Stands, rest_at, rests_of, stands_of, after_acts}
-use Rattle.ob_meddle.specs.Regions.{last_at}
+use Rattle.ob_meddle.specs.Regions.{kept_at, last_at}
 use Rattle.ob_meddle.specs.Due.{fails_at, failed_among}
 use Rattle.ob_meddle.specs.Fresh.{IsFresh, IsHonest, IsEarly}
 use Rattle.ob_meddle.proofs.DueLemmas.{more_asked, failed_more, acted_later, none_due}
@@ -73,3 +74,14 @@ honest_added list count region before after made (Ok t) here empty others stands
 ]
 honest_added list count region before after made (Err e) here empty others stands none stay honest = λ quiet q x block is.
     stay q x ∙ honest quiet q x block (ap (λ (r : Option Rest). last_at r x) (sym (none q)) ∙ is)
+
+-- ---- where no region is kept
+finds_itself : (q : ℕ) → is_at (nat_cmp q) q ≡ true
+finds_itself q = grind (arith, nat_tests)
+
+none_first : (entries : List (ℕ × Region)) → ((q : ℕ) → kept_at (rest_at (lookup (is_at (nat_cmp q)) entries)) ≡ None) → length entries ≡ 0
+none_first [] none = refl
+none_first (e ∷ rest) none = absurd (cc (none e.0, finds_itself e.0))
+
+pub none_kept : (regions : BTreeMap ℕ Region) → ((q : ℕ) → kept_at (rests_of regions q) ≡ None) → btree_map_len regions ≡ 0
+none_kept regions none = none_first regions.entries none

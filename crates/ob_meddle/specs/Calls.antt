@@ -1,9 +1,10 @@
 -- What each call does to what stands in a store that others change, beside what every store says of it: first the acts
 -- before its access are done, and then, where it is not to fail, the call.
-use Rattle.std.specs.Prelude.{◌≡◌, ◌≢◌, ◌<◌, ◌||◌, not, ℕ, true, false, List, replicate, Result, Err, OnOk, OnErr, is_err}
+use Rattle.std.specs.Prelude.{◌≡◌, ◌≢◌, ◌<◌, ◌||◌, not, ℕ, true, false, List, Some, None, replicate, Result, Err, OnOk, OnErr, is_err}
 use Rattle.ob_base.specs.declared.fault.StoreErr.{StoreErr}
 use Rattle.ob_base.specs.declared.fault.StoreErr.TheVariants.{Failed}
 use Rattle.ob_store.specs.Calls.{is_failed, is_kept}
+use Rattle.ob_store.specs.State.{KeptRegion}
 use Rattle.ob_meddle.specs.declared.store.MeddledStore.{MeddledStore}
 use Rattle.ob_meddle.specs.Acts.{OnlyStand, OtherStands, OtherRests, before_at, len_at, has_place}
 use Rattle.ob_meddle.specs.Shows.{list_of, state_of, keeps_gone, standing, standing_next, held, fails_next}
@@ -68,3 +69,12 @@ pub record Resumed {T : Type 0} (region blocks len : ℕ) (result : Result T Sto
       ≡ (fails_next old || not (is_kept blocks len ((state_of old).kept region)))
   pub stays : standing new ≡ standing_next old
   pub rests : (q : ℕ) → held new q ≡ held old q
+
+-- what is live stands as it stood; what is kept for use and isn't live is gone with its blocks, and
+-- no later act finds it
+pub record Swept (old new : MeddledStore) : Type 0 where
+  pub list : list_of new ≡ list_of old
+  pub stays : (q x : ℕ) → (state_of old).live q ≢ None → standing new q x ≡ standing old q x
+  pub rests : (q : ℕ) → (state_of old).live q ≢ None → held new q ≡ held old q
+  pub gone : (q : ℕ) (region : KeptRegion) → (state_of old).live q ≡ None
+      → (state_of old).kept q ≡ Some region → region.given_up ≡ false → held new q ≡ None

@@ -1,5 +1,5 @@
 //! What the engine does to the blocks.
-ghost use Rattle.std.specs.Prelude.{◌≡◌, ◌≢◌, ℕ, None, Some, true, false, length, OnOk, OnErr};
+ghost use Rattle.std.specs.Prelude.{◌≡◌, ◌≢◌, ℕ, None, Some, true, false, length, OnOk, OnErr, if◌then◌else◌};
 ghost use Rattle.std.specs.Ordering.{nat_cmp};
 ghost use Rattle.std.specs.BTreeMap.{get};
 ghost use Rattle.std.specs.BTreeSet.{contains};
@@ -115,4 +115,12 @@ pub(crate) fn retire(regions: &mut BTreeMap<u64, Region>, region: u64, kept: boo
     } else {
         let _ = regions.remove(&region);
     }
+}
+
+/// Takes out the regions that may not be used.
+pub(crate) fn keep_usable(regions: &mut BTreeMap<u64, Region>, usable: &BTreeSet<u64>)
+    ensures { (q : ℕ) → get nat_cmp regions.new q
+        ≡ (if contains nat_cmp usable.now q then get nat_cmp regions.old q else None) }
+{
+    regions.retain(|region, _| usable.contains(region));
 }

@@ -13,9 +13,9 @@ use crate::caught::Caught;
 use crate::due::{fails_at, is_source};
 use crate::meddle::Meddle;
 use crate::region::Region;
-use crate::regions::{add, is_kept, read, retire, write};
+use crate::regions::{add, is_kept, keep_usable, read, retire, write};
 use ob_base::{Access, Failed, Items, NoMemory, StoreErr};
-use ob_store::{BlockStore, Lasting, Log};
+use ob_store::{BlockStore, Lasting, Log, Saving};
 use std::alloc::Global;
 use std::collections::{BTreeMap, BTreeSet};
 
@@ -73,7 +73,7 @@ impl MeddledStore {
     ///
     /// What others made of the blocks stays, too, and from here on it doesn't say what others do. Blocks of a
     /// region that the first run discarded are there to be copied only where a change of its own list copies
-    /// from that region; later runs keep them all.
+    /// from that region; later runs keep them all, up to a sweep.
     #[tactic(auto, unfolding(ob_store::specs::Logs::spelt))]
     pub fn rest(self, list: Vec<Meddle>) -> MeddledStore
         ensures list { list_of result ≡ list.items }
@@ -303,5 +303,45 @@ impl Lasting for MeddledStore {
             Ok(_) => Ok(()),
             Err(_) => Err(StoreErr::NoMemory),
         }
+    }
+}
+
+impl Saving for MeddledStore {
+    ghost use Rattle.std.specs.Prelude.{IsTrue, true, IfOk, IsOk};
+    ghost use Rattle.ob_store.specs.Calls.{CountsFault, IsBare, Sweeps, Syncs};
+    ghost use Rattle.ob_meddle.specs.Calls.{Swept};
+    ghost use Rattle.ob_meddle.specs.Shows.{list_of, state_of, standing, held};
+
+    fn sync(&mut self) -> Result<(), Failed>
+        ensures syncs { Syncs (state_of self.old) (state_of self.new) }
+        ensures cause { CountsFault result (state_of self.old) (state_of self.new) }
+        ensures list { list_of self.new ≡ list_of self.old }
+        ensures stays { standing self.new ≡ standing self.old }
+        ensures held { held self.new ≡ held self.old }
+        ensures never { IsOk result }
+    {
+        Ok(())
+    }
+
+    fn is_bare(&mut self) -> Result<bool, Failed>
+        ensures syncs { Syncs (state_of self.old) (state_of self.new) }
+        ensures cause { CountsFault result (state_of self.old) (state_of self.new) }
+        ensures bare { IfOk result (λ bare. bare ≡ true → IsTrue (state_of self.old).tells
+            → IsBare (state_of self.old)) }
+        ensures empty { IfOk result (λ bare. IsBare (state_of self.old) → bare ≡ true) }
+        ensures list { list_of self.new ≡ list_of self.old }
+        ensures stays { standing self.new ≡ standing self.old }
+        ensures held { held self.new ≡ held self.old }
+        ensures never { IsOk result }
+    {
+        Ok(self.regions.is_empty())
+    }
+
+    // What it takes out isn't there to be copied, either: no later change finds it.
+    fn sweep(&mut self)
+        ensures sweeps { Sweeps (state_of self.old) (state_of self.new) }
+        ensures swept { Swept self.old self.new }
+    {
+        keep_usable(&mut self.regions, &self.usable);
     }
 }

@@ -1,7 +1,6 @@
 -- A mutation, from one step to the next.
 use Rattle.std.proofs.Common.{◌≡◌, ◌++◌, ◌+◌, ◌*◌, ◌≤◌, inl, inr, ℕ, Bool, List, [], Option, None, Result, Ok, Err, length, length-append, append_assoc, ap, count_by, refl, sym, ◌∙◌, subst, arith}
 use Rattle.ob_base.specs.declared.access.Access.{Access}
-use Rattle.ob_base.specs.Accesses.{discard_at}
 use Rattle.ob_store.specs.Runs.{Did}
 use Rattle.ob_store.specs.State.{StoreState}
 use Rattle.std.proofs.lemmas.List.{append-nil}

@@ -83,7 +83,7 @@ use Rattle.ob_tables.proofs.IndexKinds.{next_place}
 use Rattle.ob_tables.proofs.IndexTables.{tables_indexed}
 use Rattle.ob_tables.proofs.IntKey.{int_key}
 use Rattle.ob_tables.proofs.PlainLemmas.{settle_is}
-use Rattle.ob_tables.proofs.RunLemmas.{IsAnswered, MayHave, asks_none, engine_left, left_on, may_have, only_memory, opens_some, stopped_left}
+use Rattle.ob_tables.proofs.RunLemmas.{IsAnswered, MayHave, asks_none, engine_left, leaves_none, none_by, left_on, may_have, only_memory, opens_some, stopped_left}
 use Rattle.ob_tables.proofs.SilentLemmas.{finished_left, means_left}
 use Rattle.ob_tables.proofs.TableLemmas.{beside_below, get_more, region_below, tables_kept}
 use Rattle.ob_tables.proofs.ToldLemmas.{early_held, fault_made, silent_fault}

@@ -26,6 +26,7 @@ use Rattle.ob_oram.specs.Ops.{got_in}
 use Rattle.ob_oram.specs.Scripts.{access_script}
 use Rattle.ob_oram.proofs.Lasting.{lies_kept}
 use Rattle.ob_seal.specs.Draws.{DrawPlace, draw_at}
+use Rattle.ob_sql.specs.Skeleton.{skeleton}
 use Rattle.ob_sql.specs.declared.stmt.Stmt.{Stmt}
 use Rattle.ob_mean.specs.Settle.{settle}
 use Rattle.ob_mean.specs.Verdict.{Draws, Tables, index_of, next_draw, seen}

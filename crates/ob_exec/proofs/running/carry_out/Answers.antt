@@ -41,6 +41,11 @@ returns-in-Ok-Refused-StoreFault-clause-waits g c = λ none.
     subst (λ (u : StoreState). Waits g.R.Revisions.state (left_then old.public (skeleton c.args.stmt.now) new.seen.end) new u) (sym c.give_up.ensures.same)
     (waits_behind g.R.Revisions.state old s new t c.requires.agrees (skeleton c.args.stmt.now) c.serve-answer.result c.serve-answer.ensures.serves.ran none)
 
+pub returns-2-clause-waits : goal.returns-2-clause-waits
+returns-2-clause-waits g c =
+    waits_behind g.R.Revisions.state c.args.engine.now (g.S.BlockStore.state c.args.store.now) c.serve-answer.new.engine (g.S.BlockStore.state c.serve-answer.new.store)
+    c.requires.agrees (skeleton c.args.stmt.now) c.serve-answer.result c.serve-answer.ensures.serves.ran
+
 pub returns-clause-waits : goal.returns-clause-waits
 returns-clause-waits g c =
     waits_behind g.R.Revisions.state c.args.engine.now (g.S.BlockStore.state c.args.store.now) c.serve-answer.new.engine (g.S.BlockStore.state c.serve-answer.new.store)

@@ -48,7 +48,7 @@ returns-in-Ok-open g c =
         held = Closed c.in-Closed.region c.in-Closed.blocks c.in-Closed.number c.in-Closed.pack;
         is = ap Ok c.in-Closed.is;
         base = _;
-        begins = (pack, opens_closing _ _ c.args.key.now _ keys closing marked pack _ _ _ c.requires.fresh opens);
+        begins = (pack, opens_closing _ _ c.args.key.now _ keys closing marked pack _ _ _ c.requires.fresh opens c.requires.within.unsaved);
         engages = engages_opened _ _ c.args.key.now _ keys closing marked pack _ _ _ c.requires.fresh opens c.requires.within.unsaved;
       };
       err = tt;

@@ -1,4 +1,3 @@
-use Rattle.std.proofs.Common.{◌≡◌, ◌<◌, ℕ, Some}
 use Rattle.ob_tables.proofs.ClosedLemmas.{drops_some}
 use Rattle.ob_tables.proofs.saving.discard_left.Goals as goal
 

@@ -1,5 +1,4 @@
-use Rattle.std.proofs.Common.{◌≡◌, ℕ, Some, subst}
-use Rattle.ob_store.specs.State.{StoreState}
+use Rattle.std.proofs.Common.{◌≡◌, ℕ, subst}
 use Rattle.ob_vault.specs.Places.{at}
 use Rattle.ob_vault.specs.VaultCalls.{Forgets}
 use Rattle.ob_tables.proofs.engine.Engine.list_in.Goals as goal

@@ -1,10 +1,8 @@
-use Rattle.std.proofs.Common.{◌≡◌, ℕ, ◌≤◌, ◌+◌, false, List, Some, None, Ok, Err, refl, sym, ◌∙◌, ap, subst, length}
+use Rattle.std.proofs.Common.{◌≤◌, ◌+◌, false, List, Ok, Err, sym, ◌∙◌, ap, subst, length}
 use Rattle.std.specs.List.{All}
 use Rattle.ob_base.specs.declared.schema.Table.{Table}
-use Rattle.ob_seal.specs.KeySet.{KeySet, pair_of}
 use Rattle.ob_vault.specs.Places.{at}
 use Rattle.ob_vault.specs.Words.{MayAsk}
-use Rattle.ob_reopen.specs.declared.closing.Closing.{Closing}
 use Rattle.ob_reopen.specs.declared.listed.Listed.{Listed}
 use Rattle.ob_reopen.specs.Writings.{AreSalted, HasBlock, WritesClosing, catalogue_of}
 use Rattle.ob_tables.specs.declared.engine.Engine.{Engine}
