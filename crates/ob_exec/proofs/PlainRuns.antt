@@ -158,8 +158,8 @@ module _ {R : Type 0} (state : R → RevState) (stmt : Stmt) (result : Result Ou
       by_early None none saves changes =
           changed_by saves changes ((λ i. changes i && saves i)) (flat_change saves changes none) now.end refl
       by_early (Some r) refused saves changes =
-          let as : RefusedEarly (Some r) result now = subst (λ (o : Option Refusal). RefusedEarly o result now) refused early in
-          let is : now.end ≡ Static = ap (λ (x : Seen). x.end) as.1 in
+          let refuses : RefusedEarly (Some r) result now = subst (λ (o : Option Refusal). RefusedEarly o result now) refused early in
+          let is : now.end ≡ Static = ap (λ (x : Seen). x.end) refuses.1 in
           record { script_is = ends_at Static (whole_run p sk now) (whole_script p sk now) is refl; closing_is = ap (closing_then p sk) is }
 
       by_change : (b : Bool) → changes_tables sk ≡ b → p.save ≡ true → Alone

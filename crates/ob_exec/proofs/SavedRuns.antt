@@ -147,13 +147,13 @@ end_own Dropped n is = refl
 end_own (Rows k) n is = refl
 
 -- what holds of an answer then
-whole_of : (failed : Bool) {cut whole : Type 0} → failed ≡ false → by_fault failed cut whole → whole
-whole_of true own is = absurd (cc own)
-whole_of false own is = is
+whole_of : (failed : Bool) (cut whole : Type 0) → failed ≡ false → by_fault failed cut whole → whole
+whole_of true cut whole own is = absurd (cc own)
+whole_of false cut whole own is = is
 
 -- nothing was emitted of it
 none_emitted : (stmt : Stmt) (labels : List (List ℕ)) (outcome : Outcome) (events : List Event) → HasNoRows outcome → is_fault outcome ≡ false → Emits stmt labels outcome events → events ≡ []
-none_emitted stmt labels (Refused r) events silent own emits = whole_of (is_store_fault r) own emits
+none_emitted stmt labels (Refused r) events silent own emits = whole_of (is_store_fault r) _ _ own emits
 none_emitted stmt labels Created events silent own emits = emits
 none_emitted stmt labels Inserted events silent own emits = emits
 none_emitted stmt labels (Changed k) events silent own emits = emits
@@ -229,7 +229,7 @@ module _ {R E : Type 0} (state : R → RevState) (grew cut : E → E → List Ev
   own = end_own outcome _ (sym serves.ran.ends ∙ whole)
 
   faults_mid : s1.faults ≡ s.faults
-  faults_mid = whole_of (is_fault outcome) own serves.ran.cause.0
+  faults_mid = whole_of (is_fault outcome) _ _ own serves.ran.cause.0
 
   run_all : run_script p sk mid.seen ≡ whole_run p sk mid.seen
   run_all = run_whole p sk mid.seen whole
@@ -279,7 +279,7 @@ module _ {R E : Type 0} (state : R → RevState) (grew cut : E → E → List Ev
     reads_mid tables reads = record { tells = reads.tells; held = reads.held; nolie = none_before s1 t later reads.nolie }
 
     meant_mid : (tables : Tables) (d : Draws) → AreDraws old d → ReadsTrue state old s s1 tables → Meant state stmt m d tables outcome old mid s1
-    meant_mid tables d of reads = whole_of (is_fault outcome) own (serves.means.told tables d of reads)
+    meant_mid tables d of reads = whole_of (is_fault outcome) _ _ own (serves.means.told tables d of reads)
 
     begun_then : (tables : Tables) (d : Draws) → AreDraws old d → ReadsTrue state old s s tables → (lie : Lie) → t.lie ≡ Some lie → ReadsIn lie (s.asked ++ meant_script d p m tables stmt)
     begun_then tables d of reads lie told = elim (lie_before s1 t lie later told) [
