@@ -13,10 +13,10 @@ use Rattle.ob_headline.specs.Bases.{fresh}
 use Rattle.ob_headline.specs.Endings.{last_line, status_of}
 use Rattle.ob_headline.specs.Keeping.{kept_line, kept_status}
 use Rattle.ob_headline.specs.KeptHeadline.{EndsUnkeyed, KeptHeadline}
-use Rattle.ob_headline.specs.Words.{Faults, Outside, SinksRose, faults_of, outside_of}
+use Rattle.ob_headline.specs.Words.{Faults, Outside, SinksRose, faults_of, keys_in, outside_of}
 use Rattle.ob_headline.specs.declared.ending.Ending.TheVariants.{Usage, BadKey, Ran}
 use Rattle.ob_headline.specs.declared.ending.KeptEnding.{KeptEnding}
-use Rattle.ob_headline.specs.declared.ending.KeptEnding.TheVariants.{Plain, OtherPack, Saved, NotClosed as LeftOpen, KeeperFault, StoreFault}
+use Rattle.ob_headline.specs.declared.ending.KeptEnding.TheVariants.{Plain, OtherPack, Saved, NoMark, NotClosed as LeftOpen, KeeperFault, StoreFault}
 use Rattle.ob_headline.specs.declared.ending.Report.{Report}
 use Rattle.ob_headline.specs.declared.seed.Seed.{Seed}
 use Rattle.ob_print.proofs.CutLemmas.{Outputs-whole}
@@ -84,6 +84,7 @@ module _ (tally : Tally) (asked : List Access) (w0 w1 : Option (List ℕ)) (sour
   kept_concludes (Plain (Ran (Err stop))) quiet by hush calm = line_concludes (Plain (Ran (Err stop))) quiet by hush by.told refl
   kept_concludes OtherPack quiet by hush calm = line_concludes OtherPack quiet by hush by.told refl
   kept_concludes Saved quiet by hush calm = line_concludes Saved quiet by hush by.told refl
+  kept_concludes NoMark quiet by hush calm = line_concludes NoMark quiet by hush by.told refl
   kept_concludes StoreFault quiet by hush calm = line_concludes StoreFault quiet by hush by.told refl
   kept_concludes LeftOpen quiet by hush calm = line_concludes LeftOpen quiet by hush by.told refl
   kept_concludes KeeperFault quiet by hush calm = line_concludes KeeperFault quiet by hush by.told refl
@@ -151,9 +152,9 @@ kept_unread {Takes = Takes} {settings = settings} {tracing = tracing} {s = s} {t
     let tr = sink_of tracing t t in
     let old : Faults = faults_of source out0 trace in
     let new : Faults = faults_of source out1 trace in
-    let shown = subst (λ (n : ℕ). (x : RunShown empty_tally tr (fresh settings) l l gave w0 w0 s s n ending [] ⊥) × (x.taken ≡ [])) (sym high)
-    (words_shown empty_tally tr settings error l gave w0 s blank refl, words_none ⊥ empty_tally tr settings error l gave w0 s blank refl) in
-    let r : Reported empty_tally tr Takes (fresh settings) l l gave w0 w1 s s old new report =
+    let shown = subst (λ (n : ℕ). (x : RunShown empty_tally tr (fresh settings) keys_in l l gave w0 w0 s s n ending [] ⊥) × (x.taken ≡ [])) (sym high)
+    (words_shown empty_tally tr settings error l gave w0 s blank refl, words_none ⊥ keys_in empty_tally tr settings error l gave w0 s blank refl) in
+    let r : Reported empty_tally tr Takes (fresh settings) keys_in l l gave w0 w1 s s old new report =
     reported_line ending old old new status (words_end error not) shown.0 (λ never. never) (words_cause error old) line.cut (λ rises. rises) line.empty line.later refl refl refl in
     record {
       ending = Plain ending;
