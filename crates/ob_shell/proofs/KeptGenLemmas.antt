@@ -16,7 +16,7 @@ use Rattle.ob_headline.specs.KeptHeadline.{EndsUnkeyed, KeptHeadline}
 use Rattle.ob_headline.specs.Words.{Faults, Outside, SinksRose, faults_of, outside_of}
 use Rattle.ob_headline.specs.declared.ending.Ending.TheVariants.{Usage, BadKey, Ran}
 use Rattle.ob_headline.specs.declared.ending.KeptEnding.{KeptEnding}
-use Rattle.ob_headline.specs.declared.ending.KeptEnding.TheVariants.{Plain, OtherPack, Saved, NotClosed as LeftOpen, KeeperFault, StoreFault}
+use Rattle.ob_headline.specs.declared.ending.KeptEnding.TheVariants.{Plain, OtherPack, Saved, NoMark, NotClosed as LeftOpen, KeeperFault, StoreFault}
 use Rattle.ob_headline.specs.declared.ending.Report.{Report}
 use Rattle.ob_headline.specs.declared.seed.Seed.{Seed}
 use Rattle.ob_print.proofs.CutLemmas.{Outputs-whole}
@@ -84,6 +84,7 @@ module _ (tally : Tally) (asked : List Access) (w0 w1 : Option (List ℕ)) (sour
   kept_concludes (Plain (Ran (Err stop))) quiet by hush calm = line_concludes (Plain (Ran (Err stop))) quiet by hush by.told refl
   kept_concludes OtherPack quiet by hush calm = line_concludes OtherPack quiet by hush by.told refl
   kept_concludes Saved quiet by hush calm = line_concludes Saved quiet by hush by.told refl
+  kept_concludes NoMark quiet by hush calm = line_concludes NoMark quiet by hush by.told refl
   kept_concludes StoreFault quiet by hush calm = line_concludes StoreFault quiet by hush by.told refl
   kept_concludes LeftOpen quiet by hush calm = line_concludes LeftOpen quiet by hush by.told refl
   kept_concludes KeeperFault quiet by hush calm = line_concludes KeeperFault quiet by hush by.told refl

@@ -17,7 +17,7 @@ use Rattle.ob_headline.specs.Words.{Faults, Outside, SinksRose, outside_of, Answ
 use Rattle.ob_headline.specs.declared.ending.Ending.{Ending}
 use Rattle.ob_headline.specs.declared.ending.Ending.TheVariants.{Ran, Usage, BadKey}
 use Rattle.ob_headline.specs.declared.ending.KeptEnding.{KeptEnding}
-use Rattle.ob_headline.specs.declared.ending.KeptEnding.TheVariants.{Plain, OtherPack, Saved, NotClosed as LeftOpen, KeeperFault, StoreFault}
+use Rattle.ob_headline.specs.declared.ending.KeptEnding.TheVariants.{Plain, OtherPack, Saved, NoMark, NotClosed as LeftOpen, KeeperFault, StoreFault}
 use Rattle.ob_headline.specs.declared.ending.Report.{Report}
 use Rattle.ob_print.proofs.CutLemmas.{Outputs-whole}
 use Rattle.ob_print.specs.Cuts.{Outputs}
@@ -63,6 +63,7 @@ counted_by (Plain (Ran (Ok refused))) answers tally count = count refused refl
 counted_by (Plain (Ran (Err stop))) answers tally count = tt
 counted_by OtherPack answers tally count = tt
 counted_by Saved answers tally count = tt
+counted_by NoMark answers tally count = tt
 counted_by StoreFault answers tally count = tt
 counted_by LeftOpen answers tally count = tt
 counted_by KeeperFault answers tally count = tt

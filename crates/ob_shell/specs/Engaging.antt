@@ -22,7 +22,7 @@ use Rattle.ob_headline.specs.Words.{Faults, Outside, faults_of, outside_of}
 use Rattle.ob_headline.specs.declared.ending.Ending.{Ending}
 use Rattle.ob_headline.specs.declared.ending.Ending.TheVariants.{Usage, BadKey, Ran}
 use Rattle.ob_headline.specs.declared.ending.KeptEnding.{KeptEnding}
-use Rattle.ob_headline.specs.declared.ending.KeptEnding.TheVariants.{Plain, OtherPack, Saved, StoreFault, NotClosed, KeeperFault}
+use Rattle.ob_headline.specs.declared.ending.KeptEnding.TheVariants.{Plain, OtherPack, Saved, NoMark, StoreFault, NotClosed, KeeperFault}
 use Rattle.ob_headline.specs.declared.ending.Report.{Report}
 use Rattle.ob_headline.specs.declared.seed.Seed.{Seed}
 use Rattle.ob_print.specs.Cuts.{Outputs}
@@ -191,6 +191,8 @@ KeptConcludedBy OtherPack quiet tally asked w0 w1 f0 f1 status =
     KeptClosedBy OtherPack quiet w0 w1 f0 f1 status
 KeptConcludedBy Saved quiet tally asked w0 w1 f0 f1 status =
     KeptClosedBy Saved quiet w0 w1 f0 f1 status
+KeptConcludedBy NoMark quiet tally asked w0 w1 f0 f1 status =
+    KeptClosedBy NoMark quiet w0 w1 f0 f1 status
 KeptConcludedBy StoreFault quiet tally asked w0 w1 f0 f1 status =
     KeptClosedBy StoreFault quiet w0 w1 f0 f1 status
 KeptConcludedBy NotClosed quiet tally asked w0 w1 f0 f1 status =

@@ -11,7 +11,7 @@ use Rattle.ob_headline.specs.Keeping.{kept_line, kept_status}
 use Rattle.ob_headline.specs.KeptHeadline.{KeptHeadline}
 use Rattle.ob_headline.specs.Words.{Answer, Faults, Outside, SinksRose}
 use Rattle.ob_headline.specs.declared.ending.KeptEnding.{KeptEnding}
-use Rattle.ob_headline.specs.declared.ending.KeptEnding.TheVariants.{Plain, OtherPack, Saved, StoreFault, NotClosed, KeeperFault}
+use Rattle.ob_headline.specs.declared.ending.KeptEnding.TheVariants.{Plain, OtherPack, Saved, NoMark, StoreFault, NotClosed, KeeperFault}
 use Rattle.ob_headline.specs.declared.ending.Report.{Report}
 use Rattle.ob_headline.specs.declared.seed.Seed.{Seed}
 use Rattle.ob_print.specs.Cuts.{Outputs}
@@ -24,6 +24,7 @@ abbrev pub kept_conclusion : KeptEnding → Tally → List Access → List ℕ
 kept_conclusion (Plain ending) tally asked = conclusion ending tally asked
 kept_conclusion OtherPack tally asked = kept_line OtherPack
 kept_conclusion Saved tally asked = kept_line Saved
+kept_conclusion NoMark tally asked = kept_line NoMark
 kept_conclusion StoreFault tally asked = kept_line StoreFault
 kept_conclusion NotClosed tally asked = kept_line NotClosed
 kept_conclusion KeeperFault tally asked = kept_line KeeperFault
@@ -33,6 +34,7 @@ abbrev pub KeptStatusIs : KeptEnding → (status : ℕ) (Whole Rose : Type 0) �
 KeptStatusIs (Plain ending) status Whole Rose = StatusIs ending status Whole Rose
 KeptStatusIs OtherPack status Whole Rose = status ≡ kept_status OtherPack
 KeptStatusIs Saved status Whole Rose = status ≡ kept_status Saved
+KeptStatusIs NoMark status Whole Rose = status ≡ kept_status NoMark
 KeptStatusIs StoreFault status Whole Rose = status ≡ kept_status StoreFault
 KeptStatusIs NotClosed status Whole Rose = status ≡ kept_status NotClosed
 KeptStatusIs KeeperFault status Whole Rose = status ≡ kept_status KeeperFault
@@ -42,6 +44,7 @@ abbrev pub KeptTally : KeptEnding → List Answer → Tally → Type 0
 KeptTally (Plain ending) answers tally = EndingTally ending answers tally
 KeptTally OtherPack answers tally = ⊤
 KeptTally Saved answers tally = ⊤
+KeptTally NoMark answers tally = ⊤
 KeptTally StoreFault answers tally = ⊤
 KeptTally NotClosed answers tally = ⊤
 KeptTally KeeperFault answers tally = ⊤

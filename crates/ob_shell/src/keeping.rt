@@ -55,7 +55,7 @@ fn kept_status(ending: KeptEnding) -> u8
         KeptEnding::Plain(ending) => status_of(ending),
         KeptEnding::OtherPack | KeptEnding::Saved => 2,
         KeptEnding::StoreFault => 3,
-        KeptEnding::NotClosed => 9,
+        KeptEnding::NotClosed | KeptEnding::NoMark => 9,
         KeptEnding::KeeperFault => 10,
     }
 }
@@ -69,18 +69,19 @@ fn kept_line(ending: KeptEnding) -> Line
         KeptEnding::Saved => Line::new(b"! saved\n"),
         KeptEnding::StoreFault => Line::new(b"! store fault\n"),
         KeptEnding::NotClosed => Line::new(b"! not closed\n"),
+        KeptEnding::NoMark => Line::new(b"! no mark\n"),
         KeptEnding::KeeperFault => Line::new(b"! keeper fault\n"),
     }
 }
 
 // The end of a run that a stop ends.
-fn stopped(stop: Stop) -> KeptEnding
+pub(crate) fn stopped(stop: Stop) -> KeptEnding
     ensures { result ≡ KeptEnding.Plain (Ending.Ran (Err stop)) }
 {
     KeptEnding::Plain(Ending::Ran(Err(stop)))
 }
 
-fn opening_end(error: OpenErr) -> KeptEnding
+pub(crate) fn opening_end(error: OpenErr) -> KeptEnding
     ensures { result ≡ Keeping.opening_end error }
 {
     match error {
@@ -376,6 +377,7 @@ fn conclude_kept<O: Sink, S: BlockStore>(ended: KeptEnded, store: &S, out: &mut 
         KeptEnding::Plain(Ending::Usage | Ending::BadKey | Ending::Ran(Err(_)))
         | KeptEnding::OtherPack
         | KeptEnding::Saved
+        | KeptEnding::NoMark
         | KeptEnding::StoreFault
         | KeptEnding::NotClosed
         | KeptEnding::KeeperFault => close_kept(ended, out),

@@ -225,7 +225,7 @@ module _ {R : Type 0} (state : R → RevState) (e : Engine R) (s s1 : StoreState
               ok = tt;
               used_up = λ full. absurd (cc (full, free));
               err = λ _. record { began = subst (λ (x : List Access). Began x s t) script_is cut.began; cause = why.0 };
-              memory = λ wants. let first_part = is.memory wants in record {
+              memory = λ wants. let same : err ≡ NoMemory = cc wants in let first_part = is.memory (ap Err same) in record {
                 done = first_part.done;
                 rest = first_part.rest;
                 split = first_part.split ∙ making_is;
