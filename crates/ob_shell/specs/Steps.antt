@@ -47,6 +47,10 @@ pub record Machine (R : Type 0) : Type 0 where
 abbrev pub machine_of : {R : Type 0} → Engine R → StoreState → KeeperState → Machine R
 machine_of engine store keeper = record { engine = engine; store = store; keeper = keeper }
 
+-- what is known of a keeper where no tables are saved
+abbrev pub told_nothing : KeeperState
+told_nothing = record { held = None; faults = 0 }
+
 -- the engine may be given a statement over this store, and what is behind it can save tables where they are to be saved
 pub record IsReady {R : Type 0} (state : R → RevState) (Saves : Type 0) (m : Machine R)
     : Type 0 where
@@ -78,9 +82,10 @@ session_of m d tables = record {
   draws = d;
 }
 
--- the engine carried out a statement, whatever it answered
+-- the engine, which agreed with its store, carried out a statement, whatever it answered
 pub record Does {R : Type 0} (state : R → RevState) (m0 m1 : Machine R) (stmt : Stmt)
     (result : Result Outcome RunStop) : Type 0 where
+  pub agrees : Agrees state m0.engine m0.store
   pub ran : RanWhole state (skeleton stmt) result m0.engine m0.store m1.engine m1.store
   pub early : RefusedEarly (refusal_now (public_of m0.engine) (asked_of m0) stmt) result
       (seen_of m1.engine)
