@@ -13,6 +13,7 @@ pub mod RunLemmas
 pub mod ServeLemmas
 pub mod SessionLemmas
 pub mod StepLemmas
+pub mod ShareLemmas
 pub mod StopLemmas
 pub mod TallyLemmas
 pub mod TopLemmas
