@@ -38,3 +38,4 @@ pub mod LeaveTables
 pub mod LeaveLemmas
 pub mod LeaveCounts
 pub mod LeaveBegin
+pub mod LeaveSession
