@@ -1,5 +1,5 @@
 -- What rests for the mark that a run begins with.
-use Rattle.std.proofs.Common.{◌≡◌, ◌⊎◌, inl, inr, ◌<◌, ◌+◌, ℕ, List, [], Option, Some, None, refl, sym, ◌∙◌, ap, subst, arith, map}
+use Rattle.std.proofs.Common.{◌≡◌, inl, inr, ◌<◌, ℕ, List, [], Option, Some, refl, sym, ◌∙◌, ap, map}
 use Rattle.std.proofs.lemmas.Option.{slice_get-map}
 use Rattle.std.specs.Option.{option_map}
 use Rattle.std.specs.Prelude.{slice_get}
@@ -7,7 +7,7 @@ use Rattle.ob_base.specs.Stored.{AreApart, headings}
 use Rattle.ob_base.specs.declared.config.Public.{Public}
 use Rattle.ob_base.specs.declared.mark.Mark.{Mark}
 use Rattle.ob_base.specs.declared.schema.Table.{Table}
-use Rattle.ob_headline.specs.Saving.{RestsAt, begun_mark}
+use Rattle.ob_headline.specs.Saving.{RestsAt}
 use Rattle.ob_mean.specs.Verdict.{Tables}
 use Rattle.ob_reopen.proofs.OutlastLemmas.{rests_last}
 use Rattle.ob_reopen.specs.Resting.{IsNeeded}
@@ -16,8 +16,6 @@ use Rattle.ob_reopen.specs.declared.closing.Closing.{Closing}
 use Rattle.ob_reopen.specs.declared.listed.Listed.{Listed}
 use Rattle.ob_shell.specs.Leaving.{IsRead, RestsOn}
 use Rattle.ob_store.specs.State.{KeptRegion}
-use Rattle.ob_tables.specs.Engines.{IsTableRegion}
-use Rattle.ob_verdict.specs.Alike.{AreAlike}
 
 -- no tables rest for a mark without any
 pub rests_none : (secret : List ℕ) (mark : Mark) (p : Public) (kept : ℕ → Option KeptRegion) → ((now : ℕ → Option KeptRegion) → RestsAt secret mark now []) → 0 < p.next_region → RestsOn secret mark p kept []
