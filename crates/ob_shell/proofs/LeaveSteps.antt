@@ -197,6 +197,10 @@ read_below state e s region q agrees below (inr of) =
     let next_is = agrees.next in
     omega (arith, under, here, next_is)
 
+-- no two of its tables have one name
+pub apart_held : {R : Type 0} (state : R → RevState) (e : Engine R) (s : StoreState) → Agrees state e s → (tables : Tables) → Represents state e s tables → AreApart (headings tables)
+apart_held state e s agrees tables held = subst AreApart (sym (held_headings _ _ _ tables _ held.held)) (named_apart (public_of e).tables agrees.tables.names)
+
 -- ---- the mark of a closing that was written, and what rests for it
 module _ {R : Type 0} (state : R → RevState) (e : Engine R) (s t : StoreState) (keeper : KeeperState) (holds : HoldsSaved state e s t keeper) (agrees : Agrees state e s) where
   abbrev pub own_mark : Mark
@@ -221,9 +225,6 @@ module _ {R : Type 0} (state : R → RevState) (e : Engine R) (s t : StoreState)
         number = omega (arith, since);
       }
 
-  apart_named : (tables : Tables) → Represents state e s tables → AreApart (headings tables)
-  apart_named tables held = subst AreApart (sym (held_headings _ _ _ tables _ held.held)) (named_apart (public_of e).tables agrees.tables.names)
-
   pub rests_saved : (secret : List ℕ) → AreOfSecret secret (engine_keys e) → IsTrue s.tells → (tables : Tables) → Represents state e s tables
       → RestsOn secret own_mark (saved_public (public_of e)) t.kept tables
   rests_saved secret of tells tables held = record {
@@ -232,7 +233,7 @@ module _ {R : Type 0} (state : R → RevState) (e : Engine R) (s t : StoreState)
     rests = λ now at. record {
       resting = by_name tables;
       rests = record { keys = engine_keys e; of = of; own = sym holds.of; rests = (holds.rests tells tables held).rests now at };
-      alike = alike_turned tables (by_name tables) (named_alike tables (apart_named tables held));
+      alike = alike_turned tables (by_name tables) (named_alike tables (apart_held state e s agrees tables held));
     };
   }
 
