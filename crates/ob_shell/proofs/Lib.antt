@@ -32,3 +32,10 @@ pub mod FirstPartLemmas
 pub mod LaterLemmas
 pub mod DisturbLemmas
 pub mod MeddleLemmas
+pub mod LeavePath
+pub mod LeaveSteps
+pub mod LeaveTables
+pub mod LeaveLemmas
+pub mod LeaveCounts
+pub mod LeaveBegin
+pub mod LeaveSession

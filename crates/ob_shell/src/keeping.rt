@@ -76,13 +76,13 @@ fn kept_line(ending: KeptEnding) -> Line
 }
 
 // The end of a run that a stop ends.
-fn stopped(stop: Stop) -> KeptEnding
+pub(crate) fn stopped(stop: Stop) -> KeptEnding
     ensures { result ≡ KeptEnding.Plain (Ending.Ran (Err stop)) }
 {
     KeptEnding::Plain(Ending::Ran(Err(stop)))
 }
 
-fn opening_end(error: OpenErr) -> KeptEnding
+pub(crate) fn opening_end(error: OpenErr) -> KeptEnding
     ensures { result ≡ Keeping.opening_end error }
 {
     match error {

@@ -204,7 +204,13 @@ module _ {R : Type 0} (state : R → RevState) (config : Config) (secret salt : 
 
               pub saved_open : e.replaced ≡ None → OpensSaved state config secret salt closed closing (Ok e) s t
               saved_open none_replaced = record {
-                ok = record { keys = keys; opened = opened; keyed = refl; replaced = none_replaced };
+                ok = record {
+                  keys = keys;
+                  opened = opened;
+                  keyed = refl;
+                  lists = λ tells nolie tables by. sym (same_list tells (sym reopens.lie ∙ nolie) tables by);
+                  replaced = none_replaced;
+                };
                 err = tt;
                 faults = all_open.faults;
                 tells = all_open.tells;

@@ -152,6 +152,9 @@ pub record IsOpenedBy {R : Type 0} (state : R → RevState) (config : Config) (s
   pub keys : KeySet
   pub opened : IsOpened state config keys closing e s t
   pub keyed : keys ≡ reopening_keys secret salt closed closing opened.listed
+  -- what rests there under the secret is what was listed
+  pub lists : IsTrue s.tells → t.lie ≡ None → (tables : Tables)
+      → (by : RestsBy secret closed closing s.kept tables) → by.rests.listed ≡ opened.listed
   pub replaced : replaced_of e ≡ None
 
 -- it was opened, or why not
