@@ -27,6 +27,7 @@ pub mod HeadLemmas
 pub mod OpenLemmas
 pub mod CloseLemmas
 pub mod WordLemmas
+pub mod SavedWordLemmas
 pub mod FirstPartLemmas
 pub mod LaterLemmas
 pub mod DisturbLemmas

@@ -15,3 +15,4 @@ pub mod Meddling
 pub mod LineRead
 pub mod Traces
 pub mod WordsRead
+pub mod SavedWords

@@ -19,6 +19,6 @@ pub use session::{Halted, serve};
 pub use top::{Ended, meddle_top, shell_top};
 pub use trace::trace_from;
 pub use words::{
-    KeptWords, MeddleWords, Words, WordsErr, mark_place, read_kept_words, read_meddle_words,
-    read_words, store_name,
+    KeptWords, MeddleWords, SavedWords, Words, WordsErr, mark_place, read_kept_words,
+    read_meddle_words, read_saved_words, read_words, store_name,
 };
