@@ -18,7 +18,7 @@ use Rattle.ob_headline.specs.Keeping.{BeganKept, BeginsFrom, EndsAtMark, EndsWit
 use Rattle.ob_headline.specs.KeptHeadline.{ClosesTables, EndsUnkeyed}
 use Rattle.ob_headline.specs.KeyLine.{first_line, secret_of}
 use Rattle.ob_headline.specs.Tracing.{traced}
-use Rattle.ob_headline.specs.Words.{Faults, Outside, faults_of, outside_of}
+use Rattle.ob_headline.specs.Words.{Faults, Outside, faults_of, keys_in, outside_of}
 use Rattle.ob_headline.specs.declared.ending.Ending.{Ending}
 use Rattle.ob_headline.specs.declared.ending.Ending.TheVariants.{Usage, BadKey, Ran}
 use Rattle.ob_headline.specs.declared.ending.KeptEnding.{KeptEnding}
@@ -35,7 +35,7 @@ use Rattle.ob_shell.specs.Feeding.{Fetch}
 use Rattle.ob_shell.specs.Generating.{SummedUp}
 use Rattle.ob_shell.specs.Running.{OutFailed, Silenced, StopCause}
 use Rattle.ob_shell.specs.Standing.{StandsOn}
-use Rattle.ob_shell.specs.Steps.{IsReady, machine_of}
+use Rattle.ob_shell.specs.Steps.{IsReady, machine_of, told_nothing}
 use Rattle.ob_shell.specs.Tallies.{has_refused}
 use Rattle.ob_shell.specs.Top.{EndingCause, RanAfter, RunShown, sink_of}
 use Rattle.ob_shell.specs.Traces.{Traced}
@@ -45,11 +45,11 @@ use Rattle.ob_vault.specs.State.{RevState}
 use Rattle.ob_headline.specs.Story.{Story}
 use Rattle.ob_headline.specs.Prompt.{Prompt}
 
--- an engine with which a run may go on from this base
+-- an engine with which a run may go on from this base that saves nothing
 pub record Engages {R : Type 0} (state : R → RevState) (base : Base) (config : Config)
-    (key : List ℕ) (e : Engine R) (s : StoreState) : Type 0 where
-  pub stands : StandsOn state base config key e s
-  pub ready : IsReady state (machine_of e s)
+    (keys : KeySet) (e : Engine R) (s : StoreState) : Type 0 where
+  pub stands : StandsOn state base config keys e s
+  pub ready : IsReady state ⊥ (machine_of e s told_nothing)
   pub few : count_of e s < 2 ^ 63 + 2 ^ 59
   pub from : opened_from e ≡ region_opened base.opened
   pub high : high_of e ≤ 1
@@ -61,7 +61,7 @@ pub record HasEngine {R : Type 0} (state : R → RevState) (mark : Result Mark F
   pub is : mark ≡ Ok held
   pub base : Base
   pub begins : BeginsFrom held config (keys_of key) base old new
-  pub engages : Engages state base config key e new
+  pub engages : Engages state base config (keys_of key) e new
 
 -- the mark was read, and the engine is that of it, or how the run ended
 pub record FindsEngine {R : Type 0} (state : R → RevState) (config : Config) (key : List ℕ)
@@ -78,7 +78,7 @@ pub record StartsRun {R : Type 0} (state : R → RevState) (config : Config) (ke
     (fault0 fault1 : ℕ) (keeper0 keeper1 : KeeperState) : Type 0 where
   pub base : Base
   pub began : BeganKept config (keys_of key) tracing base old new traced0 traced1 keeper0 keeper1
-  pub engages : Engages state base config key e new
+  pub engages : Engages state base config (keys_of key) e new
   pub faults : fault1 ≡ fault0
 
 -- a last line may not be written where the trace's sink failed, and only there
@@ -130,8 +130,8 @@ pub record StopsRun {R : Type 0} (state : R → RevState) (base : Base) (key : L
     (written0 written1 traced0 traced1 : Option (List ℕ)) (begun new : StoreState)
     (old_faults new_faults : Faults) (keeper0 keeper1 : KeeperState) : Type 0 where
   pub stop : Stop
-  pub ran : RanAfter state (sink_of tracing traced0 traced1) base (Some key) feed0 feed1
-      left0 left1 gave written0 written1 begun new ended.high
+  pub ran : RanAfter state (sink_of tracing traced0 traced1) base (keys_of key) (Some key)
+      feed0 feed1 left0 left1 gave written0 written1 begun new ended.high
       (OutFailed ended.quiet old_faults.out new_faults.out) (Err stop)
   pub traced_all : Traced tracing begun.asked new.asked traced0 traced1 (ended.quiet ≡ true)
   pub cause : StopCause {T = Bool} old_faults new_faults (Err stop)
@@ -149,8 +149,8 @@ pub record ServesAll {R : Type 0} (state : R → RevState) (base : Base) (key : 
   pub high : ℕ
   pub served : StoreState
   pub traced1 : Option (List ℕ)
-  pub ran : RanAfter state (sink_of tracing traced0 traced1) base (Some key) feed0 feed1
-      left0 left1 gave written0 written1 begun served high
+  pub ran : RanAfter state (sink_of tracing traced0 traced1) base (keys_of key) (Some key)
+      feed0 feed1 left0 left1 gave written0 written1 begun served high
       (OutFailed false old_faults.out new_faults.out) (Ok tally)
   pub traced_all : Traced tracing begun.asked served.asked traced0 traced1 ⊥
   pub source : new_faults.source ≡ old_faults.source
@@ -208,7 +208,7 @@ pub record RanUnkeyed (config : Config) (tracing : Bool) (ended : KeptEnded) (ol
   pub is : ended.ending ≡ Plain ending
   pub read : ending ≢ Usage
   pub shown : RunShown ended.tally (sink_of tracing old.traced new.traced) (fresh (Some config))
-      old.left new.left new.gave old.written new.written old.store new.store ended.high
+      keys_in old.left new.left new.gave old.written new.written old.store new.store ended.high
       ending [] ⊥
   pub ends : EndsUnkeyed ending shown.taken
   pub unanswered : shown.story.answers ≡ []
@@ -253,7 +253,7 @@ pub record RanStopped (config : Config) (tracing : Bool) (ended : KeptEnded) (ol
   pub begun : RanBegun config tracing old keeper0
   pub stop : Stop
   pub shown : RunShown ended.tally (sink_of tracing begun.traced new.traced) begun.base
-      old.left new.left new.gave old.written new.written begun.opened new.store ended.high
+      keys_in old.left new.left new.gave old.written new.written begun.opened new.store ended.high
       (Ran (Err stop)) [] (OutFailed ended.quiet old.faults.out new.faults.out)
   pub keyed : secret_of (first_line shown.taken) ≡ Some begun.secret
   pub traced_all : Traced tracing begun.opened.asked new.store.asked begun.traced new.traced
@@ -272,7 +272,7 @@ pub record RanWhole (config : Config) (tracing : Bool) (ended : KeptEnded) (old 
   pub served : StoreState
   pub traced : Option (List ℕ)
   pub shown : RunShown tally (sink_of tracing begun.traced traced) begun.base
-      old.left new.left new.gave old.written new.written begun.opened served high
+      keys_in old.left new.left new.gave old.written new.written begun.opened served high
       (Ran (Ok (has_refused tally))) [] (OutFailed false old.faults.out new.faults.out)
   pub keyed : secret_of (first_line shown.taken) ≡ Some begun.secret
   pub traced_all : Traced tracing begun.opened.asked served.asked begun.traced traced ⊥

@@ -13,7 +13,7 @@ use Rattle.ob_headline.specs.Bases.{fresh}
 use Rattle.ob_headline.specs.Endings.{last_line, status_of}
 use Rattle.ob_headline.specs.Headline.{Headline}
 use Rattle.ob_headline.specs.Settings.{generated_by}
-use Rattle.ob_headline.specs.Words.{Faults, Outside, SinksRose, faults_of, outside_of}
+use Rattle.ob_headline.specs.Words.{Faults, Outside, SinksRose, faults_of, keys_in, outside_of}
 use Rattle.ob_headline.specs.declared.ending.Ending.{Ending}
 use Rattle.ob_headline.specs.declared.ending.Ending.TheVariants.{Usage, BadKey, Ran}
 use Rattle.ob_headline.specs.declared.ending.Report.{Report}
@@ -109,7 +109,7 @@ pub record Summarized (Takes : Type 0) (settings : Option Config) (tracing : Boo
   pub run : Report
   pub left : List ℕ
   pub gave : ℕ
-  pub headline : Headline (fresh settings) Takes tracing (before_text seed old)
+  pub headline : Headline (fresh settings) keys_in Takes tracing (before_text seed old)
       (after_text left gave new) run
   pub tally : Tally
   pub counted : EndingTally headline.ending headline.story.answers tally
@@ -146,7 +146,7 @@ pub record RanGenerated (seed : Seed) (tracing : Bool) (settings : Option Config
   pub left : List ℕ
   pub gave : ℕ
   pub tally : Tally
-  pub reported : Reported tally (sink_of tracing traced0 traced1) ⊤ (fresh settings)
+  pub reported : Reported tally (sink_of tracing traced0 traced1) ⊤ (fresh settings) keys_in
       (Some (generated seed.start seed.rows)) (Some left) gave None None store0 store1
       (faults_of 0 0 trace0) (faults_of 0 0 trace1) run
   pub traces : Traced tracing store0.asked store1.asked traced0 traced1

@@ -9,7 +9,7 @@ use Rattle.ob_headline.specs.Bases.{fresh}
 use Rattle.ob_headline.specs.Headline.{Headline}
 use Rattle.ob_headline.specs.Keeping.{kept_line, kept_status}
 use Rattle.ob_headline.specs.KeptHeadline.{KeptHeadline}
-use Rattle.ob_headline.specs.Words.{Answer, Faults, Outside, SinksRose}
+use Rattle.ob_headline.specs.Words.{Answer, Faults, Outside, SinksRose, keys_in}
 use Rattle.ob_headline.specs.declared.ending.KeptEnding.{KeptEnding}
 use Rattle.ob_headline.specs.declared.ending.KeptEnding.TheVariants.{Plain, OtherPack, Saved, NoMark, StoreFault, NotClosed, KeeperFault}
 use Rattle.ob_headline.specs.declared.ending.Report.{Report}
@@ -79,7 +79,7 @@ pub record KeptSummarized (settings : Option Config) (Takes : Type 0) (tracing :
 abbrev pub MayKeep : (keeps : Bool) → Option Seed → (settings : Option Config) → (Takes : Type 0)
     → (tracing : Bool) → (old new : Outside) → (keeper0 keeper1 : KeeperState) → Report → Type 0
 MayKeep false None settings Takes tracing old new keeper0 keeper1 report =
-    Headline (fresh settings) Takes tracing old new report × (keeper1 ≡ keeper0)
+    Headline (fresh settings) keys_in Takes tracing old new report × (keeper1 ≡ keeper0)
 MayKeep false (Some seed) settings Takes tracing old new keeper0 keeper1 report =
     Summarized Takes settings tracing seed old new report × (keeper1 ≡ keeper0)
 MayKeep true None settings Takes tracing old new keeper0 keeper1 report =

@@ -60,7 +60,7 @@ pub record Meddled (words : List Text) (old : StoreState → Outside) (new : Out
   pub start : StoreState
   pub starts : StartsWith (list_of store) start
   pub shows : Shows (list_of store) new.store
-  pub headline : Headline (fresh (settings_of meddle_usage words)) (MeddleParses words)
+  pub headline : Headline (fresh (settings_of meddle_usage words)) keys_in (MeddleParses words)
       (is_traced meddle_usage words) (old start) new report
   -- until the first change all is as it is meant
   pub always : (n : ℕ) → are_later (list_of store) n ≡ true

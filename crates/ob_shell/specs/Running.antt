@@ -13,6 +13,7 @@ use Rattle.ob_gen.specs.declared.tally.Tally.{Tally}
 use Rattle.ob_headline.specs.Texts.{is_over, rest_of, texts_of, texts_in}
 use Rattle.ob_headline.specs.Words.{Answer, Begins, Faults, NoneRose, SinksRose, Took, any_refused, before_read, printed}
 use Rattle.ob_print.specs.Cuts.{Outputs}
+use Rattle.ob_reopen.specs.Keepers.{KeeperState}
 use Rattle.ob_shell.specs.Feeding.{Fetch, Fed}
 use Rattle.ob_shell.specs.Steps.{Machine, Steps, PartlyAt, IsUndone, machine_of}
 use Rattle.ob_shell.specs.Tallies.{TallyIs, flagged, tally_of}
@@ -64,7 +65,7 @@ abbrev pub OutFailed : (quiet : Bool) → (old new : ℕ) → Type 0
 OutFailed quiet old new = (quiet ≡ true) × Rises old new
 
 -- when each stop comes: only where that count rose; those of the sinks may have risen behind a stop by a block, for want of
--- memory, by the store or for a full stash; tables aren't saved while texts are served, so none comes by their keeper
+-- memory, by the store, for a full stash or by the keeper
 abbrev pub StopCause : {T : Type 0} (old new : Faults) → Result T Stop → Type 0
 StopCause old new (Ok x) = NoneRose old new
 StopCause old new (Err (Tampered region place)) = (new.source ≡ old.source)
@@ -79,7 +80,8 @@ StopCause old new (Err StoreFault) = (new.source ≡ old.source) × (old.out ≤
     × (old.trace ≤ new.trace)
 StopCause old new (Err StashFull) = (new.source ≡ old.source) × (old.out ≤ new.out)
     × (old.trace ≤ new.trace)
-StopCause old new (Err KeeperFault) = ⊥
+StopCause old new (Err KeeperFault) = (new.source ≡ old.source) × (old.out ≤ new.out)
+    × (old.trace ≤ new.trace)
 
 -- what was done while no stop came
 pub record SoFar {R : Type 0} (state : R → RevState) (feed0 feed1 : Fetch)
@@ -158,6 +160,8 @@ pub record CountsRows {R : Type 0} (state : R → RevState) (tracing : Bool) (fe
     (Lost : Type 0) (result : Result Tally Stop) (high : ℕ) : Type 0 where
   pub first : Engine R
   pub last : Engine R
+  pub keeper0 : KeeperState
+  pub keeper1 : KeeperState
   pub ran : SessionRan state tracing feed0 feed1 left0 left1 gave written0 written1
-      traced0 traced1 (machine_of first store0) (machine_of last store1) Lost result
+      traced0 traced1 (machine_of first store0 keeper0) (machine_of last store1 keeper1) Lost result
   pub counts : high ≡ high_of last

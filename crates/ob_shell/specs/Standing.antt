@@ -13,8 +13,7 @@ use Rattle.ob_headline.specs.Bases.{Base, FromEach, drawing, said_of, start}
 use Rattle.ob_headline.specs.Sealing.{PassesFrom}
 use Rattle.ob_mean.specs.Flats.{AreFlat}
 use Rattle.ob_seal.specs.KeySet.{KeySet}
-use Rattle.ob_seal.specs.Sealed.{keys_of}
-use Rattle.ob_shell.specs.Steps.{machine_of, session_of}
+use Rattle.ob_shell.specs.Steps.{machine_of, session_of, told_nothing}
 use Rattle.ob_store.specs.Calls.{IsBefore, IsSteady}
 use Rattle.ob_store.specs.State.{StoreState}
 use Rattle.ob_vault.specs.State.{RevState}
@@ -30,11 +29,12 @@ pub record IsFirst {R : Type 0} (state : R → RevState) (settings : Option Conf
   pub steady : IsSteady s
   pub unasked : s.asked ≡ []
   pub nothing : Represents state e s []
-  pub here : session_of (machine_of e s) (first_draws keys) [] ≡ drawing keys (start settings)
+  pub here : session_of (machine_of e s told_nothing) (first_draws keys) []
+      ≡ drawing keys (start settings)
 
--- an engine and its store are those that a base tells of, with the keys of a secret; no table is an index
+-- an engine and its store are those that a base tells of, with these keys; no table is an index
 pub record StandsOn {R : Type 0} (state : R → RevState) (base : Base) (config : Config)
-    (key : List ℕ) (e : Engine R) (s : StoreState) : Type 0 where
+    (keys : KeySet) (e : Engine R) (s : StoreState) : Type 0 where
   pub settings : base.settings ≡ Some config
   pub public : public_of e ≡ base.public
   pub flat : AreFlat (headings_of base.public.tables)
@@ -42,12 +42,13 @@ pub record StandsOn {R : Type 0} (state : R → RevState) (base : Base) (config 
   pub pack : base.public.pack ≡ config.pack
   pub buffer : base.public.buffer ≡ config.buffer
   pub keep : base.public.keep ≡ config.keep
+  pub save : base.public.save ≡ config.save
   pub rows : rows_of e ≡ config.buffer
   pub count : count_of e s ≡ base.count
   pub start : engine_start e ≡ base.start
   pub asked : s.asked ≡ base.before
-  pub keyed : engine_keys e ≡ keys_of key
-  pub drawn : AreDraws e (first_draws (keys_of key))
+  pub keyed : engine_keys e ≡ keys
+  pub drawn : AreDraws e (first_draws keys)
   pub calm : Calm (world_of state e s)
   pub used : IsUsed s.asked (high_of e)
   pub held : FromEach base (λ x. Represents state e s x.tables)
@@ -58,4 +59,4 @@ pub record StandsOn {R : Type 0} (state : R → RevState) (base : Base) (config 
   pub passes : (good : List ℕ → Bool) → PassesFrom base good
       → AcceptsRows (λ r. good) config.pack × AcceptsRows (λ r. good) 1
   pub early : (n : ℕ) → IsBefore (said_of base.opened s) n
-      → IsFirst state base.settings (keys_of key) e s × IsBefore s.disturbed n
+      → IsFirst state base.settings keys e s × IsBefore s.disturbed n

@@ -1,22 +1,23 @@
--- What texts do to an engine and its store, one after the other, and what is printed of them.
-use Rattle.std.specs.Prelude.{ℕ, ◌≡◌, ◌⊎◌, ⊤, false, List, [], ◌∷◌, ◌++◌, Option, None, Result, Ok, Err}
+-- What texts do to an engine, its store and the keeper behind it, one after the other, and what is printed of them.
+use Rattle.std.specs.Prelude.{ℕ, Bool, ◌≡◌, ◌⊎◌, ⊤, true, false, List, [], ◌∷◌, ◌++◌, Option, None, Result, Ok, Err}
 use Rattle.std.specs.Io.KnownBytes.{Appends}
 use Rattle.ob_base.specs.Events.{Event}
 use Rattle.ob_base.specs.declared.config.Plan.{Plan}
 use Rattle.ob_base.specs.declared.refusal.Refusal.TheVariants.{Syntax}
-use Rattle.ob_tables.specs.Agreeing.{Agrees, AreDraws, count_of, has_ended, indexes_of, public_of, seen_of, world_of}
+use Rattle.ob_tables.specs.Agreeing.{Agrees, AreDraws, count_of, has_ended, indexes_of, public_of, replaced_of, seen_of, world_of}
 use Rattle.ob_tables.specs.Indexed.{FillsStash}
-use Rattle.ob_tables.specs.Memory.{LacksMemory}
-use Rattle.ob_tables.specs.Running.{RanAs, RefusedEarly}
+use Rattle.ob_tables.specs.Running.{RefusedEarly}
 use Rattle.ob_verdict.specs.Outcomes.{refusal_now, Emits, MayEmit, Partly}
 use Rattle.ob_tables.specs.Serving.{Means}
 use Rattle.ob_tables.specs.Stops.{session_stop}
-use Rattle.ob_tables.specs.Telling.{KeepsSealed, ReadsTrue, ReadsTrueUntil, Emitted, answer_labels}
+use Rattle.ob_tables.specs.Telling.{ReadsTrue, ReadsTrueUntil, Emitted, answer_labels}
 use Rattle.ob_tables.specs.declared.engine.Engine.{Engine}
 use Rattle.ob_verdict.specs.declared.outcome.Outcome.{Outcome}
 use Rattle.ob_verdict.specs.declared.outcome.Outcome.TheVariants.{Refused}
 use Rattle.ob_tables.specs.declared.stop.RunStop.{RunStop}
 use Rattle.ob_tables.specs.declared.stop.RunStop.TheVariants.{SinkFault, NoMemory, StashFull}
+use Rattle.ob_exec.specs.Ran.{CountsKeeper, KeeperBehind, RanWhole, WantsMemory}
+use Rattle.ob_exec.specs.Saving.{MaySave}
 use Rattle.ob_gen.specs.declared.tally.Tally.{Tally}
 use Rattle.ob_headline.specs.Closing.{closing_line}
 use Rattle.ob_headline.specs.Words.{Answer, printed}
@@ -27,29 +28,38 @@ use Rattle.ob_mean.specs.Replay.{Session}
 use Rattle.ob_mean.specs.Verdict.{Draws, Tables, next_draw, verdict}
 use Rattle.ob_print.specs.Cuts.{Outputs}
 use Rattle.ob_print.specs.Rows.{events_text}
-use Rattle.ob_script.specs.Script.{script}
-use Rattle.ob_script.specs.Trace.{next}
+use Rattle.ob_reopen.specs.Keepers.{KeeperState}
+use Rattle.ob_reopen.specs.Resting.{AcceptsClosings}
+use Rattle.ob_select.specs.Selecting.{AcceptsRows}
 use Rattle.ob_shell.specs.Tallies.{tally_after}
 use Rattle.ob_sql.specs.Skeleton.{skeleton}
 use Rattle.ob_sql.specs.declared.stmt.Stmt.{Stmt}
 use Rattle.ob_store.specs.State.{StoreState}
+use Rattle.ob_vault.specs.Calls.{Seals}
 use Rattle.ob_vault.specs.State.{RevState}
 
--- an engine and what its store has come to
+-- an engine, what its store has come to, and what the keeper has that its tables are saved with
 pub record Machine (R : Type 0) : Type 0 where
   pub engine : Engine R
   pub store : StoreState
+  pub keeper : KeeperState
 
-abbrev pub machine_of : {R : Type 0} → Engine R → StoreState → Machine R
-machine_of engine store = record { engine = engine; store = store }
+abbrev pub machine_of : {R : Type 0} → Engine R → StoreState → KeeperState → Machine R
+machine_of engine store keeper = record { engine = engine; store = store; keeper = keeper }
 
--- the engine may be given a statement over this store
-pub record IsReady {R : Type 0} (state : R → RevState) (m : Machine R) : Type 0 where
+-- what is known of a keeper where no tables are saved
+abbrev pub told_nothing : KeeperState
+told_nothing = record { held = None; faults = 0 }
+
+-- the engine may be given a statement over this store, and what is behind it can save tables where they are to be saved
+pub record IsReady {R : Type 0} (state : R → RevState) (Saves : Type 0) (m : Machine R)
+    : Type 0 where
   pub agrees : Agrees state m.engine m.store
   pub lives : has_ended m.engine ≡ false
-  pub unsaved : (public_of m.engine).save ≡ false
+  pub settled : replaced_of m.engine ≡ None
+  pub saves : MaySave Saves m.engine
 
--- the text is no statement: nothing was asked
+-- the text is no statement: nothing was asked, of the keeper neither
 pub record Misspelt {R : Type 0} (m0 m1 : Machine R) (text : List ℕ)
     (answer : Answer) : Type 0 where
   pub same : m1 ≡ m0
@@ -72,28 +82,32 @@ session_of m d tables = record {
   draws = d;
 }
 
--- the engine carried out a statement, whatever it answered
+-- the engine, which agreed with its store, carried out a statement, whatever it answered
 pub record Does {R : Type 0} (state : R → RevState) (m0 m1 : Machine R) (stmt : Stmt)
     (result : Result Outcome RunStop) : Type 0 where
-  pub ran : RanAs state (skeleton stmt)
-      (script (public_of m0.engine) (skeleton stmt) (seen_of m1.engine))
-      (next (public_of m0.engine) (skeleton stmt) (seen_of m1.engine))
-      result m0.engine m0.store m1.engine m1.store
-  pub unsaved : (public_of m0.engine).save ≡ false
+  pub agrees : Agrees state m0.engine m0.store
+  pub ran : RanWhole state (skeleton stmt) result m0.engine m0.store m1.engine m1.store
   pub early : RefusedEarly (refusal_now (public_of m0.engine) (asked_of m0) stmt) result
       (seen_of m1.engine)
   pub lawful : Lawful (public_of m0.engine) (asked_of m0) stmt (seen_of m1.engine)
   -- want of memory shows how far it got, and nothing of rows
   pub memory : result ≡ Err NoMemory
-      → LacksMemory (public_of m0.engine) stmt (seen_of m1.engine) m0.store m1.store ⊤
+      → WantsMemory (public_of m0.engine) stmt (seen_of m1.engine) m0.store m1.store ⊤
   -- a stash is full only where an access read more rows than fit
   pub full : result ≡ Err StashFull → (d : Draws) → AreDraws m0.engine d
       → FillsStash (next_draw d) (public_of m0.engine) (asked_of m0) stmt (indexes_of m0.engine)
       (seen_of m1.engine).leaf m0.store.asked (world_of state m1.engine m1.store)
   -- a sink's fault stops nothing but a SELECT
   pub emits : result ≡ Err SinkFault → MayEmit stmt
-  pub seals : KeepsSealed state m0.engine m0.store m1.engine m1.store
+  -- nothing comes to lie in clear
+  pub seals : (good : ℕ → List ℕ → Bool) → AcceptsRows good (public_of m0.engine).pack
+      → AcceptsRows good 1 → ((public_of m0.engine).save ≡ true → AcceptsClosings good)
+      → Seals good (world_of state m0.engine m0.store) (world_of state m1.engine m1.store)
   pub means : Means state stmt result m0.engine m0.store m1.engine m1.store
+  -- where tables are to be saved they are so behind a change, and the keeper holds the mark; else it is as it was
+  pub keeper : KeeperBehind state stmt result m0.engine m0.store m1.engine m1.store
+      m0.keeper m1.keeper
+  pub counts : CountsKeeper result m0.keeper m1.keeper
 
 -- the engine answered a statement, and its header and rows were printed before the closing line
 pub record ServedStatement {R : Type 0} (state : R → RevState) (m0 m1 : Machine R) (text : List ℕ)

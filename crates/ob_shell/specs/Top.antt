@@ -11,13 +11,14 @@ use Rattle.ob_headline.specs.KeyLine.{LineTaken, first_line, secret_of}
 use Rattle.ob_headline.specs.Settings.{limit_of}
 use Rattle.ob_headline.specs.Texts.{texts_in}
 use Rattle.ob_headline.specs.Tracing.{traced}
-use Rattle.ob_headline.specs.Words.{Answer, Begins, Faults, IsHonest, NoneRose, SinksRose, Took, before_read, printed, keys_with}
-use Rattle.ob_headline.specs.Status.{EndsAtRead, HasSecret, IsCompleted, KeepsLimits, ReadToLimit, ReadUntilFault, ReadWhole}
+use Rattle.ob_headline.specs.Words.{Answer, Begins, Faults, IsHonest, NoneRose, SinksRose, Took, before_read, printed}
+use Rattle.ob_headline.specs.Status.{EndsAtRead, HasSecret, IsCompleted, KeepsLimits, ReadToLimit, ReadUntilFault, ReadWhole, StoreFails}
 use Rattle.ob_headline.specs.declared.ending.Ending.{Ending}
 use Rattle.ob_headline.specs.declared.ending.Ending.TheVariants.{Usage, BadKey, Ran}
 use Rattle.ob_headline.specs.declared.ending.Report.{Report}
 use Rattle.ob_print.specs.Cuts.{Outputs}
 use Rattle.ob_script.specs.Trace.{trace}
+use Rattle.ob_seal.specs.KeySet.{KeySet}
 use Rattle.ob_shell.specs.Feeding.{Fetch}
 use Rattle.ob_shell.specs.Running.{CountsRows, EndsBy, FlagIs, StopCause}
 use Rattle.ob_shell.specs.Tallies.{TallyIs, flagged, tally_of}
@@ -62,24 +63,25 @@ pub record TraceSink : Type 0 where
 abbrev pub sink_of : Bool → (old new : Option (List ℕ)) → TraceSink
 sink_of on old new = record { on = on; old = old; new = new }
 
--- what the texts did to the store, and what was answered
-pub record Carried (tr : TraceSink) (base : Base) (secret : Option (List ℕ))
-    (store0 store1 : StoreState) (high : ℕ) (story : Story) (ending : Ending) : Type 0 where
+-- what the texts did to the store, whose blocks are under these keys, and what was answered
+pub record Carried (tr : TraceSink) (base : Base) (keys : KeySet)
+    (secret : Option (List ℕ)) (store0 store1 : StoreState) (high : ℕ) (story : Story) (ending : Ending) : Type 0 where
   pub statements : Statements secret story
-  pub accesses : Accesses base (keys_with secret) ending story store0 store1
+  pub accesses : Accesses base keys ending story store0 store1
   pub traced_whole : Took tr.old tr.new (traced tr.on (trace base.public story.seen))
-  pub answers : Answers base (keys_with secret) ending story store0 store1
-  pub tampering : Tampering (keys_with secret) base.start ending store0 store1
-  pub sealing : Sealing base (keys_with secret) store0 store1
+  pub answers : Answers base keys ending story store0 store1
+  pub tampering : Tampering keys base.start ending store0 store1
+  pub sealing : Sealing base keys store0 store1
   pub rows : OpenRows base.settings high store1.asked
   pub untampered : FromEach base (λ s. IsHonest store0 store1 → EndsUntampered ending)
   pub at_read : (region place : ℕ) → ending ≡ Ran (Err (Tampered region place))
       → EndsAtRead region place store1.asked
-  pub faulted : ending ≡ Ran (Err StoreFault) → Rises store0.faults store1.faults
+  pub faulted : ending ≡ Ran (Err StoreFault) → StoreFails base store0 store1
+  pub saving : ending ≡ Ran (Err KeeperFault) → base.public.save ≡ true
 
 -- what was done from this base after the first line, which was this secret
 pub record RanAfter {R : Type 0} (state : R → RevState) (tr : TraceSink) (base : Base)
-    (secret : Option (List ℕ)) (feed0 feed1 : Fetch)
+    (keys : KeySet) (secret : Option (List ℕ)) (feed0 feed1 : Fetch)
     (left0 left1 : Option (List ℕ)) (gave : ℕ) (written0 written1 : Option (List ℕ))
     (store0 store1 : StoreState) (high : ℕ) (Lost : Type 0) (result : Result Tally Stop)
     : Type 0 where
@@ -92,7 +94,7 @@ pub record RanAfter {R : Type 0} (state : R → RevState) (tr : TraceSink) (base
   pub story : Story
   pub texts : texts_in ended (feed0.unread ++ piece) ≡ story.served ++ story.more
   pub prompt : Begins (texts_in false (before_read gave (feed0.unread ++ piece))) story.served
-  pub carried : Carried tr base secret store0 store1 high story (Ran (flagged result))
+  pub carried : Carried tr base keys secret store0 store1 high story (Ran (flagged result))
   -- the rows that were open are those of the session's engine; where none was started, there are none
   pub rows : CountsRows state tr.on feed0 feed1 left0 left1 gave written0 written1 tr.old tr.new
       store0 store1 Lost result high ⊎ ((high ≡ 0) × (store1 ≡ store0))
@@ -170,10 +172,11 @@ StatusCause (Ran (Err NoMemory)) old new = new.source ≡ old.source
 StatusCause (Ran (Err InputLimit)) old new = new.source ≡ old.source
 StatusCause (Ran (Err StoreFault)) old new = new.source ≡ old.source
 StatusCause (Ran (Err StashFull)) old new = new.source ≡ old.source
-StatusCause (Ran (Err KeeperFault)) old new = ⊥
+StatusCause (Ran (Err KeeperFault)) old new = new.source ≡ old.source
 
--- what was taken, what of it was served, and what the sink took of the answers and the last line
-pub record RunShown (tally : Tally) (tr : TraceSink) (base : Base)
+-- what was taken, what of it was served, under the keys that these bytes come to, and what the sink took of the answers and
+-- the last line
+pub record RunShown (tally : Tally) (tr : TraceSink) (base : Base) (keys : List ℕ → KeySet)
     (left0 left1 : Option (List ℕ)) (gave : ℕ) (written0 written1 : Option (List ℕ))
     (store0 store1 : StoreState) (high : ℕ)
     (ending : Ending) (line : List ℕ) (Fault : Type 0) : Type 0 where
@@ -182,7 +185,8 @@ pub record RunShown (tally : Tally) (tr : TraceSink) (base : Base)
   pub story : Story
   pub bytes : Bytes (limit_of base.settings) taken ended story left0 left1
   pub prompt : Prompt taken story.served gave
-  pub carried : Carried tr base (secret_of (first_line taken)) store0 store1 high story ending
+  pub carried : Carried tr base (keys taken) (secret_of (first_line taken)) store0 store1 high
+      story ending
   pub grew : Outputs written0 written1 Fault ((printed story.answers ++ story.part) ++ line)
   -- a sink's fault ends the run: all answers were taken whole
   pub whole : Took written0 written1 (printed story.answers)
@@ -192,14 +196,15 @@ pub record RunShown (tally : Tally) (tr : TraceSink) (base : Base)
 
 -- the whole run, of words that the program takes, or doesn't, from this base, with the settings that they spell
 pub record Reported (tally : Tally) (tr : TraceSink) (Takes : Type 0) (base : Base)
+    (keys : List ℕ → KeySet)
     (left0 left1 : Option (List ℕ)) (gave : ℕ) (written0 written1 : Option (List ℕ))
     (store0 store1 : StoreState)
     (old new : Faults) (report : Report) : Type 0 where
   pub ending : Ending
   pub status : report.status ≡ status_of ending
   pub takes : EndingWords ending Takes
-  pub shown : RunShown tally tr base left0 left1 gave written0 written1 store0 store1 report.high ending
-      (last_line ending) (SinksRose old new)
+  pub shown : RunShown tally tr base keys left0 left1 gave written0 written1 store0 store1
+      report.high ending (last_line ending) (SinksRose old new)
   -- so was what was printed of the one that was begun, unless the sink of the answers failed
   pub through : Took written0 written1 (printed shown.story.answers ++ shown.story.part)
       ⊎ Rises old.out new.out
@@ -210,4 +215,4 @@ pub record Reported (tally : Tally) (tr : TraceSink) (Takes : Type 0) (base : Ba
       → KeepsLimits (limit_of base.settings) input
       → ¬ Rises old.source new.source → ¬ SinksRose old new
       → FromEach base (λ s. IsCompleted (IsHonest store0 store1)
-      (Rises store0.faults store1.faults) ending)
+      (StoreFails base store0 store1) (base.public.save ≡ true) ending)

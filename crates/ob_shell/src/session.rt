@@ -16,7 +16,7 @@ use crate::feed::{Feed, Halt};
 use crate::pending::{Grown, Pending, PushStop};
 use crate::trace::trace_from;
 use ob_base::{Failed, Plan, Refusal, Stop};
-use ob_exec::{Engine, Outcome, RunStop, run};
+use ob_exec::{Behind, Engine, Outcome, RunStop, run};
 use ob_gen::Tally;
 use ob_io::{Sink, Source};
 use ob_parse::{ParseErr, parse};
@@ -114,29 +114,33 @@ fn counted_line(n: u64, what: &[u8]) -> Line
 
 // Runs one statement, whose text this is, and prints its header and rows, of which none waits afterwards. Where the sink
 // fails behind a stop, the stop remains.
-fn run_stmt<R: Revisions, S: BlockStore, K: Sink>(
+fn run_stmt<R: Revisions, S: BlockStore, B: Behind<S>, K: Sink>(
     engine: &mut Engine<R>,
     store: &mut S,
+    behind: &mut B,
     text: &[u8],
     stmt: &Stmt,
     printer: &mut Printer<'_, K>,
 ) -> Result<Answered, TextHalted>
     requires spells { Spells text.now (Ok stmt.now) }
-    requires ready { IsReady R.state (machine_of engine.old (S.state store.old)) }
+    requires ready { IsReady R.state (B.Saves behind.old)
+        (machine_of engine.old (S.state store.old) (B.state behind.old)) }
     requires none { printer.old.out.waiting.items ≡ [] }
     ensures same_sink { printer.new.out.out.ghost_name ≡ printer.old.out.out.ghost_name }
-    ensures serves { ServesTexts R.state (text.now ∷ []) (λ a. HasBody R.state
-        (K.written printer.old.out.out.now) (K.written printer.new.out.out.now) text.now
-        a.outcome a.plan)
+    ensures serves { ServesTexts R.state (B.Saves behind.new) (text.now ∷ [])
+        (λ a. HasBody R.state (K.written printer.old.out.out.now) (K.written printer.new.out.out.now)
+        text.now a.outcome a.plan)
         (K.written printer.old.out.out.now) (K.written printer.new.out.out.now)
         (faults_of 0 (K.faults printer.old.out.out.now) 0)
         (faults_of 0 (K.faults printer.new.out.out.now) 0)
-        (machine_of engine.old (S.state store.old)) (machine_of engine.new (S.state store.new))
+        (machine_of engine.old (S.state store.old) (B.state behind.old))
+        (machine_of engine.new (S.state store.new) (B.state behind.new))
         result }
     ensures asked { (seen : List Access) × ((S.state store.new).asked
         ≡ (S.state store.old).asked ++ seen) }
+    ensures same { B.name behind.new ≡ B.name behind.old }
 {
-    match run(engine, store, stmt, printer) {
+    match run(engine, store, behind, stmt, printer) {
         Ok(outcome) => match printer.out.flush() {
             Ok(()) => Ok(Answered {
                 outcome,
@@ -155,23 +159,28 @@ fn run_stmt<R: Revisions, S: BlockStore, K: Sink>(
 }
 
 // Answers one text but for its closing line.
-fn run_text<R: Revisions, S: BlockStore, K: Sink>(
+fn run_text<R: Revisions, S: BlockStore, B: Behind<S>, K: Sink>(
     alloc: Global,
     engine: &mut Engine<R>,
     store: &mut S,
+    behind: &mut B,
     text: &[u8],
     out: &mut K,
 ) -> Result<Answered, TextHalted>
     requires short { length text.now ≤ text_max }
-    requires ready { IsReady R.state (machine_of engine.old (S.state store.old)) }
-    ensures serves { ServesTexts R.state (text.now ∷ []) (λ a. HasBody R.state
+    requires ready { IsReady R.state (B.Saves behind.old)
+        (machine_of engine.old (S.state store.old) (B.state behind.old)) }
+    ensures serves { ServesTexts R.state (B.Saves behind.new) (text.now ∷ [])
+        (λ a. HasBody R.state
         (K.written out.old) (K.written out.new) text.now a.outcome a.plan)
         (K.written out.old) (K.written out.new)
         (faults_of 0 (K.faults out.old) 0) (faults_of 0 (K.faults out.new) 0)
-        (machine_of engine.old (S.state store.old)) (machine_of engine.new (S.state store.new))
+        (machine_of engine.old (S.state store.old) (B.state behind.old))
+        (machine_of engine.new (S.state store.new) (B.state behind.new))
         result }
     ensures asked { (seen : List Access) × ((S.state store.new).asked
         ≡ (S.state store.old).asked ++ seen) }
+    ensures same { B.name behind.new ≡ B.name behind.old }
 {
     let stmt = match parse(alloc, text) {
         Ok(stmt) => stmt,
@@ -195,30 +204,35 @@ fn run_text<R: Revisions, S: BlockStore, K: Sink>(
         out: Pieces::new(out),
         line: &mut line,
     };
-    run_stmt(engine, store, text, &stmt, &mut printer)
+    run_stmt(engine, store, behind, text, &stmt, &mut printer)
 }
 
 // Answers one text whole, with its closing line, and counts it.
-fn answer<R: Revisions, S: BlockStore, K: Sink>(
+fn answer<R: Revisions, S: BlockStore, B: Behind<S>, K: Sink>(
     alloc: Global,
     tally: Tally,
     engine: &mut Engine<R>,
     store: &mut S,
+    behind: &mut B,
     text: &[u8],
     out: &mut K,
 ) -> Result<Tally, TextHalted>
     requires short { length text.now ≤ text_max }
-    requires ready { IsReady R.state (machine_of engine.old (S.state store.old)) }
-    ensures serves { ServesTexts R.state (text.now ∷ []) (λ counted. AnswersAll R.state
+    requires ready { IsReady R.state (B.Saves behind.old)
+        (machine_of engine.old (S.state store.old) (B.state behind.old)) }
+    ensures serves { ServesTexts R.state (B.Saves behind.new) (text.now ∷ [])
+        (λ counted. AnswersAll R.state
         (K.written out.old) (K.written out.new) (text.now ∷ []) tally counted)
         (K.written out.old) (K.written out.new)
         (faults_of 0 (K.faults out.old) 0) (faults_of 0 (K.faults out.new) 0)
-        (machine_of engine.old (S.state store.old)) (machine_of engine.new (S.state store.new))
+        (machine_of engine.old (S.state store.old) (B.state behind.old))
+        (machine_of engine.new (S.state store.new) (B.state behind.new))
         result }
     ensures asked { (seen : List Access) × ((S.state store.new).asked
         ≡ (S.state store.old).asked ++ seen) }
+    ensures same { B.name behind.new ≡ B.name behind.old }
 {
-    match run_text(alloc, engine, store, text, out) {
+    match run_text(alloc, engine, store, behind, text, out) {
         Err(halted) => Err(halted),
         Ok(answered) => match write_all(out, closing_line(answered.outcome).as_bytes()) {
             Ok(()) => Ok(tally_with(tally, answered)),
@@ -228,33 +242,38 @@ fn answer<R: Revisions, S: BlockStore, K: Sink>(
 }
 
 // Answers one text whole, and then traces what it asked. After a sink's fault nothing more is written.
-fn answer_traced<R: Revisions, S: BlockStore, K: Sink, T: Sink>(
+fn answer_traced<R: Revisions, S: BlockStore, B: Behind<S>, K: Sink, T: Sink>(
     alloc: Global,
     tracing: bool,
     tally: Tally,
     engine: &mut Engine<R>,
     store: &mut S,
+    behind: &mut B,
     text: &[u8],
     out: &mut K,
     trace: &mut T,
 ) -> Result<Tally, TextHalted>
     requires short { length text.now ≤ text_max }
-    requires ready { IsReady R.state (machine_of engine.old (S.state store.old)) }
-    ensures serves { ServesTexts R.state (text.now ∷ []) (λ counted. AnswersAll R.state
+    requires ready { IsReady R.state (B.Saves behind.old)
+        (machine_of engine.old (S.state store.old) (B.state behind.old)) }
+    ensures serves { ServesTexts R.state (B.Saves behind.new) (text.now ∷ [])
+        (λ counted. AnswersAll R.state
         (K.written out.old) (K.written out.new) (text.now ∷ []) tally counted)
         (K.written out.old) (K.written out.new)
         (faults_of 0 (K.faults out.old) (T.faults trace.old))
         (faults_of 0 (K.faults out.new) (T.faults trace.new))
-        (machine_of engine.old (S.state store.old)) (machine_of engine.new (S.state store.new))
+        (machine_of engine.old (S.state store.old) (B.state behind.old))
+        (machine_of engine.new (S.state store.new) (B.state behind.new))
         result }
     ensures traced { OnOk result (TracedAll tracing (S.state store.old).asked
         (S.state store.new).asked (T.written trace.old) (T.written trace.new)) }
     ensures traced_stop { OnErr result (Traced tracing (S.state store.old).asked
         (S.state store.new).asked (T.written trace.old) (T.written trace.new)
         (IsQuiet (halted_of result))) }
+    ensures same { B.name behind.new ≡ B.name behind.old }
 {
     let mark = store.count();
-    match answer(alloc, tally, engine, store, text, out) {
+    match answer(alloc, tally, engine, store, behind, text, out) {
         Ok(counted) => match trace_from(tracing, store, mark, trace) {
             Ok(()) => Ok(counted),
             Err(Failed) => Err(SINK_FAILED),
@@ -268,21 +287,23 @@ fn answer_traced<R: Revisions, S: BlockStore, K: Sink, T: Sink>(
 }
 
 // Takes one byte, and serves the text that it ends.
-fn turn<R: Revisions, S: BlockStore, K: Sink, T: Sink>(
+fn turn<R: Revisions, S: BlockStore, B: Behind<S>, K: Sink, T: Sink>(
     alloc: Global,
     tracing: bool,
     session: &mut Session,
     b: u8,
     engine: &mut Engine<R>,
     store: &mut S,
+    behind: &mut B,
     out: &mut K,
     trace: &mut T,
 ) -> Result<(), Halted>
     requires short { length session.old.pending < text_max }
-    requires ready { IsReady R.state (machine_of engine.old (S.state store.old)) }
+    requires ready { IsReady R.state (B.Saves behind.old)
+        (machine_of engine.old (S.state store.old) (B.state behind.old)) }
     ensures pending { OnOk result ((session.new.pending ≡ rest_after session.old.pending b)
         × (length session.new.pending < text_max)) }
-    ensures serves { ServesByte R.state (texts_at session.old.pending b)
+    ensures serves { ServesByte R.state (B.Saves behind.new) (texts_at session.old.pending b)
         (λ served. AnswersAll R.state
         (K.written out.old) (K.written out.new) (texts_at session.old.pending b)
         session.old.tally session.new.tally)
@@ -290,16 +311,19 @@ fn turn<R: Revisions, S: BlockStore, K: Sink, T: Sink>(
         × (is_over (rest_after session.old.pending b) ≡ true)
         × AnswersAll R.state (K.written out.old) (K.written out.new) []
         session.old.tally session.old.tally
-        (machine_of engine.old (S.state store.old)) (machine_of engine.new (S.state store.new)))
+        (machine_of engine.old (S.state store.old) (B.state behind.old))
+        (machine_of engine.new (S.state store.new) (B.state behind.new)))
         (K.written out.old) (K.written out.new)
         (faults_of 0 (K.faults out.old) (T.faults trace.old))
         (faults_of 0 (K.faults out.new) (T.faults trace.new))
-        (machine_of engine.old (S.state store.old)) (machine_of engine.new (S.state store.new))
+        (machine_of engine.old (S.state store.old) (B.state behind.old))
+        (machine_of engine.new (S.state store.new) (B.state behind.new))
         result }
     ensures traced { OnOk result (TracedAll tracing (S.state store.old).asked
         (S.state store.new).asked (T.written trace.old) (T.written trace.new)) }
     ensures traced_stop { OnErr result (Traced tracing (S.state store.old).asked
         (S.state store.new).asked (T.written trace.old) (T.written trace.new) (IsQuiet result)) }
+    ensures same { B.name behind.new ≡ B.name behind.old }
 {
     match session.pending.push(b) {
         Ok(Grown::More) => Ok(()),
@@ -310,6 +334,7 @@ fn turn<R: Revisions, S: BlockStore, K: Sink, T: Sink>(
                 session.tally,
                 engine,
                 store,
+                behind,
                 session.pending.text(),
                 out,
                 trace,
@@ -334,31 +359,35 @@ fn turn<R: Revisions, S: BlockStore, K: Sink, T: Sink>(
 }
 
 // ServesTexts what has come of a text with no end, once no more comes.
-fn finish<R: Revisions, S: BlockStore, K: Sink, T: Sink>(
+fn finish<R: Revisions, S: BlockStore, B: Behind<S>, K: Sink, T: Sink>(
     alloc: Global,
     tracing: bool,
     session: &Session,
     engine: &mut Engine<R>,
     store: &mut S,
+    behind: &mut B,
     out: &mut K,
     trace: &mut T,
 ) -> Result<Tally, TextHalted>
     requires short { length session.now.pending ≤ text_max }
-    requires ready { IsReady R.state (machine_of engine.old (S.state store.old)) }
-    ensures serves { ServesTexts R.state (tail_text session.now.pending)
+    requires ready { IsReady R.state (B.Saves behind.old)
+        (machine_of engine.old (S.state store.old) (B.state behind.old)) }
+    ensures serves { ServesTexts R.state (B.Saves behind.new) (tail_text session.now.pending)
         (λ counted. AnswersAll R.state
         (K.written out.old) (K.written out.new) (tail_text session.now.pending)
         session.now.tally counted)
         (K.written out.old) (K.written out.new)
         (faults_of 0 (K.faults out.old) (T.faults trace.old))
         (faults_of 0 (K.faults out.new) (T.faults trace.new))
-        (machine_of engine.old (S.state store.old)) (machine_of engine.new (S.state store.new))
+        (machine_of engine.old (S.state store.old) (B.state behind.old))
+        (machine_of engine.new (S.state store.new) (B.state behind.new))
         result }
     ensures traced { OnOk result (TracedAll tracing (S.state store.old).asked
         (S.state store.new).asked (T.written trace.old) (T.written trace.new)) }
     ensures traced_stop { OnErr result (Traced tracing (S.state store.old).asked
         (S.state store.new).asked (T.written trace.old) (T.written trace.new)
         (IsQuiet (halted_of result))) }
+    ensures same { B.name behind.new ≡ B.name behind.old }
 {
     if !session.pending.has_words() {
         return Ok(session.tally);
@@ -369,6 +398,7 @@ fn finish<R: Revisions, S: BlockStore, K: Sink, T: Sink>(
         session.tally,
         engine,
         store,
+        behind,
         session.pending.text(),
         out,
         trace,
@@ -385,24 +415,29 @@ fn session_result(served: Result<Tally, TextHalted>) -> Result<Tally, Halted>
     }
 }
 
-/// ServesTexts the texts that a feed brings, to its end or a stop. Tells what was counted of them.
-pub fn serve<I: Source, R: Revisions, S: BlockStore, K: Sink, T: Sink>(
+/// ServesTexts the texts that a feed brings, to its end or a stop, with what is behind each statement. Tells what was
+/// counted of them.
+pub fn serve<I: Source, R: Revisions, S: BlockStore, B: Behind<S>, K: Sink, T: Sink>(
     alloc: Global,
     tracing: bool,
     feed: &mut Feed,
     input: &mut I,
     engine: &mut Engine<R>,
     store: &mut S,
+    behind: &mut B,
     out: &mut K,
     trace: &mut T,
 ) -> Result<Tally, Halted>
-    requires ready { IsReady R.state (machine_of engine.old (S.state store.old)) }
+    requires ready { IsReady R.state (B.Saves behind.old)
+        (machine_of engine.old (S.state store.old) (B.state behind.old)) }
     requires fed_by { IsFedBy feed.old (I.gave input.old) }
-    ensures ready { OnOk result (IsReady R.state (machine_of engine.new (S.state store.new))) }
+    ensures ready { OnOk result (IsReady R.state (B.Saves behind.new)
+        (machine_of engine.new (S.state store.new) (B.state behind.new))) }
     ensures ran { SessionRan R.state tracing feed.old feed.new
         (I.left input.old) (I.left input.new) (I.gave input.new)
         (K.written out.old) (K.written out.new) (T.written trace.old) (T.written trace.new)
-        (machine_of engine.old (S.state store.old)) (machine_of engine.new (S.state store.new))
+        (machine_of engine.old (S.state store.old) (B.state behind.old))
+        (machine_of engine.new (S.state store.new) (B.state behind.new))
         (OutFailed (is_quiet result) (K.faults out.old) (K.faults out.new)) (stop_of result) }
     ensures within { feed.new.taken ≤ feed.new.limit }
     ensures fed_by { IsFedBy feed.new (I.gave input.new) }
@@ -414,6 +449,7 @@ pub fn serve<I: Source, R: Revisions, S: BlockStore, K: Sink, T: Sink>(
     ensures quiet { Silenced (is_quiet result)
         (faults_of (I.faults input.old) (K.faults out.old) (T.faults trace.old))
         (faults_of (I.faults input.new) (K.faults out.new) (T.faults trace.new)) }
+    ensures same { B.name behind.new ≡ B.name behind.old }
 {
     let mut session = Session {
         pending: Pending::new(alloc),
@@ -434,7 +470,8 @@ pub fn serve<I: Source, R: Revisions, S: BlockStore, K: Sink, T: Sink>(
                 });
             }
             Ok(None) => {
-                let served = finish(alloc, tracing, &session, engine, store, out, trace);
+                let served =
+                    finish(alloc, tracing, &session, engine, store, behind, out, trace);
                 return session_result(served);
             }
             Ok(Some(b)) => {
@@ -445,6 +482,7 @@ pub fn serve<I: Source, R: Revisions, S: BlockStore, K: Sink, T: Sink>(
                     b,
                     engine,
                     store,
+                    behind,
                     out,
                     trace,
                 ) {
