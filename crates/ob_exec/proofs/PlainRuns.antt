@@ -188,6 +188,7 @@ module _ {R : Type 0} (state : R → RevState) (stmt : Stmt) (result : Result Ou
     leaves = ran.leaves;
     goes_on = subst (λ (q : Public). Continues state sk q result old new t) next_alone ran.goes_on;
     settled = settled_plain old new result settled ran.replaced;
+    kept = λ saves not q below. let next_is = agrees.next in ran.kept saves q (omega (arith, below, next_is));
     stops = stops_plain p sk result (world_of state old s) (world_of state new t) ran.cause ran.indexed;
   }
 

@@ -119,6 +119,7 @@ module _ {R : Type 0} (state : R → RevState) (old : Engine R) (s : StoreState)
         leaves = λ d of. inl (is.leaf, λ goes. refl);
         goes_on = rows_on seen all old.ended unkeyed lives is.ran.lasts.ready is.ran.lasts.start is.ran.lasts.keys is.ran.did.asked whole (rows_tables is.ran.lasts is.leaves);
         stays = λ q left. leaves_none old.public (rows_skeleton select) seen.end q _ (none_by old.public.save None (inr refl)) left;
+        kept = λ saves q below. is.ran.lasts.apart.rests q (λ above. omega (arith, below, above));
         indexed = λ stops. absurd (cc stops);
       }
 
@@ -154,5 +155,6 @@ module _ {R : Type 0} (state : R → RevState) (old : Engine R) (s : StoreState)
         goes_on = cut_on e (record seen { end = Cut n })
             (rows_on (record seen { end = Cut n }) (take n all) false unkeyed refl cut.lasts.ready cut.lasts.start cut.lasts.keys first refl (rows_tables cut.lasts leaves));
         stays = λ q left. absurd (cc left);
+        kept = λ saves q below. cut.lasts.apart.rests q (λ above. omega (arith, below, above));
         indexed = λ stops. absurd (no_access e stops);
       }

@@ -83,7 +83,7 @@ use Rattle.ob_verdict.specs.declared.outcome.Outcome.TheVariants.{Created, Inser
 use Rattle.ob_exec.proofs.ChangedScripts.{changes_flat, changes_plain, closing_is, run_same, run_whole, saved_changes, saved_saves, whole_saved}
 use Rattle.ob_exec.proofs.FewAsked.{few_behind}
 use Rattle.ob_exec.proofs.Unread.{Unread, reads_back, unread_both, unread_closing, unread_drops, unread_first}
-use Rattle.ob_exec.specs.Ran.{CountsKeeper, LacksNumber, Ran, RanWhole, RunsOut, ServedCause, ShowsNothing, StopsWhere, WantsMemory}
+use Rattle.ob_exec.specs.Ran.{CountsKeeper, LacksNumber, Ran, RanWhole, RunsOut, ServedCause, ShowsNothing, StopsWhere, WantsMemory, is_saved_behind}
 use Rattle.ob_exec.specs.Saving.{IsUsedUp, MaySave, SavesTables, SavingCause}
 
 -- ---- how an answer ends that came to its end
@@ -358,6 +358,7 @@ module _ {R E : Type 0} (state : R → RevState) (grew cut : E → E → List Ev
       leaves = leaves_then;
       goes_on = record { agrees = done.goes_on.agrees; public = public_then; lives = done.goes_on.lives; drawn = drawn_then };
       settled = done.goes_on.settled;
+      kept = λ saves_it not. let ends = ap (λ (y : Seen). is_saved_behind p sk y.end) done.seen ∙ ap (is_saved_behind p sk) whole in absurd (cc (not, ends, saved));
       stops = tt;
     }
 
@@ -419,6 +420,7 @@ module _ {R E : Type 0} (state : R → RevState) (grew cut : E → E → List Ev
         whole = whole;
         means = serves.means;
         later = done.later;
+        public = done.goes_on.public;
         answered = refl;
         held = done.held;
         stays = tt;
@@ -598,6 +600,10 @@ module _ {R E : Type 0} (state : R → RevState) (grew cut : E → E → List Ev
       leaves = λ d of. inl (refl, λ goes. absurd (cc goes));
       goes_on = refl;
       settled = tt;
+      kept = λ saves_it not q below.
+          let next_is = agrees.next in
+          let made = ap (λ (r : Public). r.next_region) on.public in
+          halts.kept q (λ same. omega (arith, below, made, same)) ∙ serves.ran.kept saves_it q (omega (arith, below, next_is));
       stops = where_stopped stop halts.cause;
     }
 
@@ -702,6 +708,7 @@ module _ {R E : Type 0} (state : R → RevState) (grew cut : E → E → List Ev
         whole = whole;
         means = serves.means;
         later = halts.later;
+        public = tt;
         answered = halts.cause;
         held = tt;
         stays = halts.stays;

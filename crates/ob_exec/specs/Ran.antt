@@ -15,7 +15,7 @@ use Rattle.ob_mean.specs.Replay.{draws_taken, is_access}
 use Rattle.ob_mean.specs.Verdict.{Draws, ended as seen_to, next_draw}
 use Rattle.ob_reopen.specs.Keepers.{KeeperState}
 use Rattle.ob_reopen.specs.Resting.{AcceptsClosings}
-use Rattle.ob_script.specs.Saved.{left_by}
+use Rattle.ob_script.specs.Saved.{left_by, saved_public}
 use Rattle.ob_script.specs.Script.{is_saved, save_part, script, whole_script}
 use Rattle.ob_script.specs.Trace.{next}
 use Rattle.ob_select.specs.Memory.{AtEmission, AtMake, AtResult, HasHalted}
@@ -121,6 +121,11 @@ pub record WantsMemory (p : Public) (stmt : Stmt) (seen : Seen) (s t : StoreStat
   pub place : AtMake done ⊎ AtResult p stmt seen rest ⊎ (AtEmission p stmt seen rest × Halts)
       ⊎ AtSaving p (skeleton stmt) rest
 
+-- tables weren't saved: they aren't to be behind one like it, or it was refused or cut off before, or stopped
+abbrev pub WasNotSaved : Public → Skeleton → Result Outcome RunStop → End → Type 0
+WasNotSaved p outline (Ok outcome) end = is_saved_behind p outline end ≡ false
+WasNotSaved p outline (Err stop) end = ⊤
+
 -- ---- the whole of it
 -- exactly these accesses, and then this is public; the engine takes the next statement, with nothing to discard, or has ended
 pub record RanWhole {R : Type 0} (state : R → RevState) (outline : Skeleton)
@@ -145,18 +150,18 @@ pub record RanWhole {R : Type 0} (state : R → RevState) (outline : Skeleton)
   pub goes_on : Continues state outline (next (public_of old) outline (seen_of new)) result
       old new t
   pub settled : OnOk result (replaced_of new ≡ None)
+  -- of an engine whose tables are saved, where they weren't, nothing has changed of what is kept of the regions that there
+  -- were: what rested for a mark goes on to rest
+  pub kept : (public_of old).save ≡ true
+      → WasNotSaved (public_of old) outline result (seen_of new).end
+      → (q : ℕ) → q < (public_of old).next_region → t.kept q ≡ s.kept q
   pub stops : StopsWhere (public_of old) outline result
 
 -- ---- the keeper
--- tables weren't saved: they aren't to be behind one like it, or it was refused or cut off before, or stopped
-abbrev pub WasNotSaved : Public → Skeleton → Result Outcome RunStop → End → Type 0
-WasNotSaved p outline (Ok outcome) end = is_saved_behind p outline end ≡ false
-WasNotSaved p outline (Err stop) end = ⊤
-
 -- they were, or that stopped it, behind the engine's own share, which was answered so and left this engine and this store
 pub record WasSaved {R : Type 0} (state : R → RevState) (stmt : Stmt)
-    (result : Result Outcome RunStop) (old : Engine R) (s t : StoreState)
-    (keeper_old keeper_new : KeeperState) : Type 0 where
+    (result : Result Outcome RunStop) (old : Engine R) (s : StoreState) (new : Engine R)
+    (t : StoreState) (keeper_old keeper_new : KeeperState) : Type 0 where
   pub saved : is_saved (public_of old) (skeleton stmt) ≡ true
   pub outcome : Outcome
   pub engine : Engine R
@@ -165,6 +170,8 @@ pub record WasSaved {R : Type 0} (state : R → RevState) (stmt : Stmt)
   pub whole : (seen_of engine).end ≡ Whole
   pub means : Means state stmt (Ok outcome) old s engine store
   pub later : Later store t
+  -- then a closing is made
+  pub public : OnOk result (public_of new ≡ saved_public (public_of engine))
   pub answered : MatchResult result (λ answer. answer ≡ outcome)
       (λ stop. SavingCause stop engine store t keeper_old keeper_new)
   -- a keeper that tells holds the mark of a closing under which the tables of this engine rest, or, where it was stopped,
@@ -183,7 +190,7 @@ abbrev pub KeeperBehind : {R : Type 0} → (R → RevState) → Stmt → Result 
 KeeperBehind state stmt result old s new t keeper_old keeper_new =
     ((keeper_new ≡ keeper_old)
     × WasNotSaved (public_of old) (skeleton stmt) result (seen_of new).end)
-    ⊎ WasSaved state stmt result old s t keeper_old keeper_new
+    ⊎ WasSaved state stmt result old s new t keeper_old keeper_new
 
 -- ---- a statement was carried out
 pub record Ran {R E : Type 0} (state : R → RevState) (grew cut : E → E → List Event → Type 0)

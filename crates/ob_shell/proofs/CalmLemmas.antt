@@ -2,8 +2,10 @@
 use Rattle.std.proofs.Common.{◌≡◌, ℕ, Bool, List, [], ◌∷◌, None, Ok, Err, Result, ◌⊎◌, inl, inr, sym, subst}
 use Rattle.ob_base.specs.declared.refusal.Stop.{Stop}
 use Rattle.ob_base.specs.declared.refusal.Stop.TheVariants.{Tampered}
-use Rattle.ob_tables.specs.Agreeing.{world_of}
-use Rattle.ob_tables.specs.Running.{RunCause}
+use Rattle.ob_base.specs.declared.config.Public.{Public}
+use Rattle.ob_base.specs.declared.skeleton.Skeleton.{Skeleton}
+use Rattle.ob_exec.specs.Ran.{ServedCause}
+use Rattle.ob_tables.specs.Agreeing.{public_of, world_of}
 use Rattle.ob_tables.specs.Stops.{session_stop}
 use Rattle.ob_tables.specs.declared.engine.Engine.{Engine}
 use Rattle.ob_tables.specs.declared.stop.RunStop.{RunStop}
@@ -12,6 +14,7 @@ use Rattle.ob_headline.specs.Words.{Answer}
 use Rattle.ob_shell.proofs.StepLemmas.{by_last}
 use Rattle.ob_shell.specs.Running.{LastPart}
 use Rattle.ob_shell.specs.Steps.{Machine, PartlyAt, Step, Steps}
+use Rattle.ob_sql.specs.Skeleton.{skeleton}
 use Rattle.ob_store.specs.State.{StoreState}
 use Rattle.ob_vault.specs.State.{RevState, World}
 use Rattle.ob_vault.specs.Tied.{Calm, EndsAt}
@@ -30,13 +33,13 @@ met Runs.StoreFault w calm = calm
 met Runs.StashFull w calm = calm
 met Runs.KeeperFault w calm = calm
 
-stop_met : (run : RunStop) (a b : World) → RunCause (Err run) a b → Calm a → MeetsChange (Err (session_stop run)) b
-stop_met (Runs.Tampered region place) a b cause calm = cause.2 calm
-stop_met Runs.SinkFault a b cause calm = cause.1 calm
-stop_met Runs.NoMemory a b cause calm = cause.1 calm
-stop_met Runs.StoreFault a b cause calm = cause.1 calm
-stop_met Runs.StashFull a b cause calm = cause.1 calm
-stop_met Runs.KeeperFault a b cause calm = absurd cause
+stop_met : (p : Public) (outline : Skeleton) (run : RunStop) (a b : World) → ServedCause p outline (Err run) a b → Calm a → MeetsChange (Err (session_stop run)) b
+stop_met p outline (Runs.Tampered region place) a b cause calm = cause.2 calm
+stop_met p outline Runs.SinkFault a b cause calm = cause.1 calm
+stop_met p outline Runs.NoMemory a b cause calm = cause.1 calm
+stop_met p outline Runs.StoreFault a b cause calm = cause.1 calm
+stop_met p outline Runs.StashFull a b cause calm = cause.1 calm
+stop_met p outline Runs.KeeperFault a b cause calm = cause.1 calm
 
 module _ {R : Type 0} (state : R → RevState) where
   abbrev IsCalm : Machine R → Type 0
@@ -59,7 +62,7 @@ module _ {R : Type 0} (state : R → RevState) where
   part_met : (m1 m2 : Machine R) (more : List (List ℕ)) (run : RunStop) (part : List ℕ) → PartlyAt state m1 m2 more run part → IsCalm m1 → MeetsChange (Err (session_stop run)) (world_of state m2.engine m2.store)
   part_met m1 m2 [] run part idle calm = met run _ (rests_met m1 m2 idle.rests.machine calm)
   part_met m1 m2 (text ∷ more) run part (inl idle) calm = met run _ (rests_met m1 m2 idle.rests.machine calm)
-  part_met m1 m2 (text ∷ more) run part (inr (inl cut)) calm = stop_met run _ _ cut.does.ran.cause calm
+  part_met m1 m2 (text ∷ more) run part (inr (inl cut)) calm = stop_met (public_of m1.engine) (skeleton cut.stmt) run _ _ cut.does.ran.cause calm
   part_met m1 m2 (text ∷ more) run part (inr (inr done)) calm = met run _ (step_calm m1 m2 text done.answer done.step calm)
 
   pub last_met : (m1 m2 : Machine R) (more : List (List ℕ)) (part : List ℕ) (result : Result Bool Stop) → LastPart state m1 m2 more part result → IsCalm m1

@@ -5,11 +5,11 @@ use Rattle.ob_base.specs.Counts.{Rises}
 use Rattle.ob_base.specs.declared.config.Config.{Config}
 use Rattle.ob_base.specs.declared.refusal.Stop.TheVariants.{Tampered, SourceFault, SinkFault, NoMemory, InputLimit, StoreFault, StashFull, KeeperFault}
 use Rattle.ob_gen.specs.declared.tally.Tally.{Tally}
-use Rattle.ob_headline.specs.Bases.{Base, fresh}
+use Rattle.ob_headline.specs.Bases.{Base, FromEach, fresh}
 use Rattle.ob_headline.specs.Endings.{status_of, last_line}
 use Rattle.ob_headline.specs.Settings.{limit_of}
-use Rattle.ob_headline.specs.Words.{Faults, SinksRose, Took, printed}
-use Rattle.ob_headline.specs.Status.{KeepsLimits}
+use Rattle.ob_headline.specs.Words.{Faults, IsHonest, SinksRose, Took, printed}
+use Rattle.ob_headline.specs.Status.{IsCompleted, KeepsLimits, StoreFails}
 use Rattle.ob_headline.specs.declared.ending.Ending.{Ending}
 use Rattle.ob_headline.specs.declared.ending.Ending.TheVariants.{Usage, BadKey, Ran}
 use Rattle.ob_headline.specs.declared.ending.Report.{Report}
@@ -23,25 +23,26 @@ use Rattle.ob_shell.specs.declared.top.Ended.{Ended}
 use Rattle.ob_shell.specs.declared.words.WordsErr.{WordsErr}
 use Rattle.ob_shell.specs.declared.words.WordsErr.TheVariants as Words
 use Rattle.ob_store.specs.State.{StoreState}
+use Rattle.ob_seal.specs.KeySet.{KeySet}
 
-module _ {tally : Tally} {tr : TraceSink} {Takes : Type 0} {base : Base} {gave : ℕ} {l0 l1 w0 w1 w2 : Option (List ℕ)} {s0 s1 : StoreState} where
+module _ {tally : Tally} {tr : TraceSink} {Takes : Type 0} {base : Base} {keys : List ℕ → KeySet} {gave : ℕ} {l0 l1 w0 w1 w2 : Option (List ℕ)} {s0 s1 : StoreState} where
   -- the last line was written, or might not be
   pub reported_closed : (ended : Ended) (report : Report) (old mid new : Faults)
       → report.status ≡ status_of ended.ending → report.high ≡ ended.high → EndingWords ended.ending Takes
-      → RunShown tally tr base l0 l1 gave w0 w1 s0 s1 ended.high ended.ending [] (OutFailed ended.quiet old.out mid.out) → EndingCause ended.ending old mid
+      → RunShown tally tr base keys l0 l1 gave w0 w1 s0 s1 ended.high ended.ending [] (OutFailed ended.quiet old.out mid.out) → EndingCause ended.ending old mid
       → (ended.quiet ≡ true → Unwritten w1 w2 mid.out new.out) → (ended.quiet ≡ false → LineWritten (last_line ended.ending) w1 w2 mid.out new.out)
       → (ended.quiet ≡ true → SinksRose old mid) → (ended.quiet ≡ false → mid.trace ≡ old.trace) → new.trace ≡ mid.trace → new.source ≡ mid.source
-      → Reported tally tr Takes base l0 l1 gave w0 w2 s0 s1 old new report
+      → Reported tally tr Takes base keys l0 l1 gave w0 w2 s0 s1 old new report
   reported_closed ended report old mid new status high takes shown cause quiet line rose loud trace source = go ended.quiet refl
     where
-      shown_high : RunShown tally tr base l0 l1 gave w0 w1 s0 s1 report.high ended.ending [] (OutFailed ended.quiet old.out mid.out)
-      shown_high = subst (λ (n : ℕ). RunShown tally tr base l0 l1 gave w0 w1 s0 s1 n ended.ending [] (OutFailed ended.quiet old.out mid.out)) (sym high) shown
+      shown_high : RunShown tally tr base keys l0 l1 gave w0 w1 s0 s1 report.high ended.ending [] (OutFailed ended.quiet old.out mid.out)
+      shown_high = subst (λ (n : ℕ). RunShown tally tr base keys l0 l1 gave w0 w1 s0 s1 n ended.ending [] (OutFailed ended.quiet old.out mid.out)) (sym high) shown
 
-      go : (b : Bool) → ended.quiet ≡ b → Reported tally tr Takes base l0 l1 gave w0 w2 s0 s1 old new report
+      go : (b : Bool) → ended.quiet ≡ b → Reported tally tr Takes base keys l0 l1 gave w0 w2 s0 s1 old new report
       go true is =
           let same : mid ≡ new = λ i. record { source = sym source i; out = sym (quiet is).faults i; trace = sym trace i } in
-          subst (λ (f : Faults). Reported tally tr Takes base l0 l1 gave w0 w2 s0 s1 old f report) same
-          (subst (λ (w : Option (List ℕ)). Reported tally tr Takes base l0 l1 gave w0 w s0 s1 old mid report) (sym (quiet is).written)
+          subst (λ (f : Faults). Reported tally tr Takes base keys l0 l1 gave w0 w2 s0 s1 old f report) same
+          (subst (λ (w : Option (List ℕ)). Reported tally tr Takes base keys l0 l1 gave w0 w s0 s1 old mid report) (sym (quiet is).written)
           (reported_quiet ended.ending old mid status takes shown_high (λ lost. lost.1) cause (rose is)))
       go false is =
           let l = line is in
@@ -56,22 +57,22 @@ pub words_cause : (error : WordsErr) (faults : Faults) → EndingCause (refused_
 words_cause Words.Usage faults = record { source = refl; out = refl; trace = refl }
 words_cause Words.NoMemory faults = (refl, omega arith, omega arith)
 
-unfoldable pub words_shown : {F : Type 0} (tally : Tally) (tr : TraceSink) (settings : Option Config) (error : WordsErr) (l : Option (List ℕ)) (gave : ℕ) (w : Option (List ℕ)) (s : StoreState) → IsFresh s → tr.new ≡ tr.old
-    → RunShown tally tr (fresh settings) l l gave w w s s 0 (refused_by error) [] F
+unfoldable pub words_shown : {F : Type 0} {keys : List ℕ → KeySet} (tally : Tally) (tr : TraceSink) (settings : Option Config) (error : WordsErr) (l : Option (List ℕ)) (gave : ℕ) (w : Option (List ℕ)) (s : StoreState) → IsFresh s → tr.new ≡ tr.old
+    → RunShown tally tr (fresh settings) keys l l gave w w s s 0 (refused_by error) [] F
 words_shown tally tr settings Words.Usage l gave w s fresh untraced = shown_unread tally tr settings l gave w s _ fresh untraced tt tt tt tt refl
 words_shown tally tr settings Words.NoMemory l gave w s fresh untraced = shown_unread tally tr settings l gave w s _ fresh untraced tt tt tt tt tt
 
 -- of which nothing is taken
-pub words_none : (F : Type 0) (tally : Tally) (tr : TraceSink) (settings : Option Config) (error : WordsErr) (l : Option (List ℕ)) (gave : ℕ) (w : Option (List ℕ)) (s : StoreState) (blank : IsFresh s) (untraced : tr.new ≡ tr.old)
-    → (words_shown {F = F} tally tr settings error l gave w s blank untraced).taken ≡ []
+pub words_none : (F : Type 0) (keys : List ℕ → KeySet) (tally : Tally) (tr : TraceSink) (settings : Option Config) (error : WordsErr) (l : Option (List ℕ)) (gave : ℕ) (w : Option (List ℕ)) (s : StoreState) (blank : IsFresh s) (untraced : tr.new ≡ tr.old)
+    → (words_shown {F = F} {keys = keys} tally tr settings error l gave w s blank untraced).taken ≡ []
 unfolding words_shown shown_unread
-words_none F tally tr settings Words.Usage l gave w s blank untraced = refl
-words_none F tally tr settings Words.NoMemory l gave w s blank untraced = refl
+words_none F keys tally tr settings Words.Usage l gave w s blank untraced = refl
+words_none F keys tally tr settings Words.NoMemory l gave w s blank untraced = refl
 
-pub reported_words : (tally : Tally) (tr : TraceSink) {Takes : Type 0} {settings : Option Config} {gave : ℕ} {l w0 w1 : Option (List ℕ)} {s : StoreState} (error : WordsErr) (report : Report) (old new : Faults) → IsFresh s → tr.new ≡ tr.old
+pub reported_words : (tally : Tally) (tr : TraceSink) {Takes : Type 0} {keys : List ℕ → KeySet} {settings : Option Config} {gave : ℕ} {l w0 w1 : Option (List ℕ)} {s : StoreState} (error : WordsErr) (report : Report) (old new : Faults) → IsFresh s → tr.new ≡ tr.old
     → (error ≡ Words.Usage → ¬ Takes) → report.status ≡ status_of (refused_by error) → report.high ≡ 0
     → LineWritten (last_line (refused_by error)) w0 w1 old.out new.out → new.trace ≡ old.trace → new.source ≡ old.source
-    → Reported tally tr Takes (fresh settings) l l gave w0 w1 s s old new report
+    → Reported tally tr Takes (fresh settings) keys l l gave w0 w1 s s old new report
 reported_words tally tr {settings = settings} {gave = gave} {l = l} {w0 = w0} {s = s} error report old new fresh untraced not status high line trace source =
     reported_closed (record { ending = refused_by error; quiet = false; high = 0; tally = tally }) report old old new status high (words_end error not)
     (words_shown tally tr settings error l gave w0 s fresh untraced) (words_cause error old) (λ loud. absurd (cc loud)) (λ loud. line) (λ loud. absurd (cc loud)) (λ loud. refl) trace source
@@ -90,13 +91,13 @@ words_taken (Ran (Err StoreFault)) taken t = t
 words_taken (Ran (Err StashFull)) taken t = t
 words_taken (Ran (Err KeeperFault)) taken t = t
 
-unfoldable pub reported_taken : {tally : Tally} {tr : TraceSink} {Takes : Type 0} {settings asked : Option Config} {gave : ℕ}
+unfoldable pub reported_taken : {tally : Tally} {tr : TraceSink} {Takes : Type 0} {keys : List ℕ → KeySet} {settings asked : Option Config} {gave : ℕ}
     {l0 l1 w0 w1 : Option (List ℕ)} {s0 s1 : StoreState} {old new : Faults} {report : Report}
-    → Takes → settings ≡ asked → Reported tally tr ⊤ (fresh asked) l0 l1 gave w0 w1 s0 s1 old new report
-    → Reported tally tr Takes (fresh settings) l0 l1 gave w0 w1 s0 s1 old new report
-reported_taken {tally = tally} {tr = tr} {Takes = Takes} {gave = gave} {l0 = l0} {l1 = l1} {w0 = w0} {w1 = w1} {s0 = s0} {s1 = s1} {old = old} {new = new} {report = report} t is r =
+    → Takes → settings ≡ asked → Reported tally tr ⊤ (fresh asked) keys l0 l1 gave w0 w1 s0 s1 old new report
+    → Reported tally tr Takes (fresh settings) keys l0 l1 gave w0 w1 s0 s1 old new report
+reported_taken {tally = tally} {tr = tr} {Takes = Takes} {keys = keys} {gave = gave} {l0 = l0} {l1 = l1} {w0 = w0} {w1 = w1} {s0 = s0} {s1 = s1} {old = old} {new = new} {report = report} t is r =
     let both = subst
-    (λ (o : Option Config). (x : RunShown tally tr (fresh o) l0 l1 gave w0 w1 s0 s1 report.high r.ending (last_line r.ending) (SinksRose old new)) × (new.trace ≢ old.trace → Outputs w0 w1 (Unit {0}) (printed x.story.answers ++ x.story.part)) × (Took w0 w1 (printed x.story.answers ++ x.story.part) ⊎ Rises old.out new.out))
+    (λ (o : Option Config). (x : RunShown tally tr (fresh o) keys l0 l1 gave w0 w1 s0 s1 report.high r.ending (last_line r.ending) (SinksRose old new)) × (new.trace ≢ old.trace → Outputs w0 w1 (Unit {0}) (printed x.story.answers ++ x.story.part)) × (Took w0 w1 (printed x.story.answers ++ x.story.part) ⊎ Rises old.out new.out))
     (sym is) (r.shown, r.silent, r.through) in
     record {
       ending = r.ending;
@@ -106,12 +107,14 @@ reported_taken {tally = tally} {tr = tr} {Takes = Takes} {gave = gave} {l0 = l0}
       through = both.2;
       silent = both.1;
       cause = r.cause;
-      completes = λ taken input e keeps. r.completes tt input e (subst (λ (o : Option Config). KeepsLimits (limit_of o) input) is keeps);
+      completes = λ taken input e keeps source sinks.
+          subst (λ (o : Option Config). FromEach (fresh o) (λ s. IsCompleted (IsHonest s0 s1) (StoreFails (fresh o) s0 s1) ((fresh o).public.save ≡ true) r.ending)) (sym is)
+          (r.completes tt input e (subst (λ (o : Option Config). KeepsLimits (limit_of o) input) is keeps) source sinks);
     }
 
 -- the same of a base that the words say nothing of
-pub reported_takes : {tally : Tally} {tr : TraceSink} {Takes : Type 0} {base : Base} {gave : ℕ} {l0 l1 w0 w1 : Option (List ℕ)} {s0 s1 : StoreState} {old new : Faults} {report : Report}
-    → Takes → Reported tally tr ⊤ base l0 l1 gave w0 w1 s0 s1 old new report → Reported tally tr Takes base l0 l1 gave w0 w1 s0 s1 old new report
+pub reported_takes : {tally : Tally} {tr : TraceSink} {Takes : Type 0} {base : Base} {keys : List ℕ → KeySet} {gave : ℕ} {l0 l1 w0 w1 : Option (List ℕ)} {s0 s1 : StoreState} {old new : Faults} {report : Report}
+    → Takes → Reported tally tr ⊤ base keys l0 l1 gave w0 w1 s0 s1 old new report → Reported tally tr Takes base keys l0 l1 gave w0 w1 s0 s1 old new report
 reported_takes t r = record {
   ending = r.ending;
   status = r.status;

@@ -50,5 +50,5 @@ traced_cause told stop out0 out1 trace0 trace1 is cause later =
     go Runs.NoMemory cause = (cause.0, cause.1, later)
     go Runs.StoreFault cause = (cause.0, cause.1, later)
     go Runs.StashFull cause = (cause.0, cause.1, later)
-    go Runs.KeeperFault cause = absurd cause
+    go Runs.KeeperFault cause = (cause.0, cause.1, later)
     go Runs.SinkFault cause = (cause.0, elim cause.1 [ inl rose ↦ inl rose | inr none ↦ absurd (omega (arith, none)) ])

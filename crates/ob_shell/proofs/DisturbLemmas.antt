@@ -8,19 +8,21 @@ use Rattle.ob_base.specs.declared.access.Access.{Access}
 use Rattle.ob_base.specs.declared.access.Access.TheVariants.{Read}
 use Rattle.ob_tables.proofs.HeldLemmas.{held_headings}
 use Rattle.ob_tables.specs.Agreeing.{AreDraws, public_of, seen_of, world_of}
-use Rattle.ob_tables.specs.Running.{RunCause}
+use Rattle.ob_base.specs.declared.config.Public.{Public}
+use Rattle.ob_base.specs.declared.skeleton.Skeleton.{Skeleton}
+use Rattle.ob_exec.specs.Ran.{ServedCause}
 use Rattle.ob_tables.specs.Telling.{Represents}
 use Rattle.ob_verdict.specs.declared.outcome.Outcome.{Outcome}
 use Rattle.ob_tables.specs.declared.stop.RunStop.{RunStop}
 use Rattle.ob_tables.specs.declared.stop.RunStop.TheVariants.{Tampered, SinkFault, NoMemory, StoreFault, StashFull, KeeperFault}
 use Rattle.ob_headline.proofs.FullLemmas.{met_reads, met_script}
 use Rattle.ob_headline.specs.Words.{Begins}
-use Rattle.ob_mean.specs.Verdict.{Draws, Tables, seen}
-use Rattle.ob_script.proofs.SavedParts.{run_is}
+use Rattle.ob_mean.specs.Verdict.{Draws, Tables}
 use Rattle.ob_script.specs.Script.{script}
 use Rattle.ob_shell.proofs.CalmLemmas.{first_calm}
 use Rattle.ob_shell.proofs.FirstPartLemmas.{begins_length, begins_met}
-use Rattle.ob_shell.specs.Steps.{Does, Machine, asked_of, session_of}
+use Rattle.ob_shell.proofs.ShareLemmas.{share_reads}
+use Rattle.ob_shell.specs.Steps.{Does, Machine, session_of}
 use Rattle.ob_sql.specs.Skeleton.{skeleton}
 use Rattle.ob_sql.specs.declared.stmt.Stmt.{Stmt}
 use Rattle.ob_store.specs.Calls.{IsBefore, IsSteady}
@@ -82,14 +84,14 @@ ends_in q x w lie is ends =
     let same : ends.lie ≡ lie = cc (sym ends.told ∙ is) in
     subst (λ (l : Lie). ReadsIn l w.store.asked) same (record { rest = []; is = sym ends.asked })
 
-lie_within : (result : Result Outcome RunStop) (old new : World) (lie : Lie) → RunCause result old new → Calm old → new.store.lie ≡ Some lie → ReadsIn lie new.store.asked
-lie_within (Ok outcome) old new lie cause calm is = (cause.1 calm).within lie is
-lie_within (Err (Tampered q x)) old new lie cause calm is = elim (cause.2 calm) [ inl still ↦ still.within lie is | inr ends ↦ ends_in q x new lie is ends ]
-lie_within (Err SinkFault) old new lie cause calm is = (cause.1 calm).within lie is
-lie_within (Err NoMemory) old new lie cause calm is = (cause.1 calm).within lie is
-lie_within (Err StoreFault) old new lie cause calm is = (cause.1 calm).within lie is
-lie_within (Err StashFull) old new lie cause calm is = (cause.1 calm).within lie is
-lie_within (Err KeeperFault) old new lie cause calm is = absurd cause
+lie_within : (p : Public) (outline : Skeleton) (result : Result Outcome RunStop) (old new : World) (lie : Lie) → ServedCause p outline result old new → Calm old → new.store.lie ≡ Some lie → ReadsIn lie new.store.asked
+lie_within p outline (Ok outcome) old new lie cause calm is = (cause.1 calm).within lie is
+lie_within p outline (Err (Tampered q x)) old new lie cause calm is = elim (cause.2 calm) [ inl still ↦ still.within lie is | inr ends ↦ ends_in q x new lie is ends ]
+lie_within p outline (Err SinkFault) old new lie cause calm is = (cause.1 calm).within lie is
+lie_within p outline (Err NoMemory) old new lie cause calm is = (cause.1 calm).within lie is
+lie_within p outline (Err StoreFault) old new lie cause calm is = (cause.1 calm).within lie is
+lie_within p outline (Err StashFull) old new lie cause calm is = (cause.1 calm).within lie is
+lie_within p outline (Err KeeperFault) old new lie cause calm is = (cause.1 calm).within lie is
 
 module _ {R : Type 0} (state : R → RevState) (m0 m1 : Machine R) (d : Draws) (drawn : AreDraws m0.engine d) (tables : Tables) (stmt : Stmt) (result : Result Outcome RunStop) (does : Does state m0 m1 stmt result)
     (tells : IsTrue m0.store.tells) (steady : IsSteady m0.store) (held : Represents state m0.engine m0.store tables) (n : ℕ) (before : IsBefore m0.store.disturbed n)
@@ -110,9 +112,8 @@ module _ {R : Type 0} (state : R → RevState) (m0 m1 : Machine R) (d : Draws) (
       let later = does.ran.later in
       let meant : ReadsIn lie all_met =
       met_reads (session_of m0 d tables) stmt (held_headings _ _ _ tables _ held.held) lie m0.store.asked
-      (subst (λ (xs : List Access). ReadsIn lie (m0.store.asked ++ xs)) (run_is (public_of m0.engine) (skeleton stmt) (seen d (public_of m0.engine) (asked_of m0) tables stmt) does.unsaved)
-      (does.means.begun tables d drawn (record { tells = tells; held = held; nolie = honest }) lie is)) in
-      let asked : ReadsIn lie m1.store.asked = lie_within result (world_of state m0.engine m0.store) (world_of state m1.engine m1.store) lie does.ran.cause (first_calm state m0.engine m0.store honest) is in
+      (share_reads state m0 does.agrees d tables held stmt lie (does.means.begun tables d drawn (record { tells = tells; held = held; nolie = honest }) lie is)) in
+      let asked : ReadsIn lie m1.store.asked = lie_within (public_of m0.engine) (skeleton stmt) result (world_of state m0.engine m0.store) (world_of state m1.engine m1.store) lie does.ran.cause (first_calm state m0.engine m0.store honest) is in
       let there : IsBefore m1.store.disturbed n = subst (λ (o : Option (List Disturbance)). IsBefore o n) (sym later.disturbed) before in
       let behind : length lie.before + 1 ≤ n → ⊥ = λ le. (later.steady steady).lied lie is (before_less m1.store.disturbed (length lie.before + 1) n le there) in
       let late : n ≤ length lie.before = elim (few_or_more (length lie.before + 1) n) [ inl le ↦ absurd (behind le) | inr lt ↦ omega (arith, lt) ] in

@@ -14,7 +14,7 @@ use Rattle.ob_base.specs.declared.config.Public.{Public}
 use Rattle.ob_base.specs.declared.mark.Mark.{Mark}
 use Rattle.ob_base.specs.declared.refusal.Stop.{Stop}
 use Rattle.ob_tables.proofs.HeldLemmas.{held_headings}
-use Rattle.ob_tables.specs.Agreeing.{Agrees, AreDraws, count_of, engine_keys, engine_start, first_draws, has_ended, high_of, indexes_of, opened_from, public_of, rows_of, world_of}
+use Rattle.ob_tables.specs.Agreeing.{Agrees, AreDraws, count_of, engine_keys, engine_start, first_draws, has_ended, high_of, indexes_of, opened_from, public_of, replaced_of, rows_of, world_of}
 use Rattle.ob_tables.specs.Closing.{ClosesEngine, closing_script, next_closing}
 use Rattle.ob_reopen.specs.Closed.{is_used_up}
 use Rattle.ob_tables.specs.Reopening.{IsOpened, OpensEngine}
@@ -44,6 +44,7 @@ use Rattle.ob_shell.proofs.SessionLemmas.{none_asked, stands_first}
 use Rattle.ob_shell.proofs.TraceLemmas.{since}
 use Rattle.ob_shell.specs.Engaging.{ClosesRun, Engages, IsHushed}
 use Rattle.ob_shell.specs.Standing.{StandsOn}
+use Rattle.ob_shell.specs.Steps.{IsReady, machine_of, told_nothing}
 use Rattle.ob_shell.specs.Tallies.{has_refused}
 use Rattle.ob_shell.specs.Top.{IsFresh}
 use Rattle.ob_shell.specs.declared.keeping.KeptEnded.{KeptEnded}
@@ -66,12 +67,26 @@ cut_caused r f0 f1 cause cut = record { grown = cut.grown; appends = cut.appends
     rose (Ok x) cause failed = absurd (cc failed)
     rose (Err e) cause failed = cause.failed
 
+-- ---- an engine whose tables aren't saved
+pub ready_unsaved : {R : Type 0} (state : R → RevState) (Saves : Type 0) (e : Engine R) (s : StoreState) (k : KeeperState) → Agrees state e s → has_ended e ≡ false → replaced_of e ≡ None → (public_of e).save ≡ false
+    → IsReady state Saves (machine_of e s k)
+ready_unsaved state Saves e s k agrees lives settled unsaved = record {
+  agrees = agrees;
+  lives = lives;
+  settled = settled;
+  saves = record {
+    saves = λ saves. absurd (cc (saves, unsaved));
+    salted = λ saves q from. absurd (cc (saves, unsaved));
+    listed = λ saves. absurd (cc (saves, unsaved));
+  };
+}
+
 -- ---- an engine that was just started
-pub engages_first : {R : Type 0} (state : R → RevState) (config : Config) (key : List ℕ) (e : Engine R) (s : StoreState) → Agrees state e s → public_of e ≡ first_public config → engine_keys e ≡ keys_of key → AreDraws e (first_draws (keys_of key))
-    → engine_start e ≡ from_nothing → opened_from e ≡ None → has_ended e ≡ false → high_of e ≡ 0 → rows_of e ≡ config.buffer → IsFresh s → IsSteady s → config.save ≡ false → Engages state (fresh (Some config)) config key e s
-engages_first state config key e s agrees public keyed drawn started anew alive low rows blank steady unsaved = record {
-  stands = stands_first state config key e s agrees public keyed drawn started rows blank steady;
-  ready = record { agrees = agrees; lives = alive; unsaved = ap (λ (p : Public). p.save) public ∙ unsaved };
+pub engages_first : {R : Type 0} (state : R → RevState) (config : Config) (keys : KeySet) (e : Engine R) (s : StoreState) → Agrees state e s → public_of e ≡ first_public config → engine_keys e ≡ keys → AreDraws e (first_draws keys)
+    → engine_start e ≡ from_nothing → opened_from e ≡ None → replaced_of e ≡ None → has_ended e ≡ false → high_of e ≡ 0 → rows_of e ≡ config.buffer → IsFresh s → IsSteady s → config.save ≡ false → Engages state (fresh (Some config)) config keys e s
+engages_first state config keys e s agrees public keyed drawn started anew settled alive low rows blank steady unsaved = record {
+  stands = stands_first state config keys e s agrees public keyed drawn started rows blank steady;
+  ready = ready_unsaved state ⊥ e s told_nothing agrees alive settled (ap (λ (p : Public). p.save) public ∙ unsaved);
   few = omega (arith, none_asked e s started blank.unasked);
   from = anew;
   high = omega (arith, low);
@@ -96,7 +111,7 @@ unfolding earlier
 earlier_opened closing listed marked = omega (arith, marked.number_most, marked.blocks_most, marked.region_most)
 
 module _ {R : Type 0} (state : R → RevState) (config : Config) (key : List ℕ) (keys : KeySet) (same : keys ≡ keys_of key) (closing : Closing) (marked : IsMarked closing) (pack : closing.pack ≡ config.pack)
-    (e : Engine R) (s t : StoreState) (none : s.asked ≡ []) (opens : OpensEngine state config keys closing (Ok e) s t) (unsaved : config.save ≡ false) where
+    (e : Engine R) (s t : StoreState) (none : s.asked ≡ []) (opens : OpensEngine state config keys closing (Ok e) s t) (settled : replaced_of e ≡ None) (unsaved : config.save ≡ false) where
   abbrev is : IsOpened state config keys closing e s t
   is = opens.ok
 
@@ -112,7 +127,7 @@ module _ {R : Type 0} (state : R → RevState) (config : Config) (key : List ℕ
   keyed : engine_keys e ≡ keys_of key
   keyed = is.keyed ∙ same
 
-  stands : StandsOn state (reopened config opened) config key e t
+  stands : StandsOn state (reopened config opened) config (keys_of key) e t
   stands = record {
     settings = refl;
     public = is.public;
@@ -121,6 +136,7 @@ module _ {R : Type 0} (state : R → RevState) (config : Config) (key : List ℕ
     pack = refl;
     buffer = refl;
     keep = refl;
+    save = refl;
     rows = is.rows;
     count = count_is;
     start = is.start;
@@ -132,19 +148,19 @@ module _ {R : Type 0} (state : R → RevState) (config : Config) (key : List ℕ
     held = λ tables rested. opens.told rested.tells rested.honest tables (subst (λ (k : KeySet). Rests k closing s.kept tables) (sym same) rested.rests);
     earlier = is.earlier;
     sealed = λ tells tables rested good passes scope few.
-        opens.sealed rested.tells rested.honest tables (subst (λ (k : KeySet). Rests k closing s.kept tables) (sym same) rested.rests) (λ r. good) passes.0.0 passes.1 scope
+        opens.sealed rested.tells rested.honest tables (subst (λ (k : KeySet). Rests k closing s.kept tables) (sym same) rested.rests) (λ r. good) passes.0.0.0 passes.0.1 scope
         (omega (arith, few, is.did.faults));
-    passes = λ good passes. passes.0;
+    passes = λ good passes. passes.0.0;
     early = λ n before. absurd before;
   }
 
   few_listed : length is.listed + 1 ≡ closing.blocks
   few_listed = is.catalogue.count
 
-  pub engages_opened : Engages state (reopened config opened) config key e t
+  pub engages_opened : Engages state (reopened config opened) config (keys_of key) e t
   engages_opened = record {
     stands = stands;
-    ready = record { agrees = is.agrees; lives = is.alive; unsaved = ap (λ (p : Public). p.save) is.public ∙ unsaved };
+    ready = ready_unsaved state ⊥ e t told_nothing is.agrees is.alive settled (ap (λ (p : Public). p.save) is.public ∙ unsaved);
     few =
         let most = earlier_opened closing is.listed marked in
         let long = length-opening closing is.listed in

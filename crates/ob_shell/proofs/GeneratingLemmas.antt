@@ -13,7 +13,7 @@ use Rattle.ob_gen.specs.declared.tally.Tally.{Tally}
 use Rattle.ob_headline.specs.Bases.{Base, fresh}
 use Rattle.ob_headline.specs.Endings.{last_line, status_of}
 use Rattle.ob_headline.specs.Settings.{generated_by}
-use Rattle.ob_headline.specs.Words.{Faults, SinksRose, faults_of, outside_of}
+use Rattle.ob_headline.specs.Words.{Faults, SinksRose, faults_of, keys_in, outside_of}
 use Rattle.ob_headline.specs.declared.ending.Ending.{Ending}
 use Rattle.ob_headline.specs.declared.ending.Ending.TheVariants.{Usage, BadKey, Ran}
 use Rattle.ob_headline.specs.declared.ending.Report.{Report}
@@ -32,6 +32,7 @@ use Rattle.ob_shell.specs.Traces.{Traced}
 use Rattle.ob_shell.specs.declared.words.WordsErr.{WordsErr}
 use Rattle.ob_shell.specs.declared.words.WordsErr.TheVariants as Words
 use Rattle.ob_store.specs.State.{StoreState}
+use Rattle.ob_seal.specs.KeySet.{KeySet}
 
 -- ---- what was written
 -- bytes that were cut by a fault of the one sink
@@ -97,9 +98,9 @@ pub with_source : {ending : Ending} {tally : Tally} {asked : List Access} {rows 
 with_source source c = record { grew = c.grew; silent = c.silent; status = c.status; later = c.later; high = c.high }
 
 -- ---- the run, whose answers are kept nowhere
-unfoldable unkept : {Lost : Type 0} {tally : Tally} {tr : TraceSink} {Takes : Type 0} {base : Base} {gave : ℕ} {l0 l1 : Option (List ℕ)} {s0 s1 : StoreState} (ending : Ending) (high : ℕ) (old new : Faults)
-    → EndingWords ending Takes → RunShown tally tr base l0 l1 gave None None s0 s1 high ending [] Lost → EndingCause ending old new
-    → Reported tally tr Takes base l0 l1 gave None None s0 s1 old new (record { status = status_of ending; high = high })
+unfoldable unkept : {Lost : Type 0} {tally : Tally} {tr : TraceSink} {Takes : Type 0} {base : Base} {keys : List ℕ → KeySet} {gave : ℕ} {l0 l1 : Option (List ℕ)} {s0 s1 : StoreState} (ending : Ending) (high : ℕ) (old new : Faults)
+    → EndingWords ending Takes → RunShown tally tr base keys l0 l1 gave None None s0 s1 high ending [] Lost → EndingCause ending old new
+    → Reported tally tr Takes base keys l0 l1 gave None None s0 s1 old new (record { status = status_of ending; high = high })
 unkept ending high old new takes shown cause =
     let causes : StatusCause ending old new = status_cause ending old new new cause (omega arith) refl refl (λ e. refl) in
     record {
@@ -116,7 +117,7 @@ unkept ending high old new takes shown cause =
 pub ran_generated : {Lost : Type 0} {tally : Tally} {tracing : Bool} {settings : Option Config} {t0 t1 : Option (List ℕ)} {s0 s1 : StoreState} {gave : ℕ} {w0 w1 : Option (List ℕ)}
     (seed : Seed) (left : List ℕ) (ending : Ending) (high trace0 trace1 out0 out1 : ℕ) (report : Report)
     → EndingWords ending ⊤
-    → RunShown tally (sink_of tracing t0 t1) (fresh settings) (Some (generated seed.start seed.rows)) (Some left) gave None None s0 s1 high ending [] Lost
+    → RunShown tally (sink_of tracing t0 t1) (fresh settings) keys_in (Some (generated seed.start seed.rows)) (Some left) gave None None s0 s1 high ending [] Lost
     → EndingCause ending (faults_of 0 0 trace0) (faults_of 0 0 trace1)
     → Traced tracing s0.asked s1.asked t0 t1 (SinksRose (faults_of 0 0 trace0) (faults_of 0 0 trace1))
     → Concludes ending tally s1.asked high w0 w1 (faults_of 0 out0 trace0) (faults_of 0 out1 trace1) report
@@ -163,7 +164,7 @@ unfolding headlined unkept
 unread_summarized {Takes = Takes} {settings = settings} {tracing = tracing} {s = s} {t = t} {w0 = w0} {w1 = w1} {out0 = out0} {out1 = out1} {report = report} source trace seed error blank not status high line =
     let ending = refused_by error in
     let faults : Faults = faults_of 0 0 trace in
-    let shown = words_shown {F = ⊥} empty_tally (sink_of tracing t t) settings error (Some (generated seed.start seed.rows)) 0 None s blank refl in
+    let shown = words_shown {F = ⊥} {keys = keys_in} empty_tally (sink_of tracing t t) settings error (Some (generated seed.start seed.rows)) 0 None s blank refl in
     let r = unkept ending 0 faults faults (words_end error not) shown (words_cause error faults) in
     let closed : ClosedBy ending false w0 w1 out0 out1 report.status = record { told = status; silent = λ loud. absurd (cc loud); line = λ loud. line } in
     record {

@@ -1,5 +1,5 @@
 -- The headline, by what the run was reported to have done.
-use Rattle.std.proofs.Common.{◌≡◌, ℕ, Bool, List, ◌++◌, Ok, Err, refl, sym, ◌∙◌, ap, subst}
+use Rattle.std.proofs.Common.{◌≡◌, ℕ, Bool, true, List, ◌++◌, Ok, Err, refl, sym, ◌∙◌, ap, subst}
 use Rattle.std.proofs.lemmas.List.{append_cancel_left}
 use Rattle.ob_base.specs.Counts.{Rises}
 use Rattle.ob_base.specs.declared.access.Access.{Access}
@@ -9,35 +9,36 @@ use Rattle.ob_headline.specs.Bases.{Base, FromEach}
 use Rattle.ob_headline.specs.Headline.{Headline}
 use Rattle.ob_headline.specs.Tracing.{traced}
 use Rattle.ob_headline.specs.Words.{Answer, IsHonest, Outside, SinksRose}
-use Rattle.ob_headline.specs.Status.{Because, EndsAtRead}
+use Rattle.ob_headline.specs.Status.{Because, EndsAtRead, StoreFails}
 use Rattle.ob_headline.specs.declared.ending.Ending.{Ending}
 use Rattle.ob_headline.specs.declared.ending.Ending.TheVariants.{Usage, BadKey, Ran}
 use Rattle.ob_headline.specs.declared.ending.Report.{Report}
 use Rattle.ob_print.specs.Cuts.{Outputs}
 use Rattle.ob_shell.specs.Top.{EndingFlag, EndingSays, EndingWords, EndsUntampered, Reported, StatusCause, sink_of}
 use Rattle.ob_shell.specs.Traces.{Traced}
+use Rattle.ob_seal.specs.KeySet.{KeySet}
 
 -- why it ends so
 pub because : (base : Base) (ending : Ending) (Takes : Type 0) (max : ℕ) (taken : List ℕ) (ended : Bool) (more : List (List ℕ)) (answers : List Answer) (part : List ℕ) (old new : Outside)
     → EndingWords ending Takes → EndingFlag ending answers → EndingSays ending max taken new.left ended more part → StatusCause ending old.faults new.faults
-    → FromEach base (λ s. IsHonest old.store new.store → EndsUntampered ending) → ((region place : ℕ) → ending ≡ Ran (Err (Tampered region place)) → EndsAtRead region place new.store.asked) → (ending ≡ Ran (Err StoreFault) → Rises old.store.faults new.store.faults)
+    → FromEach base (λ s. IsHonest old.store new.store → EndsUntampered ending) → ((region place : ℕ) → ending ≡ Ran (Err (Tampered region place)) → EndsAtRead region place new.store.asked) → (ending ≡ Ran (Err StoreFault) → StoreFails base old.store new.store) → (ending ≡ Ran (Err KeeperFault) → base.public.save ≡ true)
     → Because base ending Takes max taken ended more answers part old new
-because base Usage Takes max taken ended more answers part old new takes flag says cause honest read faulted = (takes, says, cause)
-because base BadKey Takes max taken ended more answers part old new takes flag says cause honest read faulted = (takes, says.0, says.1, cause)
-because base (Ran (Ok refused)) Takes max taken ended more answers part old new takes flag says cause honest read faulted = (takes, flag, says, cause)
-because base (Ran (Err (Tampered region place))) Takes max taken ended more answers part old new takes flag says cause honest read faulted = (takes, says, honest, read region place refl, cause)
-because base (Ran (Err SourceFault)) Takes max taken ended more answers part old new takes flag says cause honest read faulted = (takes, says, cause)
-because base (Ran (Err SinkFault)) Takes max taken ended more answers part old new takes flag says cause honest read faulted = (takes, says, cause.1, cause.0)
-because base (Ran (Err NoMemory)) Takes max taken ended more answers part old new takes flag says cause honest read faulted = cause
-because base (Ran (Err InputLimit)) Takes max taken ended more answers part old new takes flag says cause honest read faulted = (takes, says, cause)
-because base (Ran (Err StoreFault)) Takes max taken ended more answers part old new takes flag says cause honest read faulted = (takes, says, faulted refl, cause)
-because base (Ran (Err StashFull)) Takes max taken ended more answers part old new takes flag says cause honest read faulted = (takes, says, cause)
-because base (Ran (Err KeeperFault)) Takes max taken ended more answers part old new takes flag says cause honest read faulted = absurd cause
+because base Usage Takes max taken ended more answers part old new takes flag says cause honest read faulted saving = (takes, says, cause)
+because base BadKey Takes max taken ended more answers part old new takes flag says cause honest read faulted saving = (takes, says.0, says.1, cause)
+because base (Ran (Ok refused)) Takes max taken ended more answers part old new takes flag says cause honest read faulted saving = (takes, flag, says, cause)
+because base (Ran (Err (Tampered region place))) Takes max taken ended more answers part old new takes flag says cause honest read faulted saving = (takes, says, honest, read region place refl, cause)
+because base (Ran (Err SourceFault)) Takes max taken ended more answers part old new takes flag says cause honest read faulted saving = (takes, says, cause)
+because base (Ran (Err SinkFault)) Takes max taken ended more answers part old new takes flag says cause honest read faulted saving = (takes, says, cause.1, cause.0)
+because base (Ran (Err NoMemory)) Takes max taken ended more answers part old new takes flag says cause honest read faulted saving = cause
+because base (Ran (Err InputLimit)) Takes max taken ended more answers part old new takes flag says cause honest read faulted saving = (takes, says, cause)
+because base (Ran (Err StoreFault)) Takes max taken ended more answers part old new takes flag says cause honest read faulted saving = (takes, says, faulted refl, cause)
+because base (Ran (Err StashFull)) Takes max taken ended more answers part old new takes flag says cause honest read faulted saving = (takes, says, cause)
+because base (Ran (Err KeeperFault)) Takes max taken ended more answers part old new takes flag says cause honest read faulted saving = (takes, says, saving refl, cause)
 
-unfoldable pub headlined : {tally : Tally} (Takes : Type 0) (base : Base) (tracing : Bool) (old new : Outside) (report : Report) → old.store.asked ≡ base.before
-    → Reported tally (sink_of tracing old.traced new.traced) Takes base old.left new.left new.gave old.written new.written old.store new.store old.faults new.faults report
+unfoldable pub headlined : {tally : Tally} {keys : List ℕ → KeySet} (Takes : Type 0) (base : Base) (tracing : Bool) (old new : Outside) (report : Report) → old.store.asked ≡ base.before
+    → Reported tally (sink_of tracing old.traced new.traced) Takes base keys old.left new.left new.gave old.written new.written old.store new.store old.faults new.faults report
     → Traced tracing old.store.asked new.store.asked old.traced new.traced (SinksRose old.faults new.faults)
-    → Headline base Takes tracing old new report
+    → Headline base keys Takes tracing old new report
 headlined Takes base tracing old new report first r traces =
     let shown = r.shown in
     let run = shown.carried in
@@ -65,7 +66,7 @@ headlined Takes base tracing old new report first r traces =
       rows = run.rows;
       status = record {
         status = r.status;
-        because = because base r.ending Takes _ shown.taken shown.ended shown.story.more shown.story.answers shown.story.part old new r.takes shown.flag shown.says r.cause run.untampered run.at_read run.faulted;
+        because = because base r.ending Takes _ shown.taken shown.ended shown.story.more shown.story.answers shown.story.part old new r.takes shown.flag shown.says r.cause run.untampered run.at_read run.faulted run.saving;
         completes = r.completes;
       };
     }

@@ -4,14 +4,15 @@ use Rattle.ob_base.specs.Counts.{Rises}
 use Rattle.ob_base.specs.declared.config.Config.{Config}
 use Rattle.ob_base.specs.declared.refusal.Stop.{Stop}
 use Rattle.ob_base.specs.declared.refusal.Stop.TheVariants.{SourceFault}
-use Rattle.ob_tables.specs.Agreeing.{high_of, rows_of}
+use Rattle.ob_base.specs.declared.config.Public.{Public}
+use Rattle.ob_tables.specs.Agreeing.{high_of, public_of, rows_of}
 use Rattle.ob_tables.specs.declared.engine.Engine.{Engine}
 use Rattle.ob_gen.specs.Tally.{empty_tally}
 use Rattle.ob_gen.specs.declared.tally.Tally.{Tally}
 use Rattle.ob_headline.specs.Bases.{Base}
 use Rattle.ob_headline.specs.KeyLine.{after_line, first_line, secret_of}
 use Rattle.ob_headline.specs.Settings.{limit_of}
-use Rattle.ob_headline.specs.Words.{Faults, faults_of, outside_of}
+use Rattle.ob_headline.specs.Words.{Faults, faults_of, keys_in, keys_with, outside_of}
 use Rattle.ob_headline.specs.declared.ending.Ending.TheVariants.{BadKey, Ran}
 use Rattle.ob_headline.specs.declared.ending.KeptEnding.TheVariants.{Plain}
 use Rattle.ob_reopen.specs.Keepers.{KeeperState}
@@ -35,16 +36,24 @@ use Rattle.ob_store.specs.State.{StoreState}
 use Rattle.ob_vault.specs.State.{RevState}
 
 -- ---- texts were served
-module _ {R : Type 0} (state : R → RevState) (base : Base) (config : Config) (key : List ℕ) (first last : Engine R) (s0 s1 : StoreState) (engages : Engages state base config key first s0)
+never_saves : (b : Bool) → (b ≡ true → ⊥) → b ≡ false
+never_saves true not = absurd (not refl)
+never_saves false not = refl
+
+module _ {R : Type 0} (state : R → RevState) (base : Base) (config : Config) (key : List ℕ) (first last : Engine R) (p0 p1 : KeeperState) (s0 s1 : StoreState) (engages : Engages state base config (keys_of key) first s0)
     (high : ℕ) (most : high ≤ rows_of last) (is_high : high ≡ high_of last) (tracing : Bool) (t0 t1 : Option (List ℕ)) (f0 f1 : Fetch) (l0 l1 : Option (List ℕ)) (gave : ℕ) (w0 w1 : Option (List ℕ)) where
+  -- no tables are saved
+  unsaved : base.public.save ≡ false
+  unsaved = ap (λ (p : Public). p.save) (sym engages.stands.public) ∙ never_saves (public_of first).save engages.ready.saves.saves
+
   pub serves_stop : (stop : Stop) (ended : KeptEnded) (k : KeeperState) (old new : Faults) → ended.high ≡ high
-      → SessionRan state tracing f0 f1 l0 l1 gave w0 w1 t0 t1 (machine_of first s0) (machine_of last s1) (OutFailed ended.quiet old.out new.out) (Err stop)
+      → SessionRan state tracing f0 f1 l0 l1 gave w0 w1 t0 t1 (machine_of first s0 p0) (machine_of last s1 p1) (OutFailed ended.quiet old.out new.out) (Err stop)
       → Traced tracing s0.asked s1.asked t0 t1 (ended.quiet ≡ true) → StopCause {T = Tally} old new (Err stop) → Silenced ended.quiet old new → ended.ending ≡ Plain (Ran (Err stop))
       → StopsRun state base key tracing ended f0 f1 l0 l1 gave w0 w1 t0 t1 s0 s1 old new k k
   serves_stop stop ended k old new rows ran traced cause silent ending = record {
     stop = stop;
-    ran = subst (λ (n : ℕ). RanAfter state (sink_of tracing t0 t1) base (Some key) f0 f1 l0 l1 gave w0 w1 s0 s1 n (OutFailed ended.quiet old.out new.out) (Err stop)) (sym rows)
-        (ran_after base config key first last high (Err stop) s0 s1 engages.stands most is_high (sink_of tracing t0 t1) f0 f1 l0 l1 gave w0 w1 ran);
+    ran = subst (λ (n : ℕ). RanAfter state (sink_of tracing t0 t1) base (keys_of key) (Some key) f0 f1 l0 l1 gave w0 w1 s0 s1 n (OutFailed ended.quiet old.out new.out) (Err stop)) (sym rows)
+        (ran_after base config (keys_of key) key first last high (Err stop) p0 p1 s0 s1 engages.stands most is_high (sink_of tracing t0 t1) f0 f1 l0 l1 gave w0 w1 ran);
     traced_all = traced;
     cause = same_cause Tally Bool stop old new cause;
     silent = silent;
@@ -53,7 +62,7 @@ module _ {R : Type 0} (state : R → RevState) (base : Base) (config : Config) (
   }
 
   unfoldable pub serves_all : (tally : Tally) (ended : KeptEnded) (s2 : StoreState) (t2 : Option (List ℕ)) (k0 k1 : KeeperState) (old new : Faults)
-      → SessionRan state tracing f0 f1 l0 l1 gave w0 w1 t0 t1 (machine_of first s0) (machine_of last s1) (OutFailed false old.out new.out) (Ok tally) → Traced tracing s0.asked s1.asked t0 t1 ⊥
+      → SessionRan state tracing f0 f1 l0 l1 gave w0 w1 t0 t1 (machine_of first s0 p0) (machine_of last s1 p1) (OutFailed false old.out new.out) (Ok tally) → Traced tracing s0.asked s1.asked t0 t1 ⊥
       → new.source ≡ old.source → new.out ≡ old.out → ClosesRun state tally tracing last ended s1 s2 t1 t2 old.trace new.trace k0 k1
       → ServesAll state base key tracing ended f0 f1 l0 l1 gave w0 w1 t0 t2 s0 s2 old new k0 k1
   unfolding ran_after
@@ -62,13 +71,13 @@ module _ {R : Type 0} (state : R → RevState) (base : Base) (config : Config) (
     high = high;
     served = s1;
     traced1 = t1;
-    ran = ran_after base config key first last high (Ok tally) s0 s1 engages.stands most is_high (sink_of tracing t0 t1) f0 f1 l0 l1 gave w0 w1 ran;
+    ran = ran_after base config (keys_of key) key first last high (Ok tally) p0 p1 s0 s1 engages.stands most is_high (sink_of tracing t0 t1) f0 f1 l0 l1 gave w0 w1 ran;
     traced_all = traced;
     source = source;
     out = out;
     closed = record {
-      tables = closed_behind base config key first last high (Ok tally) s0 s1 engages.stands most is_high (sink_of tracing t0 t1) f0 f1 l0 l1 gave w0 w1 ran
-          tally refl engages.from s2 closes.result closes.engine tracing ended.ending t1 t2 old.trace new.trace k0 k1 closes.traced_all closes.later closes.ends;
+      tables = closed_behind base config (keys_of key) key first last high (Ok tally) p0 p1 s0 s1 engages.stands most is_high (sink_of tracing t0 t1) f0 f1 l0 l1 gave w0 w1 ran
+          tally refl unsaved engages.from s2 closes.result closes.engine tracing ended.ending t1 t2 old.trace new.trace k0 k1 closes.traced_all closes.later closes.ends;
       later = closes.later;
       quiet = closes.quiet;
       rows = closes.high ∙ sym is_high;
@@ -178,8 +187,8 @@ module _ (config : Config) (tracing : Bool) (f0 f1 : Fetch) (none : f0.unread �
       ran_stopped stops after keyed = record {
         begun = ran_begun;
         stop = stops.stop;
-        shown = shown_by starts.base key (Err stops.stop) start top_here below by read stops.ran after keyed
-            (subst (λ (x : Option (List ℕ)). Carried (sink_of tracing t1 t2) starts.base x s1 s2 ended.high stops.ran.story (Ran (Err stops.stop))) (sym keyed) stops.ran.carried) tt;
+        shown = shown_by {keys = keys_in} starts.base key (Err stops.stop) start top_here below by read stops.ran after keyed
+            (subst (λ (x : Option (List ℕ)). Carried (sink_of tracing t1 t2) starts.base (keys_with x) x s1 s2 ended.high stops.ran.story (Ran (Err stops.stop))) (sym keyed) stops.ran.carried) tt;
         keyed = keyed;
         traced_all = stops.traced_all;
         cause = subst (λ (f : Faults). StopCause {T = Bool} f new (Err stops.stop)) same_faults stops.cause;
@@ -195,14 +204,14 @@ module _ (config : Config) (tracing : Bool) (f0 f1 : Fetch) (none : f0.unread �
       ran_whole serves after keyed =
           let ran = serves.ran in
           let flag = Ok (has_refused serves.tally) in
-          let carried = subst (λ (x : Option (List ℕ)). Carried (sink_of tracing t1 serves.traced1) starts.base x s1 serves.served serves.high ran.story (Ran flag)) (sym keyed) ran.carried in
+          let carried = subst (λ (x : Option (List ℕ)). Carried (sink_of tracing t1 serves.traced1) starts.base (keys_with x) x s1 serves.served serves.high ran.story (Ran flag)) (sym keyed) ran.carried in
           record {
             begun = ran_begun;
             tally = serves.tally;
             high = serves.high;
             served = serves.served;
             traced = serves.traced1;
-            shown = shown_by starts.base key (Ok serves.tally) start top_here below by read ran after keyed carried refl;
+            shown = shown_by {keys = keys_in} starts.base key (Ok serves.tally) start top_here below by read ran after keyed carried refl;
             keyed = keyed;
             traced_all = serves.traced_all;
             source = serves.source;

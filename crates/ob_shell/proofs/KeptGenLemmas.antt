@@ -13,7 +13,7 @@ use Rattle.ob_headline.specs.Bases.{fresh}
 use Rattle.ob_headline.specs.Endings.{last_line, status_of}
 use Rattle.ob_headline.specs.Keeping.{kept_line, kept_status}
 use Rattle.ob_headline.specs.KeptHeadline.{EndsUnkeyed, KeptHeadline}
-use Rattle.ob_headline.specs.Words.{Faults, Outside, SinksRose, faults_of, outside_of}
+use Rattle.ob_headline.specs.Words.{Faults, Outside, SinksRose, faults_of, keys_in, outside_of}
 use Rattle.ob_headline.specs.declared.ending.Ending.TheVariants.{Usage, BadKey, Ran}
 use Rattle.ob_headline.specs.declared.ending.KeptEnding.{KeptEnding}
 use Rattle.ob_headline.specs.declared.ending.KeptEnding.TheVariants.{Plain, OtherPack, Saved, NoMark, NotClosed as LeftOpen, KeeperFault, StoreFault}
@@ -152,9 +152,9 @@ kept_unread {Takes = Takes} {settings = settings} {tracing = tracing} {s = s} {t
     let tr = sink_of tracing t t in
     let old : Faults = faults_of source out0 trace in
     let new : Faults = faults_of source out1 trace in
-    let shown = subst (λ (n : ℕ). (x : RunShown empty_tally tr (fresh settings) l l gave w0 w0 s s n ending [] ⊥) × (x.taken ≡ [])) (sym high)
-    (words_shown empty_tally tr settings error l gave w0 s blank refl, words_none ⊥ empty_tally tr settings error l gave w0 s blank refl) in
-    let r : Reported empty_tally tr Takes (fresh settings) l l gave w0 w1 s s old new report =
+    let shown = subst (λ (n : ℕ). (x : RunShown empty_tally tr (fresh settings) keys_in l l gave w0 w0 s s n ending [] ⊥) × (x.taken ≡ [])) (sym high)
+    (words_shown empty_tally tr settings error l gave w0 s blank refl, words_none ⊥ keys_in empty_tally tr settings error l gave w0 s blank refl) in
+    let r : Reported empty_tally tr Takes (fresh settings) keys_in l l gave w0 w1 s s old new report =
     reported_line ending old old new status (words_end error not) shown.0 (λ never. never) (words_cause error old) line.cut (λ rises. rises) line.empty line.later refl refl refl in
     record {
       ending = Plain ending;

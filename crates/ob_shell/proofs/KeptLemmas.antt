@@ -13,7 +13,7 @@ use Rattle.ob_headline.specs.Headline.{Headline}
 use Rattle.ob_headline.specs.Keeping.{kept_line, kept_status, EndsWith, handed_end}
 use Rattle.ob_headline.specs.KeptHeadline.{EndsBehind, EndsUnkeyed, KeptHeadline, begun_at}
 use Rattle.ob_headline.specs.KeyLine.{first_line, secret_of}
-use Rattle.ob_headline.specs.Words.{Faults, Outside, SinksRose, outside_of, Answer}
+use Rattle.ob_headline.specs.Words.{Faults, Outside, SinksRose, keys_in, outside_of, Answer}
 use Rattle.ob_headline.specs.declared.ending.Ending.{Ending}
 use Rattle.ob_headline.specs.declared.ending.Ending.TheVariants.{Ran, Usage, BadKey}
 use Rattle.ob_headline.specs.declared.ending.KeptEnding.{KeptEnding}
@@ -92,13 +92,13 @@ module _ {Takes : Type 0} (settings : Option Config) (config : Config) (takes : 
       let tr = sink_of tracing old.traced mid.traced in
       let ending = ran.ending in
       let at_high = subst
-      (λ (n : ℕ). (x : RunShown ended.tally tr (fresh (Some config)) old.left mid.left mid.gave old.written mid.written old.store mid.store n ending [] ⊥) × EndsUnkeyed ending x.taken)
+      (λ (n : ℕ). (x : RunShown ended.tally tr (fresh (Some config)) keys_in old.left mid.left mid.gave old.written mid.written old.store mid.store n ending [] ⊥) × EndsUnkeyed ending x.taken)
       (sym high) (ran.shown, ran.ends) in
       let shown = subst
-      (λ (o : Option Config). (x : RunShown ended.tally tr (fresh o) old.left mid.left mid.gave old.written mid.written old.store mid.store report.high ending [] ⊥) × EndsUnkeyed ending x.taken)
+      (λ (o : Option Config). (x : RunShown ended.tally tr (fresh o) keys_in old.left mid.left mid.gave old.written mid.written old.store mid.store report.high ending [] ⊥) × EndsUnkeyed ending x.taken)
       (sym set) at_high in
       let l = subst (λ (e : KeptEnding). LineWritten (kept_line e) mid.written w2 mid.faults.out out2) ran.is (line ran.loud) in
-      let r : Reported ended.tally tr Takes (fresh settings) old.left mid.left mid.gave old.written w2 old.store mid.store old.faults new.faults report =
+      let r : Reported ended.tally tr Takes (fresh settings) keys_in old.left mid.left mid.gave old.written w2 old.store mid.store old.faults new.faults report =
       reported_line ending old.faults mid.faults new.faults (status ∙ ap kept_status ran.is) (words_taken ending (takes_of ending ran.read tt) takes) shown.0 (λ never. never) ran.cause l.cut (λ rises. rises) l.empty l.later refl refl
       ran.silent.1 in
       let traces : Traced tracing old.store.asked mid.store.asked old.traced mid.traced (SinksRose old.faults new.faults) =
@@ -146,7 +146,7 @@ module _ {Takes : Type 0} (settings : Option Config) (config : Config) (takes : 
 
   -- ---- a stop ended the session
   record StopTold (ran : RanStopped config tracing ended old mid k0 k1) (w : Option (List ℕ)) (out : ℕ) : Type 0 where
-    r : Reported ended.tally (sink_of tracing ran.begun.traced mid.traced) Takes ran.begun.base old.left mid.left mid.gave old.written w ran.begun.opened mid.store old.faults (record mid.faults { out = out }) report
+    r : Reported ended.tally (sink_of tracing ran.begun.traced mid.traced) Takes ran.begun.base keys_in old.left mid.left mid.gave old.written w ran.begun.opened mid.store old.faults (record mid.faults { out = out }) report
     ending : r.ending ≡ Ran (Err ran.stop)
     keyed : secret_of (first_line r.shown.taken) ≡ Some ran.begun.secret
     rose : ended.quiet ≡ true → SinksRose old.faults (record mid.faults { out = out })
@@ -158,10 +158,10 @@ module _ {Takes : Type 0} (settings : Option Config) (config : Config) (takes : 
       ending : Ending
       ending = Ran (Err ran.stop)
 
-      at_high : (x : RunShown ended.tally (sink_of tracing ran.begun.traced mid.traced) ran.begun.base old.left mid.left mid.gave old.written mid.written ran.begun.opened mid.store report.high (Ran (Err ran.stop)) [] (OutFailed ended.quiet old.faults.out mid.faults.out))
+      at_high : (x : RunShown ended.tally (sink_of tracing ran.begun.traced mid.traced) ran.begun.base keys_in old.left mid.left mid.gave old.written mid.written ran.begun.opened mid.store report.high (Ran (Err ran.stop)) [] (OutFailed ended.quiet old.faults.out mid.faults.out))
           × (secret_of (first_line x.taken) ≡ Some ran.begun.secret)
       at_high = subst
-          (λ (n : ℕ). (x : RunShown ended.tally (sink_of tracing ran.begun.traced mid.traced) ran.begun.base old.left mid.left mid.gave old.written mid.written ran.begun.opened mid.store n (Ran (Err ran.stop)) [] (OutFailed ended.quiet old.faults.out mid.faults.out))
+          (λ (n : ℕ). (x : RunShown ended.tally (sink_of tracing ran.begun.traced mid.traced) ran.begun.base keys_in old.left mid.left mid.gave old.written mid.written ran.begun.opened mid.store n (Ran (Err ran.stop)) [] (OutFailed ended.quiet old.faults.out mid.faults.out))
           × (secret_of (first_line x.taken) ≡ Some ran.begun.secret)) (sym high) (ran.shown, ran.keyed)
 
       words : EndingWords (Ran (Err ran.stop)) Takes
@@ -196,7 +196,7 @@ module _ {Takes : Type 0} (settings : Option Config) (config : Config) (takes : 
       let told = stop_told ran in
       let begun = begun_at old ran.begun.opened ran.begun.traced in
       let traces : Traced tracing ran.begun.opened.asked mid.store.asked ran.begun.traced mid.traced (SinksRose old.faults new.faults) = traced_by_fault told.rose ran.traced_all in
-      let session : Headline ran.begun.base Takes tracing begun new report = headlined Takes ran.begun.base tracing begun new report ran.begun.first told.r traces in
+      let session : Headline ran.begun.base keys_in Takes tracing begun new report = headlined Takes ran.begun.base tracing begun new report ran.begun.first told.r traces in
       record {
         ending = ended.ending;
         status = status;
@@ -230,7 +230,7 @@ module _ {Takes : Type 0} (settings : Option Config) (config : Config) (takes : 
       let ending : Ending = Ran (Ok (has_refused ran.tally)) in
       let run : Report = record { status = status_of ending; high = ran.high } in
       let served : Outside = outside_of mid.left mid.gave mid.written ran.traced ran.served old.faults in
-      let r : Reported ran.tally (sink_of tracing ran.begun.traced ran.traced) Takes ran.begun.base old.left mid.left mid.gave old.written mid.written ran.begun.opened ran.served old.faults old.faults run =
+      let r : Reported ran.tally (sink_of tracing ran.begun.traced ran.traced) Takes ran.begun.base keys_in old.left mid.left mid.gave old.written mid.written ran.begun.opened ran.served old.faults old.faults run =
       reported_line (Ran (Ok (has_refused ran.tally))) old.faults old.faults old.faults {E = ⊥} refl takes ran.shown (λ lost. absurd (cc lost.0)) (record { source = refl; out = refl; trace = refl }) (Outputs-whole mid.written mid.written ⊥ [] (Appends-nil mid.written))
       (λ never. absurd never) (λ empty. refl) (omega arith) refl refl refl in
       record {

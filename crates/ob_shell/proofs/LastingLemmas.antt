@@ -1,9 +1,10 @@
 -- What lasts while texts are served: the pack, the rows that may be open, and that no block lies in clear.
-use Rattle.std.proofs.Common.{◌≡◌, ◌≤◌, ℕ, Bool, IsTrue, List, [], ◌∷◌, None, Result, inl, inr, sym, ◌∙◌, ap, subst, arith}
+use Rattle.std.proofs.Common.{◌≡◌, ◌≤◌, ℕ, Bool, true, IsTrue, List, [], ◌∷◌, None, Result, inl, inr, sym, ◌∙◌, ap, subst, arith}
 use Rattle.ob_base.specs.declared.config.Config.{Config}
 use Rattle.ob_base.specs.declared.config.Public.{Public}
 use Rattle.ob_base.specs.declared.refusal.Stop.{Stop}
 use Rattle.ob_tables.specs.Agreeing.{public_of, rows_of, world_of}
+use Rattle.ob_reopen.specs.Resting.{AcceptsClosings}
 use Rattle.ob_select.specs.Selecting.{AcceptsRows}
 use Rattle.ob_tables.specs.declared.engine.Engine.{Engine}
 use Rattle.ob_headline.specs.Words.{Answer}
@@ -16,11 +17,12 @@ use Rattle.ob_store.specs.State.{StoreState}
 use Rattle.ob_vault.specs.State.{RevState}
 use Rattle.ob_vault.specs.Tied.{AllSealed, Scope, next_fault}
 
--- the rows of a block, and those that may be open, are as these settings say
+-- the rows of a block, those that may be open, and whether tables are saved, are as these settings say
 pub record HasSizes {R : Type 0} (config : Config) (m : Machine R) : Type 0 where
   pub pack : (public_of m.engine).pack ≡ config.pack
   pub buffer : (public_of m.engine).buffer ≡ config.buffer
   pub rows : rows_of m.engine ≡ config.buffer
+  pub save : (public_of m.engine).save ≡ config.save
 
 module _ {R : Type 0} (state : R → RevState) (config : Config) where
   step_sizes : (m0 m1 : Machine R) (text : List ℕ) (answer : Answer) → Step state m0 m1 text answer → HasSizes config m0 → HasSizes config m1
@@ -30,6 +32,7 @@ module _ {R : Type 0} (state : R → RevState) (config : Config) where
       pack = ap (λ (p : Public). p.pack) did.does.ran.goes_on.public ∙ sizes.pack;
       buffer = ap (λ (p : Public). p.buffer) did.does.ran.goes_on.public ∙ sizes.buffer;
       rows = did.does.ran.room.rows ∙ sizes.buffer;
+      save = ap (λ (p : Public). p.save) did.does.ran.goes_on.public ∙ sizes.save;
     }
   ]
 
@@ -44,7 +47,7 @@ module _ {R : Type 0} (state : R → RevState) (config : Config) where
       (λ text answer step. (step_sizes m1 m2 text answer step sizes).rows)
 
   -- ---- blocks
-  module _ (good : ℕ → List ℕ → Bool) (scope : Scope) (accepts : AcceptsRows good config.pack) (single : AcceptsRows good 1) where
+  module _ (good : ℕ → List ℕ → Bool) (scope : Scope) (accepts : AcceptsRows good config.pack) (single : AcceptsRows good 1) (closings : config.save ≡ true → AcceptsClosings good) where
     abbrev IsSealed : Machine R → Type 0
     IsSealed m = AllSealed good scope (world_of state m.engine m.store)
 
@@ -54,10 +57,13 @@ module _ {R : Type 0} (state : R → RevState) (config : Config) where
     accepts_at : (m : Machine R) → HasSizes config m → AcceptsRows good (public_of m.engine).pack
     accepts_at m sizes = subst (λ (k : ℕ). AcceptsRows good k) (sym sizes.pack) accepts
 
+    closings_at : (m : Machine R) → HasSizes config m → (public_of m.engine).save ≡ true → AcceptsClosings good
+    closings_at m sizes saves = closings (sym sizes.save ∙ saves)
+
     step_sealed : (m0 m1 : Machine R) (text : List ℕ) (answer : Answer) → Step state m0 m1 text answer → HasSizes config m0 → IsBelow m0 → IsTrue m0.store.tells → IsSealed m0 → IsSealed m1
     step_sealed m0 m1 text answer step sizes few tells all = elim step.done [
       | inl bad ↦ subst (λ (m : Machine R). IsSealed m) (sym bad.same) all
-      | inr did ↦ (did.does.seals good (accepts_at m0 sizes) single).seals scope few tells all
+      | inr did ↦ (did.does.seals good (accepts_at m0 sizes) single (closings_at m0 sizes)).seals scope few tells all
     ]
 
     pub steps_sealed : (m0 m2 : Machine R) (texts : List (List ℕ)) (answers : List Answer) → Steps state m0 m2 texts answers → HasSizes config m0 → IsBelow m0 → IsTrue m0.store.tells → IsSealed m0 → IsSealed m2
@@ -71,7 +77,7 @@ module _ {R : Type 0} (state : R → RevState) (config : Config) where
 
     pub last_sealed : (m1 m2 : Machine R) (more : List (List ℕ)) (part : List ℕ) (result : Result Bool Stop) → LastPart state m1 m2 more part result → HasSizes config m1 → IsBelow m1 → IsTrue m1.store.tells → IsSealed m1 → IsSealed m2
     last_sealed m1 m2 more part result last sizes few tells all =
-        last_by state m1 m2 more part (IsSealed m2) result last (λ is. subst (λ (m : Machine R). IsSealed m) (sym is) all) (λ text run cut. (cut.does.seals good (accepts_at m1 sizes) single).seals scope few tells all)
+        last_by state m1 m2 more part (IsSealed m2) result last (λ is. subst (λ (m : Machine R). IsSealed m) (sym is) all) (λ text run cut. (cut.does.seals good (accepts_at m1 sizes) single (closings_at m1 sizes)).seals scope few tells all)
         (λ text answer step. step_sealed m1 m2 text answer step sizes few tells all)
 
 module _ {R : Type 0} (state : R → RevState) where

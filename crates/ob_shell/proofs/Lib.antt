@@ -13,6 +13,7 @@ pub mod RunLemmas
 pub mod ServeLemmas
 pub mod SessionLemmas
 pub mod StepLemmas
+pub mod ShareLemmas
 pub mod StopLemmas
 pub mod TallyLemmas
 pub mod TopLemmas
@@ -32,3 +33,9 @@ pub mod FirstPartLemmas
 pub mod LaterLemmas
 pub mod DisturbLemmas
 pub mod MeddleLemmas
+pub mod LeavePath
+pub mod LeaveSteps
+pub mod LeaveTables
+pub mod LeaveLemmas
+pub mod LeaveCounts
+pub mod LeaveBegin

@@ -1,6 +1,6 @@
 -- What the changes of a store do to a run.
 use Rattle.std.specs.Prelude.{nat_lt, ⊤}
-use Rattle.std.proofs.Common.{◌≡◌, ◌≢◌, ◌+◌, ℕ, Bool, true, false, not, IsSome, IsTrue, List, [], ◌∷◌, length, Option, None, Some, Ok, Err, refl, sym, ◌∙◌, ap, subst, arith}
+use Rattle.std.proofs.Common.{◌≡◌, ◌≢◌, ◌+◌, ℕ, Bool, true, false, not, IsSome, IsTrue, List, [], ◌∷◌, length, Option, None, Some, Ok, Err, inl, inr, refl, sym, ◌∙◌, ap, subst, arith}
 use Rattle.std.proofs.lemmas.List.Folds.{list_all-map}
 use Rattle.std.specs.List.{list_all}
 use Rattle.clap.specs.Words.{Text}
@@ -14,7 +14,7 @@ use Rattle.ob_headline.specs.Failures.{RisesBy, failures}
 use Rattle.ob_headline.specs.Headline.{Headline}
 use Rattle.ob_headline.specs.Settings.{MeddleParses, ParsesChanges, settings_of}
 use Rattle.ob_headline.specs.Usage.{is_traced, meddle_usage}
-use Rattle.ob_headline.specs.Words.{Answer, Faults, IsHonest, Outside, SinksRose, faults_of, outside_of}
+use Rattle.ob_headline.specs.Words.{Answer, Faults, IsHonest, Outside, SinksRose, faults_of, keys_in, outside_of}
 use Rattle.ob_headline.specs.declared.ending.Ending.{Ending}
 use Rattle.ob_headline.specs.declared.ending.Ending.TheVariants.{Usage, BadKey, Ran}
 use Rattle.ob_headline.specs.declared.ending.Report.{Report}
@@ -38,6 +38,7 @@ use Rattle.ob_shell.specs.Traces.{Traced}
 use Rattle.ob_store.specs.Calls.{IsBefore, IsQuiet, IsSteady}
 use Rattle.ob_store.specs.Logs.{asked_of}
 use Rattle.ob_store.specs.State.{Disturbance, Lie, StoreState}
+use Rattle.ob_seal.specs.KeySet.{KeySet}
 
 -- a store says of a list what is later
 before_of : (list : List Meddle) (n : ℕ) → are_later list n ≡ true → IsBefore (disturbances list) n
@@ -101,33 +102,35 @@ no_lie_by list s show none = go s.lie refl where
   go None is = is
   go (Some lie) is = absurd (cc (show.caused lie is, acted_later list (length lie.before + 1) (length s.asked) (omega (arith, show.asked lie is)) none))
 
-module _ {tally : Tally} {tr : TraceSink} {Takes : Type 0} {settings : Option Config} {gave : ℕ} {l0 l1 w0 w1 : Option (List ℕ)} {s0 s1 : StoreState} {old new : Faults} {report : Report}
-    (r : Reported tally tr Takes (fresh settings) l0 l1 gave w0 w1 s0 s1 old new report) where
+module _ {tally : Tally} {tr : TraceSink} {Takes : Type 0} {keys : List ℕ → KeySet} {settings : Option Config} {gave : ℕ} {l0 l1 w0 w1 : Option (List ℕ)} {s0 s1 : StoreState} {old new : Faults} {report : Report}
+    (r : Reported tally tr Takes (fresh settings) keys l0 l1 gave w0 w1 s0 s1 old new report) where
   pub honest_status : IsHonest s0 s1 → report.status ≢ 4
   honest_status honest is = status_not r.ending (r.shown.carried.untampered honest) (sym r.status ∙ is)
 
-  pub undisturbed : (answers : List Answer) → RisesBy (failures answers) s0.faults s1.faults → IsTrue s0.tells → IsQuiet s1 → Undisturbed answers s0 s1 report
-  undisturbed answers failed tells quiet =
+  pub undisturbed : (answers : List Answer) → (fresh settings).public.save ≡ false → RisesBy (failures answers) s0.faults s1.faults → IsTrue s0.tells → IsQuiet s1 → Undisturbed answers s0 s1 report
+  undisturbed answers unsaved failed tells quiet =
       let honest : IsHonest s0 s1 = record { tells = tells; no_lie = quiet.lie } in
       record {
         honest = honest;
         untampered = honest_status honest;
         sound = λ is.
-            let rose = r.shown.carried.faulted (fault_status r.ending (sym r.status ∙ is)) in
-            let none = quiet.faults in absurd (omega (arith, rose, none));
+            elim r.shown.carried.faulted (fault_status r.ending (sym r.status ∙ is)) [
+              | inl rose ↦ let none = quiet.faults in absurd (omega (arith, rose, none))
+              | inr late ↦ absurd (cc (late.saves, unsaved))
+            ];
         unfailed = none_rose _ s0.faults (subst (λ (n : ℕ). RisesBy (failures answers) s0.faults n) quiet.faults failed);
       }
 
 pub meddled : {tally : Tally} {words : List Text} {gave0 gave : ℕ} {l0 l1 w0 w1 t0 t1 : Option (List ℕ)} {old new : Faults} {report : Report}
-    (m0 m1 : MeddledStore) (config : Config) (list : List Meddle) → ParsesChanges words config list → list_of m0 ≡ list → (state_of m0).asked ≡ [] → (state_of m0).disturbed ≡ disturbances list
-    → Reported tally (sink_of (is_traced meddle_usage words) t0 t1) ⊤ (fresh (Some config)) l0 l1 gave w0 w1 (state_of m0) (state_of m1) old new report
+    (m0 m1 : MeddledStore) (config : Config) (list : List Meddle) → ParsesChanges words config list → config.save ≡ false → list_of m0 ≡ list → (state_of m0).asked ≡ [] → (state_of m0).disturbed ≡ disturbances list
+    → Reported tally (sink_of (is_traced meddle_usage words) t0 t1) ⊤ (fresh (Some config)) keys_in l0 l1 gave w0 w1 (state_of m0) (state_of m1) old new report
     → Traced (is_traced meddle_usage words) (state_of m0).asked (state_of m1).asked t0 t1 (SinksRose old new)
     → Meddled words (λ start. outside_of l0 gave0 w0 t0 start old) (outside_of l1 gave w1 t1 (state_of m1) new) m1 report
-meddled {tally = tally} {words = words} {gave0 = gave0} {gave = gave} {l0 = l0} {l1 = l1} {w0 = w0} {w1 = w1} {t0 = t0} {t1 = t1} {old = old} {new = new} {report = report} m0 m1 config list parses same none told served traced =
+meddled {tally = tally} {words = words} {gave0 = gave0} {gave = gave} {l0 = l0} {l1 = l1} {w0 = w0} {w1 = w1} {t0 = t0} {t1 = t1} {old = old} {new = new} {report = report} m0 m1 config list parses unsaved same none told served traced =
     let s0 = state_of m0 in
     let s1 = state_of m1 in
     let settings = settings_of meddle_usage words in
-    let r : Reported tally (sink_of (is_traced meddle_usage words) t0 t1) (MeddleParses words) (fresh settings) l0 l1 gave w0 w1 s0 s1 old new report =
+    let r : Reported tally (sink_of (is_traced meddle_usage words) t0 t1) (MeddleParses words) (fresh settings) keys_in l0 l1 gave w0 w1 s0 s1 old new report =
     reported_taken (config, list, parses) parses.settings.settings served in
     let later = r.shown.carried.answers.later in
     let here = list_of m1 in
@@ -145,7 +148,7 @@ meddled {tally = tally} {words = words} {gave0 = gave0} {gave = gave} {l0 = l0} 
       quiet = λ before. first.quiet (all_later (list_of m0) (length s0.asked) (subst (λ (o : Option (List Disturbance)). IsBefore o (length s0.asked)) first.disturbed before));
       lied = λ lie is. absurd (cc (is, honest));
     } in
-    let h : Headline (fresh settings) (MeddleParses words) (is_traced meddle_usage words) (outside_of l0 gave0 w0 t0 s0 old) (outside_of l1 gave w1 t1 s1 new) report =
+    let h : Headline (fresh settings) keys_in (MeddleParses words) (is_traced meddle_usage words) (outside_of l0 gave0 w0 t0 s0 old) (outside_of l1 gave w1 t1 s1 new) report =
     headlined (MeddleParses words) (fresh settings) (is_traced meddle_usage words) (outside_of l0 gave0 w0 t0 s0 old) (outside_of l1 gave w1 t1 s1 new) report none r traced in
     record {
       config = config;
@@ -168,7 +171,7 @@ meddled {tally = tally} {words = words} {gave0 = gave0} {gave = gave} {l0 = l0} 
           let within = (h.answers.always refl n (before n after)).quiet few in
           let before_there : IsBefore s1.disturbed (length s1.asked) =
           subst (λ (o : Option (List Disturbance)). IsBefore o (length s1.asked)) (sym later.disturbed) (before_less s0.disturbed (length s1.asked) n within (before n after)) in
-          undisturbed r h.story.answers h.accesses.failed refl ((later.steady steady).quiet before_there);
+          undisturbed r h.story.answers (subst (λ (o : Option Config). (fresh o).public.save ≡ false) (sym parses.settings.settings) unsaved) h.accesses.failed refl ((later.steady steady).quiet before_there);
       unchanged = λ all.
           let honest : IsHonest s0 s1 = record { tells = refl; no_lie = no_lie_by here s1 there (none_acts here (length s1.asked) all) } in (honest, honest_status r honest);
       failed =
@@ -180,17 +183,17 @@ meddled {tally = tally} {words = words} {gave0 = gave0} {gave = gave} {l0 = l0} 
 
 -- the same over the generated text
 pub meddle_summarized : {words : List Text} {seed : Seed} {t0 t1 w0 w1 l : Option (List ℕ)} {gave trace0 trace1 out0 out1 : ℕ} {report : Report} (source : ℕ) (m0 m1 : MeddledStore) (config : Config) (list : List Meddle)
-    → ParsesChanges words config list → list_of m0 ≡ list → (state_of m0).asked ≡ [] → (state_of m0).disturbed ≡ disturbances list
+    → ParsesChanges words config list → config.save ≡ false → list_of m0 ≡ list → (state_of m0).asked ≡ [] → (state_of m0).disturbed ≡ disturbances list
     → RanGenerated seed (is_traced meddle_usage words) (Some config) t0 t1 (state_of m0) (state_of m1) trace0 trace1 w0 w1 out0 out1 report
     → MeddleSummarized words seed (λ start. outside_of l gave w0 t0 start (faults_of source out0 trace0)) (outside_of l gave w1 t1 (state_of m1) (faults_of source out1 trace1)) m1 report
 unfolding meddled headlined reported_taken
-meddle_summarized {words = words} source m0 m1 config list parses same none told a =
+meddle_summarized {words = words} source m0 m1 config list parses unsaved same none told a =
     let takes : MeddleParses words = (config, list, parses) in
     record {
       run = a.run;
       left = a.left;
       gave = a.gave;
-      meddled = meddled m0 m1 config list parses same none told a.reported a.traces;
+      meddled = meddled m0 m1 config list parses unsaved same none told a.reported a.traces;
       unread = record { left = refl; gave = refl; source = refl };
       tally = a.tally;
       counted = (reported_taken takes parses.settings.settings a.reported).shown.counted;

@@ -265,10 +265,10 @@ ran_cut {f0 = f0} {f2 = f2} {gave = gave} {w1 = w1} {p = p} {m1 = m1} run so non
     }
 
 -- a text's stop is one of the byte that ended it
-pub byte_stopped : {R T : Type 0} (state : R → RevState) (texts : List (List ℕ)) (Done : Tally → (m0 m1 : Machine R) → Type 0) (DoneByte : T → (m0 m1 : Machine R) → Type 0) (Reached : Type 0)
+pub byte_stopped : {R T Saves : Type 0} (state : R → RevState) (texts : List (List ℕ)) (Done : Tally → (m0 m1 : Machine R) → Type 0) (DoneByte : T → (m0 m1 : Machine R) → Type 0) (Reached : Type 0)
     (written0 written1 : Option (List ℕ)) (old new : Faults) (m0 m1 : Machine R) (halted : TextHalted)
-    → ServesTexts state texts Done written0 written1 old new m0 m1 (Err halted)
-    → ServesByte state texts DoneByte Reached written0 written1 old new m0 m1 (Err (session_halted halted))
+    → ServesTexts state Saves texts Done written0 written1 old new m0 m1 (Err halted)
+    → ServesByte state Saves texts DoneByte Reached written0 written1 old new m0 m1 (Err (session_halted halted))
 byte_stopped {R} {T} state texts Done DoneByte Reached written0 written1 old new m0 m1 halted told = record {
   ready = tt;
   done = tt;

@@ -5,12 +5,11 @@ use Rattle.std.proofs.KnownBytes.{Appends-nil}
 use Rattle.std.specs.Io.KnownBytes.{Appends}
 use Rattle.std.specs.Result.{is_err}
 use Rattle.ob_base.specs.Events.{Event}
-use Rattle.ob_base.specs.declared.access.Access.{Access}
-use Rattle.ob_base.specs.declared.config.Public.{Public}
 use Rattle.ob_base.specs.declared.refusal.Refusal.TheVariants.{Syntax}
-use Rattle.ob_tables.specs.Agreeing.{public_of, seen_of}
-use Rattle.ob_tables.specs.Running.{RanAs, RunCause, SinkStops}
-use Rattle.ob_tables.specs.Serving.{StopsEmission, Serves}
+use Rattle.ob_tables.specs.Agreeing.{Agrees, seen_of}
+use Rattle.ob_tables.specs.Running.{SinkStops}
+use Rattle.ob_tables.specs.Serving.{StopsEmission}
+use Rattle.ob_exec.specs.Ran.{Ran}
 use Rattle.ob_tables.specs.Stops.{session_stop}
 use Rattle.ob_verdict.specs.declared.outcome.Outcome.{Outcome}
 use Rattle.ob_verdict.specs.declared.outcome.Outcome.TheVariants.{Refused}
@@ -27,34 +26,19 @@ use Rattle.ob_print.specs.Rows.{events_text}
 use Rattle.ob_shell.proofs.CountLemmas.{rises_earlier, rises_later}
 use Rattle.ob_shell.specs.Running.{OutFailed, Silenced, StopCause}
 use Rattle.ob_shell.specs.Steps.{Machine, Does, HasBody, ServedStatement, StopsIn}
-use Rattle.ob_script.proofs.SavedParts.{next_is, run_is}
-use Rattle.ob_script.specs.Saved.{run_script}
-use Rattle.ob_script.specs.Script.{script}
-use Rattle.ob_script.specs.Trace.{next}
-use Rattle.ob_sql.specs.Skeleton.{skeleton}
 use Rattle.ob_sql.specs.declared.stmt.Stmt.{Stmt}
-use Rattle.ob_vault.specs.State.{RevState, World}
+use Rattle.ob_vault.specs.State.{RevState}
 
 module _ {R E : Type 0} (state : R → RevState) (grew cut : E → E → List Event → Type 0) (faults : E → ℕ)
-    (m0 m1 : Machine R) (out_old out_new : E) (stmt : Stmt) (unsaved : (public_of m0.engine).save ≡ false) where
+    (m0 m1 : Machine R) (out_old out_new : E) (stmt : Stmt) (agrees : Agrees state m0.engine m0.store) where
   abbrev pub Called : Result Outcome RunStop → Type 0
-  Called result = Serves state grew cut faults stmt result m0.engine m0.store m1.engine m1.store out_old out_new
-
-  -- where tables aren't saved the engine's part is all that a statement asks
-  ran_plain : (result : Result Outcome RunStop) → Called result
-      → RanAs state (skeleton stmt) (script (public_of m0.engine) (skeleton stmt) (seen_of m1.engine)) (next (public_of m0.engine) (skeleton stmt) (seen_of m1.engine)) result m0.engine m0.store m1.engine m1.store
-  ran_plain result serves =
-      let p = public_of m0.engine in
-      let sk = skeleton stmt in
-      let now = seen_of m1.engine in
-      subst (λ (l : List Access). RanAs state sk l (next p sk now) result m0.engine m0.store m1.engine m1.store) (run_is p sk now unsaved)
-      (subst (λ (q : Public). RanAs state sk (run_script p sk now) q result m0.engine m0.store m1.engine m1.store) (next_is p sk now unsaved) serves.ran)
+  Called result = Ran state grew cut faults stmt result m0.engine m0.store m1.engine m1.store out_old out_new m0.keeper m1.keeper
 
   -- what a call of the engine did
   done : (result : Result Outcome RunStop) → Called result → Does state m0 m1 stmt result
   done result serves = record {
-    ran = ran_plain result serves;
-    unsaved = unsaved;
+    agrees = agrees;
+    ran = serves.ran;
     early = serves.early;
     lawful = serves.lawful;
     memory = λ is. let lacks = serves.memory is in record {
@@ -62,12 +46,14 @@ module _ {R E : Type 0} (state : R → RevState) (grew cut : E → E → List Ev
       rest = lacks.rest;
       split = lacks.split;
       asked = lacks.asked;
-      place = elim lacks.place [ inl make ↦ inl make | inr (inl result) ↦ inr (inl result) | inr (inr emits) ↦ inr (inr (emits.0, tt)) ];
+      place = elim lacks.place [ inl make ↦ inl make | inr (inl result) ↦ inr (inl result) | inr (inr (inl emits)) ↦ inr (inr (inl (emits.0, tt))) | inr (inr (inr closing)) ↦ inr (inr (inr closing)) ];
     };
     full = serves.full;
     emits = serves.emits;
     seals = serves.seals;
     means = serves.means;
+    keeper = serves.keeper;
+    counts = serves.counts;
   }
 
   module _ (text : List ℕ) (spells : Spells text (Ok stmt)) where
@@ -168,14 +154,14 @@ stop_keeps KeeperFault out0 out1 not cause = cause
 stop_keeps SinkFault out0 out1 not cause = absurd (not refl)
 
 -- a stop of the engine, and what waited was flushed after it
-pub stop_cause : (T : Type 0) (stop : RunStop) (old new : World) (out0 out1 out2 : ℕ) → RunCause (Err stop) old new → SinkStops (Err stop) out0 out1 → out1 ≤ out2
+pub stop_cause : (T : Type 0) (stop : RunStop) (out0 out1 out2 : ℕ) → SinkStops (Err stop) out0 out1 → out1 ≤ out2
     → StopCause {T = T} (faults_of 0 out0 0) (faults_of 0 out2 0) (Err (session_stop stop))
-stop_cause T (Tampered region place) old new out0 out1 out2 by cause later = (refl, omega arith, omega arith)
-stop_cause T NoMemory old new out0 out1 out2 by cause later = (refl, omega arith, omega arith)
-stop_cause T StoreFault old new out0 out1 out2 by cause later = (refl, omega arith, omega arith)
-stop_cause T StashFull old new out0 out1 out2 by cause later = (refl, omega arith, omega arith)
-stop_cause T KeeperFault old new out0 out1 out2 by cause later = absurd by
-stop_cause T SinkFault old new out0 out1 out2 by cause later = (refl, inl (rises_later out0 out1 out2 cause later))
+stop_cause T (Tampered region place) out0 out1 out2 cause later = (refl, omega arith, omega arith)
+stop_cause T NoMemory out0 out1 out2 cause later = (refl, omega arith, omega arith)
+stop_cause T StoreFault out0 out1 out2 cause later = (refl, omega arith, omega arith)
+stop_cause T StashFull out0 out1 out2 cause later = (refl, omega arith, omega arith)
+stop_cause T KeeperFault out0 out1 out2 cause later = (refl, omega arith, omega arith)
+stop_cause T SinkFault out0 out1 out2 cause later = (refl, inl (rises_later out0 out1 out2 cause later))
 
 -- whether what waited could be flushed after it
 pub flush_silences : {T E : Type 0} (stop : RunStop) (r : Result T E) (quiet : Bool) (out0 out1 out2 : ℕ) → (stop ≡ SinkFault → ⊥) → SinkStops (Err stop) out0 out1 → quiet ≡ is_err r → HasCause out1 out2 r

@@ -1,6 +1,6 @@
 -- A session that goes on from a base, and the closing behind it.
 use Rattle.std.specs.Prelude.{IfOk, MatchBool}
-use Rattle.std.proofs.Common.{◌≡◌, ℕ, ◌+◌, ◌≤◌, ◌<◌, Bool, true, false, List, [], ◌∷◌, ◌++◌, length, take, Option, None, Some, IsTrue, Ok, Err, Result, refl, sym, ap, ◌∙◌, subst, inl, inr, arith, append-nil}
+use Rattle.std.proofs.Common.{◌≡◌, ℕ, ◌+◌, ◌≤◌, ◌<◌, ◌^◌, ◌⊎◌, Bool, true, false, List, [], ◌∷◌, ◌++◌, length, take, Option, None, Some, IsTrue, Ok, Err, Result, refl, sym, ap, ◌∙◌, subst, inl, inr, arith, append-nil}
 use Rattle.std.proofs.KnownBytes.{Appends-nil, Consumes-nil}
 use Rattle.std.proofs.lemmas.Bool.{cases_lt}
 use Rattle.std.specs.Io.KnownBytes.{IsAtEnd}
@@ -18,7 +18,7 @@ use Rattle.ob_tables.specs.Agreeing.{Agrees, AreDraws, count_of, engine_keys, fi
 use Rattle.ob_tables.specs.Closing.{ClosesEngine, closing_script, next_closing}
 use Rattle.ob_reopen.specs.Closed.{IsClosedAs, StaysInUse, is_used_up}
 use Rattle.ob_select.specs.Opening.{is_of_rows}
-use Rattle.ob_reopen.specs.Resting.{Rests, by_name}
+use Rattle.ob_reopen.specs.Resting.{AcceptsClosings, Rests, by_name}
 use Rattle.ob_select.specs.Selecting.{AcceptsRows}
 use Rattle.ob_tables.specs.Telling.{AreHeld, Represents}
 use Rattle.ob_tables.specs.Engines.{AreTables, others_of}
@@ -39,7 +39,7 @@ use Rattle.ob_headline.specs.Texts.{texts_in}
 use Rattle.ob_headline.specs.Words.{Begins, IsHonest, before_read, rows_in}
 use Rattle.ob_headline.specs.Accesses.{AreSeen, StopsWithin}
 use Rattle.ob_headline.specs.Meaning.{AnswersFrom}
-use Rattle.ob_headline.specs.Sealing.{IsSealed, IsSealedAt, IsWriteTo, PassesFrom, PassesHere, PassesWith, SealsOwn}
+use Rattle.ob_headline.specs.Sealing.{IsSealed, IsSealedAt, IsWriteTo, PassesFrom, PassesHere, PassesRows, PassesSaved, PassesWith, SealsOwn}
 use Rattle.ob_headline.specs.Status.{EndsAtRead}
 use Rattle.ob_headline.specs.declared.ending.Ending.{Ending}
 use Rattle.ob_headline.specs.declared.ending.Ending.TheVariants.{Ran as RanEnding}
@@ -53,7 +53,7 @@ use Rattle.ob_reopen.specs.declared.closing.Closing.{Closing}
 use Rattle.ob_reopen.specs.declared.fault.CloseErr.{CloseErr}
 use Rattle.ob_script.specs.Trace.{Served, after_all as all_public, trace}
 use Rattle.ob_seal.specs.KeySet.{KeySet}
-use Rattle.ob_seal.specs.Sealed.{keys_of, sealed}
+use Rattle.ob_seal.specs.Sealed.{sealed}
 use Rattle.ob_shell.proofs.CalmLemmas.{MeetsChange, first_calm, last_met, steps_calm}
 use Rattle.ob_shell.proofs.FailureLemmas.{fails_beside, session_fails}
 use Rattle.ob_shell.proofs.LastingLemmas.{HasSizes, steps_sizes, last_rows, steps_sealed, last_sealed, steps_tell, none_sealed}
@@ -65,11 +65,11 @@ use Rattle.ob_shell.proofs.StepLemmas.{Steps-none, printed-nil}
 use Rattle.ob_shell.proofs.TallyLemmas.{tally_after-nil}
 use Rattle.ob_shell.proofs.TopLemmas.{nothing_over, took_none}
 use Rattle.ob_shell.proofs.TraceLemmas.{traced_none}
-use Rattle.ob_shell.proofs.WalkLemmas.{EndsWhole, Walked, walked, walked_last}
+use Rattle.ob_shell.proofs.WalkLemmas.{EndsWhole, Walked, save_stays, walked, walked_last}
 use Rattle.ob_shell.specs.Feeding.{Fetch}
 use Rattle.ob_shell.specs.Running.{SessionRan, LastPart}
 use Rattle.ob_shell.specs.Standing.{IsUsed, StandsOn}
-use Rattle.ob_shell.specs.Steps.{Machine, asked_of, machine_of, session_of}
+use Rattle.ob_shell.specs.Steps.{Machine, asked_of, machine_of, session_of, told_nothing}
 use Rattle.ob_shell.specs.Tallies.{flagged, has_refused}
 use Rattle.ob_shell.specs.Top.{EndsUntampered, IsFresh, TraceSink, Carried, RanAfter}
 use Rattle.ob_shell.specs.Traces.{Traced}
@@ -82,6 +82,10 @@ use Rattle.ob_vault.specs.Numbers.{number_after}
 use Rattle.ob_vault.specs.State.{RevState, Start, VaultState, World, earlier, from_nothing}
 use Rattle.ob_vault.specs.Tied.{AllSealed, EndsAt, TagFits, Scope, SealedAt, at_of, next_fault}
 use Rattle.ob_headline.specs.Story.{Story}
+use Rattle.ob_base.proofs.AccessLemmas.{makes_few, writes_few}
+use Rattle.ob_exec.proofs.ChangedScripts.{saved_saves}
+use Rattle.ob_exec.specs.Ran.{RunsOut}
+use Rattle.ob_sql.specs.Skeleton.{skeleton}
 
 -- ---- what an engine stands on
 -- from no tables
@@ -93,7 +97,7 @@ pub none_asked : {R : Type 0} (first : Engine R) (s : StoreState) → engine_sta
 none_asked first s from none = omega (arith, ap earlier from, earlier_nothing, ap length none)
 
 session_is : {R : Type 0} (config : Config) (keys : KeySet) (first : Engine R) (s : StoreState) → public_of first ≡ first_public config → engine_start first ≡ from_nothing → s.asked ≡ []
-    → session_of (machine_of first s) (first_draws keys) [] ≡ drawing keys (start (Some config))
+    → session_of (machine_of first s told_nothing) (first_draws keys) [] ≡ drawing keys (start (Some config))
 session_is config keys first s is from none =
     let unasked = none_asked first s from none in λ i. record { public = is i; tables = []; asked = unasked i; draws = first_draws keys }
 
@@ -101,9 +105,9 @@ not_used : (asked : List Access) (high : ℕ) → asked ≡ [] → IsUsed asked 
 not_used asked high none some = let any : IsTrue (list_any is_of_rows []) = subst (λ (xs : List Access). IsTrue (list_any is_of_rows xs)) none some in absurd (cc any)
 
 -- an engine that was just started
-pub stands_first : {R : Type 0} (state : R → RevState) (config : Config) (key : List ℕ) (first : Engine R) (s : StoreState) → Agrees state first s → public_of first ≡ first_public config → first.vault.keys ≡ keys_of key → AreDraws first (first_draws (keys_of key))
-    → engine_start first ≡ from_nothing → rows_of first ≡ config.buffer → IsFresh s → IsSteady s → StandsOn state (fresh (Some config)) config key first s
-stands_first state config key first s agrees is keyed drawn from rows blank steady =
+pub stands_first : {R : Type 0} (state : R → RevState) (config : Config) (keys : KeySet) (first : Engine R) (s : StoreState) → Agrees state first s → public_of first ≡ first_public config → first.vault.keys ≡ keys → AreDraws first (first_draws keys)
+    → engine_start first ≡ from_nothing → rows_of first ≡ config.buffer → IsFresh s → IsSteady s → StandsOn state (fresh (Some config)) config keys first s
+stands_first state config keys first s agrees is keyed drawn from rows blank steady =
     let nothing = nothing_held state first s config is in
     record {
       settings = refl;
@@ -118,19 +122,20 @@ stands_first state config key first s agrees is keyed drawn from rows blank stea
       pack = refl;
       buffer = refl;
       keep = refl;
+      save = refl;
       rows = rows;
       calm = first_calm state first s blank.honest;
       used = not_used s.asked (high_of first) blank.unasked;
       held = nothing;
       earlier = λ region above. blank.empty region;
       sealed = λ tells good passes scope few. none_sealed state (λ r. good) scope first s (λ q from. blank.empty q);
-      passes = λ good passes. passes;
+      passes = λ good passes. passes.0;
       early = λ n before. (
         record {
           steady = steady;
           unasked = blank.unasked;
           nothing = nothing;
-          here = session_is config (keys_of key) first s is from blank.unasked;
+          here = session_is config keys first s is from blank.unasked;
         },
         before,
       );
@@ -178,12 +183,32 @@ last_read state m1 m2 (text ∷ more) part region place (inl idle) = absurd (cc 
 last_read state m1 m2 (text ∷ more) part region place (inr (inl cut)) = record { before = cut.does.ran.cause.1.before; is = cut.does.ran.cause.1.asked }
 last_read state m1 m2 (text ∷ more) part region place (inr (inr done)) = absurd (cc done.fault)
 
--- one that ends by the store's fault ends where a call failed
-last_fault : {R : Type 0} (state : R → RevState) (m1 m2 : Machine R) (more : List (List ℕ)) (part : List ℕ) → LastPart state m1 m2 more part (Err StoreFault) → Rises m1.store.faults m2.store.faults
+-- one that ends by the store's fault ends where a call failed, or where no number is left, and tables are to be saved
+pub record RunsLow {R : Type 0} (p : Public) (m : Machine R) : Type 0 where
+  pub saves : p.save ≡ true
+  pub late : 2 ^ 63 ≤ asked_of m + 1
+
+makes_before : {R : Type 0} (state : R → RevState) (m : Machine R) → RunsOut (world_of state m.engine m.store) → 2 ^ 63 ≤ asked_of m + 1
+unfolding earlier
+makes_before state m (inl region) = let few = makes_few m.store.asked in omega (arith, region, few)
+makes_before state m (inr written) = let few = writes_few m.store.asked in omega (arith, written, few)
+
+last_fault : {R : Type 0} (state : R → RevState) (m1 m2 : Machine R) (more : List (List ℕ)) (part : List ℕ) → LastPart state m1 m2 more part (Err StoreFault)
+    → Rises m1.store.faults m2.store.faults ⊎ RunsLow (public_of m1.engine) m2
 last_fault state m1 m2 [] part idle = absurd (cc idle.memory)
 last_fault state m1 m2 (text ∷ more) part (inl idle) = absurd (cc idle.memory)
-last_fault state m1 m2 (text ∷ more) part (inr (inl cut)) = cut.does.ran.cause.0
+last_fault state m1 m2 (text ∷ more) part (inr (inl cut)) = elim cut.does.ran.cause.0 [
+  | inl rose ↦ inl rose
+  | inr lacks ↦ inr (record { saves = saved_saves (public_of m1.engine) (skeleton cut.stmt) lacks.saved; late = makes_before state m2 lacks.runs_out })
+]
 last_fault state m1 m2 (text ∷ more) part (inr (inr done)) = absurd (cc done.fault)
+
+-- one that ends by the keeper's fault ends where tables were to be saved
+last_keeper : {R : Type 0} (state : R → RevState) (m1 m2 : Machine R) (more : List (List ℕ)) (part : List ℕ) → LastPart state m1 m2 more part (Err KeeperFault) → (public_of m1.engine).save ≡ true
+last_keeper state m1 m2 [] part idle = absurd (cc idle.memory)
+last_keeper state m1 m2 (text ∷ more) part (inl idle) = absurd (cc idle.memory)
+last_keeper state m1 m2 (text ∷ more) part (inr (inl cut)) = saved_saves (public_of m1.engine) (skeleton cut.stmt) cut.does.ran.stops
+last_keeper state m1 m2 (text ∷ more) part (inr (inr done)) = absurd (cc done.fault)
 
 -- what is said of a closing
 writes_by : {R : Type 0} {state : R → RevState} {e : Engine R} {s t : StoreState} (r : Result Mark CloseErr) → ClosesEngine state r e s t → Writes (next_closing e s) (closing_script e s) r s t
@@ -201,23 +226,23 @@ none_lies None s t is later none = is
 none_lies (Some lie) s t is later none = absurd (cc (later.lie lie is, none))
 
 passes_from : (base : Base) (good : List ℕ → Bool) → PassesBoth base.public.pack good → PassesFrom base good
-passes_from base good both = go base.opened where
+passes_from base good both = (go base.opened, λ saves. both.1) where
   go : (o : Option Opened) → PassesWith o base.public.pack good
   go None = both.0
   go (Some o) = both
 
 -- a session over an engine that stands on a base
-module _ {R : Type 0} {state : R → RevState} {Lost : Type 0} (base : Base) (config : Config) (key : List ℕ) (first last : Engine R) (high : ℕ) (told : Result Tally Stop) (s0 s1 : StoreState)
-    (on : StandsOn state base config key first s0) (most : high ≤ rows_of last) (opened : high ≡ high_of last)
-    (tr : TraceSink) (f0 f1 : Fetch) (l0 l1 : Option (List ℕ)) (gave : ℕ) (w0 w1 : Option (List ℕ)) (ran : SessionRan state tr.on f0 f1 l0 l1 gave w0 w1 tr.old tr.new (machine_of first s0) (machine_of last s1) Lost told) where
+module _ {R : Type 0} {state : R → RevState} {Lost : Type 0} (base : Base) (config : Config) (keys : KeySet) (key : List ℕ) (first last : Engine R) (high : ℕ) (told : Result Tally Stop) (k0 k1 : KeeperState) (s0 s1 : StoreState)
+    (on : StandsOn state base config keys first s0) (most : high ≤ rows_of last) (opened : high ≡ high_of last)
+    (tr : TraceSink) (f0 f1 : Fetch) (l0 l1 : Option (List ℕ)) (gave : ℕ) (w0 w1 : Option (List ℕ)) (ran : SessionRan state tr.on f0 f1 l0 l1 gave w0 w1 tr.old tr.new (machine_of first s0 k0) (machine_of last s1 k1) Lost told) where
   abbrev result : Result Bool Stop
   result = flagged told
 
   abbrev m0 : Machine R
-  m0 = machine_of first s0
+  m0 = machine_of first s0 k0
 
   abbrev m2 : Machine R
-  m2 = machine_of last s1
+  m2 = machine_of last s1 k1
 
   -- the store failed once more than texts were answered so
   abbrev Failed : Type 0
@@ -230,13 +255,13 @@ module _ {R : Type 0} {state : R → RevState} {Lost : Type 0} (base : Base) (co
   abbrev all : List Served
   all = walk.seen ++ walk.last
 
-  keys_are : last.vault.keys ≡ keys_of key
+  keys_are : last.vault.keys ≡ keys
   keys_are = walk.keys ∙ on.keyed
 
   start_is : engine_start last ≡ base.start
   start_is = walk.start ∙ on.start
 
-  fits_here : (lie : Lie) → TagFits last.vault.keys (engine_start last) lie → TagFits (keys_of key) base.start lie
+  fits_here : (lie : Lie) → TagFits last.vault.keys (engine_start last) lie → TagFits keys base.start lie
   fits_here lie fits = subst (λ (k : KeySet). TagFits k base.start lie) keys_are (subst (λ (x : Start). TagFits last.vault.keys x lie) start_is fits)
 
   met : MeetsChange result (world_of state last s1)
@@ -247,6 +272,7 @@ module _ {R : Type 0} {state : R → RevState} {Lost : Type 0} (base : Base) (co
     pack = ap (λ (p : Public). p.pack) on.public ∙ on.pack;
     buffer = ap (λ (p : Public). p.buffer) on.public ∙ on.buffer;
     rows = on.rows;
+    save = ap (λ (p : Public). p.save) on.public ∙ on.save;
   }
 
   middle_sizes : HasSizes config ran.middle
@@ -258,6 +284,10 @@ module _ {R : Type 0} {state : R → RevState} {Lost : Type 0} (base : Base) (co
   abbrev AreSealed : Session → Type 0
   AreSealed x = (good : List ℕ → Bool) → PassesFrom base good → (scope : Scope) → scope.below ≤ next_fault s0 → AllSealed (λ r. good) scope (world_of state first s0)
 
+  -- whether tables are saved stays
+  save_is : (public_of ran.middle.engine).save ≡ base.public.save
+  save_is = ap (λ (p : Public). p.save) walk.public ∙ save_stays (public_of first) walk.seen ∙ ap (λ (p : Public). p.save) on.public
+
   -- blocks of these regions, until a call fails
   abbrev from_on : ℕ → Scope
   from_on region = record { from = region; below = next_fault s0 }
@@ -266,36 +296,40 @@ module _ {R : Type 0} {state : R → RevState} {Lost : Type 0} (base : Base) (co
   own_sealed : (good : List ℕ → Bool) → AllSealed (λ r. good) (from_on (base.start.region + 1)) (world_of state first s0)
   own_sealed good = none_sealed state (λ r. good) (from_on (base.start.region + 1)) first s0 (λ q above. on.earlier q (omega (arith, above)))
 
-  accepts_here : (good : List ℕ → Bool) → PassesHere base good → AcceptsRows (λ r. good) config.pack
+  accepts_here : (good : List ℕ → Bool) → PassesRows good base.public.pack → AcceptsRows (λ r. good) config.pack
   accepts_here good passes = subst (λ (k : ℕ). AcceptsRows (λ r. good) k) on.pack passes.0
 
-  last_all : (good : List ℕ → Bool) (from : ℕ) → AcceptsRows (λ r. good) config.pack → AcceptsRows (λ r. good) 1 → IsTrue s0.tells
-      → AllSealed (λ r. good) (from_on from) (world_of state first s0) → AllSealed (λ r. good) (from_on from) (world_of state last s1)
-  last_all good from accepts single tells sealed =
-      let later = steps_later state m0 ran.middle ran.served ran.answers ran.steps in
-      last_sealed state config (λ r. good) (from_on from) accepts single ran.middle m2 ran.more ran.part result ran.last middle_sizes (omega (arith, later.faults)) (tells_on tells)
-      (steps_sealed state config (λ r. good) (from_on from) accepts single m0 ran.middle ran.served ran.answers ran.steps sizes (omega arith) tells sealed)
+  -- where closings are written, they pass too
+  closings_here : (good : List ℕ → Bool) → PassesSaved base.public.save good → config.save ≡ true → AcceptsClosings (λ r. good)
+  closings_here good passes saves = passes (on.save ∙ saves)
 
-  seals_own : SealsOwn (PassesHere base) base (keys_of key) s0 s1
+  last_all : (good : List ℕ → Bool) (from : ℕ) → AcceptsRows (λ r. good) config.pack → AcceptsRows (λ r. good) 1 → (config.save ≡ true → AcceptsClosings (λ r. good)) → IsTrue s0.tells
+      → AllSealed (λ r. good) (from_on from) (world_of state first s0) → AllSealed (λ r. good) (from_on from) (world_of state last s1)
+  last_all good from accepts single closings tells sealed =
+      let later = steps_later state m0 ran.middle ran.served ran.answers ran.steps in
+      last_sealed state config (λ r. good) (from_on from) accepts single closings ran.middle m2 ran.more ran.part result ran.last middle_sizes (omega (arith, later.faults)) (tells_on tells)
+      (steps_sealed state config (λ r. good) (from_on from) accepts single closings m0 ran.middle ran.served ran.answers ran.steps sizes (omega arith) tells sealed)
+
+  seals_own : SealsOwn (PassesHere base) base keys s0 s1
   seals_own tells = record {
     each = λ region place block from lives held good passes.
-        sealed_at good (world_of state last s1).vault (base.start.region + 1) s0 s1 region place block (keys_of key) base.start start_is keys_are
-        ((last_all good (base.start.region + 1) (accepts_here good passes) passes.1 tells (own_sealed good)).all region place block from lives held);
+        sealed_at good (world_of state last s1).vault (base.start.region + 1) s0 s1 region place block keys base.start start_is keys_are
+        ((last_all good (base.start.region + 1) (accepts_here good passes.0) passes.0.1 (closings_here good passes.1) tells (own_sealed good)).all region place block from lives held);
   }
 
-  all_sealed : IsTrue s0.tells → ((tables : Tables) → AreSealed (session_at base tables) → IsSealed (PassesFrom base) (keys_of key) base.start 0 s0 s1)
+  all_sealed : IsTrue s0.tells → ((tables : Tables) → AreSealed (session_at base tables) → IsSealed (PassesFrom base) keys base.start 0 s0 s1)
   all_sealed tells tables sealed = record {
     each = λ region place block from lives held good passes.
         let accepts = on.passes good passes in
-        sealed_at good (world_of state last s1).vault 0 s0 s1 region place block (keys_of key) base.start start_is keys_are
-        ((last_all good 0 accepts.0 accepts.1 tells (sealed good passes (from_on 0) (omega arith))).all region place block from lives held);
+        sealed_at good (world_of state last s1).vault 0 s0 s1 region place block keys base.start start_is keys_are
+        ((last_all good 0 accepts.0 accepts.1 (closings_here good passes.1) tells (sealed good passes (from_on 0) (omega arith))).all region place block from lives held);
   }
 
   -- what it draws
   abbrev d0 : Draws
-  d0 = first_draws (keys_of key)
+  d0 = first_draws keys
 
-  here : (tables : Tables) → session_of m0 d0 tables ≡ drawing (keys_of key) (session_at base tables)
+  here : (tables : Tables) → session_of m0 d0 tables ≡ drawing keys (session_at base tables)
   here tables = λ i. record { public = on.public i; tables = tables; asked = on.count i; draws = d0 }
 
   -- the leaves that are read
@@ -314,7 +348,7 @@ module _ {R : Type 0} {state : R → RevState} {Lost : Type 0} (base : Base) (co
     last = walk.last;
   }
 
-  pub carried_by : Carried tr base (Some key) s0 s1 high story (RanEnding result)
+  pub carried_by : Carried tr base keys (Some key) s0 s1 high story (RanEnding result)
   carried_by = record {
     statements = record { spells = walk.spells; reached = walk.reached; begun = walk.begun; keyed = inl refl; each = walk.each };
     accesses = record {
@@ -322,7 +356,7 @@ module _ {R : Type 0} {state : R → RevState} {Lost : Type 0} (base : Base) (co
       one_last = walk.one_last;
       begun = walk.in_access;
       each_seen = walk.each_seen;
-      lawful = subst (λ (s : Session). AreSeen (StopsWithin (RanEnding result) Failed (ReadsFullStash (keys_of key) base.start s1)) s.public s.asked walk.spelt ran.answers all) (here [])
+      lawful = subst (λ (s : Session). AreSeen (StopsWithin (RanEnding result) Failed (ReadsFullStash keys base.start s1)) s.public s.asked walk.spelt ran.answers all) (here [])
           (subst (λ (k : KeySet). AreSeen (StopsWithin (RanEnding result) Failed (ReadsFullStash k base.start s1)) (public_of first) (asked_of m0) walk.spelt ran.answers all) keys_are
           (subst (λ (x : Start). AreSeen (StopsWithin (RanEnding result) Failed (ReadsFullStash last.vault.keys x s1)) (public_of first) (asked_of m0) walk.spelt ran.answers all) start_is
           (walk.lawful d0 on.drawn (given_none d0 (indexes_of first) on.unindexed))));
@@ -333,7 +367,7 @@ module _ {R : Type 0} {state : R → RevState} {Lost : Type 0} (base : Base) (co
     };
     traced_whole = ran.traced.whole (trace base.public walk.seen) (walk.passed ∙ ap (λ (p : Public). s0.asked ++ trace p walk.seen) on.public);
     answers = record {
-      meant = λ undeceived. from_each base (λ x. Represents state first s0 x.tables) (λ x. (broken : Broken) × AnswersFrom (RanEnding result) (drawing (keys_of key) x) walk.spelt broken ran.answers all ran.part)
+      meant = λ undeceived. from_each base (λ x. Represents state first s0 x.tables) (λ x. (broken : Broken) × AnswersFrom (RanEnding result) (drawing keys x) walk.spelt broken ran.answers all ran.part)
           (λ tables held.
           let from = walk.meant d0 on.drawn undeceived.tells on.calm (record { unfit = λ lie is fits. undeceived.unfit lie is (fits_here lie fits) }) tables held in
           (from.0, subst (λ (s : Session). AnswersFrom (RanEnding result) s walk.spelt from.0 ran.answers all ran.part) (here tables) from.1)) on.held;
@@ -342,7 +376,7 @@ module _ {R : Type 0} {state : R → RevState} {Lost : Type 0} (base : Base) (co
           let facts = on.early n before in
           let is = facts.0 in
           let from = walk.early d0 on.drawn tells is.steady [] is.nothing n facts.1 (omega (arith, ap length is.unasked)) in
-          let joined : s0.asked ++ trace (session_of m0 d0 []).public (all_served (session_of m0 d0 []) walk.spelt []) ≡ meant_trace base.settings (keys_of key) walk.spelt =
+          let joined : s0.asked ++ trace (session_of m0 d0 []).public (all_served (session_of m0 d0 []) walk.spelt []) ≡ meant_trace base.settings keys walk.spelt =
           λ i. is.unasked i ++ trace (is.here i).public (all_served (is.here i) walk.spelt []) in
           record {
             meant = subst (λ (s : Session). MeantUntil n s walk.spelt ran.answers all) is.here from.meant;
@@ -353,7 +387,7 @@ module _ {R : Type 0} {state : R → RevState} {Lost : Type 0} (base : Base) (co
     tampering = record { tampered = λ lie is unfit. meets result (world_of state last s1) lie met is (λ fits. unfit (fits_here lie fits)) };
     sealing = record {
       sealed = seals_own;
-      sealed_before = λ tells. from_each base AreSealed (λ x. IsSealed (PassesFrom base) (keys_of key) base.start 0 s0 s1) (all_sealed tells) (on.sealed tells);
+      sealed_before = λ tells. from_each base AreSealed (λ x. IsSealed (PassesFrom base) keys base.start 0 s0 s1) (all_sealed tells) (on.sealed tells);
     };
     rows = record {
       most_open = subst (λ (o : Option Config). high ≤ rows_in o) (sym on.settings)
@@ -366,9 +400,14 @@ module _ {R : Type 0} {state : R → RevState} {Lost : Type 0} (base : Base) (co
         last_read state ran.middle m2 ran.more ran.part region place (subst (λ (x : Result Bool Stop). LastPart state ran.middle m2 ran.more ran.part x) stopped ran.last);
     faulted = λ is.
         let stopped : result ≡ Err StoreFault = cc is in
-        let rose = last_fault state ran.middle m2 ran.more ran.part (subst (λ (x : Result Bool Stop). LastPart state ran.middle m2 ran.more ran.part x) stopped ran.last) in
         let before = (steps_later state m0 ran.middle ran.served ran.answers ran.steps).faults in
-        omega (arith, rose, before);
+        elim last_fault state ran.middle m2 ran.more ran.part (subst (λ (x : Result Bool Stop). LastPart state ran.middle m2 ran.more ran.part x) stopped ran.last) [
+          | inl rose ↦ inl (omega (arith, rose, before))
+          | inr low ↦ inr (record { saves = sym save_is ∙ low.saves; late = subst (λ (x : Start). 2 ^ 63 ≤ earlier x + length s1.asked + 1) start_is low.late })
+        ];
+    saving = λ is.
+        let stopped : result ≡ Err KeeperFault = cc is in
+        sym save_is ∙ last_keeper state ran.middle m2 ran.more ran.part (subst (λ (x : Result Bool Stop). LastPart state ran.middle m2 ran.more ran.part x) stopped ran.last);
   }
 
   -- ---- the engine is closed behind a session that came to its end
@@ -387,16 +426,16 @@ module _ {R : Type 0} {state : R → RevState} {Lost : Type 0} (base : Base) (co
   ending_is : (tally : Tally) → told ≡ Ok tally → RanEnding result ≡ RanEnding (Ok (has_refused tally))
   ending_is tally is = ap (λ (r : Result Tally Stop). RanEnding (flagged r)) is
 
-  module _ (tally : Tally) (is : told ≡ Ok tally) (from : opened_from first ≡ region_opened base.opened) (s2 : StoreState) (r : Result Mark CloseErr) (closes : ClosesEngine state r last s1 s2) where
+  module _ (tally : Tally) (is : told ≡ Ok tally) (unsaved : base.public.save ≡ false) (from : opened_from first ≡ region_opened base.opened) (s2 : StoreState) (r : Result Mark CloseErr) (closes : ClosesEngine state r last s1 s2) where
     abbrev closing : Closing
     closing = next_closing last s1
 
-    fits_last : (lie : Lie) → s2.lie ≡ Some lie → TagFits (keys_of key) base.start lie
+    fits_last : (lie : Lie) → s2.lie ≡ Some lie → TagFits keys base.start lie
     fits_last lie told_it = fits_here lie ((closes.calm (subst (λ (x : Result Bool Stop). MeetsChange x (world_of state last s1)) (ap flagged is) met)).calm lie told_it)
 
     rests_last : (tables : Tables) → IsHonest s0 s2 → is_used_up closing ≡ false → (mark : Mark) → r ≡ Ok mark → Represents state first s0 tables
-        → (broken : Broken) × AnswersFrom (RanEnding (Ok (has_refused tally))) (drawing (keys_of key) (session_at base tables)) walk.spelt broken ran.answers all ran.part
-        × Rests (keys_of key) closing s2.kept (by_name (after_all (drawing (keys_of key) (session_at base tables)) walk.spelt broken).tables)
+        → (broken : Broken) × AnswersFrom (RanEnding (Ok (has_refused tally))) (drawing keys (session_at base tables)) walk.spelt broken ran.answers all ran.part
+        × Rests keys closing s2.kept (by_name (after_all (drawing keys (session_at base tables)) walk.spelt broken).tables)
     rests_last tables honest left mark closed held =
         let none : s1.lie ≡ None = none_lies s1.lie s1 s2 refl closes.later honest.no_lie in
         let from_it = walk.meant d0 on.drawn honest.tells on.calm (record { unfit = λ lie it. absurd (cc (none, it)) }) tables held in
@@ -405,34 +444,34 @@ module _ {R : Type 0} {state : R → RevState} {Lost : Type 0} (base : Base) (co
         let tells : IsTrue s1.tells = subst (λ (b : Bool). IsTrue b) (sym lasting.tells) honest.tells in
         let rest = subst (λ (x : Result Mark CloseErr). IfOk x (λ m. Rests (engine_keys last) closing s2.kept (by_name tables_after))) closed (closes.told tells left tables_after (from_it.2 whole)) in (
           from_it.0,
-          subst (λ (e : Ending). AnswersFrom e (drawing (keys_of key) (session_at base tables)) walk.spelt from_it.0 ran.answers all ran.part) (ending_is tally is)
+          subst (λ (e : Ending). AnswersFrom e (drawing keys (session_at base tables)) walk.spelt from_it.0 ran.answers all ran.part) (ending_is tally is)
               (subst (λ (x : Session). AnswersFrom (RanEnding result) x walk.spelt from_it.0 ran.answers all ran.part) (here tables) from_it.1),
-          subst (λ (k : KeySet). Rests k closing s2.kept (by_name (after_all (drawing (keys_of key) (session_at base tables)) walk.spelt from_it.0).tables)) keys_are
+          subst (λ (k : KeySet). Rests k closing s2.kept (by_name (after_all (drawing keys (session_at base tables)) walk.spelt from_it.0).tables)) keys_are
               (subst (λ (x : Session). Rests (engine_keys last) closing s2.kept (by_name (after_all x walk.spelt from_it.0).tables)) (here tables) rest),
         )
 
     sealed_last : (from : ℕ) → IsTrue s0.tells → ((good : List ℕ → Bool) → PassesBoth base.public.pack good → AllSealed (λ r. good) (from_on from) (world_of state first s0))
-        → IsSealed (PassesBoth base.public.pack) (keys_of key) base.start from s0 s2
+        → IsSealed (PassesBoth base.public.pack) keys base.start from s0 s2
     sealed_last from tells sealed = record {
       each = λ region place block above lives held good both.
           let accepts = accepts_here good both.0 in
           let pack_is : config.pack ≡ (public_of last).pack = sym (last_sizes tally is).pack in
           let accepts_last = subst (λ (k : ℕ). AcceptsRows (λ r. good) k) pack_is accepts in
           let tells_last : IsTrue s1.tells = subst (λ (b : Bool). IsTrue b) (sym lasting.tells) tells in
-          sealed_at good (world_of state last s2).vault from s0 s2 region place block (keys_of key) base.start start_is keys_are
+          sealed_at good (world_of state last s2).vault from s0 s2 region place block keys base.start start_is keys_are
           (((closes.sealed (λ r. good) accepts_last both.1).seals (from_on from) (omega (arith, lasting.faults)) tells_last
-          (last_all good from accepts both.0.1 tells (sealed good both))).all region place block above lives held);
+          (last_all good from accepts both.0.1 (λ saves. both.1) tells (sealed good both))).all region place block above lives held);
     }
 
     pub closed_behind : (tracing : Bool) (ended : KeptEnding) (t1 t2 : Option (List ℕ)) (fault1 fault2 : ℕ) (k1 k2 : KeeperState) (done : Traced tracing s1.asked s2.asked t1 t2 (Rises fault1 fault2)) → fault1 ≤ fault2
         → EndsWith r (Plain (RanEnding (Ok (has_refused tally)))) ended fault1 fault2 k1 k2
-        → ClosesTables base (keys_of key) tracing (has_refused tally) story s0 s1 s2 t1 t2 fault1 fault2 k1 k2 ended
+        → ClosesTables base keys tracing (has_refused tally) story s0 s1 s2 t1 t2 fault1 fault2 k1 k2 ended
     closed_behind tracing ended t1 t2 fault1 fault2 k1 k2 done later ends = record {
       closing = closing;
       is = λ i. closing_behind (public_is tally is i) (start_is i) s1.asked;
       closes = record {
         result = r;
-        writes = subst (λ (o : Option ℕ). Writes closing (last_script o closing) r s1 s2) (walk.from_closing ∙ from) (writes_by r closes);
+        writes = subst (λ (o : Option ℕ). Writes closing (last_script o closing) r s1 s2) (walk.from_closing (ap (λ (p : Public). p.save) on.public ∙ unsaved) ∙ from) (writes_by r closes);
         done = done.seen;
         asked = done.grew;
         traced = done.cut;
@@ -442,15 +481,15 @@ module _ {R : Type 0} {state : R → RevState} {Lost : Type 0} (base : Base) (co
       later = closes.later;
       fits = fits_last;
       rests = λ honest left mark closed. from_each base (λ x. Represents state first s0 x.tables)
-          (λ x. (broken : Broken) × AnswersFrom (RanEnding (Ok (has_refused tally))) (drawing (keys_of key) x) walk.spelt broken ran.answers all ran.part
-          × Rests (keys_of key) closing s2.kept (by_name (after_all (drawing (keys_of key) x) walk.spelt broken).tables))
+          (λ x. (broken : Broken) × AnswersFrom (RanEnding (Ok (has_refused tally))) (drawing keys x) walk.spelt broken ran.answers all ran.part
+          × Rests keys closing s2.kept (by_name (after_all (drawing keys x) walk.spelt broken).tables))
           (λ tables held. rests_last tables honest left mark closed held) on.held;
       sealed = λ tells. sealed_last (base.start.region + 1) tells (λ good both. own_sealed good);
-      sealed_before = λ tells. from_each base AreSealed (λ x. IsSealed (PassesBoth base.public.pack) (keys_of key) base.start 0 s0 s2)
+      sealed_before = λ tells. from_each base AreSealed (λ x. IsSealed (PassesBoth base.public.pack) keys base.start 0 s0 s2)
           (λ tables sealed. sealed_last 0 tells (λ good both. sealed good (passes_from base good both) (from_on 0) (omega arith))) (on.sealed tells);
     }
 
-  unfoldable pub ran_after : RanAfter state tr base (Some key) f0 f1 l0 l1 gave w0 w1 s0 s1 high Lost told
+  unfoldable pub ran_after : RanAfter state tr base keys (Some key) f0 f1 l0 l1 gave w0 w1 s0 s1 high Lost told
   ran_after = record {
     piece = ran.piece;
     consumed = ran.consumed;
@@ -462,7 +501,7 @@ module _ {R : Type 0} {state : R → RevState} {Lost : Type 0} (base : Base) (co
     texts = ran.texts;
     prompt = ran.prompt;
     carried = carried_by;
-    rows = inl (record { first = first; last = last; ran = ran; counts = opened });
+    rows = inl (record { first = first; last = last; keeper0 = k0; keeper1 = k1; ran = ran; counts = opened });
     cut = ran.cut;
     whole = ran.whole;
     counted = ran.counted;

@@ -24,7 +24,7 @@ use Rattle.ob_headline.specs.Texts.{is_over, rest_of, texts_of, texts_in}
 use Rattle.ob_headline.specs.Tracing.{traced}
 use Rattle.ob_headline.specs.Words.{Begins, Faults, SinksRose, Took, before_read, printed}
 use Rattle.ob_headline.specs.Statements.{SpellFirst, statements}
-use Rattle.ob_headline.specs.Accesses.{AreSeen, any_cut, ends_access}
+use Rattle.ob_headline.specs.Accesses.{AreSeen, any_cut, ends_within}
 use Rattle.ob_headline.specs.Meaning.{AnswersFrom}
 use Rattle.ob_headline.specs.Status.{HasSecret}
 use Rattle.ob_headline.specs.declared.ending.Ending.{Ending}
@@ -52,6 +52,7 @@ use Rattle.ob_store.specs.State.{StoreState}
 use Rattle.ob_vault.specs.State.{RevState}
 use Rattle.ob_headline.specs.Story.{unserved}
 use Rattle.ob_headline.specs.Prompt.{Prompt}
+use Rattle.ob_seal.specs.KeySet.{KeySet}
 
 -- ---- more bytes after the first line
 
@@ -82,8 +83,8 @@ after_line-more (x ∷ xs) ys h = after_line-step x xs ys (x == 10) refl h (afte
 pub nothing_over : is_over (rest_of [] []) ≡ false
 nothing_over = rw rest_of-nil
 
--- so it ends in no access of an index
-unfaulted_ends : (ending : Ending) → EndsUnfaulted ending → ends_access ending ≡ true → ⊥
+-- so it ends within no statement
+unfaulted_ends : (ending : Ending) → EndsUnfaulted ending → ends_within ending ≡ true → ⊥
 unfaulted_ends Usage fine ends = cc ends
 unfaulted_ends BadKey fine ends = cc ends
 unfaulted_ends (RanEnding (Ok flag)) fine ends = cc ends
@@ -96,8 +97,8 @@ unfaulted_ends (RanEnding (Err StoreFault)) fine ends = fine
 unfaulted_ends (RanEnding (Err StashFull)) fine ends = fine
 unfaulted_ends (RanEnding (Err KeeperFault)) fine ends = fine
 
-pub unstarted : (tr : TraceSink) (settings : Option Config) (secret : Option (List ℕ)) (s : StoreState) (more : List (List ℕ)) (ending : Ending) → IsFresh s → tr.new ≡ tr.old → EndsUntampered ending → EndsUnfaulted ending
-    → Carried tr (fresh settings) secret s s 0 (unserved more) ending
+pub unstarted : {keys : KeySet} (tr : TraceSink) (settings : Option Config) (secret : Option (List ℕ)) (s : StoreState) (more : List (List ℕ)) (ending : Ending) → IsFresh s → tr.new ≡ tr.old → EndsUntampered ending → EndsUnfaulted ending
+    → Carried tr (fresh settings) keys secret s s 0 (unserved more) ending
 unfolding SpellFirst AreSeen AnswersFrom MeantUntil failures any_cut statements
 unstarted tr settings secret s more ending blank untraced untampered unfaulted = record {
   statements = record { spells = tt; reached = omega arith; begun = omega arith; keyed = inr refl; each = refl };
@@ -134,6 +135,7 @@ unstarted tr settings secret s more ending blank untraced untampered unfaulted =
   untampered = λ honest. untampered;
   at_read = λ region place is. absurd (subst (λ (e : Ending). EndsUntampered e) is untampered);
   faulted = λ is. absurd (subst (λ (e : Ending). EndsUnfaulted e) is unfaulted);
+  saving = λ is. absurd (subst (λ (e : Ending). EndsUnfaulted e) is unfaulted);
 }
 
 pub took_none : (w : Option (List ℕ)) → Took w w (printed [])
@@ -163,8 +165,8 @@ module _ (tally : Tally) (tr : TraceSink) (untraced : tr.new ≡ tr.old) (settin
         prompt = prompt_line gave fed.piece [] (omega (arith, late, same, ahead));
       }
 
-  unfoldable pub shown_source_fault : {F : Type 0} {l0 l1 : Option (List ℕ)} (w : Option (List ℕ)) (s : StoreState) → IsFresh s
-      → KeyRead f0 f1 l0 l1 (Err Halt.SourceFault) → RunShown tally tr (fresh settings) l0 l1 gave w w s s 0 (RanEnding (Err SourceFault)) [] F
+  unfoldable pub shown_source_fault : {F : Type 0} {keys : List ℕ → KeySet} {l0 l1 : Option (List ℕ)} (w : Option (List ℕ)) (s : StoreState) → IsFresh s
+      → KeyRead f0 f1 l0 l1 (Err Halt.SourceFault) → RunShown tally tr (fresh settings) keys l0 l1 gave w w s s 0 (RanEnding (Err SourceFault)) [] F
   shown_source_fault w s fresh read =
       let e = piece_is read.fed none in
       let ends = rw (← e) at read.ends in
@@ -188,8 +190,8 @@ module _ (tally : Tally) (tr : TraceSink) (untraced : tr.new ≡ tr.old) (settin
         says = record { line = inr (ends.0, ends.1); cut = refl; all = record { no_more = refl; no_part = refl }; short = rw after nothing_over };
       }
 
-  unfoldable pub shown_bad_key : {F : Type 0} {l0 l1 : Option (List ℕ)} (w : Option (List ℕ)) (s : StoreState) → IsFresh s
-      → KeyRead f0 f1 l0 l1 (Ok Bad) → RunShown tally tr (fresh settings) l0 l1 gave w w s s 0 BadKey [] F
+  unfoldable pub shown_bad_key : {F : Type 0} {keys : List ℕ → KeySet} {l0 l1 : Option (List ℕ)} (w : Option (List ℕ)) (s : StoreState) → IsFresh s
+      → KeyRead f0 f1 l0 l1 (Ok Bad) → RunShown tally tr (fresh settings) keys l0 l1 gave w w s s 0 BadKey [] F
   shown_bad_key w s fresh read =
       let e = piece_is read.fed none in
       let ends = rw (← e) at read.ends in
@@ -212,8 +214,8 @@ module _ (tally : Tally) (tr : TraceSink) (untraced : tr.new ≡ tr.old) (settin
         says = ends;
       }
 
-  pub shown_last : tally ≡ tally_of [] → {F : Type 0} {l0 l1 : Option (List ℕ)} (key : List ℕ) (w : Option (List ℕ)) (s : StoreState) → IsFresh s
-      → KeyRead f0 f1 l0 l1 (Ok (Last key)) → RunShown tally tr (fresh settings) l0 l1 gave w w s s 0 (RanEnding (Ok false)) [] F
+  pub shown_last : tally ≡ tally_of [] → {F : Type 0} {keys : List ℕ → KeySet} {l0 l1 : Option (List ℕ)} (key : List ℕ) (w : Option (List ℕ)) (s : StoreState) → IsFresh s
+      → KeyRead f0 f1 l0 l1 (Ok (Last key)) → RunShown tally tr (fresh settings) keys l0 l1 gave w w s s 0 (RanEnding (Ok false)) [] F
   shown_last blank key w s fresh read =
       let e = piece_is read.fed none in
       let ends = rw (← e) at read.ends in
@@ -245,9 +247,9 @@ module _ (tally : Tally) (tr : TraceSink) (untraced : tr.new ≡ tr.old) (settin
 -- ---- the session after the first line
 
 -- memory was wanting for the engine
-pub ran_nothing : {R : Type 0} {state : R → RevState} {Lost : Type 0} (tr : TraceSink) (settings : Option Config) (secret : Option (List ℕ)) (f : Fetch)
+pub ran_nothing : {R : Type 0} {state : R → RevState} {Lost : Type 0} {keys : KeySet} (tr : TraceSink) (settings : Option Config) (secret : Option (List ℕ)) (f : Fetch)
     (l : Option (List ℕ)) (gave : ℕ) (w : Option (List ℕ)) (s : StoreState) → IsFresh s → tr.new ≡ tr.old → length f.unread ≤ gave
-    → RanAfter state tr (fresh settings) secret f f l l gave w w s s 0 Lost (Err NoMemory)
+    → RanAfter state tr (fresh settings) keys secret f f l l gave w w s s 0 Lost (Err NoMemory)
 ran_nothing {Lost = Lost} tr settings secret f l gave w s fresh untraced late = record {
   piece = [];
   consumed = Consumes-nil l;
@@ -318,13 +320,13 @@ after_last {f1 = f1} piece last none read =
     )
 
 -- the session behind the first line, of which this was carried out
-unfoldable pub shown_by : {R : Type 0} {state : R → RevState} {Lost : Type 0} {tally : Tally} {tr : TraceSink} (base : Base) {f0 f1 f2 : Fetch} {gave : ℕ} {l0 l1 l2 w0 w2 : Option (List ℕ)} {s0 s2 : StoreState} {high : ℕ} {first : Result FirstLine Halt} (key : List ℕ) (result : Result Tally Stop)
+unfoldable pub shown_by : {R : Type 0} {state : R → RevState} {Lost : Type 0} {k : KeySet} {keys : List ℕ → KeySet} {tally : Tally} {tr : TraceSink} (base : Base) {f0 f1 f2 : Fetch} {gave : ℕ} {l0 l1 l2 w0 w2 : Option (List ℕ)} {s0 s2 : StoreState} {high : ℕ} {first : Result FirstLine Halt} (key : List ℕ) (result : Result Tally Stop)
     → f0.taken ≡ 0 → f0.limit ≡ limit_of base.settings → f2.taken ≤ f2.limit → IsFedBy f2 gave
-    → (read : KeyRead f0 f1 l0 l1 first) (ran : RanAfter state tr base (Some key) f1 f2 l1 l2 gave w0 w2 s0 s2 high Lost result)
+    → (read : KeyRead f0 f1 l0 l1 first) (ran : RanAfter state tr base k (Some key) f1 f2 l1 l2 gave w0 w2 s0 s2 high Lost result)
     → after_line (read.fed.piece ++ ran.piece) ≡ f1.unread ++ ran.piece → secret_of (first_line (read.fed.piece ++ ran.piece)) ≡ Some key
-    → Carried tr base (secret_of (first_line (read.fed.piece ++ ran.piece))) s0 s2 high ran.story (RanEnding (flagged result))
+    → Carried tr base (keys (read.fed.piece ++ ran.piece)) (secret_of (first_line (read.fed.piece ++ ran.piece))) s0 s2 high ran.story (RanEnding (flagged result))
     → IfOk result (λ t. tally ≡ t)
-    → RunShown tally tr base l0 l2 gave w0 w2 s0 s2 high (RanEnding (flagged result)) [] Lost
+    → RunShown tally tr base keys l0 l2 gave w0 w2 s0 s2 high (RanEnding (flagged result)) [] Lost
 shown_by {Lost = Lost} {tally = tally} base {f1 = f1} {f2 = f2} {gave = gave} {l2 = l2} {w0 = w0} {w2 = w2} {s0 = s0} {s2 = s2} {high = high} key result start top below by read ran after line carried told =
     let secret : HasSecret (read.fed.piece ++ ran.piece) = rw line in
     let count : length (read.fed.piece ++ ran.piece) ≡ f2.taken =
@@ -354,20 +356,24 @@ shown_by {Lost = Lost} {tally = tally} base {f1 = f1} {f2 = f2} {gave = gave} {l
           (subst (λ (l : List ℕ). EndsBy f2 ran.ended l ran.story.more ran.story.part (flagged result)) (sym after) ran.ends);
     }
 
-pub shown_ran : {R : Type 0} {state : R → RevState} {Lost : Type 0} {tally : Tally} {tr : TraceSink} (base : Base) {f0 f1 f2 : Fetch} {gave : ℕ} {l0 l1 l2 w0 w2 : Option (List ℕ)} {s0 s2 : StoreState} {high : ℕ} (key : List ℕ) (result : Result Tally Stop)
+-- the keys are those that its first line comes to, or others, whatever was taken
+pub shown_ran : {R : Type 0} {state : R → RevState} {Lost : Type 0} {k : KeySet} (keys : List ℕ → KeySet) {tally : Tally} {tr : TraceSink} (base : Base) {f0 f1 f2 : Fetch} {gave : ℕ} {l0 l1 l2 w0 w2 : Option (List ℕ)} {s0 s2 : StoreState} {high : ℕ} (key : List ℕ) (result : Result Tally Stop)
     → f0.unread ≡ [] → f0.taken ≡ 0 → f0.limit ≡ limit_of base.settings → f2.taken ≤ f2.limit → IsFedBy f2 gave
-    → KeyRead f0 f1 l0 l1 (Ok (Secret key)) → RanAfter state tr base (Some key) f1 f2 l1 l2 gave w0 w2 s0 s2 high Lost result
-    → IfOk result (λ t. tally ≡ t)
-    → RunShown tally tr base l0 l2 gave w0 w2 s0 s2 high (RanEnding (flagged result)) [] Lost
-shown_ran base key result none start top below by read ran told =
+    → KeyRead f0 f1 l0 l1 (Ok (Secret key)) → RanAfter state tr base k (Some key) f1 f2 l1 l2 gave w0 w2 s0 s2 high Lost result
+    → ((taken : List ℕ) → secret_of (first_line taken) ≡ Some key → keys taken ≡ k) → IfOk result (λ t. tally ≡ t)
+    → RunShown tally tr base keys l0 l2 gave w0 w2 s0 s2 high (RanEnding (flagged result)) [] Lost
+shown_ran keys {tr = tr} base {s0 = s0} {s2 = s2} {high = high} key result none start top below by read ran same told =
     let behind = after_secret ran.piece none read in
-    shown_by base key result start top below by read ran behind.0 behind.1 (rw behind.1 ran.carried) told
+    let taken = read.fed.piece ++ ran.piece in
+    let keyed = subst (λ (x : KeySet). Carried tr base x (Some key) s0 s2 high ran.story (RanEnding (flagged result))) (sym (same taken behind.1)) ran.carried in
+    shown_by base key result start top below by read ran behind.0 behind.1
+    (subst (λ (x : Option (List ℕ)). Carried tr base (keys taken) x s0 s2 high ran.story (RanEnding (flagged result))) (sym behind.1) keyed) told
 
 -- ---- before the input is read
 
 -- nothing was read
-unfoldable pub shown_unread : {F : Type 0} (tally : Tally) (tr : TraceSink) (settings : Option Config) (l : Option (List ℕ)) (gave : ℕ) (w : Option (List ℕ)) (s : StoreState) (ending : Ending) → IsFresh s → tr.new ≡ tr.old → EndsUntampered ending → EndsUnfaulted ending → EndingFlag ending [] → EndingTally ending [] tally
-    → EndingSays ending (limit_of settings) [] l false (texts_of [] (after_line [])) [] → RunShown tally tr (fresh settings) l l gave w w s s 0 ending [] F
+unfoldable pub shown_unread : {F : Type 0} {keys : List ℕ → KeySet} (tally : Tally) (tr : TraceSink) (settings : Option Config) (l : Option (List ℕ)) (gave : ℕ) (w : Option (List ℕ)) (s : StoreState) (ending : Ending) → IsFresh s → tr.new ≡ tr.old → EndsUntampered ending → EndsUnfaulted ending → EndingFlag ending [] → EndingTally ending [] tally
+    → EndingSays ending (limit_of settings) [] l false (texts_of [] (after_line [])) [] → RunShown tally tr (fresh settings) keys l l gave w w s s 0 ending [] F
 shown_unread tally tr settings l gave w s ending fresh untraced untampered unfaulted flag counted says = record {
   taken = [];
   ended = false;
@@ -431,7 +437,7 @@ line_rose (RanEnding (Err SinkFault)) old mid new cause rose later trace = rose_
 line_rose (RanEnding (Err NoMemory)) old mid new cause rose later trace = inl (rises_earlier _ _ _ cause.1 rose)
 line_rose (RanEnding (Err StoreFault)) old mid new cause rose later trace = inl (rises_earlier _ _ _ cause.1 rose)
 line_rose (RanEnding (Err StashFull)) old mid new cause rose later trace = inl (rises_earlier _ _ _ cause.1 rose)
-line_rose (RanEnding (Err KeeperFault)) old mid new cause rose later trace = absurd cause
+line_rose (RanEnding (Err KeeperFault)) old mid new cause rose later trace = inl (rises_earlier _ _ _ cause.1 rose)
 line_rose (RanEnding (Err InputLimit)) old mid new cause rose later trace = inl (subst (λ (n : ℕ). Rises n new.out) cause.out rose)
 
 -- the counts after the last line
@@ -450,7 +456,7 @@ status_cause (RanEnding (Err SinkFault)) old mid new cause later trace source no
 status_cause (RanEnding (Err NoMemory)) old mid new cause later trace source none = source ∙ cause.0
 status_cause (RanEnding (Err StoreFault)) old mid new cause later trace source none = source ∙ cause.0
 status_cause (RanEnding (Err StashFull)) old mid new cause later trace source none = source ∙ cause.0
-status_cause (RanEnding (Err KeeperFault)) old mid new cause later trace source none = absurd cause
+status_cause (RanEnding (Err KeeperFault)) old mid new cause later trace source none = source ∙ cause.0
 status_cause (RanEnding (Err InputLimit)) old mid new cause later trace source none = source ∙ cause.source
 
 -- nothing more may be written
@@ -458,9 +464,9 @@ pub quiet_line : {w0 w1 : Option (List ℕ)} {F G : Type 0} (bytes line : List �
 quiet_line {w0 = w0} {w1 = w1} {F = F} bytes line c g =
     Outputs-more line (Outputs-fault g (subst (λ (l : List ℕ). Outputs w0 w1 F l) (append-nil bytes) c)) g
 
-unfoldable pub shown_line : {tally : Tally} {tr : TraceSink} {base : Base} {gave : ℕ} {l0 l1 w0 w1 w2 : Option (List ℕ)} {s0 s1 : StoreState} {high : ℕ} {ending : Ending} {line line' : List ℕ} {F H : Type 0}
-    (more : List ℕ) → (shown : RunShown tally tr base l0 l1 gave w0 w1 s0 s1 high ending line F) → Appends w1 w2 more → Outputs w0 w2 H ((printed shown.story.answers ++ shown.story.part) ++ line')
-    → RunShown tally tr base l0 l1 gave w0 w2 s0 s1 high ending line' H
+unfoldable pub shown_line : {tally : Tally} {tr : TraceSink} {base : Base} {keys : List ℕ → KeySet} {gave : ℕ} {l0 l1 w0 w1 w2 : Option (List ℕ)} {s0 s1 : StoreState} {high : ℕ} {ending : Ending} {line line' : List ℕ} {F H : Type 0}
+    (more : List ℕ) → (shown : RunShown tally tr base keys l0 l1 gave w0 w1 s0 s1 high ending line F) → Appends w1 w2 more → Outputs w0 w2 H ((printed shown.story.answers ++ shown.story.part) ++ line')
+    → RunShown tally tr base keys l0 l1 gave w0 w2 s0 s1 high ending line' H
 shown_line more shown after cut = record {
   taken = shown.taken;
   ended = shown.ended;

@@ -1,5 +1,5 @@
 -- A walk over the texts that were answered, and the one begun.
-use Rattle.std.specs.Prelude.{◌↔◌}
+use Rattle.std.specs.Prelude.{◌↔◌, ◌&&◌}
 use Rattle.std.proofs.Common.{suc, ◌≡◌, inl, inr, ◌+◌, ◌-◌, ◌≤◌, ◌<◌, ℕ, IsTrue, Bool, Ok, Err, Result, List, [], ◌∷◌, ◌++◌, length, take, Option, Some, None, refl, sym, ◌∙◌, ap, subst, append-nil, append_assoc, arith, ◌||◌, true, false, length-append}
 use Rattle.std.proofs.lemmas.List.{append_cancel_left, take-append-le}
 use Rattle.ob_base.specs.Counts.{Rises}
@@ -13,12 +13,14 @@ use Rattle.ob_base.specs.declared.refusal.Stop.{Stop}
 use Rattle.ob_base.specs.declared.refusal.Stop.TheVariants.{NoMemory, StashFull}
 use Rattle.ob_base.specs.declared.seen.End.{End}
 use Rattle.ob_base.specs.declared.seen.Seen.{Seen}
+use Rattle.ob_base.specs.declared.skeleton.Skeleton.{Skeleton}
 use Rattle.ob_tables.proofs.EmitLemmas.{unfit_none}
 use Rattle.ob_exec.proofs.LeavesRead.{Given, behind}
+use Rattle.ob_exec.specs.Ran.{StopsWhere}
 use Rattle.ob_tables.specs.Agreeing.{AreDraws, engine_start, indexes_of, opened_from, public_of, seen_of, world_of}
-use Rattle.ob_select.specs.Memory.{AtMake}
+use Rattle.ob_select.specs.Memory.{AtMake, starts_with_make}
 use Rattle.ob_tables.specs.Refusals.{refused_end}
-use Rattle.ob_tables.specs.Running.{RefusedEarly, RunCause, is_fault, outcome_end, stops_access}
+use Rattle.ob_tables.specs.Running.{RefusedEarly, RunCause, is_fault, outcome_end}
 use Rattle.ob_verdict.specs.Outcomes.{refusal_now, by_fault, Emits}
 use Rattle.ob_tables.specs.Stops.{session_stop}
 use Rattle.ob_tables.specs.Telling.{IsNotTampered, ReadsTrue, ReadsTrueUntil, Represents, answer_labels, is_refused}
@@ -32,17 +34,17 @@ use Rattle.ob_headline.specs.Disturbed.{MeantUntil}
 use Rattle.ob_headline.specs.FullStash.{ReadsFullStash}
 use Rattle.ob_headline.specs.Words.{Answer, Begins, refused_at}
 use Rattle.ob_headline.specs.Statements.{SpellFirst, statements}
-use Rattle.ob_headline.specs.Accesses.{AreSeen, Says, StopsWithin, WantsMemory, any_cut, ends_access, is_cut}
+use Rattle.ob_headline.specs.Accesses.{AreSeen, Says, StopsWithin, WantsMemory, any_cut, ends_within, is_cut, may_end}
 use Rattle.ob_headline.specs.Meaning.{AnswersFrom, AnswersIn, BeginsAnswer, PrintsUntil}
 use Rattle.ob_headline.specs.declared.ending.Ending.{Ending}
 use Rattle.ob_headline.specs.declared.ending.Ending.TheVariants.{Usage, BadKey, Ran}
 use Rattle.ob_keyed.specs.Serving.{Overfills}
 use Rattle.ob_mean.proofs.ReplayLemmas.{after_room, served_room}
-use Rattle.ob_mean.specs.Replay.{Broken, IsCutOff, Session, Spelt, after, after_all, all_served, cut_at, draws_taken, is_full_now, seen_now, seen_or_cut}
+use Rattle.ob_mean.specs.Replay.{Broken, IsCutOff, Session, Spelt, after, after_all, all_served, cut_at, draws_taken, is_access, is_full_now, seen_now, seen_or_cut}
 use Rattle.ob_mean.specs.Verdict.{Draws, Tables}
 use Rattle.ob_print.specs.Rows.{events_text}
-use Rattle.ob_script.proofs.SavedParts.{whole_is}
-use Rattle.ob_script.specs.Script.{script, whole_script}
+use Rattle.ob_script.specs.Saved.{left_by}
+use Rattle.ob_script.specs.Script.{changes_tables, is_saved, save_part, script, whole_script}
 use Rattle.ob_script.specs.Trace.{Served as Entry, after_all as all_public, next, trace}
 use Rattle.ob_seal.specs.Draws.{draw_of}
 use Rattle.ob_seal.specs.KeySet.{KeySet}
@@ -127,6 +129,31 @@ EndsWhole BadKey = ⊥
 EndsWhole (Ran (Ok refused)) = Unit {0}
 EndsWhole (Ran (Err stop)) = ⊥
 
+-- ---- where tables are saved
+-- none are behind any statement, where the settings don't say so
+none_saved : (p : Public) (outline : Skeleton) → p.save ≡ false → is_saved p outline ≡ false
+none_saved p outline unsaved = go (changes_tables outline) where
+  go : (b : Bool) → (b && p.save) ≡ false
+  go true = unsaved
+  go false = refl
+
+either_first : (a b : Bool) → a ≡ true → (a || b) ≡ true
+either_first true b is = refl
+either_first false b is = absurd (cc is)
+
+either_last : (a b : Bool) → b ≡ true → (a || b) ≡ true
+either_last true b is = refl
+either_last false b is = is
+
+-- before that nothing of a closing was asked
+at_closing : (p : Public) (outline : Skeleton) (rest : List Access) → rest ≡ save_part p outline (left_by p outline) → IsTrue (starts_with_make rest)
+at_closing p outline rest is = subst (λ (l : List Access). IsTrue (starts_with_make l)) (sym is) refl
+
+-- what is public says all along whether tables are saved
+pub save_stays : (p : Public) (seen : List Entry) → (all_public p seen).save ≡ p.save
+save_stays p [] = refl
+save_stays p (x ∷ seen) = save_stays (next p x.skeleton x.seen) seen
+
 -- ---- the walk
 module _ {R : Type 0} (state : R → RevState) where
   abbrev pub world : Machine R → World
@@ -186,14 +213,14 @@ module _ {R : Type 0} (state : R → RevState) where
     pub seen : List Entry
     pub last : List Entry
     pub one_last : length last ≤ 1
-    pub in_access : ends_access ending ≡ true → length last ≡ 1
+    pub in_access : ends_within ending ≡ true → length last ≡ 1
     pub each_seen : length seen ≡ length (statements (take (length texts) spelt))
     pub lawful : (d : Draws) → AreDraws m0.engine d → Given d (indexes_of m0.engine) → AreSeen (StopsWithin ending Failed (Full m2)) (public_of m0.engine) (asked_of m0) spelt answers (seen ++ last)
     pub passed : m1.store.asked ≡ m0.store.asked ++ trace (public_of m0.engine) seen
     pub asked : m2.store.asked ≡ m0.store.asked ++ trace (public_of m0.engine) (seen ++ last)
     pub keys : m2.engine.vault.keys ≡ m0.engine.vault.keys
     pub start : engine_start m2.engine ≡ engine_start m0.engine
-    pub from_closing : opened_from m2.engine ≡ opened_from m0.engine
+    pub from_closing : (public_of m0.engine).save ≡ false → opened_from m2.engine ≡ opened_from m0.engine
     pub public : public_of m1.engine ≡ all_public (public_of m0.engine) seen
     pub unfailed : any_cut (seen ++ last) ≡ false → m2.store.faults ≡ m0.store.faults
     pub drawn : (d : Draws) → AreDraws m0.engine d → (g : Given d (indexes_of m0.engine)) → Reads d (indexes_of m0.engine) g (public_of m0.engine) (seen ++ last)
@@ -206,7 +233,7 @@ module _ {R : Type 0} (state : R → RevState) where
         → EarlyFrom n (session_of m0 d tables) m0.store.asked m2.store.asked spelt answers (seen ++ last)
 
   -- nothing was done
-  walked_none : (ending : Ending) (Failed : Type 0) (m0 m2 : Machine R) (more : List (List ℕ)) (part : List ℕ) → m2 ≡ m0 → part ≡ [] → EndsUntampered ending → (ends_access ending ≡ true → ⊥) → Walked ending Failed m0 m0 m2 [] more [] part
+  walked_none : (ending : Ending) (Failed : Type 0) (m0 m2 : Machine R) (more : List (List ℕ)) (part : List ℕ) → m2 ≡ m0 → part ≡ [] → EndsUntampered ending → (ends_within ending ≡ true → ⊥) → Walked ending Failed m0 m0 m2 [] more [] part
   unfolding SpellFirst AreSeen AnswersFrom any_cut statements
   walked_none ending Failed m0 m2 more part same none fine off = record {
     spelt = [];
@@ -224,7 +251,7 @@ module _ {R : Type 0} (state : R → RevState) where
     asked = ap (λ (m : Machine R). m.store.asked) same ∙ sym (append-nil m0.store.asked);
     keys = ap (λ (m : Machine R). m.engine.vault.keys) same;
     start = ap (λ (m : Machine R). engine_start m.engine) same;
-    from_closing = ap (λ (m : Machine R). opened_from m.engine) same;
+    from_closing = λ unsaved. ap (λ (m : Machine R). opened_from m.engine) same;
     public = refl;
     unfailed = λ not. ap (λ (m : Machine R). m.store.faults) same;
     drawn = λ d drawn g. reads_none d (indexes_of m0.engine) g (public_of m0.engine);
@@ -234,21 +261,21 @@ module _ {R : Type 0} (state : R → RevState) where
     early = λ d drawn tells steady tables held n before few. early_none n (session_of m0 d tables) m0.store.asked m2.store.asked [] (ap (λ (m : Machine R). m.store.asked) same) few;
   }
 
-  -- a stop that ends an access of an index is one of the engine's that does
-  access_stops : (run : RunStop) → ends_access (Ran (Err (session_stop run))) ≡ true → stops_access (Err run) ≡ true
-  access_stops Runs.StoreFault ends = refl
-  access_stops Runs.StashFull ends = refl
-  access_stops (Runs.Tampered q x) ends = absurd (cc ends)
-  access_stops Runs.SinkFault ends = absurd (cc ends)
-  access_stops Runs.NoMemory ends = absurd (cc ends)
-  access_stops Runs.KeeperFault ends = absurd (cc ends)
+  -- a stop that comes within a statement alone comes where it may
+  stops_where : (run : RunStop) (p : Public) (outline : Skeleton) → StopsWhere p outline (Err run) → may_end (Ran (Err (session_stop run))) p outline ≡ true
+  stops_where Runs.StoreFault p outline stops = elim stops [ inl access ↦ either_first (is_access p outline) (is_saved p outline) access | inr saved ↦ either_last (is_access p outline) (is_saved p outline) saved ]
+  stops_where Runs.StashFull p outline stops = stops
+  stops_where Runs.KeeperFault p outline stops = stops
+  stops_where (Runs.Tampered q x) p outline stops = refl
+  stops_where Runs.SinkFault p outline stops = refl
+  stops_where Runs.NoMemory p outline stops = refl
 
-  -- and neither want of memory nor a sink's fault
-  memory_ends : (run : RunStop) → run ≡ Runs.NoMemory → ends_access (Ran (Err (session_stop run))) ≡ true → ⊥
-  memory_ends run memory ends = cc (ap (λ (r : RunStop). ends_access (Ran (Err (session_stop r)))) memory, ends)
+  -- and that is neither want of memory nor a sink's fault
+  memory_ends : (run : RunStop) → run ≡ Runs.NoMemory → ends_within (Ran (Err (session_stop run))) ≡ true → ⊥
+  memory_ends run memory ends = cc (ap (λ (r : RunStop). ends_within (Ran (Err (session_stop r)))) memory, ends)
 
-  sink_ends : (run : RunStop) → run ≡ Runs.SinkFault → ends_access (Ran (Err (session_stop run))) ≡ true → ⊥
-  sink_ends run fault ends = cc (ap (λ (r : RunStop). ends_access (Ran (Err (session_stop r)))) fault, ends)
+  sink_ends : (run : RunStop) → run ≡ Runs.SinkFault → ends_within (Ran (Err (session_stop run))) ≡ true → ⊥
+  sink_ends run fault ends = cc (ap (λ (r : RunStop). ends_within (Ran (Err (session_stop r)))) fault, ends)
 
   -- a statement was stopped
   wants : (m0 m2 : Machine R) (stmt : Stmt) (run : RunStop) → Does state m0 m2 stmt (Err run) → Ran (Err (session_stop run)) ≡ Ran (Err NoMemory)
@@ -259,10 +286,12 @@ module _ {R : Type 0} (state : R → RevState) where
       let done : lacks.done ≡ script p (skeleton stmt) (seen_of m2.engine) = append_cancel_left m0.store.asked _ _ (sym lacks.asked ∙ does.ran.asked) in
       record {
         rest = lacks.rest;
-        split = subst (λ (l : List Access). l ++ lacks.rest ≡ whole_script p (skeleton stmt) (seen_of m2.engine)) done (lacks.split ∙ whole_is p (skeleton stmt) (seen_of m2.engine) does.unsaved);
+        split = subst (λ (l : List Access). l ++ lacks.rest ≡ whole_script p (skeleton stmt) (seen_of m2.engine)) done lacks.split;
         place = elim lacks.place [
           | inl make ↦ inl (subst (λ (l : List Access). AtMake l) done make)
-          | inr other ↦ inr (elim other [ inl before ↦ inl before | inr emits ↦ inr emits.0 ])
+          | inr (inl before) ↦ inr (inl before)
+          | inr (inr (inl emits)) ↦ inr (inr (inl emits.0))
+          | inr (inr (inr saving)) ↦ inr (inr (inr (saving.0, at_closing p (skeleton stmt) lacks.rest saving.1)))
         ];
       }
 
@@ -337,7 +366,7 @@ module _ {R : Type 0} (state : R → RevState) where
           (
             (λ is. wants m0 m2 cut.stmt run cut.does is),
             (λ is off. inl (cut.does.emits (ap (λ (r : RunStop). Err r) (only_sink run (cc is))))),
-            (λ ends. cut.does.ran.indexed (access_stops run ends)),
+            (λ ends. stops_where run (public_of m0.engine) sk cut.does.ran.stops),
             (λ is. full_stash m0 m2 cut.stmt run cut.does d drawn g (only_stash run (cc is))),
           ),
           refl,
@@ -346,7 +375,7 @@ module _ {R : Type 0} (state : R → RevState) where
         asked = cut.does.ran.asked ∙ ap (λ xs. m0.store.asked ++ xs) (sym (append-nil (script (public_of m0.engine) sk here)));
         keys = cut.does.ran.keys;
         start = cut.does.ran.start;
-        from_closing = cut.does.ran.from_closing;
+        from_closing = λ unsaved. cut.does.ran.from_closing (none_saved (public_of m0.engine) sk unsaved);
         public = refl;
         unfailed = λ not. absurd (cc (ap is_cut cut.does.ran.ends, or_first (is_cut here.end) false not));
         drawn = reads_last state m0 m2 cut.stmt (Err run) cut.does;
@@ -430,7 +459,7 @@ module _ {R : Type 0} (state : R → RevState) where
         asked = did.does.ran.asked ∙ ap (λ xs. m0.store.asked ++ xs) (sym (append-nil (script (public_of m0.engine) sk here)));
         keys = did.does.ran.keys;
         start = did.does.ran.start;
-        from_closing = did.does.ran.from_closing;
+        from_closing = λ unsaved. did.does.ran.from_closing (none_saved (public_of m0.engine) sk unsaved);
         public = refl;
         unfailed = λ not. same_by one.outcome (world m0) (world m2) here.end _ did.does.ran.cause did.does.ran.ends (or_first (is_cut here.end) false not);
         drawn = reads_last state m0 m2 did.stmt (Ok one.outcome) did.does;
@@ -445,7 +474,7 @@ module _ {R : Type 0} (state : R → RevState) where
   refused_is : (m0 m1 : Machine R) (text : List ℕ) (one : Answer) → (bad : Misspelt m0 m1 text one) → one ≡ refused_at bad.at
   refused_is m0 m1 text one bad = λ i. record { outcome = bad.refused i; bytes = (bad.line ∙ ap closing_line bad.refused) i; plan = bad.unplanned i }
 
-  walked_refused : (ending : Ending) (Failed : Type 0) (m0 m2 : Machine R) (text : List ℕ) (more : List (List ℕ)) (one : Answer) (part : List ℕ) → part ≡ one.bytes → Misspelt m0 m2 text one → EndsUntampered ending → (ends_access ending ≡ true → ⊥)
+  walked_refused : (ending : Ending) (Failed : Type 0) (m0 m2 : Machine R) (text : List ℕ) (more : List (List ℕ)) (one : Answer) (part : List ℕ) → part ≡ one.bytes → Misspelt m0 m2 text one → EndsUntampered ending → (ends_within ending ≡ true → ⊥)
       → Walked ending Failed m0 m0 m2 [] (text ∷ more) [] part
   unfolding SpellFirst AreSeen AnswersFrom any_cut statements
   walked_refused ending Failed m0 m2 text more one part is bad fine off = record {
@@ -464,7 +493,7 @@ module _ {R : Type 0} (state : R → RevState) where
     asked = ap (λ (m : Machine R). m.store.asked) bad.same ∙ sym (append-nil m0.store.asked);
     keys = ap (λ (m : Machine R). m.engine.vault.keys) bad.same;
     start = ap (λ (m : Machine R). engine_start m.engine) bad.same;
-    from_closing = ap (λ (m : Machine R). opened_from m.engine) bad.same;
+    from_closing = λ unsaved. ap (λ (m : Machine R). opened_from m.engine) bad.same;
     public = refl;
     unfailed = λ not. ap (λ (m : Machine R). m.store.faults) bad.same;
     drawn = λ d drawn g. reads_none d (indexes_of m0.engine) g (public_of m0.engine);
@@ -631,7 +660,7 @@ module _ {R : Type 0} (state : R → RevState) where
         asked = asked_more m0 m1 m2 text one did all rest.asked;
         keys = rest.keys ∙ did.does.ran.keys;
         start = rest.start ∙ did.does.ran.start;
-        from_closing = rest.from_closing ∙ did.does.ran.from_closing;
+        from_closing = λ unsaved. rest.from_closing (ap (λ (q : Public). q.save) did.does.ran.goes_on.public ∙ unsaved) ∙ did.does.ran.from_closing (none_saved p sk unsaved);
         public = rest.public ∙ ap (λ (q : Public). all_public q rest.seen) did.does.ran.goes_on.public;
         unfailed = λ not.
             rest.unfailed (or_rest (is_cut here.end) (any_cut all) not)

@@ -4,6 +4,7 @@ pub mod KeptSummary
 pub mod Pushed
 pub mod Generating
 pub mod Running
+pub mod Leaving
 pub mod Standing
 pub mod Serving
 pub mod Steps

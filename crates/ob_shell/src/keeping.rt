@@ -10,13 +10,14 @@ ghost use Rattle.ob_headline.specs.Settings.{IsTaken, settings_of};
 ghost use Rattle.ob_headline.specs.Usage.{is_kept, is_traced, kept_usage};
 ghost use Rattle.ob_headline.specs.Words.{faults_of, outside_of};
 ghost use Rattle.ob_mean.specs.Flats.{AreFlat};
+ghost use Rattle.ob_seal.specs.Sealed.{keys_of};
 ghost use Rattle.ob_shell.specs.Closed.{LineWritten, Untouched, Unwritten};
 ghost use Rattle.ob_shell.specs.Engaging.{ClosesRun, EndsUnserved, Engages, FindsEngine};
 ghost use Rattle.ob_shell.specs.Engaging.{KeptConcludedBy, KeptGenerated, RanKept, ServesRun, StartsRun};
 ghost use Rattle.ob_shell.specs.Feeding.{IsFedBy};
 ghost use Rattle.ob_shell.specs.Generating.{asked_for};
 ghost use Rattle.ob_shell.specs.KeptSummary.{MayKeep};
-ghost use Rattle.ob_shell.specs.Steps.{IsReady, machine_of};
+ghost use Rattle.ob_shell.specs.Steps.{IsReady, machine_of, told_nothing};
 ghost use Rattle.ob_shell.specs.WordsRead.{AreWithin};
 
 use crate::feed::{Feed, Halt};
@@ -27,7 +28,7 @@ use crate::top::{Ended, ended_with, last_line, refuse_words, serve_over, status_
 use crate::trace::trace_from;
 use crate::words::{Words, read_kept_words};
 use ob_base::{Config, Mark, Stop};
-use ob_exec::{CloseErr, Engine, OpenErr};
+use ob_exec::{CloseErr, Engine, OpenErr, Unsaved};
 use ob_gen::{Discard, Generated, Tally};
 use ob_headline::{Ending, KeptEnding, Report, Seed};
 use ob_io::{Sink, Source};
@@ -213,7 +214,7 @@ fn close_run<R: Revisions, T: Sink, S: BlockStore, K: Keeper>(
     store: &mut S,
     keeper: &mut K,
 ) -> KeptEnded
-    requires ready { IsReady R.state (machine_of engine (S.state store.old)) }
+    requires ready { IsReady R.state ⊥ (machine_of engine (S.state store.old) told_nothing) }
     requires few { count_of engine (S.state store.old) < 2 ^ 63 + 2 ^ 59 }
     requires flat { AreFlat (headings_of (public_of engine).tables) }
     requires high { high ≡ high_of engine }
@@ -249,13 +250,13 @@ fn serve_run<R: Revisions, I: Source, O: Sink, T: Sink, S: BlockStore, K: Keeper
     store: &mut S,
     keeper: &mut K,
 ) -> KeptEnded
-    requires ready { IsReady R.state (machine_of engine (S.state store.old)) }
+    requires ready { IsReady R.state ⊥ (machine_of engine (S.state store.old) told_nothing) }
     requires few { count_of engine (S.state store.old) < 2 ^ 63 + 2 ^ 59 }
     requires kept { (public_of engine).keep ≡ true }
     requires taken { feed.old.taken ≤ feed.old.limit }
     requires fed_by { IsFedBy feed.old (I.gave input.old) }
     ensures served { (base : Base) (config : Config) (key : List ℕ)
-        → Engages R.state base config key engine (S.state store.old)
+        → Engages R.state base config (keys_of key) engine (S.state store.old)
         → ServesRun R.state base key tracing result feed.old feed.new
         (I.left input.old) (I.left input.new) (I.gave input.new)
         (O.written out.old) (O.written out.new) (T.written trace.old) (T.written trace.new)
@@ -267,7 +268,17 @@ fn serve_run<R: Revisions, I: Source, O: Sink, T: Sink, S: BlockStore, K: Keeper
     ensures fed_by { IsFedBy feed.new (I.gave input.new) }
 {
     let mut engine = engine;
-    match serve(alloc, tracing, feed, input, &mut engine, store, out, trace) {
+    match serve(
+        alloc,
+        tracing,
+        feed,
+        input,
+        &mut engine,
+        store,
+        &mut Unsaved,
+        out,
+        trace,
+    ) {
         Ok(tally) => {
             let high = engine.high();
             close_run(tally, tracing, high, engine, trace, store, keeper)

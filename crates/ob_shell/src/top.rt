@@ -8,9 +8,10 @@ ghost use Rattle.ob_headline.specs.Endings;
 ghost use Rattle.ob_headline.specs.Headline.{Headline};
 ghost use Rattle.ob_headline.specs.Settings.{IsTaken, settings_of};
 ghost use Rattle.ob_headline.specs.Usage.{usage, meddle_usage, is_traced};
-ghost use Rattle.ob_headline.specs.Words.{SinksRose, faults_of, outside_of};
+ghost use Rattle.ob_headline.specs.Words.{SinksRose, faults_of, keys_in, outside_of};
 ghost use Rattle.ob_headline.specs.declared.seed.Seed.{Seed};
 ghost use Rattle.ob_meddle.specs.Shows.{state_of};
+ghost use Rattle.ob_seal.specs.Sealed.{keys_of};
 ghost use Rattle.ob_shell.specs.Closed.{LineWritten, Untouched, Unwritten, refused_by};
 ghost use Rattle.ob_shell.specs.Feeding.{IsFedBy};
 ghost use Rattle.ob_shell.specs.Generating.{MeddleRan, Summarized, asked_for};
@@ -27,7 +28,7 @@ use crate::key::{FirstLine, read_key};
 use crate::session::{Halted, serve};
 use crate::words::{Words, WordsErr, read_meddle_words, read_words};
 use ob_base::Stop;
-use ob_exec::Engine;
+use ob_exec::{Engine, Unsaved};
 use ob_gen::Tally;
 use ob_headline::{Ending, Report};
 use ob_io::{Sink, Source};
@@ -114,7 +115,8 @@ pub(crate) fn ended_with(ran: Result<Tally, Halted>, high: u64) -> Ended
     }
 }
 
-// Starts an engine with this secret, and serves what follows the first line. Tells of the rows open, too.
+// Starts an engine with this secret, and serves what follows the first line; no tables are saved. Tells of the rows open,
+// too.
 fn serve_with<I: Source, O: Sink, T: Sink, S: BlockStore>(
     alloc: Global,
     words: Words,
@@ -131,7 +133,7 @@ fn serve_with<I: Source, O: Sink, T: Sink, S: BlockStore>(
     requires fresh { (S.state store.old).asked ≡ [] }
     ensures ran { RanAfter ⟦<BaseRevs as Revisions>⟧.state
         (sink_of words.trace (T.written trace.old) (T.written trace.new))
-        (fresh (Some words.config)) (Some key.now)
+        (fresh (Some words.config)) (keys_of key.now) (Some key.now)
         feed.old feed.new
         (I.left input.old) (I.left input.new) (I.gave input.new)
         (O.written out.old) (O.written out.new)
@@ -162,6 +164,7 @@ fn serve_with<I: Source, O: Sink, T: Sink, S: BlockStore>(
                 input,
                 &mut engine,
                 store,
+                &mut Unsaved,
                 out,
                 trace,
             );
@@ -183,7 +186,7 @@ pub(crate) fn run<I: Source, O: Sink, T: Sink, S: BlockStore>(
     requires fresh { (S.state store.old).asked ≡ [] }
     ensures shown { RunShown result.tally
         (sink_of words.trace (T.written trace.old) (T.written trace.new))
-        (fresh (Some words.config))
+        (fresh (Some words.config)) keys_in
         (I.left input.old) (I.left input.new) (I.gave input.new)
         (O.written out.old) (O.written out.new)
         (S.state store.old) (S.state store.new)
@@ -257,7 +260,7 @@ pub(crate) fn serve_over<I: Source, O: Sink, T: Sink, S: BlockStore>(
     requires fresh { (S.state store.old).asked ≡ [] }
     ensures reported { (tally : Tally) × Reported tally
         (sink_of words.trace (T.written trace.old) (T.written trace.new)) ⊤
-        (fresh (Some words.config))
+        (fresh (Some words.config)) keys_in
         (I.left input.old) (I.left input.new) (I.gave input.new)
         (O.written out.old) (O.written out.new)
         (S.state store.old) (S.state store.new)
@@ -285,7 +288,7 @@ pub fn shell_top<I: Source, O: Sink, T: Sink, S: BlockStore>(
 ) -> Report
     requires fresh { (S.state store.old).asked ≡ [] }
     ensures headline { asked_for usage (map string_bytes words.now) ≡ None
-        → Headline (fresh (settings_of usage (map string_bytes words.now)))
+        → Headline (fresh (settings_of usage (map string_bytes words.now))) keys_in
         (IsTaken usage (map string_bytes words.now))
         (is_traced usage (map string_bytes words.now))
         (outside_of (I.left input.old) (I.gave input.old) (O.written out.old) (T.written trace.old)

@@ -199,6 +199,11 @@ module _ {R : Type 0} (state : R → RevState) (old : Engine R) (s s1 : StoreSta
   opened x = subst (λ (r : RoomState). Opens x old.room.high r.high) (sym room_is) (opens_some x old.room.high 1 (omega (arith)))
 
   -- ---- the regions that there were
+  -- neither was there
+  above : (q : ℕ) → q < old.vault.next → both q → ⊥
+  above q below (inl same) = omega (arith, below, same)
+  above q below (inr same) = omega (arith, below, same)
+
   apart_table : (i : ℕ) (u : Table) → slice_get old.public.tables i ≡ Some u → both u.region → ⊥
   apart_table i u is hit =
       let less = region_below old.public.pack i old.public.tables u _ agrees.ready agrees.tables is in
@@ -336,6 +341,7 @@ module _ {R : Type 0} (state : R → RevState) (old : Engine R) (s s1 : StoreSta
           (ap (λ (c : Columns). old.public.tables ++ record { heading = record { name = table; schema = c; capacity = capacity; shape = Indexed }; region = old.public.next_region } ∷ []) schema_is)
           are may (ap (λ (p : DrawPlace). p.key) next) drawn_next;
       stays = λ q left. leaves_none old.public (Create table columns capacity Indexed) Whole q _ (none_by old.public.save None (inr refl)) left;
+      kept = λ saves q below. went.lasts.apart.rests q (above q below);
       indexed = λ stops. absurd (cc stops);
     }
 
@@ -430,7 +436,7 @@ module _ {R : Type 0} (state : R → RevState) (old : Engine R) (s s1 : StoreSta
     ran_left : RanStatement state (Create table columns capacity Indexed) (answer_of e) old s cut_engine t
     ran_left =
         stopped_left state (Create table columns capacity Indexed) old s v room t agrees free indexes draws both n part e stays (opened _) cut (script_is (Cut n)) count are_left may_left
-        (ap (λ (p : DrawPlace). p.key) next) drawn_next
+        (ap (λ (p : DrawPlace). p.key) next) drawn_next above
 
     -- want of memory: before the first make or behind it, or just before the second or behind that
     lacks : BeganBehind [] (make_script 1 tree) s1 t ⊎ BeganBehind (create_script 1 tree) (make_script 1 stash) s1 t

@@ -243,7 +243,8 @@ module _ {R : Type 0} (state : R → RevState) (old : Engine R) (s s1 : StoreSta
       (tables_added old.public.pack old.vault.next old.public.tables (others_of old.closing old.indexes.items) old.indexes.items new_table _ _ all.lasts agrees.ready refl agrees.tables
       (new_place old.public (count_of old s) table columns capacity shape now) agrees.next flat_shape is_table
       (λ i u is same. unnamed i u (record { get = is; named = same })) (λ q. cases_eq q old.vault.next))
-      (λ q left. leaves_none old.public (Create table columns capacity shape) Whole q _ (none_by old.public.save None (inr refl)) left) in
+      (λ q left. leaves_none old.public (Create table columns capacity shape) Whole q _ (none_by old.public.save None (inr refl)) left)
+      (λ saves q below. all.lasts.apart.rests q (λ same. omega (arith, below, same))) in
       finished state stmt old s agrees now refl refl flat_shape v room t (old.public.tables ++ new_table ∷ []) Created answered tt ran
       (keeps_pass state old s s1 rests agrees (engine_after old v room (old.public.tables ++ new_table ∷ []) Whole old.ended) t done refl (λ good accepts. seals.seals good (accepts _ _)))
       (λ tables d reads.

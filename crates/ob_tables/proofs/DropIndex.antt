@@ -127,6 +127,7 @@ module _ {R : Type 0} (state : R → RevState) (old : Engine R) (s s1 : StoreSta
           all.did.asked (script_is Whole) (removed_is name old.public.tables i table agrees.tables.names here.get here.named) are may refl
           (λ d of_d. let sum : d.drawn ≡ d.drawn + 0 = omega (arith) in of_d.next ∙ ap (λ (n : ℕ). n % 2 ^ 67) sum);
       stays = λ q is. leaves_none old.public (DropSkeleton name) Whole q _ (none_by old.public.save (left_region old.public (DropSkeleton name)) (inl unsaved_here)) is;
+      kept = λ saves. let not = unsaved_here in absurd (cc (saves, not));
       indexed = λ stops. absurd (cc stops);
     }
 

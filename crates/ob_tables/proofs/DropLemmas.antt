@@ -25,6 +25,7 @@ use Rattle.ob_vault.specs.Calls.{Lasts, one}
 use Rattle.ob_vault.proofs.Runs.{went_join}
 use Rattle.ob_vault.proofs.WordLemmas.{went_rests}
 use Rattle.ob_flat.specs.declared.flat.Flat.{Flat}
+use Rattle.std.proofs.lemmas.Bool.{cases_eq}
 use Rattle.ob_mutate.specs.declared.settling.Former.{Former}
 use Rattle.ob_mutate.specs.declared.settling.Former.TheVariants.{Discard, Keep}
 use Rattle.ob_mutate.specs.Mutating.{LeavesFormer, former_script}
@@ -45,7 +46,7 @@ use Rattle.ob_tables.specs.Agreeing.{Agrees, world_of, count_of}
 use Rattle.ob_verdict.specs.Outcomes.{refusal_now, outcome_of}
 use Rattle.ob_tables.specs.Serving.{ServesSilently}
 use Rattle.ob_tables.specs.Telling.{AreHeld}
-use Rattle.ob_tables.proofs.FormerLemmas.{former_is, left_stays}
+use Rattle.ob_tables.proofs.FormerLemmas.{former_is, kept_former, left_stays}
 use Rattle.ob_tables.proofs.HeldLemmas.{held_kept, holds_kept}
 use Rattle.ob_tables.proofs.PlainLemmas.{settle_is}
 use Rattle.ob_tables.proofs.RunLemmas.{IsAnswered, engine_after, ran_whole}
@@ -306,7 +307,11 @@ module _ {R : Type 0} (state : R → RevState) (old : Engine R) (s s1 : StoreSta
       let ran = ran_whole state (DropSkeleton name) old s v old.room t agrees agrees.room refl (one r) (remove old.public.tables i) part Dropped lives is_answered (opens_former (former_of old.public) r old.room.high) all
       (script_is Whole) removed
       (tables_removed old.public.pack r old.public.tables (others_of old.closing old.indexes.items) old.indexes.items table i _ _ all.lasts agrees.tables here.get refl shape (λ region live. absurd (cc (live, leaves.gone))))
-      (λ q is. left_stays old.public.save table.region s s1 t (region_at name old.public) q (state v.revs).live (ap (option_map (λ (u : Stored ℕ). u.held)) found) rests leaves.stays leaves.gone is) in
+      (λ q is. left_stays old.public.save table.region s s1 t (region_at name old.public) q (state v.revs).live (ap (option_map (λ (u : Stored ℕ). u.held)) found) rests leaves.stays leaves.gone is)
+      (λ saves q below. elim (cases_eq q r) [
+        | inl same ↦ kept_former old.public.save r s s1 t q saves same rests leaves.stays
+        | inr off ↦ all.lasts.apart.rests q off
+      ]) in
       serves_as state stmt old s t _ _ _ _ answered is
       (finished state stmt old s agrees now refl refl tt v old.room t (remove old.public.tables i) Dropped is_answered tt ran
       (keeps_pass state old s s1 rests agrees (engine_after old v old.room (remove old.public.tables i) Whole old.ended) t (at state v t) refl (λ good accepts. leaves.seals.seals good))

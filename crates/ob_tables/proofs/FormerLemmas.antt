@@ -45,3 +45,9 @@ left_stays true region s s1 t o q live found rests stays gone is =
       ap live (sym same) ∙ gone,
     )
 left_stays false region s s1 t o q live found rests stays gone is = absurd (cc is)
+
+-- and what is kept of it stays
+pub kept_former : (saves : Bool) (region : ℕ) (s s1 t : StoreState) (q : ℕ) → saves ≡ true → q ≡ region → ChangesNothing s s1 → StaysFormer (if saves then Keep else Discard) region s1 t → t.kept q ≡ s.kept q
+kept_former true region s s1 t q save same rests stays =
+    subst (λ (n : ℕ). t.kept n ≡ s.kept n) (sym same) (stays.kept ∙ rests.keeps.kept region)
+kept_former false region s s1 t q save same rests stays = absurd (cc save)

@@ -176,6 +176,9 @@ module _ {R : Type 0} (state : R → RevState) (stmt : Stmt) (old : Engine R) (s
   none_left end q P = leaves_none old.public (skeleton stmt) end q P
       (none_by old.public.save (left_region old.public (skeleton stmt)) (inl (unsaved state old s k x agrees done.get)))
 
+  not_saved : {P : Type 0} → old.public.save ≡ true → P
+  not_saved saves = let not = unsaved state old s k x agrees done.get in absurd (cc (saves, not))
+
   module _ (drew : draw ≡ draw_at old.draws.key old.draws.next) where
     -- the number that it drew is the meaning's next
     pub draw_is : (d : Draws) → AreDraws old d → draw ≡ next_draw d
@@ -270,6 +273,7 @@ module _ {R : Type 0} (state : R → RevState) (stmt : Stmt) (old : Engine R) (s
           goes_on = left_on state (skeleton stmt) old s v room t agrees free indexes draws old.public.tables (seen_whole keyed.leaf) part old.ended lives all.lasts.ready all.lasts.start all.lasts.keys
               asked refl same are may key drawn;
           stays = λ q is. none_left (seen_whole keyed.leaf).end q _ is;
+          kept = λ saves. not_saved saves;
           indexed = λ stops. absurd (cc stops);
         }
 
@@ -302,6 +306,7 @@ module _ {R : Type 0} (state : R → RevState) (stmt : Stmt) (old : Engine R) (s
           leaves = λ d of. moves_cut drew d of (drawn_by old.public (skeleton stmt)) (nat_lt old.public.stash n);
           goes_on = refl;
           stays = λ q is. none_left (seen n).end q _ is;
+          kept = λ saves. not_saved saves;
           indexed = λ stops. is_an_access;
         } in
         elim never [
@@ -346,5 +351,6 @@ module _ {R : Type 0} (state : R → RevState) (stmt : Stmt) (old : Engine R) (s
           leaves = λ d of. moves_cut drew d of (drawn_by old.public (skeleton stmt)) (nat_lt old.public.stash n);
           goes_on = refl;
           stays = λ q is. none_left (seen n).end q _ is;
+          kept = λ saves. not_saved saves;
           indexed = λ stops. is_an_access;
         }

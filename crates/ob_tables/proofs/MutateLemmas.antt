@@ -53,7 +53,7 @@ use Rattle.ob_tables.specs.Running.{HasNoRows, answer_of, is_stop}
 use Rattle.ob_verdict.specs.Outcomes.{refusal_now, outcome_of}
 use Rattle.ob_tables.specs.Serving.{ServesSilently}
 use Rattle.ob_tables.specs.Telling.{AreHeld, ReadsTrue, Represents}
-use Rattle.ob_tables.proofs.FormerLemmas.{former_is, left_stays}
+use Rattle.ob_tables.proofs.FormerLemmas.{former_is, kept_former, left_stays}
 use Rattle.ob_tables.proofs.HeldLemmas.{Beside, held_at, held_plain, held_moved}
 use Rattle.ob_tables.proofs.FoundLemmas.{named_flat, shape_found}
 use Rattle.ob_tables.proofs.PlainLemmas.{none_drawn}
@@ -169,7 +169,11 @@ module _ {R T : Type 0} (state : R → RevState) (stmt : Stmt) (name : List ℕ)
       (subst (λ (ts : List Table). AreTables ts (others_of old.closing old.indexes.items) old.indexes.items old.public.pack done) (sym set)
       (tables_moved old.public.pack g r name old.public.tables (others_of old.closing old.indexes.items) old.indexes.items table i _ _ all.lasts agrees.ready refl agrees.tables here.get here.named refl shape_is_flat is_table
       (λ shape live. absurd (cc (live, mutates.gone))) (λ q z. cases_eq q z)))
-      (λ q is. left_stays old.public.save r s s1 t (left_region old.public (skeleton stmt)) q (state v.revs).live (alters.leaves ∙ ap (option_map (λ (u : Stored ℕ). u.held)) found_region) rests mutates.stays mutates.gone is) in
+      (λ q is. left_stays old.public.save r s s1 t (left_region old.public (skeleton stmt)) q (state v.revs).live (alters.leaves ∙ ap (option_map (λ (u : Stored ℕ). u.held)) found_region) rests mutates.stays mutates.gone is)
+      (λ saves q below. elim (cases_eq q r) [
+        | inl same ↦ kept_former old.public.save r s s1 t q saves same rests mutates.stays
+        | inr off ↦ all.lasts.apart.rests q (λ hit. elim hit [ inl same ↦ off same | inr same ↦ omega (arith, below, same) ])
+      ]) in
       finished state stmt old s agrees now alters.plain none alters.makes_none v room t (slice_set old.public.tables i moved_table) (outcome y) (alters.answers y) (alters.silent y) ran
       (keeps_pass state old s s1 rests agrees (engine_after old v room (slice_set old.public.tables i moved_table) Whole old.ended) t done refl (λ good accepts. mutates.seals.seals good (accepts _ _)))
       (λ tables d reads.

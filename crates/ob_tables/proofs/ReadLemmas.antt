@@ -100,7 +100,7 @@ module _ {R : Type 0} (state : R → RevState) (old : Engine R) (s s1 : StoreSta
   read_done outcome answered went lives =
       let all = went_all went in
       ran_whole state select old s v room t agrees free refl none old.public.tables reads outcome lives answered (opened reads) all (reads_is Whole) refl (tables_read all.lasts)
-      (λ q is. leaves_none old.public select Whole q _ (none_by old.public.save None (inr refl)) is)
+      (λ q is. leaves_none old.public select Whole q _ (none_by old.public.save None (inr refl)) is) (λ saves q below. all.lasts.apart.rests q (λ off. off))
 
   -- the pass gave up
   pub cut_after : (e : OpErr) → PassCut e reads none (at state old.vault s1) now → PassCut e reads none (world_of state old s) now
@@ -110,4 +110,4 @@ module _ {R : Type 0} (state : R → RevState) (old : Engine R) (s s1 : StoreSta
       → RanStatement state select (answer_of e) old s (engine_after old v room old.public.tables (Cut n) (is_stop (answer_of e))) t
   read_cut e n cut count =
       let all = cut_after e cut in
-      ran_stopped state select old s v room t agrees free refl none n reads e (opened _) all (reads_is (Cut n)) count (tables_read all.lasts)
+      ran_stopped state select old s v room t agrees free refl none n reads e (opened _) all (reads_is (Cut n)) count (tables_read all.lasts) (λ q below off. off)

@@ -198,6 +198,7 @@ module _ {R : Type 0} (state : R → RevState) (skeleton : Skeleton) (old : Engi
       drawn = λ d are. draws_same old (record old { seen = seen_to Static }) d 0 refl refl refl are;
     };
     stays = λ q is. absurd (cc is);
+    kept = λ saves q below. refl;
     indexed = λ stops. absurd (cc stops);
   }
 
@@ -272,13 +273,14 @@ module _ {R : Type 0} (state : R → RevState) (skeleton : Skeleton) (old : Engi
   cut_on OpErrs.Sink indexes draws n on = refl
   cut_on OpErrs.NoMemory indexes draws n on = refl
 
-  -- a pass gave up, which left the indexes
+  -- a pass gave up, which left the indexes, and the regions that there were
   pub stopped_left : (indexes : Vec Index Global) (draws : DrawPlace) (some : ℕ → Type 0) (n : ℕ) (x : List Access) (e : OpErr) → indexes.items ≡ old.indexes.items
       → Opens (run_script old.public skeleton (seen_to (Cut n))) old.room.high room.high → PassCut e x some (world_of state old s) (at state v t)
       → whole_run old.public skeleton (seen_to (Cut n)) ≡ x → n ≡ length t.asked - length s.asked → AreTables old.public.tables (others_of old.closing indexes.items) indexes.items old.public.pack (at state v t)
       → MayHave old indexes.items → draws.key ≡ old.draws.key → ((d : Draws) → AreDraws old d → draws.next ≡ (d.drawn + drawn_by old.public skeleton) % 2 ^ 67)
+      → ((q : ℕ) → q < old.vault.next → some q → ⊥)
       → RanStatement state skeleton (answer_of e) old s (engine_left old indexes draws v room old.public.tables (seen_to (Cut n)) (is_stop (answer_of e))) t
-  stopped_left indexes draws some n x e same opens cut is count are may key drawn =
+  stopped_left indexes draws some n x e same opens cut is count are may key drawn fresh =
       let first : t.asked ≡ s.asked ++ take n x = began_take x _ _ cut.began ∙ ap (λ (k : ℕ). s.asked ++ take k x) (sym count) in
       record {
         asked = first ∙ ap (λ (y : List Access). s.asked ++ take n y) (sym is);
@@ -295,6 +297,7 @@ module _ {R : Type 0} (state : R → RevState) (skeleton : Skeleton) (old : Engi
         leaves = λ d of. inl (refl, λ goes. same);
         goes_on = cut_on e indexes draws n (left_on indexes draws old.public.tables (seen_to (Cut n)) (take n x) false refl cut.lasts.ready cut.lasts.start cut.lasts.keys first (ap (take n) is) refl are may key drawn);
         stays = λ q is. absurd (cc is);
+        kept = λ saves q below. cut.lasts.apart.rests q (fresh q below);
         indexed = λ stops. absurd (no_access e stops);
       }
 
@@ -313,8 +316,9 @@ module _ {R : Type 0} (state : R → RevState) (skeleton : Skeleton) (old : Engi
   pub ran_whole : (some : ℕ → Type 0) (tables : List Table) (x : List Access) (outcome : Outcome) → old.ended ≡ false → IsAnswered outcome → Opens x old.room.high room.high
       → Went x some (world_of state old s) (at state v t) → whole_run old.public skeleton (seen_to Whole) ≡ x → tables ≡ tables_after old.public skeleton
       → AreTables tables (others_of old.closing old.indexes.items) old.indexes.items old.public.pack (at state v t) → ((q : ℕ) → left_by old.public skeleton ≡ Some q → StaysStored q s t × ((state v.revs).live q ≡ None))
+      → (old.public.save ≡ true → (q : ℕ) → q < old.vault.next → t.kept q ≡ s.kept q)
       → RanStatement state skeleton (Ok outcome) old s (engine_after old v room tables Whole old.ended) t
-  ran_whole some tables x outcome lives answered opens went is same are stays = record {
+  ran_whole some tables x outcome lives answered opens went is same are stays kept = record {
     asked = went.did.asked ∙ ap (λ (y : List Access). s.asked ++ y) (sym is);
     later = went.lasts.later;
     keys = went.lasts.keys;
@@ -329,16 +333,18 @@ module _ {R : Type 0} (state : R → RevState) (skeleton : Skeleton) (old : Engi
     leaves = λ d of. inl (refl, λ goes. refl);
     goes_on = went_on tables Whole x old.ended lives went.lasts.ready went.lasts.start went.lasts.keys went.did.asked is same are;
     stays = λ q is. let left = stays q is in record { stored = left.0; forgotten = left.1 };
+    kept = kept;
     indexed = λ stops. absurd (cc stops);
   }
 
   -- a pass gave up
   pub ran_stopped : (some : ℕ → Type 0) (n : ℕ) (x : List Access) (e : OpErr) → Opens (run_script old.public skeleton (seen_to (Cut n))) old.room.high room.high → PassCut e x some (world_of state old s) (at state v t)
       → whole_run old.public skeleton (seen_to (Cut n)) ≡ x → n ≡ length t.asked - length s.asked → AreTables old.public.tables (others_of old.closing old.indexes.items) old.indexes.items old.public.pack (at state v t)
+      → ((q : ℕ) → q < old.vault.next → some q → ⊥)
       → RanStatement state skeleton (answer_of e) old s (engine_after old v room old.public.tables (Cut n) (is_stop (answer_of e))) t
-  ran_stopped some n x e opens cut is count are =
+  ran_stopped some n x e opens cut is count are fresh =
       stopped_left state skeleton old s v room t agrees free old.indexes old.draws some n x e refl opens cut is count are (may_have state old s agrees) refl
-      (λ d of. let sum : d.drawn ≡ d.drawn + drawn_by old.public skeleton = omega (arith, undrawn) in of.next ∙ ap (λ (k : ℕ). k % 2 ^ 67) sum)
+      (λ d of. let sum : d.drawn ≡ d.drawn + drawn_by old.public skeleton = omega (arith, undrawn) in of.next ∙ ap (λ (k : ℕ). k % 2 ^ 67) sum) fresh
 
 module _ {R : Type 0} (state : R → RevState) (skeleton : Skeleton) (old : Engine R) (s : StoreState) (v : Vault R) (room : RoomState) (t : StoreState)
     (agrees : Agrees state old s) (room_is : room ≡ record old.room { high = max old.room.high old.room.pack }) (undrawn : drawn_by old.public skeleton ≡ 0) where
@@ -353,15 +359,17 @@ module _ {R : Type 0} (state : R → RevState) (skeleton : Skeleton) (old : Engi
   pub ran_done : (some : ℕ → Type 0) (tables : List Table) (x : List Access) (outcome : Outcome) → old.ended ≡ false → IsAnswered outcome → Went x some (world_of state old s) (at state v t)
       → whole_run old.public skeleton (seen_to Whole) ≡ x → tables ≡ tables_after old.public skeleton → AreTables tables (others_of old.closing old.indexes.items) old.indexes.items old.public.pack (at state v t)
       → ((q : ℕ) → left_by old.public skeleton ≡ Some q → StaysStored q s t × ((state v.revs).live q ≡ None))
+      → (old.public.save ≡ true → (q : ℕ) → q < old.vault.next → t.kept q ≡ s.kept q)
       → RanStatement state skeleton (Ok outcome) old s (engine_after old v room tables Whole old.ended) t
-  ran_done some tables x outcome lives answered went is same are stays =
-      ran_whole state skeleton old s v room t agrees free undrawn some tables x outcome lives answered (opened x) went is same are stays
+  ran_done some tables x outcome lives answered went is same are stays kept =
+      ran_whole state skeleton old s v room t agrees free undrawn some tables x outcome lives answered (opened x) went is same are stays kept
 
   -- a pass over the room gave up
   pub ran_cut : (some : ℕ → Type 0) (n : ℕ) (x : List Access) (e : OpErr) → PassCut e x some (world_of state old s) (at state v t)
       → whole_run old.public skeleton (seen_to (Cut n)) ≡ x → n ≡ length t.asked - length s.asked → AreTables old.public.tables (others_of old.closing old.indexes.items) old.indexes.items old.public.pack (at state v t)
+      → ((q : ℕ) → q < old.vault.next → some q → ⊥)
       → RanStatement state skeleton (answer_of e) old s (engine_after old v room old.public.tables (Cut n) (is_stop (answer_of e))) t
-  ran_cut some n x e cut is count are = ran_stopped state skeleton old s v room t agrees free undrawn some n x e (opened _) cut is count are
+  ran_cut some n x e cut is count are fresh = ran_stopped state skeleton old s v room t agrees free undrawn some n x e (opened _) cut is count are fresh
 
 -- the same, of an equal answer and an equal engine
 pub ran_as : {R : Type 0} (state : R → RevState) (skeleton : Skeleton) (old : Engine R) (s : StoreState) (t : StoreState) (r q : Result Outcome RunStop) (new same : Engine R)
@@ -403,6 +411,7 @@ ran_unasked state skeleton old s t indexes draws tables agrees rests =
       leaves = λ d of. inl (refl, λ goes. absurd (cc goes));
       goes_on = refl;
       stays = λ q is. absurd (cc is);
+      kept = λ saves q below. rests.keeps.kept q;
       indexed = λ stops. absurd (cc stops);
     }
 

@@ -208,7 +208,8 @@ module _ {R : Type 0} (state : R → RevState) (stmt : Stmt) (old : Engine R) (s
         let off : (q : ℕ) → others q → one old.vault.next q → ⊥ =
         λ q is here. let less = beside_below old.public.pack old.public.tables others q _ agrees.ready agrees.tables is in omega (arith, less, here) in
         let ran = ran_cut state (skeleton stmt) old s v room t agrees room_is undrawn (one old.vault.next) n x e all (script_is (Cut n)) count
-        (tables_kept (one old.vault.next) old.public.pack old.public.tables others old.indexes.items _ _ all.lasts apart off (λ q shape live here. absurd (cc (live, gone, here))) agrees.tables) in
+        (tables_kept (one old.vault.next) old.public.pack old.public.tables others old.indexes.items _ _ all.lasts apart off (λ q shape live here. absurd (cc (live, gone, here))) agrees.tables)
+        (λ q below same. omega (arith, below, same)) in
         record {
           ran = ran;
           started = λ is. absurd (cc is);

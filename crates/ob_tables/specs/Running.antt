@@ -146,6 +146,8 @@ pub record RanAs {R : Type 0} (state : R → RevState) (skeleton : Skeleton) (sc
   pub stays : (q : ℕ) → left_then old.public skeleton new.seen.end ≡ Some q
       → LeftBehind state q s new t
   pub replaced : replaced_of new ≡ replaced_of old
+  -- where tables are saved nothing has changed of what is kept of the regions that there were
+  pub kept : old.public.save ≡ true → (q : ℕ) → q < old.vault.next → t.kept q ≡ s.kept q
   pub indexed : stops_access result ≡ true → is_access old.public skeleton ≡ true
 
 -- as the engine does it: the accesses, and what is public, follow from the statement and what is seen of it

@@ -23,7 +23,7 @@ returns-in-Ok-start g c =
         is = ap Ok c.in-Fresh.is;
         base = _;
         begins = (refl, refl);
-        engages = engages_first _ _ _ _ _ (e.agrees (g.S.BlockStore.state c.args.store.now) c.requires.fresh) e.public (e.keyed ∙ c.derive.ensures) (subst (λ (k : KeySet). AreDraws c.in-Ok-start.engine (first_draws k)) c.derive.ensures e.drawn) e.started e.anew e.alive e.none_open e.rows
+        engages = engages_first _ _ _ _ _ (e.agrees (g.S.BlockStore.state c.args.store.now) c.requires.fresh) e.public (e.keyed ∙ c.derive.ensures) (subst (λ (k : KeySet). AreDraws c.in-Ok-start.engine (first_draws k)) c.derive.ensures e.drawn) e.started e.anew e.settled e.alive e.none_open e.rows
             (record {
               unasked = c.requires.fresh;
               honest = g.met.S.BlockStore.starts_honest c.args.store.now c.requires.fresh;
@@ -48,8 +48,8 @@ returns-in-Ok-open g c =
         held = Closed c.in-Closed.region c.in-Closed.blocks c.in-Closed.number c.in-Closed.pack;
         is = ap Ok c.in-Closed.is;
         base = _;
-        begins = (pack, opens_closing _ _ c.args.key.now _ keys closing marked pack _ _ _ c.requires.fresh opens c.requires.within.unsaved);
-        engages = engages_opened _ _ c.args.key.now _ keys closing marked pack _ _ _ c.requires.fresh opens c.requires.within.unsaved;
+        begins = (pack, opens_closing _ _ c.args.key.now _ keys closing marked pack _ _ _ c.requires.fresh opens opens.ok.settled c.requires.within.unsaved);
+        engages = engages_opened _ _ c.args.key.now _ keys closing marked pack _ _ _ c.requires.fresh opens opens.ok.settled c.requires.within.unsaved;
       };
       err = tt;
     }

@@ -1,5 +1,4 @@
 use Rattle.std.proofs.Common.{◌≡◌, false, true, ◌∙◌, ap, arith, refl, rules}
-use Rattle.ob_base.specs.declared.config.Public.{Public}
 use Rattle.ob_base.specs.declared.seen.Seen.{Seen}
 use Rattle.ob_print.proofs.CutLemmas.{Outputs-by}
 use Rattle.ob_print.proofs.SentLemmas.{Sends-cut, flushed, flushed_cut, flushed_whole}
@@ -11,11 +10,11 @@ use Rattle.ob_shell.proofs.session.run_stmt.Goals as goal
 
 pub returns-in-Ok-flush-clause-serves : goal.returns-in-Ok-flush-clause-serves
 returns-in-Ok-flush-clause-serves g c =
-    let on = c.in-Ok.ensures.serves.ran.goes_on in
+    let on = c.in-Ok.ensures.ran.ran.goes_on in
     record {
-      ready = record { agrees = on.agrees; lives = on.lives; unsaved = ap (λ (p : Public). p.save) on.public ∙ c.requires.ready.unsaved };
+      ready = record { agrees = on.agrees; lives = on.lives; settled = c.in-Ok.ensures.ran.ran.settled; saves = c.in-Ok.ensures.saves };
       done = rw (ap (λ (s : Seen). s.plan) c.seen.ensures)
-          (answered_by _ _ _ _ _ _ _ _ c.args.stmt.now c.requires.ready.unsaved _ _ c.args.text.now c.requires.spells c.in-Ok.outcome c.in-Ok.ensures.serves
+          (answered_by _ _ _ _ _ _ _ _ c.args.stmt.now c.requires.ready.agrees _ _ c.args.text.now c.requires.spells c.in-Ok.outcome c.in-Ok.ensures.ran
           (λ events took. flushed_whole (events_text events) c.requires.none took.0 c.in-Ok-flush.ensures.cut (λ (h : false ≡ true). absurd (cc))));
       stopped = tt;
       cause = search rules;
@@ -27,7 +26,7 @@ returns-in-Err-flush-clause-serves g c =
     record {
       ready = tt;
       done = tt;
-      stopped = finished_by _ _ _ _ _ _ _ _ c.args.stmt.now c.requires.ready.unsaved _ _ c.args.text.now c.requires.spells c.in-Ok.outcome c.in-Ok.ensures.serves (refl, rises_earlier _ _ _ (omega (arith, c.in-Ok.ensures.serves.sink)) c.in-Err-flush.ensures.cause.failed)
+      stopped = finished_by _ _ _ _ _ _ _ _ c.args.stmt.now c.requires.ready.agrees _ _ c.args.text.now c.requires.spells c.in-Ok.outcome c.in-Ok.ensures.ran (refl, rises_earlier _ _ _ (omega (arith, c.in-Ok.ensures.ran.sink)) c.in-Err-flush.ensures.cause.failed)
           (λ events took. flushed_cut (events_text events) c.requires.none took.0 c.flush.ensures.cut);
       cause = search rules;
       quiet = search rules;
@@ -35,24 +34,24 @@ returns-in-Err-flush-clause-serves g c =
 
 pub returns-in-SinkFault-clause-serves : goal.returns-in-SinkFault-clause-serves
 returns-in-SinkFault-clause-serves g c =
-    let serves = rw c.in-SinkFault.is at c.in-Err.ensures.serves in
+    let serves = rw c.in-SinkFault.is at c.in-Err.ensures.ran in
     record {
       ready = tt;
       done = tt;
-      stopped = failed_by _ _ _ _ _ _ _ _ c.args.stmt.now c.requires.ready.unsaved _ _ c.args.text.now c.requires.spells serves (refl, serves.sink) (λ events began. Sends-cut (events_text events) c.requires.none began.0);
+      stopped = failed_by _ _ _ _ _ _ _ _ c.args.stmt.now c.requires.ready.agrees _ _ c.args.text.now c.requires.spells serves (refl, serves.sink) (λ events began. Sends-cut (events_text events) c.requires.none began.0);
       cause = search rules;
       quiet = search rules;
     }
 
 pub returns-in_default-clause-serves : goal.returns-in_default-clause-serves
 returns-in_default-clause-serves g c =
-    let lost = flush_loses c.in-Err.stop c.flush-in_default.result c.is_err-quiet.result _ _ _ c.in_default.not-SinkFault c.in-Err.ensures.serves.sink c.is_err-quiet.ensures.value c.flush-in_default.ensures.cause in
+    let lost = flush_loses c.in-Err.stop c.flush-in_default.result c.is_err-quiet.result _ _ _ c.in_default.not-SinkFault c.in-Err.ensures.ran.sink c.is_err-quiet.ensures.value c.flush-in_default.ensures.cause in
     record {
       ready = tt;
       done = tt;
-      stopped = stopped_by _ _ _ _ _ _ _ _ c.args.stmt.now c.requires.ready.unsaved _ _ c.args.text.now c.requires.spells c.in-Err.stop c.in_default.not-SinkFault c.in-Err.ensures.serves
+      stopped = stopped_by _ _ _ _ _ _ _ _ c.args.stmt.now c.requires.ready.agrees _ _ c.args.text.now c.requires.spells c.in-Err.stop c.in_default.not-SinkFault c.in-Err.ensures.ran
           (λ events took. Outputs-by lost (flushed (events_text events) c.requires.none took.0 c.flush-in_default.ensures.cut))
           (λ events began. flushed_cut (events_text events) c.requires.none began.0 c.flush-in_default.ensures.cut);
-      cause = stop_cause Answered c.in-Err.stop _ _ _ _ _ c.in-Err.ensures.serves.ran.cause c.in-Err.ensures.serves.sink c.flush-in_default.ensures.cause.later;
-      quiet = flush_silences c.in-Err.stop c.flush-in_default.result c.is_err-quiet.result _ _ _ c.in_default.not-SinkFault c.in-Err.ensures.serves.sink c.is_err-quiet.ensures.value c.flush-in_default.ensures.cause;
+      cause = stop_cause Answered c.in-Err.stop _ _ _ c.in-Err.ensures.ran.sink c.flush-in_default.ensures.cause.later;
+      quiet = flush_silences c.in-Err.stop c.flush-in_default.result c.is_err-quiet.result _ _ _ c.in_default.not-SinkFault c.in-Err.ensures.ran.sink c.is_err-quiet.ensures.value c.flush-in_default.ensures.cause;
     }

@@ -12,9 +12,11 @@ invariant-bytes g l =
       so_far :
           SoFar g.R.Revisions.state l.initial.feed l.feed (g.I.Source.left l.initial.input) (g.I.Source.left l.input)
           (g.K.Sink.written l.initial.out) (g.K.Sink.written l.out) l.session.pending l.session.tally
-          (machine_of l.initial.engine (g.S.BlockStore.state l.initial.store)) (machine_of l.engine (g.S.BlockStore.state l.store));
+          (machine_of l.initial.engine (g.S.BlockStore.state l.initial.store) (g.B.Behind.state l.initial.behind))
+          (machine_of l.engine (g.S.BlockStore.state l.store) (g.B.Behind.state l.behind));
       short : length l.session.pending < text_max;
-      ready : IsReady g.R.Revisions.state (machine_of l.engine (g.S.BlockStore.state l.store));
+      ready : IsReady g.R.Revisions.state (g.B.Behind.Saves l.behind) (machine_of l.engine (g.S.BlockStore.state l.store) (g.B.Behind.state l.behind));
+      same : g.B.Behind.name l.behind ≡ g.B.Behind.name l.initial.behind;
       fed_by : IsFedBy l.feed (g.I.Source.gave l.input);
       source : g.I.Source.faults l.input ≡ g.I.Source.faults l.initial.input;
       sink : g.K.Sink.faults l.out ≡ g.K.Sink.faults l.initial.out;

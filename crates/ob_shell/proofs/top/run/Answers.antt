@@ -1,5 +1,6 @@
-use Rattle.std.proofs.Common.{refl, sym}
+use Rattle.std.proofs.Common.{ap, refl, sym}
 use Rattle.ob_gen.specs.Tally.{empty_tally}
+use Rattle.ob_headline.specs.Words.{keys_in, keys_with}
 use Rattle.ob_shell.proofs.TallyLemmas.{tally_after-nil}
 use Rattle.ob_shell.specs.Running.{stop_of}
 use Rattle.ob_shell.proofs.TopLemmas.{shown_source_fault, shown_bad_key, shown_last, shown_ran}
@@ -54,5 +55,5 @@ returns-in-Ok-Secret-clause-shown g c =
     let read = rw c.in-Ok-Secret.field-0-is at c.in-Ok-Secret.ensures in
     let ended = c.ended_with.ensures in
     rw (ended.ending, ended.high, ended.quiet)
-    (shown_ran _ c.in-Ok-Secret.key (stop_of c.serve_with-ran.result.0) new.unread new.taken new.limit c.serve_with-ran.ensures.within c.serve_with-ran.ensures.fed_by read.read c.serve_with-ran.ensures.ran
-    ended.tally)
+    (shown_ran keys_in _ c.in-Ok-Secret.key (stop_of c.serve_with-ran.result.0) new.unread new.taken new.limit c.serve_with-ran.ensures.within c.serve_with-ran.ensures.fed_by read.read c.serve_with-ran.ensures.ran
+    (λ taken is. ap keys_with is) ended.tally)

@@ -2,6 +2,7 @@ use Rattle.std.proofs.Common.{◌∙◌, ap, refl, subst}
 use Rattle.ob_base.specs.declared.config.Public.{Public}
 use Rattle.ob_tables.specs.Agreeing.{AreDraws, first_draws}
 use Rattle.ob_seal.specs.KeySet.{KeySet}
+use Rattle.ob_shell.proofs.EngageLemmas.{ready_unsaved}
 use Rattle.ob_shell.proofs.SessionLemmas.{ran_after, stands_first}
 use Rattle.ob_shell.proofs.TopLemmas.{ran_nothing}
 use Rattle.ob_shell.proofs.TraceLemmas.{traced_none, traced_whole}
@@ -20,7 +21,7 @@ returns-in-Err-clause-traced g c = traced_whole _ (traced_none _ _ _)
 
 pub returns-in-Ok-clause-ran : goal.returns-in-Ok-clause-ran
 returns-in-Ok-clause-ran g c =
-    ran_after _ _ _ _ _ _ _ _ _
+    ran_after _ _ _ _ _ _ _ _ _ _ _ _
     (stands_first _ _ _ _ _ (c.in-Ok.ensures.agrees (g.S.BlockStore.state c.args.store.now) c.requires.fresh) c.in-Ok.ensures.public (c.in-Ok.ensures.keyed ∙ c.derive.ensures) (subst (λ (k : KeySet). AreDraws c.in-Ok.engine (first_draws k)) c.derive.ensures c.in-Ok.ensures.drawn) c.in-Ok.ensures.started c.in-Ok.ensures.rows
     (record {
       unasked = c.requires.fresh;
@@ -29,4 +30,5 @@ returns-in-Ok-clause-ran g c =
     }) (g.met.S.BlockStore.starts_steady c.args.store.now c.requires.fresh)) c.high.ensures.most c.high.ensures.value _ _ _ _ _ _ _ _ c.serve-ran.ensures.ran
 
 pub serve-ran-requires-clause-ready : goal.serve-ran-requires-clause-ready
-serve-ran-requires-clause-ready g c = record { agrees = c.in-Ok.ensures.agrees (g.S.BlockStore.state c.args.store.now) c.requires.fresh; unsaved = ap (λ (p : Public). p.save) c.in-Ok.ensures.public ∙ c.requires.within.unsaved; lives = c.in-Ok.ensures.alive }
+serve-ran-requires-clause-ready g c =
+    ready_unsaved _ _ _ _ _ (c.in-Ok.ensures.agrees (g.S.BlockStore.state c.args.store.now) c.requires.fresh) c.in-Ok.ensures.alive c.in-Ok.ensures.settled (ap (λ (p : Public). p.save) c.in-Ok.ensures.public ∙ c.requires.within.unsaved)

@@ -1,0 +1,79 @@
+-- The keeper's count of faults rises exactly where a session ends for that.
+use Rattle.std.proofs.Common.{◌≡◌, inl, inr, ℕ, Bool, List, [], ◌∷◌, Result, Ok, Err, refl, sym, ◌∙◌, ap, subst}
+use Rattle.ob_base.specs.Counts.{Rises}
+use Rattle.ob_base.specs.declared.refusal.Stop.{Stop}
+use Rattle.ob_base.specs.declared.refusal.Stop.TheVariants as Stops
+use Rattle.ob_exec.specs.Ran.{CountsKeeper as CountsRun}
+use Rattle.ob_headline.specs.SavedHeadline.{CountsKeeper}
+use Rattle.ob_headline.specs.Words.{Answer}
+use Rattle.ob_headline.specs.declared.ending.Ending.TheVariants.{Ran}
+use Rattle.ob_reopen.specs.Keepers.{KeeperState}
+use Rattle.ob_shell.proofs.StepLemmas.{by_last}
+use Rattle.ob_shell.specs.Running.{LastPart}
+use Rattle.ob_shell.specs.Steps.{Machine, Misspelt, PartlyAt, ServedStatement, Step, Steps}
+use Rattle.ob_tables.specs.Stops.{session_stop}
+use Rattle.ob_tables.specs.declared.stop.RunStop.{RunStop}
+use Rattle.ob_tables.specs.declared.stop.RunStop.TheVariants.{KeeperFault, NoMemory, SinkFault, StashFull, StoreFault, Tampered}
+use Rattle.ob_vault.specs.State.{RevState}
+use Rattle.ob_verdict.specs.declared.outcome.Outcome.{Outcome}
+
+-- a stop is that of the session
+stop_counts : (run : RunStop) (old new : KeeperState) → CountsRun (Err run) old new → CountsKeeper (Ran (Err (session_stop run))) old new
+stop_counts (Tampered q x) old new counts = counts
+stop_counts SinkFault old new counts = counts
+stop_counts NoMemory old new counts = counts
+stop_counts StoreFault old new counts = counts
+stop_counts StashFull old new counts = counts
+stop_counts KeeperFault old new counts = counts
+
+-- a stop by memory or by a sink leaves the count
+memory_counts : (run : RunStop) (old new : KeeperState) → run ≡ NoMemory → new.faults ≡ old.faults → CountsKeeper (Ran (Err (session_stop run))) old new
+memory_counts run old new is same = subst (λ (r : RunStop). CountsKeeper (Ran (Err (session_stop r))) old new) (sym is) same
+
+sink_counts : (run : RunStop) (old new : KeeperState) → run ≡ SinkFault → new.faults ≡ old.faults → CountsKeeper (Ran (Err (session_stop run))) old new
+sink_counts run old new is same = subst (λ (r : RunStop). CountsKeeper (Ran (Err (session_stop r))) old new) (sym is) same
+
+-- while the count stays, nothing changes of that
+counts_on : (result : Result Bool Stop) (a b c : KeeperState) → b.faults ≡ a.faults → CountsKeeper (Ran result) b c → CountsKeeper (Ran result) a c
+counts_on (Ok flag) a b c same counts = counts ∙ same
+counts_on (Err (Stops.Tampered q x)) a b c same counts = counts ∙ same
+counts_on (Err Stops.SourceFault) a b c same counts = counts ∙ same
+counts_on (Err Stops.SinkFault) a b c same counts = counts ∙ same
+counts_on (Err Stops.NoMemory) a b c same counts = counts ∙ same
+counts_on (Err Stops.InputLimit) a b c same counts = counts ∙ same
+counts_on (Err Stops.StoreFault) a b c same counts = counts ∙ same
+counts_on (Err Stops.StashFull) a b c same counts = counts ∙ same
+counts_on (Err Stops.KeeperFault) a b c same counts = subst (λ (n : ℕ). Rises n c.faults) same counts
+
+module _ {R : Type 0} (state : R → RevState) where
+  unmoved : (m0 m1 : Machine R) → m1 ≡ m0 → m1.keeper.faults ≡ m0.keeper.faults
+  unmoved m0 m1 same = ap (λ (m : Machine R). m.keeper.faults) same
+
+  step_counts : (m0 m1 : Machine R) (text : List ℕ) (answer : Answer) → Step state m0 m1 text answer → m1.keeper.faults ≡ m0.keeper.faults
+  step_counts m0 m1 text answer step = elim step.done [
+    | inl bad ↦ unmoved m0 m1 bad.same
+    | inr did ↦ did.does.counts
+  ]
+
+  pub steps_count : (m0 m2 : Machine R) (texts : List (List ℕ)) (answers : List Answer) → Steps state m0 m2 texts answers → m2.keeper.faults ≡ m0.keeper.faults
+  unfolding Steps
+  steps_count m0 m2 [] answers steps = unmoved m0 m2 steps.0
+  steps_count m0 m2 (text ∷ texts) answers steps = steps_count steps.0 m2 texts steps.2 steps.5 ∙ step_counts m0 steps.0 text steps.1 steps.4
+
+  part_counts : (m1 m2 : Machine R) (more : List (List ℕ)) (run : RunStop) (part : List ℕ) → PartlyAt state m1 m2 more run part → CountsKeeper (Ran (Err (session_stop run))) m1.keeper m2.keeper
+  part_counts m1 m2 [] run part idle = memory_counts run m1.keeper m2.keeper idle.memory (unmoved m1 m2 idle.rests.machine)
+  part_counts m1 m2 (text ∷ more) run part (inl idle) = memory_counts run m1.keeper m2.keeper idle.memory (unmoved m1 m2 idle.rests.machine)
+  part_counts m1 m2 (text ∷ more) run part (inr (inl cut)) = stop_counts run m1.keeper m2.keeper cut.does.counts
+  part_counts m1 m2 (text ∷ more) run part (inr (inr done)) = sink_counts run m1.keeper m2.keeper done.fault (step_counts m1 m2 text done.answer done.step)
+
+  last_counts : (m1 m2 : Machine R) (more : List (List ℕ)) (part : List ℕ) (result : Result Bool Stop) → LastPart state m1 m2 more part result → CountsKeeper (Ran result) m1.keeper m2.keeper
+  last_counts m1 m2 more part (Ok flag) rests = unmoved m1 m2 rests.machine
+  last_counts m1 m2 more part (Err stop) last =
+      by_last state m1 m2 more part (λ (s : Stop). CountsKeeper (Ran (Err s)) m1.keeper m2.keeper) stop last (λ run partly. part_counts m1 m2 more run part partly)
+      (λ rests. unmoved m1 m2 rests.machine) (λ rests. unmoved m1 m2 rests.machine)
+
+  -- a whole session
+  pub session_counts : (m0 m1 m2 : Machine R) (texts more : List (List ℕ)) (answers : List Answer) (part : List ℕ) (result : Result Bool Stop) → Steps state m0 m1 texts answers → LastPart state m1 m2 more part result
+      → CountsKeeper (Ran result) m0.keeper m2.keeper
+  session_counts m0 m1 m2 texts more answers part result steps last =
+      counts_on result m0.keeper m1.keeper m2.keeper (steps_count m0 m1 texts answers steps) (last_counts m1 m2 more part result last)

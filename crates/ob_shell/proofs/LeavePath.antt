@@ -1,0 +1,46 @@
+-- The machines along the statements that were answered, and the one begun.
+use Rattle.std.specs.Prelude.{◌≡◌, ◌⊎◌, ⊥, List, [], ◌∷◌, Ok, Err}
+use Rattle.ob_base.specs.declared.refusal.Stop.TheVariants.{SinkFault}
+use Rattle.ob_headline.specs.Words.{Answer}
+use Rattle.ob_headline.specs.declared.ending.Ending.{Ending}
+use Rattle.ob_headline.specs.declared.ending.Ending.TheVariants.{Ran}
+use Rattle.ob_mean.specs.Replay.{Spelt}
+use Rattle.ob_script.specs.Trace.{Served as Entry}
+use Rattle.ob_shell.specs.Steps.{Does, Machine}
+use Rattle.ob_sql.specs.declared.stmt.Stmt.{Stmt}
+use Rattle.ob_tables.specs.Agreeing.{seen_of}
+use Rattle.ob_tables.specs.Stops.{session_stop}
+use Rattle.ob_tables.specs.declared.stop.RunStop.{RunStop}
+use Rattle.ob_vault.specs.State.{RevState}
+use Rattle.ob_verdict.specs.declared.outcome.Outcome.{Outcome}
+
+module _ {R : Type 0} (state : R → RevState) where
+  -- a statement was stopped, and with it the session
+  pub record IsStopped (ending : Ending) (m0 m2 : Machine R) (stmt : Stmt) : Type 0 where
+    pub run : RunStop
+    pub ends : ending ≡ Ran (Err (session_stop run))
+    pub does : Does state m0 m2 stmt (Err run)
+
+  -- it was answered, and then a sink failed
+  pub record IsLast (ending : Ending) (m0 m2 : Machine R) (stmt : Stmt) : Type 0 where
+    pub ends : ending ≡ Ran (Err SinkFault)
+    pub outcome : Outcome
+    pub does : Does state m0 m2 stmt (Ok outcome)
+
+  abbrev pub EndsAlong : Ending → (m0 m2 : Machine R) → Spelt → Type 0
+  EndsAlong ending m0 m2 (Err at) = m2 ≡ m0
+  EndsAlong ending m0 m2 (Ok stmt) = IsStopped ending m0 m2 stmt ⊎ IsLast ending m0 m2 stmt
+
+  -- from the first machine to the second a statement was answered, of which this is seen
+  pub record IsServed (m0 m1 : Machine R) (stmt : Stmt) (one : Answer) (x : Entry) : Type 0 where
+    pub does : Does state m0 m1 stmt (Ok one.outcome)
+    pub seen : x.seen ≡ seen_of m1.engine
+
+  -- from the first machine to the last these were answered, and the one behind them begun
+  abbrev pub Along : Ending → (m0 m2 : Machine R) → List Spelt → List Answer → List Entry → Type 0
+  Along ending m0 m2 [] answers seen = m2 ≡ m0
+  Along ending m0 m2 (x ∷ spelt) [] seen = EndsAlong ending m0 m2 x
+  Along ending m0 m2 (Err at ∷ spelt) (one ∷ answers) seen = Along ending m0 m2 spelt answers seen
+  Along ending m0 m2 (Ok stmt ∷ spelt) (one ∷ answers) [] = ⊥
+  Along ending m0 m2 (Ok stmt ∷ spelt) (one ∷ answers) (x ∷ seen) =
+      (m1 : Machine R) × IsServed m0 m1 stmt one x × Along ending m1 m2 spelt answers seen

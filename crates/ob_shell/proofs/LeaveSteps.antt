@@ -1,0 +1,301 @@
+-- What one statement does to the mark that is held, and to what rests for it.
+use Rattle.std.proofs.Common.{◌≡◌, ◌⊎◌, inl, inr, ◌<◌, ◌≤◌, ◌+◌, ◌-◌, ◌&&◌, ℕ, Bool, true, false, IsTrue, List, [], ◌∷◌, ◌++◌, length, Option, Some, None, Result, Ok, Err, refl, sym, ◌∙◌, ap, subst, arith, length-append}
+use Rattle.std.specs.Prelude.{if◌then◌else◌, is_some}
+use Rattle.ob_base.specs.Accesses.{makes}
+use Rattle.ob_base.specs.Counts.{Rises}
+use Rattle.ob_base.specs.Refusals.{is_store_fault}
+use Rattle.ob_base.specs.Stored.{AreApart, headings, headings_of}
+use Rattle.ob_base.specs.declared.access.Access.{Access}
+use Rattle.ob_base.specs.declared.config.Public.{Public}
+use Rattle.ob_base.specs.declared.mark.Mark.{Mark}
+use Rattle.ob_base.specs.declared.refusal.Refusal.{Refusal}
+use Rattle.ob_base.specs.declared.refusal.Refusal.TheVariants as Refusals
+use Rattle.ob_base.specs.declared.refusal.Stop.TheVariants as Stops
+use Rattle.ob_base.specs.declared.schema.Heading.{Heading}
+use Rattle.ob_base.specs.declared.schema.Table.{Table}
+use Rattle.ob_base.specs.declared.seen.End.{End}
+use Rattle.ob_base.specs.declared.seen.End.TheVariants.{Static, Whole, AfterCount, Cut}
+use Rattle.ob_base.specs.declared.seen.Seen.{Seen}
+use Rattle.ob_base.specs.declared.skeleton.Skeleton.{Skeleton}
+use Rattle.ob_base.specs.declared.skeleton.Skeleton.TheVariants as Skeletons
+use Rattle.ob_exec.specs.Ran.{KeeperBehind, WasNotSaved, WasSaved, is_saved_behind}
+use Rattle.ob_exec.specs.Saving.{HoldsSaved, SavingCause}
+use Rattle.ob_headline.specs.Bases.{Base}
+use Rattle.ob_headline.specs.SavedHeadline.{MayTakeMore, SavesAs}
+use Rattle.ob_headline.specs.Saving.{RestsAlike}
+use Rattle.ob_headline.specs.declared.ending.Ending.{Ending}
+use Rattle.ob_headline.specs.declared.ending.Ending.TheVariants.{Ran}
+use Rattle.ob_mean.proofs.FlatLemmas.{seen_is, settle_is}
+use Rattle.ob_mean.proofs.VerdictLemmas.{refused_early}
+use Rattle.ob_mean.specs.Flats.{AreFlat}
+use Rattle.ob_mean.specs.Refusals.{early_refusal, limits_of}
+use Rattle.ob_mean.specs.Replay.{Session, after, seen_now, seen_or_cut, settle_or_cut}
+use Rattle.ob_mean.specs.Settle.{settle, settled}
+use Rattle.ob_mean.specs.Step.{followed}
+use Rattle.ob_mean.specs.Verdict.{Draws, Tables, ended as seen_to, is_late, refusal, seen_started}
+use Rattle.ob_reopen.proofs.ByNameAlike.{named_alike}
+use Rattle.ob_reopen.specs.Closings.{saved_mark}
+use Rattle.ob_reopen.specs.Keepers.{KeeperState}
+use Rattle.ob_reopen.specs.Resting.{by_name}
+use Rattle.ob_script.specs.Saved.{run_next, saved_public}
+use Rattle.ob_script.specs.Script.{changes_tables, is_saved, script}
+use Rattle.ob_script.specs.Tables.{tables_after, tables_then}
+use Rattle.ob_script.specs.Trace.{next}
+use Rattle.ob_seal.specs.KeySet.{KeySet, pair_of}
+use Rattle.ob_seal.specs.Sealed.{AreOfSecret}
+use Rattle.ob_shell.specs.Leaving.{IsRead, RestsOn}
+use Rattle.ob_shell.specs.Steps.{Does, Machine, asked_of, session_of}
+use Rattle.ob_sql.specs.Skeleton.{skeleton}
+use Rattle.ob_sql.specs.declared.stmt.Stmt.{Stmt}
+use Rattle.ob_sql.specs.declared.stmt.Stmt.TheVariants.{Create, Insert, Update, Delete, Drop as DropTable, SelectRows as RowsStmt, SelectTotals as TotalsStmt}
+use Rattle.ob_store.specs.Runs.{Later}
+use Rattle.ob_store.specs.State.{KeptRegion, Lie, StoreState}
+use Rattle.ob_tables.proofs.HeldLemmas.{held_headings}
+use Rattle.ob_tables.proofs.NamesApart.{named_apart}
+use Rattle.ob_tables.proofs.TableLemmas.{region_below, tables_flat}
+use Rattle.ob_tables.specs.Agreeing.{Agrees, AreDraws, count_of, engine_keys, engine_start, public_of, seen_of, world_of}
+use Rattle.ob_tables.specs.Closing.{next_closing}
+use Rattle.ob_tables.specs.Engines.{IsTableRegion}
+use Rattle.ob_tables.specs.Refusals.{refused_end}
+use Rattle.ob_tables.specs.Running.{is_fault, outcome_end}
+use Rattle.ob_tables.specs.Stops.{session_stop}
+use Rattle.ob_tables.specs.Telling.{Kept, Meant, ReadsTrue, Represents, Told}
+use Rattle.ob_tables.specs.declared.engine.Engine.{Engine}
+use Rattle.ob_tables.specs.declared.stop.RunStop.{RunStop}
+use Rattle.ob_tables.specs.declared.stop.RunStop.TheVariants.{KeeperFault, NoMemory, SinkFault, StashFull, StoreFault, Tampered}
+use Rattle.ob_vault.specs.State.{RevState, Start, earlier}
+use Rattle.ob_verdict.proofs.AlikeTables.{alike_turned}
+use Rattle.ob_verdict.specs.Outcomes.{by_fault}
+use Rattle.ob_verdict.specs.declared.outcome.Outcome.{Outcome}
+use Rattle.ob_verdict.specs.declared.outcome.Outcome.TheVariants.{Created, Inserted, Changed, Deleted, Dropped, Rows, Refused}
+
+-- ---- how an answer ends
+refused_whole : (r : Refusal) (n : ℕ) → refused_end r n ≡ Whole → is_store_fault r ≡ false
+refused_whole Refusals.StoreFault n is = absurd (cc is)
+refused_whole (Refusals.Syntax at) n is = refl
+refused_whole Refusals.NoTable n is = refl
+refused_whole Refusals.NameTaken n is = refl
+refused_whole Refusals.NoColumn n is = refl
+refused_whole Refusals.WrongType n is = refl
+refused_whole Refusals.ValueRange n is = refl
+refused_whole Refusals.Limit n is = refl
+refused_whole Refusals.KeyRule n is = refl
+refused_whole Refusals.JoinKey n is = refl
+refused_whole Refusals.Duplicate n is = refl
+refused_whole Refusals.Full n is = refl
+refused_whole Refusals.TooManyGroups n is = refl
+refused_whole Refusals.NotConsecutive n is = refl
+refused_whole (Refusals.Overflow i) n is = refl
+refused_whole Refusals.PadPassed n is = refl
+refused_whole Refusals.KeyRange n is = refl
+refused_whole Refusals.NeedsKey n is = refl
+
+whole_own : (o : Outcome) (n : ℕ) → outcome_end o n ≡ Whole → is_fault o ≡ false
+whole_own (Refused r) n is = refused_whole r n is
+whole_own Created n is = refl
+whole_own Inserted n is = refl
+whole_own (Changed k) n is = refl
+whole_own (Deleted k) n is = refl
+whole_own Dropped n is = refl
+whole_own (Rows k) n is = refl
+
+-- one that the store didn't fail is cut off nowhere
+refused_uncut : (r : Refusal) (n k : ℕ) → is_store_fault r ≡ false → refused_end r n ≡ Cut k → ⊥
+refused_uncut Refusals.StoreFault n k own is = cc own
+refused_uncut (Refusals.Syntax at) n k own is = cc is
+refused_uncut Refusals.NoTable n k own is = cc is
+refused_uncut Refusals.NameTaken n k own is = cc is
+refused_uncut Refusals.NoColumn n k own is = cc is
+refused_uncut Refusals.WrongType n k own is = cc is
+refused_uncut Refusals.ValueRange n k own is = cc is
+refused_uncut Refusals.Limit n k own is = cc is
+refused_uncut Refusals.KeyRule n k own is = cc is
+refused_uncut Refusals.JoinKey n k own is = cc is
+refused_uncut Refusals.Duplicate n k own is = cc is
+refused_uncut Refusals.Full n k own is = cc is
+refused_uncut Refusals.TooManyGroups n k own is = cc is
+refused_uncut Refusals.NotConsecutive n k own is = cc is
+refused_uncut (Refusals.Overflow i) n k own is = cc is
+refused_uncut Refusals.PadPassed n k own is = cc is
+refused_uncut Refusals.KeyRange n k own is = cc is
+refused_uncut Refusals.NeedsKey n k own is = cc is
+
+uncut : (o : Outcome) (n k : ℕ) → is_fault o ≡ false → outcome_end o n ≡ Cut k → ⊥
+uncut (Refused r) n k own is = refused_uncut r n k own is
+uncut Created n k own is = cc is
+uncut Inserted n k own is = cc is
+uncut (Changed j) n k own is = cc is
+uncut (Deleted j) n k own is = cc is
+uncut Dropped n k own is = cc is
+uncut (Rows j) n k own is = cc is
+
+-- ---- a statement behind which tables aren't saved leaves them
+followed_same : (o : Option Refusal) (ts : Tables) → followed o ts ts ≡ ts
+followed_same None ts = refl
+followed_same (Some r) ts = refl
+
+-- a change that isn't refused comes to its end, and then they are saved
+module _ (p : Public) (m : ℕ) (d : Draws) (ts : Tables) (saves : p.save ≡ true) where
+  not_whole : (stmt : Stmt) {P : Type 0} → changes_tables (skeleton stmt) ≡ true → is_saved_behind p (skeleton stmt) Whole ≡ false → P
+  not_whole stmt changes not = let both = ap (λ (b : Bool). b && p.save) changes in absurd (cc (both, saves, not))
+
+  started_same : (stmt : Stmt) → is_saved_behind p (skeleton stmt) (seen_started p ts stmt).end ≡ false → (o : Option Refusal) → followed o (settled d p ts stmt) ts ≡ ts
+  started_same (Create table columns capacity shape) not o = not_whole (Create table columns capacity shape) refl not
+  started_same (Insert table columns values) not o = not_whole (Insert table columns values) refl not
+  started_same (Update table sets search) not o = not_whole (Update table sets search) refl not
+  started_same (Delete table search) not o = not_whole (Delete table search) refl not
+  started_same (DropTable table) not o = not_whole (DropTable table) refl not
+  started_same (RowsStmt q) not o = followed_same o ts
+  started_same (TotalsStmt q) not o = followed_same o ts
+
+  settles_same : (stmt : Stmt) → AreFlat (headings ts) → is_saved_behind p (skeleton stmt) (seen_now (record { public = p; tables = ts; asked = m; draws = d }) stmt).end ≡ false → settle d p m ts stmt ≡ ts
+  settles_same stmt flat not = settle_is p ts stmt flat d m ∙ by_early (early_refusal (is_late m) (limits_of p) (headings ts) stmt) refl
+    where
+      by_early : (o : Option Refusal) → early_refusal (is_late m) (limits_of p) (headings ts) stmt ≡ o → followed (refusal p m ts stmt) (settled d p ts stmt) ts ≡ ts
+      by_early (Some r) early = ap (λ (o : Option Refusal). followed o (settled d p ts stmt) ts) (refused_early p m ts stmt r early)
+      by_early None early =
+          let is : seen_now (record { public = p; tables = ts; asked = m; draws = d }) stmt ≡ seen_started p ts stmt =
+          seen_is p ts stmt flat d m ∙ ap (λ (o : Option Refusal). if is_some o then seen_to Static else seen_started p ts stmt) early in
+          started_same stmt (subst (λ (x : Seen). is_saved_behind p (skeleton stmt) x.end ≡ false) is not) (refusal p m ts stmt)
+
+-- whether or not the store cut it off
+unsaved_same : (o : Option ℕ) (s : Session) (stmt : Stmt) → s.public.save ≡ true → AreFlat (headings s.tables) → is_saved_behind s.public (skeleton stmt) (seen_or_cut o s stmt).end ≡ false
+    → settle_or_cut o s stmt ≡ s.tables
+unsaved_same None s stmt saves flat not = settles_same s.public s.asked s.draws s.tables saves stmt flat not
+unsaved_same (Some n) s stmt saves flat not = refl
+
+-- so does what is public
+after_same : (p : Public) (sk : Skeleton) → p.save ≡ true → is_saved_behind p sk Whole ≡ false → tables_after p sk ≡ p.tables
+after_same p (Skeletons.Create table cs n shape) saves not = absurd (cc (saves, not))
+after_same p (Skeletons.Insert table cs) saves not = absurd (cc (saves, not))
+after_same p (Skeletons.Update table cs) saves not = absurd (cc (saves, not))
+after_same p (Skeletons.Delete table) saves not = absurd (cc (saves, not))
+after_same p (Skeletons.Drop table) saves not = absurd (cc (saves, not))
+after_same p (Skeletons.Rows source cs) saves not = refl
+after_same p (Skeletons.Groups table cs key) saves not = refl
+
+then_same : (p : Public) (sk : Skeleton) (end : End) → p.save ≡ true → is_saved_behind p sk end ≡ false → tables_then p sk end ≡ p.tables
+then_same p sk Static saves not = refl
+then_same p sk Whole saves not = after_same p sk saves not
+then_same p sk AfterCount saves not = refl
+then_same p sk (Cut n) saves not = refl
+
+-- ---- what rests while nothing that is read of it changes
+module _ (secret : List ℕ) (mark : Mark) (tables : Tables) where
+  pub rests_now : (p : Public) (kept : ℕ → Option KeptRegion) → RestsOn secret mark p kept tables → RestsAlike secret mark kept tables
+  rests_now p kept on = on.rests kept (λ q read. refl)
+
+  pub rests_stay : (p : Public) (old new : ℕ → Option KeptRegion) (on : RestsOn secret mark p old tables) → ((q : ℕ) → IsRead on.region p q → new q ≡ old q) → RestsOn secret mark p new tables
+  rests_stay p old new on same = record { region = on.region; below = on.below; rests = λ now at. on.rests now (λ q read. at q read ∙ same q read) }
+
+  read_as : (p r : Public) (region q : ℕ) → r.tables ≡ p.tables → IsRead region p q → IsRead region r q
+  read_as p r region q same (inl own) = inl own
+  read_as p r region q same (inr of) = inr (subst (λ (ts : List Table). IsTableRegion ts q) (sym same) of)
+
+  -- what is public goes on, of the same tables
+  pub rests_past : (p r : Public) (kept : ℕ → Option KeptRegion) → r.tables ≡ p.tables → p.next_region ≤ r.next_region → RestsOn secret mark p kept tables → RestsOn secret mark r kept tables
+  rests_past p r kept same more on = record {
+    region = on.region;
+    below = let below = on.below in omega (arith, below, more);
+    rests = λ now at. on.rests now (λ q read. at q (read_as p r on.region q same read));
+  }
+
+-- of an engine all that is read lies below its next region
+read_below : {R : Type 0} (state : R → RevState) (e : Engine R) (s : StoreState) (region q : ℕ) → Agrees state e s → region < (public_of e).next_region → IsRead region (public_of e) q → q < (public_of e).next_region
+read_below state e s region q agrees below (inl own) = omega (arith, below, own)
+read_below state e s region q agrees below (inr of) =
+    let under = region_below (public_of e).pack of.place (public_of e).tables of.table (world_of state e s) agrees.ready agrees.tables of.get in
+    let here = of.region in
+    let next_is = agrees.next in
+    omega (arith, under, here, next_is)
+
+-- ---- the mark of a closing that was written, and what rests for it
+module _ {R : Type 0} (state : R → RevState) (e : Engine R) (s t : StoreState) (keeper : KeeperState) (holds : HoldsSaved state e s t keeper) (agrees : Agrees state e s) where
+  abbrev pub own_mark : Mark
+  own_mark = saved_mark (next_closing e s) holds.salt
+
+  pub saves_as : (salt : List ℕ) (base : Base) (keys : KeySet) → engine_keys e ≡ keys → engine_start e ≡ base.start → (public_of e).pack ≡ base.public.pack
+      → ((q : ℕ) → base.start.region < q → (pair_of keys q).salt ≡ Some salt) → SavesAs salt base own_mark
+  saves_as salt base keys keyed start pack salted =
+      let next_is = agrees.next in
+      let tied = agrees.ready.tied.next in
+      let from = ap (λ (x : Start). x.region) start in
+      let since = ap (λ (x : Start). x.writes) start in
+      let above : base.start.region < (public_of e).next_region = omega (arith, next_is, tied, from) in
+      let ours = salted (public_of e).next_region above in
+      let its : (pair_of keys (public_of e).next_region).salt ≡ Some holds.salt = ap (λ (k : KeySet). (pair_of k (public_of e).next_region).salt) (sym keyed) ∙ holds.of in
+      let same : holds.salt ≡ salt = cc (its, ours) in
+      record {
+        closing = next_closing e s;
+        is = ap (saved_mark (next_closing e s)) same;
+        pack = pack;
+        region = above;
+        number = omega (arith, since);
+      }
+
+  apart_named : (tables : Tables) → Represents state e s tables → AreApart (headings tables)
+  apart_named tables held = subst AreApart (sym (held_headings _ _ _ tables _ held.held)) (named_apart (public_of e).tables agrees.tables.names)
+
+  pub rests_saved : (secret : List ℕ) → AreOfSecret secret (engine_keys e) → IsTrue s.tells → (tables : Tables) → Represents state e s tables
+      → RestsOn secret own_mark (saved_public (public_of e)) t.kept tables
+  rests_saved secret of tells tables held = record {
+    region = (public_of e).next_region;
+    below = omega (arith);
+    rests = λ now at. record {
+      resting = by_name tables;
+      rests = record { keys = engine_keys e; of = of; own = sym holds.of; rests = (holds.rests tells tables held).rests now at };
+      alike = alike_turned tables (by_name tables) (named_alike tables (apart_named tables held));
+    };
+  }
+
+-- ---- a machine whose tables are saved
+module _ {R : Type 0} (state : R → RevState) (salt : List ℕ) (base : Base) (keys : KeySet) where
+  pub record Saves (m : Machine R) : Type 0 where
+    pub agrees : Agrees state m.engine m.store
+    pub saves : (public_of m.engine).save ≡ true
+    pub pack : (public_of m.engine).pack ≡ base.public.pack
+    pub start : engine_start m.engine ≡ base.start
+    pub keyed : engine_keys m.engine ≡ keys
+
+  pub saves_on : (m0 m1 : Machine R) (stmt : Stmt) (outcome : Outcome) → Does state m0 m1 stmt (Ok outcome) → Saves m0 → Saves m1
+  saves_on m0 m1 stmt outcome does old = record {
+    agrees = does.ran.goes_on.agrees;
+    saves = ap (λ (p : Public). p.save) does.ran.goes_on.public ∙ old.saves;
+    pack = ap (λ (p : Public). p.pack) does.ran.goes_on.public ∙ old.pack;
+    start = does.ran.start ∙ old.start;
+    keyed = does.ran.keys ∙ old.keyed;
+  }
+
+  -- the mark that is held is this one, or one of the run's own
+  pub record HoldsMark (held : Mark) (m : Machine R) : Type 0 where
+    pub mark : Mark
+    pub is : m.keeper.held ≡ Some mark
+    pub which : (mark ≡ held) ⊎ SavesAs salt base mark
+
+  module _ (held : Mark) (salted : (q : ℕ) → base.start.region < q → (pair_of keys q).salt ≡ Some salt) (m0 m1 : Machine R) (stmt : Stmt) (old : Saves m0) where
+    mark_same : m1.keeper ≡ m0.keeper → HoldsMark held m0 → HoldsMark held m1
+    mark_same same holds = record { mark = holds.mark; is = ap (λ (k : KeeperState). k.held) same ∙ holds.is; which = holds.which }
+
+    -- behind what was saved
+    mark_new : (result : Result Outcome RunStop) (was : WasSaved state stmt result m0.engine m0.store m1.engine m1.store m0.keeper m1.keeper) → HoldsSaved state was.engine was.store m1.store m1.keeper → HoldsMark held m1
+    mark_new result was holds = record {
+      mark = own_mark state was.engine was.store m1.store m1.keeper holds was.ran.goes_on.agrees;
+      is = holds.is;
+      which = inr (saves_as state was.engine was.store m1.store m1.keeper holds was.ran.goes_on.agrees salt base keys (was.ran.keys ∙ old.keyed) (was.ran.start ∙ old.start)
+          (ap (λ (p : Public). p.pack) was.ran.goes_on.public ∙ old.pack) salted);
+    }
+
+    pub mark_answered : (outcome : Outcome) → Does state m0 m1 stmt (Ok outcome) → HoldsMark held m0 → HoldsMark held m1
+    mark_answered outcome does holds = elim does.keeper [
+      | inl not ↦ mark_same not.0 holds
+      | inr was ↦ mark_new (Ok outcome) was (was.held holds.mark holds.is)
+    ]
+
+    pub mark_stopped : (run : RunStop) → Does state m0 m1 stmt (Err run) → HoldsMark held m0 → HoldsMark held m1
+    mark_stopped run does holds = elim does.keeper [
+      | inl not ↦ mark_same not.0 holds
+      | inr was ↦ elim (was.stays holds.mark holds.is) [
+        | inl same ↦ record { mark = holds.mark; is = same; which = holds.which }
+        | inr new ↦ mark_new (Err run) was new
+      ]
+    ]

@@ -1,0 +1,211 @@
+-- What one statement does to the tables that rest for the mark that is held, where the store gave what was written.
+use Rattle.std.proofs.Common.{◌≡◌, ◌⊎◌, inl, inr, ◌<◌, ◌≤◌, ◌+◌, ℕ, Bool, true, false, IsTrue, Option, Some, None, Result, Ok, Err, refl, sym, ◌∙◌, ap, subst, arith}
+use Rattle.std.specs.Prelude.{if◌then◌else◌}
+use Rattle.ob_base.specs.Stored.{headings}
+use Rattle.ob_base.specs.declared.config.Public.{Public}
+use Rattle.ob_base.specs.declared.mark.Mark.{Mark}
+use Rattle.ob_base.specs.declared.refusal.Stop.TheVariants as Stops
+use Rattle.ob_base.specs.declared.seen.Seen.{Seen}
+use Rattle.ob_base.specs.declared.skeleton.Skeleton.{Skeleton}
+use Rattle.ob_exec.specs.Ran.{WasSaved, is_saved_behind}
+use Rattle.ob_exec.specs.Saving.{HoldsSaved, SavingCause}
+use Rattle.ob_headline.specs.Bases.{Base}
+use Rattle.ob_headline.specs.SavedHeadline.{MayTakeMore}
+use Rattle.ob_headline.specs.Saving.{RestsAlike}
+use Rattle.ob_headline.specs.declared.ending.Ending.{Ending}
+use Rattle.ob_headline.specs.declared.ending.Ending.TheVariants.{Ran}
+use Rattle.ob_mean.specs.Flats.{AreFlat}
+use Rattle.ob_mean.specs.Replay.{Session, seen_now, seen_or_cut, settle_or_cut}
+use Rattle.ob_mean.specs.Settle.{settle}
+use Rattle.ob_mean.specs.Verdict.{Draws, Tables}
+use Rattle.ob_reopen.specs.Keepers.{KeeperState}
+use Rattle.ob_script.specs.Saved.{saved_public}
+use Rattle.ob_seal.specs.KeySet.{KeySet}
+use Rattle.ob_seal.specs.Sealed.{AreOfSecret}
+use Rattle.ob_shell.proofs.LeaveSteps.{Saves, own_mark, read_below, rests_now, rests_past, rests_saved, rests_stay, then_same, uncut, unsaved_same, whole_own}
+use Rattle.ob_shell.specs.Leaving.{RestsOn}
+use Rattle.ob_shell.specs.Steps.{Does, Machine, asked_of, session_of}
+use Rattle.ob_sql.specs.Skeleton.{skeleton}
+use Rattle.ob_sql.specs.declared.stmt.Stmt.{Stmt}
+use Rattle.ob_store.specs.Runs.{Later}
+use Rattle.ob_store.specs.State.{Lie, StoreState}
+use Rattle.ob_tables.proofs.HeldLemmas.{held_headings}
+use Rattle.ob_tables.proofs.TableLemmas.{tables_flat}
+use Rattle.ob_tables.specs.Agreeing.{AreDraws, engine_keys, public_of, seen_of}
+use Rattle.ob_tables.specs.Running.{is_fault}
+use Rattle.ob_tables.specs.Stops.{session_stop}
+use Rattle.ob_tables.specs.Telling.{Kept, Meant, ReadsTrue, Represents}
+use Rattle.ob_tables.specs.declared.stop.RunStop.{RunStop}
+use Rattle.ob_tables.specs.declared.stop.RunStop.TheVariants.{KeeperFault, NoMemory, SinkFault, StashFull, StoreFault, Tampered}
+use Rattle.ob_vault.specs.State.{RevState}
+use Rattle.ob_verdict.specs.Outcomes.{by_fault}
+use Rattle.ob_verdict.specs.declared.outcome.Outcome.{Outcome}
+
+-- no lie was told before one in which none is
+pub none_earlier : (a b : StoreState) → Later a b → b.lie ≡ None → a.lie ≡ None
+none_earlier a b later none = go a.lie refl
+  where
+    go : (o : Option Lie) → a.lie ≡ o → a.lie ≡ None
+    go None is = is
+    go (Some lie) is = let told = later.lie lie is in absurd (cc (told, none))
+
+-- what holds of an answer that the store didn't fail
+own_of : (failed : Bool) {cut whole : Type 0} → failed ≡ false → by_fault failed cut whole → whole
+own_of true own is = absurd (cc own)
+own_of false own is = is
+
+module _ {R : Type 0} (state : R → RevState) (secret salt : List ℕ) (base : Base) (keys : KeySet) (of : AreOfSecret secret keys) where
+  -- for the mark that is held these tables rest
+  pub record Resting (m : Machine R) (tables : Tables) : Type 0 where
+    pub mark : Mark
+    pub is : m.keeper.held ≡ Some mark
+    pub on : RestsOn secret mark (public_of m.engine) m.store.kept tables
+
+  module _ (m0 m1 : Machine R) (stmt : Stmt) (old : Saves state salt base keys m0) (d : Draws) (drawn : AreDraws m0.engine d) (tables : Tables) (tells : IsTrue m0.store.tells) (held : Represents state m0.engine m0.store tables)
+      (rests : Resting m0 tables) (honest : m1.store.lie ≡ None) where
+    abbrev pub s : Session
+    s = session_of m0 d tables
+
+    abbrev p : Public
+    p = public_of m0.engine
+
+    abbrev sk : Skeleton
+    sk = skeleton stmt
+
+    -- the tables behind it, where it wasn't cut off
+    abbrev pub behind : Tables
+    behind = settle d p (asked_of m0) tables stmt
+
+    flat : AreFlat (headings tables)
+    flat = subst AreFlat (sym (held_headings _ _ _ tables _ held.held)) (tables_flat (old.agrees.kept (old.agrees.saved old.saves)) old.agrees.tables)
+
+    reads_to : (t : StoreState) → t.lie ≡ None → ReadsTrue state m0.engine m0.store t tables
+    reads_to t none = record { tells = tells; held = held; nolie = none }
+
+    -- what rested goes on to rest
+    still : ((q : ℕ) → q < p.next_region → m1.store.kept q ≡ m0.store.kept q) → RestsOn secret rests.mark p m1.store.kept tables
+    still same = rests_stay secret rests.mark tables p m0.store.kept m1.store.kept rests.on (λ q read. same q (read_below state m0.engine m0.store rests.on.region q old.agrees rests.on.below read))
+
+    -- ---- tables were saved
+    module _ (result : Result Outcome RunStop) (was : WasSaved state stmt result m0.engine m0.store m1.engine m1.store m0.keeper m1.keeper) where
+      own_mid : is_fault was.outcome ≡ false
+      own_mid = whole_own was.outcome _ (sym was.ran.ends ∙ was.whole)
+
+      meant_mid : Meant state stmt (asked_of m0) d tables was.outcome m0.engine was.engine was.store
+      meant_mid = own_of (is_fault was.outcome) own_mid (was.means.told tables d drawn (reads_to was.store (none_earlier was.store m1.store was.later honest)))
+
+      abbrev its_mark : HoldsSaved state was.engine was.store m1.store m1.keeper → Mark
+      its_mark holds = own_mark state was.engine was.store m1.store m1.keeper holds was.ran.goes_on.agrees
+
+      rests_new : (holds : HoldsSaved state was.engine was.store m1.store m1.keeper) → RestsOn secret (its_mark holds) (saved_public (public_of was.engine)) m1.store.kept behind
+      rests_new holds =
+          rests_saved state was.engine was.store m1.store m1.keeper holds was.ran.goes_on.agrees secret (subst (AreOfSecret secret) (sym (was.ran.keys ∙ old.keyed)) of)
+          (subst (λ (b : Bool). IsTrue b) (sym was.ran.later.tells) tells) behind meant_mid.held
+
+    -- ---- it was answered, and so it is seen
+    module _ (outcome : Outcome) (does : Does state m0 m1 stmt (Ok outcome)) (how : Option ℕ) (seen : seen_of m1.engine ≡ seen_or_cut how s stmt) where
+      seen_as : (o : Option ℕ) → how ≡ o → (seen_of m1.engine).end ≡ (seen_or_cut o s stmt).end
+      seen_as o is = ap (λ (x : Seen). x.end) (seen ∙ ap (λ (c : Option ℕ). seen_or_cut c s stmt) is)
+
+      never : (o : Option ℕ) (n : ℕ) {P : Type 0} → how ≡ Some n → is_fault outcome ≡ false → P
+      never o n is own = absurd (uncut outcome _ n own (sym does.ran.ends ∙ seen_as (Some n) is))
+
+      held_by : (o : Option ℕ) → how ≡ o → (failed : Bool) → is_fault outcome ≡ failed
+          → by_fault failed (Kept state stmt d tables m0.engine m0.store m1.engine m1.store) (Meant state stmt (asked_of m0) d tables outcome m0.engine m1.engine m1.store) → Represents state m1.engine m1.store (settle_or_cut o s stmt)
+      held_by (Some n) is true fault kept = kept.held
+      held_by (Some n) is false own meant = never (Some n) n is own
+      held_by None is true fault kept =
+          let not : is_saved_behind p sk (seen_now s stmt).end ≡ false = ap (is_saved_behind p sk) (sym (seen_as None is) ∙ ap (λ (x : Seen). x.end) kept.seen) in
+          subst (λ (ts : Tables). Represents state m1.engine m1.store ts) (sym (unsaved_same None s stmt old.saves flat not)) kept.held
+      held_by None is false own meant = meant.held
+
+      pub held_then : Represents state m1.engine m1.store (settle_or_cut how s stmt)
+      held_then = held_by how refl (is_fault outcome) refl (does.means.told tables d drawn (reads_to m1.store honest))
+
+      -- they are those of its meaning where they were saved
+      saved_as : (o : Option ℕ) → how ≡ o → is_fault outcome ≡ false → settle_or_cut o s stmt ≡ behind
+      saved_as None is own = refl
+      saved_as (Some n) is own = never (Some n) n is own
+
+      pub rests_then : Resting m1 (settle_or_cut how s stmt)
+      rests_then = elim does.keeper [
+        | inl not ↦
+            let same : settle_or_cut how s stmt ≡ tables = unsaved_same how s stmt old.saves flat (subst (λ (x : Seen). is_saved_behind p sk x.end ≡ false) seen not.1) in
+            let made = ap (λ (r : Public). r.next_region) does.ran.goes_on.public in
+            record {
+              mark = rests.mark;
+              is = ap (λ (k : KeeperState). k.held) not.0 ∙ rests.is;
+              on = subst (λ (ts : Tables). RestsOn secret rests.mark (public_of m1.engine) m1.store.kept ts) (sym same)
+                  (rests_past secret rests.mark tables p (public_of m1.engine) m1.store.kept (ap (λ (r : Public). r.tables) does.ran.goes_on.public ∙ then_same p sk _ old.saves not.1)
+                  (omega (arith, made)) (still (does.ran.kept old.saves not.1)));
+            }
+        | inr was ↦
+            let holds = was.held rests.mark rests.is in
+            let own : is_fault outcome ≡ false = ap is_fault was.answered ∙ own_mid (Ok outcome) was in
+            record {
+              mark = its_mark (Ok outcome) was holds;
+              is = holds.is;
+              on = subst (λ (r : Public). RestsOn secret (its_mark (Ok outcome) was holds) r m1.store.kept (settle_or_cut how s stmt)) (sym was.public)
+                  (subst (λ (ts : Tables). RestsOn secret (its_mark (Ok outcome) was holds) (saved_public (public_of was.engine)) m1.store.kept ts) (sym (saved_as how refl own)) (rests_new (Ok outcome) was holds));
+            }
+      ]
+
+    -- ---- the session ends with it
+    -- the tables behind it rest, or those before it
+    pub record RestsLast (ending : Ending) : Type 0 where
+      pub more : Bool
+      pub unanswered : more ≡ true → MayTakeMore ending
+      pub mark : Mark
+      pub is : m1.keeper.held ≡ Some mark
+      pub rests : RestsAlike secret mark m1.store.kept (if more then behind else tables)
+
+    module _ (ending : Ending) where
+      -- it was answered, and a sink failed
+      pub last_answered : ending ≡ Ran (Err Stops.SinkFault) → (outcome : Outcome) → Does state m0 m1 stmt (Ok outcome) → RestsLast ending
+      last_answered ends outcome does = by_failed (is_fault outcome) (does.means.told tables d drawn (reads_to m1.store honest))
+        where
+          by_failed : (failed : Bool) → by_fault failed (Kept state stmt d tables m0.engine m0.store m1.engine m1.store) (Meant state stmt (asked_of m0) d tables outcome m0.engine m1.engine m1.store) → RestsLast ending
+          by_failed true kept =
+              let then : Resting m1 tables = rests_then outcome does (Some _) kept.seen in
+              record { more = false; unanswered = λ is. absurd (cc is); mark = then.mark; is = then.is; rests = rests_now secret then.mark tables (public_of m1.engine) m1.store.kept then.on }
+          by_failed false meant =
+              let then : Resting m1 behind = rests_then outcome does None meant.seen in
+              record { more = true; unanswered = λ is. inl ends; mark = then.mark; is = then.is; rests = rests_now secret then.mark behind (public_of m1.engine) m1.store.kept then.on }
+
+      -- it was stopped
+      module _ (run : RunStop) (ends : ending ≡ Ran (Err (session_stop run))) (does : Does state m0 m1 stmt (Err run)) where
+        last_same : m1.keeper.held ≡ Some rests.mark → RestsLast ending
+        last_same is = record {
+          more = false;
+          unanswered = λ more. absurd (cc more);
+          mark = rests.mark;
+          is = is;
+          rests = rests_now secret rests.mark tables p m1.store.kept (still (does.ran.kept old.saves tt));
+        }
+
+        last_kept : m1.keeper ≡ m0.keeper → RestsLast ending
+        last_kept same = last_same (ap (λ (k : KeeperState). k.held) same ∙ rests.is)
+
+        last_new : (was : WasSaved state stmt (Err run) m0.engine m0.store m1.engine m1.store m0.keeper m1.keeper) → HoldsSaved state was.engine was.store m1.store m1.keeper → (r : RunStop) → run ≡ r
+            → SavingCause r was.engine was.store m1.store m0.keeper m1.keeper → RestsLast ending
+        last_new was holds StoreFault is cause = last_kept cause.1
+        last_new was holds NoMemory is cause = last_kept cause.2
+        last_new was holds KeeperFault is cause = record {
+          more = true;
+          unanswered = λ more. inr (ends ∙ ap (λ (r : RunStop). Ran (Err (session_stop r))) is);
+          mark = its_mark (Err run) was holds;
+          is = holds.is;
+          rests = rests_now secret (its_mark (Err run) was holds) behind (saved_public (public_of was.engine)) m1.store.kept (rests_new (Err run) was holds);
+        }
+        last_new was holds SinkFault is cause = absurd cause
+        last_new was holds StashFull is cause = absurd cause
+        last_new was holds (Tampered q x) is cause = absurd cause
+
+        pub last_stopped : RestsLast ending
+        last_stopped = elim does.keeper [
+          | inl not ↦ last_kept not.0
+          | inr was ↦ elim (was.stays rests.mark rests.is) [
+            | inl same ↦ last_same same
+            | inr holds ↦ last_new was holds run refl was.answered
+          ]
+        ]

@@ -1,0 +1,45 @@
+-- What rests for the mark that a keeper holds while statements are served behind which tables are saved.
+use Rattle.std.specs.Prelude.{ℕ, ◌≡◌, ◌⊎◌, ◌<◌, true, List, Option, Some}
+use Rattle.ob_base.specs.declared.config.Public.{Public}
+use Rattle.ob_base.specs.declared.mark.Mark.{Mark}
+use Rattle.ob_headline.specs.Bases.{Base, FromEach}
+use Rattle.ob_headline.specs.Saving.{RestsAlike}
+use Rattle.ob_mean.specs.Verdict.{Tables}
+use Rattle.ob_seal.specs.KeySet.{KeySet, pair_of}
+use Rattle.ob_seal.specs.Sealed.{AreOfSecret}
+use Rattle.ob_shell.specs.Steps.{Machine}
+use Rattle.ob_store.specs.State.{KeptRegion}
+use Rattle.ob_tables.specs.Agreeing.{Agrees, AreDraws, count_of, engine_keys, engine_start, first_draws, public_of}
+use Rattle.ob_tables.specs.Engines.{IsTableRegion}
+use Rattle.ob_tables.specs.Telling.{Represents}
+use Rattle.ob_vault.specs.State.{RevState}
+
+-- what is read of a mark's tables: the region of its closing, and those of the tables that are public
+abbrev pub IsRead : (region : ℕ) → Public → ℕ → Type 0
+IsRead region p q = (q ≡ region) ⊎ IsTableRegion p.tables q
+
+-- these tables rest for a mark for as long as what is read of them is kept as it is; a mark without a closing has the number
+-- of a region that none makes any more
+pub record RestsOn (secret : List ℕ) (mark : Mark) (p : Public) (kept : ℕ → Option KeptRegion)
+    (tables : Tables) : Type 0 where
+  pub region : ℕ
+  pub below : region < p.next_region
+  pub rests : (now : ℕ → Option KeptRegion) → ((q : ℕ) → IsRead region p q → now q ≡ kept q)
+      → RestsAlike secret mark now tables
+
+-- an engine whose tables are saved stands on a base, under keys of a secret, of which those of each region that it makes have
+-- this salt; and for the mark that is held its tables rest
+pub record BeginsToSave {R : Type 0} (state : R → RevState) (secret salt : List ℕ) (base : Base)
+    (keys : KeySet) (m : Machine R) : Type 0 where
+  pub agrees : Agrees state m.engine m.store
+  pub saves : (public_of m.engine).save ≡ true
+  pub public : public_of m.engine ≡ base.public
+  pub count : count_of m.engine m.store ≡ base.count
+  pub start : engine_start m.engine ≡ base.start
+  pub keyed : engine_keys m.engine ≡ keys
+  pub drawn : AreDraws m.engine (first_draws keys)
+  pub of : AreOfSecret secret keys
+  pub salted : (q : ℕ) → base.start.region < q → (pair_of keys q).salt ≡ Some salt
+  pub held : FromEach base (λ s. Represents state m.engine m.store s.tables)
+  pub rests : (mark : Mark) → m.keeper.held ≡ Some mark
+      → FromEach base (λ s. RestsOn secret mark base.public m.store.kept s.tables)
