@@ -17,3 +17,5 @@ pub mod LineRead
 pub mod Traces
 pub mod WordsRead
 pub mod SavedWords
+pub mod EngagingSaved
+pub mod SavedSummary
