@@ -39,3 +39,4 @@ pub mod LeaveTables
 pub mod LeaveLemmas
 pub mod LeaveCounts
 pub mod LeaveBegin
+pub mod LeaveSession

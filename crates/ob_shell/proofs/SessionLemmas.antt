@@ -28,7 +28,7 @@ use Rattle.ob_gen.specs.declared.tally.Tally.{Tally}
 use Rattle.ob_headline.proofs.BaseLemmas.{from_each}
 use Rattle.ob_headline.proofs.PromptLemmas.{prompt_all}
 use Rattle.ob_headline.proofs.TextLemmas.{rest_of-nil, texts_of-nil}
-use Rattle.ob_headline.specs.Bases.{Base, Opened, drawing, fresh, session_at, start}
+use Rattle.ob_headline.specs.Bases.{Base, FromEach, Opened, drawing, fresh, session_at, start}
 use Rattle.ob_headline.specs.Disturbed.{MeantUntil, meant_trace}
 use Rattle.ob_headline.specs.FullStash.{ReadsFullStash}
 use Rattle.ob_headline.specs.Failures.{FailsBeside}
@@ -39,6 +39,7 @@ use Rattle.ob_headline.specs.Texts.{texts_in}
 use Rattle.ob_headline.specs.Words.{Begins, IsHonest, before_read, rows_in}
 use Rattle.ob_headline.specs.Accesses.{AreSeen, StopsWithin}
 use Rattle.ob_headline.specs.Meaning.{AnswersFrom}
+use Rattle.ob_headline.specs.SavedHeadline.{CountsKeeper, LeavesSaved}
 use Rattle.ob_headline.specs.Sealing.{IsSealed, IsSealedAt, IsWriteTo, PassesFrom, PassesHere, PassesRows, PassesSaved, PassesWith, SealsOwn}
 use Rattle.ob_headline.specs.Status.{EndsAtRead}
 use Rattle.ob_headline.specs.declared.ending.Ending.{Ending}
@@ -52,11 +53,13 @@ use Rattle.ob_reopen.specs.Keepers.{KeeperState}
 use Rattle.ob_reopen.specs.declared.closing.Closing.{Closing}
 use Rattle.ob_reopen.specs.declared.fault.CloseErr.{CloseErr}
 use Rattle.ob_script.specs.Trace.{Served, after_all as all_public, trace}
-use Rattle.ob_seal.specs.KeySet.{KeySet}
-use Rattle.ob_seal.specs.Sealed.{sealed}
+use Rattle.ob_seal.specs.KeySet.{KeySet, pair_of}
+use Rattle.ob_seal.specs.Sealed.{AreOfSecret, sealed}
 use Rattle.ob_shell.proofs.CalmLemmas.{MeetsChange, first_calm, last_met, steps_calm}
 use Rattle.ob_shell.proofs.FailureLemmas.{fails_beside, session_fails}
 use Rattle.ob_shell.proofs.LastingLemmas.{HasSizes, steps_sizes, last_rows, steps_sealed, last_sealed, steps_tell, none_sealed}
+use Rattle.ob_shell.proofs.LeaveCounts.{session_counts}
+use Rattle.ob_shell.proofs.LeaveSession.{session_leaves}
 use Rattle.ob_shell.proofs.LaterLemmas.{steps_later, last_later}
 use Rattle.ob_shell.proofs.LeafLemmas.{Reads, given_none, no_indexes}
 use Rattle.ob_shell.proofs.OpenLemmas.{session_opens}
@@ -67,6 +70,7 @@ use Rattle.ob_shell.proofs.TopLemmas.{nothing_over, took_none}
 use Rattle.ob_shell.proofs.TraceLemmas.{traced_none}
 use Rattle.ob_shell.proofs.WalkLemmas.{EndsWhole, Walked, save_stays, walked, walked_last}
 use Rattle.ob_shell.specs.Feeding.{Fetch}
+use Rattle.ob_shell.specs.Leaving.{RestsOn}
 use Rattle.ob_shell.specs.Running.{SessionRan, LastPart}
 use Rattle.ob_shell.specs.Standing.{IsUsed, StandsOn}
 use Rattle.ob_shell.specs.Steps.{Machine, asked_of, machine_of, session_of, told_nothing}
@@ -488,6 +492,30 @@ module _ {R : Type 0} {state : R → RevState} {Lost : Type 0} (base : Base) (co
       sealed_before = λ tells. from_each base AreSealed (λ x. IsSealed (PassesBoth base.public.pack) keys base.start 0 s0 s2)
           (λ tables sealed. sealed_last 0 tells (λ good both. sealed good (passes_from base good both) (from_on 0) (omega arith))) (on.sealed tells);
     }
+
+  -- ---- where tables are saved
+  -- the keeper's faults rose exactly where the session ended for that
+  pub keeper_counts : CountsKeeper (RanEnding result) k0 k1
+  keeper_counts = session_counts state m0 ran.middle m2 ran.served ran.more ran.answers ran.part result ran.steps ran.last
+
+  -- and it holds a mark for which the tables rest
+  pub leaves : (secret salt : List ℕ) → Agrees state first s0 → base.public.save ≡ true → AreOfSecret secret keys → ((q : ℕ) → base.start.region < q → (pair_of keys q).salt ≡ Some salt)
+      → ((mark : Mark) → k0.held ≡ Some mark → FromEach base (λ x. RestsOn secret mark base.public s0.kept x.tables)) → LeavesSaved secret salt base keys (RanEnding result) story s0 s1 k0 k1
+  leaves secret salt agrees saves of salted rests =
+      session_leaves state (RanEnding result) Failed m0 ran.middle m2 ran.served ran.more ran.answers ran.part walk secret salt base keys
+      (record {
+        agrees = agrees;
+        saves = ap (λ (p : Public). p.save) on.public ∙ saves;
+        public = on.public;
+        count = on.count;
+        start = on.start;
+        keyed = on.keyed;
+        drawn = on.drawn;
+        of = of;
+        salted = salted;
+        held = on.held;
+        rests = rests;
+      })
 
   unfoldable pub ran_after : RanAfter state tr base keys (Some key) f0 f1 l0 l1 gave w0 w1 s0 s1 high Lost told
   ran_after = record {

@@ -49,6 +49,7 @@ use Rattle.ob_script.specs.Trace.{Served as Entry, after_all as all_public, next
 use Rattle.ob_seal.specs.Draws.{draw_of}
 use Rattle.ob_seal.specs.KeySet.{KeySet}
 use Rattle.ob_shell.proofs.DisturbLemmas.{before_less, begins_more, crosses, few_or_more, take_begins}
+use Rattle.ob_shell.proofs.LeavePath.{Along}
 use Rattle.ob_shell.proofs.LeafLemmas.{Reads, drawn_leaves, given_after, reads_last, reads_more, reads_none}
 use Rattle.ob_shell.proofs.ReplayLemmas.{counts_on, cut_early, cut_within, draws_after, fault_is, outcome_cases, stands_after}
 use Rattle.ob_shell.proofs.StepLemmas.{by_last}
@@ -231,6 +232,7 @@ module _ {R : Type 0} (state : R → RevState) where
     pub untampered : (d : Draws) → AreDraws m0.engine d → IsTrue m0.store.tells → (tables : Tables) → Represents state m0.engine m0.store tables → m2.store.lie ≡ None → EndsUntampered ending
     pub early : (d : Draws) → AreDraws m0.engine d → IsTrue m0.store.tells → IsSteady m0.store → (tables : Tables) → Represents state m0.engine m0.store tables → (n : ℕ) → IsBefore m0.store.disturbed n → length m0.store.asked ≤ n
         → EarlyFrom n (session_of m0 d tables) m0.store.asked m2.store.asked spelt answers (seen ++ last)
+    pub along : Along state ending m0 m2 spelt answers (seen ++ last)
 
   -- nothing was done
   walked_none : (ending : Ending) (Failed : Type 0) (m0 m2 : Machine R) (more : List (List ℕ)) (part : List ℕ) → m2 ≡ m0 → part ≡ [] → EndsUntampered ending → (ends_within ending ≡ true → ⊥) → Walked ending Failed m0 m0 m2 [] more [] part
@@ -252,6 +254,7 @@ module _ {R : Type 0} (state : R → RevState) where
     keys = ap (λ (m : Machine R). m.engine.vault.keys) same;
     start = ap (λ (m : Machine R). engine_start m.engine) same;
     from_closing = λ unsaved. ap (λ (m : Machine R). opened_from m.engine) same;
+    along = same;
     public = refl;
     unfailed = λ not. ap (λ (m : Machine R). m.store.faults) same;
     drawn = λ d drawn g. reads_none d (indexes_of m0.engine) g (public_of m0.engine);
@@ -376,6 +379,7 @@ module _ {R : Type 0} (state : R → RevState) where
         keys = cut.does.ran.keys;
         start = cut.does.ran.start;
         from_closing = λ unsaved. cut.does.ran.from_closing (none_saved (public_of m0.engine) sk unsaved);
+        along = inl (record { run = run; ends = refl; does = cut.does });
         public = refl;
         unfailed = λ not. absurd (cc (ap is_cut cut.does.ran.ends, or_first (is_cut here.end) false not));
         drawn = reads_last state m0 m2 cut.stmt (Err run) cut.does;
@@ -460,6 +464,7 @@ module _ {R : Type 0} (state : R → RevState) where
         keys = did.does.ran.keys;
         start = did.does.ran.start;
         from_closing = λ unsaved. did.does.ran.from_closing (none_saved (public_of m0.engine) sk unsaved);
+        along = inr (record { ends = ap (λ (r : RunStop). Ran (Err (session_stop r))) fault; outcome = one.outcome; does = did.does });
         public = refl;
         unfailed = λ not. same_by one.outcome (world m0) (world m2) here.end _ did.does.ran.cause did.does.ran.ends (or_first (is_cut here.end) false not);
         drawn = reads_last state m0 m2 did.stmt (Ok one.outcome) did.does;
@@ -494,6 +499,7 @@ module _ {R : Type 0} (state : R → RevState) where
     keys = ap (λ (m : Machine R). m.engine.vault.keys) bad.same;
     start = ap (λ (m : Machine R). engine_start m.engine) bad.same;
     from_closing = λ unsaved. ap (λ (m : Machine R). opened_from m.engine) bad.same;
+    along = bad.same;
     public = refl;
     unfailed = λ not. ap (λ (m : Machine R). m.store.faults) bad.same;
     drawn = λ d drawn g. reads_none d (indexes_of m0.engine) g (public_of m0.engine);
@@ -543,6 +549,7 @@ module _ {R : Type 0} (state : R → RevState) where
         keys = rest.keys;
         start = rest.start;
         from_closing = rest.from_closing;
+        along = rest.along;
         public = rest.public;
         unfailed = rest.unfailed;
         drawn = rest.drawn;
@@ -661,6 +668,7 @@ module _ {R : Type 0} (state : R → RevState) where
         keys = rest.keys ∙ did.does.ran.keys;
         start = rest.start ∙ did.does.ran.start;
         from_closing = λ unsaved. rest.from_closing (ap (λ (q : Public). q.save) did.does.ran.goes_on.public ∙ unsaved) ∙ did.does.ran.from_closing (none_saved p sk unsaved);
+        along = (m1, record { does = did.does; seen = refl }, rest.along);
         public = rest.public ∙ ap (λ (q : Public). all_public q rest.seen) did.does.ran.goes_on.public;
         unfailed = λ not.
             rest.unfailed (or_rest (is_cut here.end) (any_cut all) not)

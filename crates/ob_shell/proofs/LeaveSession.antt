@@ -1,0 +1,44 @@
+-- What a session leaves whose tables are saved, by the walk over its texts.
+use Rattle.std.proofs.Common.{◌≡◌, ℕ, List, ◌++◌, Bool, Option, None, Some, Result, refl, sym, ◌∙◌, ap, subst}
+use Rattle.ob_base.specs.declared.refusal.Stop.{Stop}
+use Rattle.ob_headline.specs.Bases.{Base}
+use Rattle.ob_headline.specs.SavedHeadline.{LeavesSaved}
+use Rattle.ob_headline.specs.Story.{Story}
+use Rattle.ob_headline.specs.Words.{Answer}
+use Rattle.ob_headline.specs.declared.ending.Ending.{Ending}
+use Rattle.ob_seal.specs.KeySet.{KeySet}
+use Rattle.ob_shell.proofs.LeaveLemmas.{leaves_saved}
+use Rattle.ob_shell.proofs.WalkLemmas.{Walked}
+use Rattle.ob_shell.specs.Leaving.{BeginsToSave}
+use Rattle.ob_shell.specs.Steps.{Machine}
+use Rattle.ob_store.specs.State.{Lie}
+use Rattle.ob_tables.specs.Agreeing.{first_draws, world_of}
+use Rattle.ob_vault.proofs.WorldSteps.{calm_none}
+use Rattle.ob_vault.specs.State.{RevState}
+
+module _ {R : Type 0} (state : R → RevState) (ending : Ending) (Failed : Type 0) (m0 m1 m2 : Machine R) (texts more : List (List ℕ)) (answers : List Answer) (part : List ℕ)
+    (walk : Walked state ending Failed m0 m1 m2 texts more answers part) where
+  -- what became of the texts
+  abbrev pub walked_story : Story
+  walked_story = record {
+    served = texts;
+    more = more;
+    spelt = walk.spelt;
+    answers = answers;
+    part = part;
+    seen = walk.seen;
+    last = walk.last;
+  }
+
+  no_lie_first : (o : Option Lie) → m0.store.lie ≡ o → m2.store.lie ≡ None → m0.store.lie ≡ None
+  no_lie_first None is none = is
+  no_lie_first (Some lie) is none = let told = walk.lie lie is in absurd (cc (told, none))
+
+  pub session_leaves : (secret salt : List ℕ) (base : Base) (keys : KeySet) → BeginsToSave state secret salt base keys m0
+      → LeavesSaved secret salt base keys ending walked_story m0.store m2.store m0.keeper m2.keeper
+  session_leaves secret salt base keys begins =
+      leaves_saved state secret salt base keys m0 m2 begins ending walked_story walk.along
+      (λ tells none tables held.
+      let from = walk.meant (first_draws keys) begins.drawn tells (calm_none (world_of state m0.engine m0.store) (no_lie_first m0.store.lie refl none))
+      (record { unfit = λ lie is fits. absurd (cc (is, none)) }) tables held in
+      (from.0, from.1))
