@@ -40,3 +40,5 @@ pub mod LeaveLemmas
 pub mod LeaveCounts
 pub mod LeaveBegin
 pub mod LeaveSession
+pub mod SweepLemmas
+pub mod SavedBegin

@@ -44,3 +44,9 @@ returns-in-Err-clause-usage c is taken =
     let fails = c.in-Err.ensures.kinds (ap is_simple_and_free c.in-Ok.ensures) in
     let kind = subst (λ (ks : Kinds). HasKind ks c.in-Err.error) none fails in
     absurd (c.words_err.ensures (cc is) (out_of_memory c.in-Err.error kind))
+
+pub returns-in-Some-clause-save : goal.returns-in-Some-clause-save
+returns-in-Some-clause-save c =
+    let words = map string_bytes c.args.words.now in
+    let made = c.in-Ok-try_get_matches_from in
+    c.is_set-in-Some.ensures ∙ ap is_set (c.get_str-in-Some.ensures ∙ value_from (app_of c.in-Ok.command) saved_usage made.matches words (codes "save") c.in-Ok.ensures refl made.ensures.matches)

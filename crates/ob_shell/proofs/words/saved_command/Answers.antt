@@ -12,7 +12,7 @@ returns c =
     c.in_ok-arg-2.ensures.shape c.flag.ensures.local ∙ ap₂ with_rule named c.flag.ensures.rule in
     let marked : app_of c.in_ok-arg-3.field-0
     ≡ with_rule (with_rule (with_rule (common (codes "oblidb")) (valued (codes "store"))) (flag (codes "keep"))) (valued (codes "mark")) =
-    c.in_ok-command.ensures.shape c.valued-2.ensures.local ∙ ap₂ with_rule kept c.valued-2.ensures.rule in
+    c.in_ok-arg-3.ensures.shape c.valued-2.ensures.local ∙ ap₂ with_rule kept c.valued-2.ensures.rule in
     let saved : app_of c.in_ok-command.command
     ≡ with_rule (with_rule (with_rule (with_rule (common (codes "oblidb")) (valued (codes "store"))) (flag (codes "keep"))) (valued (codes "mark"))) (flag (codes "save")) =
     c.in_ok-command.ensures.shape c.flag-2.ensures.local ∙ ap₂ with_rule marked c.flag-2.ensures.rule in
