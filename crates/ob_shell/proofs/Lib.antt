@@ -42,3 +42,6 @@ pub mod LeaveBegin
 pub mod LeaveSession
 pub mod SweepLemmas
 pub mod SavedBegin
+pub mod SavedRunLemmas
+pub mod SavedHeadLemmas
+pub mod SavedGenLemmas
