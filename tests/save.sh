@@ -20,7 +20,7 @@ trap 'rm -rf "$work"' EXIT
 python3 - "${OBLIDB:-$top/crates/oblidb/out/oblidb}" "$work" <<'PY'
 import collections, contextlib, itertools, os, re, resource, shlex, shutil, signal, subprocess, sys
 
-program, work = sys.argv[1:]
+program, work = sys.argv[1], os.path.realpath(sys.argv[2])
 KEY, OTHER = "0" * 64 + "\n", "1" * 64 + "\n"
 FAULT, STORE, KEEPER = "E15 store fault", "! store fault", "! keeper fault"
 MARK = re.compile(r"saved [1-9][0-9]* [1-9][0-9]* [1-9][0-9]* [1-9][0-9]* [0-9a-f]{32}\n")
