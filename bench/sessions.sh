@@ -12,17 +12,17 @@
 # the passes alone (ob_pass_bench), and stands in the table. A padded SELECT asks the same whatever is selected, so it runs in
 # sessions of its own (`--pad 128`), over a table without a row.
 #
-# Last, what it takes to open and to close 64 tables of 65,536 slots: runs with --keep that serve nothing, beside runs
+# Then what it takes to open and to close 64 tables of 65,536 slots: runs with --keep that serve nothing, beside runs
 # without a table. Of these the time by the clock stands there, too, since files are waited for until they are on the disk.
 #
-# SQLCipher has the table with the same columns, a raw key, and neither journal nor syncs, as our files have none. It
-# finds rows by their key, so INSERT, SELECT of 100 rows and the join take no pass there. Each statement comes in a
-# connection of its own, so that it reads the file and not its cache.
-#
-# Then what it takes to have each INSERT on the disk before it is answered, by the clock: with --save into a table of 16 slots,
+# Last, what it takes to have each INSERT on the disk before it is answered, by the clock: with --save into a table of 16 slots,
 # beside SQLite and SQLCipher with autocommit, a rollback journal and synchronous FULL, in turn; and into 65,536 slots with 16
 # rows in a block, beside one that isn't saved. Of the first the goal is 2.5 times SQLCipher's time, of the second 1.5 times.
 # The folder for temporary files has to be on a disk that is waited for, and not in memory.
+#
+# SQLCipher has the table with the same columns and a raw key, and before the last part neither journal nor syncs, as our
+# files have none there. It finds rows by their key, so INSERT, SELECT of 100 rows and the join take no pass there. Each
+# statement comes in a connection of its own, so that it reads the file and not its cache.
 #
 # And a row that is found by its key: in an index of 65,536 keys (`--buffer 158 --stash 89`), in memory and in files, beside
 # SQLCipher's, whose table has each of them. The index has 100 rows: how many it has changes no access.
