@@ -79,7 +79,7 @@ use Rattle.ob_exec.proofs.ChangedScripts.{changes_flat, changes_plain, closing_i
 use Rattle.ob_exec.proofs.FewAsked.{few_behind}
 use Rattle.ob_exec.proofs.Unread.{Unread, reads_back, unread_both, unread_closing, unread_drops, unread_first}
 use Rattle.ob_exec.specs.Ran.{CountsKeeper, LacksNumber, Ran, RanWhole, RunsOut, ServedCause, ShowsNothing, StopsWhere, WantsMemory, is_saved_behind}
-use Rattle.ob_exec.specs.Saving.{IsUsedUp, MaySave, SavesTables, SavingCause}
+use Rattle.ob_exec.specs.Saving.{IsUsedUp, SavesTables, SavingCause}
 
 -- ---- how an answer ends that came to its end
 refusal_stays : (r : Refusal) (n m : ℕ) → refused_end r n ≡ Whole → refused_end r m ≡ Whole
