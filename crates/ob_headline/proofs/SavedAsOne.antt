@@ -162,7 +162,7 @@ module _ (words : List Text) (secret : List ℕ) (one : OneSaved words) (run : S
 
   left : (mark : Mark) × (one.keeper1.held ≡ Some mark) × LeavesMark run.secret run.salt run.base run.keys run.session.ending run.session.story run.opened one.new.store (begun_mark run.began.mark) mark
   left =
-      run.leaves.told (begun_mark run.began.mark)
+      (run.leaves held same_mark).told (begun_mark run.began.mark)
       (begun_held run.config run.secret run.salt run.keys (is_traced saved_usage words) run.base one.old.store run.opened one.old.traced run.traced one.keeper0 run.begun run.began held same_mark)
 
   behind : RestsBehind run.secret run.keys run.session.ending run.session.story left.0 one.new.store.kept (session_at run.base begins.tables)

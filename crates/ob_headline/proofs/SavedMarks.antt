@@ -165,7 +165,7 @@ leaves_held {old = old} {new = new} {k0 = k0} {k1 = k1} {ending = ending} (inr (
 leaves_held {tracing = tracing} {old = old} {k0 = k0} (inr (inr run)) held is =
     let began = run.began in
     let read : began.mark ≡ held = began.gives.told held is in
-    let left = run.leaves.told (begun_mark began.mark) (begun_held run.config run.secret run.salt run.keys tracing run.base old.store run.opened old.traced run.traced k0 run.begun began held is) in
+    let left = (run.leaves held is).told (begun_mark began.mark) (begun_held run.config run.secret run.salt run.keys tracing run.base old.store run.opened old.traced run.traced k0 run.begun began held is) in
     record {
       mark = left.0;
       is = left.1;

@@ -56,3 +56,16 @@ pub saved_settings : (words : List Text) (config : Config) → is_saved words �
 saved_settings words config saves is =
     let value = value_of saved_usage words in
     saving_keeps (is_saved words) (is_set (value (codes "keep"))) (settings_in value) (settings_by value) config saves is
+
+-- ---- tables that aren't
+unsaving : (save : Bool) (saved other : Option Config) (config : Config) → save ≡ false → (if save then saved else other) ≡ Some config → other ≡ Some config
+unsaving false saved other config off is = is
+unsaving true saved other config off is = absurd (cc off)
+
+-- then they are kept where the words say so
+pub unsaved_settings : (words : List Text) (config : Config) → is_saved words ≡ false → saved_settings_of words ≡ Some config → config.keep ≡ is_set (value_of saved_usage words (codes "keep"))
+unsaved_settings words config off is =
+    let value = value_of saved_usage words in
+    let keep = is_set (value (codes "keep")) in
+    marked_keep keep config value (may_mark (value (codes "mark")) keep) refl
+    (unsaving (is_saved words) (if keep then None else option_map saving (settings_in value)) (settings_by value) config off is)

@@ -113,7 +113,9 @@ pub record SessionSaved (settings : Option Config) (Takes : Type 0) (tracing : B
   pub is : ending ≡ Plain session.ending
   pub answered : answers ≡ session.story.answers
   pub keeper : CountsKeeper session.ending begun keeper1
-  pub leaves : LeavesSaved secret salt base keys session.ending session.story opened new.store
+  -- of a keeper that told what it held from the first on
+  pub leaves : (held : Mark) → keeper0.held ≡ Some held
+      → LeavesSaved secret salt base keys session.ending session.story opened new.store
       begun keeper1
 
 -- one of the three

@@ -12,7 +12,7 @@ use Rattle.ob_headline.proofs.StopLemmas.{begun_stops}
 use Rattle.ob_headline.specs.Bases.{fresh}
 use Rattle.ob_headline.specs.Endings.{last_line, status_of}
 use Rattle.ob_headline.specs.Keeping.{kept_line, kept_status}
-use Rattle.ob_headline.specs.KeptHeadline.{EndsUnkeyed, KeptHeadline}
+use Rattle.ob_headline.specs.KeptHeadline.{EndsUnkeyed, KeptHeadline, Unkeyed}
 use Rattle.ob_headline.specs.Words.{Faults, Outside, SinksRose, faults_of, keys_in, outside_of}
 use Rattle.ob_headline.specs.declared.ending.Ending.TheVariants.{Usage, BadKey, Ran}
 use Rattle.ob_headline.specs.declared.ending.KeptEnding.{KeptEnding}
@@ -70,7 +70,7 @@ module _ (tally : Tally) (asked : List Access) (w0 w1 : Option (List ℕ)) (sour
     high = refl;
   }
 
-  kept_concludes : (ending : KeptEnding) (quiet : Bool) → KeptConcludedBy ending quiet tally asked w0 w1 out0 out1 report.status → IsHushed quiet trace0 trace1 → ((refused : Bool) → ending ≡ Plain (Ran (Ok refused)) → trace1 ≡ trace0)
+  pub kept_concludes : (ending : KeptEnding) (quiet : Bool) → KeptConcludedBy ending quiet tally asked w0 w1 out0 out1 report.status → IsHushed quiet trace0 trace1 → ((refused : Bool) → ending ≡ Plain (Ran (Ok refused)) → trace1 ≡ trace0)
       → KeptConcludes ending tally asked report.high w0 w1 before after report
   kept_concludes (Plain Usage) quiet by hush calm = line_concludes (Plain Usage) quiet by hush by.told refl
   kept_concludes (Plain BadKey) quiet by hush calm = line_concludes (Plain BadKey) quiet by hush by.told refl
@@ -90,7 +90,7 @@ module _ (tally : Tally) (asked : List Access) (w0 w1 : Option (List ℕ)) (sour
   kept_concludes KeeperFault quiet by hush calm = line_concludes KeeperFault quiet by hush by.told refl
 
 -- of another report that tells of as many rows
-concluded_at : {ending : KeptEnding} {tally : Tally} {asked : List Access} {w0 w1 : Option (List ℕ)} {old new : Faults} {report : Report} (rows : ℕ)
+pub concluded_at : {ending : KeptEnding} {tally : Tally} {asked : List Access} {w0 w1 : Option (List ℕ)} {old new : Faults} {report : Report} (rows : ℕ)
     → report.high ≡ rows → KeptConcludes ending tally asked report.high w0 w1 old new report → KeptConcludes ending tally asked rows w0 w1 old new report
 concluded_at rows is c = record { grew = c.grew; silent = c.silent; status = c.status; later = c.later; high = is }
 
@@ -143,11 +143,11 @@ pub unkeyed_words : (error : WordsErr) (taken : List ℕ) → taken ≡ [] → E
 unkeyed_words Words.Usage taken none = tt
 unkeyed_words Words.NoMemory taken none = none
 
-unfoldable pub kept_unread : {Takes : Type 0} {settings : Option Config} {tracing : Bool} {s : StoreState} {t w0 w1 l : Option (List ℕ)} {gave source trace out0 out1 : ℕ} {k : KeeperState} {report : Report} (error : WordsErr)
+unfoldable pub unread_run : {Takes : Type 0} {settings : Option Config} {tracing : Bool} {s : StoreState} {t w0 w1 l : Option (List ℕ)} {gave source trace out0 out1 : ℕ} {k : KeeperState} {report : Report} (error : WordsErr)
     → IsFresh s → (error ≡ Words.Usage → ¬ Takes) → report.status ≡ status_of (refused_by error) → report.high ≡ 0 → LineWritten (last_line (refused_by error)) w0 w1 out0 out1
-    → KeptHeadline settings Takes tracing (outside_of l gave w0 t s (faults_of source out0 trace)) (outside_of l gave w1 t s (faults_of source out1 trace)) k k report
+    → Unkeyed settings Takes tracing (outside_of l gave w0 t s (faults_of source out0 trace)) (outside_of l gave w1 t s (faults_of source out1 trace)) k k (Plain (refused_by error)) [] report
 unfolding headlined reported_line shown_line
-kept_unread {Takes = Takes} {settings = settings} {tracing = tracing} {s = s} {t = t} {w0 = w0} {w1 = w1} {l = l} {gave = gave} {source = source} {trace = trace} {out0 = out0} {out1 = out1} {report = report} error blank not status high line =
+unread_run {Takes = Takes} {settings = settings} {tracing = tracing} {s = s} {t = t} {w0 = w0} {w1 = w1} {l = l} {gave = gave} {source = source} {trace = trace} {out0 = out0} {out1 = out1} {report = report} error blank not status high line =
     let ending = refused_by error in
     let tr = sink_of tracing t t in
     let old : Faults = faults_of source out0 trace in
@@ -157,24 +157,24 @@ kept_unread {Takes = Takes} {settings = settings} {tracing = tracing} {s = s} {t
     let r : Reported empty_tally tr Takes (fresh settings) keys_in l l gave w0 w1 s s old new report =
     reported_line ending old old new status (words_end error not) shown.0 (λ never. never) (words_cause error old) line.cut (λ rises. rises) line.empty line.later refl refl refl in
     record {
-      ending = Plain ending;
-      status = status;
-      answers = [];
-      ran = inl (record {
-        headline = headlined Takes (fresh settings) tracing (outside_of l gave w0 t s old) (outside_of l gave w1 t s new) report blank.unasked r (traced_whole _ (traced_none tracing s.asked t));
-        ends = unkeyed_words error shown.0.taken shown.1;
-        is = refl;
-        unanswered = refl;
-        unasked = refl;
-        kept = refl;
-      });
+      headline = headlined Takes (fresh settings) tracing (outside_of l gave w0 t s old) (outside_of l gave w1 t s new) report blank.unasked r (traced_whole _ (traced_none tracing s.asked t));
+      ends = unkeyed_words error shown.0.taken shown.1;
+      is = refl;
+      unanswered = refl;
+      unasked = refl;
+      kept = refl;
     }
 
-words_counted : (error : WordsErr) (tally : Tally) → KeptTally (Plain (refused_by error)) [] tally
+unfoldable pub kept_unread : {Takes : Type 0} {settings : Option Config} {tracing : Bool} {s : StoreState} {t w0 w1 l : Option (List ℕ)} {gave source trace out0 out1 : ℕ} {k : KeeperState} {report : Report} (error : WordsErr)
+    → IsFresh s → (error ≡ Words.Usage → ¬ Takes) → report.status ≡ status_of (refused_by error) → report.high ≡ 0 → LineWritten (last_line (refused_by error)) w0 w1 out0 out1
+    → KeptHeadline settings Takes tracing (outside_of l gave w0 t s (faults_of source out0 trace)) (outside_of l gave w1 t s (faults_of source out1 trace)) k k report
+kept_unread error blank not status high line = record { ending = Plain (refused_by error); status = status; answers = []; ran = inl (unread_run error blank not status high line) }
+
+pub words_counted : (error : WordsErr) (tally : Tally) → KeptTally (Plain (refused_by error)) [] tally
 words_counted Words.Usage tally = tt
 words_counted Words.NoMemory tally = tt
 
-words_concluded : (error : WordsErr) (tally : Tally) (asked : List Access) (w0 w1 : Option (List ℕ)) (f0 f1 status : ℕ) → KeptClosedBy (Plain (refused_by error)) false w0 w1 f0 f1 status
+pub words_concluded : (error : WordsErr) (tally : Tally) (asked : List Access) (w0 w1 : Option (List ℕ)) (f0 f1 status : ℕ) → KeptClosedBy (Plain (refused_by error)) false w0 w1 f0 f1 status
     → KeptConcludedBy (Plain (refused_by error)) false tally asked w0 w1 f0 f1 status
 words_concluded Words.Usage tally asked w0 w1 f0 f1 status closed = closed
 words_concluded Words.NoMemory tally asked w0 w1 f0 f1 status closed = closed

@@ -11,7 +11,7 @@ use Rattle.ob_headline.specs.Bases.{fresh}
 use Rattle.ob_headline.specs.Endings.{status_of}
 use Rattle.ob_headline.specs.Headline.{Headline}
 use Rattle.ob_headline.specs.Keeping.{kept_line, kept_status, EndsWith, handed_end}
-use Rattle.ob_headline.specs.KeptHeadline.{EndsBehind, EndsUnkeyed, KeptHeadline, begun_at}
+use Rattle.ob_headline.specs.KeptHeadline.{EndsBehind, EndsUnkeyed, KeptHeadline, Unkeyed, begun_at}
 use Rattle.ob_headline.specs.KeyLine.{first_line, secret_of}
 use Rattle.ob_headline.specs.Words.{Faults, Outside, SinksRose, keys_in, outside_of, Answer}
 use Rattle.ob_headline.specs.declared.ending.Ending.{Ending}
@@ -56,7 +56,7 @@ ends_whole (Ok mark) whole ending f0 f1 k0 k1 refused (inl sink) is = absurd (cc
 ends_whole (Ok mark) whole ending f0 f1 k0 k1 refused (inr handed) is = (handed_whole whole ending handed.1.result refused handed.1.ends is, handed.0)
 
 -- what is counted of the answers of one that came to its end
-counted_by : (ending : KeptEnding) (answers : List Answer) (tally : Tally) → ((refused : Bool) → ending ≡ Plain (Ran (Ok refused)) → KeptTally ending answers tally) → KeptTally ending answers tally
+pub counted_by : (ending : KeptEnding) (answers : List Answer) (tally : Tally) → ((refused : Bool) → ending ≡ Plain (Ran (Ok refused)) → KeptTally ending answers tally) → KeptTally ending answers tally
 counted_by (Plain Usage) answers tally count = tt
 counted_by (Plain BadKey) answers tally count = tt
 counted_by (Plain (Ran (Ok refused))) answers tally count = count refused refl
@@ -75,20 +75,20 @@ module _ {Takes : Type 0} (settings : Option Config) (config : Config) (takes : 
   new = with_line mid w2 out2
 
   -- the last line behind what the sink of the answers held at the end, none of which failed until then
-  line_behind : (quiet : Bool) → ended.quiet ≡ quiet → (before : Option (List ℕ)) → mid.written ≡ before → (from : Faults) → mid.faults.out ≡ from.out → (quiet ≡ true → Rises from.trace mid.faults.trace)
+  pub line_behind : (quiet : Bool) → ended.quiet ≡ quiet → (before : Option (List ℕ)) → mid.written ≡ before → (from : Faults) → mid.faults.out ≡ from.out → (quiet ≡ true → Rises from.trace mid.faults.trace)
       → Outputs before w2 (SinksRose from new.faults) (kept_line ended.ending)
   line_behind true is before same from out rose = nothing_written (kept_line ended.ending) ((hushed is).written ∙ same) (inr (rose refl))
   line_behind false is before same from out rose =
       cut_rose (kept_line ended.ending) (λ r. inl (subst (λ (n : ℕ). Rises n out2) out r)) (subst (λ (w : Option (List ℕ)). Outputs w w2 (Rises mid.faults.out out2) (kept_line ended.ending)) same (line is).cut)
 
-  silent_behind : (quiet : Bool) → ended.quiet ≡ quiet → (before : Option (List ℕ)) → mid.written ≡ before → (trace : ℕ) → (quiet ≡ false → mid.faults.trace ≡ trace) → mid.faults.trace ≢ trace → w2 ≡ before
+  pub silent_behind : (quiet : Bool) → ended.quiet ≡ quiet → (before : Option (List ℕ)) → mid.written ≡ before → (trace : ℕ) → (quiet ≡ false → mid.faults.trace ≡ trace) → mid.faults.trace ≢ trace → w2 ≡ before
   silent_behind true is before same trace kept other = (hushed is).written ∙ same
   silent_behind false is before same trace kept other = absurd (other (kept refl))
 
   -- ---- the keeper was not asked
-  kept_unkeyed : old.store.asked ≡ [] → RanUnkeyed config tracing ended old mid k0 k1 → KeptHeadline settings Takes tracing old new k0 k1 report
+  pub unkeyed_run : old.store.asked ≡ [] → RanUnkeyed config tracing ended old mid k0 k1 → Unkeyed settings Takes tracing old new k0 k1 ended.ending [] report
   unfolding headlined reported_line shown_line
-  kept_unkeyed none ran =
+  unkeyed_run none ran =
       let tr = sink_of tracing old.traced mid.traced in
       let ending = ran.ending in
       let at_high = subst
@@ -105,18 +105,16 @@ module _ {Takes : Type 0} (settings : Option Config) (config : Config) (takes : 
       subst (λ (s : StoreState). Traced tracing old.store.asked s.asked old.traced mid.traced (SinksRose old.faults new.faults)) (sym ran.unasked)
       (subst (λ (t : Option (List ℕ)). Traced tracing old.store.asked old.store.asked old.traced t (SinksRose old.faults new.faults)) (sym ran.traced) (traced_whole _ (traced_none tracing old.store.asked old.traced))) in
       record {
-        ending = ended.ending;
-        status = status;
-        answers = [];
-        ran = inl (record {
-          headline = headlined Takes (fresh settings) tracing old new report none r traces;
-          ends = shown.1;
-          is = ran.is;
-          unanswered = refl;
-          unasked = ran.unasked;
-          kept = ran.kept;
-        });
+        headline = headlined Takes (fresh settings) tracing old new report none r traces;
+        ends = shown.1;
+        is = ran.is;
+        unanswered = refl;
+        unasked = ran.unasked;
+        kept = ran.kept;
       }
+
+  kept_unkeyed : old.store.asked ≡ [] → RanUnkeyed config tracing ended old mid k0 k1 → KeptHeadline settings Takes tracing old new k0 k1 report
+  kept_unkeyed none ran = record { ending = ended.ending; status = status; answers = []; ran = inl (unkeyed_run none ran) }
 
   -- ---- no statement was served
   kept_unbegun : RanUnbegun config tracing ended old mid k0 k1 → KeptHeadline settings Takes tracing old new k0 k1 report

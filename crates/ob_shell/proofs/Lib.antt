@@ -28,6 +28,7 @@ pub mod HeadLemmas
 pub mod OpenLemmas
 pub mod CloseLemmas
 pub mod WordLemmas
+pub mod SavedWordLemmas
 pub mod FirstPartLemmas
 pub mod LaterLemmas
 pub mod DisturbLemmas
@@ -39,3 +40,8 @@ pub mod LeaveLemmas
 pub mod LeaveCounts
 pub mod LeaveBegin
 pub mod LeaveSession
+pub mod SweepLemmas
+pub mod SavedBegin
+pub mod SavedRunLemmas
+pub mod SavedHeadLemmas
+pub mod SavedGenLemmas

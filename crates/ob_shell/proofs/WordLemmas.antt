@@ -35,12 +35,12 @@ pub words_from : (a b : App) (m : ArgMatches) (words : List Text) → a ≡ b �
 words_from a b m words e simple h = λ i. words_by (λ name. value_from a b m words name e simple h i)
 
 -- the parts of what values spell
-record Parts (trace : Bool) (settings : Option Config) (generated : Option (Option Seed)) (w : Words) : Type 0 where
-  trace_is : w.trace ≡ trace
-  settings_are : settings ≡ Some w.config
-  generated_is : generated ≡ Some w.generated
+pub record Parts (trace : Bool) (settings : Option Config) (generated : Option (Option Seed)) (w : Words) : Type 0 where
+  pub trace_is : w.trace ≡ trace
+  pub settings_are : settings ≡ Some w.config
+  pub generated_is : generated ≡ Some w.generated
 
-parts : (trace : Bool) (settings : Option Config) (generated : Option (Option Seed)) (w : Words) → words_with trace settings generated ≡ Some w
+pub parts : (trace : Bool) (settings : Option Config) (generated : Option (Option Seed)) (w : Words) → words_with trace settings generated ≡ Some w
     → Parts trace settings generated w
 parts trace None generated w is = absurd (cc is)
 parts trace (Some config) None w is = absurd (cc is)
@@ -58,7 +58,7 @@ pub record Spells (app : App) (words : List Text) (w : Words) : Type 0 where
   pub trace : w.trace ≡ is_traced app words
   pub generated : generated_by app words ≡ Some w.generated
 
-is_some : {T : Type 0} (o : Option T) (x : T) → o ≡ Some x → IsSome o
+pub is_some : {T : Type 0} (o : Option T) (x : T) → o ≡ Some x → IsSome o
 is_some o x e = subst (λ (p : Option _). IsSome p) (sym e) refl
 
 pub spells_words : (a b : App) (m : ArgMatches) (words : List Text) (w : Words) → a ≡ b → is_simple b ≡ true → is_simple_and_free b ≡ true → HasMatchesOf a words m
@@ -72,7 +72,7 @@ spells_words a b m words w e simple free h kinds is =
     }
 
 -- of words that spell nothing
-none_with : (trace : Bool) (settings : Option Config) (generated : Option (Option Seed)) (config : Config) → words_with trace settings generated ≡ None
+pub none_with : (trace : Bool) (settings : Option Config) (generated : Option (Option Seed)) (config : Config) → words_with trace settings generated ≡ None
     → settings ≡ Some config → IsSome generated → ⊥
 none_with trace None generated config none is some = absurd (cc is)
 none_with trace (Some c) None config none is some = absurd (cc some)

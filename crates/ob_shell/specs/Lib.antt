@@ -16,3 +16,6 @@ pub mod Meddling
 pub mod LineRead
 pub mod Traces
 pub mod WordsRead
+pub mod SavedWords
+pub mod EngagingSaved
+pub mod SavedSummary

@@ -102,7 +102,7 @@ fn closing_end(error: CloseErr) -> KeptEnding
 }
 
 // A run that ended so, behind which no text was counted.
-fn kept_at(ending: KeptEnding, quiet: bool, high: u64) -> KeptEnded
+pub(crate) fn kept_at(ending: KeptEnding, quiet: bool, high: u64) -> KeptEnded
     ensures { result
         ≡ record { ending = ending; quiet = quiet; high = high; tally = empty_tally } }
 {
@@ -115,7 +115,7 @@ fn kept_at(ending: KeptEnding, quiet: bool, high: u64) -> KeptEnded
 }
 
 // A run that ended as one does whose tables aren't kept.
-fn plainly(ended: Ended) -> KeptEnded
+pub(crate) fn plainly(ended: Ended) -> KeptEnded
     ensures { result ≡ record {
       ending = KeptEnding.Plain ended.ending;
       quiet = ended.quiet;
@@ -288,7 +288,7 @@ fn serve_run<R: Revisions, I: Source, O: Sink, T: Sink, S: BlockStore, K: Keeper
 }
 
 // Reads the first line, and serves the texts with the tables that are kept: all but the last line.
-fn run_kept<I: Source, O: Sink, T: Sink, S: Lasting, K: Keeper>(
+pub(crate) fn run_kept<I: Source, O: Sink, T: Sink, S: Lasting, K: Keeper>(
     alloc: Global,
     words: Words,
     input: &mut I,
@@ -351,7 +351,7 @@ fn run_kept<I: Source, O: Sink, T: Sink, S: Lasting, K: Keeper>(
 }
 
 // Writes the last line, where it may be written, and reports.
-fn close_kept<O: Sink>(ended: KeptEnded, out: &mut O) -> Report
+pub(crate) fn close_kept<O: Sink>(ended: KeptEnded, out: &mut O) -> Report
     ensures status { result.status ≡ Keeping.kept_status ended.ending }
     ensures high { result.high ≡ ended.high }
     ensures quiet { ended.quiet ≡ true →
@@ -369,7 +369,7 @@ fn close_kept<O: Sink>(ended: KeptEnded, out: &mut O) -> Report
 }
 
 // Writes what is written of a run over the generated text: its summary, or its last line.
-fn conclude_kept<O: Sink, S: BlockStore>(ended: KeptEnded, store: &S, out: &mut O) -> Report
+pub(crate) fn conclude_kept<O: Sink, S: BlockStore>(ended: KeptEnded, store: &S, out: &mut O) -> Report
     ensures high { result.high ≡ ended.high }
     ensures concluded { KeptConcludedBy ended.ending ended.quiet ended.tally
         (S.state store.now).asked (O.written out.old) (O.written out.new) (O.faults out.old)
@@ -397,7 +397,7 @@ fn conclude_kept<O: Sink, S: BlockStore>(ended: KeptEnded, store: &S, out: &mut 
 
 // Serves the generated text instead, keeps none of its answers, and writes the summary, or the last line of a run that
 // didn't come to its end.
-fn keep_generated<O: Sink, T: Sink, S: Lasting, K: Keeper>(
+pub(crate) fn keep_generated<O: Sink, T: Sink, S: Lasting, K: Keeper>(
     alloc: Global,
     words: Words,
     seed: Seed,

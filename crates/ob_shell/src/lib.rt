@@ -6,6 +6,7 @@ mod generating;
 mod keeping;
 mod key;
 mod pending;
+mod saving;
 mod session;
 mod top;
 mod trace;
@@ -15,10 +16,11 @@ pub use feed::{Feed, Halt};
 pub use keeping::{KeptEnded, keep_top};
 pub use key::{FirstLine, read_key};
 pub use pending::{Grown, Pending, PushStop};
+pub use saving::save_top;
 pub use session::{Halted, serve};
 pub use top::{Ended, meddle_top, shell_top};
 pub use trace::trace_from;
 pub use words::{
-    KeptWords, MeddleWords, Words, WordsErr, mark_place, read_kept_words, read_meddle_words,
-    read_words, store_name,
+    KeptWords, MeddleWords, SavedWords, Words, WordsErr, mark_place, read_kept_words,
+    read_meddle_words, read_saved_words, read_words, store_name,
 };

@@ -1,17 +1,20 @@
 //! The words of the command line.
 ghost use Rattle.std.specs.Prelude.{option_map, string_bytes, true, false};
-ghost use Rattle.std.specs.Prelude.{◌≡◌, ◌≢◌, ◌≤◌, ◌^◌, map, Some, None, Err, IfOk, IfSome};
+ghost use Rattle.std.specs.Prelude.{◌≡◌, ◌≢◌, ◌≤◌, ◌^◌, codes, map, Some, None, Err, IfOk, IfSome};
 ghost use Rattle.clap.specs.Words.{Text};
 ghost use Rattle.clap.specs.Words.{app_of, first_value, found_of, kind_of, rule_of};
 ghost use Rattle.clap.specs.declared.error.kind.ErrorKind.TheVariants.{OutOfMemory};
 ghost use Rattle.ob_base.specs.Plans.{MayPad};
 ghost use Rattle.ob_headline.specs.Settings.{ParsesAs, IsTaken, ParsesChanges, MeddleParses};
+ghost use Rattle.ob_headline.specs.Settings.{IsTakenSaved, ParsesSaved, saved_settings_by};
 ghost use Rattle.ob_headline.specs.Settings.{at_least, may_pad, number_in, pad_in, plan_in};
 ghost use Rattle.ob_headline.specs.Settings.{generated_by, seed_in, seed_of};
 ghost use Rattle.ob_headline.specs.Settings.{may_mark, settings_by, settings_in};
 ghost use Rattle.ob_headline.specs.Usage.{common, usage, meddle_usage, flag, valued, is_set, is_traced, changes_in};
-ghost use Rattle.ob_headline.specs.Usage.{default_store, is_kept, kept_usage, mark_of, store_of, value_of};
+ghost use Rattle.ob_headline.specs.Usage.{default_store, is_kept, kept_usage, value_of};
+ghost use Rattle.ob_headline.specs.Usage.{is_saved, saved_usage};
 ghost use Rattle.ob_meddle.specs.Changes.{number};
+ghost use Rattle.ob_shell.specs.SavedWords.{AreFit, MayBeSaved, saved_words_by};
 ghost use Rattle.ob_shell.specs.WordsRead.{AreWithin};
 ghost use Rattle.ob_shell.specs.WordsRead.{words_by};
 
@@ -59,6 +62,15 @@ pub struct MeddleWords {
 pub struct KeptWords {
     pub common: Words,
     pub keep: bool,
+}
+
+/// The same, and whether the tables are to be saved behind each statement that changes them: then they are kept, too, and
+/// the settings say both.
+#[derive(Clone, Copy, Debug, PartialEq, Eq)]
+pub struct SavedWords {
+    pub common: Words,
+    pub keep: bool,
+    pub save: bool,
 }
 
 // A flag `--NAME`.
@@ -114,6 +126,17 @@ fn kept_command<'a>(alloc: Global) -> Result<Command<'a>, AllocError>
         .arg(valued(alloc, "store"))?
         .arg(flag(alloc, "keep"))?
         .arg(valued(alloc, "mark"))?;
+    Ok(command.no_binary_name(true))
+}
+
+fn saved_command<'a>(alloc: Global) -> Result<Command<'a>, AllocError>
+    ensures { IfOk result (λ c. app_of c ≡ saved_usage) }
+{
+    let command = common(alloc, "oblidb")?
+        .arg(valued(alloc, "store"))?
+        .arg(flag(alloc, "keep"))?
+        .arg(valued(alloc, "mark"))?
+        .arg(flag(alloc, "save"))?;
     Ok(command.no_binary_name(true))
 }
 
@@ -322,6 +345,43 @@ fn common_words(matches: &ArgMatches) -> Option<Words>
     })
 }
 
+// The settings that the values spell of a run whose tables may be saved.
+fn saved_settings(matches: &ArgMatches) -> Option<Config>
+    ensures settings { result ≡ saved_settings_by (first_value (found_of matches.now)) }
+    ensures within { IfSome result AreFit }
+    ensures saves { IfSome result (MayBeSaved
+        (is_set (first_value (found_of matches.now) (codes "save")))) }
+{
+    if !is_set(matches.get_str("save")) {
+        return settings(matches);
+    }
+    if is_set(matches.get_str("keep")) {
+        return None;
+    }
+    let config = settings_in(matches)?;
+    Some(Config {
+        keep: true,
+        save: true,
+        ..config
+    })
+}
+
+// What the values spell that such a run takes.
+fn common_saved(matches: &ArgMatches) -> Option<Words>
+    ensures words { result ≡ saved_words_by (first_value (found_of matches.now)) }
+    ensures within { IfSome result (λ w. AreFit w.config) }
+    ensures saves { IfSome result (λ w. MayBeSaved
+        (is_set (first_value (found_of matches.now) (codes "save"))) w.config) }
+{
+    let config = saved_settings(matches)?;
+    let generated = seed_in(matches.get_str("gen"))?;
+    Some(Words {
+        trace: is_set(matches.get_str("trace")),
+        config,
+        generated,
+    })
+}
+
 // Why a command didn't take the words.
 fn words_err(error: &Error) -> WordsErr
     ensures { result ≡ WordsErr.Usage → kind_of error.now ≢ OutOfMemory }
@@ -384,6 +444,38 @@ pub fn read_kept_words(alloc: Global, words: &[String]) -> Result<KeptWords, Wor
     }
 }
 
+/// Reads the words of a program that may keep its tables for the next run, or save them behind each statement that changes
+/// them, the program's name left out.
+pub fn read_saved_words(alloc: Global, words: &[String]) -> Result<SavedWords, WordsErr>
+    ensures ok { IfOk result (λ w. ParsesSaved (map string_bytes words.now) w.common.config) }
+    ensures usage { result ≡ Err WordsErr.Usage → ¬ IsTakenSaved (map string_bytes words.now) }
+    ensures trace { IfOk result (λ w.
+        w.common.trace ≡ is_traced saved_usage (map string_bytes words.now)) }
+    ensures generated { IfOk result (λ w.
+        generated_by saved_usage (map string_bytes words.now) ≡ Some w.common.generated) }
+    ensures keep { IfOk result (λ w.
+        w.keep ≡ is_set (value_of saved_usage (map string_bytes words.now) (codes "keep"))) }
+    ensures save { IfOk result (λ w. w.save ≡ is_saved (map string_bytes words.now)) }
+    ensures within { IfOk result (λ w. AreFit w.common.config) }
+    ensures saves { IfOk result (λ w. MayBeSaved w.save w.common.config) }
+{
+    let Ok(command) = saved_command(alloc) else {
+        return Err(WordsErr::NoMemory);
+    };
+    let matches = match command.try_get_matches_from(words) {
+        Ok(matches) => matches,
+        Err(error) => return Err(words_err(&error)),
+    };
+    match common_saved(&matches) {
+        Some(common) => Ok(SavedWords {
+            common,
+            keep: is_set(matches.get_str("keep")),
+            save: is_set(matches.get_str("save")),
+        }),
+        None => Err(WordsErr::Usage),
+    }
+}
+
 /// Reads the words of a program over a store that others change, the program's name left out.
 pub fn read_meddle_words(alloc: Global, words: &[String]) -> Result<MeddleWords, WordsErr>
     ensures ok { IfOk result (λ w.
@@ -411,16 +503,17 @@ pub fn read_meddle_words(alloc: Global, words: &[String]) -> Result<MeddleWords,
     }
 }
 
-// The value that the words of a program that may keep its tables give a name; none where they are none that it takes.
+// The value that the words of a program that may keep or save its tables give a name; none where they are none that it
+// takes.
 fn given(alloc: Global, words: &[String], name: &str) -> Result<Option<String>, NoMemory>
-    ensures given { (text : Text) → IsTaken kept_usage (map string_bytes words.now)
-        → value_of kept_usage (map string_bytes words.now) name.now ≡ Some text
+    ensures given { (text : Text) → IsTakenSaved (map string_bytes words.now)
+        → value_of saved_usage (map string_bytes words.now) name.now ≡ Some text
         → IfOk result (λ value. option_map string_bytes value ≡ Some text) }
-    ensures none { (IsTaken kept_usage (map string_bytes words.now)
-        → value_of kept_usage (map string_bytes words.now) name.now ≡ None)
+    ensures none { (IsTakenSaved (map string_bytes words.now)
+        → value_of saved_usage (map string_bytes words.now) name.now ≡ None)
         → IfOk result (λ value. option_map string_bytes value ≡ None) }
 {
-    let Ok(command) = kept_command(alloc) else {
+    let Ok(command) = saved_command(alloc) else {
         return Err(NoMemory);
     };
     let matches = match command.try_get_matches_from(words) {
@@ -430,7 +523,7 @@ fn given(alloc: Global, words: &[String], name: &str) -> Result<Option<String>, 
             WordsErr::Usage => return Ok(None),
         },
     };
-    let Some(_) = common_words(&matches) else {
+    let Some(_) = common_saved(&matches) else {
         return Ok(None);
     };
     match matches.get_str(name) {
@@ -442,11 +535,11 @@ fn given(alloc: Global, words: &[String], name: &str) -> Result<Option<String>, 
 /// The name of the store that the words of a program over a store give, the program's name left out; `oblidb-store`
 /// where they give none, and where they are none that the program takes.
 pub fn store_name(alloc: Global, words: &[String]) -> Result<String, NoMemory>
-    ensures named { (name : Text) → IsTaken kept_usage (map string_bytes words.now)
-        → store_of (map string_bytes words.now) ≡ Some name
+    ensures named { (name : Text) → IsTakenSaved (map string_bytes words.now)
+        → value_of saved_usage (map string_bytes words.now) (codes "store") ≡ Some name
         → IfOk result (λ s. string_bytes s ≡ name) }
-    ensures unnamed { (IsTaken kept_usage (map string_bytes words.now)
-        → store_of (map string_bytes words.now) ≡ None)
+    ensures unnamed { (IsTakenSaved (map string_bytes words.now)
+        → value_of saved_usage (map string_bytes words.now) (codes "store") ≡ None)
         → IfOk result (λ s. string_bytes s ≡ default_store) }
 {
     match given(alloc, words, "store") {
@@ -459,11 +552,11 @@ pub fn store_name(alloc: Global, words: &[String]) -> Result<String, NoMemory>
 /// The place of the mark that the words of a program over a store give, the program's name left out, if they give one;
 /// none where they are none that the program takes.
 pub fn mark_place(alloc: Global, words: &[String]) -> Result<Option<String>, NoMemory>
-    ensures placed { (place : Text) → IsTaken kept_usage (map string_bytes words.now)
-        → mark_of (map string_bytes words.now) ≡ Some place
+    ensures placed { (place : Text) → IsTakenSaved (map string_bytes words.now)
+        → value_of saved_usage (map string_bytes words.now) (codes "mark") ≡ Some place
         → IfOk result (λ p. option_map string_bytes p ≡ Some place) }
-    ensures unplaced { (IsTaken kept_usage (map string_bytes words.now)
-        → mark_of (map string_bytes words.now) ≡ None)
+    ensures unplaced { (IsTakenSaved (map string_bytes words.now)
+        → value_of saved_usage (map string_bytes words.now) (codes "mark") ≡ None)
         → IfOk result (λ p. option_map string_bytes p ≡ None) }
 {
     given(alloc, words, "mark")

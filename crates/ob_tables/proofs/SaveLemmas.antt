@@ -1,11 +1,10 @@
 -- The tables of an engine are listed in a closing, and it goes on.
 use Rattle.std.proofs.Common.{◌≡◌, ◌≢◌, ◌⊎◌, inl, inr, ℕ, zero, suc, ◌+◌, ◌<◌, ◌≤◌, ◌^◌, max, Bool, true, false, List, [], ◌∷◌, ◌++◌, get_or, length, Option, Some, None, Result, Ok, Err, refl, sym, ◌∙◌, ap, subst, arith, append-nil}
-use Rattle.std.specs.Prelude.{IsTrue, ◌||◌, nat_le, slice_get}
+use Rattle.std.specs.Prelude.{IsTrue, nat_le, slice_get}
 use Rattle.std.specs.List.{All}
 use Rattle.std.proofs.lemmas.Bool.{cases_eq, leb-false}
 use Rattle.rand_chacha.specs.ChaCha.{key_of}
 use Rattle.ob_base.specs.declared.access.Access.{Access}
-use Rattle.ob_base.specs.declared.config.Public.{Public}
 use Rattle.ob_base.specs.declared.mark.Mark.{Mark}
 use Rattle.ob_base.specs.declared.schema.Heading.{Heading}
 use Rattle.ob_base.specs.declared.schema.Table.{Table}
@@ -22,7 +21,7 @@ use Rattle.ob_seal.specs.KeySet.{KeySet, draw_seed_of, pair_of}
 use Rattle.ob_select.proofs.RoomLemmas.{free_after}
 use Rattle.ob_select.specs.Settings.{IsFree}
 use Rattle.ob_store.specs.State.{KeptRegion, Shape, StoreState}
-use Rattle.ob_store.specs.Calls.{IsLive, KeepsLive, ChangesNothing as OnlyRoom}
+use Rattle.ob_store.specs.Calls.{KeepsLive, ChangesNothing as OnlyRoom}
 use Rattle.ob_store.specs.Runs.{Began}
 use Rattle.ob_store.proofs.Steps.{later_refl, later_rests}
 use Rattle.ob_vault.specs.declared.region.Region.{Region}
@@ -42,17 +41,17 @@ use Rattle.ob_reopen.specs.declared.fault.CloseErr.TheVariants.{Failed, NoMemory
 use Rattle.ob_reopen.specs.declared.listed.Listed.{Listed}
 use Rattle.ob_reopen.specs.Closed.{ClosingCause, is_used_up}
 use Rattle.ob_reopen.specs.Closings.{IsClosing, saved_mark, write_script}
-use Rattle.ob_reopen.specs.Keepers.{AreMarked, AreSaltBytes, IsMark}
+use Rattle.ob_reopen.specs.Keepers.{AreSaltBytes, IsMark}
 use Rattle.ob_reopen.specs.Limits.{IsCatalogue}
 use Rattle.ob_reopen.specs.Resting.{AcceptsClosings, IsNeeded, Rests, by_name}
 use Rattle.ob_reopen.specs.Writings.{AreSalted, WritesClosing, catalogue_of, next_closing as written_closing, vault_error}
 use Rattle.ob_reopen.proofs.CatalogueLaws.{catalogue_has, catalogue_is}
 use Rattle.ob_reopen.proofs.OutlastLemmas.{rests_last}
 use Rattle.ob_tables.specs.declared.engine.Engine.{Engine}
-use Rattle.ob_tables.specs.Agreeing.{Agrees, count_of, replaced_of, world_of}
+use Rattle.ob_tables.specs.Agreeing.{Agrees, count_of, world_of}
 use Rattle.ob_tables.specs.Closing.{next_closing}
 use Rattle.ob_tables.specs.Engines.{AreTables, IsBeside, IsTableRegion, IsStashOf, flat_of, others_of}
-use Rattle.ob_tables.specs.Saving.{IsSaved, SavesEngine, Waits, WaitsAt}
+use Rattle.ob_tables.specs.Saving.{SavesEngine, Waits, WaitsAt}
 use Rattle.ob_tables.specs.Telling.{Represents}
 use Rattle.ob_tables.proofs.ByNameLemmas.{named_in, named_kept, table_kept_as}
 use Rattle.ob_tables.proofs.HeldLemmas.{held_headings, held_kept}
@@ -225,7 +224,7 @@ module _ {R : Type 0} (state : R → RevState) (e : Engine R) (s s1 : StoreState
               ok = tt;
               used_up = λ full. absurd (cc (full, free));
               err = λ _. record { began = subst (λ (x : List Access). Began x s t) script_is cut.began; cause = why.0 };
-              memory = λ wants. let same : err ≡ NoMemory = cc wants in let first_part = is.memory (ap Err same) in record {
+              memory = λ wants. let lacks : err ≡ NoMemory = cc wants in let first_part = is.memory (ap (λ (x : CloseErr). Err x) lacks) in record {
                 done = first_part.done;
                 rest = first_part.rest;
                 split = first_part.split ∙ making_is;

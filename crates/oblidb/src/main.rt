@@ -1,12 +1,13 @@
 //! Serves the statements of standard input over a store in files, whose names begin as `--store` says. With `--keep` its
-//! tables are there again in the next run, by a mark that lies where `--mark` says. The exit status tells how that ended.
+//! tables are there again in the next run, by a mark that lies where `--mark` says; with `--save` also where a run is
+//! killed, but for a statement that wasn't answered. The exit status tells how that ended.
 #![tactic(auto)]
 
 mod start;
 
 use ob_file::{FileKeeper, FileStore, StartErr};
 use ob_io::{StdSink, StdSource};
-use ob_shell::keep_top;
+use ob_shell::save_top;
 use start::{Begun, begin};
 use std::io;
 use std::io::Write;
@@ -38,7 +39,7 @@ fn serve(rt: &HostRuntime, begun: Begun) -> ExitCode {
     let mut input = StdSource::new(rt.reader());
     let mut out = StdSink::new(io::writer(&stdout));
     let mut trace = StdSink::new(io::writer(&stderr));
-    let report = keep_top(
+    let report = save_top(
         rt.alloc(),
         &words,
         &mut input,

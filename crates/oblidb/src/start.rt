@@ -1,14 +1,14 @@
 //! What a run begins with.
 
 use ob_file::{StartErr, follow, lock, mark_beside, may_begin_anew, may_keep};
-use ob_shell::{WordsErr, mark_place, read_kept_words, store_name};
+use ob_shell::{WordsErr, mark_place, read_saved_words, store_name};
 use std::env;
 use std::fs::File;
 use std::io::ErrorKind;
 use std::rt::{Env, Files};
 
 /// The words of the command line, without the program's name; the name of the store, twice, and the place of its mark;
-/// and what keeps other runs away for as long as it is there, where tables are kept.
+/// and what keeps other runs away for as long as it is there, where tables are kept or saved.
 #[derive(Drop)]
 pub struct Begun {
     pub words: Vec<String>,
@@ -34,10 +34,10 @@ fn words<R: Env + AllocGlobal>(rt: &R) -> Result<Vec<String>, StartErr> {
     Ok(words)
 }
 
-// Whether the words ask for tables that are kept.
+// Whether the words ask for tables that are kept, or saved.
 fn keeps<R: AllocGlobal>(rt: &R, words: &[String]) -> Result<bool, StartErr> {
-    match read_kept_words(rt.alloc(), words) {
-        Ok(words) => Ok(words.keep),
+    match read_saved_words(rt.alloc(), words) {
+        Ok(words) => Ok(words.keep || words.save),
         Err(WordsErr::Usage) => Err(StartErr::Usage),
         Err(WordsErr::NoMemory) => Err(StartErr::NoMemory),
     }
@@ -63,7 +63,7 @@ fn place_of<R: Files + AllocGlobal>(
     }
 }
 
-// Where the mark of a run lies that keeps its tables, and the lock beside it.
+// Where the mark of a run lies that keeps or saves its tables, and the lock beside it.
 fn hold<R: Files<File = File> + AllocGlobal>(
     rt: &R,
     words: &[String],
@@ -75,7 +75,7 @@ fn hold<R: Files<File = File> + AllocGlobal>(
     Ok((place, held))
 }
 
-// Where the mark of a run would lie that keeps no tables.
+// Where the mark of a run would lie that keeps no tables, nor saves them.
 fn begin_anew<R: Files + AllocGlobal>(rt: &R, name: &str) -> Result<String, StartErr> {
     let place = mark_beside(rt.alloc(), name)?;
     may_begin_anew(rt, place.as_str())?;
@@ -83,7 +83,7 @@ fn begin_anew<R: Files + AllocGlobal>(rt: &R, name: &str) -> Result<String, Star
 }
 
 /// Reads the words, and looks whether a run may begin that they ask for. Nothing is changed but that, where its tables
-/// are kept, the lock beside the mark is taken.
+/// are kept or saved, the lock beside the mark is taken.
 pub fn begin<R: Env + Files<File = File> + AllocGlobal>(rt: &R) -> Result<Begun, StartErr> {
     let words = words(rt)?;
     let name = store_name(rt.alloc(), &words)?;

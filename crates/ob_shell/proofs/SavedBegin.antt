@@ -1,0 +1,364 @@
+-- How a run begins whose tables are saved, by the mark that its keeper gave.
+use Rattle.std.specs.Prelude.{◌≢◌, ◌==◌, IsTrue, slice_get}
+use Rattle.std.proofs.Common.{◌≡◌, ◌<◌, ◌≤◌, ◌+◌, ◌++◌, ℕ, zero, suc, Bool, true, false, List, [], ◌∷◌, length, map, Option, Some, None, Result, Ok, Err, if◌then◌else◌, inl, inr, refl, sym, ◌∙◌, ap, subst, arith}
+use Rattle.std.proofs.lemmas.Option.{slice_get-map}
+use Rattle.std.specs.Option.{option_map}
+use Rattle.ob_base.specs.Stored.{AreApart, headings, headings_of}
+use Rattle.ob_base.specs.declared.access.Access.{Access}
+use Rattle.ob_base.specs.declared.config.Config.{Config}
+use Rattle.ob_base.specs.declared.config.Public.{Public}
+use Rattle.ob_base.specs.declared.fault.Failed.{Failed}
+use Rattle.ob_base.specs.declared.mark.Mark.{Mark}
+use Rattle.ob_base.specs.declared.mark.Mark.TheVariants.{Fresh, InUse, Closed, Begun, Saved}
+use Rattle.ob_base.specs.declared.schema.Table.{Table}
+use Rattle.ob_headline.proofs.FlatLemmas.{opened_flat}
+use Rattle.ob_headline.specs.Bases.{Base, Opened, fresh, reopened}
+use Rattle.ob_headline.specs.Keeping.{closing_named}
+use Rattle.ob_headline.specs.Saving.{BeginsSaved, EndsShut, HandsBegun, IsFoundBare, LooksBare, ReopensSaved, RestsAt, begun_mark}
+use Rattle.ob_headline.specs.declared.ending.KeptEnding.{KeptEnding}
+use Rattle.ob_mean.specs.Verdict.{Tables}
+use Rattle.ob_reopen.proofs.OutlastLemmas.{rests_last}
+use Rattle.ob_reopen.proofs.SavedLemmas.{rests_under}
+use Rattle.ob_reopen.specs.Keepers.{AreSaltBytes, IsMark, KeeperState}
+use Rattle.ob_reopen.specs.Limits.{IsMarked}
+use Rattle.ob_reopen.specs.Reopened.{opened_start, opening_script}
+use Rattle.ob_reopen.specs.Resting.{IsNeeded, Rests}
+use Rattle.ob_reopen.specs.Saved.{RestsBy, reopening_keys, salted_of, salted_regions}
+use Rattle.ob_reopen.specs.declared.closing.Closing.{Closing}
+use Rattle.ob_reopen.specs.declared.listed.Listed.{Listed}
+use Rattle.ob_seal.proofs.Salts.{own_pair, salted_of_secret}
+use Rattle.ob_seal.specs.KeySet.{KeySet, pair_of}
+use Rattle.ob_seal.specs.Sealed.{AreBefore, AreOfSecret, keys_salted, pair_by}
+use Rattle.ob_seal.specs.declared.pairs.Pair.{Pair}
+use Rattle.ob_shell.proofs.LeaveBegin.{rests_none}
+use Rattle.ob_shell.proofs.SessionLemmas.{stands_first}
+use Rattle.ob_shell.proofs.SweepLemmas.{agrees_swept, calm_swept, read_stays, represents_swept, sealed_swept}
+use Rattle.ob_shell.specs.EngagingSaved.{EngagesSaved, EngineBy, IsStarted}
+use Rattle.ob_shell.specs.Leaving.{BeginsToSave, IsRead, RestsOn}
+use Rattle.ob_shell.specs.Standing.{StandsOn}
+use Rattle.ob_shell.specs.Steps.{machine_of}
+use Rattle.ob_shell.specs.Top.{IsFresh}
+use Rattle.ob_store.specs.Calls.{IsSteady, Sweeps}
+use Rattle.ob_store.specs.State.{KeptRegion, Lie, StoreState}
+use Rattle.ob_tables.proofs.HeldLemmas.{held_headings}
+use Rattle.ob_tables.proofs.NamesApart.{named_apart}
+use Rattle.ob_tables.proofs.OpenSavedLemmas.{own_pair as closing_pair}
+use Rattle.ob_tables.specs.Agreeing.{count_of, engine_keys, engine_start, indexes_of, public_of, world_of}
+use Rattle.ob_tables.specs.Reopening.{IsOpened}
+use Rattle.ob_tables.specs.Saving.{IsOpenedBy, OpensSaved}
+use Rattle.ob_tables.specs.Telling.{Represents}
+use Rattle.ob_tables.specs.declared.engine.Engine.{Engine}
+use Rattle.ob_vault.specs.State.{RevState, Start, earlier}
+use Rattle.ob_vault.specs.Tied.{TagFits}
+use Rattle.ob_exec.specs.Saving.{MaySave}
+
+-- ---- a run that has a salt of its own
+salted_own : (secret salt : List ℕ) (q : ℕ) → (pair_of (keys_salted secret salt []) q).salt ≡ Some salt
+salted_own secret salt q = ap (λ (p : Pair). p.salt) (own_pair secret salt [] q tt)
+
+is_some : (x y : Option (List ℕ)) (salt : List ℕ) → x ≡ y → y ≡ Some salt → x ≢ None
+is_some x y salt same is none = absurd (cc (same, is, none))
+
+-- ---- an engine that was just started
+module _ {R : Type 0} (state : R → RevState) (config : Config) (secret salt : List ℕ) (saves : config.save ≡ true) (e : Engine R) (started : IsStarted state config (keys_salted secret salt []) e)
+    (t : StoreState) (blank : IsFresh t) (steady : IsSteady t) (keeper : KeeperState) where
+  abbrev own_keys : KeySet
+  own_keys = keys_salted secret salt []
+
+  stands : StandsOn state (fresh (Some config)) config own_keys e t
+  stands = stands_first state config own_keys e t (started.agrees t blank.unasked) started.public started.keyed started.drawn started.started started.rows blank steady
+
+  may_save : MaySave ⊤ e
+  may_save = record {
+    saves = λ is. tt;
+    salted = λ is q above. is_some _ _ salt (ap (λ (k : KeySet). (pair_of k q).salt) started.keyed) (salted_own secret salt q);
+    listed = λ is. started.anew ∙ sym (ap (λ (p : Public). p.closing) started.public);
+  }
+
+  pub engages_started : EngagesSaved state (fresh (Some config)) config own_keys e t keeper
+  engages_started = record {
+    stands = stands;
+    ready = record { agrees = started.agrees t blank.unasked; lives = started.alive; settled = started.settled; saves = may_save };
+    high = let none = started.none_open in omega (arith, none);
+  }
+
+  pub begins_started : keeper.held ≡ Some Begun → BeginsToSave state secret salt (fresh (Some config)) own_keys (machine_of e t keeper)
+  begins_started begun = record {
+    agrees = started.agrees t blank.unasked;
+    saves = ap (λ (p : Public). p.save) started.public ∙ saves;
+    public = started.public;
+    count = stands.count;
+    start = started.started;
+    keyed = started.keyed;
+    drawn = started.drawn;
+    of = salted_of_secret secret salt [];
+    salted = λ q above. salted_own secret salt q;
+    held = stands.held;
+    rests = λ mark is.
+        let same : Begun ≡ mark = cc (begun, is) in
+        subst (λ (m : Mark). RestsOn secret m (fresh (Some config)).public t.kept []) same (rests_none secret Begun (fresh (Some config)).public t.kept (λ now. refl) (omega arith));
+  }
+
+-- ---- an engine that was opened
+-- the regions of the tables that a closing lists, and its own, are behind those that the run makes
+before_each : (closing : Closing) (listed : List Listed) → ((i : ℕ) (t : Listed) → slice_get listed i ≡ Some t → t.table.region < closing.region) → (q : ℕ) → closing.region < q → AreBefore q (map salted_of listed)
+before_each closing [] each q above = tt
+before_each closing (t ∷ ts) each q above =
+    let first = each 0 t refl in
+    (omega (arith, first, above), before_each closing ts (λ i u is. each (suc i) u is) q above)
+
+module _ {R : Type 0} (state : R → RevState) (config : Config) (secret salt : List ℕ) (saves : config.save ≡ true) (closed : Option (List ℕ)) (closing : Closing) (pack : closing.pack ≡ config.pack)
+    (e : Engine R) (s0 s1 s2 : StoreState) (none : s0.asked ≡ []) (opens : OpensSaved state config secret salt closed closing (Ok e) s0 s1) (sweeps : Sweeps s1 s2) where
+  abbrev by : IsOpenedBy state config secret salt closed closing e s0 s1
+  by = opens.ok
+
+  abbrev is : IsOpened state config by.keys closing e s0 s1
+  is = by.opened
+
+  abbrev pub keys : KeySet
+  keys = by.keys
+
+  abbrev own : KeySet
+  own = reopening_keys secret salt closed closing is.listed
+
+  abbrev pub opened : Opened
+  opened = record { keys = keys; closing = closing; listed = is.listed; old = s0; new = s2 }
+
+  abbrev pub base : Base
+  base = reopened config opened
+
+  unlied : s2.lie ≡ None → s1.lie ≡ None
+  unlied nolie = sym sweeps.lie ∙ nolie
+
+  -- what rests under the secret does so under the keys that the run has
+  under : IsTrue s0.tells → s1.lie ≡ None → (tables : Tables) → RestsBy secret closed closing s0.kept tables → Rests keys closing s0.kept tables
+  under tells nolie tables rests =
+      let same : reopening_keys secret salt closed closing rests.rests.listed ≡ keys = ap (reopening_keys secret salt closed closing) (by.lists tells nolie tables rests) ∙ sym by.keyed in
+      subst (λ (k : KeySet). Rests k closing s0.kept tables) same (rests_under secret salt closed closing s0.kept tables rests)
+
+  -- and the other way round
+  rested_by : (tables : Tables) → Rests keys closing s0.kept tables → RestsBy secret closed closing s0.kept tables
+  rested_by tables rests = record {
+    keys = own;
+    of = salted_of_secret secret salt (salted_regions closed closing is.listed);
+    own = ap (λ (p : Pair). p.salt) (sym (closing_pair secret salt closed closing is.listed));
+    rests = subst (λ (k : KeySet). Rests k closing s0.kept tables) by.keyed rests;
+  }
+
+  -- what is read of it is kept as it was
+  read_kept : (q : ℕ) → IsRead closing.region base.public q → s2.kept q ≡ s0.kept q
+  read_kept q read =
+      read_stays state e s1 s2 sweeps is.agrees closing.region is.from_closing q (subst (λ (p : Public). IsRead closing.region p q) (sym is.public) read) ∙ opens.kept q
+
+  read_needed : (q : ℕ) → IsNeeded closing is.listed q → IsRead closing.region base.public q
+  read_needed q (inl here) = inl here
+  read_needed q (inr of) =
+      let there : slice_get base.public.tables of.0 ≡ Some of.1.table = slice_get-map (λ (t : Listed). t.table) is.listed of.0 ∙ ap (option_map (λ (t : Listed). t.table)) of.2 in
+      inr (record { place = of.0; table = of.1.table; get = there; region = sym of.3 })
+
+  module _ (tells : IsTrue s0.tells) (nolie : s1.lie ≡ None) (tables : Tables) (rests : RestsBy secret closed closing s0.kept tables) where
+    read_listed : (q : ℕ) → IsNeeded closing rests.rests.listed q → IsRead closing.region base.public q
+    read_listed q needed = read_needed q (subst (λ (l : List Listed). IsNeeded closing l q) (by.lists tells nolie tables rests) needed)
+
+    rests_while : (now : ℕ → Option KeptRegion) → ((q : ℕ) → IsRead closing.region base.public q → now q ≡ s0.kept q) → RestsBy secret closed closing now tables
+    rests_while now same = record {
+      keys = rests.keys;
+      of = rests.of;
+      own = rests.own;
+      rests = rests_last rests.keys s0.kept now closing tables rests.rests (λ q needed. same q (read_listed q needed));
+    }
+
+    holds : Represents state e s1 tables
+    holds = opens.told tells nolie tables rests
+
+    headed : headings tables ≡ headings_of (public_of e).tables
+    headed = held_headings (public_of e).pack (indexes_of e) (public_of e).tables tables (world_of state e s1) holds.held
+
+    apart : AreApart (headings tables)
+    apart = subst AreApart (sym headed) (named_apart (public_of e).tables is.agrees.tables.names)
+
+    rests_on : (mark : Mark) → ((now : ℕ → Option KeptRegion) → RestsBy secret closed closing now tables → RestsAt secret mark now tables) → RestsOn secret mark base.public s2.kept tables
+    rests_on mark at = record {
+      region = closing.region;
+      below = omega arith;
+      rests = λ now same. record {
+        resting = tables;
+        rests = at now (rests_while now (λ q read. same q read ∙ read_kept q read));
+        alike = record { count = refl; found = λ name. refl; apart = apart; too = apart };
+      };
+    }
+
+  pub reopens : ReopensSaved closed closing config secret salt keys base s0 s2
+  reopens = record {
+    listed = is.listed;
+    catalogue = is.catalogue;
+    keyed = by.keyed;
+    is = refl;
+    did = record { asked = sweeps.asked ∙ is.did.asked; faults = sweeps.faults ∙ is.did.faults };
+    tells = sweeps.tells ∙ opens.tells;
+    fits = λ lie told.
+        let fits = is.calm.calm lie (sym sweeps.lie ∙ told) in
+        subst (λ (x : Start). TagFits keys x lie) is.start (subst (λ (k : KeySet). TagFits k (engine_start e) lie) is.keyed fits);
+    opened = s1;
+    sweeps = sweeps;
+    told = λ tells nolie tables rests. record {
+      rests = rests_while tells (unlied nolie) tables rests s2.kept read_kept;
+      under = under tells (unlied nolie) tables rests;
+      listed = headed tells (unlied nolie) tables rests ∙ ap (λ (p : Public). headings_of p.tables) is.public;
+    };
+  }
+
+  asked_is : s2.asked ≡ opening_script closing is.listed
+  asked_is = sweeps.asked ∙ is.did.asked ∙ ap (λ (l : List Access). l ++ opening_script closing is.listed) none
+
+  count_is : count_of e s2 ≡ base.count
+  count_is = omega (arith, ap earlier is.start, ap length asked_is)
+
+  stands_opened : StandsOn state base config keys e s2
+  stands_opened = record {
+    settings = refl;
+    public = is.public;
+    flat = opened_flat config closing is.listed is.catalogue;
+    unindexed = is.unindexed;
+    pack = refl;
+    buffer = refl;
+    keep = refl;
+    save = refl;
+    rows = is.rows;
+    count = count_is;
+    start = is.start;
+    asked = asked_is;
+    keyed = is.keyed;
+    drawn = is.drawn;
+    calm = calm_swept state e s1 s2 sweeps is.calm;
+    used = λ some. let one = is.high in omega (arith, one);
+    held = λ tables rested. represents_swept state e s1 s2 sweeps is.agrees tables (opens.told rested.tells (unlied rested.honest) tables (rested_by tables rested.rests));
+    earlier = λ region above. sweeps.live region ∙ is.earlier region above;
+    sealed = λ tells tables rested good passes scope few.
+        let swept = sweeps.faults in
+        let asked = is.did.faults in
+        sealed_swept state e s1 s2 sweeps (λ r. good) scope
+        (opens.sealed rested.tells (unlied rested.honest) tables (rested_by tables rested.rests) (λ r. good) passes.0.0 passes.1 scope (omega (arith, few, swept, asked)));
+    passes = λ good passes. passes.0;
+    early = λ n before. absurd before;
+  }
+
+  -- each region that the run makes is under its own salt
+  salted : (q : ℕ) → closing.region < q → (pair_of keys q).salt ≡ Some salt
+  salted q above =
+      let before : AreBefore q (salted_regions closed closing is.listed) = (above, before_each closing is.listed (λ i t at. (is.catalogue.are.each i t at).listed.region_most) q above) in
+      ap (λ (k : KeySet). (pair_of k q).salt) by.keyed ∙ ap (λ (p : Pair). p.salt) (own_pair secret salt (salted_regions closed closing is.listed) q before)
+
+  may_go_on : MaySave ⊤ e
+  may_go_on = record {
+    saves = λ it. tt;
+    salted = λ it q above.
+        let next = ap (λ (p : Public). p.next_region) is.public in
+        is_some _ _ salt (ap (λ (k : KeySet). (pair_of k q).salt) is.keyed) (salted q (omega (arith, above, next)));
+    listed = λ it. is.from_closing ∙ sym (ap (λ (p : Public). p.closing) is.public ∙ ap (λ (b : Bool). if b then Some closing.region else None) saves);
+  }
+
+  module _ (keeper : KeeperState) where
+    pub engages_opened : EngagesSaved state base config keys e s2 keeper
+    engages_opened = record {
+      stands = stands_opened;
+      ready = record { agrees = agrees_swept state e s1 s2 sweeps is.agrees; lives = is.alive; settled = by.replaced; saves = may_go_on };
+      high = let one = is.high in omega (arith, one);
+    }
+
+    pub begins_opened : (mark : Mark) → ((now : ℕ → Option KeptRegion) (tables : Tables) → RestsBy secret closed closing now tables → RestsAt secret mark now tables) → keeper.held ≡ Some mark
+        → BeginsToSave state secret salt base keys (machine_of e s2 keeper)
+    begins_opened mark at held = record {
+      agrees = agrees_swept state e s1 s2 sweeps is.agrees;
+      saves = ap (λ (p : Public). p.save) is.public ∙ saves;
+      public = is.public;
+      count = count_is;
+      start = is.start;
+      keyed = is.keyed;
+      drawn = is.drawn;
+      of = subst (AreOfSecret secret) (sym by.keyed) (salted_of_secret secret salt (salted_regions closed closing is.listed));
+      salted = salted;
+      held = stands_opened.held;
+      rests = λ other is_held tables rested.
+          let same : mark ≡ other = cc (held, is_held) in
+          subst (λ (m : Mark). RestsOn secret m base.public s2.kept tables) same
+          (rests_on rested.tells (unlied rested.honest) tables (rested_by tables rested.rests) mark (λ now rests. at now tables rests));
+    }
+
+-- ---- by the mark
+-- an engine was had, and what is no region of it was given up
+pub record Engaged {R : Type 0} (state : R → RevState) (mark : Mark) (config : Config) (secret salt : List ℕ) (e : Engine R) (old new : StoreState) (keeper : KeeperState) : Type 0 where
+  pub keys : KeySet
+  pub base : Base
+  pub begins : BeginsSaved mark config secret salt keys base old new
+  pub engages : EngagesSaved state base config keys e new keeper
+  pub saves : keeper.held ≡ Some (begun_mark mark) → BeginsToSave state secret salt base keys (machine_of e new keeper)
+
+module _ {R : Type 0} (state : R → RevState) (config : Config) (secret salt : List ℕ) (saves : config.save ≡ true) (e : Engine R) (old looked mid new : StoreState) (sweeps : Sweeps mid new) (none : old.asked ≡ []) (blank : IsFresh new) (steady : IsSteady new) (keeper : KeeperState) where
+  engaged_opened : (mark : Mark) (closed : Option (List ℕ)) (closing : Closing) → closing.pack ≡ config.pack → looked ≡ old → OpensSaved state config secret salt closed closing (Ok e) looked mid
+      → ((keys : KeySet) (base : Base) → ReopensSaved closed closing config secret salt keys base old new → BeginsSaved mark config secret salt keys base old new)
+      → ((now : ℕ → Option KeptRegion) (tables : Tables) → RestsBy secret closed closing now tables → RestsAt secret (begun_mark mark) now tables)
+      → Engaged state mark config secret salt e old new keeper
+  engaged_opened mark closed closing pack same found begins at =
+      let opens = subst (λ (s : StoreState). OpensSaved state config secret salt closed closing (Ok e) s mid) same found in
+      record {
+        keys = keys state config secret salt saves closed closing pack e old mid new none opens sweeps;
+        base = base state config secret salt saves closed closing pack e old mid new none opens sweeps;
+        begins = begins _ _ (reopens state config secret salt saves closed closing pack e old mid new none opens sweeps);
+        engages = engages_opened state config secret salt saves closed closing pack e old mid new none opens sweeps keeper;
+        saves = begins_opened state config secret salt saves closed closing pack e old mid new none opens sweeps keeper (begun_mark mark) at;
+      }
+
+  pub engaged : (mark : Mark) → LooksBare mark old looked → EngineBy state mark config secret salt e looked mid → Engaged state mark config secret salt e old new keeper
+  engaged Fresh looks by = record {
+    keys = keys_salted secret salt [];
+    base = fresh (Some config);
+    begins = (record { keyed = refl; is = refl }, record { looked = looked; finds = looks; sweeps = subst (λ (s : StoreState). Sweeps s new) by.1 sweeps });
+    engages = engages_started state config secret salt saves e by.0 new blank steady keeper;
+    saves = begins_started state config secret salt saves e by.0 new blank steady keeper;
+  }
+  engaged InUse looks by = absurd looks
+  engaged (Closed region blocks number pack) looks by =
+      engaged_opened (Closed region blocks number pack) None (closing_named region blocks number pack) by.0 looks by.1 (λ keys base reopens. (by.0, reopens)) (λ now tables rests. rests)
+  engaged Begun looks by = record {
+    keys = keys_salted secret salt [];
+    base = fresh (Some config);
+    begins = (record { keyed = refl; is = refl }, subst (λ (s : StoreState). Sweeps s new) (by.1 ∙ looks) sweeps);
+    engages = engages_started state config secret salt saves e by.0 new blank steady keeper;
+    saves = begins_started state config secret salt saves e by.0 new blank steady keeper;
+  }
+  engaged (Saved region blocks number pack closed) looks by =
+      engaged_opened (Saved region blocks number pack closed) (Some closed) (closing_named region blocks number pack) by.0 looks by.1 (λ keys base reopens. (by.0, reopens)) (λ now tables rests. rests)
+
+-- ---- no engine was had
+pub shut_from : (mark : Mark) (config : Config) (secret salt : List ℕ) (ending : KeptEnding) (old looked new : StoreState) → LooksBare mark old looked → EndsShut (begun_mark mark) config secret salt ending looked new → EndsShut mark config secret salt ending old new
+shut_from Fresh config secret salt ending old looked new looks shut = (shut.0, subst (λ (s : StoreState). IsFoundBare old s) (sym shut.1) looks)
+shut_from InUse config secret salt ending old looked new looks shut = absurd looks
+shut_from (Closed region blocks number pack) config secret salt ending old looked new looks shut = subst (λ (s : StoreState). EndsShut (Closed region blocks number pack) config secret salt ending s new) looks shut
+shut_from Begun config secret salt ending old looked new looks shut = (shut.0, shut.1 ∙ looks)
+shut_from (Saved region blocks number pack closed) config secret salt ending old looked new looks shut = subst (λ (s : StoreState). EndsShut (Saved region blocks number pack closed) config secret salt ending s new) looks shut
+
+-- ---- an engine was had, and the keeper failed
+pub looks_still : {R : Type 0} (state : R → RevState) (mark : Mark) (config : Config) (secret salt : List ℕ) (e : Engine R) (old looked mid : StoreState) (failed : Failed) (drawn keeper : KeeperState)
+    → LooksBare mark old looked → EngineBy state mark config secret salt e looked mid → HandsBegun mark (Err failed) drawn keeper → LooksBare mark old mid
+looks_still state Fresh config secret salt e old looked mid failed drawn keeper looks by hands = subst (λ (s : StoreState). IsFoundBare old s) (sym by.1) looks
+looks_still state InUse config secret salt e old looked mid failed drawn keeper looks by hands = absurd looks
+looks_still state (Closed region blocks number pack) config secret salt e old looked mid failed drawn keeper looks by hands = absurd hands
+looks_still state Begun config secret salt e old looked mid failed drawn keeper looks by hands = absurd hands
+looks_still state (Saved region blocks number pack closed) config secret salt e old looked mid failed drawn keeper looks by hands = absurd hands
+
+-- nothing was asked while it was looked whether the store is bare
+pub unasked_look : (mark : Mark) (old looked : StoreState) → LooksBare mark old looked → looked.asked ≡ old.asked
+unasked_look Fresh old looked looks = looks.syncs.asked
+unasked_look InUse old looked looks = absurd looks
+unasked_look (Closed region blocks number pack) old looked looks = ap (λ (s : StoreState). s.asked) looks
+unasked_look Begun old looked looks = ap (λ (s : StoreState). s.asked) looks
+unasked_look (Saved region blocks number pack closed) old looked looks = ap (λ (s : StoreState). s.asked) looks
+
+-- it isn't in use
+pub unused_look : (mark : Mark) (old looked : StoreState) → LooksBare mark old looked → mark ≢ InUse
+unused_look Fresh old looked looks = λ is. absurd (cc is)
+unused_look InUse old looked looks = absurd looks
+unused_look (Closed region blocks number pack) old looked looks = λ is. absurd (cc is)
+unused_look Begun old looked looks = λ is. absurd (cc is)
+unused_look (Saved region blocks number pack closed) old looked looks = λ is. absurd (cc is)
