@@ -43,7 +43,7 @@ never_saves false not = refl
 module _ {R : Type 0} (state : R → RevState) (base : Base) (config : Config) (key : List ℕ) (first last : Engine R) (p0 p1 : KeeperState) (s0 s1 : StoreState) (engages : Engages state base config (keys_of key) first s0)
     (high : ℕ) (most : high ≤ rows_of last) (is_high : high ≡ high_of last) (tracing : Bool) (t0 t1 : Option (List ℕ)) (f0 f1 : Fetch) (l0 l1 : Option (List ℕ)) (gave : ℕ) (w0 w1 : Option (List ℕ)) where
   -- no tables are saved
-  unsaved : base.public.save ≡ false
+  pub unsaved : base.public.save ≡ false
   unsaved = ap (λ (p : Public). p.save) (sym engages.stands.public) ∙ never_saves (public_of first).save engages.ready.saves.saves
 
   pub serves_stop : (stop : Stop) (ended : KeptEnded) (k : KeeperState) (old new : Faults) → ended.high ≡ high

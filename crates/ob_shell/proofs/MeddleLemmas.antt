@@ -114,7 +114,7 @@ module _ {tally : Tally} {tr : TraceSink} {Takes : Type 0} {keys : List ℕ → 
         honest = honest;
         untampered = honest_status honest;
         sound = λ is.
-            elim r.shown.carried.faulted (fault_status r.ending (sym r.status ∙ is)) [
+            elim (r.shown.carried.faulted (fault_status r.ending (sym r.status ∙ is))) [
               | inl rose ↦ let none = quiet.faults in absurd (omega (arith, rose, none))
               | inr late ↦ absurd (cc (late.saves, unsaved))
             ];

@@ -405,7 +405,7 @@ module _ {R : Type 0} {state : R → RevState} {Lost : Type 0} (base : Base) (co
     faulted = λ is.
         let stopped : result ≡ Err StoreFault = cc is in
         let before = (steps_later state m0 ran.middle ran.served ran.answers ran.steps).faults in
-        elim last_fault state ran.middle m2 ran.more ran.part (subst (λ (x : Result Bool Stop). LastPart state ran.middle m2 ran.more ran.part x) stopped ran.last) [
+        elim (last_fault state ran.middle m2 ran.more ran.part (subst (λ (x : Result Bool Stop). LastPart state ran.middle m2 ran.more ran.part x) stopped ran.last)) [
           | inl rose ↦ inl (omega (arith, rose, before))
           | inr low ↦ inr (record { saves = sym save_is ∙ low.saves; late = subst (λ (x : Start). 2 ^ 63 ≤ earlier x + length s1.asked + 1) start_is low.late })
         ];

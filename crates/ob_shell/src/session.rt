@@ -128,8 +128,8 @@ fn run_stmt<R: Revisions, S: BlockStore, B: Behind<S>, K: Sink>(
     requires none { printer.old.out.waiting.items ≡ [] }
     ensures same_sink { printer.new.out.out.ghost_name ≡ printer.old.out.out.ghost_name }
     ensures serves { ServesTexts R.state (B.Saves behind.new) (text.now ∷ [])
-        (λ a. HasBody R.state (K.written printer.old.out.out.now) (K.written printer.new.out.out.now)
-        text.now a.outcome a.plan)
+        (λ a. HasBody R.state (K.written printer.old.out.out.now)
+        (K.written printer.new.out.out.now) text.now a.outcome a.plan)
         (K.written printer.old.out.out.now) (K.written printer.new.out.out.now)
         (faults_of 0 (K.faults printer.old.out.out.now) 0)
         (faults_of 0 (K.faults printer.new.out.out.now) 0)

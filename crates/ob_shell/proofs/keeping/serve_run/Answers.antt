@@ -2,6 +2,7 @@ use Rattle.std.proofs.Common.{inl, inr, refl}
 use Rattle.ob_shell.proofs.FewLemmas.{session_few}
 use Rattle.ob_shell.proofs.GeneratingLemmas.{traced_by_fault}
 use Rattle.ob_shell.proofs.KeepLemmas.{serves_all, serves_stop}
+use Rattle.ob_shell.specs.Steps.{told_nothing}
 use Rattle.ob_shell.proofs.keeping.serve_run.Goals as goal
 
 pub close_run-requires-clause-few : goal.close_run-requires-clause-few
@@ -13,7 +14,7 @@ close_run-requires-clause-flat g c = (session_few _ _ _ c.in-Ok.tally c.in-Ok.en
 pub returns-in-Ok-clause-served : goal.returns-in-Ok-clause-served
 returns-in-Ok-clause-served g c base config key engages =
     let ran = c.in-Ok.ensures in
-    inr (serves_all _ base config key _ _ _ _ _ _ engages c.high-high.result c.high-high.ensures.most c.high-high.ensures.value c.args.tracing _ _ _ _ _ _ _ _ _ c.in-Ok.tally c.close_run.result _ _ _ _ _ _ ran.ran
+    inr (serves_all _ base config key _ _ told_nothing told_nothing _ _ engages c.high-high.result c.high-high.ensures.most c.high-high.ensures.value c.args.tracing _ _ _ _ _ _ _ _ _ c.in-Ok.tally c.close_run.result _ _ _ _ _ _ ran.ran
     (traced_by_fault (λ loud. absurd (cc loud)) ran.traced) ran.cause.source ran.cause.out (rw ran.cause.trace at c.close_run.ensures))
 
 pub returns-in-Err-clause-served : goal.returns-in-Err-clause-served
@@ -21,5 +22,5 @@ returns-in-Err-clause-served g c base config key engages =
     let ran = c.in-Err.ensures in
     let ended = c.ended_with.ensures in
     inl (rw c.plainly.ensures
-    (serves_stop _ base config key _ c.serve.new.engine _ _ _ _ engages c.high.result c.high.ensures.most c.high.ensures.value c.args.tracing _ _ _ _ _ _ _ _ _ c.in-Err.halted.stop _ _ _ _ ended.high (rw ended.quiet ran.ran)
+    (serves_stop _ base config key _ c.serve.new.engine told_nothing told_nothing _ _ engages c.high.result c.high.ensures.most c.high.ensures.value c.args.tracing _ _ _ _ _ _ _ _ _ c.in-Err.halted.stop _ _ _ _ ended.high (rw ended.quiet ran.ran)
     (rw ended.quiet ran.traced) ran.cause (rw ended.quiet ran.quiet) (rw ended.ending refl)))
