@@ -1,37 +1,35 @@
 -- What a session leaves whose tables are saved: the mark that is held, and the tables that rest for it.
-use Rattle.std.proofs.Common.{◌≡◌, ◌⊎◌, inl, inr, ◌<◌, ◌+◌, ◌-◌, ℕ, Bool, true, false, IsTrue, List, [], ◌∷◌, ◌++◌, length, Option, Some, None, Result, Ok, Err, refl, sym, ◌∙◌, ap, subst, arith, length-append}
+use Rattle.std.proofs.Common.{◌≡◌, inl, inr, ◌<◌, ◌+◌, ℕ, Bool, true, false, IsTrue, List, [], ◌∷◌, ◌++◌, length, Option, Some, None, Ok, Err, refl, sym, ◌∙◌, ap, subst, arith, length-append}
 use Rattle.std.specs.Prelude.{if◌then◌else◌}
-use Rattle.ob_base.specs.declared.access.Access.{Access}
 use Rattle.ob_base.specs.declared.config.Public.{Public}
 use Rattle.ob_base.specs.declared.mark.Mark.{Mark}
 use Rattle.ob_base.specs.declared.seen.Seen.{Seen}
 use Rattle.ob_headline.proofs.EffectLemmas.{left_end, left_refused, left_served}
 use Rattle.ob_headline.specs.Bases.{Base, FromEach, HoldsFrom, Opened, drawing, session_at}
 use Rattle.ob_headline.specs.Meaning.{AnswersFrom}
-use Rattle.ob_headline.specs.SavedHeadline.{LeavesMark, LeavesSaved, MayTakeMore, RestsBehind, SavesAs, left_by}
+use Rattle.ob_headline.specs.SavedHeadline.{LeavesSaved, MayTakeMore, RestsBehind, left_by}
 use Rattle.ob_headline.specs.Saving.{RestsAlike}
 use Rattle.ob_headline.specs.Story.{Story}
 use Rattle.ob_headline.specs.Words.{Answer, IsHonest}
 use Rattle.ob_headline.specs.declared.ending.Ending.{Ending}
 use Rattle.ob_mean.proofs.FlatSessions.{room_flat}
 use Rattle.ob_mean.proofs.ReplayLemmas.{after_room}
-use Rattle.ob_mean.specs.Replay.{Broken, Session, Spelt, after, after_all, draws_taken, head_of, is_full_now, rest_of, seen_or_cut}
+use Rattle.ob_mean.specs.Replay.{Broken, Session, Spelt, after, draws_taken, head_of, is_full_now, rest_of, seen_or_cut}
 use Rattle.ob_mean.specs.Verdict.{Draws, Tables}
-use Rattle.ob_reopen.specs.Keepers.{KeeperState}
 use Rattle.ob_script.specs.Script.{script}
 use Rattle.ob_script.specs.Trace.{Served as Entry, next}
 use Rattle.ob_seal.specs.KeySet.{KeySet, pair_of}
 use Rattle.ob_seal.specs.Sealed.{AreOfSecret}
-use Rattle.ob_shell.proofs.LeavePath.{Along, EndsAlong, IsLast, IsServed, IsStopped}
+use Rattle.ob_shell.proofs.LeavePath.{Along}
 use Rattle.ob_shell.proofs.LeaveSteps.{HoldsMark, Saves, mark_answered, mark_stopped, rests_now, saves_on}
-use Rattle.ob_shell.proofs.LeaveTables.{Resting, RestsLast, flat, held_then, last_answered, last_stopped, none_earlier, rests_then}
+use Rattle.ob_shell.proofs.LeaveTables.{Resting, flat, held_then, last_answered, last_stopped, none_earlier, rests_then}
 use Rattle.ob_shell.specs.Leaving.{BeginsToSave, RestsOn}
 use Rattle.ob_shell.specs.Steps.{Does, Machine, asked_of, session_of}
 use Rattle.ob_sql.specs.Skeleton.{skeleton}
 use Rattle.ob_sql.specs.declared.stmt.Stmt.{Stmt}
-use Rattle.ob_tables.specs.Agreeing.{AreDraws, engine_start, first_draws, public_of, seen_of}
+use Rattle.ob_tables.specs.Agreeing.{AreDraws, first_draws, public_of, seen_of}
 use Rattle.ob_tables.specs.Telling.{Represents}
-use Rattle.ob_vault.specs.State.{RevState, Start, earlier}
+use Rattle.ob_vault.specs.State.{RevState, earlier}
 use Rattle.ob_verdict.specs.declared.outcome.Outcome.{Outcome}
 
 -- ---- the model's session behind a statement
@@ -135,7 +133,7 @@ module _ {R : Type 0} (state : R → RevState) (ending : Ending) (m2 : Machine R
             unanswered = last.unanswered;
             mark = last.mark;
             is = last.is;
-            rests = subst (λ (ts : Tables). RestsAlike secret last.mark m2.store.kept ts) (sym (left_last (session_of m0 d tables) stmt spelt broken room last.more)) last.rests;
+            rests = subst (λ (ts : Tables). RestsAlike secret last.mark m2.store.kept ts) (sym (left_last (session_of m0 d tables) stmt spelt broken room last.more)) last.resting;
           }
       left_along (Ok stmt ∷ spelt) m0 d tables broken [] seen part old drawn tells held rests (inr end) told =
           let room = room_flat (session_of m0 d tables) stmt (flat state secret salt base keys of m0 m2 stmt old d drawn tables tells held rests none) in
@@ -145,7 +143,7 @@ module _ {R : Type 0} (state : R → RevState) (ending : Ending) (m2 : Machine R
             unanswered = last.unanswered;
             mark = last.mark;
             is = last.is;
-            rests = subst (λ (ts : Tables). RestsAlike secret last.mark m2.store.kept ts) (sym (left_last (session_of m0 d tables) stmt spelt broken room last.more)) last.rests;
+            rests = subst (λ (ts : Tables). RestsAlike secret last.mark m2.store.kept ts) (sym (left_last (session_of m0 d tables) stmt spelt broken room last.more)) last.resting;
           }
       left_along (Err at ∷ spelt) m0 d tables broken (one ∷ answers) seen part old drawn tells held rests along told =
           let s = session_of m0 d tables in

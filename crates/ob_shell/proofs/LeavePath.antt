@@ -1,5 +1,5 @@
 -- The machines along the statements that were answered, and the one begun.
-use Rattle.std.specs.Prelude.{◌≡◌, ◌⊎◌, ⊥, List, [], ◌∷◌, Ok, Err}
+use Rattle.std.specs.Prelude.{◌≡◌, ◌⊎◌, List, [], ◌∷◌, Ok, Err}
 use Rattle.ob_base.specs.declared.refusal.Stop.TheVariants.{SinkFault}
 use Rattle.ob_headline.specs.Words.{Answer}
 use Rattle.ob_headline.specs.declared.ending.Ending.{Ending}

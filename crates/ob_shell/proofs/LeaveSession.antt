@@ -1,6 +1,5 @@
 -- What a session leaves whose tables are saved, by the walk over its texts.
-use Rattle.std.proofs.Common.{◌≡◌, ℕ, List, ◌++◌, Bool, Option, None, Some, Result, refl, sym, ◌∙◌, ap, subst}
-use Rattle.ob_base.specs.declared.refusal.Stop.{Stop}
+use Rattle.std.proofs.Common.{◌≡◌, ℕ, List, Option, None, Some, refl}
 use Rattle.ob_headline.specs.Bases.{Base}
 use Rattle.ob_headline.specs.SavedHeadline.{LeavesSaved}
 use Rattle.ob_headline.specs.Story.{Story}

@@ -1,35 +1,28 @@
 -- What one statement does to the mark that is held, and to what rests for it.
-use Rattle.std.proofs.Common.{◌≡◌, ◌⊎◌, inl, inr, ◌<◌, ◌≤◌, ◌+◌, ◌-◌, ◌&&◌, ℕ, Bool, true, false, IsTrue, List, [], ◌∷◌, ◌++◌, length, Option, Some, None, Result, Ok, Err, refl, sym, ◌∙◌, ap, subst, arith, length-append}
+use Rattle.std.proofs.Common.{◌≡◌, ◌⊎◌, inl, inr, ◌<◌, ◌≤◌, ◌&&◌, ℕ, Bool, true, false, IsTrue, List, Option, Some, None, Result, Ok, Err, refl, sym, ◌∙◌, ap, subst, arith}
 use Rattle.std.specs.Prelude.{if◌then◌else◌, is_some}
-use Rattle.ob_base.specs.Accesses.{makes}
-use Rattle.ob_base.specs.Counts.{Rises}
 use Rattle.ob_base.specs.Refusals.{is_store_fault}
-use Rattle.ob_base.specs.Stored.{AreApart, headings, headings_of}
-use Rattle.ob_base.specs.declared.access.Access.{Access}
+use Rattle.ob_base.specs.Stored.{AreApart, headings}
 use Rattle.ob_base.specs.declared.config.Public.{Public}
 use Rattle.ob_base.specs.declared.mark.Mark.{Mark}
 use Rattle.ob_base.specs.declared.refusal.Refusal.{Refusal}
 use Rattle.ob_base.specs.declared.refusal.Refusal.TheVariants as Refusals
-use Rattle.ob_base.specs.declared.refusal.Stop.TheVariants as Stops
-use Rattle.ob_base.specs.declared.schema.Heading.{Heading}
 use Rattle.ob_base.specs.declared.schema.Table.{Table}
 use Rattle.ob_base.specs.declared.seen.End.{End}
 use Rattle.ob_base.specs.declared.seen.End.TheVariants.{Static, Whole, AfterCount, Cut}
 use Rattle.ob_base.specs.declared.seen.Seen.{Seen}
 use Rattle.ob_base.specs.declared.skeleton.Skeleton.{Skeleton}
 use Rattle.ob_base.specs.declared.skeleton.Skeleton.TheVariants as Skeletons
-use Rattle.ob_exec.specs.Ran.{KeeperBehind, WasNotSaved, WasSaved, is_saved_behind}
-use Rattle.ob_exec.specs.Saving.{HoldsSaved, SavingCause}
+use Rattle.ob_exec.specs.Ran.{WasSaved, is_saved_behind}
+use Rattle.ob_exec.specs.Saving.{HoldsSaved}
 use Rattle.ob_headline.specs.Bases.{Base}
-use Rattle.ob_headline.specs.SavedHeadline.{MayTakeMore, SavesAs}
+use Rattle.ob_headline.specs.SavedHeadline.{SavesAs}
 use Rattle.ob_headline.specs.Saving.{RestsAlike}
-use Rattle.ob_headline.specs.declared.ending.Ending.{Ending}
-use Rattle.ob_headline.specs.declared.ending.Ending.TheVariants.{Ran}
 use Rattle.ob_mean.proofs.FlatLemmas.{seen_is, settle_is}
 use Rattle.ob_mean.proofs.VerdictLemmas.{refused_early}
 use Rattle.ob_mean.specs.Flats.{AreFlat}
 use Rattle.ob_mean.specs.Refusals.{early_refusal, limits_of}
-use Rattle.ob_mean.specs.Replay.{Session, after, seen_now, seen_or_cut, settle_or_cut}
+use Rattle.ob_mean.specs.Replay.{Session, seen_now, seen_or_cut, settle_or_cut}
 use Rattle.ob_mean.specs.Settle.{settle, settled}
 use Rattle.ob_mean.specs.Step.{followed}
 use Rattle.ob_mean.specs.Verdict.{Draws, Tables, ended as seen_to, is_late, refusal, seen_started}
@@ -37,35 +30,30 @@ use Rattle.ob_reopen.proofs.ByNameAlike.{named_alike}
 use Rattle.ob_reopen.specs.Closings.{saved_mark}
 use Rattle.ob_reopen.specs.Keepers.{KeeperState}
 use Rattle.ob_reopen.specs.Resting.{by_name}
-use Rattle.ob_script.specs.Saved.{run_next, saved_public}
-use Rattle.ob_script.specs.Script.{changes_tables, is_saved, script}
+use Rattle.ob_script.specs.Saved.{saved_public}
+use Rattle.ob_script.specs.Script.{changes_tables}
 use Rattle.ob_script.specs.Tables.{tables_after, tables_then}
-use Rattle.ob_script.specs.Trace.{next}
 use Rattle.ob_seal.specs.KeySet.{KeySet, pair_of}
 use Rattle.ob_seal.specs.Sealed.{AreOfSecret}
 use Rattle.ob_shell.specs.Leaving.{IsRead, RestsOn}
-use Rattle.ob_shell.specs.Steps.{Does, Machine, asked_of, session_of}
+use Rattle.ob_shell.specs.Steps.{Does, Machine}
 use Rattle.ob_sql.specs.Skeleton.{skeleton}
 use Rattle.ob_sql.specs.declared.stmt.Stmt.{Stmt}
 use Rattle.ob_sql.specs.declared.stmt.Stmt.TheVariants.{Create, Insert, Update, Delete, Drop as DropTable, SelectRows as RowsStmt, SelectTotals as TotalsStmt}
-use Rattle.ob_store.specs.Runs.{Later}
-use Rattle.ob_store.specs.State.{KeptRegion, Lie, StoreState}
+use Rattle.ob_store.specs.State.{KeptRegion, StoreState}
 use Rattle.ob_tables.proofs.HeldLemmas.{held_headings}
 use Rattle.ob_tables.proofs.NamesApart.{named_apart}
-use Rattle.ob_tables.proofs.TableLemmas.{region_below, tables_flat}
-use Rattle.ob_tables.specs.Agreeing.{Agrees, AreDraws, count_of, engine_keys, engine_start, public_of, seen_of, world_of}
+use Rattle.ob_tables.proofs.TableLemmas.{region_below}
+use Rattle.ob_tables.specs.Agreeing.{Agrees, engine_keys, engine_start, public_of, world_of}
 use Rattle.ob_tables.specs.Closing.{next_closing}
 use Rattle.ob_tables.specs.Engines.{IsTableRegion}
 use Rattle.ob_tables.specs.Refusals.{refused_end}
 use Rattle.ob_tables.specs.Running.{is_fault, outcome_end}
-use Rattle.ob_tables.specs.Stops.{session_stop}
-use Rattle.ob_tables.specs.Telling.{Kept, Meant, ReadsTrue, Represents, Told}
+use Rattle.ob_tables.specs.Telling.{Represents}
 use Rattle.ob_tables.specs.declared.engine.Engine.{Engine}
 use Rattle.ob_tables.specs.declared.stop.RunStop.{RunStop}
-use Rattle.ob_tables.specs.declared.stop.RunStop.TheVariants.{KeeperFault, NoMemory, SinkFault, StashFull, StoreFault, Tampered}
-use Rattle.ob_vault.specs.State.{RevState, Start, earlier}
+use Rattle.ob_vault.specs.State.{RevState, Start}
 use Rattle.ob_verdict.proofs.AlikeTables.{alike_turned}
-use Rattle.ob_verdict.specs.Outcomes.{by_fault}
 use Rattle.ob_verdict.specs.declared.outcome.Outcome.{Outcome}
 use Rattle.ob_verdict.specs.declared.outcome.Outcome.TheVariants.{Created, Inserted, Changed, Deleted, Dropped, Rows, Refused}
 
@@ -90,7 +78,7 @@ refused_whole Refusals.PadPassed n is = refl
 refused_whole Refusals.KeyRange n is = refl
 refused_whole Refusals.NeedsKey n is = refl
 
-whole_own : (o : Outcome) (n : ℕ) → outcome_end o n ≡ Whole → is_fault o ≡ false
+pub whole_own : (o : Outcome) (n : ℕ) → outcome_end o n ≡ Whole → is_fault o ≡ false
 whole_own (Refused r) n is = refused_whole r n is
 whole_own Created n is = refl
 whole_own Inserted n is = refl
@@ -120,7 +108,7 @@ refused_uncut Refusals.PadPassed n k own is = cc is
 refused_uncut Refusals.KeyRange n k own is = cc is
 refused_uncut Refusals.NeedsKey n k own is = cc is
 
-uncut : (o : Outcome) (n k : ℕ) → is_fault o ≡ false → outcome_end o n ≡ Cut k → ⊥
+pub uncut : (o : Outcome) (n k : ℕ) → is_fault o ≡ false → outcome_end o n ≡ Cut k → ⊥
 uncut (Refused r) n k own is = refused_uncut r n k own is
 uncut Created n k own is = cc is
 uncut Inserted n k own is = cc is
@@ -159,7 +147,7 @@ module _ (p : Public) (m : ℕ) (d : Draws) (ts : Tables) (saves : p.save ≡ tr
           started_same stmt (subst (λ (x : Seen). is_saved_behind p (skeleton stmt) x.end ≡ false) is not) (refusal p m ts stmt)
 
 -- whether or not the store cut it off
-unsaved_same : (o : Option ℕ) (s : Session) (stmt : Stmt) → s.public.save ≡ true → AreFlat (headings s.tables) → is_saved_behind s.public (skeleton stmt) (seen_or_cut o s stmt).end ≡ false
+pub unsaved_same : (o : Option ℕ) (s : Session) (stmt : Stmt) → s.public.save ≡ true → AreFlat (headings s.tables) → is_saved_behind s.public (skeleton stmt) (seen_or_cut o s stmt).end ≡ false
     → settle_or_cut o s stmt ≡ s.tables
 unsaved_same None s stmt saves flat not = settles_same s.public s.asked s.draws s.tables saves stmt flat not
 unsaved_same (Some n) s stmt saves flat not = refl
@@ -174,7 +162,7 @@ after_same p (Skeletons.Drop table) saves not = absurd (cc (saves, not))
 after_same p (Skeletons.Rows source cs) saves not = refl
 after_same p (Skeletons.Groups table cs key) saves not = refl
 
-then_same : (p : Public) (sk : Skeleton) (end : End) → p.save ≡ true → is_saved_behind p sk end ≡ false → tables_then p sk end ≡ p.tables
+pub then_same : (p : Public) (sk : Skeleton) (end : End) → p.save ≡ true → is_saved_behind p sk end ≡ false → tables_then p sk end ≡ p.tables
 then_same p sk Static saves not = refl
 then_same p sk Whole saves not = after_same p sk saves not
 then_same p sk AfterCount saves not = refl
@@ -201,13 +189,17 @@ module _ (secret : List ℕ) (mark : Mark) (tables : Tables) where
   }
 
 -- of an engine all that is read lies below its next region
-read_below : {R : Type 0} (state : R → RevState) (e : Engine R) (s : StoreState) (region q : ℕ) → Agrees state e s → region < (public_of e).next_region → IsRead region (public_of e) q → q < (public_of e).next_region
+pub read_below : {R : Type 0} (state : R → RevState) (e : Engine R) (s : StoreState) (region q : ℕ) → Agrees state e s → region < (public_of e).next_region → IsRead region (public_of e) q → q < (public_of e).next_region
 read_below state e s region q agrees below (inl own) = omega (arith, below, own)
 read_below state e s region q agrees below (inr of) =
     let under = region_below (public_of e).pack of.place (public_of e).tables of.table (world_of state e s) agrees.ready agrees.tables of.get in
     let here = of.region in
     let next_is = agrees.next in
     omega (arith, under, here, next_is)
+
+-- no two of its tables have one name
+pub apart_held : {R : Type 0} (state : R → RevState) (e : Engine R) (s : StoreState) → Agrees state e s → (tables : Tables) → Represents state e s tables → AreApart (headings tables)
+apart_held state e s agrees tables held = subst AreApart (sym (held_headings _ _ _ tables _ held.held)) (named_apart (public_of e).tables agrees.tables.names)
 
 -- ---- the mark of a closing that was written, and what rests for it
 module _ {R : Type 0} (state : R → RevState) (e : Engine R) (s t : StoreState) (keeper : KeeperState) (holds : HoldsSaved state e s t keeper) (agrees : Agrees state e s) where
@@ -233,9 +225,6 @@ module _ {R : Type 0} (state : R → RevState) (e : Engine R) (s t : StoreState)
         number = omega (arith, since);
       }
 
-  apart_named : (tables : Tables) → Represents state e s tables → AreApart (headings tables)
-  apart_named tables held = subst AreApart (sym (held_headings _ _ _ tables _ held.held)) (named_apart (public_of e).tables agrees.tables.names)
-
   pub rests_saved : (secret : List ℕ) → AreOfSecret secret (engine_keys e) → IsTrue s.tells → (tables : Tables) → Represents state e s tables
       → RestsOn secret own_mark (saved_public (public_of e)) t.kept tables
   rests_saved secret of tells tables held = record {
@@ -244,7 +233,7 @@ module _ {R : Type 0} (state : R → RevState) (e : Engine R) (s t : StoreState)
     rests = λ now at. record {
       resting = by_name tables;
       rests = record { keys = engine_keys e; of = of; own = sym holds.of; rests = (holds.rests tells tables held).rests now at };
-      alike = alike_turned tables (by_name tables) (named_alike tables (apart_named tables held));
+      alike = alike_turned tables (by_name tables) (named_alike tables (apart_held state e s agrees tables held));
     };
   }
 

@@ -1,5 +1,5 @@
 -- What one statement does to the tables that rest for the mark that is held, where the store gave what was written.
-use Rattle.std.proofs.Common.{◌≡◌, ◌⊎◌, inl, inr, ◌<◌, ◌≤◌, ◌+◌, ℕ, Bool, true, false, IsTrue, Option, Some, None, Result, Ok, Err, refl, sym, ◌∙◌, ap, subst, arith}
+use Rattle.std.proofs.Common.{◌≡◌, inl, inr, ◌<◌, ℕ, Bool, true, false, IsTrue, List, Option, Some, None, Result, Ok, Err, refl, sym, ◌∙◌, ap, subst, arith}
 use Rattle.std.specs.Prelude.{if◌then◌else◌}
 use Rattle.ob_base.specs.Stored.{headings}
 use Rattle.ob_base.specs.declared.config.Public.{Public}
@@ -31,7 +31,7 @@ use Rattle.ob_store.specs.Runs.{Later}
 use Rattle.ob_store.specs.State.{Lie, StoreState}
 use Rattle.ob_tables.proofs.HeldLemmas.{held_headings}
 use Rattle.ob_tables.proofs.TableLemmas.{tables_flat}
-use Rattle.ob_tables.specs.Agreeing.{AreDraws, engine_keys, public_of, seen_of}
+use Rattle.ob_tables.specs.Agreeing.{AreDraws, public_of, seen_of}
 use Rattle.ob_tables.specs.Running.{is_fault}
 use Rattle.ob_tables.specs.Stops.{session_stop}
 use Rattle.ob_tables.specs.Telling.{Kept, Meant, ReadsTrue, Represents}
@@ -50,9 +50,9 @@ none_earlier a b later none = go a.lie refl
     go (Some lie) is = let told = later.lie lie is in absurd (cc (told, none))
 
 -- what holds of an answer that the store didn't fail
-own_of : (failed : Bool) {cut whole : Type 0} → failed ≡ false → by_fault failed cut whole → whole
-own_of true own is = absurd (cc own)
-own_of false own is = is
+own_of : (failed : Bool) (cut whole : Type 0) → failed ≡ false → by_fault failed cut whole → whole
+own_of true cut whole own is = absurd (cc own)
+own_of false cut whole own is = is
 
 module _ {R : Type 0} (state : R → RevState) (secret salt : List ℕ) (base : Base) (keys : KeySet) (of : AreOfSecret secret keys) where
   -- for the mark that is held these tables rest
@@ -76,7 +76,7 @@ module _ {R : Type 0} (state : R → RevState) (secret salt : List ℕ) (base : 
     abbrev pub behind : Tables
     behind = settle d p (asked_of m0) tables stmt
 
-    flat : AreFlat (headings tables)
+    pub flat : AreFlat (headings tables)
     flat = subst AreFlat (sym (held_headings _ _ _ tables _ held.held)) (tables_flat (old.agrees.kept (old.agrees.saved old.saves)) old.agrees.tables)
 
     reads_to : (t : StoreState) → t.lie ≡ None → ReadsTrue state m0.engine m0.store t tables
@@ -92,7 +92,7 @@ module _ {R : Type 0} (state : R → RevState) (secret salt : List ℕ) (base : 
       own_mid = whole_own was.outcome _ (sym was.ran.ends ∙ was.whole)
 
       meant_mid : Meant state stmt (asked_of m0) d tables was.outcome m0.engine was.engine was.store
-      meant_mid = own_of (is_fault was.outcome) own_mid (was.means.told tables d drawn (reads_to was.store (none_earlier was.store m1.store was.later honest)))
+      meant_mid = own_of (is_fault was.outcome) _ _ own_mid (was.means.told tables d drawn (reads_to was.store (none_earlier was.store m1.store was.later honest)))
 
       abbrev its_mark : HoldsSaved state was.engine was.store m1.store m1.keeper → Mark
       its_mark holds = own_mark state was.engine was.store m1.store m1.keeper holds was.ran.goes_on.agrees
@@ -157,7 +157,7 @@ module _ {R : Type 0} (state : R → RevState) (secret salt : List ℕ) (base : 
       pub unanswered : more ≡ true → MayTakeMore ending
       pub mark : Mark
       pub is : m1.keeper.held ≡ Some mark
-      pub rests : RestsAlike secret mark m1.store.kept (if more then behind else tables)
+      pub resting : RestsAlike secret mark m1.store.kept (if more then behind else tables)
 
     module _ (ending : Ending) where
       -- it was answered, and a sink failed
@@ -166,11 +166,11 @@ module _ {R : Type 0} (state : R → RevState) (secret salt : List ℕ) (base : 
         where
           by_failed : (failed : Bool) → by_fault failed (Kept state stmt d tables m0.engine m0.store m1.engine m1.store) (Meant state stmt (asked_of m0) d tables outcome m0.engine m1.engine m1.store) → RestsLast ending
           by_failed true kept =
-              let then : Resting m1 tables = rests_then outcome does (Some _) kept.seen in
-              record { more = false; unanswered = λ is. absurd (cc is); mark = then.mark; is = then.is; rests = rests_now secret then.mark tables (public_of m1.engine) m1.store.kept then.on }
+              let past : Resting m1 tables = rests_then outcome does (Some _) kept.seen in
+              record { more = false; unanswered = λ is. absurd (cc is); mark = past.mark; is = past.is; resting = rests_now secret past.mark tables (public_of m1.engine) m1.store.kept past.on }
           by_failed false meant =
-              let then : Resting m1 behind = rests_then outcome does None meant.seen in
-              record { more = true; unanswered = λ is. inl ends; mark = then.mark; is = then.is; rests = rests_now secret then.mark behind (public_of m1.engine) m1.store.kept then.on }
+              let past : Resting m1 behind = rests_then outcome does None meant.seen in
+              record { more = true; unanswered = λ is. inl ends; mark = past.mark; is = past.is; resting = rests_now secret past.mark behind (public_of m1.engine) m1.store.kept past.on }
 
       -- it was stopped
       module _ (run : RunStop) (ends : ending ≡ Ran (Err (session_stop run))) (does : Does state m0 m1 stmt (Err run)) where
@@ -180,7 +180,7 @@ module _ {R : Type 0} (state : R → RevState) (secret salt : List ℕ) (base : 
           unanswered = λ more. absurd (cc more);
           mark = rests.mark;
           is = is;
-          rests = rests_now secret rests.mark tables p m1.store.kept (still (does.ran.kept old.saves tt));
+          resting = rests_now secret rests.mark tables p m1.store.kept (still (does.ran.kept old.saves tt));
         }
 
         last_kept : m1.keeper ≡ m0.keeper → RestsLast ending
@@ -195,7 +195,7 @@ module _ {R : Type 0} (state : R → RevState) (secret salt : List ℕ) (base : 
           unanswered = λ more. inr (ends ∙ ap (λ (r : RunStop). Ran (Err (session_stop r))) is);
           mark = its_mark (Err run) was holds;
           is = holds.is;
-          rests = rests_now secret (its_mark (Err run) was holds) behind (saved_public (public_of was.engine)) m1.store.kept (rests_new (Err run) was holds);
+          resting = rests_now secret (its_mark (Err run) was holds) behind (saved_public (public_of was.engine)) m1.store.kept (rests_new (Err run) was holds);
         }
         last_new was holds SinkFault is cause = absurd cause
         last_new was holds StashFull is cause = absurd cause

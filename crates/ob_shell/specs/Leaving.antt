@@ -18,8 +18,8 @@ use Rattle.ob_vault.specs.State.{RevState}
 abbrev pub IsRead : (region : ℕ) → Public → ℕ → Type 0
 IsRead region p q = (q ≡ region) ⊎ IsTableRegion p.tables q
 
--- these tables rest for a mark for as long as what is read of them is kept as it is; a mark without a closing has the number
--- of a region that none makes any more
+-- these tables rest for a mark for as long as what is read of them is kept as it is, of which no region is made any more; a
+-- mark without a closing reads none
 pub record RestsOn (secret : List ℕ) (mark : Mark) (p : Public) (kept : ℕ → Option KeptRegion)
     (tables : Tables) : Type 0 where
   pub region : ℕ
@@ -27,8 +27,8 @@ pub record RestsOn (secret : List ℕ) (mark : Mark) (p : Public) (kept : ℕ �
   pub rests : (now : ℕ → Option KeptRegion) → ((q : ℕ) → IsRead region p q → now q ≡ kept q)
       → RestsAlike secret mark now tables
 
--- an engine whose tables are saved stands on a base, under keys of a secret, of which those of each region that it makes have
--- this salt; and for the mark that is held its tables rest
+-- an engine whose tables are saved stands on a base, under keys of a secret, and of this salt for each region that it makes;
+-- and for the mark that is held its tables rest
 pub record BeginsToSave {R : Type 0} (state : R → RevState) (secret salt : List ℕ) (base : Base)
     (keys : KeySet) (m : Machine R) : Type 0 where
   pub agrees : Agrees state m.engine m.store
