@@ -31,7 +31,7 @@ use Rattle.ob_seal.specs.KeySet.{KeySet, pair_of}
 use Rattle.ob_seal.specs.Sealed.{AreBefore, AreOfSecret, keys_salted, pair_by}
 use Rattle.ob_seal.specs.declared.pairs.Pair.{Pair}
 use Rattle.ob_shell.proofs.LeaveBegin.{rests_none}
-use Rattle.ob_shell.proofs.SessionLemmas.{stands_first}
+use Rattle.ob_shell.proofs.StandLemmas.{stands_first}
 use Rattle.ob_shell.proofs.SweepLemmas.{agrees_swept, calm_swept, read_stays, represents_swept, sealed_swept}
 use Rattle.ob_shell.specs.EngagingSaved.{EngagesSaved, EngineBy, IsStarted}
 use Rattle.ob_shell.specs.Leaving.{BeginsToSave, IsRead, RestsOn}
