@@ -40,7 +40,7 @@ use Rattle.ob_reopen.specs.declared.fault.OpenErr.{OpenErr}
 use Rattle.ob_reopen.specs.declared.listed.Listed.{Listed}
 use Rattle.ob_seal.specs.KeySet.{KeySet}
 use Rattle.ob_seal.specs.Sealed.{keys_of}
-use Rattle.ob_shell.proofs.SessionLemmas.{none_asked, stands_first}
+use Rattle.ob_shell.proofs.StandLemmas.{none_asked, stands_first}
 use Rattle.ob_shell.proofs.TraceLemmas.{since}
 use Rattle.ob_shell.specs.Engaging.{ClosesRun, Engages, IsHushed}
 use Rattle.ob_shell.specs.Standing.{StandsOn}

@@ -11,6 +11,7 @@ pub mod KeptLemmas
 pub mod KeyLemmas
 pub mod RunLemmas
 pub mod ServeLemmas
+pub mod StandLemmas
 pub mod SessionLemmas
 pub mod StepLemmas
 pub mod ShareLemmas

@@ -1,6 +1,7 @@
 -- How a run begins whose tables are saved, by the mark that its keeper gave.
-use Rattle.std.specs.Prelude.{◌≢◌, ◌==◌, IsTrue, slice_get}
+use Rattle.std.specs.Prelude.{◌≢◌, ◌==◌, ⊤, IsTrue, MatchBool, slice_get}
 use Rattle.std.proofs.Common.{◌≡◌, ◌<◌, ◌≤◌, ◌+◌, ◌++◌, ℕ, zero, suc, Bool, true, false, List, [], ◌∷◌, length, map, Option, Some, None, Result, Ok, Err, if◌then◌else◌, inl, inr, refl, sym, ◌∙◌, ap, subst, arith}
+use Rattle.std.proofs.lemmas.Bool.Decides.{nat_tests}
 use Rattle.std.proofs.lemmas.Option.{slice_get-map}
 use Rattle.std.specs.Option.{option_map}
 use Rattle.ob_base.specs.Stored.{AreApart, headings, headings_of}
@@ -13,27 +14,28 @@ use Rattle.ob_base.specs.declared.mark.Mark.TheVariants.{Fresh, InUse, Closed, B
 use Rattle.ob_base.specs.declared.schema.Table.{Table}
 use Rattle.ob_headline.proofs.FlatLemmas.{opened_flat}
 use Rattle.ob_headline.specs.Bases.{Base, Opened, fresh, reopened}
-use Rattle.ob_headline.specs.Keeping.{closing_named}
-use Rattle.ob_headline.specs.Saving.{BeginsSaved, EndsShut, HandsBegun, IsFoundBare, LooksBare, ReopensSaved, RestsAt, begun_mark}
+use Rattle.ob_headline.specs.Keeping.{closing_named, opening_end}
+use Rattle.ob_headline.specs.Saving.{BeginsSaved, EndsShut, HandsBegun, IsFoundBare, LooksBare, ReopensSaved, RestsAt, StaysShut, begun_mark}
 use Rattle.ob_headline.specs.declared.ending.KeptEnding.{KeptEnding}
+use Rattle.ob_headline.specs.declared.ending.KeptEnding.TheVariants.{OtherPack}
 use Rattle.ob_mean.specs.Verdict.{Tables}
 use Rattle.ob_reopen.proofs.OutlastLemmas.{rests_last}
 use Rattle.ob_reopen.proofs.SavedLemmas.{rests_under}
-use Rattle.ob_reopen.specs.Keepers.{AreSaltBytes, IsMark, KeeperState}
-use Rattle.ob_reopen.specs.Limits.{IsMarked}
-use Rattle.ob_reopen.specs.Reopened.{opened_start, opening_script}
+use Rattle.ob_reopen.specs.Keepers.{IsMark, KeeperState}
+use Rattle.ob_reopen.specs.Reopened.{opening_script}
 use Rattle.ob_reopen.specs.Resting.{IsNeeded, Rests}
 use Rattle.ob_reopen.specs.Saved.{RestsBy, reopening_keys, salted_of, salted_regions}
 use Rattle.ob_reopen.specs.declared.closing.Closing.{Closing}
+use Rattle.ob_reopen.specs.declared.fault.OpenErr.{OpenErr}
 use Rattle.ob_reopen.specs.declared.listed.Listed.{Listed}
 use Rattle.ob_seal.proofs.Salts.{own_pair, salted_of_secret}
 use Rattle.ob_seal.specs.KeySet.{KeySet, pair_of}
-use Rattle.ob_seal.specs.Sealed.{AreBefore, AreOfSecret, keys_salted, pair_by}
+use Rattle.ob_seal.specs.Sealed.{AreBefore, AreOfSecret, keys_salted}
 use Rattle.ob_seal.specs.declared.pairs.Pair.{Pair}
 use Rattle.ob_shell.proofs.LeaveBegin.{rests_none}
-use Rattle.ob_shell.proofs.SessionLemmas.{stands_first}
+use Rattle.ob_shell.proofs.StandLemmas.{stands_first}
 use Rattle.ob_shell.proofs.SweepLemmas.{agrees_swept, calm_swept, read_stays, represents_swept, sealed_swept}
-use Rattle.ob_shell.specs.EngagingSaved.{EngagesSaved, EngineBy, IsStarted}
+use Rattle.ob_shell.specs.EngagingSaved.{EngagesSaved, EngineBy, IsStarted, pack_of}
 use Rattle.ob_shell.specs.Leaving.{BeginsToSave, IsRead, RestsOn}
 use Rattle.ob_shell.specs.Standing.{StandsOn}
 use Rattle.ob_shell.specs.Steps.{machine_of}
@@ -45,7 +47,7 @@ use Rattle.ob_tables.proofs.NamesApart.{named_apart}
 use Rattle.ob_tables.proofs.OpenSavedLemmas.{own_pair as closing_pair}
 use Rattle.ob_tables.specs.Agreeing.{count_of, engine_keys, engine_start, indexes_of, public_of, world_of}
 use Rattle.ob_tables.specs.Reopening.{IsOpened}
-use Rattle.ob_tables.specs.Saving.{IsOpenedBy, OpensSaved}
+use Rattle.ob_tables.specs.Saving.{IsOpenedBy, NamesClosing, OpensSaved}
 use Rattle.ob_tables.specs.Telling.{Represents}
 use Rattle.ob_tables.specs.declared.engine.Engine.{Engine}
 use Rattle.ob_vault.specs.State.{RevState, Start, earlier}
@@ -294,7 +296,8 @@ pub record Engaged {R : Type 0} (state : R → RevState) (mark : Mark) (config :
   pub engages : EngagesSaved state base config keys e new keeper
   pub saves : keeper.held ≡ Some (begun_mark mark) → BeginsToSave state secret salt base keys (machine_of e new keeper)
 
-module _ {R : Type 0} (state : R → RevState) (config : Config) (secret salt : List ℕ) (saves : config.save ≡ true) (e : Engine R) (old looked mid new : StoreState) (sweeps : Sweeps mid new) (none : old.asked ≡ []) (blank : IsFresh new) (steady : IsSteady new) (keeper : KeeperState) where
+module _ {R : Type 0} (state : R → RevState) (config : Config) (secret salt : List ℕ) (saves : config.save ≡ true) (e : Engine R) (old looked mid new : StoreState) (sweeps : Sweeps mid new) (none : old.asked ≡ [])
+    (blank : new.asked ≡ [] → IsFresh new) (steady : new.asked ≡ [] → IsSteady new) (keeper : KeeperState) where
   engaged_opened : (mark : Mark) (closed : Option (List ℕ)) (closing : Closing) → closing.pack ≡ config.pack → looked ≡ old → OpensSaved state config secret salt closed closing (Ok e) looked mid
       → ((keys : KeySet) (base : Base) → ReopensSaved closed closing config secret salt keys base old new → BeginsSaved mark config secret salt keys base old new)
       → ((now : ℕ → Option KeptRegion) (tables : Tables) → RestsBy secret closed closing now tables → RestsAt secret (begun_mark mark) now tables)
@@ -310,23 +313,28 @@ module _ {R : Type 0} (state : R → RevState) (config : Config) (secret salt : 
       }
 
   pub engaged : (mark : Mark) → LooksBare mark old looked → EngineBy state mark config secret salt e looked mid → Engaged state mark config secret salt e old new keeper
-  engaged Fresh looks by = record {
-    keys = keys_salted secret salt [];
-    base = fresh (Some config);
-    begins = (record { keyed = refl; is = refl }, record { looked = looked; finds = looks; sweeps = subst (λ (s : StoreState). Sweeps s new) by.1 sweeps });
-    engages = engages_started state config secret salt saves e by.0 new blank steady keeper;
-    saves = begins_started state config secret salt saves e by.0 new blank steady keeper;
-  }
+  engaged Fresh looks by =
+      let unasked : new.asked ≡ [] = sweeps.asked ∙ ap (λ (s : StoreState). s.asked) by.1 ∙ looks.syncs.asked ∙ none in
+      record {
+        keys = keys_salted secret salt [];
+        base = fresh (Some config);
+        begins = (record { keyed = refl; is = refl }, record { looked = looked; finds = looks; sweeps = subst (λ (s : StoreState). Sweeps s new) by.1 sweeps });
+        engages = engages_started state config secret salt saves e by.0 new (blank unasked) (steady unasked) keeper;
+        saves = begins_started state config secret salt saves e by.0 new (blank unasked) (steady unasked) keeper;
+      }
   engaged InUse looks by = absurd looks
   engaged (Closed region blocks number pack) looks by =
       engaged_opened (Closed region blocks number pack) None (closing_named region blocks number pack) by.0 looks by.1 (λ keys base reopens. (by.0, reopens)) (λ now tables rests. rests)
-  engaged Begun looks by = record {
-    keys = keys_salted secret salt [];
-    base = fresh (Some config);
-    begins = (record { keyed = refl; is = refl }, subst (λ (s : StoreState). Sweeps s new) (by.1 ∙ looks) sweeps);
-    engages = engages_started state config secret salt saves e by.0 new blank steady keeper;
-    saves = begins_started state config secret salt saves e by.0 new blank steady keeper;
-  }
+  engaged Begun looks by =
+      let same : mid ≡ old = by.1 ∙ looks in
+      let unasked : new.asked ≡ [] = sweeps.asked ∙ ap (λ (s : StoreState). s.asked) same ∙ none in
+      record {
+        keys = keys_salted secret salt [];
+        base = fresh (Some config);
+        begins = (record { keyed = refl; is = refl }, subst (λ (s : StoreState). Sweeps s new) same sweeps);
+        engages = engages_started state config secret salt saves e by.0 new (blank unasked) (steady unasked) keeper;
+        saves = begins_started state config secret salt saves e by.0 new (blank unasked) (steady unasked) keeper;
+      }
   engaged (Saved region blocks number pack closed) looks by =
       engaged_opened (Saved region blocks number pack closed) (Some closed) (closing_named region blocks number pack) by.0 looks by.1 (λ keys base reopens. (by.0, reopens)) (λ now tables rests. rests)
 
@@ -347,18 +355,55 @@ looks_still state (Closed region blocks number pack) config secret salt e old lo
 looks_still state Begun config secret salt e old looked mid failed drawn keeper looks by hands = absurd hands
 looks_still state (Saved region blocks number pack closed) config secret salt e old looked mid failed drawn keeper looks by hands = absurd hands
 
--- nothing was asked while it was looked whether the store is bare
-pub unasked_look : (mark : Mark) (old looked : StoreState) → LooksBare mark old looked → looked.asked ≡ old.asked
-unasked_look Fresh old looked looks = looks.syncs.asked
-unasked_look InUse old looked looks = absurd looks
-unasked_look (Closed region blocks number pack) old looked looks = ap (λ (s : StoreState). s.asked) looks
-unasked_look Begun old looked looks = ap (λ (s : StoreState). s.asked) looks
-unasked_look (Saved region blocks number pack closed) old looked looks = ap (λ (s : StoreState). s.asked) looks
+-- ---- the closing that a mark names
+-- its pack is that of the settings
+packs : (a b : ℕ) → a ≡ b → (a == b) ≡ true
+packs a b is = rw is (grind (arith, nat_tests))
 
--- it isn't in use
-pub unused_look : (mark : Mark) (old looked : StoreState) → LooksBare mark old looked → mark ≢ InUse
-unused_look Fresh old looked looks = λ is. absurd (cc is)
-unused_look InUse old looked looks = absurd looks
-unused_look (Closed region blocks number pack) old looked looks = λ is. absurd (cc is)
-unused_look Begun old looked looks = λ is. absurd (cc is)
-unused_look (Saved region blocks number pack closed) old looked looks = λ is. absurd (cc is)
+pub named_by : (mark : Mark) (pack found : ℕ) → IsMark mark → pack_of mark ≡ Some found → found ≡ pack → (closed : Option (List ℕ)) × (closing : Closing) × NamesClosing mark pack closed closing
+named_by Fresh pack found within is same = absurd (cc is)
+named_by InUse pack found within is same = absurd (cc is)
+named_by (Closed region blocks number of) pack found within is same =
+    let here : of ≡ found = cc is in
+    (None, closing_named region blocks number of, (here ∙ same, refl, refl, within))
+named_by Begun pack found within is same = absurd (cc is)
+named_by (Saved region blocks number of salt) pack found within is same =
+    let here : of ≡ found = cc is in
+    (Some salt, closing_named region blocks number of, (here ∙ same, refl, within.1, refl, within.0))
+
+-- its tables weren't opened
+stays_shut : {R : Type 0} (state : R → RevState) (config : Config) (secret salt : List ℕ) (closed : Option (List ℕ)) (closing : Closing) (error : OpenErr) (ending : KeptEnding) (s t : StoreState) → ending ≡ opening_end error
+    → OpensSaved {R = R} state config secret salt closed closing (Err error) s t → StaysShut closed closing secret salt ending s t
+stays_shut state config secret salt closed closing error ending s t is opens = record {
+  error = error;
+  ends = is;
+  opened = opens.err;
+  honest = λ tells nolie tables rests. opens.told tells nolie tables rests;
+  kept = opens.kept;
+}
+
+pub shut_opened : {R : Type 0} (state : R → RevState) (mark : Mark) (config : Config) (secret salt : List ℕ) (found : ℕ) → IsMark mark → pack_of mark ≡ Some found → found ≡ config.pack
+    → (error : OpenErr) (ending : KeptEnding) → ending ≡ opening_end error → (s t : StoreState)
+    → ((closed : Option (List ℕ)) (closing : Closing) → NamesClosing mark config.pack closed closing → OpensSaved {R = R} state config secret salt closed closing (Err error) s t)
+    → EndsShut (begun_mark mark) config secret salt ending s t
+shut_opened state Fresh config secret salt found within is same error ending ends s t opens = absurd (cc is)
+shut_opened state InUse config secret salt found within is same error ending ends s t opens = absurd (cc is)
+shut_opened state (Closed region blocks number of) config secret salt found within is same error ending ends s t opens =
+    let here : of ≡ found = cc is in
+    let closing = closing_named region blocks number of in
+    subst (λ (b : Bool). MatchBool b (StaysShut None closing secret salt ending s t) ((ending ≡ OtherPack) × (t ≡ s))) (sym (packs of config.pack (here ∙ same)))
+    (stays_shut state config secret salt None closing error ending s t ends (opens None closing (here ∙ same, refl, refl, within)))
+shut_opened state Begun config secret salt found within is same error ending ends s t opens = absurd (cc is)
+shut_opened state (Saved region blocks number of closed) config secret salt found within is same error ending ends s t opens =
+    let here : of ≡ found = cc is in
+    let closing = closing_named region blocks number of in
+    subst (λ (b : Bool). MatchBool b (StaysShut (Some closed) closing secret salt ending s t) ((ending ≡ OtherPack) × (t ≡ s))) (sym (packs of config.pack (here ∙ same)))
+    (stays_shut state config secret salt (Some closed) closing error ending s t ends (opens (Some closed) closing (here ∙ same, refl, within.1, refl, within.0)))
+
+-- ---- what the keeper holds that told its mark
+pub held_then : (mark : Mark) (drawn k1 : KeeperState) (held : Mark) → HandsBegun mark (Ok tt) drawn k1 → drawn.held ≡ Some held → mark ≡ held → k1.held ≡ Some (begun_mark mark)
+held_then Fresh drawn k1 held hands is same = hands.told held is
+held_then InUse drawn k1 held hands is same = absurd hands
+held_then (Closed region blocks number pack) drawn k1 held hands is same = ap (λ (k : KeeperState). k.held) hands ∙ is ∙ ap (λ (m : Mark). Some m) (sym same)
+held_then Begun drawn k1 held hands is same = ap (λ (k : KeeperState). k.held) hands ∙ is ∙ ap (λ (m : Mark). Some m) (sym same)
+held_then (Saved region blocks number pack salt) drawn k1 held hands is same = ap (λ (k : KeeperState). k.held) hands ∙ is ∙ ap (λ (m : Mark). Some m) (sym same)

@@ -3,7 +3,8 @@ use Rattle.ob_base.specs.declared.config.Public.{Public}
 use Rattle.ob_tables.specs.Agreeing.{AreDraws, first_draws}
 use Rattle.ob_seal.specs.KeySet.{KeySet}
 use Rattle.ob_shell.proofs.EngageLemmas.{ready_unsaved}
-use Rattle.ob_shell.proofs.SessionLemmas.{ran_after, stands_first}
+use Rattle.ob_shell.proofs.SessionLemmas.{ran_after}
+use Rattle.ob_shell.proofs.StandLemmas.{stands_first}
 use Rattle.ob_shell.proofs.TopLemmas.{ran_nothing}
 use Rattle.ob_shell.proofs.TraceLemmas.{traced_none, traced_whole}
 use Rattle.ob_shell.proofs.top.serve_with.Goals as goal

@@ -1,0 +1,78 @@
+-- What an engine stands on that was just started.
+use Rattle.std.proofs.Common.{◌≡◌, ℕ, List, [], length, Some, IsTrue, refl, sym, ap, subst, arith}
+use Rattle.std.specs.List.{list_any}
+use Rattle.ob_base.specs.Publics.{first_public}
+use Rattle.ob_base.specs.declared.access.Access.{Access}
+use Rattle.ob_base.specs.declared.config.Config.{Config}
+use Rattle.ob_base.specs.declared.config.Public.{Public}
+use Rattle.ob_tables.specs.Agreeing.{Agrees, AreDraws, count_of, first_draws, engine_start, indexes_of, public_of, high_of, rows_of, world_of}
+use Rattle.ob_select.specs.Opening.{is_of_rows}
+use Rattle.ob_tables.specs.Telling.{AreHeld, Represents}
+use Rattle.ob_tables.specs.Engines.{AreTables, others_of}
+use Rattle.ob_tables.specs.declared.engine.Engine.{Engine}
+use Rattle.ob_headline.specs.Bases.{drawing, fresh, start}
+use Rattle.ob_seal.specs.KeySet.{KeySet}
+use Rattle.ob_seal.specs.Sealed.{sealed}
+use Rattle.ob_shell.proofs.CalmLemmas.{first_calm}
+use Rattle.ob_shell.proofs.LastingLemmas.{none_sealed}
+use Rattle.ob_shell.proofs.LeafLemmas.{no_indexes}
+use Rattle.ob_shell.specs.Standing.{IsUsed, StandsOn}
+use Rattle.ob_shell.specs.Steps.{machine_of, session_of, told_nothing}
+use Rattle.ob_shell.specs.Top.{IsFresh}
+use Rattle.ob_store.specs.Calls.{IsSteady}
+use Rattle.ob_store.specs.State.{StoreState}
+use Rattle.ob_vault.proofs.WordLemmas.{earlier_nothing}
+use Rattle.ob_vault.specs.State.{RevState, earlier, from_nothing}
+
+-- from no tables
+nothing_held : {R : Type 0} (state : R → RevState) (first : Engine R) (s : StoreState) (config : Config) → public_of first ≡ first_public config → Represents state first s []
+nothing_held state first s config is =
+    record { held = subst (λ (p : Public). AreHeld p.pack (indexes_of first) p.tables [] (world_of state first s)) (sym is) tt; in_place = tt }
+
+pub none_asked : {R : Type 0} (first : Engine R) (s : StoreState) → engine_start first ≡ from_nothing → s.asked ≡ [] → count_of first s ≡ 0
+none_asked first s from none = omega (arith, ap earlier from, earlier_nothing, ap length none)
+
+session_is : {R : Type 0} (config : Config) (keys : KeySet) (first : Engine R) (s : StoreState) → public_of first ≡ first_public config → engine_start first ≡ from_nothing → s.asked ≡ []
+    → session_of (machine_of first s told_nothing) (first_draws keys) [] ≡ drawing keys (start (Some config))
+session_is config keys first s is from none =
+    let unasked = none_asked first s from none in λ i. record { public = is i; tables = []; asked = unasked i; draws = first_draws keys }
+
+not_used : (asked : List Access) (high : ℕ) → asked ≡ [] → IsUsed asked high
+not_used asked high none some = let any : IsTrue (list_any is_of_rows []) = subst (λ (xs : List Access). IsTrue (list_any is_of_rows xs)) none some in absurd (cc any)
+
+-- an engine that was just started
+pub stands_first : {R : Type 0} (state : R → RevState) (config : Config) (keys : KeySet) (first : Engine R) (s : StoreState) → Agrees state first s → public_of first ≡ first_public config → first.vault.keys ≡ keys → AreDraws first (first_draws keys)
+    → engine_start first ≡ from_nothing → rows_of first ≡ config.buffer → IsFresh s → IsSteady s → StandsOn state (fresh (Some config)) config keys first s
+stands_first state config keys first s agrees is keyed drawn from rows blank steady =
+    let nothing = nothing_held state first s config is in
+    record {
+      settings = refl;
+      public = is;
+      flat = tt;
+      unindexed = no_indexes (subst (λ (p : Public). AreTables p.tables (others_of first.closing (indexes_of first)) (indexes_of first) p.pack (world_of state first s)) is agrees.tables);
+      count = none_asked first s from blank.unasked;
+      start = from;
+      asked = blank.unasked;
+      keyed = keyed;
+      drawn = drawn;
+      pack = refl;
+      buffer = refl;
+      keep = refl;
+      save = refl;
+      rows = rows;
+      calm = first_calm state first s blank.honest;
+      used = not_used s.asked (high_of first) blank.unasked;
+      held = nothing;
+      earlier = λ region above. blank.empty region;
+      sealed = λ tells good passes scope few. none_sealed state (λ r. good) scope first s (λ q from. blank.empty q);
+      passes = λ good passes. passes.0;
+      early = λ n before. (
+        record {
+          steady = steady;
+          unasked = blank.unasked;
+          nothing = nothing;
+          here = session_is config keys first s is from blank.unasked;
+        },
+        before,
+      );
+    }

@@ -1,0 +1,15 @@
+use Rattle.std.proofs.Common.{◌≡◌, ◌∙◌, arith, sym}
+use Rattle.std.proofs.lemmas.Bool.Decides.{nat_tests}
+use Rattle.ob_shell.proofs.SavedBegin.{named_by, shut_opened}
+use Rattle.ob_shell.proofs.saving.engine_by.Goals as goal
+
+pub open_saved-requires-clause-closed : goal.open_saved-requires-clause-closed
+open_saved-requires-clause-closed g c =
+    let pack : c.in-Some.pack ≡ c.args.config.pack = let same = c.if-pack-config.false in grind (arith, nat_tests) in
+    named_by c.args.mark.now c.args.config.pack c.in-Some.pack c.requires.within (sym c.pack_of.ensures ∙ c.in-Some.is) pack
+
+pub returns-in-Err-open_saved-clause-err : goal.returns-in-Err-open_saved-clause-err
+returns-in-Err-open_saved-clause-err g c =
+    let pack : c.in-Some.pack ≡ c.args.config.pack = let same = c.if-pack-config.false in grind (arith, nat_tests) in
+    shut_opened g.R.Revisions.state c.args.mark.now c.args.config c.args.secret.now c.args.salt.now c.in-Some.pack c.requires.within (sym c.pack_of.ensures ∙ c.in-Some.is) pack
+    c.in-Err-open_saved.error c.opening_end.result c.opening_end.ensures (g.S.BlockStore.state c.args.store.now) (g.S.BlockStore.state c.open_saved.new.store) c.in-Err-open_saved.ensures.opens
