@@ -245,6 +245,10 @@ class Saved(Run):
             body += [head] if not any(line.startswith(f"{head} ") for line in body) else []
         return [*lines, *body, *([f"status {self.status}"] if self.status else []), f"mark {self.left.mark}"]
 
+    def typed(self):
+        """The same without what is answered and asked, of a run that another case spells."""
+        return [line for line in self.lines() if line[0] not in "<@"]
+
 
 def text_of(it):
     kind, name, *rest = it
@@ -281,7 +285,7 @@ class Session:
         if self.before:
             first = Saved(pack, left, salts).serve(self.before)
             left, calls = first.left, first.calls + 1
-            body += [*first.lines(), "then"]
+            body += [*(first.typed() if death else first.lines()), "then"]
         dying = Saved(pack, left, salts, **death).serve(self.statements)
         after = Saved(pack, dying.left, salts).serve(self.then)
         faults = [f"faults {calls + dying.fault}"] if dying.fault else []

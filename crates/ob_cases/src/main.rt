@@ -1,5 +1,5 @@
 //! Serves the sessions that the named files spell, each over a store in memory that others change as its words say, and
-//! runs that keep their tables, each over what the one before it left; serves each as often again as its lines `each ..`
+//! runs that keep or save their tables, each over what the one before it left; serves each as often again as lines `each ..`
 //! say; and compares what comes of them. Prints each that differs, and last how many did not. The exit status is 0 where
 //! none differs, 1 where one does, and 2 where a file can't be read or has another form.
 #![tactic(auto)]
