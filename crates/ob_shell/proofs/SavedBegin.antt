@@ -1,6 +1,6 @@
 -- How a run begins whose tables are saved, by the mark that its keeper gave.
 use Rattle.std.specs.Prelude.{◌≢◌, ◌==◌, ⊤, IsTrue, MatchBool, slice_get}
-use Rattle.std.proofs.Common.{◌≡◌, ◌<◌, ◌≤◌, ◌+◌, ◌++◌, ℕ, zero, suc, Bool, true, false, List, [], ◌∷◌, length, map, Option, Some, None, Result, Ok, Err, if◌then◌else◌, inl, inr, refl, sym, ◌∙◌, ap, subst, arith}
+use Rattle.std.proofs.Common.{◌≡◌, ◌<◌, ◌++◌, ℕ, suc, Bool, true, List, [], ◌∷◌, length, map, Option, Some, None, Ok, Err, if◌then◌else◌, inl, inr, refl, sym, ◌∙◌, ap, subst, arith}
 use Rattle.std.proofs.lemmas.Bool.Decides.{nat_tests}
 use Rattle.std.proofs.lemmas.Option.{slice_get-map}
 use Rattle.std.specs.Option.{option_map}
@@ -11,7 +11,6 @@ use Rattle.ob_base.specs.declared.config.Public.{Public}
 use Rattle.ob_base.specs.declared.fault.Failed.{Failed}
 use Rattle.ob_base.specs.declared.mark.Mark.{Mark}
 use Rattle.ob_base.specs.declared.mark.Mark.TheVariants.{Fresh, InUse, Closed, Begun, Saved}
-use Rattle.ob_base.specs.declared.schema.Table.{Table}
 use Rattle.ob_headline.proofs.FlatLemmas.{opened_flat}
 use Rattle.ob_headline.specs.Bases.{Base, Opened, fresh, reopened}
 use Rattle.ob_headline.specs.Keeping.{closing_named, opening_end}
@@ -41,11 +40,11 @@ use Rattle.ob_shell.specs.Standing.{StandsOn}
 use Rattle.ob_shell.specs.Steps.{machine_of}
 use Rattle.ob_shell.specs.Top.{IsFresh}
 use Rattle.ob_store.specs.Calls.{IsSteady, Sweeps}
-use Rattle.ob_store.specs.State.{KeptRegion, Lie, StoreState}
+use Rattle.ob_store.specs.State.{KeptRegion, StoreState}
 use Rattle.ob_tables.proofs.HeldLemmas.{held_headings}
 use Rattle.ob_tables.proofs.NamesApart.{named_apart}
 use Rattle.ob_tables.proofs.OpenSavedLemmas.{own_pair as closing_pair}
-use Rattle.ob_tables.specs.Agreeing.{count_of, engine_keys, engine_start, indexes_of, public_of, world_of}
+use Rattle.ob_tables.specs.Agreeing.{count_of, engine_start, indexes_of, public_of, world_of}
 use Rattle.ob_tables.specs.Reopening.{IsOpened}
 use Rattle.ob_tables.specs.Saving.{IsOpenedBy, NamesClosing, OpensSaved}
 use Rattle.ob_tables.specs.Telling.{Represents}

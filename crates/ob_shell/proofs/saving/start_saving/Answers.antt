@@ -1,4 +1,4 @@
-use Rattle.std.proofs.Common.{Ok, Err, inl, inr, refl, arith}
+use Rattle.std.proofs.Common.{Ok, Err, inr, refl, arith}
 use Rattle.ob_shell.proofs.EngageLemmas.{cut_caused}
 use Rattle.ob_shell.proofs.saving.start_saving.Goals as goal
 
