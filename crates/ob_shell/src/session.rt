@@ -470,8 +470,7 @@ pub fn serve<I: Source, R: Revisions, S: BlockStore, B: Behind<S>, K: Sink, T: S
                 });
             }
             Ok(None) => {
-                let served =
-                    finish(alloc, tracing, &session, engine, store, behind, out, trace);
+                let served = finish(alloc, tracing, &session, engine, store, behind, out, trace);
                 return session_result(served);
             }
             Ok(Some(b)) => {

@@ -1,4 +1,4 @@
-use Rattle.std.proofs.Common.{◌≡◌, false, true, ◌∙◌, ap, arith, refl, rules}
+use Rattle.std.proofs.Common.{◌≡◌, false, true, ap, arith, refl, rules}
 use Rattle.ob_base.specs.declared.seen.Seen.{Seen}
 use Rattle.ob_print.proofs.CutLemmas.{Outputs-by}
 use Rattle.ob_print.proofs.SentLemmas.{Sends-cut, flushed, flushed_cut, flushed_whole}
