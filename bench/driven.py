@@ -2,7 +2,7 @@
 
 That is the time of the process, user and system, by the clock that the kernel keeps of it in nanoseconds
 (clock_getcpuclockid of POSIX). It is read while the process waits for its next line. What the wall's clock says isn't looked
-at: others at work on the machine count only as far as they slow its processors down.
+at, but where files are waited for (`waited`): others at work on the machine count only as far as they slow its processors down.
 
 Other scripts import it; by itself it runs nothing. Needs python3, on Linux: it looks into /proc.
 """
@@ -57,6 +57,14 @@ class Driven:
         lines = self.read(is_last)
         self.wait()
         return lines, (time.clock_gettime_ns(self.clock) - before) / 1e6
+
+    def waited(self, text, is_last):
+        """The answer to what is typed, and the milliseconds by the clock until it has come."""
+        self.wait()
+        before = time.monotonic_ns()
+        self.type(text)
+        lines = self.read(is_last)
+        return lines, (time.monotonic_ns() - before) / 1e6
 
     def forget_peak(self):
         """From here on the peak of memory counts anew."""

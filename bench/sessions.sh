@@ -12,19 +12,24 @@
 # the passes alone (ob_pass_bench), and stands in the table. A padded SELECT asks the same whatever is selected, so it runs in
 # sessions of its own (`--pad 128`), over a table without a row.
 #
-# Last, what it takes to open and to close 64 tables of 65,536 slots: runs with --keep that serve nothing, beside runs
+# Then what it takes to open and to close 64 tables of 65,536 slots: runs with --keep that serve nothing, beside runs
 # without a table. Of these the time by the clock stands there, too, since files are waited for until they are on the disk.
 #
-# SQLCipher has the table with the same columns, a raw key, and neither journal nor syncs, as our files have none. It
-# finds rows by their key, so INSERT, SELECT of 100 rows and the join take no pass there. Each statement comes in a
-# connection of its own, so that it reads the file and not its cache.
+# Last, what it takes to have each INSERT on the disk before it is answered, by the clock: with --save into a table of 16 slots,
+# beside SQLite and SQLCipher with autocommit, a rollback journal and synchronous FULL, in turn; and into 65,536 slots with 16
+# rows in a block, beside one that isn't saved. Of the first the goal is 2.5 times SQLCipher's time, of the second 1.5 times.
+# The folder for temporary files has to be on a disk that is waited for, and not in memory.
+#
+# SQLCipher has the table with the same columns and a raw key, and before the last part neither journal nor syncs, as our
+# files have none there. It finds rows by their key, so INSERT, SELECT of 100 rows and the join take no pass there. Each
+# statement comes in a connection of its own, so that it reads the file and not its cache.
 #
 # And a row that is found by its key: in an index of 65,536 keys (`--buffer 158 --stash 89`), in memory and in files, beside
 # SQLCipher's, whose table has each of them. The index has 100 rows: how many it has changes no access.
 #
 # usage: bench/sessions.sh [ROUNDS]     (11 without it)
 # Needs `rt` (bench/build.sh), python3, 300 MB, and 150 MB in the folder for temporary files (TMPDIR), where the files lie.
-# Takes five minutes once the programs are built.
+# Takes six minutes once the programs are built.
 set -eu
 top=$(cd "$(dirname "$0")/.." && pwd)
 work=$(mktemp -d)
@@ -32,7 +37,7 @@ trap 'rm -rf "$work"' EXIT
 "$top/bench/build.sh" oblitrace oblidb ob_pass_bench
 
 PYTHONPATH="$top/bench" python3 - "$top" "$work" "${1:-11}" <<'PY'
-import resource, shutil, subprocess, sys, time
+import resource, shutil, statistics, subprocess, sys, time
 from driven import Driven, Passes, Session, machine, quartiles
 from shapes import blocks, count, insert, join, rewrite, small
 
@@ -240,5 +245,62 @@ print("| | of the processor | by the clock |")
 print("|---|---:|---:|")
 print(f"| tables are opened and closed (`--keep`) | {min(one for one, _ in kept):.1f} | {min(one for _, one in kept):.1f} |")
 print(f"| no tables | {min(one for one, _ in plain):.1f} | {min(one for _, one in plain):.1f} |")
+
+# ---- statements that are on the disk once they are answered
+class Committed(Driven):
+    """A run of `sqlite3` or `sqlcipher`, each of whose statements is on the disk once it is answered."""
+
+    def __init__(self, program, *first):
+        super().__init__(program, "-batch", f"{work}/{program}.committed")
+        for text in (*first, "PRAGMA journal_mode = DELETE; PRAGMA synchronous = FULL;", "CREATE TABLE t (id INTEGER PRIMARY KEY, v INT);"):
+            self.ask(text)
+
+    def ask(self, text):
+        return self.waited(text + "\n.print done\n", lambda line: line == "done")[1]
+
+class Synced(Session):
+    """A run of `oblidb`, by the clock."""
+
+    def __init__(self, name, slots, pack, *words):
+        super().__init__(FILES, "--pack", str(pack), "--store", f"{work}/{name}", *words)
+        self.ask(f"CREATE TABLE t (id INT PRIMARY KEY, v INT) CAPACITY {slots};")
+
+    def ask(self, text):
+        lines, spent = self.waited(text + "\n", lambda line: not line.startswith('"'))
+        if not lines[-1].startswith("= "):
+            sys.exit(f"{text} is answered {lines[-1]}")
+        return spent
+
+def inserted(sides, times):
+    """The milliseconds of so many INSERTs of each, in turn; a row is deleted before the next one, so that none is full."""
+    spent = {name: [] for name in sides}
+    # (the first two warm up)
+    for n in range(times + 2):
+        for name, side in sides.items():
+            spent[name].append(side.ask(f"INSERT INTO t VALUES ({n}, 3);"))
+            side.ask(f"DELETE FROM t WHERE id = {n};")
+    for side in sides.values():
+        side.end()
+    return {name: found[2:] for name, found in spent.items()}
+
+def print_beside(spent, name, other, goal):
+    ratio = statistics.median(spent[name]) / statistics.median(spent[other])
+    low, high = quartiles([a / b for a, b in zip(spent[name], spent[other])])
+    is_met = f"{goal} | {verdict(ratio, goal)}" if goal else " | "
+    print(f"| {name} | {statistics.median(spent[name]):.2f} | {other} | {statistics.median(spent[other]):.2f} | {ratio:.2f} | {low:.2f} to {high:.2f} | {is_met} |", flush=True)
+
+few = {"saved, 16 slots": Synced("few", 16, 1, "--save")}
+if shutil.which("sqlite3"):
+    few["SQLite"] = Committed("sqlite3")
+if shutil.which("sqlcipher"):
+    few["SQLCipher"] = Committed("sqlcipher", f"PRAGMA key = \"x'{'17' * 32}'\";")
+spent = inserted(few, 5 * rounds)
+spent |= inserted({"saved, 65,536 slots": Synced("many", SLOTS, PACKS[-1], "--save"), "not saved": Synced("unsaved", SLOTS, PACKS[-1])}, 2 * rounds)
+print("\nAn INSERT that is on the disk once it is answered: milliseconds by the clock, medians.\n")
+print("| | ms | beside | ms | ratio | quartiles | goal | |\n|---|---:|---|---:|---:|---|---:|---|")
+for other, goal in (("SQLite", None), ("SQLCipher", 2.5)):
+    if other in spent:
+        print_beside(spent, "saved, 16 slots", other, goal)
+print_beside(spent, "saved, 65,536 slots", "not saved", 1.5)
 sys.exit(over_goal > 0)
 PY

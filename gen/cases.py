@@ -1,8 +1,9 @@
 #!/usr/bin/env python3
 """Writes crates/ob_cases/data/examples.case: the sessions of examples/ with what stands beside them, and that of two days as
-one; each without an index also as two runs, cut behind each statement, with 1, 2 and 16 rows in a block. Then it counts all
-cases, with those that lines `each ..` make, into crates/ob_cases/stdout, and looks whether README and the guide show what is
-served. Nothing that the program answers goes into any of it. It needs python3 alone, and takes a moment.
+one; each without an index also as two runs, which keep their tables or save them, cut behind each statement, with 1, 2 and 16
+rows in a block. Then it counts all cases, with those that lines `each ..` make, into crates/ob_cases/stdout, and looks whether
+README and the guide show what is served. Nothing that the program answers goes into any of it. It needs python3 alone, and
+takes a moment.
 """
 import itertools
 import pathlib
@@ -61,7 +62,7 @@ def session(*names, total=None, kept=True):
     body = [f"key {sql[0][0]}"]
     for typed, told in zip(texts, said):
         body += [f"> {line}".rstrip() for line in typed] + [f"< {line}" for line in told]
-    parts = [f"each statement parts --keep --pack {pack}" for pack in (1, 2, 16) if kept]
+    parts = [f"each statement parts --{word} --pack {pack}" for word in ("keep", "save") for pack in (1, 2, 16) if kept]
     return case(" and ".join(f"examples/{name}.sql" for name in names), "", body, total, sum(said, []), parts)
 
 

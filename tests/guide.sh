@@ -1,9 +1,8 @@
 #!/bin/sh
 # Types the commands of docs/GUIDE.md one after the other, as they stand in its boxes, and compares what each prints with
 # the lines below it; the first session's answers, which stand in a box of their own, too. What the guide shows by `cat`
-# that isn't there yet is written first, the folders that it names are some of this script's, and before a run that finds
-# its store not closed the mark says what a killed run leaves. Prints a line for each command, and ends with 1 where one
-# prints something else.
+# that isn't there yet is written first, and the folders that it names are some of this script's. Prints a line for each
+# command, and ends with 1 where one prints something else.
 #
 # Needs `rt` (bench/build.sh) and python3. Takes a second once the programs are built.
 set -eu
@@ -22,7 +21,7 @@ for place in PLACES.values():
 for name in ("crates", "examples"):
     (work / name).symlink_to(top / name)
 boxes = re.findall(r"^```\n(.*?)^```$", (top / "docs/GUIDE.md").read_text(), re.S | re.M)
-failed, status, mark = 0, 0, None
+failed, status = 0, 0
 
 
 def typed(command):
@@ -34,14 +33,11 @@ def typed(command):
 
 
 def compared(command, wanted):
-    global failed, status, mark
+    global failed, status
     shown = re.fullmatch(r"cat ([a-z]+\.sql)", command)
     if shown and not (work / shown[1]).exists():
         (work / shown[1]).write_text(wanted)
-    if wanted == "! not closed\n":
-        mark.write_text("in use\n")
     printed, status = (f"{status}\n", 0) if command == "echo $?" else typed(command)
-    mark = next((here / "clinic.mark" for here in PLACES.values() if (here / "clinic.mark").exists()), mark)
     alike = printed == wanted or command.startswith("mv ") or not wanted and command.endswith("examples/first.sql")
     failed += not alike
     print("as it stands" if alike else f"OTHERWISE, {printed!r}", command, sep=": ")

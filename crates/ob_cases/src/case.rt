@@ -1,6 +1,6 @@
 //! A case as its file spells it: what is typed, and what must come of it.
 ghost use Rattle.std.specs.Prelude.{◌≤◌, IfOk};
-ghost use Rattle.ob_reopen.specs.Keepers.{IsMark};
+ghost use Rattle.ob_reopen.specs.Keepers.{AreSaltBytes, IsMark};
 
 use ob_base::Mark;
 use std::alloc::{AllocError, AllocFailed, Global};
@@ -77,6 +77,8 @@ pub struct Run {
     pub traces: Taking,
     /// What others do to the store, as `--meddle` spells it.
     pub changes: Option<String>,
+    /// From which access of the run on all calls of the store fail.
+    pub dies: Option<u64>,
     /// What is answered, line by line; without one it isn't looked at.
     pub answers: Option<Vec<u8>>,
     /// The accesses, one a line, as the trace has them; a line that is a number stands for so many of any
@@ -102,6 +104,8 @@ pub struct Case {
     pub keeper: Option<String>,
     /// The numbers of the keeper's calls that fail, over all runs. To look at the mark behind a run is a call.
     pub faults: Vec<u64>,
+    /// The salts that the keeper draws, one after the other; behind the last one it fails.
+    pub salts: Vec<[u8; 16]>,
     pub runs: Vec<Run>,
     /// Whether the rows of an answer may come in any order.
     pub unordered: bool,
@@ -180,6 +184,7 @@ impl Run {
             writes: Taking::new(alloc),
             traces: Taking::new(alloc),
             changes: None,
+            dies: None,
             answers: None,
             accesses: None,
             total: None,
@@ -206,6 +211,10 @@ impl Run {
             }
             "changes" => {
                 self.changes = Some(String::from_str(alloc, rest)?);
+                Ok(())
+            }
+            "dies" => {
+                self.dies = Some(number(rest)?);
                 Ok(())
             }
             "<" => self.take_answer(alloc, rest),
@@ -310,6 +319,7 @@ impl Case {
             name: String::from_str(alloc, name)?,
             keeper: None,
             faults: Vec::new(alloc),
+            salts: Vec::new(alloc),
             runs,
             unordered: false,
             differs: None,
@@ -332,6 +342,7 @@ impl Case {
                 Ok(())
             }
             "faults" => push_numbers(&mut self.faults, rest),
+            "salts" => self.take_salts(rest),
             "then" => {
                 let run = Run::new(alloc)?;
                 match self.runs.push(run) {
@@ -349,6 +360,18 @@ impl Case {
                 None => Err(LineErr::Form),
             },
         }
+    }
+
+    // Salts, parted by commas.
+    fn take_salts(&mut self, rest: &str) -> Result<(), LineErr> {
+        for word in rest.split(',') {
+            let salt = salt_of(word.trim())?;
+            match self.salts.push(salt) {
+                Ok(()) => {}
+                Err(_) => return Err(LineErr::NoMemory),
+            }
+        }
+        Ok(())
     }
 
     // The part that differs, and in how many cases, where lines make others.
@@ -371,7 +394,8 @@ pub fn push_case(cases: &mut Vec<Case>, case: Case) -> Result<(), LineErr> {
     }
 }
 
-/// The mark that a text spells: `fresh`, `in use`, `begun`, or `closed REGION BLOCKS NUMBER PACK`.
+/// The mark that a text spells: `fresh`, `in use`, `begun`, `closed REGION BLOCKS NUMBER PACK`, or
+/// `saved REGION BLOCKS NUMBER PACK SALT`.
 pub fn mark_of(text: &str) -> Result<Mark, LineErr>
     ensures { IfOk result IsMark }
 {
@@ -379,35 +403,75 @@ pub fn mark_of(text: &str) -> Result<Mark, LineErr>
         "fresh" => Ok(Mark::Fresh),
         "in use" => Ok(Mark::InUse),
         "begun" => Ok(Mark::Begun),
-        _ => closed_of(text),
+        _ => named_of(text),
     }
 }
 
-// The mark of a closing, in whose numbers there is one.
-fn closed_of(text: &str) -> Result<Mark, LineErr>
+// The mark of a closing.
+fn named_of(text: &str) -> Result<Mark, LineErr>
     ensures { IfOk result IsMark }
 {
     let Some((head, rest)) = text.split_once(' ') else {
         return Err(LineErr::Form);
     };
-    let Some((region, rest)) = rest.split_once(' ') else {
-        return Err(LineErr::Form);
-    };
-    let Some((blocks, rest)) = rest.split_once(' ') else {
-        return Err(LineErr::Form);
-    };
-    let Some((first, pack)) = rest.split_once(' ') else {
-        return Err(LineErr::Form);
-    };
-    if head != "closed" {
-        return Err(LineErr::Form);
+    match head {
+        "closed" => closed_of(rest),
+        "saved" => saved_of(rest),
+        _ => Err(LineErr::Form),
     }
+}
+
+// That of a run that was closed, by its numbers.
+fn closed_of(text: &str) -> Result<Mark, LineErr>
+    ensures { IfOk result IsMark }
+{
+    let (region, rest) = numbered(text, MOST)?;
+    let (blocks, rest) = numbered(rest, 65)?;
+    let (first, pack) = numbered(rest, MOST)?;
     Ok(Mark::Closed {
-        region: number_to(region, MOST)?,
-        blocks: number_to(blocks, 65)? as u32,
-        number: number_to(first, MOST)?,
+        region,
+        blocks: blocks as u32,
+        number: first,
         pack: number_to(pack, 16)? as u8,
     })
+}
+
+// That of a run that saved its tables, by its numbers and its salt.
+fn saved_of(text: &str) -> Result<Mark, LineErr>
+    ensures { IfOk result IsMark }
+{
+    let (region, rest) = numbered(text, MOST)?;
+    let (blocks, rest) = numbered(rest, 65)?;
+    let (first, rest) = numbered(rest, MOST)?;
+    let (pack, salt) = numbered(rest, 16)?;
+    Ok(Mark::Saved {
+        region,
+        blocks: blocks as u32,
+        number: first,
+        pack: pack as u8,
+        salt: salt_of(salt)?,
+    })
+}
+
+// A number from 1 to this one before a text's first blank, and what is behind it.
+fn numbered(text: &str, most: u64) -> Result<(u64, &str), LineErr>
+    ensures { IfOk result (λ r. (1 ≤ r.0) × (r.0 ≤ most)) }
+{
+    match text.split_once(' ') {
+        Some((digits, rest)) => Ok((number_to(digits, most)?, rest)),
+        None => Err(LineErr::Form),
+    }
+}
+
+// A salt of 32 hexadecimal digits.
+fn salt_of(digits: &str) -> Result<[u8; 16], LineErr>
+    ensures { IfOk result AreSaltBytes }
+{
+    let mut salt = [0; 16];
+    match hex::decode_to_slice(digits.as_bytes(), &mut salt) {
+        Ok(()) => Ok(salt),
+        Err(_) => Err(LineErr::Form),
+    }
 }
 
 // A number from 1 to this one.

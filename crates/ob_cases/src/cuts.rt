@@ -5,6 +5,9 @@ use crate::items::{Item, is_typed, statements_in};
 use crate::texts::texts_in;
 use std::alloc::Global;
 
+/// The salts of two runs, where they save their tables.
+const SALTS: &str = "01010101010101010101010101010101, 02020202020202020202020202020202";
+
 /// Pushes the cases whose input ends behind each of its bytes, and before the first one.
 pub fn push_cut(
     alloc: Global,
@@ -66,6 +69,7 @@ pub fn push_parted(
         let name = format!(in alloc; "{}: {words}, the first {count} alone", of.name())?;
         let mut case = Case::new(alloc, name.as_str())?;
         case.take_part(alloc, "keeper", "fresh")?;
+        case.take_part(alloc, "salts", SALTS)?;
         feed_run(alloc, &mut case, items, words, 0, count)?;
         case.take_part(alloc, "then", "")?;
         feed_run(alloc, &mut case, items, words, count, all)?;

@@ -5,14 +5,17 @@ use crate::case::{Case, LineErr, Part, Run, Taking, mark_of};
 use crate::compare::{Came, difference};
 use ob_base::{Mark, NoMemory};
 use ob_io::{MemSink, MemSource, Sink, Source};
-use ob_meddle::{ChangesErr, Meddle, MeddledStore, parse_changes};
-use ob_reopen::{Keeper, MemKeeper};
-use ob_shell::{keep_top, meddle_top};
-use ob_store::{BlockStore, Lasting};
+use ob_meddle::{Act, ChangesErr, Meddle, MeddledStore, parse_changes};
+use ob_reopen::{Keeper, MemKeeper, Salts};
+use ob_shell::{keep_top, meddle_top, save_top};
+use ob_store::{BlockStore, Lasting, Saving};
 use std::alloc::Global;
 
 /// So many bytes of answers, and of accesses, a run may have.
 const ROOM: usize = 4_194_304;
+
+/// So many calls fail of a store that dies: more than a run asks of it then, since each statement ends at the first.
+const LAST: u64 = 64;
 
 /// What came of a case: the part that differs, if any, with what was answered and traced in its last run, or in the
 /// first that differs.
@@ -42,8 +45,26 @@ fn words_of(alloc: Global, run: &Run) -> Result<Vec<String>, LineErr> {
     Ok(words)
 }
 
-// What others do in a run.
+// What others do in a run, and which calls fail once its store dies.
 fn changes_of(alloc: Global, run: &Run) -> Result<Vec<Meddle>, LineErr> {
+    let mut list = changes_in(alloc, run)?;
+    if let Some(first) = run.dies {
+        for n in 0..LAST {
+            let failing = Meddle {
+                before: first.saturating_add(n),
+                act: Act::Fail,
+            };
+            match list.push(failing) {
+                Ok(()) => {}
+                Err(_) => return Err(LineErr::NoMemory),
+            }
+        }
+    }
+    Ok(list)
+}
+
+// What others do in a run.
+fn changes_in(alloc: Global, run: &Run) -> Result<Vec<Meddle>, LineErr> {
     match &run.changes {
         None => Ok(Vec::new(alloc)),
         Some(text) => match parse_changes(alloc, text.as_bytes()) {
@@ -115,6 +136,50 @@ fn serve_kept<I: Source, O: Sink, T: Sink, S: Lasting, K: Keeper>(
     keep_top(alloc, words, input, out, trace, store, keeper).status
 }
 
+// The same with `save_top`, where its keeper draws salts, too.
+fn serve_saved<I: Source, O: Sink, T: Sink, S: Saving, K: Salts>(
+    alloc: Global,
+    words: &[String],
+    input: &mut I,
+    out: &mut O,
+    trace: &mut T,
+    store: &mut S,
+    keeper: &mut K,
+) -> u8
+    requires { (S.state store.old).asked ≡ [] }
+{
+    save_top(alloc, words, input, out, trace, store, keeper).status
+}
+
+// Whether a run has the word by which tables are saved.
+fn saves(run: &Run) -> bool {
+    let mut found = false;
+    for word in &run.words {
+        found = found || word.as_str() == "--save";
+    }
+    found
+}
+
+// One of the two, by the words of a run.
+fn serve_resting<I: Source, O: Sink, T: Sink, S: Saving, K: Salts>(
+    alloc: Global,
+    run: &Run,
+    input: &mut I,
+    out: &mut O,
+    trace: &mut T,
+    store: &mut S,
+    keeper: &mut K,
+) -> Result<u8, LineErr>
+    requires { (S.state store.old).asked ≡ [] }
+{
+    let words = words_of(alloc, run)?;
+    if saves(run) {
+        Ok(serve_saved(alloc, &words, input, out, trace, store, keeper))
+    } else {
+        Ok(serve_kept(alloc, &words, input, out, trace, store, keeper))
+    }
+}
+
 // What came of a run, beside what it wants.
 fn served_as(alloc: Global, run: &Run, unordered: bool, came: &Came) -> Result<Served, LineErr> {
     Ok(Served {
@@ -159,14 +224,13 @@ fn serve_over(
     store: MeddledStore,
     keeper: &mut MemKeeper,
 ) -> Result<(Served, MeddledStore), LineErr> {
-    let words = words_of(alloc, run)?;
     let mut store = store.rest(changes_of(alloc, run)?);
     let mut input = source_of(alloc, run)?;
     let mut out = sink_of(alloc, &run.writes)?;
     let mut trace = sink_of(alloc, &run.traces)?;
-    let status = serve_kept(
-        alloc, &words, &mut input, &mut out, &mut trace, &mut store, keeper,
-    );
+    let status = serve_resting(
+        alloc, run, &mut input, &mut out, &mut trace, &mut store, keeper,
+    )?;
     let came = Came {
         answers: out.bytes(),
         trace: trace.bytes(),
@@ -179,10 +243,25 @@ fn serve_over(
     Ok((served, store))
 }
 
+// The keeper of a case, which draws its salts, the last of its own list first.
+fn keeper_of(alloc: Global, case: &Case, held: &str) -> Result<MemKeeper, LineErr> {
+    let faults = copied(alloc, case.faults.as_slice())?;
+    let mut left = copied(alloc, case.salts.as_slice())?;
+    let mut salts = Vec::new(alloc);
+    for _ in 0..case.salts.len() {
+        if let Some(salt) = left.pop() {
+            match salts.push(salt) {
+                Ok(()) => {}
+                Err(_) => return Err(LineErr::NoMemory),
+            }
+        }
+    }
+    Ok(MemKeeper::new(mark_of(held)?, faults).with_salts(salts))
+}
+
 // Serves runs, one after the other, to the first that differs.
 fn serve_all(alloc: Global, case: &Case, held: &str) -> Result<Served, LineErr> {
-    let faults = copied(alloc, case.faults.as_slice())?;
-    let mut keeper = MemKeeper::new(mark_of(held)?, faults);
+    let mut keeper = keeper_of(alloc, case, held)?;
     let mut store = MeddledStore::new(alloc, Vec::new(alloc));
     let mut last = None;
     for run in &case.runs {

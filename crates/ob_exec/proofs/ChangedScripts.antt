@@ -20,7 +20,7 @@ use Rattle.ob_mean.specs.Refusals.{early_refusal, limits_of}
 use Rattle.ob_script.proofs.SavedParts.{run_makes, script_saved}
 use Rattle.ob_script.specs.Parts.{closing_part, insert_part, rewrite_part}
 use Rattle.ob_script.specs.Saved.{ChangesFlat, HasFlat, behind_run, left_by, run_next, run_script, whole_run}
-use Rattle.ob_script.specs.Script.{Behind, behind_change, changes_tables, closing_behind, is_saved, made_by, mutation_script, save_part, shape_script, until_end, whole_by, whole_script, with_table}
+use Rattle.ob_script.specs.Script.{Behind, behind_change, changes_tables, closing_behind, is_saved, mutation_script, save_part, shape_script, until_end, whole_by, whole_script, with_table}
 use Rattle.ob_script.specs.Tables.{tables_after, tables_then}
 use Rattle.ob_sql.specs.Skeleton.{skeleton}
 use Rattle.ob_sql.specs.declared.stmt.Stmt.{Stmt}

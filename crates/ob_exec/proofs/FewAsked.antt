@@ -1,17 +1,15 @@
 -- A statement that changes flat tables asks few accesses.
 use Rattle.std.specs.Prelude.{All, IfSome, ⊤, slice_get}
-use Rattle.std.proofs.Common.{◌≡◌, ◌≤◌, ◌<◌, ◌+◌, ◌^◌, ℕ, Bool, true, false, List, [], ◌++◌, length, Option, None, Some, sym, ◌∙◌, ap, subst, arith, get_or, length-append}
+use Rattle.std.proofs.Common.{◌≡◌, ◌≤◌, ◌<◌, ◌+◌, ◌^◌, ℕ, Bool, true, false, List, ◌++◌, length, Option, None, Some, refl, sym, ap, subst, arith, get_or, length-append}
 use Rattle.std.proofs.lemmas.Bool.Decides.{nat_tests}
 use Rattle.std.proofs.lemmas.Option.{slice_get-get_or}
 use Rattle.ob_base.proofs.AccessLemmas.{makes_few}
-use Rattle.ob_base.specs.declared.access.Access.{Access}
 use Rattle.ob_base.specs.declared.config.Public.{Public}
 use Rattle.ob_base.specs.declared.schema.Shape.{Shape}
 use Rattle.ob_base.specs.declared.schema.Shape.TheVariants.{Flat}
 use Rattle.ob_base.specs.declared.schema.Table.{Table}
 use Rattle.ob_base.specs.declared.seen.End.TheVariants.{Whole}
 use Rattle.ob_base.specs.declared.seen.Seen.{Seen}
-use Rattle.ob_base.specs.declared.skeleton.Skeleton.{Skeleton}
 use Rattle.ob_base.specs.Indexes.{height_of}
 use Rattle.ob_base.specs.Stored.{Stored, headings_of, stored_at, stored_regions}
 use Rattle.ob_mean.proofs.EarlyLemmas.{allowed, within}

@@ -1,10 +1,9 @@
 -- A statement behind which no tables are saved: the engine's share is all of it.
-use Rattle.std.proofs.Common.{◌≡◌, ◌⊎◌, inl, inr, ℕ, ◌+◌, ◌-◌, ◌≤◌, ◌++◌, Bool, true, false, List, [], length, take, None, Some, Option, Result, Ok, Err, refl, sym, ◌∙◌, ap, subst, arith, append_assoc, length-append}
+use Rattle.std.proofs.Common.{◌≡◌, ◌⊎◌, inl, inr, ℕ, ◌+◌, ◌-◌, ◌≤◌, ◌++◌, Bool, true, false, List, length, take, None, Some, Option, Result, Ok, Err, refl, sym, ◌∙◌, ap, subst, arith, append_assoc, length-append}
 use Rattle.std.proofs.lemmas.List.{length-take, take-append-le}
 use Rattle.std.specs.Prelude.{◌&&◌, OnOk, if◌then◌else◌}
 use Rattle.ob_base.specs.Accesses.{makes}
 use Rattle.ob_base.specs.Events.{Event}
-use Rattle.ob_base.specs.Stored.{headings_of}
 use Rattle.ob_base.specs.declared.access.Access.{Access}
 use Rattle.ob_base.specs.declared.config.Public.{Public}
 use Rattle.ob_base.specs.declared.refusal.Refusal.{Refusal}
@@ -16,7 +15,7 @@ use Rattle.ob_mean.specs.Lawful.{Holds, Lawful}
 use Rattle.ob_mean.specs.Replay.{is_access}
 use Rattle.ob_mean.specs.Verdict.{ended as seen_to, is_late}
 use Rattle.ob_reopen.specs.Keepers.{KeeperState}
-use Rattle.ob_script.proofs.SavedParts.{next_is, run_is, whole_is}
+use Rattle.ob_script.proofs.SavedParts.{run_is, whole_is}
 use Rattle.ob_script.specs.Saved.{ChangesFlat, left_by, run_next, run_script, whole_run}
 use Rattle.ob_script.specs.Script.{changes_tables, closing_behind, closing_then, is_saved, save_part, script, until_end, whole_script}
 use Rattle.ob_script.specs.Tables.{tables_then}
@@ -29,7 +28,7 @@ use Rattle.ob_sql.specs.declared.stmt.Stmt.TheVariants.{Create, Insert, Update, 
 use Rattle.ob_store.specs.State.{StoreState}
 use Rattle.ob_tables.proofs.LawfulLemmas.{ends_cut}
 use Rattle.ob_tables.proofs.TableLemmas.{tables_flat}
-use Rattle.ob_tables.specs.Agreeing.{Agrees, count_of, high_of, public_of, replaced_of, world_of}
+use Rattle.ob_tables.specs.Agreeing.{Agrees, count_of, high_of, replaced_of, world_of}
 use Rattle.ob_tables.specs.Memory.{LacksMemory}
 use Rattle.ob_tables.specs.Running.{Continues, RanStatement, RefusedEarly, RunCause, result_end, stops_access}
 use Rattle.ob_tables.specs.Serving.{Serves}
@@ -158,8 +157,8 @@ module _ {R : Type 0} (state : R → RevState) (stmt : Stmt) (result : Result Ou
       by_early None none saves changes =
           changed_by saves changes ((λ i. changes i && saves i)) (flat_change saves changes none) now.end refl
       by_early (Some r) refused saves changes =
-          let as : RefusedEarly (Some r) result now = subst (λ (o : Option Refusal). RefusedEarly o result now) refused early in
-          let is : now.end ≡ Static = ap (λ (x : Seen). x.end) as.1 in
+          let refuses : RefusedEarly (Some r) result now = subst (λ (o : Option Refusal). RefusedEarly o result now) refused early in
+          let is : now.end ≡ Static = ap (λ (x : Seen). x.end) refuses.1 in
           record { script_is = ends_at Static (whole_run p sk now) (whole_script p sk now) is refl; closing_is = ap (closing_then p sk) is }
 
       by_change : (b : Bool) → changes_tables sk ≡ b → p.save ≡ true → Alone

@@ -1,5 +1,5 @@
 -- A statement that changes tables, and the saving of them behind it.
-use Rattle.std.proofs.Common.{◌≡◌, ◌≢◌, ◌⊎◌, inl, inr, ℕ, ◌+◌, ◌-◌, ◌^◌, ◌<◌, ◌≤◌, ◌%◌, ◌++◌, Bool, true, false, List, [], ◌∷◌, length, take, Option, None, Some, Result, Ok, Err, refl, sym, ◌∙◌, ap, subst, arith, append-nil, append_assoc, length-append}
+use Rattle.std.proofs.Common.{◌≡◌, ◌⊎◌, inl, inr, ℕ, ◌+◌, ◌-◌, ◌^◌, ◌<◌, ◌≤◌, ◌%◌, ◌++◌, Bool, true, false, List, [], ◌∷◌, length, take, Option, None, Some, Result, Ok, Err, refl, sym, ◌∙◌, ap, subst, arith, append-nil, append_assoc, length-append}
 use Rattle.std.proofs.lemmas.Bool.Decides.{nat_tests}
 use Rattle.std.proofs.lemmas.List.{take_at}
 use Rattle.std.specs.List.{list_any}
@@ -15,43 +15,39 @@ use Rattle.ob_base.specs.declared.access.Access.TheVariants.{Make}
 use Rattle.ob_base.specs.declared.config.Public.{Public}
 use Rattle.ob_base.specs.declared.refusal.Refusal.{Refusal}
 use Rattle.ob_base.specs.declared.refusal.Refusal.TheVariants as Refusals
-use Rattle.ob_base.specs.declared.seen.End.{End}
-use Rattle.ob_base.specs.declared.seen.End.TheVariants.{Static, Whole, AfterCount, Cut}
+use Rattle.ob_base.specs.declared.seen.End.TheVariants.{Whole, Cut}
 use Rattle.ob_base.specs.declared.seen.Seen.{Seen}
 use Rattle.ob_base.specs.declared.skeleton.Skeleton.{Skeleton}
 use Rattle.ob_mean.proofs.FlatLemmas.{no_public_access}
 use Rattle.ob_mean.specs.Flats.{AreFlat}
-use Rattle.ob_mean.specs.Lawful.{Lawful, height_at, selects_rows}
-use Rattle.ob_mean.specs.Prints.{Prints}
-use Rattle.ob_mean.specs.Replay.{cut_at, draws_taken, is_access}
+use Rattle.ob_mean.specs.Lawful.{Lawful, height_at}
+use Rattle.ob_mean.specs.Replay.{draws_taken, is_access}
 use Rattle.ob_mean.specs.Settle.{settle}
 use Rattle.ob_mean.specs.Step.{accepted_answer, answered}
 use Rattle.ob_mean.specs.Verdict.{Draws, Tables, accessed, database, ended as seen_to, is_late, refusal, seen, verdict}
 use Rattle.ob_mean.specs.declared.answer.Answer.{Answer}
 use Rattle.ob_oram.specs.declared.index.Index.{Index}
-use Rattle.ob_reopen.specs.Closed.{is_used_up}
 use Rattle.ob_reopen.specs.Keepers.{KeeperState}
-use Rattle.ob_reopen.specs.Resting.{AcceptsClosings}
 use Rattle.ob_script.proofs.Numbers.{length-create_part}
 use Rattle.ob_script.proofs.SavedParts.{next_saved, script_saved}
 use Rattle.ob_script.specs.Parts.{closing_part}
-use Rattle.ob_script.specs.Saved.{ChangesFlat, left_by, left_then, run_next, run_script, saved_public, whole_run}
+use Rattle.ob_script.specs.Saved.{ChangesFlat, left_by, run_next, run_script, saved_public, whole_run}
 use Rattle.ob_script.specs.Script.{changes_tables, closing_behind, is_saved, save_part, script, whole_script}
 use Rattle.ob_script.specs.Tables.{tables_after}
 use Rattle.ob_script.specs.Trace.{next}
 use Rattle.ob_seal.specs.Draws.{draw_of}
-use Rattle.ob_seal.specs.KeySet.{KeySet, pair_of}
+use Rattle.ob_seal.specs.KeySet.{KeySet}
 use Rattle.ob_select.proofs.LieLemmas.{lie_before}
 use Rattle.ob_select.proofs.SelectRuns.{ends-more}
-use Rattle.ob_select.specs.Memory.{AtMake, HasHalted, ends_with_make}
+use Rattle.ob_select.specs.Memory.{HasHalted, ends_with_make}
 use Rattle.ob_select.specs.Opening.{Opens, is_of_rows}
 use Rattle.ob_select.specs.Selecting.{AcceptsRows}
 use Rattle.ob_select.specs.Settings.{IsFree}
 use Rattle.ob_sql.specs.Skeleton.{skeleton}
 use Rattle.ob_sql.specs.declared.stmt.Stmt.{Stmt}
 use Rattle.ob_sql.specs.declared.stmt.Stmt.TheVariants.{Create, Insert, Update, Delete, Drop as DropTable, SelectRows as RowsStmt, SelectTotals as TotalsStmt}
-use Rattle.ob_store.proofs.Steps.{began_join, began_more, later_trans, none_before}
-use Rattle.ob_store.specs.Runs.{Began, Did, Later}
+use Rattle.ob_store.proofs.Steps.{later_trans, none_before}
+use Rattle.ob_store.specs.Runs.{Began, Later}
 use Rattle.ob_store.specs.State.{Lie, StoreState}
 use Rattle.ob_tables.proofs.HeldLemmas.{held_plain}
 use Rattle.ob_tables.proofs.LawfulLemmas.{leaf_none}
@@ -60,20 +56,19 @@ use Rattle.ob_tables.proofs.RunLemmas.{of_other}
 use Rattle.ob_tables.proofs.ServeLemmas.{IsBare, bare_prints}
 use Rattle.ob_tables.proofs.TableLemmas.{tables_flat}
 use Rattle.ob_tables.proofs.ToldLemmas.{cut_seen, early_held, refused_none}
-use Rattle.ob_tables.specs.Agreeing.{Agrees, AreDraws, count_of, engine_keys, engine_start, has_ended, high_of, indexes_of, opened_from, public_of, replaced_of, seen_of, world_of}
+use Rattle.ob_tables.specs.Agreeing.{Agrees, AreDraws, count_of, high_of, opened_from, public_of, world_of}
 use Rattle.ob_tables.specs.Closing.{next_closing}
 use Rattle.ob_tables.specs.Leaves.{MovesLeaves}
 use Rattle.ob_tables.specs.Refusals.{refused_end}
-use Rattle.ob_tables.specs.Running.{GoesOn, HasNoRows, RanStatement, RefusedEarly, RunCause, SinkStops, is_fault, outcome_end, result_end}
-use Rattle.ob_tables.specs.Saving.{Waits, save_script}
+use Rattle.ob_tables.specs.Running.{GoesOn, HasNoRows, RefusedEarly, SinkStops, is_fault, outcome_end}
+use Rattle.ob_tables.specs.Saving.{save_script}
 use Rattle.ob_tables.specs.Serving.{Answered, Means, Serves, Stopped, StopsEmission}
-use Rattle.ob_tables.specs.Telling.{AreHeld, IsNotTampered, Kept, Meant, ReadsTrue, ReadsTrueUntil, Represents, SeenCut, StopsFull, answer_labels, is_refused, meant_script}
+use Rattle.ob_tables.specs.Telling.{IsNotTampered, Meant, ReadsTrue, Represents, answer_labels, is_refused, meant_script}
 use Rattle.ob_tables.specs.declared.engine.Engine.{Engine}
 use Rattle.ob_tables.specs.declared.stop.RunStop.{RunStop}
 use Rattle.ob_tables.specs.declared.stop.RunStop.TheVariants.{KeeperFault, NoMemory, SinkFault, StashFull, StoreFault, Tampered}
 use Rattle.ob_vault.proofs.Runs.{seals_join}
 use Rattle.ob_vault.proofs.WorldSteps.{calm_none}
-use Rattle.ob_vault.specs.Calls.{Seals}
 use Rattle.ob_vault.specs.State.{RevState, Start, World}
 use Rattle.ob_vault.specs.Tied.{Calm, ReadsIn}
 use Rattle.ob_verdict.proofs.SeenProof.{shows_kind_alone}
@@ -147,13 +142,13 @@ end_own Dropped n is = refl
 end_own (Rows k) n is = refl
 
 -- what holds of an answer then
-whole_of : (failed : Bool) {cut whole : Type 0} → failed ≡ false → by_fault failed cut whole → whole
-whole_of true own is = absurd (cc own)
-whole_of false own is = is
+whole_of : (failed : Bool) (cut whole : Type 0) → failed ≡ false → by_fault failed cut whole → whole
+whole_of true cut whole own is = absurd (cc own)
+whole_of false cut whole own is = is
 
 -- nothing was emitted of it
 none_emitted : (stmt : Stmt) (labels : List (List ℕ)) (outcome : Outcome) (events : List Event) → HasNoRows outcome → is_fault outcome ≡ false → Emits stmt labels outcome events → events ≡ []
-none_emitted stmt labels (Refused r) events silent own emits = whole_of (is_store_fault r) own emits
+none_emitted stmt labels (Refused r) events silent own emits = whole_of (is_store_fault r) _ _ own emits
 none_emitted stmt labels Created events silent own emits = emits
 none_emitted stmt labels Inserted events silent own emits = emits
 none_emitted stmt labels (Changed k) events silent own emits = emits
@@ -229,7 +224,7 @@ module _ {R E : Type 0} (state : R → RevState) (grew cut : E → E → List Ev
   own = end_own outcome _ (sym serves.ran.ends ∙ whole)
 
   faults_mid : s1.faults ≡ s.faults
-  faults_mid = whole_of (is_fault outcome) own serves.ran.cause.0
+  faults_mid = whole_of (is_fault outcome) _ _ own serves.ran.cause.0
 
   run_all : run_script p sk mid.seen ≡ whole_run p sk mid.seen
   run_all = run_whole p sk mid.seen whole
@@ -243,22 +238,6 @@ module _ {R E : Type 0} (state : R → RevState) (grew cut : E → E → List Ev
 
   pub few_mid : count_of mid s1 < 2 ^ 63 + 2 ^ 59
   few_mid = few_behind state old s mid s1 stmt mid.seen agrees saves flat changed changes early whole serves.ran.start serves.ran.asked
-
-  pub waits_mid : (left : Option ℕ) → left ≡ left_by p sk → Waits state (left_then p sk mid.seen.end) mid s1 → Waits state left mid s1
-  waits_mid left left_is waits = subst (λ (o : Option ℕ). Waits state o mid s1) (ap (left_then p sk) whole ∙ sym left_is) waits
-
-  pub settled_mid : replaced_of old ≡ None → replaced_of mid ≡ None
-  settled_mid settled = serves.ran.replaced ∙ settled
-
-  module _ {Saves : Type 0} (may : MaySave Saves old) where
-    pub salted_mid : (pair_of (engine_keys mid) (public_of mid).next_region).salt ≢ None
-    salted_mid none =
-        let made = ap (λ (q : Public). q.next_region) on.public in
-        let more : p.next_region ≤ (public_of mid).next_region = omega (arith, made) in
-        may.salted saves (public_of mid).next_region more (ap (λ (k : KeySet). (pair_of k (public_of mid).next_region).salt) (sym serves.ran.keys) ∙ none)
-
-    pub can_save : Saves
-    can_save = may.saves saves
 
   -- ---- accesses
   abbrev run : List Access
@@ -279,7 +258,7 @@ module _ {R E : Type 0} (state : R → RevState) (grew cut : E → E → List Ev
     reads_mid tables reads = record { tells = reads.tells; held = reads.held; nolie = none_before s1 t later reads.nolie }
 
     meant_mid : (tables : Tables) (d : Draws) → AreDraws old d → ReadsTrue state old s s1 tables → Meant state stmt m d tables outcome old mid s1
-    meant_mid tables d of reads = whole_of (is_fault outcome) own (serves.means.told tables d of reads)
+    meant_mid tables d of reads = whole_of (is_fault outcome) _ _ own (serves.means.told tables d of reads)
 
     begun_then : (tables : Tables) (d : Draws) → AreDraws old d → ReadsTrue state old s s tables → (lie : Lie) → t.lie ≡ Some lie → ReadsIn lie (s.asked ++ meant_script d p m tables stmt)
     begun_then tables d of reads lie told = elim (lie_before s1 t lie later told) [
@@ -427,17 +406,6 @@ module _ {R E : Type 0} (state : R → RevState) (grew cut : E → E → List Ev
         kept = tt;
       });
       counts = done.counted;
-    }
-
-    -- and may be again
-    pub saves_again : {Saves Then : Type 0} → MaySave Saves old → Then → MaySave Then new
-    saves_again may can = record {
-      saves = λ still. can;
-      salted = λ still q above none.
-          let made = ap (λ (r : Public). r.next_region) public_then in
-          let more : p.next_region ≤ q = omega (arith, made, above) in
-          may.salted saves q more (ap (λ (k : KeySet). (pair_of k q).salt) (sym (done.keys ∙ serves.ran.keys)) ∙ none);
-      listed = λ still. done.goes_on.listed;
     }
 
   -- ---- they were not: the session has ended

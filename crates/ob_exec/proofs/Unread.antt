@@ -1,6 +1,6 @@
 -- What saving asks reads nothing: a changed block that was read was read before.
-use Rattle.std.proofs.Common.{◌≡◌, ℕ, zero, suc, ◌+◌, List, [], ◌∷◌, ◌++◌, Option, None, Some, refl, sym, ◌∙◌, ap, subst}
-use Rattle.ob_base.specs.Accesses.{discard_at, drop_script, make_at, write_at}
+use Rattle.std.proofs.Common.{◌≡◌, ℕ, zero, suc, List, [], ◌∷◌, ◌++◌, Option, None, Some, sym, ◌∙◌, subst}
+use Rattle.ob_base.specs.Accesses.{drop_script, make_at, write_at}
 use Rattle.ob_base.specs.Lists.{each}
 use Rattle.ob_base.specs.declared.access.Access.{Access}
 use Rattle.ob_base.specs.declared.access.Access.TheVariants.{Discard, Make, Open, Read, Write}

@@ -198,7 +198,7 @@ read_below state e s region q agrees below (inr of) =
     omega (arith, under, here, next_is)
 
 -- no two of its tables have one name
-pub apart_held : {R : Type 0} (state : R → RevState) (e : Engine R) (s : StoreState) → Agrees state e s → (tables : Tables) → Represents state e s tables → AreApart (headings tables)
+apart_held : {R : Type 0} (state : R → RevState) (e : Engine R) (s : StoreState) → Agrees state e s → (tables : Tables) → Represents state e s tables → AreApart (headings tables)
 apart_held state e s agrees tables held = subst AreApart (sym (held_headings _ _ _ tables _ held.held)) (named_apart (public_of e).tables agrees.tables.names)
 
 -- ---- the mark of a closing that was written, and what rests for it

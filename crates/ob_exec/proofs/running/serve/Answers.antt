@@ -1,4 +1,4 @@
-use Rattle.std.proofs.Common.{List, Ok, refl, sym, ◌∙◌, ap, subst}
+use Rattle.std.proofs.Common.{◌≡◌, false, List, Ok, refl, sym, ◌∙◌, ap, subst}
 use Rattle.ob_base.specs.declared.skeleton.NewColumn.{NewColumn}
 use Rattle.ob_sql.specs.declared.stmt.Literal.{Literal}
 use Rattle.ob_sql.specs.declared.stmt.Set.{Set}
@@ -109,7 +109,7 @@ returns-in-SelectRows g c =
       serves =
           subst (λ (stmt : Stmt). Serves g.R.Revisions.state g.E.Emit.grew g.E.Emit.cut g.E.Emit.faults stmt c.select_rows.result c.args.engine.now s c.select_rows.new.engine
           (g.S.BlockStore.state c.select_rows.new.store) c.args.out.now c.select_rows.new.out) (sym c.in-SelectRows.is) c.select_rows.ensures.serves;
-      shows = λ saves changes. let not = ap (λ (stmt : Stmt). changes_tables (skeleton stmt)) c.in-SelectRows.is in absurd (cc (not, changes));
+      shows = λ saves changes. let not : changes_tables (skeleton c.args.stmt.now) ≡ false = ap (λ (stmt : Stmt). changes_tables (skeleton stmt)) c.in-SelectRows.is in absurd (cc (not, changes));
     }
 
 pub returns-in-SelectTotals : goal.returns-in-SelectTotals
@@ -119,5 +119,5 @@ returns-in-SelectTotals g c =
       serves =
           subst (λ (stmt : Stmt). Serves g.R.Revisions.state g.E.Emit.grew g.E.Emit.cut g.E.Emit.faults stmt c.select_totals.result c.args.engine.now s c.select_totals.new.engine
           (g.S.BlockStore.state c.select_totals.new.store) c.args.out.now c.select_totals.new.out) (sym c.in-SelectTotals.is) c.select_totals.ensures.serves;
-      shows = λ saves changes. let not = ap (λ (stmt : Stmt). changes_tables (skeleton stmt)) c.in-SelectTotals.is in absurd (cc (not, changes));
+      shows = λ saves changes. let not : changes_tables (skeleton c.args.stmt.now) ≡ false = ap (λ (stmt : Stmt). changes_tables (skeleton stmt)) c.in-SelectTotals.is in absurd (cc (not, changes));
     }

@@ -1,5 +1,4 @@
 use Rattle.std.proofs.Common.{subst, sym}
-use Rattle.ob_store.specs.State.{StoreState}
 use Rattle.ob_tables.specs.declared.stop.RunStop.{RunStop}
 use Rattle.std.specs.Prelude.{Err}
 use Rattle.ob_exec.proofs.SavingLemmas.{agrees_synced, rests_then, saved_all, unset, unsynced, unwritten, waits_synced}
