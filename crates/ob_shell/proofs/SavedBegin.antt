@@ -1,6 +1,6 @@
 -- How a run begins whose tables are saved, by the mark that its keeper gave.
 use Rattle.std.specs.Prelude.{◌≢◌, ◌==◌, ⊤, IsTrue, MatchBool, slice_get}
-use Rattle.std.proofs.Common.{◌≡◌, ◌<◌, ◌≤◌, ◌+◌, ◌++◌, ℕ, zero, suc, Bool, true, false, List, [], ◌∷◌, length, map, Option, Some, None, Result, Ok, Err, if◌then◌else◌, inl, inr, refl, sym, ◌∙◌, ap, subst, arith}
+use Rattle.std.proofs.Common.{◌≡◌, ◌<◌, ◌++◌, ℕ, suc, Bool, true, List, [], ◌∷◌, length, map, Option, Some, None, Ok, Err, if◌then◌else◌, inl, inr, refl, sym, ◌∙◌, ap, subst, arith}
 use Rattle.std.proofs.lemmas.Bool.Decides.{nat_tests}
 use Rattle.std.proofs.lemmas.Option.{slice_get-map}
 use Rattle.std.specs.Option.{option_map}
@@ -11,7 +11,6 @@ use Rattle.ob_base.specs.declared.config.Public.{Public}
 use Rattle.ob_base.specs.declared.fault.Failed.{Failed}
 use Rattle.ob_base.specs.declared.mark.Mark.{Mark}
 use Rattle.ob_base.specs.declared.mark.Mark.TheVariants.{Fresh, InUse, Closed, Begun, Saved}
-use Rattle.ob_base.specs.declared.schema.Table.{Table}
 use Rattle.ob_headline.proofs.FlatLemmas.{opened_flat}
 use Rattle.ob_headline.specs.Bases.{Base, Opened, fresh, reopened}
 use Rattle.ob_headline.specs.Keeping.{closing_named, opening_end}
@@ -41,11 +40,11 @@ use Rattle.ob_shell.specs.Standing.{StandsOn}
 use Rattle.ob_shell.specs.Steps.{machine_of}
 use Rattle.ob_shell.specs.Top.{IsFresh}
 use Rattle.ob_store.specs.Calls.{IsSteady, Sweeps}
-use Rattle.ob_store.specs.State.{KeptRegion, Lie, StoreState}
+use Rattle.ob_store.specs.State.{KeptRegion, StoreState}
 use Rattle.ob_tables.proofs.HeldLemmas.{held_headings}
 use Rattle.ob_tables.proofs.NamesApart.{named_apart}
 use Rattle.ob_tables.proofs.OpenSavedLemmas.{own_pair as closing_pair}
-use Rattle.ob_tables.specs.Agreeing.{count_of, engine_keys, engine_start, indexes_of, public_of, world_of}
+use Rattle.ob_tables.specs.Agreeing.{count_of, engine_start, indexes_of, public_of, world_of}
 use Rattle.ob_tables.specs.Reopening.{IsOpened}
 use Rattle.ob_tables.specs.Saving.{IsOpenedBy, NamesClosing, OpensSaved}
 use Rattle.ob_tables.specs.Telling.{Represents}
@@ -111,20 +110,20 @@ before_each closing (t ∷ ts) each q above =
 
 module _ {R : Type 0} (state : R → RevState) (config : Config) (secret salt : List ℕ) (saves : config.save ≡ true) (closed : Option (List ℕ)) (closing : Closing) (pack : closing.pack ≡ config.pack)
     (e : Engine R) (s0 s1 s2 : StoreState) (none : s0.asked ≡ []) (opens : OpensSaved state config secret salt closed closing (Ok e) s0 s1) (sweeps : Sweeps s1 s2) where
-  abbrev by : IsOpenedBy state config secret salt closed closing e s0 s1
-  by = opens.ok
+  abbrev reopened_by : IsOpenedBy state config secret salt closed closing e s0 s1
+  reopened_by = opens.ok
 
-  abbrev is : IsOpened state config by.keys closing e s0 s1
-  is = by.opened
+  abbrev engine : IsOpened state config reopened_by.keys closing e s0 s1
+  engine = reopened_by.opened
 
   abbrev pub keys : KeySet
-  keys = by.keys
+  keys = reopened_by.keys
 
   abbrev own : KeySet
-  own = reopening_keys secret salt closed closing is.listed
+  own = reopening_keys secret salt closed closing engine.listed
 
   abbrev pub opened : Opened
-  opened = record { keys = keys; closing = closing; listed = is.listed; old = s0; new = s2 }
+  opened = record { keys = keys; closing = closing; listed = engine.listed; old = s0; new = s2 }
 
   abbrev pub base : Base
   base = reopened config opened
@@ -135,32 +134,32 @@ module _ {R : Type 0} (state : R → RevState) (config : Config) (secret salt : 
   -- what rests under the secret does so under the keys that the run has
   under : IsTrue s0.tells → s1.lie ≡ None → (tables : Tables) → RestsBy secret closed closing s0.kept tables → Rests keys closing s0.kept tables
   under tells nolie tables rests =
-      let same : reopening_keys secret salt closed closing rests.rests.listed ≡ keys = ap (reopening_keys secret salt closed closing) (by.lists tells nolie tables rests) ∙ sym by.keyed in
+      let same : reopening_keys secret salt closed closing rests.rests.listed ≡ keys = ap (reopening_keys secret salt closed closing) (reopened_by.lists tells nolie tables rests) ∙ sym reopened_by.keyed in
       subst (λ (k : KeySet). Rests k closing s0.kept tables) same (rests_under secret salt closed closing s0.kept tables rests)
 
   -- and the other way round
   rested_by : (tables : Tables) → Rests keys closing s0.kept tables → RestsBy secret closed closing s0.kept tables
   rested_by tables rests = record {
     keys = own;
-    of = salted_of_secret secret salt (salted_regions closed closing is.listed);
-    own = ap (λ (p : Pair). p.salt) (sym (closing_pair secret salt closed closing is.listed));
-    rests = subst (λ (k : KeySet). Rests k closing s0.kept tables) by.keyed rests;
+    of = salted_of_secret secret salt (salted_regions closed closing engine.listed);
+    own = ap (λ (p : Pair). p.salt) (sym (closing_pair secret salt closed closing engine.listed));
+    rests = subst (λ (k : KeySet). Rests k closing s0.kept tables) reopened_by.keyed rests;
   }
 
   -- what is read of it is kept as it was
   read_kept : (q : ℕ) → IsRead closing.region base.public q → s2.kept q ≡ s0.kept q
   read_kept q read =
-      read_stays state e s1 s2 sweeps is.agrees closing.region is.from_closing q (subst (λ (p : Public). IsRead closing.region p q) (sym is.public) read) ∙ opens.kept q
+      read_stays state e s1 s2 sweeps engine.agrees closing.region engine.from_closing q (subst (λ (p : Public). IsRead closing.region p q) (sym engine.public) read) ∙ opens.kept q
 
-  read_needed : (q : ℕ) → IsNeeded closing is.listed q → IsRead closing.region base.public q
+  read_needed : (q : ℕ) → IsNeeded closing engine.listed q → IsRead closing.region base.public q
   read_needed q (inl here) = inl here
   read_needed q (inr of) =
-      let there : slice_get base.public.tables of.0 ≡ Some of.1.table = slice_get-map (λ (t : Listed). t.table) is.listed of.0 ∙ ap (option_map (λ (t : Listed). t.table)) of.2 in
+      let there : slice_get base.public.tables of.0 ≡ Some of.1.table = slice_get-map (λ (t : Listed). t.table) engine.listed of.0 ∙ ap (option_map (λ (t : Listed). t.table)) of.2 in
       inr (record { place = of.0; table = of.1.table; get = there; region = sym of.3 })
 
   module _ (tells : IsTrue s0.tells) (nolie : s1.lie ≡ None) (tables : Tables) (rests : RestsBy secret closed closing s0.kept tables) where
     read_listed : (q : ℕ) → IsNeeded closing rests.rests.listed q → IsRead closing.region base.public q
-    read_listed q needed = read_needed q (subst (λ (l : List Listed). IsNeeded closing l q) (by.lists tells nolie tables rests) needed)
+    read_listed q needed = read_needed q (subst (λ (l : List Listed). IsNeeded closing l q) (reopened_by.lists tells nolie tables rests) needed)
 
     rests_while : (now : ℕ → Option KeptRegion) → ((q : ℕ) → IsRead closing.region base.public q → now q ≡ s0.kept q) → RestsBy secret closed closing now tables
     rests_while now same = record {
@@ -177,7 +176,7 @@ module _ {R : Type 0} (state : R → RevState) (config : Config) (secret salt : 
     headed = held_headings (public_of e).pack (indexes_of e) (public_of e).tables tables (world_of state e s1) holds.held
 
     apart : AreApart (headings tables)
-    apart = subst AreApart (sym headed) (named_apart (public_of e).tables is.agrees.tables.names)
+    apart = subst AreApart (sym headed) (named_apart (public_of e).tables engine.agrees.tables.names)
 
     rests_on : (mark : Mark) → ((now : ℕ → Option KeptRegion) → RestsBy secret closed closing now tables → RestsAt secret mark now tables) → RestsOn secret mark base.public s2.kept tables
     rests_on mark at = record {
@@ -192,93 +191,93 @@ module _ {R : Type 0} (state : R → RevState) (config : Config) (secret salt : 
 
   pub reopens : ReopensSaved closed closing config secret salt keys base s0 s2
   reopens = record {
-    listed = is.listed;
-    catalogue = is.catalogue;
-    keyed = by.keyed;
+    listed = engine.listed;
+    catalogue = engine.catalogue;
+    keyed = reopened_by.keyed;
     is = refl;
-    did = record { asked = sweeps.asked ∙ is.did.asked; faults = sweeps.faults ∙ is.did.faults };
+    did = record { asked = sweeps.asked ∙ engine.did.asked; faults = sweeps.faults ∙ engine.did.faults };
     tells = sweeps.tells ∙ opens.tells;
     fits = λ lie told.
-        let fits = is.calm.calm lie (sym sweeps.lie ∙ told) in
-        subst (λ (x : Start). TagFits keys x lie) is.start (subst (λ (k : KeySet). TagFits k (engine_start e) lie) is.keyed fits);
+        let fits = engine.calm.calm lie (sym sweeps.lie ∙ told) in
+        subst (λ (x : Start). TagFits keys x lie) engine.start (subst (λ (k : KeySet). TagFits k (engine_start e) lie) engine.keyed fits);
     opened = s1;
     sweeps = sweeps;
     told = λ tells nolie tables rests. record {
       rests = rests_while tells (unlied nolie) tables rests s2.kept read_kept;
       under = under tells (unlied nolie) tables rests;
-      listed = headed tells (unlied nolie) tables rests ∙ ap (λ (p : Public). headings_of p.tables) is.public;
+      listed = headed tells (unlied nolie) tables rests ∙ ap (λ (p : Public). headings_of p.tables) engine.public;
     };
   }
 
-  asked_is : s2.asked ≡ opening_script closing is.listed
-  asked_is = sweeps.asked ∙ is.did.asked ∙ ap (λ (l : List Access). l ++ opening_script closing is.listed) none
+  asked_is : s2.asked ≡ opening_script closing engine.listed
+  asked_is = sweeps.asked ∙ engine.did.asked ∙ ap (λ (l : List Access). l ++ opening_script closing engine.listed) none
 
   count_is : count_of e s2 ≡ base.count
-  count_is = omega (arith, ap earlier is.start, ap length asked_is)
+  count_is = omega (arith, ap earlier engine.start, ap length asked_is)
 
   stands_opened : StandsOn state base config keys e s2
   stands_opened = record {
     settings = refl;
-    public = is.public;
-    flat = opened_flat config closing is.listed is.catalogue;
-    unindexed = is.unindexed;
+    public = engine.public;
+    flat = opened_flat config closing engine.listed engine.catalogue;
+    unindexed = engine.unindexed;
     pack = refl;
     buffer = refl;
     keep = refl;
     save = refl;
-    rows = is.rows;
+    rows = engine.rows;
     count = count_is;
-    start = is.start;
+    start = engine.start;
     asked = asked_is;
-    keyed = is.keyed;
-    drawn = is.drawn;
-    calm = calm_swept state e s1 s2 sweeps is.calm;
-    used = λ some. let one = is.high in omega (arith, one);
-    held = λ tables rested. represents_swept state e s1 s2 sweeps is.agrees tables (opens.told rested.tells (unlied rested.honest) tables (rested_by tables rested.rests));
-    earlier = λ region above. sweeps.live region ∙ is.earlier region above;
+    keyed = engine.keyed;
+    drawn = engine.drawn;
+    calm = calm_swept state e s1 s2 sweeps engine.calm;
+    used = λ some. let one = engine.high in omega (arith, one);
+    held = λ tables rested. represents_swept state e s1 s2 sweeps engine.agrees tables (opens.told rested.tells (unlied rested.honest) tables (rested_by tables rested.rests));
+    earlier = λ region above. sweeps.live region ∙ engine.earlier region above;
     sealed = λ tells tables rested good passes scope few.
         let swept = sweeps.faults in
-        let asked = is.did.faults in
+        let asked = engine.did.faults in
         sealed_swept state e s1 s2 sweeps (λ r. good) scope
-        (opens.sealed rested.tells (unlied rested.honest) tables (rested_by tables rested.rests) (λ r. good) passes.0.0 passes.1 scope (omega (arith, few, swept, asked)));
-    passes = λ good passes. passes.0;
+        (opens.sealed rested.tells (unlied rested.honest) tables (rested_by tables rested.rests) (λ r. good) passes.0.0.0 passes.0.1 scope (omega (arith, few, swept, asked)));
+    passes = λ good passes. passes.0.0;
     early = λ n before. absurd before;
   }
 
   -- each region that the run makes is under its own salt
   salted : (q : ℕ) → closing.region < q → (pair_of keys q).salt ≡ Some salt
   salted q above =
-      let before : AreBefore q (salted_regions closed closing is.listed) = (above, before_each closing is.listed (λ i t at. (is.catalogue.are.each i t at).listed.region_most) q above) in
-      ap (λ (k : KeySet). (pair_of k q).salt) by.keyed ∙ ap (λ (p : Pair). p.salt) (own_pair secret salt (salted_regions closed closing is.listed) q before)
+      let before : AreBefore q (salted_regions closed closing engine.listed) = (above, before_each closing engine.listed (λ i t at. (engine.catalogue.are.each i t at).listed.region_most) q above) in
+      ap (λ (k : KeySet). (pair_of k q).salt) reopened_by.keyed ∙ ap (λ (p : Pair). p.salt) (own_pair secret salt (salted_regions closed closing engine.listed) q before)
 
   may_go_on : MaySave ⊤ e
   may_go_on = record {
     saves = λ it. tt;
     salted = λ it q above.
-        let next = ap (λ (p : Public). p.next_region) is.public in
-        is_some _ _ salt (ap (λ (k : KeySet). (pair_of k q).salt) is.keyed) (salted q (omega (arith, above, next)));
-    listed = λ it. is.from_closing ∙ sym (ap (λ (p : Public). p.closing) is.public ∙ ap (λ (b : Bool). if b then Some closing.region else None) saves);
+        let next = ap (λ (p : Public). p.next_region) engine.public in
+        is_some _ _ salt (ap (λ (k : KeySet). (pair_of k q).salt) engine.keyed) (salted q (omega (arith, above, next)));
+    listed = λ it. engine.from_closing ∙ sym (ap (λ (p : Public). p.closing) engine.public ∙ ap (λ (b : Bool). if b then Some closing.region else None) saves);
   }
 
   module _ (keeper : KeeperState) where
     pub engages_opened : EngagesSaved state base config keys e s2 keeper
     engages_opened = record {
       stands = stands_opened;
-      ready = record { agrees = agrees_swept state e s1 s2 sweeps is.agrees; lives = is.alive; settled = by.replaced; saves = may_go_on };
-      high = let one = is.high in omega (arith, one);
+      ready = record { agrees = agrees_swept state e s1 s2 sweeps engine.agrees; lives = engine.alive; settled = reopened_by.replaced; saves = may_go_on };
+      high = let one = engine.high in omega (arith, one);
     }
 
     pub begins_opened : (mark : Mark) → ((now : ℕ → Option KeptRegion) (tables : Tables) → RestsBy secret closed closing now tables → RestsAt secret mark now tables) → keeper.held ≡ Some mark
         → BeginsToSave state secret salt base keys (machine_of e s2 keeper)
     begins_opened mark at held = record {
-      agrees = agrees_swept state e s1 s2 sweeps is.agrees;
-      saves = ap (λ (p : Public). p.save) is.public ∙ saves;
-      public = is.public;
+      agrees = agrees_swept state e s1 s2 sweeps engine.agrees;
+      saves = ap (λ (p : Public). p.save) engine.public ∙ saves;
+      public = engine.public;
       count = count_is;
-      start = is.start;
-      keyed = is.keyed;
-      drawn = is.drawn;
-      of = subst (AreOfSecret secret) (sym by.keyed) (salted_of_secret secret salt (salted_regions closed closing is.listed));
+      start = engine.start;
+      keyed = engine.keyed;
+      drawn = engine.drawn;
+      of = subst (AreOfSecret secret) (sym reopened_by.keyed) (salted_of_secret secret salt (salted_regions closed closing engine.listed));
       salted = salted;
       held = stands_opened.held;
       rests = λ other is_held tables rested.

@@ -12,7 +12,6 @@ use Rattle.ob_tables.specs.Engines.{AreTables, others_of}
 use Rattle.ob_tables.specs.declared.engine.Engine.{Engine}
 use Rattle.ob_headline.specs.Bases.{drawing, fresh, start}
 use Rattle.ob_seal.specs.KeySet.{KeySet}
-use Rattle.ob_seal.specs.Sealed.{sealed}
 use Rattle.ob_shell.proofs.CalmLemmas.{first_calm}
 use Rattle.ob_shell.proofs.LastingLemmas.{none_sealed}
 use Rattle.ob_shell.proofs.LeafLemmas.{no_indexes}

@@ -1,13 +1,10 @@
 -- A store gives up the regions that aren't live: an engine belongs to it as before, and what it holds stays.
-use Rattle.std.specs.Prelude.{IsTrue, slice_get}
-use Rattle.std.proofs.Common.{◌≡◌, ◌+◌, ℕ, Bool, List, [], Option, Some, None, inl, inr, map, refl, sym, ◌∙◌, ap, subst, arith, append-nil}
-use Rattle.std.proofs.lemmas.Option.{slice_get-map}
-use Rattle.std.specs.Option.{option_map}
+use Rattle.std.specs.Prelude.{slice_get}
+use Rattle.std.proofs.Common.{◌≡◌, ◌+◌, ℕ, Bool, List, [], Some, None, inl, inr, refl, sym, ◌∙◌, ap, subst, arith, append-nil}
 use Rattle.ob_base.specs.Accesses.{AllBelow, makes, writes}
 use Rattle.ob_base.specs.declared.access.Access.{Access}
 use Rattle.ob_base.specs.declared.schema.Table.{Table}
 use Rattle.ob_mean.specs.Verdict.{Tables}
-use Rattle.ob_reopen.specs.declared.listed.Listed.{Listed}
 use Rattle.ob_shell.specs.Leaving.{IsRead}
 use Rattle.ob_store.specs.Calls.{Sweeps}
 use Rattle.ob_store.specs.Runs.{Later}
@@ -15,7 +12,7 @@ use Rattle.ob_store.specs.State.{StoreState}
 use Rattle.ob_tables.proofs.HeldLemmas.{held_kept}
 use Rattle.ob_tables.proofs.TableLemmas.{tables_kept}
 use Rattle.ob_tables.specs.Agreeing.{Agrees, world_of}
-use Rattle.ob_tables.specs.Engines.{IsTableRegion, others_of}
+use Rattle.ob_tables.specs.Engines.{others_of}
 use Rattle.ob_tables.specs.Telling.{Represents}
 use Rattle.ob_tables.specs.declared.engine.Engine.{Engine}
 use Rattle.ob_vault.proofs.Runs.{shapes_none}

@@ -1,5 +1,5 @@
 -- The engine of a run whose tables are saved: how it is had, and what is done with it; all but the last line.
-use Rattle.std.specs.Prelude.{ℕ, ◌≡◌, ◌⊎◌, ◌≤◌, ⊤, Bool, true, false, List, [], length, Option, Some, None, Result, Ok, Err, IfErr, IfOk}
+use Rattle.std.specs.Prelude.{ℕ, ◌≡◌, ◌⊎◌, ◌≤◌, ⊤, Bool, true, false, List, [], length, Option, Some, None, Result, Ok, IfErr, IfOk}
 use Rattle.std.specs.Io.KnownBytes.{Consumes}
 use Rattle.ob_base.specs.Counts.{Rises}
 use Rattle.ob_base.specs.Publics.{first_public}

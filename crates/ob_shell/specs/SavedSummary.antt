@@ -1,5 +1,5 @@
 -- A run that may save its tables, by what its words ask for; and one that saves them and serves the generated text.
-use Rattle.std.specs.Prelude.{ℕ, ◌≡◌, Bool, true, false, List, Option, Some, None}
+use Rattle.std.specs.Prelude.{ℕ, Bool, true, false, List, Option, Some, None}
 use Rattle.ob_base.specs.declared.config.Config.{Config}
 use Rattle.ob_gen.specs.declared.tally.Tally.{Tally}
 use Rattle.ob_headline.specs.SavedHeadline.{SavedHeadline}
