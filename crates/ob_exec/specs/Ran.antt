@@ -80,7 +80,8 @@ ServedCause p outline (Err (Tampered region place)) old new =
 ServedCause p outline (Err SinkFault) old new = RunCause (Err SinkFault) old new
 ServedCause p outline (Err NoMemory) old new = RunCause (Err NoMemory) old new
 ServedCause p outline (Err StoreFault) old new =
-    (Rises old.store.faults new.store.faults ⊎ LacksNumber p outline old new) × (Calm old → Calm new)
+    (Rises old.store.faults new.store.faults ⊎ LacksNumber p outline old new)
+    × (Calm old → Calm new)
 ServedCause p outline (Err StashFull) old new = RunCause (Err StashFull) old new
 ServedCause p outline (Err KeeperFault) old new =
     (new.store.faults ≡ old.store.faults) × (Calm old → Calm new)

@@ -53,7 +53,7 @@ pub trait Behind<S: BlockStore> {
 }
 
 /// No tables are saved: of an engine whose settings don't say so.
-#[derive(Clone, Copy, Debug, PartialEq, Eq)]
+#[derive(Clone, Copy, Debug)]
 pub struct Unsaved;
 
 impl<S: BlockStore> Behind<S> for Unsaved {
