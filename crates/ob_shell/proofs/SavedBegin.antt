@@ -263,7 +263,7 @@ module _ {R : Type 0} (state : R → RevState) (config : Config) (secret salt : 
     pub engages_opened : EngagesSaved state base config keys e s2 keeper
     engages_opened = record {
       stands = stands_opened;
-      ready = record { agrees = agrees_swept state e s1 s2 sweeps engine.agrees; lives = engine.alive; settled = reopened_by.replaced; saves = may_go_on };
+      ready = record { agrees = agrees_swept state e s1 s2 sweeps engine.agrees; lives = engine.alive; settled = reopened_by.opened.settled; saves = may_go_on };
       high = let one = engine.high in omega (arith, one);
     }
 

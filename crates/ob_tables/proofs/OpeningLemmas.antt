@@ -579,8 +579,8 @@ module _ {R : Type 0} (state : R → RevState) (config : Config) (keys : KeySet)
         pub did : Did (opening_script closing listed) s t
         did = did_open state config keys closing marked s s1 fresh honest room v0 ready started keyed none v1 s2 listed reads e.vault t value reopens
 
-        abbrev pub opened_as : IsOpened state config keys closing e s t
-        opened_as = record {
+        abbrev pub opened_as : e.replaced ≡ None → IsOpened state config keys closing e s t
+        opened_as settled = record {
           listed = listed;
           catalogue = reads.catalogue;
           agrees = agrees;
@@ -590,6 +590,7 @@ module _ {R : Type 0} (state : R → RevState) (config : Config) (keys : KeySet)
           unindexed = unindexed;
           start = start_last state config keys closing marked s s1 fresh honest room v0 ready started keyed none v1 s2 listed reads e.vault t value reopens;
           from_closing = from_is;
+          settled = settled;
           alive = alive;
           high = high_is;
           rows = rows_is;
@@ -598,10 +599,10 @@ module _ {R : Type 0} (state : R → RevState) (config : Config) (keys : KeySet)
           earlier = none_above;
         }
 
-        pub opens_all : OpensEngine state config keys closing (Ok e) s t
-        opens_all =
+        pub opens_all : e.replaced ≡ None → OpensEngine state config keys closing (Ok e) s t
+        opens_all settled =
             record {
-              ok = opened_as;
+              ok = opened_as settled;
               err = tt;
               faults = let same = did.faults in omega (arith, same);
               tells = reopens.opens.ok.stays.tells ∙ reads.opens.ok.stays.tells ∙ room.tells;

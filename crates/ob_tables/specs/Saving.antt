@@ -155,7 +155,6 @@ pub record IsOpenedBy {R : Type 0} (state : R → RevState) (config : Config) (s
   -- what rests there under the secret is what was listed
   pub lists : IsTrue s.tells → t.lie ≡ None → (tables : Tables)
       → (by : RestsBy secret closed closing s.kept tables) → by.rests.listed ≡ opened.listed
-  pub replaced : replaced_of e ≡ None
 
 -- it was opened, or why not
 pub record OpensSaved {R : Type 0} (state : R → RevState) (config : Config) (secret salt : List ℕ)
