@@ -66,17 +66,18 @@ module _ {Takes : Type 0} (settings : Option Config) (config : Config) (takes : 
     leaves : (held : Mark) → k0.held ≡ Some held → LeavesSaved ran.secret ran.salt ran.base ran.keys (Ran ran.result) r.shown.story ran.opened mid.store ran.begun k1
     rose : ended.quiet ≡ true → SinksRose old.faults (record mid.faults { out = out })
 
+  abbrev Shown : RanSession config tracing ended old mid k0 k1 → ℕ → Type 0
+  Shown ran n =
+      RunShown ended.tally (sink_of tracing ran.traced mid.traced) ran.base (λ taken. ran.keys) old.left mid.left mid.gave old.written mid.written ran.opened mid.store n (Ran ran.result) [] (OutFailed ended.quiet old.faults.out mid.faults.out)
+
   session_told : (ran : RanSession config tracing ended old mid k0 k1) → SessionTold ran w2 out2
   unfolding reported_line reported_quiet shown_line
   session_told ran = go ended.quiet refl
     where
-      abbrev Shown : ℕ → Type 0
-      Shown n = RunShown ended.tally (sink_of tracing ran.traced mid.traced) ran.base (λ taken. ran.keys) old.left mid.left mid.gave old.written mid.written ran.opened mid.store n (Ran ran.result) [] (OutFailed ended.quiet old.faults.out mid.faults.out)
-
-      at_high : (x : Shown report.high) × (secret_of (first_line x.taken) ≡ Some ran.secret)
+      at_high : (x : Shown ran report.high) × (secret_of (first_line x.taken) ≡ Some ran.secret)
           × ((held : Mark) → k0.held ≡ Some held → LeavesSaved ran.secret ran.salt ran.base ran.keys (Ran ran.result) x.story ran.opened mid.store ran.begun k1)
       at_high = subst
-          (λ (n : ℕ). (x : Shown n) × (secret_of (first_line x.taken) ≡ Some ran.secret)
+          (λ (n : ℕ). (x : Shown ran n) × (secret_of (first_line x.taken) ≡ Some ran.secret)
           × ((held : Mark) → k0.held ≡ Some held → LeavesSaved ran.secret ran.salt ran.base ran.keys (Ran ran.result) x.story ran.opened mid.store ran.begun k1)) (sym high) (ran.shown, ran.keyed, ran.leaves)
 
       words : EndingWords (Ran ran.result) Takes
