@@ -186,30 +186,30 @@ module _ {R : Type 0} (state : R → RevState) (config : Config) (secret salt : 
             -- all is open
             module _ (e : Engine R) (reopens : ReopensTables closing listed (Ok value) (at state v2 s2) (at state e.vault t))
                 (public_is : e.public ≡ opened_public config closing listed) (from_is : e.closing ≡ Some closing.region) (unindexed : e.indexes.items ≡ []) (draws_are : e.draws ≡ record { key = key_of (draw_seed_of keys); next = 0 }) (alive : e.ended ≡ false)
-                (free : IsFree e.public e.room) (high_is : e.room.high ≡ 1) (rows_is : e.room.rows ≡ config.buffer) where
+                (free : IsFree e.public e.room) (high_is : e.room.high ≡ 1) (rows_is : e.room.rows ≡ config.buffer) (settled_is : e.replaced ≡ None) where
               abbrev opened : IsOpened state config keys closing e s t
               opened =
                   opened_as state config keys closing marked pack_is is_config s s1 fresh honest empty bounded room from_first ready_first started refl none v2 s2 listed reads_first value t e reopens
-                  public_is from_is unindexed draws_are alive free high_is rows_is
+                  public_is from_is unindexed draws_are alive free high_is rows_is settled_is
 
               all_open : OpensEngine state config keys closing (Ok e) s t
               all_open =
                   opens_all state config keys closing marked pack_is is_config s s1 fresh honest empty bounded room from_first ready_first started refl none v2 s2 listed reads_first value t e reopens
-                  public_is from_is unindexed draws_are alive free high_is rows_is
+                  public_is from_is unindexed draws_are alive free high_is rows_is settled_is
 
               rests_here : IsTrue s.tells → t.lie ≡ None → (tables : Tables) → RestsBy secret closed closing s.kept tables → Rests keys closing s.kept tables
               rests_here tells nolie tables rests =
                   subst (λ (l : List Listed). Rests (reopening_keys secret salt closed closing l) closing s.kept tables) (sym (same_list tells (sym reopens.lie ∙ nolie) tables rests))
                   (rests_under secret salt closed closing s.kept tables rests)
 
-              pub saved_open : e.replaced ≡ None → OpensSaved state config secret salt closed closing (Ok e) s t
-              saved_open none_replaced = record {
+              pub saved_open : OpensSaved state config secret salt closed closing (Ok e) s t
+              saved_open = record {
                 ok = record {
                   keys = keys;
                   opened = opened;
                   keyed = refl;
                   lists = λ tells nolie tables by. sym (same_list tells (sym reopens.lie ∙ nolie) tables by);
-                  replaced = none_replaced;
+                  replaced = settled_is;
                 };
                 err = tt;
                 faults = all_open.faults;

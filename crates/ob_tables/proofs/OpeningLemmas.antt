@@ -522,7 +522,7 @@ module _ {R : Type 0} (state : R → RevState) (config : Config) (keys : KeySet)
       -- all is open
       module _ (e : Engine R) (reopens : ReopensTables closing listed (Ok value) (at state v1 s2) (at state e.vault t))
           (public_is : e.public ≡ opened_public config closing listed) (from_is : e.closing ≡ Some closing.region) (unindexed : e.indexes.items ≡ []) (draws_are : e.draws ≡ record { key = key_of (draw_seed_of keys); next = 0 }) (alive : e.ended ≡ false)
-          (free : IsFree e.public e.room) (high_is : e.room.high ≡ 1) (rows_is : e.room.rows ≡ config.buffer) where
+          (free : IsFree e.public e.room) (high_is : e.room.high ≡ 1) (rows_is : e.room.rows ≡ config.buffer) (settled_is : e.replaced ≡ None) where
         tables_are : AreTables e.public.tables (others_of e.closing e.indexes.items) e.indexes.items e.public.pack (world_of state e t)
         tables_are =
             subst (λ (xs : List Index). AreTables e.public.tables (others_of e.closing xs) xs e.public.pack (world_of state e t)) (sym unindexed)
@@ -591,6 +591,7 @@ module _ {R : Type 0} (state : R → RevState) (config : Config) (keys : KeySet)
           start = start_last state config keys closing marked s s1 fresh honest room v0 ready started keyed none v1 s2 listed reads e.vault t value reopens;
           from_closing = from_is;
           alive = alive;
+          settled = settled_is;
           high = high_is;
           rows = rows_is;
           did = did;

@@ -3,7 +3,7 @@ use Rattle.std.specs.Prelude.{◌≡◌, ◌⊎◌, ◌<◌, ◌≤◌, ℕ, Boo
 use Rattle.ob_base.specs.declared.config.Config.{Config}
 use Rattle.ob_base.specs.declared.mark.Mark.{Mark}
 use Rattle.ob_base.specs.declared.mark.Mark.TheVariants.{Fresh, InUse, Closed, Begun, Saved}
-use Rattle.ob_tables.specs.Agreeing.{Agrees, AreDraws, engine_keys, engine_start, first_draws, has_ended, high_of, indexes_of, opened_from, public_of, rows_of, world_of}
+use Rattle.ob_tables.specs.Agreeing.{Agrees, AreDraws, engine_keys, engine_start, first_draws, has_ended, high_of, indexes_of, opened_from, public_of, replaced_of, rows_of, world_of}
 use Rattle.ob_reopen.specs.Resting.{AcceptsClosings, Rests}
 use Rattle.ob_select.specs.Selecting.{AcceptsRows}
 use Rattle.ob_tables.specs.Telling.{Represents}
@@ -45,6 +45,7 @@ pub record IsOpened {R : Type 0} (state : R → RevState) (config : Config) (key
   pub start : engine_start e ≡ opened_start closing listed
   pub from_closing : opened_from e ≡ Some closing.region
   pub alive : has_ended e ≡ false
+  pub settled : replaced_of e ≡ None
   pub high : high_of e ≡ 1
   pub rows : rows_of e ≡ config.buffer
   pub did : Did (opening_script closing listed) s t
