@@ -1,7 +1,6 @@
 -- What the engine asks of a statement is a first part of all that is asked of it.
 use Rattle.std.specs.Prelude.{if◌then◌else◌, is_some}
 use Rattle.std.proofs.Common.{◌≡◌, ℕ, zero, suc, Bool, true, false, List, [], ◌∷◌, ◌++◌, Option, Some, None, take, refl, sym, ◌∙◌, ap, subst, append-nil, append_assoc}
-use Rattle.ob_base.specs.Stored.{headings}
 use Rattle.ob_base.specs.declared.access.Access.{Access}
 use Rattle.ob_base.specs.declared.access.Access.TheVariants.{Read}
 use Rattle.ob_base.specs.declared.config.Public.{Public}
