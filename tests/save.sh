@@ -17,7 +17,7 @@ work=$(mktemp -d)
 trap 'rm -rf "$work"' EXIT
 "$top/bench/build.sh" oblidb
 
-python3 - "${OBLIDB:-$top/crates/oblidb/out/oblidb}" "$work" <<'PY'
+python3 - "$top/crates/oblidb/out/oblidb" "$work" <<'PY'
 import collections, contextlib, itertools, os, re, resource, shlex, shutil, signal, subprocess, sys
 
 program, work = sys.argv[1], os.path.realpath(sys.argv[2])
