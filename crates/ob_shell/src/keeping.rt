@@ -369,7 +369,11 @@ pub(crate) fn close_kept<O: Sink>(ended: KeptEnded, out: &mut O) -> Report
 }
 
 // Writes what is written of a run over the generated text: its summary, or its last line.
-pub(crate) fn conclude_kept<O: Sink, S: BlockStore>(ended: KeptEnded, store: &S, out: &mut O) -> Report
+pub(crate) fn conclude_kept<O: Sink, S: BlockStore>(
+    ended: KeptEnded,
+    store: &S,
+    out: &mut O,
+) -> Report
     ensures high { result.high ≡ ended.high }
     ensures concluded { KeptConcludedBy ended.ending ended.quiet ended.tally
         (S.state store.now).asked (O.written out.old) (O.written out.new) (O.faults out.old)
