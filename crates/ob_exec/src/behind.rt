@@ -1,5 +1,5 @@
 //! What becomes of the tables of an engine behind a statement that changed them: they are saved, or they aren't.
-ghost use Rattle.std.specs.Prelude.{◌≡◌, ◌≢◌, ◌<◌, ◌+◌, ◌^◌, ⊤, ℕ, None, false};
+ghost use Rattle.std.specs.Prelude.{◌≡◌, ◌≢◌, ◌<◌, ◌+◌, ◌^◌, ⊤, ℕ, None, false, true};
 ghost use Rattle.ob_base.specs.Stored.{headings_of};
 ghost use Rattle.ob_exec.specs.Saving.{SavesTables, saving_stop};
 ghost use Rattle.ob_mean.specs.Flats.{AreFlat};
@@ -45,10 +45,11 @@ pub trait Behind<S: BlockStore> {
         requires few { count_of engine.old (S.state store.old) < 2 ^ 63 + 2 ^ 59 }
         requires salted { (pair_of (engine_keys engine.old) (public_of engine.old).next_region).salt
             ≢ None }
-        requires saves { Saves self.old }
-        ensures saves { SavesTables R.state left result engine.old (S.state store.old)
-            engine.new (S.state store.new) (state self.old) (state self.new) }
-        ensures stays { Saves self.new }
+        requires saves { (public_of engine.old).save ≡ true → Saves self.old }
+        ensures saves { (public_of engine.old).save ≡ true → SavesTables R.state left result
+            engine.old (S.state store.old) engine.new (S.state store.new)
+            (state self.old) (state self.new) }
+        ensures stays { Saves self.old → Saves self.new }
         ensures same { name self.new ≡ name self.old };
 }
 
@@ -69,7 +70,7 @@ impl<S: BlockStore> Behind<S> for Unsaved {
         _store: &mut S,
         _left: Option<u64>,
     ) -> Result<(), RunStop> {
-        unreachable!()
+        Ok(())
     }
 }
 
