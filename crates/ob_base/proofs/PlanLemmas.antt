@@ -1,0 +1,59 @@
+-- What the planner may choose.
+use Rattle.std.proofs.Common.{◌≡◌, ◌≤◌, ◌≢◌, ℕ, Bool, true, false, nat_le, min, arith, refl, inl, inr}
+use Rattle.std.specs.Prelude.{cond}
+use Rattle.std.proofs.lemmas.Bool.{cases_lt, leb-true, leb-false}
+use Rattle.ob_base.specs.declared.config.Plan.{Plan}
+use Rattle.ob_base.specs.declared.config.Plan.TheVariants.{Small, Large, Continuous, Hash}
+use Rattle.ob_base.specs.Plans.{least}
+
+-- the plan with the least length is Small, Large, or where the rows lie side by side Continuous
+pub by_least : (P : Plan → Type 0) (small continuous large : ℕ) (consecutive : Bool) → P Small → P Large → (consecutive ≡ true → P Continuous)
+    → P (least small continuous large consecutive)
+by_least P small continuous large false a b c = elim (nat_le small large) as (λ x. P (cond x Small Large)) [ true ↦ a | false ↦ b ]
+by_least P small continuous large true a b c =
+    elim (nat_le small (min continuous large)) as (λ x. P (cond x Small (cond (nat_le continuous large) Continuous Large))) [
+      | true ↦ a
+      | false ↦ elim (nat_le continuous large) as (λ x. P (cond x Continuous Large)) [ true ↦ c refl | false ↦ b ]
+    ]
+
+-- no length of a plan that may be taken is less
+Least : (f : Plan → ℕ) → (consecutive : Bool) → Plan → Type 0
+Least f consecutive plan = (f plan ≤ f Small) × (f plan ≤ f Large) × (consecutive ≡ true → f plan ≤ f Continuous)
+
+apart : (f : Plan → ℕ) → Least f false (least (f Small) (f Continuous) (f Large) false)
+unfolding Least
+apart f = go (nat_le (f Small) (f Large)) refl where
+  go : (x : Bool) → nat_le (f Small) (f Large) ≡ x → Least f false (cond x Small Large)
+  unfolding Least
+  go true e = (omega arith, leb-true (f Small) (f Large) e, λ h. absurd (cc h))
+  go false e = (omega (arith, leb-false (f Small) (f Large) e), omega arith, λ h. absurd (cc h))
+
+side_by_side : (f : Plan → ℕ) → Least f true (least (f Small) (f Continuous) (f Large) true)
+unfolding Least
+side_by_side f = go (nat_le (f Small) (min (f Continuous) (f Large))) refl where
+  other : (x : Bool) → nat_le (f Continuous) (f Large) ≡ x → min (f Continuous) (f Large) ≤ f Small → Least f true (cond x Continuous Large)
+  unfolding Least
+  other true e less = let h = leb-true (f Continuous) (f Large) e in (omega (arith, h, less), h, λ _. omega arith)
+  other false e less = let h = leb-false (f Continuous) (f Large) e in (omega (arith, h, less), omega arith, λ _. omega (arith, h))
+
+  go : (x : Bool) → nat_le (f Small) (min (f Continuous) (f Large)) ≡ x → Least f true (cond x Small (cond (nat_le (f Continuous) (f Large)) Continuous Large))
+  unfolding Least
+  go true e = let h = leb-true (f Small) (min (f Continuous) (f Large)) e in (omega arith, omega (arith, h), λ _. omega (arith, h))
+  go false e = other (nat_le (f Continuous) (f Large)) refl (let h = leb-false (f Small) (min (f Continuous) (f Large)) e in omega (arith, h))
+
+-- by the lengths of all plans, no plan that may be taken is shorter than the one with the least of three, where Hash is not
+-- shorter than Large
+pub least_shortest : (f : Plan → ℕ) (consecutive : Bool) (plan : Plan) → f Large ≤ f Hash → (plan ≡ Continuous → consecutive ≡ true)
+    → f (least (f Small) (f Continuous) (f Large) consecutive) ≤ f plan
+unfolding Least
+least_shortest f consecutive plan longer fits = go plan fits where
+  all : (c : Bool) → Least f c (least (f Small) (f Continuous) (f Large) c)
+  all false = apart f
+  all true = side_by_side f
+
+  go : (plan : Plan) → (plan ≡ Continuous → consecutive ≡ true) → f (least (f Small) (f Continuous) (f Large) consecutive) ≤ f plan
+  unfolding Least
+  go Small fits = (all consecutive).0
+  go Large fits = (all consecutive).1
+  go Continuous fits = (all consecutive).2 (fits refl)
+  go Hash fits = let h = (all consecutive).1 in omega (arith, h, longer)
