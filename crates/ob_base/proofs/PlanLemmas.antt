@@ -1,7 +1,7 @@
 -- What the planner may choose.
-use Rattle.std.proofs.Common.{◌≡◌, ◌≤◌, ◌≢◌, ℕ, Bool, true, false, nat_le, min, arith, refl, inl, inr}
+use Rattle.std.proofs.Common.{◌≡◌, ◌≤◌, ℕ, Bool, true, false, nat_le, min, arith, refl}
 use Rattle.std.specs.Prelude.{cond}
-use Rattle.std.proofs.lemmas.Bool.{cases_lt, leb-true, leb-false}
+use Rattle.std.proofs.lemmas.Bool.{leb-true, leb-false}
 use Rattle.ob_base.specs.declared.config.Plan.{Plan}
 use Rattle.ob_base.specs.declared.config.Plan.TheVariants.{Small, Large, Continuous, Hash}
 use Rattle.ob_base.specs.Plans.{least}
@@ -17,27 +17,22 @@ by_least P small continuous large true a b c =
     ]
 
 -- no length of a plan that may be taken is less
-Least : (f : Plan → ℕ) → (consecutive : Bool) → Plan → Type 0
+abbrev Least : (f : Plan → ℕ) → (consecutive : Bool) → Plan → Type 0
 Least f consecutive plan = (f plan ≤ f Small) × (f plan ≤ f Large) × (consecutive ≡ true → f plan ≤ f Continuous)
 
 apart : (f : Plan → ℕ) → Least f false (least (f Small) (f Continuous) (f Large) false)
-unfolding Least
 apart f = go (nat_le (f Small) (f Large)) refl where
   go : (x : Bool) → nat_le (f Small) (f Large) ≡ x → Least f false (cond x Small Large)
-  unfolding Least
   go true e = (omega arith, leb-true (f Small) (f Large) e, λ h. absurd (cc h))
   go false e = (omega (arith, leb-false (f Small) (f Large) e), omega arith, λ h. absurd (cc h))
 
 side_by_side : (f : Plan → ℕ) → Least f true (least (f Small) (f Continuous) (f Large) true)
-unfolding Least
 side_by_side f = go (nat_le (f Small) (min (f Continuous) (f Large))) refl where
   other : (x : Bool) → nat_le (f Continuous) (f Large) ≡ x → min (f Continuous) (f Large) ≤ f Small → Least f true (cond x Continuous Large)
-  unfolding Least
   other true e less = let h = leb-true (f Continuous) (f Large) e in (omega (arith, h, less), h, λ _. omega arith)
   other false e less = let h = leb-false (f Continuous) (f Large) e in (omega (arith, h, less), omega arith, λ _. omega (arith, h))
 
   go : (x : Bool) → nat_le (f Small) (min (f Continuous) (f Large)) ≡ x → Least f true (cond x Small (cond (nat_le (f Continuous) (f Large)) Continuous Large))
-  unfolding Least
   go true e = let h = leb-true (f Small) (min (f Continuous) (f Large)) e in (omega arith, omega (arith, h), λ _. omega (arith, h))
   go false e = other (nat_le (f Continuous) (f Large)) refl (let h = leb-false (f Small) (min (f Continuous) (f Large)) e in omega (arith, h))
 
@@ -45,14 +40,12 @@ side_by_side f = go (nat_le (f Small) (min (f Continuous) (f Large))) refl where
 -- shorter than Large
 pub least_shortest : (f : Plan → ℕ) (consecutive : Bool) (plan : Plan) → f Large ≤ f Hash → (plan ≡ Continuous → consecutive ≡ true)
     → f (least (f Small) (f Continuous) (f Large) consecutive) ≤ f plan
-unfolding Least
 least_shortest f consecutive plan longer fits = go plan fits where
   all : (c : Bool) → Least f c (least (f Small) (f Continuous) (f Large) c)
   all false = apart f
   all true = side_by_side f
 
   go : (plan : Plan) → (plan ≡ Continuous → consecutive ≡ true) → f (least (f Small) (f Continuous) (f Large) consecutive) ≤ f plan
-  unfolding Least
   go Small fits = (all consecutive).0
   go Large fits = (all consecutive).1
   go Continuous fits = (all consecutive).2 (fits refl)
