@@ -4,6 +4,7 @@ use Rattle.std.specs.Option.{option_map_or}
 use Rattle.ob_base.specs.declared.config.Public.{Public}
 use Rattle.ob_base.specs.declared.config.Plan.{Plan}
 use Rattle.ob_base.specs.declared.config.Plan.TheVariants.{Small, Continuous, Hash}
+use Rattle.ob_base.specs.declared.config.Planner.TheVariants.{Auto, Forced}
 use Rattle.ob_base.specs.declared.seen.Seen.{Seen}
 use Rattle.ob_base.specs.declared.seen.End.{End}
 use Rattle.ob_base.specs.declared.seen.End.TheVariants.{Static, Whole, AfterCount, Cut}
@@ -14,7 +15,6 @@ use Rattle.ob_base.specs.declared.skeleton.Skeleton.{Skeleton}
 use Rattle.ob_base.specs.declared.skeleton.Skeleton.TheVariants.{Insert as InsertSkeleton, Update as UpdateSkeleton, Delete as DeleteSkeleton, Rows as RowsSkeleton}
 use Rattle.ob_base.specs.Indexes.{height_of}
 use Rattle.ob_base.specs.Joins.{joined_slots}
-use Rattle.ob_base.specs.Limits.{buffered}
 use Rattle.ob_base.specs.Plans.{choose}
 use Rattle.ob_base.specs.Stored.{heading_at, headings_of}
 use Rattle.ob_script.specs.Script.{whole_script}
@@ -56,7 +56,7 @@ pub record IsCount (p : Public) (stmt : Stmt) (k : ℕ) : Type 0 where
 -- the planner's choice for at least one row
 pub record IsPlan (p : Public) (stmt : Stmt) (k : ℕ) (plan : Plan) : Type 0 where
   pub some : 1 ≤ k
-  pub chosen : (c : Bool) × (plan ≡ choose p.plan (buffered p.pack p.buffer) (statement_slots p stmt) k c)
+  pub chosen : (c : Bool) × (plan ≡ choose p.planner p.pack p.buffer (statement_slots p stmt) k c)
 
 -- it came to its end, or was cut off after so many accesses at least
 abbrev pub EndsFrom : ℕ → End → Type 0
@@ -76,8 +76,8 @@ EndsUncounted p stmt (Cut n) = ⊤
 abbrev pub EndsUnplanned : Public → (k m : ℕ) → End → Type 0
 EndsUnplanned p k m Static = ⊥
 EndsUnplanned p k m Whole = k ≡ 0
-EndsUnplanned p k m AfterCount = (1 ≤ k) × (p.plan ≡ Some Continuous)
-EndsUnplanned p k m (Cut n) = (m ≤ n) × ((k ≡ 0) ⊎ (p.plan ≡ Some Continuous))
+EndsUnplanned p k m AfterCount = (1 ≤ k) × (p.planner ≡ Forced Continuous)
+EndsUnplanned p k m (Cut n) = (m ≤ n) × ((k ≡ 0) ⊎ (p.planner ≡ Forced Continuous))
 
 -- what may be held together of k, the plan and the one after it: nothing, k alone, also where it is refused for it,
 -- k and a plan once the count has ended, or behind a Hash that isn't forced, once it has ended, Small
@@ -86,7 +86,7 @@ Holds p stmt seen None None None = EndsUncounted p stmt seen.end
 Holds p stmt seen (Some k) None None = IsCount p stmt k × EndsUnplanned p k (count_end p (skeleton stmt)) seen.end
 Holds p stmt seen (Some k) (Some plan) None = IsCount p stmt k × IsPlan p stmt k plan × EndsFrom (count_end p (skeleton stmt)) seen.end
 Holds p stmt seen (Some k) (Some Hash) (Some Small) =
-    IsCount p stmt k × IsPlan p stmt k Hash × EndsFrom (walk_end p (skeleton stmt) seen) seen.end × (p.plan ≡ None)
+    IsCount p stmt k × IsPlan p stmt k Hash × EndsFrom (walk_end p (skeleton stmt) seen) seen.end × (p.planner ≡ Auto)
 Holds p stmt seen _ _ _ = ⊥
 
 -- if it was cut off, that was after so many accesses at most

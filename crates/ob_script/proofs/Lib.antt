@@ -10,3 +10,4 @@ pub mod Numbers
 pub mod Few
 pub mod Makes
 pub mod SavedParts
+pub mod Shortest

@@ -8,6 +8,7 @@ use Rattle.ob_base.specs.Lists.{each}
 use Rattle.ob_base.specs.declared.config.Public.{Public}
 use Rattle.ob_base.specs.declared.config.Plan.{Plan}
 use Rattle.ob_base.specs.declared.config.Plan.TheVariants.{Small, Large, Continuous, Hash}
+use Rattle.ob_base.specs.declared.config.Planner.TheVariants.{Auto}
 use Rattle.ob_base.specs.declared.schema.Shape.TheVariants.{Flat, Indexed}
 use Rattle.ob_base.specs.declared.seen.End.TheVariants.{Whole, AfterCount, Cut}
 use Rattle.ob_base.specs.declared.skeleton.NewKind.TheVariants.{Int as NewInt}
@@ -20,7 +21,7 @@ use Rattle.ob_script.specs.Script.{script}
 use Rattle.ob_script.specs.Trace.{trace, after_all, Served}
 
 abbrev start_with : (pack buffer depth : ℕ) → Public
-start_with pack buffer depth = record { tables = []; next_region = 1; buffer = buffer; depth = depth; pack = pack; plan = None; pad = None; stash = 32; keep = false; save = false; closing = None }
+start_with pack buffer depth = record { tables = []; next_region = 1; buffer = buffer; depth = depth; pack = pack; planner = Auto; pad = None; stash = 32; keep = false; save = false; closing = None }
 
 abbrev column : List ℕ → ℕ → NewColumn
 column name keys = record { name = name; kind = NewInt; keys = keys }

@@ -17,7 +17,7 @@ use Rattle.ob_base.specs.declared.skeleton.Skeleton.TheVariants.{Create, Insert,
 use Rattle.ob_base.specs.Accesses.{discard_at, drop_script}
 use Rattle.ob_base.specs.Indexes.{by_shape, height_of}
 use Rattle.ob_base.specs.Joins.{joined_slots}
-use Rattle.ob_base.specs.Limits.{buffered, buffered_blocks}
+use Rattle.ob_base.specs.Limits.{buffered_blocks}
 use Rattle.ob_base.specs.Numbers.{blocks_for}
 use Rattle.ob_base.specs.Plans.{choose_padded, padded_rows}
 use Rattle.ob_base.specs.Schemas.{width, columns_of}
@@ -79,7 +79,7 @@ after_count p seen (Some k) g t ending = result_part p seen.plan k g t ++ (resul
 -- a padded result, whatever is selected
 abbrev pub padded_part : Public → (pad g : ℕ) → Extent → List Access
 padded_part p pad g t =
-    let q = padded_rows pad t.slots in result_part p (Some (choose_padded p.plan (buffered p.pack p.buffer) q)) q g t
+    let q = padded_rows pad t.slots in result_part p (Some (choose_padded p.planner p.pack p.buffer t.slots q)) q g t
 
 -- what follows the count: where results are padded, one that is and what ends the statement
 abbrev pub behind_count : Option ℕ → Public → Seen → (g : ℕ) → Extent → (ending : List Access) → List Access

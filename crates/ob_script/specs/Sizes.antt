@@ -35,7 +35,7 @@ pub record IsPublic (p : Public) : Type 0 where
   pub depth_some : 1 ≤ p.depth
   pub depth_few : p.depth ≤ 8
   pub next : p.next_region ≤ 2 ^ 63 + 2 ^ 60
-  pub padded : IsPadded p.pad p.plan
+  pub padded : IsPadded p.pad p.planner
   pub stash : p.stash ≤ 1024
   pub tables : All IsTable p.tables
   -- where tables are saved a closing lists them
