@@ -1,5 +1,5 @@
 -- What the planner may choose.
-use Rattle.std.proofs.Common.{◌≡◌, ◌≤◌, ℕ, Bool, true, false, nat_le, min, arith, refl}
+use Rattle.std.proofs.Common.{◌≡◌, ◌≢◌, ◌≤◌, ℕ, Bool, true, false, nat_le, min, arith, refl}
 use Rattle.std.specs.Prelude.{cond}
 use Rattle.std.proofs.lemmas.Bool.{leb-true, leb-false}
 use Rattle.ob_base.specs.declared.config.Plan.{Plan}
@@ -50,3 +50,11 @@ least_shortest f consecutive plan longer fits = go plan fits where
   go Large fits = (all consecutive).1
   go Continuous fits = (all consecutive).2 (fits refl)
   go Hash fits = let h = (all consecutive).1 in omega (arith, h, longer)
+
+pub never_hash : (small continuous large : ℕ) (consecutive : Bool) → least small continuous large consecutive ≢ Hash
+never_hash small continuous large consecutive =
+    by_least (λ (plan : Plan). plan ≢ Hash) small continuous large consecutive (λ h. absurd (cc h)) (λ h. absurd (cc h)) (λ is h. absurd (cc h))
+
+pub not_apart : (small continuous large : ℕ) (consecutive : Bool) → least small continuous large consecutive ≡ Continuous → consecutive ≡ true
+not_apart small continuous large consecutive =
+    by_least (λ (plan : Plan). plan ≡ Continuous → consecutive ≡ true) small continuous large consecutive (λ h. absurd (cc h)) (λ h. absurd (cc h)) (λ is h. is)

@@ -3,8 +3,9 @@ use Rattle.std.proofs.Common.{◌≡◌, ◌⊎◌, inl, inr, ◌≤◌, ◌<◌
 use Rattle.std.proofs.lemmas.Bool.Decides.{nat_tests}
 use Rattle.std.specs.Prelude.{Option, Some, None, Ok, Err, IsSome, is_some, nat_lt, if◌then◌else◌}
 use Rattle.std.specs.Option.{option_map, option_or}
-use Rattle.ob_base.specs.declared.config.Plan.{Plan}
 use Rattle.ob_base.specs.declared.config.Plan.TheVariants.{Small, Large, Continuous, Hash}
+use Rattle.ob_base.specs.declared.config.Planner.{Planner}
+use Rattle.ob_base.specs.declared.config.Planner.TheVariants.{Auto, Cheapest, Forced}
 use Rattle.ob_base.specs.declared.config.Public.{Public}
 use Rattle.ob_base.specs.declared.refusal.Refusal.{Refusal}
 use Rattle.ob_base.specs.declared.refusal.Refusal.TheVariants.{NotConsecutive, Overflow, PadPassed}
@@ -40,12 +41,13 @@ consecutive_by : (b : Bool) (r : Refusal) → cond b None (Some NotConsecutive) 
 consecutive_by true r h = absurd (cc h)
 consecutive_by false r h = cc h
 
-forced_by_plan : (p : Public) (forced : Option Plan) (places : List ℕ) (r : Refusal) → p.plan ≡ forced → forced_refusal p forced places ≡ Some r → IsByPlan p (Refused r)
-forced_by_plan p None places r is h = absurd (cc h)
-forced_by_plan p (Some Small) places r is h = absurd (cc h)
-forced_by_plan p (Some Large) places r is h = absurd (cc h)
-forced_by_plan p (Some Continuous) places r is h = subst (λ q. IsByPlan p (Refused q)) (consecutive_by (is_consecutive places) r h) is
-forced_by_plan p (Some Hash) places r is h = go (first_unplaced p places) h
+forced_by_plan : (p : Public) (planner : Planner) (places : List ℕ) (r : Refusal) → p.planner ≡ planner → forced_refusal p planner places ≡ Some r → IsByPlan p (Refused r)
+forced_by_plan p Auto places r is h = absurd (cc h)
+forced_by_plan p Cheapest places r is h = absurd (cc h)
+forced_by_plan p (Forced Small) places r is h = absurd (cc h)
+forced_by_plan p (Forced Large) places r is h = absurd (cc h)
+forced_by_plan p (Forced Continuous) places r is h = subst (λ q. IsByPlan p (Refused q)) (consecutive_by (is_consecutive places) r h) is
+forced_by_plan p (Forced Hash) places r is h = go (first_unplaced p places) h
   where
     go : (left : Option ℕ) → option_map Overflow left ≡ Some r → IsByPlan p (Refused r)
     go None h = absurd (cc h)
@@ -57,7 +59,7 @@ padded_by false r h = absurd (cc h)
 
 by_plan : (p : Public) (pad : Option ℕ) (places : List ℕ) (r : Refusal) → p.pad ≡ pad → refusal_by pad p places ≡ Some r → IsByPlan p (Refused r)
 by_plan p None [] r is h = absurd (cc h)
-by_plan p None (i ∷ places) r is h = forced_by_plan p p.plan (i ∷ places) r refl h
+by_plan p None (i ∷ places) r is h = forced_by_plan p p.planner (i ∷ places) r refl h
 by_plan p (Some pad) places r is h =
     subst (λ q. IsByPlan p (Refused q)) (padded_by (nat_lt pad (length places)) r h) (subst (λ (o : Option ℕ). IsSome o) (sym is) refl)
 
@@ -122,12 +124,12 @@ asked_more s (Err at ∷ texts) bs rooms = asked_more s texts (rest_of bs) rooms
 -- of two lots of settings that are the same but for tables and regions, as behind each statement
 record IsLike (p q : Public) : Type 0 where
   limits : limits_of p ≡ limits_of q
-  plan : p.plan ≡ q.plan
+  planner : p.planner ≡ q.planner
   pad : p.pad ≡ q.pad
 
 module _ (p q : Public) (like : IsLike p q) (db : Database) where
   by_plan_like : (x : Answer) → IsByPlan p x → IsByPlan q x
-  by_plan_like x h = subst (λ (plan : Option Plan). IsForced plan q.pad x) like.plan (subst (λ (pad : Option ℕ). IsForced p.plan pad x) like.pad h)
+  by_plan_like x h = subst (λ (planner : Planner). IsForced planner q.pad x) like.planner (subst (λ (pad : Option ℕ). IsForced p.planner pad x) like.pad h)
 
   answer_like : (broken : Option ℕ) (stmt : Stmt) → bag_answer broken p db stmt ≡ bag_answer broken q db stmt
   answer_like None stmt = λ i. answered (refusal_of false (like.limits i) db stmt) (accepted_answer db stmt)
@@ -152,7 +154,7 @@ bagwise p s db (Ok stmt ∷ texts) bs like place same rooms few =
     let here : s.asked < 2 ^ 63 = omega (arith, few, asked_more s (Ok stmt ∷ texts) bs rooms) in
     let next = subst (SameTables (database (settle_or_cut broken s stmt))) (next_like s.public p like db broken stmt) (next_meant s db stmt here place rooms.0 same broken) in
     let rest = bagwise p (after broken s stmt) (bag_next broken p db stmt) texts (rest_of bs)
-    (record { limits = like.limits; plan = like.plan; pad = like.pad }) (next_in_place s db stmt here place rooms.0 same broken) next rooms.1 few_behind in (
+    (record { limits = like.limits; planner = like.planner; pad = like.pad }) (next_in_place s db stmt here place rooms.0 same broken) next rooms.1 few_behind in (
       subst (λ (xs : List Answer). AnswersMeant p xs (bag_answers p db (Ok stmt ∷ texts) bs)) (sym (answers_room s stmt texts bs rooms.0))
           (meant_like s.public p like db broken stmt (answer_or_cut broken s stmt) (answer_meant s db stmt here place rooms.0 same broken), rest.0),
       subst (λ (t : Session). SameTables (database t.tables) (bags_after p db (Ok stmt ∷ texts) bs)) (sym behind) rest.1,
@@ -163,5 +165,5 @@ bagwise p s db (Err at ∷ texts) bs like place same rooms few =
 
 pub sessions_are_bagwise : SessionsAreBagwise
 sessions_are_bagwise s db texts bs place same rooms few =
-    let both = bagwise s.public s db texts bs (record { limits = refl; plan = refl; pad = refl }) place same rooms few in
+    let both = bagwise s.public s db texts bs (record { limits = refl; planner = refl; pad = refl }) place same rooms few in
     record { answers = both.0; after = both.1 }

@@ -10,6 +10,8 @@ use Rattle.ob_base.specs.declared.access.Access.TheVariants.{Discard}
 use Rattle.ob_base.specs.declared.config.Public.{Public}
 use Rattle.ob_base.specs.declared.config.Plan.{Plan}
 use Rattle.ob_base.specs.declared.config.Plan.TheVariants.{Small, Large, Continuous, Hash}
+use Rattle.ob_base.specs.declared.config.Planner.{Planner}
+use Rattle.ob_base.specs.declared.config.Planner.TheVariants.{Auto, Cheapest, Forced}
 use Rattle.ob_base.specs.declared.seen.Seen.{Seen}
 use Rattle.ob_base.specs.declared.seen.End.{End}
 use Rattle.ob_base.specs.declared.seen.End.TheVariants.{Static, Whole, AfterCount, Cut}
@@ -23,7 +25,8 @@ use Rattle.ob_base.specs.declared.skeleton.Skeleton.TheVariants.{Create as Creat
 use Rattle.ob_base.specs.Accesses.{discard_at}
 use Rattle.ob_base.specs.Limits.{buffered, buffered_blocks}
 use Rattle.ob_base.specs.Lists.{each, places_from}
-use Rattle.ob_base.specs.Plans.{choose}
+use Rattle.ob_base.specs.Plans.{choose, continuous_length, large_length, small_length}
+use Rattle.ob_base.proofs.PlanLemmas.{not_apart}
 use Rattle.ob_base.specs.Stored.{Stored, headings, headings_of, stored_at, stored_regions, heading_at}
 use Rattle.ob_row.specs.Slots.{Slots, is_consecutive, rows, selected}
 use Rattle.ob_row.specs.Results.{joined, joined_chunk, joined_slot, padded, chunk}
@@ -87,23 +90,26 @@ module _ (p : Public) (stmt : Stmt) (rows : is_counted p stmt ≡ true) (unpadde
   no_rows : Started p stmt (counted 0 None None Whole)
   no_rows = record { not_static = λ e. cc; not_cut = λ m. tt; leaf = refl; holds = (count_of 0 (omega arith), refl) }
 
-  plan_of : (k : ℕ) (plan : Plan) (c : Bool) → 1 ≤ k → plan ≡ choose p.plan (buffered p.pack p.buffer) n k c → IsPlan p stmt k plan
+  plan_of : (k : ℕ) (plan : Plan) (c : Bool) → 1 ≤ k → plan ≡ choose p.planner p.pack p.buffer n k c → IsPlan p stmt k plan
   plan_of k plan c h e = record { some = h; chosen = (c, e) }
 
-  stopped : (k : ℕ) → 1 ≤ k → k ≤ n → p.plan ≡ Some Continuous → Started p stmt (counted k None None AfterCount)
+  stopped : (k : ℕ) → 1 ≤ k → k ≤ n → p.planner ≡ Forced Continuous → Started p stmt (counted k None None AfterCount)
   stopped k h l e = record { not_static = λ e. cc; not_cut = λ m. tt; leaf = refl; holds = (count_of k l, (h, e)) }
 
   -- a plan after Hash is Small, where none is forced
-  hash_holds : (k : ℕ) (forced : Option Plan) (left : Option ℕ) → p.plan ≡ forced → IsCount p stmt k → IsPlan p stmt k Hash
-      → Holds p stmt (counted k (Some Hash) (fallback forced left) Whole) (Some k) (Some Hash) (fallback forced left)
-  hash_holds k (Some plan) left e count is = (count, is, tt)
-  hash_holds k None None e count is = (count, is, tt)
-  hash_holds k None (Some i) e count is = (count, is, tt, e)
+  hash_holds : (k : ℕ) (planner : Planner) (left : Option ℕ) → p.planner ≡ planner → IsCount p stmt k → IsPlan p stmt k Hash
+      → Holds p stmt (counted k (Some Hash) (fallback planner left) Whole) (Some k) (Some Hash) (fallback planner left)
+  hash_holds k (Forced plan) left e count is = (count, is, tt)
+  hash_holds k Cheapest left e count is = (count, is, tt)
+  hash_holds k Auto None e count is = (count, is, tt)
+  hash_holds k Auto (Some i) e count is = (count, is, tt, e)
 
 -- Continuous for places that are not consecutive is forced
-forced_only : (forced : Option Plan) (s n k : ℕ) → choose forced s n k false ≡ Continuous → forced ≡ Some Continuous
-forced_only (Some x) s n k h = ap Some h
-forced_only None s n k h = absurd (unforced (nat_le k (4 * s)) (nat_le (3 * n) (4 * k)) h) where
+forced_only : (planner : Planner) (pack rows n k : ℕ) → choose planner pack rows n k false ≡ Continuous → planner ≡ Forced Continuous
+forced_only (Forced x) pack rows n k h = ap Forced h
+forced_only Cheapest pack rows n k h =
+    absurd (let side : false ≡ true = not_apart (small_length pack rows n k) (continuous_length pack n k) (large_length pack n) false h in cc side)
+forced_only Auto pack rows n k h = absurd (unforced (nat_le k (4 * buffered pack rows)) (nat_le (3 * n) (4 * k)) h) where
   unforced : (a b : Bool) → cond a Small (cond b Large Hash) ≡ Continuous → ⊥
   unforced true b h = cc
   unforced false true h = cc
@@ -113,24 +119,24 @@ module _ (p : Public) (stmt : Stmt) (counts : is_counted p stmt ≡ true) (unpad
   abbrev slots : ℕ
   slots = statement_slots p stmt
 
-  planned : (k : ℕ) (plan : Plan) (c : Bool) → 1 ≤ k → k ≤ slots → choose p.plan (buffered p.pack p.buffer) slots k c ≡ plan → IsCount p stmt k × IsPlan p stmt k plan
+  planned : (k : ℕ) (plan : Plan) (c : Bool) → 1 ≤ k → k ≤ slots → choose p.planner p.pack p.buffer slots k c ≡ plan → IsCount p stmt k × IsPlan p stmt k plan
   planned k plan c h l e = (count_of p stmt counts unpadded k l, plan_of p stmt counts unpadded k plan c h (sym e))
 
   with_plan : (plan : Plan) (places : List ℕ) → 1 ≤ length places → length places ≤ slots →
-      choose p.plan (buffered p.pack p.buffer) slots (length places) (is_consecutive places) ≡ plan → Started p stmt (seen_with p plan places)
+      choose p.planner p.pack p.buffer slots (length places) (is_consecutive places) ≡ plan → Started p stmt (seen_with p plan places)
   with_plan Small places h l e =
       let both = planned (length places) Small (is_consecutive places) h l e in record { not_static = λ e. cc; not_cut = λ m. tt; leaf = refl; holds = (both.0, both.1, tt) }
   with_plan Large places h l e =
       let both = planned (length places) Large (is_consecutive places) h l e in record { not_static = λ e. cc; not_cut = λ m. tt; leaf = refl; holds = (both.0, both.1, tt) }
   with_plan Hash places h l e =
       let both = planned (length places) Hash (is_consecutive places) h l e in
-      record { not_static = λ e. cc; not_cut = λ m. tt; leaf = refl; holds = hash_holds p stmt counts unpadded (length places) p.plan (first_unplaced p places) refl both.0 both.1 }
+      record { not_static = λ e. cc; not_cut = λ m. tt; leaf = refl; holds = hash_holds p stmt counts unpadded (length places) p.planner (first_unplaced p places) refl both.0 both.1 }
   with_plan Continuous places h l e = at_answer (is_consecutive places) e where
-    at_answer : (b : Bool) → choose p.plan (buffered p.pack p.buffer) slots (length places) b ≡ Continuous →
+    at_answer : (b : Bool) → choose p.planner p.pack p.buffer slots (length places) b ≡ Continuous →
         Started p stmt (cond b (counted (length places) (Some Continuous) None Whole) (counted (length places) None None AfterCount))
     at_answer true e =
         let both = planned (length places) Continuous true h l e in record { not_static = λ e. cc; not_cut = λ m. tt; leaf = refl; holds = (both.0, both.1, tt) }
-    at_answer false e = stopped p stmt counts unpadded (length places) h l (forced_only p.plan (buffered p.pack p.buffer) slots (length places) e)
+    at_answer false e = stopped p stmt counts unpadded (length places) h l (forced_only p.planner p.pack p.buffer slots (length places) e)
 
   unpadded_started : (places : List ℕ) → length places ≤ slots → Started p stmt (seen_unpadded p slots places)
   unpadded_started [] l = no_rows p stmt counts unpadded

@@ -1,8 +1,9 @@
 -- A session over tables as bags, and what the session over tables in place has to do with it.
 use Rattle.std.specs.Prelude.{◌≡◌, ◌⊎◌, ◌<◌, ◌^◌, ℕ, false, List, [], ◌∷◌, Option, Some, None, IsSome, Ok, Err, ⊤}
 use Rattle.ob_base.specs.declared.config.Public.{Public}
-use Rattle.ob_base.specs.declared.config.Plan.{Plan}
 use Rattle.ob_base.specs.declared.config.Plan.TheVariants.{Continuous, Hash}
+use Rattle.ob_base.specs.declared.config.Planner.{Planner}
+use Rattle.ob_base.specs.declared.config.Planner.TheVariants.{Forced}
 use Rattle.ob_base.specs.declared.refusal.Refusal.TheVariants.{Syntax, StoreFault, NotConsecutive, Overflow, PadPassed}
 use Rattle.ob_sql.specs.declared.stmt.Stmt.{Stmt}
 use Rattle.ob_mean.specs.declared.answer.Answer.{Answer}
@@ -35,14 +36,14 @@ bags_after p db (Err at ∷ texts) bs = bags_after p db texts (rest_of bs)
 
 -- ---- what the answers of both have to do with each other
 -- a refusal that no bag tells: a plan that was forced, or the padding that was asked for, doesn't hold the result
-abbrev pub IsForced : (plan : Option Plan) → (pad : Option ℕ) → Answer → Type 0
-IsForced plan pad (Refused NotConsecutive) = plan ≡ Some Continuous
-IsForced plan pad (Refused (Overflow i)) = plan ≡ Some Hash
-IsForced plan pad (Refused PadPassed) = IsSome pad
-IsForced plan pad _ = ⊥
+abbrev pub IsForced : Planner → (pad : Option ℕ) → Answer → Type 0
+IsForced planner pad (Refused NotConsecutive) = planner ≡ Forced Continuous
+IsForced planner pad (Refused (Overflow i)) = planner ≡ Forced Hash
+IsForced planner pad (Refused PadPassed) = IsSome pad
+IsForced planner pad _ = ⊥
 
 abbrev pub IsByPlan : Public → Answer → Type 0
-IsByPlan p x = IsForced p.plan p.pad x
+IsByPlan p x = IsForced p.planner p.pad x
 
 -- each answer is the meaning's, rows as a bag, or such a refusal
 abbrev pub AnswersMeant : Public → (given meant : List Answer) → Type 0

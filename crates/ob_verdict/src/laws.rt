@@ -15,7 +15,7 @@ ghost use Rattle.ob_verdict.specs.Alike.{AreAlike, OrderIsNothing};
 ghost use Rattle.ob_verdict.specs.Accepted.{PlacesFit, TotalsPlacesFit, JoinsFit, SetsFit, ConditionsFit, BucketsFit, NamesFlat};
 ghost use Rattle.ob_verdict.specs.Moving.{Moves, CreatesNew, DropsOne};
 ghost use Rattle.ob_verdict.specs.Full.{FullIsLawful};
-ghost use Rattle.ob_verdict.specs.Laws.{SettlesAsStep, KeepsInPlace, ShowsKindAlone, AccessShowsLeaf, PaddedShowsKind, PlanIsWhole, ForcedShowsAlike, ShowsNotConsecutive, SeenIsLawful, CutIsLawful, PrintsAnswer};
+ghost use Rattle.ob_verdict.specs.Laws.{SettlesAsStep, KeepsInPlace, ShowsKindAlone, AccessShowsLeaf, PaddedShowsKind, PlanIsWhole, ShowsPlanAlone, CheapestAccepts, CheapestShows, ShowsNotConsecutive, SeenIsLawful, CutIsLawful, PrintsAnswer};
 
 /// Being the same bag is an equivalence, and is kept where lists are joined, mapped and filtered.
 pub fn bags_are_kept<A, B>()
@@ -54,7 +54,9 @@ pub fn seen_laws()
     ensures leaf { AccessShowsLeaf }
     ensures padded { PaddedShowsKind }
     ensures plan_is_whole { PlanIsWhole }
-    ensures forced_alike { ForcedShowsAlike }
+    ensures plan_alone { ShowsPlanAlone }
+    ensures cheapest_shows { CheapestShows }
+    ensures cheapest_accepts { CheapestAccepts }
     ensures one_refusal_shows { ShowsNotConsecutive }
     ensures lawful { SeenIsLawful }
     ensures cut_is_lawful { CutIsLawful }
