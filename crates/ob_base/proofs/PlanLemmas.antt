@@ -1,10 +1,13 @@
 -- What the planner may choose.
-use Rattle.std.proofs.Common.{◌≡◌, ◌≢◌, ◌≤◌, ℕ, Bool, true, false, nat_le, min, arith, refl}
+use Rattle.std.proofs.Common.{◌≡◌, ◌≢◌, ◌⊎◌, ◌≤◌, ◌*◌, ℕ, Bool, true, false, nat_le, min, arith, refl, inl, inr, sym, ◌∙◌, ap}
 use Rattle.std.specs.Prelude.{cond}
 use Rattle.std.proofs.lemmas.Bool.{leb-true, leb-false}
 use Rattle.ob_base.specs.declared.config.Plan.{Plan}
 use Rattle.ob_base.specs.declared.config.Plan.TheVariants.{Small, Large, Continuous, Hash}
-use Rattle.ob_base.specs.Plans.{least}
+use Rattle.ob_base.specs.declared.config.Planner.{Planner}
+use Rattle.ob_base.specs.declared.config.Planner.TheVariants.{Auto, Cheapest, Forced}
+use Rattle.ob_base.specs.Limits.{buffered}
+use Rattle.ob_base.specs.Plans.{choose, continuous_length, large_length, least, small_length}
 
 -- the plan with the least length is Small, Large, or where the rows lie side by side Continuous
 pub by_least : (P : Plan → Type 0) (small continuous large : ℕ) (consecutive : Bool) → P Small → P Large → (consecutive ≡ true → P Continuous)
@@ -58,3 +61,34 @@ never_hash small continuous large consecutive =
 pub not_apart : (small continuous large : ℕ) (consecutive : Bool) → least small continuous large consecutive ≡ Continuous → consecutive ≡ true
 not_apart small continuous large consecutive =
     by_least (λ (plan : Plan). plan ≡ Continuous → consecutive ≡ true) small continuous large consecutive (λ h. absurd (cc h)) (λ h. absurd (cc h)) (λ is h. is)
+
+-- ---- what the planner chooses
+-- Continuous for rows side by side, or because it is forced
+pub continuous_by : (planner : Planner) (pack rows n k : ℕ) (consecutive : Bool) → choose planner pack rows n k consecutive ≡ Continuous
+    → (planner ≡ Forced Continuous) ⊎ (consecutive ≡ true)
+continuous_by (Forced plan) pack rows n k consecutive h = inl (ap Forced h)
+continuous_by Cheapest pack rows n k consecutive h = inr (not_apart (small_length pack rows n k) (continuous_length pack n k) (large_length pack n) consecutive h)
+continuous_by Auto pack rows n k consecutive h = inr (go (nat_le k (4 * buffered pack rows)) consecutive (nat_le (3 * n) (4 * k)) h) where
+  go : (a b c : Bool) → cond a Small (cond b Continuous (cond c Large Hash)) ≡ Continuous → b ≡ true
+  go true b c e = absurd (cc e)
+  go false true c e = refl
+  go false false true e = absurd (cc e)
+  go false false false e = absurd (cc e)
+
+-- Hash by the rows that may be buffered, or because it is forced
+pub hash_by : (planner : Planner) (pack rows n k : ℕ) (consecutive : Bool) → choose planner pack rows n k consecutive ≡ Hash → (planner ≡ Forced Hash) ⊎ (planner ≡ Auto)
+hash_by (Forced plan) pack rows n k consecutive h = inl (ap Forced h)
+hash_by Cheapest pack rows n k consecutive h = absurd (never_hash (small_length pack rows n k) (continuous_length pack n k) (large_length pack n) consecutive h)
+hash_by Auto pack rows n k consecutive h = inr refl
+
+-- for rows that lie apart Continuous is forced
+pub forced_apart : (plan : Plan) (planner : Planner) (pack rows n k : ℕ) (consecutive : Bool) → plan ≡ choose planner pack rows n k consecutive → plan ≡ Continuous
+    → consecutive ≡ false → planner ≡ Forced Continuous
+forced_apart plan planner pack rows n k consecutive chosen is apart =
+    elim (continuous_by planner pack rows n k consecutive (sym chosen ∙ is)) [ inl forced ↦ forced | inr side ↦ absurd (cc (sym side ∙ apart)) ]
+
+-- Hash that isn't chosen by the rows that may be buffered is forced
+pub forced_hash : (plan : Plan) (planner : Planner) (pack rows n k : ℕ) (consecutive : Bool) → plan ≡ choose planner pack rows n k consecutive → plan ≡ Hash
+    → planner ≢ Auto → planner ≡ Forced Hash
+forced_hash plan planner pack rows n k consecutive chosen is other =
+    elim (hash_by planner pack rows n k consecutive (sym chosen ∙ is)) [ inl forced ↦ forced | inr auto ↦ absurd (other auto) ]

@@ -89,7 +89,7 @@ impl<R: Revisions> Engine<R> {
                 buffer: config.buffer,
                 depth: config.depth,
                 pack: config.pack,
-                plan: config.plan,
+                planner: config.planner,
                 pad: config.pad,
                 stash: config.stash,
                 keep: config.keep,

@@ -14,8 +14,8 @@ use Rattle.ob_base.specs.declared.schema.Heading.{Heading}
 use Rattle.ob_base.specs.declared.skeleton.Source.{Source}
 use Rattle.ob_base.specs.declared.skeleton.Source.TheVariants.{Table as OneTable, Join}
 use Rattle.ob_base.specs.Limits.{buffered, buffered_blocks}
-use Rattle.ob_base.specs.Plans.{IsPadded, MayPad, choose, choose_padded, continuous_length, large_length, padded_rows, small_length}
-use Rattle.ob_base.proofs.PlanLemmas.{never_hash, not_apart}
+use Rattle.ob_base.specs.Plans.{IsPadded, MayPad, choose, choose_padded, large_length, padded_rows, small_length}
+use Rattle.ob_base.proofs.PlanLemmas.{continuous_by, hash_by}
 use Rattle.ob_base.specs.Schemas.{key_place}
 use Rattle.ob_base.specs.Stored.{Stored, headings, stored_at, heading_at}
 use Rattle.ob_row.specs.Bags.{Same}
@@ -66,30 +66,18 @@ no_overflow (Some i) h = cc
 -- Continuous is planned for places that are consecutive, or forced, and then refuses others
 consecutive_if : (p : Public) (pack rows n k : ℕ) (places : List ℕ) (planner : Planner) → choose planner pack rows n k (is_consecutive places) ≡ Continuous →
     forced_refusal p planner places ≡ None → is_consecutive places ≡ true
-consecutive_if p pack rows n k places (Forced Small) e r = absurd (cc)
-consecutive_if p pack rows n k places (Forced Large) e r = absurd (cc)
-consecutive_if p pack rows n k places (Forced Continuous) e r = consecutive (is_consecutive places) r
-consecutive_if p pack rows n k places (Forced Hash) e r = absurd (cc)
-consecutive_if p pack rows n k places Cheapest e r =
-    not_apart (small_length pack rows n k) (continuous_length pack n k) (large_length pack n) (is_consecutive places) e
-consecutive_if p pack rows n k places Auto e r =
-    planned (nat_le k (4 * buffered pack rows)) (is_consecutive places) (nat_le (3 * n) (4 * k)) e where
-  planned : (a b c : Bool) → cond a Small (cond b Continuous (cond c Large Hash)) ≡ Continuous → b ≡ true
-  planned true b c e = absurd (cc)
-  planned false true c e = refl
-  planned false false true e = absurd (cc)
-  planned false false false e = absurd (cc)
+consecutive_if p pack rows n k places planner e r = elim (continuous_by planner pack rows n k (is_consecutive places) e) [
+  | inl forced ↦ consecutive (is_consecutive places) (sym (ap (λ (x : Planner). forced_refusal p x places) forced) ∙ r)
+  | inr side ↦ side
+]
 
 -- Hash that is forced refuses where it leaves a place out
 placed_if : (p : Public) (pack rows n k : ℕ) (places : List ℕ) (planner : Planner) → choose planner pack rows n k (is_consecutive places) ≡ Hash →
     forced_refusal p planner places ≡ None → (planner ≡ Auto) ⊎ (first_unplaced p places ≡ None)
-placed_if p pack rows n k places (Forced Small) e r = absurd (cc)
-placed_if p pack rows n k places (Forced Large) e r = absurd (cc)
-placed_if p pack rows n k places (Forced Continuous) e r = absurd (cc)
-placed_if p pack rows n k places (Forced Hash) e r = inr (no_overflow (first_unplaced p places) r)
-placed_if p pack rows n k places Cheapest e r =
-    absurd (never_hash (small_length pack rows n k) (continuous_length pack n k) (large_length pack n) (is_consecutive places) e)
-placed_if p pack rows n k places Auto e r = inl refl
+placed_if p pack rows n k places planner e r = elim (hash_by planner pack rows n k (is_consecutive places) e) [
+  | inl forced ↦ inr (no_overflow (first_unplaced p places) (sym (ap (λ (x : Planner). forced_refusal p x places) forced) ∙ r))
+  | inr auto ↦ inl auto
+]
 
 -- after Hash, Small where it left a place out
 hash_fits : (n : ℕ) (places : List ℕ) (planner : Planner) (left : Option ℕ) → (planner ≡ Auto) ⊎ (left ≡ None) → (left ≡ None → PlanFits Hash n places) →

@@ -25,8 +25,8 @@ use Rattle.ob_base.specs.declared.skeleton.Skeleton.TheVariants.{Create as Creat
 use Rattle.ob_base.specs.Accesses.{discard_at}
 use Rattle.ob_base.specs.Limits.{buffered, buffered_blocks}
 use Rattle.ob_base.specs.Lists.{each, places_from}
-use Rattle.ob_base.specs.Plans.{choose, continuous_length, large_length, small_length}
-use Rattle.ob_base.proofs.PlanLemmas.{not_apart}
+use Rattle.ob_base.specs.Plans.{choose}
+use Rattle.ob_base.proofs.PlanLemmas.{forced_apart}
 use Rattle.ob_base.specs.Stored.{Stored, headings, headings_of, stored_at, stored_regions, heading_at}
 use Rattle.ob_row.specs.Slots.{Slots, is_consecutive, rows, selected}
 use Rattle.ob_row.specs.Results.{joined, joined_chunk, joined_slot, padded, chunk}
@@ -104,17 +104,6 @@ module _ (p : Public) (stmt : Stmt) (rows : is_counted p stmt ≡ true) (unpadde
   hash_holds k Auto None e count is = (count, is, tt)
   hash_holds k Auto (Some i) e count is = (count, is, tt, e)
 
--- Continuous for places that are not consecutive is forced
-forced_only : (planner : Planner) (pack rows n k : ℕ) → choose planner pack rows n k false ≡ Continuous → planner ≡ Forced Continuous
-forced_only (Forced x) pack rows n k h = ap Forced h
-forced_only Cheapest pack rows n k h =
-    absurd (let side : false ≡ true = not_apart (small_length pack rows n k) (continuous_length pack n k) (large_length pack n) false h in cc side)
-forced_only Auto pack rows n k h = absurd (unforced (nat_le k (4 * buffered pack rows)) (nat_le (3 * n) (4 * k)) h) where
-  unforced : (a b : Bool) → cond a Small (cond b Large Hash) ≡ Continuous → ⊥
-  unforced true b h = cc
-  unforced false true h = cc
-  unforced false false h = cc
-
 module _ (p : Public) (stmt : Stmt) (counts : is_counted p stmt ≡ true) (unpadded : p.pad ≡ None) where
   abbrev slots : ℕ
   slots = statement_slots p stmt
@@ -136,7 +125,7 @@ module _ (p : Public) (stmt : Stmt) (counts : is_counted p stmt ≡ true) (unpad
         Started p stmt (cond b (counted (length places) (Some Continuous) None Whole) (counted (length places) None None AfterCount))
     at_answer true e =
         let both = planned (length places) Continuous true h l e in record { not_static = λ e. cc; not_cut = λ m. tt; leaf = refl; holds = (both.0, both.1, tt) }
-    at_answer false e = stopped p stmt counts unpadded (length places) h l (forced_only p.planner p.pack p.buffer slots (length places) e)
+    at_answer false e = stopped p stmt counts unpadded (length places) h l (forced_apart Continuous p.planner p.pack p.buffer slots (length places) false (sym e) refl refl)
 
   unpadded_started : (places : List ℕ) → length places ≤ slots → Started p stmt (seen_unpadded p slots places)
   unpadded_started [] l = no_rows p stmt counts unpadded
