@@ -2,6 +2,7 @@
 #![tactic(auto)]
 
 mod lengths;
+pub mod trial;
 mod laws;
 
 ghost use Rattle.std.specs.Prelude.{◌≡◌, ◌*◌, ◌≤◌};
@@ -87,7 +88,7 @@ pub fn padded_plan(n: u32, q: u32, public: &Public) -> Plan
         ≡ choose_padded public.now.planner public.now.pack public.now.buffer n q }
 {
     match public.planner {
-        Planner::Forced(plan) => plan,
+        Planner::Forced(forced) => forced,
         Planner::Cheapest => shorter(n, q, public),
         Planner::Auto if u64::from(q) <= 4 * buffered_rows(public) => Plan::Small,
         Planner::Auto => Plan::Large,
