@@ -2,7 +2,6 @@
 #![tactic(auto)]
 
 mod lengths;
-pub mod trial;
 mod laws;
 
 ghost use Rattle.std.specs.Prelude.{◌≡◌, ◌*◌, ◌≤◌};
