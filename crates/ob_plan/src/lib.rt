@@ -1,17 +1,16 @@
 //! The planner: which way a SELECT writes its rows, from sizes alone.
 #![tactic(auto)]
 
-mod lengths;
 mod laws;
+mod lengths;
 
 ghost use Rattle.std.specs.Prelude.{◌≡◌, ◌*◌, ◌≤◌};
 ghost use Rattle.ob_base.specs.declared.config.Planner.TheVariants.{Cheapest};
 ghost use Rattle.ob_base.specs.Limits.{buffered};
 ghost use Rattle.ob_base.specs.Plans.{by_buffer, choose, choose_padded};
 
-pub use laws::cheapest_fits;
-
 use crate::lengths::{continuous_length, large_length, small_length};
+pub use laws::cheapest_fits;
 use ob_base::{Plan, Planner, Public};
 
 /// The plan for `k` selected rows among `n` slots, which stand side by side or don't: the one that is
