@@ -246,12 +246,12 @@ saves_not : is_saved (codes "--keep" ∷ []) ≡ false
 unfolding clap_on_literals
 saves_not = refl
 
-saves_and_keeps : saved_settings_of (codes "--save" ∷ []) ≡ Some (record { buffer = 64; depth = 5; pack = 1; plan = None; pad = None; stash = 32; keep = true; save = true; max_input = 1073741824 })
+saves_and_keeps : saved_settings_of (codes "--save" ∷ []) ≡ Some (record { buffer = 64; depth = 5; pack = 1; planner = Auto; pad = None; stash = 32; keep = true; save = true; max_input = 1073741824 })
 unfolding clap_on_literals
 saves_and_keeps = refl
 
 mark_with_save : saved_settings_of (codes "--save" ∷ codes "--mark" ∷ codes "safe" ∷ [])
-    ≡ Some (record { buffer = 64; depth = 5; pack = 1; plan = None; pad = None; stash = 32; keep = true; save = true; max_input = 1073741824 })
+    ≡ Some (record { buffer = 64; depth = 5; pack = 1; planner = Auto; pad = None; stash = 32; keep = true; save = true; max_input = 1073741824 })
 unfolding clap_on_literals
 mark_with_save = refl
 
@@ -259,7 +259,7 @@ no_save_beside_keep : saved_settings_of (codes "--save" ∷ codes "--keep" ∷ [
 unfolding clap_on_literals
 no_save_beside_keep = refl
 
-keeps_alone : saved_settings_of (codes "--keep" ∷ []) ≡ Some (record { buffer = 64; depth = 5; pack = 1; plan = None; pad = None; stash = 32; keep = true; save = false; max_input = 1073741824 })
+keeps_alone : saved_settings_of (codes "--keep" ∷ []) ≡ Some (record { buffer = 64; depth = 5; pack = 1; planner = Auto; pad = None; stash = 32; keep = true; save = false; max_input = 1073741824 })
 unfolding clap_on_literals
 keeps_alone = refl
 

@@ -17,7 +17,8 @@ use ob_base::{Plan, Planner, Public};
 /// forced, or else the one by the rows that may be buffered, or that with the shortest script.
 pub fn plan(n: u32, k: u32, consecutive: bool, public: &Public) -> Plan
     requires pack { 1 ≤ public.now.pack }
-    requires buffer { 3 * public.now.pack ≤ public.now.buffer }
+    requires buffer { 2 * public.now.pack ≤ public.now.buffer }
+    requires cheapest { public.now.planner ≡ Cheapest → 3 * public.now.pack ≤ public.now.buffer }
     ensures { result
         ≡ choose public.now.planner public.now.pack public.now.buffer n k consecutive }
 {
@@ -81,7 +82,8 @@ fn shorter(n: u32, k: u32, public: &Public) -> Plan
 /// by the rows that may be buffered or by which script is shorter.
 pub fn padded_plan(n: u32, q: u32, public: &Public) -> Plan
     requires pack { 1 ≤ public.now.pack }
-    requires buffer { 3 * public.now.pack ≤ public.now.buffer }
+    requires buffer { 2 * public.now.pack ≤ public.now.buffer }
+    requires cheapest { public.now.planner ≡ Cheapest → 3 * public.now.pack ≤ public.now.buffer }
     ensures { result
         ≡ choose_padded public.now.planner public.now.pack public.now.buffer n q }
 {
