@@ -68,6 +68,7 @@ fitted buffer depth planner pack pad stash keep max_input =
       stash = stash;
       keep = keep;
       save = false;
+      batch = None;
       max_input = max_input;
     })
     else None
