@@ -7,7 +7,7 @@ use Rattle.ob_base.specs.declared.access.Access.{Access}
 use Rattle.ob_base.specs.declared.config.Public.{Public}
 use Rattle.ob_base.specs.declared.mark.Mark.{Mark}
 use Rattle.ob_base.specs.declared.seen.End.{End}
-use Rattle.ob_base.specs.declared.seen.End.TheVariants.{Static, Whole, AfterCount, Cut}
+use Rattle.ob_base.specs.declared.seen.End.TheVariants.{Static, Whole, AfterCount, Joined, Cut}
 use Rattle.ob_base.specs.declared.seen.Seen.{Seen}
 use Rattle.ob_base.specs.declared.skeleton.Skeleton.{Skeleton}
 use Rattle.ob_mean.specs.Lawful.{Lawful, height_at}
@@ -47,6 +47,7 @@ abbrev pub is_whole : End → Bool
 is_whole Static = false
 is_whole Whole = true
 is_whole AfterCount = false
+is_whole Joined = false
 is_whole (Cut n) = false
 
 -- tables are saved behind one that changes them and came to its end

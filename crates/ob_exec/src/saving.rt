@@ -59,7 +59,7 @@ fn is_saved_behind(saved: bool, end: End) -> bool
 {
     match end {
         End::Whole => saved,
-        End::Static | End::AfterCount | End::Cut(_) => false,
+        End::Static | End::AfterCount | End::Joined | End::Cut(_) => false,
     }
 }
 
