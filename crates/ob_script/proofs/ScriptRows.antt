@@ -21,7 +21,7 @@ use Rattle.ob_script.specs.Script.{script}
 use Rattle.ob_script.specs.Trace.{trace, after_all, Served}
 
 abbrev start_with : (pack buffer depth : ℕ) → Public
-start_with pack buffer depth = record { tables = []; next_region = 1; buffer = buffer; depth = depth; pack = pack; planner = Auto; pad = None; stash = 32; keep = false; save = false; closing = None }
+start_with pack buffer depth = record { tables = []; next_region = 1; buffer = buffer; depth = depth; pack = pack; planner = Auto; pad = None; stash = 32; keep = false; save = false; batch = None; closing = None }
 
 abbrev column : List ℕ → ℕ → NewColumn
 column name keys = record { name = name; kind = NewInt; keys = keys }
