@@ -24,5 +24,8 @@ pub mod Unread
 pub mod ChangedScripts
 pub mod FewAsked
 pub mod SavingLemmas
+pub mod Shares
 pub mod PlainRuns
 pub mod SavedRuns
+pub mod EmittedRuns
+pub mod FollowedRuns

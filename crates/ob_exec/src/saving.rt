@@ -1,0 +1,132 @@
+//! The tables behind a statement that was carried out: they are saved where they are to be.
+ghost use Rattle.std.specs.Prelude.{◌≡◌, ◌&&◌, ◌≤◌, Ok, length, true};
+ghost use Rattle.ob_base.specs.declared.refusal.Refusal.TheVariants.{StoreFault};
+ghost use Rattle.ob_exec.specs.Behind.{SavesBehind, ended_at, is_due};
+ghost use Rattle.ob_exec.specs.Ran.{is_whole};
+ghost use Rattle.ob_exec.specs.Saving.{MayBeSaved};
+ghost use Rattle.ob_script.specs.Saved.{left_by};
+ghost use Rattle.ob_script.specs.Script.{changes_tables, is_saved};
+ghost use Rattle.ob_sql.specs.Skeleton.{skeleton};
+ghost use Rattle.ob_tables.specs.Agreeing.{public_of, seen_of};
+ghost use Rattle.ob_vault.specs.State.{HasNoneFrom};
+ghost use Rattle.ob_verdict.specs.declared.outcome.Outcome.TheVariants.{Refused};
+
+use crate::behind::Behind;
+use ob_base::{End, Public, Refusal};
+use ob_flat::OpErr;
+use ob_sql::Stmt;
+use ob_store::BlockStore;
+use ob_tables::{Engine, RunStop};
+use ob_vault::Revisions;
+use ob_verdict::Outcome;
+
+// What is to be known of a statement before it is carried out.
+#[derive(Clone, Copy)]
+pub(crate) struct Begun {
+    // how many accesses were asked before it
+    pub(crate) accesses: u64,
+    // whether tables are saved behind one like it
+    pub(crate) saved: bool,
+    // the region that it leaves then
+    pub(crate) left: Option<u64>,
+    // the first region that it may make
+    pub(crate) next: u64,
+}
+
+fn changes_tables(stmt: &Stmt) -> bool
+    ensures { result ≡ changes_tables (skeleton stmt.now) }
+{
+    match stmt {
+        Stmt::Create { .. }
+        | Stmt::Insert { .. }
+        | Stmt::Update { .. }
+        | Stmt::Delete { .. }
+        | Stmt::Drop { .. } => true,
+        Stmt::SelectRows(_) | Stmt::SelectTotals(_) => false,
+    }
+}
+
+// Whether tables are to be saved behind a statement.
+fn is_saved(public: &Public, stmt: &Stmt) -> bool
+    ensures { result ≡ is_saved public.now (skeleton stmt.now) }
+{
+    changes_tables(stmt) && public.save
+}
+
+// Whether they are behind one that ended so.
+fn is_saved_behind(saved: bool, end: End) -> bool
+    ensures { result ≡ (is_whole end && saved) }
+{
+    match end {
+        End::Whole => saved,
+        End::Static | End::AfterCount | End::Joined | End::Cut(_) => false,
+    }
+}
+
+pub(crate) fn begin<S: BlockStore, R: Revisions>(
+    engine: &Engine<R>,
+    store: &S,
+    stmt: &Stmt,
+) -> Begun
+    ensures accesses { result.accesses ≡ length (S.state store.now).asked }
+    ensures saved { result.saved ≡ is_saved (public_of engine.now) (skeleton stmt.now) }
+    ensures left { result.left ≡ left_by (public_of engine.now) (skeleton stmt.now) }
+    ensures next { result.next ≡ (public_of engine.now).next_region }
+{
+    Begun {
+        accesses: store.count(),
+        saved: is_saved(engine.public(), stmt),
+        left: engine.left_by(stmt),
+        next: engine.public().next_region,
+    }
+}
+
+// Ends the session in a statement of which nothing is counted, behind so many accesses: as want of memory in a pass does.
+fn end_at<R: Revisions>(engine: &mut Engine<R>, accesses: u64)
+    ensures { engine.new ≡ ended_at accesses engine.old }
+{
+    let _ = engine.cut(accesses, OpErr::NoMemory);
+}
+
+// Ends a statement that was carried out: what the vault forgot of one that the store failed stays in the store, and the
+// tables behind it are saved if they are due to be. Then it is answered.
+pub(crate) fn finish<S: BlockStore, R: Revisions, B: Behind<S>>(
+    engine: &mut Engine<R>,
+    store: &mut S,
+    behind: &mut B,
+    begun: Begun,
+    answer: Result<Outcome, RunStop>,
+) -> Result<Outcome, RunStop>
+    requires forgotten { answer ≡ Ok (Refused StoreFault)
+        → HasNoneFrom begun.next (R.state engine.old.vault.revs) }
+    requires may { is_due begun.saved answer (seen_of engine.old).end ≡ true
+        → MayBeSaved R.state begun.left engine.old (S.state store.old) }
+    requires wants { is_due begun.saved answer (seen_of engine.old).end ≡ true
+        → (public_of engine.old).save ≡ true }
+    requires saves { (public_of engine.old).save ≡ true → B.Saves behind.old }
+    requires counted { begun.accesses ≤ length (S.state store.old).asked }
+    ensures behind { SavesBehind R.state (is_due begun.saved answer (seen_of engine.old).end)
+        begun.accesses begun.left answer result engine.old (S.state store.old)
+        engine.new (S.state store.new) (B.state behind.old) (B.state behind.new) }
+    ensures stays { B.Saves behind.old → B.Saves behind.new }
+    ensures same { B.name behind.new ≡ B.name behind.old }
+{
+    let outcome = match answer {
+        Ok(outcome) => outcome,
+        Err(stop) => return Err(stop),
+    };
+    if let Outcome::Refused(Refusal::StoreFault) = outcome {
+        engine.vault.give_up(store, begun.next);
+    }
+    if !is_saved_behind(begun.saved, engine.seen().end) {
+        return Ok(outcome);
+    }
+    match behind.save(engine, store, begun.left) {
+        Ok(()) => Ok(outcome),
+        Err(stop) => {
+            let accesses = store.count() - begun.accesses;
+            end_at(engine, accesses);
+            Err(stop)
+        }
+    }
+}
