@@ -17,7 +17,7 @@ use Rattle.ob_vault.specs.State.{Start, earlier, from_nothing}
 
 -- what is public before the first statement, where there are no tables; without settings none is served
 abbrev pub public_with : Option Config → Public
-public_with None = first_public (record { buffer = 0; depth = 0; pack = 0; plan = None; pad = None; stash = 0; keep = false; save = false; max_input = 0 })
+public_with None = first_public (record { buffer = 0; depth = 0; pack = 0; plan = None; pad = None; stash = 0; keep = false; save = false; batch = None; max_input = 0 })
 public_with (Some config) = first_public config
 
 -- the model's session without tables
