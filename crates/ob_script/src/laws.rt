@@ -94,12 +94,12 @@ pub fn cheapest_is_shortest()
     ensures rows { (p : Public) (k g : ℕ) (t : Extent) (consecutive : Bool) (plan : Plan) →
         IsPublic p → (plan ≡ Continuous → consecutive ≡ true) →
         length (result_part p (Some
-            (choose Cheapest p.pack p.buffer t.slots k consecutive)) k g t)
+        (choose Cheapest p.pack p.buffer t.slots k consecutive)) k g t)
         ≤ length (result_part p (Some plan) k g t) }
     ensures padded { (p : Public) (q g : ℕ) (t : Extent) (plan : Plan) →
         IsPublic p → plan ≢ Continuous →
         length (result_part p (Some
-            (choose_padded Cheapest p.pack p.buffer t.slots q)) q g t)
+        (choose_padded Cheapest p.pack p.buffer t.slots q)) q g t)
         ≤ length (result_part p (Some plan) q g t) }
 {}
 
