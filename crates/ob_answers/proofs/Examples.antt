@@ -31,7 +31,7 @@ heading = record { name = t; schema = columns_of t (record { name = id; kind = N
 -- where four rows may be open
 abbrev refusal : (late : Bool) → Stmt → Option Refusal
 refusal late stmt =
-    early_refusal late (limits_of (first_public (record { buffer = 4; depth = 5; pack = 1; planner = Auto; pad = None; stash = 32; keep = false; save = false; max_input = 1024 }))) (heading ∷ []) stmt
+    early_refusal late (limits_of (first_public (record { buffer = 4; depth = 5; pack = 1; planner = Auto; pad = None; stash = 32; keep = false; save = false; batch = None; max_input = 1024 }))) (heading ∷ []) stmt
 
 abbrev set_key : Stmt
 set_key = Update t (record { column = id; value = IntLiteral (pos 9) } ∷ []) None

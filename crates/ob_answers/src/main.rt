@@ -61,6 +61,7 @@ fn settings(buffer: u32, pack: u8, stash: u32) -> Option<Config>
         stash,
         keep: false,
         save: false,
+        batch: None,
         max_input: 1_073_741_824,
     })
 }

@@ -23,7 +23,7 @@ module _ (keep : Bool) (config : Config) where
   joined_keep (Some buffer) (Some depth) (Some planner) (Some pack) (Some pad) (Some stash) None is = absurd (cc is)
   joined_keep (Some buffer) (Some depth) (Some planner) (Some pack) (Some pad) (Some stash) (Some max_input) is =
       fits_keep (nat_le (3 * pack + 1) buffer && may_pad pad planner)
-      (record { buffer = buffer; depth = depth; pack = pack; planner = planner; pad = pad; stash = stash; keep = keep; save = false; max_input = max_input }) refl is
+      (record { buffer = buffer; depth = depth; pack = pack; planner = planner; pad = pad; stash = stash; keep = keep; save = false; batch = None; max_input = max_input }) refl is
 
   -- the settings of these values, kept or not
   abbrev settings_if : (value : Text → Option Text) → (keeps : Bool) → Option Config

@@ -1,23 +1,22 @@
--- INSERTs that are served together: which ones are, how texts are then served where no call fails, and which ones may wait.
-use Rattle.std.specs.Prelude.{ℕ, ⊤, ◌≡◌, ◌<◌, ◌++◌, ◌&&◌, Bool, true, false, if◌then◌else◌, List, [], ◌∷◌, map, length, Option, Some, None, Ok, Err}
-use Rattle.std.specs.Option.{is_none, option_map_or}
+-- INSERTs that are served together: which ones are, what is then seen where no call fails, and which texts may wait.
+use Rattle.std.specs.Prelude.{ℕ, ⊤, ◌≡◌, ◌<◌, ◌++◌, ◌&&◌, Bool, true, false, List, [], ◌∷◌, map, length, Option, Some, None, Ok}
+use Rattle.std.specs.Option.{option_map_or}
 use Rattle.ob_base.specs.declared.config.Public.{Public}
 use Rattle.ob_base.specs.declared.seen.End.{End}
 use Rattle.ob_base.specs.declared.seen.End.TheVariants.{Joined, Cut}
 use Rattle.ob_base.specs.declared.seen.Seen.{Seen}
 use Rattle.ob_headline.specs.Statements.{SpellFirst}
 use Rattle.ob_headline.specs.Words.{Begins}
-use Rattle.ob_mean.specs.Batches.{Gathering, gathering_after, goes_into, inserts_into, is_joined}
-use Rattle.ob_mean.specs.Replay.{Broken, How, Alone, With, Session, Spelt, after, all_served, seen_or_cut}
+use Rattle.ob_mean.specs.Batches.{Gathering, gathering_after, goes_into, inserts_into, is_joined, is_unrefused}
+use Rattle.ob_mean.specs.Replay.{Session, Spelt, after, all_served, how_now, hows, seen_or_cut}
 use Rattle.ob_script.specs.Trace.{Served}
 use Rattle.ob_sql.specs.Skeleton.{skeleton}
 use Rattle.ob_sql.specs.declared.stmt.Stmt.{Stmt}
-use Rattle.ob_verdict.specs.Outcomes.{refusal_now}
 
 -- ---- which ones are
 -- it goes into the batch that is gathered, and isn't refused before any access
 abbrev pub joins_now : Public → (m : ℕ) → Option Gathering → Stmt → Bool
-joins_now p m g stmt = goes_into p g (skeleton stmt) && is_none (refusal_now p m stmt)
+joins_now p m g stmt = goes_into p g (skeleton stmt) && is_unrefused p m stmt
 
 -- exactly then it is seen that it was served with the INSERT before it
 abbrev pub Joins : Public → (m : ℕ) → Option Gathering → Stmt → Seen → Type 0
@@ -29,27 +28,16 @@ is_failed g Joined = option_map_or (λ (h : Gathering). h.failed) g false
 is_failed g (Cut n) = true
 is_failed g _ = false
 
--- ---- how texts are served where no call fails
-abbrev pub how_now : Option Gathering → Session → Stmt → How
-how_now g s stmt = if joins_now s.public s.asked g stmt then With else Alone
-
--- what is gathered behind it then
+-- ---- where no call fails
+-- what is gathered behind a statement, and the session behind it
 abbrev pub gathered_now : Option Gathering → Session → Stmt → Option Gathering
 gathered_now g s stmt =
     gathering_after s.public s.asked g stmt (seen_or_cut (how_now g s stmt) s stmt).end
 
--- and the session behind it
 abbrev pub after_now : Option Gathering → Session → Stmt → Session
 after_now g s stmt = after (how_now g s stmt) s stmt
 
--- each of these texts, from a session of the model on in which so many INSERTs are gathered
-abbrev pub hows : Option Gathering → Session → List Spelt → Broken
-hows g s [] = []
-hows g s (Err at ∷ spelt) = Alone ∷ hows None s spelt
-hows g s (Ok stmt ∷ spelt) =
-    how_now g s stmt ∷ hows (gathered_now g s stmt) (after_now g s stmt) spelt
-
--- what is seen of them
+-- what is seen of these texts by their meaning
 abbrev pub meant_seen : Session → List Spelt → List Served
 meant_seen s spelt = all_served s spelt (hows None s spelt)
 

@@ -3,11 +3,11 @@ use Rattle.std.specs.Prelude.{⊤, false, ◌≡◌, ◌≤◌, ◌+◌, ℕ, Li
 use Rattle.ob_base.specs.declared.access.Access.{Access}
 use Rattle.ob_base.specs.declared.config.Config.{Config}
 use Rattle.ob_headline.specs.Bases.{drawing, public_with, start}
-use Rattle.ob_headline.specs.Batches.{after_now, gathered_now, how_now, meant_seen}
+use Rattle.ob_headline.specs.Batches.{after_now, gathered_now, meant_seen}
 use Rattle.ob_headline.specs.Words.{Answer, Begins, refused_at}
 use Rattle.ob_headline.specs.Meaning.{AnswersMeant}
 use Rattle.ob_mean.specs.Batches.{Gathering}
-use Rattle.ob_mean.specs.Replay.{Session, Spelt, is_full_now, seen_or_cut}
+use Rattle.ob_mean.specs.Replay.{Session, Spelt, how_now, is_full_now, seen_or_cut}
 use Rattle.ob_script.specs.Script.{script}
 use Rattle.ob_script.specs.Trace.{Served, trace}
 use Rattle.ob_seal.specs.KeySet.{KeySet}

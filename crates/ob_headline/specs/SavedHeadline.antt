@@ -1,7 +1,6 @@
 -- The headline of a run that saves its tables: an opening, a session that goes on from it, and what is held and rests once it
 -- ended, in whichever way.
-use Rattle.std.specs.Prelude.{ℕ, ◌≡◌, ◌≢◌, ◌<◌, ◌+◌, ◌⊎◌, Bool, List, [], ◌∷◌, ◌++◌, if◌then◌else◌, length, map, take, Option, Some, Ok, Err, is_some}
-use Rattle.std.specs.Option.{unwrap_or}
+use Rattle.std.specs.Prelude.{ℕ, ◌≡◌, ◌≢◌, ◌<◌, ◌⊎◌, Bool, List, [], ◌∷◌, ◌++◌, length, map, take, drop, Option, Some, None, Ok, Err}
 use Rattle.ob_base.specs.Counts.{Rises}
 use Rattle.ob_base.specs.declared.config.Config.{Config}
 use Rattle.ob_base.specs.declared.mark.Mark.{Mark}
@@ -14,7 +13,7 @@ use Rattle.ob_headline.specs.KeptHeadline.{Unkeyed, Unserved, begun_at}
 use Rattle.ob_headline.specs.KeyLine.{first_line, secret_of}
 use Rattle.ob_headline.specs.Meaning.{AnswersFrom}
 use Rattle.ob_headline.specs.Saving.{BeganSaved, NotBegunSaved, RestsAlike}
-use Rattle.ob_headline.specs.Statements.{SpellFirst}
+use Rattle.ob_headline.specs.Statements.{SpellFirst, statements}
 use Rattle.ob_headline.specs.Story.{Story}
 use Rattle.ob_headline.specs.Words.{Answer, IsHonest, Outside}
 use Rattle.ob_headline.specs.declared.ending.Ending.{Ending}
@@ -22,8 +21,9 @@ use Rattle.ob_headline.specs.declared.ending.Ending.TheVariants.{Ran}
 use Rattle.ob_headline.specs.declared.ending.KeptEnding.{KeptEnding}
 use Rattle.ob_headline.specs.declared.ending.KeptEnding.TheVariants.{Plain}
 use Rattle.ob_headline.specs.declared.ending.Report.{Report}
-use Rattle.ob_mean.specs.Batches.{batch_most}
-use Rattle.ob_mean.specs.Replay.{Broken, Session, Spelt, With, after, after_all}
+use Rattle.ob_mean.specs.Batches.{batch_most, settle_all}
+use Rattle.ob_mean.specs.Replay.{Broken, Session, Spelt, after_all}
+use Rattle.ob_mean.specs.Verdict.{Tables}
 use Rattle.ob_reopen.specs.Closings.{saved_mark}
 use Rattle.ob_reopen.specs.Keepers.{KeeperState}
 use Rattle.ob_reopen.specs.declared.closing.Closing.{Closing}
@@ -42,21 +42,23 @@ UnbegunSaved settings Takes tracing old new keeper0 keeper1 ending answers repor
     answers report
 
 -- ---- what a session leaves
--- how many texts took effect: those that were answered, and maybe one more, with these statements behind it
-abbrev pub taken_by : (more : Option (List Stmt)) → List Answer → ℕ
-taken_by more answers = length answers + (if is_some more then 1 else 0)
+-- the session of the model behind the texts that were answered
+abbrev pub answered_by : Session → List Spelt → List Answer → Broken → Session
+answered_by s spelt answers broken =
+    after_all s (take (length answers) spelt) (take (length answers) broken)
 
--- the session of the model behind statements that are served with an INSERT before them
-abbrev pub after_joined : Session → List Stmt → Session
-after_joined s [] = s
-after_joined s (stmt ∷ stmts) = after_joined (after With s stmt) stmts
+-- the statements behind them that took effect: none, or the next one, and these
+abbrev pub taken_by : (more : Option (List Stmt)) → List Spelt → List Answer → List Stmt
+taken_by None spelt answers = []
+taken_by (Some behind) spelt answers =
+    statements (take 1 (drop (length answers) spelt)) ++ behind
 
--- the session of the model behind them, of which the store cut off none but answered ones
+-- the tables behind all of them, of which the store cut off none but answered ones
 abbrev pub left_by : (more : Option (List Stmt)) → Session → List Spelt → List Answer → Broken
-    → Session
+    → Tables
 left_by more s spelt answers broken =
-    after_joined (after_all s (take (taken_by more answers) spelt) (take (length answers) broken))
-    (unwrap_or more [])
+    let t = answered_by s spelt answers broken in
+    settle_all t.draws t.public t.asked (taken_by more spelt answers) t.tables
 
 -- the text begun and these statements are INSERTs into one table
 pub record InsertTogether (story : Story) (behind : List Stmt) : Type 0 where
@@ -93,7 +95,7 @@ pub record RestsBehind (most : ℕ) (secret : List ℕ) (keys : KeySet) (ending 
   pub unanswered : (behind : List Stmt) → more ≡ Some behind
       → MayTake most ending story behind
   pub rests : RestsAlike secret mark kept
-      (left_by more (drawing keys s) story.spelt story.answers broken).tables
+      (left_by more (drawing keys s) story.spelt story.answers broken)
 
 -- the mark of a closing that the run wrote, under its own salt
 pub record SavesAs (salt : List ℕ) (base : Base) (mark : Mark) : Type 0 where

@@ -1,5 +1,5 @@
 //! Laws of the scripts.
-ghost use Rattle.std.specs.Prelude.{◌≡◌, ◌≢◌, ◌≤◌, ◌<◌, ◌+◌, ◌++◌, ◌*◌, ◌^◌, ℕ, Bool, List, Some, true, false, length};
+ghost use Rattle.std.specs.Prelude.{◌≡◌, ◌≢◌, ◌≤◌, ◌<◌, ◌+◌, ◌++◌, ◌*◌, ◌^◌, ℕ, Bool, List, [], None, Some, true, false, length};
 ghost use Rattle.ob_base.specs.declared.access.Access.{Access};
 ghost use Rattle.ob_base.specs.declared.config.Plan.{Plan};
 ghost use Rattle.ob_base.specs.declared.config.Plan.TheVariants.{Continuous};
@@ -8,7 +8,7 @@ ghost use Rattle.ob_base.specs.declared.config.Public.{Public};
 ghost use Rattle.ob_base.specs.declared.seen.Seen.{Seen};
 ghost use Rattle.ob_base.specs.declared.skeleton.Skeleton.{Skeleton};
 ghost use Rattle.ob_base.specs.Accesses.{makes};
-ghost use Rattle.ob_script.specs.Saved.{ChangesFlat, left_by, run_next, run_script, saved_public, whole_run};
+ghost use Rattle.ob_script.specs.Saved.{ChangesFlat, left_by, left_then, run_next, run_script, saved_public, whole_run};
 ghost use Rattle.ob_base.specs.Plans.{choose, choose_padded};
 ghost use Rattle.ob_script.specs.declared.extent.Extent.{Extent};
 ghost use Rattle.ob_script.specs.Script.{made_by, result_part, save_part, script};
@@ -74,6 +74,16 @@ pub fn part_makes()
         makes (access_part tree stash slots height leaf) ≡ 0 }
     ensures index { (tree stash slots height width : ℕ) →
         makes (index_part tree stash slots height width) ≡ 2 }
+{}
+
+/// A statement that was served with the one before it asks nothing and leaves no region, and what is public stays.
+pub fn joined_asks_nothing()
+    ensures script { (p : Public) (s : Skeleton) (seen : Seen) → seen.end ≡ End.Joined
+        → script p s seen ≡ [] }
+    ensures left { (p : Public) (s : Skeleton) (seen : Seen) → seen.end ≡ End.Joined
+        → left_then p s seen.end ≡ None }
+    ensures next { (p : Public) (s : Skeleton) (seen : Seen) → seen.end ≡ End.Joined
+        → next p s seen ≡ p }
 {}
 
 /// As many buffers of blocks hold the blocks of so many rows, as buffers of rows hold the rows.

@@ -307,6 +307,7 @@ fn settings_in(matches: &ArgMatches) -> Option<Config>
         stash,
         keep: is_set(matches.get_str("keep")),
         save: false,
+        batch: None,
         max_input: max_input as u64,
     })
 }
