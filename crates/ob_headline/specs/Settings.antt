@@ -73,11 +73,7 @@ fitted buffer depth planner pack pad stash batch keep max_input =
       stash = stash;
       keep = keep;
       save = false;
-<<<<<<< HEAD
       batch = batch;
-=======
-      batch = None;
->>>>>>> fca96f4ed050e662cb7af00ba6783c8ec80e678a
       max_input = max_input;
     })
     else None
