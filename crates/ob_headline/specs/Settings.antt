@@ -42,6 +42,11 @@ abbrev pub pad_in : Option Text → Option (Option ℕ)
 pad_in None = Some None
 pad_in (Some text) = option_map Some (at_least 1 (number 1048576 text))
 
+-- how many INSERTs are served together at most, from 2 to 65,535; none are where no number is given
+abbrev pub batch_in : Option Text → Option (Option ℕ)
+batch_in None = Some None
+batch_in (Some text) = option_map Some (at_least 2 (number 65535 text))
+
 -- ---- settings
 
 -- where results are padded, neither Continuous nor Hash is forced
@@ -56,8 +61,8 @@ may_pad (Some rows) (Forced Hash) = false
 
 -- settings whose buffer holds three blocks and one row, and whose plans may be padded
 abbrev pub fitted : (buffer depth : ℕ) → Planner → (pack : ℕ) → (pad : Option ℕ)
-    → (stash : ℕ) → (keep : Bool) → (max_input : ℕ) → Option Config
-fitted buffer depth planner pack pad stash keep max_input =
+    → (stash : ℕ) → (batch : Option ℕ) → (keep : Bool) → (max_input : ℕ) → Option Config
+fitted buffer depth planner pack pad stash batch keep max_input =
     if nat_le (3 * pack + 1) buffer && may_pad pad planner
     then Some (record {
       buffer = buffer;
@@ -68,23 +73,28 @@ fitted buffer depth planner pack pad stash keep max_input =
       stash = stash;
       keep = keep;
       save = false;
-      batch = None;
+      batch = batch;
       max_input = max_input;
     })
     else None
 
 -- settings of which each value has its form and its range
 abbrev pub joined : (buffer depth : Option ℕ) → Option Planner → (pack : Option ℕ)
-    → (pad : Option (Option ℕ)) → (stash : Option ℕ) → (keep : Bool) → (max_input : Option ℕ) → Option Config
-joined None depth planner pack pad stash keep max_input = None
-joined (Some buffer) None planner pack pad stash keep max_input = None
-joined (Some buffer) (Some depth) None pack pad stash keep max_input = None
-joined (Some buffer) (Some depth) (Some planner) None pad stash keep max_input = None
-joined (Some buffer) (Some depth) (Some planner) (Some pack) None stash keep max_input = None
-joined (Some buffer) (Some depth) (Some planner) (Some pack) (Some pad) None keep max_input = None
-joined (Some buffer) (Some depth) (Some planner) (Some pack) (Some pad) (Some stash) keep None = None
-joined (Some buffer) (Some depth) (Some planner) (Some pack) (Some pad) (Some stash) keep (Some max_input) =
-    fitted buffer depth planner pack pad stash keep max_input
+    → (pad : Option (Option ℕ)) → (stash : Option ℕ) → (batch : Option (Option ℕ))
+    → (keep : Bool) → (max_input : Option ℕ) → Option Config
+joined None depth planner pack pad stash batch keep max_input = None
+joined (Some buffer) None planner pack pad stash batch keep max_input = None
+joined (Some buffer) (Some depth) None pack pad stash batch keep max_input = None
+joined (Some buffer) (Some depth) (Some planner) None pad stash batch keep max_input = None
+joined (Some buffer) (Some depth) (Some planner) (Some pack) None stash batch keep max_input = None
+joined (Some buffer) (Some depth) (Some planner) (Some pack) (Some pad) None batch keep
+    max_input = None
+joined (Some buffer) (Some depth) (Some planner) (Some pack) (Some pad) (Some stash) None keep
+    max_input = None
+joined (Some buffer) (Some depth) (Some planner) (Some pack) (Some pad) (Some stash) (Some batch)
+    keep None = None
+joined (Some buffer) (Some depth) (Some planner) (Some pack) (Some pad) (Some stash) (Some batch)
+    keep (Some max_input) = fitted buffer depth planner pack pad stash batch keep max_input
 
 -- the settings that these values spell, each under its name
 abbrev pub settings_in : (Text → Option Text) → Option Config
@@ -92,7 +102,7 @@ settings_in value =
     joined (number_in 4 65536 64 (value (codes "buffer"))) (number_in 1 8 5 (value (codes "depth")))
     (planner_in (value (codes "plan"))) (number_in 1 16 1 (value (codes "pack")))
     (pad_in (value (codes "pad"))) (number_in 1 1024 32 (value (codes "stash")))
-    (is_set (value (codes "keep")))
+    (batch_in (value (codes "batch"))) (is_set (value (codes "keep")))
     (number_in 1024 1073741824 1073741824 (value (codes "max-input")))
 
 -- a place of the mark may be given with `--keep` alone
