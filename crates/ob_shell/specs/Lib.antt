@@ -5,10 +5,12 @@ pub mod Pushed
 pub mod Generating
 pub mod Running
 pub mod Leaving
+pub mod Lines
 pub mod Standing
 pub mod Serving
 pub mod Steps
 pub mod Tallies
+pub mod Waiting
 pub mod Top
 pub mod IsPending
 pub mod Closed

@@ -21,7 +21,7 @@ use Rattle.ob_shell.specs.Feeding.{Fetch, Fed}
 use Rattle.ob_shell.specs.Steps.{Machine, Owed, Steps, PartlyAt, IsUndone, machine_of, standing}
 use Rattle.ob_shell.specs.Tallies.{TallyIs, flagged}
 use Rattle.ob_shell.specs.Traces.{Traces}
-use Rattle.ob_shell.specs.Waiting.{ServedSo}
+use Rattle.ob_shell.specs.Waiting.{IsFree, ServedSo}
 use Rattle.ob_sql.specs.declared.stmt.Stmt.{Stmt}
 use Rattle.ob_shell.specs.declared.session.Halted.{Halted}
 use Rattle.ob_shell.specs.declared.session.TextHalted.{TextHalted}
@@ -95,7 +95,8 @@ pub record SoFar {R : Type 0} (state : R → RevState) (feed0 feed1 : Fetch)
   pub passed : List ℕ
   pub fed : Fed feed0 feed1 left0 left1 passed
   pub pending_is : pending ≡ rest_of [] passed
-  pub so : ServedSo state written0 written1 (texts_of [] passed) batch empty_tally tally m0 m1
+  pub so : ServedSo state written0 written1 (texts_of [] passed) batch
+      (IsFree (public_of m1.engine) batch) empty_tally tally m0 m1
 
 -- by how the session ended: how far the texts were served, and where the limits stood
 abbrev pub EndsBy : (feed1 : Fetch) (ended : Bool) (bytes : List ℕ) (more : List (List ℕ))

@@ -1,6 +1,7 @@
 //! From the bytes of the input to the bytes of the answers.
 #![tactic(auto)]
 
+mod batching;
 mod feed;
 mod generating;
 mod keeping;
