@@ -1,6 +1,6 @@
 -- INSERTs that are served together: what begins a batch and goes into it, and that they mean the same while they aren't late.
 use Rattle.std.proofs.Common.{◌≡◌, ℕ, ◌+◌, ◌-◌, ◌^◌, ◌≤◌, ◌<◌, Bool, true, false, List, [], ◌∷◌, length, Option, Some, None, refl, sym, ◌∙◌, ap, arith}
-use Rattle.std.specs.Prelude.{IsSome, bytes_eq, is_some, min, nat_le, nat_lt, ◌&&◌, if◌then◌else◌}
+use Rattle.std.specs.Prelude.{IsSome, bytes_eq, is_some, max, min, nat_le, nat_lt, ◌&&◌, if◌then◌else◌}
 use Rattle.std.specs.List.{All}
 use Rattle.std.specs.Option.{is_none, option_map_or, option_or}
 use Rattle.std.proofs.lemmas.Bool.{and_parts, leb-true, ltb-true, not-true}
@@ -95,11 +95,18 @@ goes_in p (Some g) s is =
       same = named_by g.table (inserts_into s) last.1;
     }
 
+some_in : (f : ℕ → ℕ) (o : Option ℕ) → ((m : ℕ) → 1 ≤ f m) → 1 ≤ option_map_or f o 1
+some_in f None some = omega arith
+some_in f (Some m) some = some m
+
+pub most_some : (p : Public) → 1 ≤ batch_most p
+most_some p = some_in (λ (m : ℕ). max 1 (min m (p.buffer - p.pack))) p.batch (λ m. omega arith)
+
 -- ---- where batches aren't asked for
 module _ (p : Public) (alone : p.batch ≡ None) where
   pub none_begin : (m : ℕ) (stmt : Stmt) → begins_batch p m stmt ≡ false
   none_begin m stmt =
-      ap (λ (o : Option ℕ). nat_le 2 (option_map_or (λ (n : ℕ). min n (p.buffer - p.pack)) o 1) && leaves_room m && inserts_flat p (skeleton stmt) && is_unrefused p m stmt) alone
+      ap (λ (o : Option ℕ). nat_le 2 (option_map_or (λ (n : ℕ). max 1 (min n (p.buffer - p.pack))) o 1) && leaves_room m && inserts_flat p (skeleton stmt) && is_unrefused p m stmt) alone
 
   pub none_join : (g : Option Gathering) (s : Skeleton) → goes_into p g s ≡ false
   none_join None s = refl
