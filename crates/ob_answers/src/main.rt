@@ -5,7 +5,7 @@
 
 ghost use Rattle.std.specs.Prelude.{◌≤◌, ◌+◌, ◌*◌, IfSome};
 
-use ob_base::{Config, Emit, EmitErr, Items, NoMemory, Refusal, Shown};
+use ob_base::{Config, Emit, EmitErr, Items, NoMemory, Planner, Refusal, Shown};
 use ob_io::{Sink, StdSink};
 use ob_mean::Answer;
 use ob_parse::{ParseErr, parse};
@@ -56,7 +56,7 @@ fn settings(buffer: u32, pack: u8, stash: u32) -> Option<Config>
         buffer,
         depth: 5,
         pack,
-        plan: None,
+        planner: Planner::Auto,
         pad: None,
         stash,
         keep: false,
