@@ -13,6 +13,7 @@
 //! `finish` and `cut`, by which each one ends.
 #![tactic(auto)]
 
+mod batching;
 mod closing;
 mod creating;
 mod deleting;
