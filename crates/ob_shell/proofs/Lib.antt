@@ -20,11 +20,14 @@ pub mod TallyLemmas
 pub mod TopLemmas
 pub mod TraceLemmas
 pub mod ReplayLemmas
+pub mod WithLemmas
 pub mod LastingLemmas
 pub mod CalmLemmas
 pub mod FailureLemmas
 pub mod LeafLemmas
+pub mod HowLemmas
 mod WalkLemmas
+mod WalkSteps
 pub mod HeadLemmas
 pub mod OpenLemmas
 pub mod CloseLemmas

@@ -18,7 +18,7 @@ use Rattle.ob_headline.specs.Words.{Answer, Faults, NoneRose, SinksRose, Took, a
 use Rattle.ob_print.specs.Cuts.{Outputs}
 use Rattle.ob_reopen.specs.Keepers.{KeeperState}
 use Rattle.ob_shell.specs.Feeding.{Fetch, Fed}
-use Rattle.ob_shell.specs.Steps.{Machine, Owed, Steps, PartlyAt, IsUndone, machine_of, standing}
+use Rattle.ob_shell.specs.Steps.{Follow, Machine, Owed, Steps, PartlyAt, IsUndone, machine_of, standing}
 use Rattle.ob_shell.specs.Tallies.{TallyIs, flagged}
 use Rattle.ob_shell.specs.Traces.{Traces}
 use Rattle.ob_shell.specs.Waiting.{IsFree, ServedSo}
@@ -154,6 +154,7 @@ pub record SessionRan {R : Type 0} (state : R → RevState) (tracing : Bool) (fe
   -- what was carried out of those that were not answered
   pub owed : List Owed
   pub gathered : Option Gathering
+  pub follow : Follow more owed
   pub last : LastPart state middle (standing m2 owed gathered) more part (flagged result)
   pub cut : Outputs written0 written1 Lost (printed answers ++ part)
   pub whole : Took written0 written1 (printed answers)

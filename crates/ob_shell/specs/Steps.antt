@@ -1,8 +1,9 @@
 -- What texts do to an engine, its store and the keeper behind it, one after the other, and what is printed of them.
-use Rattle.std.specs.Prelude.{ℕ, Bool, ◌≡◌, ◌⊎◌, ◌+◌, ⊤, true, false, List, [], ◌∷◌, ◌++◌, map, Option, None, Some, Result, Ok, Err}
+use Rattle.std.specs.Prelude.{ℕ, Bool, ◌≡◌, ◌⊎◌, ◌+◌, ◌<◌, ⊤, true, false, List, [], ◌∷◌, ◌++◌, length, map, Option, None, Some, Result, Ok, Err}
 use Rattle.std.specs.Option.{option_map_or}
 use Rattle.std.specs.Io.KnownBytes.{Appends}
 use Rattle.ob_base.specs.Events.{Event}
+use Rattle.ob_base.specs.Stored.{headings, headings_of}
 use Rattle.ob_base.specs.declared.config.Plan.{Plan}
 use Rattle.ob_base.specs.declared.config.Public.{Public}
 use Rattle.ob_base.specs.declared.refusal.Refusal.{Refusal}
@@ -27,9 +28,10 @@ use Rattle.ob_exec.specs.Saving.{MaySave}
 use Rattle.ob_gen.specs.declared.tally.Tally.{Tally}
 use Rattle.ob_headline.specs.Closing.{closing_line}
 use Rattle.ob_headline.specs.Words.{Answer, printed}
-use Rattle.ob_headline.specs.Statements.{Spells}
+use Rattle.ob_headline.specs.Batches.{AllInsert}
+use Rattle.ob_headline.specs.Statements.{SpellFirst, Spells}
 use Rattle.ob_headline.specs.Meaning.{PrintsUntil}
-use Rattle.ob_mean.specs.Batches.{Gathering, gathering_after, goes_into, settle_all}
+use Rattle.ob_mean.specs.Batches.{Gathering, batch_most, gathering_after, goes_into, settle_all}
 use Rattle.ob_mean.specs.Lawful.{Lawful}
 use Rattle.ob_mean.specs.Replay.{Session, draws_taken, is_access}
 use Rattle.ob_mean.specs.Settle.{settle}
@@ -102,7 +104,8 @@ pub record IsReady {R : Type 0} (state : R → RevState) (Saves : Type 0) (m : M
 -- the text is no statement, and ends what is gathered
 pub record Misspelt {R : Type 0} (m0 m1 : Machine R) (text : List ℕ)
     (answer : Answer) : Type 0 where
-  pub owed : m1.owed ≡ m0.owed
+  pub free : m0.owed ≡ []
+  pub owed : m1.owed ≡ []
   pub gathered : m1.gathered ≡ None
   pub at : ℕ
   pub spells : Spells text (Err at)
@@ -138,14 +141,21 @@ tables_behind m d tables =
 -- a machine stands at these tables: behind those that come next and were carried out its engine and its store hold what is meant
 pub record Holds {R : Type 0} (state : R → RevState) (m : Machine R) (d : Draws) (tables : Tables)
     : Type 0 where
+  pub listed : headings tables ≡ headings_of (public_of m.engine).tables
   pub held : Represents state m.engine m.store (tables_behind m d tables)
   pub owed : AreOwed d (public_of m.engine) (asked_of m) m.owed tables
+
+-- they are INSERTs into the table of this one, fewer than a batch may have
+pub record GoTogether (p : Public) (stmt : Stmt) (owed : List Owed) : Type 0 where
+  pub few : length owed < batch_most p
+  pub alike : (owed ≡ []) ⊎ ((table : List ℕ) × AllInsert table (stmt ∷ statements_of owed))
 
 -- the engine, which agreed with its store, carried out a statement by itself, and maybe others with it, whatever it answered
 pub record Does {R : Type 0} (state : R → RevState) (m0 m1 : Machine R) (stmt : Stmt)
     (result : Result Outcome RunStop) : Type 0 where
   pub free : m0.owed ≡ []
   pub alone : goes_into (public_of m0.engine) m0.gathered (skeleton stmt) ≡ false
+  pub along : GoTogether (public_of m0.engine) stmt m1.owed
   pub agrees : Agrees state m0.engine m0.store
   pub ran : RanWhole state (skeleton stmt) result m0.engine m0.store m1.engine m1.store
   pub early : RefusedEarly (refusal_now (public_of m0.engine) (asked_of m0) stmt) result
@@ -184,6 +194,7 @@ settled_by m stmt d tables = settle d (public_of m.engine) (asked_of m) tables s
 -- those that were carried out with a statement mean the same by what is public behind it as before it, and were answered so
 pub record Owes {R : Type 0} (m0 m1 : Machine R) (stmt : Stmt) (d : Draws) (tables : Tables)
     : Type 0 where
+  pub listed : headings (settled_by m0 stmt d tables) ≡ headings_of (public_of m1.engine).tables
   pub same : tables_behind m1 (draws_behind m0 m1 stmt d) (settled_by m0 stmt d tables)
       ≡ settle_all d (public_of m0.engine) (asked_of m0) (statements_of m1.owed)
       (settled_by m0 stmt d tables)
@@ -235,6 +246,7 @@ pub record ServedWith {R : Type 0} (m0 m1 : Machine R) (text : List ℕ) (answer
   pub stmt : Stmt
   pub spells : Spells text (Ok stmt)
   pub joins : goes_into (public_of m0.engine) m0.gathered (skeleton stmt) ≡ true
+  pub along : GoTogether (public_of m0.engine) stmt m1.owed
   pub unindexed : is_access (public_of m0.engine) (skeleton stmt) ≡ false
   pub answered : AnswersWith (refusal_now (public_of m0.engine) (asked_of m0) stmt)
       (has_failed m0.gathered) answer.outcome
@@ -292,6 +304,7 @@ Steps {R = R} state m0 m2 (text ∷ texts) answers =
 -- nothing was done
 pub record IsUndone {R : Type 0} (m0 m1 : Machine R) (bytes : List ℕ) : Type 0 where
   pub machine : m1 ≡ m0
+  pub free : m0.owed ≡ []
   pub none : bytes ≡ []
 
 -- it was answered, and a sink failed within its last line or after it
@@ -306,6 +319,12 @@ pub record Finished {R : Type 0} (state : R → RevState) (m0 m1 : Machine R) (t
 pub record Idle {R : Type 0} (m0 m1 : Machine R) (stop : RunStop) (bytes : List ℕ) : Type 0 where
   pub rests : IsUndone m0 m1 bytes
   pub memory : stop ≡ NoMemory
+
+-- the texts behind the first spell those that come next and were carried out
+abbrev pub Follow : (texts : List (List ℕ)) → List Owed → Type 0
+Follow texts [] = ⊤
+Follow [] (one ∷ owed) = ⊥
+Follow (text ∷ texts) (one ∷ owed) = SpellFirst texts (map Ok (statements_of (one ∷ owed)))
 
 -- what a stop left of the first of these texts
 abbrev pub PartlyAt : {R : Type 0} → (R → RevState) → Machine R → Machine R → List (List ℕ)

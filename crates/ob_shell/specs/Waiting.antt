@@ -9,7 +9,7 @@ use Rattle.ob_headline.specs.Statements.{Spells}
 use Rattle.ob_headline.specs.Words.{Answer, Took, printed}
 use Rattle.ob_mean.specs.Batches.{Gathering, batch_most, begins_batch, goes_into, inserts_into}
 use Rattle.ob_print.specs.Cuts.{Outputs}
-use Rattle.ob_shell.specs.Steps.{Machine, Owed, PartlyAt, Steps, standing}
+use Rattle.ob_shell.specs.Steps.{Follow, Machine, Owed, PartlyAt, Steps, standing}
 use Rattle.ob_shell.specs.Tallies.{tally_after}
 use Rattle.ob_shell.specs.Traces.{Traces}
 use Rattle.ob_sql.specs.Skeleton.{skeleton}
@@ -108,6 +108,7 @@ pub record BreaksIn {R : Type 0} (state : R → RevState) (tracing : Bool)
   pub steps : Steps state m0 middle served answers
   pub owed : List Owed
   pub gathered : Option Gathering
+  pub follow : Follow more owed
   pub bytes : List ℕ
   pub partly : PartlyAt state middle (standing m1 owed gathered) more stop bytes
   pub cut : Outputs written0 written1 Lost (printed answers ++ bytes)
