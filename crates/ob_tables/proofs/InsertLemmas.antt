@@ -89,7 +89,7 @@ silent_inserted Full = tt
 
 pub insert_alters : (p : Public) (m : ℕ) (name : List ℕ) (columns : Option (List (List ℕ))) (values : List Literal) (heading : Heading) (cs : Columns) (row : Row)
     → heading.shape ≡ Flat → cs ≡ heading.schema → row ≡ new_row heading.schema columns values
-    → Alters p m (InsertStmt name columns values) name heading insert_part inserted_as (insert_answer cs row) (λ slots. slots_after (insert_answer cs row slots) row slots)
+    → Alters p m (InsertStmt name columns values) [] name heading insert_part inserted_as (insert_answer cs row) (λ slots. slots_after (insert_answer cs row slots) row slots)
 insert_alters p m name columns values heading cs row flat schema_is row_is = record {
   script = λ end. refl;
   leaves = refl;
