@@ -180,6 +180,8 @@ class Run:
                 else "large" if 3 * slots <= 4 * k
                 else "hash"
             )
+        if plan == "cheapest":
+            plan = self.cheapest(slots, k, together)
         if plan == "continuous" and not together:
             return False
         self.plans[plan] += 1
@@ -194,6 +196,18 @@ class Run:
                 return False
             self.small(region, slots, width, k)
         return True
+
+    def cheapest(self, slots, k, together):
+        """The plan that asks least, the first of those that ask as much."""
+        table, result = self.blocks(slots), self.blocks(k)
+        asked = {
+            "small": 1 + up(k, self.chunk) * table + result + result + 1,
+            "continuous": 1 + result + table + 2 * slots + result + 1,
+            "large": 1 + 4 * table + table + 1,
+        }
+        if not together:
+            del asked["continuous"]
+        return min(asked, key=asked.get)
 
     def join(self, left, lefts, right, rights, width, selected):
         """A SELECT over a join, of which these pairs are selected: whether it was answered."""
@@ -212,7 +226,8 @@ class Run:
     def padded(self, region, slots, width, k):
         """A result of as many rows as the others are padded to, whatever is selected."""
         rows = min(self.pad, slots)
-        if self.plan == "large" or (self.plan == "auto" and rows > 4 * self.chunk):
+        by_large = {"auto": rows > 4 * self.chunk, "cheapest": self.cheapest(slots, rows, False) == "large", "large": True, "small": False}
+        if by_large[self.plan]:
             self.large(region, slots, width)
         else:
             self.small(region, slots, width, rows)
@@ -365,11 +380,20 @@ def main():
         counted("forty rows, three in a block", 5, 40, " --buffer 10 --pack 3", buffer=10, pack=3),
         counted("a hundred rows by each plan, and by Small behind Hash", 2, 100, " --buffer 4 --depth 1", buffer=4, depth=1),
         counted("the same with deeper buckets", 2, 100, " --buffer 4", buffer=4),
+        counted("the least table, by what asks least", 0, 1, " --plan cheapest", traced=True, plan="cheapest"),
+        counted("twelve rows by what asks least", 0, 12, " --buffer 4 --plan cheapest", traced=True, buffer=4, plan="cheapest"),
+        counted("forty rows by what asks least", 5, 40, " --buffer 4 --plan cheapest", buffer=4, plan="cheapest"),
+        counted("a hundred rows by what asks least", 2, 100, " --buffer 4 --depth 1 --plan cheapest", buffer=4, depth=1, plan="cheapest"),
+        counted("the same with two rows in a block", 2, 100, " --buffer 7 --pack 2 --plan cheapest", buffer=7, pack=2, plan="cheapest"),
+        counted("the same with sixteen", 2, 100, " --buffer 64 --pack 16 --plan cheapest", buffer=64, pack=16, plan="cheapest"),
         counted("twelve rows, padded to as many", 0, 12, " --pad 12 --buffer 4", traced=True, pad=12, buffer=4),
         counted("twelve rows, padded to as many as four of Small", 0, 12, " --pad 8 --buffer 4", pad=8, buffer=4),
         counted("twelve rows, padded to one more, by Large", 0, 12, " --pad 9 --buffer 4", pad=9, buffer=4),
         counted("twelve rows, padded to two, which some results pass", 0, 12, " --pad 2", traced=True, pad=2),
         counted("forty rows, padded to more than there are, three in a block", 5, 40, " --pad 1048576 --buffer 10 --pack 3", pad=1048576, buffer=10, pack=3),
+        counted("twelve rows, padded to six, by what asks least", 0, 12, " --pad 6 --buffer 4 --plan cheapest", pad=6, buffer=4, plan="cheapest"),
+        counted("twelve rows, padded to eight, by what asks least", 0, 12, " --pad 8 --buffer 4 --plan cheapest", pad=8, buffer=4, plan="cheapest"),
+        counted("forty rows, padded, by what asks least, three in a block", 5, 40, " --pad 24 --buffer 10 --pack 3 --plan cheapest", pad=24, buffer=10, pack=3, plan="cheapest"),
         counted("twelve rows, padded, by Large", 0, 12, " --pad 12 --plan large", pad=12, plan="large"),
         counted("twelve rows, padded, by Small", 0, 12, " --pad 12 --plan small", pad=12, plan="small"),
         failed(),

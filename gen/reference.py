@@ -17,9 +17,9 @@ TOP = pathlib.Path(__file__).resolve().parent.parent
 DATA = TOP / "crates/ob_cases/data"
 
 # The rows that may be open, those of a block, and the plan: each session has one of these.
-SETTINGS = [(64, 1, ""), (4, 1, ""), (7, 2, ""), (16, 4, ""), (10, 3, ""), (64, 16, ""), (8, 1, "small"), (8, 2, "large"), (5, 1, "")]
+SETTINGS = [(64, 1, ""), (4, 1, ""), (7, 2, ""), (16, 4, ""), (10, 3, "cheapest"), (64, 16, ""), (8, 1, "small"), (8, 2, "large"), (5, 1, "cheapest")]
 # The same over indexes, and the slots of a stash: each has room for all keys of any index that the open rows are enough for.
-INDEXED_SETTINGS = [(64, 1, "", 32), (64, 16, "", 32), (25, 1, "", 8), (17, 2, "small", 4), (80, 8, "large", 24), (49, 3, "", 24)]
+INDEXED_SETTINGS = [(64, 1, "", 32), (64, 16, "", 32), (25, 1, "", 8), (17, 2, "small", 4), (80, 8, "large", 24), (49, 3, "cheapest", 24)]
 NAMES = ["id", "v", "w", "name", "city", "total", "k1", "_x"]
 WORDS = ["", "a", "ab", "it's", "Zoe", "x y", "--no comment", "a;b", "zzzzzzzzzzzz"]
 

@@ -17,5 +17,6 @@ first_public config =
       stash = config.stash;
       keep = config.keep;
       save = config.save;
+      batch = config.batch;
       closing = None;
     }

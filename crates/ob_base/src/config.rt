@@ -41,6 +41,9 @@ pub struct Config {
     pub keep: bool,
     /// Whether they are saved behind each statement that changes them: then they are kept, too.
     pub save: bool,
+    /// How many INSERTs that follow one another into one flat table may be served in one pass, where they
+    /// are gathered: 2 to 65,535.
+    pub batch: Option<u32>,
     /// The input has fewer bytes: 1,024 to 1,073,741,824.
     pub max_input: u64,
 }
@@ -58,6 +61,7 @@ pub struct Public {
     pub stash: u32,
     pub keep: bool,
     pub save: bool,
+    pub batch: Option<u32>,
     /// The region in which the tables are listed, where they are saved and were once.
     pub closing: Option<u64>,
 }

@@ -9,6 +9,8 @@ use Rattle.ob_base.specs.Schemas.{Columns}
 use Rattle.ob_base.specs.Stored.{headings, headings_of}
 use Rattle.ob_base.specs.declared.config.Plan.{Plan}
 use Rattle.ob_base.specs.declared.config.Plan.TheVariants.{Small, Large, Continuous, Hash}
+use Rattle.ob_base.specs.declared.config.Planner.{Planner}
+use Rattle.ob_base.specs.declared.config.Planner.TheVariants.{Auto, Cheapest, Forced}
 use Rattle.ob_base.specs.declared.config.Public.{Public}
 use Rattle.ob_base.specs.declared.refusal.Refusal.{Refusal}
 use Rattle.ob_base.specs.declared.schema.Heading.{Heading}
@@ -70,16 +72,17 @@ module _ (p : Public) (ts : Tables) where
   places_plain : (q : SelectRows) → selected_places (plain p) q ts ≡ selected_places p q ts
   places_plain q = ap (λ (slots : Slots). selected (is_true (select_condition q (headings ts))) slots) (source_plain q.source)
 
-  forced_plain : (plan : Option Plan) (places : List ℕ) → forced_refusal (plain p) plan places ≡ forced_refusal p plan places
-  forced_plain None places = refl
-  forced_plain (Some Small) places = refl
-  forced_plain (Some Large) places = refl
-  forced_plain (Some Continuous) places = refl
-  forced_plain (Some Hash) places = refl
+  forced_plain : (planner : Planner) (places : List ℕ) → forced_refusal (plain p) planner places ≡ forced_refusal p planner places
+  forced_plain Auto places = refl
+  forced_plain Cheapest places = refl
+  forced_plain (Forced Small) places = refl
+  forced_plain (Forced Large) places = refl
+  forced_plain (Forced Continuous) places = refl
+  forced_plain (Forced Hash) places = refl
 
   unpadded_plain : (places : List ℕ) → unpadded_refusal (plain p) places ≡ unpadded_refusal p places
   unpadded_plain [] = refl
-  unpadded_plain (i ∷ is) = forced_plain p.plan (i ∷ is)
+  unpadded_plain (i ∷ is) = forced_plain p.planner (i ∷ is)
 
   refusal_plain : (pad : Option ℕ) (places : List ℕ) → refusal_by pad (plain p) places ≡ refusal_by pad p places
   refusal_plain None places = unpadded_plain places

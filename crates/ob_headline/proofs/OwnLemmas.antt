@@ -8,7 +8,7 @@ use Rattle.ob_base.specs.declared.schema.Shape.TheVariants.{Flat, Indexed}
 use Rattle.ob_base.specs.Indexes.{by_shape, height_of, tree_blocks}
 use Rattle.ob_base.specs.Accesses.{discard_at, drop_script, make_at, makes, read_at, write_at}
 use Rattle.ob_base.specs.Joins.{joined_slots}
-use Rattle.ob_base.specs.Limits.{buffered, buffered_blocks}
+use Rattle.ob_base.specs.Limits.{buffered_blocks}
 use Rattle.ob_base.specs.Lists.{each}
 use Rattle.ob_base.specs.Numbers.{blocks_for, first_bucket, second_bucket}
 use Rattle.ob_base.specs.Plans.{choose_padded, padded_rows}
@@ -264,7 +264,7 @@ after n g from p seen (Some k) t ending order a = go seen.plan seen.then order
 behind : (n g : ℕ) → n ≤ g → (pad : Option ℕ) (p : Public) (seen : Seen) (t : Stored ℕ) (ending : List Access) → InOrder seen.plan seen.then → Anywhere n ending → InTurn n g (behind_count pad p seen g (extent_of t) ending)
 behind n g from None p seen t ending order a = after n g from p seen seen.k t ending order a
 behind n g from (Some pad) p seen t ending order a =
-    let q = padded_rows pad t.heading.capacity in results n g from ending (a (g + 1)) p (choose_padded p.plan (buffered p.pack p.buffer) q) q t
+    let q = padded_rows pad t.heading.capacity in results n g from ending (a (g + 1)) p (choose_padded p.planner p.pack p.buffer t.heading.capacity q) q t
 
 selects : (n g : ℕ) → n ≤ g → (p : Public) (seen : Seen) (t : Stored ℕ) (ending : List Access) → InOrder seen.plan seen.then → Anywhere n ending → InTurn n g (select_part p seen g (extent_of t) ending)
 selects n g from p seen t ending order a =

@@ -34,7 +34,7 @@ k = codes "k"
 
 -- with a stash of one row
 abbrev by_one : Public
-by_one = first_public (record { buffer = 64; depth = 5; pack = 1; planner = Auto; pad = None; stash = 1; keep = false; save = false; max_input = 1048576 })
+by_one = first_public (record { buffer = 64; depth = 5; pack = 1; planner = Auto; pad = None; stash = 1; keep = false; save = false; batch = None; max_input = 1048576 })
 
 -- the next draw is this number
 abbrev drawing : ℕ → Draws

@@ -7,7 +7,7 @@ use Rattle.ob_base.specs.declared.config.Plan.TheVariants.{Small, Continuous, Ha
 use Rattle.ob_base.specs.declared.config.Planner.TheVariants.{Auto, Forced}
 use Rattle.ob_base.specs.declared.seen.Seen.{Seen}
 use Rattle.ob_base.specs.declared.seen.End.{End}
-use Rattle.ob_base.specs.declared.seen.End.TheVariants.{Static, Whole, AfterCount, Cut}
+use Rattle.ob_base.specs.declared.seen.End.TheVariants.{Static, Whole, AfterCount, Joined, Cut}
 use Rattle.ob_base.specs.declared.schema.Heading.{Heading}
 use Rattle.ob_base.specs.declared.skeleton.Source.{Source}
 use Rattle.ob_base.specs.declared.skeleton.Source.TheVariants.{Table as OneTable, Join}
@@ -22,6 +22,7 @@ use Rattle.ob_script.specs.Sizes.{EndsWithin}
 use Rattle.ob_sql.specs.declared.stmt.Stmt.{Stmt}
 use Rattle.ob_sql.specs.declared.stmt.Stmt.TheVariants.{SelectRows as RowsStmt}
 use Rattle.ob_sql.specs.Skeleton.{skeleton}
+use Rattle.ob_mean.specs.Batches.{inserts_into}
 use Rattle.ob_mean.specs.Refusals.{early_refusal, limits_of}
 use Rattle.ob_mean.specs.Verdict.{is_late}
 use Rattle.ob_mean.specs.Replay.{count_end, is_access, walk_end}
@@ -63,13 +64,22 @@ abbrev pub EndsFrom : ℕ → End → Type 0
 EndsFrom m Static = ⊥
 EndsFrom m Whole = ⊤
 EndsFrom m AfterCount = ⊥
+EndsFrom m Joined = ⊥
 EndsFrom m (Cut n) = m ≤ n
 
--- without k: it was refused before any access, is no SELECT of rows or one whose result is padded, or was cut off
+-- an INSERT into a flat table, where batches are asked for
+pub record JoinsBatch (p : Public) (stmt : Stmt) : Type 0 where
+  pub batched : IsSome p.batch
+  pub inserts : IsSome (inserts_into (skeleton stmt))
+  pub flat : is_access p (skeleton stmt) ≡ false
+
+-- without k: it was refused before any access, is no SELECT of rows or one whose result is padded, was served with an INSERT
+-- before it, or was cut off
 abbrev pub EndsUncounted : Public → Stmt → End → Type 0
 EndsUncounted p stmt Static = ⊤
 EndsUncounted p stmt Whole = (is_counted p stmt ≡ false) ⊎ IsSome p.pad
 EndsUncounted p stmt AfterCount = ⊥
+EndsUncounted p stmt Joined = JoinsBatch p stmt
 EndsUncounted p stmt (Cut n) = ⊤
 
 -- with k and without a plan, behind a count of m accesses: none is selected, or Continuous is forced and refused
@@ -77,6 +87,7 @@ abbrev pub EndsUnplanned : Public → (k m : ℕ) → End → Type 0
 EndsUnplanned p k m Static = ⊥
 EndsUnplanned p k m Whole = k ≡ 0
 EndsUnplanned p k m AfterCount = (1 ≤ k) × (p.planner ≡ Forced Continuous)
+EndsUnplanned p k m Joined = ⊥
 EndsUnplanned p k m (Cut n) = (m ≤ n) × ((k ≡ 0) ⊎ (p.planner ≡ Forced Continuous))
 
 -- what may be held together of k, the plan and the one after it: nothing, k alone, also where it is refused for it,

@@ -1,24 +1,24 @@
 //! The planner: which way a SELECT writes its rows, from sizes alone.
 #![tactic(auto)]
 
-mod lengths;
 mod laws;
+mod lengths;
 
 ghost use Rattle.std.specs.Prelude.{◌≡◌, ◌*◌, ◌≤◌};
 ghost use Rattle.ob_base.specs.declared.config.Planner.TheVariants.{Cheapest};
 ghost use Rattle.ob_base.specs.Limits.{buffered};
 ghost use Rattle.ob_base.specs.Plans.{by_buffer, choose, choose_padded};
 
-pub use laws::cheapest_fits;
-
 use crate::lengths::{continuous_length, large_length, small_length};
+pub use laws::cheapest_fits;
 use ob_base::{Plan, Planner, Public};
 
 /// The plan for `k` selected rows among `n` slots, which stand side by side or don't: the one that is
 /// forced, or else the one by the rows that may be buffered, or that with the shortest script.
 pub fn plan(n: u32, k: u32, consecutive: bool, public: &Public) -> Plan
     requires pack { 1 ≤ public.now.pack }
-    requires buffer { 3 * public.now.pack ≤ public.now.buffer }
+    requires buffer { 2 * public.now.pack ≤ public.now.buffer }
+    requires cheapest { public.now.planner ≡ Cheapest → 3 * public.now.pack ≤ public.now.buffer }
     ensures { result
         ≡ choose public.now.planner public.now.pack public.now.buffer n k consecutive }
 {
@@ -82,12 +82,13 @@ fn shorter(n: u32, k: u32, public: &Public) -> Plan
 /// by the rows that may be buffered or by which script is shorter.
 pub fn padded_plan(n: u32, q: u32, public: &Public) -> Plan
     requires pack { 1 ≤ public.now.pack }
-    requires buffer { 3 * public.now.pack ≤ public.now.buffer }
+    requires buffer { 2 * public.now.pack ≤ public.now.buffer }
+    requires cheapest { public.now.planner ≡ Cheapest → 3 * public.now.pack ≤ public.now.buffer }
     ensures { result
         ≡ choose_padded public.now.planner public.now.pack public.now.buffer n q }
 {
     match public.planner {
-        Planner::Forced(plan) => plan,
+        Planner::Forced(forced) => forced,
         Planner::Cheapest => shorter(n, q, public),
         Planner::Auto if u64::from(q) <= 4 * buffered_rows(public) => Plan::Small,
         Planner::Auto => Plan::Large,

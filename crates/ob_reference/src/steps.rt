@@ -68,6 +68,7 @@ fn public_of(alloc: Global, config: &Config, tables: &[Held]) -> Result<Public, 
             stash: config.stash,
             keep: config.keep,
             save: config.save,
+            batch: config.batch,
             closing: None,
         }),
     }

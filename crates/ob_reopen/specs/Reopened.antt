@@ -31,6 +31,7 @@ opened_public config closing listed = record {
   stash = config.stash;
   keep = config.keep;
   save = config.save;
+  batch = config.batch;
   closing = if config.save then Some closing.region else None;
 }
 

@@ -6,7 +6,7 @@ use Rattle.ob_base.specs.declared.access.Access.{Access}
 use Rattle.ob_base.specs.declared.schema.Table.{Table}
 use Rattle.ob_base.specs.declared.seen.Seen.{Seen}
 use Rattle.ob_base.specs.declared.seen.End.{End}
-use Rattle.ob_base.specs.declared.seen.End.TheVariants.{Static, Whole, AfterCount, Cut}
+use Rattle.ob_base.specs.declared.seen.End.TheVariants.{Static, Whole, AfterCount, Joined, Cut}
 use Rattle.ob_base.specs.declared.skeleton.Source.{Source}
 use Rattle.ob_base.specs.declared.skeleton.Source.TheVariants.{Table as OneTable, Join}
 use Rattle.ob_base.specs.declared.skeleton.Skeleton.{Skeleton}
@@ -308,4 +308,5 @@ script_few p s seen h w = go seen.end w where
   go Static w = omega arith
   go Whole w = whole_few p s seen h (w (λ e. cc))
   go AfterCount w = whole_few p s seen h (w (λ e. cc))
+  go Joined w = omega arith
   go (Cut n) w = let m = whole_few p s seen h (w (λ e. cc)) in omega (arith, length-take n (whole_script p s seen))

@@ -11,3 +11,4 @@ pub mod Few
 pub mod Makes
 pub mod SavedParts
 pub mod Shortest
+pub mod Unasked

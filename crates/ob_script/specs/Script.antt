@@ -9,7 +9,7 @@ use Rattle.ob_base.specs.declared.schema.Heading.{Heading}
 use Rattle.ob_base.specs.declared.schema.Shape.{Shape}
 use Rattle.ob_base.specs.declared.seen.Seen.{Seen}
 use Rattle.ob_base.specs.declared.seen.End.{End}
-use Rattle.ob_base.specs.declared.seen.End.TheVariants.{Static, Whole, AfterCount, Cut}
+use Rattle.ob_base.specs.declared.seen.End.TheVariants.{Static, Whole, AfterCount, Joined, Cut}
 use Rattle.ob_base.specs.declared.skeleton.Source.{Source}
 use Rattle.ob_base.specs.declared.skeleton.Source.TheVariants.{Table as OneTable, Join}
 use Rattle.ob_base.specs.declared.skeleton.Skeleton.{Skeleton}
@@ -162,6 +162,7 @@ abbrev pub closing_then : Public → Skeleton → End → Option ℕ
 closing_then p s Static = p.closing
 closing_then p s Whole = if is_saved p s then Some (closing_behind p s) else p.closing
 closing_then p s AfterCount = p.closing
+closing_then p s Joined = p.closing
 closing_then p s (Cut n) = p.closing
 
 -- ---- all statements
@@ -202,6 +203,7 @@ abbrev pub until_end : End → List Access → List Access
 until_end Static all = []
 until_end Whole all = all
 until_end AfterCount all = all
+until_end Joined all = []
 until_end (Cut n) all = take n all
 
 abbrev pub script : Public → Skeleton → Seen → List Access

@@ -12,8 +12,8 @@ mod tree;
 
 pub use bucket::{first_bucket, second_bucket};
 pub use laws::{
-    buffers_by_rows, cheapest_is_shortest, part_lengths, part_makes, saved_scripts,
-    scripts_are_short,
+    buffers_by_rows, cheapest_is_shortest, joined_asks_nothing, part_lengths, part_makes,
+    saved_scripts, scripts_are_short,
 };
 pub use script::{script_len, script_nth};
 pub use tree::tree_blocks;

@@ -726,7 +726,7 @@ pub fn script_len(public: &Public, skeleton: &Skeleton, seen: &Seen) -> u64
     ensures { result ≡ length (script public.now skeleton.now seen.now) }
 {
     match seen.end {
-        End::Static => 0,
+        End::Static | End::Joined => 0,
         End::Whole | End::AfterCount => whole(public, skeleton, seen).len(),
         End::Cut(n) => n.min(whole(public, skeleton, seen).len()),
     }

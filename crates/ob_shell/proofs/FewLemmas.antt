@@ -8,7 +8,7 @@ use Rattle.ob_base.proofs.AccessLemmas.{makes_few}
 use Rattle.ob_base.specs.Accesses.{discard_at}
 use Rattle.ob_base.specs.Indexes.{height_of}
 use Rattle.ob_base.specs.Joins.{joined_slots}
-use Rattle.ob_base.specs.Limits.{buffered, buffered_blocks}
+use Rattle.ob_base.specs.Limits.{buffered_blocks}
 use Rattle.ob_base.specs.Plans.{choose_padded, padded_rows}
 use Rattle.ob_base.specs.Schemas.{width}
 use Rattle.ob_base.specs.Stored.{Stored, heading_at, headings_of, stored_at, stored_regions}
@@ -223,7 +223,7 @@ result_same p (Some Hash) k g t = refl
 
 behind_same : (p : Public) (seen : Seen) (pad k : Option ℕ) (g : ℕ) (t : _) (ending : List Access) → seen.k ≡ k → behind_count pad (stashless p) seen g t ending ≡ behind_count pad p seen g t ending
 behind_same p seen (Some pad) k g t ending is =
-    let q = padded_rows pad t.slots in ap (λ (l : List Access). l ++ ending) (result_same p (Some (choose_padded p.plan (buffered p.pack p.buffer) q)) q g t)
+    let q = padded_rows pad t.slots in ap (λ (l : List Access). l ++ ending) (result_same p (Some (choose_padded p.planner p.pack p.buffer t.slots q)) q g t)
 behind_same p seen None k g t ending is = ap (λ (o : Option ℕ). after_count (stashless p) seen o g t ending) is ∙ go k ∙ sym (ap (λ (o : Option ℕ). after_count p seen o g t ending) is)
   where
     go : (o : Option ℕ) → after_count (stashless p) seen o g t ending ≡ after_count p seen o g t ending

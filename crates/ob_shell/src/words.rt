@@ -7,7 +7,7 @@ ghost use Rattle.clap.specs.declared.error.kind.ErrorKind.TheVariants.{OutOfMemo
 ghost use Rattle.ob_base.specs.Plans.{MayPad};
 ghost use Rattle.ob_headline.specs.Settings.{ParsesAs, IsTaken, ParsesChanges, MeddleParses};
 ghost use Rattle.ob_headline.specs.Settings.{IsTakenSaved, ParsesSaved, saved_settings_by};
-ghost use Rattle.ob_headline.specs.Settings.{at_least, may_pad, number_in, pad_in, plan_in};
+ghost use Rattle.ob_headline.specs.Settings.{at_least, may_pad, number_in, pad_in, planner_in};
 ghost use Rattle.ob_headline.specs.Settings.{generated_by, seed_in, seed_of};
 ghost use Rattle.ob_headline.specs.Settings.{may_mark, settings_by, settings_in};
 ghost use Rattle.ob_headline.specs.Usage.{common, usage, meddle_usage, flag, valued, is_set, is_traced, changes_in};
@@ -20,7 +20,7 @@ ghost use Rattle.ob_shell.specs.WordsRead.{words_by};
 
 use clap::error::ErrorKind;
 use clap::{Arg, ArgAction, ArgMatches, Command, Error};
-use ob_base::{Config, NoMemory, Plan};
+use ob_base::{Config, NoMemory, Plan, Planner};
 use ob_headline::Seed;
 use ob_meddle::{ChangesErr, Meddle, parse_changes, parted};
 use std::alloc::{AllocError, Global};
@@ -189,16 +189,17 @@ fn number_in(least: u32, most: u32, default: u32, value: Option<&str>) -> Option
     }
 }
 
-// The plan that is forced, if one is; none at all where the name is no plan's.
-fn plan_in(value: Option<&str>) -> Option<Option<Plan>>
-    ensures { result ≡ plan_in (option_map (λ t. t.now) value.entry) }
+// How plans are chosen; none at all where the name is neither a way to that nor a plan's.
+fn planner_in(value: Option<&str>) -> Option<Planner>
+    ensures { result ≡ planner_in (option_map (λ t. t.now) value.entry) }
 {
     match value {
-        None | Some("auto") => Some(None),
-        Some("small") => Some(Some(Plan::Small)),
-        Some("large") => Some(Some(Plan::Large)),
-        Some("continuous") => Some(Some(Plan::Continuous)),
-        Some("hash") => Some(Some(Plan::Hash)),
+        None | Some("auto") => Some(Planner::Auto),
+        Some("cheapest") => Some(Planner::Cheapest),
+        Some("small") => Some(Planner::Forced(Plan::Small)),
+        Some("large") => Some(Planner::Forced(Plan::Large)),
+        Some("continuous") => Some(Planner::Forced(Plan::Continuous)),
+        Some("hash") => Some(Planner::Forced(Plan::Hash)),
         Some(_) => None,
     }
 }
@@ -217,16 +218,17 @@ fn pad_in(value: Option<&str>) -> Option<Option<u32>>
     }
 }
 
-// Whether this plan may be forced, where results are padded or aren't.
-fn may_pad(pad: Option<u32>, plan: Option<Plan>) -> bool
-    ensures value { result ≡ may_pad pad plan }
-    ensures plan { result ≡ true → IfSome pad (λ rows. MayPad plan) }
+// Whether plans may be chosen so, where results are padded or aren't.
+fn may_pad(pad: Option<u32>, planner: Planner) -> bool
+    ensures value { result ≡ may_pad pad planner }
+    ensures plan { result ≡ true → IfSome pad (λ rows. MayPad planner) }
 {
     match pad {
         None => true,
-        Some(_) => match plan {
-            None | Some(Plan::Small | Plan::Large) => true,
-            Some(Plan::Continuous | Plan::Hash) => false,
+        Some(_) => match planner {
+            Planner::Auto | Planner::Cheapest => true,
+            Planner::Forced(Plan::Small | Plan::Large) => true,
+            Planner::Forced(Plan::Continuous | Plan::Hash) => false,
         },
     }
 }
@@ -285,7 +287,7 @@ fn settings_in(matches: &ArgMatches) -> Option<Config>
 {
     let buffer = number_in(4, 65_536, 64, matches.get_str("buffer"))?;
     let depth = number_in(1, 8, 5, matches.get_str("depth"))?;
-    let plan = plan_in(matches.get_str("plan"))?;
+    let planner = planner_in(matches.get_str("plan"))?;
     let pack = number_in(1, 16, 1, matches.get_str("pack"))?;
     let pad = pad_in(matches.get_str("pad"))?;
     let stash = number_in(1, 1024, 32, matches.get_str("stash"))?;
@@ -293,18 +295,19 @@ fn settings_in(matches: &ArgMatches) -> Option<Config>
     if buffer < 3 * pack + 1 {
         return None;
     }
-    if !may_pad(pad, plan) {
+    if !may_pad(pad, planner) {
         return None;
     }
     Some(Config {
         buffer,
         depth: depth as u8,
         pack: pack as u8,
-        plan,
+        planner,
         pad,
         stash,
         keep: is_set(matches.get_str("keep")),
         save: false,
+        batch: None,
         max_input: max_input as u64,
     })
 }

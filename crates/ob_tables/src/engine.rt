@@ -94,6 +94,7 @@ impl<R: Revisions> Engine<R> {
                 stash: config.stash,
                 keep: config.keep,
                 save: config.save,
+                batch: config.batch,
                 closing: None,
             },
             seen: seen_to_end(End::Whole),

@@ -59,6 +59,7 @@ pub(crate) fn public_at(config: Config, closing: Closing, tables: Items<Table>) 
         stash: config.stash,
         keep: config.keep,
         save: config.save,
+        batch: config.batch,
         closing: saved,
     }
 }

@@ -392,7 +392,7 @@ served-plain d (Some a) p ts stmt e = (λ e. cc, λ e. cc)
 pub cheapest_shows : CheapestShows
 unfolding IsPlain
 cheapest_shows d p m ts stmt e =
-    of_cond IsPlain (is_some (early_refusal (is_late m) (limits_of p) (headings ts) stmt)) _ _ (λ e. cc, λ e. cc) (served-plain d (accessed ts stmt) p ts stmt e)
+    of_cond IsPlain (is_some (early_refusal (is_late m) (limits_of p) (headings ts) stmt)) (ended Static) (seen_served d (accessed ts stmt) p ts stmt) (λ e. cc, λ e. cc) (served-plain d (accessed ts stmt) p ts stmt e)
 
 pub cheapest_accepts : CheapestAccepts
 cheapest_accepts p places is unpadded = ap (λ (pad : Option ℕ). refusal_by pad p places) unpadded ∙ go places where

@@ -88,7 +88,7 @@ update_v x c = Ok (Update t (record { column = v; value = int x } ∷ []) c)
 -- what is public before the first statement, by these settings
 abbrev pub by_settings : (buffer depth pack : ℕ) → Planner → (pad : Option ℕ) → Public
 by_settings buffer depth pack planner pad =
-    first_public (record { buffer = buffer; depth = depth; pack = pack; planner = planner; pad = pad; stash = 32; keep = false; save = false; max_input = 1048576 })
+    first_public (record { buffer = buffer; depth = depth; pack = pack; planner = planner; pad = pad; stash = 32; keep = false; save = false; batch = None; max_input = 1048576 })
 
 abbrev pub by_four : Public
 by_four = by_settings 4 5 1 Auto None
