@@ -13,7 +13,7 @@ use Rattle.ob_base.specs.declared.seen.End.TheVariants.{Whole, Cut}
 use Rattle.ob_base.specs.Accesses.{make_at}
 use Rattle.ob_base.specs.Numbers.{blocks_for}
 use Rattle.ob_base.specs.Schemas.{width}
-use Rattle.ob_base.specs.Stored.{Stored, headings, stored_at, stored_region, stored_regions, changed_at}
+use Rattle.ob_base.specs.Stored.{Stored, headings, headings_of, stored_at, stored_region, stored_regions, changed_at}
 use Rattle.ob_room.specs.RoomState.{RoomState}
 use Rattle.ob_store.specs.State.{StoreState}
 use Rattle.ob_select.specs.Selecting.{UsesRoom}
@@ -55,7 +55,7 @@ use Rattle.ob_verdict.specs.Outcomes.{refusal_now, outcome_of}
 use Rattle.ob_tables.specs.Serving.{ServesSilently}
 use Rattle.ob_tables.specs.Telling.{AreHeld, ReadsTrue, Represents}
 use Rattle.ob_tables.proofs.FormerLemmas.{former_is, kept_former, left_stays}
-use Rattle.ob_tables.proofs.HeldLemmas.{Beside, held_at, held_plain, held_moved}
+use Rattle.ob_tables.proofs.HeldLemmas.{Beside, held_at, held_headings, held_plain, held_moved}
 use Rattle.ob_tables.proofs.FoundLemmas.{named_flat, shape_found}
 use Rattle.ob_tables.proofs.PlainLemmas.{none_drawn}
 use Rattle.ob_tables.proofs.RunLemmas.{IsAnswered, engine_after, ran_done}
@@ -84,7 +84,7 @@ pub record Alters {T : Type 0} (p : Public) (m : ℕ) (stmt : Stmt) (owed : List
   pub plain : selects_rows stmt ≡ false
   pub makes_none : MakesFlat (skeleton stmt)
   pub unindexed : is_access p (skeleton stmt) ≡ false → has_index p name ≡ false
-  pub meant : (tables : Tables) (x : Stored Held) → accessed tables stmt ≡ None → early_refusal (is_late m) (limits_of p) (headings tables) stmt ≡ None → stored_at name tables ≡ Some x
+  pub meant : (tables : Tables) (x : Stored Held) → headings tables ≡ headings_of p.tables → accessed tables stmt ≡ None → early_refusal (is_late m) (limits_of p) (headings tables) stmt ≡ None → stored_at name tables ≡ Some x
       → length x.held.slots ≡ x.heading.capacity → x.heading ≡ heading → MeansFor p m stmt owed name outcome answer after tables x.held.slots
 
 module _ {R T : Type 0} {owed : List Stmt} (state : R → RevState) (stmt : Stmt) (name : List ℕ) (part : ℕ → ℕ → ℕ → ℕ → List Access → List Access) (outcome : T → Outcome) (answer : Slots → T) (after : Slots → Slots)
@@ -184,7 +184,7 @@ module _ {R T : Type 0} {owed : List Stmt} (state : R → RevState) (stmt : Stmt
       let size : length (beside tables reads.held).table.held.slots ≡ (beside tables reads.held).table.heading.capacity =
       (beside tables reads.held).represents.size ∙ ap (λ (h : Heading). h.capacity) (sym (beside tables reads.held).heading) in
       let unread = held_plain old.public old.indexes.items tables (world_of state old s) stmt reads.held.held none in
-      let meant = alters.meant tables (beside tables reads.held).table unread early found size (beside tables reads.held).heading in
+      let meant = alters.meant tables (beside tables reads.held).table (held_headings old.public.pack old.indexes.items old.public.tables tables (world_of state old s) reads.held.held) unread early found size (beside tables reads.held).heading in
       let slots_now : FlatRepresents old.public.pack (flat_of moved_table) (meant.to (beside tables reads.held).table.held.slots) done =
       subst (λ (slots : Slots). FlatRepresents old.public.pack (flat_of moved_table) slots done) (sym meant.here)
       (subst (λ (k : ℕ). FlatRepresents k (flat_of moved_table) (after (beside tables reads.held).table.held.slots) done) agrees.room.pack
@@ -206,13 +206,24 @@ module _ {R T : Type 0} {owed : List Stmt} (state : R → RevState) (stmt : Stmt
       (λ tables reads. fault_made e (mutates.told (honest tables reads) (beside tables reads.held).table.held.slots (slots_before tables reads.held)).0)
       (λ good accepts. mutates.seals.seals good (accepts _ _))
 
+  of_kept : (former : Former) → former ≡ kept → (result : Result T OpErr) → Mutates former old.room.pack flat left (asks former flat) answer after result before done
+      → Mutates kept old.room.pack (flat_of table) left x answer after result before done
+  of_kept former former_is result mutates =
+      subst (λ (f : Flat). Mutates kept old.room.pack f left (asks kept f) answer after result before done) flat_is
+      (subst (λ (k : Former). Mutates k old.room.pack flat left (asks k flat) answer after result before done) former_is mutates)
+
+  -- what was answered is of the slots that the table in place had
+  pub told_slots : (former : Former) → former ≡ kept → (y : T) → Mutates former old.room.pack flat left (asks former flat) answer after (Ok y) before done → (tables : Tables) → ReadsTrue state old s t tables
+      → (stood : Beside old.public.pack name table tables (world_of state old s)) × (y ≡ answer stood.table.held.slots)
+  told_slots former former_is y mutates tables reads =
+      (beside tables reads.held, ((of_kept former former_is (Ok y) mutates).told (honest tables reads) (beside tables reads.held).table.held.slots (slots_before tables reads.held)).0)
+
   -- the table was changed
   pub mutated : (former : Former) → former ≡ kept → (y : T) (new : Engine R) (result : Result Outcome RunStop) → Mutates former old.room.pack flat left (asks former flat) answer after (Ok y) before done → old.ended ≡ false
       → result ≡ Ok (outcome y) → new ≡ engine_after old v room (slice_set old.public.tables i (record table { region = left.region })) Whole old.ended
       → ServesSilently state stmt owed result old s new t
   mutated former former_is y new result mutates lives answered is =
-      let all = subst (λ (f : Flat). Mutates kept old.room.pack f left (asks kept f) answer after (Ok y) before done) flat_is
-      (subst (λ (k : Former). Mutates k old.room.pack flat left (asks k flat) answer after (Ok y) before done) former_is mutates) in
+      let all = of_kept former former_is (Ok y) mutates in
       let region : left.region ≡ g = ap (λ (f : Flat). f.region) all.moves in
       serves_as state stmt old s t _ _ _ _ answered
       (is ∙ ap (λ (n : ℕ). engine_after old v room (slice_set old.public.tables i (record table { region = n })) Whole old.ended) region) (changed y all lives)
@@ -223,5 +234,4 @@ module _ {R T : Type 0} {owed : List Stmt} (state : R → RevState) (stmt : Stmt
       → ServesSilently state stmt owed result old s new t
   unmutated former former_is e n new result mutates count answered is =
       serves_as state stmt old s t _ _ _ _ answered is
-      (unchanged e n (subst (λ (f : Flat). Mutates kept old.room.pack f left (asks kept f) answer after (Err e) before done) flat_is
-      (subst (λ (k : Former). Mutates k old.room.pack flat left (asks k flat) answer after (Err e) before done) former_is mutates)) count)
+      (unchanged e n (of_kept former former_is (Err e) mutates) count)

@@ -7,7 +7,7 @@ use Rattle.ob_base.specs.declared.refusal.Refusal.{Refusal}
 use Rattle.ob_tables.specs.declared.stop.RunStop.{RunStop}
 use Rattle.ob_tables.specs.declared.stop.RunStop.TheVariants as Stops
 use Rattle.ob_base.specs.declared.seen.End.{End}
-use Rattle.ob_base.specs.declared.seen.End.TheVariants.{Static, Whole, AfterCount, Cut}
+use Rattle.ob_base.specs.declared.seen.End.TheVariants.{Static, Whole, AfterCount, Joined, Cut}
 use Rattle.ob_base.specs.declared.seen.Seen.{Seen}
 use Rattle.ob_base.specs.declared.skeleton.Skeleton.{Skeleton}
 use Rattle.ob_base.specs.Accesses.{makes}
@@ -122,6 +122,7 @@ pub leaves_none : (p : Public) (s : Skeleton) (end : End) (q : ℕ) (P : Type 0)
 leaves_none p s Static q P none is = absurd (cc is)
 leaves_none p s Whole q P none is = absurd (cc (none, is))
 leaves_none p s AfterCount q P none is = absurd (cc is)
+leaves_none p s Joined q P none is = absurd (cc is)
 leaves_none p s (Cut n) q P none is = absurd (cc is)
 
 -- as where tables aren't saved, or none is changed
@@ -153,6 +154,7 @@ pub taken_none : (p : Public) (s : Skeleton) → drawn_by p s ≡ 0 → (end : E
 taken_none p s none Static = refl
 taken_none p s none Whole = none
 taken_none p s none AfterCount = none
+taken_none p s none Joined = refl
 taken_none p s none (Cut n) = none
 
 -- the same draws, where none was taken
