@@ -1,7 +1,6 @@
 -- Runs that save their tables, each over the mark and the store that the one before it left, whatever became of that.
-use Rattle.std.specs.Prelude.{ℕ, ◌≡◌, ◌⊎◌, ◌<◌, ◌+◌, ◌^◌, ⊤, Bool, true, false, IsTrue, if◌then◌else◌, List, [], ◌∷◌, ◌++◌, length, map, slice_get, Option, Some, None, Ok, Err}
+use Rattle.std.specs.Prelude.{ℕ, ◌≡◌, ◌⊎◌, ◌<◌, ◌+◌, ◌^◌, ⊤, Bool, true, false, IsTrue, if◌then◌else◌, List, [], ◌∷◌, ◌++◌, length, map, take, slice_get, Option, Some, None, Ok, Err}
 use Rattle.std.proofs.Common.{inl, inr}
-use Rattle.std.specs.Option.{option_map_or}
 use Rattle.clap.specs.Words.{Text}
 use Rattle.ob_base.specs.Refusals.{is_store_fault}
 use Rattle.ob_base.specs.declared.access.Access.{Access}
@@ -122,9 +121,9 @@ unanswered spelt = map (λ (x : Spelt). record { text = x; answer = None }) spel
 -- of texts that were answered so: each but those that the store had failed, and one more, if that did, with these statements
 -- behind it
 unfoldable pub effects_of : (more : Option (List Stmt)) → List Spelt → List Answer → List Effect
-effects_of more [] answers = []
-effects_of more (x ∷ spelt) [] =
-    option_map_or (λ behind. unanswered (x ∷ map Ok behind)) more []
+effects_of None spelt [] = []
+effects_of (Some behind) spelt [] = unanswered (take 1 spelt ++ map Ok behind)
+effects_of more [] (one ∷ answers) = []
 effects_of more (x ∷ spelt) (one ∷ answers) =
     if has_failed one.outcome then effects_of more spelt answers
     else record { text = x; answer = Some one } ∷ effects_of more spelt answers
