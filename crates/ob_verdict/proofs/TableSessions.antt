@@ -19,7 +19,7 @@ use Rattle.ob_sql.specs.declared.stmt.Literal.TheVariants.{Text as TextLiteral}
 use Rattle.ob_sql.specs.declared.stmt.Stmt.TheVariants.{Insert, Update, Delete, Drop as DropTable, SelectRows as RowsStmt}
 use Rattle.ob_sql.specs.Search.{Search, Not, Or}
 use Rattle.ob_mean.specs.declared.answer.Answer.TheVariants.{Done, Changed, Rows, Refused}
-use Rattle.ob_mean.specs.Replay.{Spelt, first_session, answers}
+use Rattle.ob_mean.specs.Replay.{Alone, CutAfter, Spelt, first_session, answers}
 use Rattle.ob_verdict.proofs.Sessions.{by_settings, t, u, id, v, col, of_table, int, compare, create_t, insert, four_rows, two_tables, select_where, select_columns, select_items, join_on, update_v, by_four, forced, in_pairs, trace_of, answers_of, asked_by, last_answers, last_trace, result_after, row_of, ints}
 use Rattle.std.specs.Prelude.{Option}
 
@@ -485,11 +485,11 @@ unfolding makes
 off_key = refl
 
 -- the store fails at the fourth access of the INSERT, and the table is as it was
-store_fault : answers (first_session by_four) (create_t ∷ insert t 1 10 ∷ count_all ∷ []) (None ∷ Some 4 ∷ []) ≡ Done ∷ Refused StoreFault ∷ Rows (ints (0 ∷ []) ∷ []) ∷ []
+store_fault : answers (first_session by_four) (create_t ∷ insert t 1 10 ∷ count_all ∷ []) (Alone ∷ CutAfter 4 ∷ []) ≡ Done ∷ Refused StoreFault ∷ Rows (ints (0 ∷ []) ∷ []) ∷ []
 unfolding makes
 store_fault = refl
 
-store_fault_trace : trace_of by_four (create_t ∷ insert t 1 10 ∷ count_all ∷ []) (None ∷ Some 4 ∷ []) ≡
+store_fault_trace : trace_of by_four (create_t ∷ insert t 1 10 ∷ count_all ∷ []) (Alone ∷ CutAfter 4 ∷ []) ≡
     Make 1 4 49 ∷ Write 1 0 ∷ Write 1 1 ∷ Write 1 2 ∷ Write 1 3 ∷ Make 2 4 49 ∷ Read 1 0 ∷ Read 1 1 ∷ Read 1 2 ∷ Read 1 0 ∷ Read 1 1 ∷ Read 1 2 ∷ Read 1 3 ∷ []
 unfolding makes
 store_fault_trace = refl

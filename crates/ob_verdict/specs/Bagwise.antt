@@ -8,20 +8,24 @@ use Rattle.ob_base.specs.declared.refusal.Refusal.TheVariants.{Syntax, StoreFaul
 use Rattle.ob_sql.specs.declared.stmt.Stmt.{Stmt}
 use Rattle.ob_mean.specs.declared.answer.Answer.{Answer}
 use Rattle.ob_mean.specs.declared.answer.Answer.TheVariants.{Refused}
-use Rattle.ob_mean.specs.Replay.{Broken, Session, Spelt, after, after_all, is_full_now, answers, head_of, rest_of}
+use Rattle.ob_mean.specs.Replay.{Alone, Broken, CutAfter, CutWith, How, Session, With, Spelt, after, after_all, is_full_now, answers, head_of, rest_of}
 use Rattle.ob_mean.specs.SameMeaning.{SameAnswer, SameTables}
 use Rattle.ob_mean.specs.Step.{Database, step_answer, step_next}
 use Rattle.ob_mean.specs.Verdict.{database}
 use Rattle.ob_verdict.specs.Laws.{AreInPlace}
 
 -- ---- a session over tables as bags: a statement that the store cut off changes no table
-abbrev pub bag_answer : Option ℕ → Public → Database → Stmt → Answer
-bag_answer None p db stmt = step_answer p db stmt
-bag_answer (Some n) p db stmt = Refused StoreFault
+abbrev pub bag_answer : How → Public → Database → Stmt → Answer
+bag_answer Alone p db stmt = step_answer p db stmt
+bag_answer (CutAfter n) p db stmt = Refused StoreFault
+bag_answer With p db stmt = step_answer p db stmt
+bag_answer CutWith p db stmt = Refused StoreFault
 
-abbrev pub bag_next : Option ℕ → Public → Database → Stmt → Database
-bag_next None p db stmt = step_next p db stmt
-bag_next (Some n) p db stmt = db
+abbrev pub bag_next : How → Public → Database → Stmt → Database
+bag_next Alone p db stmt = step_next p db stmt
+bag_next (CutAfter n) p db stmt = db
+bag_next With p db stmt = step_next p db stmt
+bag_next CutWith p db stmt = db
 
 -- the answers of many texts, and the tables behind them
 abbrev pub bag_answers : Public → Database → List Spelt → Broken → List Answer
