@@ -1,7 +1,7 @@
 -- What is seen of INSERTs that are served together, and what is gathered.
-use Rattle.std.specs.Prelude.{⊤, ◌&&◌, ◌↔◌, ◌≤◌, if◌then◌else◌, is_some, min, nat_le}
-use Rattle.std.proofs.Common.{◌≡◌, ◌+◌, ◌-◌, ◌++◌, ℕ, zero, suc, Bool, true, false, IsTrue, Ok, Err, List, [], ◌∷◌, length, take, Option, Some, None, refl, sym, ◌∙◌, ap, subst, arith}
-use Rattle.std.specs.Option.{is_none, option_map, option_map_or}
+use Rattle.std.specs.Prelude.{⊤, ◌&&◌, ◌↔◌, ◌≤◌, if◌then◌else◌, is_some, nat_le}
+use Rattle.std.proofs.Common.{◌≡◌, ◌+◌, ◌++◌, ℕ, zero, suc, Bool, true, false, IsTrue, Ok, Err, List, [], ◌∷◌, length, take, Option, Some, None, refl, sym, ◌∙◌, ap, subst, arith}
+use Rattle.std.specs.Option.{is_none, option_map}
 use Rattle.ob_base.specs.declared.config.Plan.{Plan}
 use Rattle.ob_base.specs.declared.config.Plan.TheVariants.{Small, Large, Continuous, Hash}
 use Rattle.ob_base.specs.declared.config.Public.{Public}
@@ -16,6 +16,7 @@ use Rattle.ob_headline.specs.Batches.{Joins, is_failed, joins_now}
 use Rattle.ob_headline.specs.Failures.{cut_off, failures, outcome_failures, refusal_failures}
 use Rattle.ob_headline.specs.Statements.{statements}
 use Rattle.ob_headline.specs.Words.{Answer}
+use Rattle.ob_mean.proofs.BatchLemmas.{none_begin}
 use Rattle.ob_mean.specs.Batches.{Gathering, and_one, batch_most, begun_by, gathering_after, goes_into, inserts_flat, is_cut, is_joined, leaves_room}
 use Rattle.ob_mean.specs.Refusals.{early_refusal, limits_of}
 use Rattle.ob_mean.specs.Replay.{How, Alone, CutAfter, With, CutWith, Session, Spelt, how_now, seen_now, seen_or_cut}
@@ -98,7 +99,7 @@ how_is g s stmt CutWith here uncut seen joins = absurd uncut
 -- nothing without batches
 pub none_gathered : (p : Public) (m : ℕ) (stmt : Stmt) (end : End) → p.batch ≡ None → gathering_after p m None stmt end ≡ None
 none_gathered p m stmt end none =
-    ap (λ (o : Option ℕ). if nat_le 2 (option_map_or (λ (n : ℕ). min n (p.buffer - p.pack)) o 1) && leaves_room m && inserts_flat p (skeleton stmt) && is_none (refusal_now p m stmt) then begun_by (skeleton stmt) end else None) none
+    ap (λ (b : Bool). if b then begun_by (skeleton stmt) end else None) (none_begin p none m stmt)
 
 none_alike : (a b : Option Refusal) → is_some a ≡ is_some b → is_none a ≡ is_none b
 none_alike None None same = refl

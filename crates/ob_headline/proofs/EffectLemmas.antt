@@ -29,11 +29,10 @@ use Rattle.ob_mean.proofs.ReplayLemmas.{after_room}
 use Rattle.ob_mean.proofs.VerdictLemmas.{headings-database}
 use Rattle.ob_mean.specs.Batches.{Gathering, gathering_after, settle_all}
 use Rattle.ob_mean.specs.Lawful.{Lawful}
-use Rattle.ob_mean.specs.Parts.{new_row}
 use Rattle.ob_mean.specs.Refusals.{early_refusal, limits_of}
 use Rattle.ob_mean.specs.Replay.{Broken, How, Alone, CutAfter, With, CutWith, IsCutOff, IsMember, Session, Spelt, after, after_all, head_of, is_full_now, rest_of, seen_now, seen_or_cut, served}
 use Rattle.ob_mean.specs.Settle.{settle}
-use Rattle.ob_mean.specs.Step.{Database, accepted_answer, answered, has_own_key, insert_refusal, late_refusal, room_refusal}
+use Rattle.ob_mean.specs.Step.{Database, accepted_answer, answered, has_own_key, insert_refusal, late_refusal, new_row, room_refusal}
 use Rattle.ob_mean.specs.Verdict.{Draws, Tables, database, is_late, verdict}
 use Rattle.ob_row.specs.Rows.{Row, has_key}
 use Rattle.ob_script.specs.Script.{script}

@@ -118,11 +118,15 @@ pub record Effect : Type 0 where
 abbrev pub unanswered : List Spelt → List Effect
 unanswered spelt = map (λ (x : Spelt). record { text = x; answer = None }) spelt
 
+-- of texts that weren't answered: none, or the first one, and these
+abbrev pub texts_more : (more : Option (List Stmt)) → List Spelt → List Spelt
+texts_more None spelt = []
+texts_more (Some behind) spelt = take 1 spelt ++ map Ok behind
+
 -- of texts that were answered so: each but those that the store had failed, and one more, if that did, with these statements
 -- behind it
 unfoldable pub effects_of : (more : Option (List Stmt)) → List Spelt → List Answer → List Effect
-effects_of None spelt [] = []
-effects_of (Some behind) spelt [] = unanswered (take 1 spelt ++ map Ok behind)
+effects_of more spelt [] = unanswered (texts_more more spelt)
 effects_of more [] (one ∷ answers) = []
 effects_of more (x ∷ spelt) (one ∷ answers) =
     if has_failed one.outcome then effects_of more spelt answers
