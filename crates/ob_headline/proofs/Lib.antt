@@ -9,6 +9,7 @@ pub mod TextLemmas
 pub mod PromptLemmas
 pub mod BaseLemmas
 pub mod PieceLemmas
+pub mod BatchLemmas
 pub mod RerunLemmas
 pub mod KindLemmas
 pub mod CutLemmas

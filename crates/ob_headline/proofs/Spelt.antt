@@ -6,7 +6,7 @@ use Rattle.clap.specs.Words.{fault_of}
 use Rattle.clap.specs.declared.error.kind.ErrorKind.TheVariants as kind
 use Rattle.ob_base.specs.declared.config.Plan.TheVariants.{Continuous, Large, Hash}
 use Rattle.ob_base.specs.declared.config.Planner.TheVariants.{Auto, Cheapest, Forced}
-use Rattle.ob_headline.specs.Settings.{fitted, generated_by, number_in, pad_in, planner_in, saved_settings_of, seed_in, settings_of}
+use Rattle.ob_headline.specs.Settings.{batch_in, fitted, generated_by, number_in, pad_in, planner_in, saved_settings_of, seed_in, settings_of}
 use Rattle.ob_headline.specs.Usage.{Parses, is_saved, kept_usage, mark_of, meddle_usage, store_of, usage}
 
 -- ---- one value
@@ -64,25 +64,40 @@ pad_of_none = refl
 pad_too_great : pad_in (Some (codes "1048577")) ≡ None
 pad_too_great = refl
 
+unbatched : batch_in None ≡ Some None
+unbatched = refl
+
+least_batch : batch_in (Some (codes "2")) ≡ Some (Some 2)
+least_batch = refl
+
+greatest_batch : batch_in (Some (codes "65535")) ≡ Some (Some 65535)
+greatest_batch = refl
+
+batch_of_one : batch_in (Some (codes "1")) ≡ None
+batch_of_one = refl
+
+batch_too_great : batch_in (Some (codes "65536")) ≡ None
+batch_too_great = refl
+
 -- ---- three blocks and one row, and a plan that may be padded
-room_enough : fitted 49 5 Auto 16 None 32 false 4096 ≡ Some (record { buffer = 49; depth = 5; pack = 16; planner = Auto; pad = None; stash = 32; keep = false; save = false; batch = None; max_input = 4096 })
+room_enough : fitted 49 5 Auto 16 None 32 None false 4096 ≡ Some (record { buffer = 49; depth = 5; pack = 16; planner = Auto; pad = None; stash = 32; keep = false; save = false; batch = None; max_input = 4096 })
 room_enough = refl
 
-too_little : fitted 48 5 Auto 16 None 32 false 4096 ≡ None
+too_little : fitted 48 5 Auto 16 None 32 None false 4096 ≡ None
 too_little = refl
 
-padded_by_large : fitted 64 5 (Forced Large) 1 (Some 40) 32 false 4096
+padded_by_large : fitted 64 5 (Forced Large) 1 (Some 40) 32 None false 4096
     ≡ Some (record { buffer = 64; depth = 5; pack = 1; planner = Forced Large; pad = Some 40; stash = 32; keep = false; save = false; batch = None; max_input = 4096 })
 padded_by_large = refl
 
-padded_by_cheapest : fitted 64 5 Cheapest 1 (Some 40) 32 false 4096
+padded_by_cheapest : fitted 64 5 Cheapest 1 (Some 40) 32 None false 4096
     ≡ Some (record { buffer = 64; depth = 5; pack = 1; planner = Cheapest; pad = Some 40; stash = 32; keep = false; save = false; batch = None; max_input = 4096 })
 padded_by_cheapest = refl
 
-no_padded_continuous : fitted 64 5 (Forced Continuous) 1 (Some 40) 32 false 4096 ≡ None
+no_padded_continuous : fitted 64 5 (Forced Continuous) 1 (Some 40) 32 None false 4096 ≡ None
 no_padded_continuous = refl
 
-no_padded_hash : fitted 64 5 (Forced Hash) 1 (Some 40) 32 false 4096 ≡ None
+no_padded_hash : fitted 64 5 (Forced Hash) 1 (Some 40) 32 None false 4096 ≡ None
 no_padded_hash = refl
 
 -- ---- what is generated
@@ -153,6 +168,18 @@ padded = refl
 stashed : settings_of meddle_usage (codes "--stash" ∷ codes "89" ∷ []) ≡ Some (record { buffer = 64; depth = 5; pack = 1; planner = Auto; pad = None; stash = 89; keep = false; save = false; batch = None; max_input = 1073741824 })
 unfolding clap_on_literals
 stashed = refl
+
+batched : settings_of usage (codes "--batch" ∷ codes "16" ∷ []) ≡ Some (record { buffer = 64; depth = 5; pack = 1; planner = Auto; pad = None; stash = 32; keep = false; save = false; batch = Some 16; max_input = 1073741824 })
+unfolding clap_on_literals
+batched = refl
+
+batched_and_saved : saved_settings_of (codes "--batch" ∷ codes "2" ∷ codes "--save" ∷ []) ≡ Some (record { buffer = 64; depth = 5; pack = 1; planner = Auto; pad = None; stash = 32; keep = true; save = true; batch = Some 2; max_input = 1073741824 })
+unfolding clap_on_literals
+batched_and_saved = refl
+
+batched_alone : settings_of meddle_usage (codes "--batch" ∷ codes "1" ∷ []) ≡ None
+unfolding clap_on_literals
+batched_alone = refl
 
 stash_too_great : settings_of usage (codes "--stash" ∷ codes "1025" ∷ []) ≡ None
 unfolding clap_on_literals

@@ -1,7 +1,6 @@
 -- Runs that save their tables, each over the mark and the store that the one before it left, whatever became of that.
-use Rattle.std.specs.Prelude.{ℕ, ◌≡◌, ◌⊎◌, ◌<◌, ◌+◌, ◌^◌, ⊤, Bool, true, false, IsTrue, if◌then◌else◌, List, [], ◌∷◌, ◌++◌, length, map, slice_get, Option, Some, None, Ok, Err}
+use Rattle.std.specs.Prelude.{ℕ, ◌≡◌, ◌⊎◌, ◌<◌, ◌+◌, ◌^◌, ⊤, Bool, true, false, IsTrue, if◌then◌else◌, List, [], ◌∷◌, ◌++◌, length, map, take, slice_get, Option, Some, None, Ok, Err}
 use Rattle.std.proofs.Common.{inl, inr}
-use Rattle.std.specs.Option.{option_map_or}
 use Rattle.clap.specs.Words.{Text}
 use Rattle.ob_base.specs.Refusals.{is_store_fault}
 use Rattle.ob_base.specs.declared.access.Access.{Access}
@@ -119,12 +118,16 @@ pub record Effect : Type 0 where
 abbrev pub unanswered : List Spelt → List Effect
 unanswered spelt = map (λ (x : Spelt). record { text = x; answer = None }) spelt
 
+-- of texts that weren't answered: none, or the first one, and these
+abbrev pub texts_more : (more : Option (List Stmt)) → List Spelt → List Spelt
+texts_more None spelt = []
+texts_more (Some behind) spelt = take 1 spelt ++ map Ok behind
+
 -- of texts that were answered so: each but those that the store had failed, and one more, if that did, with these statements
 -- behind it
 unfoldable pub effects_of : (more : Option (List Stmt)) → List Spelt → List Answer → List Effect
-effects_of more [] answers = []
-effects_of more (x ∷ spelt) [] =
-    option_map_or (λ behind. unanswered (x ∷ map Ok behind)) more []
+effects_of more spelt [] = unanswered (texts_more more spelt)
+effects_of more [] (one ∷ answers) = []
 effects_of more (x ∷ spelt) (one ∷ answers) =
     if has_failed one.outcome then effects_of more spelt answers
     else record { text = x; answer = Some one } ∷ effects_of more spelt answers
