@@ -253,6 +253,48 @@ late_or_not : (m : ℕ) (late : Bool) → is_late m ≡ late → late ≡ false 
 late_or_not m true is not = absurd (cc not)
 late_or_not m false is not = grind (arith, nat_tests)
 
+-- ---- an INSERT into a flat table, whatever else there is
+by_flat : {A : Type 0} (shape : Shape) (flat indexed : A) → is_indexed shape ≡ false → by_shape shape flat indexed ≡ flat
+by_flat Flat flat indexed is = refl
+by_flat Indexed flat indexed is = absurd (cc is)
+
+module _ (p : Public) (table : List ℕ) (columns : Option (List (List ℕ))) (seen : Seen) (apart : is_access p (K.Insert table columns) ≡ false) where
+  insert_same : script (stashless p) (K.Insert table columns) seen ≡ script p (K.Insert table columns) seen
+  insert_same = ap (until_end seen.end) (go (stored_at table (stored_regions p.tables)) refl)
+    where
+      at : Public → Stored ℕ → List Access
+      at q t = shape_script q seen.leaf (mutation_script q insert_part (behind_change q (K.Insert table columns))) t
+
+      go : (o : Option (Stored ℕ)) → stored_at table (stored_regions p.tables) ≡ o → whole_script (stashless p) (K.Insert table columns) seen ≡ whole_script p (K.Insert table columns) seen
+      go None is = ap (λ (o : Option (Stored ℕ)). option_map_or (at (stashless p)) o []) is ∙ sym (ap (λ (o : Option (Stored ℕ)). option_map_or (at p) o []) is)
+      go (Some t) is =
+          let flat = sym (region_index p table t is) ∙ apart in
+          ap (λ (o : Option (Stored ℕ)). option_map_or (at (stashless p)) o []) is ∙ by_flat t.heading.shape _ _ flat ∙ sym (by_flat t.heading.shape _ _ flat)
+          ∙ sym (ap (λ (o : Option (Stored ℕ)). option_map_or (at p) o []) is)
+
+  insert_within : IsWithin (stashless p) (K.Insert table columns) seen
+  insert_within = go (stored_at table (stored_regions p.tables)) refl
+    where
+      flat_is : (shape : Shape) → is_indexed shape ≡ false → shape ≡ Flat
+      flat_is Flat is = refl
+      flat_is Indexed is = absurd (cc is)
+
+      go : (o : Option (Stored ℕ)) → stored_at table (stored_regions p.tables) ≡ o → IfSome o (IsHeld (stashless p) seen ⊤)
+      go None is = tt
+      go (Some t) is = held_flat (stashless p) seen ⊤ t (flat_is t.heading.shape (sym (region_index p table t is) ∙ apart)) tt
+
+pub insert_few : {R : Type 0} (state : R → RevState) (e : Engine R) (s : StoreState) (outline : Skeleton) (seen : Seen) → Agrees state e s → count_of e s < 2 ^ 63 → IsSome (inserts_into outline) → is_access (public_of e) outline ≡ false
+    → length (script (public_of e) outline seen) < 2 ^ 49
+insert_few state e s (K.Insert table columns) seen agrees small inserts apart =
+    subst (λ (l : List Access). length l < 2 ^ 49) (insert_same (public_of e) table columns seen apart)
+    (script_few (stashless (public_of e)) (K.Insert table columns) seen (public_is state e s agrees small) (λ started. insert_within (public_of e) table columns seen apart))
+insert_few state e s (K.Create table cs n shape) seen agrees small inserts apart = absurd (cc inserts)
+insert_few state e s (K.Update table cs) seen agrees small inserts apart = absurd (cc inserts)
+insert_few state e s (K.Delete table) seen agrees small inserts apart = absurd (cc inserts)
+insert_few state e s (K.Drop table) seen agrees small inserts apart = absurd (cc inserts)
+insert_few state e s (K.Rows source cs) seen agrees small inserts apart = absurd (cc inserts)
+insert_few state e s (K.Groups table cs key) seen agrees small inserts apart = absurd (cc inserts)
+
 -- the tables are kept for the next run
 abbrev pub IsKept : {R : Type 0} → Machine R → Type 0
 IsKept m = (public_of m.engine).keep ≡ true
@@ -318,4 +360,9 @@ module _ {R : Type 0} (state : R → RevState) where
 pub session_few : {R : Type 0} (state : R → RevState) {Lost : Type 0} {on : Bool} {f0 f1 : Fetch} {l0 l1 : Option (List ℕ)} {gave : ℕ} {w0 w1 t0 t1 : Option (List ℕ)} (m0 m2 : Machine R) (tally : Tally)
     → SessionRan state on f0 f1 l0 l1 gave w0 w1 t0 t1 m0 m2 Lost (Ok tally) → Agrees state m0.engine m0.store → IsKept m0 → asked_of m0 < 2 ^ 63 + 2 ^ 59 → Closable state m2
 session_few {R = R} state m0 m2 tally ran agrees kept few =
-    subst (λ (m : Machine R). Closable state m) (sym ran.last.machine) (steps_few state m0 ran.middle ran.served ran.answers ran.steps agrees kept few)
+    let all = steps_few state m0 ran.middle ran.served ran.answers ran.steps agrees kept few in
+    let same = ran.last.machine in
+    record {
+      few = subst (λ (m : Machine R). asked_of m < 2 ^ 63 + 2 ^ 59) (sym same) all.few;
+      flat = subst (λ (m : Machine R). IsFlat (public_of m.engine)) (sym same) all.flat;
+    }

@@ -14,7 +14,10 @@ module _ {R : Type 0} (state : R → RevState) where
   same m0 m1 is = subst (λ (m : Machine R). Later m0.store m.store) (sym is) (later_refl m0.store)
 
   pub step_later : (m0 m1 : Machine R) (text : List ℕ) (answer : Answer) → Step state m0 m1 text answer → Later m0.store m1.store
-  step_later m0 m1 text answer step = elim step.done [ inl bad ↦ same m0 m1 bad.same | inr did ↦ did.does.ran.later ]
+  step_later m0 m1 text answer step = elim step.done [
+    | inl still ↦ subst (λ (m : Machine R). Later m0.store m.store) (sym still.same) (later_refl m0.store)
+    | inr did ↦ did.does.ran.later
+  ]
 
   pub steps_later : (m0 m2 : Machine R) (texts : List (List ℕ)) (answers : List Answer) → Steps state m0 m2 texts answers → Later m0.store m2.store
   unfolding Steps

@@ -1,13 +1,13 @@
 -- The machines along the statements that were answered, and the one begun.
-use Rattle.std.specs.Prelude.{◌≡◌, ◌⊎◌, List, [], ◌∷◌, Ok, Err}
+use Rattle.std.specs.Prelude.{◌≡◌, ◌⊎◌, false, List, [], ◌∷◌, Ok, Err}
 use Rattle.ob_base.specs.declared.refusal.Stop.TheVariants.{SinkFault}
 use Rattle.ob_headline.specs.Words.{Answer}
 use Rattle.ob_headline.specs.declared.ending.Ending.{Ending}
 use Rattle.ob_headline.specs.declared.ending.Ending.TheVariants.{Ran}
-use Rattle.ob_mean.specs.Replay.{Spelt}
+use Rattle.ob_mean.specs.Replay.{Broken, How, Spelt, after, head_of, is_full_now, rest_of, seen_or_cut}
 use Rattle.ob_mean.specs.Verdict.{Draws, Tables}
 use Rattle.ob_script.specs.Trace.{Served as Entry}
-use Rattle.ob_shell.specs.Steps.{Does, GoTogether, Machine, Owes, StaysAs, TakesOwed, has_failed}
+use Rattle.ob_shell.specs.Steps.{Does, GoTogether, Holds, Machine, Owes, StaysAs, TakesOwed, has_failed, session_of, tables_behind}
 use Rattle.ob_sql.specs.declared.stmt.Stmt.{Stmt}
 use Rattle.ob_tables.specs.Agreeing.{AreDraws, public_of, seen_of}
 use Rattle.ob_tables.specs.Running.{is_fault}
@@ -71,3 +71,31 @@ module _ {R : Type 0} (state : R → RevState) where
   Along ending m0 m2 (Ok stmt ∷ spelt) (one ∷ answers) [] = ⊥
   Along ending m0 m2 (Ok stmt ∷ spelt) (one ∷ answers) (x ∷ seen) =
       (m1 : Machine R) × (IsServed m0 m1 stmt one x ⊎ IsWith m0 m1 stmt one.outcome) × Along ending m1 m2 spelt answers seen
+
+  -- ---- and where the model stands beside them
+  -- a statement was answered by itself, and seen so
+  pub record ServesSo (m0 m1 : Machine R) (d : Draws) (tables : Tables) (stmt : Stmt) (one : Answer) (how : How) : Type 0 where
+    pub done : IsDone m0 m1 stmt one.outcome
+    pub seen : seen_of m1.engine ≡ seen_or_cut how (session_of m0 d tables) stmt
+
+  -- or with the one before it, and the engine's tables are as they were
+  pub record JoinsSo (m0 m1 : Machine R) (d : Draws) (tables : Tables) (stmt : Stmt) (how : How) : Type 0 where
+    pub same : StaysAs m0 m1
+    pub draws : (after how (session_of m0 d tables) stmt).draws ≡ d
+    pub still : tables_behind m1 d (after how (session_of m0 d tables) stmt).tables ≡ tables_behind m0 d tables
+
+  pub record StandsSo (m0 m1 : Machine R) (d : Draws) (tables : Tables) (stmt : Stmt) (one : Answer) (how : How) : Type 0 where
+    pub room : is_full_now (session_of m0 d tables) stmt ≡ false
+    pub served : ServesSo m0 m1 d tables stmt one how ⊎ JoinsSo m0 m1 d tables stmt how
+    pub stands : after how (session_of m0 d tables) stmt ≡ session_of m1 (after how (session_of m0 d tables) stmt).draws (after how (session_of m0 d tables) stmt).tables
+    pub drawn : AreDraws m1.engine (after how (session_of m0 d tables) stmt).draws
+    pub holds : Holds state m1 (after how (session_of m0 d tables) stmt).draws (after how (session_of m0 d tables) stmt).tables
+
+  abbrev pub Path : Ending → (m0 m2 : Machine R) → Draws → Tables → List Spelt → List Answer → Broken → Type 0
+  Path ending m0 m2 d tables [] answers broken = IsOver m0 m2 × (answers ≡ [])
+  Path ending m0 m2 d tables (x ∷ spelt) [] broken = EndsAlong ending m0 m2 x
+  Path ending m0 m2 d tables (Err at ∷ spelt) (one ∷ answers) broken =
+      (m1 : Machine R) × IsPassed m0 m1 × Path ending m1 m2 d tables spelt answers (rest_of broken)
+  Path ending m0 m2 d tables (Ok stmt ∷ spelt) (one ∷ answers) broken =
+      (m1 : Machine R) × StandsSo m0 m1 d tables stmt one (head_of broken)
+      × Path ending m1 m2 (after (head_of broken) (session_of m0 d tables) stmt).draws (after (head_of broken) (session_of m0 d tables) stmt).tables spelt answers (rest_of broken)

@@ -53,7 +53,7 @@ use Rattle.ob_seal.specs.KeySet.{KeySet}
 use Rattle.ob_shell.proofs.DisturbLemmas.{begins_more, crosses, take_begins}
 use Rattle.ob_shell.proofs.FailureLemmas.{beside_none, cuts_none, fails_none}
 use Rattle.ob_shell.proofs.HowLemmas.{meets_alone, met_all}
-use Rattle.ob_shell.proofs.LeavePath.{Along}
+use Rattle.ob_shell.proofs.LeavePath.{Along, Path}
 use Rattle.ob_shell.proofs.LeafLemmas.{Reads, drawn_leaves, reads_last, reads_none, reads_unasked}
 use Rattle.ob_shell.proofs.ReplayLemmas.{cut_early, cut_within, fault_is, free_holds, holds_free, outcome_cases}
 use Rattle.ob_shell.proofs.StepLemmas.{by_last}
@@ -107,7 +107,7 @@ refused_apart : (r : Refusal) (n : ℕ) → is_joined (refused_end r n) ≡ fals
 refused_apart StoreFault n = refl
 refused_apart r n = refl
 
-end_apart : (result : Result Outcome RunStop) (n : ℕ) → is_joined (result_end result n) ≡ false
+pub end_apart : (result : Result Outcome RunStop) (n : ℕ) → is_joined (result_end result n) ≡ false
 end_apart (Ok (Refused r)) n = refused_apart r n
 end_apart (Ok Created) n = refl
 end_apart (Ok Inserted) n = refl
@@ -275,6 +275,7 @@ module _ {R : Type 0} (state : R → RevState) where
     pub meant : (d : Draws) → AreDraws m0.engine d → IsTrue m0.store.tells → Calm (world m0) → IsUnfit (world m2) → (tables : Tables) → Holds state m0 d tables
         → (broken : Broken) × AnswersFrom ending (session_of m0 d tables) spelt broken answers (seen ++ last) part
         × (EndsWhole ending → Represents state m2.engine m2.store (after_all (session_of m0 d tables) spelt broken).tables)
+        × Path state ending m0 m2 d tables spelt answers broken
     pub untampered : (d : Draws) → AreDraws m0.engine d → IsTrue m0.store.tells → (tables : Tables) → Holds state m0 d tables → m2.store.lie ≡ None → EndsUntampered ending
     pub early : (d : Draws) → AreDraws m0.engine d → IsTrue m0.store.tells → IsSteady m0.store → (tables : Tables) → Holds state m0 d tables → has_failed m0.gathered ≡ false → (n : ℕ) → IsBefore m0.store.disturbed n → length m0.store.asked ≤ n
         → EarlyFrom n m0.gathered (session_of m0 d tables) m0.store.asked m2.store.asked spelt answers (seen ++ last)
@@ -320,7 +321,7 @@ module _ {R : Type 0} (state : R → RevState) where
         failed = λ alone. fails_none _ _ (let still = ap (λ (m : Machine R). m.store.faults) same in omega (arith, still));
         drawn = λ d drawn g. reads_none d (indexes_of m0.engine) g (public_of m0.engine);
         lie = λ lie is. ap (λ (m : Machine R). m.store.lie) same ∙ is;
-        meant = λ d drawn tells calm unfit tables held. ([], (refl, rests.none), λ whole. subst (λ (m : Machine R). Represents state m.engine m.store tables) (sym same) (free_holds state m0 d tables rests.free held));
+        meant = λ d drawn tells calm unfit tables held. ([], (refl, rests.none), (λ whole. subst (λ (m : Machine R). Represents state m.engine m.store tables) (sym same) (free_holds state m0 d tables rests.free held)), (record { same = same; free = rests.free }, refl));
         untampered = λ d drawn tells tables held honest. fine;
         early = λ d drawn tells steady tables held sound n before few. early_none n m0.gathered (session_of m0 d tables) m0.store.asked m2.store.asked [] (ap (λ (m : Machine R). m.store.asked) same) few;
       }
@@ -452,7 +453,7 @@ module _ {R : Type 0} (state : R → RevState) where
         drawn = reads_last state m0 m2 cut.stmt (Err run) cut.does;
         lie = cut.does.ran.later.lie;
         meant = λ d drawn tells calm unfit tables held.
-            ([], stopped_part m0 m2 tables text run part d drawn cut (record { tells = tells; held = free_holds state m0 d tables cut.does.free held; calm = calm; unfit = unfit }), λ whole. absurd whole);
+            ([], stopped_part m0 m2 tables text run part d drawn cut (record { tells = tells; held = free_holds state m0 d tables cut.does.free held; calm = calm; unfit = unfit }), (λ whole. absurd whole), inl (record { run = run; ends = refl; does = cut.does }));
         untampered = λ d drawn tells tables held honest. stop_untampered run (cut.does.means.honest tables (record { tells = tells; held = free_holds state m0 d tables cut.does.free held; nolie = honest }));
         early = λ d drawn tells steady tables held sound n before few. early_one m0 m2 tables cut.stmt (Err run) n _ d drawn cut.does tells steady (free_holds state m0 d tables cut.does.free held) before few;
       }
@@ -567,7 +568,7 @@ module _ {R : Type 0} (state : R → RevState) where
         lie = did.does.ran.later.lie;
         meant = λ d drawn tells calm unfit tables held.
             let by = answered_by m0 m2 tables text one did d drawn (reads_true m0 m2 tables text one did tells (free_holds state m0 d tables did.does.free held) calm unfit) in
-            ([], inr (record { fault = ap (λ (r : RunStop). Ran (Err (session_stop r))) fault; room = by.room; how = by.how; cuts = by.cuts; seen = by.seen; answer = one; answers = by.answer; whole = is }), λ whole. absurd whole);
+            ([], inr (record { fault = ap (λ (r : RunStop). Ran (Err (session_stop r))) fault; room = by.room; how = by.how; cuts = by.cuts; seen = by.seen; answer = one; answers = by.answer; whole = is }), (λ whole. absurd whole), inr (record { ends = ap (λ (r : RunStop). Ran (Err (session_stop r))) fault; outcome = one.outcome; done = inl (record { does = did.does; owes = did.owes }) }));
         untampered = λ d drawn tells tables held honest. stop_untampered run (sink_untampered run fault);
         early = λ d drawn tells steady tables held sound n before few. early_one m0 m2 tables did.stmt (Ok one.outcome) n _ d drawn did.does tells steady (free_holds state m0 d tables did.does.free held) before few;
       }
@@ -604,7 +605,12 @@ module _ {R : Type 0} (state : R → RevState) where
     drawn = λ d drawn g. reads_none d (indexes_of m0.engine) g (public_of m0.engine);
     lie = λ lie it. ap (λ (m : Machine R). m.store.lie) same ∙ it;
     meant = λ d drawn tells calm unfit tables held.
-        ([], is ∙ ap (λ (a : Answer). a.bytes) (refused_is m0 m2 text one bad), λ whole. subst (λ (m : Machine R). Represents state m.engine m.store tables) (sym same) (free_holds state m0 d tables bad.free held));
+        (
+          [],
+          is ∙ ap (λ (a : Answer). a.bytes) (refused_is m0 m2 text one bad),
+          (λ whole. subst (λ (m : Machine R). Represents state m.engine m.store tables) (sym same) (free_holds state m0 d tables bad.free held)),
+          record { same = same; free = bad.free; owed = bad.owed },
+        );
     untampered = λ d drawn tells tables held honest. fine;
     early = λ d drawn tells steady tables held sound n before few. early_still n m0.gathered (session_of m0 d tables) m0.store.asked m2.store.asked (Err bad.at) [] (ap (λ (m : Machine R). m.store.asked) same) few;
   }
@@ -657,7 +663,8 @@ module _ {R : Type 0} (state : R → RevState) where
             (
               [],
               inr (record { fault = ap (λ (r : RunStop). Ran (Err (session_stop r))) fault; room = room_with state m0 m2 text one with same d tables held; how = by.how; cuts = by.cuts; seen = by.seen; answer = one; answers = by.answer; whole = is }),
-              λ whole. absurd whole,
+              (λ whole. absurd whole),
+              inr (record { ends = ap (λ (r : RunStop). Ran (Err (session_stop r))) fault; outcome = one.outcome; done = inr (record { same = same; along = with.along; owed = with.owed }) }),
             );
         untampered = λ d drawn tells tables held honest. stop_untampered run (sink_untampered run fault);
         early = λ d drawn tells steady tables held sound n before few. early_still n m0.gathered (session_of m0 d tables) m0.store.asked m2.store.asked (Ok with.stmt) _ (ap (λ (m : Machine R). m.store.asked) same) few;

@@ -18,7 +18,7 @@ use Rattle.ob_headline.specs.Words.{Answer, Begins}
 use Rattle.ob_headline.specs.declared.ending.Ending.{Ending}
 use Rattle.ob_mean.proofs.ReplayLemmas.{after_room}
 use Rattle.ob_mean.specs.Batches.{Gathering, and_one, begins_batch, begun_by, gathering_after, goes_into, inserts_into, is_cut}
-use Rattle.ob_mean.specs.Replay.{Alone, How, Session, Spelt, after, after_all, draws_taken, how_now, seen_now, seen_or_cut}
+use Rattle.ob_mean.specs.Replay.{Alone, Broken, How, Session, Spelt, after, after_all, draws_taken, how_now, seen_now, seen_or_cut}
 use Rattle.ob_mean.specs.Verdict.{Draws, Tables}
 use Rattle.ob_script.specs.Script.{script}
 use Rattle.ob_script.specs.Trace.{Served as Entry, after_all as all_public, next, trace}
@@ -27,7 +27,7 @@ use Rattle.ob_shell.proofs.DisturbLemmas.{before_less, begins_more, crosses, few
 use Rattle.ob_shell.proofs.FailureLemmas.{answered, beside_more, cut_rises, cuts_more, fails_more, own_rises, uncut_rises}
 use Rattle.ob_shell.proofs.HowLemmas.{gathered_by, how_alone, meets_first, met_all, met_room}
 use Rattle.ob_shell.proofs.LeafLemmas.{given_after, reads_more, reads_unasked}
-use Rattle.ob_shell.proofs.LeavePath.{Along}
+use Rattle.ob_shell.proofs.LeavePath.{Along, Path}
 use Rattle.ob_shell.proofs.ReplayLemmas.{counts_on, draws_after, free_holds, holds_free, stands_after}
 use Rattle.ob_shell.proofs.WalkLemmas.{EarlyFrom, Full, Walked, alone_joins, answered_by, early_answered, end_cut, failed_by, none_saved, or_first, or_rest, reads_true, refused_is, same_by, says, world}
 use Rattle.ob_shell.proofs.WithLemmas.{batched, failed_with, means_with, meant_with, next_with, room_with, script_with, seen_with, uncut_with, with_failed, with_joins, with_lawful, with_plan, with_says}
@@ -50,6 +50,10 @@ module _ {R : Type 0} (state : R → RevState) where
   module _ (ending : Ending) (m0 m1 m m2 : Machine R) (texts more : List (List ℕ)) (answers : List Answer) (part : List ℕ) (same : StaysAs m0 m1) where
     here_again : Walked state ending m1 m m2 texts more answers part → Walked state ending (standing m0 m1.owed m1.gathered) m m2 texts more answers part
     here_again = subst (λ (x : Machine R). Walked state ending x m m2 texts more answers part) same
+
+  path_again : (ending : Ending) (m0 m1 m2 : Machine R) (d : Draws) (tables : Tables) (spelt : List Spelt) (answers : List Answer) (broken : Broken) → StaysAs m0 m1
+      → Path state ending (standing m0 m1.owed m1.gathered) m2 d tables spelt answers broken → Path state ending m1 m2 d tables spelt answers broken
+  path_again ending m0 m1 m2 d tables spelt answers broken same = subst (λ (x : Machine R). Path state ending x m2 d tables spelt answers broken) (sym same)
 
   more_refused : (ending : Ending) (m0 m1 m m2 : Machine R) (text : List ℕ) (texts more : List (List ℕ)) (one : Answer) (answers : List Answer) (part : List ℕ) → StaysAs m0 m1 → Misspelt m0 m1 text one
       → Walked state ending m1 m m2 texts more answers part → Walked state ending m0 m m2 (text ∷ texts) more (one ∷ answers) part
@@ -90,7 +94,7 @@ module _ {R : Type 0} (state : R → RevState) where
             fails_more one answers m0.store.faults m0.store.faults m2.store.faults (own_rises one.outcome m0.store.faults m0.store.faults own refl) (rest.failed alone);
         drawn = rest.drawn;
         lie = rest.lie;
-        meant = λ d drawn tells calm unfit tables held. let from = rest.meant d drawn tells calm unfit tables (on d tables held) in (Alone ∷ from.0, (is, from.1), from.2);
+        meant = λ d drawn tells calm unfit tables held. let from = rest.meant d drawn tells calm unfit tables (on d tables held) in (Alone ∷ from.0, (is, from.1), from.2, (m1, record { same = same; free = bad.free; owed = bad.owed }, path_again ending m0 m1 m2 d tables rest.spelt answers from.0 same from.3));
         untampered = λ d drawn tells tables held honest. rest.untampered d drawn tells tables (on d tables held) honest;
         early = λ d drawn tells steady tables held sound n before few.
             early_answered state n m0.gathered (session_of m0 d tables) m0.store.asked m2.store.asked bad.at rest.spelt one answers (rest.seen ++ rest.last) is
@@ -273,9 +277,20 @@ module _ {R : Type 0} (state : R → RevState) where
                 by.seen,
                 subst (λ (s : Session). AnswersFrom ending s rest.spelt from.0 answers all part) (sym stands) from.1,
               ),
-              λ whole.
-                  subst (λ (s : Session). Represents state m2.engine m2.store s.tables) (sym behind)
-                  (subst (λ (s : Session). Represents state m2.engine m2.store (after_all s rest.spelt from.0).tables) (sym stands) (from.2 whole)),
+              (λ whole.
+              subst (λ (s : Session). Represents state m2.engine m2.store s.tables) (sym behind)
+              (subst (λ (s : Session). Represents state m2.engine m2.store (after_all s rest.spelt from.0).tables) (sym stands) (from.2 whole))),
+              (
+                m1,
+                record {
+                  room = by.room;
+                  served = inl (record { done = record { does = did.does; owes = did.owes }; seen = by.seen });
+                  stands = stands;
+                  drawn = draws_after state m0 m1 d tables text one did by.how by.seen drawn;
+                  holds = by.held;
+                },
+                from.3,
+              ),
             );
         untampered = λ d drawn tells tables held honest.
             let none : m1.store.lie ≡ None = none_before m1.store.lie m1 m2 refl rest.lie honest in
@@ -321,6 +336,29 @@ module _ {R : Type 0} (state : R → RevState) where
         begins = subst (λ (l : List Access). Begins (take n m2.store.asked) (m0.store.asked ++ l)) (sym all) there.begins;
         quiet = λ le. there.quiet (subst (λ (l : List Access). length (m0.store.asked ++ l) ≤ n) all le);
       }
+
+  -- the path over it
+  path_with : (ending : Ending) (m0 m1 m2 : Machine R) (text : List ℕ) (one : Answer) (with : ServedWith m0 m1 text one) (same : StaysAs m0 m1) (d : Draws) (tables : Tables) (held : Holds state m0 d tables)
+      (spelt : List Spelt) (answers : List Answer) (broken : Broken) → AreDraws m0.engine d
+      → Path state ending (standing m0 m1.owed m1.gathered) m2 d (after (means_with state m0 m1 text one with same d tables held).how (session_of m0 d tables) with.stmt).tables spelt answers broken
+      → Path state ending m0 m2 d tables (Ok with.stmt ∷ spelt) (one ∷ answers) ((means_with state m0 m1 text one with same d tables held).how ∷ broken)
+  path_with ending m0 m1 m2 text one with same d tables held spelt answers broken drawn rest =
+      let by = means_with state m0 m1 text one with same d tables held in
+      let s = session_of m0 d tables in
+      let behind = after by.how s with.stmt in
+      let draws : behind.draws ≡ d = ap (λ (x : Session). x.draws) by.stands in
+      let here : session_of m0 d behind.tables ≡ session_of m1 behind.draws behind.tables = ap (λ (x : Machine R). session_of x d behind.tables) (sym same) ∙ ap (λ (e : Draws). session_of m1 e behind.tables) (sym draws) in
+      (
+        m1,
+        record {
+          room = room_with state m0 m1 text one with same d tables held;
+          served = inr (record { same = same; draws = draws; still = by.still });
+          stands = by.stands ∙ here;
+          drawn = subst (λ (x : Machine R). AreDraws x.engine behind.draws) (sym same) (subst (AreDraws m0.engine) (sym draws) drawn);
+          holds = subst (λ (e : Draws). Holds state m1 e behind.tables) (sym draws) by.holds;
+        },
+        subst (λ (e : Draws). Path state ending m1 m2 e behind.tables spelt answers broken) (sym draws) (path_again ending m0 m1 m2 d behind.tables spelt answers broken same rest),
+      )
 
   more_with : (ending : Ending) (m0 m1 m m2 : Machine R) (text : List ℕ) (texts more : List (List ℕ)) (one : Answer) (answers : List Answer) (part : List ℕ) → StaysAs m0 m1 → ServedWith m0 m1 text one
       → Walked state ending m1 m m2 texts more answers part → Walked state ending m0 m m2 (text ∷ texts) more (one ∷ answers) part
@@ -384,9 +422,10 @@ module _ {R : Type 0} (state : R → RevState) where
                 by.seen,
                 subst (λ (s : Session). AnswersFrom ending s rest.spelt from.0 answers all part) (sym by.stands) from.1,
               ),
-              λ whole.
-                  subst (λ (s : Session). Represents state m2.engine m2.store s.tables) (sym behind)
-                  (subst (λ (s : Session). Represents state m2.engine m2.store (after_all s rest.spelt from.0).tables) (sym by.stands) (from.2 whole)),
+              (λ whole.
+              subst (λ (s : Session). Represents state m2.engine m2.store s.tables) (sym behind)
+              (subst (λ (s : Session). Represents state m2.engine m2.store (after_all s rest.spelt from.0).tables) (sym by.stands) (from.2 whole))),
+              path_with ending m0 m1 m2 text one with same d tables held rest.spelt answers from.0 drawn from.3,
             );
         untampered = λ d drawn tells tables held honest. rest.untampered d drawn tells (after (means_with state m0 m1 text one with same d tables held).how (session_of m0 d tables) with.stmt).tables (on d tables held) honest;
         early = λ d drawn tells steady tables held sound n before few.

@@ -255,6 +255,7 @@ module _ {R : Type 0} (state : R → RevState) (m0 m1 : Machine R) (text : List 
       pub seen : seen_with ≡ seen_or_cut how s stmt
       pub stands : after how s stmt ≡ session_of m0 d (after how s stmt).tables
       pub holds : Holds state m1 d (after how s stmt).tables
+      pub still : tables_behind m1 d (after how s stmt).tables ≡ tables_behind m0 d tables
       pub plain : has_failed m0.gathered ≡ false → how ≡ how_now m0.gathered s stmt
 
     abbrev behind : Tables
@@ -268,6 +269,15 @@ module _ {R : Type 0} (state : R → RevState) (m0 m1 : Machine R) (text : List 
     took is listed =
         moved behind (listed ∙ holds.listed) (subst (λ (owed : List Owed). Represents state m0.engine m0.store (settle_all d p m (statements_of owed) tables)) is holds.held)
         (subst (λ (owed : List Owed). AreOwed d p m owed tables) is holds.owed).1
+
+    still_as : (after_it : Tables) → settle_all d p m (statements_of m1.owed) after_it ≡ tables_behind m0 d tables → tables_behind m1 d after_it ≡ tables_behind m0 d tables
+    still_as after_it is = ap (λ (x : Machine R). tables_behind x d after_it) same ∙ is
+
+    took_still : TakesOwed false (record { stmt = stmt; outcome = one.outcome }) m0.owed m1.owed → tables_behind m1 d behind ≡ tables_behind m0 d tables
+    took_still is = still_as behind (sym (ap (λ (owed : List Owed). settle_all d p m (statements_of owed) tables) is))
+
+    stayed_still : TakesOwed true (record { stmt = stmt; outcome = one.outcome }) m0.owed m1.owed → tables_behind m1 d tables ≡ tables_behind m0 d tables
+    stayed_still none = still_as tables (ap (λ (owed : List Owed). settle_all d p m (statements_of owed) tables) (none.1 ∙ sym none.0))
 
     answered_so : TakesOwed false (record { stmt = stmt; outcome = one.outcome }) m0.owed m1.owed → one.outcome ≡ outcome_of stmt (verdict p m tables stmt)
     answered_so is = (subst (λ (owed : List Owed). AreOwed d p m owed tables) is holds.owed).0
@@ -301,12 +311,17 @@ module _ {R : Type 0} (state : R → RevState) (m0 m1 : Machine R) (text : List 
           seen = ap (λ (o : Option Refusal). seen_to (end_with o)) is ∙ sym (seen_early p m tables stmt r early d);
           stands = after_refused s stmt r early ∙ ap (session_of m0 d) (sym still);
           holds = by_failed failed owed still;
+          still = still_by failed owed still;
           plain = λ own. how_by (goes_into p m0.gathered (skeleton stmt)) (refusal_now p m stmt) with.joins (ap is_some is);
         }
       where
         by_failed : (failed : Bool) → TakesOwed failed (record { stmt = stmt; outcome = one.outcome }) m0.owed m1.owed → behind ≡ tables → Holds state m1 d behind
         by_failed true none still = subst (Holds state m1 d) (sym still) (stayed none)
         by_failed false is still = took is (ap headings still)
+
+        still_by : (failed : Bool) → TakesOwed failed (record { stmt = stmt; outcome = one.outcome }) m0.owed m1.owed → behind ≡ tables → tables_behind m1 d behind ≡ tables_behind m0 d tables
+        still_by true none still = ap (tables_behind m1 d) still ∙ stayed_still none
+        still_by false is still = took_still is
 
     joined_means : refusal_now p m stmt ≡ None → has_failed m0.gathered ≡ false → TakesOwed false (record { stmt = stmt; outcome = one.outcome }) m0.owed m1.owed → MeansWith
     joined_means none own owed = record {
@@ -316,6 +331,7 @@ module _ {R : Type 0} (state : R → RevState) (m0 m1 : Machine R) (text : List 
       seen = ap (λ (o : Option Refusal). seen_to (end_with o)) none;
       stands = after_with s stmt;
       holds = took owed (insert_headings d p m tables stmt with_insert (unkeyed none));
+      still = took_still owed;
       plain = λ own. how_with (goes_into p m0.gathered (skeleton stmt)) (refusal_now p m stmt) with.joins none;
     }
 
@@ -327,6 +343,7 @@ module _ {R : Type 0} (state : R → RevState) (m0 m1 : Machine R) (text : List 
       seen = ap (λ (o : Option Refusal). seen_to (end_with o)) none;
       stands = after_cut_with s stmt;
       holds = stayed owed;
+      still = stayed_still owed;
       plain = λ own. absurd (cc (has, own));
     }
 

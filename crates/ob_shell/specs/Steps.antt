@@ -9,7 +9,7 @@ use Rattle.ob_base.specs.declared.config.Public.{Public}
 use Rattle.ob_base.specs.declared.refusal.Refusal.{Refusal}
 use Rattle.ob_base.specs.declared.refusal.Refusal.TheVariants.{Syntax, StoreFault}
 use Rattle.ob_base.specs.declared.seen.End.{End}
-use Rattle.ob_base.specs.declared.seen.End.TheVariants.{Static, Joined}
+use Rattle.ob_base.specs.declared.seen.End.TheVariants.{Static, Whole, Joined}
 use Rattle.ob_tables.specs.Agreeing.{Agrees, AreDraws, count_of, has_ended, indexes_of, public_of, replaced_of, seen_of, world_of}
 use Rattle.ob_tables.specs.Indexed.{FillsStash}
 use Rattle.ob_tables.specs.Batch.{AnswersRow}
@@ -194,6 +194,7 @@ settled_by m stmt d tables = settle d (public_of m.engine) (asked_of m) tables s
 -- those that were carried out with a statement mean the same by what is public behind it as before it, and were answered so
 pub record Owes {R : Type 0} (m0 m1 : Machine R) (stmt : Stmt) (d : Draws) (tables : Tables)
     : Type 0 where
+  pub whole : (m1.owed ≡ []) ⊎ ((seen_of m1.engine).end ≡ Whole)
   pub listed : headings (settled_by m0 stmt d tables) ≡ headings_of (public_of m1.engine).tables
   pub same : tables_behind m1 (draws_behind m0 m1 stmt d) (settled_by m0 stmt d tables)
       ≡ settle_all d (public_of m0.engine) (asked_of m0) (statements_of m1.owed)
