@@ -9,6 +9,8 @@ pub mod KeepRunLemmas
 pub mod KeptGenLemmas
 pub mod KeptLemmas
 pub mod KeyLemmas
+pub mod TookLemmas
+pub mod WaitLemmas
 pub mod RunLemmas
 pub mod ServeLemmas
 pub mod StandLemmas

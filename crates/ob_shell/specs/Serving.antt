@@ -149,6 +149,11 @@ ReadsTexts state tracing f0 f1 l0 l1 gave w0 w1 t0 t1 batch tally m0 m1 out0 out
     (Err (Unread stop)) =
     HasRead state tracing f0 f1 l0 l1 gave w0 w1 t0 t1 batch tally m0 m1 (Err stop)
 
+-- so a session ends where none that waited stopped it
+abbrev pub ended_with : Result (Unit {0}) Stop → Tally → Result Tally Stop
+ended_with (Ok done) tally = Ok tally
+ended_with (Err stop) tally = Err stop
+
 -- no text that was served stopped it
 abbrev pub UnlessServed : {T : Type 0} → Result T Break → Type 0 → Type 0
 UnlessServed (Ok x) P = P

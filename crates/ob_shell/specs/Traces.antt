@@ -21,3 +21,9 @@ pub record Traced (tracing : Bool) (asked0 asked1 : List Access) (written0 writt
 -- the trace took each access that was asked, and maybe more after them
 pub record Traces (tracing : Bool) (written0 written1 : Option (List ℕ)) (asked0 asked1 : List Access) : Type 0 where
   pub whole : (seen : List Access) → asked1 ≡ asked0 ++ seen → Took written0 written1 (traced tracing seen)
+
+-- the same of those that were asked until then
+pub record TracedTo (tracing : Bool) (asked0 asked1 : List Access) (written0 written1 : Option (List ℕ)) : Type 0 where
+  pub seen : List Access
+  pub grew : asked1 ≡ asked0 ++ seen
+  pub took : Took written0 written1 (traced tracing seen)

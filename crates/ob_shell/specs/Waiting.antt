@@ -11,7 +11,7 @@ use Rattle.ob_mean.specs.Batches.{Gathering, batch_most, begins_batch, goes_into
 use Rattle.ob_print.specs.Cuts.{Outputs}
 use Rattle.ob_shell.specs.Steps.{Follow, Machine, Owed, PartlyAt, Steps, standing}
 use Rattle.ob_shell.specs.Tallies.{tally_after}
-use Rattle.ob_shell.specs.Traces.{Traces}
+use Rattle.ob_shell.specs.Traces.{TracedTo}
 use Rattle.ob_sql.specs.Skeleton.{skeleton}
 use Rattle.ob_sql.specs.declared.stmt.Stmt.{Stmt}
 use Rattle.ob_tables.specs.Agreeing.{public_of}
@@ -113,4 +113,4 @@ pub record BreaksIn {R : Type 0} (state : R → RevState) (tracing : Bool)
   pub partly : PartlyAt state middle (standing m1 owed gathered) more stop bytes
   pub cut : Outputs written0 written1 Lost (printed answers ++ bytes)
   pub whole : Took written0 written1 (printed answers)
-  pub traced : Traces tracing traced0 traced1 m0.store.asked middle.store.asked
+  pub traced : TracedTo tracing m0.store.asked middle.store.asked traced0 traced1
