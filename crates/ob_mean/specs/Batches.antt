@@ -1,5 +1,5 @@
 -- INSERTs that follow one another into one flat table and are served together.
-use Rattle.std.specs.Prelude.{ℕ, ◌+◌, ◌-◌, ◌^◌, Bool, true, false, not, ◌&&◌, nat_le, nat_lt, min, List, [], ◌∷◌, Option, Some, None, is_some, bytes_eq, if◌then◌else◌}
+use Rattle.std.specs.Prelude.{ℕ, ◌+◌, ◌-◌, ◌^◌, Bool, true, false, not, ◌&&◌, nat_le, nat_lt, max, min, List, [], ◌∷◌, Option, Some, None, is_some, bytes_eq, if◌then◌else◌}
 use Rattle.std.specs.Option.{is_none, option_map, option_map_or}
 use Rattle.ob_base.specs.declared.config.Public.{Public}
 use Rattle.ob_base.specs.declared.seen.End.{End}
@@ -22,9 +22,10 @@ pub record Gathering : Type 0 where
   pub count : ℕ
   pub failed : Bool
 
--- as many texts as one batch may have: what the settings say, and no more than may have rows open beside a block's
+-- as many texts as one batch may have: one at least, what the settings say, and no more than may have rows open beside a
+-- block's
 abbrev pub batch_most : Public → ℕ
-batch_most p = option_map_or (λ m. min m (p.buffer - p.pack)) p.batch 1
+batch_most p = option_map_or (λ m. max 1 (min m (p.buffer - p.pack))) p.batch 1
 
 -- the table that an INSERT names
 abbrev pub inserts_into : Skeleton → Option (List ℕ)

@@ -1,10 +1,10 @@
--- A statement that was served with the one before it.
+-- A statement that asks nothing: one that was served with the one before it, or refused before any access.
 use Rattle.std.proofs.Common.{◌≡◌, ℕ, ◌+◌, List, [], None, ◌∙◌, ap, arith}
 use Rattle.ob_base.specs.declared.access.Access.{Access}
 use Rattle.ob_base.specs.declared.config.Public.{Public}
 use Rattle.ob_base.specs.declared.seen.Seen.{Seen}
 use Rattle.ob_base.specs.declared.seen.End.{End}
-use Rattle.ob_base.specs.declared.seen.End.TheVariants.{Joined}
+use Rattle.ob_base.specs.declared.seen.End.TheVariants.{Joined, Static}
 use Rattle.ob_base.specs.declared.skeleton.Skeleton.{Skeleton}
 use Rattle.ob_base.specs.Accesses.{makes}
 use Rattle.ob_script.specs.Saved.{left_then}
@@ -15,6 +15,9 @@ use Rattle.ob_script.specs.Trace.{next}
 none_made : (n : ℕ) → n + makes [] ≡ n
 unfolding makes
 none_made n = omega arith
+
+pub static_stays : (p : Public) (s : Skeleton) → next p s (record { k = None; plan = None; then = None; leaf = None; end = Static }) ≡ p
+static_stays p s = λ i. record p { next_region = none_made p.next_region i }
 
 module _ (p : Public) (s : Skeleton) (seen : Seen) (is : seen.end ≡ Joined) where
   pub asks_none : script p s seen ≡ []
