@@ -29,6 +29,9 @@ pub mod IntKey
 pub mod DrawsTaken
 pub mod CreateIndex
 pub mod InsertLemmas
+pub mod BatchMeans
+pub mod BatchServed
+pub mod BatchLoops
 pub mod ChangeLemmas
 pub mod DropLemmas
 pub mod DropIndex
