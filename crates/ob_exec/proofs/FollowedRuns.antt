@@ -142,12 +142,12 @@ module _ {R : Type 0} (state : R → RevState) (stmt : Stmt) (owed : List Stmt) 
           let public = saves.goes_on.public in
           let before : last.public.save ≡ true → mid.public.save ≡ true = λ is. sym (ap (λ (q : Public). q.save) public) ∙ is in
           let next_is = ap (λ (q : Public). q.next_region) public in
-          let then : MaySave Still last = record {
+          let behind : MaySave Still last = record {
             saves = λ is. here.saves (before is);
             salted = λ is q above. subst (λ (keys : KeySet). (pair_of keys q).salt ≢ None) (sym saves.keys) (here.salted (before is) q (omega (arith, above, next_is)));
             listed = λ is. saves.goes_on.listed;
           } in
-          subst (λ (r : Result Outcome RunStop). OnOk r (MaySave Still new)) (sym ends.0) (subst (λ (e : Engine R). MaySave Still e) (sym ends.1) then)
+          subst (λ (r : Result Outcome RunStop). OnOk r (MaySave Still new)) (sym ends.0) (subst (λ (e : Engine R). MaySave Still e) (sym ends.1) behind)
       may_due Still (Err stop) last saves ends stays = subst (λ (r : Result Outcome RunStop). OnOk r (MaySave Still new)) (sym ends.0) tt
 
     -- ---- by whether they are

@@ -80,6 +80,22 @@ fn end_at<R: Revisions>(engine: &mut Engine<R>, accesses: u64)
     let _ = engine.cut(accesses, OpErr::NoMemory);
 }
 
+// Leaves in the store what the vault forgot of a statement that was answered so, from this region on.
+fn leave_forgotten<S: BlockStore, R: Revisions>(
+    engine: &Engine<R>,
+    store: &mut S,
+    next: u64,
+    outcome: Outcome,
+)
+    requires forgotten { outcome ≡ Refused StoreFault
+        → HasNoneFrom next (R.state engine.now.vault.revs) }
+    ensures same { S.state store.new ≡ S.state store.old }
+{
+    if let Outcome::Refused(Refusal::StoreFault) = outcome {
+        engine.vault.give_up(store, next);
+    }
+}
+
 // Ends a statement that was carried out: what the vault forgot of one that the store failed stays in the store, and the
 // tables behind it are saved if they are due to be. Then it is answered.
 pub(crate) fn finish<S: BlockStore, R: Revisions, B: Behind<S>>(
@@ -107,9 +123,7 @@ pub(crate) fn finish<S: BlockStore, R: Revisions, B: Behind<S>>(
         Ok(outcome) => outcome,
         Err(stop) => return Err(stop),
     };
-    if let Outcome::Refused(Refusal::StoreFault) = outcome {
-        engine.vault.give_up(store, begun.next);
-    }
+    leave_forgotten(engine, store, begun.next, outcome);
     if !is_saved_behind(begun.saved, engine.seen().end) {
         return Ok(outcome);
     }

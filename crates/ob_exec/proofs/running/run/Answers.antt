@@ -12,15 +12,15 @@ finish-requires g c =
     let mid = c.serve-answer.new.engine in
     let s1 = g.S.BlockStore.state c.serve-answer.new.store in
     let answer = c.serve-answer.result in
-    let Halts = HasHalted g.E.Emit.cut c.args.out.now c.serve-answer.new.out in
+    let halts = HasHalted g.E.Emit.cut c.args.out.now c.serve-answer.new.out in
     let share = share_alone g.R.Revisions.state g.E.Emit.grew g.E.Emit.cut g.E.Emit.faults c.args.stmt.now answer old s mid s1 c.args.out.now c.serve-answer.new.out c.serve-answer.ensures.serves c.serve-answer.ensures.shows in
     let begun = c.begin-begun.ensures in
     record {
-      forgotten = forgotten_then g.R.Revisions.state c.args.stmt.now [] Halts old s mid s1 c.requires.agrees c.requires.settled c.begin-begun.result begun answer share;
-      may = may_then g.R.Revisions.state c.args.stmt.now [] Halts old s mid s1 c.requires.agrees c.requires.settled c.begin-begun.result begun answer (g.B.Behind.Saves c.args.behind.now) share c.requires.saves;
-      wants = saves_then g.R.Revisions.state c.args.stmt.now [] Halts old s mid s1 c.requires.agrees c.requires.settled c.begin-begun.result begun answer share;
-      saves = able_then g.R.Revisions.state c.args.stmt.now [] Halts old s mid s1 c.requires.agrees c.requires.settled c.begin-begun.result begun answer (g.B.Behind.Saves c.args.behind.now) c.requires.saves;
-      counted = counted_then g.R.Revisions.state c.args.stmt.now [] Halts old s mid s1 c.requires.agrees c.requires.settled c.begin-begun.result begun answer share;
+      forgotten = forgotten_then g.R.Revisions.state c.args.stmt.now [] halts old s mid s1 c.requires.agrees c.requires.settled c.begin-begun.result begun answer share;
+      may = may_then g.R.Revisions.state c.args.stmt.now [] halts old s mid s1 c.requires.agrees c.requires.settled c.begin-begun.result begun answer (g.B.Behind.Saves c.args.behind.now) share c.requires.saves;
+      wants = saves_then g.R.Revisions.state c.args.stmt.now [] halts old s mid s1 c.requires.agrees c.requires.settled c.begin-begun.result begun answer share;
+      saves = able_then g.R.Revisions.state c.args.stmt.now [] halts old s mid s1 c.requires.agrees c.requires.settled c.begin-begun.result begun answer (g.B.Behind.Saves c.args.behind.now) c.requires.saves;
+      counted = counted_then g.R.Revisions.state c.args.stmt.now [] halts old s mid s1 c.requires.agrees c.requires.settled c.begin-begun.result begun answer share;
     }
 
 pub returns-clause-ran : goal.returns-clause-ran
@@ -36,8 +36,8 @@ returns-clause-saves g c =
     let mid = c.serve-answer.new.engine in
     let s1 = g.S.BlockStore.state c.serve-answer.new.store in
     let answer = c.serve-answer.result in
-    let Halts = HasHalted g.E.Emit.cut c.args.out.now c.serve-answer.new.out in
+    let halts = HasHalted g.E.Emit.cut c.args.out.now c.serve-answer.new.out in
     let share = share_alone g.R.Revisions.state g.E.Emit.grew g.E.Emit.cut g.E.Emit.faults c.args.stmt.now answer old s mid s1 c.args.out.now c.serve-answer.new.out c.serve-answer.ensures.serves c.serve-answer.ensures.shows in
-    may_behind g.R.Revisions.state c.args.stmt.now [] Halts old s mid s1 c.requires.agrees c.requires.settled c.begin-begun.result c.begin-begun.ensures (g.B.Behind.Saves c.args.behind.now) c.requires.saves
+    may_behind g.R.Revisions.state c.args.stmt.now [] halts old s mid s1 c.requires.agrees c.requires.settled c.begin-begun.result c.begin-begun.ensures (g.B.Behind.Saves c.args.behind.now) c.requires.saves
     c.finish.result c.finish.new.engine (g.S.BlockStore.state c.finish.new.store) (g.B.Behind.state c.args.behind.now) (g.B.Behind.state c.finish.new.behind)
     (g.B.Behind.Saves c.finish.new.behind) answer (is_due c.begin-begun.result.saved answer mid.seen.end) refl share c.finish.ensures.behind c.finish.ensures.stays
