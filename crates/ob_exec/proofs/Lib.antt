@@ -29,3 +29,4 @@ pub mod PlainRuns
 pub mod SavedRuns
 pub mod EmittedRuns
 pub mod FollowedRuns
+pub mod BatchRuns

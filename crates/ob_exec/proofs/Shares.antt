@@ -1,14 +1,17 @@
 -- The engine's own share of a statement, but for what it emits: of one that is served by itself, and of a batch.
-use Rattle.std.proofs.Common.{◌≡◌, ℕ, true, List, [], Result, Ok, Err, ap, subst}
+use Rattle.std.proofs.Common.{◌≡◌, ℕ, true, false, List, [], Result, Ok, Err, refl, ap, subst}
+use Rattle.std.specs.Prelude.{IsSome}
 use Rattle.ob_base.specs.Events.{Event}
-use Rattle.ob_mean.specs.Lawful.{Lawful}
+use Rattle.ob_mean.proofs.BatchLemmas.{begins}
+use Rattle.ob_mean.specs.Batches.{inserts_into}
+use Rattle.ob_mean.specs.Lawful.{Lawful, selects_rows}
 use Rattle.ob_mean.specs.Verdict.{next_draw, Draws}
 use Rattle.ob_script.specs.Script.{changes_tables}
 use Rattle.ob_select.specs.Memory.{HasHalted}
 use Rattle.ob_sql.specs.Skeleton.{skeleton}
 use Rattle.ob_sql.specs.declared.stmt.Stmt.{Stmt}
+use Rattle.ob_sql.specs.declared.stmt.Stmt.TheVariants.{Create, Insert, Update, Delete, Drop as DropTable, SelectRows as RowsStmt, SelectTotals as TotalsStmt}
 use Rattle.ob_store.specs.State.{StoreState}
-use Rattle.ob_tables.proofs.BatchLemmas.{begins_flat, begins_now, begins_uncounted}
 use Rattle.ob_tables.proofs.LawfulLemmas.{lawful_now}
 use Rattle.ob_tables.proofs.ToldLemmas.{refused_none}
 use Rattle.ob_tables.specs.Agreeing.{AreDraws, count_of, world_of}
@@ -53,21 +56,30 @@ share_alone state grew cut faults stmt result old s new t out_old out_new serves
   shows = shows;
 }
 
--- a batch of INSERTs
+-- a batch of INSERTs, of which no rows are counted
+inserts_plain : (stmt : Stmt) → IsSome (inserts_into (skeleton stmt)) → selects_rows stmt ≡ false
+inserts_plain (Create table columns capacity shape) inserts = absurd (cc inserts)
+inserts_plain (Insert table columns values) inserts = refl
+inserts_plain (Update table sets search) inserts = absurd (cc inserts)
+inserts_plain (Delete table search) inserts = absurd (cc inserts)
+inserts_plain (DropTable table) inserts = absurd (cc inserts)
+inserts_plain (RowsStmt q) inserts = absurd (cc inserts)
+inserts_plain (TotalsStmt q) inserts = absurd (cc inserts)
+
 pub share_batch : {R : Type 0} (state : R → RevState) (first : Stmt) (rest : List Stmt) (result : Result Outcome RunStop) (outcomes : List Outcome) (old : Engine R) (s : StoreState) (new : Engine R) (t : StoreState)
     → AreBatch old.public (count_of old s) first rest → ServesBatch state first rest result outcomes old s new t → Share state first rest ⊥ result old s new t
 share_batch state first rest result outcomes old s new t batch serves =
     let p = old.public in
     let m = count_of old s in
     let one = serves.serves in
-    let flat = begins_flat p m first batch.begins in
-    let early = refused_none (refusal_now p m first) result new.seen (begins_now p m first batch.begins) one.started in
+    let begun = begins p m first batch.begins in
+    let early = refused_none (refusal_now p m first) result new.seen begun.accepted one.started in
     record {
       ran = one.ran;
       early = early;
-      lawful = lawful_now p m first result new.seen s.asked t.asked (begins_uncounted p m first batch.begins) flat one.plain one.uncounted early one.ran.asked one.ran.ends;
+      lawful = lawful_now p m first result new.seen s.asked t.asked (inserts_plain first begun.inserts) begun.flat one.plain one.uncounted early one.ran.asked one.ran.ends;
       memory = one.memory;
-      full = λ is. let indexed = one.ran.indexed (ap stops_access is) in absurd (cc (indexed, flat));
+      full = λ is. let indexed = one.ran.indexed (ap stops_access is) in let flat = begun.flat in absurd (cc (indexed, flat));
       emits = λ is. absurd (subst (λ (r : Result Outcome RunStop). IsSilent r) is one.silent);
       seals = one.seals;
       means = one.means;

@@ -1,10 +1,9 @@
 //! The tables behind a statement that was carried out: they are saved where they are to be.
 ghost use Rattle.std.specs.Prelude.{◌≡◌, ◌&&◌, ◌≤◌, Ok, length, true};
 ghost use Rattle.ob_base.specs.declared.refusal.Refusal.TheVariants.{StoreFault};
-ghost use Rattle.ob_exec.specs.Behind.{SavesBehind, ended_at, is_due};
+ghost use Rattle.ob_exec.specs.Behind.{IsBegun, SavesBehind, ended_at, is_due};
 ghost use Rattle.ob_exec.specs.Ran.{is_whole};
 ghost use Rattle.ob_exec.specs.Saving.{MayBeSaved};
-ghost use Rattle.ob_script.specs.Saved.{left_by};
 ghost use Rattle.ob_script.specs.Script.{changes_tables, is_saved};
 ghost use Rattle.ob_sql.specs.Skeleton.{skeleton};
 ghost use Rattle.ob_tables.specs.Agreeing.{public_of, seen_of};
@@ -23,13 +22,9 @@ use ob_verdict::Outcome;
 // What is to be known of a statement before it is carried out.
 #[derive(Clone, Copy)]
 pub(crate) struct Begun {
-    // how many accesses were asked before it
     pub(crate) accesses: u64,
-    // whether tables are saved behind one like it
     pub(crate) saved: bool,
-    // the region that it leaves then
     pub(crate) left: Option<u64>,
-    // the first region that it may make
     pub(crate) next: u64,
 }
 
@@ -68,10 +63,7 @@ pub(crate) fn begin<S: BlockStore, R: Revisions>(
     store: &S,
     stmt: &Stmt,
 ) -> Begun
-    ensures accesses { result.accesses ≡ length (S.state store.now).asked }
-    ensures saved { result.saved ≡ is_saved (public_of engine.now) (skeleton stmt.now) }
-    ensures left { result.left ≡ left_by (public_of engine.now) (skeleton stmt.now) }
-    ensures next { result.next ≡ (public_of engine.now).next_region }
+    ensures { IsBegun (public_of engine.now) (S.state store.now) stmt.now result }
 {
     Begun {
         accesses: store.count(),
@@ -86,6 +78,22 @@ fn end_at<R: Revisions>(engine: &mut Engine<R>, accesses: u64)
     ensures { engine.new ≡ ended_at accesses engine.old }
 {
     let _ = engine.cut(accesses, OpErr::NoMemory);
+}
+
+// Leaves in the store what the vault forgot of a statement that was answered so, from this region on.
+fn leave_forgotten<S: BlockStore, R: Revisions>(
+    engine: &Engine<R>,
+    store: &mut S,
+    next: u64,
+    outcome: Outcome,
+)
+    requires forgotten { outcome ≡ Refused StoreFault
+        → HasNoneFrom next (R.state engine.now.vault.revs) }
+    ensures same { S.state store.new ≡ S.state store.old }
+{
+    if let Outcome::Refused(Refusal::StoreFault) = outcome {
+        engine.vault.give_up(store, next);
+    }
 }
 
 // Ends a statement that was carried out: what the vault forgot of one that the store failed stays in the store, and the
@@ -103,11 +111,11 @@ pub(crate) fn finish<S: BlockStore, R: Revisions, B: Behind<S>>(
         → MayBeSaved R.state begun.left engine.old (S.state store.old) }
     requires wants { is_due begun.saved answer (seen_of engine.old).end ≡ true
         → (public_of engine.old).save ≡ true }
-    requires saves { (public_of engine.old).save ≡ true → B.Saves behind.old }
+    requires saves { is_due begun.saved answer (seen_of engine.old).end ≡ true → B.Saves behind.old }
     requires counted { begun.accesses ≤ length (S.state store.old).asked }
     ensures behind { SavesBehind R.state (is_due begun.saved answer (seen_of engine.old).end)
-        begun.accesses begun.left answer result engine.old (S.state store.old)
-        engine.new (S.state store.new) (B.state behind.old) (B.state behind.new) }
+        begun answer result engine.old (S.state store.old) engine.new (S.state store.new)
+        (B.state behind.old) (B.state behind.new) }
     ensures stays { B.Saves behind.old → B.Saves behind.new }
     ensures same { B.name behind.new ≡ B.name behind.old }
 {
@@ -115,9 +123,7 @@ pub(crate) fn finish<S: BlockStore, R: Revisions, B: Behind<S>>(
         Ok(outcome) => outcome,
         Err(stop) => return Err(stop),
     };
-    if let Outcome::Refused(Refusal::StoreFault) = outcome {
-        engine.vault.give_up(store, begun.next);
-    }
+    leave_forgotten(engine, store, begun.next, outcome);
     if !is_saved_behind(begun.saved, engine.seen().end) {
         return Ok(outcome);
     }
