@@ -4,7 +4,7 @@ use Rattle.std.specs.Prelude.{bytes_eq, filter, not, ◌&&◌, if◌then◌else�
 use Rattle.std.specs.Option.{option_map, option_map_or}
 use Rattle.std.proofs.lemmas.Bool.{and_parts}
 use Rattle.std.proofs.lemmas.Bool.Decides.{nat_tests}
-use Rattle.std.proofs.lemmas.List.{map-append}
+use Rattle.std.proofs.lemmas.List.{map_push}
 use Rattle.ob_base.specs.declared.config.Public.{Public}
 use Rattle.ob_base.specs.declared.refusal.Refusal.TheVariants.{Syntax}
 use Rattle.ob_base.specs.declared.schema.Heading.{Heading}
@@ -15,6 +15,7 @@ use Rattle.ob_base.specs.declared.seen.Seen.{Seen}
 use Rattle.ob_base.specs.declared.skeleton.Skeleton.{Skeleton}
 use Rattle.ob_base.specs.declared.skeleton.Skeleton.TheVariants.{Create as CreateSkeleton, Insert as InsertSkeleton, Update as UpdateSkeleton, Delete as DeleteSkeleton, Drop as DropSkeleton, Rows, Groups}
 use Rattle.ob_base.specs.declared.skeleton.Source.TheVariants.{Table as OneTable, Join}
+use Rattle.ob_base.specs.Schemas.{columns_of}
 use Rattle.ob_base.specs.Stored.{headings_of}
 use Rattle.ob_script.specs.Script.{script}
 use Rattle.ob_script.specs.Tables.{moved, tables_after, tables_then}
@@ -23,9 +24,9 @@ use Rattle.ob_sql.specs.declared.stmt.Stmt.{Stmt}
 use Rattle.ob_sql.specs.Skeleton.{skeleton}
 use Rattle.ob_mean.specs.declared.answer.Answer.{Answer}
 use Rattle.ob_mean.specs.declared.answer.Answer.TheVariants.{Refused}
-use Rattle.ob_mean.specs.Batches.{Gathering, and_one, begins_batch, begun_by, gathering_after, goes_into, inserts_into, is_unrefused}
+use Rattle.ob_mean.specs.Batches.{Gathering, and_one, begins_batch, begun_by, gathering_after, goes_into, inserts_into, is_cut, is_unrefused}
 use Rattle.ob_mean.specs.Refusals.{is_index}
-use Rattle.ob_mean.specs.Replay.{Alone, Broken, CutAfter, CutWith, How, Session, Spelt, With, after, after_all, answer_or_cut, answers, draws_taken, drawn_by, has_index, head_of, how_now, hows, is_access, is_full_now, rest_of, seen_now, seen_or_cut}
+use Rattle.ob_mean.specs.Replay.{Alone, Broken, How, Session, Spelt, With, after, after_all, answer_or_cut, answers, draws_taken, drawn_by, has_index, head_of, how_now, hows, is_access, is_full_now, rest_of, seen_now, seen_or_cut}
 use Rattle.ob_mean.specs.Settle.{settle}
 use Rattle.ob_mean.specs.Verdict.{Tables, is_full, is_late, seen, verdict}
 use Rattle.ob_mean.proofs.BatchLemmas.{begins, goes_in}
@@ -49,6 +50,9 @@ module _ (name : List ℕ) where
       elim (is_other t.heading) as (λ b. headings_of (cond b (t ∷ filter (λ (u : Table). is_other u.heading) ts) (filter (λ (u : Table). is_other u.heading) ts))
       ≡ cond b (t.heading ∷ filter is_other (headings_of ts)) (filter is_other (headings_of ts)))
       [ true ↦ ap (λ (hs : List Heading). t.heading ∷ hs) (headings_kept ts) | false ↦ headings_kept ts ]
+
+headings_more : (ts : List Table) (t : Table) → headings_of (ts ++ t ∷ []) ≡ headings_of ts ++ t.heading ∷ []
+headings_more ts t = map_push (λ (u : Table). u.heading) ts t
 
 module _ (p q : Public) (along : GoesAlong p q) where
   index_along : (name : List ℕ) → has_index p name ≡ has_index q name
@@ -76,7 +80,10 @@ module _ (p q : Public) (along : GoesAlong p q) where
 
   behind_along : (s : Skeleton) → headings_of (tables_after p s) ≡ headings_of (tables_after q s)
   behind_along (CreateSkeleton table cs n shape) =
-      map-append p.tables _ ∙ ap (λ (hs : List Heading). hs ++ _) along.headings ∙ sym (map-append q.tables _)
+      let h : Heading = record { name = table; schema = columns_of table cs; capacity = n; shape = shape } in
+      headings_more p.tables (record { heading = h; region = p.next_region })
+      ∙ ap (λ (hs : List Heading). hs ++ h ∷ []) along.headings
+      ∙ sym (headings_more q.tables (record { heading = h; region = q.next_region }))
   behind_along (InsertSkeleton table cs) = moved_along table
   behind_along (UpdateSkeleton table cs) = moved_along table
   behind_along (DeleteSkeleton table) = moved_along table
@@ -160,7 +167,7 @@ module _ (p : Public) (m : ℕ) (g : Option Gathering) (stmt : Stmt) (x : Seen) 
       access_is (Rows source cs) table names = absurd (cc names)
       access_is (Groups name cs key) table names = absurd (cc names)
 
-      of_table : (o : Option (List ℕ)) → inserts_into (skeleton stmt) ≡ o → IsFlatIn behind (option_map (λ (table : List ℕ). record { table = table; count = 1; failed = _ }) o)
+      of_table : (o : Option (List ℕ)) → inserts_into (skeleton stmt) ≡ o → IsFlatIn behind (option_map (λ (table : List ℕ). record { table = table; count = 1; failed = is_cut x.end }) o)
       of_table None names = tt
       of_table (Some table) names = stays_flat table names (sym (access_is (skeleton stmt) table names) ∙ (begins p m stmt is).flat)
 
@@ -245,8 +252,52 @@ grows s (Err at ∷ texts) bs = grows s texts (rest_of bs)
 abbrev Alike : Session → Session → List Spelt → Broken → Type 0
 Alike s t texts bs = (answers s texts bs ≡ answers t texts []) × ((after_all s texts bs).tables ≡ (after_all t texts []).tables)
 
-all_alike : (g : Option Gathering) (s t : Session) (texts : List Spelt) → SessionsAlong s t → IsFlatIn s.public g
-    → (after_all s texts (hows g s texts)).asked < 2 ^ 63 → (after_all t texts []).asked < 2 ^ 63 → Alike s t texts (hows g s texts)
+-- as long as neither asks too much
+abbrev GoAlike : Option Gathering → Session → Session → List Spelt → Type 0
+GoAlike g s t texts = SessionsAlong s t → IsFlatIn s.public g → (after_all s texts (hows g s texts)).asked < 2 ^ 63 → (after_all t texts []).asked < 2 ^ 63 → Alike s t texts (hows g s texts)
+
+module _ (g : Option Gathering) (s t : Session) (stmt : Stmt) (texts : List Spelt) where
+  abbrev now : How
+  now = how_now g s stmt
+
+  abbrev gathered : Option Gathering
+  gathered = gathering_after s.public s.asked g stmt (seen_or_cut now s stmt).end
+
+  module _ (along : SessionsAlong s t) (flat : IsFlatIn s.public g) (few : s.asked < 2 ^ 63) (few_too : t.asked < 2 ^ 63) where
+    abbrev Step : How → Type 0
+    Step how = SessionsAlong (after how s stmt) (after Alone t stmt) × (answer_or_cut how s stmt ≡ verdict t.public t.asked t.tables stmt)
+
+    step_by : (into unrefused : Bool) → goes_into s.public g (skeleton stmt) ≡ into → Step (if into && unrefused then With else Alone)
+    step_by true true is =
+        let goes = goes_in s.public g (skeleton stmt) is in
+        (with_along s t along few few_too stmt goes.gathering.table goes.same (subst (IsFlatIn s.public) goes.is flat), answer_along s t along few few_too stmt)
+    step_by true false is = (alone_along s t along few few_too stmt, answer_along s t along few few_too stmt)
+    step_by false unrefused is = (alone_along s t along few few_too stmt, answer_along s t along few few_too stmt)
+
+    step : Step now
+    step = step_by (goes_into s.public g (skeleton stmt)) (is_unrefused s.public s.asked stmt) refl
+
+    by_room : (full : Bool) → is_full_now s stmt ≡ full → GoAlike gathered (after now s stmt) (after Alone t stmt) texts
+        → (after_all s (Ok stmt ∷ texts) (hows g s (Ok stmt ∷ texts))).asked < 2 ^ 63 → (after_all t (Ok stmt ∷ texts) []).asked < 2 ^ 63 → Alike s t (Ok stmt ∷ texts) (hows g s (Ok stmt ∷ texts))
+    by_room true full rest few_all few_all_too =
+        let full_too = sym (full_along s t along few few_too stmt) ∙ full in
+        let bs = hows gathered (after now s stmt) texts in (
+          ap (λ (b : Bool). if b then [] else answer_or_cut now s stmt ∷ answers (after now s stmt) texts bs) full
+              ∙ sym (ap (λ (b : Bool). if b then [] else answer_or_cut Alone t stmt ∷ answers (after Alone t stmt) texts []) full_too),
+          ap (λ (b : Bool). (if b then s else after_all (after now s stmt) texts bs).tables) full
+              ∙ along.tables ∙ sym (ap (λ (b : Bool). (if b then t else after_all (after Alone t stmt) texts []).tables) full_too),
+        )
+    by_room false room rest few_all few_all_too =
+        let room_too = sym (full_along s t along few few_too stmt) ∙ room in
+        let behind = after_room s stmt texts (hows g s (Ok stmt ∷ texts)) room in
+        let behind_too = after_room t stmt texts [] room_too in
+        let both = rest step.0 (gathers_flat s.public s.asked g stmt (seen_or_cut now s stmt) flat)
+        (subst (λ (u : Session). u.asked < 2 ^ 63) behind few_all) (subst (λ (u : Session). u.asked < 2 ^ 63) behind_too few_all_too) in (
+          answers_room s stmt texts (hows g s (Ok stmt ∷ texts)) room ∙ (λ i. step.1 i ∷ both.0 i) ∙ sym (answers_room t stmt texts [] room_too),
+          ap (λ (u : Session). u.tables) behind ∙ both.1 ∙ sym (ap (λ (u : Session). u.tables) behind_too),
+        )
+
+all_alike : (g : Option Gathering) (s t : Session) (texts : List Spelt) → GoAlike g s t texts
 all_alike g s t [] along flat few few_too = (refl, along.tables)
 all_alike g s t (Err at ∷ texts) along flat few few_too =
     let rest = all_alike None s t texts along tt few few_too in
@@ -254,53 +305,8 @@ all_alike g s t (Err at ∷ texts) along flat few few_too =
 all_alike g s t (Ok stmt ∷ texts) along flat few few_too =
     let soon : s.asked < 2 ^ 63 = omega (arith, few, grows s (Ok stmt ∷ texts) (hows g s (Ok stmt ∷ texts))) in
     let soon_too : t.asked < 2 ^ 63 = omega (arith, few_too, grows t (Ok stmt ∷ texts) []) in
-    by_room soon soon_too (is_full_now s stmt) refl
-  where
-    how : How
-    how = how_now g s stmt
-
-    behind_it : Option Gathering
-    behind_it = gathering_after s.public s.asked g stmt (seen_or_cut how s stmt).end
-
-    one : (how : How) → how_now g s stmt ≡ how → s.asked < 2 ^ 63 → t.asked < 2 ^ 63 → SessionsAlong (after how s stmt) (after Alone t stmt) × (answer_or_cut how s stmt ≡ verdict t.public t.asked t.tables stmt)
-    one Alone is soon soon_too = (alone_along s t along soon soon_too stmt, answer_along s t along soon soon_too stmt)
-    one With is soon soon_too =
-        let goes = goes_in s.public g (skeleton stmt) (joins (goes_into s.public g (skeleton stmt)) (is_unrefused s.public s.asked stmt) is) in
-        (with_along s t along soon soon_too stmt goes.gathering.table goes.same (subst (IsFlatIn s.public) goes.is flat), answer_along s t along soon soon_too stmt)
-      where
-        joins : (a b : Bool) → (if a && b then With else Alone) ≡ With → a ≡ true
-        joins true b is = refl
-        joins false b is = absurd (cc is)
-    one (CutAfter n) is soon soon_too = absurd (never (goes_into s.public g (skeleton stmt) && is_unrefused s.public s.asked stmt) is)
-      where
-        never : (b : Bool) → (if b then With else Alone) ≡ CutAfter n → ⊥
-        never true is = cc is
-        never false is = cc is
-    one CutWith is soon soon_too = absurd (never (goes_into s.public g (skeleton stmt) && is_unrefused s.public s.asked stmt) is)
-      where
-        never : (b : Bool) → (if b then With else Alone) ≡ CutWith → ⊥
-        never true is = cc is
-        never false is = cc is
-
-    by_room : s.asked < 2 ^ 63 → t.asked < 2 ^ 63 → (full : Bool) → is_full_now s stmt ≡ full → Alike s t (Ok stmt ∷ texts) (hows g s (Ok stmt ∷ texts))
-    by_room soon soon_too true full =
-        let full_too = sym (full_along s t along soon soon_too stmt) ∙ full in (
-          ap (λ (b : Bool). if b then [] else answer_or_cut how s stmt ∷ answers (after how s stmt) texts (hows behind_it (after how s stmt) texts)) full
-              ∙ sym (ap (λ (b : Bool). if b then [] else answer_or_cut Alone t stmt ∷ answers (after Alone t stmt) texts []) full_too),
-          ap (λ (b : Bool). (if b then s else after_all (after how s stmt) texts (hows behind_it (after how s stmt) texts)).tables) full
-              ∙ along.tables ∙ sym (ap (λ (b : Bool). (if b then t else after_all (after Alone t stmt) texts []).tables) full_too),
-        )
-    by_room soon soon_too false room =
-        let room_too = sym (full_along s t along soon soon_too stmt) ∙ room in
-        let bs = hows g s (Ok stmt ∷ texts) in
-        let both = one how refl soon soon_too in
-        let rest = all_alike behind_it (after how s stmt) (after Alone t stmt) texts both.0
-        (gathers_flat s.public s.asked g stmt (seen_or_cut how s stmt) flat)
-        (subst (λ (u : Session). u.asked < 2 ^ 63) (after_room s stmt texts bs room) few)
-        (subst (λ (u : Session). u.asked < 2 ^ 63) (after_room t stmt texts [] room_too) few_too) in (
-          answers_room s stmt texts bs room ∙ (λ i. both.1 i ∷ rest.0 i) ∙ sym (answers_room t stmt texts [] room_too),
-          ap (λ (u : Session). u.tables) (after_room s stmt texts bs room) ∙ rest.1 ∙ sym (ap (λ (u : Session). u.tables) (after_room t stmt texts [] room_too)),
-        )
+    by_room g s t stmt texts along flat soon soon_too (is_full_now s stmt) refl
+    (all_alike (gathered g s t stmt texts) (after (now g s t stmt texts) s stmt) (after Alone t stmt) texts) few few_too
 
 pub batches_answer_alike : BatchesAnswerAlike
 batches_answer_alike s texts few few_too =
