@@ -401,7 +401,7 @@ grows_on t [] broken more later = grows t more later
 grows_on t (Ok stmt ∷ spelt) broken more later =
     let rest = grows_on (after (head_of broken) t stmt) spelt (rest_of broken) more later in
     elim (is_full_now t stmt) as (λ (full : Bool). (if full then t else after_all (after (head_of broken) t stmt) spelt (hows_of spelt (rest_of broken))).asked
-        ≤ (if full then t else after_all (after (head_of broken) t stmt) (spelt ++ more) (hows_of spelt (rest_of broken) ++ later)).asked)
+    ≤ (if full then t else after_all (after (head_of broken) t stmt) (spelt ++ more) (hows_of spelt (rest_of broken) ++ later)).asked)
     [ true ↦ omega arith | false ↦ rest ]
 grows_on t (Err at ∷ spelt) broken more later = grows_on t spelt (rest_of broken) more later
 

@@ -343,7 +343,7 @@ all_as_one words keeps secret f (one ∷ runs) held kept t goes waits =
           subst (λ (r : RunKept (settings_of kept_usage words) (IsTaken kept_usage words) (is_traced kept_usage words) one.old one.new one.keeper0 one.keeper1 one.run.ending one.run.answers one.report).
           (after_all t (spelt_in r ++ all_spelt runs) joined.0).asked < 2 ^ 63 → AnswersFrom f t (spelt_in r ++ all_spelt runs) joined.0 (one.run.answers ++ all_answers runs) (seen_in r ++ all_seen runs) []) (sym found.1)
           (subst (λ (a : List Answer). (after_all t (run.session.story.spelt ++ all_spelt runs) joined.0).asked < 2 ^ 63
-              → AnswersFrom f t (run.session.story.spelt ++ all_spelt runs) joined.0 (a ++ all_answers runs) ((run.session.story.seen ++ run.session.story.last) ++ all_seen runs) []) (sym run.answered) joined.2);
+          → AnswersFrom f t (run.session.story.spelt ++ all_spelt runs) joined.0 (a ++ all_answers runs) ((run.session.story.seen ++ run.session.story.last) ++ all_seen runs) []) (sym run.answered) joined.2);
     }
 
 -- no tables are public before the first statement

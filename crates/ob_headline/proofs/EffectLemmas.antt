@@ -244,8 +244,8 @@ module _ (Leaves : Public → Stmt → Seen → Type 0) (g : Option Gathering) (
   Told how = (is_full_now s stmt ≡ false) × IsCutOff how s stmt × AnswersIn how s stmt one × (x.seen ≡ seen_or_cut how s stmt) × AnswersFrom ending (after how s stmt) spelt (rest_of broken) answers seen part
 
   -- what is gathered behind it
-  abbrev then : How → Option Gathering
-  then how = gathering_after s.public s.asked g stmt (seen_or_cut how s stmt).end
+  abbrev gathered : How → Option Gathering
+  gathered how = gathering_after s.public s.asked g stmt (seen_or_cut how s stmt).end
 
   abbrev Follows : Type 0
   Follows = (h : Option Gathering) (u v : Session) → SessionsAlike u v → AnswersFrom ending u spelt (rest_of broken) answers seen part → AreSeen Leaves u.public u.asked h spelt answers seen → u.asked + length (trace u.public seen) < 2 ^ 63
@@ -258,7 +258,7 @@ module _ (Leaves : Public → Stmt → Seen → Type 0) (g : Option Gathering) (
       let whole : s.asked + length (script s.public x.skeleton x.seen ++ trace (next s.public x.skeleton x.seen) seen) < 2 ^ 63 = few in
       omega (arith, whole, long)
 
-  seen_at : (how : How) → x.seen ≡ seen_or_cut how s stmt → AreSeen Leaves (after how s stmt).public (after how s stmt).asked (then how) spelt answers seen
+  seen_at : (how : How) → x.seen ≡ seen_or_cut how s stmt → AreSeen Leaves (after how s stmt).public (after how s stmt).asked (gathered how) spelt answers seen
   seen_at how is =
       let entry : x ≡ served how s stmt = λ i. record { skeleton = lawful.0 i; seen = is i } in
       subst (λ (y : Served). AreSeen Leaves (next s.public y.skeleton y.seen) (s.asked + length (script s.public y.skeleton y.seen)) (gathering_after s.public s.asked g stmt y.seen.end) spelt answers seen) entry lawful.3
@@ -287,7 +287,7 @@ module _ (Leaves : Public → Stmt → Seen → Type 0) (g : Option Gathering) (
       let grown = grows (after Alone t stmt) (texts_of behind) [] in
       let soon : s.asked < 2 ^ 63 = omega (arith, few) in
       let soon_too : t.asked < 2 ^ 63 = omega (arith, few_behind, grown) in
-      let rest = follows (then how) (after how s stmt) (after Alone t stmt) (steps soon soon_too) told.4 (seen_at how told.3) (few_at how told.3) few_behind in
+      let rest = follows (gathered how) (after how s stmt) (after Alone t stmt) (steps soon soon_too) told.4 (seen_at how told.3) (few_at how told.3) few_behind in
       subst (λ (b : Bool). Took t (left_by more s (Ok stmt ∷ spelt) (one ∷ answers) broken) (all b)) (sym whole) (
         ((room_flat t stmt alike.flat_too, answers_alike s t alike soon soon_too stmt one meant), rest.0),
         subst (λ (ts : Tables). TablesAlike ts (after_all t (Ok stmt ∷ texts_of behind) [])) (sym (left_at how is))
@@ -299,7 +299,7 @@ module _ (Leaves : Public → Stmt → Seen → Type 0) (g : Option Gathering) (
   took_none how is outcome stays told follows few_too =
       let failed : has_failed one.outcome ≡ true = ap has_failed outcome in
       let few_behind : (after_all t (texts_of behind) []).asked < 2 ^ 63 = subst (λ (b : Bool). (after_all t (texts_of (all b)) []).asked < 2 ^ 63) failed few_too in
-      let rest = follows (then how) (after how s stmt) t stays told.4 (seen_at how told.3) (few_at how told.3) few_behind in
+      let rest = follows (gathered how) (after how s stmt) t stays told.4 (seen_at how told.3) (few_at how told.3) few_behind in
       subst (λ (b : Bool). Took t (left_by more s (Ok stmt ∷ spelt) (one ∷ answers) broken) (all b)) (sym failed) (
         rest.0,
         subst (λ (ts : Tables). TablesAlike ts (after_all t (texts_of behind) [])) (sym (left_at how is)) rest.1,

@@ -15,6 +15,7 @@ pub mod KindLemmas
 pub mod CutLemmas
 pub mod FullLemmas
 mod Spelt
+mod Together
 pub mod ShownLemmas
 pub mod PlainLemmas
 pub mod IndexWrites

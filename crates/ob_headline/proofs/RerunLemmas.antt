@@ -333,7 +333,7 @@ shows p m g (a ∷ ps) (x ∷ xs) (b ∷ qs) (y ∷ ys) one two none alike =
     let here : x.seen ≡ plainly_at p m g a = shows_plainly p m (gathered_at g a) a.stmt x.seen one.1 one.3 plain one.2 in
     let there : y.seen ≡ plainly_at p m g b = shows_plainly p m (gathered_at g b) b.stmt y.seen two.1 two.3 (plain_too p a.stmt b.stmt alike.0 plain) two.2 in
     let same : y.seen ≡ x.seen = there ∙ sym (plainly_alike p m g a b alike.0 alike.2 alike.3) ∙ sym here in
-    let first : record { skeleton = skeleton a.stmt; seen = plainly_at p m g a } ≡ x = λ i. record { skeleton = sym one.0 i; seen = sym here i } in
+    let first : x ≡ record { skeleton = skeleton a.stmt; seen = plainly_at p m g a } = λ i. record { skeleton = one.0 i; seen = here i } in
     let sk : y.skeleton ≡ x.skeleton = two.0 ∙ sym alike.0 ∙ sym one.0 in
     let behind = subst (λ (h : Option Gathering). AreUncut (next p y.skeleton y.seen) (m + length (script p y.skeleton y.seen)) h qs ys) (sym (then_alike p m g a b alike.0 alike.2 alike.3 y.seen.end)) two.4 in
     let rest : AreUncut (next p x.skeleton x.seen) (m + length (script p x.skeleton x.seen)) (gathered_then p m g a x.seen.end) qs ys =
@@ -343,7 +343,7 @@ shows p m g (a ∷ ps) (x ∷ xs) (b ∷ qs) (y ∷ ys) one two none alike =
       alike.3,
       (λ more. sym same),
       shows (next p x.skeleton x.seen) (m + length (script p x.skeleton x.seen)) (gathered_then p m g a x.seen.end) ps xs qs ys one.4 rest (rest_uncounted p a ps x none)
-          (subst (λ (e : Entry). Alike (next p e.skeleton e.seen) (m + length (script p e.skeleton e.seen)) (gathered_then p m g a e.seen.end) ps qs) first alike.4),
+          (subst (λ (e : Entry). Alike (next p e.skeleton e.seen) (m + length (script p e.skeleton e.seen)) (gathered_then p m g a e.seen.end) ps qs) (sym first) alike.4),
     )
 
 module _ (a b : SomeRun) (same : GoOnFromOne a b) (well : EndsWell a.report.status (failures_of a)) (well_too : EndsWell b.report.status (failures_of b)) where
