@@ -30,6 +30,9 @@ pub mod LeafLemmas
 pub mod HowLemmas
 mod WalkLemmas
 mod WalkSteps
+pub mod BatchSteps
+pub mod LineLemmas
+pub mod FlushLemmas
 pub mod HeadLemmas
 pub mod OpenLemmas
 pub mod CloseLemmas

@@ -35,7 +35,7 @@ use Rattle.ob_row.specs.Slots.{fill_first}
 use Rattle.ob_script.proofs.Unasked.{static_stays, stays_public}
 use Rattle.ob_script.specs.Script.{script}
 use Rattle.ob_script.specs.Trace.{next}
-use Rattle.ob_shell.specs.Steps.{AnswersWith, AreOwed, Holds, Machine, Owed, ServedWith, StaysAs, TakesOwed, asked_of, end_with, has_failed, session_of, statements_of, tables_behind}
+use Rattle.ob_shell.specs.Steps.{AreOwed, Holds, Machine, Owed, ServedWith, StaysAs, TakesOwed, asked_of, end_with, has_failed, session_of, statements_of, tables_behind}
 use Rattle.ob_sql.specs.Skeleton.{skeleton}
 use Rattle.ob_sql.specs.declared.stmt.Literal.{Literal}
 use Rattle.ob_sql.specs.declared.stmt.Stmt.{Stmt}
@@ -44,7 +44,7 @@ use Rattle.ob_tables.proofs.LawfulLemmas.{lawful_refused}
 use Rattle.ob_tables.proofs.ServeLemmas.{silent_emits}
 use Rattle.ob_tables.proofs.ToldLemmas.{early_is}
 use Rattle.ob_tables.specs.Agreeing.{public_of}
-use Rattle.ob_tables.specs.Batch.{AnswersRow}
+use Rattle.ob_tables.specs.Batch.{AnswersRow, IsServedWith}
 use Rattle.ob_tables.specs.Running.{HasNoRows, inserted_as, is_fault}
 use Rattle.ob_tables.specs.Telling.{Represents}
 use Rattle.ob_mutate.specs.declared.inserting.Inserted.{Inserted as InsertedAs}
@@ -154,7 +154,7 @@ module _ {R : Type 0} (state : R → RevState) (m0 m1 : Machine R) (text : List 
   pub with_joins : Joins p m m0.gathered stmt seen_with
   with_joins = joins_by (goes_into p m0.gathered (skeleton stmt)) (refusal_now p m stmt) with.joins
 
-  own_by : (o : Option Refusal) (failed : Bool) → refusal_now p m stmt ≡ o → AnswersWith o failed one.outcome → HasNoRows one.outcome
+  own_by : (o : Option Refusal) (failed : Bool) → refusal_now p m stmt ≡ o → IsServedWith o failed one.outcome → HasNoRows one.outcome
   own_by (Some r) failed is answer = subst HasNoRows (sym answer) tt
   own_by None true is answer = subst HasNoRows (sym answer) tt
   own_by None false is answer = (row_own one.outcome answer).1
@@ -168,14 +168,14 @@ module _ {R : Type 0} (state : R → RevState) (m0 m1 : Machine R) (text : List 
   pub with_says : Says (refusal_now p m stmt) p stmt one
   with_says = go (refusal_now p m stmt) with.answered
     where
-      go : (o : Option Refusal) → AnswersWith o (has_failed m0.gathered) one.outcome → Says o p stmt one
+      go : (o : Option Refusal) → IsServedWith o (has_failed m0.gathered) one.outcome → Says o p stmt one
       go None answer = record { events = []; emits = silent_emits stmt _ one.outcome silent; bytes = printed }
       go (Some r) answer = λ i. record { outcome = answer i; bytes = (with.line ∙ ap closing_line answer) i; plan = with.unplanned i }
 
   pub with_failed : IsTrue (is_failed m0.gathered seen_with.end) ↔ (one.outcome ≡ Refused StoreFault)
   with_failed = go (refusal_now p m stmt) (has_failed m0.gathered) refl refl with.answered
     where
-      go : (o : Option Refusal) (failed : Bool) → refusal_now p m stmt ≡ o → has_failed m0.gathered ≡ failed → AnswersWith o failed one.outcome
+      go : (o : Option Refusal) (failed : Bool) → refusal_now p m stmt ≡ o → has_failed m0.gathered ≡ failed → IsServedWith o failed one.outcome
           → IsTrue (is_failed m0.gathered (end_with o)) ↔ (one.outcome ≡ Refused StoreFault)
       go (Some r) failed is has answer = (λ off. absurd (cc off), λ fault. absurd (let own = (early_is p m stmt r is).own in let same = ap is_fault (sym answer ∙ fault) in cc (own, same)))
       go None true is has answer = (λ on. answer, λ fault. has)
@@ -350,7 +350,7 @@ module _ {R : Type 0} (state : R → RevState) (m0 m1 : Machine R) (text : List 
     pub means_with : MeansWith
     means_with = go (refusal_now p m stmt) (has_failed m0.gathered) refl refl with.answered with.owed
       where
-        go : (o : Option Refusal) (failed : Bool) → refusal_now p m stmt ≡ o → has_failed m0.gathered ≡ failed → AnswersWith o failed one.outcome
+        go : (o : Option Refusal) (failed : Bool) → refusal_now p m stmt ≡ o → has_failed m0.gathered ≡ failed → IsServedWith o failed one.outcome
             → TakesOwed failed (record { stmt = stmt; outcome = one.outcome }) m0.owed m1.owed → MeansWith
         go (Some r) failed is has answer owed = refused_means r is failed has answer owed
         go None true is has answer owed = failed_means is has answer owed

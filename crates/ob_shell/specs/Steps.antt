@@ -7,12 +7,12 @@ use Rattle.ob_base.specs.Stored.{headings, headings_of}
 use Rattle.ob_base.specs.declared.config.Plan.{Plan}
 use Rattle.ob_base.specs.declared.config.Public.{Public}
 use Rattle.ob_base.specs.declared.refusal.Refusal.{Refusal}
-use Rattle.ob_base.specs.declared.refusal.Refusal.TheVariants.{Syntax, StoreFault}
+use Rattle.ob_base.specs.declared.refusal.Refusal.TheVariants.{Syntax}
 use Rattle.ob_base.specs.declared.seen.End.{End}
 use Rattle.ob_base.specs.declared.seen.End.TheVariants.{Static, Whole, Joined}
 use Rattle.ob_tables.specs.Agreeing.{Agrees, AreDraws, count_of, has_ended, indexes_of, public_of, replaced_of, seen_of, world_of}
 use Rattle.ob_tables.specs.Indexed.{FillsStash}
-use Rattle.ob_tables.specs.Batch.{AnswersRow}
+use Rattle.ob_tables.specs.Batch.{IsServedWith}
 use Rattle.ob_tables.specs.Running.{RefusedEarly, is_fault}
 use Rattle.ob_verdict.specs.Outcomes.{by_fault, outcome_of, refusal_now, Emits, MayEmit, Partly}
 use Rattle.ob_tables.specs.Serving.{Means}
@@ -226,12 +226,6 @@ pub record ServedStatement {R : Type 0} (state : R → RevState) (m0 m1 : Machin
 abbrev pub has_failed : Option Gathering → Bool
 has_failed gathered = option_map_or (λ (g : Gathering). g.failed) gathered false
 
--- it is refused before any access, or with the others by the store, or answered for its row
-abbrev pub AnswersWith : Option Refusal → (failed : Bool) → Outcome → Type 0
-AnswersWith (Some r) failed outcome = outcome ≡ Refused r
-AnswersWith None failed outcome =
-    by_fault failed (outcome ≡ Refused StoreFault) (AnswersRow outcome)
-
 -- nothing is owed where the store failed; else it is the next one
 abbrev pub TakesOwed : (failed : Bool) → Owed → (old new : List Owed) → Type 0
 TakesOwed failed one old new = by_fault failed ((old ≡ []) × (new ≡ [])) (old ≡ one ∷ new)
@@ -249,7 +243,7 @@ pub record ServedWith {R : Type 0} (m0 m1 : Machine R) (text : List ℕ) (answer
   pub joins : goes_into (public_of m0.engine) m0.gathered (skeleton stmt) ≡ true
   pub along : GoTogether (public_of m0.engine) stmt m1.owed
   pub unindexed : is_access (public_of m0.engine) (skeleton stmt) ≡ false
-  pub answered : AnswersWith (refusal_now (public_of m0.engine) (asked_of m0) stmt)
+  pub answered : IsServedWith (refusal_now (public_of m0.engine) (asked_of m0) stmt)
       (has_failed m0.gathered) answer.outcome
   pub owed : TakesOwed (has_failed m0.gathered)
       (record { stmt = stmt; outcome = answer.outcome }) m0.owed m1.owed

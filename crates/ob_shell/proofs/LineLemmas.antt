@@ -1,0 +1,135 @@
+-- Lines that are written one after the other, and where a sink lost one of them.
+use Rattle.std.specs.Prelude.{slice_get}
+use Rattle.std.proofs.Common.{◌≡◌, ◌⊎◌, inl, inr, ◌≤◌, ◌+◌, ℕ, suc, List, [], ◌∷◌, ◌++◌, length, drop, Option, None, Some, refl, sym, ap, ◌∙◌, subst, append_assoc, append-nil, drop-cons, add-one}
+use Rattle.std.proofs.lemmas.List.{append_cancel_left}
+use Rattle.std.proofs.Math.ListN.{drop_of_length-le}
+use Rattle.std.proofs.lemmas.Option.{get_or_from_slice_get, slice_get_within}
+use Rattle.std.specs.Io.KnownBytes.{Appends}
+use Rattle.ob_gen.specs.declared.tally.Tally.{Tally}
+use Rattle.ob_headline.specs.Closing.{closing_line}
+use Rattle.ob_headline.specs.Words.{printed}
+use Rattle.ob_print.specs.Cuts.{Outputs}
+use Rattle.ob_shell.proofs.WaitLemmas.{cut_twice}
+use Rattle.ob_shell.specs.Lines.{LinesCut, line_answers}
+use Rattle.ob_shell.specs.Tallies.{tally_after, tally_with}
+use Rattle.ob_verdict.specs.declared.outcome.Outcome.{Outcome}
+
+abbrev pub lines : List Outcome → List ℕ
+lines outcomes = printed (line_answers outcomes)
+
+pub lines_nil : lines [] ≡ []
+unfolding printed
+lines_nil = refl
+
+pub lines_cons : (o : Outcome) (outcomes : List Outcome) → lines (o ∷ outcomes) ≡ closing_line o ++ lines outcomes
+unfolding printed
+lines_cons o outcomes = refl
+
+-- ---- one more
+pub lines_at : (xs : List Outcome) (i : ℕ) (o : Outcome) → slice_get xs i ≡ Some o → lines (drop i xs) ≡ closing_line o ++ lines (drop (i + 1) xs)
+lines_at xs i o h =
+    let d : drop i xs ≡ o ∷ drop (i + 1) xs =
+    rw add-one (subst (λ (x : Outcome). drop i xs ≡ x ∷ drop (suc i) xs) (get_or_from_slice_get xs i o o h) (drop-cons xs i o (slice_get_within xs i o h))) in
+    ap lines d ∙ lines_cons o (drop (i + 1) xs)
+
+pub lines_more : (xs : List Outcome) (i : ℕ) (o : Outcome) (line text all : List ℕ) → line ≡ closing_line o → slice_get xs i ≡ Some o → all ≡ text ++ lines (drop i xs) → all ≡ (text ++ line) ++ lines (drop (i + 1) xs)
+lines_more xs i o line text all l h e =
+    e ∙ ap (λ (t : List ℕ). text ++ t) (lines_at xs i o h) ∙ sym (append_assoc text (closing_line o) (lines (drop (i + 1) xs)))
+    ∙ ap (λ (t : List ℕ). (text ++ t) ++ lines (drop (i + 1) xs)) (sym l)
+
+pub lines_done : (xs : List Outcome) (i : ℕ) (text all : List ℕ) → length xs ≤ i → all ≡ text ++ lines (drop i xs) → text ≡ all
+lines_done xs i text all h e = sym (e ∙ ap (λ (t : List ℕ). text ++ t) (rw (drop_of_length-le xs h) lines_nil) ∙ append-nil text)
+
+-- ---- counted
+pub tally_at : (t : Tally) (xs : List Outcome) (i : ℕ) (o : Outcome) → slice_get xs i ≡ Some o → tally_after t (line_answers (drop i xs)) ≡ tally_after (tally_with t o None) (line_answers (drop (i + 1) xs))
+unfolding tally_after
+tally_at t xs i o h =
+    let d : drop i xs ≡ o ∷ drop (i + 1) xs =
+    rw add-one (subst (λ (x : Outcome). drop i xs ≡ x ∷ drop (suc i) xs) (get_or_from_slice_get xs i o o h) (drop-cons xs i o (slice_get_within xs i o h))) in
+    ap (λ (l : List Outcome). tally_after t (line_answers l)) d
+
+pub tally_done : (t : Tally) (xs : List Outcome) (i : ℕ) → length xs ≤ i → tally_after t (line_answers (drop i xs)) ≡ t
+unfolding tally_after
+tally_done t xs i h = rw (drop_of_length-le xs h) refl
+
+-- ---- where one was lost
+-- what was taken of lines is those before it, and a first part of it
+record Within (outcomes : List Outcome) (grown : List ℕ) : Type 0 where
+  done : List Outcome
+  one : Outcome
+  rest : List Outcome
+  parts : outcomes ≡ done ++ one ∷ rest
+  part : List ℕ
+  lost : List ℕ
+  grown_is : grown ≡ lines done ++ part
+  line_is : closing_line one ≡ part ++ lost
+
+within : (o : Outcome) (outcomes : List Outcome) (grown lost : List ℕ) → lines (o ∷ outcomes) ≡ grown ++ lost → Within (o ∷ outcomes) grown
+within o [] grown lost is = record {
+  done = [];
+  one = o;
+  rest = [];
+  parts = refl;
+  part = grown;
+  lost = lost;
+  grown_is = ap (λ (l : List ℕ). l ++ grown) (sym lines_nil);
+  line_is = sym (append-nil (closing_line o)) ∙ ap (λ (l : List ℕ). closing_line o ++ l) (sym lines_nil) ∙ sym (lines_cons o []) ∙ is;
+}
+within o (u ∷ outcomes) grown lost is = elim (cut_twice (closing_line o) (lines (u ∷ outcomes)) grown lost (sym (lines_cons o (u ∷ outcomes)) ∙ is)) [
+  | inl longer ↦
+      let behind : lines (u ∷ outcomes) ≡ longer.0 ++ lost =
+      append_cancel_left (closing_line o) (lines (u ∷ outcomes)) (longer.0 ++ lost)
+      (sym (lines_cons o (u ∷ outcomes)) ∙ is ∙ ap (λ (l : List ℕ). l ++ lost) longer.1 ∙ append_assoc (closing_line o) longer.0 lost) in
+      let there = within u outcomes longer.0 lost behind in
+      record {
+        done = o ∷ there.done;
+        one = there.one;
+        rest = there.rest;
+        parts = ap (λ (l : List Outcome). o ∷ l) there.parts;
+        part = there.part;
+        lost = there.lost;
+        grown_is =
+            longer.1 ∙ ap (λ (l : List ℕ). closing_line o ++ l) there.grown_is ∙ sym (append_assoc (closing_line o) (lines there.done) there.part)
+            ∙ ap (λ (l : List ℕ). l ++ there.part) (sym (lines_cons o there.done));
+        line_is = there.line_is;
+      }
+  | inr shorter ↦ record {
+    done = [];
+    one = o;
+    rest = u ∷ outcomes;
+    parts = refl;
+    part = grown;
+    lost = shorter.0;
+    grown_is = ap (λ (l : List ℕ). l ++ grown) (sym lines_nil);
+    line_is = shorter.1;
+  }
+]
+
+pub lines_cut : {w0 w1 : Option (List ℕ)} {F G : Type 0} (o : Outcome) (outcomes : List Outcome) → Outputs w0 w1 F (lines (o ∷ outcomes)) → G → LinesCut (o ∷ outcomes) w0 w1 G
+lines_cut {w0 = w0} {w1 = w1} o outcomes out fault =
+    let at = within o outcomes out.grown out.prefix.lost out.prefix.whole in
+    let appends : Appends w0 w1 (lines at.done ++ at.part) = subst (λ (l : List ℕ). Appends w0 w1 l) at.grown_is out.appends in
+    record {
+      done = at.done;
+      one = at.one;
+      rest = at.rest;
+      parts = at.parts;
+      whole = record { after = at.part; appends = appends };
+      cut = record {
+        grown = lines at.done ++ at.part;
+        appends = appends;
+        prefix = record { lost = at.lost; whole = ap (λ (l : List ℕ). lines at.done ++ l) at.line_is ∙ sym (append_assoc (lines at.done) at.part at.lost) };
+        all = inr fault;
+      };
+    }
+
+-- the first was lost, or nothing of the others was written
+pub first_cut : {w0 w1 : Option (List ℕ)} {F : Type 0} (o : Outcome) (outcomes : List Outcome) → Outputs w0 w1 F (closing_line o) → LinesCut (o ∷ outcomes) w0 w1 F
+first_cut {w0 = w0} {w1 = w1} {F = F} o outcomes out = record {
+  done = [];
+  one = o;
+  rest = outcomes;
+  parts = refl;
+  whole = record { after = out.grown; appends = subst (λ (l : List ℕ). Appends w0 w1 (l ++ out.grown)) (sym lines_nil) out.appends };
+  cut = subst (λ (l : List ℕ). Outputs w0 w1 F (l ++ closing_line o)) (sym lines_nil) out;
+}
