@@ -533,8 +533,7 @@ module _ {R : Type 0} (state : R → RevState) (e0 e1 : Engine R) (s0 s1 : Store
       others_steps count (stmt ∷ stmts) (one ∷ given) [] room some all served spelt = absurd spelt
       others_steps count (stmt ∷ stmts) (one ∷ given) (text ∷ texts) room some all served spelt =
           let behind = All-tail (λ (s : Stmt). inserts_into (skeleton s) ≡ Some table) stmt stmts all in
-          let same : (count + 1) + length stmts ≡ count + length (stmt ∷ stmts) = omega arith in
-          (
+          let same : (count + 1) + length stmts ≡ count + length (stmt ∷ stmts) = omega arith in (
             at (owed_of failed stmts given) (count + 1),
             line_answer one,
             line_answers given,

@@ -126,12 +126,14 @@ module _ {R : Type 0} (state : R → RevState) (ending : Ending) (m2 : Machine R
       left_as spelt spelt_too answers answers_too left other same begun rest = record {
         more = rest.more;
         unanswered = λ stmts is.
-            let may = rest.unanswered stmts is in
-            (may.0, record {
-              more = may.1.more;
-              few = may.1.few;
-              together = λ some. let them = may.1.together some in record { begun = them.begun; last = ap (take 1) begun ∙ them.last; table = them.table; insert = them.insert };
-            });
+            let may = rest.unanswered stmts is in (
+              may.0,
+              record {
+                more = may.1.more;
+                few = may.1.few;
+                together = λ some. let them = may.1.together some in record { begun = them.begun; last = ap (take 1) begun ∙ them.last; table = them.table; insert = them.insert };
+              },
+            );
         mark = rest.mark;
         is = rest.is;
         rests = subst (λ (ts : Tables). RestsAlike secret rest.mark m2.store.kept ts) (sym (same rest.more)) rest.rests;

@@ -71,4 +71,3 @@ traces_more all cut = record { whole = λ asked is. took_more cut.cut.grown ((tr
 
 traces_same : {on : Bool} {t0 t1 : Option (List ℕ)} {a0 a1 a2 : List Access} → a2 ≡ a1 → Traces on t0 t1 a0 a1 → Traces on t0 t1 a0 a2
 traces_same same traces = record { whole = λ asked is. traces.whole asked (sym same ∙ is) }
-

@@ -102,16 +102,16 @@ break_then {state = state} {w0 = w0} {w2 = w2} {Lost = Lost} {texts = texts} {ys
     }
 
 -- ---- the texts behind
+spell_more : (texts more : List (List ℕ)) (xs : List (Result Stmt ℕ)) → SpellFirst texts xs → SpellFirst (texts ++ more) xs
+unfolding SpellFirst
+spell_more texts more [] spell = tt
+spell_more [] more (x ∷ xs) spell = absurd spell
+spell_more (text ∷ texts) more (x ∷ xs) spell = (spell.0, spell_more texts more xs spell.1)
+
 pub follow_more : (texts more : List (List ℕ)) (owed : List Owed) → Follow texts owed → Follow (texts ++ more) owed
 follow_more texts more [] follow = tt
 follow_more [] more (one ∷ owed) follow = absurd follow
 follow_more (text ∷ texts) more (one ∷ owed) follow = spell_more texts more (map Ok (statements_of (one ∷ owed))) follow
-  where
-    spell_more : (texts more : List (List ℕ)) (xs : List (Result Stmt ℕ)) → SpellFirst texts xs → SpellFirst (texts ++ more) xs
-    unfolding SpellFirst
-    spell_more texts more [] spell = tt
-    spell_more [] more (x ∷ xs) spell = absurd spell
-    spell_more (text ∷ texts) more (x ∷ xs) spell = (spell.0, spell_more texts more xs spell.1)
 
 -- what is spelt by none is none
 pub none_held : (held : List (List ℕ)) → AreSpelt held [] → held ≡ []

@@ -604,13 +604,12 @@ module _ {R : Type 0} (state : R → RevState) where
     failed = λ alone. fails_none _ _ (let still = ap (λ (m : Machine R). m.store.faults) same in omega (arith, still));
     drawn = λ d drawn g. reads_none d (indexes_of m0.engine) g (public_of m0.engine);
     lie = λ lie it. ap (λ (m : Machine R). m.store.lie) same ∙ it;
-    meant = λ d drawn tells calm unfit tables held.
-        (
-          [],
-          is ∙ ap (λ (a : Answer). a.bytes) (refused_is m0 m2 text one bad),
-          (λ whole. subst (λ (m : Machine R). Represents state m.engine m.store tables) (sym same) (free_holds state m0 d tables bad.free held)),
-          record { same = same; free = bad.free; owed = bad.owed },
-        );
+    meant = λ d drawn tells calm unfit tables held. (
+      [],
+      is ∙ ap (λ (a : Answer). a.bytes) (refused_is m0 m2 text one bad),
+      (λ whole. subst (λ (m : Machine R). Represents state m.engine m.store tables) (sym same) (free_holds state m0 d tables bad.free held)),
+      record { same = same; free = bad.free; owed = bad.owed },
+    );
     untampered = λ d drawn tells tables held honest. fine;
     early = λ d drawn tells steady tables held sound n before few. early_still n m0.gathered (session_of m0 d tables) m0.store.asked m2.store.asked (Err bad.at) [] (ap (λ (m : Machine R). m.store.asked) same) few;
   }
@@ -659,8 +658,7 @@ module _ {R : Type 0} (state : R → RevState) where
         drawn = λ d drawn g. reads_unasked d (indexes_of m0.engine) g (public_of m0.engine) (public_of m0.engine) (record { skeleton = sk; seen = here }) [] refl (next_with state m0 m2 text one with) (reads_none d (indexes_of m0.engine) g (public_of m0.engine));
         lie = λ lie it. ap (λ (m : Machine R). m.store.lie) same ∙ it;
         meant = λ d drawn tells calm unfit tables held.
-            let by = means_with state m0 m2 text one with same d tables held in
-            (
+            let by = means_with state m0 m2 text one with same d tables held in (
               [],
               inr (record { fault = ap (λ (r : RunStop). Ran (Err (session_stop r))) fault; room = room_with state m0 m2 text one with same d tables held; how = by.how; cuts = by.cuts; seen = by.seen; answer = one; answers = by.answer; whole = is }),
               (λ whole. absurd whole),
@@ -693,4 +691,3 @@ module _ {R : Type 0} (state : R → RevState) where
   walked_last m1 m2 more part (Err stop) follow last =
       by_last state m1 m2 more part (λ (s : Stop). Walked (Ran (Err s)) m1 m1 m2 [] more [] part) stop last (λ run partly. walked_part m1 m2 more run part follow partly)
       (λ rests. walked_none _ m1 m2 more part rests tt (λ ends. cc ends)) (λ rests. walked_none _ m1 m2 more part rests tt (λ ends. cc ends))
-

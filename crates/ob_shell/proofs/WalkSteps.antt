@@ -278,8 +278,8 @@ module _ {R : Type 0} (state : R → RevState) where
                 subst (λ (s : Session). AnswersFrom ending s rest.spelt from.0 answers all part) (sym stands) from.1,
               ),
               (λ whole.
-              subst (λ (s : Session). Represents state m2.engine m2.store s.tables) (sym behind)
-              (subst (λ (s : Session). Represents state m2.engine m2.store (after_all s rest.spelt from.0).tables) (sym stands) (from.2 whole))),
+                  subst (λ (s : Session). Represents state m2.engine m2.store s.tables) (sym behind)
+                  (subst (λ (s : Session). Represents state m2.engine m2.store (after_all s rest.spelt from.0).tables) (sym stands) (from.2 whole))),
               (
                 m1,
                 record {
@@ -347,8 +347,7 @@ module _ {R : Type 0} (state : R → RevState) where
       let s = session_of m0 d tables in
       let behind = after by.how s with.stmt in
       let draws : behind.draws ≡ d = ap (λ (x : Session). x.draws) by.stands in
-      let here : session_of m0 d behind.tables ≡ session_of m1 behind.draws behind.tables = ap (λ (x : Machine R). session_of x d behind.tables) (sym same) ∙ ap (λ (e : Draws). session_of m1 e behind.tables) (sym draws) in
-      (
+      let here : session_of m0 d behind.tables ≡ session_of m1 behind.draws behind.tables = ap (λ (x : Machine R). session_of x d behind.tables) (sym same) ∙ ap (λ (e : Draws). session_of m1 e behind.tables) (sym draws) in (
         m1,
         record {
           room = room_with state m0 m1 text one with same d tables held;
@@ -423,8 +422,8 @@ module _ {R : Type 0} (state : R → RevState) where
                 subst (λ (s : Session). AnswersFrom ending s rest.spelt from.0 answers all part) (sym by.stands) from.1,
               ),
               (λ whole.
-              subst (λ (s : Session). Represents state m2.engine m2.store s.tables) (sym behind)
-              (subst (λ (s : Session). Represents state m2.engine m2.store (after_all s rest.spelt from.0).tables) (sym by.stands) (from.2 whole))),
+                  subst (λ (s : Session). Represents state m2.engine m2.store s.tables) (sym behind)
+                  (subst (λ (s : Session). Represents state m2.engine m2.store (after_all s rest.spelt from.0).tables) (sym by.stands) (from.2 whole))),
               path_with ending m0 m1 m2 text one with same d tables held rest.spelt answers from.0 drawn from.3,
             );
         untampered = λ d drawn tells tables held honest. rest.untampered d drawn tells (after (means_with state m0 m1 text one with same d tables held).how (session_of m0 d tables) with.stmt).tables (on d tables held) honest;

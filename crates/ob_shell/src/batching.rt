@@ -163,7 +163,15 @@ fn serve_batch<R: Revisions, S: BlockStore, B: Behind<S>, K: Sink, T: Sink>(
     };
     match run_batch(engine, store, behind, first, rest, outcomes.as_mut_slice()) {
         Ok(outcome) => {
-            match write_batch(tracing, store, mark, outcome, outcomes.as_slice(), out, trace) {
+            match write_batch(
+                tracing,
+                store,
+                mark,
+                outcome,
+                outcomes.as_slice(),
+                out,
+                trace,
+            ) {
                 Ok(()) => {
                     let plan = None;
                     let counted = tally_with(tally, Answered { outcome, plan });

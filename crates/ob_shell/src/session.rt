@@ -737,12 +737,30 @@ pub fn serve<I: Source, R: Revisions, S: BlockStore, B: Behind<S>, K: Sink, T: S
         tally: Tally::new(),
     };
     let read = read_texts(
-        alloc, tracing, &mut session, feed, input, engine, store, behind, out, trace,
+        alloc,
+        tracing,
+        &mut session,
+        feed,
+        input,
+        engine,
+        store,
+        behind,
+        out,
+        trace,
     );
     if let Err(Break::Served(halted)) = read {
         return Err(Halted::from(halted));
     }
-    match flush(alloc, tracing, &mut session, engine, store, behind, out, trace) {
+    match flush(
+        alloc,
+        tracing,
+        &mut session,
+        engine,
+        store,
+        behind,
+        out,
+        trace,
+    ) {
         Err(halted) => Err(Halted::from(halted)),
         Ok(()) => match read {
             Ok(()) => Ok(session.tally),
