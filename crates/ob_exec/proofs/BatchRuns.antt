@@ -1,11 +1,10 @@
 -- A batch of INSERTs, from the engine's own share of it and what follows that.
-use Rattle.std.proofs.Common.{◌≡◌, ◌-◌, ◌∙◌, ℕ, Bool, true, false, List, length, Option, None, Result, Ok, Err, refl, sym, subst}
+use Rattle.std.proofs.Common.{◌≡◌, ◌-◌, Bool, true, false, List, length, None, Result, Ok, Err, refl, sym, subst}
 use Rattle.std.specs.Prelude.{IfOk, MatchResult, ⊤}
 use Rattle.ob_base.specs.declared.seen.Seen.{Seen}
-use Rattle.ob_mean.specs.Verdict.{Draws, Tables, ended as seen_to}
+use Rattle.ob_mean.specs.Verdict.{Draws, Tables}
 use Rattle.ob_reopen.specs.Keepers.{KeeperState}
 use Rattle.ob_sql.specs.declared.stmt.Stmt.{Stmt}
-use Rattle.ob_store.specs.Runs.{Later}
 use Rattle.ob_store.specs.State.{StoreState}
 use Rattle.ob_tables.specs.Agreeing.{Agrees, count_of, public_of, replaced_of, seen_of}
 use Rattle.ob_tables.specs.Batch.{AreBatch, AreServedWith, ServesBatch, outcomes_behind}

@@ -26,7 +26,7 @@ use Rattle.ob_sql.specs.Skeleton.{skeleton}
 use Rattle.ob_sql.specs.declared.stmt.Stmt.{Stmt}
 use Rattle.ob_sql.specs.declared.stmt.Stmt.TheVariants.{Create, Insert, Update, Delete, Drop as DropTable, SelectRows as RowsStmt, SelectTotals as TotalsStmt}
 use Rattle.ob_tables.proofs.FoundLemmas.{is_there}
-use Rattle.ob_exec.specs.Ran.{is_saved_behind, is_whole}
+use Rattle.ob_exec.specs.Ran.{is_whole}
 
 -- ---- whether tables are saved
 pub both_are : (b c : Bool) → (b && c) ≡ true → (b ≡ true) × (c ≡ true)

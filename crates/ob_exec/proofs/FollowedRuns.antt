@@ -1,11 +1,10 @@
 -- A statement, from the engine's own share of it and what follows that.
-use Rattle.std.proofs.Common.{◌≡◌, ◌≢◌, ◌≤◌, ◌-◌, ◌++◌, ◌^◌, ◌<◌, ◌+◌, ℕ, Bool, true, false, List, [], length, Option, Some, None, Result, Ok, Err, refl, sym, ◌∙◌, ap, subst, arith, length-append}
+use Rattle.std.proofs.Common.{◌≡◌, ◌≢◌, ◌≤◌, ◌-◌, ◌++◌, ◌+◌, ℕ, Bool, true, false, List, [], length, Option, None, Result, Ok, Err, refl, sym, ◌∙◌, ap, subst, arith, length-append}
 use Rattle.std.specs.Prelude.{◌&&◌, IfErr, IfOk, MatchResult, OnOk}
 use Rattle.ob_base.specs.Events.{Event}
 use Rattle.ob_base.specs.declared.access.Access.{Access}
 use Rattle.ob_base.specs.declared.config.Public.{Public}
 use Rattle.ob_base.specs.declared.refusal.Refusal.TheVariants as Refusals
-use Rattle.ob_base.specs.declared.seen.End.{End}
 use Rattle.ob_base.specs.declared.seen.End.TheVariants.{Whole}
 use Rattle.ob_reopen.specs.Keepers.{KeeperState}
 use Rattle.ob_script.specs.Saved.{left_then, run_script}
@@ -14,12 +13,11 @@ use Rattle.ob_seal.specs.KeySet.{KeySet, pair_of}
 use Rattle.ob_select.specs.Memory.{HasHalted}
 use Rattle.ob_sql.specs.Skeleton.{skeleton}
 use Rattle.ob_sql.specs.declared.stmt.Stmt.{Stmt}
-use Rattle.ob_store.specs.Runs.{Later}
 use Rattle.ob_store.specs.State.{StoreState}
 use Rattle.ob_tables.proofs.GivenUpLemmas.{none_left}
 use Rattle.ob_tables.proofs.SavedLemmas.{waits_behind}
-use Rattle.ob_tables.specs.Agreeing.{Agrees, engine_keys, opened_from, public_of, replaced_of}
-use Rattle.ob_tables.specs.Running.{RanStatement, SinkStops, is_fault}
+use Rattle.ob_tables.specs.Agreeing.{Agrees, opened_from, replaced_of}
+use Rattle.ob_tables.specs.Running.{RanStatement, SinkStops}
 use Rattle.ob_tables.specs.Saving.{Waits}
 use Rattle.ob_tables.specs.Serving.{Answered, Serves, Stopped}
 use Rattle.ob_tables.specs.declared.engine.Engine.{Engine}
@@ -33,7 +31,7 @@ use Rattle.ob_exec.proofs.PlainRuns.{carried_plain}
 use Rattle.ob_exec.proofs.SavedRuns.{carried_halted, carried_saved, end_own, few_mid, flat_mid}
 use Rattle.ob_exec.proofs.Shares.{Share, share_alone}
 use Rattle.ob_exec.specs.Behind.{IsBegun, SavesBehind, ended_at, is_due}
-use Rattle.ob_exec.specs.Ran.{CarriedOut, Ran, ShowsNothing, WasNotSaved, is_saved_behind, is_whole}
+use Rattle.ob_exec.specs.Ran.{CarriedOut, Ran, ShowsNothing, WasNotSaved, is_whole}
 use Rattle.ob_exec.specs.declared.saving.Begun.{Begun}
 use Rattle.ob_exec.specs.Saving.{MayBeSaved, MaySave, SavesTables}
 

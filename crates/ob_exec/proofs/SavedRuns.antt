@@ -6,7 +6,6 @@ use Rattle.std.specs.List.{list_any}
 use Rattle.std.specs.Prelude.{IsTrue, ◌||◌, nat_le}
 use Rattle.ob_base.specs.Accesses.{drop_script, make_at, makes, write_at, writes}
 use Rattle.ob_base.specs.Counts.{Rises}
-use Rattle.ob_base.specs.Events.{Event}
 use Rattle.ob_base.specs.Lists.{each}
 use Rattle.ob_base.specs.Refusals.{is_store_fault}
 use Rattle.ob_base.specs.Stored.{headings_of}
@@ -23,9 +22,7 @@ use Rattle.ob_mean.specs.Flats.{AreFlat}
 use Rattle.ob_mean.specs.Lawful.{Lawful, height_at}
 use Rattle.ob_mean.specs.Replay.{draws_taken, is_access}
 use Rattle.ob_mean.specs.Batches.{settle_all}
-use Rattle.ob_mean.specs.Step.{accepted_answer, answered}
-use Rattle.ob_mean.specs.Verdict.{Draws, Tables, accessed, database, ended as seen_to, is_late, refusal, seen, verdict}
-use Rattle.ob_mean.specs.declared.answer.Answer.{Answer}
+use Rattle.ob_mean.specs.Verdict.{Draws, Tables, accessed, ended as seen_to, is_late, seen}
 use Rattle.ob_oram.specs.declared.index.Index.{Index}
 use Rattle.ob_reopen.specs.Keepers.{KeeperState}
 use Rattle.ob_script.proofs.Numbers.{length-create_part}
@@ -39,13 +36,12 @@ use Rattle.ob_seal.specs.Draws.{draw_of}
 use Rattle.ob_seal.specs.KeySet.{KeySet}
 use Rattle.ob_select.proofs.LieLemmas.{lie_before}
 use Rattle.ob_select.proofs.SelectRuns.{ends-more}
-use Rattle.ob_select.specs.Memory.{HasHalted, ends_with_make}
+use Rattle.ob_select.specs.Memory.{ends_with_make}
 use Rattle.ob_select.specs.Opening.{Opens, is_of_rows}
 use Rattle.ob_select.specs.Selecting.{AcceptsRows}
 use Rattle.ob_select.specs.Settings.{IsFree}
 use Rattle.ob_sql.specs.Skeleton.{skeleton}
 use Rattle.ob_sql.specs.declared.stmt.Stmt.{Stmt}
-use Rattle.ob_sql.specs.declared.stmt.Stmt.TheVariants.{Create, Insert, Update, Delete, Drop as DropTable, SelectRows as RowsStmt, SelectTotals as TotalsStmt}
 use Rattle.ob_store.proofs.Steps.{later_trans, none_before}
 use Rattle.ob_store.specs.Runs.{Began, Later}
 use Rattle.ob_store.specs.State.{Lie, StoreState}
@@ -53,17 +49,16 @@ use Rattle.ob_tables.proofs.HeldLemmas.{held_plain}
 use Rattle.ob_tables.proofs.LawfulLemmas.{leaf_none}
 use Rattle.ob_tables.proofs.PlainLemmas.{IsPlain, none_stops}
 use Rattle.ob_tables.proofs.RunLemmas.{of_other}
-use Rattle.ob_tables.proofs.ServeLemmas.{IsBare, bare_prints}
 use Rattle.ob_tables.proofs.TableLemmas.{tables_flat}
 use Rattle.ob_tables.proofs.ToldLemmas.{cut_seen, early_held, refused_none}
 use Rattle.ob_tables.specs.Agreeing.{Agrees, AreDraws, count_of, high_of, opened_from, public_of, world_of}
 use Rattle.ob_tables.specs.Closing.{next_closing}
 use Rattle.ob_tables.specs.Leaves.{MovesLeaves}
 use Rattle.ob_tables.specs.Refusals.{refused_end}
-use Rattle.ob_tables.specs.Running.{GoesOn, HasNoRows, RefusedEarly, SinkStops, is_fault, outcome_end}
+use Rattle.ob_tables.specs.Running.{GoesOn, RefusedEarly, is_fault, outcome_end}
 use Rattle.ob_tables.specs.Saving.{save_script}
 use Rattle.ob_tables.specs.Serving.{Means}
-use Rattle.ob_tables.specs.Telling.{IsNotTampered, Meant, ReadsTrue, Represents, answer_labels, is_refused, meant_script}
+use Rattle.ob_tables.specs.Telling.{IsNotTampered, Meant, ReadsTrue, Represents, is_refused, meant_script}
 use Rattle.ob_tables.specs.declared.engine.Engine.{Engine}
 use Rattle.ob_tables.specs.declared.stop.RunStop.{RunStop}
 use Rattle.ob_tables.specs.declared.stop.RunStop.TheVariants.{KeeperFault, NoMemory, SinkFault, StashFull, StoreFault, Tampered}
@@ -72,7 +67,7 @@ use Rattle.ob_vault.proofs.WorldSteps.{calm_none}
 use Rattle.ob_vault.specs.State.{RevState, Start, World}
 use Rattle.ob_vault.specs.Tied.{Calm, ReadsIn}
 use Rattle.ob_verdict.proofs.SeenProof.{shows_kind_alone}
-use Rattle.ob_verdict.specs.Outcomes.{Emits, by_fault, refusal_now}
+use Rattle.ob_verdict.specs.Outcomes.{by_fault, refusal_now}
 use Rattle.ob_verdict.specs.declared.outcome.Outcome.{Outcome}
 use Rattle.ob_verdict.specs.declared.outcome.Outcome.TheVariants.{Created, Inserted, Changed, Deleted, Dropped, Rows, Refused}
 use Rattle.ob_exec.proofs.ChangedScripts.{changes_flat, changes_plain, closing_is, run_same, run_whole, saved_changes, saved_saves, whole_saved}

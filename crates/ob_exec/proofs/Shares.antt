@@ -1,5 +1,5 @@
 -- The engine's own share of a statement, but for what it emits: of one that is served by itself, and of a batch.
-use Rattle.std.proofs.Common.{◌≡◌, ℕ, true, false, List, [], Result, Ok, Err, refl, ap, subst}
+use Rattle.std.proofs.Common.{◌≡◌, ℕ, true, false, List, [], Result, Err, refl, ap, subst}
 use Rattle.std.specs.Prelude.{IsSome}
 use Rattle.ob_base.specs.Events.{Event}
 use Rattle.ob_mean.proofs.BatchLemmas.{begins}

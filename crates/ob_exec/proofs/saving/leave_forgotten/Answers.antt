@@ -1,6 +1,5 @@
-use Rattle.std.proofs.Common.{◌≡◌, ◌∙◌, ap}
+use Rattle.std.proofs.Common.{◌∙◌, ap}
 use Rattle.ob_base.specs.declared.refusal.Refusal.{Refusal}
-use Rattle.ob_base.specs.declared.refusal.Refusal.TheVariants.{StoreFault}
 use Rattle.ob_verdict.specs.declared.outcome.Outcome.TheVariants.{Refused}
 use Rattle.ob_exec.proofs.saving.leave_forgotten.Goals as goal
 
