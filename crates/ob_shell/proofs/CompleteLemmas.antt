@@ -20,7 +20,7 @@ use Rattle.ob_headline.specs.declared.ending.Report.{Report}
 use Rattle.ob_print.proofs.CutLemmas.{Outputs-by, Outputs-fault}
 use Rattle.ob_print.specs.Cuts.{Outputs}
 use Rattle.ob_shell.proofs.KeyLemmas.{after_line-none, first_line-long, secret_of-long}
-use Rattle.ob_shell.proofs.RunLemmas.{took_more, took_of, took_or}
+use Rattle.ob_shell.proofs.TookLemmas.{took_more, took_of, took_or}
 use Rattle.ob_shell.proofs.TopLemmas.{first_line-more, after_line-more, shown_line, cut_line, quiet_line, line_rose, status_cause}
 use Rattle.ob_shell.specs.Top.{TraceSink, EndsUntampered, EndingSays, EndingWords, EndingCause, RunShown, StatusCause, Reported}
 use Rattle.ob_store.specs.State.{StoreState}

@@ -145,7 +145,7 @@ module _ (config : Config) (tracing : Bool) (f0 f1 : Fetch) (none : f0.unread �
         taken = read.fed.piece;
         given = read.fed.consumed;
         within = piece_within empty_tally tr refl (Some config) f0 f1 none start top below by read.fed;
-        prompt = piece_prompt empty_tally tr refl (Some config) f0 f1 none start top below by read.fed read.ahead;
+        prompt = piece_prompt empty_tally tr refl (Some config) f0 f1 none start top below by 1 (omega arith) read.fed read.ahead;
         secret = key;
         keyed = ap (λ (l : List ℕ). secret_of (first_line l)) (piece_is read.fed none) ∙ is;
         unserved = unserved;

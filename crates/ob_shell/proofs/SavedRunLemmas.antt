@@ -75,7 +75,7 @@ unsaved config tracing f0 f1 none start top l0 l1 g0 key ended w t0 t1 s0 s1 a o
       taken = read.fed.piece;
       given = read.fed.consumed;
       within = piece_within empty_tally tr refl (Some config) f0 f1 none start top below by read.fed;
-      prompt = piece_prompt empty_tally tr refl (Some config) f0 f1 none start top below by read.fed read.ahead;
+      prompt = piece_prompt empty_tally tr refl (Some config) f0 f1 none start top below by 1 (omega arith) read.fed read.ahead;
       secret = key;
       keyed = ap (λ (l : List ℕ). secret_of (first_line l)) (piece_is read.fed none) ∙ is;
       unserved = unserved;
@@ -140,7 +140,7 @@ unfolding serves_saved ran_after ran_last
 last_saved state config key tracing f0 f1 none start top l0 l1 g0 gave e s0 s1 t0 t1 w old r1 k0 k1 starts ended read below by most is_high loud ending counted =
     let ends = read.ends in
     let faults : Faults = record old { trace = r1 } in
-    let ran = ran_last state tracing f1 l1 gave w t1 (machine_of e s1 k1) ends.4 ends.2 ends.3 in
+    let ran = ran_last state tracing f1 l1 gave w t1 e s1 k1 ends.4 ends.2 ends.3 in
     let silent : Silenced ended.quiet faults faults = subst (λ (b : Bool). Silenced b faults faults) (sym loud) (refl, refl) in
     let serves = serves_saved state starts.base config starts.keys key starts.salt e e k1 k1 s1 s1 starts.engages ended most is_high tracing t1 t1 f1 f1 l1 l1 gave w w
     (Ok empty_tally) faults faults ran (traced_whole _ (traced_none tracing s1.asked t1)) (record { source = refl; out = refl; trace = refl }) silent ending counted in

@@ -12,12 +12,12 @@ use Rattle.ob_base.specs.declared.refusal.Stop.TheVariants.{Tampered, SourceFaul
 use Rattle.ob_select.specs.Opening.{is_of_rows}
 use Rattle.ob_gen.specs.declared.tally.Tally.{Tally}
 use Rattle.ob_headline.proofs.FlatLemmas.{start_flat}
-use Rattle.ob_headline.proofs.PromptLemmas.{prompt_all, prompt_behind, prompt_line}
+use Rattle.ob_headline.proofs.PromptLemmas.{all_answered, prompt_all, prompt_from, prompt_line, waits_behind}
 use Rattle.ob_headline.proofs.TextLemmas.{rest_of-nil, texts_of-nil}
 use Rattle.ob_headline.specs.Bases.{Base, fresh, start}
 use Rattle.ob_headline.specs.Disturbed.{MeantUntil}
 use Rattle.ob_headline.specs.Endings.{last_line}
-use Rattle.ob_headline.specs.Failures.{failures}
+use Rattle.ob_headline.specs.Failures.{cut_off, failures}
 use Rattle.ob_headline.specs.KeyLine.{has_lf, first_line, after_line, secret_of}
 use Rattle.ob_headline.specs.Settings.{limit_of}
 use Rattle.ob_headline.specs.Texts.{is_over, rest_of, texts_of, texts_in}
@@ -29,13 +29,15 @@ use Rattle.ob_headline.specs.Meaning.{AnswersFrom}
 use Rattle.ob_headline.specs.Status.{HasSecret}
 use Rattle.ob_headline.specs.declared.ending.Ending.{Ending}
 use Rattle.ob_headline.specs.declared.ending.Ending.TheVariants.{Usage, BadKey, Ran as RanEnding}
+use Rattle.ob_mean.proofs.BatchLemmas.{most_some}
+use Rattle.ob_mean.specs.Batches.{batch_most}
 use Rattle.ob_print.proofs.CutLemmas.{Outputs-whole, Outputs-after, Outputs-fault, Outputs-more}
 use Rattle.ob_print.specs.Cuts.{Outputs}
 use Rattle.ob_script.specs.Trace.{trace}
 use Rattle.ob_shell.proofs.CountLemmas.{rises_earlier, rises_later}
 use Rattle.ob_shell.proofs.DisturbLemmas.{take_begins}
 use Rattle.ob_shell.proofs.KeyLemmas.{after_line-none, has_lf-nil}
-use Rattle.ob_shell.proofs.RunLemmas.{took_more, took_whole}
+use Rattle.ob_shell.proofs.TookLemmas.{took_more, took_whole}
 use Rattle.ob_shell.proofs.StepLemmas.{printed-nil}
 use Rattle.ob_shell.proofs.TallyLemmas.{any_refused-nil, flag_by, tally_by}
 use Rattle.ob_shell.proofs.TraceLemmas.{traced-nil}
@@ -99,7 +101,7 @@ unfaulted_ends (RanEnding (Err KeeperFault)) fine ends = fine
 
 pub unstarted : {keys : KeySet} (tr : TraceSink) (settings : Option Config) (secret : Option (List ℕ)) (s : StoreState) (more : List (List ℕ)) (ending : Ending) → IsFresh s → tr.new ≡ tr.old → EndsUntampered ending → EndsUnfaulted ending
     → Carried tr (fresh settings) keys secret s s 0 (unserved more) ending
-unfolding SpellFirst AreSeen AnswersFrom MeantUntil failures any_cut statements
+unfolding SpellFirst AreSeen AnswersFrom MeantUntil failures cut_off any_cut statements
 unstarted tr settings secret s more ending blank untraced untampered unfaulted = record {
   statements = record { spells = tt; reached = omega arith; begun = omega arith; keyed = inr refl; each = refl };
   accesses = record {
@@ -110,7 +112,8 @@ unstarted tr settings secret s more ending blank untraced untampered unfaulted =
     lawful = refl;
     drawn = record { numbers = []; are = refl; apart = λ i j x before within. absurd (omega (arith, within)) };
     asked = blank.unasked;
-    failed = omega arith;
+    failed = λ alone. omega arith;
+    cut = omega arith;
     unfailed = λ not. refl;
   };
   traced_whole = took_whole (subst (λ (w : Option (List ℕ)). Appends tr.old w (traced tr.on [])) (sym untraced) (rw (traced-nil) (Appends-nil tr.old)));
@@ -154,16 +157,19 @@ module _ (tally : Tally) (tr : TraceSink) (untraced : tr.new ≡ tr.old) (settin
   piece_within fed = omega (arith, fed.taken, fed.limit)
 
   -- no text was whole before the last read
-  pub piece_prompt : {l0 l1 : Option (List ℕ)} {xs : List ℕ} (fed : Fed f0 f1 l0 l1 xs) → length (after_line (xs ++ f1.unread)) ≤ length f1.unread
-      → Prompt fed.piece [] gave
-  piece_prompt {xs = xs} fed ahead =
+  pub piece_prompt : {l0 l1 : Option (List ℕ)} {xs : List ℕ} (most : ℕ) → 1 ≤ most → (fed : Fed f0 f1 l0 l1 xs) → length (after_line (xs ++ f1.unread)) ≤ length f1.unread
+      → Prompt most fed.piece [] gave
+  piece_prompt {xs = xs} most some fed ahead =
       let late = by.late in
       let few = by.few in
       let same = ap (λ (l : List ℕ). length (after_line l)) (piece_is fed none) in
-      record {
-        few = omega (arith, few, fed.taken);
-        prompt = prompt_line gave fed.piece [] (omega (arith, late, same, ahead));
-      }
+      prompt_from most fed.piece [] gave (omega (arith, few, fed.taken))
+      (all_answered most _ [] some (prompt_line gave fed.piece [] (omega (arith, late, same, ahead))))
+
+  -- where a run begins afresh
+  fresh_prompt : {l0 l1 : Option (List ℕ)} {xs : List ℕ} (fed : Fed f0 f1 l0 l1 xs) → length (after_line (xs ++ f1.unread)) ≤ length f1.unread
+      → Prompt (batch_most (fresh settings).public) fed.piece [] gave
+  fresh_prompt = piece_prompt (batch_most (fresh settings).public) (most_some (fresh settings).public)
 
   unfoldable pub shown_source_fault : {F : Type 0} {keys : List ℕ → KeySet} {l0 l1 : Option (List ℕ)} (w : Option (List ℕ)) (s : StoreState) → IsFresh s
       → KeyRead f0 f1 l0 l1 (Err Halt.SourceFault) → RunShown tally tr (fresh settings) keys l0 l1 gave w w s s 0 (RanEnding (Err SourceFault)) [] F
@@ -181,7 +187,7 @@ module _ (tally : Tally) (tr : TraceSink) (untraced : tr.new ≡ tr.old) (settin
           at_end = λ (h : false ≡ true). absurd (cc);
           texts = rw after (texts_of-nil []);
         };
-        prompt = piece_prompt read.fed read.ahead;
+        prompt = fresh_prompt read.fed read.ahead;
         carried = unstarted tr settings _ s [] _ fresh untraced tt tt;
         grew = no_bytes w;
         whole = took_none w;
@@ -205,7 +211,7 @@ module _ (tally : Tally) (tr : TraceSink) (untraced : tr.new ≡ tr.old) (settin
           at_end = λ (h : false ≡ true). absurd (cc);
           texts = refl;
         };
-        prompt = piece_prompt read.fed read.ahead;
+        prompt = fresh_prompt read.fed read.ahead;
         carried = unstarted tr settings _ s _ _ fresh untraced tt tt;
         grew = no_bytes w;
         whole = took_none w;
@@ -229,7 +235,7 @@ module _ (tally : Tally) (tr : TraceSink) (untraced : tr.new ≡ tr.old) (settin
           at_end = λ _. ends.2;
           texts = rw (ends.1, texts_of-nil, rest_of-nil);
         };
-        prompt = piece_prompt read.fed read.ahead;
+        prompt = fresh_prompt read.fed read.ahead;
         carried = unstarted tr settings _ s [] _ fresh untraced tt tt;
         grew = no_bytes w;
         whole = took_none w;
@@ -259,8 +265,9 @@ ran_nothing {Lost = Lost} tr settings secret f l gave w s fresh untraced late = 
   at_end = λ (h : false ≡ true). absurd (cc);
   story = unserved (texts_in false (f.unread ++ []));
   texts = refl;
-  prompt = subst (λ (xs : List (List ℕ)). Begins (texts_in false (before_read gave (f.unread ++ []))) xs) (texts_of-nil [])
-      (prompt_all (f.unread ++ []) [] f.unread gave (append-nil f.unread) late);
+  prompt = all_answered (batch_most (fresh settings).public) _ [] (most_some (fresh settings).public)
+      (subst (λ (xs : List (List ℕ)). Begins (texts_in false (before_read gave (f.unread ++ []))) xs) (texts_of-nil [])
+      (prompt_all (f.unread ++ []) [] f.unread gave (append-nil f.unread) late));
   carried = unstarted tr settings secret s _ _ fresh untraced tt tt;
   rows = inr (refl, refl);
   cut = rw printed-nil (Outputs-whole w w Lost [] (Appends-nil w));
@@ -342,10 +349,8 @@ shown_by {Lost = Lost} {tally = tally} base {f1 = f1} {f2 = f2} {gave = gave} {l
         at_end = ran.at_end;
         texts = ap (texts_in ran.ended) after ∙ ran.texts;
       };
-      prompt = record {
-        few = let few = by.few in omega (arith, few, count);
-        prompt = prompt_behind gave _ _ ran.story.served after ran.prompt;
-      };
+      prompt = prompt_from (batch_most base.public) (read.fed.piece ++ ran.piece) ran.story.served gave (let few = by.few in omega (arith, few, count))
+          (waits_behind (batch_most base.public) gave _ _ ran.story.served after ran.prompt);
       carried = carried;
       grew = subst (λ (l : List ℕ). Outputs w0 w2 Lost l) (sym (append-nil (printed ran.story.answers ++ ran.story.part))) ran.cut;
       whole = ran.whole;
@@ -384,10 +389,9 @@ shown_unread tally tr settings l gave w s ending fresh untraced untampered unfau
     at_end = λ (h : false ≡ true). absurd (cc);
     texts = refl;
   };
-  prompt = record {
-    few = omega arith;
-    prompt = prompt_line gave [] [] (rw (after_line-none [] has_lf-nil) (omega arith));
-  };
+  prompt = prompt_from (batch_most (fresh settings).public) [] [] gave (omega arith)
+      (all_answered (batch_most (fresh settings).public) _ [] (most_some (fresh settings).public)
+      (prompt_line gave [] [] (rw (after_line-none [] has_lf-nil) (omega arith))));
   carried = unstarted tr settings _ s _ _ fresh untraced untampered unfaulted;
   grew = no_bytes w;
   whole = took_none w;

@@ -6,16 +6,18 @@ use Rattle.ob_base.specs.declared.refusal.Stop.{Stop}
 use Rattle.ob_base.specs.declared.refusal.Stop.TheVariants.{Tampered, SourceFault, SinkFault, NoMemory, InputLimit, StoreFault, StashFull, KeeperFault}
 use Rattle.ob_gen.specs.declared.tally.Tally.{Tally}
 use Rattle.ob_headline.specs.Bases.{Base, FromEach}
+use Rattle.ob_headline.specs.Batches.{AnsweredBut}
 use Rattle.ob_headline.specs.Endings.{last_line, status_of}
 use Rattle.ob_headline.specs.KeyLine.{LineTaken, first_line, secret_of}
 use Rattle.ob_headline.specs.Settings.{limit_of}
 use Rattle.ob_headline.specs.Texts.{texts_in}
 use Rattle.ob_headline.specs.Tracing.{traced}
-use Rattle.ob_headline.specs.Words.{Answer, Begins, Faults, IsHonest, NoneRose, SinksRose, Took, before_read, printed}
+use Rattle.ob_headline.specs.Words.{Answer, Faults, IsHonest, NoneRose, SinksRose, Took, before_read, printed}
 use Rattle.ob_headline.specs.Status.{EndsAtRead, HasSecret, IsCompleted, KeepsLimits, ReadToLimit, ReadUntilFault, ReadWhole, StoreFails}
 use Rattle.ob_headline.specs.declared.ending.Ending.{Ending}
 use Rattle.ob_headline.specs.declared.ending.Ending.TheVariants.{Usage, BadKey, Ran}
 use Rattle.ob_headline.specs.declared.ending.Report.{Report}
+use Rattle.ob_mean.specs.Batches.{batch_most}
 use Rattle.ob_print.specs.Cuts.{Outputs}
 use Rattle.ob_script.specs.Trace.{trace}
 use Rattle.ob_seal.specs.KeySet.{KeySet}
@@ -93,7 +95,8 @@ pub record RanAfter {R : Type 0} (state : R → RevState) (tr : TraceSink) (base
   pub at_end : ended ≡ true → IsAtEnd left1
   pub story : Story
   pub texts : texts_in ended (feed0.unread ++ piece) ≡ story.served ++ story.more
-  pub prompt : Begins (texts_in false (before_read gave (feed0.unread ++ piece))) story.served
+  pub prompt : AnsweredBut (batch_most base.public)
+      (texts_in false (before_read gave (feed0.unread ++ piece))) story.served
   pub carried : Carried tr base keys secret store0 store1 high story (Ran (flagged result))
   -- the rows that were open are those of the session's engine; where none was started, there are none
   pub rows : CountsRows state tr.on feed0 feed1 left0 left1 gave written0 written1 tr.old tr.new
@@ -184,7 +187,7 @@ pub record RunShown (tally : Tally) (tr : TraceSink) (base : Base) (keys : List 
   pub ended : Bool
   pub story : Story
   pub bytes : Bytes (limit_of base.settings) taken ended story left0 left1
-  pub prompt : Prompt taken story.served gave
+  pub prompt : Prompt (batch_most base.public) taken story.served gave
   pub carried : Carried tr base (keys taken) (secret_of (first_line taken)) store0 store1 high
       story ending
   pub grew : Outputs written0 written1 Fault ((printed story.answers ++ story.part) ++ line)

@@ -7,7 +7,7 @@ ghost use Rattle.clap.specs.declared.error.kind.ErrorKind.TheVariants.{OutOfMemo
 ghost use Rattle.ob_base.specs.Plans.{MayPad};
 ghost use Rattle.ob_headline.specs.Settings.{ParsesAs, IsTaken, ParsesChanges, MeddleParses};
 ghost use Rattle.ob_headline.specs.Settings.{IsTakenSaved, ParsesSaved, saved_settings_by};
-ghost use Rattle.ob_headline.specs.Settings.{at_least, may_pad, number_in, pad_in, planner_in};
+ghost use Rattle.ob_headline.specs.Settings.{at_least, batch_in, may_pad, number_in, pad_in, planner_in};
 ghost use Rattle.ob_headline.specs.Settings.{generated_by, seed_in, seed_of};
 ghost use Rattle.ob_headline.specs.Settings.{may_mark, settings_by, settings_in};
 ghost use Rattle.ob_headline.specs.Usage.{common, usage, meddle_usage, flag, valued, is_set, is_traced, changes_in};
@@ -30,6 +30,9 @@ const INPUT_LIMIT: u32 = 1_073_741_824;
 
 /// The rows to which results are padded, at most.
 const PAD_LIMIT: u32 = 1_048_576;
+
+/// The INSERTs that are served together, at most.
+const BATCH_LIMIT: u32 = 65_535;
 
 /// The name of the store, where the words give none.
 const STORE: &str = "oblidb-store";
@@ -101,6 +104,7 @@ fn common<'a>(alloc: Global, name: &'a str) -> Result<Command<'a>, AllocError>
         .arg(valued(alloc, "pack"))?
         .arg(valued(alloc, "pad"))?
         .arg(valued(alloc, "stash"))?
+        .arg(valued(alloc, "batch"))?
         .arg(valued(alloc, "max-input"))?
         .arg(valued(alloc, "gen"))
 }
@@ -218,6 +222,19 @@ fn pad_in(value: Option<&str>) -> Option<Option<u32>>
     }
 }
 
+// How many INSERTs are served together at most, if some are; none at all where the value is no number from 2 to 65,535.
+fn batch_in(value: Option<&str>) -> Option<Option<u32>>
+    ensures { result ≡ batch_in (option_map (λ t. t.now) value.entry) }
+{
+    match value {
+        None => Some(None),
+        Some(text) => match number(2, BATCH_LIMIT, text.as_bytes()) {
+            Some(most) => Some(Some(most)),
+            None => None,
+        },
+    }
+}
+
 // Whether plans may be chosen so, where results are padded or aren't.
 fn may_pad(pad: Option<u32>, planner: Planner) -> bool
     ensures value { result ≡ may_pad pad planner }
@@ -291,6 +308,7 @@ fn settings_in(matches: &ArgMatches) -> Option<Config>
     let pack = number_in(1, 16, 1, matches.get_str("pack"))?;
     let pad = pad_in(matches.get_str("pad"))?;
     let stash = number_in(1, 1024, 32, matches.get_str("stash"))?;
+    let batch = batch_in(matches.get_str("batch"))?;
     let max_input = number_in(1024, INPUT_LIMIT, INPUT_LIMIT, matches.get_str("max-input"))?;
     if buffer < 3 * pack + 1 {
         return None;
@@ -307,7 +325,7 @@ fn settings_in(matches: &ArgMatches) -> Option<Config>
         stash,
         keep: is_set(matches.get_str("keep")),
         save: false,
-        batch: None,
+        batch,
         max_input: max_input as u64,
     })
 }

@@ -27,7 +27,10 @@ returns c =
     let seven : App = with_rule six (valued (codes "stash")) in
     let seventh : app_of c.in_ok-arg-7.field-0 ≡ seven =
     c.in_ok-arg-7.ensures.shape c.valued-6.ensures.local ∙ ap₂ with_rule sixth c.valued-6.ensures.rule in
-    let eight : App = with_rule seven (valued (codes "max-input")) in
+    let eight : App = with_rule seven (valued (codes "batch")) in
     let eighth : app_of c.in_ok-arg-8.field-0 ≡ eight =
     c.in_ok-arg-8.ensures.shape c.valued-7.ensures.local ∙ ap₂ with_rule seventh c.valued-7.ensures.rule in
-    adds_last c.arg-9.result _ _ _ c.valued-8.ensures.local (ap₂ with_rule eighth c.valued-8.ensures.rule) c.arg-9.ensures
+    let nine : App = with_rule eight (valued (codes "max-input")) in
+    let ninth : app_of c.in_ok-arg-9.field-0 ≡ nine =
+    c.in_ok-arg-9.ensures.shape c.valued-8.ensures.local ∙ ap₂ with_rule eighth c.valued-8.ensures.rule in
+    adds_last c.arg-10.result _ _ _ c.valued-9.ensures.local (ap₂ with_rule ninth c.valued-9.ensures.rule) c.arg-10.ensures
