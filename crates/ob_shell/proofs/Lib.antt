@@ -33,6 +33,8 @@ mod WalkSteps
 pub mod BatchSteps
 pub mod LineLemmas
 pub mod FlushLemmas
+pub mod GatherLemmas
+pub mod TakesLemmas
 pub mod HeadLemmas
 pub mod OpenLemmas
 pub mod CloseLemmas

@@ -73,7 +73,7 @@ so_far_turn {state = state} {w0 = w0} {w2 = w2} {p = p} {batch' = batch'} {r' = 
       fed = Fed-then so.fed fed;
       pending_is = rest ∙ rw (rest_of-append, ← so.pending_is, rest_of-cons, rest_of-nil);
       so = subst (λ (ts : List (List ℕ)). ServedSo state w0 w2 ts batch' (IsFree (public_of m2.engine) batch') empty_tally r' m0 m2) (sym all)
-          (so_then {Later = λ old new. IsFree (public_of m2.engine) batch' new} so.so now (λ old new free. free));
+          (so_then {Later = λ old new. IsFree (public_of m2.engine) batch' new} so.so now (λ old new then free. free));
     }
 
 -- ---- a text that was served stopped it
@@ -135,7 +135,7 @@ pub ran_flushed : {R : Type 0} {state : R → RevState} {Lost : Type 0} {on : Bo
     → ServedSo state w1 w2 (held ++ []) [] (Then gathered) r r' (standing m1 [] gathered) m2) → TracedAll on m1.store.asked m2.store.asked t1 t2
     → SessionRan state on f0 f2 l0 l2 gave w0 w2 t0 t2 m0 m2 Lost (ended_with ends r')
 ran_flushed {state = state} {Lost = Lost} {on = on} {t0 = t0} {t2 = t2} {f0 = f0} {f2 = f2} {gave = gave} {w0 = w0} {w2 = w2} {r' = r'} {m0 = m0} {m1 = m1} {m2 = m2} ends read flushed traced =
-    let now = so_then {Last = λ new. ⊤} read.so flushed (λ old new closed. tt) in
+    let now = so_then {Last = λ new. ⊤} read.so flushed (λ old new then closed. tt) in
     let none : now.held ≡ [] = none_held now.held now.spelt in
     let served : now.served ≡ read.texts = sym (append-nil now.served) ∙ ap (λ (l : List (List ℕ)). now.served ++ l) (sym none) ∙ sym now.parts ∙ append-nil read.texts in
     let whole : Appends w0 w2 (printed now.answers) = now.appends in

@@ -60,7 +60,7 @@ parts_then texts served held ys more_served rest first second =
 
 pub so_then : {R : Type 0} {state : R → RevState} {w0 w1 w2 : Option (List ℕ)} {texts ys : List (List ℕ)} {batch batch' : List Stmt} {Then : Option Gathering → Type 0} {Later : (old new : Option Gathering) → Type 0} {Last : Option Gathering → Type 0} {t0 t1 t2 : Tally}
     {m0 m1 m2 : Machine R} → ServedSo state w0 w1 texts batch Then t0 t1 m0 m1
-    → ((g : Option Gathering) (held : List (List ℕ)) → Then g → AreSpelt held batch → ServedSo state w1 w2 (held ++ ys) batch' (Later g) t1 t2 (standing m1 [] g) m2) → ((old new : Option Gathering) → Later old new → Last new)
+    → ((g : Option Gathering) (held : List (List ℕ)) → Then g → AreSpelt held batch → ServedSo state w1 w2 (held ++ ys) batch' (Later g) t1 t2 (standing m1 [] g) m2) → ((old new : Option Gathering) → Then old → Later old new → Last new)
     → ServedSo state w0 w2 (texts ++ ys) batch' Last t0 t2 m0 m2
 so_then {state = state} {texts = texts} {ys = ys} {t0 = t0} {t1 = t1} {t2 = t2} {m0 = m0} {m1 = m1} {m2 = m2} so next last =
     let now = next so.gathered so.held so.then so.spelt in
@@ -70,7 +70,7 @@ so_then {state = state} {texts = texts} {ys = ys} {t0 = t0} {t1 = t1} {t2 = t2} 
       parts = parts_then texts so.served so.held ys now.served now.held so.parts now.parts;
       spelt = now.spelt;
       gathered = now.gathered;
-      then = last so.gathered now.gathered now.then;
+      then = last so.gathered now.gathered so.then now.then;
       answers = so.answers ++ now.answers;
       steps = Steps-append state m0 (standing m1 [] so.gathered) (standing m2 [] now.gathered) so.served now.served so.answers now.answers so.steps now.steps;
       appends = rw printed-append (Appends-trans _ _ _ _ _ so.appends now.appends);

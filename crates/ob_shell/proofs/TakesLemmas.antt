@@ -1,0 +1,232 @@
+-- Texts that are taken, part by part: some are answered, and some wait.
+use Rattle.std.specs.Prelude.{IfErr, OnErr, OnOk, bytes_eq, ⊤}
+use Rattle.std.specs.Option.{option_map_or}
+use Rattle.std.proofs.Common.{◌≡◌, ◌+◌, ◌<◌, ◌≤◌, ◌⊎◌, inl, inr, ℕ, Bool, true, false, List, [], ◌∷◌, ◌++◌, length, Option, None, Some, Result, Ok, Err, refl, sym, ap, ◌∙◌, subst, arith, append_assoc, append-nil, length-append}
+use Rattle.std.proofs.KnownBytes.{Appends-nil}
+use Rattle.std.specs.Io.KnownBytes.{Appends}
+use Rattle.ob_base.specs.declared.config.Public.{Public}
+use Rattle.ob_base.specs.declared.refusal.Refusal.TheVariants.{Syntax}
+use Rattle.ob_base.specs.declared.refusal.Stop.{Stop}
+use Rattle.ob_base.specs.declared.skeleton.Skeleton.{Skeleton}
+use Rattle.ob_gen.specs.declared.tally.Tally.{Tally}
+use Rattle.ob_headline.specs.Closing.{closing_line}
+use Rattle.ob_headline.specs.Statements.{Spells}
+use Rattle.ob_headline.specs.Words.{Faults, NoneRose, Took, printed}
+use Rattle.ob_mean.specs.Batches.{Gathering, batch_most, goes_into, inserts_into}
+use Rattle.ob_print.proofs.CutLemmas.{Outputs-whole}
+use Rattle.ob_print.specs.Cuts.{Outputs}
+use Rattle.ob_shell.proofs.FlushLemmas.{traced_to_none}
+use Rattle.ob_shell.proofs.ServeLemmas.{misspelt}
+use Rattle.ob_shell.proofs.StepLemmas.{PartlyAt-more, Steps-none, answers_one, printed-nil}
+use Rattle.ob_shell.proofs.TookLemmas.{took_more, took_whole}
+use Rattle.ob_shell.proofs.TraceLemmas.{traced_cut, traced_none, traced_then, traced_whole}
+use Rattle.ob_shell.proofs.WaitLemmas.{break_then, follow_more, none_held, so_idle, so_then, steps_most}
+use Rattle.ob_shell.specs.Lines.{line_answer}
+use Rattle.ob_shell.specs.Running.{IsQuiet, OutFailed, Silenced, StopCause, halted_of, is_quiet, stop_of}
+use Rattle.ob_shell.specs.Serving.{ServesTexts, TakesMore, TakesTexts}
+use Rattle.ob_shell.specs.Steps.{AnswersAll, Follow, IsReady, Machine, Steps, StopsIn, asked_of, standing}
+use Rattle.ob_shell.specs.Tallies.{tally_with}
+use Rattle.ob_shell.specs.Traces.{Traced, TracedAll}
+use Rattle.ob_shell.specs.Waiting.{AreGathered, AreSpelt, BreaksIn, ComesFree, IsClosed, IsFree, ServedSo}
+use Rattle.ob_shell.specs.declared.session.Break.{Break}
+use Rattle.ob_shell.specs.declared.session.Break.TheVariants.{Served, Unread}
+use Rattle.ob_shell.specs.declared.session.TextHalted.{TextHalted}
+use Rattle.ob_sql.specs.Skeleton.{skeleton}
+use Rattle.ob_sql.specs.declared.stmt.Stmt.{Stmt}
+use Rattle.ob_tables.specs.Agreeing.{public_of}
+use Rattle.ob_tables.specs.declared.stop.RunStop.TheVariants.{SinkFault}
+use Rattle.ob_vault.specs.State.{RevState}
+use Rattle.ob_verdict.specs.declared.outcome.Outcome.TheVariants.{Refused}
+
+-- ---- one part after the other
+same_faults : (old mid : Faults) → NoneRose old mid → mid ≡ old
+same_faults old mid none = λ i. record { source = none.source i; out = none.out i; trace = none.trace i }
+
+module _ {R S : Type 0} {state : R → RevState} {Saves Saves' : Type 0} {on : Bool} {May May' : Option Gathering → Type 0} {Then Then' : (old new : Option Gathering) → Type 0} {b0 b1 b2 : List Stmt} {xs : List (List ℕ)} {t0 t1 t2 : Tally} {w0 w1 w2 s0 s1 s2 : Option (List ℕ)} {old mid new : Faults}
+    {m0 m1 m2 : Machine R} {x : S} (first : TakesTexts state Saves on May Then b0 b1 xs t0 t1 w0 w1 s0 s1 old mid m0 m1 (Ok x)) (may : (g h : Option Gathering) → May g → Then g h → May' h) where
+  -- where no count rose before
+  joined : {T : Type 0} {Last : (old new : Option Gathering) → Type 0} (ys : List (List ℕ)) (result : Result T TextHalted) → ((g h k : Option Gathering) → May g → Then g h → Then' h k → Last g k)
+      → TakesTexts state Saves' on May' Then' b1 b2 ys t1 t2 w1 w2 s1 s2 old new m1 m2 result → TakesTexts state Saves' on May Last b0 b2 (xs ++ ys) t0 t2 w0 w2 s0 s2 old new m0 m2 result
+  joined {Last = Last} ys (Ok y) last next = record {
+    ready = next.ready;
+    waits = next.waits;
+    done = λ g held comes spelt. subst (λ (l : List (List ℕ)). ServedSo state w0 w2 l b2 (Last g) t0 t2 (standing m0 [] g) m2) (append_assoc held xs ys)
+        (so_then {Later = Then'} {Last = Last g} (first.done g held comes spelt) (λ h more then waits. next.done h more (may g h comes then) waits) (λ h k then later. last g h k comes then later));
+    stopped = tt;
+    traced = traced_then first.traced next.traced;
+    traced_stop = tt;
+    cause = next.cause;
+    quiet = next.quiet;
+  }
+  joined ys (Err halted) last next = record {
+    ready = tt;
+    waits = tt;
+    done = tt;
+    stopped = λ g held comes spelt. subst (λ (l : List (List ℕ)). BreaksIn state on w0 w2 s0 s2 (OutFailed halted.quiet old.out new.out) l halted.stop (standing m0 [] g) m2) (append_assoc held xs ys)
+        (break_then (first.done g held comes spelt) first.traced (λ h more then waits. next.stopped h more (may g h comes then) waits));
+    traced = tt;
+    traced_stop = traced_cut first.traced next.traced_stop;
+    cause = next.cause;
+    quiet = next.quiet;
+  }
+
+  pub takes_then : {T : Type 0} {Last : (old new : Option Gathering) → Type 0} (ys : List (List ℕ)) (result : Result T TextHalted) → ((g h k : Option Gathering) → May g → Then g h → Then' h k → Last g k)
+      → TakesTexts state Saves' on May' Then' b1 b2 ys t1 t2 w1 w2 s1 s2 mid new m1 m2 result → TakesTexts state Saves' on May Last b0 b2 (xs ++ ys) t0 t2 w0 w2 s0 s2 old new m0 m2 result
+  takes_then ys result last next = joined ys result last (subst (λ (f : Faults). TakesTexts state Saves' on May' Then' b1 b2 ys t1 t2 w1 w2 s1 s2 f new m1 m2 result) (same_faults old mid first.cause) next)
+
+-- the same where the second part may leave what comes next unread, behind those that waited
+module _ {R S : Type 0} {state : R → RevState} {Saves Saves' : Type 0} {on : Bool} {May May' : Option Gathering → Type 0} {Then Then' Last : (old new : Option Gathering) → Type 0} {b0 b1 b2 : List Stmt} {t0 t1 t2 : Tally} {w0 w1 w2 s0 s1 s2 : Option (List ℕ)} {old mid new : Faults}
+    {m0 m1 m2 : Machine R} {x : S} (first : TakesTexts state Saves on May Then b0 b1 [] t0 t1 w0 w1 s0 s1 old mid m0 m1 (Ok x)) (may : (g h : Option Gathering) → May g → Then g h → May' h) (last : (g h k : Option Gathering) → May g → Then g h → Then' h k → Last g k) (ys : List (List ℕ)) (Why : Stop → Type 0) where
+  pub takes_more_then : {T : Type 0} (result : Result T Break) → TakesMore state Saves' on May' Then' b1 b2 ys Why t1 t2 w1 w2 s1 s2 mid new m1 m2 result → TakesMore state Saves' on May Last b0 b2 ys Why t0 t2 w0 w2 s0 s2 old new m0 m2 result
+  takes_more_then (Ok y) next = takes_then first may ys (Ok y) last next
+  takes_more_then (Err (Served halted)) next = takes_then first may ys (Err halted) last next
+  takes_more_then (Err (Unread stop)) next = (takes_then first may [] (Ok tt) (λ g h k comes then later. tt) next.0, next.1)
+
+-- ---- nothing was done
+pub takes_idle : {R T : Type 0} {state : R → RevState} {Saves : Type 0} (on : Bool) {May : Option Gathering → Type 0} {Then : (old new : Option Gathering) → Type 0} (batch : List Stmt) (tally : Tally) (w t : Option (List ℕ)) (old : Faults) (m : Machine R) (x : T) → IsReady state Saves m
+    → AreGathered (public_of m.engine) (asked_of m) batch → ((g : Option Gathering) → May g → Then g g) → TakesTexts state Saves on May Then batch batch [] tally tally w w t t old old m m (Ok x)
+takes_idle on {Then = Then} batch tally w t old m x ready waits then = record {
+  ready = ready;
+  waits = waits;
+  done = λ g held comes spelt. so_idle w (held ++ []) held batch Then tally m g (append-nil held) spelt (then g comes);
+  stopped = tt;
+  traced = traced_none on m.store.asked t;
+  traced_stop = tt;
+  cause = record { source = refl; out = refl; trace = refl };
+  quiet = (refl, refl);
+}
+
+-- a stop came before the texts that come behind
+pub takes_broken : {R T U : Type 0} {state : R → RevState} {Saves Saves' : Type 0} {on : Bool} {May May' : Option Gathering → Type 0} {Then Then' : (old new : Option Gathering) → Type 0} {b0 b1 c1 : List Stmt} {t0 t1 u1 : Tally} {w0 w1 s0 s1 : Option (List ℕ)} {old new : Faults} {m0 m1 : Machine R} (halted : TextHalted) (ys : List (List ℕ))
+    → ((g : Option Gathering) → May' g → May g) → StopCause {T = U} old new (stop_of (halted_of (Err halted))) → TakesTexts {T = T} state Saves on May Then b0 b1 [] t0 t1 w0 w1 s0 s1 old new m0 m1 (Err halted)
+    → TakesTexts {T = U} state Saves' on May' Then' b0 c1 ys t0 u1 w0 w1 s0 s1 old new m0 m1 (Err halted)
+takes_broken {state = state} {on = on} {w0 = w0} {w1 = w1} {s0 = s0} {s1 = s1} {old = old} {new = new} {m0 = m0} {m1 = m1} halted ys may cause takes = record {
+  ready = tt;
+  waits = tt;
+  done = tt;
+  stopped = λ g held comes spelt. let broke = takes.stopped g held (may g comes) spelt in record {
+    served = broke.served;
+    more = broke.more ++ ys;
+    parts = ap (λ (l : List (List ℕ)). l ++ ys) (sym (append-nil held) ∙ broke.parts) ∙ append_assoc broke.served broke.more ys;
+    answers = broke.answers;
+    middle = broke.middle;
+    steps = broke.steps;
+    owed = broke.owed;
+    gathered = broke.gathered;
+    follow = follow_more broke.more ys broke.owed broke.follow;
+    bytes = broke.bytes;
+    partly = PartlyAt-more state broke.middle (standing m1 broke.owed broke.gathered) broke.more ys halted.stop broke.bytes broke.partly;
+    cut = broke.cut;
+    whole = broke.whole;
+    traced = broke.traced;
+  };
+  traced = tt;
+  traced_stop = takes.traced_stop;
+  cause = cause;
+  quiet = takes.quiet;
+}
+
+-- ---- a text behind which none waits
+module _ {R : Type 0} {state : R → RevState} {Saves : Type 0} {on : Bool} {May : Option Gathering → Type 0} {w0 w1 s0 s1 : Option (List ℕ)} {old new : Faults} {m0 m1 : Machine R} (text : List ℕ) (tally : Tally) where
+  -- of a stop within it
+  breaks_one : {Lost : Type 0} {Fault : Type 0} (stop : _) (g : Option Gathering) → StopsIn state w0 w1 Lost (text ∷ []) stop (standing m0 [] g) (standing m1 [] None) → Traced on m0.store.asked m1.store.asked s0 s1 Fault
+      → BreaksIn state on w0 w1 s0 s1 Lost (text ∷ []) stop (standing m0 [] g) m1
+  breaks_one {Lost = Lost} stop g stops traced = record {
+    served = [];
+    more = text ∷ [];
+    parts = refl;
+    answers = [];
+    middle = standing m0 [] g;
+    steps = Steps-none state (standing m0 [] g);
+    owed = [];
+    gathered = None;
+    follow = tt;
+    bytes = stops.bytes;
+    partly = stops.partly;
+    cut = subst (λ (l : List ℕ). Outputs w0 w1 Lost (l ++ stops.bytes)) (sym printed-nil) stops.cut;
+    whole = subst (λ (l : List ℕ). Took w0 w1 l) (sym printed-nil) (record { after = stops.cut.grown; appends = stops.cut.appends });
+    traced = traced_to_none on m0.store.asked s0 s1 traced.cut.grown traced.cut.appends;
+  }
+
+  -- what was done of it
+  so_one : (counted : Tally) (g : Option Gathering) → AnswersAll state w0 w1 (text ∷ []) tally counted (standing m0 [] g) (standing m1 [] None)
+      → ServedSo state w0 w1 (text ∷ []) [] (IsFree (public_of m1.engine) []) tally counted (standing m0 [] g) m1
+  so_one counted g all = record {
+    served = text ∷ [];
+    held = [];
+    parts = refl;
+    spelt = tt;
+    gathered = None;
+    then = λ outline. refl;
+    answers = all.answers;
+    steps = all.steps;
+    appends = all.appends;
+    counted = all.counted;
+  }
+
+  -- it was answered
+  pub takes_one : {T : Type 0} (x : T) (counted : Tally) → (owed : m1 ≡ standing m1 [] None) → ServesTexts state Saves May (text ∷ []) (λ c. AnswersAll state w0 w1 (text ∷ []) tally c) w0 w1 old new m0 m1 (Ok counted) → TracedAll on m0.store.asked m1.store.asked s0 s1
+      → TakesTexts state Saves on May (λ old new. IsFree (public_of m1.engine) [] new) [] [] (text ∷ []) tally counted w0 w1 s0 s1 old new m0 m1 (Ok x)
+  takes_one x counted owed serves traced = record {
+    ready = serves.ready;
+    waits = tt;
+    done = λ g held comes spelt. subst (λ (l : List (List ℕ)). ServedSo state w0 w1 (l ++ text ∷ []) [] (IsFree (public_of m1.engine) []) tally counted (standing m0 [] g) m1) (sym (none_held held spelt))
+        (so_one counted g (subst (λ (m : Machine R). AnswersAll state w0 w1 (text ∷ []) tally counted (standing m0 [] g) m) owed (serves.done g comes)));
+    stopped = tt;
+    traced = traced;
+    traced_stop = tt;
+    cause = serves.cause;
+    quiet = serves.quiet;
+  }
+
+  -- or stopped
+  pub takes_halted : {T U : Type 0} {Done : T → (m0 m1 : Machine R) → Type 0} {Then : (old new : Option Gathering) → Type 0} {c1 : List Stmt} {u1 : Tally} (halted : TextHalted) → (owed : m1 ≡ standing m1 [] None) → StopCause {T = U} old new (stop_of (halted_of (Err halted)))
+      → ServesTexts {T = T} state Saves May (text ∷ []) Done w0 w1 old new m0 m1 (Err halted) → Traced on m0.store.asked m1.store.asked s0 s1 (IsQuiet (halted_of (Err halted)))
+      → TakesTexts {T = U} state Saves on May Then [] c1 (text ∷ []) tally u1 w0 w1 s0 s1 old new m0 m1 (Err halted)
+  takes_halted halted owed cause serves traced = record {
+    ready = tt;
+    waits = tt;
+    done = tt;
+    stopped = λ g held comes spelt. subst (λ (l : List (List ℕ)). BreaksIn state on w0 w1 s0 s1 (OutFailed halted.quiet old.out new.out) (l ++ text ∷ []) halted.stop (standing m0 [] g) m1) (sym (none_held held spelt))
+        (breaks_one halted.stop g (subst (λ (m : Machine R). StopsIn state w0 w1 (OutFailed halted.quiet old.out new.out) (text ∷ []) halted.stop (standing m0 [] g) m) owed (serves.stopped g comes)) traced);
+    traced = tt;
+    traced_stop = traced;
+    cause = cause;
+    quiet = serves.quiet;
+  }
+
+-- a text that is no statement
+module _ {R : Type 0} {state : R → RevState} {Saves : Type 0} (on : Bool) {May : Option Gathering → Type 0} {w0 w1 : Option (List ℕ)} (t : Option (List ℕ)) {old new : Faults} (m : Machine R) (owed : m ≡ standing m [] None) (text : List ℕ) (at : ℕ) (spells : Spells text (Err at)) (tally : Tally) where
+  -- its line was written
+  pub takes_misspelt : {T : Type 0} (x : T) → IsReady state Saves m → NoneRose old new → Appends w0 w1 (closing_line (Refused (Syntax at))) → Silenced false old new
+      → TakesTexts state Saves on May (λ old new. IsFree (public_of m.engine) [] new) [] [] (text ∷ []) tally (tally_with tally (Refused (Syntax at)) None) w0 w1 t t old new m m (Ok x)
+  takes_misspelt x ready cause wrote quiet = record {
+    ready = ready;
+    waits = tt;
+    done = λ g held comes spelt. subst (λ (l : List (List ℕ)). ServedSo state w0 w1 (l ++ text ∷ []) [] (IsFree (public_of m.engine) []) tally (tally_with tally (Refused (Syntax at)) None) (standing m [] g) m) (sym (none_held held spelt))
+        (so_one {on = on} {May = May} {s0 = t} {s1 = t} {old = old} {new = new} text tally (tally_with tally (Refused (Syntax at)) None) g (answers_one text tally (line_answer (Refused (Syntax at))) (misspelt state m g text at spells) wrote));
+    stopped = tt;
+    traced = traced_none on m.store.asked t;
+    traced_stop = tt;
+    cause = cause;
+    quiet = quiet;
+  }
+
+  -- a sink failed in it
+  pub loses_misspelt : {T : Type 0} {Then : (old new : Option Gathering) → Type 0} {c1 : List Stmt} {u1 : Tally} (halted : TextHalted) → halted.stop ≡ SinkFault → StopCause {T = T} old new (stop_of (halted_of (Err halted))) → Outputs w0 w1 (OutFailed halted.quiet old.out new.out) (closing_line (Refused (Syntax at)))
+      → Silenced halted.quiet old new → TakesTexts {T = T} state Saves on May Then [] c1 (text ∷ []) tally u1 w0 w1 t t old new m m (Err halted)
+  loses_misspelt {T = T} halted fault cause cut quiet = record {
+    ready = tt;
+    waits = tt;
+    done = tt;
+    stopped = λ g held comes spelt. subst (λ (l : List (List ℕ)). BreaksIn state on w0 w1 t t (OutFailed halted.quiet old.out new.out) (l ++ text ∷ []) halted.stop (standing m [] g) m) (sym (none_held held spelt))
+        (breaks_one {on = on} {May = May} {s0 = t} {s1 = t} {old = old} {new = new} text tally halted.stop g (record {
+          bytes = closing_line (Refused (Syntax at));
+          partly = inr (inr (record { answer = line_answer (Refused (Syntax at)); step = misspelt state m g text at spells; whole = refl; fault = fault }));
+          cut = cut;
+        }) (traced_whole (IsQuiet (halted_of {T = T} (Err halted))) (traced_none on m.store.asked t)));
+    traced = tt;
+    traced_stop = traced_whole (IsQuiet (halted_of {T = T} (Err halted))) (traced_none on m.store.asked t);
+    cause = cause;
+    quiet = quiet;
+  }
