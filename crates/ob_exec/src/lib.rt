@@ -10,11 +10,12 @@
 //! `running` begins each statement, by what is refused before any access, by the index that it accesses, and else
 //! by its kind: what makes or changes a table is a call of `ob_tables`. `rows` and `totals` are the SELECTs;
 //! `specs/Sources` says what is done of the rows of a source (`SelectsRows`), and `specs/Totalling` of totals.
-//! `batching` serves INSERTs together. `saving` saves the tables behind a statement, by what `behind` says becomes of them.
+//! `gathering` says which INSERTs are served together, and `batching` serves them. `saving` saves the tables behind a statement, by what `behind` says becomes of them.
 #![tactic(auto)]
 
 mod batching;
 mod behind;
+mod gathering;
 mod rows;
 mod running;
 mod saving;
@@ -23,6 +24,7 @@ mod totals;
 
 pub use batching::run_batch;
 pub use behind::{Behind, SavedBy, Unsaved};
+pub use gathering::{batch_most, begins_batch};
 pub use ob_tables::{
     CloseErr, Closing, Engine, Listed, OpenErr, Outcome, RunStop, names_are_apart,
 };
