@@ -87,6 +87,11 @@ pub comes_free : (p : Public) (batch : List Stmt) (g : Option Gathering) → IsF
 comes_free p [] g free = tt
 comes_free p (first ∷ rest) g free = free
 
+-- also where one more comes to them
+pub comes_before : (p : Public) (batch : List Stmt) (stmt : Stmt) (g : Option Gathering) → IsFree p (batch ++ stmt ∷ []) g → ComesFree p batch g
+comes_before p [] stmt g free = tt
+comes_before p (first ∷ rest) stmt g free = free
+
 -- ---- one more waits
 spelt_more : (held : List (List ℕ)) (batch : List Stmt) (text : List ℕ) (stmt : Stmt) → AreSpelt held batch → Spells text (Ok stmt) → AreSpelt (held ++ text ∷ []) (batch ++ stmt ∷ [])
 spelt_more [] [] text stmt spelt spells = (spells, tt)

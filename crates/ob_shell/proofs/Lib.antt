@@ -12,6 +12,7 @@ pub mod KeyLemmas
 pub mod TookLemmas
 pub mod WaitLemmas
 pub mod RunLemmas
+pub mod ReadLemmas
 pub mod ServeLemmas
 pub mod StandLemmas
 pub mod SessionLemmas

@@ -45,7 +45,7 @@ run_ends f ended bytes more part Runs.StoreFault = tt
 run_ends f ended bytes more part Runs.StashFull = tt
 run_ends f ended bytes more part Runs.KeeperFault = tt
 
-below_is_not_over : (p : List ℕ) → length p < text_max → is_over p ≡ false
+pub below_is_not_over : (p : List ℕ) → length p < text_max → is_over p ≡ false
 below_is_not_over p h = grind arith
 
 pub at_limit_is_over : (new rest : List ℕ) → new ≡ rest → length new ≡ text_max → is_over rest ≡ true

@@ -80,7 +80,7 @@ module _ {R S : Type 0} {state : R → RevState} {Saves Saves' : Type 0} {on : B
   pub takes_more_then : {T : Type 0} (result : Result T Break) → TakesMore state Saves' on May' Then' b1 b2 ys Why t1 t2 w1 w2 s1 s2 mid new m1 m2 result → TakesMore state Saves' on May Last b0 b2 ys Why t0 t2 w0 w2 s0 s2 old new m0 m2 result
   takes_more_then (Ok y) next = takes_then first may ys (Ok y) last next
   takes_more_then (Err (Served halted)) next = takes_then first may ys (Err halted) last next
-  takes_more_then (Err (Unread stop)) next = (takes_then first may [] (Ok tt) (λ g h k comes then later. tt) next.0, next.1)
+  takes_more_then (Err (Unread stop)) next = (takes_then first may [] (Ok tt) (λ g h k comes then later. later) next.0, next.1)
 
 -- ---- nothing was done
 pub takes_idle : {R T : Type 0} {state : R → RevState} {Saves : Type 0} (on : Bool) {May : Option Gathering → Type 0} {Then : (old new : Option Gathering) → Type 0} (batch : List Stmt) (tally : Tally) (w t : Option (List ℕ)) (old : Faults) (m : Machine R) (x : T) → IsReady state Saves m

@@ -89,8 +89,8 @@ TakesMore {T = T} state Saves tracing May Then batch0 batch1 texts Why tally0 ta
     old new m0 m1 (Err (Served halted)) = TakesTexts {T = T} state Saves tracing May Then
     batch0 batch1 texts tally0 tally1 w0 w1 t0 t1 old new m0 m1 (Err halted)
 TakesMore state Saves tracing May Then batch0 batch1 texts Why tally0 tally1 w0 w1 t0 t1 old new
-    m0 m1 (Err (Unread stop)) = TakesTexts {T = Unit {0}} state Saves tracing May (λ gathered. ⊤)
-    batch0 batch1 [] tally0 tally1 w0 w1 t0 t1 old new m0 m1 (Ok tt) × Why stop
+    m0 m1 (Err (Unread stop)) = TakesTexts {T = Unit {0}} state Saves tracing May
+    (λ old new. ComesFree (public_of m1.engine) batch1 new) batch0 batch1 [] tally0 tally1 w0 w1 t0 t1 old new m0 m1 (Ok tt) × Why stop
 
 -- memory is wanting for a text
 abbrev pub WantsRoom : Stop → Type 0
