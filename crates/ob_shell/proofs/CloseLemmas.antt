@@ -29,7 +29,7 @@ module _ {tally : Tally} {tr : TraceSink} {Takes : Type 0} {base : Base} {keys :
   -- the last line was written, or might not be
   pub reported_closed : (ended : Ended) (report : Report) (old mid new : Faults)
       → report.status ≡ status_of ended.ending → report.high ≡ ended.high → EndingWords ended.ending Takes
-      → RunShown tally tr base keys l0 l1 gave w0 w1 s0 s1 ended.high ended.ending [] (OutFailed ended.quiet old.out mid.out) → EndingCause ended.ending old mid
+      → RunShown tally tr base keys l0 l1 gave w0 w1 s0 s1 ended.high ended.ending [] (OutFailed ended.quiet old.out mid.out) → EndingCause (ServesAlone base.public) ended.ending old mid
       → (ended.quiet ≡ true → Unwritten w1 w2 mid.out new.out) → (ended.quiet ≡ false → LineWritten (last_line ended.ending) w1 w2 mid.out new.out)
       → (ended.quiet ≡ true → SinksRose old mid) → (ended.quiet ≡ false → mid.trace ≡ old.trace) → new.trace ≡ mid.trace → new.source ≡ mid.source
       → Reported tally tr Takes base keys l0 l1 gave w0 w2 s0 s1 old new report
@@ -53,9 +53,9 @@ pub words_end : (error : WordsErr) {Takes : Type 0} → (error ≡ Words.Usage �
 words_end Words.Usage not = not refl
 words_end Words.NoMemory not = tt
 
-pub words_cause : (error : WordsErr) (faults : Faults) → EndingCause (refused_by error) faults faults
+pub words_cause : {Alone : Type 0} (error : WordsErr) (faults : Faults) → EndingCause Alone (refused_by error) faults faults
 words_cause Words.Usage faults = record { source = refl; out = refl; trace = refl }
-words_cause Words.NoMemory faults = (refl, omega arith, omega arith)
+words_cause Words.NoMemory faults = (λ alone. refl, omega arith, omega arith)
 
 unfoldable pub words_shown : {F : Type 0} {keys : List ℕ → KeySet} (tally : Tally) (tr : TraceSink) (settings : Option Config) (error : WordsErr) (l : Option (List ℕ)) (gave : ℕ) (w : Option (List ℕ)) (s : StoreState) → IsFresh s → tr.new ≡ tr.old
     → RunShown tally tr (fresh settings) keys l l gave w w s s 0 (refused_by error) [] F

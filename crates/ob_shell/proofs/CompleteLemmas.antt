@@ -58,9 +58,9 @@ module _ (taken rest : List ℕ) (secret : HasSecret (taken ++ rest)) where
       let k = rw all at small in cc
   not_over false lf small over = let k = rw (after_line-none taken lf, rest_of-nil) at over in cc
 
-limits_kept : (ending : Ending) (max : ℕ) (taken rest : List ℕ) (ended : Bool) (more : List (List ℕ)) (part : List ℕ) {Takes : Type 0}
+limits_kept : {Alone : Type 0} (ending : Ending) (max : ℕ) (taken rest : List ℕ) (ended : Bool) (more : List (List ℕ)) (part : List ℕ) {Takes : Type 0}
     → Takes → EndingWords ending Takes
-    → KeepsLimits max (taken ++ rest) → EndingSays ending max taken (Some rest) ended more part → (old new : Faults) → StatusCause ending old new
+    → KeepsLimits max (taken ++ rest) → EndingSays ending max taken (Some rest) ended more part → (old new : Faults) → StatusCause Alone ending old new
     → ¬ Rises old.source new.source → ¬ SinksRose old new → {Honest Faulted Saving : Type 0} → (Honest → EndsUntampered ending) → (ending ≡ Ran (Err StoreFault) → Faulted) → (ending ≡ Ran (Err KeeperFault) → Saving) → IsCompleted Honest Faulted Saving ending
 limits_kept Usage max taken rest ended more part t words k says old new cause a c calm faulted saving = words t
 limits_kept BadKey max taken rest ended more part t words k says old new cause a c calm faulted saving = good_key taken rest k.secret says.1 says.0
@@ -79,7 +79,7 @@ limits_kept (Ran (Err InputLimit)) max taken rest ended more part t words k says
     ]
 
 pub completes : {tally : Tally} {tr : TraceSink} {base : Base} {keys : List ℕ → KeySet} {gave : ℕ} {l0 l1 w0 w1 : Option (List ℕ)} {s0 s1 : StoreState} {high : ℕ} {ending : Ending} {line : List ℕ} {F Takes : Type 0} (old new : Faults) (input : List ℕ)
-    → RunShown tally tr base keys l0 l1 gave w0 w1 s0 s1 high ending line F → EndingWords ending Takes → StatusCause ending old new
+    → RunShown tally tr base keys l0 l1 gave w0 w1 s0 s1 high ending line F → EndingWords ending Takes → StatusCause (ServesAlone base.public) ending old new
     → Takes → l0 ≡ Some input → KeepsLimits (limit_of base.settings) input → ¬ Rises old.source new.source → ¬ SinksRose old new
     → FromEach base (λ s. IsCompleted (IsHonest s0 s1) (StoreFails base s0 s1) (base.public.save ≡ true) ending)
 completes {base = base} {l1 = l1} {s0 = s0} {s1 = s1} {ending = ending} old new input shown words cause t e k a c =
@@ -97,13 +97,13 @@ completes {base = base} {l1 = l1} {s0 = s0} {s1 = s1} {ending = ending} old new 
 unfoldable pub reported_line : {tally : Tally} {tr : TraceSink} {Takes : Type 0} {base : Base} {keys : List ℕ → KeySet} {report : Report} (ending : Ending) (old mid new : Faults)
     {gave : ℕ} {l0 l1 w0 w1 w2 : Option (List ℕ)} {s0 s1 : StoreState} {E Lost : Type 0}
     → report.status ≡ status_of ending → EndingWords ending Takes
-    → RunShown tally tr base keys l0 l1 gave w0 w1 s0 s1 report.high ending [] Lost → ¬ Lost → EndingCause ending old mid
+    → RunShown tally tr base keys l0 l1 gave w0 w1 s0 s1 report.high ending [] Lost → ¬ Lost → EndingCause (ServesAlone base.public) ending old mid
     → Outputs w1 w2 E (last_line ending) → (E → Rises mid.out new.out) → (last_line ending ≡ [] → new.out ≡ mid.out)
     → mid.out ≤ new.out → new.trace ≡ mid.trace → new.source ≡ mid.source → mid.trace ≡ old.trace
     → Reported tally tr Takes base keys l0 l1 gave w0 w2 s0 s1 old new report
 unfolding shown_line
-reported_line ending old mid new {w0 = w0} {w1 = w1} status takes shown loud cause cut rose none later trace source kept =
-    let causes : StatusCause ending old new = status_cause ending old mid new cause later trace source none in
+reported_line {base = base} ending old mid new {w0 = w0} {w1 = w1} status takes shown loud cause cut rose none later trace source kept =
+    let causes : StatusCause (ServesAlone base.public) ending old new = status_cause ending old mid new cause later trace source none in
     let whole : Outputs w0 w1 ⊥ ((printed shown.story.answers ++ shown.story.part) ++ []) = Outputs-by loud shown.grew in
     record {
       ending = ending;
@@ -120,11 +120,11 @@ reported_line ending old mid new {w0 = w0} {w1 = w1} status takes shown loud cau
 unfoldable pub reported_quiet : {tally : Tally} {tr : TraceSink} {Takes : Type 0} {base : Base} {keys : List ℕ → KeySet} {report : Report} (ending : Ending) (old new : Faults)
     {gave : ℕ} {l0 l1 w0 w1 : Option (List ℕ)} {s0 s1 : StoreState} {Lost : Type 0}
     → report.status ≡ status_of ending → EndingWords ending Takes
-    → RunShown tally tr base keys l0 l1 gave w0 w1 s0 s1 report.high ending [] Lost → (Lost → Rises old.out new.out) → EndingCause ending old new → SinksRose old new
+    → RunShown tally tr base keys l0 l1 gave w0 w1 s0 s1 report.high ending [] Lost → (Lost → Rises old.out new.out) → EndingCause (ServesAlone base.public) ending old new → SinksRose old new
     → Reported tally tr Takes base keys l0 l1 gave w0 w1 s0 s1 old new report
 unfolding shown_line
-reported_quiet ending old new {w0 = w0} {w1 = w1} {Lost = Lost} status takes shown lost cause rose =
-    let causes : StatusCause ending old new = status_cause ending old new new cause (omega arith) refl refl (λ e. refl) in
+reported_quiet {base = base} ending old new {w0 = w0} {w1 = w1} {Lost = Lost} status takes shown lost cause rose =
+    let causes : StatusCause (ServesAlone base.public) ending old new = status_cause ending old new new cause (omega arith) refl refl (λ e. refl) in
     record {
       ending = ending;
       status = status;

@@ -75,7 +75,7 @@ module _ (tally : Tally) (asked : List Access) (w0 w1 : Option (List ℕ)) (trac
   }
 
   pub concludes_by : (ending : Ending) (quiet : Bool) → ConcludedBy ending quiet tally asked w0 w1 out0 out1 report.status → (quiet ≡ true → Rises trace0 trace1) → (quiet ≡ false → trace1 ≡ trace0)
-      → EndingCause ending (faults_of 0 0 trace0) (faults_of 0 0 trace1) → Concludes ending tally asked report.high w0 w1 before after report
+      → {Alone : Type 0} → EndingCause Alone ending (faults_of 0 0 trace0) (faults_of 0 0 trace1) → Concludes ending tally asked report.high w0 w1 before after report
   concludes_by Usage quiet by rose kept cause = closed_by Usage quiet by rose kept by.told refl
   concludes_by BadKey quiet by rose kept cause = closed_by BadKey quiet by rose kept by.told refl
   concludes_by (Ran (Ok refused)) quiet by rose kept cause = record {
@@ -99,10 +99,10 @@ with_source source c = record { grew = c.grew; silent = c.silent; status = c.sta
 
 -- ---- the run, whose answers are kept nowhere
 unfoldable unkept : {Lost : Type 0} {tally : Tally} {tr : TraceSink} {Takes : Type 0} {base : Base} {keys : List ℕ → KeySet} {gave : ℕ} {l0 l1 : Option (List ℕ)} {s0 s1 : StoreState} (ending : Ending) (high : ℕ) (old new : Faults)
-    → EndingWords ending Takes → RunShown tally tr base keys l0 l1 gave None None s0 s1 high ending [] Lost → EndingCause ending old new
+    → EndingWords ending Takes → RunShown tally tr base keys l0 l1 gave None None s0 s1 high ending [] Lost → EndingCause (ServesAlone base.public) ending old new
     → Reported tally tr Takes base keys l0 l1 gave None None s0 s1 old new (record { status = status_of ending; high = high })
-unkept ending high old new takes shown cause =
-    let causes : StatusCause ending old new = status_cause ending old new new cause (omega arith) refl refl (λ e. refl) in
+unkept {base = base} ending high old new takes shown cause =
+    let causes : StatusCause (ServesAlone base.public) ending old new = status_cause ending old new new cause (omega arith) refl refl (λ e. refl) in
     record {
       ending = ending;
       status = refl;
@@ -118,7 +118,7 @@ pub ran_generated : {Lost : Type 0} {tally : Tally} {tracing : Bool} {settings :
     (seed : Seed) (left : List ℕ) (ending : Ending) (high trace0 trace1 out0 out1 : ℕ) (report : Report)
     → EndingWords ending ⊤
     → RunShown tally (sink_of tracing t0 t1) (fresh settings) keys_in (Some (generated seed.start seed.rows)) (Some left) gave None None s0 s1 high ending [] Lost
-    → EndingCause ending (faults_of 0 0 trace0) (faults_of 0 0 trace1)
+    → EndingCause (ServesAlone (fresh settings).public) ending (faults_of 0 0 trace0) (faults_of 0 0 trace1)
     → Traced tracing s0.asked s1.asked t0 t1 (SinksRose (faults_of 0 0 trace0) (faults_of 0 0 trace1))
     → Concludes ending tally s1.asked high w0 w1 (faults_of 0 out0 trace0) (faults_of 0 out1 trace1) report
     → RanGenerated seed tracing settings t0 t1 s0 s1 trace0 trace1 w0 w1 out0 out1 report

@@ -48,7 +48,7 @@ module _ {R : Type 0} (state : R → RevState) (base : Base) (config : Config) (
 
   pub serves_stop : (stop : Stop) (ended : KeptEnded) (k : KeeperState) (old new : Faults) → ended.high ≡ high
       → SessionRan state tracing f0 f1 l0 l1 gave w0 w1 t0 t1 (machine_of first s0 p0) (machine_of last s1 p1) (OutFailed ended.quiet old.out new.out) (Err stop)
-      → Traced tracing s0.asked s1.asked t0 t1 (ended.quiet ≡ true) → StopCause {T = Tally} old new (Err stop) → Silenced ended.quiet old new → ended.ending ≡ Plain (Ran (Err stop))
+      → Traced tracing s0.asked s1.asked t0 t1 (ended.quiet ≡ true) → StopCause {T = Tally} (ServesAlone base.public) old new (Err stop) → Silenced ended.quiet old new → ended.ending ≡ Plain (Ran (Err stop))
       → StopsRun state base key tracing ended f0 f1 l0 l1 gave w0 w1 t0 t1 s0 s1 old new k k
   serves_stop stop ended k old new rows ran traced cause silent ending = record {
     stop = stop;
@@ -191,7 +191,7 @@ module _ (config : Config) (tracing : Bool) (f0 f1 : Fetch) (none : f0.unread �
             (subst (λ (x : Option (List ℕ)). Carried (sink_of tracing t1 t2) starts.base (keys_with x) x s1 s2 ended.high stops.ran.story (Ran (Err stops.stop))) (sym keyed) stops.ran.carried) tt;
         keyed = keyed;
         traced_all = stops.traced_all;
-        cause = subst (λ (f : Faults). StopCause {T = Bool} f new (Err stops.stop)) same_faults stops.cause;
+        cause = subst (λ (f : Faults). StopCause {T = Bool} (ServesAlone starts.base.public) f new (Err stops.stop)) same_faults stops.cause;
         silent = subst (λ (f : Faults). Silenced ended.quiet f new) same_faults stops.silent;
         ending = stops.ending;
         kept = stops.kept;

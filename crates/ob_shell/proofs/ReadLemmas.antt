@@ -209,25 +209,26 @@ module _ {R T : Type 0} {state : R → RevState} {Saves : Type 0} {on : Bool} {M
   more_waits (Err (Unread stop)) takes = takes.0.waits
 
   -- the counts, beside that of a source which didn't fail
-  served_cause : (s0 s1 : ℕ) (old new : ℕ × ℕ) (stop : RunStop) → s1 ≡ s0 → StopCause {T = T} (faults_of 0 old.0 old.1) (faults_of 0 new.0 new.1) (Err (session_stop stop)) → StopCause {T = T} (faults_of s0 old.0 old.1) (faults_of s1 new.0 new.1) (Err (session_stop stop))
-  served_cause s0 s1 old new (Runs.Tampered q x) same cause = (same, cause.1, cause.2)
-  served_cause s0 s1 old new Runs.SinkFault same cause = (same, cause.1)
-  served_cause s0 s1 old new Runs.NoMemory same cause = (same, cause.1, cause.2)
-  served_cause s0 s1 old new Runs.StoreFault same cause = (same, cause.1, cause.2)
-  served_cause s0 s1 old new Runs.StashFull same cause = (same, cause.1, cause.2)
-  served_cause s0 s1 old new Runs.KeeperFault same cause = (same, cause.1, cause.2)
+  served_cause : (Alone : Type 0) (s0 s1 : ℕ) (old new : ℕ × ℕ) (stop : RunStop) → (Alone → s1 ≡ s0) → StopCause {T = T} (Unit {0}) (faults_of 0 old.0 old.1) (faults_of 0 new.0 new.1) (Err (session_stop stop))
+      → StopCause {T = T} Alone (faults_of s0 old.0 old.1) (faults_of s1 new.0 new.1) (Err (session_stop stop))
+  served_cause Alone s0 s1 old new (Runs.Tampered q x) same cause = (same, cause.1, cause.2)
+  served_cause Alone s0 s1 old new Runs.SinkFault same cause = (same, cause.1)
+  served_cause Alone s0 s1 old new Runs.NoMemory same cause = (same, cause.1, cause.2)
+  served_cause Alone s0 s1 old new Runs.StoreFault same cause = (same, cause.1, cause.2)
+  served_cause Alone s0 s1 old new Runs.StashFull same cause = (same, cause.1, cause.2)
+  served_cause Alone s0 s1 old new Runs.KeeperFault same cause = (same, cause.1, cause.2)
 
-  unread_cause : (s0 s1 : ℕ) (old new : ℕ × ℕ) (stop : Stop) → s1 ≡ s0 → (stop ≡ Stops.NoMemory) ⊎ (stop ≡ Stops.InputLimit) → new.0 ≡ old.0 → new.1 ≡ old.1 → StopCause {T = T} (faults_of s0 old.0 old.1) (faults_of s1 new.0 new.1) (Err stop)
-  unread_cause s0 s1 old new stop same why out trace = elim why [
-    | inl is ↦ subst (λ (s : Stop). StopCause {T = T} (faults_of s0 old.0 old.1) (faults_of s1 new.0 new.1) (Err s)) (sym is) (same, omega (arith, out), omega (arith, trace))
-    | inr is ↦ subst (λ (s : Stop). StopCause {T = T} (faults_of s0 old.0 old.1) (faults_of s1 new.0 new.1) (Err s)) (sym is) (record { source = same; out = out; trace = trace })
+  unread_cause : (Alone : Type 0) (s0 s1 : ℕ) (old new : ℕ × ℕ) (stop : Stop) → s1 ≡ s0 → (stop ≡ Stops.NoMemory) ⊎ (stop ≡ Stops.InputLimit) → new.0 ≡ old.0 → new.1 ≡ old.1 → StopCause {T = T} Alone (faults_of s0 old.0 old.1) (faults_of s1 new.0 new.1) (Err stop)
+  unread_cause Alone s0 s1 old new stop same why out trace = elim why [
+    | inl is ↦ subst (λ (s : Stop). StopCause {T = T} Alone (faults_of s0 old.0 old.1) (faults_of s1 new.0 new.1) (Err s)) (sym is) (λ alone. same, omega (arith, out), omega (arith, trace))
+    | inr is ↦ subst (λ (s : Stop). StopCause {T = T} Alone (faults_of s0 old.0 old.1) (faults_of s1 new.0 new.1) (Err s)) (sym is) (record { source = same; out = out; trace = trace })
   ]
 
-  pub more_cause : (s0 s1 : ℕ) (old new : ℕ × ℕ) → s1 ≡ s0 → (result : Result T Break) → ((stop : Stop) → Why stop → (stop ≡ Stops.NoMemory) ⊎ (stop ≡ Stops.InputLimit))
-      → TakesMore state Saves on May Then b0 b1 texts Why r0 r1 w0 w1 t1 t2 (faults_of 0 old.0 old.1) (faults_of 0 new.0 new.1) m1 m2 result → StopCause (faults_of s0 old.0 old.1) (faults_of s1 new.0 new.1) (stop_of (broken_of result))
-  more_cause s0 s1 old new same (Ok x) why takes = record { source = same; out = takes.cause.out; trace = takes.cause.trace }
-  more_cause s0 s1 old new same (Err (Served halted)) why takes = served_cause s0 s1 old new halted.stop same takes.cause
-  more_cause s0 s1 old new same (Err (Unread stop)) why takes = unread_cause s0 s1 old new stop same (why stop takes.1) takes.0.cause.out takes.0.cause.trace
+  pub more_cause : (Alone : Type 0) (s0 s1 : ℕ) (old new : ℕ × ℕ) → s1 ≡ s0 → (result : Result T Break) → ((stop : Stop) → Why stop → (stop ≡ Stops.NoMemory) ⊎ (stop ≡ Stops.InputLimit))
+      → TakesMore state Saves on May Then b0 b1 texts Why r0 r1 w0 w1 t1 t2 (faults_of 0 old.0 old.1) (faults_of 0 new.0 new.1) m1 m2 result → StopCause Alone (faults_of s0 old.0 old.1) (faults_of s1 new.0 new.1) (stop_of (broken_of result))
+  more_cause Alone s0 s1 old new same (Ok x) why takes = record { source = same; out = takes.cause.out; trace = takes.cause.trace }
+  more_cause Alone s0 s1 old new same (Err (Served halted)) why takes = served_cause Alone s0 s1 old new halted.stop (λ alone. same) takes.cause
+  more_cause Alone s0 s1 old new same (Err (Unread stop)) why takes = unread_cause Alone s0 s1 old new stop same (why stop takes.1) takes.0.cause.out takes.0.cause.trace
 
   quiet_by : (s0 s1 : ℕ) (old new : ℕ × ℕ) (quiet : Bool) → Silenced quiet (faults_of 0 old.0 old.1) (faults_of 0 new.0 new.1) → Silenced quiet (faults_of s0 old.0 old.1) (faults_of s1 new.0 new.1)
   quiet_by s0 s1 old new true told = told

@@ -35,10 +35,10 @@ use Rattle.ob_store.specs.State.{StoreState}
 
 -- ---- the run
 -- nothing failed of one that came to its end
-whole_cause : (result : Result Bool Stop) (refused : Bool) (ending : KeptEnding) (old new : Faults) → ending ≡ Plain (Ran result) → ending ≡ Plain (Ran (Ok refused)) → StopCause old new result → new.trace ≡ old.trace
-whole_cause result refused ending old new is whole cause =
+whole_cause : {Alone : Type 0} (result : Result Bool Stop) (refused : Bool) (ending : KeptEnding) (old new : Faults) → ending ≡ Plain (Ran result) → ending ≡ Plain (Ran (Ok refused)) → StopCause Alone old new result → new.trace ≡ old.trace
+whole_cause {Alone = Alone} result refused ending old new is whole cause =
     let same : result ≡ Ok refused = cc (is, whole) in
-    (subst (λ (r : Result Bool Stop). StopCause old new r) same cause).trace
+    (subst (λ (r : Result Bool Stop). StopCause Alone old new r) same cause).trace
 
 module _ (config : Config) (tracing : Bool) (ended : KeptEnded) (old mid : Outside) (k0 k1 : KeeperState) where
   saved_quiet : (SinksRose old.faults mid.faults → Rises old.faults.trace mid.faults.trace) → RanSaved config tracing ended old mid k0 k1 → IsHushed ended.quiet old.faults.trace mid.faults.trace

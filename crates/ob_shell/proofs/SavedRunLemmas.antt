@@ -42,7 +42,7 @@ module _ {R : Type 0} (state : R → RevState) (base : Base) (config : Config) (
     (ended : KeptEnded) (most : ended.high ≤ rows_of last) (is_high : ended.high ≡ high_of last) (tracing : Bool) (t0 t1 : Option (List ℕ)) (f0 f1 : Fetch) (l0 l1 : Option (List ℕ)) (gave : ℕ) (w0 w1 : Option (List ℕ)) where
   unfoldable pub serves_saved : (result : Result Tally Stop) (old new : Faults)
       → SessionRan state tracing f0 f1 l0 l1 gave w0 w1 t0 t1 (machine_of first s0 k0) (machine_of last s1 k1) (OutFailed ended.quiet old.out new.out) result
-      → Traced tracing s0.asked s1.asked t0 t1 (ended.quiet ≡ true) → StopCause old new result → Silenced ended.quiet old new → ended.ending ≡ Plain (Ran (flagged result)) → IfOk result (λ (t : Tally). ended.tally ≡ t)
+      → Traced tracing s0.asked s1.asked t0 t1 (ended.quiet ≡ true) → StopCause (ServesAlone base.public) old new result → Silenced ended.quiet old new → ended.ending ≡ Plain (Ran (flagged result)) → IfOk result (λ (t : Tally). ended.tally ≡ t)
       → ServesSaved state base keys secret salt tracing ended f0 f1 l0 l1 gave w0 w1 t0 t1 s0 s1 old new k0 k1 (BeginsToSave state secret salt base keys (machine_of first s0 k0))
   unfolding ran_after
   serves_saved result old new ran traced cause silent ending counted = record {
@@ -59,7 +59,7 @@ module _ {R : Type 0} (state : R → RevState) (base : Base) (config : Config) (
         (ap (λ (p : Public). p.save) (sym begins.public) ∙ begins.saves) begins.of begins.salted begins.rests;
   }
 
-flagged_cause : (result : Result Tally Stop) (old new : Faults) → StopCause old new result → StopCause old new (flagged result)
+flagged_cause : {Alone : Type 0} (result : Result Tally Stop) (old new : Faults) → StopCause Alone old new result → StopCause Alone old new (flagged result)
 flagged_cause (Ok tally) old new cause = cause
 flagged_cause (Err stop) old new cause = same_cause Tally Bool stop old new cause
 
@@ -116,7 +116,7 @@ module _ {R : Type 0} (state : R → RevState) (config : Config) (key : List ℕ
         (subst (λ (x : Option (List ℕ)). Carried (sink_of tracing t1 t2) starts.base starts.keys x s1 s2 ended.high serves.ran.story (Ran (flagged serves.result))) (sym keyed) serves.ran.carried) serves.counted;
     keyed = keyed;
     traced_all = serves.traced_all;
-    cause = subst (λ (f : Faults). StopCause f new (flagged serves.result)) same_faults (flagged_cause serves.result begun_faults new serves.cause);
+    cause = subst (λ (f : Faults). StopCause (ServesAlone starts.base.public) f new (flagged serves.result)) same_faults (flagged_cause serves.result begun_faults new serves.cause);
     silent = subst (λ (f : Faults). Silenced ended.quiet f new) same_faults serves.silent;
     ending = serves.ending;
     keeper = serves.keeper;

@@ -11,6 +11,7 @@ use Rattle.ob_base.specs.declared.skeleton.Skeleton.{Skeleton}
 use Rattle.ob_gen.specs.declared.tally.Tally.{Tally}
 use Rattle.ob_headline.specs.Closing.{closing_line}
 use Rattle.ob_headline.specs.Statements.{Spells}
+use Rattle.ob_headline.specs.Texts.{texts_at}
 use Rattle.ob_headline.specs.Words.{Faults, NoneRose, Took, printed}
 use Rattle.ob_mean.specs.Batches.{Gathering, batch_most, goes_into, inserts_into}
 use Rattle.ob_print.proofs.CutLemmas.{Outputs-whole}
@@ -23,7 +24,7 @@ use Rattle.ob_shell.proofs.TraceLemmas.{traced_cut, traced_none, traced_then, tr
 use Rattle.ob_shell.proofs.WaitLemmas.{break_then, follow_more, none_held, so_idle, so_then, steps_most}
 use Rattle.ob_shell.specs.Lines.{line_answer}
 use Rattle.ob_shell.specs.Running.{IsQuiet, OutFailed, Silenced, StopCause, halted_of, is_quiet, stop_of}
-use Rattle.ob_shell.specs.Serving.{ServesTexts, TakesMore, TakesTexts}
+use Rattle.ob_shell.specs.Serving.{IsNotTaken, ServesTexts, TakesMore, TakesTexts, WantsRoom}
 use Rattle.ob_shell.specs.Steps.{AnswersAll, Follow, IsReady, Machine, Steps, StopsIn, asked_of, standing}
 use Rattle.ob_shell.specs.Tallies.{tally_with}
 use Rattle.ob_shell.specs.Traces.{Traced, TracedAll}
@@ -98,7 +99,7 @@ takes_idle on {Then = Then} batch tally w t old m x ready waits then = record {
 
 -- a stop came before the texts that come behind
 pub takes_broken : {R T U : Type 0} {state : R → RevState} {Saves Saves' : Type 0} {on : Bool} {May May' : Option Gathering → Type 0} {Then Then' : (old new : Option Gathering) → Type 0} {b0 b1 c1 : List Stmt} {t0 t1 u1 : Tally} {w0 w1 s0 s1 : Option (List ℕ)} {old new : Faults} {m0 m1 : Machine R} (halted : TextHalted) (ys : List (List ℕ))
-    → ((g : Option Gathering) → May' g → May g) → StopCause {T = U} old new (stop_of (halted_of (Err halted))) → TakesTexts {T = T} state Saves on May Then b0 b1 [] t0 t1 w0 w1 s0 s1 old new m0 m1 (Err halted)
+    → ((g : Option Gathering) → May' g → May g) → StopCause {T = U} (Unit {0}) old new (stop_of (halted_of (Err halted))) → TakesTexts {T = T} state Saves on May Then b0 b1 [] t0 t1 w0 w1 s0 s1 old new m0 m1 (Err halted)
     → TakesTexts {T = U} state Saves' on May' Then' b0 c1 ys t0 u1 w0 w1 s0 s1 old new m0 m1 (Err halted)
 takes_broken {state = state} {on = on} {w0 = w0} {w1 = w1} {s0 = s0} {s1 = s1} {old = old} {new = new} {m0 = m0} {m1 = m1} halted ys may cause takes = record {
   ready = tt;
@@ -125,6 +126,29 @@ takes_broken {state = state} {on = on} {w0 = w0} {w1 = w1} {s0 = s0} {s1 = s1} {
   cause = cause;
   quiet = takes.quiet;
 }
+
+-- ---- the same part, of which more or less is said
+module _ {R T : Type 0} {state : R → RevState} {Saves : Type 0} {on : Bool} {May May' : Option Gathering → Type 0} {Then : (old new : Option Gathering) → Type 0} {b0 b1 : List Stmt} {t0 t1 : Tally} {w0 w1 s0 s1 : Option (List ℕ)} {old new : Faults} {m0 m1 : Machine R} where
+  comes_by : {U : Type 0} {Later : (old new : Option Gathering) → Type 0} {xs : List (List ℕ)} (result : Result U TextHalted) → ((g : Option Gathering) → May' g → May g) → TakesTexts state Saves on May Later b0 b1 xs t0 t1 w0 w1 s0 s1 old new m0 m1 result
+      → TakesTexts state Saves on May' Later b0 b1 xs t0 t1 w0 w1 s0 s1 old new m0 m1 result
+  comes_by (Ok x) may takes = record { ready = takes.ready; waits = takes.waits; done = λ g held comes spelt. takes.done g held (may g comes) spelt; stopped = tt; traced = takes.traced; traced_stop = tt; cause = takes.cause; quiet = takes.quiet }
+  comes_by (Err halted) may takes = record { ready = tt; waits = tt; done = tt; stopped = λ g held comes spelt. takes.stopped g held (may g comes) spelt; traced = tt; traced_stop = takes.traced_stop; cause = takes.cause; quiet = takes.quiet }
+
+  -- it comes behind what else may be gathered
+  pub takes_more_by : {xs : List (List ℕ)} {Why : Stop → Type 0} (result : Result T Break) → ((g : Option Gathering) → May' g → May g) → TakesMore state Saves on May Then b0 b1 xs Why t0 t1 w0 w1 s0 s1 old new m0 m1 result → TakesMore state Saves on May' Then b0 b1 xs Why t0 t1 w0 w1 s0 s1 old new m0 m1 result
+  takes_more_by (Ok x) may takes = comes_by (Ok x) may takes
+  takes_more_by (Err (Served halted)) may takes = comes_by (Err halted) may takes
+  takes_more_by (Err (Unread stop)) may takes = (comes_by (Ok tt) may takes.0, takes.1)
+
+  -- the text that a byte ended
+  pub turns_by : (p : List ℕ) (b : ℕ) (text : List ℕ) → texts_at p b ≡ text ∷ [] → (result : Result T Break) → TakesMore state Saves on May Then b0 b1 (text ∷ []) WantsRoom t0 t1 w0 w1 s0 s1 old new m0 m1 result
+      → TakesMore state Saves on May Then b0 b1 (texts_at p b) (IsNotTaken p b) t0 t1 w0 w1 s0 s1 old new m0 m1 result
+  turns_by p b text is (Ok x) takes = subst (λ (l : List (List ℕ)). TakesTexts state Saves on May Then b0 b1 l t0 t1 w0 w1 s0 s1 old new m0 m1 (Ok x)) (sym is) takes
+  turns_by p b text is (Err (Served halted)) takes = subst (λ (l : List (List ℕ)). TakesTexts {T = T} state Saves on May Then b0 b1 l t0 t1 w0 w1 s0 s1 old new m0 m1 (Err halted)) (sym is) takes
+  turns_by p b text is (Err (Unread stop)) takes = (takes.0, subst (IsNotTaken p b) (sym takes.1) tt)
+
+  pub takes_of_text : (xs : List (List ℕ)) (text : List ℕ) → xs ≡ text ∷ [] → (result : Result T Break) → TakesMore state Saves on May Then b0 b1 (text ∷ []) WantsRoom t0 t1 w0 w1 s0 s1 old new m0 m1 result → TakesMore state Saves on May Then b0 b1 xs WantsRoom t0 t1 w0 w1 s0 s1 old new m0 m1 result
+  takes_of_text xs text is result takes = subst (λ (l : List (List ℕ)). TakesMore state Saves on May Then b0 b1 l WantsRoom t0 t1 w0 w1 s0 s1 old new m0 m1 result) (sym is) takes
 
 -- ---- a text behind which none waits
 module _ {R : Type 0} {state : R → RevState} {Saves : Type 0} {on : Bool} {May : Option Gathering → Type 0} {w0 w1 s0 s1 : Option (List ℕ)} {old new : Faults} {m0 m1 : Machine R} (text : List ℕ) (tally : Tally) where
@@ -180,7 +204,7 @@ module _ {R : Type 0} {state : R → RevState} {Saves : Type 0} {on : Bool} {May
   }
 
   -- or stopped
-  pub takes_halted : {T U : Type 0} {Done : T → (m0 m1 : Machine R) → Type 0} {Then : (old new : Option Gathering) → Type 0} {c1 : List Stmt} {u1 : Tally} (halted : TextHalted) → (owed : m1 ≡ standing m1 [] None) → StopCause {T = U} old new (stop_of (halted_of (Err halted)))
+  pub takes_halted : {T U : Type 0} {Done : T → (m0 m1 : Machine R) → Type 0} {Then : (old new : Option Gathering) → Type 0} {c1 : List Stmt} {u1 : Tally} (halted : TextHalted) → (owed : m1 ≡ standing m1 [] None) → StopCause {T = U} (Unit {0}) old new (stop_of (halted_of (Err halted)))
       → ServesTexts {T = T} state Saves May (text ∷ []) Done w0 w1 old new m0 m1 (Err halted) → Traced on m0.store.asked m1.store.asked s0 s1 (IsQuiet (halted_of (Err halted)))
       → TakesTexts {T = U} state Saves on May Then [] c1 (text ∷ []) tally u1 w0 w1 s0 s1 old new m0 m1 (Err halted)
   takes_halted halted owed cause serves traced = record {
@@ -213,7 +237,7 @@ module _ {R : Type 0} {state : R → RevState} {Saves : Type 0} (on : Bool) {May
   }
 
   -- a sink failed in it
-  pub loses_misspelt : {T : Type 0} {Then : (old new : Option Gathering) → Type 0} {c1 : List Stmt} {u1 : Tally} (halted : TextHalted) → halted.stop ≡ SinkFault → StopCause {T = T} old new (stop_of (halted_of (Err halted))) → Outputs w0 w1 (OutFailed halted.quiet old.out new.out) (closing_line (Refused (Syntax at)))
+  pub loses_misspelt : {T : Type 0} {Then : (old new : Option Gathering) → Type 0} {c1 : List Stmt} {u1 : Tally} (halted : TextHalted) → halted.stop ≡ SinkFault → StopCause {T = T} (Unit {0}) old new (stop_of (halted_of (Err halted))) → Outputs w0 w1 (OutFailed halted.quiet old.out new.out) (closing_line (Refused (Syntax at)))
       → Silenced halted.quiet old new → TakesTexts {T = T} state Saves on May Then [] c1 (text ∷ []) tally u1 w0 w1 t t old new m m (Err halted)
   loses_misspelt {T = T} halted fault cause cut quiet = record {
     ready = tt;

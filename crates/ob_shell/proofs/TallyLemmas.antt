@@ -74,7 +74,7 @@ tally_by (Ok t) answers tally is same = same ∙ is
 tally_by (Err stop) answers tally is same = tt
 
 -- the stop has the same cause
-pub cause_flagged : (old new : Faults) (result : Result Tally Stop) → StopCause old new result → StopCause old new (flagged result)
+pub cause_flagged : {Alone : Type 0} (old new : Faults) (result : Result Tally Stop) → StopCause Alone old new result → StopCause Alone old new (flagged result)
 cause_flagged old new (Ok tally) cause = cause
 cause_flagged old new (Err (Tampered region place)) cause = cause
 cause_flagged old new (Err SourceFault) cause = cause

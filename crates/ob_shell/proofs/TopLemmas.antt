@@ -431,7 +431,7 @@ rose_with old mid new r later same =
     elim r [ inl a ↦ inl (rises_later _ _ _ a later) | inr b ↦ inr (subst (λ (n : ℕ). Rises old.trace n) (sym same) b) ]
 
 -- the last line was cut by a fault
-pub line_rose : (ending : Ending) (old mid new : Faults) → EndingCause ending old mid → Rises mid.out new.out → mid.out ≤ new.out → new.trace ≡ mid.trace → SinksRose old new
+pub line_rose : {Alone : Type 0} (ending : Ending) (old mid new : Faults) → EndingCause Alone ending old mid → Rises mid.out new.out → mid.out ≤ new.out → new.trace ≡ mid.trace → SinksRose old new
 line_rose Usage old mid new cause rose later trace = inl (subst (λ (n : ℕ). Rises n new.out) cause.out rose)
 line_rose BadKey old mid new cause rose later trace = inl (subst (λ (n : ℕ). Rises n new.out) cause.out rose)
 line_rose (RanEnding (Ok refused)) old mid new cause rose later trace = inl (subst (λ (n : ℕ). Rises n new.out) cause.out rose)
@@ -445,8 +445,8 @@ line_rose (RanEnding (Err KeeperFault)) old mid new cause rose later trace = inl
 line_rose (RanEnding (Err InputLimit)) old mid new cause rose later trace = inl (subst (λ (n : ℕ). Rises n new.out) cause.out rose)
 
 -- the counts after the last line
-pub status_cause : (ending : Ending) (old mid new : Faults) → EndingCause ending old mid → mid.out ≤ new.out → new.trace ≡ mid.trace → new.source ≡ mid.source
-    → (last_line ending ≡ [] → new.out ≡ mid.out) → StatusCause ending old new
+pub status_cause : {Alone : Type 0} (ending : Ending) (old mid new : Faults) → EndingCause Alone ending old mid → mid.out ≤ new.out → new.trace ≡ mid.trace → new.source ≡ mid.source
+    → (last_line ending ≡ [] → new.out ≡ mid.out) → StatusCause Alone ending old new
 status_cause Usage old mid new cause later trace source none = source ∙ cause.source
 status_cause BadKey old mid new cause later trace source none = source ∙ cause.source
 status_cause (RanEnding (Ok refused)) old mid new cause later trace source none = record {
@@ -454,13 +454,13 @@ status_cause (RanEnding (Ok refused)) old mid new cause later trace source none 
   out = none refl ∙ cause.out;
   trace = trace ∙ cause.trace;
 }
-status_cause (RanEnding (Err (Tampered region place))) old mid new cause later trace source none = source ∙ cause.0
+status_cause (RanEnding (Err (Tampered region place))) old mid new cause later trace source none = λ alone. source ∙ cause.0 alone
 status_cause (RanEnding (Err SourceFault)) old mid new cause later trace source none = subst (λ (n : ℕ). Rises old.source n) (sym source) cause.0
-status_cause (RanEnding (Err SinkFault)) old mid new cause later trace source none = (source ∙ cause.0, rose_with old mid new cause.1 later trace)
-status_cause (RanEnding (Err NoMemory)) old mid new cause later trace source none = source ∙ cause.0
-status_cause (RanEnding (Err StoreFault)) old mid new cause later trace source none = source ∙ cause.0
-status_cause (RanEnding (Err StashFull)) old mid new cause later trace source none = source ∙ cause.0
-status_cause (RanEnding (Err KeeperFault)) old mid new cause later trace source none = source ∙ cause.0
+status_cause (RanEnding (Err SinkFault)) old mid new cause later trace source none = (λ alone. source ∙ cause.0 alone, rose_with old mid new cause.1 later trace)
+status_cause (RanEnding (Err NoMemory)) old mid new cause later trace source none = λ alone. source ∙ cause.0 alone
+status_cause (RanEnding (Err StoreFault)) old mid new cause later trace source none = λ alone. source ∙ cause.0 alone
+status_cause (RanEnding (Err StashFull)) old mid new cause later trace source none = λ alone. source ∙ cause.0 alone
+status_cause (RanEnding (Err KeeperFault)) old mid new cause later trace source none = λ alone. source ∙ cause.0 alone
 status_cause (RanEnding (Err InputLimit)) old mid new cause later trace source none = source ∙ cause.source
 
 -- nothing more may be written

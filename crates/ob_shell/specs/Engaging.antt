@@ -134,7 +134,7 @@ pub record StopsRun {R : Type 0} (state : R → RevState) (base : Base) (key : L
       feed0 feed1 left0 left1 gave written0 written1 begun new ended.high
       (OutFailed ended.quiet old_faults.out new_faults.out) (Err stop)
   pub traced_all : Traced tracing begun.asked new.asked traced0 traced1 (ended.quiet ≡ true)
-  pub cause : StopCause {T = Bool} old_faults new_faults (Err stop)
+  pub cause : StopCause {T = Bool} (ServesAlone base.public) old_faults new_faults (Err stop)
   pub silent : Silenced ended.quiet old_faults new_faults
   pub ending : ended.ending ≡ Plain (Ran (Err stop))
   pub kept : keeper1 ≡ keeper0
@@ -212,7 +212,7 @@ pub record RanUnkeyed (config : Config) (tracing : Bool) (ended : KeptEnded) (ol
       ending [] ⊥
   pub ends : EndsUnkeyed ending shown.taken
   pub unanswered : shown.story.answers ≡ []
-  pub cause : EndingCause ending old.faults new.faults
+  pub cause : EndingCause (Unit {0}) ending old.faults new.faults
   pub loud : ended.quiet ≡ false
   pub silent : Silenced false old.faults new.faults
   pub traced : new.traced ≡ old.traced
@@ -258,7 +258,8 @@ pub record RanStopped (config : Config) (tracing : Bool) (ended : KeptEnded) (ol
   pub keyed : secret_of (first_line shown.taken) ≡ Some begun.secret
   pub traced_all : Traced tracing begun.opened.asked new.store.asked begun.traced new.traced
       (ended.quiet ≡ true)
-  pub cause : EndingCause (Ran (Err stop)) old.faults new.faults
+  pub cause : EndingCause (ServesAlone begun.base.public) (Ran (Err stop))
+      old.faults new.faults
   pub silent : Silenced ended.quiet old.faults new.faults
   pub ending : ended.ending ≡ Plain (Ran (Err stop))
   pub kept : keeper1 ≡ begun.in_use

@@ -152,7 +152,7 @@ pub record ServesSaved {R : Type 0} (state : R → RevState) (base : Base) (keys
       feed0 feed1 left0 left1 gave written0 written1 begun new ended.high
       (OutFailed ended.quiet old_faults.out new_faults.out) result
   pub traced_all : Traced tracing begun.asked new.asked traced0 traced1 (ended.quiet ≡ true)
-  pub cause : StopCause old_faults new_faults result
+  pub cause : StopCause (ServesAlone base.public) old_faults new_faults result
   pub silent : Silenced ended.quiet old_faults new_faults
   pub ending : ended.ending ≡ Plain (Ran (flagged result))
   pub counted : IfOk result (λ tally. ended.tally ≡ tally)
@@ -197,7 +197,7 @@ pub record RanSession (config : Config) (tracing : Bool) (ended : KeptEnded) (ol
   pub keyed : secret_of (first_line shown.taken) ≡ Some secret
   pub traced_all : Traced tracing opened.asked new.store.asked traced new.traced
       (ended.quiet ≡ true)
-  pub cause : EndingCause (Ran result) old.faults new.faults
+  pub cause : EndingCause (ServesAlone base.public) (Ran result) old.faults new.faults
   pub silent : Silenced ended.quiet old.faults new.faults
   pub ending : ended.ending ≡ Plain (Ran result)
   pub keeper : CountsKeeper (Ran result) begun keeper1

@@ -1,7 +1,8 @@
 -- What a session did until its input ended or it stopped, by the bytes that its source gave.
-use Rattle.std.specs.Prelude.{ℕ, ◌≡◌, ◌+◌, ◌≤◌, ◌<◌, ◌⊎◌, Bool, true, false, List, [], ◌++◌, length, Option, Result, Ok, Err}
+use Rattle.std.specs.Prelude.{ℕ, ◌≡◌, ◌+◌, ◌≤◌, ◌<◌, ◌⊎◌, Bool, true, false, List, [], ◌++◌, length, Option, None, Result, Ok, Err}
 use Rattle.std.specs.Io.KnownBytes.{Appends, Consumes, IsAtEnd}
 use Rattle.ob_base.specs.Counts.{Rises}
+use Rattle.ob_base.specs.declared.config.Public.{Public}
 use Rattle.ob_base.specs.declared.refusal.Stop.{Stop}
 use Rattle.ob_base.specs.declared.refusal.Stop.TheVariants.{Tampered, SourceFault, SinkFault, NoMemory, InputLimit, StoreFault, StashFull, KeeperFault}
 use Rattle.ob_mean.specs.Batches.{Gathering, batch_most}
@@ -70,23 +71,28 @@ abbrev pub OutFailed : (quiet : Bool) → (old new : ℕ) → Type 0
 OutFailed quiet old new = (quiet ≡ true) × Rises old new
 
 -- when each stop comes: only where that count rose; those of the sinks may have risen behind a stop by a block, for want of
--- memory, by the store, for a full stash or by the keeper
-abbrev pub StopCause : {T : Type 0} (old new : Faults) → Result T Stop → Type 0
-StopCause old new (Ok x) = NoneRose old new
-StopCause old new (Err (Tampered region place)) = (new.source ≡ old.source)
+-- memory, by the store, for a full stash or by the keeper; where INSERTs may wait to be served together while more is read,
+-- the source may have failed before one of them was stopped
+abbrev pub StopCause : {T : Type 0} (Alone : Type 0) (old new : Faults) → Result T Stop → Type 0
+StopCause Alone old new (Ok x) = NoneRose old new
+StopCause Alone old new (Err (Tampered region place)) = (Alone → new.source ≡ old.source)
     × (old.out ≤ new.out) × (old.trace ≤ new.trace)
-StopCause old new (Err SinkFault) = (new.source ≡ old.source) × SinksRose old new
-StopCause old new (Err NoMemory) = (new.source ≡ old.source) × (old.out ≤ new.out)
-    × (old.trace ≤ new.trace)
-StopCause old new (Err SourceFault) = Rises old.source new.source × (new.out ≡ old.out)
+StopCause Alone old new (Err SinkFault) = (Alone → new.source ≡ old.source) × SinksRose old new
+StopCause Alone old new (Err NoMemory) = (Alone → new.source ≡ old.source)
+    × (old.out ≤ new.out) × (old.trace ≤ new.trace)
+StopCause Alone old new (Err SourceFault) = Rises old.source new.source × (new.out ≡ old.out)
     × (new.trace ≡ old.trace)
-StopCause old new (Err InputLimit) = NoneRose old new
-StopCause old new (Err StoreFault) = (new.source ≡ old.source) × (old.out ≤ new.out)
-    × (old.trace ≤ new.trace)
-StopCause old new (Err StashFull) = (new.source ≡ old.source) × (old.out ≤ new.out)
-    × (old.trace ≤ new.trace)
-StopCause old new (Err KeeperFault) = (new.source ≡ old.source) × (old.out ≤ new.out)
-    × (old.trace ≤ new.trace)
+StopCause Alone old new (Err InputLimit) = NoneRose old new
+StopCause Alone old new (Err StoreFault) = (Alone → new.source ≡ old.source)
+    × (old.out ≤ new.out) × (old.trace ≤ new.trace)
+StopCause Alone old new (Err StashFull) = (Alone → new.source ≡ old.source)
+    × (old.out ≤ new.out) × (old.trace ≤ new.trace)
+StopCause Alone old new (Err KeeperFault) = (Alone → new.source ≡ old.source)
+    × (old.out ≤ new.out) × (old.trace ≤ new.trace)
+
+-- INSERTs aren't served together
+abbrev pub ServesAlone : Public → Type 0
+ServesAlone p = p.batch ≡ None
 
 -- what was done while no stop came: these bytes were passed on, and their texts served, but for those that wait
 pub record SoFar {R : Type 0} (state : R → RevState) (feed0 feed1 : Fetch)

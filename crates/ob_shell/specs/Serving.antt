@@ -34,7 +34,7 @@ pub record ServesTexts {R T : Type 0} (state : R → RevState) (Saves : Type 0)
   pub stopped : IfErr result (λ halted. (gathered : Option Gathering) → May gathered
       → StopsIn state written0 written1 (OutFailed halted.quiet old.out new.out) texts
       halted.stop (standing m0 [] gathered) m1)
-  pub cause : StopCause old new (stop_of (halted_of result))
+  pub cause : StopCause (Unit {0}) old new (stop_of (halted_of result))
   pub quiet : Silenced (is_quiet (halted_of result)) old new
 
 -- what was counted, until a stop nothing more
@@ -62,7 +62,7 @@ pub record TakesTexts {R T : Type 0} (state : R → RevState) (Saves : Type 0) (
   pub traced : OnOk result (TracedAll tracing m0.store.asked m1.store.asked traced0 traced1)
   pub traced_stop : OnErr result (Traced tracing m0.store.asked m1.store.asked traced0 traced1
       (IsQuiet (halted_of result)))
-  pub cause : StopCause old new (stop_of (halted_of result))
+  pub cause : StopCause (Unit {0}) old new (stop_of (halted_of result))
   pub quiet : Silenced (is_quiet (halted_of result)) old new
 
 -- a batch was served: each of its texts was answered, and nothing else goes into it; or a stop came

@@ -22,7 +22,7 @@ use Rattle.ob_print.specs.Cuts.{Outputs}
 use Rattle.ob_script.specs.Trace.{trace}
 use Rattle.ob_seal.specs.KeySet.{KeySet}
 use Rattle.ob_shell.specs.Feeding.{Fetch}
-use Rattle.ob_shell.specs.Running.{CountsRows, EndsBy, FlagIs, StopCause}
+use Rattle.ob_shell.specs.Running.{CountsRows, EndsBy, FlagIs, ServesAlone, StopCause}
 use Rattle.ob_shell.specs.Tallies.{TallyIs, flagged, tally_of}
 use Rattle.ob_store.specs.State.{StoreState}
 use Rattle.ob_vault.specs.State.{RevState}
@@ -158,24 +158,25 @@ EndingTally (Ran (Ok refused)) answers tally = tally ≡ tally_of answers
 EndingTally (Ran (Err stop)) answers tally = Unit {0}
 
 -- which counts rose, before the last line
-abbrev pub EndingCause : Ending → (old new : Faults) → Type 0
-EndingCause Usage old new = NoneRose old new
-EndingCause BadKey old new = NoneRose old new
-EndingCause (Ran ran) old new = StopCause old new ran
+abbrev pub EndingCause : (Alone : Type 0) → Ending → (old new : Faults) → Type 0
+EndingCause Alone Usage old new = NoneRose old new
+EndingCause Alone BadKey old new = NoneRose old new
+EndingCause Alone (Ran ran) old new = StopCause Alone old new ran
 
 -- which counts rose in the whole run: with a stop before, those of the sinks may have risen at the last lines, too
-abbrev pub StatusCause : Ending → (old new : Faults) → Type 0
-StatusCause Usage old new = new.source ≡ old.source
-StatusCause BadKey old new = new.source ≡ old.source
-StatusCause (Ran (Ok refused)) old new = NoneRose old new
-StatusCause (Ran (Err (Tampered region place))) old new = new.source ≡ old.source
-StatusCause (Ran (Err SourceFault)) old new = Rises old.source new.source
-StatusCause (Ran (Err SinkFault)) old new = (new.source ≡ old.source) × SinksRose old new
-StatusCause (Ran (Err NoMemory)) old new = new.source ≡ old.source
-StatusCause (Ran (Err InputLimit)) old new = new.source ≡ old.source
-StatusCause (Ran (Err StoreFault)) old new = new.source ≡ old.source
-StatusCause (Ran (Err StashFull)) old new = new.source ≡ old.source
-StatusCause (Ran (Err KeeperFault)) old new = new.source ≡ old.source
+abbrev pub StatusCause : (Alone : Type 0) → Ending → (old new : Faults) → Type 0
+StatusCause Alone Usage old new = new.source ≡ old.source
+StatusCause Alone BadKey old new = new.source ≡ old.source
+StatusCause Alone (Ran (Ok refused)) old new = NoneRose old new
+StatusCause Alone (Ran (Err (Tampered region place))) old new = Alone → new.source ≡ old.source
+StatusCause Alone (Ran (Err SourceFault)) old new = Rises old.source new.source
+StatusCause Alone (Ran (Err SinkFault)) old new =
+    (Alone → new.source ≡ old.source) × SinksRose old new
+StatusCause Alone (Ran (Err NoMemory)) old new = Alone → new.source ≡ old.source
+StatusCause Alone (Ran (Err InputLimit)) old new = new.source ≡ old.source
+StatusCause Alone (Ran (Err StoreFault)) old new = Alone → new.source ≡ old.source
+StatusCause Alone (Ran (Err StashFull)) old new = Alone → new.source ≡ old.source
+StatusCause Alone (Ran (Err KeeperFault)) old new = Alone → new.source ≡ old.source
 
 -- what was taken, what of it was served, under the keys that these bytes come to, and what the sink took of the answers and
 -- the last line
@@ -213,7 +214,7 @@ pub record Reported (tally : Tally) (tr : TraceSink) (Takes : Type 0) (base : Ba
       ⊎ Rises old.out new.out
   pub silent : new.trace ≢ old.trace
       → Outputs written0 written1 (Unit {0}) (printed shown.story.answers ++ shown.story.part)
-  pub cause : StatusCause ending old new
+  pub cause : StatusCause (ServesAlone base.public) ending old new
   pub completes : Takes → (input : List ℕ) → left0 ≡ Some input
       → KeepsLimits (limit_of base.settings) input
       → ¬ Rises old.source new.source → ¬ SinksRose old new

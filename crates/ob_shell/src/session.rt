@@ -8,7 +8,7 @@ ghost use Rattle.ob_headline.specs.Words.{faults_of};
 ghost use Rattle.ob_headline.specs.Statements.{Spells};
 ghost use Rattle.ob_mean.specs.Batches.{begins_batch, goes_into};
 ghost use Rattle.ob_shell.specs.Feeding.{IsFedBy};
-ghost use Rattle.ob_shell.specs.Running.{IsQuiet, OutFailed, SessionRan, Silenced, StopCause, halted_of, is_quiet, stop_of};
+ghost use Rattle.ob_shell.specs.Running.{IsQuiet, OutFailed, ServesAlone, SessionRan, Silenced, StopCause, halted_of, is_quiet, stop_of};
 ghost use Rattle.ob_shell.specs.Serving.{IsNotTaken, ReadsTexts, ServesTexts, TakesMore, TakesTexts, UnlessServed, WantsRoom, broken_of};
 ghost use Rattle.ob_shell.specs.Steps.{machine_of, IsReady, HasBody, AnswersAll};
 ghost use Rattle.ob_shell.specs.Tallies;
@@ -56,20 +56,6 @@ impl From<TextHalted> for Halted {
         Halted {
             stop: Stop::from(halted.stop),
             quiet: halted.quiet,
-        }
-    }
-}
-
-impl From<Break> for Halted {
-    ghost use Rattle.std.specs.Prelude.{◌≡◌};
-    ghost use Rattle.ob_shell.specs.Serving.{break_halted};
-
-    ghost from_gives = { λ broken h. h ≡ break_halted broken };
-
-    fn from(broken: Break) -> Halted {
-        match broken {
-            Break::Served(halted) => Halted::from(halted),
-            Break::Unread(stop) => Halted { stop, quiet: false },
         }
     }
 }
@@ -667,7 +653,7 @@ fn read_texts<I: Source, R: Revisions, S: BlockStore, B: Behind<S>, K: Sink, T: 
     ensures fed_by { IsFedBy feed.new (I.gave input.new) }
     ensures traced { Traced tracing (S.state store.old).asked (S.state store.new).asked
         (T.written trace.old) (T.written trace.new) (IsQuiet (broken_of result)) }
-    ensures cause { StopCause
+    ensures cause { StopCause (ServesAlone (public_of engine.old))
         (faults_of (I.faults input.old) (K.faults out.old) (T.faults trace.old))
         (faults_of (I.faults input.new) (K.faults out.new) (T.faults trace.new))
         (stop_of (broken_of result)) }
@@ -723,7 +709,7 @@ pub fn serve<I: Source, R: Revisions, S: BlockStore, B: Behind<S>, K: Sink, T: S
     ensures fed_by { IsFedBy feed.new (I.gave input.new) }
     ensures traced { Traced tracing (S.state store.old).asked (S.state store.new).asked
         (T.written trace.old) (T.written trace.new) (IsQuiet result) }
-    ensures cause { StopCause
+    ensures cause { StopCause (ServesAlone (public_of engine.old))
         (faults_of (I.faults input.old) (K.faults out.old) (T.faults trace.old))
         (faults_of (I.faults input.new) (K.faults out.new) (T.faults trace.new)) (stop_of result) }
     ensures quiet { Silenced (is_quiet result)
@@ -748,23 +734,35 @@ pub fn serve<I: Source, R: Revisions, S: BlockStore, B: Behind<S>, K: Sink, T: S
         out,
         trace,
     );
-    if let Err(Break::Served(halted)) = read {
-        return Err(Halted::from(halted));
-    }
-    match flush(
-        alloc,
-        tracing,
-        &mut session,
-        engine,
-        store,
-        behind,
-        out,
-        trace,
-    ) {
-        Err(halted) => Err(Halted::from(halted)),
-        Ok(()) => match read {
+    match read {
+        Ok(()) => match flush(
+            alloc,
+            tracing,
+            &mut session,
+            engine,
+            store,
+            behind,
+            out,
+            trace,
+        ) {
             Ok(()) => Ok(session.tally),
-            Err(broken) => Err(Halted::from(broken)),
+            Err(halted) => Err(Halted::from(halted)),
         },
+        Err(Break::Unread(stop)) => {
+            match flush(
+                alloc,
+                tracing,
+                &mut session,
+                engine,
+                store,
+                behind,
+                out,
+                trace,
+            ) {
+                Ok(()) => Err(Halted { stop, quiet: false }),
+                Err(halted) => Err(Halted::from(halted)),
+            }
+        }
+        Err(Break::Served(halted)) => Err(Halted::from(halted)),
     }
 }

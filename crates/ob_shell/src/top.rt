@@ -143,7 +143,7 @@ fn serve_with<I: Source, O: Sink, T: Sink, S: BlockStore>(
     ensures fed_by { IsFedBy feed.new (I.gave input.new) }
     ensures traced { Traced words.trace (S.state store.old).asked (S.state store.new).asked
         (T.written trace.old) (T.written trace.new) (IsQuiet result.0) }
-    ensures cause { StopCause
+    ensures cause { StopCause (ServesAlone (fresh (Some words.config)).public)
         (faults_of (I.faults input.old) (O.faults out.old) (T.faults trace.old))
         (faults_of (I.faults input.new) (O.faults out.new) (T.faults trace.new))
         (stop_of result.0) }
@@ -195,7 +195,7 @@ pub(crate) fn run<I: Source, O: Sink, T: Sink, S: BlockStore>(
     ensures words { result.ending ≢ Ending.Usage }
     ensures traced { Traced words.trace (S.state store.old).asked (S.state store.new).asked
         (T.written trace.old) (T.written trace.new) (result.quiet ≡ true) }
-    ensures cause { EndingCause result.ending
+    ensures cause { EndingCause (ServesAlone (fresh (Some words.config)).public) result.ending
         (faults_of (I.faults input.old) (O.faults out.old) (T.faults trace.old))
         (faults_of (I.faults input.new) (O.faults out.new) (T.faults trace.new)) }
     ensures quiet { Silenced result.quiet

@@ -9,7 +9,7 @@ returns-in-Err-clause-serves g c =
     record {
       ready = tt;
       done = tt;
-      stopped = stops_after SinkFault refl c.in-Ok.ensures.serves.done;
+      stopped = λ h may. stops_after SinkFault refl (c.in-Ok.ensures.serves.done h may);
       cause = search rules;
       quiet = search rules;
     }
@@ -20,7 +20,7 @@ returns-in-Err-false-clause-serves g c =
     record {
       ready = tt;
       done = tt;
-      stopped = search rules;
+      stopped = told.stopped;
       cause = traced_cause c.in-Err-false.field-0.stop c.in-Err-false.field-0.stop _ _ _ _ refl told.cause c.trace_from-in-Err-false.ensures.cause.later;
       quiet = search rules;
     }

@@ -1,0 +1,44 @@
+use Rattle.std.proofs.Common.{List, refl, subst, sym, rules}
+use Rattle.ob_shell.proofs.CountLemmas.{same_cause}
+use Rattle.ob_shell.proofs.GatherLemmas.{are_batched, comes_free, free_behind, free_more, goes_more, idle_public}
+use Rattle.ob_shell.proofs.TakesLemmas.{takes_broken, takes_more_then, takes_more_by}
+use Rattle.ob_tables.specs.Agreeing.{count_of, public_of}
+use Rattle.ob_tables.specs.Stops.{session_stop}
+use Rattle.ob_shell.proofs.session.take_stmt.Goals as goal
+
+pub gather-requires : goal.gather-requires
+gather-requires g c =
+    let e = c.args.engine.now in
+    record {
+      spells = c.requires.spells;
+      goes = goes_more (public_of e) (count_of e (g.S.BlockStore.state c.args.store.now)) c.args.session.now.batch.items c.args.stmt c.requires.waits (rw (← c.goes_along.ensures) c.if-goes_along.true);
+      ready = c.requires.ready;
+    }
+
+pub returns-then-goes_along-clause-takes : goal.returns-then-goes_along-clause-takes
+returns-then-goes_along-clause-takes g c =
+    let e = c.args.engine.now in
+    takes_more_by c.gather.result (λ h free. free_more (public_of e) c.args.session.now.batch.items c.args.stmt h (rw (← c.goes_along.ensures) c.if-goes_along.true) free) c.gather.ensures.takes
+
+pub flush-requires : goal.flush-requires
+flush-requires g c =
+    let e = c.args.engine.now in
+    record {
+      waits = are_batched (public_of e) (count_of e (g.S.BlockStore.state c.args.store.now)) c.args.session.now.batch.items c.requires.waits;
+      ready = c.requires.ready;
+    }
+
+pub returns-in-Ok-clause-takes : goal.returns-in-Ok-clause-takes
+returns-in-Ok-clause-takes g c =
+    let e = c.args.engine.now in
+    let batch = c.args.session.now.batch.items in
+    let apart = rw (← c.goes_along.ensures) c.if-goes_along.false in
+    let flushed = rw c.in-Ok.ensures.none at c.in-Ok.ensures.takes in
+    takes_more_then flushed
+    (λ h k free closed. free_behind (public_of e) (public_of c.flush.new.engine) (count_of e (g.S.BlockStore.state c.args.store.now)) batch c.args.stmt h k c.requires.waits apart (λ none. idle_public flushed h (comes_free (public_of e) batch h free) none) free closed)
+    (λ h k l free closed then. then) (c.args.session.now.pending ∷ []) _ c.begin.result c.begin.ensures.takes
+
+pub returns-in-Err-clause-takes : goal.returns-in-Err-clause-takes
+returns-in-Err-clause-takes g c =
+    takes_broken c.in-Err.halted (c.args.session.now.pending ∷ []) (λ h free. comes_free (public_of c.args.engine.now) c.args.session.now.batch.items h free)
+    (same_cause _ _ (session_stop c.in-Err.halted.stop) _ _ c.in-Err.ensures.takes.cause) c.in-Err.ensures.takes
