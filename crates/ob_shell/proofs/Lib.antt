@@ -13,6 +13,7 @@ pub mod TookLemmas
 pub mod WaitLemmas
 pub mod RunLemmas
 pub mod ReadLemmas
+pub mod ServedLemmas
 pub mod ServeLemmas
 pub mod StandLemmas
 pub mod SessionLemmas

@@ -1,5 +1,5 @@
 //! INSERTs that wait to be served together.
-ghost use Rattle.std.specs.Prelude.{◌≡◌, ◌≤◌, ◌∷◌, [], drop, length, IsErr, OnErr, OnOk};
+ghost use Rattle.std.specs.Prelude.{◌≡◌, ◌≢◌, ◌≤◌, ◌∷◌, [], drop, length, IsErr, OnErr, OnOk};
 ghost use Rattle.std.specs.Io.KnownBytes.{Appends};
 ghost use Rattle.ob_headline.specs.Tracing.{traced};
 ghost use Rattle.ob_headline.specs.Words.{faults_of, printed};
@@ -204,6 +204,7 @@ pub(crate) fn flush<R: Revisions, S: BlockStore, B: Behind<S>, K: Sink, T: Sink>
         (machine_of engine.old (S.state store.old) (B.state behind.old)) }
     ensures pending { session.new.pending ≡ session.old.pending }
     ensures none { OnOk result (session.new.batch.items ≡ []) }
+    ensures idle { OnErr result (session.old.batch.items ≢ []) }
     ensures takes { TakesTexts R.state (B.Saves behind.new) tracing
         (ComesFree (public_of engine.old) session.old.batch.items)
         (IsClosed (public_of engine.new) session.old.batch.items)
