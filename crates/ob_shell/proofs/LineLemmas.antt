@@ -1,16 +1,19 @@
 -- Lines that are written one after the other, and where a sink lost one of them.
-use Rattle.std.specs.Prelude.{slice_get}
-use Rattle.std.proofs.Common.{◌≡◌, ◌⊎◌, inl, inr, ◌≤◌, ◌+◌, ℕ, suc, List, [], ◌∷◌, ◌++◌, length, drop, Option, None, Some, refl, sym, ap, ◌∙◌, subst, append_assoc, append-nil, drop-cons, add-one}
+use Rattle.std.specs.Prelude.{IsErr, OnErr, OnOk, get_or}
+use Rattle.std.proofs.Common.{◌≡◌, ◌⊎◌, inl, inr, ◌<◌, ◌≤◌, ◌+◌, ℕ, suc, List, [], ◌∷◌, ◌++◌, length, drop, Option, None, Some, Result, Ok, Err, refl, sym, ap, ◌∙◌, subst, append_assoc, append-nil, drop-cons, add-one}
 use Rattle.std.proofs.lemmas.List.{append_cancel_left}
 use Rattle.std.proofs.Math.ListN.{drop_of_length-le}
-use Rattle.std.proofs.lemmas.Option.{get_or_from_slice_get, slice_get_within}
+use Rattle.std.proofs.KnownBytes.{Appends-trans}
 use Rattle.std.specs.Io.KnownBytes.{Appends}
+use Rattle.ob_base.specs.Counts.{Rises}
 use Rattle.ob_gen.specs.declared.tally.Tally.{Tally}
 use Rattle.ob_headline.specs.Closing.{closing_line}
 use Rattle.ob_headline.specs.Words.{printed}
+use Rattle.ob_io.specs.Causes.{HasCause}
+use Rattle.ob_print.proofs.CutLemmas.{Outputs-after, Outputs-whole}
 use Rattle.ob_print.specs.Cuts.{Outputs}
 use Rattle.ob_shell.proofs.WaitLemmas.{cut_twice}
-use Rattle.ob_shell.specs.Lines.{LinesCut, line_answers}
+use Rattle.ob_shell.specs.Lines.{BatchCut, LinesCut, line_answers}
 use Rattle.ob_shell.specs.Tallies.{tally_after, tally_with}
 use Rattle.ob_verdict.specs.declared.outcome.Outcome.{Outcome}
 
@@ -26,26 +29,26 @@ unfolding printed
 lines_cons o outcomes = refl
 
 -- ---- one more
-pub lines_at : (xs : List Outcome) (i : ℕ) (o : Outcome) → slice_get xs i ≡ Some o → lines (drop i xs) ≡ closing_line o ++ lines (drop (i + 1) xs)
-lines_at xs i o h =
+pub lines_at : (xs : List Outcome) (i : ℕ) (o : Outcome) → i < length xs → o ≡ get_or xs i o → lines (drop i xs) ≡ closing_line o ++ lines (drop (i + 1) xs)
+lines_at xs i o within is =
     let d : drop i xs ≡ o ∷ drop (i + 1) xs =
-    rw add-one (subst (λ (x : Outcome). drop i xs ≡ x ∷ drop (suc i) xs) (get_or_from_slice_get xs i o o h) (drop-cons xs i o (slice_get_within xs i o h))) in
+    rw add-one (subst (λ (x : Outcome). drop i xs ≡ x ∷ drop (suc i) xs) (sym is) (drop-cons xs i o within)) in
     ap lines d ∙ lines_cons o (drop (i + 1) xs)
 
-pub lines_more : (xs : List Outcome) (i : ℕ) (o : Outcome) (line text all : List ℕ) → line ≡ closing_line o → slice_get xs i ≡ Some o → all ≡ text ++ lines (drop i xs) → all ≡ (text ++ line) ++ lines (drop (i + 1) xs)
-lines_more xs i o line text all l h e =
-    e ∙ ap (λ (t : List ℕ). text ++ t) (lines_at xs i o h) ∙ sym (append_assoc text (closing_line o) (lines (drop (i + 1) xs)))
+pub lines_more : (xs : List Outcome) (i : ℕ) (o : Outcome) (line text all : List ℕ) → line ≡ closing_line o → i < length xs → o ≡ get_or xs i o → all ≡ text ++ lines (drop i xs) → all ≡ (text ++ line) ++ lines (drop (i + 1) xs)
+lines_more xs i o line text all l within is e =
+    e ∙ ap (λ (t : List ℕ). text ++ t) (lines_at xs i o within is) ∙ sym (append_assoc text (closing_line o) (lines (drop (i + 1) xs)))
     ∙ ap (λ (t : List ℕ). (text ++ t) ++ lines (drop (i + 1) xs)) (sym l)
 
 pub lines_done : (xs : List Outcome) (i : ℕ) (text all : List ℕ) → length xs ≤ i → all ≡ text ++ lines (drop i xs) → text ≡ all
 lines_done xs i text all h e = sym (e ∙ ap (λ (t : List ℕ). text ++ t) (rw (drop_of_length-le xs h) lines_nil) ∙ append-nil text)
 
 -- ---- counted
-pub tally_at : (t : Tally) (xs : List Outcome) (i : ℕ) (o : Outcome) → slice_get xs i ≡ Some o → tally_after t (line_answers (drop i xs)) ≡ tally_after (tally_with t o None) (line_answers (drop (i + 1) xs))
+pub tally_at : (t : Tally) (xs : List Outcome) (i : ℕ) (o : Outcome) → i < length xs → o ≡ get_or xs i o → tally_after t (line_answers (drop i xs)) ≡ tally_after (tally_with t o None) (line_answers (drop (i + 1) xs))
 unfolding tally_after
-tally_at t xs i o h =
+tally_at t xs i o within is =
     let d : drop i xs ≡ o ∷ drop (i + 1) xs =
-    rw add-one (subst (λ (x : Outcome). drop i xs ≡ x ∷ drop (suc i) xs) (get_or_from_slice_get xs i o o h) (drop-cons xs i o (slice_get_within xs i o h))) in
+    rw add-one (subst (λ (x : Outcome). drop i xs ≡ x ∷ drop (suc i) xs) (sym is) (drop-cons xs i o within)) in
     ap (λ (l : List Outcome). tally_after t (line_answers l)) d
 
 pub tally_done : (t : Tally) (xs : List Outcome) (i : ℕ) → length xs ≤ i → tally_after t (line_answers (drop i xs)) ≡ t
@@ -133,3 +136,17 @@ first_cut {w0 = w0} {w1 = w1} {F = F} o outcomes out = record {
   whole = record { after = out.grown; appends = subst (λ (l : List ℕ). Appends w0 w1 (l ++ out.grown)) (sym lines_nil) out.appends };
   cut = subst (λ (l : List ℕ). Outputs w0 w1 F (l ++ closing_line o)) (sym lines_nil) out;
 }
+
+-- ---- the first, and behind it the others
+module _ {A E : Type 0} {w0 w1 w2 : Option (List ℕ)} (o : Outcome) (outcomes : List Outcome) (first : Appends w0 w1 (closing_line o)) where
+  pub all_lines : (result : Result A E) → OnOk result (Appends w1 w2 (lines outcomes)) → OnOk result (Appends w0 w2 (lines (o ∷ outcomes)))
+  all_lines (Ok x) rest = subst (λ (l : List ℕ). Appends w0 w2 l) (sym (lines_cons o outcomes)) (Appends-trans _ _ _ _ _ first rest)
+  all_lines (Err e) rest = tt
+
+  pub batch_cut : {t0 t1 : Option (List ℕ)} {text : List ℕ} {out0 out1 out2 : ℕ} (result : Result A E) → Outputs w1 w2 (IsErr result) (lines outcomes) → Appends t0 t1 text → out1 ≡ out0 → HasCause out1 out2 result → OnErr result (BatchCut (o ∷ outcomes) w0 w2 t0 t1 text out0 out2)
+  batch_cut (Ok x) cut traced same cause = tt
+  batch_cut {out2 = out2} (Err e) cut traced same cause = record {
+    lines = lines_cut o outcomes (subst (λ (l : List ℕ). Outputs w0 w2 _ l) (sym (lines_cons o outcomes)) (Outputs-after (closing_line o) first cut)) (subst (λ (n : ℕ). Rises n out2) same cause.failed);
+    traced = Outputs-whole _ _ (Unit {0}) _ traced;
+    behind = inr traced;
+  }

@@ -1,0 +1,82 @@
+use Rattle.std.proofs.Common.{◌≡◌, ◌∙◌, ◌++◌, refl, sym, subst, ap, inl, inr, arith, List, ℕ, Ok, Err}
+use Rattle.ob_print.specs.Cuts.{Outputs}
+use Rattle.ob_shell.proofs.CountLemmas.{traced_cause}
+use Rattle.ob_shell.proofs.FlushLemmas.{idle_batch, lost_batch, served_batch, stopped_batch}
+use Rattle.ob_shell.proofs.TookLemmas.{traced_to}
+use Rattle.ob_shell.proofs.TraceLemmas.{since, traced_none, traced_whole}
+use Rattle.ob_shell.proofs.batching.serve_batch.Goals as goal
+use Rattle.ob_shell.specs.Steps.{machine_of}
+
+pub returns-in_default-clause-serves : goal.returns-in_default-clause-serves
+returns-in_default-clause-serves g c =
+    let m = machine_of c.args.engine.now (g.S.BlockStore.state c.args.store.now) (g.B.Behind.state c.args.behind.now) in
+    record {
+      ready = tt;
+      waits = tt;
+      done = tt;
+      stopped = λ h held comes spelt. idle_batch c.args.tracing _ _ m h refl;
+      traced = tt;
+      traced_stop = traced_whole _ (traced_none _ _ _);
+      cause = (λ alone. refl, omega arith, omega arith);
+      quiet = (refl, refl);
+    }
+
+pub returns-in-Ok-write_batch-clause-serves : goal.returns-in-Ok-write_batch-clause-serves
+returns-in-Ok-write_batch-clause-serves g c =
+    let ran = c.in-Ok.ensures.ran in
+    let on = ran.carried.ran.goes_on in
+    let s0 = g.S.BlockStore.state c.args.store.now in
+    let s1 = g.S.BlockStore.state c.run_batch.new.store in
+    let now = c.in-Ok-write_batch.ensures in
+    record {
+      ready = record { agrees = on.agrees; lives = on.lives; settled = ran.carried.ran.settled; saves = c.in-Ok.ensures.saves };
+      waits = tt;
+      done = λ h held comes spelt.
+          served_batch g.R.Revisions.state c.args.engine.now c.run_batch.new.engine s0 s1 _ _ c.args.first.now c.args.rest.now c.requires.ready.agrees c.requires.batch c.args.tracing h comes held spelt _ _ c.in-Ok.outcome _ ran now.ok
+          (c.tally_all.ensures ∙ rw c.tally_with-counted.ensures refl);
+      stopped = tt;
+      traced = record { seen = _; grew = ran.carried.ran.asked; appends = rw (← since s0.asked s1.asked _ _ ran.carried.ran.asked c.count-mark.ensures) now.traced };
+      traced_stop = tt;
+      cause = record { source = refl; out = now.cause.0; trace = now.cause.1 };
+      quiet = (now.cause.0, now.cause.1);
+    }
+
+pub returns-in-Err-write_batch-clause-serves : goal.returns-in-Err-write_batch-clause-serves
+returns-in-Err-write_batch-clause-serves g c =
+    let ran = c.in-Ok.ensures.ran in
+    let s0 = g.S.BlockStore.state c.args.store.now in
+    let s1 = g.S.BlockStore.state c.run_batch.new.store in
+    let now = c.in-Err-write_batch.ensures in
+    let split = since s0.asked s1.asked _ _ ran.carried.ran.asked c.count-mark.ensures in
+    record {
+      ready = tt;
+      waits = tt;
+      done = tt;
+      stopped = λ h held comes spelt.
+          lost_batch g.R.Revisions.state c.args.engine.now c.run_batch.new.engine s0 s1 _ _ c.args.first.now c.args.rest.now c.requires.ready.agrees c.requires.batch c.args.tracing h comes held spelt c.in-Ok.outcome _ ran
+          (lost_with (λ rose. (refl, rose)) now.cut.lines) now.cut.traced
+          (elim now.cut.behind [ inl none ↦ inl none | inr appends ↦ inr (traced_to (record { seen = _; grew = ran.carried.ran.asked; appends = rw (← split) appends })) ]);
+      traced = tt;
+      traced_stop = record { seen = _; grew = ran.carried.ran.asked; cut = rw (← split) (Outputs-by (λ err. refl) now.cut.traced) };
+      cause = (λ alone. refl, now.cause.0);
+      quiet = now.cause.0;
+    }
+
+pub returns-in-Err-clause-serves : goal.returns-in-Err-clause-serves
+returns-in-Err-clause-serves g c =
+    let ran = c.in-Err.ensures.ran in
+    let s0 = g.S.BlockStore.state c.args.store.now in
+    let s1 = g.S.BlockStore.state c.run_batch.new.store in
+    let split = since s0.asked s1.asked _ _ ran.carried.ran.asked c.count-mark.ensures in
+    let cut = c.trace_from-in-Err.ensures.cut in
+    record {
+      ready = tt;
+      waits = tt;
+      done = tt;
+      stopped = λ h held comes spelt.
+          stopped_batch g.R.Revisions.state c.args.engine.now c.run_batch.new.engine s0 s1 _ _ c.args.first.now c.args.rest.now c.requires.ready.agrees c.requires.batch c.args.tracing h comes held spelt c.in-Err.stop _ ran cut;
+      traced = tt;
+      traced_stop = record { seen = _; grew = ran.carried.ran.asked; cut = rw (← split) (Outputs-by (quiet_by c.trace_from-in-Err.result c.is_err-quiet.ensures.value) cut) };
+      cause = traced_only c.in-Err.stop (not_sink c.in-Err.stop ran) c.trace_from-in-Err.ensures.cause.later;
+      quiet = traced_quiet c.trace_from-in-Err.result c.is_err-quiet.result c.is_err-quiet.ensures.value c.trace_from-in-Err.ensures.cause;
+    }
