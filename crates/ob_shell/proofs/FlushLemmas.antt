@@ -1,16 +1,19 @@
 -- What becomes of texts that waited, once they are served together.
-use Rattle.std.proofs.Common.{◌≡◌, ◌⊎◌, inl, inr, ℕ, Bool, List, [], ◌∷◌, ◌++◌, Option, None, Some, Ok, Err, refl, sym, ◌∙◌, subst, append-nil}
+use Rattle.std.specs.Prelude.{IsErr, IsSome}
+use Rattle.std.specs.Result.{is_err}
+use Rattle.std.proofs.Common.{◌≡◌, ◌≤◌, ◌⊎◌, inl, inr, ℕ, Bool, true, List, [], ◌∷◌, ◌++◌, Option, None, Some, Result, Ok, Err, refl, sym, ap, ◌∙◌, subst, arith, append-nil}
 use Rattle.std.proofs.KnownBytes.{Appends-nil}
 use Rattle.std.specs.Io.KnownBytes.{Appends}
 use Rattle.ob_base.specs.declared.access.Access.{Access}
 use Rattle.ob_gen.specs.declared.tally.Tally.{Tally}
 use Rattle.ob_headline.specs.Meaning.{PrintsUntil}
 use Rattle.ob_headline.specs.Tracing.{traced}
-use Rattle.ob_headline.specs.Words.{Took, printed}
+use Rattle.ob_headline.specs.Words.{Took, faults_of, printed}
 use Rattle.ob_exec.specs.RanBatch.{RanBatch}
 use Rattle.ob_mean.proofs.BatchLemmas.{begins}
-use Rattle.ob_mean.specs.Batches.{Gathering, goes_into}
-use Rattle.ob_print.proofs.CutLemmas.{Outputs-whole}
+use Rattle.ob_io.specs.Causes.{HasCause}
+use Rattle.ob_mean.specs.Batches.{Gathering, goes_into, inserts_into}
+use Rattle.ob_print.proofs.CutLemmas.{Outputs-by, Outputs-whole}
 use Rattle.ob_print.specs.Cuts.{Outputs}
 use Rattle.ob_print.specs.Rows.{events_text}
 use Rattle.ob_reopen.specs.Keepers.{KeeperState}
@@ -20,12 +23,14 @@ use Rattle.ob_shell.proofs.TookLemmas.{took_whole}
 use Rattle.ob_shell.proofs.TraceLemmas.{traced-nil}
 use Rattle.ob_shell.proofs.WithLemmas.{events_none, insert_of, insert_prints}
 use Rattle.ob_shell.specs.Lines.{LinesCut, line_answer, line_answers}
+use Rattle.ob_shell.specs.Running.{Silenced, StopCause}
 use Rattle.ob_shell.specs.Steps.{Follow, Machine, machine_of, standing}
 use Rattle.ob_shell.specs.Tallies.{tally_after}
 use Rattle.ob_shell.specs.Traces.{TracedTo}
 use Rattle.ob_shell.specs.Waiting.{AreSpelt, BreaksIn, IsClosed, ServedSo}
 use Rattle.ob_sql.specs.Skeleton.{skeleton}
 use Rattle.ob_sql.specs.declared.stmt.Stmt.{Stmt}
+use Rattle.ob_sql.specs.declared.stmt.Stmt.TheVariants as S
 use Rattle.ob_store.specs.State.{StoreState}
 use Rattle.ob_tables.specs.Agreeing.{Agrees, count_of, public_of}
 use Rattle.ob_tables.specs.Batch.{AreBatch}
@@ -34,6 +39,7 @@ use Rattle.ob_tables.specs.declared.engine.Engine.{Engine}
 use Rattle.ob_tables.specs.declared.stop.RunStop.{RunStop}
 use Rattle.ob_tables.specs.declared.stop.RunStop.TheVariants as Runs
 use Rattle.ob_vault.specs.State.{RevState}
+use Rattle.ob_verdict.specs.Outcomes.{MayEmit}
 use Rattle.ob_verdict.specs.declared.outcome.Outcome.{Outcome}
 
 -- where nothing was asked nothing is traced
@@ -158,3 +164,39 @@ idle_batch {state = state} {w = w} {t = t} {Lost = Lost} on texts stop m g memor
   whole = subst (λ (l : List ℕ). Took w w l) (sym printed-nil) (took_whole (Appends-nil w));
   traced = traced_to_none on m.store.asked t t [] (Appends-nil t);
 }
+
+-- ---- a batch that was stopped
+pub lost_with : {w0 w1 : Option (List ℕ)} {outcomes : List Outcome} {F G : Type 0} → (F → G) → LinesCut outcomes w0 w1 F → LinesCut outcomes w0 w1 G
+lost_with by cut = record { done = cut.done; one = cut.one; rest = cut.rest; parts = cut.parts; whole = cut.whole; cut = Outputs-by by cut.cut }
+
+-- an INSERT emits nothing
+unemitted : (stmt : Stmt) → IsSome (inserts_into (skeleton stmt)) → MayEmit stmt → ⊥
+unemitted (S.Create table columns capacity shape) some emits = cc some
+unemitted (S.Insert table columns values) some emits = emits
+unemitted (S.Update table sets cond) some emits = cc some
+unemitted (S.Delete table cond) some emits = cc some
+unemitted (S.Drop table) some emits = cc some
+unemitted (S.SelectRows select) some emits = cc some
+unemitted (S.SelectTotals select) some emits = cc some
+
+-- so no sink stops it
+pub batch_unsunk : {R : Type 0} {state : R → RevState} {first : Stmt} {rest : List Stmt} {outcomes : List Outcome} {e0 e1 : Engine R} {s0 s1 : StoreState} {k0 k1 : KeeperState} (stop : RunStop) → AreBatch (public_of e0) (count_of e0 s0) first rest → RanBatch state first rest (Err stop) outcomes e0 s0 e1 s1 k0 k1 → stop ≡ Runs.SinkFault → ⊥
+batch_unsunk {first = first} {e0 = e0} {s0 = s0} stop batch ran is =
+    unemitted first (begins (public_of e0) (count_of e0 s0) first batch.begins).inserts (ran.carried.emits (ap Err is))
+
+-- its stop, and the trace behind it
+pub traced_only : {T : Type 0} (stop : RunStop) → (stop ≡ Runs.SinkFault → ⊥) → (out t0 t1 : ℕ) → t0 ≤ t1 → StopCause {T = T} (Unit {0}) (faults_of 0 out t0) (faults_of 0 out t1) (Err (session_stop stop))
+traced_only (Runs.Tampered q x) not out t0 t1 later = (λ alone. refl, omega arith, later)
+traced_only Runs.SinkFault not out t0 t1 later = absurd (not refl)
+traced_only Runs.NoMemory not out t0 t1 later = (λ alone. refl, omega arith, later)
+traced_only Runs.StoreFault not out t0 t1 later = (λ alone. refl, omega arith, later)
+traced_only Runs.StashFull not out t0 t1 later = (λ alone. refl, omega arith, later)
+traced_only Runs.KeeperFault not out t0 t1 later = (λ alone. refl, omega arith, later)
+
+pub traced_quiet : {T E : Type 0} (r : Result T E) (quiet : Bool) (out t0 t1 : ℕ) → quiet ≡ is_err r → HasCause t0 t1 r → Silenced quiet (faults_of 0 out t0) (faults_of 0 out t1)
+traced_quiet (Ok x) quiet out t0 t1 is cause = rw is (refl, cause.kept)
+traced_quiet (Err e) quiet out t0 t1 is cause = rw is (inr cause.failed)
+
+pub lost_quiet : {T E : Type 0} (r : Result T E) (quiet : Bool) → quiet ≡ is_err r → IsErr r → quiet ≡ true
+lost_quiet (Ok x) quiet is failed = absurd (cc failed)
+lost_quiet (Err e) quiet is failed = is
