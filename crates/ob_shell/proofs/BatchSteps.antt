@@ -1,13 +1,12 @@
 -- A batch that was carried out, text by text.
-use Rattle.std.specs.Prelude.{◌&&◌, IsSome, bytes_eq, if◌then◌else◌, is_some, map, nat_le, nat_lt}
+use Rattle.std.specs.Prelude.{◌&&◌, IsSome, bytes_eq, if◌then◌else◌, is_some, map, nat_lt}
 use Rattle.std.specs.Option.{option_map, option_map_or}
-use Rattle.std.proofs.Common.{◌≡◌, ◌⊎◌, inl, inr, ◌+◌, ◌^◌, ◌≤◌, ◌<◌, ℕ, Bool, true, false, List, [], ◌∷◌, ◌++◌, length, Option, Some, None, Result, Ok, Err, refl, sym, ◌∙◌, ap, subst, arith}
+use Rattle.std.proofs.Common.{◌≡◌, ◌⊎◌, inl, inr, ◌+◌, ◌^◌, ◌≤◌, ◌<◌, ℕ, Bool, true, false, List, [], ◌∷◌, ◌++◌, length, Option, Some, None, Ok, Err, refl, sym, ◌∙◌, ap, subst, arith}
 use Rattle.std.proofs.lemmas.Bool.{false_from_ne_true}
 use Rattle.std.proofs.lemmas.Bool.Decides.{nat_tests}
 use Rattle.std.proofs.lemmas.List.Elements.{All-head, All-tail}
 use Rattle.std.proofs.lemmas.Slice.Eq.{bytes_eq-Decides}
 use Rattle.std.specs.List.{All}
-use Rattle.ob_base.specs.Events.{Event}
 use Rattle.ob_base.specs.Stored.{headings, headings_of}
 use Rattle.ob_base.specs.declared.access.Access.{Access}
 use Rattle.ob_base.specs.declared.config.Public.{Public}
@@ -17,15 +16,14 @@ use Rattle.ob_base.specs.declared.seen.End.TheVariants.{Static, Whole, AfterCoun
 use Rattle.ob_base.specs.declared.seen.Seen.{Seen}
 use Rattle.ob_base.specs.declared.skeleton.Skeleton.{Skeleton}
 use Rattle.ob_base.specs.declared.skeleton.Skeleton.TheVariants as K
-use Rattle.ob_exec.specs.Ran.{CarriedOut, KeeperBehind, ShowsNothing, WantsMemory, WasSaved}
+use Rattle.ob_exec.specs.Ran.{CarriedOut, KeeperBehind, WantsMemory}
 use Rattle.ob_exec.specs.RanBatch.{RanBatch}
 use Rattle.ob_headline.specs.Batches.{AllInsert}
 use Rattle.ob_headline.specs.Closing.{closing_line}
 use Rattle.ob_headline.specs.Statements.{SpellFirst, Spells}
-use Rattle.ob_headline.specs.Words.{Answer}
 use Rattle.ob_mean.proofs.BatchLemmas.{Begins, Inserts, begins, settle_all_like, soon, verdicts_like}
 use Rattle.ob_mean.specs.Batches.{Gathering, and_one, batch_most, begins_batch, begun_by, gathering_after, goes_into, inserts_into, is_cut, is_joined, settle_all, verdicts}
-use Rattle.ob_mean.specs.Replay.{draws_taken, has_index, is_access}
+use Rattle.ob_mean.specs.Replay.{draws_taken, is_access}
 use Rattle.ob_mean.specs.Refusals.{early_refusal, is_index, limits_of}
 use Rattle.ob_mean.specs.Settle.{settle}
 use Rattle.ob_mean.specs.Lawful.{EndsUncounted, Holds}
@@ -38,9 +36,9 @@ use Rattle.ob_shell.proofs.FewLemmas.{insert_few}
 use Rattle.ob_shell.proofs.ReplayLemmas.{counts_on}
 use Rattle.ob_shell.proofs.LeaveSteps.{whole_own}
 use Rattle.ob_shell.proofs.WalkLemmas.{end_apart, end_cut}
-use Rattle.ob_shell.proofs.WithLemmas.{IsInsert, events_none, insert_headings, insert_of, insert_prints}
+use Rattle.ob_shell.proofs.WithLemmas.{events_none, insert_headings, insert_of, insert_prints}
 use Rattle.ob_shell.specs.Lines.{line_answer, line_answers}
-use Rattle.ob_shell.specs.Steps.{AreOwed, Does, Follow, GoTogether, Machine, Owed, Owes, ServedStatement, ServedWith, Step, Steps, TakesOwed, draws_behind, end_with, machine_of, standing, statements_of}
+use Rattle.ob_shell.specs.Steps.{AreOwed, Does, Follow, GoTogether, Machine, Owed, Owes, Step, Steps, TakesOwed, draws_behind, end_with, machine_of, standing, statements_of}
 use Rattle.ob_shell.specs.Waiting.{AreSpelt, IsApart}
 use Rattle.ob_sql.specs.Skeleton.{skeleton}
 use Rattle.ob_sql.specs.declared.stmt.Stmt.{Stmt}
@@ -52,13 +50,13 @@ use Rattle.ob_tables.specs.Agreeing.{Agrees, AreDraws, count_of, public_of, seen
 use Rattle.ob_tables.specs.Batch.{AreBatch, AreServedWith, IsServedWith, outcomes_behind, outcomes_of}
 use Rattle.ob_tables.specs.Running.{RefusedEarly, is_fault}
 use Rattle.ob_tables.specs.Serving.{Means}
-use Rattle.ob_tables.specs.Telling.{Kept, Meant, ReadsTrue, Represents}
+use Rattle.ob_tables.specs.Telling.{Kept, Meant, ReadsTrue}
 use Rattle.ob_tables.specs.declared.engine.Engine.{Engine}
 use Rattle.ob_tables.specs.declared.stop.RunStop.{RunStop}
 use Rattle.ob_vault.specs.State.{RevState}
 use Rattle.ob_verdict.proofs.AccessedProof.{access_public}
 use Rattle.ob_verdict.proofs.MovingProof.{moves}
-use Rattle.ob_verdict.specs.Outcomes.{by_fault, outcome_of, refusal_now}
+use Rattle.ob_verdict.specs.Outcomes.{by_fault, refusal_now}
 use Rattle.ob_verdict.specs.declared.outcome.Outcome.{Outcome}
 use Rattle.ob_verdict.specs.declared.outcome.Outcome.TheVariants.{Inserted}
 

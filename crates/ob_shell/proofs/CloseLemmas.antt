@@ -17,7 +17,7 @@ use Rattle.ob_print.specs.Cuts.{Outputs}
 use Rattle.ob_shell.proofs.CompleteLemmas.{reported_line, reported_quiet}
 use Rattle.ob_shell.proofs.TopLemmas.{shown_unread}
 use Rattle.ob_shell.specs.Closed.{Unwritten, LineWritten, refused_by}
-use Rattle.ob_shell.specs.Running.{OutFailed}
+use Rattle.ob_shell.specs.Running.{OutFailed, ServesAlone}
 use Rattle.ob_shell.specs.Top.{EndingCause, EndingWords, IsFresh, Reported, RunShown, TraceSink}
 use Rattle.ob_shell.specs.declared.top.Ended.{Ended}
 use Rattle.ob_shell.specs.declared.words.WordsErr.{WordsErr}

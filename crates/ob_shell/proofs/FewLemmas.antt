@@ -1,12 +1,12 @@
 -- Fewer accesses are asked than there are numbers.
-use Rattle.std.specs.Prelude.{All, IfSome, ⊤, bytes_eq, if◌then◌else◌, option_map, slice_get}
+use Rattle.std.specs.Prelude.{All, IfSome, IsSome, bytes_eq, if◌then◌else◌, option_map, slice_get, ⊤}
 use Rattle.std.proofs.Common.{◌≡◌, ◌≤◌, ◌<◌, ◌+◌, ◌^◌, ℕ, suc, Bool, true, false, List, [], ◌∷◌, ◌++◌, length, Option, None, Some, Ok, Result, inl, inr, refl, sym, ◌∙◌, ap, subst, arith, get_or}
 use Rattle.std.proofs.lemmas.Bool.Decides.{nat_tests}
 use Rattle.std.proofs.lemmas.Option.{slice_get-get_or}
 use Rattle.std.specs.Option.{option_map_or}
 use Rattle.ob_base.proofs.AccessLemmas.{makes_few}
 use Rattle.ob_base.specs.Accesses.{discard_at}
-use Rattle.ob_base.specs.Indexes.{height_of}
+use Rattle.ob_base.specs.Indexes.{by_shape, height_of}
 use Rattle.ob_base.specs.Joins.{joined_slots}
 use Rattle.ob_base.specs.Limits.{buffered_blocks}
 use Rattle.ob_base.specs.Plans.{choose_padded, padded_rows}
@@ -19,7 +19,7 @@ use Rattle.ob_base.specs.declared.refusal.Refusal.{Refusal}
 use Rattle.ob_base.specs.declared.access.Access.{Access}
 use Rattle.ob_base.specs.declared.schema.Heading.{Heading}
 use Rattle.ob_base.specs.declared.schema.Shape.{Shape}
-use Rattle.ob_base.specs.declared.schema.Shape.TheVariants.{Flat}
+use Rattle.ob_base.specs.declared.schema.Shape.TheVariants.{Flat, Indexed}
 use Rattle.ob_base.specs.declared.schema.Table.{Table}
 use Rattle.ob_base.specs.declared.seen.Seen.{Seen}
 use Rattle.ob_base.specs.declared.skeleton.Skeleton.{Skeleton}
@@ -40,12 +40,12 @@ use Rattle.ob_mean.proofs.EarlyLemmas.{allowed, within}
 use Rattle.ob_mean.proofs.FlatLemmas.{MakesFlat, flat_whole, headings-regions, makes_flat, region_flat, script_is}
 use Rattle.ob_mean.proofs.VerdictLemmas.{heading-stored}
 use Rattle.ob_mean.specs.Lawful.{Holds, IsCount, counted_slots, statement_slots}
-use Rattle.ob_mean.specs.Refusals.{early_refusal, limits_of}
+use Rattle.ob_mean.specs.Refusals.{early_refusal, is_indexed, limits_of}
 use Rattle.ob_mean.specs.Verdict.{is_late}
 use Rattle.ob_reopen.specs.Limits.{IsStored}
 use Rattle.ob_script.proofs.Few.{script_few}
-use Rattle.ob_script.specs.Parts.{count_part, join_part}
-use Rattle.ob_script.specs.Script.{after_count, behind_count, blocks_of, extent_of, joined_extent, result_part, rows_width, script, until_end, with_table}
+use Rattle.ob_script.specs.Parts.{count_part, insert_part, join_part}
+use Rattle.ob_script.specs.Script.{after_count, behind_change, behind_count, blocks_of, extent_of, joined_extent, mutation_script, result_part, rows_width, script, shape_script, until_end, whole_script, with_table}
 use Rattle.ob_script.specs.Sizes.{SeesLeaf, IfFlat, IfTable, IsCounted, IsHeld, IsPublic, IsSourceCounted, IsTable, IsWithin}
 use Rattle.ob_shell.proofs.ReplayLemmas.{counts_on}
 use Rattle.ob_shell.specs.Feeding.{Fetch}
@@ -58,6 +58,9 @@ use Rattle.ob_sql.specs.declared.stmt.Stmt.TheVariants.{Create, Insert, Update, 
 use Rattle.ob_store.specs.State.{StoreState}
 use Rattle.ob_vault.specs.Places.{start_of}
 use Rattle.ob_vault.specs.State.{RevState, Start, earlier}
+use Rattle.ob_mean.specs.Batches.{inserts_into}
+use Rattle.ob_mean.specs.Replay.{is_access}
+use Rattle.ob_verdict.proofs.LawfulProof.{region_index}
 use Rattle.ob_verdict.proofs.AcceptedProof.{joins_fit}
 
 -- ---- what is public is within its limits

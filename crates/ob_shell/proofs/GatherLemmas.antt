@@ -1,7 +1,7 @@
 -- One more INSERT that waits, and the batch that is full then.
 use Rattle.std.specs.Prelude.{IsSome, OnOk, bytes_eq}
 use Rattle.std.specs.Option.{option_map_or}
-use Rattle.std.proofs.Common.{◌≡◌, ◌+◌, ◌<◌, ◌≤◌, ◌⊎◌, inl, inr, ℕ, Bool, true, false, List, [], ◌∷◌, ◌++◌, length, Option, None, Some, Result, Ok, Err, refl, sym, ap, ◌∙◌, subst, arith, append_assoc, append-nil, length-append}
+use Rattle.std.proofs.Common.{◌≡◌, ◌+◌, ◌<◌, ◌≤◌, inl, inr, ℕ, Bool, true, false, List, [], ◌∷◌, ◌++◌, length, Option, None, Some, Result, Ok, Err, refl, sym, ap, ◌∙◌, subst, arith, append-nil, length-append}
 use Rattle.std.proofs.lemmas.List.Elements.{All-nil, All-push}
 use Rattle.std.proofs.lemmas.Slice.Eq.{bytes_eq-Decides}
 use Rattle.ob_base.specs.declared.config.Public.{Public}
@@ -10,18 +10,17 @@ use Rattle.ob_gen.specs.declared.tally.Tally.{Tally}
 use Rattle.ob_headline.specs.Statements.{Spells}
 use Rattle.ob_headline.specs.Words.{Answer, Faults}
 use Rattle.ob_mean.proofs.BatchLemmas.{begins, most_some}
-use Rattle.ob_mean.specs.Batches.{Gathering, batch_most, begins_batch, goes_into, inserts_into}
+use Rattle.ob_mean.specs.Batches.{Gathering, batch_most, goes_into, inserts_into}
 use Rattle.ob_shell.proofs.TraceLemmas.{traced_none}
-use Rattle.ob_shell.proofs.WaitLemmas.{none_held, so_idle, steps_most}
+use Rattle.ob_shell.proofs.WaitLemmas.{so_idle, steps_most}
 use Rattle.ob_shell.specs.Running.{OutFailed}
 use Rattle.ob_shell.specs.Serving.{TakesTexts}
 use Rattle.ob_shell.specs.Steps.{IsReady, Machine, Steps, asked_of, standing}
-use Rattle.ob_shell.specs.Waiting.{AreBatched, AreGathered, AreSpelt, BreaksIn, ComesFree, GoesAlong, IsApart, IsClosed, IsFree, ServedSo, are_alike, goes_along}
+use Rattle.ob_shell.specs.Waiting.{AreBatched, AreGathered, AreSpelt, BreaksIn, ComesFree, GoesAlong, IsClosed, IsFree, ServedSo, goes_along}
 use Rattle.ob_shell.specs.declared.session.TextHalted.{TextHalted}
 use Rattle.ob_sql.specs.Skeleton.{skeleton}
 use Rattle.ob_sql.specs.declared.stmt.Stmt.{Stmt}
 use Rattle.ob_tables.specs.Agreeing.{public_of}
-use Rattle.ob_tables.specs.Batch.{AreBatch}
 use Rattle.ob_vault.specs.State.{RevState}
 
 -- ---- which ones wait

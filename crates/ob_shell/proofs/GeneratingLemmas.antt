@@ -1,4 +1,5 @@
 -- What a run over the generated text promises.
+use Rattle.ob_shell.specs.Running.{ServesAlone}
 use Rattle.std.specs.Prelude.{◌≢◌, ⊤, option_and_then}
 use Rattle.std.proofs.Common.{◌≡◌, ℕ, ◌≤◌, Bool, true, false, List, [], Option, Some, None, Ok, Err, refl, sym, ◌∙◌, ap, subst, inl, inr, arith}
 use Rattle.std.proofs.KnownBytes.{Appends-nil}

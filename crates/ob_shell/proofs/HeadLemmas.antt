@@ -1,4 +1,5 @@
 -- The headline, by what the run was reported to have done.
+use Rattle.ob_shell.specs.Running.{ServesAlone}
 use Rattle.std.proofs.Common.{◌≡◌, ℕ, Bool, true, List, ◌++◌, Ok, Err, refl, sym, ◌∙◌, ap, subst}
 use Rattle.std.proofs.lemmas.List.{append_cancel_left}
 use Rattle.ob_base.specs.declared.access.Access.{Access}

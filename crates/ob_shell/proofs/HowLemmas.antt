@@ -1,6 +1,6 @@
 -- How the first of some statements is served where no call fails, and what is asked of them then.
 use Rattle.std.specs.Prelude.{◌&&◌, if◌then◌else◌}
-use Rattle.std.proofs.Common.{◌≡◌, Bool, true, false, List, [], ◌∷◌, ◌++◌, Option, Ok, refl, sym, ◌∙◌, ap, append-nil}
+use Rattle.std.proofs.Common.{◌≡◌, Bool, true, false, List, [], ◌∷◌, ◌++◌, Option, Ok, refl, ◌∙◌, ap, append-nil}
 use Rattle.ob_base.specs.declared.access.Access.{Access}
 use Rattle.ob_headline.proofs.FullLemmas.{met_script}
 use Rattle.ob_mean.specs.Batches.{Gathering, gathering_after, goes_into, is_unrefused}

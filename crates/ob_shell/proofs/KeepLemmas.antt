@@ -23,7 +23,7 @@ use Rattle.ob_shell.proofs.TopLemmas.{piece_is, piece_prompt, piece_within, show
 use Rattle.ob_shell.specs.Engaging.{ClosedRun, ClosesRun, EndsUnserved, Engages, RanBegun, RanStopped, RanUnbegun, RanUnkeyed, RanWhole, ServesAll, StartsRun, StopsRun}
 use Rattle.ob_shell.specs.Feeding.{Fetch, IsFedBy}
 use Rattle.ob_shell.specs.LineRead.{KeyRead}
-use Rattle.ob_shell.specs.Running.{OutFailed, SessionRan, Silenced, StopCause}
+use Rattle.ob_shell.specs.Running.{OutFailed, ServesAlone, SessionRan, Silenced, StopCause}
 use Rattle.ob_shell.specs.Steps.{machine_of}
 use Rattle.ob_shell.specs.Tallies.{has_refused}
 use Rattle.ob_shell.specs.Top.{Carried, IsFresh, RanAfter, sink_of}

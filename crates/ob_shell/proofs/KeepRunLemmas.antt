@@ -14,7 +14,7 @@ use Rattle.ob_shell.proofs.TraceLemmas.{traced_none, traced_whole}
 use Rattle.ob_shell.specs.Engaging.{ClosesRun, RanKept, ServesRun, StartsRun}
 use Rattle.ob_shell.specs.Feeding.{Fetch, IsFedBy}
 use Rattle.ob_shell.specs.LineRead.{KeyRead}
-use Rattle.ob_shell.specs.Steps.{machine_of, told_nothing}
+use Rattle.ob_shell.specs.Steps.{told_nothing}
 use Rattle.ob_shell.specs.declared.keeping.KeptEnded.{KeptEnded}
 use Rattle.ob_shell.specs.declared.key.FirstLine.TheVariants.{Secret, Last}
 use Rattle.ob_store.specs.State.{StoreState}

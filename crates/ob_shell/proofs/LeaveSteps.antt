@@ -37,7 +37,7 @@ use Rattle.ob_script.specs.Tables.{tables_after, tables_then}
 use Rattle.ob_seal.specs.KeySet.{KeySet, pair_of}
 use Rattle.ob_seal.specs.Sealed.{AreOfSecret}
 use Rattle.ob_shell.specs.Leaving.{IsRead, RestsOn}
-use Rattle.ob_shell.specs.Steps.{Does, Machine, StaysAs, standing, statements_of}
+use Rattle.ob_shell.specs.Steps.{Does, Machine, StaysAs, statements_of}
 use Rattle.ob_sql.specs.Skeleton.{skeleton}
 use Rattle.ob_sql.specs.declared.stmt.Stmt.{Stmt}
 use Rattle.ob_sql.specs.declared.stmt.Stmt.TheVariants.{Create, Insert, Update, Delete, Drop as DropTable, SelectRows as RowsStmt, SelectTotals as TotalsStmt}

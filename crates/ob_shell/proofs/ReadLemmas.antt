@@ -1,6 +1,5 @@
 -- How the reading of a session's texts ends.
-use Rattle.std.specs.Prelude.{OnOk}
-use Rattle.std.proofs.Common.{◌≡◌, ◌<◌, ◌≤◌, ◌⊎◌, inl, inr, ℕ, Bool, true, false, List, [], ◌∷◌, ◌++◌, length, Option, Result, Ok, Err, refl, sym, ap, ◌∙◌, subst, arith, append_assoc, append-nil}
+use Rattle.std.proofs.Common.{◌≡◌, ◌<◌, ◌⊎◌, inl, inr, ℕ, Bool, true, false, List, [], ◌∷◌, ◌++◌, length, Option, Result, Ok, Err, refl, sym, ap, ◌∙◌, subst, arith, append_assoc, append-nil}
 use Rattle.std.specs.Io.KnownBytes.{IsAtEnd}
 use Rattle.ob_base.specs.declared.refusal.Stop.{Stop}
 use Rattle.ob_base.specs.declared.refusal.Stop.TheVariants as Stops
@@ -9,17 +8,17 @@ use Rattle.ob_gen.specs.declared.tally.Tally.{Tally}
 use Rattle.ob_headline.proofs.PromptLemmas.{prompt_all, prompt_by}
 use Rattle.ob_headline.proofs.TextLemmas.{rest_of-append, rest_of-over, texts_of-append, texts_of-cons, texts_of-nil, texts_of-over}
 use Rattle.ob_headline.specs.Batches.{AnsweredBut}
-use Rattle.ob_headline.specs.Texts.{is_over, rest_after, rest_of, tail_text, text_max, texts_at, texts_in, texts_of}
+use Rattle.ob_headline.specs.Texts.{rest_after, rest_of, tail_text, text_max, texts_at, texts_in, texts_of}
 use Rattle.ob_headline.specs.Words.{before_read, faults_of}
-use Rattle.ob_mean.specs.Batches.{Gathering, batch_most}
+use Rattle.ob_mean.specs.Batches.{Gathering}
 use Rattle.ob_shell.proofs.FeedLemmas.{Fed-then}
 use Rattle.ob_shell.proofs.GatherLemmas.{comes_free}
 use Rattle.ob_shell.proofs.RunLemmas.{below_is_not_over, ran_broken, ran_turn}
 use Rattle.ob_shell.proofs.TraceLemmas.{traced_cut, traced_then, traced_whole}
 use Rattle.ob_shell.proofs.WaitLemmas.{answered_but, break_then, so_then, steps_most}
 use Rattle.ob_shell.specs.Feeding.{Fed, Fetch}
-use Rattle.ob_shell.specs.Running.{IsQuiet, OutFailed, SessionRan, Silenced, SoFar, StopCause, is_quiet, stop_of}
-use Rattle.ob_shell.specs.Serving.{EndsReading, HasRead, IsNotTaken, ReadsTexts, TakesMore, TakesTexts, UnlessServed, WantsRoom, broken_of}
+use Rattle.ob_shell.specs.Running.{IsQuiet, OutFailed, Silenced, SoFar, StopCause, is_quiet, stop_of}
+use Rattle.ob_shell.specs.Serving.{EndsReading, HasRead, IsNotTaken, ReadsTexts, TakesMore, UnlessServed, WantsRoom, broken_of}
 use Rattle.ob_shell.specs.Steps.{IsReady, Machine, asked_of, standing}
 use Rattle.ob_shell.specs.Traces.{Traced, TracedAll}
 use Rattle.ob_shell.specs.Waiting.{AreGathered, AreSpelt, BreaksIn, ComesFree, IsFree, ServedSo}

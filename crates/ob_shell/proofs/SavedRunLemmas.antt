@@ -1,9 +1,8 @@
 -- A run whose tables are saved, behind its first line.
 use Rattle.std.specs.Prelude.{IfOk}
-use Rattle.std.proofs.Common.{◌≡◌, ◌≤◌, ◌++◌, ℕ, Bool, true, false, List, [], Option, Some, Result, Ok, Err, inl, inr, refl, sym, ◌∙◌, ap, subst}
+use Rattle.std.proofs.Common.{◌≡◌, ◌≤◌, ◌++◌, ℕ, Bool, true, false, List, [], Option, Some, Result, Ok, Err, inr, refl, sym, ◌∙◌, ap, subst}
 use Rattle.ob_base.specs.declared.config.Config.{Config}
 use Rattle.ob_base.specs.declared.config.Public.{Public}
-use Rattle.ob_base.specs.declared.mark.Mark.{Mark}
 use Rattle.ob_base.specs.declared.refusal.Stop.{Stop}
 use Rattle.ob_gen.specs.Tally.{empty_tally}
 use Rattle.ob_gen.specs.declared.tally.Tally.{Tally}
@@ -23,7 +22,7 @@ use Rattle.ob_shell.specs.EngagingSaved.{EndsUnsaved, EngagesSaved, RanSaved, Ra
 use Rattle.ob_shell.specs.Feeding.{Fetch, IsFedBy}
 use Rattle.ob_shell.specs.Leaving.{BeginsToSave}
 use Rattle.ob_shell.specs.LineRead.{KeyRead}
-use Rattle.ob_shell.specs.Running.{OutFailed, SessionRan, Silenced, StopCause}
+use Rattle.ob_shell.specs.Running.{OutFailed, ServesAlone, SessionRan, Silenced, StopCause}
 use Rattle.ob_shell.specs.Steps.{machine_of}
 use Rattle.ob_shell.specs.Tallies.{flagged}
 use Rattle.ob_shell.specs.Top.{Carried, sink_of}

@@ -4,9 +4,7 @@ use Rattle.std.proofs.Common.{◌≡◌, ℕ, ◌+◌, ◌≤◌, ◌<◌, ◌^�
 use Rattle.std.proofs.KnownBytes.{Appends-nil, Consumes-nil}
 use Rattle.std.proofs.lemmas.Bool.{cases_lt}
 use Rattle.std.specs.Io.KnownBytes.{IsAtEnd}
-use Rattle.std.specs.List.{list_any}
 use Rattle.ob_base.specs.Counts.{Rises}
-use Rattle.ob_base.specs.Publics.{first_public}
 use Rattle.ob_base.specs.declared.access.Access.{Access}
 use Rattle.ob_base.specs.declared.access.Access.TheVariants.{Read}
 use Rattle.ob_base.specs.declared.config.Config.{Config}
@@ -14,14 +12,12 @@ use Rattle.ob_base.specs.declared.config.Public.{Public}
 use Rattle.ob_base.specs.declared.mark.Mark.{Mark}
 use Rattle.ob_base.specs.declared.refusal.Stop.{Stop}
 use Rattle.ob_base.specs.declared.refusal.Stop.TheVariants.{Tampered, SourceFault, SinkFault, NoMemory, InputLimit, StoreFault, StashFull, KeeperFault}
-use Rattle.ob_tables.specs.Agreeing.{Agrees, AreDraws, count_of, engine_keys, first_draws, engine_start, indexes_of, opened_from, public_of, high_of, rows_of, world_of}
+use Rattle.ob_tables.specs.Agreeing.{Agrees, engine_keys, first_draws, engine_start, indexes_of, opened_from, public_of, high_of, rows_of, world_of}
 use Rattle.ob_tables.specs.Closing.{ClosesEngine, closing_script, next_closing}
 use Rattle.ob_reopen.specs.Closed.{IsClosedAs, StaysInUse, is_used_up}
-use Rattle.ob_select.specs.Opening.{is_of_rows}
 use Rattle.ob_reopen.specs.Resting.{AcceptsClosings, Rests, by_name}
 use Rattle.ob_select.specs.Selecting.{AcceptsRows}
-use Rattle.ob_tables.specs.Telling.{AreHeld, Represents}
-use Rattle.ob_tables.specs.Engines.{AreTables, others_of}
+use Rattle.ob_tables.specs.Telling.{Represents}
 use Rattle.ob_tables.specs.declared.engine.Engine.{Engine}
 use Rattle.ob_gen.specs.Tally.{empty_tally}
 use Rattle.ob_gen.specs.declared.tally.Tally.{Tally}
@@ -29,7 +25,7 @@ use Rattle.ob_headline.proofs.BaseLemmas.{from_each}
 use Rattle.ob_headline.proofs.PromptLemmas.{all_answered, prompt_all}
 use Rattle.ob_headline.proofs.TextLemmas.{rest_of-nil, texts_of-nil}
 use Rattle.ob_headline.specs.Batches.{AnsweredBut, meant_seen}
-use Rattle.ob_headline.specs.Bases.{Base, FromEach, Opened, drawing, fresh, session_at, start}
+use Rattle.ob_headline.specs.Bases.{Base, FromEach, Opened, drawing, session_at, start}
 use Rattle.ob_headline.specs.Disturbed.{MeantUntil, meant_trace}
 use Rattle.ob_headline.specs.FullStash.{ReadsFullStash}
 use Rattle.ob_headline.specs.Failures.{FailsBeside}
@@ -58,12 +54,12 @@ use Rattle.ob_reopen.specs.declared.fault.CloseErr.{CloseErr}
 use Rattle.ob_script.specs.Trace.{Served, after_all as all_public, trace}
 use Rattle.ob_seal.specs.KeySet.{KeySet, pair_of}
 use Rattle.ob_seal.specs.Sealed.{AreOfSecret, sealed}
-use Rattle.ob_shell.proofs.CalmLemmas.{MeetsChange, first_calm, last_met, steps_calm}
+use Rattle.ob_shell.proofs.CalmLemmas.{MeetsChange, last_met, steps_calm}
 use Rattle.ob_shell.proofs.LastingLemmas.{HasSizes, steps_sizes, last_rows, steps_sealed, last_sealed, steps_tell, none_sealed}
 use Rattle.ob_shell.proofs.LeaveCounts.{session_counts}
 use Rattle.ob_shell.proofs.LeaveSession.{session_leaves}
 use Rattle.ob_shell.proofs.LaterLemmas.{steps_later, last_later}
-use Rattle.ob_shell.proofs.LeafLemmas.{Reads, given_none, no_indexes}
+use Rattle.ob_shell.proofs.LeafLemmas.{Reads, given_none}
 use Rattle.ob_shell.proofs.OpenLemmas.{session_opens}
 use Rattle.ob_shell.proofs.ReplayLemmas.{holds_free}
 use Rattle.ob_shell.proofs.TookLemmas.{traces_all}
@@ -77,17 +73,15 @@ use Rattle.ob_shell.specs.Feeding.{Fetch}
 use Rattle.ob_shell.specs.Leaving.{RestsOn}
 use Rattle.ob_shell.specs.Running.{SessionRan, LastPart}
 use Rattle.ob_shell.specs.Standing.{IsUsed, StandsOn}
-use Rattle.ob_shell.specs.Steps.{Holds, Machine, asked_of, machine_of, session_of, standing, told_nothing}
+use Rattle.ob_shell.specs.Steps.{Holds, Machine, asked_of, machine_of, session_of, standing}
 use Rattle.ob_shell.specs.Tallies.{flagged, has_refused}
-use Rattle.ob_shell.specs.Top.{EndsUntampered, IsFresh, TraceSink, Carried, RanAfter}
+use Rattle.ob_shell.specs.Top.{EndsUntampered, TraceSink, Carried, RanAfter}
 use Rattle.ob_shell.specs.Traces.{Traced}
 use Rattle.ob_store.proofs.Steps.{later_trans}
-use Rattle.ob_store.specs.Calls.{IsSteady}
 use Rattle.ob_store.specs.Runs.{Later}
 use Rattle.ob_store.specs.State.{Lie, StoreState}
-use Rattle.ob_vault.proofs.WordLemmas.{earlier_nothing}
 use Rattle.ob_vault.specs.Numbers.{number_after}
-use Rattle.ob_vault.specs.State.{RevState, Start, VaultState, World, earlier, from_nothing}
+use Rattle.ob_vault.specs.State.{RevState, Start, VaultState, World, earlier}
 use Rattle.ob_vault.specs.Tied.{AllSealed, EndsAt, TagFits, Scope, SealedAt, at_of, next_fault}
 use Rattle.ob_headline.specs.Story.{Story}
 use Rattle.ob_base.proofs.AccessLemmas.{makes_few, writes_few}

@@ -1,6 +1,5 @@
 -- Texts that are answered one after the other.
 use Rattle.std.proofs.Common.{◌≡◌, ℕ, List, [], ◌∷◌, ◌++◌, Bool, Option, Ok, Err, Result, refl, sym, ap, ◌∙◌, subst, inl, inr, append_assoc, append-nil}
-use Rattle.std.proofs.KnownBytes.{Appends-nil}
 use Rattle.std.specs.Io.KnownBytes.{Appends}
 use Rattle.ob_base.specs.declared.refusal.Stop.{Stop}
 use Rattle.ob_base.specs.declared.refusal.Stop.TheVariants.{SourceFault, InputLimit}
@@ -11,7 +10,7 @@ use Rattle.ob_gen.specs.declared.tally.Tally.{Tally}
 use Rattle.ob_headline.specs.Words.{Answer, printed}
 use Rattle.ob_print.proofs.CutLemmas.{Outputs-by, Outputs-whole}
 use Rattle.ob_shell.proofs.StopLemmas.{by_stop, stopped_as}
-use Rattle.ob_shell.proofs.TallyLemmas.{tally_after-nil, tally_after-one}
+use Rattle.ob_shell.proofs.TallyLemmas.{tally_after-one}
 use Rattle.ob_shell.specs.Running.{LastPart}
 use Rattle.ob_shell.specs.Steps.{CutStep, Machine, Step, Steps, Idle, IsUndone, PartlyAt, AnswersAll, StopsIn}
 use Rattle.ob_shell.specs.Tallies.{tally_with}

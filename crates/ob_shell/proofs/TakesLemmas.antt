@@ -1,38 +1,30 @@
 -- Texts that are taken, part by part: some are answered, and some wait.
-use Rattle.std.specs.Prelude.{IfErr, OnErr, OnOk, bytes_eq, ⊤}
-use Rattle.std.specs.Option.{option_map_or}
-use Rattle.std.proofs.Common.{◌≡◌, ◌+◌, ◌<◌, ◌≤◌, ◌⊎◌, inl, inr, ℕ, Bool, true, false, List, [], ◌∷◌, ◌++◌, length, Option, None, Some, Result, Ok, Err, refl, sym, ap, ◌∙◌, subst, arith, append_assoc, append-nil, length-append}
-use Rattle.std.proofs.KnownBytes.{Appends-nil}
+use Rattle.std.proofs.Common.{◌≡◌, ◌+◌, inr, ℕ, Bool, false, List, [], ◌∷◌, ◌++◌, Option, None, Result, Ok, Err, refl, sym, ap, ◌∙◌, subst, append_assoc, append-nil}
 use Rattle.std.specs.Io.KnownBytes.{Appends}
-use Rattle.ob_base.specs.declared.config.Public.{Public}
 use Rattle.ob_base.specs.declared.refusal.Refusal.TheVariants.{Syntax}
 use Rattle.ob_base.specs.declared.refusal.Stop.{Stop}
-use Rattle.ob_base.specs.declared.skeleton.Skeleton.{Skeleton}
 use Rattle.ob_gen.specs.declared.tally.Tally.{Tally}
 use Rattle.ob_headline.specs.Closing.{closing_line}
 use Rattle.ob_headline.specs.Statements.{Spells}
 use Rattle.ob_headline.specs.Texts.{texts_at}
-use Rattle.ob_headline.specs.Words.{Faults, NoneRose, Took, printed}
-use Rattle.ob_mean.specs.Batches.{Gathering, batch_most, goes_into, inserts_into}
-use Rattle.ob_print.proofs.CutLemmas.{Outputs-whole}
+use Rattle.ob_headline.specs.Words.{Faults, NoneRose, Took}
+use Rattle.ob_mean.specs.Batches.{Gathering}
 use Rattle.ob_print.specs.Cuts.{Outputs}
 use Rattle.ob_shell.proofs.FlushLemmas.{traced_to_none}
 use Rattle.ob_shell.proofs.ServeLemmas.{misspelt}
 use Rattle.ob_shell.proofs.StepLemmas.{PartlyAt-more, Steps-none, answers_one, printed-nil}
-use Rattle.ob_shell.proofs.TookLemmas.{took_more, took_whole}
 use Rattle.ob_shell.proofs.TraceLemmas.{traced_cut, traced_none, traced_then, traced_whole}
-use Rattle.ob_shell.proofs.WaitLemmas.{break_then, follow_more, none_held, so_idle, so_then, steps_most}
+use Rattle.ob_shell.proofs.WaitLemmas.{break_then, follow_more, none_held, so_idle, so_then}
 use Rattle.ob_shell.specs.Lines.{line_answer}
-use Rattle.ob_shell.specs.Running.{IsQuiet, OutFailed, Silenced, StopCause, halted_of, is_quiet, stop_of}
+use Rattle.ob_shell.specs.Running.{IsQuiet, OutFailed, Silenced, StopCause, halted_of, stop_of}
 use Rattle.ob_shell.specs.Serving.{IsNotTaken, ServesTexts, TakesMore, TakesTexts, WantsRoom}
-use Rattle.ob_shell.specs.Steps.{AnswersAll, Follow, IsReady, Machine, Steps, StopsIn, asked_of, standing}
+use Rattle.ob_shell.specs.Steps.{AnswersAll, IsReady, Machine, StopsIn, asked_of, standing}
 use Rattle.ob_shell.specs.Tallies.{tally_with}
 use Rattle.ob_shell.specs.Traces.{Traced, TracedAll}
-use Rattle.ob_shell.specs.Waiting.{AreGathered, AreSpelt, BreaksIn, ComesFree, IsClosed, IsFree, ServedSo}
+use Rattle.ob_shell.specs.Waiting.{AreGathered, BreaksIn, IsFree, ServedSo}
 use Rattle.ob_shell.specs.declared.session.Break.{Break}
 use Rattle.ob_shell.specs.declared.session.Break.TheVariants.{Served, Unread}
 use Rattle.ob_shell.specs.declared.session.TextHalted.{TextHalted}
-use Rattle.ob_sql.specs.Skeleton.{skeleton}
 use Rattle.ob_sql.specs.declared.stmt.Stmt.{Stmt}
 use Rattle.ob_tables.specs.Agreeing.{public_of}
 use Rattle.ob_tables.specs.declared.stop.RunStop.TheVariants.{SinkFault}

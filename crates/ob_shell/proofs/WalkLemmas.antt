@@ -1,7 +1,7 @@
 -- A walk over the texts that were answered, and the one begun, as far as the first.
 use Rattle.std.specs.Prelude.{◌↔◌, ◌&&◌, map}
-use Rattle.std.proofs.Common.{suc, ◌≡◌, inl, inr, ◌+◌, ◌-◌, ◌≤◌, ◌<◌, ℕ, IsTrue, Bool, Ok, Err, Result, List, [], ◌∷◌, ◌++◌, length, take, Option, Some, None, refl, sym, ◌∙◌, ap, subst, append-nil, append_assoc, arith, ◌||◌, true, false, length-append}
-use Rattle.std.proofs.lemmas.List.{append_cancel_left, take-append-le}
+use Rattle.std.proofs.Common.{◌≡◌, inl, inr, ◌+◌, ◌-◌, ◌≤◌, ◌<◌, ℕ, IsTrue, Bool, Ok, Err, Result, List, [], ◌∷◌, ◌++◌, length, take, Option, Some, None, refl, sym, ◌∙◌, ap, subst, append-nil, arith, ◌||◌, true, false}
+use Rattle.std.proofs.lemmas.List.{append_cancel_left}
 use Rattle.ob_base.specs.Counts.{Rises}
 use Rattle.ob_base.specs.Events.{Event}
 use Rattle.ob_base.specs.Refusals.{is_store_fault}
@@ -15,13 +15,13 @@ use Rattle.ob_base.specs.declared.seen.End.{End}
 use Rattle.ob_base.specs.declared.seen.Seen.{Seen}
 use Rattle.ob_base.specs.declared.skeleton.Skeleton.{Skeleton}
 use Rattle.ob_tables.proofs.EmitLemmas.{unfit_none}
-use Rattle.ob_exec.proofs.LeavesRead.{Given, behind}
+use Rattle.ob_exec.proofs.LeavesRead.{Given}
 use Rattle.ob_exec.specs.Ran.{StopsWhere}
 use Rattle.ob_tables.specs.Agreeing.{AreDraws, engine_start, indexes_of, opened_from, public_of, seen_of, world_of}
 use Rattle.ob_select.specs.Memory.{AtMake, starts_with_make}
 use Rattle.ob_tables.specs.Refusals.{refused_end}
 use Rattle.ob_tables.specs.Running.{RefusedEarly, RunCause, is_fault, outcome_end, result_end}
-use Rattle.ob_verdict.specs.Outcomes.{refusal_now, by_fault, Emits}
+use Rattle.ob_verdict.specs.Outcomes.{by_fault, Emits}
 use Rattle.ob_tables.specs.Stops.{session_stop}
 use Rattle.ob_tables.specs.Telling.{IsNotTampered, Meant, ReadsTrue, ReadsTrueUntil, Represents, answer_labels, is_refused}
 use Rattle.ob_verdict.specs.declared.outcome.Outcome.{Outcome}
@@ -65,9 +65,9 @@ use Rattle.ob_shell.specs.Top.{EndsUntampered}
 use Rattle.ob_sql.specs.Skeleton.{skeleton}
 use Rattle.ob_sql.specs.declared.stmt.Stmt.{Stmt}
 use Rattle.ob_store.specs.Calls.{IsBefore, IsSteady}
-use Rattle.ob_store.specs.State.{Disturbance, Lie}
-use Rattle.ob_vault.specs.State.{RevState, Start, World}
-use Rattle.ob_vault.specs.Tied.{Calm, TagFits, IsUnfit}
+use Rattle.ob_store.specs.State.{Lie}
+use Rattle.ob_vault.specs.State.{RevState, World}
+use Rattle.ob_vault.specs.Tied.{Calm, IsUnfit}
 
 -- ---- a statement is cut off exactly where the store failed it
 refused_cut : (r : Refusal) (n : ℕ) → is_cut (refused_end r n) ≡ is_store_fault r

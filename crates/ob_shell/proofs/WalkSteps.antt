@@ -1,14 +1,14 @@
 -- A walk over the texts that were answered, one by one.
-use Rattle.std.specs.Prelude.{if◌then◌else◌, is_some, map}
+use Rattle.std.specs.Prelude.{if◌then◌else◌, is_some}
 use Rattle.std.specs.Option.{option_map}
-use Rattle.std.proofs.Common.{suc, ◌≡◌, inl, inr, ◌+◌, ◌≤◌, ℕ, IsTrue, Bool, Ok, Err, Result, List, [], ◌∷◌, ◌++◌, length, take, Option, Some, None, refl, sym, ◌∙◌, ap, subst, append_assoc, arith, true, false, length-append}
+use Rattle.std.proofs.Common.{suc, ◌≡◌, inl, inr, ◌+◌, ◌≤◌, ℕ, IsTrue, Bool, Ok, Err, List, [], ◌∷◌, ◌++◌, length, take, Option, Some, None, refl, sym, ◌∙◌, ap, subst, append_assoc, arith, true, false, length-append}
 use Rattle.std.proofs.lemmas.List.{take-append-le}
 use Rattle.ob_base.specs.Counts.{Rises}
 use Rattle.ob_base.specs.declared.access.Access.{Access}
 use Rattle.ob_base.specs.declared.config.Public.{Public}
 use Rattle.ob_base.specs.declared.seen.End.{End}
 use Rattle.ob_base.specs.declared.seen.Seen.{Seen}
-use Rattle.ob_exec.proofs.LeavesRead.{Given, behind}
+use Rattle.ob_exec.proofs.LeavesRead.{behind}
 use Rattle.ob_headline.proofs.FullLemmas.{met_script}
 use Rattle.ob_headline.specs.Accesses.{AreSeen, StopsWithin, any_cut}
 use Rattle.ob_headline.specs.Disturbed.{MeantUntil}
@@ -26,8 +26,8 @@ use Rattle.ob_seal.specs.KeySet.{KeySet}
 use Rattle.ob_shell.proofs.DisturbLemmas.{before_less, begins_more, crosses, few_or_more}
 use Rattle.ob_shell.proofs.FailureLemmas.{answered, beside_more, cut_rises, cuts_more, fails_more, own_rises, uncut_rises}
 use Rattle.ob_shell.proofs.HowLemmas.{gathered_by, how_alone, meets_first, met_all, met_room}
-use Rattle.ob_shell.proofs.LeafLemmas.{given_after, reads_more, reads_unasked}
-use Rattle.ob_shell.proofs.LeavePath.{Along, Path}
+use Rattle.ob_shell.proofs.LeafLemmas.{Reads, given_after, reads_more, reads_unasked}
+use Rattle.ob_shell.proofs.LeavePath.{Path}
 use Rattle.ob_shell.proofs.ReplayLemmas.{counts_on, draws_after, free_holds, holds_free, stands_after}
 use Rattle.ob_shell.proofs.WalkLemmas.{EarlyFrom, Full, Walked, alone_joins, answered_by, early_answered, end_cut, failed_by, none_saved, or_first, or_rest, reads_true, refused_is, same_by, says, world}
 use Rattle.ob_shell.proofs.WithLemmas.{batched, failed_with, means_with, meant_with, next_with, room_with, script_with, seen_with, uncut_with, with_failed, with_joins, with_lawful, with_plan, with_says}

@@ -1,20 +1,16 @@
 -- One statement that was carried out with the INSERT before it, by its meaning.
 use Rattle.std.specs.Prelude.{◌↔◌, ◌&&◌, IsSome, if◌then◌else◌, is_some}
 use Rattle.std.specs.Option.{is_none, option_map, option_map_or}
-use Rattle.std.proofs.Common.{◌≡◌, inl, inr, ◌+◌, ℕ, IsTrue, Bool, true, false, List, [], ◌∷◌, ◌++◌, length, Option, Some, None, Ok, refl, sym, ◌∙◌, ap, subst, arith}
-use Rattle.ob_base.specs.Events.{Event}
-use Rattle.ob_base.specs.Refusals.{is_store_fault}
+use Rattle.std.proofs.Common.{◌≡◌, ◌+◌, ℕ, IsTrue, Bool, true, false, List, [], ◌++◌, Option, Some, None, refl, sym, ◌∙◌, ap, subst}
 use Rattle.ob_base.specs.Stored.{headings, headings_of}
 use Rattle.ob_base.specs.declared.config.Public.{Public}
 use Rattle.ob_base.specs.declared.refusal.Refusal.{Refusal}
 use Rattle.ob_base.specs.declared.refusal.Refusal.TheVariants.{StoreFault}
 use Rattle.ob_base.specs.declared.schema.Heading.{Heading}
-use Rattle.ob_base.specs.declared.seen.End.{End}
-use Rattle.ob_base.specs.declared.seen.End.TheVariants.{Joined, Static}
+use Rattle.ob_base.specs.declared.seen.End.TheVariants.{Joined}
 use Rattle.ob_base.specs.declared.seen.Seen.{Seen}
-use Rattle.ob_base.specs.declared.skeleton.Skeleton.{Skeleton}
-use Rattle.ob_headline.specs.Accesses.{HasForm, Says}
-use Rattle.ob_headline.specs.Batches.{Joins, is_failed, joins_now}
+use Rattle.ob_headline.specs.Accesses.{Says}
+use Rattle.ob_headline.specs.Batches.{Joins, is_failed}
 use Rattle.ob_headline.specs.Closing.{closing_line}
 use Rattle.ob_headline.specs.Meaning.{AnswersIn, AnswersMeant}
 use Rattle.ob_headline.specs.Words.{Answer}
@@ -22,16 +18,14 @@ use Rattle.ob_mean.proofs.BatchLemmas.{GoesIn, after_cut_with, after_refused, af
 use Rattle.ob_mean.proofs.VerdictLemmas.{refused_early, seen_early}
 use Rattle.ob_mean.specs.Batches.{Gathering, and_one, begins_batch, begun_by, goes_into, inserts_into, is_cut, is_joined, is_unrefused, settle_all}
 use Rattle.ob_mean.specs.Lawful.{Lawful}
-use Rattle.ob_mean.specs.Prints.{Prints, Unfinished, labels_of}
+use Rattle.ob_mean.specs.Prints.{Prints, Unfinished}
 use Rattle.ob_mean.specs.Refusals.{early_refusal, limits_of}
-use Rattle.ob_mean.specs.Replay.{Alone, CutWith, How, IsCutOff, IsMember, Session, With, after, how_now, is_access, is_full_now, seen_or_cut}
+use Rattle.ob_mean.specs.Replay.{Alone, CutWith, How, IsCutOff, IsMember, Session, With, after, how_now, is_full_now, seen_or_cut}
 use Rattle.ob_mean.specs.Settle.{settle, settle_served, settled}
 use Rattle.ob_mean.specs.Step.{accepted_answer, answered, followed}
-use Rattle.ob_mean.specs.Verdict.{Accessed, Draws, Tables, accessed, accessed_now, database, ended as seen_to, gone, is_late, refusal, verdict}
-use Rattle.ob_mean.specs.declared.answer.Answer.{Answer as Meaning}
+use Rattle.ob_mean.specs.Verdict.{Accessed, Draws, Tables, accessed, database, ended as seen_to, gone, is_late, refusal, verdict}
 use Rattle.ob_mean.specs.declared.answer.Answer.TheVariants as A
 use Rattle.ob_print.specs.Rows.{events_text}
-use Rattle.ob_row.specs.Slots.{fill_first}
 use Rattle.ob_script.proofs.Unasked.{static_stays, stays_public}
 use Rattle.ob_script.specs.Script.{script}
 use Rattle.ob_script.specs.Trace.{next}
@@ -52,9 +46,9 @@ use Rattle.ob_mutate.specs.declared.inserting.Inserted.TheVariants.{Done, Duplic
 use Rattle.ob_vault.specs.State.{RevState}
 use Rattle.ob_verdict.proofs.AccessedProof.{access_public}
 use Rattle.ob_verdict.proofs.AlikeTables.{headings_changed}
-use Rattle.ob_verdict.specs.Outcomes.{Emits, by_fault, outcome_of, refusal_now}
+use Rattle.ob_verdict.specs.Outcomes.{outcome_of, refusal_now}
 use Rattle.ob_verdict.specs.declared.outcome.Outcome.{Outcome}
-use Rattle.ob_verdict.specs.declared.outcome.Outcome.TheVariants.{Inserted, Refused}
+use Rattle.ob_verdict.specs.declared.outcome.Outcome.TheVariants.{Refused}
 
 -- ---- an INSERT
 pub record IsInsert (stmt : Stmt) : Type 0 where
@@ -73,7 +67,7 @@ insert_of (RowsStmt q) some = absurd (cc some)
 insert_of (TotalsStmt q) some = absurd (cc some)
 
 -- its answer by its meaning is no rows, and emits nothing
-insert_prints : (p : Public) (m : ℕ) (ts : Tables) (stmt : Stmt) → IsInsert stmt → (labels : List (List ℕ)) → Prints labels (verdict p m ts stmt) [] × Unfinished labels (verdict p m ts stmt) []
+pub insert_prints : (p : Public) (m : ℕ) (ts : Tables) (stmt : Stmt) → IsInsert stmt → (labels : List (List ℕ)) → Prints labels (verdict p m ts stmt) [] × Unfinished labels (verdict p m ts stmt) []
 insert_prints p m ts stmt insert labels = subst (λ (s : Stmt). Prints labels (verdict p m ts s) [] × Unfinished labels (verdict p m ts s) []) (sym insert.is) (go (refusal p m ts (Insert insert.table insert.columns insert.values)))
   where
     go : (o : Option Refusal) → Prints labels (answered o A.Done) [] × Unfinished labels (answered o A.Done) []

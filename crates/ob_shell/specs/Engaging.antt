@@ -33,7 +33,7 @@ use Rattle.ob_seal.specs.Sealed.{keys_of}
 use Rattle.ob_shell.specs.Closed.{LineWritten, Unwritten}
 use Rattle.ob_shell.specs.Feeding.{Fetch}
 use Rattle.ob_shell.specs.Generating.{SummedUp}
-use Rattle.ob_shell.specs.Running.{OutFailed, Silenced, StopCause}
+use Rattle.ob_shell.specs.Running.{OutFailed, ServesAlone, Silenced, StopCause}
 use Rattle.ob_shell.specs.Standing.{StandsOn}
 use Rattle.ob_shell.specs.Steps.{IsReady, machine_of, told_nothing}
 use Rattle.ob_shell.specs.Tallies.{has_refused}

@@ -29,7 +29,7 @@ use Rattle.ob_seal.specs.Sealed.{keys_salted}
 use Rattle.ob_shell.specs.Engaging.{IsHushed, KeptConcludedBy, RanUnkeyed}
 use Rattle.ob_shell.specs.Feeding.{Fetch}
 use Rattle.ob_shell.specs.Leaving.{BeginsToSave}
-use Rattle.ob_shell.specs.Running.{OutFailed, Silenced, StopCause}
+use Rattle.ob_shell.specs.Running.{OutFailed, ServesAlone, Silenced, StopCause}
 use Rattle.ob_shell.specs.Standing.{StandsOn}
 use Rattle.ob_shell.specs.Steps.{IsReady, machine_of}
 use Rattle.ob_shell.specs.Tallies.{flagged}

@@ -14,7 +14,6 @@ use Rattle.ob_shell.specs.Tallies.{tally_after}
 use Rattle.ob_shell.specs.Traces.{TracedTo}
 use Rattle.ob_sql.specs.Skeleton.{skeleton}
 use Rattle.ob_sql.specs.declared.stmt.Stmt.{Stmt}
-use Rattle.ob_tables.specs.Agreeing.{public_of}
 use Rattle.ob_tables.specs.Batch.{AreBatch}
 use Rattle.ob_tables.specs.declared.stop.RunStop.{RunStop}
 use Rattle.ob_vault.specs.State.{RevState}

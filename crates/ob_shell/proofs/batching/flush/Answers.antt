@@ -1,4 +1,4 @@
-use Rattle.std.proofs.Common.{◌≡◌, [], List, refl, subst, sym}
+use Rattle.std.proofs.Common.{[], List, refl, subst}
 use Rattle.ob_shell.proofs.TakesLemmas.{takes_idle}
 use Rattle.ob_shell.proofs.batching.flush.Goals as goal
 use Rattle.ob_shell.specs.Steps.{machine_of}

@@ -1,4 +1,4 @@
-use Rattle.std.proofs.Common.{◌≡◌, ◌∙◌, ◌++◌, refl, sym, subst, ap, inl, inr, arith, List, ℕ, Ok, Err}
+use Rattle.std.proofs.Common.{◌∙◌, refl, inl, inr, arith}
 use Rattle.ob_print.proofs.CutLemmas.{Outputs-by}
 use Rattle.ob_shell.proofs.FlushLemmas.{batch_unsunk, idle_batch, lost_batch, lost_quiet, lost_with, served_batch, stopped_batch, traced_only, traced_quiet}
 use Rattle.ob_shell.proofs.TookLemmas.{traced_to}

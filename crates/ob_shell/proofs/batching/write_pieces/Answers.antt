@@ -1,4 +1,4 @@
-use Rattle.std.proofs.Common.{◌≡◌, [], ◌++◌, ◌≤◌, false, true, drop, length, refl, ◌∙◌, arith}
+use Rattle.std.proofs.Common.{◌≡◌, [], ◌++◌, ◌≤◌, false, true, length, refl, ◌∙◌, arith}
 use Rattle.ob_print.specs.Sent.{sends_none}
 use Rattle.ob_print.proofs.CutLemmas.{Outputs-by}
 use Rattle.ob_print.proofs.SentLemmas.{Sends-by, Sends-cut, Sends-lose, Sends-then, flushed, flushed_ok}

@@ -1,4 +1,4 @@
-use Rattle.std.proofs.Common.{refl, rules}
+use Rattle.std.proofs.Common.{refl}
 use Rattle.ob_shell.proofs.CountLemmas.{same_cause}
 use Rattle.ob_shell.proofs.TakesLemmas.{takes_halted, takes_one}
 use Rattle.ob_tables.specs.Stops.{session_stop}

@@ -1,4 +1,4 @@
-use Rattle.std.proofs.Common.{◌≡◌, ◌∙◌, ℕ, Bool, false, true, List, [], ◌∷◌, if◌then◌else◌, ap, refl, subst, sym, rules}
+use Rattle.std.proofs.Common.{◌≡◌, ℕ, Bool, false, true, List, [], ◌∷◌, if◌then◌else◌, ap}
 use Rattle.ob_headline.specs.Texts.{tail_text, has_words, reading_of}
 use Rattle.ob_shell.proofs.TakesLemmas.{takes_idle, takes_of_text}
 use Rattle.ob_shell.specs.Steps.{machine_of}

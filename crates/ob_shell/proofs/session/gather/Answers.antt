@@ -1,6 +1,5 @@
-use Rattle.std.proofs.Common.{arith, refl, subst, sym}
-use Rattle.ob_shell.specs.Steps.{asked_of, machine_of}
-use Rattle.ob_shell.specs.Waiting.{ComesFree}
+use Rattle.std.proofs.Common.{arith, refl}
+use Rattle.ob_shell.specs.Steps.{machine_of}
 use Rattle.ob_shell.proofs.GatherLemmas.{batch_more, comes_before, gathered_more, takes_full, takes_gathered, waits_by}
 use Rattle.ob_shell.proofs.TakesLemmas.{takes_idle}
 use Rattle.ob_tables.specs.Agreeing.{count_of, public_of}

@@ -1,8 +1,5 @@
-use Rattle.std.proofs.Common.{refl, ◌∙◌}
 use Rattle.ob_shell.proofs.GatherLemmas.{are_batched}
 use Rattle.ob_shell.proofs.RunLemmas.{ran_flushed, ran_unflushed}
-use Rattle.ob_shell.proofs.ServedLemmas.{alone_read, stop_stays, waited_quiet, waited_stops}
-use Rattle.ob_shell.proofs.TraceLemmas.{traced_cut, traced_then, traced_whole}
 use Rattle.ob_tables.specs.Agreeing.{count_of, public_of}
 use Rattle.ob_shell.proofs.session.serve.Goals as goal
 

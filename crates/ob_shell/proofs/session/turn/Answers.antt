@@ -1,4 +1,4 @@
-use Rattle.std.proofs.Common.{◌∙◌, ◌≡◌, ℕ, List, [], ◌∷◌, ap, refl, rules, subst, sym}
+use Rattle.std.proofs.Common.{[]}
 use Rattle.ob_shell.proofs.GatherLemmas.{comes_free}
 use Rattle.ob_shell.proofs.RunLemmas.{at_limit_is_over}
 use Rattle.ob_shell.proofs.TakesLemmas.{takes_idle, turns_by}
