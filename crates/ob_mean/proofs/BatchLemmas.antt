@@ -42,6 +42,10 @@ flat_insert p (DropSkeleton table) is = absurd (cc is)
 flat_insert p (Rows source cs) is = absurd (cc is)
 flat_insert p (Groups table cs key) is = absurd (cc is)
 
+-- as many as the settings let one batch have
+abbrev most_of : Public → (m : ℕ) → ℕ
+most_of p m = max 1 (min m (p.buffer - p.pack))
+
 batched_by : (f : ℕ → ℕ) (o : Option ℕ) → 2 ≤ option_map_or f o 1 → IsSome o
 batched_by f None most = absurd (omega (arith, most))
 batched_by f (Some m) most = refl
@@ -63,7 +67,7 @@ begins p m stmt is =
     let flat = flat_insert p (skeleton stmt) third.1 in
     record {
       most = most;
-      batched = batched_by _ p.batch most;
+      batched = batched_by (most_of p) p.batch most;
       room = ltb-true (m + 2 ^ 50) (2 ^ 63) first.1;
       inserts = flat.0;
       flat = flat.1;
@@ -100,13 +104,13 @@ some_in f None some = omega arith
 some_in f (Some m) some = some m
 
 pub most_some : (p : Public) → 1 ≤ batch_most p
-most_some p = some_in (λ (m : ℕ). max 1 (min m (p.buffer - p.pack))) p.batch (λ m. omega arith)
+most_some p = some_in (most_of p) p.batch (λ m. omega arith)
 
 -- ---- where batches aren't asked for
 module _ (p : Public) (alone : p.batch ≡ None) where
   pub none_begin : (m : ℕ) (stmt : Stmt) → begins_batch p m stmt ≡ false
   none_begin m stmt =
-      ap (λ (o : Option ℕ). nat_le 2 (option_map_or (λ (n : ℕ). max 1 (min n (p.buffer - p.pack))) o 1) && leaves_room m && inserts_flat p (skeleton stmt) && is_unrefused p m stmt) alone
+      ap (λ (o : Option ℕ). nat_le 2 (option_map_or (most_of p) o 1) && leaves_room m && inserts_flat p (skeleton stmt) && is_unrefused p m stmt) alone
 
   pub none_join : (g : Option Gathering) (s : Skeleton) → goes_into p g s ≡ false
   none_join None s = refl
