@@ -72,7 +72,7 @@ pub changed_twice : (name : List ℕ) (f g : Slots → Slots) (tables : Tables) 
 changed_twice name f g [] = refl
 changed_twice name f g (x ∷ xs) = go (bytes_eq x.heading.name name) refl
   where
-    twice : Held → Held
+    abbrev twice : Held → Held
     twice = in_slots (λ slots. g (f slots))
 
     go : (b : Bool) → bytes_eq x.heading.name name ≡ b

@@ -133,40 +133,6 @@ impl Batch {
             Err(_) => Err(NoMemory),
         }
     }
-
-    // That of an INSERT which isn't refused before any access, and of those among others that aren't; each of the
-    // others is answered by its refusal, or as if its row were put.
-    fn new(
-        alloc: Global,
-        public: &Public,
-        schema: &Schema,
-        first: &Stmt,
-        rest: &[Stmt],
-        outcomes: &mut [Outcome],
-    ) -> Result<Batch, NoMemory>
-        requires pack { 1 ≤ public.now.pack }
-        requires buffer { 3 * public.now.pack + 1 ≤ public.now.buffer }
-        requires insert { IsSome (inserts_into (skeleton first.now)) }
-        requires inserts { All (λ stmt. IsSome (inserts_into (skeleton stmt))) rest.now }
-        requires each { length outcomes.old ≡ length rest.now }
-        requires few { length rest.now < 65536 }
-        ensures rows { IfOk result (λ batch. batch.rows.items
-            ≡ row_of schema.now first.now ∷ rows_in public.now 0 schema.now rest.now) }
-        ensures held { IfOk result (λ batch. All (All IsCell) batch.rows.items) }
-        ensures places { IfOk result (λ batch. batch.order.most ≡ length batch.rows.items) }
-        ensures answers { IfOk result (λ batch.
-            length batch.answers.items ≡ length batch.rows.items) }
-        ensures outcomes { OnOk result (outcomes.new ≡ early_outcomes public.now 0 rest.now) }
-    {
-        let mut rows = Vec::new(alloc);
-        if add_row(alloc, schema, first, &mut rows).is_err() {
-            return Err(NoMemory);
-        }
-        match add_rows(alloc, public, schema, rest, &mut rows, outcomes) {
-            Ok(()) => Batch::of_rows(alloc, rows),
-            Err(NoMemory) => Err(NoMemory),
-        }
-    }
 }
 
 // What an outcome becomes where so many answers are given already, and how many are then.
@@ -219,6 +185,40 @@ fn fail_all(outcomes: &mut [Outcome])
 }
 
 impl<R: Revisions> Engine<R> {
+    // The batch of an INSERT that isn't refused before any access and of those behind it that aren't; each of these is
+    // answered by its refusal, or as if its row were put.
+    fn batch_of(
+        &self,
+        schema: &Schema,
+        first: &Stmt,
+        rest: &[Stmt],
+        outcomes: &mut [Outcome],
+    ) -> Result<Batch, NoMemory>
+        requires pack { 1 ≤ (public_of self.now).pack }
+        requires buffer { 3 * (public_of self.now).pack + 1 ≤ (public_of self.now).buffer }
+        requires insert { IsSome (inserts_into (skeleton first.now)) }
+        requires inserts { All (λ stmt. IsSome (inserts_into (skeleton stmt))) rest.now }
+        requires each { length outcomes.old ≡ length rest.now }
+        requires few { length rest.now < 65536 }
+        ensures rows { IfOk result (λ batch. batch.rows.items
+            ≡ row_of schema.now first.now ∷ rows_in (public_of self.now) 0 schema.now rest.now) }
+        ensures held { IfOk result (λ batch. All (All IsCell) batch.rows.items) }
+        ensures places { IfOk result (λ batch. batch.order.most ≡ length batch.rows.items) }
+        ensures answers { IfOk result (λ batch.
+            length batch.answers.items ≡ length batch.rows.items) }
+        ensures outcomes { OnOk result
+            (outcomes.new ≡ early_outcomes (public_of self.now) 0 rest.now) }
+    {
+        let mut rows = Vec::new(self.alloc);
+        if add_row(self.alloc, schema, first, &mut rows).is_err() {
+            return Err(NoMemory);
+        }
+        match add_rows(self.alloc, &self.public, schema, rest, &mut rows, outcomes) {
+            Ok(()) => Batch::of_rows(self.alloc, rows),
+            Err(NoMemory) => Err(NoMemory),
+        }
+    }
+
     /// INSERTs into one flat table, one after the other, in one reading and one writing pass: `first`, which a batch
     /// begins with, and those behind it, which are answered in `outcomes`. Their rows go to the table's first empty
     /// slots; one that is refused before any access has none. The table lies in a fresh region then.
@@ -242,8 +242,7 @@ impl<R: Revisions> Engine<R> {
     {
         let (i, mut flat) = self.table_at(table_of(first));
         let former = self.former();
-        let made = Batch::new(self.alloc, &self.public, &flat.schema, first, rest, outcomes);
-        let Ok(mut batch) = made else {
+        let Ok(mut batch) = self.batch_of(&flat.schema, first, rest, outcomes) else {
             return self.cut(0, OpErr::NoMemory);
         };
         let before = store.count();

@@ -1,0 +1,89 @@
+use Rattle.std.proofs.Common.{◌≡◌, ◌-◌, List, length, Ok, arith, refl, sym, ◌∙◌, subst, ap}
+use Rattle.std.proofs.lemmas.Option.{slice_get_within}
+use Rattle.ob_base.specs.declared.seen.End.TheVariants.{Whole}
+use Rattle.ob_flat.specs.declared.flat.Flat.{Flat}
+use Rattle.ob_mean.specs.Verdict.{ended as seen_to}
+use Rattle.ob_mutate.specs.Batches.{AreFit}
+use Rattle.ob_row.specs.Rows.{Row}
+use Rattle.ob_tables.specs.Agreeing.{count_of}
+use Rattle.ob_tables.specs.declared.engine.Engine.{Engine}
+use Rattle.ob_verdict.specs.declared.outcome.Outcome.{Outcome}
+use Rattle.ob_tables.proofs.BatchServed.{all_insert, batch_unasked, begun, cut_batch, few_rest, name_flat, name_there, put_batch, rows_are_fit, rows_open}
+use Rattle.ob_tables.proofs.FoundLemmas.{heading_found, shape_found}
+use Rattle.ob_tables.proofs.ReadLemmas.{read_flat, read_size}
+use Rattle.ob_tables.proofs.RunLemmas.{opens_rows, rests_refl}
+use Rattle.ob_tables.proofs.engine.Engine.insert_batch.Goals as goal
+
+pub table_of-requires : goal.table_of-requires
+table_of-requires g c = (begun c.args.self.now.public (count_of c.args.self.now (g.S.BlockStore.state c.args.store.now)) c.args.first.now c.args.rest.now c.requires.batch).inserts
+
+pub table_at-i-requires : goal.table_at-i-requires
+table_at-i-requires g c =
+    name_there c.args.self.now.public (count_of c.args.self.now (g.S.BlockStore.state c.args.store.now)) c.args.first.now c.args.rest.now c.requires.batch c.table_of.result.now c.table_of.ensures
+
+pub batch_of-requires-clause-insert : goal.batch_of-requires-clause-insert
+batch_of-requires-clause-insert g c = (begun c.args.self.now.public (count_of c.args.self.now (g.S.BlockStore.state c.args.store.now)) c.args.first.now c.args.rest.now c.requires.batch).inserts
+
+pub batch_of-requires-clause-inserts : goal.batch_of-requires-clause-inserts
+batch_of-requires-clause-inserts g c = all_insert c.args.self.now.public (count_of c.args.self.now (g.S.BlockStore.state c.args.store.now)) c.args.first.now c.args.rest.now c.requires.batch
+
+pub batch_of-requires-clause-few : goal.batch_of-requires-clause-few
+batch_of-requires-clause-few g c =
+    few_rest c.args.self.now.public (count_of c.args.self.now (g.S.BlockStore.state c.args.store.now)) c.args.first.now c.args.rest.now c.requires.batch c.requires.agrees.settings
+
+pub insert_all-result-requires-clause-flat : goal.insert_all-result-requires-clause-flat
+insert_all-result-requires-clause-flat g c =
+    let old = c.args.self.now in
+    let found = c.table_at-i.ensures in
+    let flat = name_flat old.public (count_of old (g.S.BlockStore.state c.args.store.now)) c.args.first.now c.args.rest.now c.requires.batch c.table_of.result.now c.table_of.ensures in
+    let shape = shape_found c.table_of.result.now old.public.tables c.table_at-i.result.0 found.table c.requires.agrees.tables.names found.here.get found.here.named flat in
+    read_flat g.R.Revisions.state old (g.S.BlockStore.state c.args.store.now) (g.S.BlockStore.state c.make_room.new.store) c.table_at-i.result.0 found.table c.requires.agrees c.make_room.ensures.rests found.here.get shape
+    c.table_at-i.result.1 found.is
+
+pub insert_all-result-requires-clause-size : goal.insert_all-result-requires-clause-size
+insert_all-result-requires-clause-size g c =
+    let old = c.args.self.now in
+    let found = c.table_at-i.ensures in
+    let flat = name_flat old.public (count_of old (g.S.BlockStore.state c.args.store.now)) c.args.first.now c.args.rest.now c.requires.batch c.table_of.result.now c.table_of.ensures in
+    let shape = shape_found c.table_of.result.now old.public.tables c.table_at-i.result.0 found.table c.requires.agrees.tables.names found.here.get found.here.named flat in
+    read_size g.R.Revisions.state old (g.S.BlockStore.state c.args.store.now) (g.S.BlockStore.state c.make_room.new.store) c.table_at-i.result.0 found.table c.requires.agrees c.make_room.ensures.rests found.here.get shape
+    c.table_at-i.result.1 found.is
+
+pub insert_all-result-requires-clause-batch : goal.insert_all-result-requires-clause-batch
+insert_all-result-requires-clause-batch g c =
+    let old = c.args.self.now in
+    let found = c.table_at-i.ensures in
+    let table = found.table in
+    let m = count_of old (g.S.BlockStore.state c.args.store.now) in
+    let flat = name_flat old.public m c.args.first.now c.args.rest.now c.requires.batch c.table_of.result.now c.table_of.ensures in
+    let shape = shape_found c.table_of.result.now old.public.tables c.table_at-i.result.0 table c.requires.agrees.tables.names found.here.get found.here.named flat in
+    let fit = rows_are_fit old.public m c.args.first.now c.args.rest.now c.requires.batch c.table_of.result.now c.table_of.ensures table.heading c.table_at-i.result.1.schema (ap (λ (f : Flat). f.schema) found.is)
+    c.in-Ok.batch.rows.items c.in-Ok.ensures.rows shape (heading_found c.table_of.result.now old.public.tables c.table_at-i.result.0 table c.requires.agrees.tables.names found.here.get found.here.named)
+    (c.requires.agrees.tables.each c.table_at-i.result.0 table found.here.get).heading.stored.names c.in-Ok.ensures.held in
+    subst (λ (rows : List Row). AreFit c.table_at-i.result.1.schema rows) (sym c.as_slice.ensures.value) fit
+
+pub insert_all-result-requires-clause-few : goal.insert_all-result-requires-clause-few
+insert_all-result-requires-clause-few g c =
+    let old = c.args.self.now in
+    let found = c.table_at-i.ensures in
+    let within = rows_open old.public (count_of old (g.S.BlockStore.state c.args.store.now)) c.args.first.now c.args.rest.now c.requires.batch c.table_of.result.now c.table_of.ensures found.table.heading c.table_at-i.result.1.schema
+    (ap (λ (f : Flat). f.schema) found.is) c.in-Ok.batch.rows.items c.in-Ok.ensures.rows in
+    let same = ap length c.as_slice.ensures.value in
+    omega (arith, within, same, c.requires.agrees.room.pack, c.requires.agrees.room.rows)
+
+pub move_table-requires : goal.move_table-requires
+move_table-requires g c = slice_get_within c.args.self.now.public.tables c.table_at-i.result.0 c.table_at-i.ensures.table c.table_at-i.ensures.here.get
+
+pub returns-in_default : goal.returns-in_default
+returns-in_default g c = record {
+  serves =
+      batch_unasked g.R.Revisions.state c.args.first.now c.args.rest.now _ c.args.self.now (g.S.BlockStore.state c.args.store.now) (g.S.BlockStore.state c.args.store.now) c.requires.agrees c.requires.batch
+      (rests_refl (g.S.BlockStore.state c.args.store.now)) c.table_of.result.now c.table_of.ensures _ _ c.cut.ensures.answer c.cut.ensures.seen;
+}
+
+pub returns-then-is_err : goal.returns-then-is_err
+returns-then-is_err g c = record {
+  serves =
+      batch_unasked g.R.Revisions.state c.args.first.now c.args.rest.now _ c.args.self.now (g.S.BlockStore.state c.args.store.now) (g.S.BlockStore.state c.make_room.new.store) c.requires.agrees c.requires.batch
+      c.make_room.ensures.rests c.table_of.result.now c.table_of.ensures _ _ c.cut-then-is_err.ensures.answer c.cut-then-is_err.ensures.seen;
+}
