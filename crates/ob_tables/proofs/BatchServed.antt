@@ -36,7 +36,7 @@ use Rattle.ob_verdict.specs.Outcomes.{by_fault, outcome_of, refusal_now}
 use Rattle.ob_tables.specs.declared.engine.Engine.{Engine}
 use Rattle.ob_tables.specs.declared.stop.RunStop.{RunStop}
 use Rattle.ob_tables.specs.Agreeing.{count_of}
-use Rattle.ob_tables.specs.Batch.{AreBatch, AreServedWith, ServesBatch, early_outcomes, failed_row, given_all, outcome_unless, outcomes_behind, outcomes_of, row_of, row_unless, rows_in}
+use Rattle.ob_tables.specs.Batch.{AreBatch, AreServedWith, ServesBatch, failed_by, given_all, outcomes_behind, outcomes_of, refusal_by, row_of, row_unless, rows_in}
 use Rattle.ob_tables.specs.Running.{HasNoRows, answer_of, inserted_as, is_fault}
 use Rattle.ob_tables.specs.Serving.{ServesSilently}
 use Rattle.ob_tables.specs.Telling.{ReadsTrue}
@@ -108,7 +108,7 @@ first_silent (answer ∷ answers) = silent_inserted answer
 module _ (p : Public) (m : ℕ) (name : List ℕ) (heading : Heading) (flat : heading.shape ≡ FlatShape) (none : has_index p name ≡ false)
     (first : Stmt) (rest : List Stmt) (named : inserts_into (skeleton first) ≡ Some name) (alike : All (names_it p m name heading flat none) rest) (now : refusal_now p m first ≡ None) where
   abbrev pub batch_rows : List Row
-  batch_rows = row_of heading.schema first ∷ rows_in p m heading.schema rest
+  batch_rows = row_of heading.schema first ∷ rows_in (is_late m) p heading.schema rest
 
   -- over tables in place of which it is one
   pub record MeansBatch (tables : Tables) (slots : Slots) : Type 0 where
@@ -116,7 +116,7 @@ module _ (p : Public) (m : ℕ) (name : List ℕ) (heading : Heading) (flat : he
     pub settles : (d : Draws) → settle_all d p m (first ∷ rest) tables ≡ changed_at name (in_slots to) tables
     pub here : to slots ≡ inserted_all heading.schema batch_rows slots
     pub answer : first_of (insert_answers heading.schema batch_rows slots) ≡ outcome_of first (verdict p m tables first)
-    pub answers : (d : Draws) → given_all (rest_of (insert_answers heading.schema batch_rows slots)) (early_outcomes p m rest) ≡ outcomes_behind d p m first rest tables
+    pub answers : (d : Draws) → given_all (rest_of (insert_answers heading.schema batch_rows slots)) (map (refusal_by (is_late m) p) rest) ≡ outcomes_behind d p m first rest tables
 
   pub means_batch : (tables : Tables) (x : Stored Held) → headings tables ≡ headings_of p.tables → stored_at name tables ≡ Some x → length x.held.slots ≡ x.heading.capacity → x.heading ≡ heading
       → MeansBatch tables x.held.slots
@@ -179,7 +179,7 @@ batch_as state first rest outcomes old s new t result q same serves others told 
 }
 
 -- a pass gave up
-module _ (p : Public) (m : ℕ) (rest : List Stmt) (outcomes : List Outcome) (are : outcomes ≡ map failed_row (early_outcomes p m rest)) where
+module _ (p : Public) (m : ℕ) (rest : List Stmt) (outcomes : List Outcome) (are : outcomes ≡ map failed_by (map (refusal_by (is_late m) p) rest)) where
   pub cut_others : (e : OpErr) → IfOk (answer_of e) (λ outcome. AreServedWith p m (is_fault outcome) rest outcomes)
   cut_others OpErrs.Failed = subst (λ (os : List Outcome). AreServedWith p m true rest os) (sym are) (all_failed p m rest)
   cut_others (OpErrs.Tampered q x) = tt
@@ -193,7 +193,7 @@ module _ (p : Public) (m : ℕ) (rest : List Stmt) (outcomes : List Outcome) (ar
   cut_told P OpErrs.NoMemory = tt
 
 -- it came to its end
-pub put_others : (p : Public) (m : ℕ) (rest : List Stmt) (answers given : List Inserted) (outcomes : List Outcome) → outcomes ≡ given_all given (early_outcomes p m rest)
+pub put_others : (p : Public) (m : ℕ) (rest : List Stmt) (answers given : List Inserted) (outcomes : List Outcome) → outcomes ≡ given_all given (map (refusal_by (is_late m) p) rest)
     → AreServedWith p m (is_fault (first_of answers)) rest outcomes
 put_others p m rest answers given outcomes are =
     subst (λ (b : Bool). AreServedWith p m b rest outcomes) (sym (first_answered answers).own)
@@ -207,29 +207,26 @@ module _ (p : Public) (m : ℕ) (early : m + 2 ^ 50 < 2 ^ 63) where
   pub not_late : is_late m ≡ false
   not_late = let less : m < 2 ^ 63 = omega (arith, early) in lt-leb (2 ^ 63) m less
 
-  as_at_once : is_late 0 ≡ is_late m
-  as_at_once = lt-leb (2 ^ 63) 0 (omega (arith)) ∙ sym not_late
+  pub early_now : (rest : List Stmt) → map (refusal_by false p) rest ≡ map (refusal_by (is_late m) p) rest
+  early_now rest = ap (λ (late : Bool). map (refusal_by late p) rest) (sym not_late)
 
-  pub early_now : (rest : List Stmt) → early_outcomes p 0 rest ≡ early_outcomes p m rest
-  early_now rest = ap (λ (late : Bool). map (λ (stmt : Stmt). outcome_unless (early_refusal late (limits_of p) (headings_of p.tables) stmt)) rest) as_at_once
-
-  pub rows_now : (cs : Columns) (rest : List Stmt) → rows_in p 0 cs rest ≡ rows_in p m cs rest
-  rows_now cs rest = ap (λ (late : Bool). filter_map (λ (stmt : Stmt). row_unless (early_refusal late (limits_of p) (headings_of p.tables) stmt) (row_of cs stmt)) rest) as_at_once
+  pub rows_now : (cs : Columns) (rest : List Stmt) → rows_in false p cs rest ≡ rows_in (is_late m) p cs rest
+  rows_now cs rest = ap (λ (late : Bool). rows_in late p cs rest) (sym not_late)
 
 -- ---- its rows are no more than may be open beside those of a block
 most_few : (o : Option ℕ) (free : ℕ) → 2 ≤ option_map_or (λ m. max 1 (min m free)) o 1 → option_map_or (λ m. max 1 (min m free)) o 1 ≤ free
 most_few None free two = absurd (omega (arith, two))
 most_few (Some m) free two = omega (arith, two)
 
-rows_few : (p : Public) (m : ℕ) (cs : Columns) (rest : List Stmt) → length (rows_in p m cs rest) ≤ length rest
+rows_few : (p : Public) (m : ℕ) (cs : Columns) (rest : List Stmt) → length (rows_in (is_late m) p cs rest) ≤ length rest
 rows_few p m cs [] = omega (arith)
 rows_few p m cs (stmt ∷ stmts) = go (refusal_now p m stmt) (rows_few p m cs stmts)
   where
-    go : (o : Option Refusal) → length (rows_in p m cs stmts) ≤ length stmts → length (cons_option (row_unless o (row_of cs stmt)) (rows_in p m cs stmts)) ≤ length (stmt ∷ stmts)
+    go : (o : Option Refusal) → length (rows_in (is_late m) p cs stmts) ≤ length stmts → length (cons_option (row_unless o (row_of cs stmt)) (rows_in (is_late m) p cs stmts)) ≤ length (stmt ∷ stmts)
     go None few = omega (arith, few)
     go (Some r) few = omega (arith, few)
 
-pub rows_within : (p : Public) (m : ℕ) (cs : Columns) (first : Stmt) (rest : List Stmt) → 2 ≤ batch_most p → length rest < batch_most p → p.pack + length (row_of cs first ∷ rows_in p m cs rest) ≤ p.buffer
+pub rows_within : (p : Public) (m : ℕ) (cs : Columns) (first : Stmt) (rest : List Stmt) → 2 ≤ batch_most p → length rest < batch_most p → p.pack + length (row_of cs first ∷ rows_in (is_late m) p cs rest) ≤ p.buffer
 rows_within p m cs first rest two few =
     let most = most_few p.batch (p.buffer - p.pack) two in
     let rows = rows_few p m cs rest in
@@ -258,9 +255,9 @@ module _ (p : Public) (m : ℕ) (first : Stmt) (rest : List Stmt) (are : AreBatc
         is_there (has_table name (headings_of p.tables))
         (allowed (is_late m) (limits_of p) (headings_of p.tables) (Insert name insert.columns insert.values) (ap (refusal_now p m) (sym insert.is) ∙ begun.accepted)).tables
 
-    module _ (heading : Heading) (cs : Columns) (schema_is : cs ≡ heading.schema) (rows : List Row) (rows_is : rows ≡ row_of cs first ∷ rows_in p 0 cs rest) where
-      pub rows_same : rows ≡ row_of heading.schema first ∷ rows_in p m heading.schema rest
-      rows_same = rows_is ∙ (λ i. row_of (schema_is i) first ∷ rows_in p 0 (schema_is i) rest) ∙ ap (λ (more : List Row). row_of heading.schema first ∷ more) (rows_now p m begun.room heading.schema rest)
+    module _ (heading : Heading) (cs : Columns) (schema_is : cs ≡ heading.schema) (rows : List Row) (rows_is : rows ≡ row_of cs first ∷ rows_in false p cs rest) where
+      pub rows_same : rows ≡ row_of heading.schema first ∷ rows_in (is_late m) p heading.schema rest
+      rows_same = rows_is ∙ (λ i. row_of (schema_is i) first ∷ rows_in false p (schema_is i) rest) ∙ ap (λ (more : List Row). row_of heading.schema first ∷ more) (rows_now p m begun.room heading.schema rest)
 
       pub rows_open : p.pack + length rows ≤ p.buffer
       rows_open = let within = rows_within p m heading.schema first rest begun.most are.few in let same = ap length rows_same in omega (arith, within, same)
@@ -269,7 +266,7 @@ module _ (p : Public) (m : ℕ) (first : Stmt) (rest : List Stmt) (are : AreBatc
       pub rows_are_fit : heading.shape ≡ FlatShape → heading_at name (headings_of p.tables) ≡ Some heading → has_repeats bytes_eq (map (λ (c : Column). c.name) heading.schema) ≡ false → All (All IsCell) rows → AreFit cs rows
       rows_are_fit flat found apart held =
           let row = row_of heading.schema first in
-          let more = rows_in p m heading.schema rest in
+          let more = rows_in (is_late m) p heading.schema rest in
           let cells = subst (λ (rs : List Row). All (All IsCell) rs) rows_same held in
           let fit = All-cons (FitsColumns heading.schema) row more
           (row_fits p m name heading flat name_flat found apart first named begun.accepted (All-head (All IsCell) row more cells))
@@ -288,7 +285,7 @@ module _ (p : Public) (m : ℕ) (first : Stmt) (rest : List Stmt) (are : AreBatc
 -- ---- it was carried out
 module _ {R : Type 0} (state : R → RevState) (first : Stmt) (rest : List Stmt) (old : Engine R) (s s1 : StoreState) (v : Vault R) (room : RoomState) (t : StoreState) (i : ℕ) (flat left : Flat)
     (agrees : Agrees state old s) (rests : ChangesNothing s s1) (uses : UsesRoom old.room room) (are : AreBatch old.public (count_of old s) first rest) (name : List ℕ) (named : inserts_into (skeleton first) ≡ Some name)
-    (found : IsFound name i flat old.public.tables) (rows : List Row) (rows_is : rows ≡ row_of flat.schema first ∷ rows_in old.public 0 flat.schema rest) where
+    (found : IsFound name i flat old.public.tables) (rows : List Row) (rows_is : rows ≡ row_of flat.schema first ∷ rows_in false old.public flat.schema rest) where
   abbrev p : Public
   p = old.public
 
@@ -299,7 +296,7 @@ module _ {R : Type 0} (state : R → RevState) (first : Stmt) (rest : List Stmt)
   table = found.table
 
   abbrev all_rows : List Row
-  all_rows = row_of table.heading.schema first ∷ rows_in p m table.heading.schema rest
+  all_rows = row_of table.heading.schema first ∷ rows_in (is_late m) p table.heading.schema rest
 
   begins_now : Begins p m first
   begins_now = begun p m first rest are
@@ -319,8 +316,8 @@ module _ {R : Type 0} (state : R → RevState) (first : Stmt) (rest : List Stmt)
   alters : Alters p m first rest name table.heading insert_part first_of (insert_answers flat.schema all_rows) (inserted_all flat.schema all_rows)
   alters = batch_alters p m name table.heading shape unindexed first rest named (all_named p m first rest are name named) begins_now.accepted flat.schema schema_as
 
-  early_as : (outcomes : List Outcome) → outcomes ≡ early_outcomes p 0 rest → outcomes ≡ early_outcomes p m rest
-  early_as outcomes is = is ∙ early_now p m begins_now.room rest
+  early_as : (early : List (Option Refusal)) → early ≡ map (refusal_by false p) rest → early ≡ map (refusal_by (is_late m) p) rest
+  early_as early is = is ∙ early_now p m begins_now.room rest
 
   of_rows : {T : Type 0} (former : Former) (answers : List Inserted) (result : Result T OpErr) → InsertsAll former old.room.pack flat left rows answers result (at state old.vault s1) (at state v t)
       → InsertsAll former old.room.pack flat left all_rows answers result (at state old.vault s1) (at state v t)
@@ -328,11 +325,11 @@ module _ {R : Type 0} (state : R → RevState) (first : Stmt) (rest : List Stmt)
 
   -- to its end
   pub put_batch : {T : Type 0} (x : T) (former : Former) → former ≡ former_of p → (answers : List Inserted) → InsertsAll former old.room.pack flat left rows answers (Ok x) (at state old.vault s1) (at state v t) → old.ended ≡ false
-      → (early outcomes : List Outcome) → early ≡ early_outcomes p 0 rest → outcomes ≡ given_all (rest_of answers) early → (new : Engine R) (result : Result Outcome RunStop) → result ≡ Ok (first_of answers)
+      → (early : List (Option Refusal)) (outcomes : List Outcome) → early ≡ map (refusal_by false p) rest → outcomes ≡ given_all (rest_of answers) early → (new : Engine R) (result : Result Outcome RunStop) → result ≡ Ok (first_of answers)
       → new ≡ engine_after old v room (slice_set p.tables i (record table { region = left.region })) Whole old.ended → ServesBatch state first rest result outcomes old s new t
   put_batch x former former_is answers inserts lives early outcomes early_is given new result answered is =
       let put = of_rows former answers (Ok x) inserts in
-      let given_as : outcomes ≡ given_all (rest_of answers) (early_outcomes p m rest) = given ∙ ap (given_all (rest_of answers)) (early_as early early_is) in
+      let given_as : outcomes ≡ given_all (rest_of answers) (map (refusal_by (is_late m) p) rest) = given ∙ ap (given_all (rest_of answers)) (early_as early early_is) in
       batch_as state first rest outcomes old s new t result (Ok (first_of answers)) answered
       (mutated state first name insert_part first_of (insert_answers flat.schema all_rows) (inserted_all flat.schema all_rows) old s s1 v room t i table flat left agrees rests uses found.here found.is begins_now.accepted begins_now.flat alters
       former former_is answers new result put lives answered is)
@@ -346,16 +343,16 @@ module _ {R : Type 0} (state : R → RevState) (first : Stmt) (rest : List Stmt)
       (held_headings p.pack old.indexes.items p.tables tables (world_of state old s) reads.held.held) told.0.found size told.0.heading in
       put_told answers (outcomes ≡ outcomes_behind d p m first rest tables)
       (given_as
-      ∙ ap (λ (l : List Inserted). given_all (rest_of l) (early_outcomes p m rest)) (told.1 ∙ ap (λ (c : Columns). insert_answers c all_rows y.held.slots) schema_as)
+      ∙ ap (λ (l : List Inserted). given_all (rest_of l) (map (refusal_by (is_late m) p) rest)) (told.1 ∙ ap (λ (c : Columns). insert_answers c all_rows y.held.slots) schema_as)
       ∙ meant.answers d))
 
   -- its pass gave up
   pub cut_batch : {T : Type 0} (former : Former) → former ≡ former_of p → (answers : List Inserted) (e : OpErr) → InsertsAll {T = T} former old.room.pack flat left rows answers (Err e) (at state old.vault s1) (at state v t)
-      → (n : ℕ) → n ≡ length t.asked - length s.asked → (early outcomes : List Outcome) → early ≡ early_outcomes p 0 rest → outcomes ≡ map failed_row early → (new : Engine R) (result : Result Outcome RunStop) → result ≡ answer_of e
+      → (n : ℕ) → n ≡ length t.asked - length s.asked → (early : List (Option Refusal)) (outcomes : List Outcome) → early ≡ map (refusal_by false p) rest → outcomes ≡ map failed_by early → (new : Engine R) (result : Result Outcome RunStop) → result ≡ answer_of e
       → new ≡ engine_after old v room p.tables (Cut n) (is_stop (answer_of e)) → ServesBatch state first rest result outcomes old s new t
   cut_batch {T} former former_is answers e inserts n count early outcomes early_is failed new result answered is =
       let cut = of_rows {T = T} former answers (Err e) inserts in
-      let failed_as : outcomes ≡ map failed_row (early_outcomes p m rest) = failed ∙ ap (map failed_row) (early_as early early_is) in
+      let failed_as : outcomes ≡ map failed_by (map (refusal_by (is_late m) p) rest) = failed ∙ ap (map failed_by) (early_as early early_is) in
       batch_as state first rest outcomes old s new t result (answer_of e) answered
       (unmutated state first name insert_part first_of (insert_answers flat.schema all_rows) (inserted_all flat.schema all_rows) old s s1 v room t i table flat left agrees rests uses found.here found.is begins_now.accepted begins_now.flat alters
       former former_is e n new result cut count answered is)
