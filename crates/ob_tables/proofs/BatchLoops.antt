@@ -1,7 +1,7 @@
 -- The rows and the outcomes of a batch, one after the other.
-use Rattle.std.proofs.Common.{◌≡◌, ◌<◌, ◌≤◌, ◌+◌, ◌++◌, ℕ, Bool, Option, Some, None, List, [], ◌∷◌, length, map, take, drop, get_or, slice_set, refl, sym, ◌∙◌, ap, arith, append_assoc}
+use Rattle.std.proofs.Common.{◌≡◌, ◌<◌, ◌≤◌, ◌+◌, ◌^◌, ◌++◌, ℕ, Bool, Option, Some, None, List, [], ◌∷◌, length, map, take, drop, get_or, slice_set, refl, sym, ◌∙◌, ap, arith, append_assoc}
 use Rattle.std.specs.List.{cons_option}
-use Rattle.std.proofs.lemmas.List.{append-nil, drop_all, drop_more, map_more, take_all, take_more, take_more_set}
+use Rattle.std.proofs.lemmas.List.{append-nil, length-append, drop_all, drop_more, map_more, take_all, take_more, take_more_set}
 use Rattle.std.proofs.lemmas.List.Elements.{filter_map-append}
 use Rattle.ob_base.specs.declared.config.Public.{Public}
 use Rattle.ob_base.specs.declared.refusal.Refusal.{Refusal}
@@ -33,6 +33,24 @@ rows_more late p cs rest j d inside before rows more so_far added =
     ∙ append_assoc before (rows_in late p cs (take j rest)) last
     ∙ ap (λ (l : List Row). before ++ l) (sym (filter_map-append (λ (stmt : Stmt). row_unless (refusal_by late p stmt) (row_of cs stmt)) (take j rest) (get_or rest j d ∷ [])))
     ∙ ap (λ (l : List Stmt). before ++ rows_in late p cs l) (sym (take_more rest j d inside))
+
+-- there are no more of them than INSERTs
+pub rows_few : (late : Bool) (p : Public) (cs : Columns) (rest : List Stmt) → length (rows_in late p cs rest) ≤ length rest
+rows_few late p cs [] = omega (arith)
+rows_few late p cs (stmt ∷ stmts) = go (refusal_by late p stmt) (rows_few late p cs stmts)
+  where
+    go : (o : Option Refusal) → length (rows_in late p cs stmts) ≤ length stmts → length (cons_option (row_unless o (row_of cs stmt)) (rows_in late p cs stmts)) ≤ length (stmt ∷ stmts)
+    go None few = omega (arith, few)
+    go (Some r) few = omega (arith, few)
+
+-- those of a batch are few
+pub batch_few : (late : Bool) (p : Public) (cs : Columns) (rest : List Stmt) (row : Row) (rows one : List Row) → one ≡ row ∷ [] → rows ≡ one ++ rows_in late p cs rest → length rest < 65536 → length rows < 2 ^ 32
+batch_few late p cs rest row rows one alone is few =
+    let all = ap length is in
+    let parts = length-append one (rows_in late p cs rest) in
+    let first = ap length alone in
+    let others = rows_few late p cs rest in
+    omega (arith, all, parts, first, others, few)
 
 -- ---- the outcomes
 module _ (answers : List Inserted) (given : ℕ) where

@@ -36,10 +36,11 @@ use Rattle.ob_verdict.specs.Outcomes.{by_fault, outcome_of, refusal_now}
 use Rattle.ob_tables.specs.declared.engine.Engine.{Engine}
 use Rattle.ob_tables.specs.declared.stop.RunStop.{RunStop}
 use Rattle.ob_tables.specs.Agreeing.{count_of}
-use Rattle.ob_tables.specs.Batch.{AreBatch, AreServedWith, ServesBatch, failed_by, given_all, outcomes_behind, outcomes_of, refusal_by, row_of, row_unless, rows_in}
+use Rattle.ob_tables.specs.Batch.{AreBatch, AreServedWith, ServesBatch, answers_behind, failed_by, given_all, given_next, outcomes_behind, outcomes_of, refusal_by, row_of, row_unless, rows_in}
 use Rattle.ob_tables.specs.Running.{HasNoRows, answer_of, inserted_as, is_fault}
 use Rattle.ob_tables.specs.Serving.{ServesSilently}
 use Rattle.ob_tables.specs.Telling.{ReadsTrue}
+use Rattle.ob_tables.proofs.BatchLoops.{rows_few}
 use Rattle.ob_tables.proofs.BatchMeans.{IsInsert, StandsIn, all_failed, all_given, change_by, changed_twice, insert_is, means_rows, names_it, puts}
 use Rattle.ob_tables.proofs.FoundLemmas.{is_there}
 use Rattle.ob_tables.proofs.InsertLemmas.{is_answered, silent_inserted}
@@ -77,30 +78,12 @@ use Rattle.ob_tables.proofs.MutateLemmas.{mutated, told_slots, unmutated}
 use Rattle.ob_tables.proofs.RunLemmas.{engine_after}
 use Rattle.ob_tables.proofs.SilentLemmas.{unasked}
 
--- the answer to the first row of a batch
-abbrev pub first_of : List Inserted → Outcome
-first_of [] = InsertedOut
-first_of (answer ∷ answers) = inserted_as answer
-
--- the others
-abbrev pub rest_of : List Inserted → List Inserted
-rest_of [] = []
-rest_of (answer ∷ answers) = answers
-
--- as they stand in a list
-pub first_is : (answers : List Inserted) (d : Inserted) → 0 < length answers → inserted_as (get_or answers 0 d) ≡ first_of answers
-first_is [] d some = absurd (omega (arith, some))
-first_is (answer ∷ answers) d some = refl
-
-pub rest_is : (answers : List Inserted) → drop 1 answers ≡ rest_of answers
-rest_is [] = refl
-rest_is (answer ∷ answers) = refl
-
-pub first_answered : (answers : List Inserted) → IsAnswered (first_of answers)
+-- ---- the answer to its first row
+pub first_answered : (answers : List Inserted) → IsAnswered (given_next None answers)
 first_answered [] = is_answered Done
 first_answered (answer ∷ answers) = is_answered answer
 
-first_silent : (answers : List Inserted) → HasNoRows (first_of answers)
+first_silent : (answers : List Inserted) → HasNoRows (given_next None answers)
 first_silent [] = tt
 first_silent (answer ∷ answers) = silent_inserted answer
 
@@ -115,8 +98,8 @@ module _ (p : Public) (m : ℕ) (name : List ℕ) (heading : Heading) (flat : he
     pub to : Slots → Slots
     pub settles : (d : Draws) → settle_all d p m (first ∷ rest) tables ≡ changed_at name (in_slots to) tables
     pub here : to slots ≡ inserted_all heading.schema batch_rows slots
-    pub answer : first_of (insert_answers heading.schema batch_rows slots) ≡ outcome_of first (verdict p m tables first)
-    pub answers : (d : Draws) → given_all (rest_of (insert_answers heading.schema batch_rows slots)) (map (refusal_by (is_late m) p) rest) ≡ outcomes_behind d p m first rest tables
+    pub answer : given_next None (insert_answers heading.schema batch_rows slots) ≡ outcome_of first (verdict p m tables first)
+    pub answers : (d : Draws) → given_all (answers_behind None (insert_answers heading.schema batch_rows slots)) (map (refusal_by (is_late m) p) rest) ≡ outcomes_behind d p m first rest tables
 
   pub means_batch : (tables : Tables) (x : Stored Held) → headings tables ≡ headings_of p.tables → stored_at name tables ≡ Some x → length x.held.slots ≡ x.heading.capacity → x.heading ≡ heading
       → MeansBatch tables x.held.slots
@@ -137,9 +120,9 @@ module _ (p : Public) (m : ℕ) (name : List ℕ) (heading : Heading) (flat : he
         answers = λ d. others.answers d ∙ ap (λ (ts : Tables). outcomes_of rest (verdicts d p m rest ts)) (sym (is.settles d));
       }
 
-  alters_as : (x : Stmt) → x ≡ first → IsInsert name x → (cs : Columns) → cs ≡ heading.schema → Alters p m x rest name heading insert_part first_of (insert_answers cs batch_rows) (inserted_all cs batch_rows)
+  alters_as : (x : Stmt) → x ≡ first → IsInsert name x → (cs : Columns) → cs ≡ heading.schema → Alters p m x rest name heading insert_part (given_next None) (insert_answers cs batch_rows) (inserted_all cs batch_rows)
   alters_as x same insert cs schema_is =
-      subst (λ (stmt : Stmt). Alters p m stmt rest name heading insert_part first_of (insert_answers cs batch_rows) (inserted_all cs batch_rows)) (sym insert.is) (record {
+      subst (λ (stmt : Stmt). Alters p m stmt rest name heading insert_part (given_next None) (insert_answers cs batch_rows) (inserted_all cs batch_rows)) (sym insert.is) (record {
         script = λ end. refl;
         leaves = refl;
         more = λ t g blocks size behind. count_part t blocks ++ (copy_part t g blocks ++ behind);
@@ -155,13 +138,13 @@ module _ (p : Public) (m : ℕ) (name : List ℕ) (heading : Heading) (flat : he
             let of_first : first ≡ Insert name insert.columns insert.values = sym same ∙ insert.is in
             record {
               to = meant.to;
-              answered = ap (λ (c : Columns). first_of (insert_answers c batch_rows y.held.slots)) schema_is ∙ meant.answer ∙ ap (λ (stmt : Stmt). outcome_of stmt (verdict p m tables stmt)) of_first;
+              answered = ap (λ (c : Columns). given_next None (insert_answers c batch_rows y.held.slots)) schema_is ∙ meant.answer ∙ ap (λ (stmt : Stmt). outcome_of stmt (verdict p m tables stmt)) of_first;
               settles = λ d. ap (λ (stmt : Stmt). settle_all d p m (stmt ∷ rest) tables) (sym of_first) ∙ meant.settles d;
               here = meant.here ∙ ap (λ (c : Columns). inserted_all c batch_rows y.held.slots) (sym schema_is);
             };
       })
 
-  pub batch_alters : (cs : Columns) → cs ≡ heading.schema → Alters p m first rest name heading insert_part first_of (insert_answers cs batch_rows) (inserted_all cs batch_rows)
+  pub batch_alters : (cs : Columns) → cs ≡ heading.schema → Alters p m first rest name heading insert_part (given_next None) (insert_answers cs batch_rows) (inserted_all cs batch_rows)
   batch_alters cs schema_is = alters_as first refl (insert_is name first named) cs schema_is
 
 -- ---- a batch by how it ended
@@ -194,13 +177,13 @@ module _ (p : Public) (m : ℕ) (rest : List Stmt) (outcomes : List Outcome) (ar
 
 -- it came to its end
 pub put_others : (p : Public) (m : ℕ) (rest : List Stmt) (answers given : List Inserted) (outcomes : List Outcome) → outcomes ≡ given_all given (map (refusal_by (is_late m) p) rest)
-    → AreServedWith p m (is_fault (first_of answers)) rest outcomes
+    → AreServedWith p m (is_fault (given_next None answers)) rest outcomes
 put_others p m rest answers given outcomes are =
     subst (λ (b : Bool). AreServedWith p m b rest outcomes) (sym (first_answered answers).own)
     (subst (λ (os : List Outcome). AreServedWith p m false rest os) (sym are) (all_given p m rest given))
 
-pub put_told : (answers : List Inserted) (P : Type 0) → P → by_fault (is_fault (first_of answers)) ⊤ P
-put_told answers P is = told_whole (first_of answers) P ⊤ (first_answered answers) is
+pub put_told : (answers : List Inserted) (P : Type 0) → P → by_fault (is_fault (given_next None answers)) ⊤ P
+put_told answers P is = told_whole (given_next None answers) P ⊤ (first_answered answers) is
 
 -- ---- a batch isn't late
 module _ (p : Public) (m : ℕ) (early : m + 2 ^ 50 < 2 ^ 63) where
@@ -218,18 +201,10 @@ most_few : (o : Option ℕ) (free : ℕ) → 2 ≤ option_map_or (λ m. max 1 (m
 most_few None free two = absurd (omega (arith, two))
 most_few (Some m) free two = omega (arith, two)
 
-rows_few : (p : Public) (m : ℕ) (cs : Columns) (rest : List Stmt) → length (rows_in (is_late m) p cs rest) ≤ length rest
-rows_few p m cs [] = omega (arith)
-rows_few p m cs (stmt ∷ stmts) = go (refusal_now p m stmt) (rows_few p m cs stmts)
-  where
-    go : (o : Option Refusal) → length (rows_in (is_late m) p cs stmts) ≤ length stmts → length (cons_option (row_unless o (row_of cs stmt)) (rows_in (is_late m) p cs stmts)) ≤ length (stmt ∷ stmts)
-    go None few = omega (arith, few)
-    go (Some r) few = omega (arith, few)
-
 pub rows_within : (p : Public) (m : ℕ) (cs : Columns) (first : Stmt) (rest : List Stmt) → 2 ≤ batch_most p → length rest < batch_most p → p.pack + length (row_of cs first ∷ rows_in (is_late m) p cs rest) ≤ p.buffer
 rows_within p m cs first rest two few =
     let most = most_few p.batch (p.buffer - p.pack) two in
-    let rows = rows_few p m cs rest in
+    let rows = rows_few (is_late m) p cs rest in
     omega (arith, most, rows, few, two)
 
 -- ---- what a batch begins with
@@ -313,7 +288,7 @@ module _ {R : Type 0} (state : R → RevState) (first : Stmt) (rest : List Stmt)
   same_rows : rows ≡ all_rows
   same_rows = rows_same p m first rest are name named table.heading flat.schema schema_as rows rows_is
 
-  alters : Alters p m first rest name table.heading insert_part first_of (insert_answers flat.schema all_rows) (inserted_all flat.schema all_rows)
+  alters : Alters p m first rest name table.heading insert_part (given_next None) (insert_answers flat.schema all_rows) (inserted_all flat.schema all_rows)
   alters = batch_alters p m name table.heading shape unindexed first rest named (all_named p m first rest are name named) begins_now.accepted flat.schema schema_as
 
   early_as : (early : List (Option Refusal)) → early ≡ map (refusal_by false p) rest → early ≡ map (refusal_by (is_late m) p) rest
@@ -325,17 +300,17 @@ module _ {R : Type 0} (state : R → RevState) (first : Stmt) (rest : List Stmt)
 
   -- to its end
   pub put_batch : {T : Type 0} (x : T) (former : Former) → former ≡ former_of p → (answers : List Inserted) → InsertsAll former old.room.pack flat left rows answers (Ok x) (at state old.vault s1) (at state v t) → old.ended ≡ false
-      → (early : List (Option Refusal)) (outcomes : List Outcome) → early ≡ map (refusal_by false p) rest → outcomes ≡ given_all (rest_of answers) early → (new : Engine R) (result : Result Outcome RunStop) → result ≡ Ok (first_of answers)
+      → (early : List (Option Refusal)) (outcomes : List Outcome) → early ≡ map (refusal_by false p) rest → outcomes ≡ given_all (answers_behind None answers) early → (new : Engine R) (result : Result Outcome RunStop) → result ≡ Ok (given_next None answers)
       → new ≡ engine_after old v room (slice_set p.tables i (record table { region = left.region })) Whole old.ended → ServesBatch state first rest result outcomes old s new t
   put_batch x former former_is answers inserts lives early outcomes early_is given new result answered is =
       let put = of_rows former answers (Ok x) inserts in
-      let given_as : outcomes ≡ given_all (rest_of answers) (map (refusal_by (is_late m) p) rest) = given ∙ ap (given_all (rest_of answers)) (early_as early early_is) in
-      batch_as state first rest outcomes old s new t result (Ok (first_of answers)) answered
-      (mutated state first name insert_part first_of (insert_answers flat.schema all_rows) (inserted_all flat.schema all_rows) old s s1 v room t i table flat left agrees rests uses found.here found.is begins_now.accepted begins_now.flat alters
+      let given_as : outcomes ≡ given_all (answers_behind None answers) (map (refusal_by (is_late m) p) rest) = given ∙ ap (given_all (answers_behind None answers)) (early_as early early_is) in
+      batch_as state first rest outcomes old s new t result (Ok (given_next None answers)) answered
+      (mutated state first name insert_part (given_next None) (insert_answers flat.schema all_rows) (inserted_all flat.schema all_rows) old s s1 v room t i table flat left agrees rests uses found.here found.is begins_now.accepted begins_now.flat alters
       former former_is answers new result put lives answered is)
-      (put_others p m rest answers (rest_of answers) outcomes given_as)
+      (put_others p m rest answers (answers_behind None answers) outcomes given_as)
       (λ tables d reads.
-      let told = told_slots state first name insert_part first_of (insert_answers flat.schema all_rows) (inserted_all flat.schema all_rows) old s s1 v room t i table flat left agrees rests uses found.here found.is begins_now.accepted begins_now.flat alters
+      let told = told_slots state first name insert_part (given_next None) (insert_answers flat.schema all_rows) (inserted_all flat.schema all_rows) old s s1 v room t i table flat left agrees rests uses found.here found.is begins_now.accepted begins_now.flat alters
       former former_is answers put tables reads in
       let y = told.0.table in
       let size : length y.held.slots ≡ y.heading.capacity = told.0.represents.size ∙ ap (λ (h : Heading). h.capacity) (sym told.0.heading) in
@@ -343,7 +318,7 @@ module _ {R : Type 0} (state : R → RevState) (first : Stmt) (rest : List Stmt)
       (held_headings p.pack old.indexes.items p.tables tables (world_of state old s) reads.held.held) told.0.found size told.0.heading in
       put_told answers (outcomes ≡ outcomes_behind d p m first rest tables)
       (given_as
-      ∙ ap (λ (l : List Inserted). given_all (rest_of l) (map (refusal_by (is_late m) p) rest)) (told.1 ∙ ap (λ (c : Columns). insert_answers c all_rows y.held.slots) schema_as)
+      ∙ ap (λ (l : List Inserted). given_all (answers_behind None l) (map (refusal_by (is_late m) p) rest)) (told.1 ∙ ap (λ (c : Columns). insert_answers c all_rows y.held.slots) schema_as)
       ∙ meant.answers d))
 
   -- its pass gave up
@@ -354,7 +329,7 @@ module _ {R : Type 0} (state : R → RevState) (first : Stmt) (rest : List Stmt)
       let cut = of_rows {T = T} former answers (Err e) inserts in
       let failed_as : outcomes ≡ map failed_by (map (refusal_by (is_late m) p) rest) = failed ∙ ap (map failed_by) (early_as early early_is) in
       batch_as state first rest outcomes old s new t result (answer_of e) answered
-      (unmutated state first name insert_part first_of (insert_answers flat.schema all_rows) (inserted_all flat.schema all_rows) old s s1 v room t i table flat left agrees rests uses found.here found.is begins_now.accepted begins_now.flat alters
+      (unmutated state first name insert_part (given_next None) (insert_answers flat.schema all_rows) (inserted_all flat.schema all_rows) old s s1 v room t i table flat left agrees rests uses found.here found.is begins_now.accepted begins_now.flat alters
       former former_is e n new result cut count answered is)
       (cut_others p m rest outcomes failed_as e)
       (λ tables d reads. cut_told p m rest outcomes failed_as (outcomes ≡ outcomes_behind d p m first rest tables) e)

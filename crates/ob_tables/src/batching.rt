@@ -191,12 +191,18 @@ fn give_next(refusal: Option<Refusal>, answers: &[Inserted], given: usize) -> (O
     }
 }
 
-// Gives the answers to the rows, in order, to those that aren't refused before any access.
-fn give_all(refusals: &[Option<Refusal>], answers: &[Inserted], outcomes: &mut [Outcome])
-    requires { length outcomes.old ≡ length refusals.now }
-    ensures { outcomes.new ≡ given_all answers.now refusals.now }
+// Gives the answers behind so many, in order, to those that aren't refused before any access.
+fn give_all(
+    refusals: &[Option<Refusal>],
+    answers: &[Inserted],
+    given: usize,
+    outcomes: &mut [Outcome],
+)
+    requires within { given ≤ length answers.now }
+    requires each { length outcomes.old ≡ length refusals.now }
+    ensures { outcomes.new ≡ given_all (drop given answers.now) refusals.now }
 {
-    let mut given = 0;
+    let mut given = given;
     for j in 0..refusals.len() {
         let (outcome, behind) = give_next(refusals[j], answers, given);
         outcomes[j] = outcome;
@@ -231,8 +237,8 @@ impl<R: Revisions> Engine<R> {
         requires insert { IsSome (inserts_into (skeleton first.now)) }
         requires inserts { All (λ stmt. IsSome (inserts_into (skeleton stmt))) rest.now }
         requires few { length rest.now < 65536 }
-        ensures rows { IfOk result (λ batch. batch.rows.items
-            ≡ row_of schema.now first.now ∷ rows_in false (public_of self.now) schema.now rest.now) }
+        ensures rows { IfOk result (λ batch. batch.rows.items ≡ row_of schema.now first.now
+            ∷ rows_in false (public_of self.now) schema.now rest.now) }
         ensures held { IfOk result (λ batch. All (All IsCell) batch.rows.items) }
         ensures places { IfOk result (λ batch. batch.order.most ≡ length batch.rows.items) }
         ensures answers { IfOk result (λ batch.
@@ -241,11 +247,11 @@ impl<R: Revisions> Engine<R> {
             ≡ map (refusal_by false (public_of self.now)) rest.now) }
     {
         let mut rows = Vec::new(self.alloc);
-        if add_row(self.alloc, schema, first, &mut rows).is_err() {
-            return Err(NoMemory);
-        }
-        match add_rows(self.alloc, &self.public, schema, rest, &mut rows) {
-            Ok(refusals) => Batch::of_rows(self.alloc, rows, refusals),
+        match add_row(self.alloc, schema, first, &mut rows) {
+            Ok(()) => match add_rows(self.alloc, &self.public, schema, rest, &mut rows) {
+                Ok(refusals) => Batch::of_rows(self.alloc, rows, refusals),
+                Err(NoMemory) => Err(NoMemory),
+            },
             Err(NoMemory) => Err(NoMemory),
         }
     }
@@ -295,8 +301,10 @@ impl<R: Revisions> Engine<R> {
         match result {
             Ok(()) => {
                 self.move_table(i, flat.region);
-                give_all(batch.refusals.as_slice(), &batch.answers[1..], outcomes);
-                Ok(self.finish(outcome_of(batch.answers[0])))
+                let answers = batch.answers.as_slice();
+                let (outcome, given) = give_next(None, answers, 0);
+                give_all(batch.refusals.as_slice(), answers, given, outcomes);
+                Ok(self.finish(outcome))
             }
             Err(error) => {
                 fail_all(batch.refusals.as_slice(), outcomes);

@@ -7,5 +7,5 @@ invariant-loop-j l =
     record {
       size : length l.outcomes ≡ length l.refusals;
       within : l.given ≤ length l.answers;
-      told : given_all l.answers l.refusals ≡ take l.j l.outcomes ++ given_all (drop l.given l.answers) (drop l.j l.refusals);
+      told : given_all (drop l.fn.given l.answers) l.refusals ≡ take l.j l.outcomes ++ given_all (drop l.given l.answers) (drop l.j l.refusals);
     }
