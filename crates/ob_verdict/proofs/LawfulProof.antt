@@ -14,7 +14,7 @@ use Rattle.ob_base.specs.declared.config.Planner.{Planner}
 use Rattle.ob_base.specs.declared.config.Planner.TheVariants.{Auto, Cheapest, Forced}
 use Rattle.ob_base.specs.declared.seen.Seen.{Seen}
 use Rattle.ob_base.specs.declared.seen.End.{End}
-use Rattle.ob_base.specs.declared.seen.End.TheVariants.{Static, Whole, AfterCount, Cut}
+use Rattle.ob_base.specs.declared.seen.End.TheVariants.{Static, Whole, AfterCount, Joined, Cut}
 use Rattle.ob_base.specs.declared.refusal.Refusal.{Refusal}
 use Rattle.ob_base.specs.declared.schema.Heading.{Heading}
 use Rattle.ob_base.specs.declared.skeleton.ColumnName.{ColumnName}
@@ -48,7 +48,7 @@ use Rattle.std.specs.Prelude.{replicate}
 use Rattle.ob_base.specs.Joins.{chunks, joined_slots}
 use Rattle.ob_base.specs.Numbers.{blocks_for}
 use Rattle.ob_mean.specs.Lawful.{Lawful, Holds, HoldsLeaf, IsCount, IsPlan, EndsUnplanned, height_at, is_counted, selects_rows, statement_slots, counted_slots, capacity_at, CutUpTo}
-use Rattle.ob_verdict.specs.Laws.{AreInPlace, HoldsByShape, SeenIsLawful, CutIsLawful}
+use Rattle.ob_verdict.specs.Laws.{AreInPlace, HoldsByShape, SeenIsLawful, CutIsLawful, JoinedIsLawful}
 use Rattle.ob_verdict.proofs.AccessedProof.{FlatAt, SourceFlat, access_public, flat_slots, not_index, source_flat}
 use Rattle.ob_verdict.proofs.InPlaceProof.{place_at}
 use Rattle.ob_verdict.proofs.SeenProof.{started-unread}
@@ -481,6 +481,7 @@ module _ (p : Public) (stmt : Stmt) (n done : ℕ) (within : done ≤ n) (last :
   unplanned k m Static le h = absurd h
   unplanned k m Whole le h = (le, inl h)
   unplanned k m AfterCount le h = (le, inr h.1)
+  unplanned k m Joined le h = absurd h
   unplanned k m (Cut j) le h = (le, h.1)
 
   uncounted : done < count_end p (skeleton stmt) → Cutting None None None
@@ -639,3 +640,16 @@ cut_is_lawful d p m ts stmt failed n some e h early long = served (accessed ts s
         subst (λ (x : Seen). Lawful p m stmt (cut_at failed n p (skeleton stmt) x)) (sym begun)
         (subst (λ (q : Option Accessed). Lawful p m stmt (cut_at failed n p (skeleton stmt) (seen_served d q p ts stmt))) (sym is)
         (cut o is (subst (λ (q : Option Accessed). n ≤ length (whole_script p (skeleton stmt) (seen_served d q p ts stmt))) is long) (subst (λ (q : Option Accessed). Lawful p m stmt (seen_served d q p ts stmt)) is law)))
+
+-- ---- an INSERT that was served with the one before it
+pub joined_is_lawful : JoinedIsLawful
+joined_is_lawful s stmt e member = record {
+  static = (λ f. cc, λ f. absurd (not_both f (ap is_some (sym (early-public s.public s.asked s.tables stmt e) ∙ member.early))));
+  holds = record {
+    batched = member.batched;
+    inserts = member.inserts;
+    flat = access_public s.public s.tables e (is_late s.asked) (limits_of s.public) stmt member.early ∙ ap is_some member.unkeyed;
+  };
+  leaf = λ yes. tt;
+  cut = tt;
+}

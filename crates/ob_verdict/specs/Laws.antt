@@ -6,7 +6,7 @@ use Rattle.ob_base.specs.declared.config.Plan.TheVariants.{Small, Hash}
 use Rattle.ob_base.specs.declared.config.Planner.TheVariants.{Auto, Cheapest}
 use Rattle.ob_base.specs.declared.schema.Shape.{Shape}
 use Rattle.ob_base.specs.declared.schema.Shape.TheVariants.{Flat, Indexed}
-use Rattle.ob_base.specs.declared.seen.End.TheVariants.{Whole, AfterCount}
+use Rattle.ob_base.specs.declared.seen.End.TheVariants.{Whole, AfterCount, Joined}
 use Rattle.ob_base.specs.declared.refusal.Refusal.TheVariants.{NotConsecutive}
 use Rattle.ob_base.specs.declared.shown.Shown.{Shown}
 use Rattle.ob_base.specs.Indexes.{slots_in_place}
@@ -30,7 +30,7 @@ use Rattle.ob_row.specs.Results.{RowTest, result_slots}
 use Rattle.ob_mean.specs.Verdict.{Accessed, Draws, Held, IsIndexed, Tables, accessed, database, is_full, leaf_gone, source_slots, selected_places, plan_for, bucket_size, first_unplaced, fallback, refusal, rows_refusal, seen, ended, is_late}
 use Rattle.ob_mean.specs.Settle.{settle}
 use Rattle.ob_mean.specs.Lawful.{Lawful, selects_rows}
-use Rattle.ob_mean.specs.Replay.{cut_at}
+use Rattle.ob_mean.specs.Replay.{IsMember, Session, cut_at}
 use Rattle.ob_script.specs.Script.{whole_script}
 
 -- ---- the tables in place and the tables as bags
@@ -110,6 +110,10 @@ SeenIsLawful = (d : Draws) (p : Public) (m : ℕ) (ts : Tables) (stmt : Stmt) �
 abbrev pub CutIsLawful : Type 0
 CutIsLawful = (d : Draws) (p : Public) (m : ℕ) (ts : Tables) (stmt : Stmt) (failed : Bool) (n : ℕ) → 1 ≤ p.pack → headings ts ≡ headings_of p.tables → AreInPlace p.stash ts →
     IsStarted p m ts stmt → n ≤ length (whole_script p (skeleton stmt) (seen d p m ts stmt)) → Lawful p m stmt (cut_at failed n p (skeleton stmt) (seen d p m ts stmt))
+
+-- nor does more show of an INSERT that was served with the one before it
+abbrev pub JoinedIsLawful : Type 0
+JoinedIsLawful = (s : Session) (stmt : Stmt) → headings s.tables ≡ headings_of s.public.tables → IsMember s stmt → Lawful s.public s.asked stmt (ended Joined)
 
 -- ---- what a SELECT of rows prints from its result
 -- the plan by which the rows are printed: the one after the first, where there is one

@@ -3,7 +3,7 @@ use Rattle.ob_script.proofs.laws.joined_asks_nothing.Goals as goal
 
 pub returns : goal.returns
 returns c = record {
-  script = asks_none;
-  left = leaves_nothing;
-  next = stays_public;
+  asks = asks_none;
+  leaves = leaves_nothing;
+  stays = stays_public;
 }

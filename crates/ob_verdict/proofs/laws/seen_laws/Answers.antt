@@ -1,5 +1,5 @@
 use Rattle.ob_verdict.proofs.SeenProof.{access_shows_leaf, shows_kind_alone, padded_shows_kind, plan_is_whole, cheapest_accepts, cheapest_shows, shows_plan_alone, shows_not_consecutive}
-use Rattle.ob_verdict.proofs.LawfulProof.{seen_is_lawful, cut_is_lawful}
+use Rattle.ob_verdict.proofs.LawfulProof.{seen_is_lawful, cut_is_lawful, joined_is_lawful}
 use Rattle.ob_verdict.proofs.laws.seen_laws.Goals as goal
 
 pub returns : goal.returns
@@ -14,4 +14,5 @@ returns c = record {
   one_refusal_shows = shows_not_consecutive;
   lawful = seen_is_lawful;
   cut_is_lawful = cut_is_lawful;
+  joined_is_lawful = joined_is_lawful;
 }
