@@ -286,6 +286,9 @@ impl<R: Revisions> Engine<R> {
         if self.make_room(store, &flat, 3).is_err() {
             return self.cut(0, OpErr::NoMemory);
         }
+        let rows = batch.rows.as_slice();
+        let refusals = batch.refusals.as_slice();
+        let answers = batch.answers.as_mut_slice();
         let result = insert_all(
             store,
             &mut self.vault,
@@ -293,21 +296,20 @@ impl<R: Revisions> Engine<R> {
             self.alloc,
             &mut batch.order,
             &mut flat,
-            batch.rows.as_slice(),
-            batch.answers.as_mut_slice(),
+            rows,
+            answers,
             former,
         );
         let accesses = store.count() - before;
         match result {
             Ok(()) => {
                 self.move_table(i, flat.region);
-                let answers = batch.answers.as_slice();
                 let (outcome, given) = give_next(None, answers, 0);
-                give_all(batch.refusals.as_slice(), answers, given, outcomes);
+                give_all(refusals, answers, given, outcomes);
                 Ok(self.finish(outcome))
             }
             Err(error) => {
-                fail_all(batch.refusals.as_slice(), outcomes);
+                fail_all(refusals, outcomes);
                 self.cut(accesses, error)
             }
         }
