@@ -34,6 +34,15 @@ rows_more late p cs rest j d inside before rows more so_far added =
     ∙ ap (λ (l : List Row). before ++ l) (sym (filter_map-append (λ (stmt : Stmt). row_unless (refusal_by late p stmt) (row_of cs stmt)) (take j rest) (get_or rest j d ∷ [])))
     ∙ ap (λ (l : List Stmt). before ++ rows_in late p cs l) (sym (take_more rest j d inside))
 
+-- and of how they are refused
+pub refusals_more : (late : Bool) (p : Public) (rest : List Stmt) (j : ℕ) (d : Stmt) → j < length rest → (refusals more : List (Option Refusal)) (refusal : Option Refusal) → refusals ≡ map (refusal_by late p) (take j rest)
+    → more ≡ refusals ++ refusal ∷ [] → refusal ≡ refusal_by late p (get_or rest j d) → more ≡ map (refusal_by late p) (take (j + 1) rest)
+refusals_more late p rest j d inside refusals more refusal so_far added is = added ∙ (λ i. so_far i ++ (is i ∷ [])) ∙ sym (map_more (refusal_by late p) rest j d inside)
+
+-- all of them
+pub rows_all : (late : Bool) (p : Public) (cs : Columns) (rest : List Stmt) (j : ℕ) → length rest ≤ j → (before rows : List Row) → rows ≡ before ++ rows_in late p cs (take j rest) → rows ≡ before ++ rows_in late p cs rest
+rows_all late p cs rest j past before rows so_far = so_far ∙ ap (λ (l : List Stmt). before ++ rows_in late p cs l) (take_all j rest past)
+
 -- there are no more of them than INSERTs
 pub rows_few : (late : Bool) (p : Public) (cs : Columns) (rest : List Stmt) → length (rows_in late p cs rest) ≤ length rest
 rows_few late p cs [] = omega (arith)

@@ -122,11 +122,10 @@ fn add_rows(
     let mut refusals = Vec::new(alloc);
     for insert in rest {
         match add_next(alloc, public, schema, insert, rows) {
-            Ok(refusal) => {
-                if refusals.push(refusal).is_err() {
-                    return Err(NoMemory);
-                }
-            }
+            Ok(refusal) => match refusals.push(refusal) {
+                Ok(()) => {}
+                Err(_) => return Err(NoMemory),
+            },
             Err(NoMemory) => return Err(NoMemory),
         }
     }
