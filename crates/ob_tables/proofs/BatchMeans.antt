@@ -36,7 +36,7 @@ use Rattle.ob_verdict.specs.declared.outcome.Outcome.{Outcome}
 use Rattle.ob_verdict.specs.declared.outcome.Outcome.TheVariants.{Inserted as InsertedOut, Refused}
 use Rattle.ob_verdict.specs.Outcomes.{outcome_of, refusal_now}
 use Rattle.ob_verdict.proofs.AlikeTables.{changed_here, headings_changed, with_slots}
-use Rattle.ob_tables.specs.Batch.{AnswersRow, AreServedWith, IsServedWith, answers_behind, early_outcomes, failed_row, given_all, given_next, outcome_unless, outcomes_of, row_of, row_unless, rows_in}
+use Rattle.ob_tables.specs.Batch.{AnswersRow, AreServedWith, IsServedWith, answers_behind, failed_by, given_all, given_next, outcomes_of, refusal_by, row_of, row_unless, rows_in}
 use Rattle.ob_tables.specs.Running.{inserted_as}
 use Rattle.ob_tables.proofs.HeldLemmas.{changed_same, not_accessed}
 use Rattle.ob_tables.proofs.InsertLemmas.{insert_meant}
@@ -72,7 +72,7 @@ pub changed_twice : (name : List ℕ) (f g : Slots → Slots) (tables : Tables) 
 changed_twice name f g [] = refl
 changed_twice name f g (x ∷ xs) = go (bytes_eq x.heading.name name) refl
   where
-    twice : Held → Held
+    abbrev twice : Held → Held
     twice = in_slots (λ slots. g (f slots))
 
     go : (b : Bool) → bytes_eq x.heading.name name ≡ b
@@ -88,7 +88,7 @@ module _ (p : Public) (m : ℕ) (name : List ℕ) (heading : Heading) (flat : he
   names_it stmt = inserts_into (skeleton stmt) ≡ Some name
 
   abbrev rows_for : List Stmt → List Row
-  rows_for stmts = rows_in p m heading.schema stmts
+  rows_for stmts = rows_in (is_late m) p heading.schema stmts
 
   -- it stands there and holds this
   pub record StandsIn (tables : Tables) (held : Held) : Type 0 where
@@ -143,7 +143,7 @@ module _ (p : Public) (m : ℕ) (name : List ℕ) (heading : Heading) (flat : he
     pub to : Slots → Slots
     pub settles : (d : Draws) → settle_all d p m stmts tables ≡ changed_at name (in_slots to) tables
     pub here : to held.slots ≡ inserted_all heading.schema (rows_for stmts) held.slots
-    pub answers : (d : Draws) → given_all (insert_answers heading.schema (rows_for stmts) held.slots) (early_outcomes p m stmts) ≡ outcomes_of stmts (verdicts d p m stmts tables)
+    pub answers : (d : Draws) → given_all (insert_answers heading.schema (rows_for stmts) held.slots) (map (refusal_by (is_late m) p) stmts) ≡ outcomes_of stmts (verdicts d p m stmts tables)
 
   abbrev row_by : Option Refusal → Stmt → List Row → List Row
   row_by o stmt rows = cons_option (row_unless o (row_of heading.schema stmt)) rows
@@ -159,7 +159,7 @@ module _ (p : Public) (m : ℕ) (name : List ℕ) (heading : Heading) (flat : he
         settles = λ d. ap (settle_all d p m stmts) (stays d) ∙ rest.settles d;
         here = rest.here ∙ ap (λ (o : Option Refusal). inserted_all heading.schema (row_by o stmt (rows_for stmts)) held.slots) (sym now);
         answers = λ d.
-            ap (λ (o : Option Refusal). given_all (insert_answers heading.schema (row_by o stmt (rows_for stmts)) held.slots) (outcome_unless o ∷ early_outcomes p m stmts)) now
+            ap (λ (o : Option Refusal). given_all (insert_answers heading.schema (row_by o stmt (rows_for stmts)) held.slots) (o ∷ map (refusal_by (is_late m) p) stmts)) now
             ∙ (λ i. sym (refused_verdict tables held stands stmt r now) i ∷ (rest.answers d ∙ ap (λ (ts : Tables). outcomes_of stmts (verdicts d p m stmts ts)) (sym (stays d))) i);
       }
 
@@ -172,7 +172,7 @@ module _ (p : Public) (m : ℕ) (name : List ℕ) (heading : Heading) (flat : he
         settles = λ d. ap (settle_all d p m stmts) (is.settles d) ∙ rest.settles d ∙ changed_twice name change rest.to tables;
         here = rest.here ∙ ap (λ (o : Option Refusal). inserted_all heading.schema (row_by o stmt (rows_for stmts)) held.slots) (sym now);
         answers = λ d.
-            ap (λ (o : Option Refusal). given_all (insert_answers heading.schema (row_by o stmt (rows_for stmts)) held.slots) (outcome_unless o ∷ early_outcomes p m stmts)) now
+            ap (λ (o : Option Refusal). given_all (insert_answers heading.schema (row_by o stmt (rows_for stmts)) held.slots) (o ∷ map (refusal_by (is_late m) p) stmts)) now
             ∙ (λ i. is.answered_so i ∷ (rest.answers d ∙ ap (λ (ts : Tables). outcomes_of stmts (verdicts d p m stmts ts)) (sym (is.settles d))) i);
       }
 
@@ -210,20 +210,20 @@ module _ (p : Public) (m : ℕ) (name : List ℕ) (heading : Heading) (flat : he
 
 -- ---- what each is answered
 module _ (p : Public) (m : ℕ) where
-  given_is : (o : Option Refusal) (answers : List Inserted) → IsServedWith o false (given_next (outcome_unless o) answers)
+  given_is : (o : Option Refusal) (answers : List Inserted) → IsServedWith o false (given_next o answers)
   given_is (Some r) answers = refl
   given_is None [] = record { inserted = Done; is = refl }
   given_is None (answer ∷ answers) = record { inserted = answer; is = refl }
 
-  pub all_given : (stmts : List Stmt) (answers : List Inserted) → AreServedWith p m false stmts (given_all answers (early_outcomes p m stmts))
+  pub all_given : (stmts : List Stmt) (answers : List Inserted) → AreServedWith p m false stmts (given_all answers (map (refusal_by (is_late m) p) stmts))
   all_given [] answers = tt
   all_given (stmt ∷ stmts) answers =
-      (given_is (refusal_now p m stmt) answers, all_given stmts (answers_behind (outcome_unless (refusal_now p m stmt)) answers))
+      (given_is (refusal_now p m stmt) answers, all_given stmts (answers_behind (refusal_now p m stmt) answers))
 
-  failed_is : (o : Option Refusal) → IsServedWith o true (failed_row (outcome_unless o))
+  failed_is : (o : Option Refusal) → IsServedWith o true (failed_by o)
   failed_is (Some r) = refl
   failed_is None = refl
 
-  pub all_failed : (stmts : List Stmt) → AreServedWith p m true stmts (map failed_row (early_outcomes p m stmts))
+  pub all_failed : (stmts : List Stmt) → AreServedWith p m true stmts (map failed_by (map (refusal_by (is_late m) p) stmts))
   all_failed [] = tt
   all_failed (stmt ∷ stmts) = (failed_is (refusal_now p m stmt), all_failed stmts)

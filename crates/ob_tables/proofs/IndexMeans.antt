@@ -1,5 +1,5 @@
 -- What a statement on an index means, beside its access in the engine.
-use Rattle.std.proofs.Common.{◌≡◌, ◌-◌, ℕ, Bool, IsTrue, List, ◌++◌, length, None, Ok, Result, Global, MatchResult, sym, ◌∙◌, ap, subst, append_assoc}
+use Rattle.std.proofs.Common.{◌≡◌, ◌-◌, ℕ, Bool, IsTrue, List, [], ◌++◌, length, None, Ok, Result, Global, MatchResult, sym, ◌∙◌, ap, subst, append_assoc}
 use Rattle.std.specs.Prelude.{slice_set}
 use Rattle.std.specs.declared.vec.Vec.{Vec}
 use Rattle.ob_base.specs.declared.access.Access.{Access}

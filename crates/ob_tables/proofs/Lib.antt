@@ -30,6 +30,7 @@ pub mod DrawsTaken
 pub mod CreateIndex
 pub mod InsertLemmas
 pub mod BatchMeans
+pub mod BatchAlike
 pub mod BatchServed
 pub mod BatchLoops
 pub mod ChangeLemmas

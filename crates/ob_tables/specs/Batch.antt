@@ -1,12 +1,14 @@
 -- INSERTs that are served together, in the accesses of the first.
-use Rattle.std.specs.Prelude.{◌≡◌, ◌<◌, ⊤, ℕ, Bool, true, List, [], ◌∷◌, length, map, filter_map, Option, None, Some, Result, IfOk}
+use Rattle.std.specs.Prelude.{◌≡◌, ◌<◌, ⊤, ℕ, Bool, true, List, [], ◌∷◌, length, filter_map, Option, None, Some, Result, IfOk}
 use Rattle.std.specs.List.{All}
 use Rattle.ob_base.specs.declared.config.Public.{Public}
 use Rattle.ob_base.specs.declared.refusal.Refusal.{Refusal}
 use Rattle.ob_base.specs.declared.refusal.Refusal.TheVariants.{StoreFault}
 use Rattle.ob_base.specs.Schemas.{Columns}
+use Rattle.ob_base.specs.Stored.{headings_of}
 use Rattle.ob_mean.specs.declared.answer.Answer.{Answer}
 use Rattle.ob_mean.specs.Batches.{batch_most, begins_batch, inserts_into, verdicts}
+use Rattle.ob_mean.specs.Refusals.{early_refusal, limits_of}
 use Rattle.ob_mean.specs.Settle.{settle}
 use Rattle.ob_mean.specs.Step.{new_row}
 use Rattle.ob_mean.specs.Verdict.{Draws, Tables}
@@ -88,37 +90,35 @@ abbrev pub row_of : Columns → Stmt → Row
 row_of cs (Insert table columns values) = new_row cs columns values
 row_of cs _ = []
 
--- where it isn't refused before any access
+-- its refusal before any access, by what is public and whether it is late
+abbrev pub refusal_by : (late : Bool) → Public → Stmt → Option Refusal
+refusal_by late p stmt = early_refusal late (limits_of p) (headings_of p.tables) stmt
+
+-- where it isn't refused
 abbrev pub row_unless : Option Refusal → Row → Option Row
 row_unless (Some r) row = None
 row_unless None row = Some row
 
-abbrev pub rows_in : Public → (m : ℕ) → Columns → List Stmt → List Row
-rows_in p m cs stmts = filter_map (λ stmt. row_unless (refusal_now p m stmt) (row_of cs stmt)) stmts
+abbrev pub rows_in : (late : Bool) → Public → Columns → List Stmt → List Row
+rows_in late p cs stmts = filter_map (λ stmt. row_unless (refusal_by late p stmt) (row_of cs stmt)) stmts
 
--- what is answered before the pass: the refusals, and else as if each row were put
-abbrev pub outcome_unless : Option Refusal → Outcome
-outcome_unless (Some r) = Refused r
-outcome_unless None = InsertedOut
+-- the next answer to a row is given to each that isn't refused
+abbrev pub given_next : Option Refusal → List Inserted → Outcome
+given_next (Some r) answers = Refused r
+given_next None [] = InsertedOut
+given_next None (answer ∷ answers) = inserted_as answer
 
-abbrev pub early_outcomes : Public → (m : ℕ) → List Stmt → List Outcome
-early_outcomes p m stmts = map (λ stmt. outcome_unless (refusal_now p m stmt)) stmts
+abbrev pub answers_behind : Option Refusal → List Inserted → List Inserted
+answers_behind (Some r) answers = answers
+answers_behind None [] = []
+answers_behind None (answer ∷ answers) = answers
 
--- then the next answer to a row is given to each that isn't refused
-abbrev pub given_next : Outcome → List Inserted → Outcome
-given_next InsertedOut (answer ∷ answers) = inserted_as answer
-given_next outcome answers = outcome
-
-abbrev pub answers_behind : Outcome → List Inserted → List Inserted
-answers_behind InsertedOut (answer ∷ answers) = answers
-answers_behind outcome answers = answers
-
-abbrev pub given_all : List Inserted → List Outcome → List Outcome
+abbrev pub given_all : List Inserted → List (Option Refusal) → List Outcome
 given_all answers [] = []
-given_all answers (outcome ∷ outcomes) =
-    given_next outcome answers ∷ given_all (answers_behind outcome answers) outcomes
+given_all answers (refusal ∷ refusals) =
+    given_next refusal answers ∷ given_all (answers_behind refusal answers) refusals
 
 -- or the store's fault
-abbrev pub failed_row : Outcome → Outcome
-failed_row InsertedOut = Refused StoreFault
-failed_row outcome = outcome
+abbrev pub failed_by : Option Refusal → Outcome
+failed_by (Some r) = Refused r
+failed_by None = Refused StoreFault

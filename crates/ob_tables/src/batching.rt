@@ -5,7 +5,7 @@ ghost use Rattle.ob_mean.specs.Batches.{inserts_into};
 ghost use Rattle.ob_row.specs.Spelling.{IsCell};
 ghost use Rattle.ob_sql.specs.Skeleton.{skeleton};
 ghost use Rattle.ob_tables.specs.Agreeing.{Agrees, has_ended, public_of, count_of};
-ghost use Rattle.ob_tables.specs.Batch.{AreBatch, ServesBatch, answers_behind, early_outcomes, failed_row, given_all, given_next, row_of, rows_in};
+ghost use Rattle.ob_tables.specs.Batch.{AreBatch, ServesBatch, answers_behind, failed_by, given_all, given_next, refusal_by, row_of, rows_in};
 
 use crate::engine::Engine;
 use crate::inserting::outcome_of;
@@ -73,53 +73,87 @@ fn add_row(
     }
 }
 
-// Adds the rows of those that aren't refused before any access, in order, and answers each: by its refusal, or
-// as if its row were put.
+// Adds it where the INSERT isn't refused before any access, and says how it is refused, if it is.
+#[tactic(auto, using(crate::proofs::BatchLoops::none_added, crate::proofs::BatchLoops::one_added))]
+fn add_next(
+    alloc: Global,
+    public: &Public,
+    schema: &Schema,
+    insert: &Stmt,
+    rows: &mut Vec<Items<Cell>>,
+) -> Result<Option<Refusal>, NoMemory>
+    requires pack { 1 ≤ public.now.pack }
+    requires buffer { 3 * public.now.pack + 1 ≤ public.now.buffer }
+    requires insert { IsSome (inserts_into (skeleton insert.now)) }
+    requires held { All (All IsCell) rows.old.items }
+    ensures rows { OnOk result (rows.new.items
+        ≡ rows.old.items ++ rows_in false public.now schema.now (insert.now ∷ [])) }
+    ensures held { OnOk result (All (All IsCell) rows.new.items) }
+    ensures refusal { IfOk result (λ refusal.
+        refusal ≡ refusal_by false public.now insert.now) }
+{
+    match early_refusal(false, public, insert) {
+        Some(refusal) => Ok(Some(refusal)),
+        None => match add_row(alloc, schema, insert, rows) {
+            Ok(()) => Ok(None),
+            Err(NoMemory) => Err(NoMemory),
+        },
+    }
+}
+
+// The same of each of them, in order.
 fn add_rows(
     alloc: Global,
     public: &Public,
     schema: &Schema,
     rest: &[Stmt],
     rows: &mut Vec<Items<Cell>>,
-    outcomes: &mut [Outcome],
-) -> Result<(), NoMemory>
+) -> Result<Vec<Option<Refusal>>, NoMemory>
     requires pack { 1 ≤ public.now.pack }
     requires buffer { 3 * public.now.pack + 1 ≤ public.now.buffer }
     requires inserts { All (λ stmt. IsSome (inserts_into (skeleton stmt))) rest.now }
     requires held { All (All IsCell) rows.old.items }
-    requires each { length outcomes.old ≡ length rest.now }
     ensures rows { OnOk result (rows.new.items
-        ≡ rows.old.items ++ rows_in public.now 0 schema.now rest.now) }
+        ≡ rows.old.items ++ rows_in false public.now schema.now rest.now) }
     ensures held { OnOk result (All (All IsCell) rows.new.items) }
-    ensures outcomes { OnOk result (outcomes.new ≡ early_outcomes public.now 0 rest.now) }
+    ensures refusals { IfOk result (λ refusals.
+        refusals.items ≡ map (refusal_by false public.now) rest.now) }
 {
-    for j in 0..rest.len() {
-        outcomes[j] = match early_refusal(false, public, &rest[j]) {
-            Some(refusal) => Outcome::Refused(refusal),
-            None => match add_row(alloc, schema, &rest[j], rows) {
-                Ok(()) => Outcome::Inserted,
-                Err(NoMemory) => return Err(NoMemory),
+    let mut refusals = Vec::new(alloc);
+    for insert in rest {
+        match add_next(alloc, public, schema, insert, rows) {
+            Ok(refusal) => match refusals.push(refusal) {
+                Ok(()) => {}
+                Err(_) => return Err(NoMemory),
             },
-        };
+            Err(NoMemory) => return Err(NoMemory),
+        }
     }
-    Ok(())
+    Ok(refusals)
 }
 
-// The rows of a batch, an order of as many, and a place for the answer to each.
+// The rows of a batch, how each of the others is refused, an order of as many places as there are rows, and a place for
+// the answer to each.
 #[derive(Drop)]
 struct Batch {
     rows: Vec<Items<Cell>>,
+    refusals: Vec<Option<Refusal>>,
     order: Order,
     answers: Vec<Inserted>,
 }
 
 impl Batch {
-    // That of these rows.
-    fn of_rows(alloc: Global, rows: Vec<Items<Cell>>) -> Result<Batch, NoMemory>
+    // That of these rows and refusals.
+    fn of_rows(
+        alloc: Global,
+        rows: Vec<Items<Cell>>,
+        refusals: Vec<Option<Refusal>>,
+    ) -> Result<Batch, NoMemory>
         requires { length rows.items < 2 ^ 32 }
         ensures rows { IfOk result (λ batch. batch.rows ≡ rows) }
+        ensures refusals { IfOk result (λ batch. batch.refusals ≡ refusals) }
         ensures places { IfOk result (λ batch. batch.order.most ≡ length rows.items) }
-        ensures each { IfOk result (λ batch. length batch.answers.items ≡ length rows.items) }
+        ensures answers { IfOk result (λ batch. length batch.answers.items ≡ length rows.items) }
     {
         let Ok(order) = Order::new(alloc, rows.len() as u32) else {
             return Err(NoMemory);
@@ -127,98 +161,100 @@ impl Batch {
         match Vec::from_elem(alloc, Inserted::Done, rows.len()) {
             Ok(answers) => Ok(Batch {
                 rows,
+                refusals,
                 order,
                 answers,
             }),
             Err(_) => Err(NoMemory),
         }
     }
-
-    // That of an INSERT which isn't refused before any access, and of those among others that aren't; each of the
-    // others is answered by its refusal, or as if its row were put.
-    fn new(
-        alloc: Global,
-        public: &Public,
-        schema: &Schema,
-        first: &Stmt,
-        rest: &[Stmt],
-        outcomes: &mut [Outcome],
-    ) -> Result<Batch, NoMemory>
-        requires pack { 1 ≤ public.now.pack }
-        requires buffer { 3 * public.now.pack + 1 ≤ public.now.buffer }
-        requires insert { IsSome (inserts_into (skeleton first.now)) }
-        requires inserts { All (λ stmt. IsSome (inserts_into (skeleton stmt))) rest.now }
-        requires each { length outcomes.old ≡ length rest.now }
-        requires few { length rest.now < 65536 }
-        ensures rows { IfOk result (λ batch. batch.rows.items
-            ≡ row_of schema.now first.now ∷ rows_in public.now 0 schema.now rest.now) }
-        ensures held { IfOk result (λ batch. All (All IsCell) batch.rows.items) }
-        ensures places { IfOk result (λ batch. batch.order.most ≡ length batch.rows.items) }
-        ensures answers { IfOk result (λ batch.
-            length batch.answers.items ≡ length batch.rows.items) }
-        ensures outcomes { OnOk result (outcomes.new ≡ early_outcomes public.now 0 rest.now) }
-    {
-        let mut rows = Vec::new(alloc);
-        if add_row(alloc, schema, first, &mut rows).is_err() {
-            return Err(NoMemory);
-        }
-        match add_rows(alloc, public, schema, rest, &mut rows, outcomes) {
-            Ok(()) => Batch::of_rows(alloc, rows),
-            Err(NoMemory) => Err(NoMemory),
-        }
-    }
 }
 
-// What an outcome becomes where so many answers are given already, and how many are then.
-fn give_next(outcome: Outcome, answers: &[Inserted], given: usize) -> (Outcome, usize)
+// What is answered by a refusal, or else where so many answers are given already, and how many are then.
+#[tactic(auto, using(crate::proofs::BatchLoops::given_here, crate::proofs::BatchLoops::behind_here, crate::proofs::BatchLoops::given_none, crate::proofs::BatchLoops::behind_none))]
+fn give_next(refusal: Option<Refusal>, answers: &[Inserted], given: usize) -> (Outcome, usize)
     requires { given ≤ length answers.now }
-    ensures outcome { result.0 ≡ given_next outcome (drop given answers.now) }
-    ensures behind { drop result.1 answers.now ≡ answers_behind outcome (drop given answers.now) }
+    ensures outcome { result.0 ≡ given_next refusal (drop given answers.now) }
+    ensures behind { drop result.1 answers.now ≡ answers_behind refusal (drop given answers.now) }
     ensures within { result.1 ≤ length answers.now }
 {
-    match outcome {
-        Outcome::Inserted => {
+    match refusal {
+        Some(refusal) => (Outcome::Refused(refusal), given),
+        None => {
             if given < answers.len() {
                 (outcome_of(answers[given]), given + 1)
             } else {
                 (Outcome::Inserted, given)
             }
         }
-        _ => (outcome, given),
     }
 }
 
-// Gives the answers to the rows, in order, to those that aren't refused before any access.
-fn give_all(answers: &[Inserted], outcomes: &mut [Outcome])
-    ensures { outcomes.new ≡ given_all answers.now outcomes.old }
+// Gives the answers behind so many, in order, to those that aren't refused before any access.
+fn give_all(
+    refusals: &[Option<Refusal>],
+    answers: &[Inserted],
+    given: usize,
+    outcomes: &mut [Outcome],
+)
+    requires within { given ≤ length answers.now }
+    requires each { length outcomes.old ≡ length refusals.now }
+    ensures { outcomes.new ≡ given_all (drop given answers.now) refusals.now }
 {
-    let mut given = 0;
-    for j in 0..outcomes.len() {
-        let (outcome, behind) = give_next(outcomes[j], answers, given);
+    let mut given = given;
+    for j in 0..refusals.len() {
+        let (outcome, behind) = give_next(refusals[j], answers, given);
         outcomes[j] = outcome;
         given = behind;
     }
 }
 
-fn failed_row(outcome: Outcome) -> Outcome
-    ensures { result ≡ failed_row outcome }
+fn failed_by(refusal: Option<Refusal>) -> Outcome
+    ensures { result ≡ failed_by refusal }
 {
-    match outcome {
-        Outcome::Inserted => Outcome::Refused(Refusal::StoreFault),
-        _ => outcome,
+    match refusal {
+        Some(refusal) => Outcome::Refused(refusal),
+        None => Outcome::Refused(Refusal::StoreFault),
     }
 }
 
 // The store failed them all but those that are refused before any access.
-fn fail_all(outcomes: &mut [Outcome])
-    ensures { outcomes.new ≡ map failed_row outcomes.old }
+fn fail_all(refusals: &[Option<Refusal>], outcomes: &mut [Outcome])
+    requires { length outcomes.old ≡ length refusals.now }
+    ensures { outcomes.new ≡ map failed_by refusals.now }
 {
-    for j in 0..outcomes.len() {
-        outcomes[j] = failed_row(outcomes[j]);
+    for j in 0..refusals.len() {
+        outcomes[j] = failed_by(refusals[j]);
     }
 }
 
 impl<R: Revisions> Engine<R> {
+    // The batch of an INSERT that isn't refused before any access and of those behind it that aren't.
+    fn batch_of(&self, schema: &Schema, first: &Stmt, rest: &[Stmt]) -> Result<Batch, NoMemory>
+        requires pack { 1 ≤ (public_of self.now).pack }
+        requires buffer { 3 * (public_of self.now).pack + 1 ≤ (public_of self.now).buffer }
+        requires insert { IsSome (inserts_into (skeleton first.now)) }
+        requires inserts { All (λ stmt. IsSome (inserts_into (skeleton stmt))) rest.now }
+        requires few { length rest.now < 65536 }
+        ensures rows { IfOk result (λ batch. batch.rows.items ≡ row_of schema.now first.now
+            ∷ rows_in false (public_of self.now) schema.now rest.now) }
+        ensures held { IfOk result (λ batch. All (All IsCell) batch.rows.items) }
+        ensures places { IfOk result (λ batch. batch.order.most ≡ length batch.rows.items) }
+        ensures answers { IfOk result (λ batch.
+            length batch.answers.items ≡ length batch.rows.items) }
+        ensures refusals { IfOk result (λ batch. batch.refusals.items
+            ≡ map (refusal_by false (public_of self.now)) rest.now) }
+    {
+        let mut rows = Vec::new(self.alloc);
+        match add_row(self.alloc, schema, first, &mut rows) {
+            Ok(()) => match add_rows(self.alloc, &self.public, schema, rest, &mut rows) {
+                Ok(refusals) => Batch::of_rows(self.alloc, rows, refusals),
+                Err(NoMemory) => Err(NoMemory),
+            },
+            Err(NoMemory) => Err(NoMemory),
+        }
+    }
+
     /// INSERTs into one flat table, one after the other, in one reading and one writing pass: `first`, which a batch
     /// begins with, and those behind it, which are answered in `outcomes`. Their rows go to the table's first empty
     /// slots; one that is refused before any access has none. The table lies in a fresh region then.
@@ -242,14 +278,16 @@ impl<R: Revisions> Engine<R> {
     {
         let (i, mut flat) = self.table_at(table_of(first));
         let former = self.former();
-        let made = Batch::new(self.alloc, &self.public, &flat.schema, first, rest, outcomes);
-        let Ok(mut batch) = made else {
+        let Ok(mut batch) = self.batch_of(&flat.schema, first, rest) else {
             return self.cut(0, OpErr::NoMemory);
         };
         let before = store.count();
         if self.make_room(store, &flat, 3).is_err() {
             return self.cut(0, OpErr::NoMemory);
         }
+        let rows = batch.rows.as_slice();
+        let refusals = batch.refusals.as_slice();
+        let answers = batch.answers.as_mut_slice();
         let result = insert_all(
             store,
             &mut self.vault,
@@ -257,19 +295,20 @@ impl<R: Revisions> Engine<R> {
             self.alloc,
             &mut batch.order,
             &mut flat,
-            batch.rows.as_slice(),
-            batch.answers.as_mut_slice(),
+            rows,
+            answers,
             former,
         );
         let accesses = store.count() - before;
         match result {
             Ok(()) => {
                 self.move_table(i, flat.region);
-                give_all(&batch.answers[1..], outcomes);
-                Ok(self.finish(outcome_of(batch.answers[0])))
+                let (outcome, given) = give_next(None, answers, 0);
+                give_all(refusals, answers, given, outcomes);
+                Ok(self.finish(outcome))
             }
             Err(error) => {
-                fail_all(outcomes);
+                fail_all(refusals, outcomes);
                 self.cut(accesses, error)
             }
         }
