@@ -111,7 +111,8 @@ pub(crate) fn finish<S: BlockStore, R: Revisions, B: Behind<S>>(
         → MayBeSaved R.state begun.left engine.old (S.state store.old) }
     requires wants { is_due begun.saved answer (seen_of engine.old).end ≡ true
         → (public_of engine.old).save ≡ true }
-    requires saves { is_due begun.saved answer (seen_of engine.old).end ≡ true → B.Saves behind.old }
+    requires saves { is_due begun.saved answer (seen_of engine.old).end ≡ true
+        → B.Saves behind.old }
     requires counted { begun.accesses ≤ length (S.state store.old).asked }
     ensures behind { SavesBehind R.state (is_due begun.saved answer (seen_of engine.old).end)
         begun answer result engine.old (S.state store.old) engine.new (S.state store.new)
