@@ -7,10 +7,6 @@ use Rattle.std.specs.Option.{option_map_or, option_or}
 use Rattle.ob_base.specs.Labels.{column_label}
 use Rattle.ob_base.specs.Schemas.{Columns}
 use Rattle.ob_base.specs.Stored.{headings, headings_of}
-use Rattle.ob_base.specs.declared.config.Plan.{Plan}
-use Rattle.ob_base.specs.declared.config.Plan.TheVariants.{Small, Large, Continuous, Hash}
-use Rattle.ob_base.specs.declared.config.Planner.{Planner}
-use Rattle.ob_base.specs.declared.config.Planner.TheVariants.{Auto, Cheapest, Forced}
 use Rattle.ob_base.specs.declared.config.Public.{Public}
 use Rattle.ob_base.specs.declared.refusal.Refusal.{Refusal}
 use Rattle.ob_base.specs.declared.schema.Heading.{Heading}
@@ -18,8 +14,6 @@ use Rattle.ob_base.specs.declared.schema.Shape.{Shape}
 use Rattle.ob_base.specs.declared.seen.End.TheVariants.{Static, Whole}
 use Rattle.ob_base.specs.declared.seen.Seen.{Seen}
 use Rattle.ob_base.specs.declared.skeleton.NewColumn.{NewColumn}
-use Rattle.ob_base.specs.declared.skeleton.Source.{Source}
-use Rattle.ob_base.specs.declared.skeleton.Source.TheVariants.{Table as OneTable, Join}
 use Rattle.ob_headline.proofs.BatchLemmas.{IsUncut}
 use Rattle.ob_headline.proofs.InStep.{InStep, joins_step, keeps_step}
 use Rattle.ob_headline.specs.Failures.{failures, outcome_failures}
@@ -37,24 +31,18 @@ use Rattle.ob_mean.specs.Prints.{is_join, item_label, label_at, labels_of}
 use Rattle.ob_mean.specs.Refusals.{early_refusal, limits_of}
 use Rattle.ob_mean.specs.Replay.{Broken, How, Alone, CutAfter, With, CutWith, IsCutOff, IsMember, Session, Spelt, after, after_all, head_of, is_full_now, rest_of, seen_now, seen_or_cut, served}
 use Rattle.ob_mean.specs.Settle.{settle, settled}
-use Rattle.ob_mean.specs.Step.{accepted_answer, answered, followed, refusal_of, select_condition}
-use Rattle.ob_mean.specs.Verdict.{Draws, Tables, accessed, database, ended, forced_refusal, is_late, last_refusal, plan_for, refusal, refusal_by, rows_refusal, seen, seen_by, seen_started, seen_unpadded, seen_with, selected_places, source_slots, unpadded_refusal, verdict}
+use Rattle.ob_mean.specs.Step.{answered, followed}
+use Rattle.ob_mean.specs.Verdict.{Draws, Tables, database, ended, is_late, refusal, seen, seen_started, verdict}
 use Rattle.ob_mean.specs.declared.answer.Answer.{Answer as Meaning}
-use Rattle.ob_row.specs.Slots.{Slots, selected}
-use Rattle.ob_row.specs.Truth.{is_true}
 use Rattle.ob_script.specs.Script.{script}
 use Rattle.ob_script.specs.Trace.{Served, next, trace}
 use Rattle.ob_sql.specs.Skeleton.{skeleton}
-use Rattle.ob_sql.specs.declared.stmt.SelectRows.{SelectRows}
 use Rattle.ob_sql.specs.declared.stmt.Stmt.{Stmt}
 use Rattle.ob_sql.specs.declared.stmt.Stmt.TheVariants.{Create, Insert, Update, Delete, Drop as DropTable, SelectRows as RowsStmt, SelectTotals as TotalsStmt}
 use Rattle.ob_verdict.proofs.AlikeHeadings.{SameHeadings, columns_same, headings_same, source_same}
 use Rattle.ob_verdict.proofs.AlikeProof.{order_is_nothing}
+use Rattle.ob_verdict.proofs.PlainSettings.{plain, seen_same, settle_same, verdict_same}
 use Rattle.ob_verdict.specs.Alike.{ActsAlike, AreAlike}
-
--- what is public but for the tables, the next region and the last closing
-abbrev pub plain : Public → Public
-plain p = record p { tables = []; next_region = 0; closing = None }
 
 -- their tables are kept, so that none of them is an index
 pub record SessionsAlike (s t : Session) : Type 0 where
@@ -65,110 +53,6 @@ pub record SessionsAlike (s t : Session) : Type 0 where
   pub flat_too : AreFlat (headings t.tables)
   pub here : InStep s
   pub there : InStep t
-
--- ---- what the model takes of what is public
-module _ (p : Public) (ts : Tables) where
-  source_plain : (source : Source) → source_slots (plain p) source ts ≡ source_slots p source ts
-  source_plain (OneTable name) = refl
-  source_plain (Join a b on equals) = refl
-
-  places_plain : (q : SelectRows) → selected_places (plain p) q ts ≡ selected_places p q ts
-  places_plain q = ap (λ (slots : Slots). selected (is_true (select_condition q (headings ts))) slots) (source_plain q.source)
-
-  forced_plain : (planner : Planner) (places : List ℕ) → forced_refusal (plain p) planner places ≡ forced_refusal p planner places
-  forced_plain Auto places = refl
-  forced_plain Cheapest places = refl
-  forced_plain (Forced Small) places = refl
-  forced_plain (Forced Large) places = refl
-  forced_plain (Forced Continuous) places = refl
-  forced_plain (Forced Hash) places = refl
-
-  unpadded_plain : (places : List ℕ) → unpadded_refusal (plain p) places ≡ unpadded_refusal p places
-  unpadded_plain [] = refl
-  unpadded_plain (i ∷ is) = forced_plain p.planner (i ∷ is)
-
-  refusal_plain : (pad : Option ℕ) (places : List ℕ) → refusal_by pad (plain p) places ≡ refusal_by pad p places
-  refusal_plain None places = unpadded_plain places
-  refusal_plain (Some pad) places = refl
-
-  last_plain : (stmt : Stmt) → last_refusal (plain p) ts stmt ≡ last_refusal p ts stmt
-  last_plain (Create table columns capacity shape) = refl
-  last_plain (Insert table columns values) = refl
-  last_plain (Update table sets cond) = refl
-  last_plain (Delete table cond) = refl
-  last_plain (DropTable table) = refl
-  last_plain (RowsStmt q) =
-      let same : rows_refusal (plain p) (selected_places (plain p) q ts) ≡ rows_refusal p (selected_places p q ts) =
-      ap (refusal_by p.pad (plain p)) (places_plain q) ∙ refusal_plain p.pad (selected_places p q ts) in
-      ap (λ (o : Option Refusal). if is_some (accessed ts (RowsStmt q)) then None else o) same
-  last_plain (TotalsStmt q) = refl
-
-  with_plain : (plan : Plan) (places : List ℕ) → seen_with (plain p) plan places ≡ seen_with p plan places
-  with_plain Small places = refl
-  with_plain Large places = refl
-  with_plain Continuous places = refl
-  with_plain Hash places = refl
-
-  unpadded_seen_plain : (n : ℕ) (places : List ℕ) → seen_unpadded (plain p) n places ≡ seen_unpadded p n places
-  unpadded_seen_plain n [] = refl
-  unpadded_seen_plain n (i ∷ is) = with_plain (plan_for p n (i ∷ is)) (i ∷ is)
-
-  seen_plain : (pad : Option ℕ) (n : ℕ) (places : List ℕ) → seen_by pad (plain p) n places ≡ seen_by pad p n places
-  seen_plain None n places = unpadded_seen_plain n places
-  seen_plain (Some pad) n places = refl
-
-  started_plain : (stmt : Stmt) → seen_started (plain p) ts stmt ≡ seen_started p ts stmt
-  started_plain (Create table columns capacity shape) = refl
-  started_plain (Insert table columns values) = refl
-  started_plain (Update table sets cond) = refl
-  started_plain (Delete table cond) = refl
-  started_plain (DropTable table) = refl
-  started_plain (RowsStmt q) =
-      let slots = source_plain q.source in
-      let places = places_plain q in
-      (λ i. seen_by p.pad (plain p) (length (slots i)) (places i)) ∙ seen_plain p.pad (length (source_slots p q.source ts)) (selected_places p q ts)
-  started_plain (TotalsStmt q) = refl
-
-  settled_plain : (d : Draws) (stmt : Stmt) → settled d (plain p) ts stmt ≡ settled d p ts stmt
-  settled_plain d (Create table columns capacity shape) = refl
-  settled_plain d (Insert table columns values) = refl
-  settled_plain d (Update table sets cond) = refl
-  settled_plain d (Delete table cond) = refl
-  settled_plain d (DropTable table) = refl
-  settled_plain d (RowsStmt q) = refl
-  settled_plain d (TotalsStmt q) = refl
-
--- by settings that are the same, and neither late, over flat tables
-module _ (d : Draws) (p q : Public) (settings : plain p ≡ plain q) (m n : ℕ) (late : is_late m ≡ is_late n) (ts : Tables) (stmt : Stmt) (flat : AreFlat (headings ts)) where
-  last_same : last_refusal p ts stmt ≡ last_refusal q ts stmt
-  last_same = sym (last_plain p ts stmt) ∙ ap (λ (r : Public). last_refusal r ts stmt) settings ∙ last_plain q ts stmt
-
-  started_same : seen_started p ts stmt ≡ seen_started q ts stmt
-  started_same = sym (started_plain p ts stmt) ∙ ap (λ (r : Public). seen_started r ts stmt) settings ∙ started_plain q ts stmt
-
-  limits_same : limits_of p ≡ limits_of q
-  limits_same = ap limits_of settings
-
-  refusal_same : refusal p m ts stmt ≡ refusal q n ts stmt
-  refusal_same = λ i. option_or (refusal_of (late i) (limits_same i) (database ts) stmt) (last_same i)
-
-  verdict_same : verdict p m ts stmt ≡ verdict q n ts stmt
-  verdict_same = ap (λ (o : Option Refusal). answered o (accepted_answer (database ts) stmt)) refusal_same
-
-  settled_same : settled d p ts stmt ≡ settled d q ts stmt
-  settled_same = sym (settled_plain p ts d stmt) ∙ ap (λ (r : Public). settled d r ts stmt) settings ∙ settled_plain q ts d stmt
-
-  seen_same : seen d p m ts stmt ≡ seen d q n ts stmt
-  seen_same =
-      seen_is p ts stmt flat d m
-      ∙ (λ i. if is_some (early_refusal (late i) (limits_same i) (headings ts) stmt) then ended Static else started_same i)
-      ∙ sym (seen_is q ts stmt flat d n)
-
-  settle_same : settle d p m ts stmt ≡ settle d q n ts stmt
-  settle_same =
-      settle_is p ts stmt flat d m
-      ∙ (λ i. followed (refusal_same i) (settled_same i) ts)
-      ∙ sym (settle_is q ts stmt flat d n)
 
 -- ---- what is drawn, which is nothing where tables are kept
 module _ (d e : Draws) (p : Public) (m : ℕ) (ts : Tables) (flat : AreFlat (headings ts)) where
@@ -243,7 +127,7 @@ module _ (d : Draws) (p : Public) (m : ℕ) (ts : Tables) (t : Session) (alike :
   settles_by : settle d p m ts stmt ≡ settle t.draws t.public t.asked ts stmt
   settles_by =
       undrawn_settle d t.draws p m ts alike.flat stmt kept
-      ∙ settle_same t.draws p t.public settings m t.asked (early m few ∙ sym (early t.asked few_too)) ts stmt alike.flat
+      ∙ settle_same t.draws p t.public settings m t.asked (early m few ∙ sym (early t.asked few_too)) ts stmt
 
   tables_by : AreAlike (settle d p m ts stmt) (settle t.draws t.public t.asked t.tables stmt)
   tables_by =
@@ -267,12 +151,12 @@ module _ (s t : Session) (alike : SessionsAlike s t) (few : s.asked < 2 ^ 63) (f
   acts = order_is_nothing t.draws t.public t.asked s.tables t.tables stmt alike.tables
 
   answer_alike : verdict s.public s.asked s.tables stmt ≡ verdict t.public t.asked t.tables stmt
-  answer_alike = verdict_same t.draws s.public t.public alike.settings s.asked t.asked late s.tables stmt alike.flat ∙ acts.answer
+  answer_alike = verdict_same t.draws s.public t.public alike.settings s.asked t.asked late s.tables stmt ∙ acts.answer
 
   pub shows_alike : seen_now s stmt ≡ seen_now t stmt
   shows_alike =
       undrawn_seen s.draws t.draws s.public s.asked s.tables alike.flat stmt
-      ∙ seen_same t.draws s.public t.public alike.settings s.asked t.asked late s.tables stmt alike.flat ∙ acts.shows
+      ∙ seen_same t.draws s.public t.public alike.settings s.asked t.asked late s.tables stmt ∙ acts.shows
 
   labels_alike : labels_of stmt (headings_of s.public.tables) ≡ labels_of stmt (headings_of t.public.tables)
   labels_alike =

@@ -13,7 +13,7 @@ use Rattle.ob_base.specs.declared.refusal.Stop.TheVariants as Stops
 use Rattle.ob_reopen.proofs.ByNameAlike.{named_alike}
 use Rattle.ob_reopen.specs.Closed.{is_used_up}
 use Rattle.ob_reopen.specs.Resting.{Rests, by_name}
-use Rattle.ob_headline.proofs.AlikeSessions.{AreAlone, GoesOn, SessionsAlike, after_alone, alone_both, answers_alone, answers_on, are_alone, grows_on, hows_of, keeps_plain, plain}
+use Rattle.ob_headline.proofs.AlikeSessions.{AreAlone, GoesOn, SessionsAlike, after_alone, alone_both, answers_alone, answers_on, are_alone, grows_on, hows_of, keeps_plain}
 use Rattle.ob_headline.proofs.BeginsAlike.{Begins, begins_anew, begins_reopened}
 use Rattle.ob_headline.proofs.InStep.{InStep}
 use Rattle.ob_headline.proofs.SettingLemmas.{kept_settings}
@@ -47,6 +47,7 @@ use Rattle.ob_script.specs.Trace.{Served, trace}
 use Rattle.ob_seal.specs.KeySet.{KeySet}
 use Rattle.ob_seal.specs.Sealed.{keys_of}
 use Rattle.ob_store.specs.State.{KeptRegion, Lie, StoreState}
+use Rattle.ob_verdict.proofs.PlainSettings.{plain}
 use Rattle.ob_verdict.proofs.AlikeTables.{alike_chained, alike_turned}
 use Rattle.ob_verdict.specs.Alike.{AreAlike}
 use Rattle.ob_headline.specs.Story.{Story}

@@ -14,7 +14,7 @@ use Rattle.ob_base.specs.declared.schema.Heading.{Heading}
 use Rattle.ob_base.specs.declared.schema.Shape.{Shape}
 use Rattle.ob_base.specs.declared.schema.Shape.TheVariants.{Flat, Indexed}
 use Rattle.ob_base.specs.declared.seen.Seen.{Seen}
-use Rattle.ob_headline.proofs.AlikeSessions.{SessionsAlike, TablesAlike, after_alike, answers_alike, grows, parted_alike, plain, settled_alike}
+use Rattle.ob_headline.proofs.AlikeSessions.{SessionsAlike, TablesAlike, after_alike, answers_alike, grows, parted_alike, settled_alike}
 use Rattle.ob_headline.proofs.BatchLemmas.{sound_now}
 use Rattle.ob_headline.specs.Accesses.{AreSeen, Says}
 use Rattle.ob_headline.specs.Batches.{Joins, is_failed}
@@ -40,6 +40,7 @@ use Rattle.ob_script.specs.Trace.{Served, next, trace}
 use Rattle.ob_sql.specs.Skeleton.{skeleton}
 use Rattle.ob_sql.specs.declared.stmt.Stmt.{Stmt}
 use Rattle.ob_sql.specs.declared.stmt.Stmt.TheVariants.{Create, Insert, Update, Delete, Drop as DropTable, SelectRows as RowsStmt, SelectTotals as TotalsStmt}
+use Rattle.ob_verdict.proofs.PlainSettings.{plain}
 use Rattle.ob_verdict.specs.Outcomes.{outcome_of, refusal_now}
 use Rattle.ob_verdict.specs.declared.outcome.Outcome.{Outcome}
 use Rattle.ob_verdict.specs.declared.outcome.Outcome.TheVariants.{Created, Inserted, Changed, Deleted, Dropped, Rows, Refused}

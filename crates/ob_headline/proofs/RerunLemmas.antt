@@ -232,7 +232,7 @@ GathersIf batched p g = batched ≡ false → (p.batch ≡ None) × (g ≡ None)
 
 pub none_before : (batched : Bool) (p : Public) (g : Option Gathering) → GathersIf batched p g → None ≡ gathered_if batched g
 none_before true p g gathers = refl
-none_before false p g gathers = sym (gathers refl).1
+none_before false p g gathers = let none = gathers refl in sym none.1
 
 none_if : (apart : Bool) (g : Option Gathering) → g ≡ None → gathered_if apart g ≡ None
 none_if true g none = refl

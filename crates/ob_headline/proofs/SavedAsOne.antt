@@ -7,7 +7,7 @@ use Rattle.ob_base.specs.Stored.{headings}
 use Rattle.ob_base.specs.declared.config.Config.{Config}
 use Rattle.ob_base.specs.declared.mark.Mark.{Mark}
 use Rattle.ob_base.specs.declared.mark.Mark.TheVariants.{Fresh, InUse, Closed, Begun, Saved}
-use Rattle.ob_headline.proofs.AlikeSessions.{grows, keeps_plain, plain}
+use Rattle.ob_headline.proofs.AlikeSessions.{grows, keeps_plain}
 use Rattle.ob_headline.proofs.AsOne.{none_there, unlied}
 use Rattle.ob_headline.proofs.BeginsAlike.{Begins, begins_anew, begins_reopened}
 use Rattle.ob_headline.proofs.EffectLemmas.{effects_on}
@@ -33,6 +33,7 @@ use Rattle.ob_script.specs.Trace.{trace}
 use Rattle.ob_seal.specs.KeySet.{KeySet}
 use Rattle.ob_sql.specs.declared.stmt.Stmt.{Stmt}
 use Rattle.ob_store.specs.State.{KeptRegion, StoreState}
+use Rattle.ob_verdict.proofs.PlainSettings.{plain}
 use Rattle.ob_verdict.proofs.AlikeTables.{alike_chained}
 use Rattle.ob_verdict.specs.Alike.{AreAlike}
 
