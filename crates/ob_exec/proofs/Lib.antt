@@ -21,6 +21,7 @@ pub mod RowsRoom
 pub mod RowsJoinEnd
 pub mod RowsJoinStart
 pub mod Unread
+pub mod GatheringLemmas
 pub mod ChangedScripts
 pub mod FewAsked
 pub mod SavingLemmas
