@@ -1,4 +1,4 @@
-use Rattle.std.proofs.Common.{[], List, refl, subst}
+use Rattle.std.proofs.Common.{◌≡◌, List, [], ◌∷◌, length, refl, subst, arith}
 use Rattle.ob_shell.proofs.TakesLemmas.{takes_idle}
 use Rattle.ob_shell.proofs.batching.flush.Goals as goal
 use Rattle.ob_shell.specs.Steps.{machine_of}
@@ -6,19 +6,27 @@ use Rattle.ob_shell.specs.Waiting.{AreBatched}
 use Rattle.ob_sql.specs.declared.stmt.Stmt.{Stmt}
 use Rattle.ob_tables.specs.Agreeing.{count_of, public_of}
 
+none : (batch : List Stmt) → length batch ≡ 0 → batch ≡ []
+none [] is = refl
+none (stmt ∷ batch) is = absurd (omega (arith, is))
+
 pub returns-in_default-clause-takes : goal.returns-in_default-clause-takes
 returns-in_default-clause-takes g c =
-    rw c.split_first.ensures.none
+    rw (none c.args.session.now.batch.items (rw c.as_slice.ensures at c.in_default.ensures.cases))
     (takes_idle c.args.tracing [] c.args.session.now.tally _ _ _ (machine_of c.args.engine.now (g.S.BlockStore.state c.args.store.now) (g.B.Behind.state c.args.behind.now)) tt c.requires.ready tt (λ h free. refl))
 
 pub serve_batch-requires : goal.serve_batch-requires
 serve_batch-requires g c = record {
-  batch = subst (λ (l : List Stmt). AreBatched (public_of c.args.engine.now) (count_of c.args.engine.now (g.S.BlockStore.state c.args.store.now)) l) c.in-Some.ensures.some c.requires.waits;
+  batch =
+      subst (λ (l : List Stmt). AreBatched (public_of c.args.engine.now) (count_of c.args.engine.now (g.S.BlockStore.state c.args.store.now)) l) (rw c.as_slice.ensures at c.in-Some.ensures.cases.0) c.requires.waits;
   ready = c.requires.ready;
 }
 
 pub returns-in-Ok-clause-takes : goal.returns-in-Ok-clause-takes
-returns-in-Ok-clause-takes g c = rw (c.in-Some.ensures.some, c.clear.ensures) c.in-Ok.ensures.serves
+returns-in-Ok-clause-takes g c = let first = rw c.as_slice.ensures at c.in-Some.ensures.cases.0 in rw (first, c.clear.ensures.items) c.in-Ok.ensures.serves
 
 pub returns-in-Err-clause-takes : goal.returns-in-Err-clause-takes
-returns-in-Err-clause-takes g c = rw c.in-Some.ensures.some c.in-Err.ensures.serves
+returns-in-Err-clause-takes g c = let first = rw c.as_slice.ensures at c.in-Some.ensures.cases.0 in rw first c.in-Err.ensures.serves
+
+pub returns-in-Err-clause-idle : goal.returns-in-Err-clause-idle
+returns-in-Err-clause-idle g c = λ empty. let first = rw c.as_slice.ensures at c.in-Some.ensures.cases.0 in cc (empty, first)
