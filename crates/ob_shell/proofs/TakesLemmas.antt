@@ -27,6 +27,7 @@ use Rattle.ob_shell.specs.declared.session.Break.TheVariants.{Served, Unread}
 use Rattle.ob_shell.specs.declared.session.TextHalted.{TextHalted}
 use Rattle.ob_sql.specs.declared.stmt.Stmt.{Stmt}
 use Rattle.ob_tables.specs.Agreeing.{public_of}
+use Rattle.ob_tables.specs.declared.stop.RunStop.{RunStop}
 use Rattle.ob_tables.specs.declared.stop.RunStop.TheVariants.{SinkFault}
 use Rattle.ob_vault.specs.State.{RevState}
 use Rattle.ob_verdict.specs.declared.outcome.Outcome.TheVariants.{Refused}
@@ -143,43 +144,43 @@ module _ {R T : Type 0} {state : R → RevState} {Saves : Type 0} {on : Bool} {M
   takes_of_text xs text is result takes = subst (λ (l : List (List ℕ)). TakesMore state Saves on May Then b0 b1 l WantsRoom t0 t1 w0 w1 s0 s1 old new m0 m1 result) (sym is) takes
 
 -- ---- a text behind which none waits
+-- of a stop within it
+breaks_one : {R : Type 0} {state : R → RevState} {on : Bool} {w0 w1 s0 s1 : Option (List ℕ)} {m0 m1 : Machine R} {Lost Fault : Type 0} (text : List ℕ) (stop : RunStop) (g : Option Gathering) → StopsIn state w0 w1 Lost (text ∷ []) stop (standing m0 [] g) (standing m1 [] None) → Traced on m0.store.asked m1.store.asked s0 s1 Fault
+    → BreaksIn state on w0 w1 s0 s1 Lost (text ∷ []) stop (standing m0 [] g) m1
+breaks_one {state = state} {on = on} {w0 = w0} {w1 = w1} {s0 = s0} {s1 = s1} {m0 = m0} {Lost = Lost} text stop g stops traced = record {
+  served = [];
+  more = text ∷ [];
+  parts = refl;
+  answers = [];
+  middle = standing m0 [] g;
+  steps = Steps-none state (standing m0 [] g);
+  owed = [];
+  gathered = None;
+  follow = tt;
+  bytes = stops.bytes;
+  partly = stops.partly;
+  cut = subst (λ (l : List ℕ). Outputs w0 w1 Lost (l ++ stops.bytes)) (sym printed-nil) stops.cut;
+  whole = subst (λ (l : List ℕ). Took w0 w1 l) (sym printed-nil) (record { after = stops.cut.grown; appends = stops.cut.appends });
+  traced = traced_to_none on m0.store.asked s0 s1 traced.cut.grown traced.cut.appends;
+}
+
+-- of what was done of it
+so_one : {R : Type 0} {state : R → RevState} {w0 w1 : Option (List ℕ)} {m0 m1 : Machine R} (text : List ℕ) (tally counted : Tally) (g : Option Gathering) → AnswersAll state w0 w1 (text ∷ []) tally counted (standing m0 [] g) (standing m1 [] None)
+    → ServedSo state w0 w1 (text ∷ []) [] (IsFree (public_of m1.engine) []) tally counted (standing m0 [] g) m1
+so_one text tally counted g all = record {
+  served = text ∷ [];
+  held = [];
+  parts = refl;
+  spelt = tt;
+  gathered = None;
+  then = λ outline. refl;
+  answers = all.answers;
+  steps = all.steps;
+  appends = all.appends;
+  counted = all.counted;
+}
+
 module _ {R : Type 0} {state : R → RevState} {Saves : Type 0} {on : Bool} {May : Option Gathering → Type 0} {w0 w1 s0 s1 : Option (List ℕ)} {old new : Faults} {m0 m1 : Machine R} (text : List ℕ) (tally : Tally) where
-  -- of a stop within it
-  breaks_one : {Lost : Type 0} {Fault : Type 0} (stop : _) (g : Option Gathering) → StopsIn state w0 w1 Lost (text ∷ []) stop (standing m0 [] g) (standing m1 [] None) → Traced on m0.store.asked m1.store.asked s0 s1 Fault
-      → BreaksIn state on w0 w1 s0 s1 Lost (text ∷ []) stop (standing m0 [] g) m1
-  breaks_one {Lost = Lost} stop g stops traced = record {
-    served = [];
-    more = text ∷ [];
-    parts = refl;
-    answers = [];
-    middle = standing m0 [] g;
-    steps = Steps-none state (standing m0 [] g);
-    owed = [];
-    gathered = None;
-    follow = tt;
-    bytes = stops.bytes;
-    partly = stops.partly;
-    cut = subst (λ (l : List ℕ). Outputs w0 w1 Lost (l ++ stops.bytes)) (sym printed-nil) stops.cut;
-    whole = subst (λ (l : List ℕ). Took w0 w1 l) (sym printed-nil) (record { after = stops.cut.grown; appends = stops.cut.appends });
-    traced = traced_to_none on m0.store.asked s0 s1 traced.cut.grown traced.cut.appends;
-  }
-
-  -- what was done of it
-  so_one : (counted : Tally) (g : Option Gathering) → AnswersAll state w0 w1 (text ∷ []) tally counted (standing m0 [] g) (standing m1 [] None)
-      → ServedSo state w0 w1 (text ∷ []) [] (IsFree (public_of m1.engine) []) tally counted (standing m0 [] g) m1
-  so_one counted g all = record {
-    served = text ∷ [];
-    held = [];
-    parts = refl;
-    spelt = tt;
-    gathered = None;
-    then = λ outline. refl;
-    answers = all.answers;
-    steps = all.steps;
-    appends = all.appends;
-    counted = all.counted;
-  }
-
   -- it was answered
   pub takes_one : {T : Type 0} (x : T) (counted : Tally) → (owed : m1 ≡ standing m1 [] None) → ServesTexts state Saves May (text ∷ []) (λ c. AnswersAll state w0 w1 (text ∷ []) tally c) w0 w1 old new m0 m1 (Ok counted) → TracedAll on m0.store.asked m1.store.asked s0 s1
       → TakesTexts state Saves on May (λ old new. IsFree (public_of m1.engine) [] new) [] [] (text ∷ []) tally counted w0 w1 s0 s1 old new m0 m1 (Ok x)
@@ -187,7 +188,7 @@ module _ {R : Type 0} {state : R → RevState} {Saves : Type 0} {on : Bool} {May
     ready = serves.ready;
     waits = tt;
     done = λ g held comes spelt. subst (λ (l : List (List ℕ)). ServedSo state w0 w1 (l ++ text ∷ []) [] (IsFree (public_of m1.engine) []) tally counted (standing m0 [] g) m1) (sym (none_held held spelt))
-        (so_one counted g (subst (λ (m : Machine R). AnswersAll state w0 w1 (text ∷ []) tally counted (standing m0 [] g) m) owed (serves.done g comes)));
+        (so_one {m0 = m0} {m1 = m1} text tally counted g (subst (λ (m : Machine R). AnswersAll state w0 w1 (text ∷ []) tally counted (standing m0 [] g) m) owed (serves.done g comes)));
     stopped = tt;
     traced = traced;
     traced_stop = tt;
@@ -204,7 +205,7 @@ module _ {R : Type 0} {state : R → RevState} {Saves : Type 0} {on : Bool} {May
     waits = tt;
     done = tt;
     stopped = λ g held comes spelt. subst (λ (l : List (List ℕ)). BreaksIn state on w0 w1 s0 s1 (OutFailed halted.quiet old.out new.out) (l ++ text ∷ []) halted.stop (standing m0 [] g) m1) (sym (none_held held spelt))
-        (breaks_one halted.stop g (subst (λ (m : Machine R). StopsIn state w0 w1 (OutFailed halted.quiet old.out new.out) (text ∷ []) halted.stop (standing m0 [] g) m) owed (serves.stopped g comes)) traced);
+        (breaks_one {m0 = m0} {m1 = m1} text halted.stop g (subst (λ (m : Machine R). StopsIn state w0 w1 (OutFailed halted.quiet old.out new.out) (text ∷ []) halted.stop (standing m0 [] g) m) owed (serves.stopped g comes)) traced);
     traced = tt;
     traced_stop = traced;
     cause = cause;
@@ -220,7 +221,7 @@ module _ {R : Type 0} {state : R → RevState} {Saves : Type 0} (on : Bool) {May
     ready = ready;
     waits = tt;
     done = λ g held comes spelt. subst (λ (l : List (List ℕ)). ServedSo state w0 w1 (l ++ text ∷ []) [] (IsFree (public_of m.engine) []) tally (tally_with tally (Refused (Syntax at)) None) (standing m [] g) m) (sym (none_held held spelt))
-        (so_one {on = on} {May = May} {s0 = t} {s1 = t} {old = old} {new = new} text tally (tally_with tally (Refused (Syntax at)) None) g (answers_one text tally (line_answer (Refused (Syntax at))) (misspelt state m g text at spells) wrote));
+        (so_one {m0 = m} {m1 = m} text tally (tally_with tally (Refused (Syntax at)) None) g (answers_one text tally (line_answer (Refused (Syntax at))) (misspelt state m g text at spells) wrote));
     stopped = tt;
     traced = traced_none on m.store.asked t;
     traced_stop = tt;
@@ -236,7 +237,7 @@ module _ {R : Type 0} {state : R → RevState} {Saves : Type 0} (on : Bool) {May
     waits = tt;
     done = tt;
     stopped = λ g held comes spelt. subst (λ (l : List (List ℕ)). BreaksIn state on w0 w1 t t (OutFailed halted.quiet old.out new.out) (l ++ text ∷ []) halted.stop (standing m [] g) m) (sym (none_held held spelt))
-        (breaks_one {on = on} {May = May} {s0 = t} {s1 = t} {old = old} {new = new} text tally halted.stop g (record {
+        (breaks_one {m0 = m} {m1 = m} text halted.stop g (record {
           bytes = closing_line (Refused (Syntax at));
           partly = inr (inr (record { answer = line_answer (Refused (Syntax at)); step = misspelt state m g text at spells; whole = refl; fault = fault }));
           cut = cut;
