@@ -48,14 +48,14 @@ module _ {R : Type 0} (state : R → RevState) (base : Base) (config : Config) (
 
   pub serves_stop : (stop : Stop) (ended : KeptEnded) (k : KeeperState) (old new : Faults) → ended.high ≡ high
       → SessionRan state tracing f0 f1 l0 l1 gave w0 w1 t0 t1 (machine_of first s0 p0) (machine_of last s1 p1) (OutFailed ended.quiet old.out new.out) (Err stop)
-      → Traced tracing s0.asked s1.asked t0 t1 (ended.quiet ≡ true) → StopCause {T = Tally} (ServesAlone base.public) old new (Err stop) → Silenced ended.quiet old new → ended.ending ≡ Plain (Ran (Err stop))
+      → Traced tracing s0.asked s1.asked t0 t1 (ended.quiet ≡ true) → StopCause {T = Tally} (ServesAlone (public_of first)) old new (Err stop) → Silenced ended.quiet old new → ended.ending ≡ Plain (Ran (Err stop))
       → StopsRun state base key tracing ended f0 f1 l0 l1 gave w0 w1 t0 t1 s0 s1 old new k k
   serves_stop stop ended k old new rows ran traced cause silent ending = record {
     stop = stop;
     ran = subst (λ (n : ℕ). RanAfter state (sink_of tracing t0 t1) base (keys_of key) (Some key) f0 f1 l0 l1 gave w0 w1 s0 s1 n (OutFailed ended.quiet old.out new.out) (Err stop)) (sym rows)
         (ran_after base config (keys_of key) key first last high (Err stop) p0 p1 s0 s1 engages.stands most is_high (sink_of tracing t0 t1) f0 f1 l0 l1 gave w0 w1 ran);
     traced_all = traced;
-    cause = same_cause Tally Bool stop old new cause;
+    cause = subst (λ (p : Public). StopCause {T = Bool} (ServesAlone p) old new (Err stop)) engages.stands.public (same_cause Tally Bool stop old new cause);
     silent = silent;
     ending = ending;
     kept = refl;

@@ -32,7 +32,7 @@ use Rattle.ob_shell.specs.declared.keeping.KeptEnded.{KeptEnded}
 use Rattle.ob_shell.specs.declared.key.FirstLine.{FirstLine}
 use Rattle.ob_shell.specs.declared.key.FirstLine.TheVariants.{Secret, Last}
 use Rattle.ob_store.specs.State.{StoreState}
-use Rattle.ob_tables.specs.Agreeing.{high_of, rows_of}
+use Rattle.ob_tables.specs.Agreeing.{high_of, public_of, rows_of}
 use Rattle.ob_tables.specs.declared.engine.Engine.{Engine}
 use Rattle.ob_vault.specs.State.{RevState}
 
@@ -41,14 +41,14 @@ module _ {R : Type 0} (state : R → RevState) (base : Base) (config : Config) (
     (ended : KeptEnded) (most : ended.high ≤ rows_of last) (is_high : ended.high ≡ high_of last) (tracing : Bool) (t0 t1 : Option (List ℕ)) (f0 f1 : Fetch) (l0 l1 : Option (List ℕ)) (gave : ℕ) (w0 w1 : Option (List ℕ)) where
   unfoldable pub serves_saved : (result : Result Tally Stop) (old new : Faults)
       → SessionRan state tracing f0 f1 l0 l1 gave w0 w1 t0 t1 (machine_of first s0 k0) (machine_of last s1 k1) (OutFailed ended.quiet old.out new.out) result
-      → Traced tracing s0.asked s1.asked t0 t1 (ended.quiet ≡ true) → StopCause (ServesAlone base.public) old new result → Silenced ended.quiet old new → ended.ending ≡ Plain (Ran (flagged result)) → IfOk result (λ (t : Tally). ended.tally ≡ t)
+      → Traced tracing s0.asked s1.asked t0 t1 (ended.quiet ≡ true) → StopCause (ServesAlone (public_of first)) old new result → Silenced ended.quiet old new → ended.ending ≡ Plain (Ran (flagged result)) → IfOk result (λ (t : Tally). ended.tally ≡ t)
       → ServesSaved state base keys secret salt tracing ended f0 f1 l0 l1 gave w0 w1 t0 t1 s0 s1 old new k0 k1 (BeginsToSave state secret salt base keys (machine_of first s0 k0))
   unfolding ran_after
   serves_saved result old new ran traced cause silent ending counted = record {
     result = result;
     ran = ran_after base config keys secret first last ended.high result k0 k1 s0 s1 engages.stands most is_high (sink_of tracing t0 t1) f0 f1 l0 l1 gave w0 w1 ran;
     traced_all = traced;
-    cause = cause;
+    cause = subst (λ (p : Public). StopCause (ServesAlone p) old new result) engages.stands.public cause;
     silent = silent;
     ending = ending;
     counted = counted;

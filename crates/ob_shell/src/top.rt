@@ -16,7 +16,7 @@ ghost use Rattle.ob_shell.specs.Closed.{LineWritten, Untouched, Unwritten, refus
 ghost use Rattle.ob_shell.specs.Feeding.{IsFedBy};
 ghost use Rattle.ob_shell.specs.Generating.{MeddleRan, Summarized, asked_for};
 ghost use Rattle.ob_shell.specs.Meddling.{Unserved};
-ghost use Rattle.ob_shell.specs.Running.{IsQuiet, OutFailed, Silenced, StopCause, is_quiet, stop_of};
+ghost use Rattle.ob_shell.specs.Running.{IsQuiet, OutFailed, ServesAlone, Silenced, StopCause, is_quiet, stop_of};
 ghost use Rattle.ob_shell.specs.Tallies.{flagged};
 ghost use Rattle.ob_shell.specs.Top.{EndingCause, RanAfter, Reported, RunShown, sink_of};
 ghost use Rattle.ob_shell.specs.Traces.{Traced};
