@@ -560,7 +560,8 @@ fn turn<R: Revisions, S: BlockStore, B: Behind<S>, K: Sink, T: Sink>(
     ensures takes { TakesMore R.state (B.Saves behind.new) tracing
         (IsFree (public_of engine.old) session.old.batch.items)
         (λ old new. IsFree (public_of engine.new) session.new.batch.items new)
-        session.old.batch.items session.new.batch.items (texts_at session.old.pending b) (IsNotTaken session.old.pending b)
+        session.old.batch.items session.new.batch.items (texts_at session.old.pending b)
+        (IsNotTaken session.old.pending b)
         session.old.tally session.new.tally (K.written out.old) (K.written out.new)
         (T.written trace.old) (T.written trace.new)
         (faults_of 0 (K.faults out.old) (T.faults trace.old))
@@ -717,48 +718,21 @@ pub fn serve<I: Source, R: Revisions, S: BlockStore, B: Behind<S>, K: Sink, T: S
         (faults_of (I.faults input.new) (K.faults out.new) (T.faults trace.new)) }
     ensures same { B.name behind.new ≡ B.name behind.old }
 {
-    let mut session = Session {
+    let mut here = Session {
         pending: Pending::new(alloc),
         batch: Vec::new(alloc),
         tally: Tally::new(),
     };
     let read = read_texts(
-        alloc,
-        tracing,
-        &mut session,
-        feed,
-        input,
-        engine,
-        store,
-        behind,
-        out,
-        trace,
+        alloc, tracing, &mut here, feed, input, engine, store, behind, out, trace,
     );
     match read {
-        Ok(()) => match flush(
-            alloc,
-            tracing,
-            &mut session,
-            engine,
-            store,
-            behind,
-            out,
-            trace,
-        ) {
-            Ok(()) => Ok(session.tally),
+        Ok(()) => match flush(alloc, tracing, &mut here, engine, store, behind, out, trace) {
+            Ok(()) => Ok(here.tally),
             Err(halted) => Err(Halted::from(halted)),
         },
         Err(Break::Unread(stop)) => {
-            match flush(
-                alloc,
-                tracing,
-                &mut session,
-                engine,
-                store,
-                behind,
-                out,
-                trace,
-            ) {
+            match flush(alloc, tracing, &mut here, engine, store, behind, out, trace) {
                 Ok(()) => Err(Halted { stop, quiet: false }),
                 Err(halted) => Err(Halted::from(halted)),
             }

@@ -1,5 +1,7 @@
 use Rattle.ob_shell.proofs.GatherLemmas.{are_batched}
 use Rattle.ob_shell.proofs.RunLemmas.{ran_flushed, ran_unflushed}
+use Rattle.ob_shell.proofs.ServedLemmas.{alone_read, stop_stays, waited_quiet, waited_stops}
+use Rattle.ob_shell.proofs.TraceLemmas.{traced_cut, traced_then, traced_whole}
 use Rattle.ob_tables.specs.Agreeing.{count_of, public_of}
 use Rattle.ob_shell.proofs.session.serve.Goals as goal
 
@@ -31,3 +33,67 @@ returns-in-Err-flush-2-clause-ran g c =
 
 pub returns-in-Err-Served-clause-ran : goal.returns-in-Err-Served-clause-ran
 returns-in-Err-Served-clause-ran g c = rw c.from.ensures c.in-Err-Served.ensures.reads
+
+-- ---- what rose, and what may still be written
+pub returns-in-Ok-flush-clause-traced : goal.returns-in-Ok-flush-clause-traced
+returns-in-Ok-flush-clause-traced g c = traced_whole _ (traced_then c.in-Ok.ensures.reads.traced c.in-Ok-flush.ensures.takes.traced)
+
+pub returns-in-Ok-flush-2-clause-traced : goal.returns-in-Ok-flush-2-clause-traced
+returns-in-Ok-flush-2-clause-traced g c = traced_whole _ (traced_then c.in-Err-Unread.ensures.reads.traced c.in-Ok-flush-2.ensures.takes.traced)
+
+pub returns-in-Err-flush-clause-traced : goal.returns-in-Err-flush-clause-traced
+returns-in-Err-flush-clause-traced g c = rw c.from.ensures (traced_cut c.in-Ok.ensures.reads.traced c.in-Err-flush.ensures.takes.traced_stop)
+
+pub returns-in-Err-flush-2-clause-traced : goal.returns-in-Err-flush-2-clause-traced
+returns-in-Err-flush-2-clause-traced g c = rw c.from.ensures (traced_cut c.in-Err-Unread.ensures.reads.traced c.in-Err-flush-2.ensures.takes.traced_stop)
+
+pub returns-in-Ok-flush-clause-cause : goal.returns-in-Ok-flush-clause-cause
+returns-in-Ok-flush-clause-cause g c =
+    let before = c.in-Ok.ensures.cause in
+    let now = c.in-Ok-flush.ensures.takes.cause in
+    record { source = before.source; out = now.out ∙ before.out; trace = now.trace ∙ before.trace }
+
+pub returns-in-Ok-flush-2-clause-cause : goal.returns-in-Ok-flush-2-clause-cause
+returns-in-Ok-flush-2-clause-cause g c =
+    let now = c.in-Ok-flush-2.ensures.takes.cause in
+    let there = c.read_texts-read.new in
+    let end = c.flush-2.new in
+    stop_stays c.in-Err-Unread.stop (g.I.Source.faults c.args.input.now) (g.I.Source.faults there.input) (g.K.Sink.faults c.args.out.now, g.T.Sink.faults c.args.trace.now) (g.K.Sink.faults there.out, g.T.Sink.faults there.trace)
+    (g.K.Sink.faults end.out, g.T.Sink.faults end.trace) now.out now.trace c.in-Err-Unread.ensures.cause
+
+pub returns-in-Err-flush-clause-cause : goal.returns-in-Err-flush-clause-cause
+returns-in-Err-flush-clause-cause g c =
+    let before = c.in-Ok.ensures.cause in
+    let there = c.read_texts-read.new in
+    let end = c.flush.new in
+    rw c.from.ensures
+    (waited_stops c.in-Err-flush.halted.stop (g.I.Source.faults c.args.input.now) (g.I.Source.faults there.input) (g.K.Sink.faults c.args.out.now, g.T.Sink.faults c.args.trace.now) (g.K.Sink.faults there.out, g.T.Sink.faults there.trace)
+    (g.K.Sink.faults end.out, g.T.Sink.faults end.trace) (λ alone. before.source) before.out before.trace c.in-Err-flush.ensures.takes.cause)
+
+-- the source may have failed before one of them was stopped, where INSERTs are served together
+pub returns-in-Err-flush-2-clause-cause : goal.returns-in-Err-flush-2-clause-cause
+returns-in-Err-flush-2-clause-cause g c =
+    let read = c.in-Err-Unread.ensures in
+    let there = c.read_texts-read.new in
+    let end = c.flush-2.new in
+    rw c.from.ensures
+    (waited_stops c.in-Err-flush-2.halted.stop (g.I.Source.faults c.args.input.now) (g.I.Source.faults there.input) (g.K.Sink.faults c.args.out.now, g.T.Sink.faults c.args.trace.now) (g.K.Sink.faults there.out, g.T.Sink.faults there.trace)
+    (g.K.Sink.faults end.out, g.T.Sink.faults end.trace) (λ alone. absurd (alone_read read.reads read.waits c.in-Err-flush-2.ensures.idle alone)) read.quiet.0 read.quiet.1 c.in-Err-flush-2.ensures.takes.cause)
+
+pub returns-in-Err-flush-clause-quiet : goal.returns-in-Err-flush-clause-quiet
+returns-in-Err-flush-clause-quiet g c =
+    let before = c.in-Ok.ensures.cause in
+    let there = c.read_texts-read.new in
+    let end = c.flush.new in
+    rw c.from.ensures
+    (waited_quiet c.in-Err-flush.halted.quiet (g.I.Source.faults c.args.input.now) (g.I.Source.faults there.input) (g.K.Sink.faults c.args.out.now, g.T.Sink.faults c.args.trace.now) (g.K.Sink.faults there.out, g.T.Sink.faults there.trace)
+    (g.K.Sink.faults end.out, g.T.Sink.faults end.trace) before.out before.trace c.in-Err-flush.ensures.takes.quiet)
+
+pub returns-in-Err-flush-2-clause-quiet : goal.returns-in-Err-flush-2-clause-quiet
+returns-in-Err-flush-2-clause-quiet g c =
+    let read = c.in-Err-Unread.ensures in
+    let there = c.read_texts-read.new in
+    let end = c.flush-2.new in
+    rw c.from.ensures
+    (waited_quiet c.in-Err-flush-2.halted.quiet (g.I.Source.faults c.args.input.now) (g.I.Source.faults there.input) (g.K.Sink.faults c.args.out.now, g.T.Sink.faults c.args.trace.now) (g.K.Sink.faults there.out, g.T.Sink.faults there.trace)
+    (g.K.Sink.faults end.out, g.T.Sink.faults end.trace) read.quiet.0 read.quiet.1 c.in-Err-flush-2.ensures.takes.quiet)
