@@ -1,4 +1,4 @@
-use Rattle.std.proofs.Common.{arith, ◌∙◌, refl, tt}
+use Rattle.std.proofs.Common.{arith, ◌∙◌, refl, Err}
 use Rattle.ob_shell.proofs.FeedLemmas.{fed_smaller}
 use Rattle.ob_shell.proofs.ReadLemmas.{by_byte, by_room, finish_reads, more_cause, more_quiet, more_ready, more_traced, more_waits, read_input_limit, read_source_fault, so_far_end, turn_reads}
 use Rattle.ob_shell.proofs.RunLemmas.{so_far_start, so_far_turn}

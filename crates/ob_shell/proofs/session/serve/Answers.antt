@@ -1,3 +1,4 @@
+use Rattle.std.proofs.Common.{◌∙◌, Err, Ok}
 use Rattle.ob_shell.proofs.GatherLemmas.{are_batched}
 use Rattle.ob_shell.proofs.RunLemmas.{ran_flushed, ran_unflushed}
 use Rattle.ob_shell.proofs.ServedLemmas.{alone_read, stop_stays, waited_quiet, waited_stops}

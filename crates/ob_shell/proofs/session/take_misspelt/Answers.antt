@@ -1,4 +1,4 @@
-use Rattle.std.proofs.Common.{refl, ◌∙◌, [], ◌∷◌}
+use Rattle.std.proofs.Common.{refl, ◌∙◌, [], ◌∷◌, inl}
 use Rattle.ob_print.proofs.CutLemmas.{Outputs-fault}
 use Rattle.ob_shell.proofs.CountLemmas.{same_cause}
 use Rattle.ob_shell.proofs.GatherLemmas.{are_batched, comes_free}
