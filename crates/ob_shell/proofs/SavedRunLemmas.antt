@@ -1,6 +1,6 @@
 -- A run whose tables are saved, behind its first line.
 use Rattle.std.specs.Prelude.{IfOk}
-use Rattle.std.proofs.Common.{◌≡◌, ◌≤◌, ◌++◌, ℕ, Bool, true, false, List, [], Option, Some, Result, Ok, Err, inr, refl, sym, ◌∙◌, ap, subst}
+use Rattle.std.proofs.Common.{◌≡◌, ◌≤◌, ◌++◌, ℕ, Bool, true, false, List, [], Option, Some, Result, Ok, Err, inr, refl, sym, ◌∙◌, ap, subst, arith}
 use Rattle.ob_base.specs.declared.config.Config.{Config}
 use Rattle.ob_base.specs.declared.config.Public.{Public}
 use Rattle.ob_base.specs.declared.refusal.Stop.{Stop}
