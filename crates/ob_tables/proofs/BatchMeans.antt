@@ -70,17 +70,17 @@ slots_length Full row slots = refl
 -- two changes of the slots of one table
 pub changed_twice : (name : List ℕ) (f g : Slots → Slots) (tables : Tables) → changed_at name (in_slots g) (changed_at name (in_slots f) tables) ≡ changed_at name (in_slots (λ slots. g (f slots))) tables
 changed_twice name f g [] = refl
-changed_twice name f g (x ∷ xs) = go (bytes_eq x.heading.name name) refl
+changed_twice name f g (x ∷ xs) = go (bytes_eq x.heading.name name) refl (changed_twice name f g xs)
   where
     abbrev twice : Held → Held
     twice = in_slots (λ slots. g (f slots))
 
-    go : (b : Bool) → bytes_eq x.heading.name name ≡ b
+    go : (b : Bool) → bytes_eq x.heading.name name ≡ b → changed_at name (in_slots g) (changed_at name (in_slots f) xs) ≡ changed_at name twice xs
         → changed_at name (in_slots g) (if b then with_slots (in_slots f) x ∷ xs else x ∷ changed_at name (in_slots f) xs) ≡ (if b then with_slots twice x ∷ xs else x ∷ changed_at name twice xs)
-    go true is = ap (λ (b : Bool). if b then with_slots twice x ∷ xs else with_slots (in_slots f) x ∷ changed_at name (in_slots g) xs) is
-    go false is =
+    go true is rest = ap (λ (b : Bool). if b then with_slots twice x ∷ xs else with_slots (in_slots f) x ∷ changed_at name (in_slots g) xs) is
+    go false is rest =
         ap (λ (b : Bool). if b then with_slots (in_slots g) x ∷ changed_at name (in_slots f) xs else x ∷ changed_at name (in_slots g) (changed_at name (in_slots f) xs)) is
-        ∙ ap (λ (ys : Tables). x ∷ ys) (changed_twice name f g xs)
+        ∙ ap (λ (ys : Tables). x ∷ ys) rest
 
 -- ---- INSERTs of a flat table, over tables in place of which it is one
 module _ (p : Public) (m : ℕ) (name : List ℕ) (heading : Heading) (flat : heading.shape ≡ Flat) (none : has_index p name ≡ false) where
@@ -178,14 +178,13 @@ module _ (p : Public) (m : ℕ) (name : List ℕ) (heading : Heading) (flat : he
 
   pub means_rows : (stmts : List Stmt) (tables : Tables) (held : Held) → All names_it stmts → StandsIn tables held → MeansRows stmts tables held
   means_rows [] tables held named stands = means_none tables held
-  means_rows (stmt ∷ stmts) tables held named stands = go (refusal_now p m stmt) refl
+  means_rows (stmt ∷ stmts) tables held named stands = go (refusal_now p m stmt) refl (λ ts h so. means_rows stmts ts h (All-tail names_it stmt stmts named) so)
     where
-      go : (o : Option Refusal) → refusal_now p m stmt ≡ o → MeansRows (stmt ∷ stmts) tables held
-      go (Some r) now = means_refused stmt stmts tables held r stands now (means_rows stmts tables held (All-tail names_it stmt stmts named) stands)
-      go None now =
+      go : (o : Option Refusal) → refusal_now p m stmt ≡ o → ((ts : Tables) (h : Held) → StandsIn ts h → MeansRows stmts ts h) → MeansRows (stmt ∷ stmts) tables held
+      go (Some r) now rest = means_refused stmt stmts tables held r stands now (rest tables held stands)
+      go None now rest =
           let is = puts tables held stands stmt (All-head names_it stmt stmts named) now in
-          means_put stmt stmts tables held now is
-          (means_rows stmts (changed_at name (in_slots (change_by stmt held)) tables) (in_slots (change_by stmt held) held) (All-tail names_it stmt stmts named) is.stands)
+          means_put stmt stmts tables held now is (rest (changed_at name (in_slots (change_by stmt held)) tables) (in_slots (change_by stmt held) held) is.stands)
 
   -- ---- their rows fit
   module _ (found : heading_at name (headings_of p.tables) ≡ Some heading) (apart : has_repeats bytes_eq (map (λ (c : Column). c.name) heading.schema) ≡ false) where
@@ -198,15 +197,16 @@ module _ (p : Public) (m : ℕ) (name : List ℕ) (heading : Heading) (flat : he
 
     pub rows_fit : (stmts : List Stmt) → All names_it stmts → All (All IsCell) (rows_for stmts) → All (FitsColumns heading.schema) (rows_for stmts)
     rows_fit [] named held = All-nil (FitsColumns heading.schema)
-    rows_fit (stmt ∷ stmts) named held = go (refusal_now p m stmt) refl held
+    rows_fit (stmt ∷ stmts) named held = go (refusal_now p m stmt) refl held (λ cells. rows_fit stmts (All-tail names_it stmt stmts named) cells)
       where
-        go : (o : Option Refusal) → refusal_now p m stmt ≡ o → All (All IsCell) (row_by o stmt (rows_for stmts)) → All (FitsColumns heading.schema) (row_by o stmt (rows_for stmts))
-        go (Some r) now held = rows_fit stmts (All-tail names_it stmt stmts named) held
-        go None now held =
+        go : (o : Option Refusal) → refusal_now p m stmt ≡ o → All (All IsCell) (row_by o stmt (rows_for stmts)) → (All (All IsCell) (rows_for stmts) → All (FitsColumns heading.schema) (rows_for stmts))
+            → All (FitsColumns heading.schema) (row_by o stmt (rows_for stmts))
+        go (Some r) now cells rest = rest cells
+        go None now cells rest =
             let row = row_of heading.schema stmt in
             All-cons (FitsColumns heading.schema) row (rows_for stmts)
-            (row_fits stmt (All-head names_it stmt stmts named) now (All-head (All IsCell) row (rows_for stmts) held))
-            (rows_fit stmts (All-tail names_it stmt stmts named) (All-tail (All IsCell) row (rows_for stmts) held))
+            (row_fits stmt (All-head names_it stmt stmts named) now (All-head (All IsCell) row (rows_for stmts) cells))
+            (rest (All-tail (All IsCell) row (rows_for stmts) cells))
 
 -- ---- what each is answered
 module _ (p : Public) (m : ℕ) where
