@@ -10,7 +10,8 @@
 //! `running` begins each statement, by what is refused before any access, by the index that it accesses, and else
 //! by its kind: what makes or changes a table is a call of `ob_tables`. `rows` and `totals` are the SELECTs;
 //! `specs/Sources` says what is done of the rows of a source (`SelectsRows`), and `specs/Totalling` of totals.
-//! `gathering` says which INSERTs are served together, and `batching` serves them. `saving` saves the tables behind a statement, by what `behind` says becomes of them.
+//! `gathering` says which INSERTs are served together, and `batching` serves them. `saving` saves the tables behind a
+//! statement, by what `behind` says becomes of them.
 #![tactic(auto)]
 
 mod batching;
