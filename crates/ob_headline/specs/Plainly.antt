@@ -1,5 +1,5 @@
 -- A run that nothing hinders is one of the plain machine: SQL over plain tables, a text after the other.
-use Rattle.std.specs.Prelude.{ℕ, ◌≡◌, ◌≢◌, ◌++◌, if◌then◌else◌, true, false, List, [], ◌∷◌, Ok, Err, None, Some}
+use Rattle.std.specs.Prelude.{ℕ, ◌≡◌, ◌≢◌, ◌++◌, if◌then◌else◌, true, false, List, [], ◌∷◌, Ok, Err, Option, None, Some}
 use Rattle.std.specs.Io.KnownBytes.{Appends}
 use Rattle.ob_base.specs.Counts.{Rises}
 use Rattle.ob_headline.specs.Batches.{after_now, gathered_now, meant_seen}
