@@ -262,7 +262,7 @@ module _ (words : List Text) (secret : List ℕ) (f : Ending) (one : OneRun word
     on : GoesOn s run.session.story.spelt told.0 run.session.story.answers all t
     on = answers_on _ None (Ran (Ok closed.0)) run.session.story.spelt s t told.0 run.session.story.answers all run.session.story.part begins.alike each unfailed told.1 run.session.accesses.lawful soon soon_too
 
-    pub waits_on : Waits words secret one.keeper1.held one.new.store.kept (after_all t run.session.story.spelt hows_here)
+    waits_on : Waits words secret one.keeper1.held one.new.store.kept (after_all t run.session.story.spelt hows_here)
     waits_on = waits_behind (is_used_up tables.closing) refl told.0 hows_here told.2 (after_all t run.session.story.spelt hows_here) refl on.alike
 
 -- ---- all of them
