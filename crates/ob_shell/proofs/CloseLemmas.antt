@@ -53,9 +53,9 @@ pub words_end : (error : WordsErr) {Takes : Type 0} → (error ≡ Words.Usage �
 words_end Words.Usage not = not refl
 words_end Words.NoMemory not = tt
 
-pub words_cause : {Alone : Type 0} (error : WordsErr) (faults : Faults) → EndingCause Alone (refused_by error) faults faults
-words_cause Words.Usage faults = record { source = refl; out = refl; trace = refl }
-words_cause Words.NoMemory faults = (λ alone. refl, omega arith, omega arith)
+pub words_cause : (Alone : Type 0) (error : WordsErr) (faults : Faults) → EndingCause Alone (refused_by error) faults faults
+words_cause Alone Words.Usage faults = record { source = refl; out = refl; trace = refl }
+words_cause Alone Words.NoMemory faults = (λ alone. refl, omega arith, omega arith)
 
 unfoldable pub words_shown : {F : Type 0} {keys : List ℕ → KeySet} (tally : Tally) (tr : TraceSink) (settings : Option Config) (error : WordsErr) (l : Option (List ℕ)) (gave : ℕ) (w : Option (List ℕ)) (s : StoreState) → IsFresh s → tr.new ≡ tr.old
     → RunShown tally tr (fresh settings) keys l l gave w w s s 0 (refused_by error) [] F
@@ -75,7 +75,7 @@ pub reported_words : (tally : Tally) (tr : TraceSink) {Takes : Type 0} {keys : L
     → Reported tally tr Takes (fresh settings) keys l l gave w0 w1 s s old new report
 reported_words tally tr {settings = settings} {gave = gave} {l = l} {w0 = w0} {s = s} error report old new fresh untraced not status high line trace source =
     reported_closed (record { ending = refused_by error; quiet = false; high = 0; tally = tally }) report old old new status high (words_end error not)
-    (words_shown tally tr settings error l gave w0 s fresh untraced) (words_cause error old) (λ loud. absurd (cc loud)) (λ loud. line) (λ loud. absurd (cc loud)) (λ loud. refl) trace source
+    (words_shown tally tr settings error l gave w0 s fresh untraced) (words_cause _ error old) (λ loud. absurd (cc loud)) (λ loud. line) (λ loud. absurd (cc loud)) (λ loud. refl) trace source
 
 -- the words were taken
 pub words_taken : (ending : Ending) {Takes : Type 0} → EndingWords ending ⊤ → Takes → EndingWords ending Takes

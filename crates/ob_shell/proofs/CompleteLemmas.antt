@@ -59,21 +59,21 @@ module _ (taken rest : List ℕ) (secret : HasSecret (taken ++ rest)) where
       let k = rw all at small in cc
   not_over false lf small over = let k = rw (after_line-none taken lf, rest_of-nil) at over in cc
 
-limits_kept : {Alone : Type 0} (ending : Ending) (max : ℕ) (taken rest : List ℕ) (ended : Bool) (more : List (List ℕ)) (part : List ℕ) {Takes : Type 0}
+limits_kept : (Alone : Type 0) (ending : Ending) (max : ℕ) (taken rest : List ℕ) (ended : Bool) (more : List (List ℕ)) (part : List ℕ) {Takes : Type 0}
     → Takes → EndingWords ending Takes
     → KeepsLimits max (taken ++ rest) → EndingSays ending max taken (Some rest) ended more part → (old new : Faults) → StatusCause Alone ending old new
     → ¬ Rises old.source new.source → ¬ SinksRose old new → {Honest Faulted Saving : Type 0} → (Honest → EndsUntampered ending) → (ending ≡ Ran (Err StoreFault) → Faulted) → (ending ≡ Ran (Err KeeperFault) → Saving) → IsCompleted Honest Faulted Saving ending
-limits_kept Usage max taken rest ended more part t words k says old new cause a c calm faulted saving = words t
-limits_kept BadKey max taken rest ended more part t words k says old new cause a c calm faulted saving = good_key taken rest k.secret says.1 says.0
-limits_kept (Ran (Ok refused)) max taken rest ended more part t words k says old new cause a c calm faulted saving = tt
-limits_kept (Ran (Err (Tampered region place))) max taken rest ended more part t words k says old new cause a c calm faulted saving = calm
-limits_kept (Ran (Err SourceFault)) max taken rest ended more part t words k says old new cause a c calm faulted saving = a cause
-limits_kept (Ran (Err SinkFault)) max taken rest ended more part t words k says old new cause a c calm faulted saving = c cause.1
-limits_kept (Ran (Err NoMemory)) max taken rest ended more part t words k says old new cause a c calm faulted saving = tt
-limits_kept (Ran (Err StoreFault)) max taken rest ended more part t words k says old new cause a c calm faulted saving = faulted refl
-limits_kept (Ran (Err StashFull)) max taken rest ended more part t words k says old new cause a c calm faulted saving = tt
-limits_kept (Ran (Err KeeperFault)) max taken rest ended more part t words k says old new cause a c calm faulted saving = saving refl
-limits_kept (Ran (Err InputLimit)) max taken rest ended more part t words k says old new cause a c calm faulted saving =
+limits_kept Alone Usage max taken rest ended more part t words k says old new cause a c calm faulted saving = words t
+limits_kept Alone BadKey max taken rest ended more part t words k says old new cause a c calm faulted saving = good_key taken rest k.secret says.1 says.0
+limits_kept Alone (Ran (Ok refused)) max taken rest ended more part t words k says old new cause a c calm faulted saving = tt
+limits_kept Alone (Ran (Err (Tampered region place))) max taken rest ended more part t words k says old new cause a c calm faulted saving = calm
+limits_kept Alone (Ran (Err SourceFault)) max taken rest ended more part t words k says old new cause a c calm faulted saving = a cause
+limits_kept Alone (Ran (Err SinkFault)) max taken rest ended more part t words k says old new cause a c calm faulted saving = c cause.1
+limits_kept Alone (Ran (Err NoMemory)) max taken rest ended more part t words k says old new cause a c calm faulted saving = tt
+limits_kept Alone (Ran (Err StoreFault)) max taken rest ended more part t words k says old new cause a c calm faulted saving = faulted refl
+limits_kept Alone (Ran (Err StashFull)) max taken rest ended more part t words k says old new cause a c calm faulted saving = tt
+limits_kept Alone (Ran (Err KeeperFault)) max taken rest ended more part t words k says old new cause a c calm faulted saving = saving refl
+limits_kept Alone (Ran (Err InputLimit)) max taken rest ended more part t words k says old new cause a c calm faulted saving =
     elim says.limit [
       | inl over ↦ not_over taken rest k.secret (has_lf taken) refl k.texts over
       | inr full ↦ let few = k.short in absurd (omega (arith, few, full, length-append taken rest))
@@ -91,7 +91,7 @@ completes {base = base} {l1 = l1} {s0 = s0} {s1 = s1} {ending = ending} old new 
         → IsCompleted (IsHonest s0 s1) (StoreFails base s0 s1) (base.public.save ≡ true) ending
     go None says given calm = absurd given
     go (Some rest) says given calm =
-        limits_kept ending (limit_of base.settings) shown.taken rest shown.ended shown.story.more shown.story.part t words (subst (KeepsLimits (limit_of base.settings)) given k) says old new cause a c
+        limits_kept (ServesAlone base.public) ending (limit_of base.settings) shown.taken rest shown.ended shown.story.more shown.story.part t words (subst (KeepsLimits (limit_of base.settings)) given k) says old new cause a c
         calm shown.carried.faulted shown.carried.saving
 
 -- the last line was written, or cut by a sink's fault
@@ -104,13 +104,13 @@ unfoldable pub reported_line : {tally : Tally} {tr : TraceSink} {Takes : Type 0}
     → Reported tally tr Takes base keys l0 l1 gave w0 w2 s0 s1 old new report
 unfolding shown_line
 reported_line {base = base} ending old mid new {w0 = w0} {w1 = w1} status takes shown loud cause cut rose none later trace source kept =
-    let causes : StatusCause (ServesAlone base.public) ending old new = status_cause ending old mid new cause later trace source none in
+    let causes : StatusCause (ServesAlone base.public) ending old new = status_cause (ServesAlone base.public) ending old mid new cause later trace source none in
     let whole : Outputs w0 w1 ⊥ ((printed shown.story.answers ++ shown.story.part) ++ []) = Outputs-by loud shown.grew in
     record {
       ending = ending;
       status = status;
       takes = takes;
-      shown = shown_line cut.grown shown cut.appends (cut_line _ _ (λ e. line_rose ending old mid new cause (rose e) later trace) whole cut);
+      shown = shown_line cut.grown shown cut.appends (cut_line _ _ (λ e. line_rose (ServesAlone base.public) ending old mid new cause (rose e) later trace) whole cut);
       through = inl (took_more cut.grown (took_of (subst (λ (l : List ℕ). Outputs w0 w1 ⊥ l) (append-nil (printed shown.story.answers ++ shown.story.part)) whole) (λ never. never)) cut.appends);
       silent = λ other. absurd (other (trace ∙ kept));
       cause = causes;
@@ -125,7 +125,7 @@ unfoldable pub reported_quiet : {tally : Tally} {tr : TraceSink} {Takes : Type 0
     → Reported tally tr Takes base keys l0 l1 gave w0 w1 s0 s1 old new report
 unfolding shown_line
 reported_quiet {base = base} ending old new {w0 = w0} {w1 = w1} {Lost = Lost} status takes shown lost cause rose =
-    let causes : StatusCause (ServesAlone base.public) ending old new = status_cause ending old new new cause (omega arith) refl refl (λ e. refl) in
+    let causes : StatusCause (ServesAlone base.public) ending old new = status_cause (ServesAlone base.public) ending old new new cause (omega arith) refl refl (λ e. refl) in
     record {
       ending = ending;
       status = status;

@@ -25,15 +25,15 @@ silenced_kept true old new silenced is = absurd (cc is)
 silenced_kept false old new silenced is = silenced.1
 
 -- the cause of a stop, whatever was counted until then
-pub same_cause : {Alone : Type 0} (A B : Type 0) (stop : Stop) (old new : Faults) → StopCause {T = A} Alone old new (Err stop) → StopCause {T = B} Alone old new (Err stop)
-same_cause A B (Tampered region place) old new cause = cause
-same_cause A B SourceFault old new cause = cause
-same_cause A B SinkFault old new cause = cause
-same_cause A B NoMemory old new cause = cause
-same_cause A B InputLimit old new cause = cause
-same_cause A B StoreFault old new cause = cause
-same_cause A B StashFull old new cause = cause
-same_cause A B KeeperFault old new cause = cause
+pub same_cause : (Alone A B : Type 0) (stop : Stop) (old new : Faults) → StopCause {T = A} Alone old new (Err stop) → StopCause {T = B} Alone old new (Err stop)
+same_cause Alone A B (Tampered region place) old new cause = cause
+same_cause Alone A B SourceFault old new cause = cause
+same_cause Alone A B SinkFault old new cause = cause
+same_cause Alone A B NoMemory old new cause = cause
+same_cause Alone A B InputLimit old new cause = cause
+same_cause Alone A B StoreFault old new cause = cause
+same_cause Alone A B StashFull old new cause = cause
+same_cause Alone A B KeeperFault old new cause = cause
 
 -- what was lost since a count that hadn't risen before
 pub lost_since : {quiet : Bool} {k0 k1 k2 : ℕ} → k1 ≡ k0 → OutFailed quiet k1 k2 → OutFailed quiet k0 k2

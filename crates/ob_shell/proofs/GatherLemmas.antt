@@ -98,16 +98,33 @@ spelt_more [] (one ∷ batch) text stmt spelt spells = absurd spelt
 spelt_more (x ∷ held) [] text stmt spelt spells = absurd spelt
 spelt_more (x ∷ held) (one ∷ batch) text stmt spelt spells = (spelt.0, spelt_more held batch text stmt spelt.1 spells)
 
-module _ {R : Type 0} {state : R → RevState} {Saves : Type 0} {on : Bool} (batch : List Stmt) (stmt : Stmt) (text : List ℕ) (spells : Spells text (Ok stmt)) where
-  abbrev more : List Stmt
-  more = batch ++ stmt ∷ []
+closed_all : (stmt : Stmt) (p0 p1 : Public) (xs : List Stmt) (g h : Option Gathering) → batch_most p1 ≡ batch_most p0 → batch_most p0 ≤ length (xs ++ stmt ∷ []) → IsClosed p1 (xs ++ stmt ∷ []) g h → (outline : Skeleton) → goes_into p1 h outline ≡ false
+closed_all stmt p0 p1 [] g h same full closed outline = closed outline (inr (omega (arith, same, full)))
+closed_all stmt p0 p1 (first ∷ rest) g h same full closed outline = closed outline (inr (omega (arith, same, full)))
 
-  pub takes_gathered : {T : Type 0} (tally : Tally) (w t : Option (List ℕ)) (old : Faults) (m : Machine R) (x : T) → IsReady state Saves m → AreGathered (public_of m.engine) (asked_of m) more
-      → TakesTexts state Saves on (IsFree (public_of m.engine) more) (λ old new. IsFree (public_of m.engine) more new) batch more (text ∷ []) tally tally w w t t old old m m (Ok x)
+so_full : {R : Type 0} {state : R → RevState} (batch : List Stmt) (stmt : Stmt) (text : List ℕ) {b1 : List Stmt} {t0 t1 : Tally} {w0 w1 : Option (List ℕ)} {m0 m1 : Machine R} → batch_most (public_of m0.engine) ≤ length (batch ++ stmt ∷ []) → (g : Option Gathering) (held : List (List ℕ)) → b1 ≡ [] → ServedSo state w0 w1 ((held ++ text ∷ []) ++ []) b1 (IsClosed (public_of m1.engine) (batch ++ stmt ∷ []) g) t0 t1 (standing m0 [] g) m1
+    → ServedSo state w0 w1 (held ++ text ∷ []) b1 (IsFree (public_of m1.engine) b1) t0 t1 (standing m0 [] g) m1
+so_full {state = state} batch stmt text {m0 = m0} {m1 = m1} full g held none so = record {
+  served = so.served;
+  held = so.held;
+  parts = sym (append-nil (held ++ text ∷ [])) ∙ so.parts;
+  spelt = so.spelt;
+  gathered = so.gathered;
+  then = subst (λ (l : List Stmt). IsFree (public_of m1.engine) l so.gathered) (sym none)
+      (closed_all stmt (public_of m0.engine) (public_of m1.engine) batch g so.gathered (steps_most state (standing m0 [] g) (standing m1 [] so.gathered) so.served so.answers so.steps) full so.then);
+  answers = so.answers;
+  steps = so.steps;
+  appends = so.appends;
+  counted = so.counted;
+}
+
+module _ {R : Type 0} {state : R → RevState} {Saves : Type 0} {on : Bool} (batch : List Stmt) (stmt : Stmt) (text : List ℕ) (spells : Spells text (Ok stmt)) where
+  pub takes_gathered : {T : Type 0} (tally : Tally) (w t : Option (List ℕ)) (old : Faults) (m : Machine R) (x : T) → IsReady state Saves m → AreGathered (public_of m.engine) (asked_of m) (batch ++ stmt ∷ [])
+      → TakesTexts state Saves on (IsFree (public_of m.engine) (batch ++ stmt ∷ [])) (λ old new. IsFree (public_of m.engine) (batch ++ stmt ∷ []) new) batch (batch ++ stmt ∷ []) (text ∷ []) tally tally w w t t old old m m (Ok x)
   takes_gathered tally w t old m x ready waits = record {
     ready = ready;
     waits = waits;
-    done = λ g held comes spelt. so_idle w (held ++ text ∷ []) (held ++ text ∷ []) more (λ old new. IsFree (public_of m.engine) more new) tally m g refl (spelt_more held batch text stmt spelt spells) comes;
+    done = λ g held comes spelt. so_idle w (held ++ text ∷ []) (held ++ text ∷ []) (batch ++ stmt ∷ []) (λ old new. IsFree (public_of m.engine) (batch ++ stmt ∷ []) new) tally m g refl (spelt_more held batch text stmt spelt spells) comes;
     stopped = tt;
     traced = traced_none on m.store.asked t;
     traced_stop = tt;
@@ -116,33 +133,13 @@ module _ {R : Type 0} {state : R → RevState} {Saves : Type 0} {on : Bool} (bat
   }
 
   -- ---- the batch was full, and was served
-  closed_all : (p0 p1 : Public) (xs : List Stmt) (g h : Option Gathering) → batch_most p1 ≡ batch_most p0 → batch_most p0 ≤ length (xs ++ stmt ∷ []) → IsClosed p1 (xs ++ stmt ∷ []) g h → (outline : Skeleton) → goes_into p1 h outline ≡ false
-  closed_all p0 p1 [] g h same full closed outline = closed outline (inr (omega (arith, same, full)))
-  closed_all p0 p1 (first ∷ rest) g h same full closed outline = closed outline (inr (omega (arith, same, full)))
-
-  module _ {b1 : List Stmt} {t0 t1 : Tally} {w0 w1 s0 s1 : Option (List ℕ)} {old new : Faults} {m0 m1 : Machine R} (full : batch_most (public_of m0.engine) ≤ length more) where
-    so_full : (g : Option Gathering) (held : List (List ℕ)) → b1 ≡ [] → ServedSo state w0 w1 ((held ++ text ∷ []) ++ []) b1 (IsClosed (public_of m1.engine) more g) t0 t1 (standing m0 [] g) m1
-        → ServedSo state w0 w1 (held ++ text ∷ []) b1 (IsFree (public_of m1.engine) b1) t0 t1 (standing m0 [] g) m1
-    so_full g held none so = record {
-      served = so.served;
-      held = so.held;
-      parts = sym (append-nil (held ++ text ∷ [])) ∙ so.parts;
-      spelt = so.spelt;
-      gathered = so.gathered;
-      then = subst (λ (l : List Stmt). IsFree (public_of m1.engine) l so.gathered) (sym none)
-          (closed_all (public_of m0.engine) (public_of m1.engine) batch g so.gathered (steps_most state (standing m0 [] g) (standing m1 [] so.gathered) so.served so.answers so.steps) full so.then);
-      answers = so.answers;
-      steps = so.steps;
-      appends = so.appends;
-      counted = so.counted;
-    }
-
-    pub takes_full : {T : Type 0} (result : Result T TextHalted) → OnOk result (b1 ≡ []) → TakesTexts state Saves on (ComesFree (public_of m0.engine) more) (IsClosed (public_of m1.engine) more) more b1 [] t0 t1 w0 w1 s0 s1 old new m0 m1 result
-        → TakesTexts state Saves on (IsFree (public_of m0.engine) more) (λ old new. IsFree (public_of m1.engine) b1 new) batch b1 (text ∷ []) t0 t1 w0 w1 s0 s1 old new m0 m1 result
+  module _ {b1 : List Stmt} {t0 t1 : Tally} {w0 w1 s0 s1 : Option (List ℕ)} {old new : Faults} {m0 m1 : Machine R} (full : batch_most (public_of m0.engine) ≤ length (batch ++ stmt ∷ [])) where
+    pub takes_full : {T : Type 0} (result : Result T TextHalted) → OnOk result (b1 ≡ []) → TakesTexts state Saves on (ComesFree (public_of m0.engine) (batch ++ stmt ∷ [])) (IsClosed (public_of m1.engine) (batch ++ stmt ∷ [])) (batch ++ stmt ∷ []) b1 [] t0 t1 w0 w1 s0 s1 old new m0 m1 result
+        → TakesTexts state Saves on (IsFree (public_of m0.engine) (batch ++ stmt ∷ [])) (λ old new. IsFree (public_of m1.engine) b1 new) batch b1 (text ∷ []) t0 t1 w0 w1 s0 s1 old new m0 m1 result
     takes_full (Ok x) none takes = record {
       ready = takes.ready;
       waits = takes.waits;
-      done = λ g held comes spelt. so_full g held none (takes.done g (held ++ text ∷ []) (comes_free (public_of m0.engine) more g comes) (spelt_more held batch text stmt spelt spells));
+      done = λ g held comes spelt. so_full batch stmt text full g held none (takes.done g (held ++ text ∷ []) (comes_free (public_of m0.engine) (batch ++ stmt ∷ []) g comes) (spelt_more held batch text stmt spelt spells));
       stopped = tt;
       traced = takes.traced;
       traced_stop = tt;
@@ -154,7 +151,7 @@ module _ {R : Type 0} {state : R → RevState} {Saves : Type 0} {on : Bool} (bat
       waits = tt;
       done = tt;
       stopped = λ g held comes spelt. subst (λ (l : List (List ℕ)). BreaksIn state on w0 w1 s0 s1 (OutFailed halted.quiet old.out new.out) l halted.stop (standing m0 [] g) m1) (append-nil (held ++ text ∷ []))
-          (takes.stopped g (held ++ text ∷ []) (comes_free (public_of m0.engine) more g comes) (spelt_more held batch text stmt spelt spells));
+          (takes.stopped g (held ++ text ∷ []) (comes_free (public_of m0.engine) (batch ++ stmt ∷ []) g comes) (spelt_more held batch text stmt spelt spells));
       traced = tt;
       traced_stop = takes.traced_stop;
       cause = takes.cause;

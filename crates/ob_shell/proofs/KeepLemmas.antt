@@ -55,7 +55,7 @@ module _ {R : Type 0} (state : R → RevState) (base : Base) (config : Config) (
     ran = subst (λ (n : ℕ). RanAfter state (sink_of tracing t0 t1) base (keys_of key) (Some key) f0 f1 l0 l1 gave w0 w1 s0 s1 n (OutFailed ended.quiet old.out new.out) (Err stop)) (sym rows)
         (ran_after base config (keys_of key) key first last high (Err stop) p0 p1 s0 s1 engages.stands most is_high (sink_of tracing t0 t1) f0 f1 l0 l1 gave w0 w1 ran);
     traced_all = traced;
-    cause = subst (λ (p : Public). StopCause {T = Bool} (ServesAlone p) old new (Err stop)) engages.stands.public (same_cause Tally Bool stop old new cause);
+    cause = subst (λ (p : Public). StopCause {T = Bool} (ServesAlone p) old new (Err stop)) engages.stands.public (same_cause _ Tally Bool stop old new cause);
     silent = silent;
     ending = ending;
     kept = refl;

@@ -138,14 +138,14 @@ first_cut {w0 = w0} {w1 = w1} {F = F} o outcomes out = record {
 }
 
 -- ---- the first, and behind it the others
-module _ {A E : Type 0} {w0 w1 w2 : Option (List ℕ)} (o : Outcome) (outcomes : List Outcome) (first : Appends w0 w1 (closing_line o)) where
+module _ {A E : Type 0} (w0 w1 w2 : Option (List ℕ)) (o : Outcome) (outcomes : List Outcome) (first : Appends w0 w1 (closing_line o)) where
   pub all_lines : (result : Result A E) → OnOk result (Appends w1 w2 (lines outcomes)) → OnOk result (Appends w0 w2 (lines (o ∷ outcomes)))
   all_lines (Ok x) rest = subst (λ (l : List ℕ). Appends w0 w2 l) (sym (lines_cons o outcomes)) (Appends-trans _ _ _ _ _ first rest)
   all_lines (Err e) rest = tt
 
-  pub batch_cut : {t0 t1 : Option (List ℕ)} {text : List ℕ} {out0 out1 out2 : ℕ} (result : Result A E) → Outputs w1 w2 (IsErr result) (lines outcomes) → Appends t0 t1 text → out1 ≡ out0 → HasCause out1 out2 result → OnErr result (BatchCut (o ∷ outcomes) w0 w2 t0 t1 text out0 out2)
-  batch_cut (Ok x) cut traced same cause = tt
-  batch_cut {out2 = out2} (Err e) cut traced same cause = record {
+  pub batch_cut : (t0 t1 : Option (List ℕ)) (text : List ℕ) {out0 out1 out2 : ℕ} (result : Result A E) → Outputs w1 w2 (IsErr result) (lines outcomes) → Appends t0 t1 text → out1 ≡ out0 → HasCause out1 out2 result → OnErr result (BatchCut (o ∷ outcomes) w0 w2 t0 t1 text out0 out2)
+  batch_cut t0 t1 text (Ok x) cut traced same cause = tt
+  batch_cut t0 t1 text {out2 = out2} (Err e) cut traced same cause = record {
     lines = lines_cut o outcomes (subst (λ (l : List ℕ). Outputs w0 w2 _ l) (sym (lines_cons o outcomes)) (Outputs-after (closing_line o) first cut)) (subst (λ (n : ℕ). Rises n out2) same cause.failed);
     traced = Outputs-whole _ _ (Unit {0}) _ traced;
     behind = inr traced;

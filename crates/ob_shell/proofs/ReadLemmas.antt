@@ -42,7 +42,7 @@ so_far_end {f0 = f0} {f2 = f2} {l0 = l0} {l2 = l2} so fed = record {
 
 -- what is free comes free
 comes_so : {R : Type 0} {state : R → RevState} {w0 w1 : Option (List ℕ)} {texts : List (List ℕ)} (batch : List Stmt) {r : Tally} {m0 m1 : Machine R} → ServedSo state w0 w1 texts batch (IsFree (public_of m1.engine) batch) empty_tally r m0 m1 → ServedSo state w0 w1 texts batch (ComesFree (public_of m1.engine) batch) empty_tally r m0 m1
-comes_so {m1 = m1} batch so = record {
+comes_so batch {m1 = m1} so = record {
   served = so.served;
   held = so.held;
   parts = so.parts;

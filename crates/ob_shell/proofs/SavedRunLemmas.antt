@@ -58,9 +58,9 @@ module _ {R : Type 0} (state : R → RevState) (base : Base) (config : Config) (
         (ap (λ (p : Public). p.save) (sym begins.public) ∙ begins.saves) begins.of begins.salted begins.rests;
   }
 
-flagged_cause : {Alone : Type 0} (result : Result Tally Stop) (old new : Faults) → StopCause Alone old new result → StopCause Alone old new (flagged result)
-flagged_cause (Ok tally) old new cause = cause
-flagged_cause (Err stop) old new cause = same_cause Tally Bool stop old new cause
+flagged_cause : (Alone : Type 0) (result : Result Tally Stop) (old new : Faults) → StopCause Alone old new result → StopCause Alone old new (flagged result)
+flagged_cause Alone (Ok tally) old new cause = cause
+flagged_cause Alone (Err stop) old new cause = same_cause _ Tally Bool stop old new cause
 
 -- ---- the whole run
 -- the first line came, and no statement was served
@@ -115,7 +115,7 @@ module _ {R : Type 0} (state : R → RevState) (config : Config) (key : List ℕ
         (subst (λ (x : Option (List ℕ)). Carried (sink_of tracing t1 t2) starts.base starts.keys x s1 s2 ended.high serves.ran.story (Ran (flagged serves.result))) (sym keyed) serves.ran.carried) serves.counted;
     keyed = keyed;
     traced_all = serves.traced_all;
-    cause = subst (λ (f : Faults). StopCause (ServesAlone starts.base.public) f new (flagged serves.result)) same_faults (flagged_cause serves.result begun_faults new serves.cause);
+    cause = subst (λ (f : Faults). StopCause (ServesAlone starts.base.public) f new (flagged serves.result)) same_faults (flagged_cause _ serves.result begun_faults new serves.cause);
     silent = subst (λ (f : Faults). Silenced ended.quiet f new) same_faults serves.silent;
     ending = serves.ending;
     keeper = serves.keeper;

@@ -78,10 +78,10 @@ module _ {R E : Type 0} (state : R → RevState) (grew cut : E → E → List Ev
       }
 
   -- nothing else was carried out
-  owes_none : (outcome : Outcome) → Called (Ok outcome) → (tables : Tables) (d : Draws) → AreDraws m0.engine d → ReadsTrue state m0.engine m0.store m1.store tables → by_fault (is_fault outcome) ([] ≡ []) (Owes start end stmt d tables)
+  owes_none : (outcome : Outcome) → Called (Ok outcome) → (tables : Tables) (d : Draws) → AreDraws m0.engine d → ReadsTrue state m0.engine m0.store m1.store tables → by_fault (is_fault outcome) (end.owed ≡ []) (Owes start end stmt d tables)
   owes_none outcome serves tables d drawn reads = go (is_fault outcome) (serves.carried.means.told tables d drawn reads)
     where
-      go : (failed : Bool) → by_fault failed (Kept state stmt d tables m0.engine m0.store m1.engine m1.store) (Meant state stmt [] (asked_of m0) d tables outcome m0.engine m1.engine m1.store) → by_fault failed ([] ≡ []) (Owes start end stmt d tables)
+      go : (failed : Bool) → by_fault failed (Kept state stmt d tables m0.engine m0.store m1.engine m1.store) (Meant state stmt [] (asked_of m0) d tables outcome m0.engine m1.engine m1.store) → by_fault failed (end.owed ≡ []) (Owes start end stmt d tables)
       go true kept = refl
       go false meant = record { whole = inl refl; listed = held_headings _ _ _ _ _ meant.held.held; same = refl; answered = tt }
 

@@ -24,20 +24,20 @@ use Rattle.ob_vault.specs.State.{RevState}
 
 -- ---- the counts
 -- the reading's stop, behind which those that waited were served
-pub stop_stays : {T : Type 0} {Alone : Type 0} (stop : Stop) (s0 s1 : ℕ) (old mid new : ℕ × ℕ) → new.0 ≡ mid.0 → new.1 ≡ mid.1 → StopCause {T = T} Alone (faults_of s0 old.0 old.1) (faults_of s1 mid.0 mid.1) (Err stop) → StopCause {T = T} Alone (faults_of s0 old.0 old.1) (faults_of s1 new.0 new.1) (Err stop)
-stop_stays {T = T} {Alone = Alone} stop s0 s1 old mid new out trace cause =
+pub stop_stays : (T Alone : Type 0) (stop : Stop) (s0 s1 : ℕ) (old mid new : ℕ × ℕ) → new.0 ≡ mid.0 → new.1 ≡ mid.1 → StopCause {T = T} Alone (faults_of s0 old.0 old.1) (faults_of s1 mid.0 mid.1) (Err stop) → StopCause {T = T} Alone (faults_of s0 old.0 old.1) (faults_of s1 new.0 new.1) (Err stop)
+stop_stays T Alone stop s0 s1 old mid new out trace cause =
     let same : faults_of s1 mid.0 mid.1 ≡ faults_of s1 new.0 new.1 = λ i. faults_of s1 (sym out i) (sym trace i) in
     subst (λ (f : Faults). StopCause {T = T} Alone (faults_of s0 old.0 old.1) f (Err stop)) same cause
 
 -- one of those that waited was stopped
-pub waited_stops : {T U : Type 0} {Alone : Type 0} (stop : RunStop) (s0 s1 : ℕ) (old mid new : ℕ × ℕ) → (Alone → s1 ≡ s0) → mid.0 ≡ old.0 → mid.1 ≡ old.1 → StopCause {T = T} (Unit {0}) (faults_of 0 mid.0 mid.1) (faults_of 0 new.0 new.1) (Err (session_stop stop))
+pub waited_stops : (T U Alone : Type 0) (stop : RunStop) (s0 s1 : ℕ) (old mid new : ℕ × ℕ) → (Alone → s1 ≡ s0) → mid.0 ≡ old.0 → mid.1 ≡ old.1 → StopCause {T = T} (Unit {0}) (faults_of 0 mid.0 mid.1) (faults_of 0 new.0 new.1) (Err (session_stop stop))
     → StopCause {T = U} Alone (faults_of s0 old.0 old.1) (faults_of s1 new.0 new.1) (Err (session_stop stop))
-waited_stops (Runs.Tampered q x) s0 s1 old mid new same out trace cause = (same, omega (arith, out, cause.1), omega (arith, trace, cause.2))
-waited_stops Runs.SinkFault s0 s1 old mid new same out trace cause = (same, elim cause.1 [ inl rose ↦ inl (rises_earlier old.0 mid.0 new.0 (omega (arith, out)) rose) | inr rose ↦ inr (rises_earlier old.1 mid.1 new.1 (omega (arith, trace)) rose) ])
-waited_stops Runs.NoMemory s0 s1 old mid new same out trace cause = (same, omega (arith, out, cause.1), omega (arith, trace, cause.2))
-waited_stops Runs.StoreFault s0 s1 old mid new same out trace cause = (same, omega (arith, out, cause.1), omega (arith, trace, cause.2))
-waited_stops Runs.StashFull s0 s1 old mid new same out trace cause = (same, omega (arith, out, cause.1), omega (arith, trace, cause.2))
-waited_stops Runs.KeeperFault s0 s1 old mid new same out trace cause = (same, omega (arith, out, cause.1), omega (arith, trace, cause.2))
+waited_stops T U Alone (Runs.Tampered q x) s0 s1 old mid new same out trace cause = (same, omega (arith, out, cause.1), omega (arith, trace, cause.2))
+waited_stops T U Alone Runs.SinkFault s0 s1 old mid new same out trace cause = (same, elim cause.1 [ inl rose ↦ inl (rises_earlier old.0 mid.0 new.0 (omega (arith, out)) rose) | inr rose ↦ inr (rises_earlier old.1 mid.1 new.1 (omega (arith, trace)) rose) ])
+waited_stops T U Alone Runs.NoMemory s0 s1 old mid new same out trace cause = (same, omega (arith, out, cause.1), omega (arith, trace, cause.2))
+waited_stops T U Alone Runs.StoreFault s0 s1 old mid new same out trace cause = (same, omega (arith, out, cause.1), omega (arith, trace, cause.2))
+waited_stops T U Alone Runs.StashFull s0 s1 old mid new same out trace cause = (same, omega (arith, out, cause.1), omega (arith, trace, cause.2))
+waited_stops T U Alone Runs.KeeperFault s0 s1 old mid new same out trace cause = (same, omega (arith, out, cause.1), omega (arith, trace, cause.2))
 
 -- and whether a line may still be written
 pub waited_quiet : (quiet : Bool) (s0 s1 : ℕ) (old mid new : ℕ × ℕ) → mid.0 ≡ old.0 → mid.1 ≡ old.1 → Silenced quiet (faults_of 0 mid.0 mid.1) (faults_of 0 new.0 new.1) → Silenced quiet (faults_of s0 old.0 old.1) (faults_of s1 new.0 new.1)

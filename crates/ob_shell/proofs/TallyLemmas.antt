@@ -74,13 +74,13 @@ tally_by (Ok t) answers tally is same = same ∙ is
 tally_by (Err stop) answers tally is same = tt
 
 -- the stop has the same cause
-pub cause_flagged : {Alone : Type 0} (old new : Faults) (result : Result Tally Stop) → StopCause Alone old new result → StopCause Alone old new (flagged result)
-cause_flagged old new (Ok tally) cause = cause
-cause_flagged old new (Err (Tampered region place)) cause = cause
-cause_flagged old new (Err SourceFault) cause = cause
-cause_flagged old new (Err SinkFault) cause = cause
-cause_flagged old new (Err NoMemory) cause = cause
-cause_flagged old new (Err InputLimit) cause = cause
-cause_flagged old new (Err StoreFault) cause = cause
-cause_flagged old new (Err StashFull) cause = cause
-cause_flagged old new (Err KeeperFault) cause = cause
+pub cause_flagged : (Alone : Type 0) (old new : Faults) (result : Result Tally Stop) → StopCause Alone old new result → StopCause Alone old new (flagged result)
+cause_flagged Alone old new (Ok tally) cause = cause
+cause_flagged Alone old new (Err (Tampered region place)) cause = cause
+cause_flagged Alone old new (Err SourceFault) cause = cause
+cause_flagged Alone old new (Err SinkFault) cause = cause
+cause_flagged Alone old new (Err NoMemory) cause = cause
+cause_flagged Alone old new (Err InputLimit) cause = cause
+cause_flagged Alone old new (Err StoreFault) cause = cause
+cause_flagged Alone old new (Err StashFull) cause = cause
+cause_flagged Alone old new (Err KeeperFault) cause = cause

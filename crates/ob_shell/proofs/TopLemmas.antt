@@ -167,7 +167,7 @@ module _ (tally : Tally) (tr : TraceSink) (untraced : tr.new ≡ tr.old) (settin
       (all_answered most _ [] some (prompt_line gave fed.piece [] (omega (arith, late, same, ahead))))
 
   -- where a run begins afresh
-  fresh_prompt : {l0 l1 : Option (List ℕ)} {xs : List ℕ} (fed : Fed f0 f1 l0 l1 xs) → length (after_line (xs ++ f1.unread)) ≤ length f1.unread
+  pub fresh_prompt : {l0 l1 : Option (List ℕ)} {xs : List ℕ} (fed : Fed f0 f1 l0 l1 xs) → length (after_line (xs ++ f1.unread)) ≤ length f1.unread
       → Prompt (batch_most (fresh settings).public) fed.piece [] gave
   fresh_prompt = piece_prompt (batch_most (fresh settings).public) (most_some (fresh settings).public)
 
@@ -256,7 +256,7 @@ module _ (tally : Tally) (tr : TraceSink) (untraced : tr.new ≡ tr.old) (settin
 pub ran_nothing : {R : Type 0} {state : R → RevState} {Lost : Type 0} {keys : KeySet} (tr : TraceSink) (settings : Option Config) (secret : Option (List ℕ)) (f : Fetch)
     (l : Option (List ℕ)) (gave : ℕ) (w : Option (List ℕ)) (s : StoreState) → IsFresh s → tr.new ≡ tr.old → length f.unread ≤ gave
     → RanAfter state tr (fresh settings) keys secret f f l l gave w w s s 0 Lost (Err NoMemory)
-ran_nothing {Lost = Lost} tr settings secret f l gave w s fresh untraced late = record {
+ran_nothing {Lost = Lost} tr settings secret f l gave w s blank untraced late = record {
   piece = [];
   consumed = Consumes-nil l;
   taken = omega arith;
@@ -268,7 +268,7 @@ ran_nothing {Lost = Lost} tr settings secret f l gave w s fresh untraced late = 
   prompt = all_answered (batch_most (fresh settings).public) _ [] (most_some (fresh settings).public)
       (subst (λ (xs : List (List ℕ)). Begins (texts_in false (before_read gave (f.unread ++ []))) xs) (texts_of-nil [])
       (prompt_all (f.unread ++ []) [] f.unread gave (append-nil f.unread) late));
-  carried = unstarted tr settings secret s _ _ fresh untraced tt tt;
+  carried = unstarted tr settings secret s _ _ blank untraced tt tt;
   rows = inr (refl, refl);
   cut = rw printed-nil (Outputs-whole w w Lost [] (Appends-nil w));
   whole = took_none w;
@@ -379,7 +379,7 @@ shown_ran keys {tr = tr} base {s0 = s0} {s2 = s2} {high = high} key result none 
 -- nothing was read
 unfoldable pub shown_unread : {F : Type 0} {keys : List ℕ → KeySet} (tally : Tally) (tr : TraceSink) (settings : Option Config) (l : Option (List ℕ)) (gave : ℕ) (w : Option (List ℕ)) (s : StoreState) (ending : Ending) → IsFresh s → tr.new ≡ tr.old → EndsUntampered ending → EndsUnfaulted ending → EndingFlag ending [] → EndingTally ending [] tally
     → EndingSays ending (limit_of settings) [] l false (texts_of [] (after_line [])) [] → RunShown tally tr (fresh settings) keys l l gave w w s s 0 ending [] F
-shown_unread tally tr settings l gave w s ending fresh untraced untampered unfaulted flag counted says = record {
+shown_unread tally tr settings l gave w s ending blank untraced untampered unfaulted flag counted says = record {
   taken = [];
   ended = false;
   story = unserved (texts_of [] (after_line []));
@@ -392,7 +392,7 @@ shown_unread tally tr settings l gave w s ending fresh untraced untampered unfau
   prompt = prompt_from (batch_most (fresh settings).public) [] [] gave (omega arith)
       (all_answered (batch_most (fresh settings).public) _ [] (most_some (fresh settings).public)
       (prompt_line gave [] [] (rw (after_line-none [] has_lf-nil) (omega arith))));
-  carried = unstarted tr settings _ s _ _ fresh untraced untampered unfaulted;
+  carried = unstarted tr settings _ s _ _ blank untraced untampered unfaulted;
   grew = no_bytes w;
   whole = took_none w;
   flag = flag;
@@ -431,37 +431,37 @@ rose_with old mid new r later same =
     elim r [ inl a ↦ inl (rises_later _ _ _ a later) | inr b ↦ inr (subst (λ (n : ℕ). Rises old.trace n) (sym same) b) ]
 
 -- the last line was cut by a fault
-pub line_rose : {Alone : Type 0} (ending : Ending) (old mid new : Faults) → EndingCause Alone ending old mid → Rises mid.out new.out → mid.out ≤ new.out → new.trace ≡ mid.trace → SinksRose old new
-line_rose Usage old mid new cause rose later trace = inl (subst (λ (n : ℕ). Rises n new.out) cause.out rose)
-line_rose BadKey old mid new cause rose later trace = inl (subst (λ (n : ℕ). Rises n new.out) cause.out rose)
-line_rose (RanEnding (Ok refused)) old mid new cause rose later trace = inl (subst (λ (n : ℕ). Rises n new.out) cause.out rose)
-line_rose (RanEnding (Err (Tampered region place))) old mid new cause rose later trace = inl (rises_earlier _ _ _ cause.1 rose)
-line_rose (RanEnding (Err SourceFault)) old mid new cause rose later trace = inl (subst (λ (n : ℕ). Rises n new.out) cause.1 rose)
-line_rose (RanEnding (Err SinkFault)) old mid new cause rose later trace = rose_with old mid new cause.1 later trace
-line_rose (RanEnding (Err NoMemory)) old mid new cause rose later trace = inl (rises_earlier _ _ _ cause.1 rose)
-line_rose (RanEnding (Err StoreFault)) old mid new cause rose later trace = inl (rises_earlier _ _ _ cause.1 rose)
-line_rose (RanEnding (Err StashFull)) old mid new cause rose later trace = inl (rises_earlier _ _ _ cause.1 rose)
-line_rose (RanEnding (Err KeeperFault)) old mid new cause rose later trace = inl (rises_earlier _ _ _ cause.1 rose)
-line_rose (RanEnding (Err InputLimit)) old mid new cause rose later trace = inl (subst (λ (n : ℕ). Rises n new.out) cause.out rose)
+pub line_rose : (Alone : Type 0) (ending : Ending) (old mid new : Faults) → EndingCause Alone ending old mid → Rises mid.out new.out → mid.out ≤ new.out → new.trace ≡ mid.trace → SinksRose old new
+line_rose Alone Usage old mid new cause rose later trace = inl (subst (λ (n : ℕ). Rises n new.out) cause.out rose)
+line_rose Alone BadKey old mid new cause rose later trace = inl (subst (λ (n : ℕ). Rises n new.out) cause.out rose)
+line_rose Alone (RanEnding (Ok refused)) old mid new cause rose later trace = inl (subst (λ (n : ℕ). Rises n new.out) cause.out rose)
+line_rose Alone (RanEnding (Err (Tampered region place))) old mid new cause rose later trace = inl (rises_earlier _ _ _ cause.1 rose)
+line_rose Alone (RanEnding (Err SourceFault)) old mid new cause rose later trace = inl (subst (λ (n : ℕ). Rises n new.out) cause.1 rose)
+line_rose Alone (RanEnding (Err SinkFault)) old mid new cause rose later trace = rose_with old mid new cause.1 later trace
+line_rose Alone (RanEnding (Err NoMemory)) old mid new cause rose later trace = inl (rises_earlier _ _ _ cause.1 rose)
+line_rose Alone (RanEnding (Err StoreFault)) old mid new cause rose later trace = inl (rises_earlier _ _ _ cause.1 rose)
+line_rose Alone (RanEnding (Err StashFull)) old mid new cause rose later trace = inl (rises_earlier _ _ _ cause.1 rose)
+line_rose Alone (RanEnding (Err KeeperFault)) old mid new cause rose later trace = inl (rises_earlier _ _ _ cause.1 rose)
+line_rose Alone (RanEnding (Err InputLimit)) old mid new cause rose later trace = inl (subst (λ (n : ℕ). Rises n new.out) cause.out rose)
 
 -- the counts after the last line
-pub status_cause : {Alone : Type 0} (ending : Ending) (old mid new : Faults) → EndingCause Alone ending old mid → mid.out ≤ new.out → new.trace ≡ mid.trace → new.source ≡ mid.source
+pub status_cause : (Alone : Type 0) (ending : Ending) (old mid new : Faults) → EndingCause Alone ending old mid → mid.out ≤ new.out → new.trace ≡ mid.trace → new.source ≡ mid.source
     → (last_line ending ≡ [] → new.out ≡ mid.out) → StatusCause Alone ending old new
-status_cause Usage old mid new cause later trace source none = source ∙ cause.source
-status_cause BadKey old mid new cause later trace source none = source ∙ cause.source
-status_cause (RanEnding (Ok refused)) old mid new cause later trace source none = record {
+status_cause Alone Usage old mid new cause later trace source none = source ∙ cause.source
+status_cause Alone BadKey old mid new cause later trace source none = source ∙ cause.source
+status_cause Alone (RanEnding (Ok refused)) old mid new cause later trace source none = record {
   source = source ∙ cause.source;
   out = none refl ∙ cause.out;
   trace = trace ∙ cause.trace;
 }
-status_cause (RanEnding (Err (Tampered region place))) old mid new cause later trace source none = λ alone. source ∙ cause.0 alone
-status_cause (RanEnding (Err SourceFault)) old mid new cause later trace source none = subst (λ (n : ℕ). Rises old.source n) (sym source) cause.0
-status_cause (RanEnding (Err SinkFault)) old mid new cause later trace source none = (λ alone. source ∙ cause.0 alone, rose_with old mid new cause.1 later trace)
-status_cause (RanEnding (Err NoMemory)) old mid new cause later trace source none = λ alone. source ∙ cause.0 alone
-status_cause (RanEnding (Err StoreFault)) old mid new cause later trace source none = λ alone. source ∙ cause.0 alone
-status_cause (RanEnding (Err StashFull)) old mid new cause later trace source none = λ alone. source ∙ cause.0 alone
-status_cause (RanEnding (Err KeeperFault)) old mid new cause later trace source none = λ alone. source ∙ cause.0 alone
-status_cause (RanEnding (Err InputLimit)) old mid new cause later trace source none = source ∙ cause.source
+status_cause Alone (RanEnding (Err (Tampered region place))) old mid new cause later trace source none = λ alone. source ∙ cause.0 alone
+status_cause Alone (RanEnding (Err SourceFault)) old mid new cause later trace source none = subst (λ (n : ℕ). Rises old.source n) (sym source) cause.0
+status_cause Alone (RanEnding (Err SinkFault)) old mid new cause later trace source none = (λ alone. source ∙ cause.0 alone, rose_with old mid new cause.1 later trace)
+status_cause Alone (RanEnding (Err NoMemory)) old mid new cause later trace source none = λ alone. source ∙ cause.0 alone
+status_cause Alone (RanEnding (Err StoreFault)) old mid new cause later trace source none = λ alone. source ∙ cause.0 alone
+status_cause Alone (RanEnding (Err StashFull)) old mid new cause later trace source none = λ alone. source ∙ cause.0 alone
+status_cause Alone (RanEnding (Err KeeperFault)) old mid new cause later trace source none = λ alone. source ∙ cause.0 alone
+status_cause Alone (RanEnding (Err InputLimit)) old mid new cause later trace source none = source ∙ cause.source
 
 -- nothing more may be written
 pub quiet_line : {w0 w1 : Option (List ℕ)} {F G : Type 0} (bytes line : List ℕ) → Outputs w0 w1 F (bytes ++ []) → G → Outputs w0 w1 G (bytes ++ line)

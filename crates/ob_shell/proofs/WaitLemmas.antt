@@ -168,7 +168,7 @@ named (Some table) some = (table, refl)
 named None some = absurd (cc some)
 
 all_alike : (table : List ℕ) (first : Stmt) (rest : List Stmt) → inserts_into (skeleton first) ≡ Some table → InsertAlike first rest → All (λ (stmt : Stmt). inserts_into (skeleton stmt) ≡ Some table) (first ∷ rest)
-all_alike table first rest is alike = All-cons (λ (stmt : Stmt). inserts_into (skeleton stmt) ≡ Some table) first rest is (All-weaker _ _ (λ stmt same. same ∙ is) rest alike)
+all_alike table first rest is alike = All-cons (λ (stmt : Stmt). inserts_into (skeleton stmt) ≡ Some table) first rest is (All-weaker (λ (stmt : Stmt). inserts_into (skeleton stmt) ≡ inserts_into (skeleton first)) (λ (stmt : Stmt). inserts_into (skeleton stmt) ≡ Some table) (λ stmt same. same ∙ is) rest alike)
 
 pub waits_gathered : (p : Public) (m : ℕ) (batch : List Stmt) (front back : List (List ℕ)) → AreGathered p m batch → AreSpelt (front ++ back) batch → Wait (batch_most p) back
 waits_gathered p m [] front back gathered spelt =

@@ -212,12 +212,12 @@ module _ {R : Type 0} (state : R → RevState) (m0 m1 : Machine R) (text : List 
       go (Some g) = refl
 
   -- ---- by the model
-  module _ (same : StaysAs m0 m1) (d : Draws) (tables : Tables) (holds : Holds state m0 d tables) where
+  module _ (same : StaysAs m0 m1) (d : Draws) (tables : Tables) (stood : Holds state m0 d tables) where
     abbrev s : Session
     s = session_of m0 d tables
 
     early_is_now : early_refusal (is_late m) (limits_of p) (headings tables) stmt ≡ refusal_now p m stmt
-    early_is_now = ap (λ (hs : List Heading). early_refusal (is_late m) (limits_of p) hs stmt) holds.listed
+    early_is_now = ap (λ (hs : List Heading). early_refusal (is_late m) (limits_of p) hs stmt) stood.listed
 
     unkeyed_by : (o : Option Accessed) → accessed tables stmt ≡ o → is_some o ≡ false → accessed tables stmt ≡ None
     unkeyed_by None is none = is
@@ -225,7 +225,7 @@ module _ {R : Type 0} (state : R → RevState) (m0 m1 : Machine R) (text : List 
 
     -- where it isn't refused before any access
     unkeyed : refusal_now p m stmt ≡ None → accessed tables stmt ≡ None
-    unkeyed none = unkeyed_by (accessed tables stmt) refl (sym (access_public p tables holds.listed (is_late m) (limits_of p) stmt (early_is_now ∙ none)) ∙ with.unindexed)
+    unkeyed none = unkeyed_by (accessed tables stmt) refl (sym (access_public p tables stood.listed (is_late m) (limits_of p) stmt (early_is_now ∙ none)) ∙ with.unindexed)
 
     member : refusal_now p m stmt ≡ None → IsMember s stmt
     member none = record { batched = goes.batched; inserts = inserts; early = early_is_now ∙ none; unkeyed = unkeyed none }
@@ -261,8 +261,8 @@ module _ {R : Type 0} (state : R → RevState) (m0 m1 : Machine R) (text : List 
 
     took : TakesOwed false (record { stmt = stmt; outcome = one.outcome }) m0.owed m1.owed → headings behind ≡ headings tables → Holds state m1 d behind
     took is listed =
-        moved behind (listed ∙ holds.listed) (subst (λ (owed : List Owed). Represents state m0.engine m0.store (settle_all d p m (statements_of owed) tables)) is holds.held)
-        (subst (λ (owed : List Owed). AreOwed d p m owed tables) is holds.owed).1
+        moved behind (listed ∙ stood.listed) (subst (λ (owed : List Owed). Represents state m0.engine m0.store (settle_all d p m (statements_of owed) tables)) is stood.held)
+        (subst (λ (owed : List Owed). AreOwed d p m owed tables) is stood.owed).1
 
     still_as : (after_it : Tables) → settle_all d p m (statements_of m1.owed) after_it ≡ tables_behind m0 d tables → tables_behind m1 d after_it ≡ tables_behind m0 d tables
     still_as after_it is = ap (λ (x : Machine R). tables_behind x d after_it) same ∙ is
@@ -274,12 +274,12 @@ module _ {R : Type 0} (state : R → RevState) (m0 m1 : Machine R) (text : List 
     stayed_still none = still_as tables (ap (λ (owed : List Owed). settle_all d p m (statements_of owed) tables) (none.1 ∙ sym none.0))
 
     answered_so : TakesOwed false (record { stmt = stmt; outcome = one.outcome }) m0.owed m1.owed → one.outcome ≡ outcome_of stmt (verdict p m tables stmt)
-    answered_so is = (subst (λ (owed : List Owed). AreOwed d p m owed tables) is holds.owed).0
+    answered_so is = (subst (λ (owed : List Owed). AreOwed d p m owed tables) is stood.owed).0
 
     stayed : TakesOwed true (record { stmt = stmt; outcome = one.outcome }) m0.owed m1.owed → Holds state m1 d tables
     stayed none =
-        moved tables holds.listed
-        (subst (λ (owed : List Owed). Represents state m0.engine m0.store (settle_all d p m (statements_of owed) tables)) (none.0 ∙ sym none.1) holds.held)
+        moved tables stood.listed
+        (subst (λ (owed : List Owed). Represents state m0.engine m0.store (settle_all d p m (statements_of owed) tables)) (none.0 ∙ sym none.1) stood.held)
         (subst (λ (owed : List Owed). AreOwed d p m owed tables) (sym none.1) tt)
 
     how_by : (b : Bool) (o : Option Refusal) → b ≡ true → is_some o ≡ true → Alone ≡ (if b && is_none o then With else Alone)

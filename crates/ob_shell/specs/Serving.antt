@@ -119,7 +119,7 @@ EndsReading feed1 ended bytes more (Err _) = ⊥
 pub record HasRead {R : Type 0} (state : R → RevState) (tracing : Bool) (feed0 feed1 : Fetch)
     (left0 left1 : Option (List ℕ)) (gave : ℕ)
     (written0 written1 traced0 traced1 : Option (List ℕ)) (batch : List Stmt) (tally : Tally)
-    (m0 m1 : Machine R) (ends : Result (Unit {0}) Stop) : Type 0 where
+    (m0 m1 : Machine R) (how : Result (Unit {0}) Stop) : Type 0 where
   pub piece : List ℕ
   pub consumed : Consumes left0 left1 piece
   pub taken : feed1.taken ≡ feed0.taken + length piece
@@ -133,7 +133,7 @@ pub record HasRead {R : Type 0} (state : R → RevState) (tracing : Bool) (feed0
   pub so : ServedSo state written0 written1 texts batch
       (ComesFree (public_of m1.engine) batch) empty_tally tally m0 m1
   pub traced : TracedAll tracing m0.store.asked m1.store.asked traced0 traced1
-  pub ends : EndsReading feed1 ended (feed0.unread ++ piece) more ends
+  pub ends : EndsReading feed1 ended (feed0.unread ++ piece) more how
 
 -- by how it ended: or a text that was served stopped it
 abbrev pub ReadsTexts : {R T : Type 0} (state : R → RevState) (tracing : Bool)

@@ -28,9 +28,9 @@ returns-in-Err-trace_from-clause-cut g c =
 pub returns-clause-ok : goal.returns-clause-ok
 returns-clause-ok g c =
     let line = c.as_bytes.ensures ∙ c.closing_line.ensures in
-    all_lines c.args.outcome c.args.outcomes.now (rw line at c.in_default.ensures.ok) c.write_lines.result c.write_lines.ensures.ok
+    all_lines _ _ _ c.args.outcome c.args.outcomes.now (rw line at c.in_default.ensures.ok) c.write_lines.result c.write_lines.ensures.ok
 
 pub returns-clause-cut : goal.returns-clause-cut
 returns-clause-cut g c =
     let line = c.as_bytes.ensures ∙ c.closing_line.ensures in
-    batch_cut c.args.outcome c.args.outcomes.now (rw line at c.in_default.ensures.ok) c.write_lines.result c.write_lines.ensures.cut c.in_default-trace_from.ensures.ok c.in_default.ensures.cause.kept c.write_lines.ensures.cause
+    batch_cut _ _ _ c.args.outcome c.args.outcomes.now (rw line at c.in_default.ensures.ok) _ _ _ c.write_lines.result c.write_lines.ensures.cut c.in_default-trace_from.ensures.ok c.in_default.ensures.cause.kept c.write_lines.ensures.cause

@@ -59,7 +59,7 @@ returns-in-Ok-flush-2-clause-cause g c =
     let now = c.in-Ok-flush-2.ensures.takes.cause in
     let there = c.read_texts-read.new in
     let end = c.flush-2.new in
-    stop_stays c.in-Err-Unread.stop (g.I.Source.faults c.args.input.now) (g.I.Source.faults there.input) (g.K.Sink.faults c.args.out.now, g.T.Sink.faults c.args.trace.now) (g.K.Sink.faults there.out, g.T.Sink.faults there.trace)
+    stop_stays _ _ c.in-Err-Unread.stop (g.I.Source.faults c.args.input.now) (g.I.Source.faults there.input) (g.K.Sink.faults c.args.out.now, g.T.Sink.faults c.args.trace.now) (g.K.Sink.faults there.out, g.T.Sink.faults there.trace)
     (g.K.Sink.faults end.out, g.T.Sink.faults end.trace) now.out now.trace c.in-Err-Unread.ensures.cause
 
 pub returns-in-Err-flush-clause-cause : goal.returns-in-Err-flush-clause-cause
@@ -68,7 +68,7 @@ returns-in-Err-flush-clause-cause g c =
     let there = c.read_texts-read.new in
     let end = c.flush.new in
     rw c.from.ensures
-    (waited_stops c.in-Err-flush.halted.stop (g.I.Source.faults c.args.input.now) (g.I.Source.faults there.input) (g.K.Sink.faults c.args.out.now, g.T.Sink.faults c.args.trace.now) (g.K.Sink.faults there.out, g.T.Sink.faults there.trace)
+    (waited_stops _ _ _ c.in-Err-flush.halted.stop (g.I.Source.faults c.args.input.now) (g.I.Source.faults there.input) (g.K.Sink.faults c.args.out.now, g.T.Sink.faults c.args.trace.now) (g.K.Sink.faults there.out, g.T.Sink.faults there.trace)
     (g.K.Sink.faults end.out, g.T.Sink.faults end.trace) (λ alone. before.source) before.out before.trace c.in-Err-flush.ensures.takes.cause)
 
 -- the source may have failed before one of them was stopped, where INSERTs are served together
@@ -78,7 +78,7 @@ returns-in-Err-flush-2-clause-cause g c =
     let there = c.read_texts-read.new in
     let end = c.flush-2.new in
     rw c.from.ensures
-    (waited_stops c.in-Err-flush-2.halted.stop (g.I.Source.faults c.args.input.now) (g.I.Source.faults there.input) (g.K.Sink.faults c.args.out.now, g.T.Sink.faults c.args.trace.now) (g.K.Sink.faults there.out, g.T.Sink.faults there.trace)
+    (waited_stops _ _ _ c.in-Err-flush-2.halted.stop (g.I.Source.faults c.args.input.now) (g.I.Source.faults there.input) (g.K.Sink.faults c.args.out.now, g.T.Sink.faults c.args.trace.now) (g.K.Sink.faults there.out, g.T.Sink.faults there.trace)
     (g.K.Sink.faults end.out, g.T.Sink.faults end.trace) (λ alone. absurd (alone_read read.reads read.waits c.in-Err-flush-2.ensures.idle alone)) read.quiet.0 read.quiet.1 c.in-Err-flush-2.ensures.takes.cause)
 
 pub returns-in-Err-flush-clause-quiet : goal.returns-in-Err-flush-clause-quiet
