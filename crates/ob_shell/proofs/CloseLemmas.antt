@@ -18,7 +18,7 @@ use Rattle.ob_shell.proofs.CompleteLemmas.{reported_line, reported_quiet}
 use Rattle.ob_shell.proofs.TopLemmas.{shown_unread}
 use Rattle.ob_shell.specs.Closed.{Unwritten, LineWritten, refused_by}
 use Rattle.ob_shell.specs.Running.{OutFailed, ServesAlone}
-use Rattle.ob_shell.specs.Top.{EndingCause, EndingWords, IsFresh, Reported, RunShown, TraceSink}
+use Rattle.ob_shell.specs.Top.{EndingCause, EndingWords, IsFresh, Reported, RunShown, TraceSink, StatusCause}
 use Rattle.ob_shell.specs.declared.top.Ended.{Ended}
 use Rattle.ob_shell.specs.declared.words.WordsErr.{WordsErr}
 use Rattle.ob_shell.specs.declared.words.WordsErr.TheVariants as Words
@@ -106,7 +106,7 @@ reported_taken {tally = tally} {tr = tr} {Takes = Takes} {keys = keys} {gave = g
       shown = both.0;
       through = both.2;
       silent = both.1;
-      cause = r.cause;
+      cause = subst (λ (o : Option Config). StatusCause (ServesAlone (fresh o).public) r.ending old new) (sym is) r.cause;
       completes = λ taken input e keeps source sinks.
           subst (λ (o : Option Config). FromEach (fresh o) (λ s. IsCompleted (IsHonest s0 s1) (StoreFails (fresh o) s0 s1) ((fresh o).public.save ≡ true) r.ending)) (sym is)
           (r.completes tt input e (subst (λ (o : Option Config). KeepsLimits (limit_of o) input) is keeps) source sinks);

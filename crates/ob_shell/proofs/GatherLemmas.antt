@@ -102,9 +102,9 @@ closed_all : (stmt : Stmt) (p0 p1 : Public) (xs : List Stmt) (g h : Option Gathe
 closed_all stmt p0 p1 [] g h same full closed outline = closed outline (inr (omega (arith, same, full)))
 closed_all stmt p0 p1 (first ∷ rest) g h same full closed outline = closed outline (inr (omega (arith, same, full)))
 
-so_full : {R : Type 0} {state : R → RevState} (batch : List Stmt) (stmt : Stmt) (text : List ℕ) {b1 : List Stmt} {t0 t1 : Tally} {w0 w1 : Option (List ℕ)} {m0 m1 : Machine R} → batch_most (public_of m0.engine) ≤ length (batch ++ stmt ∷ []) → (g : Option Gathering) (held : List (List ℕ)) → b1 ≡ [] → ServedSo state w0 w1 ((held ++ text ∷ []) ++ []) b1 (IsClosed (public_of m1.engine) (batch ++ stmt ∷ []) g) t0 t1 (standing m0 [] g) m1
+so_full : {R : Type 0} {state : R → RevState} (batch : List Stmt) (stmt : Stmt) (text : List ℕ) {b1 : List Stmt} {t0 t1 : Tally} {w0 w1 : Option (List ℕ)} (m0 : Machine R) {m1 : Machine R} → batch_most (public_of m0.engine) ≤ length (batch ++ stmt ∷ []) → (g : Option Gathering) (held : List (List ℕ)) → b1 ≡ [] → ServedSo state w0 w1 ((held ++ text ∷ []) ++ []) b1 (IsClosed (public_of m1.engine) (batch ++ stmt ∷ []) g) t0 t1 (standing m0 [] g) m1
     → ServedSo state w0 w1 (held ++ text ∷ []) b1 (IsFree (public_of m1.engine) b1) t0 t1 (standing m0 [] g) m1
-so_full {state = state} batch stmt text {m0 = m0} {m1 = m1} full g held none so = record {
+so_full {state = state} batch stmt text m0 {m1 = m1} full g held none so = record {
   served = so.served;
   held = so.held;
   parts = sym (append-nil (held ++ text ∷ [])) ∙ so.parts;
@@ -139,7 +139,7 @@ module _ {R : Type 0} {state : R → RevState} {Saves : Type 0} {on : Bool} (bat
     takes_full (Ok x) none takes = record {
       ready = takes.ready;
       waits = takes.waits;
-      done = λ g held comes spelt. so_full batch stmt text full g held none (takes.done g (held ++ text ∷ []) (comes_free (public_of m0.engine) (batch ++ stmt ∷ []) g comes) (spelt_more held batch text stmt spelt spells));
+      done = λ g held comes spelt. so_full batch stmt text m0 full g held none (takes.done g (held ++ text ∷ []) (comes_free (public_of m0.engine) (batch ++ stmt ∷ []) g comes) (spelt_more held batch text stmt spelt spells));
       stopped = tt;
       traced = takes.traced;
       traced_stop = tt;

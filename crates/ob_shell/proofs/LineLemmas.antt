@@ -145,8 +145,10 @@ module _ {A E : Type 0} (w0 w1 w2 : Option (List ℕ)) (o : Outcome) (outcomes :
 
   pub batch_cut : (t0 t1 : Option (List ℕ)) (text : List ℕ) {out0 out1 out2 : ℕ} (result : Result A E) → Outputs w1 w2 (IsErr result) (lines outcomes) → Appends t0 t1 text → out1 ≡ out0 → HasCause out1 out2 result → OnErr result (BatchCut (o ∷ outcomes) w0 w2 t0 t1 text out0 out2)
   batch_cut t0 t1 text (Ok x) cut traced same cause = tt
-  batch_cut t0 t1 text {out2 = out2} (Err e) cut traced same cause = record {
-    lines = lines_cut o outcomes (subst (λ (l : List ℕ). Outputs w0 w2 _ l) (sym (lines_cons o outcomes)) (Outputs-after (closing_line o) first cut)) (subst (λ (n : ℕ). Rises n out2) same cause.failed);
-    traced = Outputs-whole _ _ (Unit {0}) _ traced;
-    behind = inr traced;
-  }
+  batch_cut t0 t1 text {out2 = out2} (Err e) cut traced same cause =
+      let lost : Result A E = Err e in
+      record {
+        lines = lines_cut o outcomes (subst (λ (l : List ℕ). Outputs w0 w2 (IsErr lost) l) (sym (lines_cons o outcomes)) (Outputs-after (closing_line o) first cut)) (subst (λ (n : ℕ). Rises n out2) same cause.failed);
+        traced = Outputs-whole _ _ (Unit {0}) _ traced;
+        behind = inr traced;
+      }

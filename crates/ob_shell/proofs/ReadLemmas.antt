@@ -81,7 +81,7 @@ all_passed so none = so.fed.joined ∙ rw none (append-nil so.passed)
 all_parts : {R : Type 0} {state : R → RevState} {f0 f2 : Fetch} {l0 l2 w0 w1 : Option (List ℕ)} {p : List ℕ} {batch : List Stmt} {r : Tally} {m0 m1 : Machine R} (so : SoFar state f0 f2 l0 l2 w0 w1 p batch r m0 m1) → f2.unread ≡ [] → texts_in true (f0.unread ++ so.fed.piece) ≡ texts_of [] so.passed ++ tail_text p
 all_parts so none = rw (all_passed so none, ← so.pending_is) refl
 
-module _ {R : Type 0} {state : R → RevState} {on : Bool} {f0 f2 : Fetch} {gave : ℕ} {l0 l2 : Option (List ℕ)} where
+module _ {R : Type 0} {state : R → RevState} {on : Bool} {f0 f2 : Fetch} (gave : ℕ) {l0 l2 : Option (List ℕ)} where
   -- it stopped at the source's fault or at a limit
   read_halted : {w0 w2 t0 t2 : Option (List ℕ)} {p : List ℕ} {batch : List Stmt} {r : Tally} {m0 m1 : Machine R} (stop : Stop) → (so : SoFar state f0 f2 l0 l2 w0 w2 p batch r m0 m1) → f2.unread ≡ [] → EndsReading f2 false (so.passed ++ f2.unread) [] (Err stop) → TracedAll on m0.store.asked m1.store.asked t0 t2
       → HasRead state on f0 f2 l0 l2 gave w0 w2 t0 t2 batch r m0 m1 (Err stop)
@@ -111,7 +111,7 @@ module _ {R : Type 0} {state : R → RevState} {on : Bool} {f0 f2 : Fetch} {gave
   read_input_limit so none full traced = read_halted Stops.InputLimit so none (refl, refl, refl, inr full) traced
 
   -- ---- a byte wasn't taken
-  module _ {f1 : Fetch} {l1 w0 w1 w2 t0 t1 t2 : Option (List ℕ)} {p : List ℕ} {batch batch' : List Stmt} {r r' : Tally} {b : ℕ} {m0 m1 m2 : Machine R} (so : SoFar state f0 f1 l0 l1 w0 w1 p batch r m0 m1) (fed : Fed f1 f2 l1 l2 (b ∷ [])) (late : length f2.unread < gave)
+  module _ {f1 : Fetch} {l1 w0 w1 : Option (List ℕ)} (w2 : Option (List ℕ)) {t0 t1 : Option (List ℕ)} (t2 : Option (List ℕ)) {p : List ℕ} {batch : List Stmt} (batch' : List Stmt) {r : Tally} (r' : Tally) {b : ℕ} {m0 m1 : Machine R} (m2 : Machine R) (so : SoFar state f0 f1 l0 l1 w0 w1 p batch r m0 m1) (fed : Fed f1 f2 l1 l2 (b ∷ [])) (late : length f2.unread < gave)
       (before : TracedAll on m0.store.asked m1.store.asked t0 t1) where
     pub read_untaken : (stop : Stop) → ((g : Option Gathering) (held : List (List ℕ)) → IsFree (public_of m1.engine) batch g → AreSpelt held batch → ServedSo state w1 w2 (held ++ []) batch' (ComesFree (public_of m2.engine) batch') r r' (standing m1 [] g) m2) → TracedAll on m1.store.asked m2.store.asked t1 t2 → IsNotTaken p b stop
         → HasRead state on f0 f2 l0 l2 gave w0 w2 t0 t2 batch' r' m0 m2 (Err stop)
@@ -139,21 +139,22 @@ module _ {R : Type 0} {state : R → RevState} {on : Bool} {f0 f2 : Fetch} {gave
         }
 
     -- what became of the byte
-    pub turn_reads : {T : Type 0} {old new : ℕ × ℕ} {Saves : Type 0} {k0 : ℕ} (broken : Break) → AreGathered (public_of m1.engine) (asked_of m1) batch → old.0 ≡ k0
+    pub turn_reads : (T : Type 0) (old new : ℕ × ℕ) (Saves : Type 0) {k0 : ℕ} (broken : Break) → AreGathered (public_of m1.engine) (asked_of m1) batch → old.0 ≡ k0
         → TakesMore {T = T} state Saves on (IsFree (public_of m1.engine) batch) (λ old new. IsFree (public_of m2.engine) batch' new) batch batch' (texts_at p b) (IsNotTaken p b) r r' w1 w2 t1 t2 (faults_of 0 old.0 old.1) (faults_of 0 new.0 new.1) m1 m2 (Err broken)
         → ReadsTexts {T = T} state on f0 f2 l0 l2 gave w0 w2 t0 t2 batch' r' m0 m2 k0 new.0 (Err broken)
-    turn_reads {new = new} (Served halted) waits same takes =
+    turn_reads T old new Saves (Served halted) waits same takes =
         ran_turn halted.stop so fed late waits before
         (subst (λ (k : ℕ). (g : Option Gathering) (held : List (List ℕ)) → IsFree (public_of m1.engine) batch g → AreSpelt held batch → BreaksIn state on w1 w2 t1 t2 (OutFailed halted.quiet k new.0) (held ++ texts_at p b) halted.stop (standing m1 [] g) m2) same takes.stopped)
-    turn_reads (Unread stop) waits same takes = read_untaken stop takes.0.done takes.0.traced takes.1
+    turn_reads T old new Saves (Unread stop) waits same takes = read_untaken stop takes.0.done takes.0.traced takes.1
 
   -- ---- the input ended
-  module _ {w0 w1 w2 t0 t1 t2 : Option (List ℕ)} {p : List ℕ} {batch batch' : List Stmt} {r r' : Tally} {m0 m1 m2 : Machine R} (so : SoFar state f0 f2 l0 l2 w0 w1 p batch r m0 m1) (none : f2.unread ≡ []) (at_end : IsAtEnd l2) (below : f2.taken < f2.limit) (short : length p < text_max)
+  module _ {w0 w1 : Option (List ℕ)} (w2 : Option (List ℕ)) {t0 t1 : Option (List ℕ)} (t2 : Option (List ℕ)) {p : List ℕ} {batch : List Stmt} (batch' : List Stmt) {r : Tally} (r' : Tally) {m0 m1 : Machine R} (m2 : Machine R) (so : SoFar state f0 f2 l0 l2 w0 w1 p batch r m0 m1) (none : f2.unread ≡ []) (at_end : IsAtEnd l2) (below : f2.taken < f2.limit) (short : length p < text_max)
       (before : TracedAll on m0.store.asked m1.store.asked t0 t1) where
-    pub finish_reads : {T : Type 0} {old new : ℕ × ℕ} {Saves : Type 0} {k0 : ℕ} (result : Result T Break) → AreGathered (public_of m1.engine) (asked_of m1) batch → old.0 ≡ k0
+    pub finish_reads : {T : Type 0} (old new : ℕ × ℕ) (Saves : Type 0) {k0 : ℕ} (result : Result T Break) → AreGathered (public_of m1.engine) (asked_of m1) batch → old.0 ≡ k0
         → TakesMore state Saves on (IsFree (public_of m1.engine) batch) (λ old new. IsFree (public_of m2.engine) batch' new) batch batch' (tail_text p) WantsRoom r r' w1 w2 t1 t2 (faults_of 0 old.0 old.1) (faults_of 0 new.0 new.1) m1 m2 result
         → ReadsTexts state on f0 f2 l0 l2 gave w0 w2 t0 t2 batch' r' m0 m2 k0 new.0 result
-    finish_reads (Ok x) waits same takes = record {
+    unfolding break_then
+    finish_reads old new Saves (Ok x) waits same takes = record {
       piece = so.fed.piece;
       consumed = so.fed.consumed;
       taken = so.fed.taken;
@@ -168,7 +169,7 @@ module _ {R : Type 0} {state : R → RevState} {on : Bool} {f0 f2 : Fetch} {gave
       traced = traced_then before takes.traced;
       ends = (refl, refl, refl, rw (all_passed so none, ← so.pending_is) (below_is_not_over p short), below);
     }
-    finish_reads {new = new} (Err (Served halted)) waits same takes =
+    finish_reads old new Saves (Err (Served halted)) waits same takes =
         let stopped = subst (λ (k : ℕ). (g : Option Gathering) (held : List (List ℕ)) → IsFree (public_of m1.engine) batch g → AreSpelt held batch → BreaksIn state on w1 w2 t1 t2 (OutFailed halted.quiet k new.0) (held ++ tail_text p) halted.stop (standing m1 [] g) m2) same takes.stopped in
         let now = stopped so.so.gathered so.so.held so.so.then so.so.spelt in
         let begins = prompt_all (f0.unread ++ so.fed.piece) so.passed f2.unread gave so.fed.joined (rw none (omega arith)) in
@@ -176,7 +177,7 @@ module _ {R : Type 0} {state : R → RevState} {on : Bool} {f0 f2 : Fetch} {gave
         ran_broken halted.stop so.fed.piece true (texts_of [] so.passed ++ tail_text p) [] so.fed.consumed so.fed.taken so.fed.limit (λ _. at_end) (all_parts so none ∙ sym (append-nil (texts_of [] so.passed ++ tail_text p))) (break_then so.so before stopped)
         (subst (λ (n : ℕ). AnsweredBut n (texts_in false (before_read gave (f0.unread ++ so.fed.piece))) (so.so.served ++ now.served)) (sym most)
         (answered_but (public_of m1.engine) (asked_of m1) batch (texts_of [] so.passed) so.so.served so.so.held now.served now.more (tail_text p) _ waits so.so.spelt so.so.parts now.parts begins))
-    finish_reads (Err (Unread stop)) waits same takes = record {
+    finish_reads old new Saves (Err (Unread stop)) waits same takes = record {
       piece = so.fed.piece;
       consumed = so.fed.consumed;
       taken = so.fed.taken;

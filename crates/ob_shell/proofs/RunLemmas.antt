@@ -113,6 +113,7 @@ pub ran_turn : {R : Type 0} {state : R → RevState} {Lost : Type 0} {on : Bool}
     → ((gathered : Option Gathering) (held : List (List ℕ)) → IsFree (public_of m1.engine) batch gathered → AreSpelt held batch
     → BreaksIn state on w1 w2 t1 t2 Lost (held ++ texts_at p b) run (standing m1 [] gathered) m2)
     → SessionRan state on f0 f2 l0 l2 gave w0 w2 t0 t2 m0 m2 Lost (Err (session_stop run))
+unfolding break_then
 ran_turn {state = state} {f0 = f0} {f2 = f2} {gave = gave} {p = p} {b = b} {m0 = m0} {m1 = m1} run so fed late waits before broke =
     let all = Fed-then so.fed fed in
     let now = broke so.so.gathered so.so.held so.so.then so.so.spelt in
@@ -169,6 +170,7 @@ pub ran_unflushed : {R : Type 0} {state : R → RevState} {Lost : Type 0} {on : 
     → (read : HasRead state on f0 f2 l0 l2 gave w0 w1 t0 t1 batch r m0 m1 ends) → AreGathered (public_of m1.engine) (asked_of m1) batch
     → ((gathered : Option Gathering) (held : List (List ℕ)) → ComesFree (public_of m1.engine) batch gathered → AreSpelt held batch → BreaksIn state on w1 w2 t1 t2 Lost (held ++ []) run (standing m1 [] gathered) m2)
     → SessionRan state on f0 f2 l0 l2 gave w0 w2 t0 t2 m0 m2 Lost (Err (session_stop run))
+unfolding break_then
 ran_unflushed {state = state} {f0 = f0} {gave = gave} {m0 = m0} {m1 = m1} ends run read waits broke =
     let now = broke read.so.gathered read.so.held read.so.then read.so.spelt in
     let same = sym (steps_most state m0 (standing m1 [] read.so.gathered) read.so.served read.so.answers read.so.steps) in

@@ -444,6 +444,20 @@ line_rose Alone (RanEnding (Err StashFull)) old mid new cause rose later trace =
 line_rose Alone (RanEnding (Err KeeperFault)) old mid new cause rose later trace = inl (rises_earlier _ _ _ cause.1 rose)
 line_rose Alone (RanEnding (Err InputLimit)) old mid new cause rose later trace = inl (subst (λ (n : ℕ). Rises n new.out) cause.out rose)
 
+-- a cause holds where INSERTs may wait, too
+pub cause_alone : (Alone : Type 0) (ending : Ending) (old new : Faults) → EndingCause (Unit {0}) ending old new → EndingCause Alone ending old new
+cause_alone Alone Usage old new cause = cause
+cause_alone Alone BadKey old new cause = cause
+cause_alone Alone (RanEnding (Ok refused)) old new cause = cause
+cause_alone Alone (RanEnding (Err SourceFault)) old new cause = cause
+cause_alone Alone (RanEnding (Err InputLimit)) old new cause = cause
+cause_alone Alone (RanEnding (Err (Tampered region place))) old new cause = (λ alone. cause.0 tt, cause.1, cause.2)
+cause_alone Alone (RanEnding (Err SinkFault)) old new cause = (λ alone. cause.0 tt, cause.1)
+cause_alone Alone (RanEnding (Err NoMemory)) old new cause = (λ alone. cause.0 tt, cause.1, cause.2)
+cause_alone Alone (RanEnding (Err StoreFault)) old new cause = (λ alone. cause.0 tt, cause.1, cause.2)
+cause_alone Alone (RanEnding (Err StashFull)) old new cause = (λ alone. cause.0 tt, cause.1, cause.2)
+cause_alone Alone (RanEnding (Err KeeperFault)) old new cause = (λ alone. cause.0 tt, cause.1, cause.2)
+
 -- the counts after the last line
 pub status_cause : (Alone : Type 0) (ending : Ending) (old mid new : Faults) → EndingCause Alone ending old mid → mid.out ≤ new.out → new.trace ≡ mid.trace → new.source ≡ mid.source
     → (last_line ending ≡ [] → new.out ≡ mid.out) → StatusCause Alone ending old new

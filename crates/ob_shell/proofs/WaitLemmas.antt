@@ -76,7 +76,7 @@ so_then {state = state} {texts = texts} {ys = ys} {t0 = t0} {t1 = t1} {t2 = t2} 
     }
 
 -- and then a stop came
-pub break_then : {R : Type 0} {state : R → RevState} {on : Bool} {w0 w1 w2 s0 s1 s2 : Option (List ℕ)} {Lost : Type 0} {texts ys : List (List ℕ)} {batch : List Stmt} {Then : Option Gathering → Type 0} {t0 t1 : Tally} {stop : RunStop} {m0 m1 m2 : Machine R}
+unfoldable pub break_then : {R : Type 0} {state : R → RevState} {on : Bool} {w0 w1 w2 s0 s1 s2 : Option (List ℕ)} {Lost : Type 0} {texts ys : List (List ℕ)} {batch : List Stmt} {Then : Option Gathering → Type 0} {t0 t1 : Tally} {stop : RunStop} {m0 m1 m2 : Machine R}
     → ServedSo state w0 w1 texts batch Then t0 t1 m0 m1 → TracedAll on m0.store.asked m1.store.asked s0 s1
     → ((g : Option Gathering) (held : List (List ℕ)) → Then g → AreSpelt held batch → BreaksIn state on w1 w2 s1 s2 Lost (held ++ ys) stop (standing m1 [] g) m2) → BreaksIn state on w0 w2 s0 s2 Lost (texts ++ ys) stop m0 m2
 break_then {state = state} {w0 = w0} {w2 = w2} {Lost = Lost} {texts = texts} {ys = ys} {m0 = m0} {m1 = m1} so traced next =

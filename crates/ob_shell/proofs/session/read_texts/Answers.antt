@@ -22,24 +22,24 @@ bytes-init g c = record {
 pub returns-in-Err-SourceFault-clause-reads : goal.returns-in-Err-SourceFault-clause-reads
 returns-in-Err-SourceFault-clause-reads g c =
     let fetch = rw c.in-Err-SourceFault.field-0-is at c.in-Err-SourceFault.ensures in
-    read_source_fault (so_far_end c.bytes.invariant.so_far fetch.fed) fetch.cause.1 c.bytes.invariant.short c.bytes.invariant.traced
+    read_source_fault _ (so_far_end c.bytes.invariant.so_far fetch.fed) fetch.cause.1 c.bytes.invariant.short c.bytes.invariant.traced
 
 pub returns-in-Err-InputLimit-clause-reads : goal.returns-in-Err-InputLimit-clause-reads
 returns-in-Err-InputLimit-clause-reads g c =
     let fetch = rw c.in-Err-InputLimit.field-0-is at c.in-Err-InputLimit.ensures in
-    read_input_limit (so_far_end c.bytes.invariant.so_far fetch.fed) fetch.cause.1 fetch.cause.2 c.bytes.invariant.traced
+    read_input_limit _ (so_far_end c.bytes.invariant.so_far fetch.fed) fetch.cause.1 fetch.cause.2 c.bytes.invariant.traced
 
 pub returns-in-Ok-None-clause-reads : goal.returns-in-Ok-None-clause-reads
 returns-in-Ok-None-clause-reads g c =
     let fetch = rw c.in-Ok-None.field-0-is at c.in-Ok-None.ensures in
     let before = c.bytes.invariant in
-    finish_reads (so_far_end before.so_far fetch.fed) fetch.cause.1 fetch.cause.2 fetch.cause.3 before.short before.traced c.finish.result before.waits before.sink c.finish.ensures.takes
+    finish_reads _ _ _ _ _ _ (so_far_end before.so_far fetch.fed) fetch.cause.1 fetch.cause.2 fetch.cause.3 before.short before.traced _ _ _ c.finish.result before.waits before.sink c.finish.ensures.takes
 
 pub returns-in-Err-clause-reads : goal.returns-in-Err-clause-reads
 returns-in-Err-clause-reads g c =
     let fetch = rw c.in-Ok-Some.field-0-is at c.in-Ok-Some.ensures in
     let before = c.bytes.invariant in
-    turn_reads before.so_far fetch.fed fetch.cause.2 before.traced c.in-Err.broken before.waits before.sink c.in-Err.ensures.takes
+    turn_reads _ _ _ _ _ _ before.so_far fetch.fed fetch.cause.2 before.traced _ _ _ _ c.in-Err.broken before.waits before.sink c.in-Err.ensures.takes
 
 pub bytes-smaller : goal.bytes-smaller
 bytes-smaller g c =
