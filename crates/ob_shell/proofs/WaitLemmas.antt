@@ -52,7 +52,7 @@ so_idle {state = state} w texts held batch Then t m g is spelt then = record {
 }
 
 -- two lists of texts, each cut in those that were served and the others
-parts_then : {A : Type 0} (texts served held ys more_served rest : List A) → texts ≡ served ++ held → held ++ ys ≡ more_served ++ rest → texts ++ ys ≡ (served ++ more_served) ++ rest
+pub parts_then : {A : Type 0} (texts served held ys more_served rest : List A) → texts ≡ served ++ held → held ++ ys ≡ more_served ++ rest → texts ++ ys ≡ (served ++ more_served) ++ rest
 parts_then texts served held ys more_served rest first second =
     ap (λ (l : List _). l ++ ys) first ∙ append_assoc served held ys ∙ ap (λ (l : List _). served ++ l) second ∙ sym (append_assoc served more_served rest)
 
