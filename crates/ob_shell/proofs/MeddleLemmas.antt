@@ -174,8 +174,8 @@ meddled {tally = tally} {words = words} {gave0 = gave0} {gave = gave} {l0 = l0} 
           undisturbed r h.story.answers (subst (λ (o : Option Config). (fresh o).public.save ≡ false) (sym parses.settings.settings) unsaved) h.accesses.failed refl ((later.steady steady).quiet before_there);
       unchanged = λ all.
           let honest : IsHonest s0 s1 = record { tells = refl; no_lie = no_lie_by here s1 there (none_acts here (length s1.asked) all) } in (honest, honest_status r honest);
-      failed =
-          let rose = h.accesses.failed in
+      failed = λ alone.
+          let rose = h.accesses.failed alone in
           let most = there.counted in
           omega (arith, rose, most, faults);
       tampered = λ is. acted_or_not (has_acted here (length s1.asked)) (λ no. honest_status r (record { tells = refl; no_lie = no_lie_by here s1 there no }) is);

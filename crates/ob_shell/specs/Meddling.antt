@@ -1,5 +1,5 @@
 -- What a run over a store that others change promises, by its words.
-use Rattle.std.specs.Prelude.{ℕ, ◌≡◌, ◌≢◌, ◌≤◌, ◌++◌, true, List, Option, length, IsTrue}
+use Rattle.std.specs.Prelude.{ℕ, ◌≡◌, ◌≢◌, ◌≤◌, ◌++◌, true, List, Option, length, IsTrue, None}
 use Rattle.std.specs.List.{list_all}
 use Rattle.clap.specs.Words.{Text}
 use Rattle.ob_base.specs.declared.config.Config.{Config}
@@ -75,7 +75,8 @@ pub record Meddled (words : List Text) (old : StoreState → Outside) (new : Out
   pub unchanged : IsTrue (list_all (λ m. is_fail m.act) (list_of store))
       → IsHonest start new.store × (report.status ≢ 4)
   -- at most as many answers are that the store failed as accesses failed, and a block was changed where one ends the run
-  pub failed : RisesBy (failures headline.story.answers) 0
+  pub failed : (fresh (settings_of meddle_usage words)).public.batch ≡ None
+      → RisesBy (failures headline.story.answers) 0
       (failed_among (list_of store) (length new.store.asked))
   pub tampered : report.status ≡ 4
       → has_acted (list_of store) (length new.store.asked) ≡ true
