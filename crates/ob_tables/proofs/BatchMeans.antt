@@ -72,12 +72,9 @@ pub changed_twice : (name : List ℕ) (f g : Slots → Slots) (tables : Tables) 
 changed_twice name f g [] = refl
 changed_twice name f g (x ∷ xs) = go (bytes_eq x.heading.name name) refl (changed_twice name f g xs)
   where
-    abbrev twice : Held → Held
-    twice = in_slots (λ slots. g (f slots))
-
-    go : (b : Bool) → bytes_eq x.heading.name name ≡ b → changed_at name (in_slots g) (changed_at name (in_slots f) xs) ≡ changed_at name twice xs
-        → changed_at name (in_slots g) (if b then with_slots (in_slots f) x ∷ xs else x ∷ changed_at name (in_slots f) xs) ≡ (if b then with_slots twice x ∷ xs else x ∷ changed_at name twice xs)
-    go true is rest = ap (λ (b : Bool). if b then with_slots twice x ∷ xs else with_slots (in_slots f) x ∷ changed_at name (in_slots g) xs) is
+    go : (b : Bool) → bytes_eq x.heading.name name ≡ b → changed_at name (in_slots g) (changed_at name (in_slots f) xs) ≡ changed_at name (in_slots (λ slots. g (f slots))) xs
+        → changed_at name (in_slots g) (if b then with_slots (in_slots f) x ∷ xs else x ∷ changed_at name (in_slots f) xs) ≡ (if b then with_slots (in_slots (λ slots. g (f slots))) x ∷ xs else x ∷ changed_at name (in_slots (λ slots. g (f slots))) xs)
+    go true is rest = ap (λ (b : Bool). if b then with_slots (in_slots (λ slots. g (f slots))) x ∷ xs else with_slots (in_slots f) x ∷ changed_at name (in_slots g) xs) is
     go false is rest =
         ap (λ (b : Bool). if b then with_slots (in_slots g) x ∷ changed_at name (in_slots f) xs else x ∷ changed_at name (in_slots g) (changed_at name (in_slots f) xs)) is
         ∙ ap (λ (ys : Tables). x ∷ ys) rest

@@ -299,10 +299,10 @@ module _ {R : Type 0} (state : R → RevState) (first : Stmt) (rest : List Stmt)
   of_rows former answers result inserts = subst (λ (rs : List Row). InsertsAll former old.room.pack flat left rs answers result (at state old.vault s1) (at state v t)) same_rows inserts
 
   -- to its end
-  pub put_batch : {T : Type 0} (x : T) (former : Former) → former ≡ former_of p → (answers : List Inserted) → InsertsAll former old.room.pack flat left rows answers (Ok x) (at state old.vault s1) (at state v t) → old.ended ≡ false
+  pub put_batch : (T : Type 0) (x : T) (former : Former) → former ≡ former_of p → (answers : List Inserted) → InsertsAll former old.room.pack flat left rows answers (Ok x) (at state old.vault s1) (at state v t) → old.ended ≡ false
       → (early : List (Option Refusal)) (outcomes : List Outcome) → early ≡ map (refusal_by false p) rest → outcomes ≡ given_all (answers_behind None answers) early → (new : Engine R) (result : Result Outcome RunStop) → result ≡ Ok (given_next None answers)
       → new ≡ engine_after old v room (slice_set p.tables i (record table { region = left.region })) Whole old.ended → ServesBatch state first rest result outcomes old s new t
-  put_batch x former former_is answers inserts lives early outcomes early_is given new result answered is =
+  put_batch T x former former_is answers inserts lives early outcomes early_is given new result answered is =
       let put = of_rows former answers (Ok x) inserts in
       let given_as : outcomes ≡ given_all (answers_behind None answers) (map (refusal_by (is_late m) p) rest) = given ∙ ap (given_all (answers_behind None answers)) (early_as early early_is) in
       batch_as state first rest outcomes old s new t result (Ok (given_next None answers)) answered
@@ -322,10 +322,10 @@ module _ {R : Type 0} (state : R → RevState) (first : Stmt) (rest : List Stmt)
       ∙ meant.answers d))
 
   -- its pass gave up
-  pub cut_batch : {T : Type 0} (former : Former) → former ≡ former_of p → (answers : List Inserted) (e : OpErr) → InsertsAll {T = T} former old.room.pack flat left rows answers (Err e) (at state old.vault s1) (at state v t)
+  pub cut_batch : (T : Type 0) (former : Former) → former ≡ former_of p → (answers : List Inserted) (e : OpErr) → InsertsAll {T = T} former old.room.pack flat left rows answers (Err e) (at state old.vault s1) (at state v t)
       → (n : ℕ) → n ≡ length t.asked - length s.asked → (early : List (Option Refusal)) (outcomes : List Outcome) → early ≡ map (refusal_by false p) rest → outcomes ≡ map failed_by early → (new : Engine R) (result : Result Outcome RunStop) → result ≡ answer_of e
       → new ≡ engine_after old v room p.tables (Cut n) (is_stop (answer_of e)) → ServesBatch state first rest result outcomes old s new t
-  cut_batch {T} former former_is answers e inserts n count early outcomes early_is failed new result answered is =
+  cut_batch T former former_is answers e inserts n count early outcomes early_is failed new result answered is =
       let cut = of_rows {T = T} former answers (Err e) inserts in
       let failed_as : outcomes ≡ map failed_by (map (refusal_by (is_late m) p) rest) = failed ∙ ap (map failed_by) (early_as early early_is) in
       batch_as state first rest outcomes old s new t result (answer_of e) answered

@@ -68,8 +68,8 @@ pub keeps_all_in_place : (d : Draws) (p : Public) (m : ℕ) (stmts : List Stmt) 
 keeps_all_in_place d p m [] tables in_place = in_place
 keeps_all_in_place d p m (stmt ∷ stmts) tables in_place = keeps_all_in_place d p m stmts (settle d p m tables stmt) (keeps_in_place d p m tables stmt in_place)
 
--- ---- a statement that accesses no index, with which others are served
-module _ {R : Type 0} {owed : List Stmt} (state : R → RevState) (stmt : Stmt) (old : Engine R) (s : StoreState) (agrees : Agrees state old s)
+-- ---- a statement that accesses no index
+module _ {R : Type 0} (state : R → RevState) (stmt : Stmt) (old : Engine R) (s : StoreState) (agrees : Agrees state old s)
     (now : refusal_now old.public (count_of old s) stmt ≡ None) (plain : selects_rows stmt ≡ false)
     (none : is_access old.public (skeleton stmt) ≡ false) where
   unread : (tables : Tables) (w : World) → AreHeld old.public.pack old.indexes.items old.public.tables tables w → accessed tables stmt ≡ None
@@ -79,6 +79,10 @@ module _ {R : Type 0} {owed : List Stmt} (state : R → RevState) (stmt : Stmt) 
   seen_whole tables d w held =
       shows_kind_alone d old.public (count_of old s) tables stmt (early_held old.public (count_of old s) stmt tables old.indexes.items w None held now) (unread tables w held) plain
 
+-- with which others are served
+module _ {R : Type 0} {owed : List Stmt} (state : R → RevState) (stmt : Stmt) (old : Engine R) (s : StoreState) (agrees : Agrees state old s)
+    (now : refusal_now old.public (count_of old s) stmt ≡ None) (plain : selects_rows stmt ≡ false)
+    (none : is_access old.public (skeleton stmt) ≡ false) where
   -- nothing was asked, for want of memory, whatever was drawn
   pub unasked_left : (s1 : StoreState) (indexes : Vec Index Global) (draws : DrawPlace) (ts : List Table) → ChangesNothing s s1
       → ServesSilently state stmt owed (Err Stops.NoMemory) old s (engine_left old indexes draws old.vault old.room ts (seen_to (Cut 0)) true) s1
@@ -102,8 +106,8 @@ module _ {R : Type 0} {owed : List Stmt} (state : R → RevState) (stmt : Stmt) 
           told = λ tables d of reads. tt;
           room = λ tables d of reads. tt;
           honest = λ tables reads. refl;
-          held = λ tables d of reads. cut_seen false old.public (skeleton stmt) 0 _ _ (seen_whole tables d _ reads.held.held) (omega (arith, same));
-          full = λ tables d of reads. none_stops old.public tables stmt (unread tables _ reads.held.held) d (count_of old s) _ Stops.NoMemory tt;
+          held = λ tables d of reads. cut_seen false old.public (skeleton stmt) 0 _ _ (seen_whole state stmt old s agrees now plain none tables d _ reads.held.held) (omega (arith, same));
+          full = λ tables d of reads. none_stops old.public tables stmt (unread state stmt old s agrees now plain none tables _ reads.held.held) d (count_of old s) _ Stops.NoMemory tt;
           begun = λ tables d of reads lie told. absurd (cc (reads.nolie, rests.lie, told));
         };
       }
@@ -126,14 +130,14 @@ module _ {R : Type 0} {owed : List Stmt} (state : R → RevState) (stmt : Stmt) 
     means = record {
       told = λ tables d of reads. told_whole outcome _ _ answered (record {
         answer = (meant tables d of reads).0;
-        seen = sym (seen_whole tables d _ reads.held.held);
+        seen = sym (seen_whole state stmt old s agrees now plain none tables d _ reads.held.held);
         held = record { held = (meant tables d of reads).1; in_place = keeps_all_in_place d old.public (count_of old s) (stmt ∷ owed) tables reads.held.in_place };
       });
-      room = λ tables d of reads. none_full old.public tables stmt (unread tables _ reads.held.held) d (count_of old s);
+      room = λ tables d of reads. none_full old.public tables stmt (unread state stmt old s agrees now plain none tables _ reads.held.held) d (count_of old s);
       honest = λ tables reads. tt;
       held = λ tables d of reads. tt;
       full = λ tables d of reads. tt;
-      begun = λ tables d of reads. begun_plain state stmt (Ok outcome) old s (engine_left old indexes draws v room ts (seen_to Whole) old.ended) t tables d plain refl ran (seen_whole tables d _ reads.held.held) reads.nolie;
+      begun = λ tables d of reads. begun_plain state stmt (Ok outcome) old s (engine_left old indexes draws v room ts (seen_to Whole) old.ended) t tables d plain refl ran (seen_whole state stmt old s agrees now plain none tables d _ reads.held.held) reads.nolie;
     };
   }
 
@@ -145,48 +149,45 @@ module _ {R : Type 0} {owed : List Stmt} (state : R → RevState) (stmt : Stmt) 
         → Means state stmt owed (answer_of e) old s (engine_left old indexes draws v room old.public.tables (seen_to (Cut n)) (is_stop (answer_of e))) t
     means_left OpErrs.Failed n count fault kept ran = record {
       told = λ tables d of reads. record {
-        unindexed = unread tables _ reads.held.held;
-        seen = cut_seen true old.public (skeleton stmt) n _ _ (seen_whole tables d _ reads.held.held) count;
+        unindexed = unread state stmt old s agrees now plain none tables _ reads.held.held;
+        seen = cut_seen true old.public (skeleton stmt) n _ _ (seen_whole state stmt old s agrees now plain none tables d _ reads.held.held) count;
         held = record { held = kept tables reads.held.held; in_place = reads.held.in_place };
       };
-      room = λ tables d of reads. none_full old.public tables stmt (unread tables _ reads.held.held) d (count_of old s);
+      room = λ tables d of reads. none_full old.public tables stmt (unread state stmt old s agrees now plain none tables _ reads.held.held) d (count_of old s);
       honest = λ tables reads. tt;
       held = λ tables d of reads. tt;
       full = λ tables d of reads. tt;
-      begun = λ tables d of reads. begun_plain state stmt (answer_of OpErrs.Failed) old s _ t tables d plain refl ran (seen_whole tables d _ reads.held.held) reads.nolie;
+      begun = λ tables d of reads. begun_plain state stmt (answer_of OpErrs.Failed) old s _ t tables d plain refl ran (seen_whole state stmt old s agrees now plain none tables d _ reads.held.held) reads.nolie;
     }
     means_left (OpErrs.Tampered q x) n count fault kept ran = record {
       told = λ tables d of reads. tt;
       room = λ tables d of reads. tt;
       honest = λ tables reads. absurd (fault tables reads);
-      held = λ tables d of reads. cut_seen true old.public (skeleton stmt) n _ _ (seen_whole tables d _ reads.held.held) count;
-      full = λ tables d of reads. none_stops old.public tables stmt (unread tables _ reads.held.held) d (count_of old s) _ (Stops.Tampered q x) tt;
-      begun = λ tables d of reads. begun_plain state stmt (answer_of (OpErrs.Tampered q x)) old s _ t tables d plain refl ran (seen_whole tables d _ reads.held.held) reads.nolie;
+      held = λ tables d of reads. cut_seen true old.public (skeleton stmt) n _ _ (seen_whole state stmt old s agrees now plain none tables d _ reads.held.held) count;
+      full = λ tables d of reads. none_stops old.public tables stmt (unread state stmt old s agrees now plain none tables _ reads.held.held) d (count_of old s) _ (Stops.Tampered q x) tt;
+      begun = λ tables d of reads. begun_plain state stmt (answer_of (OpErrs.Tampered q x)) old s _ t tables d plain refl ran (seen_whole state stmt old s agrees now plain none tables d _ reads.held.held) reads.nolie;
     }
     means_left OpErrs.Sink n count fault kept ran = record {
       told = λ tables d of reads. tt;
       room = λ tables d of reads. tt;
       honest = λ tables reads. refl;
-      held = λ tables d of reads. cut_seen false old.public (skeleton stmt) n _ _ (seen_whole tables d _ reads.held.held) count;
-      full = λ tables d of reads. none_stops old.public tables stmt (unread tables _ reads.held.held) d (count_of old s) _ Stops.SinkFault tt;
-      begun = λ tables d of reads. begun_plain state stmt (answer_of OpErrs.Sink) old s _ t tables d plain refl ran (seen_whole tables d _ reads.held.held) reads.nolie;
+      held = λ tables d of reads. cut_seen false old.public (skeleton stmt) n _ _ (seen_whole state stmt old s agrees now plain none tables d _ reads.held.held) count;
+      full = λ tables d of reads. none_stops old.public tables stmt (unread state stmt old s agrees now plain none tables _ reads.held.held) d (count_of old s) _ Stops.SinkFault tt;
+      begun = λ tables d of reads. begun_plain state stmt (answer_of OpErrs.Sink) old s _ t tables d plain refl ran (seen_whole state stmt old s agrees now plain none tables d _ reads.held.held) reads.nolie;
     }
     means_left OpErrs.NoMemory n count fault kept ran = record {
       told = λ tables d of reads. tt;
       room = λ tables d of reads. tt;
       honest = λ tables reads. refl;
-      held = λ tables d of reads. cut_seen false old.public (skeleton stmt) n _ _ (seen_whole tables d _ reads.held.held) count;
-      full = λ tables d of reads. none_stops old.public tables stmt (unread tables _ reads.held.held) d (count_of old s) _ Stops.NoMemory tt;
-      begun = λ tables d of reads. begun_plain state stmt (answer_of OpErrs.NoMemory) old s _ t tables d plain refl ran (seen_whole tables d _ reads.held.held) reads.nolie;
+      held = λ tables d of reads. cut_seen false old.public (skeleton stmt) n _ _ (seen_whole state stmt old s agrees now plain none tables d _ reads.held.held) count;
+      full = λ tables d of reads. none_stops old.public tables stmt (unread state stmt old s agrees now plain none tables _ reads.held.held) d (count_of old s) _ Stops.NoMemory tt;
+      begun = λ tables d of reads. begun_plain state stmt (answer_of OpErrs.NoMemory) old s _ t tables d plain refl ran (seen_whole state stmt old s agrees now plain none tables d _ reads.held.held) reads.nolie;
     }
 
 -- ---- one that draws nothing either
 module _ {R : Type 0} {owed : List Stmt} (state : R → RevState) (stmt : Stmt) (old : Engine R) (s : StoreState) (agrees : Agrees state old s)
     (now : refusal_now old.public (count_of old s) stmt ≡ None) (plain : selects_rows stmt ≡ false)
     (none : is_access old.public (skeleton stmt) ≡ false) (made : MakesFlat (skeleton stmt)) where
-  undrawn : drawn_by old.public (skeleton stmt) ≡ 0
-  undrawn = none_drawn old.public (skeleton stmt) none made
-
   -- nothing was asked, for want of memory
   pub unasked : (s1 : StoreState) (ts : List Table) → ChangesNothing s s1 → ServesSilently state stmt owed (Err Stops.NoMemory) old s (engine_after old old.vault old.room ts (Cut 0) true) s1
   unasked s1 ts rests = unasked_left state stmt old s agrees now plain none s1 old.indexes old.draws ts rests
@@ -216,7 +217,7 @@ module _ {R : Type 0} {owed : List Stmt} (state : R → RevState) (stmt : Stmt) 
         let others = others_of old.closing old.indexes.items in
         let off : (q : ℕ) → others q → one old.vault.next q → ⊥ =
         λ q is here. let less = beside_below old.public.pack old.public.tables others q _ agrees.ready agrees.tables is in omega (arith, less, here) in
-        let ran = ran_cut state (skeleton stmt) old s v room t agrees uses undrawn (one old.vault.next) n x e all (script_is (Cut n)) count
+        let ran = ran_cut state (skeleton stmt) old s v room t agrees uses (none_drawn old.public (skeleton stmt) none made) (one old.vault.next) n x e all (script_is (Cut n)) count
         (tables_kept (one old.vault.next) old.public.pack old.public.tables others old.indexes.items _ _ all.lasts apart off (λ q shape live here. absurd (cc (live, gone, here))) agrees.tables)
         (λ q below same. omega (arith, below, same)) in
         record {

@@ -40,7 +40,9 @@ fn row_of(alloc: Global, schema: &Schema, insert: &Stmt) -> Result<Items<Cell>, 
     ensures held { IfOk result (λ row. All IsCell row) }
 {
     let Stmt::Insert {
-        columns, values, ..
+        columns,
+        values,
+        ..
     } = insert
     else {
         unreachable!()

@@ -1,5 +1,4 @@
-use Rattle.std.proofs.Common.{◌<◌, ◌≤◌, length, length-set, ◌∙◌, ap, arith}
-use Rattle.ob_tables.specs.Batch.{failed_by}
+use Rattle.std.proofs.Common.{◌<◌, ◌≤◌, None, length, length-set, ◌∙◌, arith}
 use Rattle.ob_tables.proofs.BatchLoops.{all_failed_with, one_failed}
 use Rattle.ob_tables.proofs.batching.fail_all.Goals as goal
 
@@ -11,9 +10,7 @@ loop-j-preserved c =
     let room : j < length outcomes = omega (arith, before.size, c.loop-j-test.true) in
     record {
       size = length-set outcomes j c.failed_by.result ∙ before.size;
-      told =
-          one_failed j c.args.refusals.now outcomes c.failed_by.result c.index-refusals-j.result c.loop-j-test.true room
-          (c.failed_by.ensures ∙ ap failed_by c.index-refusals-j.is) before.told;
+      told = one_failed j c.args.refusals.now outcomes c.failed_by.result None c.loop-j-test.true room c.failed_by.ensures before.told;
     }
 
 pub returns : goal.returns

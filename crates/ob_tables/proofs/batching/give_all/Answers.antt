@@ -1,6 +1,4 @@
-use Rattle.std.proofs.Common.{◌<◌, ◌≤◌, length, drop, length-set, sym, ◌∙◌, ap, arith, Option}
-use Rattle.ob_base.specs.declared.refusal.Refusal.{Refusal}
-use Rattle.ob_tables.specs.Batch.{answers_behind, given_next}
+use Rattle.std.proofs.Common.{◌<◌, ◌≤◌, None, length, length-set, ◌∙◌, arith}
 use Rattle.ob_tables.proofs.BatchLoops.{all_given_to, one_given}
 use Rattle.ob_tables.proofs.batching.give_all.Goals as goal
 
@@ -9,17 +7,14 @@ loop-j-preserved c =
     let before = c.loop-j.invariant in
     let j = c.loop-j.j in
     let outcomes = c.loop-j.outcomes in
-    let given = c.loop-j.given in
-    let answers = c.args.answers.now in
     let next = c.give_next-outcome.result.0 in
     let room : j < length outcomes = omega (arith, before.size, c.loop-j-test.true) in
     record {
       size = length-set outcomes j next ∙ before.size;
       within = c.give_next-outcome.ensures.within;
       told =
-          one_given _ answers given c.give_next-outcome.result.1 j c.args.refusals.now outcomes next c.index-refusals-j.result c.loop-j-test.true room
-          (c.give_next-outcome.ensures.outcome ∙ ap (λ (r : Option Refusal). given_next r (drop given answers)) c.index-refusals-j.is)
-          (c.give_next-outcome.ensures.behind ∙ ap (λ (r : Option Refusal). answers_behind r (drop given answers)) c.index-refusals-j.is) before.told;
+          one_given _ c.args.answers.now c.loop-j.given c.give_next-outcome.result.1 j c.args.refusals.now outcomes next None c.loop-j-test.true room c.give_next-outcome.ensures.outcome
+          c.give_next-outcome.ensures.behind before.told;
     }
 
 pub returns : goal.returns

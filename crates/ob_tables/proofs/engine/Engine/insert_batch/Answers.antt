@@ -1,4 +1,5 @@
 use Rattle.std.proofs.Common.{rules, ◌≡◌, ◌-◌, ◌+◌, ℕ, List, Option, length, map, false, Ok, arith, refl, sym, ◌∙◌, subst, ap}
+use Rattle.std.specs.Prelude.{⊤}
 use Rattle.std.proofs.lemmas.List.{length-map}
 use Rattle.std.proofs.lemmas.Option.{slice_get_within}
 use Rattle.ob_base.specs.declared.access.Access.{Access}
@@ -132,7 +133,7 @@ returns-in-Ok-result g c =
       serves =
           put_batch g.R.Revisions.state c.args.first.now c.args.rest.now old s (g.S.BlockStore.state c.make_room.new.store) c.insert_all-result.new.vault c.insert_all-result.new.room (g.S.BlockStore.state c.insert_all-result.new.store)
           c.table_at-i.result.0 c.table_at-i.result.1 c.insert_all-result.new.flat c.requires.agrees c.make_room.ensures.rests uses c.requires.batch c.table_of.result.now c.table_of.ensures found rows
-          (c.as_slice-rows.ensures.value ∙ c.in-Ok.ensures.rows) tt c.former-former.result c.former-former.ensures answers c.in-Ok-result.ensures.inserts c.requires.lives
+          (c.as_slice-rows.ensures.value ∙ c.in-Ok.ensures.rows) ⊤ tt c.former-former.result c.former-former.ensures answers c.in-Ok-result.ensures.inserts c.requires.lives
           c.as_slice-refusals.result.now _ (c.as_slice-refusals.ensures.value ∙ c.in-Ok.ensures.refusals)
           (c.give_all.ensures ∙ ap (λ (l : List Inserted). given_all l c.as_slice-refusals.result.now) c.give_next-outcome.ensures.behind) c.finish.new.self _
           (ap (λ (o : Outcome). Ok o) (c.finish.ensures.answer ∙ c.give_next-outcome.ensures.outcome))
@@ -152,7 +153,7 @@ returns g c =
       serves =
           cut_batch g.R.Revisions.state c.args.first.now c.args.rest.now old s (g.S.BlockStore.state c.make_room.new.store) c.insert_all-result.new.vault c.insert_all-result.new.room (g.S.BlockStore.state c.insert_all-result.new.store)
           c.table_at-i.result.0 c.table_at-i.result.1 c.insert_all-result.new.flat c.requires.agrees c.make_room.ensures.rests uses c.requires.batch c.table_of.result.now c.table_of.ensures found rows
-          (c.as_slice-rows.ensures.value ∙ c.in-Ok.ensures.rows) c.former-former.result c.former-former.ensures answers c.in-Err.error c.in-Err.ensures.inserts
+          (c.as_slice-rows.ensures.value ∙ c.in-Ok.ensures.rows) ⊤ c.former-former.result c.former-former.ensures answers c.in-Err.error c.in-Err.ensures.inserts
           (c.count.result - c.count-before.result) (λ i. c.count.ensures i - c.count-before.ensures i)
           c.as_slice-refusals.result.now _ (c.as_slice-refusals.ensures.value ∙ c.in-Ok.ensures.refusals) c.fail_all.ensures c.cut-in-Err.new.self _ c.cut-in-Err.ensures.answer c.cut-in-Err.ensures.seen;
     }
