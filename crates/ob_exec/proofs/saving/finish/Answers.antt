@@ -68,7 +68,7 @@ returns-in-Ok-save-clause-behind g c =
     (record {
       saving = Ok c.in-Ok-save.field-0;
       last = last;
-      saves = subst (λ (u : StoreState). SavesTables g.R.Revisions.state c.args.begun.left (Ok c.in-Ok-save.field-0) e u last t k0 k1) c.leave_forgotten.ensures.same (c.in-Ok-save.ensures.saves (c.requires.wants due));
+      saves = subst (λ (u : StoreState). SavesTables {T = Unit {0}} g.R.Revisions.state c.args.begun.left (Ok c.in-Ok-save.field-0) e u last t k0 k1) c.leave_forgotten.ensures.same (c.in-Ok-save.ensures.saves (c.requires.wants due));
       ends = (sym c.in-Ok.is, refl);
     })
 
@@ -98,6 +98,6 @@ returns-in-Err-save-clause-behind g c =
     (record {
       saving = Err c.in-Err-save.stop;
       last = last;
-      saves = subst (λ (u : StoreState). SavesTables g.R.Revisions.state c.args.begun.left (Err c.in-Err-save.stop) e u last t k0 k1) c.leave_forgotten.ensures.same (c.in-Err-save.ensures.saves (c.requires.wants due));
+      saves = subst (λ (u : StoreState). SavesTables {T = Unit {0}} g.R.Revisions.state c.args.begun.left (Err c.in-Err-save.stop) e u last t k0 k1) c.leave_forgotten.ensures.same (c.in-Err-save.ensures.saves (c.requires.wants due));
       ends = (refl, c.end_at.ensures ∙ ap (λ (n : ℕ). ended_at (n - c.args.begun.accesses) last) c.count.ensures);
     })
