@@ -31,7 +31,7 @@ use Rattle.ob_mean.specs.Prints.{is_join, item_label, label_at, labels_of}
 use Rattle.ob_mean.specs.Refusals.{early_refusal, limits_of}
 use Rattle.ob_mean.specs.Replay.{Broken, How, Alone, CutAfter, With, CutWith, IsCutOff, IsMember, Session, Spelt, after, after_all, head_of, is_full_now, rest_of, seen_now, seen_or_cut, served}
 use Rattle.ob_mean.specs.Settle.{settle, settled}
-use Rattle.ob_mean.specs.Step.{answered, followed}
+use Rattle.ob_mean.specs.Step.{followed}
 use Rattle.ob_mean.specs.Verdict.{Draws, Tables, database, ended, is_late, refusal, seen, seen_started, verdict}
 use Rattle.ob_mean.specs.declared.answer.Answer.{Answer as Meaning}
 use Rattle.ob_script.specs.Script.{script}

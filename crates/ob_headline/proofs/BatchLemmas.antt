@@ -1,6 +1,6 @@
 -- What is seen of INSERTs that are served together, and what is gathered.
 use Rattle.std.specs.Prelude.{⊤, ◌&&◌, ◌↔◌, ◌≤◌, if◌then◌else◌, is_some, nat_le}
-use Rattle.std.proofs.Common.{◌≡◌, ◌+◌, ◌++◌, ℕ, zero, suc, Bool, true, false, IsTrue, Ok, Err, List, [], ◌∷◌, length, take, Option, Some, None, refl, sym, ◌∙◌, ap, subst, arith}
+use Rattle.std.proofs.Common.{◌≡◌, ◌+◌, ◌++◌, ℕ, Bool, true, false, IsTrue, Ok, Err, List, [], ◌∷◌, length, take, Option, Some, None, refl, sym, ◌∙◌, ap, subst, arith}
 use Rattle.std.specs.Option.{is_none, option_map}
 use Rattle.ob_base.specs.declared.config.Plan.{Plan}
 use Rattle.ob_base.specs.declared.config.Plan.TheVariants.{Small, Large, Continuous, Hash}
@@ -10,9 +10,8 @@ use Rattle.ob_base.specs.declared.refusal.Refusal.TheVariants.{StoreFault}
 use Rattle.ob_base.specs.declared.seen.End.{End}
 use Rattle.ob_base.specs.declared.seen.End.TheVariants.{Static, Whole, AfterCount, Joined, Cut}
 use Rattle.ob_base.specs.declared.seen.Seen.{Seen}
-use Rattle.ob_base.specs.declared.skeleton.Skeleton.{Skeleton}
 use Rattle.ob_headline.specs.Accesses.{AreSeen}
-use Rattle.ob_headline.specs.Batches.{Joins, is_failed, joins_now}
+use Rattle.ob_headline.specs.Batches.{Joins, is_failed}
 use Rattle.ob_headline.specs.Failures.{cut_off, failures, outcome_failures, refusal_failures}
 use Rattle.ob_headline.specs.Statements.{statements}
 use Rattle.ob_headline.specs.Words.{Answer}

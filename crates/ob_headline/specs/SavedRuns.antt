@@ -1,5 +1,5 @@
 -- Runs that save their tables, each over the mark and the store that the one before it left, whatever became of that.
-use Rattle.std.specs.Prelude.{ℕ, ◌≡◌, ◌⊎◌, ◌<◌, ◌+◌, ◌^◌, ⊤, Bool, true, false, IsTrue, if◌then◌else◌, List, [], ◌∷◌, ◌++◌, length, map, take, slice_get, Option, Some, None, Ok, Err}
+use Rattle.std.specs.Prelude.{ℕ, ◌≡◌, ◌⊎◌, ◌<◌, ◌+◌, ◌^◌, ⊤, Bool, false, IsTrue, if◌then◌else◌, List, [], ◌∷◌, ◌++◌, length, map, take, slice_get, Option, Some, None, Ok, Err}
 use Rattle.std.proofs.Common.{inl, inr}
 use Rattle.clap.specs.Words.{Text}
 use Rattle.ob_base.specs.Refusals.{is_store_fault}
