@@ -1,5 +1,5 @@
 -- INSERTs that are served together: what begins a batch and goes into it, and that they mean the same while they aren't late.
-use Rattle.std.proofs.Common.{◌≡◌, ℕ, ◌+◌, ◌-◌, ◌^◌, ◌≤◌, ◌<◌, Bool, true, false, List, [], ◌∷◌, length, Option, Some, None, refl, sym, ◌∙◌, ap, arith}
+use Rattle.std.proofs.Common.{◌≡◌, ℕ, ◌+◌, ◌-◌, ◌^◌, ◌≤◌, ◌<◌, Bool, true, false, List, [], ◌∷◌, length, Option, Some, None, Ok, Err, refl, sym, ◌∙◌, ap, arith}
 use Rattle.std.specs.Prelude.{IsSome, bytes_eq, is_some, max, min, nat_le, nat_lt, ◌&&◌, if◌then◌else◌}
 use Rattle.std.specs.List.{All}
 use Rattle.std.specs.Option.{is_none, option_map_or, option_or}
@@ -16,17 +16,17 @@ use Rattle.ob_base.specs.declared.skeleton.Skeleton.TheVariants.{Create as Creat
 use Rattle.ob_base.specs.Stored.{headings, headings_of}
 use Rattle.ob_script.proofs.Unasked.{static_stays, stays_public}
 use Rattle.ob_script.specs.Script.{script}
-use Rattle.ob_script.specs.Trace.{next}
+use Rattle.ob_script.specs.Trace.{Served, next}
 use Rattle.ob_sql.specs.declared.stmt.Stmt.{Stmt}
 use Rattle.ob_sql.specs.declared.stmt.Stmt.TheVariants.{Create, Insert, Update, Delete, Drop as DropTable, SelectRows as RowsStmt, SelectTotals as TotalsStmt}
 use Rattle.ob_sql.specs.Skeleton.{skeleton}
-use Rattle.ob_mean.specs.Batches.{Gathering, batch_most, begins_batch, goes_into, inserts_flat, inserts_into, is_unrefused, joins_in, leaves_room, settle_all, verdicts}
+use Rattle.ob_mean.specs.Batches.{Gathering, batch_most, begins_batch, gathering_after, goes_into, inserts_flat, inserts_into, is_unrefused, joins_in, leaves_room, settle_all, verdicts}
 use Rattle.ob_mean.specs.Refusals.{Limits, early_refusal, limits_of}
-use Rattle.ob_mean.specs.Replay.{Alone, CutWith, Session, With, after, draws_taken, is_access, seen_now}
+use Rattle.ob_mean.specs.Replay.{Alone, CutWith, How, IsMember, Session, Spelt, With, after, all_served, draws_taken, how_now, hows, is_access, is_full_now, seen_now, seen_or_cut, served, served_full}
 use Rattle.ob_mean.specs.Settle.{settle, settle_served, settled}
 use Rattle.ob_mean.specs.Step.{accepted_answer, answered, followed, refusal_of}
-use Rattle.ob_mean.specs.Verdict.{Accessed, Draws, Tables, accessed, accessed_now, database, ended, is_late, refusal, seen, verdict}
-use Rattle.ob_mean.proofs.VerdictLemmas.{refused_early, seen_early}
+use Rattle.ob_mean.specs.Verdict.{Accessed, Draws, Tables, accessed, accessed_now, database, ended, gone, is_late, refusal, verdict}
+use Rattle.ob_mean.proofs.VerdictLemmas.{accessed_late, refused_early, seen_early}
 
 -- ---- what begins a batch
 none_is : {A : Type 0} (o : Option A) → is_none o ≡ true → o ≡ None
@@ -41,6 +41,10 @@ flat_insert p (DeleteSkeleton table) is = absurd (cc is)
 flat_insert p (DropSkeleton table) is = absurd (cc is)
 flat_insert p (Rows source cs) is = absurd (cc is)
 flat_insert p (Groups table cs key) is = absurd (cc is)
+
+-- as many as the settings let one batch have
+abbrev most_of : Public → (m : ℕ) → ℕ
+most_of p m = max 1 (min m (p.buffer - p.pack))
 
 batched_by : (f : ℕ → ℕ) (o : Option ℕ) → 2 ≤ option_map_or f o 1 → IsSome o
 batched_by f None most = absurd (omega (arith, most))
@@ -63,7 +67,7 @@ begins p m stmt is =
     let flat = flat_insert p (skeleton stmt) third.1 in
     record {
       most = most;
-      batched = batched_by _ p.batch most;
+      batched = batched_by (most_of p) p.batch most;
       room = ltb-true (m + 2 ^ 50) (2 ^ 63) first.1;
       inserts = flat.0;
       flat = flat.1;
@@ -100,13 +104,13 @@ some_in f None some = omega arith
 some_in f (Some m) some = some m
 
 pub most_some : (p : Public) → 1 ≤ batch_most p
-most_some p = some_in (λ (m : ℕ). max 1 (min m (p.buffer - p.pack))) p.batch (λ m. omega arith)
+most_some p = some_in (most_of p) p.batch (λ m. omega arith)
 
 -- ---- where batches aren't asked for
 module _ (p : Public) (alone : p.batch ≡ None) where
   pub none_begin : (m : ℕ) (stmt : Stmt) → begins_batch p m stmt ≡ false
   none_begin m stmt =
-      ap (λ (o : Option ℕ). nat_le 2 (option_map_or (λ (n : ℕ). max 1 (min n (p.buffer - p.pack))) o 1) && leaves_room m && inserts_flat p (skeleton stmt) && is_unrefused p m stmt) alone
+      ap (λ (o : Option ℕ). nat_le 2 (option_map_or (most_of p) o 1) && leaves_room m && inserts_flat p (skeleton stmt) && is_unrefused p m stmt) alone
 
   pub none_join : (g : Option Gathering) (s : Skeleton) → goes_into p g s ≡ false
   none_join None s = refl
@@ -227,3 +231,23 @@ after_refused s stmt r early =
       asked = asked i;
       draws = record s.draws { drawn = drawn i };
     })
+
+-- ---- texts one by one
+-- no access of it meets a full stash
+pub member_room : (s : Session) (stmt : Stmt) → IsMember s stmt → is_full_now s stmt ≡ false
+member_room s stmt member =
+    ap (λ (o : Option Accessed). option_map_or (λ a. is_none (gone s.draws a)) o false)
+    (accessed_late s.public s.asked s.tables stmt member.early ∙ member.unkeyed)
+
+-- where batches aren't asked for, each is served by itself
+pub how_alone : (g : Option Gathering) (s : Session) (stmt : Stmt) → s.public.batch ≡ None → how_now g s stmt ≡ Alone
+how_alone g s stmt alone = ap (λ (b : Bool). if b && is_unrefused s.public s.asked stmt then With else Alone) (none_join s.public alone g (skeleton stmt))
+
+pub served_alone : (g : Option Gathering) (s : Session) (texts : List Spelt) → s.public.batch ≡ None → all_served s texts (hows g s texts) ≡ all_served s texts []
+served_alone g s [] alone = refl
+served_alone g s (Err at ∷ texts) alone = served_alone None s texts alone
+served_alone g s (Ok stmt ∷ texts) alone =
+    let how = how_now g s stmt in
+    let rest = served_alone (gathering_after s.public s.asked g stmt (seen_or_cut how s stmt).end) (after how s stmt) texts alone in
+    ap (λ (all : List Served). if is_full_now s stmt then served_full s stmt ∷ [] else served how s stmt ∷ all) rest
+    ∙ ap (λ (h : How). if is_full_now s stmt then served_full s stmt ∷ [] else served h s stmt ∷ all_served (after h s stmt) texts []) (how_alone g s stmt alone)

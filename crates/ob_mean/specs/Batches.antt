@@ -44,7 +44,7 @@ leaves_room m = nat_lt (m + 2 ^ 50) (2 ^ 63)
 abbrev pub is_unrefused : Public → (m : ℕ) → Stmt → Bool
 is_unrefused p m stmt = is_none (early_refusal (is_late m) (limits_of p) (headings_of p.tables) stmt)
 
--- a batch begins with it, where batches are asked for
+-- a batch begins with such an INSERT that isn't refused before any access, where batches are asked for
 abbrev pub begins_batch : Public → (m : ℕ) → Stmt → Bool
 begins_batch p m stmt = nat_le 2 (batch_most p) && leaves_room m && inserts_flat p (skeleton stmt) && is_unrefused p m stmt
 

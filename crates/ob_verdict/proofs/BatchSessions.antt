@@ -34,19 +34,19 @@ counts n = Rows (ints (n ∷ []) ∷ [])
 abbrev hows_by : Public → List Spelt → Broken
 hows_by p texts = hows None (first_session p) texts
 
--- three of them, the third with the key of the first; three again, of which one is refused before any access; and one for
--- which there is no slot left
-abbrev eight : List Spelt
-eight =
+-- three of them, the third with the key of the first; three again, of which one is refused before any access; and two of one
+-- key, for which there is no slot left
+abbrev inserts : List Spelt
+inserts =
     create_t ∷ insert t 1 10 ∷ insert t 2 20 ∷ insert t 1 30 ∷ insert t 3 30 ∷ Ok (Insert t None (TextLiteral (codes "a") ∷ int 1 ∷ []))
-    ∷ insert t 4 40 ∷ insert t 5 50 ∷ count_all ∷ []
+    ∷ insert t 4 40 ∷ insert t 5 50 ∷ insert t 5 60 ∷ count_all ∷ []
 
-together : hows_by (batched 3) eight ≡ Alone ∷ Alone ∷ With ∷ With ∷ Alone ∷ Alone ∷ With ∷ Alone ∷ Alone ∷ []
+together : hows_by (batched 3) inserts ≡ Alone ∷ Alone ∷ With ∷ With ∷ Alone ∷ Alone ∷ With ∷ Alone ∷ With ∷ Alone ∷ []
 unfolding makes
 together = refl
 
-answered_together : answers (first_session (batched 3)) eight (hows_by (batched 3) eight)
-    ≡ Done ∷ Done ∷ Done ∷ Refused Duplicate ∷ Done ∷ Refused WrongType ∷ Done ∷ Refused Full ∷ counts 4 ∷ []
+answered_together : answers (first_session (batched 3)) inserts (hows_by (batched 3) inserts)
+    ≡ Done ∷ Done ∷ Done ∷ Refused Duplicate ∷ Done ∷ Refused WrongType ∷ Done ∷ Refused Full ∷ Refused Full ∷ counts 4 ∷ []
 unfolding makes
 answered_together = refl
 
@@ -62,7 +62,7 @@ pass a b =
     Make b 4 49 ∷ read a
     ++ Read a 0 ∷ Write b 0 ∷ Read a 1 ∷ Write b 1 ∷ Read a 2 ∷ Write b 2 ∷ Read a 3 ∷ Write b 3 ∷ Discard a ∷ []
 
-asked_together : trace_of (batched 3) eight (hows_by (batched 3) eight) ≡ made ++ pass 1 2 ++ pass 2 3 ++ pass 3 4 ++ read 4
+asked_together : trace_of (batched 3) inserts (hows_by (batched 3) inserts) ≡ made ++ pass 1 2 ++ pass 2 3 ++ pass 3 4 ++ read 4
 unfolding makes
 asked_together = refl
 
@@ -84,7 +84,7 @@ unfolding makes
 apart = refl
 
 -- nothing is where it isn't asked for, nor for an index
-unbatched : hows_by by_four eight ≡ Alone ∷ Alone ∷ Alone ∷ Alone ∷ Alone ∷ Alone ∷ Alone ∷ Alone ∷ Alone ∷ []
+unbatched : hows_by by_four inserts ≡ Alone ∷ Alone ∷ Alone ∷ Alone ∷ Alone ∷ Alone ∷ Alone ∷ Alone ∷ Alone ∷ Alone ∷ []
 unfolding makes
 unbatched = refl
 

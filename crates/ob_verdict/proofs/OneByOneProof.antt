@@ -1,8 +1,7 @@
 -- A session whose INSERTs are served together goes along with the same session one by one.
-use Rattle.std.proofs.Common.{◌≡◌, ℕ, ◌+◌, ◌≤◌, ◌<◌, ◌^◌, Bool, true, false, List, [], ◌∷◌, ◌++◌, length, map, Option, Some, None, Ok, Err, refl, sym, ◌∙◌, ap, subst, cond, arith}
+use Rattle.std.proofs.Common.{◌≡◌, ℕ, ◌+◌, ◌≤◌, ◌<◌, ◌^◌, Bool, true, false, List, [], ◌∷◌, ◌++◌, Option, Some, None, Ok, Err, refl, sym, ◌∙◌, ap, subst, cond, arith}
 use Rattle.std.specs.Prelude.{bytes_eq, filter, not, ◌&&◌, if◌then◌else◌, ⊤}
 use Rattle.std.specs.Option.{option_map, option_map_or}
-use Rattle.std.proofs.lemmas.Bool.{and_parts}
 use Rattle.std.proofs.lemmas.Bool.Decides.{nat_tests}
 use Rattle.std.proofs.lemmas.List.{map_push}
 use Rattle.ob_base.specs.declared.config.Public.{Public}
@@ -17,7 +16,6 @@ use Rattle.ob_base.specs.declared.skeleton.Skeleton.TheVariants.{Create as Creat
 use Rattle.ob_base.specs.declared.skeleton.Source.TheVariants.{Table as OneTable, Join}
 use Rattle.ob_base.specs.Schemas.{columns_of}
 use Rattle.ob_base.specs.Stored.{headings_of}
-use Rattle.ob_script.specs.Script.{script}
 use Rattle.ob_script.specs.Tables.{moved, tables_after, tables_then}
 use Rattle.ob_script.specs.Trace.{next}
 use Rattle.ob_sql.specs.declared.stmt.Stmt.{Stmt}
@@ -33,7 +31,7 @@ use Rattle.ob_mean.proofs.BatchLemmas.{begins, goes_in}
 use Rattle.ob_mean.proofs.ReplayLemmas.{after_room, answers_room}
 use Rattle.ob_verdict.proofs.MovingProof.{moves}
 use Rattle.ob_verdict.proofs.PlainSettings.{full_same, plain, seen_same, settle_same, verdict_same}
-use Rattle.ob_verdict.specs.OneByOne.{AnswersAsOneByOne, BatchesAnswerAlike}
+use Rattle.ob_verdict.specs.OneByOne.{BatchesAnswerAlike}
 
 -- ---- what is public of both: the settings, and the tables but for where they lie
 record GoesAlong (p q : Public) : Type 0 where
@@ -142,7 +140,7 @@ IsFlatIn p None = ⊤
 IsFlatIn p (Some g) = has_index p g.table ≡ false
 
 module _ (p : Public) (m : ℕ) (g : Option Gathering) (stmt : Stmt) (x : Seen) (flat : IsFlatIn p g) where
-  behind : Public
+  abbrev behind : Public
   behind = next p (skeleton stmt) x
 
   stays_flat : (table : List ℕ) → Names table (skeleton stmt) → has_index p table ≡ false → has_index behind table ≡ false

@@ -1,5 +1,5 @@
 -- What a statement means goes by the settings alone of what is public, and by the tables in place.
-use Rattle.std.proofs.Common.{◌≡◌, ℕ, Bool, true, false, List, [], ◌∷◌, length, Option, Some, None, refl, sym, ◌∙◌, ap}
+use Rattle.std.proofs.Common.{◌≡◌, ℕ, List, [], ◌∷◌, length, Option, Some, None, refl, sym, ◌∙◌, ap}
 use Rattle.std.specs.Prelude.{is_some, if◌then◌else◌}
 use Rattle.std.specs.Option.{is_none, option_map_or, option_or}
 use Rattle.ob_base.specs.declared.config.Plan.{Plan}
