@@ -55,6 +55,7 @@ fn emit_none<E: Emit>(query: &Query<'_>, out: &mut E) -> Result<Selected, OpErr>
 }
 
 // The plan for so many of `n` rows; none where Continuous is forced, and they don't stand side by side.
+#[tactic(auto, using(ob_base::proofs::PlanLemmas::forced_apart))]
 fn plan_of(n: u32, counted: Counted, public: &Public) -> Option<Plan>
     requires { AreSettings public.now }
     ensures { ChoosesPlan public.now n counted.k counted.consecutive result }
