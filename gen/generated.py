@@ -231,11 +231,11 @@ class Run:
         """The statements of the generated text."""
         g = self.create(n, 17)
         self.count(True)
-        for _ in range(up(n, self.batch)):
-            g = self.insert(g, n, 17)
         held = [[i + 1, v] for i, v in enumerate(digits(start, n))]
-        for _ in held:
-            self.count(True)
+        for first in range(0, n, self.batch):
+            g = self.insert(g, n, 17)
+            for _ in held[first : first + self.batch]:
+                self.count(True)
         for test in (lambda row: row[1] == 3, lambda row: row[0] > n // 4, lambda row: row[1] != 9):
             selected = [i for i, row in enumerate(held) if test(row)]
             self.count(self.select(g, n, 17, selected), len(selected))
