@@ -1,13 +1,13 @@
 #!/usr/bin/env python3
 """Writes crates/ob_cases/data/saved.case: runs that save their tables, and die. A session of each statement, and of a batch of
 INSERTs, with 1 and 16 rows in a block, whose store fails from each of its accesses on, whose keeper fails at each of its calls,
-which ends its run, and whose answer is never taken; and the run that goes on over what was left. What is asked, answered and
-left is counted from docs/SPECIFICATION.md; nothing that the program answers goes into it. It needs python3 alone, and takes a
-second.
+which ends its run, and whose answer is never taken; and the run that goes on over what was left. And runs over generated text.
+What is asked, answered and left is counted from docs/SPECIFICATION.md; nothing that the program answers goes into it. It needs
+python3 alone, and takes a second.
 """
 import pathlib
 
-from generated import Run
+from generated import Run, case
 
 DATA = pathlib.Path(__file__).resolve().parent.parent / "crates/ob_cases/data"
 SALTS = [f"{n:02x}" * 16 for n in (0, 255, 7, 8)]
@@ -289,6 +289,51 @@ def texts_of(statements):
     return [text_of(it) for one in statements for it in (one[1] if one[0] == "batch" else [one])]
 
 
+class SavedText(Run):
+    """A run over generated text that saves its tables, from none."""
+
+    def __init__(self, **settings):
+        super().__init__(**settings)
+        self.tables, self.saved, self.old, self.closing, self.mark = [], [], None, None, "begun"
+
+    def create(self, slots, width):
+        self.tables.append(super().create(slots, width))
+        return self.tables[-1]
+
+    def insert(self, region, slots, width):
+        self.tables.append(super().insert(region, slots, width))
+        return self.tables[-1]
+
+    def move(self, region, slots, width):
+        self.tables.append(super().move(region, slots, width))
+        return self.tables[-1]
+
+    def discard(self, region):
+        if region in self.tables:
+            self.tables.remove(region)
+            self.old = region
+        else:
+            super().discard(region)
+
+    def count(self, answered, rows=0):
+        """Behind a statement that changed tables they are saved."""
+        super().count(answered, rows)
+        if self.tables != self.saved:
+            self.save()
+
+    def save(self):
+        blocks, number = 1 + len(self.tables), 1 + sum(access.startswith("W") for access in self.asked)
+        region, self.next = self.next, self.next + 1
+        self.asked.append(f"M {region} {blocks} {CLOSING}")
+        for place in range(blocks):
+            self.write(region, place)
+        self.mark = f"saved {region} {blocks} {number} {self.pack} {SALTS[0]}"
+        for gone in (self.old, self.closing):
+            if gone:
+                super().discard(gone)
+        self.saved, self.old, self.closing = list(self.tables), None, region
+
+
 def text_of(it):
     kind, name, *rest = it
     return {
@@ -384,9 +429,22 @@ def changed(pack):
     return "\n".join([*head, *first.lines(), "then", *body[:at], f"mark {before}", *body[at:], *each]) + "\n"
 
 
+def generated(name, start, rows, words="", **settings):
+    """A run over generated text, of which the summary and the mark are told."""
+    run = SavedText(**settings)
+    run.serve(start, rows)
+    name, words = f"{name}\nkeeper fresh\nsalts {SALTS[0]}", f"--save --gen {start},{rows}{words}"
+    return case(name, words, run.summary(), 1 if run.refused else 0) + f"mark {run.mark}\n"
+
+
 def main():
-    cases = [case for pack in (1, 16) for it in sessions(pack) for case in it.cases(pack)]
+    cases = [one for pack in (1, 16) for it in sessions(pack) for one in it.cases(pack)]
     cases += [changed(pack) for pack in (1, 16)]
+    cases += [
+        generated("generated text", 0, 1),
+        generated("generated text, three rows in a block", 5, 40, " --buffer 10 --pack 3", buffer=10, pack=3),
+        generated("generated text, in batches", 5, 40, " --batch 16", batch=16),
+    ]
     head = "# Runs that save their tables, and die, and those that go on from what they left. Written by gen/saved.py.\n"
     (DATA / "saved.case").write_text(head + "\n" + "\n".join(cases))
     print(f"{len(cases)} cases")

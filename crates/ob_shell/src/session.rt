@@ -358,7 +358,7 @@ fn turn<R: Revisions, S: BlockStore, B: Behind<S>, K: Sink, T: Sink>(
     }
 }
 
-// ServesTexts what has come of a text with no end, once no more comes.
+// Serves what has come of a text with no end, once no more comes.
 fn finish<R: Revisions, S: BlockStore, B: Behind<S>, K: Sink, T: Sink>(
     alloc: Global,
     tracing: bool,
@@ -415,7 +415,7 @@ fn session_result(served: Result<Tally, TextHalted>) -> Result<Tally, Halted>
     }
 }
 
-/// ServesTexts the texts that a feed brings, to its end or a stop, with what is behind each statement. Tells what was
+/// Serves the texts that a feed brings, to its end or a stop, with what is behind each statement. Tells what was
 /// counted of them.
 pub fn serve<I: Source, R: Revisions, S: BlockStore, B: Behind<S>, K: Sink, T: Sink>(
     alloc: Global,
