@@ -48,8 +48,10 @@ def text(start, rows):
 class Run:
     """What is asked and counted of one run."""
 
-    def __init__(self, buffer=64, depth=5, pack=1, plan="auto", pad=None):
+    def __init__(self, buffer=64, depth=5, pack=1, plan="auto", pad=None, batch=1):
         self.pack, self.depth, self.plan, self.pad = pack, depth, plan, pad
+        # how many INSERTs are served together
+        self.batch = min(batch, buffer - pack)
         self.chunk = (buffer - 2 * pack) // pack * pack
         self.asked, self.next = [], 1
         self.statements = self.refused = self.rows = 0
@@ -244,11 +246,11 @@ class Run:
         """The statements of the generated text."""
         g = self.create(n, 17)
         self.count(True)
-        held = []
-        for i, v in enumerate(digits(start, n)):
+        held = [[i + 1, v] for i, v in enumerate(digits(start, n))]
+        for first in range(0, n, self.batch):
             g = self.insert(g, n, 17)
-            held.append([i + 1, v])
-            self.count(True)
+            for _ in held[first : first + self.batch]:
+                self.count(True)
         for test in (lambda row: row[1] == 3, lambda row: row[0] > n // 4, lambda row: row[1] != 9):
             selected = [i for i, row in enumerate(held) if test(row)]
             self.count(self.select(g, n, 17, selected), len(selected))
@@ -330,27 +332,22 @@ def counted(name, start, rows, words="", traced=False, **settings):
     return case(name, words, run.summary(), 1 if run.refused else 0, *more)
 
 
-def failed():
-    """The first INSERT fails at its first access, and what follows finds an empty table."""
+def failed(name, rows, words=""):
+    """The first INSERT, with those in its batch, fails at its first access, and what follows finds an empty table."""
     run = Run()
-    g = run.create(1, 17)
-    run.make(1, 17)
+    g = run.create(rows, 17)
+    run.make(rows, 17)
+    at = len(run.asked)
     for _ in range(4):
-        run.scan(g, 1)
-    g = run.move(run.move(g, 1, 17), 1, 17)
+        run.scan(g, rows)
+    g = run.move(run.move(g, rows, 17), rows, 17)
     h = run.insert(run.create(4, 9), 4, 9)
-    joined = run.make(4, 25)
-    run.read(g, 0)
-    for v in range(4):
-        run.read(h, v)
-        run.write(joined, v)
-    run.scan(joined, 4)
-    run.discard(joined)
-    run.scan(g, 1)
+    run.join(g, rows, h, 4, 25, [])
+    run.scan(g, rows)
     run.discard(g)
     run.discard(h)
-    run.statements, run.refused, run.rows = 14, 1, 1
-    return case("an access fails", "--gen 0,1 --meddle 3:fail", run.summary(), 1)
+    run.statements, run.refused, run.rows = 13 + rows, rows, 1
+    return case(name, f"--gen 0,{rows}{words} --meddle {at}:fail", run.summary(), 1)
 
 
 def at_limit(start, rows):
@@ -396,7 +393,13 @@ def main():
         counted("forty rows, padded, by what asks least, three in a block", 5, 40, " --pad 24 --buffer 10 --pack 3 --plan cheapest", pad=24, buffer=10, pack=3, plan="cheapest"),
         counted("twelve rows, padded, by Large", 0, 12, " --pad 12 --plan large", pad=12, plan="large"),
         counted("twelve rows, padded, by Small", 0, 12, " --pad 12 --plan small", pad=12, plan="small"),
-        failed(),
+        counted("a batch of one row", 0, 1, " --batch 2", traced=True, batch=2),
+        counted("twelve rows in batches of five", 0, 12, " --batch 5", traced=True, batch=5),
+        counted("twelve rows in one batch", 7, 12, " --batch 12", batch=12),
+        counted("forty rows in batches of as many as may be open, three in a block", 5, 40, " --batch 65535 --buffer 10 --pack 3", buffer=10, pack=3, batch=65535),
+        counted("a hundred rows in batches, padded", 2, 100, " --batch 64 --buffer 32 --pad 8", buffer=32, pad=8, batch=64),
+        failed("an access fails", 1),
+        failed("an access of a batch fails", 3, " --batch 4"),
         case("a block is changed: the last line alone", "--gen 0,1 --meddle 8:flip:2.0.0", ["! tampered 2 0"], 4, "total 8"),
         case("a text longer than its limit", "--gen 0,4096 --max-input 1024", ["! input limit"], 8),
         *at_limit(3, 20),
