@@ -25,6 +25,7 @@ use Rattle.ob_select.specs.Opening.{Opens}
 use Rattle.ob_sql.specs.Skeleton.{skeleton}
 use Rattle.ob_sql.specs.declared.stmt.Stmt.{Stmt}
 use Rattle.ob_sql.specs.declared.stmt.Stmt.TheVariants.{Create, Insert, Update, Delete, Drop as DropTable, SelectRows as RowsStmt, SelectTotals as TotalsStmt}
+use Rattle.ob_store.proofs.Steps.{since_later}
 use Rattle.ob_store.specs.State.{StoreState}
 use Rattle.ob_tables.proofs.LawfulLemmas.{ends_cut}
 use Rattle.ob_tables.proofs.TableLemmas.{tables_flat}
@@ -175,7 +176,7 @@ module _ {R : Type 0} (state : R → RevState) (stmt : Stmt) (result : Result Ou
   ran_alone : replaced_of old ≡ None → RanWhole state sk result old s new t
   ran_alone settled = record {
     asked = ran.asked ∙ ap (λ (l : List Access). s.asked ++ l) alone.script_is;
-    later = ran.later;
+    later = since_later s t ran.later;
     keys = ran.keys;
     start = ran.start;
     from_closing = λ not. ran.from_closing;
@@ -257,6 +258,7 @@ module _ {R E : Type 0} (state : R → RevState) (grew cut : E → E → List Ev
   pub ran_plain : (keeper : KeeperState) → replaced_of old ≡ None → Ran state grew cut faults stmt result old s new t out_old out_new keeper keeper
   ran_plain keeper settled = record {
     ran = ran_alone state stmt result old s new t agrees serves.ran serves.early serves.lawful shows unsaved settled;
+    log = serves.ran.later.log;
     early = serves.early;
     lawful = serves.lawful;
     memory = wants;

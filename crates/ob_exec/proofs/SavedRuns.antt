@@ -46,7 +46,7 @@ use Rattle.ob_select.specs.Settings.{IsFree}
 use Rattle.ob_sql.specs.Skeleton.{skeleton}
 use Rattle.ob_sql.specs.declared.stmt.Stmt.{Stmt}
 use Rattle.ob_sql.specs.declared.stmt.Stmt.TheVariants.{Create, Insert, Update, Delete, Drop as DropTable, SelectRows as RowsStmt, SelectTotals as TotalsStmt}
-use Rattle.ob_store.proofs.Steps.{later_trans, none_before}
+use Rattle.ob_store.proofs.Steps.{later_trans, none_before, since_later}
 use Rattle.ob_store.specs.Runs.{Began, Later}
 use Rattle.ob_store.specs.State.{Lie, StoreState}
 use Rattle.ob_tables.proofs.HeldLemmas.{held_plain}
@@ -318,7 +318,7 @@ module _ {R E : Type 0} (state : R → RevState) (grew cut : E → E → List Ev
     ran_then : RanWhole state sk (Ok outcome) old s new t
     ran_then = record {
       asked = asked_then;
-      later = later_trans s s1 t serves.ran.later done.later;
+      later = since_later s t (later_trans s s1 t serves.ran.later done.later);
       keys = done.keys ∙ serves.ran.keys;
       start = done.start ∙ serves.ran.start;
       from_closing = λ not. absurd (cc (not, saved));
@@ -378,6 +378,7 @@ module _ {R E : Type 0} (state : R → RevState) (grew cut : E → E → List Ev
     pub ran_saved : Ran state grew cut faults stmt (Ok outcome) old s new t out_old out_new k0 k1
     ran_saved = record {
       ran = ran_then;
+      log = done.later.log ∙ serves.ran.later.log;
       early = subst (λ (y : Seen). RefusedEarly (refusal_now p m stmt) (Ok outcome) y) (sym done.seen) serves.early;
       lawful = subst (λ (y : Seen). Lawful p m stmt y) (sym done.seen) serves.lawful;
       memory = λ is. absurd (cc is);
@@ -398,7 +399,7 @@ module _ {R E : Type 0} (state : R → RevState) (grew cut : E → E → List Ev
         ran = serves.ran;
         whole = whole;
         means = serves.means;
-        later = done.later;
+        later = since_later s1 t done.later;
         public = done.goes_on.public;
         answered = refl;
         held = done.held;
@@ -556,7 +557,7 @@ module _ {R E : Type 0} (state : R → RevState) (grew cut : E → E → List Ev
     ran_cut : RanWhole state sk (Err stop) old s new t
     ran_cut = record {
       asked = asked_cut;
-      later = later_trans s s1 t serves.ran.later halts.later;
+      later = since_later s t (later_trans s s1 t serves.ran.later halts.later);
       keys = halts.keys ∙ serves.ran.keys;
       start = halts.start ∙ serves.ran.start;
       from_closing = λ not. absurd (cc (not, saved));
@@ -655,6 +656,7 @@ module _ {R E : Type 0} (state : R → RevState) (grew cut : E → E → List Ev
     pub ran_halted : Ran state grew cut faults stmt (Err stop) old s new t out_old out_new k0 k1
     ran_halted = record {
       ran = ran_cut;
+      log = halts.later.log ∙ serves.ran.later.log;
       early = refused_none (refusal_now p m stmt) (Err stop) now early (λ is. absurd (cc is));
       lawful = lawful_cut;
       memory = λ is. wants (as_stop NoMemory (cc is)).0;
@@ -675,7 +677,7 @@ module _ {R E : Type 0} (state : R → RevState) (grew cut : E → E → List Ev
         ran = serves.ran;
         whole = whole;
         means = serves.means;
-        later = halts.later;
+        later = since_later s1 t halts.later;
         public = tt;
         answered = halts.cause;
         held = tt;

@@ -14,10 +14,10 @@ ghost use Rattle.ob_shell.specs.Traces.{TracedAll, Traced};
 
 use crate::feed::{Feed, Halt};
 use crate::pending::{Grown, Pending, PushStop};
-use crate::trace::trace_from;
+use crate::trace::{let_go_from, trace_from};
 use ob_base::{Failed, Plan, Refusal, Stop};
 use ob_exec::{Behind, Engine, Outcome, RunStop, run};
-use ob_gen::Tally;
+use ob_gen::{Digester, Tally};
 use ob_io::{Sink, Source};
 use ob_parse::{ParseErr, parse};
 use ob_print::{Line, Pieces, Printer, RecordLine, refusal_line, write_all};
@@ -138,6 +138,7 @@ fn run_stmt<R: Revisions, S: BlockStore, B: Behind<S>, K: Sink>(
         result }
     ensures asked { (seen : List Access) × ((S.state store.new).asked
         ≡ (S.state store.old).asked ++ seen) }
+    ensures listed { (S.state store.new).let_go ≡ (S.state store.old).let_go }
     ensures same { B.name behind.new ≡ B.name behind.old }
 {
     match run(engine, store, behind, stmt, printer) {
@@ -180,6 +181,7 @@ fn run_text<R: Revisions, S: BlockStore, B: Behind<S>, K: Sink>(
         result }
     ensures asked { (seen : List Access) × ((S.state store.new).asked
         ≡ (S.state store.old).asked ++ seen) }
+    ensures listed { (S.state store.new).let_go ≡ (S.state store.old).let_go }
     ensures same { B.name behind.new ≡ B.name behind.old }
 {
     let stmt = match parse(alloc, text) {
@@ -230,6 +232,7 @@ fn answer<R: Revisions, S: BlockStore, B: Behind<S>, K: Sink>(
         result }
     ensures asked { (seen : List Access) × ((S.state store.new).asked
         ≡ (S.state store.old).asked ++ seen) }
+    ensures listed { (S.state store.new).let_go ≡ (S.state store.old).let_go }
     ensures same { B.name behind.new ≡ B.name behind.old }
 {
     match run_text(alloc, engine, store, behind, text, out) {
@@ -241,8 +244,9 @@ fn answer<R: Revisions, S: BlockStore, B: Behind<S>, K: Sink>(
     }
 }
 
-// Answers one text whole, and then traces what it asked. After a sink's fault nothing more is written.
-fn answer_traced<R: Revisions, S: BlockStore, B: Behind<S>, K: Sink, T: Sink>(
+// Answers one text whole, and then traces what it asked, of which the store lets go. After a sink's fault nothing more is
+// written.
+fn answer_traced<R: Revisions, S: BlockStore, B: Behind<S>, K: Sink, T: Sink, D: Digester>(
     alloc: Global,
     tracing: bool,
     tally: Tally,
@@ -252,10 +256,12 @@ fn answer_traced<R: Revisions, S: BlockStore, B: Behind<S>, K: Sink, T: Sink>(
     text: &[u8],
     out: &mut K,
     trace: &mut T,
+    digest: &mut D,
 ) -> Result<Tally, TextHalted>
     requires short { length text.now ≤ text_max }
     requires ready { IsReady R.state (B.Saves behind.old)
         (machine_of engine.old (S.state store.old) (B.state behind.old)) }
+    requires took { D.took digest.old (S.state store.old).asked }
     ensures serves { ServesTexts R.state (B.Saves behind.new) (text.now ∷ [])
         (λ counted. AnswersAll R.state
         (K.written out.old) (K.written out.new) (text.now ∷ []) tally counted)
@@ -271,23 +277,27 @@ fn answer_traced<R: Revisions, S: BlockStore, B: Behind<S>, K: Sink, T: Sink>(
         (S.state store.new).asked (T.written trace.old) (T.written trace.new)
         (IsQuiet (halted_of result))) }
     ensures same { B.name behind.new ≡ B.name behind.old }
+    ensures took { OnOk result (D.took digest.new (S.state store.new).asked) }
 {
     let mark = store.count();
     match answer(alloc, tally, engine, store, behind, text, out) {
-        Ok(counted) => match trace_from(tracing, store, mark, trace) {
-            Ok(()) => Ok(counted),
+        Ok(counted) => match trace_from(tracing, store, mark, trace, digest) {
+            Ok(()) => {
+                let_go_from(store, mark);
+                Ok(counted)
+            }
             Err(Failed) => Err(SINK_FAILED),
         },
         Err(TextHalted { stop, quiet: true }) => Err(TextHalted { stop, quiet: true }),
         Err(TextHalted { stop, quiet: false }) => {
-            let quiet = trace_from(tracing, store, mark, trace).is_err();
+            let quiet = trace_from(tracing, store, mark, trace, digest).is_err();
             Err(TextHalted { stop, quiet })
         }
     }
 }
 
 // Takes one byte, and serves the text that it ends.
-fn turn<R: Revisions, S: BlockStore, B: Behind<S>, K: Sink, T: Sink>(
+fn turn<R: Revisions, S: BlockStore, B: Behind<S>, K: Sink, T: Sink, D: Digester>(
     alloc: Global,
     tracing: bool,
     session: &mut Session,
@@ -297,10 +307,12 @@ fn turn<R: Revisions, S: BlockStore, B: Behind<S>, K: Sink, T: Sink>(
     behind: &mut B,
     out: &mut K,
     trace: &mut T,
+    digest: &mut D,
 ) -> Result<(), Halted>
     requires short { length session.old.pending < text_max }
     requires ready { IsReady R.state (B.Saves behind.old)
         (machine_of engine.old (S.state store.old) (B.state behind.old)) }
+    requires took { D.took digest.old (S.state store.old).asked }
     ensures pending { OnOk result ((session.new.pending ≡ rest_after session.old.pending b)
         × (length session.new.pending < text_max)) }
     ensures serves { ServesByte R.state (B.Saves behind.new) (texts_at session.old.pending b)
@@ -324,6 +336,7 @@ fn turn<R: Revisions, S: BlockStore, B: Behind<S>, K: Sink, T: Sink>(
     ensures traced_stop { OnErr result (Traced tracing (S.state store.old).asked
         (S.state store.new).asked (T.written trace.old) (T.written trace.new) (IsQuiet result)) }
     ensures same { B.name behind.new ≡ B.name behind.old }
+    ensures took { OnOk result (D.took digest.new (S.state store.new).asked) }
 {
     match session.pending.push(b) {
         Ok(Grown::More) => Ok(()),
@@ -338,6 +351,7 @@ fn turn<R: Revisions, S: BlockStore, B: Behind<S>, K: Sink, T: Sink>(
                 session.pending.text(),
                 out,
                 trace,
+                digest,
             ) {
                 Err(halted) => Err(Halted::from(halted)),
                 Ok(tally) => {
@@ -359,7 +373,7 @@ fn turn<R: Revisions, S: BlockStore, B: Behind<S>, K: Sink, T: Sink>(
 }
 
 // ServesTexts what has come of a text with no end, once no more comes.
-fn finish<R: Revisions, S: BlockStore, B: Behind<S>, K: Sink, T: Sink>(
+fn finish<R: Revisions, S: BlockStore, B: Behind<S>, K: Sink, T: Sink, D: Digester>(
     alloc: Global,
     tracing: bool,
     session: &Session,
@@ -368,10 +382,12 @@ fn finish<R: Revisions, S: BlockStore, B: Behind<S>, K: Sink, T: Sink>(
     behind: &mut B,
     out: &mut K,
     trace: &mut T,
+    digest: &mut D,
 ) -> Result<Tally, TextHalted>
     requires short { length session.now.pending ≤ text_max }
     requires ready { IsReady R.state (B.Saves behind.old)
         (machine_of engine.old (S.state store.old) (B.state behind.old)) }
+    requires took { D.took digest.old (S.state store.old).asked }
     ensures serves { ServesTexts R.state (B.Saves behind.new) (tail_text session.now.pending)
         (λ counted. AnswersAll R.state
         (K.written out.old) (K.written out.new) (tail_text session.now.pending)
@@ -388,6 +404,7 @@ fn finish<R: Revisions, S: BlockStore, B: Behind<S>, K: Sink, T: Sink>(
         (S.state store.new).asked (T.written trace.old) (T.written trace.new)
         (IsQuiet (halted_of result))) }
     ensures same { B.name behind.new ≡ B.name behind.old }
+    ensures took { OnOk result (D.took digest.new (S.state store.new).asked) }
 {
     if !session.pending.has_words() {
         return Ok(session.tally);
@@ -402,6 +419,7 @@ fn finish<R: Revisions, S: BlockStore, B: Behind<S>, K: Sink, T: Sink>(
         session.pending.text(),
         out,
         trace,
+        digest,
     )
 }
 
@@ -417,7 +435,7 @@ fn session_result(served: Result<Tally, TextHalted>) -> Result<Tally, Halted>
 
 /// ServesTexts the texts that a feed brings, to its end or a stop, with what is behind each statement. Tells what was
 /// counted of them.
-pub fn serve<I: Source, R: Revisions, S: BlockStore, B: Behind<S>, K: Sink, T: Sink>(
+pub fn serve<I: Source, R: Revisions, S: BlockStore, B: Behind<S>, K: Sink, T: Sink, D: Digester>(
     alloc: Global,
     tracing: bool,
     feed: &mut Feed,
@@ -427,10 +445,12 @@ pub fn serve<I: Source, R: Revisions, S: BlockStore, B: Behind<S>, K: Sink, T: S
     behind: &mut B,
     out: &mut K,
     trace: &mut T,
+    digest: &mut D,
 ) -> Result<Tally, Halted>
     requires ready { IsReady R.state (B.Saves behind.old)
         (machine_of engine.old (S.state store.old) (B.state behind.old)) }
     requires fed_by { IsFedBy feed.old (I.gave input.old) }
+    requires took { D.took digest.old (S.state store.old).asked }
     ensures ready { OnOk result (IsReady R.state (B.Saves behind.new)
         (machine_of engine.new (S.state store.new) (B.state behind.new))) }
     ensures ran { SessionRan R.state tracing feed.old feed.new
@@ -450,11 +470,11 @@ pub fn serve<I: Source, R: Revisions, S: BlockStore, B: Behind<S>, K: Sink, T: S
         (faults_of (I.faults input.old) (K.faults out.old) (T.faults trace.old))
         (faults_of (I.faults input.new) (K.faults out.new) (T.faults trace.new)) }
     ensures same { B.name behind.new ≡ B.name behind.old }
+    ensures took { OnOk result (D.took digest.new (S.state store.new).asked) }
 {
-    let mut session = Session {
-        pending: Pending::new(alloc),
-        tally: Tally::new(),
-    };
+    let pending = Pending::new(alloc);
+    let tally = Tally::new();
+    let mut session = Session { pending, tally };
     'bytes: loop {
         match feed.next(input) {
             Err(Halt::SourceFault) => {
@@ -470,7 +490,9 @@ pub fn serve<I: Source, R: Revisions, S: BlockStore, B: Behind<S>, K: Sink, T: S
                 });
             }
             Ok(None) => {
-                let served = finish(alloc, tracing, &session, engine, store, behind, out, trace);
+                let served = finish(
+                    alloc, tracing, &session, engine, store, behind, out, trace, digest,
+                );
                 return session_result(served);
             }
             Ok(Some(b)) => {
@@ -484,6 +506,7 @@ pub fn serve<I: Source, R: Revisions, S: BlockStore, B: Behind<S>, K: Sink, T: S
                     behind,
                     out,
                     trace,
+                    digest,
                 ) {
                     return Err(halted);
                 }

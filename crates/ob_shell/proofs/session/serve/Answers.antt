@@ -6,8 +6,8 @@ use Rattle.ob_shell.proofs.session.serve.Goals as goal
 
 pub bytes-init : goal.bytes-init
 bytes-init g c = record {
-  so_far = rw c.new-2.ensures (so_far_start _ _ _ _ _ c.new.ensures);
-  short = rw c.new.ensures (omega arith);
+  so_far = rw c.new-tally.ensures (so_far_start _ _ _ _ _ c.new-pending.ensures);
+  short = rw c.new-pending.ensures (omega arith);
   ready = c.requires.ready;
   same = refl;
   fed_by = c.requires.fed_by;
@@ -15,6 +15,7 @@ bytes-init g c = record {
   sink = refl;
   trace = refl;
   traced = traced_none _ _ _;
+  took = c.requires.took;
 }
 
 pub returns-in-Err-SourceFault-clause-ran : goal.returns-in-Err-SourceFault-clause-ran
@@ -59,6 +60,7 @@ bytes-preserved g c =
       sink = turn.serves.cause.out ∙ before.sink;
       trace = turn.serves.cause.trace ∙ before.trace;
       traced = traced_then before.traced turn.traced;
+      took = turn.took;
     }
 
 pub returns-in-Ok-None-clause-traced : goal.returns-in-Ok-None-clause-traced
@@ -69,3 +71,6 @@ returns-in-Err-clause-traced g c = traced_cut c.bytes.invariant.traced c.in-Err.
 
 pub returns-in-Ok-None-clause-ready : goal.returns-in-Ok-None-clause-ready
 returns-in-Ok-None-clause-ready g c = rw c.session_result.ensures (ready_after _ c.finish-served.result c.finish-served.ensures.serves.ready)
+
+pub returns-in-Ok-None-clause-took : goal.returns-in-Ok-None-clause-took
+returns-in-Ok-None-clause-took g c = rw c.session_result.ensures (ready_after _ c.finish-served.result c.finish-served.ensures.took)
