@@ -160,6 +160,17 @@ module _ {R : Type 0} (state : R → RevState) (stmt : Stmt) (owed : List Stmt) 
     carried_then (Ok outcome) true due share follows = carried_due outcome share due follows.saving follows.last follows.saves follows.ends
     carried_then (Err stop) true due share follows = absurd (cc due)
 
+    log_due : (saving : Result (Unit {0}) RunStop) (last : Engine R) → SavesTables state begun.left saving mid s1 last t k0 k1 → t.let_go ≡ s1.let_go
+    log_due (Ok done) last saves = saves.later.log
+    log_due (Err stop) last saves = saves.later.log
+
+    -- the store still lists what was asked
+    pub log_then : (answer : Result Outcome RunStop) (due : Bool) → is_due begun.saved answer mid.seen.end ≡ due → Share state stmt owed Halts answer old s mid s1
+        → SavesBehind state due begun answer result mid s1 new t k0 k1 → t.let_go ≡ s.let_go
+    log_then answer false not share stays = ap (λ (u : StoreState). u.let_go) stays.store_is ∙ share.ran.later.log
+    log_then (Ok outcome) true due share follows = log_due follows.saving follows.last follows.saves ∙ share.ran.later.log
+    log_then (Err stop) true due share follows = absurd (cc due)
+
     may_alone : (Still : Type 0) (answer : Result Outcome RunStop) → Share state stmt owed Halts answer old s mid s1 → (Saves → Still) → OnOk answer (MaySave Still mid)
     may_alone Still (Ok outcome) share stays = may_mid outcome Saves Still share may stays
     may_alone Still (Err stop) share stays = tt
@@ -225,6 +236,8 @@ module _ {R E : Type 0} (state : R → RevState) (grew cut : E → E → List Ev
         let emitted = emitted_then answer (is_due begun.saved answer mid.seen.end) refl serves shows behind in
         record {
           carried = carried_then state stmt [] Halts old s mid s1 agrees settled begun as_begun Saves may result new t k0 k1 answer (is_due begun.saved answer mid.seen.end) refl
+              (share_alone state grew cut faults stmt answer old s mid s1 out_old out_new serves shows) behind;
+          log = log_then state stmt [] Halts old s mid s1 agrees settled begun as_begun Saves may result new t k0 k1 answer (is_due begun.saved answer mid.seen.end) refl
               (share_alone state grew cut faults stmt answer old s mid s1 out_old out_new serves shows) behind;
           answered = emitted.answered;
           stopped = emitted.stopped;

@@ -24,6 +24,7 @@ use Rattle.ob_select.specs.Opening.{Opens}
 use Rattle.ob_sql.specs.Skeleton.{skeleton}
 use Rattle.ob_sql.specs.declared.stmt.Stmt.{Stmt}
 use Rattle.ob_sql.specs.declared.stmt.Stmt.TheVariants.{Create, Insert, Update, Delete, Drop as DropTable, SelectRows as RowsStmt, SelectTotals as TotalsStmt}
+use Rattle.ob_store.proofs.Steps.{since_later}
 use Rattle.ob_store.specs.State.{StoreState}
 use Rattle.ob_tables.proofs.LawfulLemmas.{ends_cut}
 use Rattle.ob_tables.proofs.TableLemmas.{tables_flat}
@@ -197,7 +198,7 @@ module _ {R : Type 0} (state : R → RevState) (stmt : Stmt) (owed : List Stmt) 
   ran_alone : replaced_of old ≡ None → RanWhole state sk result old s new t
   ran_alone settled = record {
     asked = share.ran.asked ∙ ap (λ (l : List Access). s.asked ++ l) alone.script_is;
-    later = share.ran.later;
+    later = since_later s t share.ran.later;
     keys = share.ran.keys;
     start = share.ran.start;
     from_closing = λ not. share.ran.from_closing;

@@ -42,7 +42,7 @@ use Rattle.ob_select.specs.Selecting.{AcceptsRows}
 use Rattle.ob_select.specs.Settings.{IsFree}
 use Rattle.ob_sql.specs.Skeleton.{skeleton}
 use Rattle.ob_sql.specs.declared.stmt.Stmt.{Stmt}
-use Rattle.ob_store.proofs.Steps.{later_trans, none_before}
+use Rattle.ob_store.proofs.Steps.{later_trans, none_before, since_later}
 use Rattle.ob_store.specs.Runs.{Began, Later}
 use Rattle.ob_store.specs.State.{Lie, StoreState}
 use Rattle.ob_tables.proofs.HeldLemmas.{held_plain}
@@ -290,7 +290,7 @@ module _ {R : Type 0} (state : R → RevState) (stmt : Stmt) (owed : List Stmt) 
     ran_then : RanWhole state sk (Ok outcome) old s new t
     ran_then = record {
       asked = asked_then;
-      later = later_trans s s1 t share.ran.later done.later;
+      later = since_later s t (later_trans s s1 t share.ran.later done.later);
       keys = done.keys ∙ share.ran.keys;
       start = done.start ∙ share.ran.start;
       from_closing = λ not. absurd (cc (not, saved));
@@ -357,7 +357,7 @@ module _ {R : Type 0} (state : R → RevState) (stmt : Stmt) (owed : List Stmt) 
         ran = share.ran;
         whole = whole;
         means = share.means;
-        later = done.later;
+        later = since_later s1 t done.later;
         public = done.goes_on.public;
         answered = refl;
         held = done.held;
@@ -499,7 +499,7 @@ module _ {R : Type 0} (state : R → RevState) (stmt : Stmt) (owed : List Stmt) 
     ran_cut : RanWhole state sk (Err stop) old s new t
     ran_cut = record {
       asked = asked_cut;
-      later = later_trans s s1 t share.ran.later halts.later;
+      later = since_later s t (later_trans s s1 t share.ran.later halts.later);
       keys = halts.keys ∙ share.ran.keys;
       start = halts.start ∙ share.ran.start;
       from_closing = λ not. absurd (cc (not, saved));
@@ -600,7 +600,7 @@ module _ {R : Type 0} (state : R → RevState) (stmt : Stmt) (owed : List Stmt) 
         ran = share.ran;
         whole = whole;
         means = share.means;
-        later = halts.later;
+        later = since_later s1 t halts.later;
         public = tt;
         answered = halts.cause;
         held = tt;

@@ -24,7 +24,7 @@ use Rattle.ob_select.specs.Selecting.{AcceptsRows}
 use Rattle.ob_select.specs.Settings.{IsFree}
 use Rattle.ob_sql.specs.Skeleton.{skeleton}
 use Rattle.ob_sql.specs.declared.stmt.Stmt.{Stmt}
-use Rattle.ob_store.specs.Runs.{Later}
+use Rattle.ob_store.specs.Runs.{Since}
 use Rattle.ob_store.specs.State.{StoreState}
 use Rattle.ob_vault.specs.Calls.{Seals}
 use Rattle.ob_vault.specs.State.{RevState, World}
@@ -134,7 +134,7 @@ pub record RanWhole {R : Type 0} (state : R → RevState) (outline : Skeleton)
     (result : Result Outcome RunStop) (old : Engine R) (s : StoreState) (new : Engine R)
     (t : StoreState) : Type 0 where
   pub asked : t.asked ≡ s.asked ++ script (public_of old) outline (seen_of new)
-  pub later : Later s t
+  pub later : Since s t
   pub keys : engine_keys new ≡ engine_keys old
   pub start : engine_start new ≡ engine_start old
   pub from_closing : is_saved (public_of old) outline ≡ false → opened_from new ≡ opened_from old
@@ -171,7 +171,7 @@ pub record WasSaved {R : Type 0} (state : R → RevState) (stmt : Stmt) (owed : 
   pub ran : RanStatement state (skeleton stmt) (Ok outcome) old s engine store
   pub whole : (seen_of engine).end ≡ Whole
   pub means : Means state stmt owed (Ok outcome) old s engine store
-  pub later : Later store t
+  pub later : Since store t
   -- then a closing is made
   pub public : OnOk result (public_of new ≡ saved_public (public_of engine))
   pub answered : MatchResult result (λ answer. answer ≡ outcome)
@@ -230,6 +230,8 @@ pub record Ran {R E : Type 0} (state : R → RevState) (grew cut : E → E → L
     (out_old out_new : E) (keeper_old keeper_new : KeeperState) : Type 0 where
   pub carried : CarriedOut state stmt [] (HasHalted cut out_old out_new) result old s new t
       keeper_old keeper_new
+  -- the store still lists its accesses
+  pub log : t.let_go ≡ s.let_go
   pub answered : IfOk result (λ outcome. Answered state grew stmt outcome old s t out_old out_new)
   pub stopped : IfErr result (λ stop.
       Stopped state grew cut stmt stop old s new t out_old out_new)

@@ -40,6 +40,7 @@ pub fn run_batch<S: BlockStore, R: Revisions, B: Behind<S>>(
     ensures ran { RanBatch R.state first.now rest.now result outcomes.new
         engine.old (S.state store.old) engine.new (S.state store.new)
         (B.state behind.old) (B.state behind.new) }
+    ensures listed { (S.state store.new).let_go ≡ (S.state store.old).let_go }
     ensures saves { OnOk result (MaySave (B.Saves behind.new) engine.new) }
     ensures same { B.name behind.new ≡ B.name behind.old }
 {

@@ -34,7 +34,7 @@ use Rattle.ob_shell.proofs.WalkLemmas.{end_apart}
 use Rattle.ob_shell.specs.Steps.{Does, Machine, Owed, Owes, asked_of, draws_behind, session_of, statements_of, tables_behind}
 use Rattle.ob_sql.specs.Skeleton.{skeleton}
 use Rattle.ob_sql.specs.declared.stmt.Stmt.{Stmt}
-use Rattle.ob_store.specs.Runs.{Later}
+use Rattle.ob_store.specs.Runs.{Since}
 use Rattle.ob_store.specs.State.{Lie, StoreState}
 use Rattle.ob_tables.proofs.HeldLemmas.{held_headings}
 use Rattle.ob_tables.proofs.TableLemmas.{tables_flat}
@@ -49,7 +49,7 @@ use Rattle.ob_verdict.specs.Outcomes.{by_fault}
 use Rattle.ob_verdict.specs.declared.outcome.Outcome.{Outcome}
 
 -- no lie was told before one in which none is
-pub none_earlier : (a b : StoreState) → Later a b → b.lie ≡ None → a.lie ≡ None
+pub none_earlier : (a b : StoreState) → Since a b → b.lie ≡ None → a.lie ≡ None
 none_earlier a b later none = go a.lie refl
   where
     go : (o : Option Lie) → a.lie ≡ o → a.lie ≡ None

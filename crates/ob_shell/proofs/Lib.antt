@@ -44,6 +44,7 @@ pub mod WordLemmas
 pub mod SavedWordLemmas
 pub mod FirstPartLemmas
 pub mod LaterLemmas
+pub mod LetGoLemmas
 pub mod DisturbLemmas
 pub mod MeddleLemmas
 pub mod LeavePath

@@ -29,7 +29,7 @@ use Rattle.ob_script.specs.Trace.{next}
 use Rattle.ob_shell.specs.Steps.{AreOwed, Does, Holds, Machine, Owed, ServedStatement, Unasked, asked_of, session_of, statements_of}
 use Rattle.ob_sql.specs.Skeleton.{skeleton}
 use Rattle.ob_sql.specs.declared.stmt.Stmt.{Stmt}
-use Rattle.ob_store.specs.Runs.{Later}
+use Rattle.ob_store.specs.Runs.{Since}
 use Rattle.ob_store.specs.State.{Lie, StoreState}
 use Rattle.ob_vault.specs.State.{RevState, earlier}
 
@@ -59,7 +59,7 @@ outcome_cases o whole cut with also a b = go (is_fault o) refl a b where
   go false e a b = inl (a, b)
 
 -- ---- no lie is told before a state in which none is
-pub no_lie : (o : Option Lie) (a b : StoreState) → a.lie ≡ o → Later a b → b.lie ≡ None → a.lie ≡ None
+pub no_lie : (o : Option Lie) (a b : StoreState) → a.lie ≡ o → Since a b → b.lie ≡ None → a.lie ≡ None
 no_lie None a b is later none = is
 no_lie (Some lie) a b is later none = absurd (cc (later.lie lie is, none))
 

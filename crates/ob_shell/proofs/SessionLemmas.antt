@@ -77,8 +77,9 @@ use Rattle.ob_shell.specs.Steps.{Holds, Machine, asked_of, machine_of, session_o
 use Rattle.ob_shell.specs.Tallies.{flagged, has_refused}
 use Rattle.ob_shell.specs.Top.{EndsUntampered, TraceSink, Carried, RanAfter}
 use Rattle.ob_shell.specs.Traces.{Traced}
-use Rattle.ob_store.proofs.Steps.{later_trans}
-use Rattle.ob_store.specs.Runs.{Later}
+use Rattle.ob_store.proofs.Steps.{since_trans}
+use Rattle.ob_store.specs.Calls.{IsSteady}
+use Rattle.ob_store.specs.Runs.{Later, Since}
 use Rattle.ob_store.specs.State.{Lie, StoreState}
 use Rattle.ob_vault.specs.Numbers.{number_after}
 use Rattle.ob_vault.specs.State.{RevState, Start, VaultState, World, earlier}
@@ -323,7 +324,7 @@ module _ {R : Type 0} {state : R → RevState} {Lost : Type 0} (base : Base) (co
           (λ tables held.
           let from = walk.meant d0 on.drawn undeceived.tells on.calm (record { unfit = λ lie is fits. undeceived.unfit lie is (fits_here lie fits) }) tables (holds d0 tables held) in
           (from.0, subst (λ (s : Session). AnswersFrom (RanEnding result) s walk.spelt from.0 ran.answers all ran.part) (here tables) from.1)) on.held;
-      later = later_trans _ _ _ (steps_later state m0 ran.middle ran.served ran.answers ran.steps) (last_later state ran.middle m2 ran.more ran.part result ran.last);
+      later = since_trans _ _ _ (steps_later state m0 ran.middle ran.served ran.answers ran.steps) (last_later state ran.middle m2 ran.more ran.part result ran.last);
       always = λ tells n before.
           let facts = on.early n before in
           let is = facts.0 in
@@ -369,8 +370,8 @@ module _ {R : Type 0} {state : R → RevState} {Lost : Type 0} (base : Base) (co
   last_sizes : (tally : Tally) → told ≡ Ok tally → HasSizes config m2
   last_sizes tally is = subst (λ (m : Machine R). HasSizes config m) (sym (last_on tally is)) middle_sizes
 
-  lasting : Later s0 s1
-  lasting = later_trans _ _ _ (steps_later state m0 ran.middle ran.served ran.answers ran.steps) (last_later state ran.middle m2 ran.more ran.part result ran.last)
+  lasting : Since s0 s1
+  lasting = since_trans _ _ _ (steps_later state m0 ran.middle ran.served ran.answers ran.steps) (last_later state ran.middle m2 ran.more ran.part result ran.last)
 
   public_is : (tally : Tally) → told ≡ Ok tally → public_of last ≡ all_public base.public walk.seen
   public_is tally is = ap (λ (m : Machine R). public_of m.engine) (last_on tally is) ∙ walk.public ∙ ap (λ (p : Public). all_public p walk.seen) on.public

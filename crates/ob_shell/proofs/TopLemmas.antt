@@ -49,7 +49,7 @@ use Rattle.ob_shell.specs.Top.{EndingTally, EndsUnfaulted, EndsUntampered, IsFre
 use Rattle.ob_shell.specs.declared.feed.Halt.{Halt}
 use Rattle.ob_shell.specs.declared.key.FirstLine.{FirstLine}
 use Rattle.ob_shell.specs.declared.key.FirstLine.TheVariants.{Secret, Last, Bad}
-use Rattle.ob_store.proofs.Steps.{later_refl}
+use Rattle.ob_store.proofs.Steps.{since_refl}
 use Rattle.ob_store.specs.State.{StoreState}
 use Rattle.ob_vault.specs.State.{RevState}
 use Rattle.ob_headline.specs.Story.{unserved}
@@ -119,7 +119,7 @@ unstarted tr settings secret s more ending blank untraced untampered unfaulted =
   traced_whole = took_whole (subst (λ (w : Option (List ℕ)). Appends tr.old w (traced tr.on [])) (sym untraced) (rw (traced-nil) (Appends-nil tr.old)));
   answers = record {
     meant = λ undeceived. ([], (refl, refl));
-    later = later_refl s;
+    later = since_refl s;
     always = λ tells n before. record {
       meant = tt;
       begins = subst (λ (xs : List Access). Begins (take n xs) []) (sym blank.unasked) (take_begins n []);

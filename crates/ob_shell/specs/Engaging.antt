@@ -69,6 +69,7 @@ pub record FindsEngine {R : Type 0} (state : R → RevState) (config : Config) (
     : Type 0 where
   pub mark : Result Mark Failed
   pub gives : GivesMark mark keeper0 keeper1
+  pub log : new.let_go ≡ old.let_go
   pub ok : IfOk result (λ e. HasEngine state mark config key e old new)
   pub err : IfErr result (λ ending. EndsAtMark mark config (keys_of key) ending old new)
 

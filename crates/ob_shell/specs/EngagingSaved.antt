@@ -110,6 +110,7 @@ pub record HasSaved {R : Type 0} (state : R → RevState) (config : Config) (sec
 pub record FindsSaved {R : Type 0} (state : R → RevState) (config : Config) (secret : List ℕ)
     (result : Result (Engine R) KeptEnding) (old new : StoreState) (keeper0 keeper1 : KeeperState)
     : Type 0 where
+  pub log : new.let_go ≡ old.let_go
   pub ok : IfOk result (λ e. HasSaved state config secret e old new keeper0 keeper1)
   pub err : IfErr result (λ ending. (fault0 fault1 : ℕ)
       → NotBegunSaved config secret ending old new fault0 fault1 keeper0 keeper1)

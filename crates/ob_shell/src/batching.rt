@@ -1,5 +1,5 @@
 //! INSERTs that wait to be served together.
-ghost use Rattle.std.specs.Prelude.{◌≡◌, ◌≢◌, ◌≤◌, ◌∷◌, [], drop, length, IsErr, OnErr, OnOk};
+ghost use Rattle.std.specs.Prelude.{◌≡◌, ◌≢◌, ◌≤◌, ◌∷◌, [], drop, length, take, IsErr, OnErr, OnOk};
 ghost use Rattle.std.specs.Io.KnownBytes.{Appends};
 ghost use Rattle.ob_headline.specs.Tracing.{traced};
 ghost use Rattle.ob_headline.specs.Words.{faults_of, printed};
@@ -15,10 +15,10 @@ ghost use Rattle.ob_tables.specs.Agreeing.{count_of, public_of};
 ghost use Rattle.ob_tables.specs.Batch.{AreBatch};
 
 use crate::session::{Answered, SINK_FAILED, Session, TextHalted, closing_line, tally_with};
-use crate::trace::trace_from;
+use crate::trace::{let_go_from, trace_from};
 use ob_base::Failed;
 use ob_exec::{Behind, Engine, Outcome, RunStop, run_batch};
-use ob_gen::Tally;
+use ob_gen::{Digester, Tally};
 use ob_io::Sink;
 use ob_print::{Pieces, write_all};
 use ob_sql::Stmt;
@@ -80,9 +80,9 @@ fn write_lines<K: Sink>(outcomes: &[Outcome], out: &mut K) -> Result<(), Failed>
     write_pieces(outcomes, &mut pieces)
 }
 
-// Writes the line of the first, traces what was asked since the mark, and writes the lines of the others. After a sink's
-// fault nothing more is written.
-fn write_batch<S: BlockStore, K: Sink, T: Sink>(
+// Writes the line of the first, digests and traces what was asked since the mark, and writes the lines of the others. After a
+// sink's fault nothing more is written.
+fn write_batch<S: BlockStore, K: Sink, T: Sink, D: Digester>(
     tracing: bool,
     store: &S,
     mark: u64,
@@ -90,7 +90,9 @@ fn write_batch<S: BlockStore, K: Sink, T: Sink>(
     outcomes: &[Outcome],
     out: &mut K,
     trace: &mut T,
+    digest: &mut D,
 ) -> Result<(), Failed>
+    requires listed { (S.state store.now).let_go ≤ mark }
     requires within { mark ≤ length (S.state store.now).asked }
     ensures ok { OnOk result (Appends (K.written out.old) (K.written out.new)
         (printed (line_answers (outcome ∷ outcomes.now)))) }
@@ -102,11 +104,13 @@ fn write_batch<S: BlockStore, K: Sink, T: Sink>(
         (K.faults out.old) (K.faults out.new)) }
     ensures cause { SinksCause (faults_of 0 (K.faults out.old) (T.faults trace.old))
         (faults_of 0 (K.faults out.new) (T.faults trace.new)) result }
+    ensures took { OnOk result (D.took digest.old (take mark (S.state store.now).asked)
+        → D.took digest.new (S.state store.now).asked) }
 {
     if let Err(failed) = write_all(out, closing_line(outcome).as_bytes()) {
         return Err(failed);
     }
-    if let Err(failed) = trace_from(tracing, store, mark, trace) {
+    if let Err(failed) = trace_from(tracing, store, mark, trace, digest) {
         return Err(failed);
     }
     write_lines(outcomes, out)
@@ -130,7 +134,7 @@ fn tally_all(tally: Tally, outcomes: &[Outcome]) -> Tally
 }
 
 // Serves a batch: the first, and the rest with it. Tells what was counted then.
-fn serve_batch<R: Revisions, S: BlockStore, B: Behind<S>, K: Sink, T: Sink>(
+fn serve_batch<R: Revisions, S: BlockStore, B: Behind<S>, K: Sink, T: Sink, D: Digester>(
     alloc: Global,
     tracing: bool,
     tally: Tally,
@@ -141,11 +145,13 @@ fn serve_batch<R: Revisions, S: BlockStore, B: Behind<S>, K: Sink, T: Sink>(
     behind: &mut B,
     out: &mut K,
     trace: &mut T,
+    digest: &mut D,
 ) -> Result<Tally, TextHalted>
     requires batch { AreBatch (public_of engine.old) (count_of engine.old (S.state store.old))
         first.now rest.now }
     requires ready { IsReady R.state (B.Saves behind.old)
         (machine_of engine.old (S.state store.old) (B.state behind.old)) }
+    requires took { D.took digest.old (S.state store.old).asked }
     ensures serves { ServesBatch R.state (B.Saves behind.new) tracing first.now rest.now tally
         (K.written out.old) (K.written out.new) (T.written trace.old) (T.written trace.new)
         (faults_of 0 (K.faults out.old) (T.faults trace.old))
@@ -153,6 +159,7 @@ fn serve_batch<R: Revisions, S: BlockStore, B: Behind<S>, K: Sink, T: Sink>(
         (machine_of engine.old (S.state store.old) (B.state behind.old))
         (machine_of engine.new (S.state store.new) (B.state behind.new)) result }
     ensures same { B.name behind.new ≡ B.name behind.old }
+    ensures took { OnOk result (D.took digest.new (S.state store.new).asked) }
 {
     let mark = store.count();
     let Ok(mut outcomes) = Vec::from_elem(alloc, Outcome::Inserted, rest.len()) else {
@@ -171,8 +178,10 @@ fn serve_batch<R: Revisions, S: BlockStore, B: Behind<S>, K: Sink, T: Sink>(
                 outcomes.as_slice(),
                 out,
                 trace,
+                digest,
             ) {
                 Ok(()) => {
+                    let_go_from(store, mark);
                     let plan = None;
                     let counted = tally_with(tally, Answered { outcome, plan });
                     Ok(tally_all(counted, outcomes.as_slice()))
@@ -181,14 +190,14 @@ fn serve_batch<R: Revisions, S: BlockStore, B: Behind<S>, K: Sink, T: Sink>(
             }
         }
         Err(stop) => {
-            let quiet = trace_from(tracing, store, mark, trace).is_err();
+            let quiet = trace_from(tracing, store, mark, trace, digest).is_err();
             Err(TextHalted { stop, quiet })
         }
     }
 }
 
 /// Serves those that wait, if there are any.
-pub(crate) fn flush<R: Revisions, S: BlockStore, B: Behind<S>, K: Sink, T: Sink>(
+pub(crate) fn flush<R: Revisions, S: BlockStore, B: Behind<S>, K: Sink, T: Sink, D: Digester>(
     alloc: Global,
     tracing: bool,
     session: &mut Session,
@@ -197,11 +206,13 @@ pub(crate) fn flush<R: Revisions, S: BlockStore, B: Behind<S>, K: Sink, T: Sink>
     behind: &mut B,
     out: &mut K,
     trace: &mut T,
+    digest: &mut D,
 ) -> Result<(), TextHalted>
     requires waits { AreBatched (public_of engine.old)
         (count_of engine.old (S.state store.old)) session.old.batch.items }
     requires ready { IsReady R.state (B.Saves behind.old)
         (machine_of engine.old (S.state store.old) (B.state behind.old)) }
+    requires took { D.took digest.old (S.state store.old).asked }
     ensures pending { session.new.pending ≡ session.old.pending }
     ensures none { OnOk result (session.new.batch.items ≡ []) }
     ensures idle { OnErr result (session.old.batch.items ≢ []) }
@@ -216,6 +227,7 @@ pub(crate) fn flush<R: Revisions, S: BlockStore, B: Behind<S>, K: Sink, T: Sink>
         (machine_of engine.old (S.state store.old) (B.state behind.old))
         (machine_of engine.new (S.state store.new) (B.state behind.new)) result }
     ensures same { B.name behind.new ≡ B.name behind.old }
+    ensures took { OnOk result (D.took digest.new (S.state store.new).asked) }
 {
     let Some((first, rest)) = session.batch.as_slice().split_first() else {
         return Ok(());
@@ -231,6 +243,7 @@ pub(crate) fn flush<R: Revisions, S: BlockStore, B: Behind<S>, K: Sink, T: Sink>
         behind,
         out,
         trace,
+        digest,
     ) {
         Ok(tally) => {
             session.tally = tally;

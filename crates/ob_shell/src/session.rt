@@ -20,10 +20,10 @@ ghost use Rattle.ob_tables.specs.Agreeing.{count_of, public_of};
 use crate::batching::{flush, goes_along};
 use crate::feed::{Feed, Halt};
 use crate::pending::{Grown, Pending, PushStop};
-use crate::trace::trace_from;
+use crate::trace::{let_go_from, trace_from};
 use ob_base::{Failed, Plan, Refusal, Stop};
 use ob_exec::{Behind, Engine, Outcome, RunStop, batch_most, begins_batch, run};
-use ob_gen::Tally;
+use ob_gen::{Digester, Tally};
 use ob_io::{Sink, Source};
 use ob_parse::{ParseErr, parse};
 use ob_print::{Line, Pieces, Printer, RecordLine, refusal_line, write_all};
@@ -158,6 +158,7 @@ fn run_stmt<R: Revisions, S: BlockStore, B: Behind<S>, K: Sink>(
         result }
     ensures asked { (seen : List Access) × ((S.state store.new).asked
         ≡ (S.state store.old).asked ++ seen) }
+    ensures listed { (S.state store.new).let_go ≡ (S.state store.old).let_go }
     ensures same { B.name behind.new ≡ B.name behind.old }
 {
     match run(engine, store, behind, stmt, printer) {
@@ -205,6 +206,7 @@ fn run_text<R: Revisions, S: BlockStore, B: Behind<S>, K: Sink>(
         result }
     ensures asked { (seen : List Access) × ((S.state store.new).asked
         ≡ (S.state store.old).asked ++ seen) }
+    ensures listed { (S.state store.new).let_go ≡ (S.state store.old).let_go }
     ensures same { B.name behind.new ≡ B.name behind.old }
 {
     let mut line = RecordLine::new(alloc);
@@ -243,6 +245,7 @@ fn answer<R: Revisions, S: BlockStore, B: Behind<S>, K: Sink>(
         result }
     ensures asked { (seen : List Access) × ((S.state store.new).asked
         ≡ (S.state store.old).asked ++ seen) }
+    ensures listed { (S.state store.new).let_go ≡ (S.state store.old).let_go }
     ensures same { B.name behind.new ≡ B.name behind.old }
 {
     match run_text(alloc, engine, store, behind, text, stmt, out) {
@@ -254,8 +257,9 @@ fn answer<R: Revisions, S: BlockStore, B: Behind<S>, K: Sink>(
     }
 }
 
-// Answers a statement whole, and then traces what it asked. After a sink's fault nothing more is written.
-fn answer_traced<R: Revisions, S: BlockStore, B: Behind<S>, K: Sink, T: Sink>(
+// Answers a statement whole, and then traces what it asked, of which the store lets go. After a sink's fault nothing more is
+// written.
+fn answer_traced<R: Revisions, S: BlockStore, B: Behind<S>, K: Sink, T: Sink, D: Digester>(
     alloc: Global,
     tracing: bool,
     tally: Tally,
@@ -266,12 +270,14 @@ fn answer_traced<R: Revisions, S: BlockStore, B: Behind<S>, K: Sink, T: Sink>(
     stmt: &Stmt,
     out: &mut K,
     trace: &mut T,
+    digest: &mut D,
 ) -> Result<Tally, TextHalted>
     requires spells { Spells text.now (Ok stmt.now) }
     requires alone { begins_batch (public_of engine.old) (count_of engine.old (S.state store.old))
         stmt.now ≡ false }
     requires ready { IsReady R.state (B.Saves behind.old)
         (machine_of engine.old (S.state store.old) (B.state behind.old)) }
+    requires took { D.took digest.old (S.state store.old).asked }
     ensures serves { ServesTexts R.state (B.Saves behind.new)
         (λ gathered. goes_into (public_of engine.old) gathered (skeleton stmt.now) ≡ false)
         (text.now ∷ [])
@@ -289,23 +295,27 @@ fn answer_traced<R: Revisions, S: BlockStore, B: Behind<S>, K: Sink, T: Sink>(
         (S.state store.new).asked (T.written trace.old) (T.written trace.new)
         (IsQuiet (halted_of result))) }
     ensures same { B.name behind.new ≡ B.name behind.old }
+    ensures took { OnOk result (D.took digest.new (S.state store.new).asked) }
 {
     let mark = store.count();
     match answer(alloc, tally, engine, store, behind, text, stmt, out) {
-        Ok(counted) => match trace_from(tracing, store, mark, trace) {
-            Ok(()) => Ok(counted),
+        Ok(counted) => match trace_from(tracing, store, mark, trace, digest) {
+            Ok(()) => {
+                let_go_from(store, mark);
+                Ok(counted)
+            }
             Err(Failed) => Err(SINK_FAILED),
         },
         Err(TextHalted { stop, quiet: true }) => Err(TextHalted { stop, quiet: true }),
         Err(TextHalted { stop, quiet: false }) => {
-            let quiet = trace_from(tracing, store, mark, trace).is_err();
+            let quiet = trace_from(tracing, store, mark, trace, digest).is_err();
             Err(TextHalted { stop, quiet })
         }
     }
 }
 
 // Gives one more INSERT to those that wait, and serves them once they are as many as a batch may have.
-fn gather<R: Revisions, S: BlockStore, B: Behind<S>, K: Sink, T: Sink>(
+fn gather<R: Revisions, S: BlockStore, B: Behind<S>, K: Sink, T: Sink, D: Digester>(
     alloc: Global,
     tracing: bool,
     session: &mut Session,
@@ -315,12 +325,14 @@ fn gather<R: Revisions, S: BlockStore, B: Behind<S>, K: Sink, T: Sink>(
     behind: &mut B,
     out: &mut K,
     trace: &mut T,
+    digest: &mut D,
 ) -> Result<(), Break>
     requires spells { Spells session.old.pending (Ok stmt) }
     requires goes { GoesAlong (public_of engine.old) (count_of engine.old (S.state store.old))
         session.old.batch.items stmt }
     requires ready { IsReady R.state (B.Saves behind.old)
         (machine_of engine.old (S.state store.old) (B.state behind.old)) }
+    requires took { D.took digest.old (S.state store.old).asked }
     ensures pending { session.new.pending ≡ session.old.pending }
     ensures takes { TakesMore R.state (B.Saves behind.new) tracing
         (IsFree (public_of engine.old) (session.old.batch.items ++ stmt ∷ []))
@@ -333,6 +345,7 @@ fn gather<R: Revisions, S: BlockStore, B: Behind<S>, K: Sink, T: Sink>(
         (machine_of engine.old (S.state store.old) (B.state behind.old))
         (machine_of engine.new (S.state store.new) (B.state behind.new)) result }
     ensures same { B.name behind.new ≡ B.name behind.old }
+    ensures took { UnlessServed result (D.took digest.new (S.state store.new).asked) }
 {
     if session.batch.push(stmt).is_err() {
         return Err(Break::Unread(Stop::NoMemory));
@@ -340,14 +353,14 @@ fn gather<R: Revisions, S: BlockStore, B: Behind<S>, K: Sink, T: Sink>(
     if (session.batch.len() as u64) < batch_most(engine.public()) {
         return Ok(());
     }
-    match flush(alloc, tracing, session, engine, store, behind, out, trace) {
+    match flush(alloc, tracing, session, engine, store, behind, out, trace, digest) {
         Ok(()) => Ok(()),
         Err(halted) => Err(Break::Served(halted)),
     }
 }
 
 // Serves a statement before which none waits, or lets it wait for the next ones.
-fn begin<R: Revisions, S: BlockStore, B: Behind<S>, K: Sink, T: Sink>(
+fn begin<R: Revisions, S: BlockStore, B: Behind<S>, K: Sink, T: Sink, D: Digester>(
     alloc: Global,
     tracing: bool,
     session: &mut Session,
@@ -357,11 +370,13 @@ fn begin<R: Revisions, S: BlockStore, B: Behind<S>, K: Sink, T: Sink>(
     behind: &mut B,
     out: &mut K,
     trace: &mut T,
+    digest: &mut D,
 ) -> Result<(), Break>
     requires spells { Spells session.old.pending (Ok stmt) }
     requires none { session.old.batch.items ≡ [] }
     requires ready { IsReady R.state (B.Saves behind.old)
         (machine_of engine.old (S.state store.old) (B.state behind.old)) }
+    requires took { D.took digest.old (S.state store.old).asked }
     ensures pending { session.new.pending ≡ session.old.pending }
     ensures takes { TakesMore R.state (B.Saves behind.new) tracing
         (IsFree (public_of engine.old) (stmt ∷ []))
@@ -374,10 +389,11 @@ fn begin<R: Revisions, S: BlockStore, B: Behind<S>, K: Sink, T: Sink>(
         (machine_of engine.old (S.state store.old) (B.state behind.old))
         (machine_of engine.new (S.state store.new) (B.state behind.new)) result }
     ensures same { B.name behind.new ≡ B.name behind.old }
+    ensures took { UnlessServed result (D.took digest.new (S.state store.new).asked) }
 {
     if begins_batch(engine, store, &stmt) {
         return gather(
-            alloc, tracing, session, stmt, engine, store, behind, out, trace,
+            alloc, tracing, session, stmt, engine, store, behind, out, trace, digest,
         );
     }
     let answered = answer_traced(
@@ -391,6 +407,7 @@ fn begin<R: Revisions, S: BlockStore, B: Behind<S>, K: Sink, T: Sink>(
         &stmt,
         out,
         trace,
+        digest,
     );
     match answered {
         Ok(tally) => {
@@ -402,7 +419,7 @@ fn begin<R: Revisions, S: BlockStore, B: Behind<S>, K: Sink, T: Sink>(
 }
 
 // Takes a statement: it goes into the batch of those that wait, or they are served before it.
-fn take_stmt<R: Revisions, S: BlockStore, B: Behind<S>, K: Sink, T: Sink>(
+fn take_stmt<R: Revisions, S: BlockStore, B: Behind<S>, K: Sink, T: Sink, D: Digester>(
     alloc: Global,
     tracing: bool,
     session: &mut Session,
@@ -412,12 +429,14 @@ fn take_stmt<R: Revisions, S: BlockStore, B: Behind<S>, K: Sink, T: Sink>(
     behind: &mut B,
     out: &mut K,
     trace: &mut T,
+    digest: &mut D,
 ) -> Result<(), Break>
     requires spells { Spells session.old.pending (Ok stmt) }
     requires waits { AreGathered (public_of engine.old) (count_of engine.old (S.state store.old))
         session.old.batch.items }
     requires ready { IsReady R.state (B.Saves behind.old)
         (machine_of engine.old (S.state store.old) (B.state behind.old)) }
+    requires took { D.took digest.old (S.state store.old).asked }
     ensures pending { session.new.pending ≡ session.old.pending }
     ensures takes { TakesMore R.state (B.Saves behind.new) tracing
         (IsFree (public_of engine.old) session.old.batch.items)
@@ -430,22 +449,23 @@ fn take_stmt<R: Revisions, S: BlockStore, B: Behind<S>, K: Sink, T: Sink>(
         (machine_of engine.old (S.state store.old) (B.state behind.old))
         (machine_of engine.new (S.state store.new) (B.state behind.new)) result }
     ensures same { B.name behind.new ≡ B.name behind.old }
+    ensures took { UnlessServed result (D.took digest.new (S.state store.new).asked) }
 {
     if goes_along(session.batch.as_slice(), &stmt) {
         return gather(
-            alloc, tracing, session, stmt, engine, store, behind, out, trace,
+            alloc, tracing, session, stmt, engine, store, behind, out, trace, digest,
         );
     }
-    match flush(alloc, tracing, session, engine, store, behind, out, trace) {
+    match flush(alloc, tracing, session, engine, store, behind, out, trace, digest) {
         Ok(()) => begin(
-            alloc, tracing, session, stmt, engine, store, behind, out, trace,
+            alloc, tracing, session, stmt, engine, store, behind, out, trace, digest,
         ),
         Err(halted) => Err(Break::Served(halted)),
     }
 }
 
 // Answers a text that is no statement, behind those that wait.
-fn take_misspelt<R: Revisions, S: BlockStore, B: Behind<S>, K: Sink, T: Sink>(
+fn take_misspelt<R: Revisions, S: BlockStore, B: Behind<S>, K: Sink, T: Sink, D: Digester>(
     alloc: Global,
     tracing: bool,
     session: &mut Session,
@@ -455,12 +475,14 @@ fn take_misspelt<R: Revisions, S: BlockStore, B: Behind<S>, K: Sink, T: Sink>(
     behind: &mut B,
     out: &mut K,
     trace: &mut T,
+    digest: &mut D,
 ) -> Result<(), TextHalted>
     requires spells { Spells session.old.pending (Err at) }
     requires waits { AreGathered (public_of engine.old) (count_of engine.old (S.state store.old))
         session.old.batch.items }
     requires ready { IsReady R.state (B.Saves behind.old)
         (machine_of engine.old (S.state store.old) (B.state behind.old)) }
+    requires took { D.took digest.old (S.state store.old).asked }
     ensures pending { session.new.pending ≡ session.old.pending }
     ensures takes { TakesTexts R.state (B.Saves behind.new) tracing
         (IsFree (public_of engine.old) session.old.batch.items)
@@ -473,8 +495,9 @@ fn take_misspelt<R: Revisions, S: BlockStore, B: Behind<S>, K: Sink, T: Sink>(
         (machine_of engine.old (S.state store.old) (B.state behind.old))
         (machine_of engine.new (S.state store.new) (B.state behind.new)) result }
     ensures same { B.name behind.new ≡ B.name behind.old }
+    ensures took { OnOk result (D.took digest.new (S.state store.new).asked) }
 {
-    if let Err(halted) = flush(alloc, tracing, session, engine, store, behind, out, trace) {
+    if let Err(halted) = flush(alloc, tracing, session, engine, store, behind, out, trace, digest) {
         return Err(halted);
     }
     let answered = Answered {
@@ -491,7 +514,7 @@ fn take_misspelt<R: Revisions, S: BlockStore, B: Behind<S>, K: Sink, T: Sink>(
 }
 
 // Takes a text that is whole, which stays where it was read.
-fn take_text<R: Revisions, S: BlockStore, B: Behind<S>, K: Sink, T: Sink>(
+fn take_text<R: Revisions, S: BlockStore, B: Behind<S>, K: Sink, T: Sink, D: Digester>(
     alloc: Global,
     tracing: bool,
     session: &mut Session,
@@ -500,12 +523,14 @@ fn take_text<R: Revisions, S: BlockStore, B: Behind<S>, K: Sink, T: Sink>(
     behind: &mut B,
     out: &mut K,
     trace: &mut T,
+    digest: &mut D,
 ) -> Result<(), Break>
     requires short { length session.old.pending ≤ text_max }
     requires waits { AreGathered (public_of engine.old) (count_of engine.old (S.state store.old))
         session.old.batch.items }
     requires ready { IsReady R.state (B.Saves behind.old)
         (machine_of engine.old (S.state store.old) (B.state behind.old)) }
+    requires took { D.took digest.old (S.state store.old).asked }
     ensures pending { session.new.pending ≡ session.old.pending }
     ensures takes { TakesMore R.state (B.Saves behind.new) tracing
         (IsFree (public_of engine.old) session.old.batch.items)
@@ -518,15 +543,16 @@ fn take_text<R: Revisions, S: BlockStore, B: Behind<S>, K: Sink, T: Sink>(
         (machine_of engine.old (S.state store.old) (B.state behind.old))
         (machine_of engine.new (S.state store.new) (B.state behind.new)) result }
     ensures same { B.name behind.new ≡ B.name behind.old }
+    ensures took { UnlessServed result (D.took digest.new (S.state store.new).asked) }
 {
     match parse(alloc, session.pending.text()) {
         Ok(stmt) => take_stmt(
-            alloc, tracing, session, stmt, engine, store, behind, out, trace,
+            alloc, tracing, session, stmt, engine, store, behind, out, trace, digest,
         ),
         Err(error) => match error {
             ParseErr::Syntax(at) => {
                 let taken = take_misspelt(
-                    alloc, tracing, session, at, engine, store, behind, out, trace,
+                    alloc, tracing, session, at, engine, store, behind, out, trace, digest,
                 );
                 match taken {
                     Ok(()) => Ok(()),
@@ -539,7 +565,7 @@ fn take_text<R: Revisions, S: BlockStore, B: Behind<S>, K: Sink, T: Sink>(
 }
 
 // Takes one byte, and the text that it ends.
-fn turn<R: Revisions, S: BlockStore, B: Behind<S>, K: Sink, T: Sink>(
+fn turn<R: Revisions, S: BlockStore, B: Behind<S>, K: Sink, T: Sink, D: Digester>(
     alloc: Global,
     tracing: bool,
     session: &mut Session,
@@ -549,12 +575,14 @@ fn turn<R: Revisions, S: BlockStore, B: Behind<S>, K: Sink, T: Sink>(
     behind: &mut B,
     out: &mut K,
     trace: &mut T,
+    digest: &mut D,
 ) -> Result<(), Break>
     requires short { length session.old.pending < text_max }
     requires waits { AreGathered (public_of engine.old) (count_of engine.old (S.state store.old))
         session.old.batch.items }
     requires ready { IsReady R.state (B.Saves behind.old)
         (machine_of engine.old (S.state store.old) (B.state behind.old)) }
+    requires took { D.took digest.old (S.state store.old).asked }
     ensures pending { OnOk result ((session.new.pending ≡ rest_after session.old.pending b)
         × (length session.new.pending < text_max)) }
     ensures takes { TakesMore R.state (B.Saves behind.new) tracing
@@ -569,11 +597,12 @@ fn turn<R: Revisions, S: BlockStore, B: Behind<S>, K: Sink, T: Sink>(
         (machine_of engine.old (S.state store.old) (B.state behind.old))
         (machine_of engine.new (S.state store.new) (B.state behind.new)) result }
     ensures same { B.name behind.new ≡ B.name behind.old }
+    ensures took { UnlessServed result (D.took digest.new (S.state store.new).asked) }
 {
     match session.pending.push(b) {
         Ok(Grown::More) => Ok(()),
         Ok(Grown::Whole) => {
-            match take_text(alloc, tracing, session, engine, store, behind, out, trace) {
+            match take_text(alloc, tracing, session, engine, store, behind, out, trace, digest) {
                 Ok(()) => {
                     session.pending.clear();
                     Ok(())
@@ -587,7 +616,7 @@ fn turn<R: Revisions, S: BlockStore, B: Behind<S>, K: Sink, T: Sink>(
 }
 
 // Takes what has come of a text with no end, once no more comes.
-fn finish<R: Revisions, S: BlockStore, B: Behind<S>, K: Sink, T: Sink>(
+fn finish<R: Revisions, S: BlockStore, B: Behind<S>, K: Sink, T: Sink, D: Digester>(
     alloc: Global,
     tracing: bool,
     session: &mut Session,
@@ -596,12 +625,14 @@ fn finish<R: Revisions, S: BlockStore, B: Behind<S>, K: Sink, T: Sink>(
     behind: &mut B,
     out: &mut K,
     trace: &mut T,
+    digest: &mut D,
 ) -> Result<(), Break>
     requires short { length session.old.pending ≤ text_max }
     requires waits { AreGathered (public_of engine.old) (count_of engine.old (S.state store.old))
         session.old.batch.items }
     requires ready { IsReady R.state (B.Saves behind.old)
         (machine_of engine.old (S.state store.old) (B.state behind.old)) }
+    requires took { D.took digest.old (S.state store.old).asked }
     ensures takes { TakesMore R.state (B.Saves behind.new) tracing
         (IsFree (public_of engine.old) session.old.batch.items)
         (λ old new. IsFree (public_of engine.new) session.new.batch.items new)
@@ -613,15 +644,16 @@ fn finish<R: Revisions, S: BlockStore, B: Behind<S>, K: Sink, T: Sink>(
         (machine_of engine.old (S.state store.old) (B.state behind.old))
         (machine_of engine.new (S.state store.new) (B.state behind.new)) result }
     ensures same { B.name behind.new ≡ B.name behind.old }
+    ensures took { UnlessServed result (D.took digest.new (S.state store.new).asked) }
 {
     if !session.pending.has_words() {
         return Ok(());
     }
-    take_text(alloc, tracing, session, engine, store, behind, out, trace)
+    take_text(alloc, tracing, session, engine, store, behind, out, trace, digest)
 }
 
 // Reads a feed to its end or a stop, and serves the texts that it brings, but for those that wait then.
-fn read_texts<I: Source, R: Revisions, S: BlockStore, B: Behind<S>, K: Sink, T: Sink>(
+fn read_texts<I: Source, R: Revisions, S: BlockStore, B: Behind<S>, K: Sink, T: Sink, D: Digester>(
     alloc: Global,
     tracing: bool,
     session: &mut Session,
@@ -632,6 +664,7 @@ fn read_texts<I: Source, R: Revisions, S: BlockStore, B: Behind<S>, K: Sink, T: 
     behind: &mut B,
     out: &mut K,
     trace: &mut T,
+    digest: &mut D,
 ) -> Result<(), Break>
     requires none { session.old.batch.items ≡ [] }
     requires fresh { session.old.pending ≡ [] }
@@ -639,6 +672,7 @@ fn read_texts<I: Source, R: Revisions, S: BlockStore, B: Behind<S>, K: Sink, T: 
     requires ready { IsReady R.state (B.Saves behind.old)
         (machine_of engine.old (S.state store.old) (B.state behind.old)) }
     requires fed_by { IsFedBy feed.old (I.gave input.old) }
+    requires took { D.took digest.old (S.state store.old).asked }
     ensures reads { ReadsTexts R.state (B.Saves behind.new) tracing feed.old feed.new
         (I.left input.old) (I.left input.new) (I.gave input.new)
         (K.written out.old) (K.written out.new) (T.written trace.old) (T.written trace.new)
@@ -662,17 +696,18 @@ fn read_texts<I: Source, R: Revisions, S: BlockStore, B: Behind<S>, K: Sink, T: 
         (faults_of (I.faults input.old) (K.faults out.old) (T.faults trace.old))
         (faults_of (I.faults input.new) (K.faults out.new) (T.faults trace.new)) }
     ensures same { B.name behind.new ≡ B.name behind.old }
+    ensures took { UnlessServed result (D.took digest.new (S.state store.new).asked) }
 {
     'bytes: loop {
         match feed.next(input) {
             Err(Halt::SourceFault) => return Err(Break::Unread(Stop::SourceFault)),
             Err(Halt::InputLimit) => return Err(Break::Unread(Stop::InputLimit)),
             Ok(None) => {
-                return finish(alloc, tracing, session, engine, store, behind, out, trace);
+                return finish(alloc, tracing, session, engine, store, behind, out, trace, digest);
             }
             Ok(Some(b)) => {
                 let turned = turn(
-                    alloc, tracing, session, b, engine, store, behind, out, trace,
+                    alloc, tracing, session, b, engine, store, behind, out, trace, digest,
                 );
                 if let Err(broken) = turned {
                     return Err(broken);
@@ -684,7 +719,7 @@ fn read_texts<I: Source, R: Revisions, S: BlockStore, B: Behind<S>, K: Sink, T: 
 
 /// Serves the texts that a feed brings, to its end or a stop, with what is behind each statement, and then those that wait.
 /// Tells what was counted of them.
-pub fn serve<I: Source, R: Revisions, S: BlockStore, B: Behind<S>, K: Sink, T: Sink>(
+pub fn serve<I: Source, R: Revisions, S: BlockStore, B: Behind<S>, K: Sink, T: Sink, D: Digester>(
     alloc: Global,
     tracing: bool,
     feed: &mut Feed,
@@ -694,10 +729,12 @@ pub fn serve<I: Source, R: Revisions, S: BlockStore, B: Behind<S>, K: Sink, T: S
     behind: &mut B,
     out: &mut K,
     trace: &mut T,
+    digest: &mut D,
 ) -> Result<Tally, Halted>
     requires ready { IsReady R.state (B.Saves behind.old)
         (machine_of engine.old (S.state store.old) (B.state behind.old)) }
     requires fed_by { IsFedBy feed.old (I.gave input.old) }
+    requires took { D.took digest.old (S.state store.old).asked }
     ensures ready { OnOk result (IsReady R.state (B.Saves behind.new)
         (machine_of engine.new (S.state store.new) (B.state behind.new))) }
     ensures ran { SessionRan R.state tracing feed.old feed.new
@@ -717,6 +754,7 @@ pub fn serve<I: Source, R: Revisions, S: BlockStore, B: Behind<S>, K: Sink, T: S
         (faults_of (I.faults input.old) (K.faults out.old) (T.faults trace.old))
         (faults_of (I.faults input.new) (K.faults out.new) (T.faults trace.new)) }
     ensures same { B.name behind.new ≡ B.name behind.old }
+    ensures took { OnOk result (D.took digest.new (S.state store.new).asked) }
 {
     let mut here = Session {
         pending: Pending::new(alloc),
@@ -724,15 +762,15 @@ pub fn serve<I: Source, R: Revisions, S: BlockStore, B: Behind<S>, K: Sink, T: S
         tally: Tally::new(),
     };
     let read = read_texts(
-        alloc, tracing, &mut here, feed, input, engine, store, behind, out, trace,
+        alloc, tracing, &mut here, feed, input, engine, store, behind, out, trace, digest,
     );
     match read {
-        Ok(()) => match flush(alloc, tracing, &mut here, engine, store, behind, out, trace) {
+        Ok(()) => match flush(alloc, tracing, &mut here, engine, store, behind, out, trace, digest) {
             Ok(()) => Ok(here.tally),
             Err(halted) => Err(Halted::from(halted)),
         },
         Err(Break::Unread(stop)) => {
-            match flush(alloc, tracing, &mut here, engine, store, behind, out, trace) {
+            match flush(alloc, tracing, &mut here, engine, store, behind, out, trace, digest) {
                 Ok(()) => Err(Halted { stop, quiet: false }),
                 Err(halted) => Err(Halted::from(halted)),
             }

@@ -435,4 +435,4 @@ ran_no_room state skeleton old s t tables agrees rests = ran_unasked state skele
 
 -- a store that no call was made on
 pub rests_refl : (s : StoreState) → ChangesNothing s s
-rests_refl s = record { spare = omega (arith); asked = refl; gave = refl; faults = refl; slips = refl; tells = refl; lie = refl; disturbed = refl; keeps = record { live = λ q. refl; last = λ q x. refl; kept = λ q. refl } }
+rests_refl s = record { spare = omega (arith); asked = refl; log = refl; gave = refl; faults = refl; slips = refl; tells = refl; lie = refl; disturbed = refl; keeps = record { live = λ q. refl; last = λ q x. refl; kept = λ q. refl } }

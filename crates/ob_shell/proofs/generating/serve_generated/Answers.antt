@@ -19,3 +19,6 @@ returns g c =
     (concludes_at ended.high c.conclude.ensures.high
     (concludes_by ended.tally asked _ _ trace0 trace1 _ _ report ended.ending ended.quiet c.conclude.ensures.concluded (λ quiet. trace_rose trace0 trace1 (rose quiet))
     (silenced_kept ended.quiet _ _ run.quiet) _ run.cause))
+
+pub run-ended-requires-clause-took : goal.run-ended-requires-clause-took
+run-ended-requires-clause-took g c = rw c.requires.fresh c.new-digest.ensures

@@ -27,6 +27,7 @@ invariant-bytes g l =
       traced :
           TracedAll l.tracing (g.S.BlockStore.state l.initial.store).asked (g.S.BlockStore.state l.store).asked
           (g.T.Sink.written l.initial.trace) (g.T.Sink.written l.trace);
+      took : g.D.Digester.took l.digest (g.S.BlockStore.state l.store).asked;
     }
 
 abbrev pub decreases-bytes : goal.decreases-bytes

@@ -98,3 +98,5 @@ returns-in-Err-flush-2-clause-quiet g c =
     rw c.from.ensures
     (waited_quiet c.in-Err-flush-2.halted.quiet (g.I.Source.faults c.args.input.now) (g.I.Source.faults there.input) (g.K.Sink.faults c.args.out.now, g.T.Sink.faults c.args.trace.now) (g.K.Sink.faults there.out, g.T.Sink.faults there.trace)
     (g.K.Sink.faults end.out, g.T.Sink.faults end.trace) read.quiet.0 read.quiet.1 c.in-Err-flush-2.ensures.takes.quiet)
+
+-- ---- the digest took what was asked

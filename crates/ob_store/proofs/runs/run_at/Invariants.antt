@@ -1,6 +1,6 @@
 use Rattle.std.proofs.Common.{◌<◌, ◌≤◌, ◌-◌, length}
 use Rattle.ob_store.specs.Kept.{start_of}
-use Rattle.ob_store.proofs.log.run_at.Given as goal
+use Rattle.ob_store.proofs.runs.run_at.Given as goal
 
 abbrev pub invariant-loop-high : goal.invariant-loop-high
 invariant-loop-high l = record {

@@ -2,7 +2,7 @@ use Rattle.std.proofs.Common.{◌-◌, length, arith, sym, ◌∙◌, ap, List}
 use Rattle.ob_base.specs.declared.access.Access.{Access}
 use Rattle.ob_store.specs.Logs.{is_turn}
 use Rattle.ob_store.proofs.KeptLemmas.{begins_at, reach, comes_short, late, round, length-range}
-use Rattle.ob_store.proofs.log.comes_round.Goals as goal
+use Rattle.ob_store.proofs.runs.comes_round.Goals as goal
 
 pub returns-then-starts-size : goal.returns-then-starts-size
 returns-then-starts-size c = sym (comes_short _ _ _ _ _ _ _ c.if-starts-size.true)

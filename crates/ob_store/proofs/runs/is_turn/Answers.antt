@@ -3,7 +3,7 @@ use Rattle.std.specs.List.{list_all}
 use Rattle.std.proofs.lemmas.Iterator.{YieldsList-from_slice}
 use Rattle.std.proofs.lemmas.Iterator.Search.{all_from_yields_List}
 use Rattle.ob_store.specs.Logs.{is_block, is_raised, access_at}
-use Rattle.ob_store.proofs.log.is_turn.Goals as goal
+use Rattle.ob_store.proofs.runs.is_turn.Goals as goal
 
 pub returns-then-all : goal.returns-then-all
 returns-then-all c =

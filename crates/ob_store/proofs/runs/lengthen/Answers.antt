@@ -1,11 +1,11 @@
 use Rattle.std.proofs.Common.{◌≡◌, ◌≢◌, ◌≤◌, ◌<◌, ◌+◌, ◌-◌, ◌^◌, ℕ, suc, List, [], ◌∷◌, ◌++◌, length, take, sym, ◌∙◌, ap, subst, arith}
 use Rattle.ob_base.specs.declared.access.Access.{Access}
-use Rattle.ob_store.specs.declared.log.Start.{Start}
+use Rattle.ob_store.specs.declared.runs.Start.{Start}
 use Rattle.ob_store.specs.Kept.{Sound, place_of}
 use Rattle.ob_store.specs.Logs.{joins, lengthened, added}
 use Rattle.ob_store.proofs.KeptLemmas.{runs_in, new_sound, new_runs, joined_sound, joined_runs, joins_few, length-runs_of, log_by}
-use Rattle.ob_store.proofs.log.lengthen.Goals as goal
-use Rattle.ob_store.proofs.log.lengthen.Goals.{After-joined-runs, After-push_reserved-then-runs-eq0, After-truncate}
+use Rattle.ob_store.proofs.runs.lengthen.Goals as goal
+use Rattle.ob_store.proofs.runs.lengthen.Goals.{After-joined-runs, After-push_reserved-then-runs-eq0, After-truncate}
 
 joins_is : (c : After-joined-runs) → c.joined-runs.result ≡ joins c.args.access (runs_in c.args.cycles.now.items c.args.starts.now.items c.args.count)
 joins_is c =

@@ -4,8 +4,8 @@ use Rattle.ob_base.specs.declared.access.Access.{Access}
 use Rattle.ob_store.specs.Kept.{start_of}
 use Rattle.ob_store.specs.Logs.{is_next, goes_on, comes_round}
 use Rattle.ob_store.proofs.KeptLemmas.{begins_at, joins_none, joins_by, goes_by, length-range, runs_in}
-use Rattle.ob_store.proofs.log.joined.Goals as goal
-use Rattle.ob_store.proofs.log.joined.Goals.{After-is_next}
+use Rattle.ob_store.proofs.runs.joined.Goals as goal
+use Rattle.ob_store.proofs.runs.joined.Goals.{After-is_next}
 
 none_of : (n : ℕ) → (n == 0) ≡ true → n ≡ 0
 none_of n is = grind (arith, nat_tests)
