@@ -20,6 +20,7 @@ serve_batch-requires g c = record {
   batch =
       subst (λ (l : List Stmt). AreBatched (public_of c.args.engine.now) (count_of c.args.engine.now (g.S.BlockStore.state c.args.store.now)) l) (rw c.as_slice.ensures at c.in-Some.ensures.cases.0) c.requires.waits;
   ready = c.requires.ready;
+  took = c.requires.took;
 }
 
 pub returns-in-Ok-clause-takes : goal.returns-in-Ok-clause-takes

@@ -1,8 +1,10 @@
-use Rattle.std.proofs.Common.{◌∙◌, refl, inl, inr, arith}
+use Rattle.std.proofs.Common.{List, ◌∙◌, refl, inl, inr, arith, subst, sym}
+use Rattle.ob_base.specs.declared.access.Access.{Access}
 use Rattle.ob_print.proofs.CutLemmas.{Outputs-by}
 use Rattle.ob_shell.proofs.FlushLemmas.{batch_unsunk, idle_batch, lost_batch, lost_quiet, lost_with, served_batch, stopped_batch, traced_only, traced_quiet}
+use Rattle.ob_shell.proofs.LetGoLemmas.{asked_from, batch_from}
 use Rattle.ob_shell.proofs.TookLemmas.{traced_to}
-use Rattle.ob_shell.proofs.TraceLemmas.{since, traced_none, traced_whole}
+use Rattle.ob_shell.proofs.TraceLemmas.{since, traced_none, traced_whole, until}
 use Rattle.ob_shell.proofs.batching.serve_batch.Goals as goal
 use Rattle.ob_shell.specs.Steps.{machine_of}
 
@@ -20,25 +22,44 @@ returns-in_default-clause-serves g c =
       quiet = (refl, refl);
     }
 
+-- the store still lists what was asked for them
+pub write_batch-requires-clause-listed : goal.write_batch-requires-clause-listed
+write_batch-requires-clause-listed g c = omega (arith, c.in-Ok.ensures.listed, g.met.S.BlockStore.within_asked c.args.store.now, c.count-mark.ensures)
+
+pub trace_from-requires-clause-listed : goal.trace_from-requires-clause-listed
+trace_from-requires-clause-listed g c = omega (arith, c.in-Err.ensures.listed, g.met.S.BlockStore.within_asked c.args.store.now, c.count-mark.ensures)
+
 pub returns-in-Ok-write_batch-clause-serves : goal.returns-in-Ok-write_batch-clause-serves
 returns-in-Ok-write_batch-clause-serves g c =
-    let ran = c.in-Ok.ensures.ran in
-    let on = ran.carried.ran.goes_on in
     let s0 = g.S.BlockStore.state c.args.store.now in
     let s1 = g.S.BlockStore.state c.run_batch.new.store in
+    let s2 = g.S.BlockStore.state c.let_go_from.new.store in
+    let asked = c.in-Ok.ensures.ran.carried.ran.asked in
+    let ran = batch_from g.R.Revisions.state c.args.first.now c.args.rest.now c.in-Ok.outcome _ c.args.engine.now s0 c.run_batch.new.engine s1 _ _ c.count-mark.result s2 c.let_go_from.ensures c.in-Ok.ensures.ran in
+    let on = ran.carried.ran.goes_on in
     let now = c.in-Ok-write_batch.ensures in
     record {
       ready = record { agrees = on.agrees; lives = on.lives; settled = ran.carried.ran.settled; saves = c.in-Ok.ensures.saves };
       waits = tt;
       done = λ h held comes spelt.
-          served_batch g.R.Revisions.state c.args.engine.now c.run_batch.new.engine s0 s1 _ _ c.args.first.now c.args.rest.now c.requires.ready.agrees c.requires.batch c.args.tracing h comes held spelt _ _ c.in-Ok.outcome _ ran now.ok
+          served_batch g.R.Revisions.state c.args.engine.now c.run_batch.new.engine s0 s2 _ _ c.args.first.now c.args.rest.now c.requires.ready.agrees c.requires.batch c.args.tracing h comes held spelt _ _ c.in-Ok.outcome _ ran now.ok
           (c.tally_all.ensures ∙ rw c.tally_with-counted.ensures refl);
       stopped = tt;
-      traced = record { seen = _; grew = ran.carried.ran.asked; appends = rw (← since s0.asked s1.asked _ _ ran.carried.ran.asked c.count-mark.ensures) now.traced };
+      traced = record { seen = _; grew = ran.carried.ran.asked; appends = rw (← since s0.asked s1.asked _ _ asked c.count-mark.ensures) now.traced };
       traced_stop = tt;
       cause = record { source = refl; out = now.cause.0; trace = now.cause.1 };
       quiet = (now.cause.0, now.cause.1);
     }
+
+-- and the digest took it
+pub returns-in-Ok-write_batch-clause-took : goal.returns-in-Ok-write_batch-clause-took
+returns-in-Ok-write_batch-clause-took g c =
+    let s0 = g.S.BlockStore.state c.args.store.now in
+    let s1 = g.S.BlockStore.state c.run_batch.new.store in
+    let s2 = g.S.BlockStore.state c.let_go_from.new.store in
+    let before = until s0.asked s1.asked _ _ c.in-Ok.ensures.ran.carried.ran.asked c.count-mark.ensures in
+    subst (λ (l : List Access). g.D.Digester.took c.write_batch.new.digest l) (sym (asked_from _ s1 s2 c.let_go_from.ensures))
+    (c.in-Ok-write_batch.ensures.took (subst (λ (l : List Access). g.D.Digester.took c.args.digest.now l) (sym before) c.requires.took))
 
 pub returns-in-Err-write_batch-clause-serves : goal.returns-in-Err-write_batch-clause-serves
 returns-in-Err-write_batch-clause-serves g c =

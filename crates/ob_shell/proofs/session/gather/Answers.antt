@@ -29,6 +29,7 @@ flush-requires g c =
     record {
       waits = batch_more (public_of e) (count_of e (g.S.BlockStore.state c.args.store.now)) c.args.session.now.batch.items c.args.stmt c.requires.goes;
       ready = c.requires.ready;
+      took = c.requires.took;
     }
 
 pub returns-in-Ok-clause-takes : goal.returns-in-Ok-clause-takes

@@ -14,6 +14,7 @@ flush-requires g c =
     record {
       waits = are_batched (public_of e) (count_of e (g.S.BlockStore.state c.args.store.now)) c.args.session.now.batch.items c.requires.waits;
       ready = c.requires.ready;
+      took = c.requires.took;
     }
 
 pub returns-in-Err-clause-takes : goal.returns-in-Err-clause-takes

@@ -13,6 +13,7 @@ gather-requires g c =
       spells = c.requires.spells;
       goes = goes_more (public_of e) (count_of e (g.S.BlockStore.state c.args.store.now)) c.args.session.now.batch.items c.args.stmt c.requires.waits (rw (← c.goes_along.ensures) c.if-goes_along.true);
       ready = c.requires.ready;
+      took = c.requires.took;
     }
 
 pub returns-then-goes_along-clause-takes : goal.returns-then-goes_along-clause-takes
@@ -26,6 +27,7 @@ flush-requires g c =
     record {
       waits = are_batched (public_of e) (count_of e (g.S.BlockStore.state c.args.store.now)) c.args.session.now.batch.items c.requires.waits;
       ready = c.requires.ready;
+      took = c.requires.took;
     }
 
 pub returns-in-Ok-clause-takes : goal.returns-in-Ok-clause-takes
