@@ -1,5 +1,6 @@
 use Rattle.std.proofs.Common.{[], ◌∙◌, refl, inl, inr}
 use Rattle.std.proofs.KnownBytes.{Appends-nil}
+use Rattle.std.proofs.lemmas.Result.{on_ok_weaker}
 use Rattle.ob_print.proofs.CutLemmas.{Outputs-by, Outputs-fault, Outputs-whole}
 use Rattle.ob_shell.proofs.LineLemmas.{all_lines, batch_cut, first_cut}
 use Rattle.ob_shell.proofs.batching.write_batch.Goals as goal
@@ -34,3 +35,7 @@ pub returns-clause-cut : goal.returns-clause-cut
 returns-clause-cut g c =
     let line = c.as_bytes.ensures ∙ c.closing_line.ensures in
     batch_cut _ _ _ c.args.outcome c.args.outcomes.now (rw line at c.in_default.ensures.ok) _ _ _ c.write_lines.result c.write_lines.ensures.cut c.in_default-trace_from.ensures.ok c.in_default.ensures.cause.kept c.write_lines.ensures.cause
+
+-- the digest took it before
+pub returns-clause-took : goal.returns-clause-took
+returns-clause-took g c = on_ok_weaker c.write_lines.result (λ wrote. c.in_default-trace_from.ensures.took) c.write_lines.ensures.ok
