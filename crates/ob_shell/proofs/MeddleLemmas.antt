@@ -181,6 +181,10 @@ meddled {tally = tally} {words = words} {gave0 = gave0} {gave = gave} {l0 = l0} 
           undisturbed r h.story _ _ _ h.statements h.accesses (subst (λ (o : Option Config). (fresh o).public.save ≡ false) (sym parses.settings.settings) unsaved) refl ((later.steady steady).quiet before_there);
       unchanged = λ all.
           let honest : IsHonest s0 s1 = record { tells = refl; no_lie = no_lie_by here s1 there (none_acts here (length s1.asked) all) } in (honest, honest_status r honest);
+      cut =
+          let rose = h.accesses.cut in
+          let most = there.counted in
+          omega (arith, rose, most, faults);
       failed = λ alone.
           let rose = h.accesses.failed alone in
           let most = there.counted in
