@@ -12,6 +12,7 @@ use Rattle.ob_exec.proofs.LeavesRead.{behind}
 use Rattle.ob_headline.proofs.FullLemmas.{met_script}
 use Rattle.ob_headline.specs.Accesses.{AreSeen, StopsWithin, any_cut}
 use Rattle.ob_headline.specs.Disturbed.{MeantUntil}
+use Rattle.ob_headline.specs.Failures.{RisesBy}
 use Rattle.ob_headline.specs.Meaning.{AnswersFrom, AnswersIn, AnswersMeant}
 use Rattle.ob_headline.specs.Statements.{SpellFirst, statements}
 use Rattle.ob_headline.specs.Words.{Answer, Begins}
@@ -75,10 +76,10 @@ module _ {R : Type 0} (state : R → RevState) where
         one_last = rest.one_last;
         in_access = rest.in_access;
         each_seen = rest.each_seen;
-        lawful = λ Failed fails d drawn g. (
+        lawful = λ most old fails d drawn g. (
           is,
-          subst (λ (o : Option Gathering). AreSeen (StopsWithin ending Failed (Full state m2)) (public_of m0.engine) (asked_of m0) o rest.spelt answers (rest.seen ++ rest.last)) bad.gathered
-              (rest.lawful Failed fails d drawn g),
+          subst (λ (o : Option Gathering). AreSeen (StopsWithin ending (RisesBy most old m2.store.faults) (Full state m2)) (public_of m0.engine) (asked_of m0) o rest.spelt answers (rest.seen ++ rest.last)) bad.gathered
+              (rest.lawful most old fails d drawn g),
         );
         passed = rest.passed;
         asked = rest.asked;
@@ -226,7 +227,7 @@ module _ {R : Type 0} (state : R → RevState) where
         one_last = rest.one_last;
         in_access = rest.in_access;
         each_seen = ap (λ (n : ℕ). suc n) rest.each_seen;
-        lawful = λ Failed fails d drawn g. (
+        lawful = λ most old fails d drawn g. (
           refl,
           did.does.lawful,
           (
@@ -236,10 +237,10 @@ module _ {R : Type 0} (state : R → RevState) where
             did.planned,
             alone_joins p (asked_of m0) m0.gathered did.stmt here (Ok one.outcome) _ did.does.alone did.does.ran.ends,
           ),
-          subst (λ (o : Option Gathering). AreSeen (StopsWithin ending Failed (Full state m2)) (next p sk here) (asked_of m0 + length (script p sk here)) o rest.spelt answers all) did.gathered
-              (subst (λ (q : Public). AreSeen (StopsWithin ending Failed (Full state m2)) q (asked_of m0 + length (script p sk here)) m1.gathered rest.spelt answers all) public_is
-              (subst (λ (n : ℕ). AreSeen (StopsWithin ending Failed (Full state m2)) (public_of m1.engine) n m1.gathered rest.spelt answers all) asked_is
-              (rest.lawful Failed (λ beside. fails (beside_more (record { skeleton = sk; seen = here }) rest.seen m0.store.faults m1.store.faults m2.store.faults rises beside))
+          subst (λ (o : Option Gathering). AreSeen (StopsWithin ending (RisesBy most old m2.store.faults) (Full state m2)) (next p sk here) (asked_of m0 + length (script p sk here)) o rest.spelt answers all) did.gathered
+              (subst (λ (q : Public). AreSeen (StopsWithin ending (RisesBy most old m2.store.faults) (Full state m2)) q (asked_of m0 + length (script p sk here)) m1.gathered rest.spelt answers all) public_is
+              (subst (λ (n : ℕ). AreSeen (StopsWithin ending (RisesBy most old m2.store.faults) (Full state m2)) (public_of m1.engine) n m1.gathered rest.spelt answers all) asked_is
+              (rest.lawful most old (λ beside. fails (beside_more (record { skeleton = sk; seen = here }) rest.seen m0.store.faults m1.store.faults m2.store.faults rises beside))
               (behind d (draws_taken p sk here.end)) (did.does.ran.goes_on.drawn d drawn) (given_after state m0 m1 did.stmt (Ok one.outcome) did.does d drawn g did.does.ran.goes_on.lives)))),
         );
         passed = asked_more m0 m1 m text one did rest.seen rest.passed;
@@ -388,14 +389,14 @@ module _ {R : Type 0} (state : R → RevState) where
         one_last = rest.one_last;
         in_access = rest.in_access;
         each_seen = ap (λ (n : ℕ). suc n) rest.each_seen;
-        lawful = λ Failed fails d drawn g. (
+        lawful = λ most old fails d drawn g. (
           refl,
           with_lawful state m0 m1 text one with,
           (with_says state m0 m1 text one with, with_failed state m0 m1 text one with, with_plan state m0 m1 text one with, with_joins state m0 m1 text one with),
-          subst (λ (o : Option Gathering). AreSeen (StopsWithin ending Failed (Full state m2)) (next p sk here) (asked_of m0 + length (script p sk here)) o rest.spelt answers all) with.gathered
-              (subst (λ (q : Public). AreSeen (StopsWithin ending Failed (Full state m2)) q (asked_of m0 + length (script p sk here)) m1.gathered rest.spelt answers all) (sym still)
-              (subst (λ (n : ℕ). AreSeen (StopsWithin ending Failed (Full state m2)) p n m1.gathered rest.spelt answers all) (sym count)
-              (rest.lawful Failed (λ beside. fails (beside_more x rest.seen m0.store.faults m0.store.faults m2.store.faults (uncut_rises (is_cut here.end) m0.store.faults m0.store.faults off refl) beside)) d drawn g))),
+          subst (λ (o : Option Gathering). AreSeen (StopsWithin ending (RisesBy most old m2.store.faults) (Full state m2)) (next p sk here) (asked_of m0 + length (script p sk here)) o rest.spelt answers all) with.gathered
+              (subst (λ (q : Public). AreSeen (StopsWithin ending (RisesBy most old m2.store.faults) (Full state m2)) q (asked_of m0 + length (script p sk here)) m1.gathered rest.spelt answers all) (sym still)
+              (subst (λ (n : ℕ). AreSeen (StopsWithin ending (RisesBy most old m2.store.faults) (Full state m2)) p n m1.gathered rest.spelt answers all) (sym count)
+              (rest.lawful most old (λ beside. fails (beside_more x rest.seen m0.store.faults m0.store.faults m2.store.faults (uncut_rises (is_cut here.end) m0.store.faults m0.store.faults off refl) beside)) d drawn g))),
         );
         passed = rest.passed ∙ ap (λ (l : List Access). m0.store.asked ++ l) (sym (traces rest.seen));
         asked = rest.asked ∙ ap (λ (l : List Access). m0.store.asked ++ l) (sym (traces all));
