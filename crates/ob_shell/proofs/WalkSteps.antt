@@ -28,7 +28,7 @@ use Rattle.ob_shell.proofs.DisturbLemmas.{before_less, begins_more, crosses, few
 use Rattle.ob_shell.proofs.FailureLemmas.{answered, beside_more, cut_rises, cuts_more, fails_more, own_rises, uncut_rises}
 use Rattle.ob_shell.proofs.HowLemmas.{gathered_by, how_alone, meets_first, met_all, met_room}
 use Rattle.ob_shell.proofs.LeafLemmas.{Reads, given_after, reads_more, reads_unasked}
-use Rattle.ob_shell.proofs.LeavePath.{Path}
+use Rattle.ob_shell.proofs.LeavePath.{Along, Path}
 use Rattle.ob_shell.proofs.ReplayLemmas.{counts_on, draws_after, free_holds, holds_free, stands_after}
 use Rattle.ob_shell.proofs.WalkLemmas.{EarlyFrom, Full, Walked, alone_joins, answered_by, early_answered, end_cut, failed_by, none_saved, or_first, or_rest, reads_true, refused_is, same_by, says, world}
 use Rattle.ob_shell.proofs.WithLemmas.{batched, failed_with, means_with, meant_with, next_with, room_with, script_with, seen_with, uncut_with, with_failed, with_joins, with_lawful, with_plan, with_says}
@@ -86,7 +86,7 @@ module _ {R : Type 0} (state : R → RevState) where
         keys = rest.keys;
         start = rest.start;
         from_closing = rest.from_closing;
-        along = (m1, record { same = same; free = bad.free; owed = bad.owed }, there.along);
+        along = (m1, record { same = same; free = bad.free; owed = bad.owed }, subst (λ (y : Machine R). Along state ending y m2 rest.spelt answers (rest.seen ++ rest.last)) (sym same) rest.along);
         public = rest.public;
         unfailed = rest.unfailed;
         cuts = rest.cuts;
@@ -403,7 +403,7 @@ module _ {R : Type 0} (state : R → RevState) where
         keys = rest.keys;
         start = rest.start;
         from_closing = rest.from_closing;
-        along = (m1, inr (record { same = same; along = with.along; owed = with.owed }), there.along);
+        along = (m1, inr (record { same = same; along = with.along; owed = with.owed }), subst (λ (y : Machine R). Along state ending y m2 rest.spelt answers (rest.seen ++ rest.last)) (sym same) rest.along);
         public = rest.public ∙ ap (λ (q : Public). all_public q rest.seen) (sym still);
         unfailed = λ not. rest.unfailed (or_rest (is_cut here.end) (any_cut all) not);
         cuts = cuts_more x rest.seen m0.store.faults m0.store.faults m2.store.faults (uncut_rises (is_cut here.end) m0.store.faults m0.store.faults off refl) rest.cuts;
