@@ -78,7 +78,6 @@ use Rattle.ob_shell.specs.Tallies.{flagged, has_refused}
 use Rattle.ob_shell.specs.Top.{EndsUntampered, TraceSink, Carried, RanAfter}
 use Rattle.ob_shell.specs.Traces.{Traced}
 use Rattle.ob_store.proofs.Steps.{since_trans}
-use Rattle.ob_store.specs.Calls.{IsSteady}
 use Rattle.ob_store.specs.Runs.{Later, Since}
 use Rattle.ob_store.specs.State.{Lie, StoreState}
 use Rattle.ob_vault.specs.Numbers.{number_after}
