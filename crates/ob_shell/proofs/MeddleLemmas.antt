@@ -11,13 +11,13 @@ use Rattle.ob_gen.specs.declared.tally.Tally.{Tally}
 use Rattle.ob_headline.specs.Bases.{fresh}
 use Rattle.ob_headline.specs.Endings.{status_of}
 use Rattle.ob_headline.specs.Accesses.{Accesses}
-use Rattle.ob_headline.specs.Failures.{RisesBy, cut_off, failures}
+use Rattle.ob_headline.specs.Failures.{RisesBy, cut_off}
 use Rattle.ob_headline.specs.Headline.{Headline}
 use Rattle.ob_headline.specs.Settings.{MeddleParses, ParsesChanges, settings_of}
 use Rattle.ob_headline.specs.Statements.{Statements, statements}
 use Rattle.ob_headline.specs.Story.{Story}
 use Rattle.ob_headline.specs.Usage.{is_traced, meddle_usage}
-use Rattle.ob_headline.specs.Words.{Answer, Faults, IsHonest, Outside, SinksRose, faults_of, keys_in, outside_of}
+use Rattle.ob_headline.specs.Words.{Faults, IsHonest, Outside, SinksRose, faults_of, keys_in, outside_of}
 use Rattle.ob_headline.specs.declared.ending.Ending.{Ending}
 use Rattle.ob_headline.specs.declared.ending.Ending.TheVariants.{Usage, BadKey, Ran}
 use Rattle.ob_headline.specs.declared.ending.Report.{Report}
