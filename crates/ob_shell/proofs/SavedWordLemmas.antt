@@ -1,5 +1,5 @@
 -- What a command makes of the words of a run whose tables may be saved.
-use Rattle.std.proofs.Common.{sym, ap, refl, true, ◌≡◌, ◌∙◌, List, [], Some, None}
+use Rattle.std.proofs.Common.{sym, true, ◌≡◌, ◌∙◌, List, [], Some, None}
 use Rattle.clap.specs.Words.{App, Text, HasMatchesOf, fault_of, first_value, is_simple, is_simple_and_free, found_of}
 use Rattle.clap.specs.declared.parser.matches.ArgMatches.{ArgMatches}
 use Rattle.ob_headline.specs.Settings.{IsTakenSaved, ParsesSaved, generated_by, saved_settings_of}
