@@ -1,5 +1,6 @@
 use Rattle.std.proofs.Common.{List, ◌∙◌, refl, inl, inr, arith, subst, sym}
 use Rattle.ob_base.specs.declared.access.Access.{Access}
+use Rattle.ob_gen.specs.declared.tally.Tally.{Tally}
 use Rattle.ob_print.proofs.CutLemmas.{Outputs-by}
 use Rattle.ob_shell.proofs.FlushLemmas.{batch_unsunk, idle_batch, lost_batch, lost_quiet, lost_with, served_batch, stopped_batch, traced_only, traced_quiet}
 use Rattle.ob_shell.proofs.LetGoLemmas.{asked_from, batch_from}
@@ -97,6 +98,6 @@ returns-in-Err-clause-serves g c =
           stopped_batch g.R.Revisions.state c.args.engine.now c.run_batch.new.engine s0 s1 _ _ c.args.first.now c.args.rest.now c.requires.ready.agrees c.requires.batch c.args.tracing h comes held spelt c.in-Err.stop _ ran cut;
       traced = tt;
       traced_stop = record { seen = _; grew = ran.carried.ran.asked; cut = rw (← split) (Outputs-by (lost_quiet c.trace_from-in-Err.result c.is_err-quiet.result c.is_err-quiet.ensures.value) cut) };
-      cause = traced_only c.in-Err.stop (batch_unsunk c.in-Err.stop c.requires.batch ran) _ _ _ c.trace_from-in-Err.ensures.cause.later;
+      cause = traced_only Tally c.in-Err.stop (batch_unsunk c.in-Err.stop c.requires.batch ran) _ _ _ c.trace_from-in-Err.ensures.cause.later;
       quiet = traced_quiet c.trace_from-in-Err.result c.is_err-quiet.result _ _ _ c.is_err-quiet.ensures.value c.trace_from-in-Err.ensures.cause;
     }
