@@ -127,7 +127,7 @@ lines_cut {w0 = w0} {w1 = w1} o outcomes out fault =
     }
 
 -- the first was lost, or nothing of the others was written
-pub first_cut : {w0 w1 : Option (List ℕ)} {F : Type 0} (o : Outcome) (outcomes : List Outcome) → Outputs w0 w1 F (closing_line o) → LinesCut (o ∷ outcomes) w0 w1 F
+first_cut : {w0 w1 : Option (List ℕ)} {F : Type 0} (o : Outcome) (outcomes : List Outcome) → Outputs w0 w1 F (closing_line o) → LinesCut (o ∷ outcomes) w0 w1 F
 first_cut {w0 = w0} {w1 = w1} {F = F} o outcomes out = record {
   done = [];
   one = o;
@@ -136,6 +136,11 @@ first_cut {w0 = w0} {w1 = w1} {F = F} o outcomes out = record {
   whole = record { after = out.grown; appends = subst (λ (l : List ℕ). Appends w0 w1 (l ++ out.grown)) (sym lines_nil) out.appends };
   cut = subst (λ (l : List ℕ). Outputs w0 w1 F (l ++ closing_line o)) (sym lines_nil) out;
 }
+
+-- the same where the first was lost, or a part of the trace behind it was
+pub first_lost : {w0 w1 t0 t1 : Option (List ℕ)} {out0 out1 : ℕ} {text : List ℕ} (o : Outcome) (outcomes : List Outcome) → Outputs w0 w1 (Rises out0 out1) (closing_line o) → Outputs t0 t1 (Unit {0}) text → BatchCut (o ∷ outcomes) w0 w1 t0 t1 text out0 out1
+unfolding first_cut
+first_lost o outcomes line traced = record { lines = first_cut o outcomes line; traced = traced; behind = inl refl }
 
 -- ---- the first, and behind it the others
 module _ {A E : Type 0} (w0 w1 w2 : Option (List ℕ)) (o : Outcome) (outcomes : List Outcome) (first : Appends w0 w1 (closing_line o)) where
