@@ -186,12 +186,12 @@ batch_unsunk {first = first} {e0 = e0} {s0 = s0} stop batch ran is =
 
 -- its stop, and the trace behind it
 pub traced_only : (T : Type 0) (stop : RunStop) → (stop ≡ Runs.SinkFault → ⊥) → (out t0 t1 : ℕ) → t0 ≤ t1 → StopCause {T = T} (Unit {0}) (faults_of 0 out t0) (faults_of 0 out t1) (Err (session_stop stop))
-traced_only T (Runs.Tampered q x) not out t0 t1 later = (λ alone. refl, omega arith, later)
+traced_only T (Runs.Tampered q x) not out t0 t1 later = ((λ alone. refl, inl refl), omega arith, later)
 traced_only T Runs.SinkFault not out t0 t1 later = absurd (not refl)
-traced_only T Runs.NoMemory not out t0 t1 later = (λ alone. refl, omega arith, later)
-traced_only T Runs.StoreFault not out t0 t1 later = (λ alone. refl, omega arith, later)
-traced_only T Runs.StashFull not out t0 t1 later = (λ alone. refl, omega arith, later)
-traced_only T Runs.KeeperFault not out t0 t1 later = (λ alone. refl, omega arith, later)
+traced_only T Runs.NoMemory not out t0 t1 later = ((λ alone. refl, inl refl), omega arith, later)
+traced_only T Runs.StoreFault not out t0 t1 later = ((λ alone. refl, inl refl), omega arith, later)
+traced_only T Runs.StashFull not out t0 t1 later = ((λ alone. refl, inl refl), omega arith, later)
+traced_only T Runs.KeeperFault not out t0 t1 later = ((λ alone. refl, inl refl), omega arith, later)
 
 pub traced_quiet : {T E : Type 0} (r : Result T E) (quiet : Bool) (out t0 t1 : ℕ) → quiet ≡ is_err r → HasCause t0 t1 r → Silenced quiet (faults_of 0 out t0) (faults_of 0 out t1)
 traced_quiet (Ok x) quiet out t0 t1 is cause = rw is (refl, cause.kept)

@@ -19,7 +19,7 @@ returns-in_default-clause-serves g c =
       stopped = λ h held comes spelt. idle_batch c.args.tracing _ _ m h refl;
       traced = tt;
       traced_stop = traced_whole _ (traced_none _ _ _);
-      cause = (λ alone. refl, omega arith, omega arith);
+      cause = ((λ alone. refl, inl refl), omega arith, omega arith);
       quiet = (refl, refl);
     }
 
@@ -79,7 +79,7 @@ returns-in-Err-write_batch-clause-serves g c =
           (elim now.cut.behind [ inl none ↦ inl none | inr appends ↦ inr (traced_to (record { seen = _; grew = ran.carried.ran.asked; appends = rw (← split) appends })) ]);
       traced = tt;
       traced_stop = record { seen = _; grew = ran.carried.ran.asked; cut = rw (← split) (Outputs-by (λ err. refl) now.cut.traced) };
-      cause = (λ alone. refl, now.cause.0);
+      cause = ((λ alone. refl, inl refl), now.cause.0);
       quiet = now.cause.0;
     }
 

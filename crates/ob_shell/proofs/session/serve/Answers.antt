@@ -1,7 +1,7 @@
-use Rattle.std.proofs.Common.{◌∙◌, Err, Ok}
+use Rattle.std.proofs.Common.{◌∙◌, Err, Ok, inl}
 use Rattle.ob_shell.proofs.GatherLemmas.{are_batched}
 use Rattle.ob_shell.proofs.RunLemmas.{ran_flushed, ran_unflushed}
-use Rattle.ob_shell.proofs.ServedLemmas.{alone_read, stop_stays, waited_quiet, waited_stops}
+use Rattle.ob_shell.proofs.ServedLemmas.{alone_read, source_later, stop_stays, waited_quiet, waited_stops}
 use Rattle.ob_shell.proofs.TraceLemmas.{traced_cut, traced_then, traced_whole}
 use Rattle.ob_tables.specs.Agreeing.{count_of, public_of}
 use Rattle.ob_shell.proofs.session.serve.Goals as goal
@@ -69,7 +69,7 @@ returns-in-Err-flush-clause-cause g c =
     let end = c.flush.new in
     rw c.from.ensures
     (waited_stops _ _ _ c.in-Err-flush.halted.stop (g.I.Source.faults c.args.input.now) (g.I.Source.faults there.input) (g.K.Sink.faults c.args.out.now, g.T.Sink.faults c.args.trace.now) (g.K.Sink.faults there.out, g.T.Sink.faults there.trace)
-    (g.K.Sink.faults end.out, g.T.Sink.faults end.trace) (λ alone. before.source) before.out before.trace c.in-Err-flush.ensures.takes.cause)
+    (g.K.Sink.faults end.out, g.T.Sink.faults end.trace) (λ alone. before.source, inl before.source) before.out before.trace c.in-Err-flush.ensures.takes.cause)
 
 -- the source may have failed before one of them was stopped, where INSERTs are served together
 pub returns-in-Err-flush-2-clause-cause : goal.returns-in-Err-flush-2-clause-cause
@@ -79,7 +79,7 @@ returns-in-Err-flush-2-clause-cause g c =
     let end = c.flush-2.new in
     rw c.from.ensures
     (waited_stops _ _ _ c.in-Err-flush-2.halted.stop (g.I.Source.faults c.args.input.now) (g.I.Source.faults there.input) (g.K.Sink.faults c.args.out.now, g.T.Sink.faults c.args.trace.now) (g.K.Sink.faults there.out, g.T.Sink.faults there.trace)
-    (g.K.Sink.faults end.out, g.T.Sink.faults end.trace) (λ alone. absurd (alone_read read.reads read.waits c.in-Err-flush-2.ensures.idle alone)) read.quiet.0 read.quiet.1 c.in-Err-flush-2.ensures.takes.cause)
+    (g.K.Sink.faults end.out, g.T.Sink.faults end.trace) (λ alone. absurd (alone_read read.reads read.waits c.in-Err-flush-2.ensures.idle alone), source_later _ _ c.in-Err-Unread.stop _ _ read.cause) read.quiet.0 read.quiet.1 c.in-Err-flush-2.ensures.takes.cause)
 
 pub returns-in-Err-flush-clause-quiet : goal.returns-in-Err-flush-clause-quiet
 returns-in-Err-flush-clause-quiet g c =
