@@ -166,7 +166,7 @@ idle_batch {state = state} {w = w} {t = t} {Lost = Lost} on texts stop m g memor
 }
 
 -- ---- a batch that was stopped
-pub lost_with : {w0 w1 : Option (List ℕ)} {outcomes : List Outcome} {F G : Type 0} → (F → G) → LinesCut outcomes w0 w1 F → LinesCut outcomes w0 w1 G
+abbrev pub lost_with : {w0 w1 : Option (List ℕ)} {outcomes : List Outcome} {F G : Type 0} → (F → G) → LinesCut outcomes w0 w1 F → LinesCut outcomes w0 w1 G
 lost_with by cut = record { done = cut.done; one = cut.one; rest = cut.rest; parts = cut.parts; whole = cut.whole; cut = Outputs-by by cut.cut }
 
 -- an INSERT emits nothing

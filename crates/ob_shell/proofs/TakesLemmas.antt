@@ -90,6 +90,11 @@ takes_idle on {Then = Then} batch tally w t old m x ready waits then = record {
   quiet = (refl, refl);
 }
 
+-- whatever it is answered with
+pub takes_as : {R A B : Type 0} {state : R → RevState} {Saves : Type 0} {on : Bool} {May : Option Gathering → Type 0} {Then : (old new : Option Gathering) → Type 0} {b0 b1 : List Stmt} {xs : List (List ℕ)} {t0 t1 : Tally} {w0 w1 s0 s1 : Option (List ℕ)} {old new : Faults} {m0 m1 : Machine R} {x : A} (y : B)
+    → TakesTexts state Saves on May Then b0 b1 xs t0 t1 w0 w1 s0 s1 old new m0 m1 (Ok x) → TakesTexts state Saves on May Then b0 b1 xs t0 t1 w0 w1 s0 s1 old new m0 m1 (Ok y)
+takes_as y takes = record { ready = takes.ready; waits = takes.waits; done = takes.done; stopped = tt; traced = takes.traced; traced_stop = tt; cause = takes.cause; quiet = takes.quiet }
+
 -- a stop came before the texts that come behind
 pub takes_broken : {R T U : Type 0} {state : R → RevState} {Saves Saves' : Type 0} {on : Bool} {May May' : Option Gathering → Type 0} {Then Then' : (old new : Option Gathering) → Type 0} {b0 b1 c1 : List Stmt} {t0 t1 u1 : Tally} {w0 w1 s0 s1 : Option (List ℕ)} {old new : Faults} {m0 m1 : Machine R} (halted : TextHalted) (ys : List (List ℕ))
     → ((g : Option Gathering) → May' g → May g) → StopCause {T = U} (Unit {0}) old new (stop_of (halted_of (Err halted))) → TakesTexts {T = T} state Saves on May Then b0 b1 [] t0 t1 w0 w1 s0 s1 old new m0 m1 (Err halted)
