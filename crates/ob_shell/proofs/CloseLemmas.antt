@@ -1,6 +1,6 @@
 -- What a run promises once its last line was written.
 use Rattle.std.specs.Prelude.{⊤, ◌≢◌}
-use Rattle.std.proofs.Common.{◌≡◌, ◌⊎◌, ℕ, Bool, true, false, List, [], ◌++◌, Option, Ok, Err, refl, sym, subst, arith}
+use Rattle.std.proofs.Common.{◌≡◌, ◌⊎◌, ℕ, Bool, true, false, List, [], ◌++◌, Option, Ok, Err, refl, sym, inl, subst, arith}
 use Rattle.ob_base.specs.Counts.{Rises}
 use Rattle.ob_base.specs.declared.config.Config.{Config}
 use Rattle.ob_base.specs.declared.refusal.Stop.TheVariants.{Tampered, SourceFault, SinkFault, NoMemory, InputLimit, StoreFault, StashFull, KeeperFault}
@@ -55,7 +55,7 @@ words_end Words.NoMemory not = tt
 
 pub words_cause : (Alone : Type 0) (error : WordsErr) (faults : Faults) → EndingCause Alone (refused_by error) faults faults
 words_cause Alone Words.Usage faults = record { source = refl; out = refl; trace = refl }
-words_cause Alone Words.NoMemory faults = (λ alone. refl, omega arith, omega arith)
+words_cause Alone Words.NoMemory faults = ((λ alone. refl, inl refl), omega arith, omega arith)
 
 unfoldable pub words_shown : {F : Type 0} {keys : List ℕ → KeySet} (tally : Tally) (tr : TraceSink) (settings : Option Config) (error : WordsErr) (l : Option (List ℕ)) (gave : ℕ) (w : Option (List ℕ)) (s : StoreState) → IsFresh s → tr.new ≡ tr.old
     → RunShown tally tr (fresh settings) keys l l gave w w s s 0 (refused_by error) [] F

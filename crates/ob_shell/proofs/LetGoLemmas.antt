@@ -5,7 +5,8 @@ use Rattle.ob_base.specs.declared.schema.Shape.{Shape}
 use Rattle.ob_base.specs.declared.schema.Shape.TheVariants.{Flat as FlatShape, Indexed}
 use Rattle.ob_base.specs.declared.schema.Table.{Table}
 use Rattle.ob_base.specs.Stored.{Stored}
-use Rattle.ob_exec.specs.Ran.{KeeperBehind, RanWhole}
+use Rattle.ob_exec.specs.Ran.{CarriedOut, KeeperBehind, RanWhole}
+use Rattle.ob_exec.specs.RanBatch.{RanBatch}
 use Rattle.ob_flat.specs.Flats as F
 use Rattle.ob_flat.specs.declared.flat.Flat.{Flat}
 use Rattle.ob_gen.specs.declared.tally.Tally.{Tally}
@@ -16,7 +17,8 @@ use Rattle.ob_oram.specs.declared.index.Index.{Index}
 use Rattle.ob_path.specs.States.{State}
 use Rattle.ob_row.specs.Rows.{Row}
 use Rattle.ob_row.specs.Slots.{Slots}
-use Rattle.ob_shell.specs.Steps.{AnswersAll, Does, IsReady, Machine, Step, Steps}
+use Rattle.ob_reopen.specs.Keepers.{KeeperState}
+use Rattle.ob_shell.specs.Steps.{AnswersAll, Does, IsReady, Machine, Owes, Step, Steps, statements_of}
 use Rattle.ob_shell.specs.Traces.{LetsGoFrom}
 use Rattle.ob_sql.specs.Skeleton.{skeleton}
 use Rattle.ob_sql.specs.declared.stmt.Stmt.{Stmt}
@@ -187,8 +189,8 @@ since_left room s t is = record {
   steady = λ steady. steady_left room t (is.steady steady);
 }
 
--- ---- of a statement that was answered
-module _ {R : Type 0} (state : R → RevState) (room : ℕ) (stmt : Stmt) (outcome : Outcome) (old : Engine R) (s : StoreState) (new : Engine R) (t : StoreState) where
+-- ---- of a statement that was answered, and of others that were served with it
+module _ {R : Type 0} (state : R → RevState) (room : ℕ) (stmt : Stmt) (owed : List Stmt) (outcome : Outcome) (old : Engine R) (s : StoreState) (new : Engine R) (t : StoreState) where
   abbrev pub last : StoreState
   last = without_list room t
 
@@ -200,10 +202,10 @@ module _ {R : Type 0} (state : R → RevState) (room : ℕ) (stmt : Stmt) (outco
   told_left true tables d Whole whole kept = record { unindexed = kept.unindexed; seen = kept.seen; held = represents_left state new t room tables kept.held }
   told_left false tables d Whole whole meant = whole meant
 
-  means_left : Means state stmt (Ok outcome) old s new t → Means state stmt (Ok outcome) old s new last
+  means_left : Means state stmt owed (Ok outcome) old s new t → Means state stmt owed (Ok outcome) old s new last
   means_left means = record {
     told = λ tables d of reads.
-        told_left (is_fault outcome) tables d (λ (u : StoreState). Meant state stmt (count_of old s) d tables outcome old new u)
+        told_left (is_fault outcome) tables d (λ (u : StoreState). Meant state stmt owed (count_of old s) d tables outcome old new u)
         (λ meant. record { answer = meant.answer; seen = meant.seen; held = represents_left state new t room _ meant.held })
         (means.told tables d of (reads_back tables reads));
     room = λ tables d of reads. means.room tables d of (reads_back tables reads);
@@ -237,15 +239,9 @@ module _ {R : Type 0} (state : R → RevState) (room : ℕ) (stmt : Stmt) (outco
     stops = ran.stops;
   }
 
--- ---- of a text
-module _ {R : Type 0} (state : R → RevState) (m0 m1 : Machine R) (room : ℕ) where
-  abbrev pub behind : Machine R
-  behind = record m1 { store = without_list room m1.store }
-
-  keeper_left : (stmt : Stmt) (outcome : Outcome) → KeeperBehind state stmt (Ok outcome) m0.engine m0.store m1.engine m1.store m0.keeper m1.keeper
-      → KeeperBehind state stmt (Ok outcome) m0.engine m0.store m1.engine behind.store m0.keeper m1.keeper
-  keeper_left stmt outcome (inl alone) = inl alone
-  keeper_left stmt outcome (inr was) = inr (record {
+  keeper_left : (k0 k1 : KeeperState) → KeeperBehind state stmt owed (Ok outcome) old s new t k0 k1 → KeeperBehind state stmt owed (Ok outcome) old s new last k0 k1
+  keeper_left k0 k1 (inl alone) = inl alone
+  keeper_left k0 k1 (inr was) = inr (record {
     saved = was.saved;
     outcome = was.outcome;
     engine = was.engine;
@@ -253,7 +249,7 @@ module _ {R : Type 0} (state : R → RevState) (m0 m1 : Machine R) (room : ℕ) 
     ran = was.ran;
     whole = was.whole;
     means = was.means;
-    later = since_left room was.store m1.store was.later;
+    later = since_left room was.store t was.later;
     public = was.public;
     answered = was.answered;
     held = λ mark is.
@@ -263,22 +259,62 @@ module _ {R : Type 0} (state : R → RevState) (m0 m1 : Machine R) (room : ℕ) 
     kept = tt;
   })
 
+  carried_left : {Halts : Type 0} (k0 k1 : KeeperState) → CarriedOut state stmt owed Halts (Ok outcome) old s new t k0 k1 → CarriedOut state stmt owed Halts (Ok outcome) old s new last k0 k1
+  carried_left k0 k1 did = record {
+    ran = ran_left did.ran;
+    early = did.early;
+    lawful = did.lawful;
+    memory = λ is. absurd (cc is);
+    full = λ is. absurd (cc is);
+    emits = did.emits;
+    seals = λ good rows one closings. seals_now (world_of state new t).vault t room good _ (did.seals good rows one closings);
+    means = means_left did.means;
+    keeper = keeper_left k0 k1 did.keeper;
+    counts = did.counts;
+  }
+
+-- ---- of a batch that was answered
+module _ {R : Type 0} (state : R → RevState) (first : Stmt) (rest : List Stmt) (outcome : Outcome) (outcomes : List Outcome) (old : Engine R) (s : StoreState) (new : Engine R) (t : StoreState) (k0 k1 : KeeperState) where
+  batch_left : (room : ℕ) → RanBatch state first rest (Ok outcome) outcomes old s new t k0 k1 → RanBatch state first rest (Ok outcome) outcomes old s new (without_list room t) k0 k1
+  batch_left room did = record {
+    carried = carried_left state room first rest outcome old s new t k0 k1 did.carried;
+    shows = did.shows;
+    others = did.others;
+    told = λ tables d reads. did.told tables d (reads_back state room first rest outcome old s new t tables reads);
+  }
+
+  pub batch_from : (from : ℕ) (u : StoreState) → LetsGoFrom from t u → RanBatch state first rest (Ok outcome) outcomes old s new t k0 k1 → RanBatch state first rest (Ok outcome) outcomes old s new u k0 k1
+  batch_from from u (inl (none, same)) did = subst (λ (v : StoreState). RanBatch state first rest (Ok outcome) outcomes old s new v k0 k1) (sym same) did
+  batch_from from u (inr (more, room, is)) did = subst (λ (v : StoreState). RanBatch state first rest (Ok outcome) outcomes old s new v k0 k1) (sym is) (batch_left room did)
+
+-- ---- of a text
+module _ {R : Type 0} (state : R → RevState) (m0 m1 : Machine R) (room : ℕ) where
+  abbrev pub behind : Machine R
+  behind = record m1 { store = without_list room m1.store }
+
   does_left : (stmt : Stmt) (outcome : Outcome) → Does state m0 m1 stmt (Ok outcome) → Does state m0 behind stmt (Ok outcome)
   does_left stmt outcome does = record {
+    free = does.free;
+    alone = does.alone;
+    along = does.along;
     agrees = does.agrees;
-    ran = ran_left state room stmt outcome m0.engine m0.store m1.engine m1.store does.ran;
+    ran = ran_left state room stmt (statements_of m1.owed) outcome m0.engine m0.store m1.engine m1.store does.ran;
     early = does.early;
     lawful = does.lawful;
     memory = λ is. absurd (cc is);
     full = λ is. absurd (cc is);
     emits = does.emits;
     seals = λ good rows one closings. seals_now (world_of state m1.engine m1.store).vault m1.store room good _ (does.seals good rows one closings);
-    means = means_left state room stmt outcome m0.engine m0.store m1.engine m1.store does.means;
-    keeper = keeper_left stmt outcome does.keeper;
+    means = means_left state room stmt (statements_of m1.owed) outcome m0.engine m0.store m1.engine m1.store does.means;
+    keeper = keeper_left state room stmt (statements_of m1.owed) outcome m0.engine m0.store m1.engine m1.store m0.keeper m1.keeper does.keeper;
     counts = does.counts;
   }
 
-  -- it asked something, so it is no text that spells no statement
+  owes_left : (failed : Bool) (stmt : Stmt) (d : Draws) (tables : Tables) → by_fault failed (m1.owed ≡ []) (Owes m0 m1 stmt d tables) → by_fault failed (behind.owed ≡ []) (Owes m0 behind stmt d tables)
+  owes_left true stmt d tables none = none
+  owes_left false stmt d tables owes = record { whole = owes.whole; listed = owes.listed; same = owes.same; answered = owes.answered }
+
+  -- it asked something, so it is no text for which nothing was asked
   step_left : (text : List ℕ) (answer : Answer) → length m0.store.asked < length m1.store.asked → Step state m0 m1 text answer → Step state m0 behind text answer
   step_left text answer asks step = elim step.done [
     | inl bad ↦ absurd (let same = ap (λ (m : Machine R). length m.store.asked) bad.same in omega (arith, same, asks))
@@ -292,6 +328,8 @@ module _ {R : Type 0} (state : R → RevState) (m0 m1 : Machine R) (room : ℕ) 
         emitted = λ tables reads. did.emitted tables (record { tells = reads.tells; held = reads.held; nolie = reads.nolie });
         printed = did.printed;
         planned = did.planned;
+        gathered = did.gathered;
+        owes = λ tables d drawn reads. owes_left (is_fault answer.outcome) did.stmt d tables (did.owes tables d drawn (record { tells = reads.tells; held = reads.held; nolie = reads.nolie }));
       });
     }
   ]

@@ -10,6 +10,7 @@ use Rattle.ob_headline.proofs.PromptLemmas.{prompt_all, prompt_by}
 use Rattle.ob_headline.proofs.TextLemmas.{rest_of-append, rest_of-cons, rest_of-nil, rest_of-over, texts_of-append, texts_of-cons, texts_of-nil, texts_of-over}
 use Rattle.ob_headline.specs.Batches.{AnsweredBut}
 use Rattle.ob_headline.specs.Texts.{rest_after, rest_of, tail_text, text_max, texts_at, texts_in, texts_of}
+use Rattle.ob_headline.specs.Status.{StaysAlone}
 use Rattle.ob_headline.specs.Words.{before_read, faults_of}
 use Rattle.ob_mean.specs.Batches.{Gathering}
 use Rattle.ob_shell.proofs.FeedLemmas.{Fed-then}
@@ -195,7 +196,7 @@ module _ {R : Type 0} {state : R → RevState} {on : Bool} {f0 f2 : Fetch} (gave
     }
 
 -- the counts, beside that of a source which didn't fail
-served_cause : (T Alone : Type 0) (s0 s1 : ℕ) (old new : ℕ × ℕ) (stop : RunStop) → (Alone → s1 ≡ s0) → StopCause {T = T} (Unit {0}) (faults_of 0 old.0 old.1) (faults_of 0 new.0 new.1) (Err (session_stop stop))
+served_cause : (T Alone : Type 0) (s0 s1 : ℕ) (old new : ℕ × ℕ) (stop : RunStop) → StaysAlone Alone s0 s1 → StopCause {T = T} (Unit {0}) (faults_of 0 old.0 old.1) (faults_of 0 new.0 new.1) (Err (session_stop stop))
     → StopCause {T = T} Alone (faults_of s0 old.0 old.1) (faults_of s1 new.0 new.1) (Err (session_stop stop))
 served_cause T Alone s0 s1 old new (Runs.Tampered q x) same cause = (same, cause.1, cause.2)
 served_cause T Alone s0 s1 old new Runs.SinkFault same cause = (same, cause.1)
@@ -206,7 +207,7 @@ served_cause T Alone s0 s1 old new Runs.KeeperFault same cause = (same, cause.1,
 
 unread_cause : (T Alone : Type 0) (s0 s1 : ℕ) (old new : ℕ × ℕ) (stop : Stop) → s1 ≡ s0 → (stop ≡ Stops.NoMemory) ⊎ (stop ≡ Stops.InputLimit) → new.0 ≡ old.0 → new.1 ≡ old.1 → StopCause {T = T} Alone (faults_of s0 old.0 old.1) (faults_of s1 new.0 new.1) (Err stop)
 unread_cause T Alone s0 s1 old new stop same why out trace = elim why [
-  | inl is ↦ subst (λ (s : Stop). StopCause {T = T} Alone (faults_of s0 old.0 old.1) (faults_of s1 new.0 new.1) (Err s)) (sym is) (λ alone. same, omega (arith, out), omega (arith, trace))
+  | inl is ↦ subst (λ (s : Stop). StopCause {T = T} Alone (faults_of s0 old.0 old.1) (faults_of s1 new.0 new.1) (Err s)) (sym is) ((λ alone. same, inl same), omega (arith, out), omega (arith, trace))
   | inr is ↦ subst (λ (s : Stop). StopCause {T = T} Alone (faults_of s0 old.0 old.1) (faults_of s1 new.0 new.1) (Err s)) (sym is) (record { source = same; out = out; trace = trace })
 ]
 
@@ -234,7 +235,7 @@ module _ {R T : Type 0} (state : R → RevState) (Saves : Type 0) (on : Bool) (M
   pub more_cause : (Alone : Type 0) (s0 s1 : ℕ) (old new : ℕ × ℕ) → s1 ≡ s0 → (result : Result T Break) → ((stop : Stop) → Why stop → (stop ≡ Stops.NoMemory) ⊎ (stop ≡ Stops.InputLimit))
       → TakesMore state Saves on May Then b0 b1 texts Why r0 r1 w0 w1 t1 t2 (faults_of 0 old.0 old.1) (faults_of 0 new.0 new.1) m1 m2 result → StopCause Alone (faults_of s0 old.0 old.1) (faults_of s1 new.0 new.1) (stop_of (broken_of result))
   more_cause Alone s0 s1 old new same (Ok x) why takes = record { source = same; out = takes.cause.out; trace = takes.cause.trace }
-  more_cause Alone s0 s1 old new same (Err (Served halted)) why takes = served_cause T Alone s0 s1 old new halted.stop (λ alone. same) takes.cause
+  more_cause Alone s0 s1 old new same (Err (Served halted)) why takes = served_cause T Alone s0 s1 old new halted.stop (λ alone. same, inl same) takes.cause
   more_cause Alone s0 s1 old new same (Err (Unread stop)) why takes = unread_cause T Alone s0 s1 old new stop same (why stop takes.1) takes.0.cause.out takes.0.cause.trace
 
   pub more_quiet : (s0 s1 : ℕ) (old new : ℕ × ℕ) (result : Result T Break) → TakesMore state Saves on May Then b0 b1 texts Why r0 r1 w0 w1 t1 t2 (faults_of 0 old.0 old.1) (faults_of 0 new.0 new.1) m1 m2 result

@@ -187,12 +187,12 @@ stop_keeps SinkFault out0 out1 not cause = absurd (not refl)
 -- a stop of the engine, and what waited was flushed after it
 pub stop_cause : (T : Type 0) (stop : RunStop) (out0 out1 out2 : ℕ) → SinkStops (Err stop) out0 out1 → out1 ≤ out2
     → StopCause {T = T} (Unit {0}) (faults_of 0 out0 0) (faults_of 0 out2 0) (Err (session_stop stop))
-stop_cause T (Tampered region place) out0 out1 out2 cause later = (λ alone. refl, omega arith, omega arith)
-stop_cause T NoMemory out0 out1 out2 cause later = (λ alone. refl, omega arith, omega arith)
-stop_cause T StoreFault out0 out1 out2 cause later = (λ alone. refl, omega arith, omega arith)
-stop_cause T StashFull out0 out1 out2 cause later = (λ alone. refl, omega arith, omega arith)
-stop_cause T KeeperFault out0 out1 out2 cause later = (λ alone. refl, omega arith, omega arith)
-stop_cause T SinkFault out0 out1 out2 cause later = (λ alone. refl, inl (rises_later out0 out1 out2 cause later))
+stop_cause T (Tampered region place) out0 out1 out2 cause later = ((λ alone. refl, inl refl), omega arith, omega arith)
+stop_cause T NoMemory out0 out1 out2 cause later = ((λ alone. refl, inl refl), omega arith, omega arith)
+stop_cause T StoreFault out0 out1 out2 cause later = ((λ alone. refl, inl refl), omega arith, omega arith)
+stop_cause T StashFull out0 out1 out2 cause later = ((λ alone. refl, inl refl), omega arith, omega arith)
+stop_cause T KeeperFault out0 out1 out2 cause later = ((λ alone. refl, inl refl), omega arith, omega arith)
+stop_cause T SinkFault out0 out1 out2 cause later = ((λ alone. refl, inl refl), inl (rises_later out0 out1 out2 cause later))
 
 -- whether what waited could be flushed after it
 pub flush_silences : {T E : Type 0} (stop : RunStop) (r : Result T E) (quiet : Bool) (out0 out1 out2 : ℕ) → (stop ≡ SinkFault → ⊥) → SinkStops (Err stop) out0 out1 → quiet ≡ is_err r → HasCause out1 out2 r

@@ -1,10 +1,13 @@
 -- How a session ends behind its reading, once those that waited were served.
 use Rattle.std.specs.Prelude.{max, min}
 use Rattle.std.specs.Option.{option_map_or}
-use Rattle.std.proofs.Common.{◌≡◌, ◌≢◌, ◌-◌, inl, inr, ℕ, Bool, true, false, List, [], ◌∷◌, Option, Result, Err, refl, sym, ap, ◌∙◌, subst, arith}
+use Rattle.std.proofs.Common.{◌≡◌, ◌≢◌, ◌⊎◌, ◌-◌, inl, inr, ℕ, Bool, true, false, List, [], ◌∷◌, Option, Result, Err, refl, sym, ap, ◌∙◌, subst, arith}
+use Rattle.ob_base.specs.Counts.{Rises}
 use Rattle.ob_base.specs.declared.config.Public.{Public}
 use Rattle.ob_base.specs.declared.refusal.Stop.{Stop}
+use Rattle.ob_base.specs.declared.refusal.Stop.TheVariants as Stops
 use Rattle.ob_gen.specs.declared.tally.Tally.{Tally}
+use Rattle.ob_headline.specs.Status.{StaysAlone}
 use Rattle.ob_headline.specs.Words.{Faults, faults_of}
 use Rattle.ob_mean.proofs.BatchLemmas.{begins}
 use Rattle.ob_mean.specs.Batches.{batch_most}
@@ -22,6 +25,17 @@ use Rattle.ob_tables.specs.declared.stop.RunStop.{RunStop}
 use Rattle.ob_tables.specs.declared.stop.RunStop.TheVariants as Runs
 use Rattle.ob_vault.specs.State.{RevState}
 
+-- the count of the source's faults stays or rises
+pub source_later : (T Alone : Type 0) (stop : Stop) (old new : Faults) → StopCause {T = T} Alone old new (Err stop) → (new.source ≡ old.source) ⊎ Rises old.source new.source
+source_later T Alone (Stops.Tampered q x) old new cause = cause.0.1
+source_later T Alone Stops.SourceFault old new cause = inr cause.0
+source_later T Alone Stops.SinkFault old new cause = cause.0.1
+source_later T Alone Stops.NoMemory old new cause = cause.0.1
+source_later T Alone Stops.InputLimit old new cause = inl cause.source
+source_later T Alone Stops.StoreFault old new cause = cause.0.1
+source_later T Alone Stops.StashFull old new cause = cause.0.1
+source_later T Alone Stops.KeeperFault old new cause = cause.0.1
+
 -- ---- the counts
 -- the reading's stop, behind which those that waited were served
 pub stop_stays : (T Alone : Type 0) (stop : Stop) (s0 s1 : ℕ) (old mid new : ℕ × ℕ) → new.0 ≡ mid.0 → new.1 ≡ mid.1 → StopCause {T = T} Alone (faults_of s0 old.0 old.1) (faults_of s1 mid.0 mid.1) (Err stop) → StopCause {T = T} Alone (faults_of s0 old.0 old.1) (faults_of s1 new.0 new.1) (Err stop)
@@ -30,7 +44,7 @@ stop_stays T Alone stop s0 s1 old mid new out trace cause =
     subst (λ (f : Faults). StopCause {T = T} Alone (faults_of s0 old.0 old.1) f (Err stop)) same cause
 
 -- one of those that waited was stopped
-pub waited_stops : (T U Alone : Type 0) (stop : RunStop) (s0 s1 : ℕ) (old mid new : ℕ × ℕ) → (Alone → s1 ≡ s0) → mid.0 ≡ old.0 → mid.1 ≡ old.1 → StopCause {T = T} (Unit {0}) (faults_of 0 mid.0 mid.1) (faults_of 0 new.0 new.1) (Err (session_stop stop))
+pub waited_stops : (T U Alone : Type 0) (stop : RunStop) (s0 s1 : ℕ) (old mid new : ℕ × ℕ) → StaysAlone Alone s0 s1 → mid.0 ≡ old.0 → mid.1 ≡ old.1 → StopCause {T = T} (Unit {0}) (faults_of 0 mid.0 mid.1) (faults_of 0 new.0 new.1) (Err (session_stop stop))
     → StopCause {T = U} Alone (faults_of s0 old.0 old.1) (faults_of s1 new.0 new.1) (Err (session_stop stop))
 waited_stops T U Alone (Runs.Tampered q x) s0 s1 old mid new same out trace cause = (same, omega (arith, out, cause.1), omega (arith, trace, cause.2))
 waited_stops T U Alone Runs.SinkFault s0 s1 old mid new same out trace cause = (same, elim cause.1 [ inl rose ↦ inl (rises_earlier old.0 mid.0 new.0 (omega (arith, out)) rose) | inr rose ↦ inr (rises_earlier old.1 mid.1 new.1 (omega (arith, trace)) rose) ])

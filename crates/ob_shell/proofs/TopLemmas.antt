@@ -26,7 +26,7 @@ use Rattle.ob_headline.specs.Words.{Begins, Faults, SinksRose, Took, before_read
 use Rattle.ob_headline.specs.Statements.{SpellFirst, statements}
 use Rattle.ob_headline.specs.Accesses.{AreSeen, any_cut, ends_within}
 use Rattle.ob_headline.specs.Meaning.{AnswersFrom}
-use Rattle.ob_headline.specs.Status.{HasSecret}
+use Rattle.ob_headline.specs.Status.{HasSecret, StaysAlone}
 use Rattle.ob_headline.specs.declared.ending.Ending.{Ending}
 use Rattle.ob_headline.specs.declared.ending.Ending.TheVariants.{Usage, BadKey, Ran as RanEnding}
 use Rattle.ob_mean.proofs.BatchLemmas.{most_some}
@@ -451,12 +451,12 @@ cause_alone Alone BadKey old new cause = cause
 cause_alone Alone (RanEnding (Ok refused)) old new cause = cause
 cause_alone Alone (RanEnding (Err SourceFault)) old new cause = cause
 cause_alone Alone (RanEnding (Err InputLimit)) old new cause = cause
-cause_alone Alone (RanEnding (Err (Tampered region place))) old new cause = (λ alone. cause.0 tt, cause.1, cause.2)
-cause_alone Alone (RanEnding (Err SinkFault)) old new cause = (λ alone. cause.0 tt, cause.1)
-cause_alone Alone (RanEnding (Err NoMemory)) old new cause = (λ alone. cause.0 tt, cause.1, cause.2)
-cause_alone Alone (RanEnding (Err StoreFault)) old new cause = (λ alone. cause.0 tt, cause.1, cause.2)
-cause_alone Alone (RanEnding (Err StashFull)) old new cause = (λ alone. cause.0 tt, cause.1, cause.2)
-cause_alone Alone (RanEnding (Err KeeperFault)) old new cause = (λ alone. cause.0 tt, cause.1, cause.2)
+cause_alone Alone (RanEnding (Err (Tampered region place))) old new cause = ((λ alone. cause.0.0 tt, cause.0.1), cause.1, cause.2)
+cause_alone Alone (RanEnding (Err SinkFault)) old new cause = ((λ alone. cause.0.0 tt, cause.0.1), cause.1)
+cause_alone Alone (RanEnding (Err NoMemory)) old new cause = ((λ alone. cause.0.0 tt, cause.0.1), cause.1, cause.2)
+cause_alone Alone (RanEnding (Err StoreFault)) old new cause = ((λ alone. cause.0.0 tt, cause.0.1), cause.1, cause.2)
+cause_alone Alone (RanEnding (Err StashFull)) old new cause = ((λ alone. cause.0.0 tt, cause.0.1), cause.1, cause.2)
+cause_alone Alone (RanEnding (Err KeeperFault)) old new cause = ((λ alone. cause.0.0 tt, cause.0.1), cause.1, cause.2)
 
 -- the counts after the last line
 pub status_cause : (Alone : Type 0) (ending : Ending) (old mid new : Faults) → EndingCause Alone ending old mid → mid.out ≤ new.out → new.trace ≡ mid.trace → new.source ≡ mid.source
@@ -468,13 +468,13 @@ status_cause Alone (RanEnding (Ok refused)) old mid new cause later trace source
   out = none refl ∙ cause.out;
   trace = trace ∙ cause.trace;
 }
-status_cause Alone (RanEnding (Err (Tampered region place))) old mid new cause later trace source none = λ alone. source ∙ cause.0 alone
+status_cause Alone (RanEnding (Err (Tampered region place))) old mid new cause later trace source none = subst (λ (n : ℕ). StaysAlone Alone old.source n) (sym source) cause.0
 status_cause Alone (RanEnding (Err SourceFault)) old mid new cause later trace source none = subst (λ (n : ℕ). Rises old.source n) (sym source) cause.0
-status_cause Alone (RanEnding (Err SinkFault)) old mid new cause later trace source none = (λ alone. source ∙ cause.0 alone, rose_with old mid new cause.1 later trace)
-status_cause Alone (RanEnding (Err NoMemory)) old mid new cause later trace source none = λ alone. source ∙ cause.0 alone
-status_cause Alone (RanEnding (Err StoreFault)) old mid new cause later trace source none = λ alone. source ∙ cause.0 alone
-status_cause Alone (RanEnding (Err StashFull)) old mid new cause later trace source none = λ alone. source ∙ cause.0 alone
-status_cause Alone (RanEnding (Err KeeperFault)) old mid new cause later trace source none = λ alone. source ∙ cause.0 alone
+status_cause Alone (RanEnding (Err SinkFault)) old mid new cause later trace source none = (subst (λ (n : ℕ). StaysAlone Alone old.source n) (sym source) cause.0, rose_with old mid new cause.1 later trace)
+status_cause Alone (RanEnding (Err NoMemory)) old mid new cause later trace source none = subst (λ (n : ℕ). StaysAlone Alone old.source n) (sym source) cause.0
+status_cause Alone (RanEnding (Err StoreFault)) old mid new cause later trace source none = subst (λ (n : ℕ). StaysAlone Alone old.source n) (sym source) cause.0
+status_cause Alone (RanEnding (Err StashFull)) old mid new cause later trace source none = subst (λ (n : ℕ). StaysAlone Alone old.source n) (sym source) cause.0
+status_cause Alone (RanEnding (Err KeeperFault)) old mid new cause later trace source none = subst (λ (n : ℕ). StaysAlone Alone old.source n) (sym source) cause.0
 status_cause Alone (RanEnding (Err InputLimit)) old mid new cause later trace source none = source ∙ cause.source
 
 -- nothing more may be written

@@ -15,6 +15,7 @@ use Rattle.ob_gen.specs.declared.tally.Tally.{Tally}
 use Rattle.ob_headline.specs.Texts.{is_over, rest_of, texts_of, texts_in}
 use Rattle.ob_gen.specs.Tally.{empty_tally}
 use Rattle.ob_headline.specs.Batches.{AnsweredBut}
+use Rattle.ob_headline.specs.Status.{StaysAlone}
 use Rattle.ob_headline.specs.Words.{Answer, Faults, NoneRose, SinksRose, Took, any_refused, before_read, printed}
 use Rattle.ob_print.specs.Cuts.{Outputs}
 use Rattle.ob_reopen.specs.Keepers.{KeeperState}
@@ -75,19 +76,19 @@ OutFailed quiet old new = (quiet ≡ true) × Rises old new
 -- the source may have failed before one of them was stopped
 abbrev pub StopCause : {T : Type 0} (Alone : Type 0) (old new : Faults) → Result T Stop → Type 0
 StopCause Alone old new (Ok x) = NoneRose old new
-StopCause Alone old new (Err (Tampered region place)) = (Alone → new.source ≡ old.source)
+StopCause Alone old new (Err (Tampered region place)) = StaysAlone Alone old.source new.source
     × (old.out ≤ new.out) × (old.trace ≤ new.trace)
-StopCause Alone old new (Err SinkFault) = (Alone → new.source ≡ old.source) × SinksRose old new
-StopCause Alone old new (Err NoMemory) = (Alone → new.source ≡ old.source)
+StopCause Alone old new (Err SinkFault) = StaysAlone Alone old.source new.source × SinksRose old new
+StopCause Alone old new (Err NoMemory) = StaysAlone Alone old.source new.source
     × (old.out ≤ new.out) × (old.trace ≤ new.trace)
 StopCause Alone old new (Err SourceFault) = Rises old.source new.source × (new.out ≡ old.out)
     × (new.trace ≡ old.trace)
 StopCause Alone old new (Err InputLimit) = NoneRose old new
-StopCause Alone old new (Err StoreFault) = (Alone → new.source ≡ old.source)
+StopCause Alone old new (Err StoreFault) = StaysAlone Alone old.source new.source
     × (old.out ≤ new.out) × (old.trace ≤ new.trace)
-StopCause Alone old new (Err StashFull) = (Alone → new.source ≡ old.source)
+StopCause Alone old new (Err StashFull) = StaysAlone Alone old.source new.source
     × (old.out ≤ new.out) × (old.trace ≤ new.trace)
-StopCause Alone old new (Err KeeperFault) = (Alone → new.source ≡ old.source)
+StopCause Alone old new (Err KeeperFault) = StaysAlone Alone old.source new.source
     × (old.out ≤ new.out) × (old.trace ≤ new.trace)
 
 -- INSERTs aren't served together

@@ -13,7 +13,7 @@ use Rattle.ob_headline.specs.Settings.{limit_of}
 use Rattle.ob_headline.specs.Texts.{texts_in}
 use Rattle.ob_headline.specs.Tracing.{traced}
 use Rattle.ob_headline.specs.Words.{Answer, Faults, IsHonest, NoneRose, SinksRose, Took, before_read, printed}
-use Rattle.ob_headline.specs.Status.{EndsAtRead, HasSecret, IsCompleted, KeepsLimits, ReadToLimit, ReadUntilFault, ReadWhole, StoreFails}
+use Rattle.ob_headline.specs.Status.{EndsAtRead, HasSecret, IsCompleted, KeepsLimits, ReadToLimit, ReadUntilFault, ReadWhole, StaysAlone, StoreFails}
 use Rattle.ob_headline.specs.declared.ending.Ending.{Ending}
 use Rattle.ob_headline.specs.declared.ending.Ending.TheVariants.{Usage, BadKey, Ran}
 use Rattle.ob_headline.specs.declared.ending.Report.{Report}
@@ -168,15 +168,15 @@ abbrev pub StatusCause : (Alone : Type 0) → Ending → (old new : Faults) → 
 StatusCause Alone Usage old new = new.source ≡ old.source
 StatusCause Alone BadKey old new = new.source ≡ old.source
 StatusCause Alone (Ran (Ok refused)) old new = NoneRose old new
-StatusCause Alone (Ran (Err (Tampered region place))) old new = Alone → new.source ≡ old.source
+StatusCause Alone (Ran (Err (Tampered region place))) old new = StaysAlone Alone old.source new.source
 StatusCause Alone (Ran (Err SourceFault)) old new = Rises old.source new.source
 StatusCause Alone (Ran (Err SinkFault)) old new =
-    (Alone → new.source ≡ old.source) × SinksRose old new
-StatusCause Alone (Ran (Err NoMemory)) old new = Alone → new.source ≡ old.source
+    StaysAlone Alone old.source new.source × SinksRose old new
+StatusCause Alone (Ran (Err NoMemory)) old new = StaysAlone Alone old.source new.source
 StatusCause Alone (Ran (Err InputLimit)) old new = new.source ≡ old.source
-StatusCause Alone (Ran (Err StoreFault)) old new = Alone → new.source ≡ old.source
-StatusCause Alone (Ran (Err StashFull)) old new = Alone → new.source ≡ old.source
-StatusCause Alone (Ran (Err KeeperFault)) old new = Alone → new.source ≡ old.source
+StatusCause Alone (Ran (Err StoreFault)) old new = StaysAlone Alone old.source new.source
+StatusCause Alone (Ran (Err StashFull)) old new = StaysAlone Alone old.source new.source
+StatusCause Alone (Ran (Err KeeperFault)) old new = StaysAlone Alone old.source new.source
 
 -- what was taken, what of it was served, under the keys that these bytes come to, and what the sink took of the answers and
 -- the last line

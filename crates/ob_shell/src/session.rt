@@ -469,7 +469,7 @@ fn take_misspelt<R: Revisions, S: BlockStore, B: Behind<S>, K: Sink, T: Sink, D:
     alloc: Global,
     tracing: bool,
     session: &mut Session,
-    at: u64,
+    at: u32,
     engine: &mut Engine<R>,
     store: &mut S,
     behind: &mut B,

@@ -42,7 +42,7 @@ returns-in-Ok-trace_from-clause-serves g c =
     let goes = c.let_go_from.ensures in
     record {
       ready = ready_from _ _ _ _ _ goes serves.ready;
-      done = answers_from _ _ _ _ _ c.count-mark.ensures goes serves.done;
+      done = λ h may. answers_from _ _ _ _ _ c.count-mark.ensures goes (serves.done h may);
       stopped = tt;
       cause = search rules;
       quiet = search rules;

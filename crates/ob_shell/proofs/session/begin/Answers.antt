@@ -12,13 +12,14 @@ gather-requires g c = record {
   spells = c.requires.spells;
   goes = subst (λ (l : List Stmt). GoesAlong (public_of c.args.engine.now) (count_of c.args.engine.now (g.S.BlockStore.state c.args.store.now)) l c.args.stmt) (sym c.requires.none) (sym c.begins_batch.ensures ∙ c.if-begins_batch.true);
   ready = c.requires.ready;
+  took = c.requires.took;
 }
 
 pub returns-then-begins_batch-clause-takes : goal.returns-then-begins_batch-clause-takes
 returns-then-begins_batch-clause-takes g c = rw c.requires.none at c.gather.ensures.takes
 
 pub answer_traced-answered-requires : goal.answer_traced-answered-requires
-answer_traced-answered-requires g c = record { spells = c.requires.spells; alone = sym c.begins_batch.ensures ∙ c.if-begins_batch.false; ready = c.requires.ready }
+answer_traced-answered-requires g c = record { spells = c.requires.spells; alone = sym c.begins_batch.ensures ∙ c.if-begins_batch.false; ready = c.requires.ready; took = c.requires.took }
 
 pub returns-in-Ok-clause-takes : goal.returns-in-Ok-clause-takes
 returns-in-Ok-clause-takes g c = rw c.requires.none (takes_one c.args.session.now.pending c.args.session.now.tally tt c.in-Ok.tally refl c.in-Ok.ensures.serves c.in-Ok.ensures.traced)

@@ -17,6 +17,7 @@ bytes-init g c = record {
   sink = refl;
   trace = refl;
   traced = traced_none _ _ _;
+  took = c.requires.took;
 }
 
 pub returns-in-Err-SourceFault-clause-reads : goal.returns-in-Err-SourceFault-clause-reads
@@ -61,6 +62,7 @@ bytes-preserved g c =
       sink = turn.takes.cause.out ∙ before.sink;
       trace = turn.takes.cause.trace ∙ before.trace;
       traced = traced_then before.traced turn.takes.traced;
+      took = turn.took;
     }
 
 pub returns-in-Ok-None-clause-traced : goal.returns-in-Ok-None-clause-traced

@@ -1,23 +1,23 @@
-use Rattle.std.proofs.Common.{◌∙◌, Err, Ok}
+use Rattle.std.proofs.Common.{◌∙◌, Err, Ok, inl}
 use Rattle.ob_shell.proofs.GatherLemmas.{are_batched}
 use Rattle.ob_shell.proofs.RunLemmas.{ran_flushed, ran_unflushed}
-use Rattle.ob_shell.proofs.ServedLemmas.{alone_read, stop_stays, waited_quiet, waited_stops}
+use Rattle.ob_shell.proofs.ServedLemmas.{alone_read, source_later, stop_stays, waited_quiet, waited_stops}
 use Rattle.ob_shell.proofs.TraceLemmas.{traced_cut, traced_then, traced_whole}
 use Rattle.ob_tables.specs.Agreeing.{count_of, public_of}
 use Rattle.ob_shell.proofs.session.serve.Goals as goal
 
 pub read_texts-requires : goal.read_texts-requires
-read_texts-requires g c = record { none = c.new-2.ensures; fresh = c.new.ensures; uncounted = c.new-3.ensures; ready = c.requires.ready; fed_by = c.requires.fed_by }
+read_texts-requires g c = record { none = c.new-2.ensures; fresh = c.new.ensures; uncounted = c.new-3.ensures; ready = c.requires.ready; fed_by = c.requires.fed_by; took = c.requires.took }
 
 pub flush-requires : goal.flush-requires
 flush-requires g c =
     let e = c.read_texts-read.new.engine in
-    record { waits = are_batched (public_of e) (count_of e (g.S.BlockStore.state c.read_texts-read.new.store)) c.read_texts-read.new.session.batch.items c.in-Ok.ensures.waits; ready = c.in-Ok.ensures.ready }
+    record { waits = are_batched (public_of e) (count_of e (g.S.BlockStore.state c.read_texts-read.new.store)) c.read_texts-read.new.session.batch.items c.in-Ok.ensures.waits; ready = c.in-Ok.ensures.ready; took = c.in-Ok.ensures.took }
 
 pub flush-2-requires : goal.flush-2-requires
 flush-2-requires g c =
     let e = c.read_texts-read.new.engine in
-    record { waits = are_batched (public_of e) (count_of e (g.S.BlockStore.state c.read_texts-read.new.store)) c.read_texts-read.new.session.batch.items c.in-Err-Unread.ensures.waits; ready = c.in-Err-Unread.ensures.ready }
+    record { waits = are_batched (public_of e) (count_of e (g.S.BlockStore.state c.read_texts-read.new.store)) c.read_texts-read.new.session.batch.items c.in-Err-Unread.ensures.waits; ready = c.in-Err-Unread.ensures.ready; took = c.in-Err-Unread.ensures.took }
 
 pub returns-in-Ok-flush-clause-ran : goal.returns-in-Ok-flush-clause-ran
 returns-in-Ok-flush-clause-ran g c = ran_flushed (Ok tt) c.in-Ok.ensures.reads (λ h held comes spelt. rw (← c.in-Ok-flush.ensures.none) (c.in-Ok-flush.ensures.takes.done h held comes spelt)) c.in-Ok-flush.ensures.takes.traced
@@ -69,7 +69,7 @@ returns-in-Err-flush-clause-cause g c =
     let end = c.flush.new in
     rw c.from.ensures
     (waited_stops _ _ _ c.in-Err-flush.halted.stop (g.I.Source.faults c.args.input.now) (g.I.Source.faults there.input) (g.K.Sink.faults c.args.out.now, g.T.Sink.faults c.args.trace.now) (g.K.Sink.faults there.out, g.T.Sink.faults there.trace)
-    (g.K.Sink.faults end.out, g.T.Sink.faults end.trace) (λ alone. before.source) before.out before.trace c.in-Err-flush.ensures.takes.cause)
+    (g.K.Sink.faults end.out, g.T.Sink.faults end.trace) (λ alone. before.source, inl before.source) before.out before.trace c.in-Err-flush.ensures.takes.cause)
 
 -- the source may have failed before one of them was stopped, where INSERTs are served together
 pub returns-in-Err-flush-2-clause-cause : goal.returns-in-Err-flush-2-clause-cause
@@ -79,7 +79,7 @@ returns-in-Err-flush-2-clause-cause g c =
     let end = c.flush-2.new in
     rw c.from.ensures
     (waited_stops _ _ _ c.in-Err-flush-2.halted.stop (g.I.Source.faults c.args.input.now) (g.I.Source.faults there.input) (g.K.Sink.faults c.args.out.now, g.T.Sink.faults c.args.trace.now) (g.K.Sink.faults there.out, g.T.Sink.faults there.trace)
-    (g.K.Sink.faults end.out, g.T.Sink.faults end.trace) (λ alone. absurd (alone_read read.reads read.waits c.in-Err-flush-2.ensures.idle alone)) read.quiet.0 read.quiet.1 c.in-Err-flush-2.ensures.takes.cause)
+    (g.K.Sink.faults end.out, g.T.Sink.faults end.trace) (λ alone. absurd (alone_read read.reads read.waits c.in-Err-flush-2.ensures.idle alone), source_later _ _ c.in-Err-Unread.stop _ _ read.cause) read.quiet.0 read.quiet.1 c.in-Err-flush-2.ensures.takes.cause)
 
 pub returns-in-Err-flush-clause-quiet : goal.returns-in-Err-flush-clause-quiet
 returns-in-Err-flush-clause-quiet g c =
@@ -98,5 +98,3 @@ returns-in-Err-flush-2-clause-quiet g c =
     rw c.from.ensures
     (waited_quiet c.in-Err-flush-2.halted.quiet (g.I.Source.faults c.args.input.now) (g.I.Source.faults there.input) (g.K.Sink.faults c.args.out.now, g.T.Sink.faults c.args.trace.now) (g.K.Sink.faults there.out, g.T.Sink.faults there.trace)
     (g.K.Sink.faults end.out, g.T.Sink.faults end.trace) read.quiet.0 read.quiet.1 c.in-Err-flush-2.ensures.takes.quiet)
-
--- ---- the digest took what was asked

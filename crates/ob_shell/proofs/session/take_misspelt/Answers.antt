@@ -14,6 +14,7 @@ flush-requires g c =
     record {
       waits = are_batched (public_of e) (count_of e (g.S.BlockStore.state c.args.store.now)) c.args.session.now.batch.items c.requires.waits;
       ready = c.requires.ready;
+      took = c.requires.took;
     }
 
 pub returns-in-Err-clause-takes : goal.returns-in-Err-clause-takes
@@ -35,4 +36,4 @@ returns-in-Err-write_all-clause-takes g c =
     let line = c.as_bytes.ensures ∙ c.closing_line.ensures in
     let m = machine_of c.flush.new.engine (g.S.BlockStore.state c.flush.new.store) (g.B.Behind.state c.flush.new.behind) in
     takes_then flushed (λ h k free closed. tt) (c.args.session.now.pending ∷ []) _ (λ h k l free closed then. then)
-    (loses_misspelt c.args.tracing _ m refl c.args.session.now.pending c.args.at c.requires.spells _ _ refl (λ alone. refl, inl c.in-Err-write_all.ensures.cause.failed) (Outputs-fault (refl, c.in-Err-write_all.ensures.cause.failed) (rw line at c.in-Err-write_all.ensures.cut)) (inl c.in-Err-write_all.ensures.cause.failed))
+    (loses_misspelt c.args.tracing _ m refl c.args.session.now.pending c.args.at c.requires.spells _ _ refl ((λ alone. refl, inl refl), inl c.in-Err-write_all.ensures.cause.failed) (Outputs-fault (refl, c.in-Err-write_all.ensures.cause.failed) (rw line at c.in-Err-write_all.ensures.cut)) (inl c.in-Err-write_all.ensures.cause.failed))

@@ -13,6 +13,7 @@ take_misspelt-requires g c = record {
   spells = subst (λ (e : ParseErr). IsRefused c.args.session.now.pending (tokens_of c.args.session.now.pending) e) c.in-Syntax.is c.in-Err.ensures.refused;
   waits = c.requires.waits;
   ready = c.requires.ready;
+  took = c.requires.took;
 }
 
 pub returns-in-NoMemory-clause-takes : goal.returns-in-NoMemory-clause-takes
