@@ -166,7 +166,7 @@ idle_batch {state = state} {w = w} {t = t} {Lost = Lost} on texts stop m g memor
 }
 
 -- ---- a batch that was stopped
-pub lost_with : {w0 w1 : Option (List ℕ)} {outcomes : List Outcome} {F G : Type 0} → (F → G) → LinesCut outcomes w0 w1 F → LinesCut outcomes w0 w1 G
+abbrev pub lost_with : {w0 w1 : Option (List ℕ)} {outcomes : List Outcome} {F G : Type 0} → (F → G) → LinesCut outcomes w0 w1 F → LinesCut outcomes w0 w1 G
 lost_with by cut = record { done = cut.done; one = cut.one; rest = cut.rest; parts = cut.parts; whole = cut.whole; cut = Outputs-by by cut.cut }
 
 -- an INSERT emits nothing
@@ -185,13 +185,13 @@ batch_unsunk {first = first} {e0 = e0} {s0 = s0} stop batch ran is =
     unemitted first (begins (public_of e0) (count_of e0 s0) first batch.begins).inserts (ran.carried.emits (ap Err is))
 
 -- its stop, and the trace behind it
-pub traced_only : {T : Type 0} (stop : RunStop) → (stop ≡ Runs.SinkFault → ⊥) → (out t0 t1 : ℕ) → t0 ≤ t1 → StopCause {T = T} (Unit {0}) (faults_of 0 out t0) (faults_of 0 out t1) (Err (session_stop stop))
-traced_only (Runs.Tampered q x) not out t0 t1 later = ((λ alone. refl, inl refl), omega arith, later)
-traced_only Runs.SinkFault not out t0 t1 later = absurd (not refl)
-traced_only Runs.NoMemory not out t0 t1 later = ((λ alone. refl, inl refl), omega arith, later)
-traced_only Runs.StoreFault not out t0 t1 later = ((λ alone. refl, inl refl), omega arith, later)
-traced_only Runs.StashFull not out t0 t1 later = ((λ alone. refl, inl refl), omega arith, later)
-traced_only Runs.KeeperFault not out t0 t1 later = ((λ alone. refl, inl refl), omega arith, later)
+pub traced_only : (T : Type 0) (stop : RunStop) → (stop ≡ Runs.SinkFault → ⊥) → (out t0 t1 : ℕ) → t0 ≤ t1 → StopCause {T = T} (Unit {0}) (faults_of 0 out t0) (faults_of 0 out t1) (Err (session_stop stop))
+traced_only T (Runs.Tampered q x) not out t0 t1 later = ((λ alone. refl, inl refl), omega arith, later)
+traced_only T Runs.SinkFault not out t0 t1 later = absurd (not refl)
+traced_only T Runs.NoMemory not out t0 t1 later = ((λ alone. refl, inl refl), omega arith, later)
+traced_only T Runs.StoreFault not out t0 t1 later = ((λ alone. refl, inl refl), omega arith, later)
+traced_only T Runs.StashFull not out t0 t1 later = ((λ alone. refl, inl refl), omega arith, later)
+traced_only T Runs.KeeperFault not out t0 t1 later = ((λ alone. refl, inl refl), omega arith, later)
 
 pub traced_quiet : {T E : Type 0} (r : Result T E) (quiet : Bool) (out t0 t1 : ℕ) → quiet ≡ is_err r → HasCause t0 t1 r → Silenced quiet (faults_of 0 out t0) (faults_of 0 out t1)
 traced_quiet (Ok x) quiet out t0 t1 is cause = rw is (refl, cause.kept)

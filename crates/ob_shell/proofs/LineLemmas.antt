@@ -29,31 +29,37 @@ unfolding printed
 lines_cons o outcomes = refl
 
 -- ---- one more
-pub lines_at : (xs : List Outcome) (i : ℕ) (o : Outcome) → i < length xs → o ≡ get_or xs i o → lines (drop i xs) ≡ closing_line o ++ lines (drop (i + 1) xs)
-lines_at xs i o within is =
-    let d : drop i xs ≡ o ∷ drop (i + 1) xs =
-    rw add-one (subst (λ (x : Outcome). drop i xs ≡ x ∷ drop (suc i) xs) (sym is) (drop-cons xs i o within)) in
-    ap lines d ∙ lines_cons o (drop (i + 1) xs)
+drop_at : (xs : List Outcome) (i : ℕ) (d : Outcome) → i < length xs → drop i xs ≡ get_or xs i d ∷ drop (i + 1) xs
+drop_at xs i d within = rw add-one (drop-cons xs i d within)
 
-pub lines_more : (xs : List Outcome) (i : ℕ) (o : Outcome) (line text all : List ℕ) → line ≡ closing_line o → i < length xs → o ≡ get_or xs i o → all ≡ text ++ lines (drop i xs) → all ≡ (text ++ line) ++ lines (drop (i + 1) xs)
-lines_more xs i o line text all l within is e =
-    e ∙ ap (λ (t : List ℕ). text ++ t) (lines_at xs i o within is) ∙ sym (append_assoc text (closing_line o) (lines (drop (i + 1) xs)))
+pub lines_at : (xs : List Outcome) (i : ℕ) (d : Outcome) → i < length xs → lines (drop i xs) ≡ closing_line (get_or xs i d) ++ lines (drop (i + 1) xs)
+lines_at xs i d within = ap lines (drop_at xs i d within) ∙ lines_cons (get_or xs i d) (drop (i + 1) xs)
+
+pub lines_more : (xs : List Outcome) (i : ℕ) (d : Outcome) (line text all : List ℕ) → line ≡ closing_line (get_or xs i d) → i < length xs → all ≡ text ++ lines (drop i xs) → all ≡ (text ++ line) ++ lines (drop (i + 1) xs)
+lines_more xs i d line text all l within e =
+    e ∙ ap (λ (t : List ℕ). text ++ t) (lines_at xs i d within) ∙ sym (append_assoc text (closing_line (get_or xs i d)) (lines (drop (i + 1) xs)))
     ∙ ap (λ (t : List ℕ). (text ++ t) ++ lines (drop (i + 1) xs)) (sym l)
 
 pub lines_done : (xs : List Outcome) (i : ℕ) (text all : List ℕ) → length xs ≤ i → all ≡ text ++ lines (drop i xs) → text ≡ all
 lines_done xs i text all h e = sym (e ∙ ap (λ (t : List ℕ). text ++ t) (rw (drop_of_length-le xs h) lines_nil) ∙ append-nil text)
 
 -- ---- counted
-pub tally_at : (t : Tally) (xs : List Outcome) (i : ℕ) (o : Outcome) → i < length xs → o ≡ get_or xs i o → tally_after t (line_answers (drop i xs)) ≡ tally_after (tally_with t o None) (line_answers (drop (i + 1) xs))
+pub tally_at : (t : Tally) (xs : List Outcome) (i : ℕ) (d : Outcome) → i < length xs → tally_after t (line_answers (drop i xs)) ≡ tally_after (tally_with t (get_or xs i d) None) (line_answers (drop (i + 1) xs))
 unfolding tally_after
-tally_at t xs i o within is =
-    let d : drop i xs ≡ o ∷ drop (i + 1) xs =
-    rw add-one (subst (λ (x : Outcome). drop i xs ≡ x ∷ drop (suc i) xs) (sym is) (drop-cons xs i o within)) in
-    ap (λ (l : List Outcome). tally_after t (line_answers l)) d
+tally_at t xs i d within = ap (λ (l : List Outcome). tally_after t (line_answers l)) (drop_at xs i d within)
 
 pub tally_done : (t : Tally) (xs : List Outcome) (i : ℕ) → length xs ≤ i → tally_after t (line_answers (drop i xs)) ≡ t
 unfolding tally_after
 tally_done t xs i h = rw (drop_of_length-le xs h) refl
+
+tally_first : (t : Tally) (o : Outcome) (outcomes : List Outcome) → tally_after t (line_answers (o ∷ outcomes)) ≡ tally_after (tally_with t o None) (line_answers outcomes)
+unfolding tally_after
+tally_first t o outcomes = refl
+
+-- the first of a batch, and the others
+pub counted_all : (t t1 t2 : Tally) (o : Outcome) (outcomes others : List Outcome) → t1 ≡ tally_with t o None → others ≡ outcomes → t2 ≡ tally_after t1 (line_answers others) → t2 ≡ tally_after t (line_answers (o ∷ outcomes))
+counted_all t t1 t2 o outcomes others first same rest =
+    rest ∙ ap (λ (l : List Outcome). tally_after t1 (line_answers l)) same ∙ ap (λ (u : Tally). tally_after u (line_answers outcomes)) first ∙ sym (tally_first t o outcomes)
 
 -- ---- where one was lost
 -- what was taken of lines is those before it, and a first part of it
@@ -127,7 +133,7 @@ lines_cut {w0 = w0} {w1 = w1} o outcomes out fault =
     }
 
 -- the first was lost, or nothing of the others was written
-pub first_cut : {w0 w1 : Option (List ℕ)} {F : Type 0} (o : Outcome) (outcomes : List Outcome) → Outputs w0 w1 F (closing_line o) → LinesCut (o ∷ outcomes) w0 w1 F
+first_cut : {w0 w1 : Option (List ℕ)} {F : Type 0} (o : Outcome) (outcomes : List Outcome) → Outputs w0 w1 F (closing_line o) → LinesCut (o ∷ outcomes) w0 w1 F
 first_cut {w0 = w0} {w1 = w1} {F = F} o outcomes out = record {
   done = [];
   one = o;
@@ -136,6 +142,11 @@ first_cut {w0 = w0} {w1 = w1} {F = F} o outcomes out = record {
   whole = record { after = out.grown; appends = subst (λ (l : List ℕ). Appends w0 w1 (l ++ out.grown)) (sym lines_nil) out.appends };
   cut = subst (λ (l : List ℕ). Outputs w0 w1 F (l ++ closing_line o)) (sym lines_nil) out;
 }
+
+-- the same where the first was lost, or a part of the trace behind it was
+pub first_lost : {w0 w1 t0 t1 : Option (List ℕ)} {out0 out1 : ℕ} {text : List ℕ} (o : Outcome) (outcomes : List Outcome) → Outputs w0 w1 (Rises out0 out1) (closing_line o) → Outputs t0 t1 (Unit {0}) text → BatchCut (o ∷ outcomes) w0 w1 t0 t1 text out0 out1
+unfolding first_cut
+first_lost o outcomes line traced = record { lines = first_cut o outcomes line; traced = traced; behind = inl refl }
 
 -- ---- the first, and behind it the others
 module _ {A E : Type 0} (w0 w1 w2 : Option (List ℕ)) (o : Outcome) (outcomes : List Outcome) (first : Appends w0 w1 (closing_line o)) where

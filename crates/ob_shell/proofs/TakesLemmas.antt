@@ -69,12 +69,12 @@ module _ {R S : Type 0} {state : R → RevState} {Saves Saves' : Type 0} {on : B
   takes_then ys result last next = joined ys result last (subst (λ (f : Faults). TakesTexts state Saves' on May' Then' b1 b2 ys t1 t2 w1 w2 s1 s2 f new m1 m2 result) (same_faults old mid first.cause) next)
 
 -- the same where the second part may leave what comes next unread, behind those that waited
-module _ {R S : Type 0} {state : R → RevState} {Saves Saves' : Type 0} {on : Bool} {May May' : Option Gathering → Type 0} {Then Then' Last : (old new : Option Gathering) → Type 0} {b0 b1 b2 : List Stmt} {t0 t1 t2 : Tally} {w0 w1 w2 s0 s1 s2 : Option (List ℕ)} {old mid new : Faults}
-    {m0 m1 m2 : Machine R} {x : S} (first : TakesTexts state Saves on May Then b0 b1 [] t0 t1 w0 w1 s0 s1 old mid m0 m1 (Ok x)) (may : (g h : Option Gathering) → May g → Then g h → May' h) (last : (g h k : Option Gathering) → May g → Then g h → Then' h k → Last g k) (ys : List (List ℕ)) (Why : Stop → Type 0) where
-  pub takes_more_then : {T : Type 0} (result : Result T Break) → TakesMore state Saves' on May' Then' b1 b2 ys Why t1 t2 w1 w2 s1 s2 mid new m1 m2 result → TakesMore state Saves' on May Last b0 b2 ys Why t0 t2 w0 w2 s0 s2 old new m0 m2 result
-  takes_more_then (Ok y) next = takes_then first may ys (Ok y) last next
-  takes_more_then (Err (Served halted)) next = takes_then first may ys (Err halted) last next
-  takes_more_then (Err (Unread stop)) next = (takes_then first may [] (Ok tt) (λ g h k comes then later. later) next.0, next.1)
+module _ {R S : Type 0} {state : R → RevState} {Saves : Type 0} {on : Bool} {May May' : Option Gathering → Type 0} {Then Then' Last : (old new : Option Gathering) → Type 0} {b0 b1 : List Stmt} {t0 t1 : Tally} {w0 w1 s0 s1 : Option (List ℕ)} {old mid : Faults}
+    {m0 m1 : Machine R} {x : S} (first : TakesTexts state Saves on May Then b0 b1 [] t0 t1 w0 w1 s0 s1 old mid m0 m1 (Ok x)) (may : (g h : Option Gathering) → May g → Then g h → May' h) (last : (g h k : Option Gathering) → May g → Then g h → Then' h k → Last g k) (ys : List (List ℕ)) (Why : Stop → Type 0) where
+  pub takes_more_then : {T : Type 0} (Saves' : Type 0) (b2 : List Stmt) (t2 : Tally) (w2 s2 : Option (List ℕ)) (new : Faults) (m2 : Machine R) (result : Result T Break) → TakesMore state Saves' on May' Then' b1 b2 ys Why t1 t2 w1 w2 s1 s2 mid new m1 m2 result → TakesMore state Saves' on May Last b0 b2 ys Why t0 t2 w0 w2 s0 s2 old new m0 m2 result
+  takes_more_then Saves' b2 t2 w2 s2 new m2 (Ok y) next = takes_then first may ys (Ok y) last next
+  takes_more_then Saves' b2 t2 w2 s2 new m2 (Err (Served halted)) next = takes_then first may ys (Err halted) last next
+  takes_more_then Saves' b2 t2 w2 s2 new m2 (Err (Unread stop)) next = (takes_then first may [] (Ok tt) (λ g h k comes then later. later) next.0, next.1)
 
 -- ---- nothing was done
 pub takes_idle : {R T : Type 0} {state : R → RevState} {Saves : Type 0} (on : Bool) {May : Option Gathering → Type 0} {Then : (old new : Option Gathering) → Type 0} (batch : List Stmt) (tally : Tally) (w t : Option (List ℕ)) (old : Faults) (m : Machine R) (x : T) → IsReady state Saves m
@@ -89,6 +89,11 @@ takes_idle on {Then = Then} batch tally w t old m x ready waits then = record {
   cause = record { source = refl; out = refl; trace = refl };
   quiet = (refl, refl);
 }
+
+-- whatever it is answered with
+pub takes_as : {R A B : Type 0} {state : R → RevState} {Saves : Type 0} {on : Bool} {May : Option Gathering → Type 0} {Then : (old new : Option Gathering) → Type 0} {b0 b1 : List Stmt} {xs : List (List ℕ)} {t0 t1 : Tally} {w0 w1 s0 s1 : Option (List ℕ)} {old new : Faults} {m0 m1 : Machine R} {x : A} (y : B)
+    → TakesTexts state Saves on May Then b0 b1 xs t0 t1 w0 w1 s0 s1 old new m0 m1 (Ok x) → TakesTexts state Saves on May Then b0 b1 xs t0 t1 w0 w1 s0 s1 old new m0 m1 (Ok y)
+takes_as y takes = record { ready = takes.ready; waits = takes.waits; done = takes.done; stopped = tt; traced = takes.traced; traced_stop = tt; cause = takes.cause; quiet = takes.quiet }
 
 -- a stop came before the texts that come behind
 pub takes_broken : {R T U : Type 0} {state : R → RevState} {Saves Saves' : Type 0} {on : Bool} {May May' : Option Gathering → Type 0} {Then Then' : (old new : Option Gathering) → Type 0} {b0 b1 c1 : List Stmt} {t0 t1 u1 : Tally} {w0 w1 s0 s1 : Option (List ℕ)} {old new : Faults} {m0 m1 : Machine R} (halted : TextHalted) (ys : List (List ℕ))
@@ -121,33 +126,33 @@ takes_broken {state = state} {on = on} {w0 = w0} {w1 = w1} {s0 = s0} {s1 = s1} {
 }
 
 -- ---- the same part, of which more or less is said
-module _ {R T : Type 0} {state : R → RevState} {Saves : Type 0} {on : Bool} {May May' : Option Gathering → Type 0} {Then : (old new : Option Gathering) → Type 0} {b0 b1 : List Stmt} {t0 t1 : Tally} {w0 w1 s0 s1 : Option (List ℕ)} {old new : Faults} {m0 m1 : Machine R} where
-  comes_by : {U : Type 0} {Later : (old new : Option Gathering) → Type 0} {xs : List (List ℕ)} (result : Result U TextHalted) → ((g : Option Gathering) → May' g → May g) → TakesTexts state Saves on May Later b0 b1 xs t0 t1 w0 w1 s0 s1 old new m0 m1 result
-      → TakesTexts state Saves on May' Later b0 b1 xs t0 t1 w0 w1 s0 s1 old new m0 m1 result
-  comes_by (Ok x) may takes = record { ready = takes.ready; waits = takes.waits; done = λ g held comes spelt. takes.done g held (may g comes) spelt; stopped = tt; traced = takes.traced; traced_stop = tt; cause = takes.cause; quiet = takes.quiet }
-  comes_by (Err halted) may takes = record { ready = tt; waits = tt; done = tt; stopped = λ g held comes spelt. takes.stopped g held (may g comes) spelt; traced = tt; traced_stop = takes.traced_stop; cause = takes.cause; quiet = takes.quiet }
+comes_by : {R U : Type 0} {state : R → RevState} {Saves : Type 0} {on : Bool} {May May' : Option Gathering → Type 0} {Later : (old new : Option Gathering) → Type 0} {b0 b1 : List Stmt} {xs : List (List ℕ)} {t0 t1 : Tally} {w0 w1 s0 s1 : Option (List ℕ)} {old new : Faults} {m0 m1 : Machine R} (result : Result U TextHalted)
+    → ((g : Option Gathering) → May' g → May g) → TakesTexts state Saves on May Later b0 b1 xs t0 t1 w0 w1 s0 s1 old new m0 m1 result → TakesTexts state Saves on May' Later b0 b1 xs t0 t1 w0 w1 s0 s1 old new m0 m1 result
+comes_by (Ok x) may takes = record { ready = takes.ready; waits = takes.waits; done = λ g held comes spelt. takes.done g held (may g comes) spelt; stopped = tt; traced = takes.traced; traced_stop = tt; cause = takes.cause; quiet = takes.quiet }
+comes_by (Err halted) may takes = record { ready = tt; waits = tt; done = tt; stopped = λ g held comes spelt. takes.stopped g held (may g comes) spelt; traced = tt; traced_stop = takes.traced_stop; cause = takes.cause; quiet = takes.quiet }
 
+module _ {R T : Type 0} (state : R → RevState) (Saves : Type 0) (on : Bool) (Then : (old new : Option Gathering) → Type 0) (b0 b1 : List Stmt) (t0 t1 : Tally) (w0 w1 s0 s1 : Option (List ℕ)) (old new : Faults) (m0 m1 : Machine R) where
   -- it comes behind what else may be gathered
-  pub takes_more_by : {xs : List (List ℕ)} {Why : Stop → Type 0} (result : Result T Break) → ((g : Option Gathering) → May' g → May g) → TakesMore state Saves on May Then b0 b1 xs Why t0 t1 w0 w1 s0 s1 old new m0 m1 result → TakesMore state Saves on May' Then b0 b1 xs Why t0 t1 w0 w1 s0 s1 old new m0 m1 result
-  takes_more_by (Ok x) may takes = comes_by (Ok x) may takes
-  takes_more_by (Err (Served halted)) may takes = comes_by (Err halted) may takes
-  takes_more_by (Err (Unread stop)) may takes = (comes_by (Ok tt) may takes.0, takes.1)
+  pub takes_more_by : {May May' : Option Gathering → Type 0} (xs : List (List ℕ)) (Why : Stop → Type 0) (result : Result T Break) → ((g : Option Gathering) → May' g → May g) → TakesMore state Saves on May Then b0 b1 xs Why t0 t1 w0 w1 s0 s1 old new m0 m1 result → TakesMore state Saves on May' Then b0 b1 xs Why t0 t1 w0 w1 s0 s1 old new m0 m1 result
+  takes_more_by xs Why (Ok x) may takes = comes_by (Ok x) may takes
+  takes_more_by xs Why (Err (Served halted)) may takes = comes_by (Err halted) may takes
+  takes_more_by xs Why (Err (Unread stop)) may takes = (comes_by (Ok tt) may takes.0, takes.1)
 
   -- the text that a byte ended
-  pub turns_by : (p : List ℕ) (b : ℕ) (text : List ℕ) → texts_at p b ≡ text ∷ [] → (result : Result T Break) → TakesMore state Saves on May Then b0 b1 (text ∷ []) WantsRoom t0 t1 w0 w1 s0 s1 old new m0 m1 result
+  pub turns_by : (May : Option Gathering → Type 0) (p : List ℕ) (b : ℕ) (text : List ℕ) → texts_at p b ≡ text ∷ [] → (result : Result T Break) → TakesMore state Saves on May Then b0 b1 (text ∷ []) WantsRoom t0 t1 w0 w1 s0 s1 old new m0 m1 result
       → TakesMore state Saves on May Then b0 b1 (texts_at p b) (IsNotTaken p b) t0 t1 w0 w1 s0 s1 old new m0 m1 result
-  turns_by p b text is (Ok x) takes = subst (λ (l : List (List ℕ)). TakesTexts state Saves on May Then b0 b1 l t0 t1 w0 w1 s0 s1 old new m0 m1 (Ok x)) (sym is) takes
-  turns_by p b text is (Err (Served halted)) takes = subst (λ (l : List (List ℕ)). TakesTexts {T = T} state Saves on May Then b0 b1 l t0 t1 w0 w1 s0 s1 old new m0 m1 (Err halted)) (sym is) takes
-  turns_by p b text is (Err (Unread stop)) takes = (takes.0, subst (IsNotTaken p b) (sym takes.1) tt)
+  turns_by May p b text is (Ok x) takes = subst (λ (l : List (List ℕ)). TakesTexts state Saves on May Then b0 b1 l t0 t1 w0 w1 s0 s1 old new m0 m1 (Ok x)) (sym is) takes
+  turns_by May p b text is (Err (Served halted)) takes = subst (λ (l : List (List ℕ)). TakesTexts {T = T} state Saves on May Then b0 b1 l t0 t1 w0 w1 s0 s1 old new m0 m1 (Err halted)) (sym is) takes
+  turns_by May p b text is (Err (Unread stop)) takes = (takes.0, subst (IsNotTaken p b) (sym takes.1) tt)
 
-  pub takes_of_text : (xs : List (List ℕ)) (text : List ℕ) → xs ≡ text ∷ [] → (result : Result T Break) → TakesMore state Saves on May Then b0 b1 (text ∷ []) WantsRoom t0 t1 w0 w1 s0 s1 old new m0 m1 result → TakesMore state Saves on May Then b0 b1 xs WantsRoom t0 t1 w0 w1 s0 s1 old new m0 m1 result
-  takes_of_text xs text is result takes = subst (λ (l : List (List ℕ)). TakesMore state Saves on May Then b0 b1 l WantsRoom t0 t1 w0 w1 s0 s1 old new m0 m1 result) (sym is) takes
+  pub takes_of_text : (May : Option Gathering → Type 0) (xs : List (List ℕ)) (text : List ℕ) → xs ≡ text ∷ [] → (result : Result T Break) → TakesMore state Saves on May Then b0 b1 (text ∷ []) WantsRoom t0 t1 w0 w1 s0 s1 old new m0 m1 result → TakesMore state Saves on May Then b0 b1 xs WantsRoom t0 t1 w0 w1 s0 s1 old new m0 m1 result
+  takes_of_text May xs text is result takes = subst (λ (l : List (List ℕ)). TakesMore state Saves on May Then b0 b1 l WantsRoom t0 t1 w0 w1 s0 s1 old new m0 m1 result) (sym is) takes
 
 -- ---- a text behind which none waits
 -- of a stop within it
-breaks_one : {R : Type 0} {state : R → RevState} {on : Bool} {w0 w1 s0 s1 : Option (List ℕ)} {m0 m1 : Machine R} {Lost Fault : Type 0} (text : List ℕ) (stop : RunStop) (g : Option Gathering) → StopsIn state w0 w1 Lost (text ∷ []) stop (standing m0 [] g) (standing m1 [] None) → Traced on m0.store.asked m1.store.asked s0 s1 Fault
+breaks_one : {R : Type 0} {state : R → RevState} {on : Bool} {w0 w1 s0 s1 : Option (List ℕ)} {m1 : Machine R} {Lost Fault : Type 0} (m0 : Machine R) (text : List ℕ) (stop : RunStop) (g : Option Gathering) → StopsIn state w0 w1 Lost (text ∷ []) stop (standing m0 [] g) (standing m1 [] None) → Traced on m0.store.asked m1.store.asked s0 s1 Fault
     → BreaksIn state on w0 w1 s0 s1 Lost (text ∷ []) stop (standing m0 [] g) m1
-breaks_one {state = state} {on = on} {w0 = w0} {w1 = w1} {s0 = s0} {s1 = s1} {m0 = m0} {Lost = Lost} text stop g stops traced = record {
+breaks_one {state = state} {on = on} {w0 = w0} {w1 = w1} {s0 = s0} {s1 = s1} {Lost = Lost} m0 text stop g stops traced = record {
   served = [];
   more = text ∷ [];
   parts = refl;
@@ -165,9 +170,9 @@ breaks_one {state = state} {on = on} {w0 = w0} {w1 = w1} {s0 = s0} {s1 = s1} {m0
 }
 
 -- of what was done of it
-so_one : {R : Type 0} {state : R → RevState} {w0 w1 : Option (List ℕ)} {m0 m1 : Machine R} (text : List ℕ) (tally counted : Tally) (g : Option Gathering) → AnswersAll state w0 w1 (text ∷ []) tally counted (standing m0 [] g) (standing m1 [] None)
+so_one : {R : Type 0} {state : R → RevState} {w0 w1 : Option (List ℕ)} {m1 : Machine R} (m0 : Machine R) (text : List ℕ) (tally counted : Tally) (g : Option Gathering) → AnswersAll state w0 w1 (text ∷ []) tally counted (standing m0 [] g) (standing m1 [] None)
     → ServedSo state w0 w1 (text ∷ []) [] (IsFree (public_of m1.engine) []) tally counted (standing m0 [] g) m1
-so_one text tally counted g all = record {
+so_one m0 text tally counted g all = record {
   served = text ∷ [];
   held = [];
   parts = refl;
@@ -188,7 +193,7 @@ module _ {R : Type 0} {state : R → RevState} {Saves : Type 0} {on : Bool} {May
     ready = serves.ready;
     waits = tt;
     done = λ g held comes spelt. subst (λ (l : List (List ℕ)). ServedSo state w0 w1 (l ++ text ∷ []) [] (IsFree (public_of m1.engine) []) tally counted (standing m0 [] g) m1) (sym (none_held held spelt))
-        (so_one {m0 = m0} {m1 = m1} text tally counted g (subst (λ (m : Machine R). AnswersAll state w0 w1 (text ∷ []) tally counted (standing m0 [] g) m) owed (serves.done g comes)));
+        (so_one {m1 = m1} m0 text tally counted g (subst (λ (m : Machine R). AnswersAll state w0 w1 (text ∷ []) tally counted (standing m0 [] g) m) owed (serves.done g comes)));
     stopped = tt;
     traced = traced;
     traced_stop = tt;
@@ -198,14 +203,14 @@ module _ {R : Type 0} {state : R → RevState} {Saves : Type 0} {on : Bool} {May
 
   -- or stopped
   pub takes_halted : {T U : Type 0} {Done : T → (m0 m1 : Machine R) → Type 0} {Then : (old new : Option Gathering) → Type 0} {c1 : List Stmt} {u1 : Tally} (halted : TextHalted) → (owed : m1 ≡ standing m1 [] None) → StopCause {T = U} (Unit {0}) old new (stop_of (halted_of (Err halted)))
-      → ServesTexts {T = T} state Saves May (text ∷ []) Done w0 w1 old new m0 m1 (Err halted) → Traced on m0.store.asked m1.store.asked s0 s1 (IsQuiet (halted_of (Err halted)))
+      → ServesTexts {T = T} state Saves May (text ∷ []) Done w0 w1 old new m0 m1 (Err halted) → Traced on m0.store.asked m1.store.asked s0 s1 (IsQuiet (halted_of {T = U} (Err halted)))
       → TakesTexts {T = U} state Saves on May Then [] c1 (text ∷ []) tally u1 w0 w1 s0 s1 old new m0 m1 (Err halted)
   takes_halted halted owed cause serves traced = record {
     ready = tt;
     waits = tt;
     done = tt;
     stopped = λ g held comes spelt. subst (λ (l : List (List ℕ)). BreaksIn state on w0 w1 s0 s1 (OutFailed halted.quiet old.out new.out) (l ++ text ∷ []) halted.stop (standing m0 [] g) m1) (sym (none_held held spelt))
-        (breaks_one {m0 = m0} {m1 = m1} text halted.stop g (subst (λ (m : Machine R). StopsIn state w0 w1 (OutFailed halted.quiet old.out new.out) (text ∷ []) halted.stop (standing m0 [] g) m) owed (serves.stopped g comes)) traced);
+        (breaks_one {m1 = m1} m0 text halted.stop g (subst (λ (m : Machine R). StopsIn state w0 w1 (OutFailed halted.quiet old.out new.out) (text ∷ []) halted.stop (standing m0 [] g) m) owed (serves.stopped g comes)) traced);
     traced = tt;
     traced_stop = traced;
     cause = cause;
@@ -221,7 +226,7 @@ module _ {R : Type 0} {state : R → RevState} {Saves : Type 0} (on : Bool) {May
     ready = ready;
     waits = tt;
     done = λ g held comes spelt. subst (λ (l : List (List ℕ)). ServedSo state w0 w1 (l ++ text ∷ []) [] (IsFree (public_of m.engine) []) tally (tally_with tally (Refused (Syntax at)) None) (standing m [] g) m) (sym (none_held held spelt))
-        (so_one {m0 = m} {m1 = m} text tally (tally_with tally (Refused (Syntax at)) None) g (answers_one text tally (line_answer (Refused (Syntax at))) (misspelt state m g text at spells) wrote));
+        (so_one {m1 = m} m text tally (tally_with tally (Refused (Syntax at)) None) g (answers_one text tally (line_answer (Refused (Syntax at))) (misspelt state m g text at spells) wrote));
     stopped = tt;
     traced = traced_none on m.store.asked t;
     traced_stop = tt;
@@ -237,7 +242,7 @@ module _ {R : Type 0} {state : R → RevState} {Saves : Type 0} (on : Bool) {May
     waits = tt;
     done = tt;
     stopped = λ g held comes spelt. subst (λ (l : List (List ℕ)). BreaksIn state on w0 w1 t t (OutFailed halted.quiet old.out new.out) (l ++ text ∷ []) halted.stop (standing m [] g) m) (sym (none_held held spelt))
-        (breaks_one {m0 = m} {m1 = m} text halted.stop g (record {
+        (breaks_one {m1 = m} m text halted.stop g (record {
           bytes = closing_line (Refused (Syntax at));
           partly = inr (inr (record { answer = line_answer (Refused (Syntax at)); step = misspelt state m g text at spells; whole = refl; fault = fault }));
           cut = cut;

@@ -8,7 +8,7 @@ loop-i-init c = record { counted = refl }
 pub loop-i-preserved : goal.loop-i-preserved
 loop-i-preserved c = record {
   counted =
-      rw c.tally_with.ensures (sym (tally_at c.loop-i.tally c.args.outcomes.now c.loop-i.i c.index-outcomes-i.result c.loop-i-test.true c.index-outcomes-i.is) ∙ c.loop-i.invariant.counted);
+      rw c.tally_with-tally.ensures (sym (tally_at c.loop-i.tally c.args.outcomes.now c.loop-i.i _ c.loop-i-test.true) ∙ c.loop-i.invariant.counted);
 }
 
 pub returns : goal.returns

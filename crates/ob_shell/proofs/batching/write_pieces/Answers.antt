@@ -12,8 +12,8 @@ pub returns-in-Err-clause-cut : goal.returns-in-Err-clause-cut
 returns-in-Err-clause-cut g c =
     let before = c.loop-i.invariant.so_far in
     let all = lines c.args.outcomes.now in
-    let more = lines_more c.args.outcomes.now c.loop-i.i c.index-outcomes-i.result c.as_bytes.result.now before.0 all
-    (c.as_bytes.ensures ∙ c.closing_line-line.ensures) c.loop-i-test.true c.index-outcomes-i.is before.2 in
+    let more = lines_more c.args.outcomes.now c.loop-i.i _ c.as_bytes.result.now before.0 all
+    (c.as_bytes.ensures ∙ c.closing_line-line.ensures) c.loop-i-test.true before.2 in
     Outputs-by (λ _. refl) (Sends-cut all c.requires.none (Sends-lose all (before.0 ++ c.as_bytes.result.now) _ more (Sends-then before.0 c.as_bytes.result.now before.1 c.in-Err.ensures.sends) refl))
 
 pub loop-i-preserved : goal.loop-i-preserved
@@ -24,7 +24,7 @@ loop-i-preserved g c =
       so_far = (
         so_far.0 ++ c.as_bytes.result.now,
         Sends-then so_far.0 c.as_bytes.result.now so_far.1 (Sends-by (λ (h : false ≡ true). absurd (cc)) c.in_default.ensures.sends),
-        lines_more c.args.outcomes.now c.loop-i.i c.index-outcomes-i.result c.as_bytes.result.now so_far.0 (lines c.args.outcomes.now) (c.as_bytes.ensures ∙ c.closing_line-line.ensures) c.loop-i-test.true c.index-outcomes-i.is so_far.2,
+        lines_more c.args.outcomes.now c.loop-i.i _ c.as_bytes.result.now so_far.0 (lines c.args.outcomes.now) (c.as_bytes.ensures ∙ c.closing_line-line.ensures) c.loop-i-test.true so_far.2,
       );
       same_sink = c.write_all.ensures.same_sink ∙ before.same_sink;
       faults = c.in_default.ensures.cause.kept ∙ before.faults;

@@ -16,4 +16,4 @@ returns-then-not-has_words-clause-takes g c =
 pub returns-clause-takes : goal.returns-clause-takes
 returns-clause-takes g c =
     let some : has_words (reading_of c.args.session.now.pending) ≡ true = cc (c.has_words.ensures, c.if-not-has_words.false) in
-    takes_of_text (tail_text c.args.session.now.pending) c.args.session.now.pending (tail_text-by c.args.session.now.pending true some) c.take_text.result c.take_text.ensures.takes
+    takes_of_text _ _ _ _ _ _ _ _ _ _ _ _ _ _ _ _ _ (tail_text c.args.session.now.pending) c.args.session.now.pending (tail_text-by c.args.session.now.pending true some) c.take_text.result c.take_text.ensures.takes

@@ -1,4 +1,4 @@
-use Rattle.std.proofs.Common.{arith, refl}
+use Rattle.std.proofs.Common.{Err, Ok, arith, refl}
 use Rattle.ob_shell.specs.Steps.{machine_of}
 use Rattle.ob_shell.proofs.GatherLemmas.{batch_more, comes_before, gathered_more, takes_full, takes_gathered, waits_by}
 use Rattle.ob_shell.proofs.TakesLemmas.{takes_idle}
@@ -33,7 +33,7 @@ flush-requires g c =
     }
 
 pub returns-in-Ok-clause-takes : goal.returns-in-Ok-clause-takes
-returns-in-Ok-clause-takes g c = takes_full c.args.session.now.batch.items c.args.stmt c.args.session.now.pending c.requires.spells (omega (arith, c.if-lt.false, c.len.ensures, c.batch_most.ensures)) c.flush.result c.flush.ensures.none c.flush.ensures.takes
+returns-in-Ok-clause-takes g c = takes_full c.args.session.now.batch.items c.args.stmt c.args.session.now.pending c.requires.spells (omega (arith, c.if-lt.false, c.len.ensures, c.batch_most.ensures)) (Ok tt) c.in-Ok.ensures.none c.in-Ok.ensures.takes
 
 pub returns-in-Err-clause-takes : goal.returns-in-Err-clause-takes
-returns-in-Err-clause-takes g c = takes_full c.args.session.now.batch.items c.args.stmt c.args.session.now.pending c.requires.spells (omega (arith, c.if-lt.false, c.len.ensures, c.batch_most.ensures)) c.flush.result c.flush.ensures.none c.flush.ensures.takes
+returns-in-Err-clause-takes g c = takes_full c.args.session.now.batch.items c.args.stmt c.args.session.now.pending c.requires.spells (omega (arith, c.if-lt.false, c.len.ensures, c.batch_most.ensures)) (Err c.in-Err.halted) tt c.in-Err.ensures.takes

@@ -19,7 +19,7 @@ gather-requires g c =
 pub returns-then-goes_along-clause-takes : goal.returns-then-goes_along-clause-takes
 returns-then-goes_along-clause-takes g c =
     let e = c.args.engine.now in
-    takes_more_by c.gather.result (λ h free. free_more (public_of e) c.args.session.now.batch.items c.args.stmt h (rw (← c.goes_along.ensures) c.if-goes_along.true) free) c.gather.ensures.takes
+    takes_more_by _ _ _ _ _ _ _ _ _ _ _ _ _ _ _ _ _ _ c.gather.result (λ h free. free_more (public_of e) c.args.session.now.batch.items c.args.stmt h (rw (← c.goes_along.ensures) c.if-goes_along.true) free) c.gather.ensures.takes
 
 pub flush-requires : goal.flush-requires
 flush-requires g c =
@@ -38,7 +38,7 @@ returns-in-Ok-clause-takes g c =
     let flushed = rw c.in-Ok.ensures.none at c.in-Ok.ensures.takes in
     takes_more_then flushed
     (λ h k free closed. free_behind (public_of e) (public_of c.flush.new.engine) (count_of e (g.S.BlockStore.state c.args.store.now)) batch c.args.stmt h k c.requires.waits apart (λ none. idle_public flushed h (comes_free (public_of e) batch h free) none) free closed)
-    (λ h k l free closed then. then) (c.args.session.now.pending ∷ []) _ c.begin.result c.begin.ensures.takes
+    (λ h k l free closed then. then) (c.args.session.now.pending ∷ []) _ _ _ _ _ _ _ _ c.begin.result c.begin.ensures.takes
 
 pub returns-in-Err-clause-takes : goal.returns-in-Err-clause-takes
 returns-in-Err-clause-takes g c =

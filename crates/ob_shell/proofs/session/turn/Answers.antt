@@ -1,4 +1,4 @@
-use Rattle.std.proofs.Common.{[]}
+use Rattle.std.proofs.Common.{Err, Ok}
 use Rattle.ob_shell.proofs.GatherLemmas.{comes_free}
 use Rattle.ob_shell.proofs.RunLemmas.{at_limit_is_over}
 use Rattle.ob_shell.proofs.TakesLemmas.{takes_idle, turns_by}
@@ -30,9 +30,9 @@ returns-in-Err-InputLimit-clause-takes g c =
 pub returns-in-Ok-take_text-clause-takes : goal.returns-in-Ok-take_text-clause-takes
 returns-in-Ok-take_text-clause-takes g c =
     let pushed = rw c.in-Ok-Whole.field-0-is at c.in-Ok-Whole.ensures in
-    turns_by c.args.session.now.pending c.args.b c.push.new.self pushed.0 c.take_text.result c.take_text.ensures.takes
+    turns_by _ _ _ _ _ _ _ _ _ _ _ _ _ _ _ _ _ c.args.session.now.pending c.args.b c.push.new.self pushed.0 (Ok tt) c.in-Ok-take_text.ensures.takes
 
 pub returns-in-Err-take_text-clause-takes : goal.returns-in-Err-take_text-clause-takes
 returns-in-Err-take_text-clause-takes g c =
     let pushed = rw c.in-Ok-Whole.field-0-is at c.in-Ok-Whole.ensures in
-    turns_by c.args.session.now.pending c.args.b c.push.new.self pushed.0 c.take_text.result c.take_text.ensures.takes
+    turns_by _ _ _ _ _ _ _ _ _ _ _ _ _ _ _ _ _ c.args.session.now.pending c.args.b c.push.new.self pushed.0 (Err c.in-Err-take_text.broken) c.in-Err-take_text.ensures.takes

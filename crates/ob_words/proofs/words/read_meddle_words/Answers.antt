@@ -2,8 +2,8 @@ use Rattle.std.specs.Prelude.{string_bytes}
 use Rattle.std.proofs.Common.{ap, refl, codes, subst, sym, ◌≡◌, ◌∙◌, [], map, Err}
 use Rattle.clap.specs.Words.{App, HasKind, Kinds, app_of, fault_of, is_simple_and_free}
 use Rattle.ob_headline.specs.Usage.{meddle_usage, changes_in}
-use Rattle.ob_shell.proofs.WordLemmas.{no_changes, no_meddling, out_of_memory, spells_words, value_from, words_from}
-use Rattle.ob_shell.proofs.words.read_meddle_words.Goals as goal
+use Rattle.ob_words.proofs.WordLemmas.{no_changes, no_meddling, out_of_memory, spells_words, value_from, words_from}
+use Rattle.ob_words.proofs.words.read_meddle_words.Goals as goal
 
 pub returns-in-Ok-changes_in-clause-ok : goal.returns-in-Ok-changes_in-clause-ok
 returns-in-Ok-changes_in-clause-ok c =
