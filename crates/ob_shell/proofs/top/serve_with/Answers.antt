@@ -1,6 +1,7 @@
 use Rattle.std.proofs.Common.{◌∙◌, ap, refl, subst}
 use Rattle.ob_base.specs.declared.config.Public.{Public}
 use Rattle.ob_tables.specs.Agreeing.{AreDraws, first_draws}
+use Rattle.ob_headline.specs.Words.{faults_of}
 use Rattle.ob_seal.specs.KeySet.{KeySet}
 use Rattle.ob_shell.proofs.EngageLemmas.{ready_unsaved}
 use Rattle.ob_shell.proofs.SessionLemmas.{ran_after}
@@ -36,4 +37,8 @@ serve-ran-requires-clause-ready g c =
     ready_unsaved _ _ _ _ _ (c.in-Ok.ensures.agrees (g.S.BlockStore.state c.args.store.now) c.requires.fresh) c.in-Ok.ensures.alive c.in-Ok.ensures.settled (ap (λ (p : Public). p.save) c.in-Ok.ensures.public ∙ c.requires.within.unsaved)
 
 pub returns-in-Ok-clause-cause : goal.returns-in-Ok-clause-cause
-returns-in-Ok-clause-cause g c = subst (λ (p : Public). StopCause (ServesAlone p) _ _ (stop_of c.serve-ran.result)) c.in-Ok.ensures.public c.serve-ran.ensures.cause
+returns-in-Ok-clause-cause g c =
+    let now = c.serve-ran.new in
+    let before = faults_of (g.I.Source.faults c.args.input.now) (g.O.Sink.faults c.args.out.now) (g.T.Sink.faults c.args.trace.now) in
+    let after = faults_of (g.I.Source.faults now.input) (g.O.Sink.faults now.out) (g.T.Sink.faults now.trace) in
+    subst (λ (p : Public). StopCause (ServesAlone p) before after (stop_of c.serve-ran.result)) c.in-Ok.ensures.public c.serve-ran.ensures.cause
