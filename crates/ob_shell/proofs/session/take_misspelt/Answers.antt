@@ -20,19 +20,19 @@ flush-requires g c =
 pub returns-in-Err-clause-takes : goal.returns-in-Err-clause-takes
 returns-in-Err-clause-takes g c =
     takes_broken c.in-Err.halted (c.args.session.now.pending ∷ []) (λ h free. comes_free (public_of c.args.engine.now) c.args.session.now.batch.items h free)
-    (same_cause _ _ _ (session_stop c.in-Err.halted.stop) _ _ c.in-Err.ensures.takes.cause) c.in-Err.ensures.takes
+    (same_cause _ (Unit {0}) (Unit {0}) (session_stop c.in-Err.halted.stop) _ _ c.in-Err.ensures.takes.cause) c.in-Err.ensures.takes
 
-pub returns-in-Ok-write_all-clause-takes : goal.returns-in-Ok-write_all-clause-takes
-returns-in-Ok-write_all-clause-takes g c =
-    let flushed = rw c.in-Ok.ensures.none at c.in-Ok.ensures.takes in
+pub returns-in-Ok-clause-takes : goal.returns-in-Ok-clause-takes
+returns-in-Ok-clause-takes g c =
+    let flushed = rw c.in_default.ensures.none at c.in_default.ensures.takes in
     let line = c.as_bytes.ensures ∙ c.closing_line.ensures in
     let m = machine_of c.flush.new.engine (g.S.BlockStore.state c.flush.new.store) (g.B.Behind.state c.flush.new.behind) in
     takes_then flushed (λ h k free closed. tt) (c.args.session.now.pending ∷ []) c.write_all.result (λ h k l free closed then. then)
-    (rw c.tally_with.ensures (takes_misspelt c.args.tracing _ m refl c.args.session.now.pending c.args.at c.requires.spells _ tt flushed.ready (record { source = refl; out = c.in-Ok-write_all.ensures.cause.kept; trace = refl }) (rw line at c.in-Ok-write_all.ensures.ok) (c.in-Ok-write_all.ensures.cause.kept, refl)))
+    (rw c.tally_with.ensures (takes_misspelt c.args.tracing _ m refl c.args.session.now.pending c.args.at c.requires.spells _ tt flushed.ready (record { source = refl; out = c.in-Ok.ensures.cause.kept; trace = refl }) (rw line at c.in-Ok.ensures.ok) (c.in-Ok.ensures.cause.kept, refl)))
 
 pub returns-in-Err-write_all-clause-takes : goal.returns-in-Err-write_all-clause-takes
 returns-in-Err-write_all-clause-takes g c =
-    let flushed = rw c.in-Ok.ensures.none at c.in-Ok.ensures.takes in
+    let flushed = rw c.in_default.ensures.none at c.in_default.ensures.takes in
     let line = c.as_bytes.ensures ∙ c.closing_line.ensures in
     let m = machine_of c.flush.new.engine (g.S.BlockStore.state c.flush.new.store) (g.B.Behind.state c.flush.new.behind) in
     takes_then flushed (λ h k free closed. tt) (c.args.session.now.pending ∷ []) _ (λ h k l free closed then. then)

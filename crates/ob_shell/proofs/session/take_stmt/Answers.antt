@@ -43,4 +43,4 @@ returns-in-Ok-clause-takes g c =
 pub returns-in-Err-clause-takes : goal.returns-in-Err-clause-takes
 returns-in-Err-clause-takes g c =
     takes_broken c.in-Err.halted (c.args.session.now.pending ∷ []) (λ h free. comes_free (public_of c.args.engine.now) c.args.session.now.batch.items h free)
-    (same_cause _ _ _ (session_stop c.in-Err.halted.stop) _ _ c.in-Err.ensures.takes.cause) c.in-Err.ensures.takes
+    (same_cause _ (Unit {0}) (Unit {0}) (session_stop c.in-Err.halted.stop) _ _ c.in-Err.ensures.takes.cause) c.in-Err.ensures.takes
