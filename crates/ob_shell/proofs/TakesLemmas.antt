@@ -150,8 +150,8 @@ module _ {R T : Type 0} (state : R → RevState) (Saves : Type 0) (on : Bool) (T
   takes_of_text May xs text is result takes = subst (λ (l : List (List ℕ)). TakesMore state Saves on May Then b0 b1 l WantsRoom t0 t1 w0 w1 s0 s1 old new m0 m1 result) (sym is) takes
 
 -- a stop of which nothing was lost
-pub stops_unlost : {R : Type 0} {state : R → RevState} {w0 w1 : Option (List ℕ)} {P G : Type 0} {texts : List (List ℕ)} {stop : RunStop} {m0 m1 : Machine R} → StopsIn state w0 w1 ((false ≡ true) × P) texts stop m0 m1 → StopsIn state w0 w1 G texts stop m0 m1
-stops_unlost stops = record { bytes = stops.bytes; partly = stops.partly; cut = Outputs-by (λ lost. absurd (cc lost.0)) stops.cut }
+pub stops_unlost : {R : Type 0} {state : R → RevState} {w0 w1 : Option (List ℕ)} {quiet : Bool} {P G : Type 0} {texts : List (List ℕ)} {stop : RunStop} {m0 m1 : Machine R} → quiet ≡ false → StopsIn state w0 w1 ((quiet ≡ true) × P) texts stop m0 m1 → StopsIn state w0 w1 G texts stop m0 m1
+stops_unlost not stops = record { bytes = stops.bytes; partly = stops.partly; cut = Outputs-by (λ lost. absurd (cc (not, lost.0))) stops.cut }
 
 -- ---- a text behind which none waits
 -- of a stop within it
