@@ -181,6 +181,7 @@ module _ {R : Type 0} (state : R → RevState) (e0 e1 : Engine R) (s0 s1 : Store
   table = name.0
 
   pub names : inserts_into (skeleton first) ≡ Some table
+  unfolding table name
   names = name.1
 
   -- each of the others names it

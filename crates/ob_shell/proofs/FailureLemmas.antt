@@ -1,12 +1,26 @@
 -- At least as many calls of the store failed as statements were cut off, and as texts were answered so one by one.
-use Rattle.std.specs.Prelude.{if◌then◌else◌}
-use Rattle.std.proofs.Common.{◌≡◌, ◌≤◌, ◌+◌, ℕ, Bool, true, false, List, [], ◌∷◌, refl, sym, ap, subst, arith}
+use Rattle.std.specs.Prelude.{if◌then◌else◌, take}
+use Rattle.std.specs.Option.{option_map}
+use Rattle.std.proofs.Common.{◌≡◌, ◌≤◌, ◌+◌, ◌++◌, ℕ, Bool, true, false, List, [], ◌∷◌, length, Option, None, Some, Ok, Err, refl, sym, ap, subst, arith}
 use Rattle.ob_base.specs.Counts.{Rises}
 use Rattle.ob_base.specs.Refusals.{is_store_fault}
-use Rattle.ob_headline.specs.Failures.{FailsBeside, RisesBy, cut_off, failures, outcome_failures}
+use Rattle.ob_base.specs.declared.config.Public.{Public}
+use Rattle.ob_base.specs.declared.refusal.Refusal.{Refusal}
+use Rattle.ob_base.specs.declared.refusal.Refusal.TheVariants.{StoreFault}
+use Rattle.ob_base.specs.declared.seen.End.{End}
+use Rattle.ob_base.specs.declared.seen.End.TheVariants.{Joined, Cut}
+use Rattle.ob_base.specs.declared.seen.Seen.{Seen}
+use Rattle.ob_headline.specs.Accesses.{AreSeen}
+use Rattle.ob_headline.specs.Batches.{is_failed}
+use Rattle.ob_headline.specs.Failures.{FailsBeside, RisesBy, cut_off, failures, outcome_failures, refusal_failures}
+use Rattle.ob_headline.specs.Statements.{statements}
 use Rattle.ob_headline.specs.Words.{Answer}
-use Rattle.ob_mean.specs.Batches.{is_cut}
+use Rattle.ob_mean.specs.Batches.{Gathering, and_one, begins_batch, begun_by, gathering_after, goes_into, inserts_into, is_cut}
+use Rattle.ob_mean.specs.Replay.{Spelt}
 use Rattle.ob_script.specs.Trace.{Served}
+use Rattle.ob_shell.specs.Steps.{has_failed}
+use Rattle.ob_sql.specs.Skeleton.{skeleton}
+use Rattle.ob_sql.specs.declared.stmt.Stmt.{Stmt}
 use Rattle.ob_tables.specs.Running.{is_fault}
 use Rattle.ob_verdict.specs.Outcomes.{by_fault}
 use Rattle.ob_verdict.specs.declared.outcome.Outcome.{Outcome}
@@ -84,3 +98,62 @@ cut_rises o false a b is cause = let same : b ≡ a = rw (sym is) at cause in om
 pub uncut_rises : (cut : Bool) (a b : ℕ) → cut ≡ false → b ≡ a → RisesBy (if cut then 1 else 0) a b
 uncut_rises true a b is same = absurd (cc is)
 uncut_rises false a b is same = omega (arith, same)
+
+-- ---- where no statement was cut off
+-- no answer is that the store failed, unless it is that one
+not_fault : (r : Refusal) → (r ≡ StoreFault → ⊥) → refusal_failures r ≡ 0
+not_fault StoreFault off = absurd (off refl)
+not_fault r off = refl
+
+not_failure : (o : Outcome) → (o ≡ Refused StoreFault → ⊥) → outcome_failures o ≡ 0
+not_failure (Refused r) off = not_fault r (λ is. off (ap (λ (x : Refusal). Refused x) is))
+not_failure Created off = refl
+not_failure Inserted off = refl
+not_failure (Changed n) off = refl
+not_failure (Deleted n) off = refl
+not_failure Dropped off = refl
+not_failure (Rows k) off = refl
+
+-- nor is what is gathered
+one_more : (g : Option Gathering) → has_failed g ≡ false → has_failed (option_map and_one g) ≡ false
+one_more None sound = refl
+one_more (Some h) sound = sound
+
+begun_uncut : (o : Option (List ℕ)) (cut : Bool) → cut ≡ false → has_failed (option_map (λ (table : List ℕ). record { table = table; count = 1; failed = cut }) o) ≡ false
+begun_uncut None cut off = refl
+begun_uncut (Some table) cut off = off
+
+gathers_sound : (p : Public) (m : ℕ) (g : Option Gathering) (stmt : Stmt) (end : End) → has_failed g ≡ false → is_cut end ≡ false → has_failed (gathering_after p m g stmt end) ≡ false
+gathers_sound p m g stmt end sound off = go (goes_into p g (skeleton stmt)) (begins_batch p m stmt)
+  where
+    go : (along begins : Bool) → has_failed (if along then option_map and_one g else if begins then begun_by (skeleton stmt) end else None) ≡ false
+    go true begins = one_more g sound
+    go false true = begun_uncut (inserts_into (skeleton stmt)) (is_cut end) off
+    go false false = refl
+
+not_failed : (g : Option Gathering) (end : End) → has_failed g ≡ false → is_cut end ≡ false → is_failed g end ≡ false
+not_failed g Joined sound off = sound
+not_failed g (Cut n) sound off = absurd (cc off)
+not_failed g end sound off = refl
+
+none_cut : (cut : Bool) (n : ℕ) → (if cut then 1 else 0) + n ≡ 0 → (cut ≡ false) × (n ≡ 0)
+none_cut true n is = absurd (omega (arith, is))
+none_cut false n is = (refl, omega (arith, is))
+
+-- of statements that were answered, before some that weren't
+pub none_failed : (Leaves : Public → Stmt → Seen → Type 0) (spelt : List Spelt) (answers : List Answer) (seen last : List Served) (p : Public) (m : ℕ) (g : Option Gathering)
+    → AreSeen Leaves p m g spelt answers (seen ++ last) → length answers ≤ length spelt → length seen ≡ length (statements (take (length answers) spelt)) → has_failed g ≡ false → cut_off seen ≡ 0 → failures answers ≡ 0
+unfolding AreSeen cut_off failures statements
+none_failed Leaves spelt [] seen last p m g are reached each sound uncut = refl
+none_failed Leaves [] (one ∷ answers) seen last p m g are reached each sound uncut = absurd (omega (arith, reached))
+none_failed Leaves (Err at ∷ spelt) (one ∷ answers) seen last p m g are reached each sound uncut =
+    let own : outcome_failures one.outcome ≡ 0 = ap (λ (a : Answer). outcome_failures a.outcome) are.0 in
+    let rest = none_failed Leaves spelt answers seen last p m None are.1 (omega (arith, reached)) each refl uncut in
+    omega (arith, own, rest)
+none_failed Leaves (Ok stmt ∷ spelt) (one ∷ answers) [] last p m g are reached each sound uncut = absurd (omega (arith, each))
+none_failed Leaves (Ok stmt ∷ spelt) (one ∷ answers) (x ∷ seen) last p m g are reached each sound uncut =
+    let parts = none_cut (is_cut x.seen.end) (cut_off seen) uncut in
+    let fine : is_failed g x.seen.end ≡ false = not_failed g x.seen.end sound parts.0 in
+    let own : outcome_failures one.outcome ≡ 0 = not_failure one.outcome (λ is. absurd (cc (are.2.1.1 is, fine))) in
+    let rest = none_failed Leaves spelt answers seen last _ _ _ are.3 (omega (arith, reached)) (omega (arith, each)) (gathers_sound p m g stmt x.seen.end sound parts.0) parts.1 in
+    omega (arith, own, rest)

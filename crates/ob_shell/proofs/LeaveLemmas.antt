@@ -189,7 +189,7 @@ module _ {R : Type 0} (state : R → RevState) (ending : Ending) (m2 : Machine R
       may_behind : (m0 : Machine R) (stmt : Stmt) → Saves state salt base keys m0 → GoTogether (public_of m0.engine) stmt m2.owed → MayTakeMore ending → MayBehind (Ok stmt ∷ []) []
       may_behind m0 stmt old along more = record {
         more = more;
-        few = let less = along.few in let long = length-map (λ (one : Owed). one.stmt) m2.owed in omega (arith, less, long, old.most);
+        few = let less = along.few in let long = length-map m2.owed (λ (one : Owed). one.stmt) in omega (arith, less, long, old.most);
         together = λ some. elim along.alike [
           | inl off ↦ absurd (some (ap statements_of off))
           | inr all ↦ record { begun = stmt; last = refl; table = all.0; insert = all.1 }

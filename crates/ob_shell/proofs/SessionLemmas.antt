@@ -28,7 +28,7 @@ use Rattle.ob_headline.specs.Batches.{AnsweredBut, meant_seen}
 use Rattle.ob_headline.specs.Bases.{Base, FromEach, Opened, drawing, session_at, start}
 use Rattle.ob_headline.specs.Disturbed.{MeantUntil, meant_trace}
 use Rattle.ob_headline.specs.FullStash.{ReadsFullStash}
-use Rattle.ob_headline.specs.Failures.{FailsBeside}
+use Rattle.ob_headline.specs.Failures.{FailsBeside, cut_off}
 use Rattle.ob_headline.specs.Leaves.{AreDrawn}
 use Rattle.ob_headline.specs.Keeping.{EndsWith, Writes, closing_behind, last_script, region_opened}
 use Rattle.ob_headline.specs.KeptHeadline.{ClosesTables, PassesBoth}
@@ -78,7 +78,6 @@ use Rattle.ob_shell.specs.Tallies.{flagged, has_refused}
 use Rattle.ob_shell.specs.Top.{EndsUntampered, TraceSink, Carried, RanAfter}
 use Rattle.ob_shell.specs.Traces.{Traced}
 use Rattle.ob_store.proofs.Steps.{since_trans}
-use Rattle.ob_store.specs.Calls.{IsSteady}
 use Rattle.ob_store.specs.Runs.{Later, Since}
 use Rattle.ob_store.specs.State.{Lie, StoreState}
 use Rattle.ob_vault.specs.Numbers.{number_after}
@@ -311,7 +310,7 @@ module _ {R : Type 0} {state : R → RevState} {Lost : Type 0} (base : Base) (co
       lawful = subst (λ (s : Session). AreSeen (StopsWithin (RanEnding result) Failed (ReadsFullStash keys base.start s1)) s.public s.asked None walk.spelt ran.answers all) (here [])
           (subst (λ (k : KeySet). AreSeen (StopsWithin (RanEnding result) Failed (ReadsFullStash k base.start s1)) (public_of first) (asked_of m0) None walk.spelt ran.answers all) keys_are
           (subst (λ (x : Start). AreSeen (StopsWithin (RanEnding result) Failed (ReadsFullStash last.vault.keys x s1)) (public_of first) (asked_of m0) None walk.spelt ran.answers all) start_is
-          (walk.lawful Failed (λ beside. beside) d0 on.drawn (given_none d0 (indexes_of first) on.unindexed))));
+          (walk.lawful (cut_off walk.seen + 1) s0.faults (λ beside. beside) d0 on.drawn (given_none d0 (indexes_of first) on.unindexed))));
       drawn = record { numbers = reads.numbers; are = subst (λ (p : Public). AreDrawn d0.draw p all reads.numbers) on.public reads.are; apart = reads.apart };
       asked = walk.asked ∙ (λ i. on.asked i ++ trace (on.public i) all);
       failed = λ alone. walk.failed (ap (λ (p : Public). p.batch) on.public ∙ alone);

@@ -259,8 +259,8 @@ module _ {R : Type 0} (state : R → RevState) where
     pub one_last : length last ≤ 1
     pub in_access : ends_within ending ≡ true → length last ≡ 1
     pub each_seen : length seen ≡ length (statements (take (length texts) spelt))
-    pub lawful : (Failed : Type 0) → (FailsBeside seen m0.store.faults m2.store.faults → Failed) → (d : Draws) → AreDraws m0.engine d → Given d (indexes_of m0.engine)
-        → AreSeen (StopsWithin ending Failed (Full m2)) (public_of m0.engine) (asked_of m0) m0.gathered spelt answers (seen ++ last)
+    pub lawful : (most old : ℕ) → (FailsBeside seen m0.store.faults m2.store.faults → RisesBy most old m2.store.faults) → (d : Draws) → AreDraws m0.engine d → Given d (indexes_of m0.engine)
+        → AreSeen (StopsWithin ending (RisesBy most old m2.store.faults) (Full m2)) (public_of m0.engine) (asked_of m0) m0.gathered spelt answers (seen ++ last)
     pub passed : m1.store.asked ≡ m0.store.asked ++ trace (public_of m0.engine) seen
     pub asked : m2.store.asked ≡ m0.store.asked ++ trace (public_of m0.engine) (seen ++ last)
     pub keys : m2.engine.vault.keys ≡ m0.engine.vault.keys
@@ -308,7 +308,7 @@ module _ {R : Type 0} (state : R → RevState) where
         one_last = omega arith;
         in_access = λ ends. absurd (off ends);
         each_seen = refl;
-        lawful = λ Failed fails d drawn g. refl;
+        lawful = λ most old fails d drawn g. refl;
         passed = sym (append-nil m0.store.asked);
         asked = ap (λ (m : Machine R). m.store.asked) same ∙ sym (append-nil m0.store.asked);
         keys = ap (λ (m : Machine R). m.engine.vault.keys) same;
@@ -426,7 +426,7 @@ module _ {R : Type 0} (state : R → RevState) where
         one_last = omega arith;
         in_access = λ ends. refl;
         each_seen = refl;
-        lawful = λ Failed fails d drawn g. (
+        lawful = λ most old fails d drawn g. (
           refl,
           cut.does.lawful,
           (
@@ -540,7 +540,7 @@ module _ {R : Type 0} (state : R → RevState) where
         one_last = omega arith;
         in_access = λ ends. refl;
         each_seen = refl;
-        lawful = λ Failed fails d drawn g. (
+        lawful = λ most old fails d drawn g. (
           refl,
           did.does.lawful,
           (
@@ -591,7 +591,7 @@ module _ {R : Type 0} (state : R → RevState) where
     one_last = omega arith;
     in_access = λ ends. absurd (off ends);
     each_seen = refl;
-    lawful = λ Failed fails d drawn g. refl;
+    lawful = λ most old fails d drawn g. refl;
     passed = sym (append-nil m0.store.asked);
     asked = ap (λ (m : Machine R). m.store.asked) same ∙ sym (append-nil m0.store.asked);
     keys = ap (λ (m : Machine R). m.engine.vault.keys) same;
@@ -636,7 +636,7 @@ module _ {R : Type 0} (state : R → RevState) where
         one_last = omega arith;
         in_access = λ ends. refl;
         each_seen = refl;
-        lawful = λ Failed fails d drawn g. (
+        lawful = λ most old fails d drawn g. (
           refl,
           with_lawful state m0 m2 text one with,
           (

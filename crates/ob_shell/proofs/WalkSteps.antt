@@ -12,6 +12,7 @@ use Rattle.ob_exec.proofs.LeavesRead.{behind}
 use Rattle.ob_headline.proofs.FullLemmas.{met_script}
 use Rattle.ob_headline.specs.Accesses.{AreSeen, StopsWithin, any_cut}
 use Rattle.ob_headline.specs.Disturbed.{MeantUntil}
+use Rattle.ob_headline.specs.Failures.{RisesBy}
 use Rattle.ob_headline.specs.Meaning.{AnswersFrom, AnswersIn, AnswersMeant}
 use Rattle.ob_headline.specs.Statements.{SpellFirst, statements}
 use Rattle.ob_headline.specs.Words.{Answer, Begins}
@@ -27,7 +28,7 @@ use Rattle.ob_shell.proofs.DisturbLemmas.{before_less, begins_more, crosses, few
 use Rattle.ob_shell.proofs.FailureLemmas.{answered, beside_more, cut_rises, cuts_more, fails_more, own_rises, uncut_rises}
 use Rattle.ob_shell.proofs.HowLemmas.{gathered_by, how_alone, meets_first, met_all, met_room}
 use Rattle.ob_shell.proofs.LeafLemmas.{Reads, given_after, reads_more, reads_unasked}
-use Rattle.ob_shell.proofs.LeavePath.{Path}
+use Rattle.ob_shell.proofs.LeavePath.{Along, Path}
 use Rattle.ob_shell.proofs.ReplayLemmas.{counts_on, draws_after, free_holds, holds_free, stands_after}
 use Rattle.ob_shell.proofs.WalkLemmas.{EarlyFrom, Full, Walked, alone_joins, answered_by, early_answered, end_cut, failed_by, none_saved, or_first, or_rest, reads_true, refused_is, same_by, says, world}
 use Rattle.ob_shell.proofs.WithLemmas.{batched, failed_with, means_with, meant_with, next_with, room_with, script_with, seen_with, uncut_with, with_failed, with_joins, with_lawful, with_plan, with_says}
@@ -75,17 +76,17 @@ module _ {R : Type 0} (state : R → RevState) where
         one_last = rest.one_last;
         in_access = rest.in_access;
         each_seen = rest.each_seen;
-        lawful = λ Failed fails d drawn g. (
+        lawful = λ most old fails d drawn g. (
           is,
-          subst (λ (o : Option Gathering). AreSeen (StopsWithin ending Failed (Full state m2)) (public_of m0.engine) (asked_of m0) o rest.spelt answers (rest.seen ++ rest.last)) bad.gathered
-              (rest.lawful Failed fails d drawn g),
+          subst (λ (o : Option Gathering). AreSeen (StopsWithin ending (RisesBy most old m2.store.faults) (Full state m2)) (public_of m0.engine) (asked_of m0) o rest.spelt answers (rest.seen ++ rest.last)) bad.gathered
+              (rest.lawful most old fails d drawn g),
         );
         passed = rest.passed;
         asked = rest.asked;
         keys = rest.keys;
         start = rest.start;
         from_closing = rest.from_closing;
-        along = (m1, record { same = same; free = bad.free; owed = bad.owed }, there.along);
+        along = (m1, record { same = same; free = bad.free; owed = bad.owed }, subst (λ (y : Machine R). Along state ending y m2 rest.spelt answers (rest.seen ++ rest.last)) (sym same) rest.along);
         public = rest.public;
         unfailed = rest.unfailed;
         cuts = rest.cuts;
@@ -226,7 +227,7 @@ module _ {R : Type 0} (state : R → RevState) where
         one_last = rest.one_last;
         in_access = rest.in_access;
         each_seen = ap (λ (n : ℕ). suc n) rest.each_seen;
-        lawful = λ Failed fails d drawn g. (
+        lawful = λ most old fails d drawn g. (
           refl,
           did.does.lawful,
           (
@@ -236,10 +237,10 @@ module _ {R : Type 0} (state : R → RevState) where
             did.planned,
             alone_joins p (asked_of m0) m0.gathered did.stmt here (Ok one.outcome) _ did.does.alone did.does.ran.ends,
           ),
-          subst (λ (o : Option Gathering). AreSeen (StopsWithin ending Failed (Full state m2)) (next p sk here) (asked_of m0 + length (script p sk here)) o rest.spelt answers all) did.gathered
-              (subst (λ (q : Public). AreSeen (StopsWithin ending Failed (Full state m2)) q (asked_of m0 + length (script p sk here)) m1.gathered rest.spelt answers all) public_is
-              (subst (λ (n : ℕ). AreSeen (StopsWithin ending Failed (Full state m2)) (public_of m1.engine) n m1.gathered rest.spelt answers all) asked_is
-              (rest.lawful Failed (λ beside. fails (beside_more (record { skeleton = sk; seen = here }) rest.seen m0.store.faults m1.store.faults m2.store.faults rises beside))
+          subst (λ (o : Option Gathering). AreSeen (StopsWithin ending (RisesBy most old m2.store.faults) (Full state m2)) (next p sk here) (asked_of m0 + length (script p sk here)) o rest.spelt answers all) did.gathered
+              (subst (λ (q : Public). AreSeen (StopsWithin ending (RisesBy most old m2.store.faults) (Full state m2)) q (asked_of m0 + length (script p sk here)) m1.gathered rest.spelt answers all) public_is
+              (subst (λ (n : ℕ). AreSeen (StopsWithin ending (RisesBy most old m2.store.faults) (Full state m2)) (public_of m1.engine) n m1.gathered rest.spelt answers all) asked_is
+              (rest.lawful most old (λ beside. fails (beside_more (record { skeleton = sk; seen = here }) rest.seen m0.store.faults m1.store.faults m2.store.faults rises beside))
               (behind d (draws_taken p sk here.end)) (did.does.ran.goes_on.drawn d drawn) (given_after state m0 m1 did.stmt (Ok one.outcome) did.does d drawn g did.does.ran.goes_on.lives)))),
         );
         passed = asked_more m0 m1 m text one did rest.seen rest.passed;
@@ -388,21 +389,21 @@ module _ {R : Type 0} (state : R → RevState) where
         one_last = rest.one_last;
         in_access = rest.in_access;
         each_seen = ap (λ (n : ℕ). suc n) rest.each_seen;
-        lawful = λ Failed fails d drawn g. (
+        lawful = λ most old fails d drawn g. (
           refl,
           with_lawful state m0 m1 text one with,
           (with_says state m0 m1 text one with, with_failed state m0 m1 text one with, with_plan state m0 m1 text one with, with_joins state m0 m1 text one with),
-          subst (λ (o : Option Gathering). AreSeen (StopsWithin ending Failed (Full state m2)) (next p sk here) (asked_of m0 + length (script p sk here)) o rest.spelt answers all) with.gathered
-              (subst (λ (q : Public). AreSeen (StopsWithin ending Failed (Full state m2)) q (asked_of m0 + length (script p sk here)) m1.gathered rest.spelt answers all) (sym still)
-              (subst (λ (n : ℕ). AreSeen (StopsWithin ending Failed (Full state m2)) p n m1.gathered rest.spelt answers all) (sym count)
-              (rest.lawful Failed (λ beside. fails (beside_more x rest.seen m0.store.faults m0.store.faults m2.store.faults (uncut_rises (is_cut here.end) m0.store.faults m0.store.faults off refl) beside)) d drawn g))),
+          subst (λ (o : Option Gathering). AreSeen (StopsWithin ending (RisesBy most old m2.store.faults) (Full state m2)) (next p sk here) (asked_of m0 + length (script p sk here)) o rest.spelt answers all) with.gathered
+              (subst (λ (q : Public). AreSeen (StopsWithin ending (RisesBy most old m2.store.faults) (Full state m2)) q (asked_of m0 + length (script p sk here)) m1.gathered rest.spelt answers all) (sym still)
+              (subst (λ (n : ℕ). AreSeen (StopsWithin ending (RisesBy most old m2.store.faults) (Full state m2)) p n m1.gathered rest.spelt answers all) (sym count)
+              (rest.lawful most old (λ beside. fails (beside_more x rest.seen m0.store.faults m0.store.faults m2.store.faults (uncut_rises (is_cut here.end) m0.store.faults m0.store.faults off refl) beside)) d drawn g))),
         );
         passed = rest.passed ∙ ap (λ (l : List Access). m0.store.asked ++ l) (sym (traces rest.seen));
         asked = rest.asked ∙ ap (λ (l : List Access). m0.store.asked ++ l) (sym (traces all));
         keys = rest.keys;
         start = rest.start;
         from_closing = rest.from_closing;
-        along = (m1, inr (record { same = same; along = with.along; owed = with.owed }), there.along);
+        along = (m1, inr (record { same = same; along = with.along; owed = with.owed }), subst (λ (y : Machine R). Along state ending y m2 rest.spelt answers (rest.seen ++ rest.last)) (sym same) rest.along);
         public = rest.public ∙ ap (λ (q : Public). all_public q rest.seen) (sym still);
         unfailed = λ not. rest.unfailed (or_rest (is_cut here.end) (any_cut all) not);
         cuts = cuts_more x rest.seen m0.store.faults m0.store.faults m2.store.faults (uncut_rises (is_cut here.end) m0.store.faults m0.store.faults off refl) rest.cuts;

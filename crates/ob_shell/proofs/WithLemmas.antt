@@ -1,7 +1,7 @@
 -- One statement that was carried out with the INSERT before it, by its meaning.
 use Rattle.std.specs.Prelude.{◌↔◌, ◌&&◌, IsSome, if◌then◌else◌, is_some}
 use Rattle.std.specs.Option.{is_none, option_map, option_map_or}
-use Rattle.std.proofs.Common.{◌≡◌, ◌+◌, ℕ, IsTrue, Bool, true, false, List, [], ◌++◌, Option, Some, None, refl, sym, ◌∙◌, ap, subst}
+use Rattle.std.proofs.Common.{◌≡◌, ℕ, IsTrue, Bool, true, false, List, [], ◌++◌, Option, Some, None, refl, sym, ◌∙◌, ap, subst}
 use Rattle.ob_base.specs.Stored.{headings, headings_of}
 use Rattle.ob_base.specs.declared.config.Public.{Public}
 use Rattle.ob_base.specs.declared.refusal.Refusal.{Refusal}

@@ -6,7 +6,7 @@ use Rattle.ob_base.specs.declared.config.Config.{Config}
 use Rattle.ob_headline.specs.Bases.{fresh}
 use Rattle.ob_headline.specs.Disturbed.{Until, meant_trace}
 use Rattle.ob_headline.specs.Endings.{last_line, status_of}
-use Rattle.ob_headline.specs.Failures.{RisesBy, failures}
+use Rattle.ob_headline.specs.Failures.{RisesBy, cut_off, failures}
 use Rattle.ob_headline.specs.Headline.{Headline}
 use Rattle.ob_headline.specs.Settings.{MeddleParses, ParsesChanges, settings_of}
 use Rattle.ob_headline.specs.Usage.{is_traced, meddle_usage}
@@ -74,7 +74,10 @@ pub record Meddled (words : List Text) (old : StoreState → Outside) (new : Out
   -- where accesses fail and no block is changed
   pub unchanged : IsTrue (list_all (λ m. is_fail m.act) (list_of store))
       → IsHonest start new.store × (report.status ≢ 4)
-  -- at most as many answers are that the store failed as accesses failed, and a block was changed where one ends the run
+  -- at most as many statements were cut off as accesses failed, and where none are served together at most as many answers are
+  -- that the store failed; and a block was changed where one ends the run
+  pub cut : RisesBy (cut_off headline.story.seen) 0
+      (failed_among (list_of store) (length new.store.asked))
   pub failed : (fresh (settings_of meddle_usage words)).public.batch ≡ None
       → RisesBy (failures headline.story.answers) 0
       (failed_among (list_of store) (length new.store.asked))
