@@ -109,11 +109,7 @@ returns-in-Ok-run_batch-clause-serves g c =
             | inr appends ↦ inr (traced_to (record { seen = _; grew = ran.carried.ran.asked; appends = subst (λ (l : List Access). Appends t0 t1 (traced c.args.tracing l)) split appends }))
           ]);
       traced = tt;
-<<<<<<< HEAD
       traced_stop = record { seen = _; grew = ran.carried.ran.asked; cut = subst (λ (l : List Access). Outputs t0 t1 (true ≡ true) (traced c.args.tracing l)) split (Outputs-by (λ err. refl) now.cut.traced) };
-=======
-      traced_stop = record { seen = _; grew = ran.carried.ran.asked; cut = rw (← split) (Outputs-by (λ err. refl) now.cut.traced) };
->>>>>>> c5ae32669a6eb690dcbaa9e6f56fd1a03c2963b7
       cause = ((λ alone. refl, inl refl), now.cause.0);
       quiet = now.cause.0;
     }
