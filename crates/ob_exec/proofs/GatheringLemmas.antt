@@ -1,5 +1,5 @@
 -- Which INSERTs begin a batch.
-use Rattle.std.specs.Prelude.{◌&&◌, is_none, nat_le, not}
+use Rattle.std.specs.Prelude.{◌&&◌, None, Some, is_none, is_some, nat_le, not}
 use Rattle.std.proofs.Common.{◌≡◌, ◌<◌, ◌≤◌, ◌+◌, ◌-◌, ◌^◌, min, ℕ, Bool, true, false, List, Option, refl, sym, ap, ◌∙◌, arith}
 use Rattle.std.proofs.lemmas.Bool.{le-leb, le-ltb, lt-leb, lt-ltb}
 use Rattle.ob_base.specs.Stored.{headings_of}
@@ -21,6 +21,13 @@ third : (a b c d : Bool) → c ≡ false → (a && b && c && d) ≡ false
 third true true c d is = rw is refl
 third true false c d is = refl
 third false b c d is = refl
+
+-- a refusal that isn't some is none
+pub none_is : (r : Option Refusal) (b : Bool) → is_some r ≡ not b → b ≡ is_none r
+none_is None true is = refl
+none_is None false is = absurd (cc is)
+none_is (Some r) true is = absurd (cc is)
+none_is (Some r) false is = refl
 
 module _ (p : Public) (m : ℕ) (stmt : Stmt) where
   -- too few may be served together

@@ -1,5 +1,5 @@
 //! Which INSERTs are served together.
-ghost use Rattle.std.specs.Prelude.{◌≡◌};
+ghost use Rattle.std.specs.Prelude.{◌≡◌, ◌≤◌, ◌+◌, ◌*◌};
 ghost use Rattle.ob_mean.specs.Batches.{batch_most, begins_batch};
 ghost use Rattle.ob_tables.specs.Agreeing.{count_of, public_of};
 
@@ -29,6 +29,8 @@ pub fn batch_most(public: &Public) -> u64
 /// Whether an INSERT begins a batch: one into a flat table that isn't refused before any access, where INSERTs are served
 /// together.
 pub fn begins_batch<R: Revisions, S: BlockStore>(engine: &Engine<R>, store: &S, stmt: &Stmt) -> bool
+    requires pack { 1 ≤ (public_of engine.now).pack }
+    requires buffer { 3 * (public_of engine.now).pack + 1 ≤ (public_of engine.now).buffer }
     ensures { result ≡ begins_batch (public_of engine.now)
         (count_of engine.now (S.state store.now)) stmt.now }
 {

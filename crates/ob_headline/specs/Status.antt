@@ -64,10 +64,15 @@ pub record IsUsedUp (base : Base) (store : StoreState) : Type 0 where
 abbrev pub StoreFails : Base → (old new : StoreState) → Type 0
 StoreFails base old new = Rises old.faults new.faults ⊎ IsUsedUp base new
 
+-- a count of faults stays where statements are served alone, and else it stays or rises
+abbrev pub StaysAlone : (Alone : Type 0) → (old new : ℕ) → Type 0
+StaysAlone Alone old new = (Alone → new ≡ old) × ((new ≡ old) ⊎ Rises old new)
+
 -- the source didn't fail; where INSERTs may wait to be served together while more is read, it may have, before one of them was
 -- stopped
 abbrev pub SourceStays : Base → (old new : Outside) → Type 0
-SourceStays base old new = base.public.batch ≡ None → new.faults.source ≡ old.faults.source
+SourceStays base old new =
+    StaysAlone (base.public.batch ≡ None) old.faults.source new.faults.source
 
 -- of the words, the bytes taken, what was served, the store and the counts of faults; a keeper is handed something only where
 -- tables are saved

@@ -1,6 +1,6 @@
 //! What was asked of a store, and the numbers of what was written to it.
 use crate::stop::Stop;
-use crate::words::number;
+use ob_words::number;
 use ob_base::Access;
 use ob_seal::{At, Keys, unseal};
 use ob_store::BlockStore;

@@ -7,7 +7,7 @@ use crate::emitter::{Calls, Shower, push_cells};
 use crate::items::{aggregates_of, columns_of, items_of};
 use crate::room::make_room;
 use crate::stop::Stop;
-use crate::words::{Words, place_of};
+use ob_words::{Words, place_of};
 use ob_emit::{emit_all, walk};
 use ob_flat::{Flat, OpErr, discard};
 use ob_group::{Grouped, aggregate, group};

@@ -12,7 +12,7 @@ use crate::selects::{hashed, selected};
 use crate::steps::is_step;
 use crate::stop::Stop;
 use crate::tables::made;
-use crate::words::{Words, head, number, parted};
+use ob_words::{Words, head, number, parted};
 use ob_flat::Flat;
 use ob_room::Room;
 use ob_row::Pred;

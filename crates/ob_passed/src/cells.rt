@@ -7,7 +7,7 @@ ghost use Rattle.ob_row.specs.Rows.{Row};
 ghost use Rattle.ob_mutate.specs.Changing.{FitsSets};
 
 use crate::stop::Stop;
-use crate::words::{Words, place_of};
+use ob_words::{Words, place_of};
 use ob_base::{Column, Kind, Schema, Text};
 use ob_row::Cell;
 use std::alloc::Global;

@@ -1,5 +1,5 @@
 //! The columns of a table.
-use crate::words::Words;
+use ob_words::Words;
 use ob_base::{Column, Kind, Name, Schema};
 
 /// The longest text of a column of texts.

@@ -6,7 +6,7 @@ ghost use Rattle.ob_group.specs.Grouping.{aggs_of};
 ghost use Rattle.ob_group.specs.Running.{IsWithin, AreWithin};
 
 use crate::stop::Stop;
-use crate::words::{Words, place_of};
+use ob_words::{Words, place_of};
 use ob_base::Schema;
 use ob_row::{Agg, Item};
 use std::alloc::Global;

@@ -6,7 +6,7 @@ use crate::answers::emit_discard;
 use crate::emitter::Calls;
 use crate::room::make_room;
 use crate::stop::Stop;
-use crate::words::place_of;
+use ob_words::place_of;
 use ob_flat::Flat;
 use ob_join::join;
 use ob_order::Order;

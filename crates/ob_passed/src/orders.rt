@@ -2,7 +2,7 @@
 ghost use Rattle.std.specs.Prelude.{◌≡◌, ◌≤◌, length};
 
 use crate::stop::Stop;
-use crate::words::{Words, number};
+use ob_words::{Words, number};
 use ob_order::Order;
 use ob_room::{ClearRow, Room};
 use std::alloc::Global;

@@ -6,7 +6,7 @@ ghost use Rattle.ob_passed.specs.Tables.{HasRoom};
 
 use crate::emitter::Calls;
 use crate::stop::Stop;
-use crate::words::{Words, number};
+use ob_words::{Words, number};
 use ob_base::EmitErr;
 use ob_room::Room;
 use ob_store::BlockStore;

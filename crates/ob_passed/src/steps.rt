@@ -6,7 +6,7 @@ ghost use Rattle.ob_passed.specs.Tables.{Changed, HasTable, IsAtRest};
 use crate::cells::{cells_of, set_of};
 use crate::room::make_room;
 use crate::stop::Stop;
-use crate::words::parted;
+use ob_words::parted;
 use ob_flat::{Flat, count};
 use ob_mutate::{Former, Inserted, delete, insert, update};
 use ob_room::Room;

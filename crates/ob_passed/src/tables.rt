@@ -8,7 +8,7 @@ use crate::columns::schema_of;
 use crate::room::make_room;
 use crate::steps::step;
 use crate::stop::Stop;
-use crate::words::number;
+use ob_words::number;
 use ob_base::Schema;
 use ob_flat::{Flat, create};
 use ob_room::Room;

@@ -40,8 +40,6 @@ pub mod TakesLemmas
 pub mod HeadLemmas
 pub mod OpenLemmas
 pub mod CloseLemmas
-pub mod WordLemmas
-pub mod SavedWordLemmas
 pub mod FirstPartLemmas
 pub mod LaterLemmas
 pub mod LetGoLemmas

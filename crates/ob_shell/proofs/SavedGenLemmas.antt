@@ -29,8 +29,8 @@ use Rattle.ob_shell.specs.Running.{StopCause}
 use Rattle.ob_shell.specs.SavedSummary.{KeepsOrSaves, SavedSummarized}
 use Rattle.ob_shell.specs.Top.{IsFresh}
 use Rattle.ob_shell.specs.declared.keeping.KeptEnded.{KeptEnded}
-use Rattle.ob_shell.specs.declared.words.WordsErr.{WordsErr}
-use Rattle.ob_shell.specs.declared.words.WordsErr.TheVariants as Words
+use Rattle.ob_words.specs.declared.words.WordsErr.{WordsErr}
+use Rattle.ob_words.specs.declared.words.WordsErr.TheVariants as Words
 use Rattle.ob_store.specs.State.{StoreState}
 
 -- ---- the run

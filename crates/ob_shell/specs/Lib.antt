@@ -17,7 +17,5 @@ pub mod Closed
 pub mod Meddling
 pub mod LineRead
 pub mod Traces
-pub mod WordsRead
-pub mod SavedWords
 pub mod EngagingSaved
 pub mod SavedSummary

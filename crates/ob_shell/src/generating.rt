@@ -3,15 +3,15 @@ ghost use Rattle.std.specs.Prelude.{◌≡◌, Bool, Ok, [], Some};
 ghost use Rattle.ob_gen.specs.SummaryText.{summary_of, summary_text};
 ghost use Rattle.ob_headline.specs.Endings;
 ghost use Rattle.ob_shell.specs.Generating.{RanGenerated, ConcludedBy, SummedUp};
-ghost use Rattle.ob_shell.specs.WordsRead.{AreWithin};
+ghost use Rattle.ob_words.specs.WordsRead.{AreWithin};
 
 use crate::top::{Ended, close, run, status_of};
-use crate::words::Words;
 use ob_base::{Failed, Stop};
 use ob_gen::{Digester, Discard, Generated, Summary, Tally, TraceDigest};
 use ob_headline::{Ending, Report, Seed};
 use ob_io::Sink;
 use ob_store::BlockStore;
+use ob_words::Words;
 use std::alloc::Global;
 
 // The summary of a run of which this was counted, and whose accesses were digested.

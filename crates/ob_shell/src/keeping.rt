@@ -18,7 +18,7 @@ ghost use Rattle.ob_shell.specs.Feeding.{IsFedBy};
 ghost use Rattle.ob_shell.specs.Generating.{asked_for};
 ghost use Rattle.ob_shell.specs.KeptSummary.{MayKeep};
 ghost use Rattle.ob_shell.specs.Steps.{IsReady, machine_of, told_nothing};
-ghost use Rattle.ob_shell.specs.WordsRead.{AreWithin};
+ghost use Rattle.ob_words.specs.WordsRead.{AreWithin};
 
 use crate::feed::{Feed, Halt};
 use crate::generating::{serve_generated, sum_up};
@@ -26,7 +26,6 @@ use crate::key::{FirstLine, read_key};
 use crate::session::serve;
 use crate::top::{Ended, ended_with, last_line, refuse_words, serve_over, status_of};
 use crate::trace::trace_from;
-use crate::words::{Words, read_kept_words};
 use ob_base::{Config, Mark, Stop};
 use ob_exec::{CloseErr, Engine, OpenErr, Unsaved};
 use ob_gen::{Digester, Discard, Generated, Tally, TraceDigest, Undigested};
@@ -37,6 +36,7 @@ use ob_reopen::Keeper;
 use ob_seal::Keys;
 use ob_store::{BlockStore, Lasting};
 use ob_vault::{BaseRevs, Revisions};
+use ob_words::{Words, read_kept_words};
 use std::alloc::Global;
 
 /// How a run ended, whether its last line may not be written any more, how many rows were open, and what was counted of

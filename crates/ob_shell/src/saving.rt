@@ -17,7 +17,7 @@ ghost use Rattle.ob_shell.specs.Feeding.{IsFedBy};
 ghost use Rattle.ob_shell.specs.Generating.{asked_for};
 ghost use Rattle.ob_shell.specs.Leaving.{BeginsToSave};
 ghost use Rattle.ob_shell.specs.SavedSummary.{KeepsOrSaves};
-ghost use Rattle.ob_shell.specs.SavedWords.{AreFit};
+ghost use Rattle.ob_words.specs.SavedWords.{AreFit};
 ghost use Rattle.ob_shell.specs.Steps.{IsReady, machine_of};
 
 use crate::feed::{Feed, Halt};
@@ -30,7 +30,6 @@ use crate::key::{FirstLine, read_key};
 use crate::session::serve;
 use crate::top::{ended_with, refuse_words, serve_over};
 use crate::trace::trace_from;
-use crate::words::{Words, read_saved_words};
 use ob_base::{Config, Failed, Mark, NoMemory, Stop};
 use ob_exec::{Engine, SavedBy};
 use ob_gen::{Digester, Discard, Generated, Tally, TraceDigest, Undigested};
@@ -40,6 +39,7 @@ use ob_reopen::{Keeper, Salts};
 use ob_seal::Keys;
 use ob_store::{Lasting, Saving};
 use ob_vault::{BaseRevs, Revisions};
+use ob_words::{Words, read_saved_words};
 use std::alloc::Global;
 
 // The pack of the tables that a mark names a closing of.

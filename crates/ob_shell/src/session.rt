@@ -353,7 +353,9 @@ fn gather<R: Revisions, S: BlockStore, B: Behind<S>, K: Sink, T: Sink, D: Digest
     if (session.batch.len() as u64) < batch_most(engine.public()) {
         return Ok(());
     }
-    match flush(alloc, tracing, session, engine, store, behind, out, trace, digest) {
+    match flush(
+        alloc, tracing, session, engine, store, behind, out, trace, digest,
+    ) {
         Ok(()) => Ok(()),
         Err(halted) => Err(Break::Served(halted)),
     }
@@ -456,7 +458,9 @@ fn take_stmt<R: Revisions, S: BlockStore, B: Behind<S>, K: Sink, T: Sink, D: Dig
             alloc, tracing, session, stmt, engine, store, behind, out, trace, digest,
         );
     }
-    match flush(alloc, tracing, session, engine, store, behind, out, trace, digest) {
+    match flush(
+        alloc, tracing, session, engine, store, behind, out, trace, digest,
+    ) {
         Ok(()) => begin(
             alloc, tracing, session, stmt, engine, store, behind, out, trace, digest,
         ),
@@ -497,7 +501,9 @@ fn take_misspelt<R: Revisions, S: BlockStore, B: Behind<S>, K: Sink, T: Sink, D:
     ensures same { B.name behind.new ≡ B.name behind.old }
     ensures took { OnOk result (D.took digest.new (S.state store.new).asked) }
 {
-    if let Err(halted) = flush(alloc, tracing, session, engine, store, behind, out, trace, digest) {
+    if let Err(halted) = flush(
+        alloc, tracing, session, engine, store, behind, out, trace, digest,
+    ) {
         return Err(halted);
     }
     let answered = Answered {
@@ -602,7 +608,9 @@ fn turn<R: Revisions, S: BlockStore, B: Behind<S>, K: Sink, T: Sink, D: Digester
     match session.pending.push(b) {
         Ok(Grown::More) => Ok(()),
         Ok(Grown::Whole) => {
-            match take_text(alloc, tracing, session, engine, store, behind, out, trace, digest) {
+            match take_text(
+                alloc, tracing, session, engine, store, behind, out, trace, digest,
+            ) {
                 Ok(()) => {
                     session.pending.clear();
                     Ok(())
@@ -649,7 +657,9 @@ fn finish<R: Revisions, S: BlockStore, B: Behind<S>, K: Sink, T: Sink, D: Digest
     if !session.pending.has_words() {
         return Ok(());
     }
-    take_text(alloc, tracing, session, engine, store, behind, out, trace, digest)
+    take_text(
+        alloc, tracing, session, engine, store, behind, out, trace, digest,
+    )
 }
 
 // Reads a feed to its end or a stop, and serves the texts that it brings, but for those that wait then.
@@ -703,7 +713,9 @@ fn read_texts<I: Source, R: Revisions, S: BlockStore, B: Behind<S>, K: Sink, T: 
             Err(Halt::SourceFault) => return Err(Break::Unread(Stop::SourceFault)),
             Err(Halt::InputLimit) => return Err(Break::Unread(Stop::InputLimit)),
             Ok(None) => {
-                return finish(alloc, tracing, session, engine, store, behind, out, trace, digest);
+                return finish(
+                    alloc, tracing, session, engine, store, behind, out, trace, digest,
+                );
             }
             Ok(Some(b)) => {
                 let turned = turn(
@@ -765,12 +777,16 @@ pub fn serve<I: Source, R: Revisions, S: BlockStore, B: Behind<S>, K: Sink, T: S
         alloc, tracing, &mut here, feed, input, engine, store, behind, out, trace, digest,
     );
     match read {
-        Ok(()) => match flush(alloc, tracing, &mut here, engine, store, behind, out, trace, digest) {
+        Ok(()) => match flush(
+            alloc, tracing, &mut here, engine, store, behind, out, trace, digest,
+        ) {
             Ok(()) => Ok(here.tally),
             Err(halted) => Err(Halted::from(halted)),
         },
         Err(Break::Unread(stop)) => {
-            match flush(alloc, tracing, &mut here, engine, store, behind, out, trace, digest) {
+            match flush(
+                alloc, tracing, &mut here, engine, store, behind, out, trace, digest,
+            ) {
                 Ok(()) => Err(Halted { stop, quiet: false }),
                 Err(halted) => Err(Halted::from(halted)),
             }

@@ -20,13 +20,12 @@ ghost use Rattle.ob_shell.specs.Running.{IsQuiet, OutFailed, ServesAlone, Silenc
 ghost use Rattle.ob_shell.specs.Tallies.{flagged};
 ghost use Rattle.ob_shell.specs.Top.{EndingCause, RanAfter, Reported, RunShown, sink_of};
 ghost use Rattle.ob_shell.specs.Traces.{Traced};
-ghost use Rattle.ob_shell.specs.WordsRead.{AreWithin};
+ghost use Rattle.ob_words.specs.WordsRead.{AreWithin};
 
 use crate::feed::{Feed, Halt};
 use crate::generating::serve_generated;
 use crate::key::{FirstLine, read_key};
 use crate::session::{Halted, serve};
-use crate::words::{Words, WordsErr, read_meddle_words, read_words};
 use ob_base::Stop;
 use ob_exec::{Engine, Unsaved};
 use ob_gen::{Digester, Tally, Undigested};
@@ -37,6 +36,7 @@ use ob_print::{Line, stop_line, write_all};
 use ob_seal::Keys;
 use ob_store::BlockStore;
 use ob_vault::{BaseRevs, Revisions};
+use ob_words::{Words, WordsErr, read_meddle_words, read_words};
 use std::alloc::Global;
 
 /// How a run ended, whether its last line may not be written any more, how many rows were open, and what was counted of

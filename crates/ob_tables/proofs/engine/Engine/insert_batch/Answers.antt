@@ -1,16 +1,18 @@
-use Rattle.std.proofs.Common.{rules, ◌≡◌, ◌-◌, ◌+◌, ℕ, List, Option, length, map, false, Ok, arith, refl, sym, ◌∙◌, subst, ap}
+use Rattle.std.proofs.Common.{◌≡◌, ◌≤◌, ◌-◌, ◌+◌, ◌*◌, ℕ, List, Option, length, map, false, Ok, arith, refl, sym, ◌∙◌, subst, ap}
 use Rattle.std.specs.Prelude.{⊤}
 use Rattle.std.proofs.lemmas.List.{length-map}
 use Rattle.std.proofs.lemmas.Option.{slice_get_within}
 use Rattle.ob_base.specs.declared.access.Access.{Access}
 use Rattle.ob_base.specs.declared.refusal.Refusal.{Refusal}
 use Rattle.ob_base.specs.declared.seen.End.TheVariants.{Whole}
+use Rattle.ob_base.specs.Numbers.{blocks_for}
 use Rattle.ob_flat.specs.declared.flat.Flat.{Flat}
 use Rattle.ob_mean.specs.Verdict.{ended as seen_to}
 use Rattle.ob_mutate.specs.declared.inserting.Inserted.{Inserted}
 use Rattle.ob_mutate.specs.Batches.{AreFit}
 use Rattle.ob_row.specs.Rows.{Row}
 use Rattle.ob_vault.specs.State.{earlier}
+use Rattle.ob_vault.proofs.WordLemmas.{ready_rests}
 use Rattle.ob_tables.specs.Agreeing.{count_of, engine_start}
 use Rattle.ob_tables.specs.Batch.{given_all, refusal_by}
 use Rattle.ob_tables.specs.declared.engine.Engine.{Engine}
@@ -18,7 +20,7 @@ use Rattle.ob_verdict.specs.declared.outcome.Outcome.{Outcome}
 use Rattle.ob_tables.proofs.BatchServed.{all_insert, batch_unasked, begun, cut_batch, few_rest, name_flat, name_there, not_late, put_batch, rows_are_fit, rows_open}
 use Rattle.ob_tables.proofs.FoundLemmas.{heading_found, shape_found}
 use Rattle.ob_tables.proofs.ReadLemmas.{read_flat, read_size}
-use Rattle.ob_tables.proofs.RunLemmas.{early_few, opens_rows, rests_refl}
+use Rattle.ob_tables.proofs.RunLemmas.{at_ok, early_few, opens_rows, rests_refl}
 use Rattle.ob_tables.proofs.engine.Engine.insert_batch.Goals as goal
 
 pub table_of-requires : goal.table_of-requires
@@ -82,9 +84,12 @@ pub insert_all-result-requires-clause-starts : goal.insert_all-result-requires-c
 insert_all-result-requires-clause-starts g c =
     let old = c.args.self.now in
     let m = count_of old (g.S.BlockStore.state c.args.store.now) in
+    let capacity = c.table_at-i.result.1.capacity in
+    let room : 3 * blocks_for old.public.pack capacity + 2 ≤ (g.S.BlockStore.state c.make_room.new.store).spare =
+    at_ok c.make_room.result _ (sym c.is_err.ensures.value ∙ c.if-is_err.false) c.make_room.ensures.spare in
     record {
-      ready = search rules;
-      spare = search rules;
+      ready = ready_rests _ _ _ c.make_room.ensures.rests c.requires.agrees.ready;
+      spare = subst (λ (pack : ℕ). 3 * blocks_for pack capacity + 2 ≤ (g.S.BlockStore.state c.make_room.new.store).spare) (sym c.requires.agrees.room.pack) room;
       few =
           early_few m _ (not_late old.public m (begun old.public m c.args.first.now c.args.rest.now c.requires.batch).room)
           (ap (λ (l : List Access). earlier (engine_start old) + length l) c.make_room.ensures.rests.asked);

@@ -2,9 +2,9 @@ use Rattle.std.specs.Prelude.{string_bytes}
 use Rattle.std.proofs.Common.{ap, codes, refl, subst, sym, ◌≡◌, ◌∙◌, [], map}
 use Rattle.clap.specs.Words.{App, HasKind, Kinds, app_of, fault_of, is_simple_and_free}
 use Rattle.ob_headline.specs.Usage.{is_set, saved_usage}
-use Rattle.ob_shell.proofs.SavedWordLemmas.{no_saved_words, saved_words_from, spells_saved}
-use Rattle.ob_shell.proofs.WordLemmas.{out_of_memory, value_from}
-use Rattle.ob_shell.proofs.words.read_saved_words.Goals as goal
+use Rattle.ob_words.proofs.SavedWordLemmas.{no_saved_words, saved_words_from, spells_saved}
+use Rattle.ob_words.proofs.WordLemmas.{out_of_memory, value_from}
+use Rattle.ob_words.proofs.words.read_saved_words.Goals as goal
 
 pub returns-in-Some-clause-ok : goal.returns-in-Some-clause-ok
 returns-in-Some-clause-ok c =

@@ -6,7 +6,7 @@ use Rattle.ob_tables.specs.Engines.{IsConfig}
 use Rattle.ob_headline.specs.Settings.{settings_by, seed_in}
 use Rattle.ob_headline.specs.Usage.{is_set}
 use Rattle.ob_headline.specs.declared.seed.Seed.{Seed}
-use Rattle.ob_shell.specs.declared.words.Words.{Words}
+use Rattle.ob_words.specs.declared.words.Words.{Words}
 
 -- ---- words
 

@@ -3,9 +3,9 @@ use Rattle.std.proofs.Common.{ap, refl, sym, subst, ◌≡◌, ◌∙◌, [], ma
 use Rattle.clap.specs.Words.{App, HasKind, Kinds, Text, app_of, fault_of, is_simple_and_free}
 use Rattle.ob_headline.specs.Settings.{IsTakenSaved}
 use Rattle.ob_headline.specs.Usage.{saved_usage, value_of}
-use Rattle.ob_shell.proofs.SavedWordLemmas.{no_saved_words, saved_words_from, spells_saved}
-use Rattle.ob_shell.proofs.WordLemmas.{out_of_memory, value_from}
-use Rattle.ob_shell.proofs.words.given.Goals as goal
+use Rattle.ob_words.proofs.SavedWordLemmas.{no_saved_words, saved_words_from, spells_saved}
+use Rattle.ob_words.proofs.WordLemmas.{out_of_memory, value_from}
+use Rattle.ob_words.proofs.words.given.Goals as goal
 
 pub returns-in-Usage-clause-given : goal.returns-in-Usage-clause-given
 returns-in-Usage-clause-given c text taken is =

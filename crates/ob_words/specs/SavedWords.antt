@@ -4,8 +4,8 @@ use Rattle.clap.specs.Words.{Text}
 use Rattle.ob_base.specs.declared.config.Config.{Config}
 use Rattle.ob_headline.specs.Settings.{saved_settings_by, seed_in}
 use Rattle.ob_headline.specs.Usage.{is_set}
-use Rattle.ob_shell.specs.WordsRead.{words_with}
-use Rattle.ob_shell.specs.declared.words.Words.{Words}
+use Rattle.ob_words.specs.WordsRead.{words_with}
+use Rattle.ob_words.specs.declared.words.Words.{Words}
 use Rattle.ob_tables.specs.Engines.{IsConfig}
 
 -- what these values spell, each under its name

@@ -2,7 +2,7 @@ use Rattle.std.proofs.Common.{ap, ap₂, codes, ◌≡◌, ◌∙◌}
 use Rattle.clap.specs.Simple.{app_of_fields}
 use Rattle.clap.specs.Words.{app_of, with_rule}
 use Rattle.ob_headline.specs.Usage.{common, nameless, valued}
-use Rattle.ob_shell.proofs.words.command.Goals as goal
+use Rattle.ob_words.proofs.words.command.Goals as goal
 
 pub returns : goal.returns
 returns c =

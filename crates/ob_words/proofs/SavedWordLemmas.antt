@@ -1,12 +1,12 @@
 -- What a command makes of the words of a run whose tables may be saved.
-use Rattle.std.proofs.Common.{sym, ap, refl, true, ◌≡◌, ◌∙◌, List, [], Some, None}
+use Rattle.std.proofs.Common.{sym, true, ◌≡◌, ◌∙◌, List, [], Some, None}
 use Rattle.clap.specs.Words.{App, Text, HasMatchesOf, fault_of, first_value, is_simple, is_simple_and_free, found_of}
 use Rattle.clap.specs.declared.parser.matches.ArgMatches.{ArgMatches}
 use Rattle.ob_headline.specs.Settings.{IsTakenSaved, ParsesSaved, generated_by, saved_settings_of}
 use Rattle.ob_headline.specs.Usage.{is_traced, saved_usage, value_of}
-use Rattle.ob_shell.proofs.WordLemmas.{is_some, none_with, parses_from, parts, value_from}
-use Rattle.ob_shell.specs.SavedWords.{saved_words_by}
-use Rattle.ob_shell.specs.declared.words.Words.{Words}
+use Rattle.ob_words.proofs.WordLemmas.{is_some, none_with, parses_from, parts, value_from}
+use Rattle.ob_words.specs.SavedWords.{saved_words_by}
+use Rattle.ob_words.specs.declared.words.Words.{Words}
 
 -- what the values of a command spell is what the words spell
 pub saved_words_from : (a : App) (m : ArgMatches) (words : List Text) → a ≡ saved_usage → is_simple saved_usage ≡ true → HasMatchesOf a words m

@@ -1,8 +1,8 @@
 use Rattle.std.proofs.Common.{ap₂, codes, ◌≡◌, ◌∙◌}
 use Rattle.clap.specs.Words.{App, app_of, new_app, with_rule}
 use Rattle.ob_headline.specs.Usage.{flag, valued}
-use Rattle.ob_shell.proofs.WordLemmas.{adds_last}
-use Rattle.ob_shell.proofs.words.common.Goals as goal
+use Rattle.ob_words.proofs.WordLemmas.{adds_last}
+use Rattle.ob_words.proofs.words.common.Goals as goal
 
 pub returns : goal.returns
 returns c =

@@ -12,8 +12,8 @@ use Rattle.ob_base.specs.declared.config.Config.{Config}
 use Rattle.ob_headline.specs.Settings.{IsTaken, MeddleParses, ParsesAs, generated_by, settings_of}
 use Rattle.ob_headline.specs.Usage.{Parses, changes_of, is_traced, meddle_usage, value_of}
 use Rattle.ob_headline.specs.declared.seed.Seed.{Seed}
-use Rattle.ob_shell.specs.WordsRead.{words_by, words_with}
-use Rattle.ob_shell.specs.declared.words.Words.{Words}
+use Rattle.ob_words.specs.WordsRead.{words_by, words_with}
+use Rattle.ob_words.specs.declared.words.Words.{Words}
 
 -- what a command is to which its last word was added
 pub adds_last : {E : Type 0} (r : Result Command E) (c : Command) (a : Arg) (whole : App) → a.global ≡ false

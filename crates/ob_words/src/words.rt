@@ -14,9 +14,9 @@ ghost use Rattle.ob_headline.specs.Usage.{common, usage, meddle_usage, flag, val
 ghost use Rattle.ob_headline.specs.Usage.{default_store, is_kept, kept_usage, value_of};
 ghost use Rattle.ob_headline.specs.Usage.{is_saved, saved_usage};
 ghost use Rattle.ob_meddle.specs.Changes.{number};
-ghost use Rattle.ob_shell.specs.SavedWords.{AreFit, MayBeSaved, saved_words_by};
-ghost use Rattle.ob_shell.specs.WordsRead.{AreWithin};
-ghost use Rattle.ob_shell.specs.WordsRead.{words_by};
+ghost use Rattle.ob_words.specs.SavedWords.{AreFit, MayBeSaved, saved_words_by};
+ghost use Rattle.ob_words.specs.WordsRead.{AreWithin};
+ghost use Rattle.ob_words.specs.WordsRead.{words_by};
 
 use clap::error::ErrorKind;
 use clap::{Arg, ArgAction, ArgMatches, Command, Error};
