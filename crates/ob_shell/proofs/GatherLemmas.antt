@@ -120,13 +120,13 @@ so_full {state = state} batch stmt text m0 {m1 = m1} full g held none so = recor
 }
 
 -- ---- what a list is behind a push, by whether that failed
-pub pushed : {T E X : Type 0} (r : Result T E) (failed : Bool) {xs ys zs : X} → failed ≡ is_err r → failed ≡ false → zs ≡ (if is_ok r then xs else ys) → zs ≡ xs
-pushed (Ok x) failed is not new = new
-pushed (Err e) failed is not new = absurd (cc (is, not))
+pub pushed : {T E X : Type 0} (r : Result T E) (failed : Bool) (ys : X) {xs zs : X} → failed ≡ is_err r → failed ≡ false → zs ≡ (if is_ok r then xs else ys) → zs ≡ xs
+pushed (Ok x) failed ys is not new = new
+pushed (Err e) failed ys is not new = absurd (cc (is, not))
 
-pub unpushed : {T E X : Type 0} (r : Result T E) (failed : Bool) {xs ys zs : X} → failed ≡ is_err r → failed ≡ true → zs ≡ (if is_ok r then xs else ys) → zs ≡ ys
-unpushed (Ok x) failed is yes new = absurd (cc (is, yes))
-unpushed (Err e) failed is yes new = new
+pub unpushed : {T E X : Type 0} (r : Result T E) (failed : Bool) (xs : X) {ys zs : X} → failed ≡ is_err r → failed ≡ true → zs ≡ (if is_ok r then xs else ys) → zs ≡ ys
+unpushed (Ok x) failed xs is full new = absurd (cc (is, full))
+unpushed (Err e) failed xs is full new = new
 
 module _ {R : Type 0} {state : R → RevState} {Saves : Type 0} {on : Bool} (batch : List Stmt) (stmt : Stmt) (text : List ℕ) (spells : Spells text (Ok stmt)) where
   pub takes_gathered : {T : Type 0} (tally : Tally) (w t : Option (List ℕ)) (old : Faults) (m : Machine R) (x : T) → IsReady state Saves m → AreGathered (public_of m.engine) (asked_of m) (batch ++ stmt ∷ [])

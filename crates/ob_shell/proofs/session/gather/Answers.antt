@@ -13,7 +13,7 @@ returns-then-is_err-clause-takes g c =
     let e = c.args.engine.now in
     let m = count_of e (g.S.BlockStore.state c.args.store.now) in
     let batch = c.args.session.now.batch.items in
-    let same : c.push.new.self.items ≡ batch = unpushed c.push.result c.is_err.result c.is_err.ensures.value c.if-is_err.true c.push.ensures.items in
+    let same : c.push.new.self.items ≡ batch = unpushed c.push.result c.is_err.result _ c.is_err.ensures.value c.if-is_err.true c.push.ensures.items in
     rw same
     (
       takes_idle c.args.tracing batch c.args.session.now.tally _ _ _ (machine_of e (g.S.BlockStore.state c.args.store.now) (g.B.Behind.state c.args.behind.now)) tt c.requires.ready (waits_by (public_of e) m batch c.args.stmt c.requires.goes)
@@ -26,7 +26,7 @@ returns-then-len-batch_most-clause-takes g c =
     let e = c.args.engine.now in
     let m = count_of e (g.S.BlockStore.state c.args.store.now) in
     let batch = c.args.session.now.batch.items in
-    let more : c.push.new.self.items ≡ batch ++ c.args.stmt ∷ [] = pushed c.push.result c.is_err.result c.is_err.ensures.value c.if-is_err.false c.push.ensures.items in
+    let more : c.push.new.self.items ≡ batch ++ c.args.stmt ∷ [] = pushed c.push.result c.is_err.result _ c.is_err.ensures.value c.if-is_err.false c.push.ensures.items in
     let most = c.batch_most.ensures ∙ ap batch_most c.public.ensures in
     let size = ap length more in
     rw more
@@ -38,7 +38,7 @@ flush-requires g c =
     let e = c.args.engine.now in
     let m = count_of e (g.S.BlockStore.state c.args.store.now) in
     let batch = c.args.session.now.batch.items in
-    let more : c.push.new.self.items ≡ batch ++ c.args.stmt ∷ [] = pushed c.push.result c.is_err.result c.is_err.ensures.value c.if-is_err.false c.push.ensures.items in
+    let more : c.push.new.self.items ≡ batch ++ c.args.stmt ∷ [] = pushed c.push.result c.is_err.result _ c.is_err.ensures.value c.if-is_err.false c.push.ensures.items in
     record {
       waits = subst (λ (l : List Stmt). AreBatched (public_of e) m l) (sym more) (batch_more (public_of e) m batch c.args.stmt c.requires.goes);
       ready = c.requires.ready;
@@ -48,7 +48,7 @@ flush-requires g c =
 pub returns-in-Ok-clause-takes : goal.returns-in-Ok-clause-takes
 returns-in-Ok-clause-takes g c =
     let batch = c.args.session.now.batch.items in
-    let more : c.push.new.self.items ≡ batch ++ c.args.stmt ∷ [] = pushed c.push.result c.is_err.result c.is_err.ensures.value c.if-is_err.false c.push.ensures.items in
+    let more : c.push.new.self.items ≡ batch ++ c.args.stmt ∷ [] = pushed c.push.result c.is_err.result _ c.is_err.ensures.value c.if-is_err.false c.push.ensures.items in
     let most = c.batch_most.ensures ∙ ap batch_most c.public.ensures in
     let size = ap length more in
     takes_full batch c.args.stmt c.args.session.now.pending c.requires.spells (omega (arith, c.if-len-batch_most.false, c.len.ensures, most, size, c.push.new.self.ok.0)) (Ok tt) c.in-Ok.ensures.none (rw more at c.in-Ok.ensures.takes)
@@ -56,7 +56,7 @@ returns-in-Ok-clause-takes g c =
 pub returns-in-Err-clause-takes : goal.returns-in-Err-clause-takes
 returns-in-Err-clause-takes g c =
     let batch = c.args.session.now.batch.items in
-    let more : c.push.new.self.items ≡ batch ++ c.args.stmt ∷ [] = pushed c.push.result c.is_err.result c.is_err.ensures.value c.if-is_err.false c.push.ensures.items in
+    let more : c.push.new.self.items ≡ batch ++ c.args.stmt ∷ [] = pushed c.push.result c.is_err.result _ c.is_err.ensures.value c.if-is_err.false c.push.ensures.items in
     let most = c.batch_most.ensures ∙ ap batch_most c.public.ensures in
     let size = ap length more in
     takes_full batch c.args.stmt c.args.session.now.pending c.requires.spells (omega (arith, c.if-len-batch_most.false, c.len.ensures, most, size, c.push.new.self.ok.0)) (Err c.in-Err.halted) tt (rw more at c.in-Err.ensures.takes)
