@@ -127,7 +127,7 @@ takes_broken {state = state} {on = on} {w0 = w0} {w1 = w1} {s0 = s0} {s1 = s1} {
 }
 
 -- ---- the same part, of which more or less is said
-comes_by : {R U : Type 0} {state : R → RevState} {Saves : Type 0} {on : Bool} {May May' : Option Gathering → Type 0} {Later : (old new : Option Gathering) → Type 0} {b0 b1 : List Stmt} {xs : List (List ℕ)} {t0 t1 : Tally} {w0 w1 s0 s1 : Option (List ℕ)} {old new : Faults} {m0 m1 : Machine R} (result : Result U TextHalted)
+pub comes_by : {R U : Type 0} {state : R → RevState} {Saves : Type 0} {on : Bool} {May May' : Option Gathering → Type 0} {Later : (old new : Option Gathering) → Type 0} {b0 b1 : List Stmt} {xs : List (List ℕ)} {t0 t1 : Tally} {w0 w1 s0 s1 : Option (List ℕ)} {old new : Faults} {m0 m1 : Machine R} (result : Result U TextHalted)
     → ((g : Option Gathering) → May' g → May g) → TakesTexts state Saves on May Later b0 b1 xs t0 t1 w0 w1 s0 s1 old new m0 m1 result → TakesTexts state Saves on May' Later b0 b1 xs t0 t1 w0 w1 s0 s1 old new m0 m1 result
 comes_by (Ok x) may takes = record { ready = takes.ready; waits = takes.waits; done = λ g held comes spelt. takes.done g held (may g comes) spelt; stopped = tt; traced = takes.traced; traced_stop = tt; cause = takes.cause; quiet = takes.quiet }
 comes_by (Err halted) may takes = record { ready = tt; waits = tt; done = tt; stopped = λ g held comes spelt. takes.stopped g held (may g comes) spelt; traced = tt; traced_stop = takes.traced_stop; cause = takes.cause; quiet = takes.quiet }

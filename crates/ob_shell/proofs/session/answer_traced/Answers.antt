@@ -37,7 +37,7 @@ returns-in-Err-false-clause-serves g c =
     record {
       ready = tt;
       done = tt;
-      stopped = λ h may. stops_unlost ? (told.stopped h may);
+      stopped = λ h may. stops_unlost (search rules) (told.stopped h may);
       cause = traced_cause c.in-Err-false.field-0.stop c.in-Err-false.field-0.stop _ _ _ _ refl told.cause c.trace_from-in-Err-false.ensures.cause.later;
       quiet = search rules;
     }

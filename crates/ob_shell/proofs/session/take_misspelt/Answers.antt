@@ -2,7 +2,7 @@ use Rattle.std.proofs.Common.{Err, Ok, refl, true, ◌∙◌, [], ◌∷◌, inl
 use Rattle.ob_print.proofs.CutLemmas.{Outputs-fault}
 use Rattle.ob_shell.proofs.CountLemmas.{same_cause}
 use Rattle.ob_shell.proofs.GatherLemmas.{are_batched, comes_free}
-use Rattle.ob_shell.proofs.TakesLemmas.{loses_misspelt, takes_broken, takes_misspelt, takes_then}
+use Rattle.ob_shell.proofs.TakesLemmas.{comes_by, loses_misspelt, takes_broken, takes_misspelt, takes_then}
 use Rattle.ob_shell.specs.Steps.{machine_of}
 use Rattle.ob_tables.specs.Agreeing.{count_of, public_of}
 use Rattle.ob_tables.specs.Stops.{session_stop}
@@ -25,7 +25,8 @@ returns-in-Err-clause-takes g c =
 
 pub returns-in-Ok-clause-takes : goal.returns-in-Ok-clause-takes
 returns-in-Ok-clause-takes g c =
-    let flushed = rw c.in_default.ensures.none at c.in_default.ensures.takes in
+    let bare = rw c.in_default.ensures.none at c.in_default.ensures.takes in
+    let flushed = comes_by (Ok tt) (λ h free. comes_free (public_of c.args.engine.now) c.args.session.now.batch.items h free) bare in
     let line = c.as_bytes.ensures ∙ c.closing_line.ensures in
     let m = machine_of c.flush.new.engine (g.S.BlockStore.state c.flush.new.store) (g.B.Behind.state c.flush.new.behind) in
     takes_then flushed (λ h k free closed. tt) (c.args.session.now.pending ∷ []) (Ok tt) (λ h k l free closed then. then)
@@ -33,7 +34,8 @@ returns-in-Ok-clause-takes g c =
 
 pub returns-in-Err-write_all-clause-takes : goal.returns-in-Err-write_all-clause-takes
 returns-in-Err-write_all-clause-takes g c =
-    let flushed = rw c.in_default.ensures.none at c.in_default.ensures.takes in
+    let bare = rw c.in_default.ensures.none at c.in_default.ensures.takes in
+    let flushed = comes_by (Ok tt) (λ h free. comes_free (public_of c.args.engine.now) c.args.session.now.batch.items h free) bare in
     let line = c.as_bytes.ensures ∙ c.closing_line.ensures in
     let m = machine_of c.flush.new.engine (g.S.BlockStore.state c.flush.new.store) (g.B.Behind.state c.flush.new.behind) in
     takes_then flushed (λ h k free closed. tt) (c.args.session.now.pending ∷ []) (Err (record { stop = SinkFault; quiet = true })) (λ h k l free closed then. then)
