@@ -7,7 +7,7 @@ use Rattle.ob_tables.specs.Agreeing.{count_of, public_of}
 use Rattle.ob_shell.proofs.session.serve.Goals as goal
 
 pub read_texts-read-requires : goal.read_texts-read-requires
-read_texts-read-requires g c = record { none = c.new-2.ensures; fresh = c.new.ensures; uncounted = c.new-3.ensures; ready = c.requires.ready; fed_by = c.requires.fed_by; took = c.requires.took }
+read_texts-read-requires g c = record { none = c.new-2.ensures.items; fresh = c.new.ensures; uncounted = c.new-3.ensures; ready = c.requires.ready; fed_by = c.requires.fed_by; took = c.requires.took }
 
 pub flush-requires : goal.flush-requires
 flush-requires g c =
@@ -20,17 +20,19 @@ flush-requires-in-Err-Unread g c =
     record { waits = are_batched (public_of e) (count_of e (g.S.BlockStore.state c.read_texts-read.new.store)) c.read_texts-read.new.session.batch.items c.in-Err-Unread.ensures.waits; ready = c.in-Err-Unread.ensures.ready; took = c.in-Err-Unread.ensures.took }
 
 pub returns-in-Ok-flush-clause-ran : goal.returns-in-Ok-flush-clause-ran
-returns-in-Ok-flush-clause-ran g c = ran_flushed (Ok tt) c.in-Ok.ensures.reads (λ h held comes spelt. rw (← c.in-Ok-flush.ensures.none) (c.in-Ok-flush.ensures.takes.done h held comes spelt)) c.in-Ok-flush.ensures.takes.traced
+returns-in-Ok-flush-clause-ran g c = 
+    let flushed = rw c.in-Ok-flush.ensures.none at c.in-Ok-flush.ensures.takes in ran_flushed (Ok tt) c.in-Ok.ensures.reads flushed.done flushed.traced
 
 pub returns-in-Ok-clause-ran : goal.returns-in-Ok-clause-ran
-returns-in-Ok-clause-ran g c = rw c.from-in-Err-flush.ensures (ran_unflushed (Ok tt) c.in-Err-flush.halted.stop c.in-Ok.ensures.reads c.in-Ok.ensures.waits (rw c.in-Ok.ensures.quiet.0 at c.in-Err-flush.ensures.takes.stopped))
+returns-in-Ok-clause-ran g c = rw c.from.ensures (ran_unflushed (Ok tt) c.in-Err.halted.stop c.in-Ok.ensures.reads c.in-Ok.ensures.waits (rw c.in-Ok.ensures.quiet.0 at c.in-Err.ensures.takes.stopped))
 
 pub returns-in-Ok-flush-2-clause-ran : goal.returns-in-Ok-flush-2-clause-ran
-returns-in-Ok-flush-2-clause-ran g c = ran_flushed (Err c.in-Err-Unread.stop) c.in-Err-Unread.ensures.reads (λ h held comes spelt. rw (← c.in-Ok-flush-2.ensures.none) (c.in-Ok-flush-2.ensures.takes.done h held comes spelt)) c.in-Ok-flush-2.ensures.takes.traced
+returns-in-Ok-flush-2-clause-ran g c = 
+    let flushed = rw c.in-Ok-flush-2.ensures.none at c.in-Ok-flush-2.ensures.takes in ran_flushed (Err c.in-Err-Unread.stop) c.in-Err-Unread.ensures.reads flushed.done flushed.traced
 
 pub returns-in-Err-Unread-clause-ran : goal.returns-in-Err-Unread-clause-ran
 returns-in-Err-Unread-clause-ran g c =
-    rw c.from-in-Err-flush-2.ensures (ran_unflushed (Err c.in-Err-Unread.stop) c.in-Err-flush-2.halted.stop c.in-Err-Unread.ensures.reads c.in-Err-Unread.ensures.waits (rw c.in-Err-Unread.ensures.quiet.0 at c.in-Err-flush-2.ensures.takes.stopped))
+    rw c.from-in-Err-flush.ensures (ran_unflushed (Err c.in-Err-Unread.stop) c.in-Err-flush.halted.stop c.in-Err-Unread.ensures.reads c.in-Err-Unread.ensures.waits (rw c.in-Err-Unread.ensures.quiet.0 at c.in-Err-flush.ensures.takes.stopped))
 
 pub returns-clause-ran : goal.returns-clause-ran
 returns-clause-ran g c = rw c.from-in-Err-Served.ensures c.in-Err-Served.ensures.reads
@@ -43,10 +45,10 @@ pub returns-in-Ok-flush-2-clause-traced : goal.returns-in-Ok-flush-2-clause-trac
 returns-in-Ok-flush-2-clause-traced g c = traced_whole _ (traced_then c.in-Err-Unread.ensures.reads.traced c.in-Ok-flush-2.ensures.takes.traced)
 
 pub returns-in-Ok-clause-traced : goal.returns-in-Ok-clause-traced
-returns-in-Ok-clause-traced g c = rw c.from-in-Err-flush.ensures (traced_cut c.in-Ok.ensures.reads.traced c.in-Err-flush.ensures.takes.traced_stop)
+returns-in-Ok-clause-traced g c = rw c.from.ensures (traced_cut c.in-Ok.ensures.reads.traced c.in-Err.ensures.takes.traced_stop)
 
 pub returns-in-Err-Unread-clause-traced : goal.returns-in-Err-Unread-clause-traced
-returns-in-Err-Unread-clause-traced g c = rw c.from-in-Err-flush-2.ensures (traced_cut c.in-Err-Unread.ensures.reads.traced c.in-Err-flush-2.ensures.takes.traced_stop)
+returns-in-Err-Unread-clause-traced g c = rw c.from-in-Err-flush.ensures (traced_cut c.in-Err-Unread.ensures.reads.traced c.in-Err-flush.ensures.takes.traced_stop)
 
 pub returns-in-Ok-flush-clause-cause : goal.returns-in-Ok-flush-clause-cause
 returns-in-Ok-flush-clause-cause g c =
@@ -67,9 +69,9 @@ returns-in-Ok-clause-cause g c =
     let before = c.in-Ok.ensures.cause in
     let there = c.read_texts-read.new in
     let end = c.flush.new in
-    rw c.from-in-Err-flush.ensures
-    (waited_stops _ _ _ c.in-Err-flush.halted.stop (g.I.Source.faults c.args.input.now) (g.I.Source.faults there.input) (g.K.Sink.faults c.args.out.now, g.T.Sink.faults c.args.trace.now) (g.K.Sink.faults there.out, g.T.Sink.faults there.trace)
-    (g.K.Sink.faults end.out, g.T.Sink.faults end.trace) (λ alone. before.source, inl before.source) before.out before.trace c.in-Err-flush.ensures.takes.cause)
+    rw c.from.ensures
+    (waited_stops _ _ _ c.in-Err.halted.stop (g.I.Source.faults c.args.input.now) (g.I.Source.faults there.input) (g.K.Sink.faults c.args.out.now, g.T.Sink.faults c.args.trace.now) (g.K.Sink.faults there.out, g.T.Sink.faults there.trace)
+    (g.K.Sink.faults end.out, g.T.Sink.faults end.trace) (λ alone. before.source, inl before.source) before.out before.trace c.in-Err.ensures.takes.cause)
 
 -- the source may have failed before one of them was stopped, where INSERTs are served together
 pub returns-in-Err-Unread-clause-cause : goal.returns-in-Err-Unread-clause-cause
@@ -77,24 +79,24 @@ returns-in-Err-Unread-clause-cause g c =
     let read = c.in-Err-Unread.ensures in
     let there = c.read_texts-read.new in
     let end = c.flush-in-Err-Unread.new in
-    rw c.from-in-Err-flush-2.ensures
-    (waited_stops _ _ _ c.in-Err-flush-2.halted.stop (g.I.Source.faults c.args.input.now) (g.I.Source.faults there.input) (g.K.Sink.faults c.args.out.now, g.T.Sink.faults c.args.trace.now) (g.K.Sink.faults there.out, g.T.Sink.faults there.trace)
-    (g.K.Sink.faults end.out, g.T.Sink.faults end.trace) (λ alone. absurd (alone_read read.reads read.waits c.in-Err-flush-2.ensures.idle alone), source_later _ _ c.in-Err-Unread.stop _ _ read.cause) read.quiet.0 read.quiet.1 c.in-Err-flush-2.ensures.takes.cause)
+    rw c.from-in-Err-flush.ensures
+    (waited_stops _ _ _ c.in-Err-flush.halted.stop (g.I.Source.faults c.args.input.now) (g.I.Source.faults there.input) (g.K.Sink.faults c.args.out.now, g.T.Sink.faults c.args.trace.now) (g.K.Sink.faults there.out, g.T.Sink.faults there.trace)
+    (g.K.Sink.faults end.out, g.T.Sink.faults end.trace) (λ alone. absurd (alone_read read.reads read.waits c.in-Err-flush.ensures.idle alone), source_later _ _ c.in-Err-Unread.stop _ _ read.cause) read.quiet.0 read.quiet.1 c.in-Err-flush.ensures.takes.cause)
 
 pub returns-in-Ok-clause-quiet : goal.returns-in-Ok-clause-quiet
 returns-in-Ok-clause-quiet g c =
     let before = c.in-Ok.ensures.cause in
     let there = c.read_texts-read.new in
     let end = c.flush.new in
-    rw c.from-in-Err-flush.ensures
-    (waited_quiet c.in-Err-flush.halted.quiet (g.I.Source.faults c.args.input.now) (g.I.Source.faults there.input) (g.K.Sink.faults c.args.out.now, g.T.Sink.faults c.args.trace.now) (g.K.Sink.faults there.out, g.T.Sink.faults there.trace)
-    (g.K.Sink.faults end.out, g.T.Sink.faults end.trace) before.out before.trace c.in-Err-flush.ensures.takes.quiet)
+    rw c.from.ensures
+    (waited_quiet c.in-Err.halted.quiet (g.I.Source.faults c.args.input.now) (g.I.Source.faults there.input) (g.K.Sink.faults c.args.out.now, g.T.Sink.faults c.args.trace.now) (g.K.Sink.faults there.out, g.T.Sink.faults there.trace)
+    (g.K.Sink.faults end.out, g.T.Sink.faults end.trace) before.out before.trace c.in-Err.ensures.takes.quiet)
 
 pub returns-in-Err-Unread-clause-quiet : goal.returns-in-Err-Unread-clause-quiet
 returns-in-Err-Unread-clause-quiet g c =
     let read = c.in-Err-Unread.ensures in
     let there = c.read_texts-read.new in
     let end = c.flush-in-Err-Unread.new in
-    rw c.from-in-Err-flush-2.ensures
-    (waited_quiet c.in-Err-flush-2.halted.quiet (g.I.Source.faults c.args.input.now) (g.I.Source.faults there.input) (g.K.Sink.faults c.args.out.now, g.T.Sink.faults c.args.trace.now) (g.K.Sink.faults there.out, g.T.Sink.faults there.trace)
-    (g.K.Sink.faults end.out, g.T.Sink.faults end.trace) read.quiet.0 read.quiet.1 c.in-Err-flush-2.ensures.takes.quiet)
+    rw c.from-in-Err-flush.ensures
+    (waited_quiet c.in-Err-flush.halted.quiet (g.I.Source.faults c.args.input.now) (g.I.Source.faults there.input) (g.K.Sink.faults c.args.out.now, g.T.Sink.faults c.args.trace.now) (g.K.Sink.faults there.out, g.T.Sink.faults there.trace)
+    (g.K.Sink.faults end.out, g.T.Sink.faults end.trace) read.quiet.0 read.quiet.1 c.in-Err-flush.ensures.takes.quiet)
