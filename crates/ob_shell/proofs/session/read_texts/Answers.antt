@@ -1,6 +1,6 @@
 use Rattle.std.proofs.Common.{arith, ◌∙◌, refl, Err}
 use Rattle.ob_shell.proofs.FeedLemmas.{fed_smaller}
-use Rattle.ob_shell.proofs.ReadLemmas.{by_byte, by_room, finish_reads, more_cause, more_quiet, more_ready, more_traced, more_waits, read_input_limit, read_source_fault, so_far_end, turn_reads}
+use Rattle.ob_shell.proofs.ReadLemmas.{by_byte, by_room, finish_reads, more_cause, more_quiet, more_stands, more_traced, read_input_limit, read_source_fault, so_far_end, turn_reads}
 use Rattle.ob_shell.proofs.RunLemmas.{so_far_start, so_far_turn}
 use Rattle.ob_shell.proofs.TraceLemmas.{traced_none, traced_then}
 use Rattle.ob_shell.proofs.session.read_texts.Goals as goal
@@ -71,17 +71,17 @@ returns-in-Ok-None-clause-traced g c = more_traced _ _ _ _ _ _ _ _ _ _ _ _ _ _ _
 pub returns-in-Err-clause-traced : goal.returns-in-Err-clause-traced
 returns-in-Err-clause-traced g c = more_traced _ _ _ _ _ _ _ _ _ _ _ _ _ _ _ _ _ _ _ _ (Err c.in-Err.broken) c.bytes.invariant.traced c.in-Err.ensures.takes
 
-pub returns-in-Ok-None-clause-ready : goal.returns-in-Ok-None-clause-ready
-returns-in-Ok-None-clause-ready g c = more_ready _ _ _ _ _ _ _ _ _ _ _ _ _ _ _ _ _ _ _ c.finish.result c.finish.ensures.takes
+pub returns-in-Err-SourceFault-clause-stands : goal.returns-in-Err-SourceFault-clause-stands
+returns-in-Err-SourceFault-clause-stands g c = record { ready = c.bytes.invariant.ready; waits = c.bytes.invariant.waits; took = c.bytes.invariant.took }
 
-pub returns-in-Err-clause-ready : goal.returns-in-Err-clause-ready
-returns-in-Err-clause-ready g c = more_ready _ _ _ _ _ _ _ _ _ _ _ _ _ _ _ _ _ _ _ (Err c.in-Err.broken) c.in-Err.ensures.takes
+pub returns-in-Err-InputLimit-clause-stands : goal.returns-in-Err-InputLimit-clause-stands
+returns-in-Err-InputLimit-clause-stands g c = record { ready = c.bytes.invariant.ready; waits = c.bytes.invariant.waits; took = c.bytes.invariant.took }
 
-pub returns-in-Ok-None-clause-waits : goal.returns-in-Ok-None-clause-waits
-returns-in-Ok-None-clause-waits g c = more_waits _ _ _ _ _ _ _ _ _ _ _ _ _ _ _ _ _ _ _ c.finish.result c.finish.ensures.takes
+pub returns-in-Ok-None-clause-stands : goal.returns-in-Ok-None-clause-stands
+returns-in-Ok-None-clause-stands g c = more_stands _ _ _ _ _ _ _ _ _ _ _ _ _ _ _ _ _ _ _ _ c.finish.result c.finish.ensures.takes c.finish.ensures.took
 
-pub returns-in-Err-clause-waits : goal.returns-in-Err-clause-waits
-returns-in-Err-clause-waits g c = more_waits _ _ _ _ _ _ _ _ _ _ _ _ _ _ _ _ _ _ _ (Err c.in-Err.broken) c.in-Err.ensures.takes
+pub returns-in-Err-clause-stands : goal.returns-in-Err-clause-stands
+returns-in-Err-clause-stands g c = more_stands _ _ _ _ _ _ _ _ _ _ _ _ _ _ _ _ _ _ _ _ (Err c.in-Err.broken) c.in-Err.ensures.takes c.in-Err.ensures.took
 
 pub returns-in-Ok-None-clause-cause : goal.returns-in-Ok-None-clause-cause
 returns-in-Ok-None-clause-cause g c =
