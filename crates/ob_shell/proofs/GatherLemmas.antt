@@ -1,6 +1,7 @@
 -- One more INSERT that waits, and the batch that is full then.
-use Rattle.std.specs.Prelude.{IsSome, OnOk, bytes_eq}
+use Rattle.std.specs.Prelude.{IsSome, OnOk, bytes_eq, if◌then◌else◌, is_ok}
 use Rattle.std.specs.Option.{option_map_or}
+use Rattle.std.specs.Result.{is_err}
 use Rattle.std.proofs.Common.{◌≡◌, ◌+◌, ◌<◌, ◌≤◌, inl, inr, ℕ, Bool, true, false, List, [], ◌∷◌, ◌++◌, length, Option, None, Some, Result, Ok, Err, refl, sym, ap, ◌∙◌, subst, arith, append-nil, length-append}
 use Rattle.std.proofs.lemmas.List.Elements.{All-nil, All-push}
 use Rattle.std.proofs.lemmas.Slice.Eq.{bytes_eq-Decides}
@@ -117,6 +118,15 @@ so_full {state = state} batch stmt text m0 {m1 = m1} full g held none so = recor
   appends = so.appends;
   counted = so.counted;
 }
+
+-- ---- what a list is behind a push, by whether that failed
+pub pushed : {T E X : Type 0} (r : Result T E) (failed : Bool) (ys : X) {xs zs : X} → failed ≡ is_err r → failed ≡ false → zs ≡ (if is_ok r then xs else ys) → zs ≡ xs
+pushed (Ok x) failed ys is not new = new
+pushed (Err e) failed ys is not new = absurd (cc (is, not))
+
+pub unpushed : {T E X : Type 0} (r : Result T E) (failed : Bool) (xs : X) {ys zs : X} → failed ≡ is_err r → failed ≡ true → zs ≡ (if is_ok r then xs else ys) → zs ≡ ys
+unpushed (Ok x) failed xs is full new = absurd (cc (is, full))
+unpushed (Err e) failed xs is full new = new
 
 module _ {R : Type 0} {state : R → RevState} {Saves : Type 0} {on : Bool} (batch : List Stmt) (stmt : Stmt) (text : List ℕ) (spells : Spells text (Ok stmt)) where
   pub takes_gathered : {T : Type 0} (tally : Tally) (w t : Option (List ℕ)) (old : Faults) (m : Machine R) (x : T) → IsReady state Saves m → AreGathered (public_of m.engine) (asked_of m) (batch ++ stmt ∷ [])

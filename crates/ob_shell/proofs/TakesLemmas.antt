@@ -1,5 +1,5 @@
 -- Texts that are taken, part by part: some are answered, and some wait.
-use Rattle.std.proofs.Common.{◌≡◌, ◌+◌, inr, ℕ, Bool, false, List, [], ◌∷◌, ◌++◌, Option, None, Result, Ok, Err, refl, sym, ap, ◌∙◌, subst, append_assoc, append-nil}
+use Rattle.std.proofs.Common.{◌≡◌, ◌+◌, inr, ℕ, Bool, false, true, List, [], ◌∷◌, ◌++◌, Option, None, Result, Ok, Err, refl, sym, ap, ◌∙◌, subst, append_assoc, append-nil}
 use Rattle.std.specs.Io.KnownBytes.{Appends}
 use Rattle.ob_base.specs.declared.refusal.Refusal.TheVariants.{Syntax}
 use Rattle.ob_base.specs.declared.refusal.Stop.{Stop}
@@ -9,6 +9,7 @@ use Rattle.ob_headline.specs.Statements.{Spells}
 use Rattle.ob_headline.specs.Texts.{texts_at}
 use Rattle.ob_headline.specs.Words.{Faults, NoneRose, Took}
 use Rattle.ob_mean.specs.Batches.{Gathering}
+use Rattle.ob_print.proofs.CutLemmas.{Outputs-by}
 use Rattle.ob_print.specs.Cuts.{Outputs}
 use Rattle.ob_shell.proofs.FlushLemmas.{traced_to_none}
 use Rattle.ob_shell.proofs.ServeLemmas.{misspelt}
@@ -126,7 +127,7 @@ takes_broken {state = state} {on = on} {w0 = w0} {w1 = w1} {s0 = s0} {s1 = s1} {
 }
 
 -- ---- the same part, of which more or less is said
-comes_by : {R U : Type 0} {state : R → RevState} {Saves : Type 0} {on : Bool} {May May' : Option Gathering → Type 0} {Later : (old new : Option Gathering) → Type 0} {b0 b1 : List Stmt} {xs : List (List ℕ)} {t0 t1 : Tally} {w0 w1 s0 s1 : Option (List ℕ)} {old new : Faults} {m0 m1 : Machine R} (result : Result U TextHalted)
+pub comes_by : {R U : Type 0} {state : R → RevState} {Saves : Type 0} {on : Bool} {May May' : Option Gathering → Type 0} {Later : (old new : Option Gathering) → Type 0} {b0 b1 : List Stmt} {xs : List (List ℕ)} {t0 t1 : Tally} {w0 w1 s0 s1 : Option (List ℕ)} {old new : Faults} {m0 m1 : Machine R} (result : Result U TextHalted)
     → ((g : Option Gathering) → May' g → May g) → TakesTexts state Saves on May Later b0 b1 xs t0 t1 w0 w1 s0 s1 old new m0 m1 result → TakesTexts state Saves on May' Later b0 b1 xs t0 t1 w0 w1 s0 s1 old new m0 m1 result
 comes_by (Ok x) may takes = record { ready = takes.ready; waits = takes.waits; done = λ g held comes spelt. takes.done g held (may g comes) spelt; stopped = tt; traced = takes.traced; traced_stop = tt; cause = takes.cause; quiet = takes.quiet }
 comes_by (Err halted) may takes = record { ready = tt; waits = tt; done = tt; stopped = λ g held comes spelt. takes.stopped g held (may g comes) spelt; traced = tt; traced_stop = takes.traced_stop; cause = takes.cause; quiet = takes.quiet }
@@ -147,6 +148,10 @@ module _ {R T : Type 0} (state : R → RevState) (Saves : Type 0) (on : Bool) (T
 
   pub takes_of_text : (May : Option Gathering → Type 0) (xs : List (List ℕ)) (text : List ℕ) → xs ≡ text ∷ [] → (result : Result T Break) → TakesMore state Saves on May Then b0 b1 (text ∷ []) WantsRoom t0 t1 w0 w1 s0 s1 old new m0 m1 result → TakesMore state Saves on May Then b0 b1 xs WantsRoom t0 t1 w0 w1 s0 s1 old new m0 m1 result
   takes_of_text May xs text is result takes = subst (λ (l : List (List ℕ)). TakesMore state Saves on May Then b0 b1 l WantsRoom t0 t1 w0 w1 s0 s1 old new m0 m1 result) (sym is) takes
+
+-- a stop of which nothing was lost
+pub stops_unlost : {R : Type 0} {state : R → RevState} {w0 w1 : Option (List ℕ)} {quiet : Bool} {P G : Type 0} {texts : List (List ℕ)} {stop : RunStop} {m0 m1 : Machine R} → quiet ≡ false → StopsIn state w0 w1 ((quiet ≡ true) × P) texts stop m0 m1 → StopsIn state w0 w1 G texts stop m0 m1
+stops_unlost not stops = record { bytes = stops.bytes; partly = stops.partly; cut = Outputs-by (λ lost. absurd (cc (not, lost.0))) stops.cut }
 
 -- ---- a text behind which none waits
 -- of a stop within it

@@ -683,7 +683,7 @@ fn read_texts<I: Source, R: Revisions, S: BlockStore, B: Behind<S>, K: Sink, T: 
         (machine_of engine.old (S.state store.old) (B.state behind.old)) }
     requires fed_by { IsFedBy feed.old (I.gave input.old) }
     requires took { D.took digest.old (S.state store.old).asked }
-    ensures reads { ReadsTexts R.state (B.Saves behind.new) tracing feed.old feed.new
+    ensures reads { ReadsTexts R.state tracing feed.old feed.new
         (I.left input.old) (I.left input.new) (I.gave input.new)
         (K.written out.old) (K.written out.new) (T.written trace.old) (T.written trace.new)
         session.new.batch.items session.new.tally

@@ -1,4 +1,5 @@
 use Rattle.std.proofs.Common.{◌≡◌, List, [], ◌∷◌, length, refl, subst, sym, ◌∙◌, arith}
+use Rattle.ob_gen.specs.declared.tally.Tally.{Tally}
 use Rattle.ob_shell.proofs.CountLemmas.{same_cause}
 use Rattle.ob_shell.proofs.TakesLemmas.{takes_as, takes_broken, takes_idle}
 use Rattle.ob_shell.proofs.batching.flush.Goals as goal
@@ -31,7 +32,7 @@ returns-in-Ok-clause-takes g c = rw (sym c.as_slice.ensures.value ∙ c.in-Some.
 pub returns-in-Err-clause-takes : goal.returns-in-Err-clause-takes
 returns-in-Err-clause-takes g c =
     rw (sym c.as_slice.ensures.value ∙ c.in-Some.ensures.cases.0)
-    (takes_broken c.in-Err.halted [] (λ h comes. comes) (same_cause _ _ _ (session_stop c.in-Err.halted.stop) _ _ c.in-Err.ensures.serves.cause) c.in-Err.ensures.serves)
+    (takes_broken c.in-Err.halted [] (λ h comes. comes) (same_cause _ Tally (Unit {0}) (session_stop c.in-Err.halted.stop) _ _ c.in-Err.ensures.serves.cause) c.in-Err.ensures.serves)
 
 pub returns-in-Err-clause-idle : goal.returns-in-Err-clause-idle
 returns-in-Err-clause-idle g c = λ empty. cc (empty, c.as_slice.ensures.value, c.in-Some.ensures.cases.0)

@@ -1,4 +1,4 @@
-use Rattle.std.proofs.Common.{◌≡◌, List, ◌∷◌, length, ◌∙◌, refl, inl, inr, arith, subst, sym}
+use Rattle.std.proofs.Common.{◌≡◌, List, ◌∷◌, length, drop, true, ◌∙◌, refl, inl, inr, arith, subst, sym}
 use Rattle.std.proofs.lemmas.List.{take_at}
 use Rattle.std.specs.Io.KnownBytes.{Appends}
 use Rattle.ob_base.specs.declared.access.Access.{Access}
@@ -50,6 +50,10 @@ returns-in-Ok-write_batch-clause-serves g c =
     let ran = batch_from g.R.Revisions.state c.args.first.now c.args.rest.now outcome outcomes c.args.engine.now s0 c.run_batch.new.engine s1 _ _ c.count-mark.result s2 c.let_go_from.ensures first in
     let on = ran.carried.ran.goes_on in
     let now = c.in-Ok-write_batch.ensures in
+    let w0 = g.K.Sink.written c.args.out.now in
+    let w1 = g.K.Sink.written c.write_batch.new.out in
+    let t0 = g.T.Sink.written c.args.trace.now in
+    let t1 = g.T.Sink.written c.write_batch.new.trace in
     let size : length outcomes ≡ c.in-Ok.outcomes.len = omega (arith, c.run_batch.auto.outcomes, c.as_mut_slice.ensures.len) in
     let written = c.as_slice.ensures.value ∙ take_at outcomes _ c.in-Ok.outcomes.len size in
     let tallied = c.as_slice-in-Ok-write_batch.ensures.value ∙ take_at outcomes _ c.in-Ok.outcomes.len size in
@@ -58,10 +62,10 @@ returns-in-Ok-write_batch-clause-serves g c =
       waits = tt;
       done = λ h held comes spelt.
           served_batch g.R.Revisions.state c.args.engine.now c.run_batch.new.engine s0 s2 _ _ c.args.first.now c.args.rest.now c.requires.ready.agrees c.requires.batch c.args.tracing h comes held spelt _ _ outcome outcomes ran
-          (subst (λ (l : List Outcome). Appends _ _ (printed (line_answers (outcome ∷ l)))) written now.ok)
+          (subst (λ (l : List Outcome). Appends w0 w1 (printed (line_answers (outcome ∷ l)))) written now.ok)
           (counted_all c.args.tally _ _ outcome outcomes _ c.tally_with-counted.ensures tallied c.tally_all.ensures);
       stopped = tt;
-      traced = record { seen = _; grew = ran.carried.ran.asked; appends = subst (λ (l : List Access). Appends _ _ (traced c.args.tracing l)) split now.traced };
+      traced = record { seen = _; grew = ran.carried.ran.asked; appends = subst (λ (l : List Access). Appends t0 t1 (traced c.args.tracing l)) split now.traced };
       traced_stop = tt;
       cause = record { source = refl; out = now.cause.0; trace = now.cause.1 };
       quiet = (now.cause.0, now.cause.1);
@@ -87,8 +91,12 @@ returns-in-Ok-run_batch-clause-serves g c =
     let ran = c.in-Ok-run_batch.ensures.ran in
     let split = since s0.asked s1.asked _ _ ran.carried.ran.asked c.count-mark.ensures in
     let now = c.in-Err-write_batch.ensures in
+    let w0 = g.K.Sink.written c.args.out.now in
+    let w1 = g.K.Sink.written c.write_batch.new.out in
+    let t0 = g.T.Sink.written c.args.trace.now in
+    let t1 = g.T.Sink.written c.write_batch.new.trace in
     let size : length outcomes ≡ c.in-Ok.outcomes.len = omega (arith, c.run_batch.auto.outcomes, c.as_mut_slice.ensures.len) in
-    let cut = subst (λ (l : List Outcome). BatchCut (outcome ∷ l) _ _ _ _ _ _ _) (c.as_slice.ensures.value ∙ take_at outcomes _ c.in-Ok.outcomes.len size) now.cut in
+    let cut = subst (λ (l : List Outcome). BatchCut (outcome ∷ l) w0 w1 t0 t1 (traced c.args.tracing (drop c.count-mark.result s1.asked)) (g.K.Sink.faults c.args.out.now) (g.K.Sink.faults c.write_batch.new.out)) (c.as_slice.ensures.value ∙ take_at outcomes _ c.in-Ok.outcomes.len size) now.cut in
     record {
       ready = tt;
       waits = tt;
@@ -98,10 +106,10 @@ returns-in-Ok-run_batch-clause-serves g c =
           (lost_with (λ rose. (refl, rose)) cut.lines) cut.traced
           (elim cut.behind [
             | inl none ↦ inl none
-            | inr appends ↦ inr (traced_to (record { seen = _; grew = ran.carried.ran.asked; appends = subst (λ (l : List Access). Appends _ _ (traced c.args.tracing l)) split appends }))
+            | inr appends ↦ inr (traced_to (record { seen = _; grew = ran.carried.ran.asked; appends = subst (λ (l : List Access). Appends t0 t1 (traced c.args.tracing l)) split appends }))
           ]);
       traced = tt;
-      traced_stop = record { seen = _; grew = ran.carried.ran.asked; cut = subst (λ (l : List Access). Outputs _ _ _ (traced c.args.tracing l)) split (Outputs-by (λ err. refl) now.cut.traced) };
+      traced_stop = record { seen = _; grew = ran.carried.ran.asked; cut = subst (λ (l : List Access). Outputs t0 t1 (true ≡ true) (traced c.args.tracing l)) split (Outputs-by (λ err. refl) now.cut.traced) };
       cause = ((λ alone. refl, inl refl), now.cause.0);
       quiet = now.cause.0;
     }
@@ -124,7 +132,7 @@ returns-clause-serves g c =
       traced_stop = record {
         seen = _;
         grew = ran.carried.ran.asked;
-        cut = subst (λ (l : List Access). Outputs _ _ _ (traced c.args.tracing l)) split (Outputs-by (lost_quiet c.trace_from.result c.is_err-quiet.result c.is_err-quiet.ensures.value) cut);
+        cut = subst (λ (l : List Access). Outputs (g.T.Sink.written c.args.trace.now) (g.T.Sink.written c.trace_from.new.trace) (c.is_err-quiet.result ≡ true) (traced c.args.tracing l)) split (Outputs-by (lost_quiet c.trace_from.result c.is_err-quiet.result c.is_err-quiet.ensures.value) cut);
       };
       cause = traced_only Tally c.in-Err.stop (batch_unsunk c.in-Err.stop c.requires.batch ran) _ _ _ c.trace_from.ensures.cause.later;
       quiet = traced_quiet c.trace_from.result c.is_err-quiet.result _ _ _ c.is_err-quiet.ensures.value c.trace_from.ensures.cause;

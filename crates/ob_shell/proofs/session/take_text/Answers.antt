@@ -8,8 +8,8 @@ use Rattle.ob_shell.specs.Steps.{machine_of}
 use Rattle.ob_tables.specs.Agreeing.{public_of}
 use Rattle.ob_shell.proofs.session.take_text.Goals as goal
 
-pub take_misspelt-requires : goal.take_misspelt-requires
-take_misspelt-requires g c = record {
+pub take_misspelt-taken-requires : goal.take_misspelt-taken-requires
+take_misspelt-taken-requires g c = record {
   spells = subst (λ (e : ParseErr). IsRefused c.args.session.now.pending (tokens_of c.args.session.now.pending) e) c.in-Syntax.is c.in-Err.ensures.refused;
   waits = c.requires.waits;
   ready = c.requires.ready;
@@ -22,3 +22,6 @@ returns-in-NoMemory-clause-takes g c = (
       (λ h free. comes_free (public_of c.args.engine.now) c.args.session.now.batch.items h free),
   refl,
 )
+
+pub returns-in-Ok-clause-takes : goal.returns-in-Ok-clause-takes
+returns-in-Ok-clause-takes g c = c.take_stmt.ensures.takes

@@ -27,12 +27,12 @@ returns-in-Err-InputLimit-clause-takes g c =
       (pushed.0, at_limit_is_over _ _ pushed.1 pushed.2),
     )
 
-pub returns-in-Ok-take_text-clause-takes : goal.returns-in-Ok-take_text-clause-takes
-returns-in-Ok-take_text-clause-takes g c =
+pub returns-in-Ok-clause-takes : goal.returns-in-Ok-clause-takes
+returns-in-Ok-clause-takes g c =
     let pushed = rw c.in-Ok-Whole.field-0-is at c.in-Ok-Whole.ensures in
-    turns_by _ _ _ _ _ _ _ _ _ _ _ _ _ _ _ _ _ c.args.session.now.pending c.args.b c.push.new.self pushed.0 (Ok tt) c.in-Ok-take_text.ensures.takes
+    turns_by _ _ _ _ _ _ _ _ _ _ _ _ _ _ _ _ _ c.args.session.now.pending c.args.b c.push.new.self pushed.0 (Ok tt) c.in-Ok.ensures.takes
 
-pub returns-in-Err-take_text-clause-takes : goal.returns-in-Err-take_text-clause-takes
-returns-in-Err-take_text-clause-takes g c =
+pub returns-in-Err-clause-takes : goal.returns-in-Err-clause-takes
+returns-in-Err-clause-takes g c =
     let pushed = rw c.in-Ok-Whole.field-0-is at c.in-Ok-Whole.ensures in
-    turns_by _ _ _ _ _ _ _ _ _ _ _ _ _ _ _ _ _ c.args.session.now.pending c.args.b c.push.new.self pushed.0 (Err c.in-Err-take_text.broken) c.in-Err-take_text.ensures.takes
+    turns_by _ _ _ _ _ _ _ _ _ _ _ _ _ _ _ _ _ c.args.session.now.pending c.args.b c.push.new.self pushed.0 (Err c.in-Err.broken) c.in-Err.ensures.takes
