@@ -1,4 +1,4 @@
-use Rattle.std.proofs.Common.{◌≡◌, List, Ok, [], ◌∷◌, ◌∙◌, ap, false, sym, true}
+use Rattle.std.proofs.Common.{◌≡◌, List, Ok, [], ◌∷◌, ◌∙◌, ap, false, sym}
 use Rattle.ob_shell.proofs.CountLemmas.{same_cause}
 use Rattle.ob_shell.proofs.GatherLemmas.{are_batched, comes_free, free_behind, free_more, goes_more, idle_public}
 use Rattle.ob_shell.proofs.TakesLemmas.{comes_by, takes_broken, takes_more_by, takes_more_then}
