@@ -7,7 +7,6 @@ use Rattle.std.specs.Io.KnownBytes.{Appends}
 use Rattle.ob_base.specs.declared.access.Access.{Access}
 use Rattle.ob_gen.specs.declared.tally.Tally.{Tally}
 use Rattle.ob_headline.specs.Meaning.{PrintsUntil}
-use Rattle.ob_headline.specs.Tracing.{traced}
 use Rattle.ob_headline.specs.Words.{Took, faults_of, printed}
 use Rattle.ob_exec.specs.RanBatch.{RanBatch}
 use Rattle.ob_mean.proofs.BatchLemmas.{begins}

@@ -11,7 +11,7 @@ use Rattle.ob_headline.proofs.TextLemmas.{rest_of-append, rest_of-cons, rest_of-
 use Rattle.ob_headline.specs.Batches.{AnsweredBut}
 use Rattle.ob_headline.specs.Texts.{rest_after, rest_of, tail_text, text_max, texts_at, texts_in, texts_of}
 use Rattle.ob_headline.specs.Status.{StaysAlone}
-use Rattle.ob_headline.specs.Words.{before_read, faults_of}
+use Rattle.ob_headline.specs.Words.{Faults, before_read, faults_of}
 use Rattle.ob_mean.specs.Batches.{Gathering}
 use Rattle.ob_shell.proofs.FeedLemmas.{Fed-then}
 use Rattle.ob_shell.proofs.GatherLemmas.{comes_free}
@@ -20,8 +20,8 @@ use Rattle.ob_shell.proofs.TraceLemmas.{traced_cut, traced_then, traced_whole}
 use Rattle.ob_shell.proofs.WaitLemmas.{answered_but, break_then, so_then, steps_most}
 use Rattle.ob_shell.specs.Feeding.{Fed, Fetch}
 use Rattle.ob_shell.specs.Running.{IsQuiet, OutFailed, Silenced, SoFar, StopCause, is_quiet, stop_of}
-use Rattle.ob_shell.specs.Serving.{EndsReading, HasRead, IsNotTaken, ReadsTexts, TakesMore, UnlessServed, WantsRoom, broken_of}
-use Rattle.ob_shell.specs.Steps.{IsReady, Machine, asked_of, standing}
+use Rattle.ob_shell.specs.Serving.{EndsReading, HasRead, IsNotTaken, ReadsTexts, StandsReady, TakesMore, UnlessServed, WantsRoom, broken_of}
+use Rattle.ob_shell.specs.Steps.{Machine, asked_of, standing}
 use Rattle.ob_shell.specs.Traces.{Traced, TracedAll}
 use Rattle.ob_shell.specs.Waiting.{AreGathered, AreSpelt, BreaksIn, ComesFree, IsFree, ServedSo}
 use Rattle.ob_shell.specs.declared.session.Break.{Break}
@@ -216,33 +216,41 @@ quiet_by s0 s1 old new true told = told
 quiet_by s0 s1 old new false told = told
 
 -- ---- what else is known of a part behind which no more is read
-module _ {R T : Type 0} (state : R → RevState) (Saves : Type 0) (on : Bool) (May : Option Gathering → Type 0) (Then : (old new : Option Gathering) → Type 0) (b0 b1 : List Stmt) (texts : List (List ℕ)) (Why : Stop → Type 0) (r0 r1 : Tally) (w0 w1 t0 t1 t2 : Option (List ℕ)) (m1 m2 : Machine R) where
-  pub more_traced : (old new : ℕ × ℕ) {a0 : List Access} (result : Result T Break) → TracedAll on a0 m1.store.asked t0 t1 → TakesMore state Saves on May Then b0 b1 texts Why r0 r1 w0 w1 t1 t2 (faults_of 0 old.0 old.1) (faults_of 0 new.0 new.1) m1 m2 result → Traced on a0 m2.store.asked t0 t2 (IsQuiet (broken_of result))
-  more_traced old new (Ok x) before takes = traced_whole _ (traced_then before takes.traced)
-  more_traced old new (Err (Served halted)) before takes = traced_cut before takes.traced_stop
-  more_traced old new (Err (Unread stop)) before takes = traced_whole _ (traced_then before takes.0.traced)
+module _ {R T : Type 0} (state : R → RevState) (Saves : Type 0) (on : Bool) (May : Option Gathering → Type 0) (Then : (old new : Option Gathering) → Type 0) (b0 b1 : List Stmt) (texts : List (List ℕ)) (Why : Stop → Type 0) (r0 r1 : Tally) (w0 w1 t1 t2 : Option (List ℕ)) (m1 m2 : Machine R) where
+  pub more_traced : (t0 : Option (List ℕ)) (old new : ℕ × ℕ) {a0 : List Access} (result : Result T Break) → TracedAll on a0 m1.store.asked t0 t1 → TakesMore state Saves on May Then b0 b1 texts Why r0 r1 w0 w1 t1 t2 (faults_of 0 old.0 old.1) (faults_of 0 new.0 new.1) m1 m2 result → Traced on a0 m2.store.asked t0 t2 (IsQuiet (broken_of result))
+  more_traced t0 old new (Ok x) before takes = traced_whole _ (traced_then before takes.traced)
+  more_traced t0 old new (Err (Served halted)) before takes = traced_cut before takes.traced_stop
+  more_traced t0 old new (Err (Unread stop)) before takes = traced_whole _ (traced_then before takes.0.traced)
 
-  pub more_ready : (old new : ℕ × ℕ) (result : Result T Break) → TakesMore state Saves on May Then b0 b1 texts Why r0 r1 w0 w1 t1 t2 (faults_of 0 old.0 old.1) (faults_of 0 new.0 new.1) m1 m2 result → UnlessServed result (IsReady state Saves m2)
-  more_ready old new (Ok x) takes = takes.ready
-  more_ready old new (Err (Served halted)) takes = tt
-  more_ready old new (Err (Unread stop)) takes = takes.0.ready
+  pub more_stands : (old new : ℕ × ℕ) (Took : Type 0) (result : Result T Break) → TakesMore state Saves on May Then b0 b1 texts Why r0 r1 w0 w1 t1 t2 (faults_of 0 old.0 old.1) (faults_of 0 new.0 new.1) m1 m2 result → UnlessServed result Took → UnlessServed result (StandsReady state Saves Took b1 m2)
+  more_stands old new Took (Ok x) takes took = record { ready = takes.ready; waits = takes.waits; took = took }
+  more_stands old new Took (Err (Served halted)) takes took = tt
+  more_stands old new Took (Err (Unread stop)) takes took = record { ready = takes.0.ready; waits = takes.0.waits; took = took }
 
-  pub more_waits : (old new : ℕ × ℕ) (result : Result T Break) → TakesMore state Saves on May Then b0 b1 texts Why r0 r1 w0 w1 t1 t2 (faults_of 0 old.0 old.1) (faults_of 0 new.0 new.1) m1 m2 result → UnlessServed result (AreGathered (public_of m2.engine) (asked_of m2) b1)
-  more_waits old new (Ok x) takes = takes.waits
-  more_waits old new (Err (Served halted)) takes = tt
-  more_waits old new (Err (Unread stop)) takes = takes.0.waits
-
-  pub more_cause : (Alone : Type 0) (s0 s1 : ℕ) (old new : ℕ × ℕ) → s1 ≡ s0 → (result : Result T Break) → ((stop : Stop) → Why stop → (stop ≡ Stops.NoMemory) ⊎ (stop ≡ Stops.InputLimit))
+  cause_here : (Alone : Type 0) (s0 s1 : ℕ) (old new : ℕ × ℕ) → s1 ≡ s0 → (result : Result T Break) → ((stop : Stop) → Why stop → (stop ≡ Stops.NoMemory) ⊎ (stop ≡ Stops.InputLimit))
       → TakesMore state Saves on May Then b0 b1 texts Why r0 r1 w0 w1 t1 t2 (faults_of 0 old.0 old.1) (faults_of 0 new.0 new.1) m1 m2 result → StopCause Alone (faults_of s0 old.0 old.1) (faults_of s1 new.0 new.1) (stop_of (broken_of result))
-  more_cause Alone s0 s1 old new same (Ok x) why takes = record { source = same; out = takes.cause.out; trace = takes.cause.trace }
-  more_cause Alone s0 s1 old new same (Err (Served halted)) why takes = served_cause T Alone s0 s1 old new halted.stop (λ alone. same, inl same) takes.cause
-  more_cause Alone s0 s1 old new same (Err (Unread stop)) why takes = unread_cause T Alone s0 s1 old new stop same (why stop takes.1) takes.0.cause.out takes.0.cause.trace
+  cause_here Alone s0 s1 old new same (Ok x) why takes = record { source = same; out = takes.cause.out; trace = takes.cause.trace }
+  cause_here Alone s0 s1 old new same (Err (Served halted)) why takes = served_cause T Alone s0 s1 old new halted.stop (λ alone. same, inl same) takes.cause
+  cause_here Alone s0 s1 old new same (Err (Unread stop)) why takes = unread_cause T Alone s0 s1 old new stop same (why stop takes.1) takes.0.cause.out takes.0.cause.trace
 
-  pub more_quiet : (s0 s1 : ℕ) (old new : ℕ × ℕ) (result : Result T Break) → TakesMore state Saves on May Then b0 b1 texts Why r0 r1 w0 w1 t1 t2 (faults_of 0 old.0 old.1) (faults_of 0 new.0 new.1) m1 m2 result
+  quiet_here : (s0 s1 : ℕ) (old new : ℕ × ℕ) (result : Result T Break) → TakesMore state Saves on May Then b0 b1 texts Why r0 r1 w0 w1 t1 t2 (faults_of 0 old.0 old.1) (faults_of 0 new.0 new.1) m1 m2 result
       → Silenced (is_quiet (broken_of result)) (faults_of s0 old.0 old.1) (faults_of s1 new.0 new.1)
-  more_quiet s0 s1 old new (Ok x) takes = takes.quiet
-  more_quiet s0 s1 old new (Err (Served halted)) takes = quiet_by s0 s1 old new halted.quiet takes.quiet
-  more_quiet s0 s1 old new (Err (Unread stop)) takes = takes.0.quiet
+  quiet_here s0 s1 old new (Ok x) takes = takes.quiet
+  quiet_here s0 s1 old new (Err (Served halted)) takes = quiet_by s0 s1 old new halted.quiet takes.quiet
+  quiet_here s0 s1 old new (Err (Unread stop)) takes = takes.0.quiet
+
+  -- where no count of a sink rose before
+  pub more_cause : (Alone : Type 0) (s0 s1 out trace : ℕ) (old new : ℕ × ℕ) → s1 ≡ s0 → old.0 ≡ out → old.1 ≡ trace → (result : Result T Break) → ((stop : Stop) → Why stop → (stop ≡ Stops.NoMemory) ⊎ (stop ≡ Stops.InputLimit))
+      → TakesMore state Saves on May Then b0 b1 texts Why r0 r1 w0 w1 t1 t2 (faults_of 0 old.0 old.1) (faults_of 0 new.0 new.1) m1 m2 result → StopCause Alone (faults_of s0 out trace) (faults_of s1 new.0 new.1) (stop_of (broken_of result))
+  more_cause Alone s0 s1 out trace old new same by_out by_trace result why takes =
+      let earlier : faults_of s0 old.0 old.1 ≡ faults_of s0 out trace = λ i. faults_of s0 (by_out i) (by_trace i) in
+      subst (λ (f : Faults). StopCause Alone f (faults_of s1 new.0 new.1) (stop_of (broken_of result))) earlier (cause_here Alone s0 s1 old new same result why takes)
+
+  pub more_quiet : (s0 s1 out trace : ℕ) (old new : ℕ × ℕ) → old.0 ≡ out → old.1 ≡ trace → (result : Result T Break) → TakesMore state Saves on May Then b0 b1 texts Why r0 r1 w0 w1 t1 t2 (faults_of 0 old.0 old.1) (faults_of 0 new.0 new.1) m1 m2 result
+      → Silenced (is_quiet (broken_of result)) (faults_of s0 out trace) (faults_of s1 new.0 new.1)
+  more_quiet s0 s1 out trace old new by_out by_trace result takes =
+      let earlier : faults_of s0 old.0 old.1 ≡ faults_of s0 out trace = λ i. faults_of s0 (by_out i) (by_trace i) in
+      subst (λ (f : Faults). Silenced (is_quiet (broken_of result)) f (faults_of s1 new.0 new.1)) earlier (quiet_here s0 s1 old new result takes)
 
 -- for want of memory or at a limit
 pub by_room : (stop : Stop) → WantsRoom stop → (stop ≡ Stops.NoMemory) ⊎ (stop ≡ Stops.InputLimit)

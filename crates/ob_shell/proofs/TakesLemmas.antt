@@ -1,5 +1,5 @@
 -- Texts that are taken, part by part: some are answered, and some wait.
-use Rattle.std.proofs.Common.{◌≡◌, ◌+◌, inr, ℕ, Bool, false, true, List, [], ◌∷◌, ◌++◌, Option, None, Result, Ok, Err, refl, sym, ap, ◌∙◌, subst, append_assoc, append-nil}
+use Rattle.std.proofs.Common.{◌≡◌, inr, ℕ, Bool, false, true, List, [], ◌∷◌, ◌++◌, Option, None, Result, Ok, Err, refl, sym, ap, ◌∙◌, subst, append_assoc, append-nil}
 use Rattle.std.specs.Io.KnownBytes.{Appends}
 use Rattle.ob_base.specs.declared.refusal.Refusal.TheVariants.{Syntax}
 use Rattle.ob_base.specs.declared.refusal.Stop.{Stop}

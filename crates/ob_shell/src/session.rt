@@ -9,7 +9,7 @@ ghost use Rattle.ob_headline.specs.Statements.{Spells};
 ghost use Rattle.ob_mean.specs.Batches.{begins_batch, goes_into};
 ghost use Rattle.ob_shell.specs.Feeding.{IsFedBy};
 ghost use Rattle.ob_shell.specs.Running.{IsQuiet, OutFailed, ServesAlone, SessionRan, Silenced, StopCause, halted_of, is_quiet, stop_of};
-ghost use Rattle.ob_shell.specs.Serving.{IsNotTaken, ReadsTexts, ServesTexts, TakesMore, TakesTexts, UnlessServed, WantsRoom, broken_of};
+ghost use Rattle.ob_shell.specs.Serving.{IsNotTaken, ReadsTexts, ServesTexts, StandsReady, TakesMore, TakesTexts, UnlessServed, WantsRoom, broken_of};
 ghost use Rattle.ob_shell.specs.Steps.{machine_of, IsReady, HasBody, AnswersAll};
 ghost use Rattle.ob_shell.specs.Tallies;
 ghost use Rattle.ob_shell.specs.Traces.{TracedAll, Traced};
@@ -690,10 +690,9 @@ fn read_texts<I: Source, R: Revisions, S: BlockStore, B: Behind<S>, K: Sink, T: 
         (machine_of engine.old (S.state store.old) (B.state behind.old))
         (machine_of engine.new (S.state store.new) (B.state behind.new))
         (K.faults out.old) (K.faults out.new) result }
-    ensures ready { UnlessServed result (IsReady R.state (B.Saves behind.new)
+    ensures stands { UnlessServed result (StandsReady R.state (B.Saves behind.new)
+        (D.took digest.new (S.state store.new).asked) session.new.batch.items
         (machine_of engine.new (S.state store.new) (B.state behind.new))) }
-    ensures waits { UnlessServed result (AreGathered (public_of engine.new)
-        (count_of engine.new (S.state store.new)) session.new.batch.items) }
     ensures within { feed.new.taken ≤ feed.new.limit }
     ensures fed_by { IsFedBy feed.new (I.gave input.new) }
     ensures traced { Traced tracing (S.state store.old).asked (S.state store.new).asked
@@ -706,7 +705,6 @@ fn read_texts<I: Source, R: Revisions, S: BlockStore, B: Behind<S>, K: Sink, T: 
         (faults_of (I.faults input.old) (K.faults out.old) (T.faults trace.old))
         (faults_of (I.faults input.new) (K.faults out.new) (T.faults trace.new)) }
     ensures same { B.name behind.new ≡ B.name behind.old }
-    ensures took { UnlessServed result (D.took digest.new (S.state store.new).asked) }
 {
     'bytes: loop {
         match feed.next(input) {

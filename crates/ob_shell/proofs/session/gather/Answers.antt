@@ -14,8 +14,7 @@ returns-then-is_err-clause-takes g c =
     let m = count_of e (g.S.BlockStore.state c.args.store.now) in
     let batch = c.args.session.now.batch.items in
     let same : c.push.new.self.items ≡ batch = unpushed c.push.result c.is_err.result _ c.is_err.ensures.value c.if-is_err.true c.push.ensures.items in
-    rw same
-    (
+    rw same (
       takes_idle c.args.tracing batch c.args.session.now.tally _ _ _ (machine_of e (g.S.BlockStore.state c.args.store.now) (g.B.Behind.state c.args.behind.now)) tt c.requires.ready (waits_by (public_of e) m batch c.args.stmt c.requires.goes)
           (λ h free. comes_before (public_of e) batch c.args.stmt h free),
       refl,

@@ -1,6 +1,6 @@
 use Rattle.std.proofs.Common.{arith, ◌∙◌, refl, Err}
 use Rattle.ob_shell.proofs.FeedLemmas.{fed_smaller}
-use Rattle.ob_shell.proofs.ReadLemmas.{by_byte, by_room, finish_reads, more_cause, more_quiet, more_ready, more_traced, more_waits, read_input_limit, read_source_fault, so_far_end, turn_reads}
+use Rattle.ob_shell.proofs.ReadLemmas.{by_byte, by_room, finish_reads, more_cause, more_quiet, more_stands, more_traced, read_input_limit, read_source_fault, so_far_end, turn_reads}
 use Rattle.ob_shell.proofs.RunLemmas.{so_far_start, so_far_turn}
 use Rattle.ob_shell.proofs.TraceLemmas.{traced_none, traced_then}
 use Rattle.ob_shell.proofs.session.read_texts.Goals as goal
@@ -69,47 +69,46 @@ pub returns-in-Ok-None-clause-traced : goal.returns-in-Ok-None-clause-traced
 returns-in-Ok-None-clause-traced g c = more_traced _ _ _ _ _ _ _ _ _ _ _ _ _ _ _ _ _ _ _ _ c.finish.result c.bytes.invariant.traced c.finish.ensures.takes
 
 pub returns-in-Err-clause-traced : goal.returns-in-Err-clause-traced
-returns-in-Err-clause-traced g c = more_traced _ _ _ _ _ _ _ _ _ _ _ _ _ _ _ _ _ _ _ _ c.turn-turned.result c.bytes.invariant.traced c.turn-turned.ensures.takes
+returns-in-Err-clause-traced g c = more_traced _ _ _ _ _ _ _ _ _ _ _ _ _ _ _ _ _ _ _ _ (Err c.in-Err.broken) c.bytes.invariant.traced c.in-Err.ensures.takes
 
-pub returns-in-Ok-None-clause-ready : goal.returns-in-Ok-None-clause-ready
-returns-in-Ok-None-clause-ready g c = more_ready _ _ _ _ _ _ _ _ _ _ _ _ _ _ _ _ _ _ _ _ c.finish.result c.finish.ensures.takes
+pub returns-in-Err-SourceFault-clause-stands : goal.returns-in-Err-SourceFault-clause-stands
+returns-in-Err-SourceFault-clause-stands g c = record { ready = c.bytes.invariant.ready; waits = c.bytes.invariant.waits; took = c.bytes.invariant.took }
 
-pub returns-in-Err-clause-ready : goal.returns-in-Err-clause-ready
-returns-in-Err-clause-ready g c = more_ready _ _ _ _ _ _ _ _ _ _ _ _ _ _ _ _ _ _ _ _ c.turn-turned.result c.turn-turned.ensures.takes
+pub returns-in-Err-InputLimit-clause-stands : goal.returns-in-Err-InputLimit-clause-stands
+returns-in-Err-InputLimit-clause-stands g c = record { ready = c.bytes.invariant.ready; waits = c.bytes.invariant.waits; took = c.bytes.invariant.took }
 
-pub returns-in-Ok-None-clause-waits : goal.returns-in-Ok-None-clause-waits
-returns-in-Ok-None-clause-waits g c = more_waits _ _ _ _ _ _ _ _ _ _ _ _ _ _ _ _ _ _ _ _ c.finish.result c.finish.ensures.takes
+pub returns-in-Ok-None-clause-stands : goal.returns-in-Ok-None-clause-stands
+returns-in-Ok-None-clause-stands g c = more_stands _ _ _ _ _ _ _ _ _ _ _ _ _ _ _ _ _ _ _ _ c.finish.result c.finish.ensures.takes c.finish.ensures.took
 
-pub returns-in-Err-clause-waits : goal.returns-in-Err-clause-waits
-returns-in-Err-clause-waits g c = more_waits _ _ _ _ _ _ _ _ _ _ _ _ _ _ _ _ _ _ _ _ c.turn-turned.result c.turn-turned.ensures.takes
+pub returns-in-Err-clause-stands : goal.returns-in-Err-clause-stands
+returns-in-Err-clause-stands g c = more_stands _ _ _ _ _ _ _ _ _ _ _ _ _ _ _ _ _ _ _ _ (Err c.in-Err.broken) c.in-Err.ensures.takes c.in-Err.ensures.took
 
 pub returns-in-Ok-None-clause-cause : goal.returns-in-Ok-None-clause-cause
 returns-in-Ok-None-clause-cause g c =
     let fetch = rw c.in-Ok-None.field-0-is at c.in-Ok-None.ensures in
     let before = c.bytes.invariant in
     let there = c.finish.new in
-    rw (← before.sink, ← before.trace)
-    (more_cause _ _ _ _ _ _ _ _ _ _ _ _ _ _ _ _ _ _ _ (g.I.Source.faults c.args.input.now) (g.I.Source.faults c.next.new.source) (g.K.Sink.faults c.bytes.out, g.T.Sink.faults c.bytes.trace) (g.K.Sink.faults there.out, g.T.Sink.faults there.trace) (fetch.cause.0 ∙ before.source) c.finish.result by_room c.finish.ensures.takes)
+    more_cause _ _ _ _ _ _ _ _ _ _ _ _ _ _ _ _ _ _ (g.I.Source.faults c.args.input.now) (g.I.Source.faults c.next.new.source) (g.K.Sink.faults c.args.out.now) (g.T.Sink.faults c.args.trace.now) (g.K.Sink.faults c.bytes.out, g.T.Sink.faults c.bytes.trace) (g.K.Sink.faults there.out, g.T.Sink.faults there.trace)
+    (fetch.cause.0 ∙ before.source) before.sink before.trace c.finish.result by_room c.finish.ensures.takes
 
 pub returns-in-Err-clause-cause : goal.returns-in-Err-clause-cause
 returns-in-Err-clause-cause g c =
     let fetch = rw c.in-Ok-Some.field-0-is at c.in-Ok-Some.ensures in
     let before = c.bytes.invariant in
     let there = c.turn-turned.new in
-    rw (← before.sink, ← before.trace)
-    (more_cause _ _ _ _ _ _ _ _ _ _ _ _ _ _ _ _ _ _ _ (g.I.Source.faults c.args.input.now) (g.I.Source.faults c.next.new.source) (g.K.Sink.faults c.bytes.out, g.T.Sink.faults c.bytes.trace) (g.K.Sink.faults there.out, g.T.Sink.faults there.trace) (fetch.cause.0 ∙ before.source) (Err c.in-Err.broken)
-    (by_byte c.bytes.session.pending c.in-Ok-Some.b) c.in-Err.ensures.takes)
+    more_cause _ _ _ _ _ _ _ _ _ _ _ _ _ _ _ _ _ _ (g.I.Source.faults c.args.input.now) (g.I.Source.faults c.next.new.source) (g.K.Sink.faults c.args.out.now) (g.T.Sink.faults c.args.trace.now) (g.K.Sink.faults c.bytes.out, g.T.Sink.faults c.bytes.trace) (g.K.Sink.faults there.out, g.T.Sink.faults there.trace)
+    (fetch.cause.0 ∙ before.source) before.sink before.trace (Err c.in-Err.broken) (by_byte c.bytes.session.pending c.in-Ok-Some.b) c.in-Err.ensures.takes
 
 pub returns-in-Ok-None-clause-quiet : goal.returns-in-Ok-None-clause-quiet
 returns-in-Ok-None-clause-quiet g c =
     let before = c.bytes.invariant in
     let there = c.finish.new in
-    rw (← before.sink, ← before.trace)
-    (more_quiet _ _ _ _ _ _ _ _ _ _ _ _ _ _ _ _ _ _ (g.I.Source.faults c.args.input.now) (g.I.Source.faults c.next.new.source) (g.K.Sink.faults c.bytes.out, g.T.Sink.faults c.bytes.trace) (g.K.Sink.faults there.out, g.T.Sink.faults there.trace) c.finish.result c.finish.ensures.takes)
+    more_quiet _ _ _ _ _ _ _ _ _ _ _ _ _ _ _ _ _ (g.I.Source.faults c.args.input.now) (g.I.Source.faults c.next.new.source) (g.K.Sink.faults c.args.out.now) (g.T.Sink.faults c.args.trace.now) (g.K.Sink.faults c.bytes.out, g.T.Sink.faults c.bytes.trace) (g.K.Sink.faults there.out, g.T.Sink.faults there.trace) before.sink before.trace c.finish.result
+    c.finish.ensures.takes
 
 pub returns-in-Err-clause-quiet : goal.returns-in-Err-clause-quiet
 returns-in-Err-clause-quiet g c =
     let before = c.bytes.invariant in
     let there = c.turn-turned.new in
-    rw (← before.sink, ← before.trace)
-    (more_quiet _ _ _ _ _ _ _ _ _ _ _ _ _ _ _ _ _ _ (g.I.Source.faults c.args.input.now) (g.I.Source.faults c.next.new.source) (g.K.Sink.faults c.bytes.out, g.T.Sink.faults c.bytes.trace) (g.K.Sink.faults there.out, g.T.Sink.faults there.trace) (Err c.in-Err.broken) c.in-Err.ensures.takes)
+    more_quiet _ _ _ _ _ _ _ _ _ _ _ _ _ _ _ _ _ (g.I.Source.faults c.args.input.now) (g.I.Source.faults c.next.new.source) (g.K.Sink.faults c.args.out.now) (g.T.Sink.faults c.args.trace.now) (g.K.Sink.faults c.bytes.out, g.T.Sink.faults c.bytes.trace) (g.K.Sink.faults there.out, g.T.Sink.faults there.trace) before.sink before.trace
+    (Err c.in-Err.broken) c.in-Err.ensures.takes

@@ -1,4 +1,5 @@
-use Rattle.std.proofs.Common.{Err, Ok, refl, true, ◌∙◌, [], ◌∷◌, inl}
+use Rattle.std.proofs.Common.{Err, Ok, Option, refl, true, ◌∙◌, [], ◌∷◌, inl}
+use Rattle.ob_mean.specs.Batches.{Gathering}
 use Rattle.ob_print.proofs.CutLemmas.{Outputs-fault}
 use Rattle.ob_shell.proofs.CountLemmas.{same_cause}
 use Rattle.ob_shell.proofs.GatherLemmas.{are_batched, comes_free}
@@ -29,8 +30,9 @@ returns-in-Ok-clause-takes g c =
     let flushed = comes_by (Ok tt) (λ h free. comes_free (public_of c.args.engine.now) c.args.session.now.batch.items h free) bare in
     let line = c.as_bytes.ensures ∙ c.closing_line.ensures in
     let m = machine_of c.flush.new.engine (g.S.BlockStore.state c.flush.new.store) (g.B.Behind.state c.flush.new.behind) in
-    takes_then flushed (λ h k free closed. tt) (c.args.session.now.pending ∷ []) (Ok tt) (λ h k l free closed then. then)
-    (rw c.tally_with.ensures (takes_misspelt c.args.tracing _ m refl c.args.session.now.pending c.args.at c.requires.spells _ tt flushed.ready (record { source = refl; out = c.in-Ok.ensures.cause.kept; trace = refl }) (rw line at c.in-Ok.ensures.ok) (c.in-Ok.ensures.cause.kept, refl)))
+    rw (c.in_default.ensures.none, c.tally_with-session.ensures)
+    (takes_then flushed (λ h k free closed. tt {0}) (c.args.session.now.pending ∷ []) (Ok tt) (λ h k l free closed then. then)
+    (takes_misspelt c.args.tracing {May = λ (h : Option Gathering). Unit {0}} _ m refl c.args.session.now.pending c.args.at c.requires.spells _ (tt {0}) flushed.ready (record { source = refl; out = c.in-Ok.ensures.cause.kept; trace = refl }) (rw line at c.in-Ok.ensures.ok) (c.in-Ok.ensures.cause.kept, refl)))
 
 pub returns-in-Err-write_all-clause-takes : goal.returns-in-Err-write_all-clause-takes
 returns-in-Err-write_all-clause-takes g c =
@@ -38,5 +40,5 @@ returns-in-Err-write_all-clause-takes g c =
     let flushed = comes_by (Ok tt) (λ h free. comes_free (public_of c.args.engine.now) c.args.session.now.batch.items h free) bare in
     let line = c.as_bytes.ensures ∙ c.closing_line.ensures in
     let m = machine_of c.flush.new.engine (g.S.BlockStore.state c.flush.new.store) (g.B.Behind.state c.flush.new.behind) in
-    takes_then flushed (λ h k free closed. tt) (c.args.session.now.pending ∷ []) (Err (record { stop = SinkFault; quiet = true })) (λ h k l free closed then. then)
-    (loses_misspelt c.args.tracing _ m refl c.args.session.now.pending c.args.at c.requires.spells _ _ refl ((λ alone. refl, inl refl), inl c.in-Err-write_all.ensures.cause.failed) (Outputs-fault (refl, c.in-Err-write_all.ensures.cause.failed) (rw line at c.in-Err-write_all.ensures.cut)) (inl c.in-Err-write_all.ensures.cause.failed))
+    takes_then flushed (λ h k free closed. tt {0}) (c.args.session.now.pending ∷ []) (Err (record { stop = SinkFault; quiet = true })) (λ h k l free closed then. then)
+    (loses_misspelt c.args.tracing {May = λ (h : Option Gathering). Unit {0}} _ m refl c.args.session.now.pending c.args.at c.requires.spells _ _ refl ((λ alone. refl, inl refl), inl c.in-Err-write_all.ensures.cause.failed) (Outputs-fault (refl, c.in-Err-write_all.ensures.cause.failed) (rw line at c.in-Err-write_all.ensures.cut)) (inl c.in-Err-write_all.ensures.cause.failed))

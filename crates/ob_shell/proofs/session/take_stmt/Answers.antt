@@ -1,4 +1,4 @@
-use Rattle.std.proofs.Common.{◌≡◌, List, Ok, [], ◌∷◌, ◌∙◌, ap, false, sym, true}
+use Rattle.std.proofs.Common.{◌≡◌, List, Ok, [], ◌∷◌, ◌∙◌, ap, false, sym}
 use Rattle.ob_shell.proofs.CountLemmas.{same_cause}
 use Rattle.ob_shell.proofs.GatherLemmas.{are_batched, comes_free, free_behind, free_more, goes_more, idle_public}
 use Rattle.ob_shell.proofs.TakesLemmas.{comes_by, takes_broken, takes_more_by, takes_more_then}
@@ -39,10 +39,11 @@ returns-in-Ok-clause-takes g c =
     let batch = c.args.session.now.batch.items in
     let apart : goes_along batch c.args.stmt ≡ false = sym (c.goes_along.ensures ∙ ap (λ (l : List Stmt). goes_along l c.args.stmt) c.as_slice.ensures.value) ∙ c.if-goes_along.false in
     let bare = rw c.in-Ok.ensures.none at c.in-Ok.ensures.takes in
+    let begun = rw c.flush.ensures.pending at c.begin.ensures.takes in
     let flushed = comes_by (Ok tt) (λ h free. comes_free (public_of e) batch h free) bare in
     takes_more_then flushed
     (λ h k free closed. free_behind (public_of e) (public_of c.flush.new.engine) (count_of e (g.S.BlockStore.state c.args.store.now)) batch c.args.stmt h k c.requires.waits apart (λ none. idle_public flushed h free none) free closed)
-    (λ h k l free closed then. then) (c.args.session.now.pending ∷ []) _ _ _ _ _ _ _ _ c.begin.result c.begin.ensures.takes
+    (λ h k l free closed then. then) (c.args.session.now.pending ∷ []) _ _ _ _ _ _ _ _ c.begin.result begun
 
 pub returns-in-Err-clause-takes : goal.returns-in-Err-clause-takes
 returns-in-Err-clause-takes g c =

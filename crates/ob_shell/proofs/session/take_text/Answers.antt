@@ -1,4 +1,5 @@
-use Rattle.std.proofs.Common.{refl, subst}
+use Rattle.std.proofs.Common.{Err, List, refl, subst, ℕ}
+use Rattle.ob_headline.specs.Statements.{Spells}
 use Rattle.ob_parse.specs.Refusal.{IsRefused}
 use Rattle.ob_parse.specs.declared.parser.ParseErr.{ParseErr}
 use Rattle.ob_token.specs.Tokens.{tokens_of}
@@ -10,7 +11,9 @@ use Rattle.ob_shell.proofs.session.take_text.Goals as goal
 
 pub take_misspelt-taken-requires : goal.take_misspelt-taken-requires
 take_misspelt-taken-requires g c = record {
-  spells = subst (λ (e : ParseErr). IsRefused c.args.session.now.pending (tokens_of c.args.session.now.pending) e) c.in-Syntax.is c.in-Err.ensures.refused;
+  spells =
+      subst (λ (l : List ℕ). Spells l (Err c.in-Syntax.at)) c.text.ensures
+      (subst (λ (e : ParseErr). IsRefused c.text.result.now (tokens_of c.text.result.now) e) c.in-Syntax.is c.in-Err.ensures.refused);
   waits = c.requires.waits;
   ready = c.requires.ready;
   took = c.requires.took;
