@@ -14,18 +14,18 @@
 # than an empty slot. Hash has buckets of one block (--depth 1), so that a measure takes seconds and not minutes.
 #
 # SELECTs of 2 to 60,000 rows of a full table are measured with `--plan cheapest`, `auto` and the plans that may be forced:
-# `cheapest` takes at most 1.1 times as long as the best of these. Each way has a run of its own over tables that are kept in
-# files; they are filled with `--batch`, and where the program doesn't take that word this part is left out.
+# `cheapest` takes at most 1.1 times as long as the best of these. Each way has a run of its own over a copy of tables that are
+# kept in files, and all runs are asked in turn; the tables are filled with `--batch`.
 #
 # usage: bench/statements.sh [both|time|count] [ROUNDS]     (without them: both, in 15 rounds)
-# Needs `rt` (bench/build.sh), python3 and 200 MB, and 300 MB of files; `valgrind` for the second measure. Takes fifteen
+# Needs `rt` (bench/build.sh), python3 and 400 MB, and 500 MB of files; `valgrind` for the second measure. Takes fifteen
 # minutes once the programs are built, and twenty processor minutes more with valgrind.
 set -eu
 top=$(cd "$(dirname "$0")/.." && pwd)
 "$top/bench/build.sh" oblitrace oblidb ob_pass_bench
 
 PYTHONPATH="$top/bench" python3 - "$top" "${1:-both}" "${2:-15}" <<'PY'
-import concurrent.futures, os, re, shutil, subprocess, sys, tempfile
+import concurrent.futures, glob, os, re, shutil, subprocess, sys, tempfile
 from driven import Passes, Session, machine, quartiles
 
 top, measures = sys.argv[1:3]
@@ -234,6 +234,8 @@ if rounds:
 
 # ---- SELECTs of rows by how their plans are chosen: the rows of a full table lie side by side by their ids, and apart by v
 COUNTS = (2, 300, 5_000, 30_000, 60_000)
+PLANS = ("cheapest", "auto", "small", "large", "continuous")
+PLANNED = 7
 LIES = {"side by side": "id", "apart": "v"}
 
 def up(a, b):
@@ -252,34 +254,37 @@ def forced(pack, k, lie):
 def kept(store, pack, *words):
     return Session(KEEPING, "--keep", "--store", store, "--pack", str(pack), *words)
 
-# The least milliseconds of each SELECT, by its way, how the rows lie and how many they are.
-def all_planned(store, pack):
-    filling = kept(store, pack, "--buffer", "65536", "--batch", "65535")
+# The least milliseconds of each SELECT, by its way, how the rows lie and how many they are: in each round all ways in turn, each
+# over a copy of the full table.
+def all_planned(folder, pack):
+    filling = kept(f"{folder}/full", pack, "--buffer", "65536", "--batch", "65535")
     filling.serve(f"CREATE TABLE t (id INT PRIMARY KEY, v INT) CAPACITY {SLOTS};")
     # (the last rows are answered with what follows them)
     filling.serve_all([*[f"INSERT INTO t VALUES ({n}, {n * 40503 % SLOTS});" for n in range(SLOTS)], "SELECT COUNT(*) FROM t;"])
     filling.end()
-    found = {}
-    for plan in ("cheapest", "auto", "small", "large", "continuous"):
-        session = kept(store, pack, "--buffer", str(ROWS), "--plan", plan)
-        for lie, column in LIES.items():
-            for k in COUNTS:
-                if plan in ("cheapest", "auto") or plan in forced(pack, k, lie):
-                    # (`auto` may take seconds, and has no limit; of others the first round warms up)
-                    found[plan, lie, k] = min(session.serve(f"SELECT * FROM t WHERE {column} < {k};")[1] for _ in range(1 if plan == "auto" else 5))
+    sessions, found = {}, {}
+    for plan in PLANS:
+        for name in glob.glob(f"{folder}/full*"):
+            shutil.copy(name, name.replace(f"{folder}/full", f"{folder}/{plan}", 1))
+        sessions[plan] = kept(f"{folder}/{plan}", pack, "--buffer", str(ROWS), "--plan", plan)
+    for lie, column in LIES.items():
+        for k in COUNTS:
+            ways = ["cheapest", "auto", *forced(pack, k, lie)]
+            # (the first round warms up; `auto` may take seconds, and has no limit)
+            for n in range(1 + PLANNED):
+                for plan in ways if n == 0 else [it for it in ways if it != "auto"]:
+                    spent = sessions[plan].serve(f"SELECT * FROM t WHERE {column} < {k};")[1]
+                    found[plan, lie, k] = spent if n < 2 else min(spent, found[plan, lie, k])
+    for session in sessions.values():
         session.end()
     return found
 
-with tempfile.TemporaryDirectory() as folder:
-    batches = subprocess.run([KEEPING, "--batch", "2"], input="0" * 64 + "\n", capture_output=True, text=True, cwd=folder).returncode != 2
-if rounds and not batches:
-    print(f"\nSELECTs of rows by how their plans are chosen: {KEEPING} takes no --batch, so that no full table is made.")
-elif rounds:
+if rounds:
     print(f"\nSELECTs of k of {SLOTS:,} rows, `cheapest` beside the best plan that is forced, limit 1.1, and `auto` beside it:\n")
     print("| k | they lie | rows of a block | `cheapest`, ms | the best, ms | ratio | `auto`, ms | its ratio | |\n|---:|---|---:|---:|---|---:|---:|---:|---|")
     for pack in (1, 8, 16):
         with tempfile.TemporaryDirectory() as folder:
-            found = all_planned(f"{folder}/full", pack)
+            found = all_planned(folder, pack)
         for lie in LIES:
             for k in COUNTS:
                 spent, auto = found["cheapest", lie, k], found["auto", lie, k]
