@@ -15,7 +15,7 @@
 #
 # SELECTs of 2 to 60,000 rows of a full table are measured with `--plan cheapest`, `auto` and the plans that may be forced:
 # `cheapest` takes at most 1.1 times as long as the best of these. Each way has a run of its own over a copy of tables that are
-# kept in files, and all runs are asked in turn; the tables are filled with `--batch`.
+# kept in files, and all runs are asked in turn; the ratio is the median of the rounds'. The tables are filled with `--batch`.
 #
 # usage: bench/statements.sh [both|time|count] [ROUNDS]     (without them: both, in 15 rounds)
 # Needs `rt` (bench/build.sh), python3 and 400 MB, and 500 MB of files; `valgrind` for the second measure. Takes fifteen
@@ -25,7 +25,7 @@ top=$(cd "$(dirname "$0")/.." && pwd)
 "$top/bench/build.sh" oblitrace oblidb ob_pass_bench
 
 PYTHONPATH="$top/bench" python3 - "$top" "${1:-both}" "${2:-15}" <<'PY'
-import concurrent.futures, glob, os, re, shutil, subprocess, sys, tempfile
+import concurrent.futures, glob, os, re, shutil, statistics, subprocess, sys, tempfile
 from driven import Passes, Session, machine, quartiles
 
 top, measures = sys.argv[1:3]
@@ -235,7 +235,7 @@ if rounds:
 # ---- SELECTs of rows by how their plans are chosen: the rows of a full table lie side by side by their ids, and apart by v
 COUNTS = (2, 300, 5_000, 30_000, 60_000)
 PLANS = ("cheapest", "auto", "small", "large", "continuous")
-PLANNED = 7
+PLANNED = 9
 LIES = {"side by side": "id", "apart": "v"}
 
 def up(a, b):
@@ -254,9 +254,10 @@ def forced(pack, k, lie):
 def kept(store, pack, *words):
     return Session(KEEPING, "--keep", "--store", store, "--pack", str(pack), *words)
 
-# The least milliseconds of each SELECT, by its way, how the rows lie and how many they are: in each round all ways in turn, each
-# over a copy of the full table.
+# The milliseconds of each SELECT in each round, by its way, how the rows lie and how many they are: in a round all ways in turn,
+# each over a copy of the full table, and all on one processor, since one may be slower than another.
 def all_planned(folder, pack):
+    os.sched_setaffinity(0, {max(os.sched_getaffinity(0))})
     filling = kept(f"{folder}/full", pack, "--buffer", "65536", "--batch", "65535")
     filling.serve(f"CREATE TABLE t (id INT PRIMARY KEY, v INT) CAPACITY {SLOTS};")
     # (the last rows are answered with what follows them)
@@ -274,7 +275,7 @@ def all_planned(folder, pack):
             for n in range(1 + PLANNED):
                 for plan in ways if n == 0 else [it for it in ways if it != "auto"]:
                     spent = sessions[plan].serve(f"SELECT * FROM t WHERE {column} < {k};")[1]
-                    found[plan, lie, k] = spent if n < 2 else min(spent, found[plan, lie, k])
+                    found.setdefault((plan, lie, k), []).append(spent)
     for session in sessions.values():
         session.end()
     return found
@@ -287,11 +288,12 @@ if rounds:
             found = all_planned(folder, pack)
         for lie in LIES:
             for k in COUNTS:
-                spent, auto = found["cheapest", lie, k], found["auto", lie, k]
-                best, plan = min((found[plan, lie, k], plan) for plan in forced(pack, k, lie))
-                is_over = spent / best > 1.1
+                spent, auto = found["cheapest", lie, k][1:], found["auto", lie, k][0]
+                best, plan = min((min(found[plan, lie, k][1:]), plan) for plan in forced(pack, k, lie))
+                ratio = statistics.median(a / b for a, b in zip(spent, found[plan, lie, k][1:]))
+                is_over = ratio > 1.1
                 over_limit += is_over
-                print(f"| {k:,} | {lie} | {pack} | {spent:.1f} | {best:.1f}, `{plan}` | {spent / best:.2f} | {auto:.1f} | {auto / best:.2f} | {'OVER' if is_over else 'OK'} |", flush=True)
+                print(f"| {k:,} | {lie} | {pack} | {min(spent):.1f} | {best:.1f}, `{plan}` | {ratio:.2f} | {auto:.1f} | {auto / best:.2f} | {'OVER' if is_over else 'OK'} |", flush=True)
 
 # ---- from how many keys on an index is the faster one: the milliseconds of a statement, one of these four in turn
 def of_four(capacity, words, tail=""):
