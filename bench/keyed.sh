@@ -3,8 +3,7 @@
 # that it has and some that it hasn't. Each answer is compared with what a map says. Ends with 1 at the first that differs.
 #
 # usage: bench/keyed.sh [STATEMENTS]     (a million without it)
-# Needs `rt` (bench/build.sh), python3, and 1,500 bytes of memory for each statement, for the log of its accesses. Takes ten
-# minutes once the program is built.
+# Needs `rt` (bench/build.sh) and python3. Takes ten minutes once the program is built.
 set -eu
 top=$(cd "$(dirname "$0")/.." && pwd)
 "$top/bench/build.sh" oblitrace

@@ -1,9 +1,8 @@
 #!/bin/sh
 # Serves an input as long as one may be, 1,073,741,823 bytes of short texts, and one a hundredth as long, and prints the
-# peak of memory of both: texts are served one by one, and nothing is kept of one that asks nothing of the store. Of one
-# that does, the log of accesses keeps its runs, 40 bytes each; so a third input, of 100,000 statements that each ask one
-# run, shows what that comes to. Ends with 1 where the long input takes 256 KB more than the short one, a run more than 48
-# bytes, or where an answer is missing.
+# peak of memory of both: texts are served one by one, and nothing is kept of one. A third input is of 100,000 statements
+# that each ask something of the store. Ends with 1 where the long input, or the third one, takes 256 KB more than the short
+# one, or where an answer is missing.
 #
 # Needs `rt` (bench/build.sh) and python3. Takes half a minute once the program is built.
 set -eu
@@ -63,9 +62,8 @@ failed |= peaks[1] > peaks[0] + 256
 COUNT = 100_000
 made = b"CREATE TABLE t (id INT) CAPACITY 2;\n"
 status, lines, peak = served([SECRET, made, *[b"SELECT COUNT(*) FROM t;\n" * 1000] * (COUNT // 1000)])
-run = (peak - peaks[0]) * 1024 / COUNT
 well = (status, lines) == (0, 1 + 3 * COUNT)
-failed |= not well or run > 48
-print(f"{COUNT:,} statements with one run of accesses each: at most {peak:,} KB, {run:.0f} bytes for each{'' if well else ', WRONG'}")
+failed |= not well or peak > peaks[0] + 256
+print(f"{COUNT:,} statements that ask for an access each: at most {peak:,} KB{'' if well else ', WRONG'}")
 sys.exit(failed)
 PY

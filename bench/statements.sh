@@ -13,20 +13,24 @@
 # Both tables hold the same few rows: how many rows a table has changes no access, and a row that is there takes no less
 # than an empty slot. Hash has buckets of one block (--depth 1), so that a measure takes seconds and not minutes.
 #
+# SELECTs of 2 to 60,000 rows of a full table are measured with `--plan cheapest`, `auto` and the plans that may be forced:
+# `cheapest` takes at most 1.1 times as long as the best of these. Each way has a run of its own over a copy of tables that are
+# kept in files, and all runs are asked in turn; the ratio is the median of the rounds'. The tables are filled with `--batch`.
+#
 # usage: bench/statements.sh [both|time|count] [ROUNDS]     (without them: both, in 15 rounds)
-# Needs `rt` (bench/build.sh), python3 and 200 MB; `valgrind` for the second measure. Takes seven minutes once the programs
-# are built, and twenty processor minutes more with valgrind.
+# Needs `rt` (bench/build.sh), python3 and 400 MB, and 500 MB of files; `valgrind` for the second measure. Takes fifteen
+# minutes once the programs are built, and twenty processor minutes more with valgrind.
 set -eu
 top=$(cd "$(dirname "$0")/.." && pwd)
-"$top/bench/build.sh" oblitrace ob_pass_bench
+"$top/bench/build.sh" oblitrace oblidb ob_pass_bench
 
 PYTHONPATH="$top/bench" python3 - "$top" "${1:-both}" "${2:-15}" <<'PY'
-import concurrent.futures, os, re, shutil, subprocess, sys, tempfile
+import concurrent.futures, glob, os, re, shutil, statistics, subprocess, sys, tempfile
 from driven import Passes, Session, machine, quartiles
 
 top, measures = sys.argv[1:3]
 rounds = 0 if measures == "count" else int(sys.argv[3])
-PROGRAM, PASSES = (f"{top}/crates/{name}/out/{name}" for name in ("oblitrace", "ob_pass_bench"))
+PROGRAM, KEEPING, PASSES = (f"{top}/crates/{name}/out/{name}" for name in ("oblitrace", "oblidb", "ob_pass_bench"))
 SLOTS, WIDTH, JOINED, ROWS, FULL, K, LEFT = 65536, 17, 33, 64, 4, 2, 32
 LIMIT = 1.3
 
@@ -227,6 +231,69 @@ if rounds:
             is_over = spent / alone > (1.2 if name == "CREATE" else 1.4)
             over_limit += is_over
             print(f"| {name} | {stash} | {spent:.3f} | {alone:.3f} | {spent / alone:.2f} | {low:.2f} to {high:.2f} | {'OVER' if is_over else 'OK'} |", flush=True)
+
+# ---- SELECTs of rows by how their plans are chosen: the rows of a full table lie side by side by their ids, and apart by v
+COUNTS = (2, 300, 5_000, 30_000, 60_000)
+PLANS = ("cheapest", "auto", "small", "large", "continuous")
+PLANNED = 9
+LIES = {"side by side": "id", "apart": "v"}
+
+def up(a, b):
+    return -(-a // b)
+
+# How many accesses the result of k rows takes.
+def asked_by(plan, pack, k):
+    table, result, kept = up(SLOTS, pack), up(k, pack), (ROWS - 2 * pack) // pack * pack
+    return {"small": up(k, kept) * table + 2 * result, "continuous": table + 2 * SLOTS + 2 * result, "large": 5 * table}[plan]
+
+# The plans to be forced for such rows; those that ask for more than three times as much as the least one would take minutes.
+def forced(pack, k, lie):
+    plans = {plan: asked_by(plan, pack, k) for plan in ("small", "large", *(["continuous"] if lie == "side by side" else []))}
+    return [plan for plan, asked in plans.items() if asked <= 3 * min(plans.values())]
+
+def kept(store, pack, *words):
+    return Session(KEEPING, "--keep", "--store", store, "--pack", str(pack), *words)
+
+# The milliseconds of each SELECT in each round, by its way, how the rows lie and how many they are: in a round all ways in turn,
+# each over a copy of the full table, and all on one processor, since one may be slower than another.
+def all_planned(folder, pack):
+    os.sched_setaffinity(0, {max(os.sched_getaffinity(0))})
+    filling = kept(f"{folder}/full", pack, "--buffer", "65536", "--batch", "65535")
+    filling.serve(f"CREATE TABLE t (id INT PRIMARY KEY, v INT) CAPACITY {SLOTS};")
+    # (the last rows are answered with what follows them)
+    filling.serve_all([*[f"INSERT INTO t VALUES ({n}, {n * 40503 % SLOTS});" for n in range(SLOTS)], "SELECT COUNT(*) FROM t;"])
+    filling.end()
+    sessions, found = {}, {}
+    for plan in PLANS:
+        for name in glob.glob(f"{folder}/full*"):
+            shutil.copy(name, name.replace(f"{folder}/full", f"{folder}/{plan}", 1))
+        sessions[plan] = kept(f"{folder}/{plan}", pack, "--buffer", str(ROWS), "--plan", plan)
+    for lie, column in LIES.items():
+        for k in COUNTS:
+            ways = ["cheapest", "auto", *forced(pack, k, lie)]
+            # (the first round warms up; `auto` may take seconds, and has no limit)
+            for n in range(1 + PLANNED):
+                for plan in ways if n == 0 else [it for it in ways if it != "auto"]:
+                    spent = sessions[plan].serve(f"SELECT * FROM t WHERE {column} < {k};")[1]
+                    found.setdefault((plan, lie, k), []).append(spent)
+    for session in sessions.values():
+        session.end()
+    return found
+
+if rounds:
+    print(f"\nSELECTs of k of {SLOTS:,} rows, `cheapest` beside the best plan that is forced, limit 1.1, and `auto` beside it:\n")
+    print("| k | they lie | rows of a block | `cheapest`, ms | the best, ms | ratio | `auto`, ms | its ratio | |\n|---:|---|---:|---:|---|---:|---:|---:|---|")
+    for pack in (1, 8, 16):
+        with tempfile.TemporaryDirectory() as folder:
+            found = all_planned(folder, pack)
+        for lie in LIES:
+            for k in COUNTS:
+                spent, auto = found["cheapest", lie, k][1:], found["auto", lie, k][0]
+                best, plan = min((min(found[plan, lie, k][1:]), plan) for plan in forced(pack, k, lie))
+                ratio = statistics.median(a / b for a, b in zip(spent, found[plan, lie, k][1:]))
+                is_over = ratio > 1.1
+                over_limit += is_over
+                print(f"| {k:,} | {lie} | {pack} | {min(spent):.1f} | {best:.1f}, `{plan}` | {ratio:.2f} | {auto:.1f} | {auto / best:.2f} | {'OVER' if is_over else 'OK'} |", flush=True)
 
 # ---- from how many keys on an index is the faster one: the milliseconds of a statement, one of these four in turn
 def of_four(capacity, words, tail=""):

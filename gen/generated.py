@@ -48,8 +48,10 @@ def text(start, rows):
 class Run:
     """What is asked and counted of one run."""
 
-    def __init__(self, buffer=64, depth=5, pack=1, plan="auto", pad=None):
+    def __init__(self, buffer=64, depth=5, pack=1, plan="auto", pad=None, batch=1):
         self.pack, self.depth, self.plan, self.pad = pack, depth, plan, pad
+        # how many INSERTs are served together
+        self.batch = min(batch, buffer - pack)
         self.chunk = (buffer - 2 * pack) // pack * pack
         self.asked, self.next = [], 1
         self.statements = self.refused = self.rows = 0
@@ -180,6 +182,8 @@ class Run:
                 else "large" if 3 * slots <= 4 * k
                 else "hash"
             )
+        if plan == "cheapest":
+            plan = self.cheapest(slots, k, together)
         if plan == "continuous" and not together:
             return False
         self.plans[plan] += 1
@@ -194,6 +198,18 @@ class Run:
                 return False
             self.small(region, slots, width, k)
         return True
+
+    def cheapest(self, slots, k, together):
+        """The plan that asks least, the first of those that ask as much."""
+        table, result = self.blocks(slots), self.blocks(k)
+        asked = {
+            "small": 1 + up(k, self.chunk) * table + result + result + 1,
+            "continuous": 1 + result + table + 2 * slots + result + 1,
+            "large": 1 + 4 * table + table + 1,
+        }
+        if not together:
+            del asked["continuous"]
+        return min(asked, key=asked.get)
 
     def join(self, left, lefts, right, rights, width, selected):
         """A SELECT over a join, of which these pairs are selected: whether it was answered."""
@@ -212,7 +228,8 @@ class Run:
     def padded(self, region, slots, width, k):
         """A result of as many rows as the others are padded to, whatever is selected."""
         rows = min(self.pad, slots)
-        if self.plan == "large" or (self.plan == "auto" and rows > 4 * self.chunk):
+        by_large = {"auto": rows > 4 * self.chunk, "cheapest": self.cheapest(slots, rows, False) == "large", "large": True, "small": False}
+        if by_large[self.plan]:
             self.large(region, slots, width)
         else:
             self.small(region, slots, width, rows)
@@ -229,11 +246,11 @@ class Run:
         """The statements of the generated text."""
         g = self.create(n, 17)
         self.count(True)
-        held = []
-        for i, v in enumerate(digits(start, n)):
+        held = [[i + 1, v] for i, v in enumerate(digits(start, n))]
+        for first in range(0, n, self.batch):
             g = self.insert(g, n, 17)
-            held.append([i + 1, v])
-            self.count(True)
+            for _ in held[first : first + self.batch]:
+                self.count(True)
         for test in (lambda row: row[1] == 3, lambda row: row[0] > n // 4, lambda row: row[1] != 9):
             selected = [i for i, row in enumerate(held) if test(row)]
             self.count(self.select(g, n, 17, selected), len(selected))
@@ -315,27 +332,22 @@ def counted(name, start, rows, words="", traced=False, **settings):
     return case(name, words, run.summary(), 1 if run.refused else 0, *more)
 
 
-def failed():
-    """The first INSERT fails at its first access, and what follows finds an empty table."""
+def failed(name, rows, words=""):
+    """The first INSERT, with those in its batch, fails at its first access, and what follows finds an empty table."""
     run = Run()
-    g = run.create(1, 17)
-    run.make(1, 17)
+    g = run.create(rows, 17)
+    run.make(rows, 17)
+    at = len(run.asked)
     for _ in range(4):
-        run.scan(g, 1)
-    g = run.move(run.move(g, 1, 17), 1, 17)
+        run.scan(g, rows)
+    g = run.move(run.move(g, rows, 17), rows, 17)
     h = run.insert(run.create(4, 9), 4, 9)
-    joined = run.make(4, 25)
-    run.read(g, 0)
-    for v in range(4):
-        run.read(h, v)
-        run.write(joined, v)
-    run.scan(joined, 4)
-    run.discard(joined)
-    run.scan(g, 1)
+    run.join(g, rows, h, 4, 25, [])
+    run.scan(g, rows)
     run.discard(g)
     run.discard(h)
-    run.statements, run.refused, run.rows = 14, 1, 1
-    return case("an access fails", "--gen 0,1 --meddle 3:fail", run.summary(), 1)
+    run.statements, run.refused, run.rows = 13 + rows, rows, 1
+    return case(name, f"--gen 0,{rows}{words} --meddle {at}:fail", run.summary(), 1)
 
 
 def at_limit(start, rows):
@@ -365,14 +377,29 @@ def main():
         counted("forty rows, three in a block", 5, 40, " --buffer 10 --pack 3", buffer=10, pack=3),
         counted("a hundred rows by each plan, and by Small behind Hash", 2, 100, " --buffer 4 --depth 1", buffer=4, depth=1),
         counted("the same with deeper buckets", 2, 100, " --buffer 4", buffer=4),
+        counted("the least table, by what asks least", 0, 1, " --plan cheapest", traced=True, plan="cheapest"),
+        counted("twelve rows by what asks least", 0, 12, " --buffer 4 --plan cheapest", traced=True, buffer=4, plan="cheapest"),
+        counted("forty rows by what asks least", 5, 40, " --buffer 4 --plan cheapest", buffer=4, plan="cheapest"),
+        counted("a hundred rows by what asks least", 2, 100, " --buffer 4 --depth 1 --plan cheapest", buffer=4, depth=1, plan="cheapest"),
+        counted("the same with two rows in a block", 2, 100, " --buffer 7 --pack 2 --plan cheapest", buffer=7, pack=2, plan="cheapest"),
+        counted("the same with sixteen", 2, 100, " --buffer 64 --pack 16 --plan cheapest", buffer=64, pack=16, plan="cheapest"),
         counted("twelve rows, padded to as many", 0, 12, " --pad 12 --buffer 4", traced=True, pad=12, buffer=4),
         counted("twelve rows, padded to as many as four of Small", 0, 12, " --pad 8 --buffer 4", pad=8, buffer=4),
         counted("twelve rows, padded to one more, by Large", 0, 12, " --pad 9 --buffer 4", pad=9, buffer=4),
         counted("twelve rows, padded to two, which some results pass", 0, 12, " --pad 2", traced=True, pad=2),
         counted("forty rows, padded to more than there are, three in a block", 5, 40, " --pad 1048576 --buffer 10 --pack 3", pad=1048576, buffer=10, pack=3),
+        counted("twelve rows, padded to six, by what asks least", 0, 12, " --pad 6 --buffer 4 --plan cheapest", pad=6, buffer=4, plan="cheapest"),
+        counted("twelve rows, padded to eight, by what asks least", 0, 12, " --pad 8 --buffer 4 --plan cheapest", pad=8, buffer=4, plan="cheapest"),
+        counted("forty rows, padded, by what asks least, three in a block", 5, 40, " --pad 24 --buffer 10 --pack 3 --plan cheapest", pad=24, buffer=10, pack=3, plan="cheapest"),
         counted("twelve rows, padded, by Large", 0, 12, " --pad 12 --plan large", pad=12, plan="large"),
         counted("twelve rows, padded, by Small", 0, 12, " --pad 12 --plan small", pad=12, plan="small"),
-        failed(),
+        counted("a batch of one row", 0, 1, " --batch 2", traced=True, batch=2),
+        counted("twelve rows in batches of five", 0, 12, " --batch 5", traced=True, batch=5),
+        counted("twelve rows in one batch", 7, 12, " --batch 12", batch=12),
+        counted("forty rows in batches of as many as may be open, three in a block", 5, 40, " --batch 65535 --buffer 10 --pack 3", buffer=10, pack=3, batch=65535),
+        counted("a hundred rows in batches, padded", 2, 100, " --batch 64 --buffer 32 --pad 8", buffer=32, pad=8, batch=64),
+        failed("an access fails", 1),
+        failed("an access of a batch fails", 3, " --batch 4"),
         case("a block is changed: the last line alone", "--gen 0,1 --meddle 8:flip:2.0.0", ["! tampered 2 0"], 4, "total 8"),
         case("a text longer than its limit", "--gen 0,4096 --max-input 1024", ["! input limit"], 8),
         *at_limit(3, 20),

@@ -387,7 +387,7 @@ def other_columns():
 def plans():
     """An index is selected from by no plan, and padded by nothing."""
     found = []
-    for words in ("small", "large", "continuous", "hash --depth 1"):
+    for words in ("cheapest", "small", "large", "continuous", "hash --depth 1"):
         found.append(planned(f"an index beside the plan {words}", f"--plan {words}"))
     for words in ("--pad 1", "--pad 2 --plan large"):
         found.append(planned(f"an index beside {words}", words))

@@ -89,8 +89,8 @@ def main():
     cases = []
     for pack in BUFFERS:
         rows = "" if pack == 1 else f", {pack} rows in a block"
-        for plan in ("auto", "small", "large"):
-            by = f"{rows}" if plan == "auto" else f"{rows}, by {plan.capitalize()}"
+        for plan, named in (("auto", ""), ("cheapest", ", by what asks least"), ("small", ", by Small"), ("large", ", by Large")):
+            by = f"{rows}{named}"
             cases += alike([
                 selected(f"none of two{by}", " WHERE v = 99", lambda row: row[1] == 99, 2, pack, plan),
                 selected(f"two of two{by}", " WHERE v = 10", lambda row: row[1] == 10, 2, pack, plan),

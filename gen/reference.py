@@ -1,25 +1,31 @@
 #!/usr/bin/env python3
-"""Writes crates/ob_cases/data/reference.case and reference_indexed.case: sessions made from the grammar at random (always the
-same ones), those of the second file over indexes, too, with the answers of the plain evaluator, which the program of
-crates/ob_answers prints. No answer of the engine goes into them.
+"""Writes crates/ob_cases/data/reference.case, reference_indexed.case and reference_batched.case: sessions made from the grammar
+at random (always the same ones), those of the second file over indexes, too, those of the third with runs of INSERTs, each with
+and without --batch, with the answers of the plain evaluator, which the program of crates/ob_answers prints. How many accesses
+those of the third ask is counted from docs/SPECIFICATION.md. No answer of the engine goes into them.
 
 usage: gen/reference.py [PATH-OF-ob_answers]
 
-Needs that program (bench/build.sh ob_answers builds it: crates/ob_answers/out/ob_answers), and takes twenty seconds.
+Needs that program (bench/build.sh ob_answers builds it: crates/ob_answers/out/ob_answers), and takes a minute.
 """
 import pathlib
 import random
+import re
 import subprocess
 import sys
+
+from generated import Run
 
 SESSIONS = 240
 TOP = pathlib.Path(__file__).resolve().parent.parent
 DATA = TOP / "crates/ob_cases/data"
 
 # The rows that may be open, those of a block, and the plan: each session has one of these.
-SETTINGS = [(64, 1, ""), (4, 1, ""), (7, 2, ""), (16, 4, ""), (10, 3, ""), (64, 16, ""), (8, 1, "small"), (8, 2, "large"), (5, 1, "")]
+SETTINGS = [(64, 1, ""), (4, 1, ""), (7, 2, ""), (16, 4, ""), (10, 3, "cheapest"), (64, 16, ""), (8, 1, "small"), (8, 2, "large"), (5, 1, "cheapest")]
 # The same over indexes, and the slots of a stash: each has room for all keys of any index that the open rows are enough for.
-INDEXED_SETTINGS = [(64, 1, "", 32), (64, 16, "", 32), (25, 1, "", 8), (17, 2, "small", 4), (80, 8, "large", 24), (49, 3, "", 24)]
+INDEXED_SETTINGS = [(64, 1, "", 32), (64, 16, "", 32), (25, 1, "", 8), (17, 2, "small", 4), (80, 8, "large", 24), (49, 3, "cheapest", 24)]
+# And with runs of INSERTs: how many are served together, and a plan whose accesses follow from the number of rows.
+BATCHED_SETTINGS = [(64, 1, "small", 4), (4, 1, "small", 65535), (7, 2, "large", 65535), (16, 4, "small", 2), (10, 3, "large", 3), (64, 16, "small", 8), (8, 1, "small", 2), (5, 1, "large", 4), (49, 16, "small", 65535)]
 NAMES = ["id", "v", "w", "name", "city", "total", "k1", "_x"]
 WORDS = ["", "a", "ab", "it's", "Zoe", "x y", "--no comment", "a;b", "zzzzzzzzzzzz"]
 
@@ -245,33 +251,133 @@ class IndexedMaker(Maker):
         return f" {self.word('WHERE')} " + (f"({asked})" if self.chance(10) else asked)
 
 
+class BatchedMaker(Maker):
+    """The same with runs of INSERTs, most of which go into the table of the statement before."""
+
+    def __init__(self, seed):
+        super().__init__(seed)
+        self.last, self.stays = None, False
+
+    def table(self):
+        if not (self.stays and self.last in self.tables):
+            self.last = super().table()
+        return self.last
+
+    def insert(self):
+        self.stays = self.chance(90)
+        made = super().insert()
+        self.stays = False
+        return made
+
+    def statement(self, n):
+        return self.insert() if n > 1 and self.chance(60) else super().statement(n)
+
+
+class Counted(Run):
+    """How many accesses texts ask, by what they are answered."""
+
+    INSERT = re.compile(r"insert\s+into\s+(\w+)", re.I)
+    CHANGE = re.compile(r"(?:update|delete\s+from)\s+(\w+)", re.I)
+    SELECT = re.compile(r"select\s.*?\sfrom\s+(\w+)(?:\s+(?:inner\s+)?join\s+(\w+))?", re.I | re.S)
+    TOTALS = re.compile(r"(?:count|sum|min|max)\s*\(|group\s+by", re.I)
+
+    def __init__(self, **settings):
+        super().__init__(**settings)
+        self.held, self.into, self.texts = {}, None, 0
+
+    def serve(self, text, kind, last):
+        """A text, and the last line that it is answered."""
+        text = re.sub(r"--[^\n]*\n", " ", text)
+        early = last[:3] in ("E01", "E02", "E03", "E04", "E05", "E06", "E07", "E08", "E09")
+        inserts = self.INSERT.match(text) if last[:3] != "E01" else None
+        if inserts and inserts[1].lower() == self.into and self.texts < self.batch:
+            self.texts += 1
+            return
+        self.into = None
+        if inserts and not early:
+            self.into, self.texts = inserts[1].lower(), 1
+            self.change(self.into, self.insert)
+        elif not early:
+            self.ask(text, kind, last)
+
+    def change(self, name, how):
+        region, slots = self.held[name]
+        self.held[name] = (how(region, slots, 1), slots)
+
+    def ask(self, text, kind, last):
+        """A text that isn't refused before any access, and no INSERT."""
+        if kind[0] == "create":
+            self.held[kind[1].name] = (self.create(kind[1].capacity, 1), kind[1].capacity)
+        elif kind[0] == "drop":
+            self.discard(self.held.pop(kind[1])[0])
+        elif changes := self.CHANGE.match(text):
+            self.change(changes[1].lower(), self.move)
+        else:
+            left, right = self.SELECT.match(text).groups()
+            if right:
+                self.join(*self.held[left.lower()], *self.held[right.lower()], 1, self.selected(last))
+            elif self.TOTALS.search(text):
+                self.scan(*self.held[left.lower()])
+            else:
+                self.select(*self.held[left.lower()], 1, self.selected(last))
+
+    def selected(self, last):
+        """As many slots as are selected: of the plans Small and Large it is nothing which ones these are."""
+        return list(range(int(last.split()[1])))
+
+
 def main():
     program = sys.argv[1] if len(sys.argv) > 1 else TOP / "crates/ob_answers/out/ob_answers"
     write(program, "reference.case", "Sessions", Maker, [(*it, None) for it in SETTINGS])
     write(program, "reference_indexed.case", "Sessions over indexes", IndexedMaker, INDEXED_SETTINGS)
+    write_batched(program)
 
 
 def write(program, file, what, kind_of_maker, settings):
     out = [f"# {what} made from the grammar, with the answers of the plain evaluator (gen/reference.py).", ""]
     for seed in range(SESSIONS):
         buffer, pack, plan, stash = settings[seed % len(settings)]
-        maker, texts, told, kinds = kind_of_maker(seed), [], [], []
-        for n in range(24):
-            text, kind = maker.statement(n)
-            said = answers(program, buffer, pack, stash, [*texts, text])
-            if len(said) != len(texts) + 1:
-                # (no text, or more than one)
-                continue
-            if kind[0] == "unknown" and not said[-1][-1].startswith("E"):
-                # (a statement still, but nobody knows of which kind)
-                continue
-            texts.append(text)
-            kinds.append(kind)
-            told = said
-            follow(maker, kind, said[-1])
-        words = f"words --buffer {buffer} --pack {pack}" + (f" --plan {plan}" if plan else "") + (f" --stash {stash}" if stash else "")
-        out += case(seed, words, texts, kinds, told)
+        texts, kinds, told = session(program, kind_of_maker(seed), buffer, pack, stash)
+        out += case(f"session {seed}", words(buffer, pack, plan, stash), texts, kinds, told)
     (DATA / file).write_text("\n".join(out) + "\n")
+
+
+def write_batched(program):
+    """Each session with and without the word."""
+    out = ["# Sessions with runs of INSERTs made from the grammar, with the answers of the plain evaluator (gen/reference.py).", ""]
+    for seed in range(SESSIONS):
+        buffer, pack, plan, batch = BATCHED_SETTINGS[seed % len(BATCHED_SETTINGS)]
+        texts, kinds, told = session(program, BatchedMaker(seed), buffer, pack, None)
+        for together, name, word in ((1, "", ""), (batch, ", in batches", f" --batch {batch}")):
+            run = Counted(buffer=buffer, pack=pack, plan=plan, batch=together)
+            for text, kind, said in zip(texts, kinds, told):
+                run.serve(text, kind, said[-1])
+            more = [f"total {len(run.asked)}"]
+            out += case(f"session {seed}{name}", words(buffer, pack, plan) + word, texts, kinds, told, more)
+    (DATA / "reference_batched.case").write_text("\n".join(out) + "\n")
+
+
+def words(buffer, pack, plan, stash=None):
+    return f"words --buffer {buffer} --pack {pack}" + (f" --plan {plan}" if plan else "") + (f" --stash {stash}" if stash else "")
+
+
+def session(program, maker, buffer, pack, stash):
+    """The texts of a session, of which kind each is, and what it is answered."""
+    texts, kinds, told = [], [], []
+    for n in range(24):
+        text, kind = maker.statement(n)
+        said = answers(program, buffer, pack, stash, [*texts, text])
+        if len(said) != len(texts) + 1:
+            # (no text, or more than one)
+            continue
+        if kind[0] == "unknown" and not said[-1][-1].startswith("E"):
+            # (a statement still, but nobody knows of which kind)
+            continue
+        texts.append(text)
+        kinds.append(kind)
+        told = said
+        follow(maker, kind, said[-1])
+    return texts, kinds, told
 
 
 def answers(program, buffer, pack, stash, texts):
@@ -307,12 +413,12 @@ def printed(kind, lines):
     return lines
 
 
-def case(seed, words, texts, kinds, told):
-    lines = [f"case session {seed}", words, "unordered", *[f"> {line}" for text in texts for line in text.split("\n")]]
+def case(name, words, texts, kinds, told, more=()):
+    lines = [f"case {name}", words, "unordered", *[f"> {line}" for text in texts for line in text.split("\n")]]
     for kind, said in zip(kinds, told):
         lines += [f"< {line}" for line in printed(kind, said)]
     refused = any(said[-1].startswith("E") for said in told)
-    return [*lines, f"status {int(refused)}", ""]
+    return [*lines, *more, f"status {int(refused)}", ""]
 
 
 main()

@@ -1,9 +1,9 @@
 #!/usr/bin/env python3
-"""Writes crates/ob_cases/data/saved.case: runs that save their tables, and die. A session of each statement, with 1 and 16
-rows in a block, whose store fails from each of its accesses on, whose keeper fails at each of its calls, which ends its run,
-and whose answer is never taken; and the run that goes on over what was left. And runs over generated text. What is asked,
-answered and left is counted from docs/SPECIFICATION.md; nothing that the program answers goes into it. It needs python3
-alone, and takes a second.
+"""Writes crates/ob_cases/data/saved.case: runs that save their tables, and die. A session of each statement, and of a batch of
+INSERTs, with 1 and 16 rows in a block, whose store fails from each of its accesses on, whose keeper fails at each of its calls,
+which ends its run, and whose answer is never taken; and the run that goes on over what was left. And runs over generated text.
+What is asked, answered and left is counted from docs/SPECIFICATION.md; nothing that the program answers goes into it. It needs
+python3 alone, and takes a second.
 """
 import pathlib
 
@@ -24,6 +24,8 @@ class Stop(Exception):
 
 
 def inserted(slots, key, value):
+    if isinstance(value, str):
+        return "E05 wrong type", slots
     if key in [row[0] for row in slots if row]:
         return "E10 duplicate", slots
     if None not in slots:
@@ -62,7 +64,7 @@ class Left:
 
 class Saved(Run):
     """A run that saves its tables, from what an earlier one left. Its store dies at an access, its keeper at a call, or the
-    sink of its answers at a statement."""
+    sink of its answers does."""
 
     def __init__(self, pack, left, salts, dies=None, fault=None, unanswered=None):
         super().__init__(pack=pack)
@@ -71,7 +73,7 @@ class Saved(Run):
         self.tables = dict(left.tables)
         self.next, self.writes, self.closing = left.numbers()
         self.old, self.salt, self.calls, self.status = None, None, 0, 0
-        self.said, self.groups = [], []
+        self.written, self.groups, self.words = 0, [], WORDS.format(pack=pack)
 
     # ---- the calls of the store and of the keeper
     def ask(self, access):
@@ -133,7 +135,9 @@ class Saved(Run):
 
     # ---- statements
     def answer(self, it):
-        """The lines of the answer of one statement."""
+        """The lines of the answer of one statement, or those of a batch."""
+        if it[0] == "batch":
+            return self.batched(it[1])
         kind, name, *rest = it
         if (kind == "create") == (name in self.tables):
             return ["E03 name taken" if kind == "create" else "E02 no table"]
@@ -147,6 +151,21 @@ class Saved(Run):
             return ["E15 store fault"]
         self.save()
         return [said]
+
+    def batched(self, inserts):
+        """Those of INSERTs into one table, which are one pass, and are saved once."""
+        name, said = inserts[0][1], []
+        region, slots = self.tables[name]
+        try:
+            there = self.insert(region, len(slots), WIDTH)
+        except Died:
+            return ["E05 wrong type" if isinstance(value, str) else "E15 store fault" for _, _, _, value in inserts]
+        for _, _, key, value in inserts:
+            line, slots = inserted(slots, key, value)
+            said.append(line)
+        self.tables[name] = (there, slots)
+        self.save()
+        return said
 
     def selected(self, region, slots):
         lines, rows = [], [row for row in slots if row]
@@ -206,6 +225,7 @@ class Saved(Run):
     # ---- the session
     def serve(self, statements):
         """Each statement's lines, with what it is answered and what it asks, to the end or to a stop."""
+        self.words += "".join(f" --batch {len(it[1])}" for it in statements if it[0] == "batch")
         try:
             self.begin()
         except Stop as stop:
@@ -217,28 +237,41 @@ class Saved(Run):
                 said = self.answer(it)
             except Stop as stop:
                 return self.stop(stop, statements, n, before)
-            if n + 1 == self.unanswered:
-                self.status = 6
-                self.groups += [[f"> {text_of(it)}"] for it in statements[n:]]
-                return self
-            self.status = max(self.status, int(said[-1].startswith("E")))
-            self.group([it], said, before)
+            calls = self.calls_of(it, said, before)
+            for i, call in enumerate(calls):
+                self.written += 1
+                if self.written == self.unanswered:
+                    return self.unread(sum((texts for texts, _, _ in calls[i:]), []) + texts_of(statements[n + 1 :]))
+                self.group(*call)
+            self.status = max(self.status, *[int(line.startswith("E")) for line in said])
         return self
 
-    def group(self, statements, said, before):
-        """What is typed, asked and answered of these statements, in this order."""
-        typed = [f"> {text_of(it)}" for it in statements]
-        self.groups.append([*typed, *spelt(self.asked[before:]), *[f"< {line}" for line in said]])
+    def calls_of(self, it, said, before):
+        """The calls of the sink for a statement: of a batch the first line, whose accesses are traced then, and the others."""
+        texts = texts_of([it])
+        if it[0] != "batch":
+            return [(texts, said, before)]
+        return [(texts[:1], said[:1], before), (texts[1:], said[1:], len(self.asked))]
+
+    def group(self, texts, said, before):
+        """What is typed, asked and answered of these texts, in this order."""
+        self.groups.append([*[f"> {text}" for text in texts], *spelt(self.asked[before:]), *[f"< {line}" for line in said]])
+
+    def unread(self, texts):
+        """Nobody reads what is answered to these."""
+        self.status = 6
+        self.groups += [[f"> {text}"] for text in texts]
+        return self
 
     def stop(self, stop, statements, n, before):
         line, self.status = stop.args
-        self.group(statements[n : n + 1], [line], before)
-        self.groups += [[f"> {text_of(it)}"] for it in statements[n + 1 :]]
+        self.group(texts_of(statements[n : n + 1]), [line], before)
+        self.groups += [[f"> {text}"] for text in texts_of(statements[n + 1 :])]
         return self
 
     def lines(self):
         """The lines of the run."""
-        lines = [f"words {WORDS.format(pack=self.pack)}"]
+        lines = [f"words {self.words}"]
         for head, n in (("dies", self.dies), ("writes fail", self.unanswered)):
             lines += [f"{head} {n}"] if n else []
         body = [line for group in self.groups for line in group]
@@ -249,6 +282,11 @@ class Saved(Run):
     def typed(self):
         """The same without what is answered and asked, of a run that another case spells."""
         return [line for line in self.lines() if line[0] not in "<@"]
+
+
+def texts_of(statements):
+    """The texts of these, and of batches."""
+    return [text_of(it) for one in statements for it in (one[1] if one[0] == "batch" else [one])]
 
 
 class SavedText(Run):
@@ -351,7 +389,9 @@ class Session:
                 found.append(self.case(pack, f"{by}: all die at {at}", dies=n, unanswered=1)[0])
         for n in range(1, first.calls + 1):
             found.append(self.case(pack, f"{by}: the keeper dies at its call {n}", fault=n)[0])
-        found.append(self.case(pack, f"{by}: its answer is never taken", unanswered=1)[0])
+        for n in range(1, first.written + 1):
+            answer = "its answer is" if n == 1 else "the answers behind its first are"
+            found.append(self.case(pack, f"{by}: {answer} never taken", unanswered=n)[0])
         return found
 
 
@@ -364,6 +404,7 @@ def sessions(pack):
         Session("CREATE", filled, [("create", "a", 2), more], [("select", "a"), *look]),
         Session("INSERT", filled, [("insert", "t", 2, 20), more], look),
         Session("INSERT of a key that is there", filled, [("insert", "t", 1, 20), more], look),
+        Session("a batch of INSERTs", filled, [("batch", [("insert", "t", 2, 20), ("insert", "t", 3, "'a'"), ("insert", "t", 1, 11)]), more], look),
         Session("INSERT into a full table", [("create", "t", 1), ("insert", "t", 1, 10)], [("insert", "t", 2, 20), ("update", "t", 5)], look[:1]),
         Session("UPDATE", filled, [("update", "t", 5), more], look),
         Session("DELETE", filled, [("delete", "t", 1), more], look),
@@ -402,6 +443,7 @@ def main():
     cases += [
         generated("generated text", 0, 1),
         generated("generated text, three rows in a block", 5, 40, " --buffer 10 --pack 3", buffer=10, pack=3),
+        generated("generated text, in batches", 5, 40, " --batch 16", batch=16),
     ]
     head = "# Runs that save their tables, and die, and those that go on from what they left. Written by gen/saved.py.\n"
     (DATA / "saved.case").write_text(head + "\n" + "\n".join(cases))

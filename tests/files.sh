@@ -2,8 +2,9 @@
 # Runs the program over files: the sessions of examples/, with 1, 2 and 16 rows in a block, whose answers stand beside them;
 # and with others at work: a folder that isn't there, a file that another program changes or cuts short while the session
 # runs, a disk that is full (a limit on the size of files), also behind a region that was written whole, and one that fails
-# while a result is read back; and 1,500 statements that fail where few files may be open. Prints a line for each, and ends
-# with 1 where an answer, a status or the files that stay behind are not as they should be.
+# while a result is read back; 1,500 statements that fail where few files may be open; and INSERTs that wait for the next text,
+# where they are served together. Prints a line for each, and ends with 1 where an answer, a status or the files that stay
+# behind are not as they should be.
 #
 # Needs `rt` (bench/build.sh), python3 and `strace`, on a system whose limit on the size of files binds (Linux). Takes some
 # seconds once the program is built.
@@ -14,7 +15,7 @@ trap 'rm -rf "$work"' EXIT
 "$top/bench/build.sh" oblidb
 
 python3 - "$top/crates/oblidb/out/oblidb" "$work" "$top/examples" <<'PY'
-import os, pathlib, resource, signal, subprocess, sys
+import os, pathlib, resource, select, signal, subprocess, sys
 
 program, work, examples = sys.argv[1], sys.argv[2], pathlib.Path(sys.argv[3])
 KEY = "0" * 64 + "\n"
@@ -89,13 +90,40 @@ MORE, TWO = "INSERT INTO t VALUES (2, 20);\n", ["= inserted", '"COUNT(*)"', '"2"
 session("1500 failing statements where few files may be open", "s", MADE, "CREATE TABLE big (id INT) CAPACITY 256;\n" * 1500 + MORE + COUNT, nothing, MADE_LINES + FAULT * 1500 + TWO, 1, ["s.1503"], 4096, 16)
 session("200 failing joins where few files may be open", "s", JOINED, JOIN * 200 + MORE + COUNT, nothing, JOINED_LINES + FAULT * 200 + TWO, 1, ["s.11", "s.412"], 1000, 16, HASH)
 
-# The sessions of examples/. With more rows in a block the same rows are printed, in the same order.
+# With --batch an INSERT is answered with the text that ends its batch, or that makes it full. What is typed at once, and what
+# comes then before more is typed.
+TYPED = [
+    (KEY + "CREATE TABLE t (id INT PRIMARY KEY, v INT) CAPACITY 4;\n", "= created\n"),
+    ("INSERT INTO t VALUES (1, 10);\n", ""),
+    ("INSERT INTO t VALUES (2, 20);\n", "= inserted\n= inserted\n"),
+    ("INSERT INTO t VALUES ('a', 20);\n", "E05 wrong type\n"),
+    ("INSERT INTO t VALUES (1, 11);\n-- a comment;\n;\n", ""),
+    (COUNT, 'E10 duplicate\n"COUNT(*)"\n"2"\n= 1 rows\n'),
+    ("INSERT INTO t VALUES (3, 30);\n", ""),
+]
+child = subprocess.Popen([program, "--store", os.path.join(work, "b"), "--batch", "2"], stdin=subprocess.PIPE, stdout=subprocess.PIPE)
+found = []
+for text, wanted in TYPED:
+    child.stdin.write(text.encode())
+    child.stdin.flush()
+    came = b""
+    while select.select([child.stdout], [], [], 0.5 if len(came) >= len(wanted) else 10)[0] and (piece := os.read(child.stdout.fileno(), 4096)):
+        came += piece
+    found.append(came.decode())
+child.stdin.close()
+found.append(child.stdout.read().decode())
+well = found == [wanted for _, wanted in TYPED] + ["= inserted\n"] and child.wait() == 1
+failed += not well
+print(f"an INSERT that waits for the next text: {'as it should be' if well else found}")
+
+# The sessions of examples/. With more rows in a block, and in batches, the same rows are printed, in the same order.
+PARTS = [*((f"{pack} rows in a block", ["--pack", str(pack)]) for pack in (1, 2, 16)), ("in batches", ["--batch", "3"])]
 for session_text in sorted(examples.glob("*.sql")):
     wanted = session_text.with_suffix(".out").read_text()
-    for pack in (1, 2, 16):
-        ran = subprocess.run([program, "--store", os.path.join(work, "e"), "--pack", str(pack)], input=session_text.read_text(), capture_output=True, text=True)
+    for name, words in PARTS:
+        ran = subprocess.run([program, "--store", os.path.join(work, "e"), *words], input=session_text.read_text(), capture_output=True, text=True)
         well = (ran.stdout, ran.returncode) == (wanted, int("\nE" in wanted))
         failed += not well
-        print(f"examples/{session_text.name}, {pack} rows in a block: {'as it should be' if well else f'{ran.stdout}, status {ran.returncode}'}")
+        print(f"examples/{session_text.name}, {name}: {'as it should be' if well else f'{ran.stdout}, status {ran.returncode}'}")
 sys.exit(failed > 0)
 PY

@@ -2,9 +2,9 @@
 # Runs the program with --save over files. First in what order it calls the system: regions are on the disk before the mark
 # names them, and what the mark before needed goes only behind that, and then comes the answer. Then runs that are killed
 # just before each of their calls on files, of a session of each statement, from no mark and from tables, with 1 and 16 rows
-# in a block; whose output goes to `head`; whose disk is full, or fails, at each of these calls; and that are one too many:
-# the next run opens by itself, and has the rows before the statement that was served or those after it, and all that was
-# answered. Then what others do: two runs that go on from one copy with other rows, and a killed run and the next, have no
+# in a block, and of batches of INSERTs; whose output goes to `head`; whose disk is full, or fails, at each of these calls; and that are one too many:
+# the next run opens by itself, and has the rows before the statement, or the batch, that was served or those after it, and all
+# that was answered. Then what others do: two runs that go on from one copy with other rows, and a killed run and the next, have no
 # two blocks of which the XOR shows anything; each block that was changed, is of another day or of another run of the same
 # numbers is refused; and marks that are none, gone or of the other word. Prints a line for each, and ends with 1 where an
 # answer, a status, a file or a mark is not as it should be.
@@ -105,6 +105,11 @@ THEN = [
 ]
 ALL = steps_of(FIRST + THEN)
 BEFORE, STEPS = ALL[: len(FIRST)], ALL[len(FIRST) :]
+# A batch of three, one that another statement ends, and one that the end does.
+BATCHED = steps_of(FIRST + [
+    "INSERT INTO t VALUES (2, 20)", "INSERT INTO t VALUES (1, 11)", "INSERT INTO t VALUES (3, 30)", "INSERT INTO t VALUES (4, 40)",
+    "INSERT INTO t VALUES (5, 50)", "UPDATE t SET v = 7", "INSERT INTO t VALUES (6, 60)",
+])[len(FIRST) :]
 LOOK = "SELECT * FROM t;\nSELECT * FROM u;\n"
 
 def texts_of(steps):
@@ -162,9 +167,21 @@ def begun(name, steps=BEFORE, *words):
     expect(f"{name}, the first run", run(folder, texts_of(steps), *words), said_of(steps), 0, bool(MARK.fullmatch(mark_of(folder))))
     return folder
 
+# Behind which of these steps its batch ends, where so many INSERTs into one table are served together.
+def batch_end(steps, at, most):
+    place = 0
+    while place < len(steps):
+        into = steps[place].text.partition("VALUES")[0]
+        alike = list(itertools.takewhile(lambda step: "VALUES" in step.text and step.text.startswith(into), steps[place : place + most]))
+        place += max(1, len(alike))
+        if place > at:
+            break
+    return place
+
 # What may be there behind a run of these steps, from these rows, which gave these lines: the rows behind each that was
-# answered otherwise than that the store failed, or behind one more, which wasn't answered. None where a line is another.
-def may_be_left(rows, steps, lines):
+# answered otherwise than that the store failed, or behind one more, with its batch, which wasn't answered. None where a line is
+# another.
+def may_be_left(rows, steps, lines, most):
     answered = [line for line in lines if not line.startswith("! ")]
     if len(answered) > len(steps):
         return None
@@ -174,7 +191,7 @@ def may_be_left(rows, steps, lines):
             continue
         kept.append(step)
     left = []
-    for taken in (kept, kept + list(steps[len(answered) : len(answered) + 1])):
+    for taken in (kept, kept + list(steps[len(answered) : batch_end(steps, len(answered), most)])):
         again = steps_of([step.text.strip(";\n") for step in [*rows, *taken]])
         if said_of(again[len(rows) : len(rows) + len(kept)]) != [line for line in answered if line != FAULT]:
             return None
@@ -241,7 +258,7 @@ def hindered(name, base, before, steps, words, call, n, how):
     shutil.copytree(base, folder)
     behind = ["strace", "-f", "-o", os.devnull, "-e", f"trace={call}", "-e", f"inject={call}:{how}:when={n}"]
     lines, status = run(folder, texts_of(steps), *words, behind=behind)
-    left = may_be_left(before, steps, lines)
+    left = may_be_left(before, steps, lines, int(words[words.index("--batch") + 1]) if "--batch" in words else 1)
     found = in_order(run(folder, LOOK, *words))
     again = run(folder, create("w") + ";\n", *words)
     well = left is not None and found in [looked(rows) for rows in left] and again == (["= created"], 0)
@@ -271,6 +288,8 @@ for pack in (1, 16):
     base = begun(f"tables, {by}", BEFORE, *words)
     hinder_each(f"killed, from no mark, {by}", nothing, [], BEFORE, words, KILLED)
     hinder_each(f"killed, from tables, {by}", base, BEFORE, STEPS, words, KILLED)
+    hinder_each(f"killed, in batches, {by}", base, BEFORE, BATCHED, [*words, "--batch", "3"], KILLED)
+    hinder_each(f"a full disk, in batches, {by}", base, BEFORE, BATCHED, [*words, "--batch", "3"], FULL, WRITING)
     hinder_each(f"a full disk, from no mark, {by}", nothing, [], BEFORE, words, FULL, WRITING)
     hinder_each(f"a full disk, from tables, {by}", base, BEFORE, STEPS, words, FULL, WRITING)
     hinder_each(f"a disk that fails, from tables, {by}", base, BEFORE, STEPS[:3], words, BROKEN, WRITING | {"pread64", "unlink", "unlinkat", "getdents64", "getrandom"})

@@ -3,12 +3,12 @@ use Rattle.std.proofs.Common.{◌≡◌, ℕ, List, [], ◌∷◌, Some, None, t
 use Rattle.std.specs.Prelude.{Bool, Option, codes, pos}
 use Rattle.ob_base.specs.declared.comparison.ComparisonOperator.TheVariants.{Equal}
 use Rattle.ob_base.specs.declared.config.Plan.TheVariants.{Small, Large, Continuous, Hash}
+use Rattle.ob_base.specs.declared.config.Planner.TheVariants.{Auto, Cheapest, Forced}
 use Rattle.ob_base.specs.declared.refusal.Refusal.{Refusal}
 use Rattle.ob_base.specs.declared.refusal.Refusal.TheVariants.{KeyRule, Limit, NoColumn, NoTable}
 use Rattle.ob_base.specs.declared.schema.Heading.{Heading}
 use Rattle.ob_base.specs.declared.schema.Shape.TheVariants.{Flat}
 use Rattle.ob_base.specs.declared.skeleton.NewKind.TheVariants.{Int as NewInt}
-use Rattle.ob_base.specs.Limits.{buffered}
 use Rattle.ob_base.specs.Plans.{choose, choose_padded}
 use Rattle.ob_base.specs.Publics.{first_public}
 use Rattle.ob_base.specs.Schemas.{columns_of}
@@ -31,7 +31,7 @@ heading = record { name = t; schema = columns_of t (record { name = id; kind = N
 -- where four rows may be open
 abbrev refusal : (late : Bool) → Stmt → Option Refusal
 refusal late stmt =
-    early_refusal late (limits_of (first_public (record { buffer = 4; depth = 5; pack = 1; plan = None; pad = None; stash = 32; keep = false; save = false; max_input = 1024 }))) (heading ∷ []) stmt
+    early_refusal late (limits_of (first_public (record { buffer = 4; depth = 5; pack = 1; planner = Auto; pad = None; stash = 32; keep = false; save = false; batch = None; max_input = 1024 }))) (heading ∷ []) stmt
 
 abbrev set_key : Stmt
 set_key = Update t (record { column = id; value = IntLiteral (pos 9) } ∷ []) None
@@ -51,26 +51,46 @@ late = refl
 
 -- ---- the plan
 -- of one row a block and four that may be open, two are buffered
-few : choose None (buffered 1 4) 10 8 false ≡ Small
+few : choose Auto 1 4 10 8 false ≡ Small
 few = refl
 
-side_by_side : choose None (buffered 1 4) 10 9 true ≡ Continuous
+side_by_side : choose Auto 1 4 10 9 true ≡ Continuous
 side_by_side = refl
 
-most : choose None (buffered 1 4) 10 9 false ≡ Large
+most : choose Auto 1 4 10 9 false ≡ Large
 most = refl
 
-some_of_many : choose None (buffered 1 4) 100 9 false ≡ Hash
+some_of_many : choose Auto 1 4 100 9 false ≡ Hash
 some_of_many = refl
 
-forced : choose (Some Large) (buffered 1 4) 10 8 false ≡ Large
+forced : choose (Forced Large) 1 4 10 8 false ≡ Large
 forced = refl
 
-padded_few : choose_padded None (buffered 1 4) 8 ≡ Small
+padded_few : choose_padded Auto 1 4 10 8 ≡ Small
 padded_few = refl
 
-padded_more : choose_padded None (buffered 1 4) 9 ≡ Large
+padded_more : choose_padded Auto 1 4 10 9 ≡ Large
 padded_more = refl
 
-padded_forced : choose_padded (Some Large) (buffered 1 4) 8 ≡ Large
+padded_forced : choose_padded (Forced Large) 1 4 10 8 ≡ Large
 padded_forced = refl
+
+-- by the lengths of scripts: where Small's is as short as another, it is taken, and then Continuous
+shortest : choose Cheapest 1 4 10 6 true ≡ Small
+shortest = refl
+
+shortest_side_by_side : choose Cheapest 1 4 10 10 true ≡ Continuous
+shortest_side_by_side = refl
+
+shortest_apart : choose Cheapest 1 4 10 7 false ≡ Large
+shortest_apart = refl
+
+-- of four rows a block, Large's is the shorter one for rows side by side, too
+shortest_in_fours : choose Cheapest 4 16 100 60 true ≡ Large
+shortest_in_fours = refl
+
+padded_shortest : choose_padded Cheapest 1 4 10 6 ≡ Small
+padded_shortest = refl
+
+padded_shortest_of_more : choose_padded Cheapest 1 4 10 7 ≡ Large
+padded_shortest_of_more = refl

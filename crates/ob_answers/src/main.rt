@@ -5,7 +5,7 @@
 
 ghost use Rattle.std.specs.Prelude.{◌≤◌, ◌+◌, ◌*◌, IfSome};
 
-use ob_base::{Config, Emit, EmitErr, Items, NoMemory, Refusal, Shown};
+use ob_base::{Config, Emit, EmitErr, Items, NoMemory, Planner, Refusal, Shown};
 use ob_io::{Sink, StdSink};
 use ob_mean::Answer;
 use ob_parse::{ParseErr, parse};
@@ -56,11 +56,12 @@ fn settings(buffer: u32, pack: u8, stash: u32) -> Option<Config>
         buffer,
         depth: 5,
         pack,
-        plan: None,
+        planner: Planner::Auto,
         pad: None,
         stash,
         keep: false,
         save: false,
+        batch: None,
         max_input: 1_073_741_824,
     })
 }

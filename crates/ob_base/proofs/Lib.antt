@@ -1,3 +1,4 @@
 pub mod AccessLemmas
 pub mod EventLemmas
 pub mod IndexLemmas
+pub mod PlanLemmas

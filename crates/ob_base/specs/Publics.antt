@@ -12,10 +12,11 @@ first_public config =
       buffer = config.buffer;
       depth = config.depth;
       pack = config.pack;
-      plan = config.plan;
+      planner = config.planner;
       pad = config.pad;
       stash = config.stash;
       keep = config.keep;
       save = config.save;
+      batch = config.batch;
       closing = None;
     }

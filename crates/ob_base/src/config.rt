@@ -10,6 +10,17 @@ pub enum Plan {
     Hash,
 }
 
+/// How the plan of each SELECT of rows is chosen.
+#[derive(Clone, Copy, Debug, PartialEq, Eq)]
+pub enum Planner {
+    /// By the rows that may be buffered, how many are selected, and whether they lie side by side.
+    Auto,
+    /// The shortest script of those of Small, of Continuous where the rows lie side by side, and of Large.
+    Cheapest,
+    /// Always this one.
+    Forced(Plan),
+}
+
 /// The settings of a session.
 #[derive(Clone, Copy, Debug, PartialEq, Eq)]
 pub struct Config {
@@ -19,8 +30,8 @@ pub struct Config {
     pub depth: u8,
     /// The rows of a block: 1 to 16.
     pub pack: u8,
-    /// The plan of every SELECT of rows, where one is forced.
-    pub plan: Option<Plan>,
+    /// How the plan of each SELECT of rows is chosen.
+    pub planner: Planner,
     /// The rows to which the result of a SELECT of rows is padded, where it is: 1 to 1,048,576, and then
     /// neither Continuous nor Hash is forced.
     pub pad: Option<u32>,
@@ -30,6 +41,9 @@ pub struct Config {
     pub keep: bool,
     /// Whether they are saved behind each statement that changes them: then they are kept, too.
     pub save: bool,
+    /// How many INSERTs that follow one another into one flat table may be served in one pass, where they
+    /// are gathered: 2 to 65,535.
+    pub batch: Option<u32>,
     /// The input has fewer bytes: 1,024 to 1,073,741,824.
     pub max_input: u64,
 }
@@ -42,11 +56,12 @@ pub struct Public {
     pub buffer: u32,
     pub depth: u8,
     pub pack: u8,
-    pub plan: Option<Plan>,
+    pub planner: Planner,
     pub pad: Option<u32>,
     pub stash: u32,
     pub keep: bool,
     pub save: bool,
+    pub batch: Option<u32>,
     /// The region in which the tables are listed, where they are saved and were once.
     pub closing: Option<u64>,
 }

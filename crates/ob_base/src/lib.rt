@@ -18,7 +18,7 @@ mod text;
 
 pub use access::Access;
 pub use comparison::ComparisonOperator;
-pub use config::{Config, Plan, Public};
+pub use config::{Config, Plan, Planner, Public};
 pub use emit::{Emit, EmitErr};
 pub use fault::{Failed, NoMemory, StoreErr};
 pub use height::tree_height;

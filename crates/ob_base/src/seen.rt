@@ -9,6 +9,8 @@ pub enum End {
     Whole,
     /// It was refused after the count, because the selected slots aren't consecutive.
     AfterCount,
+    /// It was served with the INSERT before it, in the accesses of that one.
+    Joined,
     /// It was stopped, or the store failed, after so many accesses.
     Cut(u64),
 }

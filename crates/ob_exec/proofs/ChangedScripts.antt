@@ -7,7 +7,7 @@ use Rattle.ob_base.specs.declared.schema.Heading.{Heading}
 use Rattle.ob_base.specs.declared.schema.Table.{Table}
 use Rattle.ob_base.specs.declared.seen.Seen.{Seen}
 use Rattle.ob_base.specs.declared.seen.End.{End}
-use Rattle.ob_base.specs.declared.seen.End.TheVariants.{Static, Whole, AfterCount, Cut}
+use Rattle.ob_base.specs.declared.seen.End.TheVariants.{Static, Whole, AfterCount, Joined, Cut}
 use Rattle.ob_base.specs.declared.skeleton.Skeleton.{Skeleton}
 use Rattle.ob_base.specs.declared.skeleton.Skeleton.TheVariants as K
 use Rattle.ob_base.specs.Accesses.{makes}
@@ -26,7 +26,7 @@ use Rattle.ob_sql.specs.Skeleton.{skeleton}
 use Rattle.ob_sql.specs.declared.stmt.Stmt.{Stmt}
 use Rattle.ob_sql.specs.declared.stmt.Stmt.TheVariants.{Create, Insert, Update, Delete, Drop as DropTable, SelectRows as RowsStmt, SelectTotals as TotalsStmt}
 use Rattle.ob_tables.proofs.FoundLemmas.{is_there}
-use Rattle.ob_exec.specs.Ran.{is_saved_behind, is_whole}
+use Rattle.ob_exec.specs.Ran.{is_whole}
 
 -- ---- whether tables are saved
 pub both_are : (b c : Bool) → (b && c) ≡ true → (b ≡ true) × (c ≡ true)
@@ -40,22 +40,12 @@ saved_changes p s saved = (both_are (changes_tables s) p.save saved).0
 pub saved_saves : (p : Public) (s : Skeleton) → is_saved p s ≡ true → p.save ≡ true
 saved_saves p s saved = (both_are (changes_tables s) p.save saved).1
 
-whole_end : (end : End) → is_whole end ≡ true → end ≡ Whole
+pub whole_end : (end : End) → is_whole end ≡ true → end ≡ Whole
 whole_end Static is = absurd (cc is)
 whole_end Whole is = refl
 whole_end AfterCount is = absurd (cc is)
+whole_end Joined is = absurd (cc is)
 whole_end (Cut n) is = absurd (cc is)
-
--- whether they are behind a statement that ended so
-module _ (p : Public) (s : Skeleton) (end : End) (saved now : Bool) (saved_is : saved ≡ is_saved p s) (now_is : now ≡ (is_whole end && saved)) where
-  pub not_behind : now ≡ false → is_saved_behind p s end ≡ false
-  not_behind not = ap (λ (b : Bool). is_whole end && b) (sym saved_is) ∙ sym now_is ∙ not
-
-  pub whole_behind : now ≡ true → end ≡ Whole
-  whole_behind is = whole_end end (both_are (is_whole end) saved (sym now_is ∙ is)).0
-
-  pub saved_behind : now ≡ true → is_saved p s ≡ true
-  saved_behind is = sym saved_is ∙ (both_are (is_whole end) saved (sym now_is ∙ is)).1
 
 -- no rows are selected
 pub changes_plain : (stmt : Stmt) → changes_tables (skeleton stmt) ≡ true → selects_rows stmt ≡ false

@@ -21,8 +21,13 @@ pub mod RowsRoom
 pub mod RowsJoinEnd
 pub mod RowsJoinStart
 pub mod Unread
+pub mod GatheringLemmas
 pub mod ChangedScripts
 pub mod FewAsked
 pub mod SavingLemmas
+pub mod Shares
 pub mod PlainRuns
 pub mod SavedRuns
+pub mod EmittedRuns
+pub mod FollowedRuns
+pub mod BatchRuns

@@ -3,15 +3,14 @@ use Rattle.std.proofs.Common.{◌≡◌, ◌⊎◌, inl, inr, ℕ, ◌+◌, ◌-
 use Rattle.std.proofs.lemmas.List.{length-take, take-append-le}
 use Rattle.std.specs.Prelude.{◌&&◌, OnOk, if◌then◌else◌}
 use Rattle.ob_base.specs.Accesses.{makes}
-use Rattle.ob_base.specs.Events.{Event}
 use Rattle.ob_base.specs.declared.access.Access.{Access}
 use Rattle.ob_base.specs.declared.config.Public.{Public}
 use Rattle.ob_base.specs.declared.refusal.Refusal.{Refusal}
 use Rattle.ob_base.specs.declared.seen.End.{End}
-use Rattle.ob_base.specs.declared.seen.End.TheVariants.{Static, Whole, AfterCount, Cut}
+use Rattle.ob_base.specs.declared.seen.End.TheVariants.{Static, Whole, AfterCount, Joined, Cut}
 use Rattle.ob_base.specs.declared.seen.Seen.{Seen}
 use Rattle.ob_base.specs.declared.skeleton.Skeleton.{Skeleton}
-use Rattle.ob_mean.specs.Lawful.{Holds, Lawful}
+use Rattle.ob_mean.specs.Lawful.{Holds}
 use Rattle.ob_mean.specs.Replay.{is_access}
 use Rattle.ob_mean.specs.Verdict.{ended as seen_to, is_late}
 use Rattle.ob_reopen.specs.Keepers.{KeeperState}
@@ -20,18 +19,18 @@ use Rattle.ob_script.specs.Saved.{ChangesFlat, left_by, run_next, run_script, wh
 use Rattle.ob_script.specs.Script.{changes_tables, closing_behind, closing_then, is_saved, save_part, script, until_end, whole_script}
 use Rattle.ob_script.specs.Tables.{tables_then}
 use Rattle.ob_script.specs.Trace.{next}
-use Rattle.ob_select.specs.Memory.{AtEmission, AtMake, AtResult, HasHalted}
+use Rattle.ob_select.specs.Memory.{AtEmission, AtMake, AtResult}
 use Rattle.ob_select.specs.Opening.{Opens}
 use Rattle.ob_sql.specs.Skeleton.{skeleton}
 use Rattle.ob_sql.specs.declared.stmt.Stmt.{Stmt}
 use Rattle.ob_sql.specs.declared.stmt.Stmt.TheVariants.{Create, Insert, Update, Delete, Drop as DropTable, SelectRows as RowsStmt, SelectTotals as TotalsStmt}
+use Rattle.ob_store.proofs.Steps.{since_later}
 use Rattle.ob_store.specs.State.{StoreState}
 use Rattle.ob_tables.proofs.LawfulLemmas.{ends_cut}
 use Rattle.ob_tables.proofs.TableLemmas.{tables_flat}
 use Rattle.ob_tables.specs.Agreeing.{Agrees, count_of, high_of, replaced_of, world_of}
 use Rattle.ob_tables.specs.Memory.{LacksMemory}
-use Rattle.ob_tables.specs.Running.{Continues, RanStatement, RefusedEarly, RunCause, result_end, stops_access}
-use Rattle.ob_tables.specs.Serving.{Serves}
+use Rattle.ob_tables.specs.Running.{Continues, RefusedEarly, RunCause, result_end, stops_access}
 use Rattle.ob_tables.specs.declared.engine.Engine.{Engine}
 use Rattle.ob_tables.specs.declared.stop.RunStop.{RunStop}
 use Rattle.ob_tables.specs.declared.stop.RunStop.TheVariants.{KeeperFault, NoMemory, SinkFault, StashFull, StoreFault, Tampered}
@@ -39,7 +38,8 @@ use Rattle.ob_vault.specs.State.{RevState, World}
 use Rattle.ob_verdict.specs.Outcomes.{refusal_now}
 use Rattle.ob_verdict.specs.declared.outcome.Outcome.{Outcome}
 use Rattle.ob_exec.proofs.ChangedScripts.{changes_flat, unsaved_whole, whole_saved}
-use Rattle.ob_exec.specs.Ran.{CountsKeeper, Ran, RanWhole, ServedCause, ShowsNothing, StopsWhere, WantsMemory, WasNotSaved, is_saved_behind}
+use Rattle.ob_exec.proofs.Shares.{Share}
+use Rattle.ob_exec.specs.Ran.{CarriedOut, CountsKeeper, RanWhole, ServedCause, StopsWhere, WantsMemory, WasNotSaved, is_saved_behind}
 
 -- ---- causes and stops of the engine's share
 cause_plain : (p : Public) (s : Skeleton) (result : Result Outcome RunStop) (old new : World) → RunCause result old new → ServedCause p s result old new
@@ -88,9 +88,30 @@ take_more k xs more before after asked count =
     let within : k ≤ length xs = omega (arith, sum, parts, few, count) in
     sym (take-append-le k xs more within)
 
-module _ {R : Type 0} (state : R → RevState) (stmt : Stmt) (result : Result Outcome RunStop) (old : Engine R) (s : StoreState) (new : Engine R) (t : StoreState) (agrees : Agrees state old s)
-    (ran : RanStatement state (skeleton stmt) result old s new t) (early : RefusedEarly (refusal_now old.public (count_of old s) stmt) result new.seen) (lawful : Lawful old.public (count_of old s) stmt new.seen)
-    (shows : old.public.save ≡ true → changes_tables (skeleton stmt) ≡ true → ShowsNothing result new.seen) (unsaved : WasNotSaved old.public (skeleton stmt) result new.seen.end) where
+-- a change of flat tables wants memory at a make alone
+at_make : {Halts : Type 0} (p : Public) (stmt : Stmt) (now : Seen) (done rest : List Access) → changes_tables (skeleton stmt) ≡ true → ChangesFlat p (skeleton stmt)
+    → AtMake done ⊎ AtResult p stmt now rest ⊎ (AtEmission p stmt now rest × Halts) → AtMake done
+at_make p (Create table columns capacity shape) now done rest changes flat (inl make) = make
+at_make p (Create table columns capacity shape) now done rest changes flat (inr (inl indexed)) = let shaped = indexed.0 in absurd (cc (shaped, flat))
+at_make p (Create table columns capacity shape) now done rest changes flat (inr (inr none)) = absurd none.0
+at_make p (Insert table columns values) now done rest changes flat (inl make) = make
+at_make p (Insert table columns values) now done rest changes flat (inr (inl none)) = absurd none
+at_make p (Insert table columns values) now done rest changes flat (inr (inr none)) = absurd none.0
+at_make p (Update table sets search) now done rest changes flat (inl make) = make
+at_make p (Update table sets search) now done rest changes flat (inr (inl none)) = absurd none
+at_make p (Update table sets search) now done rest changes flat (inr (inr none)) = absurd none.0
+at_make p (Delete table search) now done rest changes flat (inl make) = make
+at_make p (Delete table search) now done rest changes flat (inr (inl none)) = absurd none
+at_make p (Delete table search) now done rest changes flat (inr (inr none)) = absurd none.0
+at_make p (DropTable table) now done rest changes flat (inl make) = make
+at_make p (DropTable table) now done rest changes flat (inr (inl none)) = absurd none
+at_make p (DropTable table) now done rest changes flat (inr (inr none)) = absurd none.0
+at_make p (RowsStmt q) now done rest changes flat place = absurd (cc changes)
+at_make p (TotalsStmt q) now done rest changes flat place = absurd (cc changes)
+
+-- ---- the engine's share is all of it
+module _ {R : Type 0} (state : R → RevState) (stmt : Stmt) (owed : List Stmt) (Halts : Type 0) (result : Result Outcome RunStop) (old : Engine R) (s : StoreState) (new : Engine R) (t : StoreState)
+    (agrees : Agrees state old s) (share : Share state stmt owed Halts result old s new t) (unsaved : WasNotSaved old.public (skeleton stmt) result new.seen.end) where
   abbrev p : Public
   p = old.public
 
@@ -117,19 +138,20 @@ module _ {R : Type 0} (state : R → RevState) (stmt : Stmt) (result : Result Ou
     -- of one that changes tables no rows are counted
     not_counted : {P : Type 0} → now.end ≡ AfterCount → P
     not_counted is =
-        let path : now ≡ seen_to AfterCount = (shows saves changes).plain ∙ ap seen_to is in
-        absurd (subst (λ (x : Seen). Holds p stmt x x.k x.plan x.then) path lawful.holds)
+        let path : now ≡ seen_to AfterCount = (share.shows saves changes).plain ∙ ap seen_to is in
+        absurd (subst (λ (x : Seen). Holds p stmt x x.k x.plan x.then) path share.lawful.holds)
 
     longer : whole_script p sk now ≡ whole_run p sk now ++ save_part p sk (left_by p sk)
     longer = whole_saved p sk now saves flat changes
 
     changed_by : (end : End) → now.end ≡ end → Alone
     changed_by Static is = record { script_is = ends_at Static (whole_run p sk now) (whole_script p sk now) is refl; closing_is = ap (closing_then p sk) is }
-    changed_by Whole is = not_whole result _ unsaved ran.ends saved is
+    changed_by Whole is = not_whole result _ unsaved share.ran.ends saved is
     changed_by AfterCount is = not_counted is
+    changed_by Joined is = record { script_is = ends_at Joined (whole_run p sk now) (whole_script p sk now) is refl; closing_is = ap (closing_then p sk) is }
     changed_by (Cut k) is =
-        let asked : t.asked ≡ s.asked ++ take k (whole_run p sk now) = ran.asked ∙ ap (λ (e : End). s.asked ++ until_end e (whole_run p sk now)) is in
-        let count = ends_cut result k _ (sym is ∙ ran.ends) in
+        let asked : t.asked ≡ s.asked ++ take k (whole_run p sk now) = share.ran.asked ∙ ap (λ (e : End). s.asked ++ until_end e (whole_run p sk now)) is in
+        let count = ends_cut result k _ (sym is ∙ share.ran.ends) in
         record {
           script_is = ends_at (Cut k) (whole_run p sk now) (whole_script p sk now) is (take_more k (whole_run p sk now) (save_part p sk (left_by p sk)) s.asked t.asked asked count ∙ ap (take k) (sym longer));
           closing_is = ap (closing_then p sk) is;
@@ -139,6 +161,7 @@ module _ {R : Type 0} (state : R → RevState) (stmt : Stmt) (result : Result Ou
   closing_stays Static not = refl
   closing_stays Whole not = ap (λ (b : Bool). if b then Some (closing_behind p sk) else p.closing) not
   closing_stays AfterCount not = refl
+  closing_stays Joined not = refl
   closing_stays (Cut n) not = refl
 
   none_saved : (b c : Bool) → c ≡ false → (b && c) ≡ false
@@ -157,7 +180,7 @@ module _ {R : Type 0} (state : R → RevState) (stmt : Stmt) (result : Result Ou
       by_early None none saves changes =
           changed_by saves changes ((λ i. changes i && saves i)) (flat_change saves changes none) now.end refl
       by_early (Some r) refused saves changes =
-          let refuses : RefusedEarly (Some r) result now = subst (λ (o : Option Refusal). RefusedEarly o result now) refused early in
+          let refuses : RefusedEarly (Some r) result now = subst (λ (o : Option Refusal). RefusedEarly o result now) refused share.early in
           let is : now.end ≡ Static = ap (λ (x : Seen). x.end) refuses.1 in
           record { script_is = ends_at Static (whole_run p sk now) (whole_script p sk now) is refl; closing_is = ap (closing_then p sk) is }
 
@@ -174,25 +197,25 @@ module _ {R : Type 0} (state : R → RevState) (stmt : Stmt) (result : Result Ou
 
   ran_alone : replaced_of old ≡ None → RanWhole state sk result old s new t
   ran_alone settled = record {
-    asked = ran.asked ∙ ap (λ (l : List Access). s.asked ++ l) alone.script_is;
-    later = ran.later;
-    keys = ran.keys;
-    start = ran.start;
-    from_closing = λ not. ran.from_closing;
-    ends = ran.ends;
-    asks = ran.asks;
-    cause = cause_plain p sk result (world_of state old s) (world_of state new t) ran.cause;
-    room = ran.room;
-    opened = subst (λ (l : List Access). Opens l (high_of old) (high_of new)) alone.script_is ran.opened;
-    leaves = ran.leaves;
-    goes_on = subst (λ (q : Public). Continues state sk q result old new t) next_alone ran.goes_on;
-    settled = settled_plain old new result settled ran.replaced;
-    kept = λ saves not q below. let next_is = agrees.next in ran.kept saves q (omega (arith, below, next_is));
-    stops = stops_plain p sk result (world_of state old s) (world_of state new t) ran.cause ran.indexed;
+    asked = share.ran.asked ∙ ap (λ (l : List Access). s.asked ++ l) alone.script_is;
+    later = since_later s t share.ran.later;
+    keys = share.ran.keys;
+    start = share.ran.start;
+    from_closing = λ not. share.ran.from_closing;
+    ends = share.ran.ends;
+    asks = share.ran.asks;
+    cause = cause_plain p sk result (world_of state old s) (world_of state new t) share.ran.cause;
+    room = share.ran.room;
+    opened = subst (λ (l : List Access). Opens l (high_of old) (high_of new)) alone.script_is share.ran.opened;
+    leaves = share.ran.leaves;
+    goes_on = subst (λ (q : Public). Continues state sk q result old new t) next_alone share.ran.goes_on;
+    settled = settled_plain old new result settled share.ran.replaced;
+    kept = λ saves not q below. let next_is = agrees.next in share.ran.kept saves q (omega (arith, below, next_is));
+    stops = stops_plain p sk result (world_of state old s) (world_of state new t) share.ran.cause share.ran.indexed;
   }
 
   -- ---- want of memory
-  module _ {Halts : Type 0} (lacks : LacksMemory p stmt now s t Halts) where
+  module _ (lacks : LacksMemory p stmt now s t Halts) where
     wants_same : whole_run p sk now ≡ whole_script p sk now → WantsMemory p stmt now s t Halts
     wants_same same = record {
       done = lacks.done;
@@ -211,62 +234,32 @@ module _ {R : Type 0} (state : R → RevState) (stmt : Stmt) (result : Result Ou
       place = inl make;
     }
 
--- a change of flat tables wants memory at a make alone
-at_make : {Halts : Type 0} (p : Public) (stmt : Stmt) (now : Seen) (done rest : List Access) → changes_tables (skeleton stmt) ≡ true → ChangesFlat p (skeleton stmt)
-    → AtMake done ⊎ AtResult p stmt now rest ⊎ (AtEmission p stmt now rest × Halts) → AtMake done
-at_make p (Create table columns capacity shape) now done rest changes flat (inl make) = make
-at_make p (Create table columns capacity shape) now done rest changes flat (inr (inl indexed)) = let shaped = indexed.0 in absurd (cc (shaped, flat))
-at_make p (Create table columns capacity shape) now done rest changes flat (inr (inr none)) = absurd none.0
-at_make p (Insert table columns values) now done rest changes flat (inl make) = make
-at_make p (Insert table columns values) now done rest changes flat (inr (inl none)) = absurd none
-at_make p (Insert table columns values) now done rest changes flat (inr (inr none)) = absurd none.0
-at_make p (Update table sets search) now done rest changes flat (inl make) = make
-at_make p (Update table sets search) now done rest changes flat (inr (inl none)) = absurd none
-at_make p (Update table sets search) now done rest changes flat (inr (inr none)) = absurd none.0
-at_make p (Delete table search) now done rest changes flat (inl make) = make
-at_make p (Delete table search) now done rest changes flat (inr (inl none)) = absurd none
-at_make p (Delete table search) now done rest changes flat (inr (inr none)) = absurd none.0
-at_make p (DropTable table) now done rest changes flat (inl make) = make
-at_make p (DropTable table) now done rest changes flat (inr (inl none)) = absurd none
-at_make p (DropTable table) now done rest changes flat (inr (inr none)) = absurd none.0
-at_make p (RowsStmt q) now done rest changes flat place = absurd (cc changes)
-at_make p (TotalsStmt q) now done rest changes flat place = absurd (cc changes)
+    wants_then : refusal_now p (count_of old s) stmt ≡ None → WantsMemory p stmt now s t Halts
+    wants_then none = by_save p.save refl
+      where
+        by_change : (b : Bool) → changes_tables sk ≡ b → p.save ≡ true → WantsMemory p stmt now s t Halts
+        by_change true changes saves =
+            let flat = flat_change saves changes none in wants_more saves changes flat (at_make p stmt now lacks.done lacks.rest changes flat lacks.place)
+        by_change false not saves = wants_same (unsaved_whole p sk now not)
 
-module _ {R E : Type 0} (state : R → RevState) (grew cut : E → E → List Event → Type 0) (faults : E → ℕ) (stmt : Stmt) (result : Result Outcome RunStop) (old : Engine R) (s : StoreState) (new : Engine R)
-    (t : StoreState) (out_old out_new : E) (agrees : Agrees state old s) (serves : Serves state grew cut faults stmt result old s new t out_old out_new)
-    (shows : old.public.save ≡ true → changes_tables (skeleton stmt) ≡ true → ShowsNothing result new.seen) (unsaved : WasNotSaved old.public (skeleton stmt) result new.seen.end) where
-  wants : result ≡ Err NoMemory → WantsMemory old.public stmt new.seen s t (HasHalted cut out_old out_new)
-  wants is = by_save old.public.save refl
-    where
-      lacks : LacksMemory old.public stmt new.seen s t (HasHalted cut out_old out_new)
-      lacks = serves.memory is
+        by_save : (b : Bool) → p.save ≡ b → WantsMemory p stmt now s t Halts
+        by_save true saves = by_change (changes_tables sk) refl saves
+        by_save false not = wants_same (whole_is p sk now not)
 
-      none : refusal_now old.public (count_of old s) stmt ≡ None
-      none = early_none _ NoMemory new.seen (subst (λ (r : Result Outcome RunStop). RefusedEarly (refusal_now old.public (count_of old s) stmt) r new.seen) is serves.early)
+  wants : result ≡ Err NoMemory → WantsMemory p stmt now s t Halts
+  wants is =
+      wants_then (share.memory is) (early_none _ NoMemory now (subst (λ (r : Result Outcome RunStop). RefusedEarly (refusal_now p (count_of old s) stmt) r now) is share.early))
 
-      by_change : (b : Bool) → changes_tables (skeleton stmt) ≡ b → old.public.save ≡ true → WantsMemory old.public stmt new.seen s t (HasHalted cut out_old out_new)
-      by_change true changes saves =
-          let flat = flat_change state stmt result old s new t agrees serves.ran serves.early serves.lawful shows unsaved saves changes none in
-          wants_more state stmt result old s new t agrees serves.ran serves.early serves.lawful shows unsaved lacks saves changes flat (at_make old.public stmt new.seen lacks.done lacks.rest changes flat lacks.place)
-      by_change false not saves = wants_same state stmt result old s new t agrees serves.ran serves.early serves.lawful shows unsaved lacks (unsaved_whole old.public (skeleton stmt) new.seen not)
-
-      by_save : (b : Bool) → old.public.save ≡ b → WantsMemory old.public stmt new.seen s t (HasHalted cut out_old out_new)
-      by_save true saves = by_change (changes_tables (skeleton stmt)) refl saves
-      by_save false not = wants_same state stmt result old s new t agrees serves.ran serves.early serves.lawful shows unsaved lacks (whole_is old.public (skeleton stmt) new.seen not)
-
-  pub ran_plain : (keeper : KeeperState) → replaced_of old ≡ None → Ran state grew cut faults stmt result old s new t out_old out_new keeper keeper
-  ran_plain keeper settled = record {
-    ran = ran_alone state stmt result old s new t agrees serves.ran serves.early serves.lawful shows unsaved settled;
-    early = serves.early;
-    lawful = serves.lawful;
+  pub carried_plain : (keeper : KeeperState) → replaced_of old ≡ None → CarriedOut state stmt owed Halts result old s new t keeper keeper
+  carried_plain keeper settled = record {
+    ran = ran_alone settled;
+    early = share.early;
+    lawful = share.lawful;
     memory = wants;
-    full = serves.full;
-    seals = λ good rows one closings. serves.seals good rows one;
-    answered = serves.answered;
-    stopped = serves.stopped;
-    sink = serves.sink;
-    emits = serves.emits;
-    means = serves.means;
+    full = share.full;
+    emits = share.emits;
+    seals = λ good rows one closings. share.seals good rows one;
+    means = share.means;
     keeper = inl (refl, unsaved);
-    counts = counts_plain result (world_of state old s) (world_of state new t) keeper serves.ran.cause;
+    counts = counts_plain result (world_of state old s) (world_of state new t) keeper share.ran.cause;
   }

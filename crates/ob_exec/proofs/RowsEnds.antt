@@ -109,7 +109,7 @@ module _ {R : Type 0} (state : R → RevState) (old : Engine R) (s : StoreState)
   answered_by (Refused r) is few closes = answered_refused r is closes
 
   told_by : (answer : Selected) → EndsWith answer → (tables : Tables) (d : Draws) → ReadsTrue state old s t tables
-      → Told state (RowsStmt select) d tables (selected_outcome answer) old s (rows_after old v room now old.ended) t
+      → Told state (RowsStmt select) [] d tables (selected_outcome answer) old s (rows_after old v room now old.ended) t
   told_by answer is tables d reads =
       let stands = reads.held in
       let told = is.told (to_end state old s v room t select agrees free source is.ran.lasts tables reads) in

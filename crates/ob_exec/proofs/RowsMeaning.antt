@@ -55,7 +55,7 @@ none_selected p n (None ∷ slots) is = none_selected p (suc n) slots is
 none_selected p n (Some row ∷ slots) is = test_none (p row) n (places_from (suc n) (is_selected p) slots) row (filter p (rows slots)) is (none_selected p (suc n) slots)
 
 module _ (p : Public) (m : ℕ) (select : SelectRows) (tables : Tables) (headed : headings tables ≡ headings_of p.tables) (in_place : AreInPlace p.stash tables) (unkeyed : accessed tables (RowsStmt select) ≡ None)
-    (early : early_refusal (is_late m) (limits_of p) (headings tables) (RowsStmt select) ≡ None) (some : 1 ≤ p.pack) (enough : 3 * p.pack + 1 ≤ p.buffer) (padded : IsPadded p.pad p.plan)
+    (early : early_refusal (is_late m) (limits_of p) (headings tables) (RowsStmt select) ≡ None) (some : 1 ≤ p.pack) (enough : 3 * p.pack + 1 ≤ p.buffer) (padded : IsPadded p.pad p.planner)
     (labelled : labels_of (selection p select).flat.schema (selection p select).cols ≡ answer_labels (RowsStmt select) p)
     (source : Same (source_rows select.source (database tables)) (rows (slots_of p select tables))) where
   abbrev q : Selection

@@ -12,7 +12,6 @@ use Rattle.ob_base.specs.declared.skeleton.Skeleton.TheVariants.{Rows as RowsSke
 use Rattle.ob_base.specs.declared.skeleton.Source.{Source}
 use Rattle.ob_base.specs.declared.skeleton.Source.TheVariants.{Table as OneTable, Join}
 use Rattle.ob_base.specs.Accesses.{discard_at}
-use Rattle.ob_base.specs.Limits.{buffered}
 use Rattle.ob_base.specs.Plans.{choose_padded, padded_rows}
 use Rattle.ob_base.specs.Events.{Event}
 use Rattle.ob_emit.specs.Emitting.{header}
@@ -57,7 +56,7 @@ module _ (p : Public) (k : ℕ) (plan : Plan) (second : Option Plan) (end : End)
       omega (arith, a, b)
   behind_late (Some pad) g t ending =
       let rows = padded_rows pad t.heading.capacity in
-      let taken = choose_padded p.plan (buffered p.pack p.buffer) rows in
+      let taken = choose_padded p.planner p.pack p.buffer t.heading.capacity rows in
       let a = result_some taken rows g t in
       let b = length-append (result_part p (Some taken) rows g (extent_of t)) ending in
       omega (arith, a, b)

@@ -4,7 +4,7 @@ use Rattle.ob_base.specs.declared.access.Access.{Access}
 use Rattle.ob_base.specs.declared.config.Public.{Public}
 use Rattle.ob_base.specs.declared.seen.Seen.{Seen}
 use Rattle.ob_base.specs.declared.seen.End.{End}
-use Rattle.ob_base.specs.declared.seen.End.TheVariants.{Static, Whole, AfterCount, Cut}
+use Rattle.ob_base.specs.declared.seen.End.TheVariants.{Static, Whole, AfterCount, Joined, Cut}
 use Rattle.ob_base.specs.Events.{Event}
 use Rattle.ob_room.specs.RoomState.{RoomState}
 use Rattle.ob_store.specs.State.{StoreState}
@@ -51,6 +51,7 @@ same_tables : (p : Public) (select : SelectRows) (end : End) → p.tables ≡ ta
 same_tables p select Static = refl
 same_tables p select Whole = refl
 same_tables p select AfterCount = refl
+same_tables p select Joined = refl
 same_tables p select (Cut n) = refl
 
 cut_ends : (e : OpErr) (n : ℕ) → Cut n ≡ result_end (answer_of e) n

@@ -29,7 +29,7 @@ with_seconded : (p : Public) (plan : Plan) (places : List ℕ) → Seconded (see
 with_seconded p Small places = alone refl
 with_seconded p Large places = alone refl
 with_seconded p Continuous places = by_turn (is_consecutive places) (length places)
-with_seconded p Hash places = hash_seconded (length places) (fallback p.plan (first_unplaced p places))
+with_seconded p Hash places = hash_seconded (length places) (fallback p.planner (first_unplaced p places))
 
 by_seconded : (pad : Option ℕ) (p : Public) (n : ℕ) (places : List ℕ) → Seconded (seen_by pad p n places)
 by_seconded None p n [] = alone refl

@@ -216,7 +216,7 @@ module _ {R : Type 0} (state : R → RevState) (old : Engine R) (s : StoreState)
     stopped_engine e = rows_after old v room (record now { end = Cut n }) (is_stop (answer_of e))
 
     stop_told : (e : OpErr) → StopsRows grew cut old.public select e now before after out_old out_new → (tables : Tables) (d : Draws) → ReadsTrue state old s t tables
-        → IfOk (answer_of e) (λ outcome. Told state (RowsStmt select) d tables outcome old s (stopped_engine e) t)
+        → IfOk (answer_of e) (λ outcome. Told state (RowsStmt select) [] d tables outcome old s (stopped_engine e) t)
     stop_told OpErrs.Failed is tables d reads = record {
       unindexed = flat tables reads.held;
       seen = seen_cut tables reads.held d true now n count is.leaf (is.held (to_halt tables reads));

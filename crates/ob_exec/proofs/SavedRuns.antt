@@ -6,7 +6,6 @@ use Rattle.std.specs.List.{list_any}
 use Rattle.std.specs.Prelude.{IsTrue, ◌||◌, nat_le}
 use Rattle.ob_base.specs.Accesses.{drop_script, make_at, makes, write_at, writes}
 use Rattle.ob_base.specs.Counts.{Rises}
-use Rattle.ob_base.specs.Events.{Event}
 use Rattle.ob_base.specs.Lists.{each}
 use Rattle.ob_base.specs.Refusals.{is_store_fault}
 use Rattle.ob_base.specs.Stored.{headings_of}
@@ -22,10 +21,8 @@ use Rattle.ob_mean.proofs.FlatLemmas.{no_public_access}
 use Rattle.ob_mean.specs.Flats.{AreFlat}
 use Rattle.ob_mean.specs.Lawful.{Lawful, height_at}
 use Rattle.ob_mean.specs.Replay.{draws_taken, is_access}
-use Rattle.ob_mean.specs.Settle.{settle}
-use Rattle.ob_mean.specs.Step.{accepted_answer, answered}
-use Rattle.ob_mean.specs.Verdict.{Draws, Tables, accessed, database, ended as seen_to, is_late, refusal, seen, verdict}
-use Rattle.ob_mean.specs.declared.answer.Answer.{Answer}
+use Rattle.ob_mean.specs.Batches.{settle_all}
+use Rattle.ob_mean.specs.Verdict.{Draws, Tables, accessed, ended as seen_to, is_late, seen}
 use Rattle.ob_oram.specs.declared.index.Index.{Index}
 use Rattle.ob_reopen.specs.Keepers.{KeeperState}
 use Rattle.ob_script.proofs.Numbers.{length-create_part}
@@ -39,31 +36,29 @@ use Rattle.ob_seal.specs.Draws.{draw_of}
 use Rattle.ob_seal.specs.KeySet.{KeySet}
 use Rattle.ob_select.proofs.LieLemmas.{lie_before}
 use Rattle.ob_select.proofs.SelectRuns.{ends-more}
-use Rattle.ob_select.specs.Memory.{HasHalted, ends_with_make}
+use Rattle.ob_select.specs.Memory.{ends_with_make}
 use Rattle.ob_select.specs.Opening.{Opens, is_of_rows}
 use Rattle.ob_select.specs.Selecting.{AcceptsRows}
 use Rattle.ob_select.specs.Settings.{IsFree}
 use Rattle.ob_sql.specs.Skeleton.{skeleton}
 use Rattle.ob_sql.specs.declared.stmt.Stmt.{Stmt}
-use Rattle.ob_sql.specs.declared.stmt.Stmt.TheVariants.{Create, Insert, Update, Delete, Drop as DropTable, SelectRows as RowsStmt, SelectTotals as TotalsStmt}
-use Rattle.ob_store.proofs.Steps.{later_trans, none_before}
+use Rattle.ob_store.proofs.Steps.{later_trans, none_before, since_later}
 use Rattle.ob_store.specs.Runs.{Began, Later}
 use Rattle.ob_store.specs.State.{Lie, StoreState}
 use Rattle.ob_tables.proofs.HeldLemmas.{held_plain}
 use Rattle.ob_tables.proofs.LawfulLemmas.{leaf_none}
 use Rattle.ob_tables.proofs.PlainLemmas.{IsPlain, none_stops}
 use Rattle.ob_tables.proofs.RunLemmas.{of_other}
-use Rattle.ob_tables.proofs.ServeLemmas.{IsBare, bare_prints}
 use Rattle.ob_tables.proofs.TableLemmas.{tables_flat}
 use Rattle.ob_tables.proofs.ToldLemmas.{cut_seen, early_held, refused_none}
 use Rattle.ob_tables.specs.Agreeing.{Agrees, AreDraws, count_of, high_of, opened_from, public_of, world_of}
 use Rattle.ob_tables.specs.Closing.{next_closing}
 use Rattle.ob_tables.specs.Leaves.{MovesLeaves}
 use Rattle.ob_tables.specs.Refusals.{refused_end}
-use Rattle.ob_tables.specs.Running.{GoesOn, HasNoRows, RefusedEarly, SinkStops, is_fault, outcome_end}
+use Rattle.ob_tables.specs.Running.{GoesOn, RefusedEarly, is_fault, outcome_end}
 use Rattle.ob_tables.specs.Saving.{save_script}
-use Rattle.ob_tables.specs.Serving.{Answered, Means, Serves, Stopped, StopsEmission}
-use Rattle.ob_tables.specs.Telling.{IsNotTampered, Meant, ReadsTrue, Represents, answer_labels, is_refused, meant_script}
+use Rattle.ob_tables.specs.Serving.{Means}
+use Rattle.ob_tables.specs.Telling.{IsNotTampered, Meant, ReadsTrue, Represents, is_refused, meant_script}
 use Rattle.ob_tables.specs.declared.engine.Engine.{Engine}
 use Rattle.ob_tables.specs.declared.stop.RunStop.{RunStop}
 use Rattle.ob_tables.specs.declared.stop.RunStop.TheVariants.{KeeperFault, NoMemory, SinkFault, StashFull, StoreFault, Tampered}
@@ -72,13 +67,15 @@ use Rattle.ob_vault.proofs.WorldSteps.{calm_none}
 use Rattle.ob_vault.specs.State.{RevState, Start, World}
 use Rattle.ob_vault.specs.Tied.{Calm, ReadsIn}
 use Rattle.ob_verdict.proofs.SeenProof.{shows_kind_alone}
-use Rattle.ob_verdict.specs.Outcomes.{Emits, by_fault, refusal_now}
+use Rattle.ob_verdict.specs.Outcomes.{by_fault, refusal_now}
 use Rattle.ob_verdict.specs.declared.outcome.Outcome.{Outcome}
 use Rattle.ob_verdict.specs.declared.outcome.Outcome.TheVariants.{Created, Inserted, Changed, Deleted, Dropped, Rows, Refused}
 use Rattle.ob_exec.proofs.ChangedScripts.{changes_flat, changes_plain, closing_is, run_same, run_whole, saved_changes, saved_saves, whole_saved}
 use Rattle.ob_exec.proofs.FewAsked.{few_behind}
 use Rattle.ob_exec.proofs.Unread.{Unread, reads_back, unread_both, unread_closing, unread_drops, unread_first}
-use Rattle.ob_exec.specs.Ran.{CountsKeeper, LacksNumber, Ran, RanWhole, RunsOut, ServedCause, ShowsNothing, StopsWhere, WantsMemory, is_saved_behind}
+use Rattle.ob_exec.proofs.Shares.{Share}
+use Rattle.ob_exec.specs.Behind.{ended_at}
+use Rattle.ob_exec.specs.Ran.{CarriedOut, CountsKeeper, LacksNumber, RanWhole, RunsOut, ServedCause, StopsWhere, WantsMemory, is_saved_behind}
 use Rattle.ob_exec.specs.Saving.{IsUsedUp, SavesTables, SavingCause}
 
 -- ---- how an answer ends that came to its end
@@ -132,7 +129,7 @@ refusal_own Refusals.PadPassed n is = refl
 refusal_own Refusals.KeyRange n is = refl
 refusal_own Refusals.NeedsKey n is = refl
 
-end_own : (outcome : Outcome) (n : ℕ) → outcome_end outcome n ≡ Whole → is_fault outcome ≡ false
+pub end_own : (outcome : Outcome) (n : ℕ) → outcome_end outcome n ≡ Whole → is_fault outcome ≡ false
 end_own (Refused r) n is = refusal_own r n is
 end_own Created n is = refl
 end_own Inserted n is = refl
@@ -142,38 +139,14 @@ end_own Dropped n is = refl
 end_own (Rows k) n is = refl
 
 -- what holds of an answer then
-whole_of : (failed : Bool) (cut whole : Type 0) → failed ≡ false → by_fault failed cut whole → whole
+pub whole_of : (failed : Bool) (cut whole : Type 0) → failed ≡ false → by_fault failed cut whole → whole
 whole_of true cut whole own is = absurd (cc own)
 whole_of false cut whole own is = is
-
--- nothing was emitted of it
-none_emitted : (stmt : Stmt) (labels : List (List ℕ)) (outcome : Outcome) (events : List Event) → HasNoRows outcome → is_fault outcome ≡ false → Emits stmt labels outcome events → events ≡ []
-none_emitted stmt labels (Refused r) events silent own emits = whole_of (is_store_fault r) _ _ own emits
-none_emitted stmt labels Created events silent own emits = emits
-none_emitted stmt labels Inserted events silent own emits = emits
-none_emitted stmt labels (Changed k) events silent own emits = emits
-none_emitted stmt labels (Deleted k) events silent own emits = emits
-none_emitted stmt labels Dropped events silent own emits = emits
-none_emitted stmt labels (Rows k) events silent own emits = absurd silent
 
 -- it wasn't refused before any access
 early_whole : (o : Option Refusal) (result : Result Outcome RunStop) (now : Seen) → RefusedEarly o result now → now.end ≡ Whole → o ≡ None
 early_whole None result now early whole = refl
 early_whole (Some r) result now early whole = let static = ap (λ (x : Seen). x.end) early.1 in absurd (cc (static, whole))
-
--- the answer to a change is no rows
-bare_change : (tables : Tables) (stmt : Stmt) → changes_tables (skeleton stmt) ≡ true → IsBare (accepted_answer (database tables) stmt)
-bare_change tables (Create table columns capacity shape) changes = tt
-bare_change tables (Insert table columns values) changes = tt
-bare_change tables (Update table sets search) changes = tt
-bare_change tables (Delete table search) changes = tt
-bare_change tables (DropTable table) changes = tt
-bare_change tables (RowsStmt q) changes = absurd (cc changes)
-bare_change tables (TotalsStmt q) changes = absurd (cc changes)
-
-bare_refused : (o : Option Refusal) (answer : Answer) → IsBare answer → IsBare (answered o answer)
-bare_refused None answer bare = bare
-bare_refused (Some r) answer bare = tt
 
 -- one side of a test is true
 either_true : (a b : Bool) → (a || b) ≡ true → (a ≡ true) ⊎ (b ≡ true)
@@ -184,9 +157,8 @@ least : (a b : ℕ) → nat_le a b ≡ true → a ≤ b
 least a b le = grind (arith, nat_tests)
 
 -- ---- behind the engine's share, which came to its end
-module _ {R E : Type 0} (state : R → RevState) (grew cut : E → E → List Event → Type 0) (faults : E → ℕ) (stmt : Stmt) (outcome : Outcome) (old : Engine R) (s : StoreState) (mid : Engine R) (s1 : StoreState)
-    (out_old out_new : E) (agrees : Agrees state old s) (serves : Serves state grew cut faults stmt (Ok outcome) old s mid s1 out_old out_new)
-    (shows : old.public.save ≡ true → changes_tables (skeleton stmt) ≡ true → ShowsNothing (Ok outcome) mid.seen) (saved : is_saved old.public (skeleton stmt) ≡ true) (whole : mid.seen.end ≡ Whole) where
+module _ {R : Type 0} (state : R → RevState) (stmt : Stmt) (owed : List Stmt) (Halts : Type 0) (outcome : Outcome) (old : Engine R) (s : StoreState) (mid : Engine R) (s1 : StoreState)
+    (agrees : Agrees state old s) (share : Share state stmt owed Halts (Ok outcome) old s mid s1) (saved : is_saved old.public (skeleton stmt) ≡ true) (whole : mid.seen.end ≡ Whole) where
   abbrev p : Public
   p = old.public
 
@@ -203,7 +175,7 @@ module _ {R E : Type 0} (state : R → RevState) (grew cut : E → E → List Ev
   saves = saved_saves p sk saved
 
   early : refusal_now p m stmt ≡ None
-  early = early_whole _ (Ok outcome) mid.seen serves.early whole
+  early = early_whole _ (Ok outcome) mid.seen share.early whole
 
   flat : AreFlat (headings_of p.tables)
   flat = tables_flat (agrees.kept (agrees.saved saves)) agrees.tables
@@ -215,16 +187,16 @@ module _ {R E : Type 0} (state : R → RevState) (grew cut : E → E → List Ev
   unkeyed = no_public_access p sk flat
 
   abbrev on : GoesOn state sk (run_next p sk mid.seen) old mid s1
-  on = serves.ran.goes_on
+  on = share.ran.goes_on
 
   plain : mid.seen ≡ seen_to Whole
-  plain = (shows saves changes).plain ∙ ap seen_to whole
+  plain = (share.shows saves changes).plain ∙ ap seen_to whole
 
   own : is_fault outcome ≡ false
-  own = end_own outcome _ (sym serves.ran.ends ∙ whole)
+  own = end_own outcome _ (sym share.ran.ends ∙ whole)
 
   faults_mid : s1.faults ≡ s.faults
-  faults_mid = whole_of (is_fault outcome) _ _ own serves.ran.cause.0
+  faults_mid = whole_of (is_fault outcome) _ _ own share.ran.cause.0
 
   run_all : run_script p sk mid.seen ≡ whole_run p sk mid.seen
   run_all = run_whole p sk mid.seen whole
@@ -237,7 +209,7 @@ module _ {R E : Type 0} (state : R → RevState) (grew cut : E → E → List Ev
   flat_mid = tables_flat (on.agrees.kept (on.agrees.saved saves_mid)) on.agrees.tables
 
   pub few_mid : count_of mid s1 < 2 ^ 63 + 2 ^ 59
-  few_mid = few_behind state old s mid s1 stmt mid.seen agrees saves flat changed changes early whole serves.ran.start serves.ran.asked
+  few_mid = few_behind state old s mid s1 stmt mid.seen agrees saves flat changed changes early whole share.ran.start share.ran.asked
 
   -- ---- accesses
   abbrev run : List Access
@@ -257,16 +229,16 @@ module _ {R E : Type 0} (state : R → RevState) (grew cut : E → E → List Ev
     reads_mid : (tables : Tables) → ReadsTrue state old s t tables → ReadsTrue state old s s1 tables
     reads_mid tables reads = record { tells = reads.tells; held = reads.held; nolie = none_before s1 t later reads.nolie }
 
-    meant_mid : (tables : Tables) (d : Draws) → AreDraws old d → ReadsTrue state old s s1 tables → Meant state stmt m d tables outcome old mid s1
-    meant_mid tables d of reads = whole_of (is_fault outcome) _ _ own (serves.means.told tables d of reads)
+    meant_mid : (tables : Tables) (d : Draws) → AreDraws old d → ReadsTrue state old s s1 tables → Meant state stmt owed m d tables outcome old mid s1
+    meant_mid tables d of reads = whole_of (is_fault outcome) _ _ own (share.means.told tables d of reads)
 
     begun_then : (tables : Tables) (d : Draws) → AreDraws old d → ReadsTrue state old s s tables → (lie : Lie) → t.lie ≡ Some lie → ReadsIn lie (s.asked ++ meant_script d p m tables stmt)
     begun_then tables d of reads lie told = elim (lie_before s1 t lie later told) [
       | inl none ↦
           let meant = meant_mid tables d of (record { tells = reads.tells; held = reads.held; nolie = none }) in
           let there = reads_back lie s1.asked more t.asked unread asked ((calm (calm_none (world_of state mid s1) none)).within lie told) in
-          subst (ReadsIn lie) (serves.ran.asked ∙ ap (λ (x : Seen). s.asked ++ run_script p sk x) meant.seen) there
-      | inr there ↦ serves.means.begun tables d of reads lie there
+          subst (ReadsIn lie) (share.ran.asked ∙ ap (λ (x : Seen). s.asked ++ run_script p sk x) meant.seen) there
+      | inr there ↦ share.means.begun tables d of reads lie there
     ]
 
   -- ---- the tables were saved
@@ -274,7 +246,7 @@ module _ {R E : Type 0} (state : R → RevState) (grew cut : E → E → List Ev
       (done : SavesTables state left (Ok x) mid s1 new t k0 k1) where
     part_is : closing ++ (drop_script left ++ drop_script (opened_from mid)) ≡ saving
     part_is =
-        let closed : opened_from mid ≡ p.closing = serves.ran.from_closing ∙ listed in
+        let closed : opened_from mid ≡ p.closing = share.ran.from_closing ∙ listed in
         λ i. closing_written i ++ (drop_script (left_is i) ++ drop_script (closed i))
 
     script_then : run ++ saving ≡ script p sk new.seen
@@ -282,7 +254,7 @@ module _ {R E : Type 0} (state : R → RevState) (grew cut : E → E → List Ev
 
     asked_then : t.asked ≡ s.asked ++ script p sk new.seen
     asked_then =
-        done.asked.asked ∙ (λ i. serves.ran.asked i ++ part_is i) ∙ append_assoc s.asked run saving ∙ ap (λ (l : List Access). s.asked ++ l) script_then
+        done.asked.asked ∙ (λ i. share.ran.asked i ++ part_is i) ∙ append_assoc s.asked run saving ∙ ap (λ (l : List Access). s.asked ++ l) script_then
 
     more_asked : t.asked ≡ s1.asked → ⊥
     more_asked same =
@@ -310,7 +282,7 @@ module _ {R E : Type 0} (state : R → RevState) (grew cut : E → E → List Ev
         let alive : mid.ended ≡ new.ended = on.lives ∙ sym done.goes_on.lives in
         subst (λ (y : Seen). MovesLeaves d (draws_taken p sk y.end) (height_at p sk) old.indexes.items y.leaf new.ended new.indexes.items) (sym done.seen)
         (subst (λ (b : Bool). MovesLeaves d (draws_taken p sk mid.seen.end) (height_at p sk) old.indexes.items mid.seen.leaf b new.indexes.items) alive
-        (subst (λ (xs : List Index). MovesLeaves d (draws_taken p sk mid.seen.end) (height_at p sk) old.indexes.items mid.seen.leaf mid.ended xs) (sym done.indexes) (serves.ran.leaves d of)))
+        (subst (λ (xs : List Index). MovesLeaves d (draws_taken p sk mid.seen.end) (height_at p sk) old.indexes.items mid.seen.leaf mid.ended xs) (sym done.indexes) (share.ran.leaves d of)))
 
     free_then : IsFree p new.room
     free_then = let free = done.room in record { idle = free.idle; rows = free.rows ∙ ap (λ (q : Public). q.buffer) on.public; pack = free.pack ∙ ap (λ (q : Public). q.pack) on.public }
@@ -318,22 +290,22 @@ module _ {R E : Type 0} (state : R → RevState) (grew cut : E → E → List Ev
     ran_then : RanWhole state sk (Ok outcome) old s new t
     ran_then = record {
       asked = asked_then;
-      later = later_trans s s1 t serves.ran.later done.later;
-      keys = done.keys ∙ serves.ran.keys;
-      start = done.start ∙ serves.ran.start;
+      later = since_later s t (later_trans s s1 t share.ran.later done.later);
+      keys = done.keys ∙ share.ran.keys;
+      start = done.start ∙ share.ran.start;
       from_closing = λ not. absurd (cc (not, saved));
-      ends = ap (λ (y : Seen). y.end) done.seen ∙ whole ∙ sym (end_stays outcome _ _ (sym serves.ran.ends ∙ whole));
+      ends = ap (λ (y : Seen). y.end) done.seen ∙ whole ∙ sym (end_stays outcome _ _ (sym share.ran.ends ∙ whole));
       asks = λ faulted.
-          let less = serves.ran.asks faulted in
+          let less = share.ran.asks faulted in
           let sum = ap length done.asked.asked in
           let parts = length-append s1.asked (closing ++ (drop_script left ++ drop_script (opened_from mid))) in
           omega (arith, less, sum, parts);
       cause = (
-        subst (λ (n : ℕ). by_fault (is_fault outcome) (Rises s.faults n) (n ≡ s.faults)) (sym done.asked.faults) serves.ran.cause.0,
-        λ calm. done.calm (serves.ran.cause.1 calm),
+        subst (λ (n : ℕ). by_fault (is_fault outcome) (Rises s.faults n) (n ≡ s.faults)) (sym done.asked.faults) share.ran.cause.0,
+        λ calm. done.calm (share.ran.cause.1 calm),
       );
       room = free_then;
-      opened = let kept = serves.ran.opened.kept in let high = done.high in record { kept = omega (arith, kept, high); some = λ any. done.some more_asked };
+      opened = let kept = share.ran.opened.kept in let high = done.high in record { kept = omega (arith, kept, high); some = λ any. done.some more_asked };
       leaves = leaves_then;
       goes_on = record { agrees = done.goes_on.agrees; public = public_then; lives = done.goes_on.lives; drawn = drawn_then };
       settled = done.goes_on.settled;
@@ -348,7 +320,7 @@ module _ {R E : Type 0} (state : R → RevState) (grew cut : E → E → List Ev
     abbrev dropping : List Access
     dropping = closing ++ (drop_script left ++ drop_script (opened_from mid))
 
-    means_then : Means state stmt (Ok outcome) old s new t
+    means_then : Means state stmt owed (Ok outcome) old s new t
     means_then = record {
       told = λ tables d of reads.
           let before = reads_mid new t dropping unread_then done.asked.asked done.later done.calm tables reads in
@@ -356,38 +328,25 @@ module _ {R E : Type 0} (state : R → RevState) (grew cut : E → E → List Ev
           of_other _ _ (is_fault outcome) own (record {
             answer = meant.answer;
             seen = done.seen ∙ meant.seen;
-            held = done.goes_on.told (subst (λ (b : Bool). IsTrue b) (sym serves.ran.later.tells) reads.tells) (settle d p m tables stmt) meant.held;
+            held = done.goes_on.told (subst (λ (b : Bool). IsTrue b) (sym share.ran.later.tells) reads.tells) (settle_all d p m (stmt ∷ owed) tables) meant.held;
           });
-      room = λ tables d of reads. serves.means.room tables d of (reads_mid new t dropping unread_then done.asked.asked done.later done.calm tables reads);
+      room = λ tables d of reads. share.means.room tables d of (reads_mid new t dropping unread_then done.asked.asked done.later done.calm tables reads);
       honest = λ tables reads. tt;
       held = λ tables d of reads. tt;
       full = λ tables d of reads. tt;
       begun = begun_then new t dropping unread_then done.asked.asked done.later done.calm;
     }
 
-    answered_then : Answered state grew stmt outcome old s t out_old out_new
-    answered_then =
-        let answer = serves.answered in
-        record {
-          events = answer.events;
-          took = answer.took;
-          emits = answer.emits;
-          told = λ tables reads. answer.told tables (reads_mid new t dropping unread_then done.asked.asked done.later done.calm tables reads);
-        }
-
-    pub ran_saved : Ran state grew cut faults stmt (Ok outcome) old s new t out_old out_new k0 k1
-    ran_saved = record {
+    pub carried_saved : CarriedOut state stmt owed Halts (Ok outcome) old s new t k0 k1
+    carried_saved = record {
       ran = ran_then;
-      early = subst (λ (y : Seen). RefusedEarly (refusal_now p m stmt) (Ok outcome) y) (sym done.seen) serves.early;
-      lawful = subst (λ (y : Seen). Lawful p m stmt y) (sym done.seen) serves.lawful;
+      early = subst (λ (y : Seen). RefusedEarly (refusal_now p m stmt) (Ok outcome) y) (sym done.seen) share.early;
+      lawful = subst (λ (y : Seen). Lawful p m stmt y) (sym done.seen) share.lawful;
       memory = λ is. absurd (cc is);
       full = λ is. absurd (cc is);
       seals = λ good rows one closings.
-          seals_join good (world_of state old s) (world_of state mid s1) (world_of state new t) serves.ran.later (serves.seals good rows one)
+          seals_join good (world_of state old s) (world_of state mid s1) (world_of state new t) share.ran.later (share.seals good rows one)
           (done.sealed good (subst (λ (q : Public). AcceptsRows good q.pack) (sym on.public) rows) (closings saves));
-      answered = answered_then;
-      stopped = tt;
-      sink = serves.sink;
       emits = λ is. absurd (cc is);
       means = means_then;
       keeper = inr (record {
@@ -395,10 +354,10 @@ module _ {R E : Type 0} (state : R → RevState) (grew cut : E → E → List Ev
         outcome = outcome;
         engine = mid;
         store = s1;
-        ran = serves.ran;
+        ran = share.ran;
         whole = whole;
-        means = serves.means;
-        later = done.later;
+        means = share.means;
+        later = since_later s1 t done.later;
         public = done.goes_on.public;
         answered = refl;
         held = done.held;
@@ -415,7 +374,7 @@ module _ {R E : Type 0} (state : R → RevState) (grew cut : E → E → List Ev
     now = seen_to (Cut n)
 
     abbrev new : Engine R
-    new = record last { seen = seen_to (Cut n); public = record last.public { next_region = last.vault.next }; ended = true }
+    new = ended_at n last
 
     abbrev begun : Began closing s1 t
     begun = halts.began
@@ -437,7 +396,7 @@ module _ {R E : Type 0} (state : R → RevState) (grew cut : E → E → List Ev
       split =
           append_assoc run begun.done (begun.rest ++ dropped) ∙ ap (λ (l : List Access). run ++ l) (sym (append_assoc begun.done begun.rest dropped))
           ∙ ap (λ (l : List Access). run ++ (l ++ dropped)) begun.split ∙ whole_is;
-      asked = begun.asked ∙ ap (λ (l : List Access). l ++ begun.done) serves.ran.asked ∙ append_assoc s.asked run begun.done;
+      asked = begun.asked ∙ ap (λ (l : List Access). l ++ begun.done) share.ran.asked ∙ append_assoc s.asked run begun.done;
     }
 
     size : n ≡ length (run ++ begun.done)
@@ -469,7 +428,7 @@ module _ {R E : Type 0} (state : R → RevState) (grew cut : E → E → List Ev
     ]
 
     calm_cut : Calm (world_of state old s) → Calm (world_of state new t)
-    calm_cut calm = halts.calm (serves.ran.cause.1 calm)
+    calm_cut calm = halts.calm (share.ran.cause.1 calm)
 
     store_cause : Rises s1.faults t.faults ⊎ IsUsedUp mid s1 t → Rises s.faults t.faults ⊎ LacksNumber p sk (world_of state old s) (world_of state new t)
     store_cause (inl rise) = inl (subst (λ (k : ℕ). Rises k t.faults) faults_mid rise)
@@ -515,33 +474,17 @@ module _ {R E : Type 0} (state : R → RevState) (grew cut : E → E → List Ev
     plain_stop StashFull cause = absurd cause
     plain_stop (Tampered q x) cause = absurd cause
 
-    ends_stop : (r : RunStop) → SavingCause r mid s1 t k0 k1 → grew out_old out_new [] → StopsEmission grew cut r out_old out_new []
-    ends_stop StoreFault cause took = (took, refl)
-    ends_stop NoMemory cause took = inl took
-    ends_stop KeeperFault cause took = (took, refl)
-    ends_stop SinkFault cause took = absurd cause
-    ends_stop StashFull cause took = absurd cause
-    ends_stop (Tampered q x) cause took = absurd cause
-
-    sink_stop : (r : RunStop) → SavingCause r mid s1 t k0 k1 → SinkStops (Err r) (faults out_old) (faults out_new)
-    sink_stop StoreFault cause = serves.sink
-    sink_stop NoMemory cause = serves.sink
-    sink_stop KeeperFault cause = serves.sink
-    sink_stop SinkFault cause = absurd cause
-    sink_stop StashFull cause = absurd cause
-    sink_stop (Tampered q x) cause = absurd cause
-
     -- ---- rows that were open
     opened_cut : Opens (script p sk now) (high_of old) (high_of last)
     opened_cut = record {
-      kept = let kept = serves.ran.opened.kept in let high = halts.high in omega (arith, kept, high);
+      kept = let kept = share.ran.opened.kept in let high = halts.high in omega (arith, kept, high);
       some = λ any. by_done begun.done refl (subst (λ (l : List Access). IsTrue (list_any is_of_rows l)) cut_is any);
     }
       where
         by_done : (l : List Access) → begun.done ≡ l → IsTrue (list_any is_of_rows (run ++ begun.done)) → 1 ≤ high_of last
         by_done [] is any =
             let same : run ++ begun.done ≡ run = ap (λ (l : List Access). run ++ l) is ∙ append-nil run in
-            let one = serves.ran.opened.some (subst (λ (l : List Access). IsTrue (list_any is_of_rows l)) same any) in
+            let one = share.ran.opened.some (subst (λ (l : List Access). IsTrue (list_any is_of_rows l)) same any) in
             let high = halts.high in
             omega (arith, one, high)
         by_done (x ∷ xs) is any =
@@ -556,9 +499,9 @@ module _ {R E : Type 0} (state : R → RevState) (grew cut : E → E → List Ev
     ran_cut : RanWhole state sk (Err stop) old s new t
     ran_cut = record {
       asked = asked_cut;
-      later = later_trans s s1 t serves.ran.later halts.later;
-      keys = halts.keys ∙ serves.ran.keys;
-      start = halts.start ∙ serves.ran.start;
+      later = since_later s t (later_trans s s1 t share.ran.later halts.later);
+      keys = halts.keys ∙ share.ran.keys;
+      start = halts.start ∙ share.ran.start;
       from_closing = λ not. absurd (cc (not, saved));
       ends = ap (λ (k : ℕ). Cut k) count;
       asks = λ faulted. absurd faulted;
@@ -571,21 +514,21 @@ module _ {R E : Type 0} (state : R → RevState) (grew cut : E → E → List Ev
       kept = λ saves_it not q below.
           let next_is = agrees.next in
           let made = ap (λ (r : Public). r.next_region) on.public in
-          halts.kept q (λ same. omega (arith, below, made, same)) ∙ serves.ran.kept saves_it q (omega (arith, below, next_is));
+          halts.kept q (λ same. omega (arith, below, made, same)) ∙ share.ran.kept saves_it q (omega (arith, below, next_is));
       stops = where_stopped stop halts.cause;
     }
 
     -- ---- want of memory
-    wants : Began (make_at (next_closing mid s1).region (next_closing mid s1).blocks 1024) s1 t → WantsMemory p stmt now s t (HasHalted cut out_old out_new)
+    wants : Began (make_at (next_closing mid s1).region (next_closing mid s1).blocks 1024) s1 t → WantsMemory p stmt now s t Halts
     wants made = by_done made.done made.rest made.split made.asked
       where
         by_done : (done rest : List Access) → done ++ rest ≡ make_at (next_closing mid s1).region (next_closing mid s1).blocks 1024 → t.asked ≡ s1.asked ++ done
-            → WantsMemory p stmt now s t (HasHalted cut out_old out_new)
+            → WantsMemory p stmt now s t Halts
         by_done [] rest split asked = record {
           done = run;
           rest = saving;
           split = ap (λ (l : List Access). l ++ saving) front ∙ sym (whole_saved p sk now saves changed changes);
-          asked = asked ∙ append-nil s1.asked ∙ serves.ran.asked;
+          asked = asked ∙ append-nil s1.asked ∙ share.ran.asked;
           place = inr (inr (inr (saved, refl)));
         }
         by_done (x ∷ []) rest split asked =
@@ -596,7 +539,7 @@ module _ {R E : Type 0} (state : R → RevState) (grew cut : E → E → List Ev
               done = run ++ x ∷ [];
               rest = writes_then;
               split = append_assoc run (x ∷ []) writes_then ∙ ap (λ (y : Access). run ++ y ∷ writes_then) is ∙ whole_is;
-              asked = asked ∙ ap (λ (l : List Access). l ++ x ∷ []) serves.ran.asked ∙ append_assoc s.asked run (x ∷ []);
+              asked = asked ∙ ap (λ (l : List Access). l ++ x ∷ []) share.ran.asked ∙ append_assoc s.asked run (x ∷ []);
               place = inl (inr (ends-more run (x ∷ []) (subst (λ (y : Access). IsTrue (ends_with_make (y ∷ []))) (sym is) refl)));
             }
         by_done (x ∷ y ∷ done) rest split asked =
@@ -616,7 +559,7 @@ module _ {R E : Type 0} (state : R → RevState) (grew cut : E → E → List Ev
     unread_begun : Unread begun.done
     unread_begun = unread_first begun.done begun.rest (subst Unread (sym begun.split) (unread_closing (next_closing mid s1).region (next_closing mid s1).blocks 1024))
 
-    means_cut : Means state stmt (Err stop) old s new t
+    means_cut : Means state stmt owed (Err stop) old s new t
     means_cut = record {
       told = λ tables d of reads. tt;
       room = λ tables d of reads. tt;
@@ -626,24 +569,9 @@ module _ {R E : Type 0} (state : R → RevState) (grew cut : E → E → List Ev
       begun = begun_then new t begun.done unread_begun begun.asked halts.later halts.calm;
     }
 
-    stopped_cut : Stopped state grew cut stmt stop old s new t out_old out_new
-    stopped_cut =
-        let answer = serves.answered in
-        let silent = (shows saves changes).silent in
-        let none : answer.events ≡ [] = none_emitted stmt (answer_labels stmt p) outcome answer.events silent own answer.emits in
-        record {
-          events = [];
-          ends = ends_stop stop halts.cause (subst (λ (events : List Event). grew out_old out_new events) none answer.took);
-          told = λ tables reads. record {
-            whole = [];
-            prints = bare_prints (answer_labels stmt p) (verdict p m tables stmt) (bare_refused (refusal p m tables stmt) (accepted_answer (database tables) stmt) (bare_change tables stmt changes));
-            begun = ([], refl);
-          };
-        }
-
     lawful_cut : Lawful p m stmt now
     lawful_cut = record {
-      static = (λ is. absurd (cc is), λ some. let static = serves.lawful.static.1 some in absurd (cc (static, whole)));
+      static = (λ is. absurd (cc is), λ some. let static = share.lawful.static.1 some in absurd (cc (static, whole)));
       holds = tt;
       leaf = leaf_none p stmt None (Cut n) unkeyed refl;
       cut = let long = ap length total.split in let parts = length-append (run ++ begun.done) (begun.rest ++ dropped) in let same = size in omega (arith, long, parts, same);
@@ -652,19 +580,16 @@ module _ {R E : Type 0} (state : R → RevState) (grew cut : E → E → List Ev
     as_stop : (r : RunStop) → stop ≡ r → SavingCause r mid s1 t k0 k1
     as_stop r is = subst (λ (x : RunStop). SavingCause x mid s1 t k0 k1) is halts.cause
 
-    pub ran_halted : Ran state grew cut faults stmt (Err stop) old s new t out_old out_new k0 k1
-    ran_halted = record {
+    pub carried_halted : CarriedOut state stmt owed Halts (Err stop) old s new t k0 k1
+    carried_halted = record {
       ran = ran_cut;
       early = refused_none (refusal_now p m stmt) (Err stop) now early (λ is. absurd (cc is));
       lawful = lawful_cut;
       memory = λ is. wants (as_stop NoMemory (cc is)).0;
       full = λ is. absurd (as_stop StashFull (cc is));
       seals = λ good rows one closings.
-          seals_join good (world_of state old s) (world_of state mid s1) (world_of state new t) serves.ran.later (serves.seals good rows one)
+          seals_join good (world_of state old s) (world_of state mid s1) (world_of state new t) share.ran.later (share.seals good rows one)
           (halts.sealed good (subst (λ (q : Public). AcceptsRows good q.pack) (sym on.public) rows) (closings saves));
-      answered = tt;
-      stopped = stopped_cut;
-      sink = sink_stop stop halts.cause;
       emits = λ is. absurd (as_stop SinkFault (cc is));
       means = means_cut;
       keeper = inr (record {
@@ -672,10 +597,10 @@ module _ {R E : Type 0} (state : R → RevState) (grew cut : E → E → List Ev
         outcome = outcome;
         engine = mid;
         store = s1;
-        ran = serves.ran;
+        ran = share.ran;
         whole = whole;
-        means = serves.means;
-        later = halts.later;
+        means = share.means;
+        later = since_later s1 t halts.later;
         public = tt;
         answered = halts.cause;
         held = tt;

@@ -42,6 +42,7 @@ synced : (s t : StoreState) → Syncs s t → t.faults ≡ s.faults → ChangesN
 synced s t syncs faults = record {
   spare = let same = syncs.spare in omega (arith, same);
   asked = syncs.asked;
+  log = syncs.log;
   faults = faults;
   slips = syncs.slips;
   tells = syncs.tells;
@@ -53,6 +54,7 @@ synced s t syncs faults = record {
 
 later_syncs : (s t : StoreState) → Syncs s t → Later s t
 later_syncs s t syncs = record {
+  log = syncs.log;
   faults = syncs.faults;
   tells = syncs.tells;
   lie = λ lie is. syncs.lie ∙ is;

@@ -2,3 +2,5 @@ pub mod Sources
 pub mod Totalling
 pub mod Saving
 pub mod Ran
+pub mod Behind
+pub mod RanBatch

@@ -1,5 +1,5 @@
 -- What a statement does behind which tables are saved where they are to be, whatever it is answered.
-use Rattle.std.specs.Prelude.{◌≡◌, ◌≢◌, ◌⊎◌, ◌&&◌, ◌+◌, ◌-◌, ◌^◌, ◌<◌, ◌≤◌, ◌++◌, ⊤, ℕ, Bool, true, false, List, None, Some, Result, Ok, Err, IfOk, IfErr, OnOk, OnErr, MatchResult, length}
+use Rattle.std.specs.Prelude.{◌≡◌, ◌≢◌, ◌⊎◌, ◌&&◌, ◌+◌, ◌-◌, ◌^◌, ◌<◌, ◌≤◌, ◌++◌, ⊤, ℕ, Bool, true, false, List, [], None, Some, Result, Ok, Err, IfOk, IfErr, OnOk, OnErr, MatchResult, length}
 use Rattle.ob_base.specs.Accesses.{makes, writes}
 use Rattle.ob_base.specs.Counts.{Rises}
 use Rattle.ob_base.specs.Events.{Event}
@@ -7,7 +7,7 @@ use Rattle.ob_base.specs.declared.access.Access.{Access}
 use Rattle.ob_base.specs.declared.config.Public.{Public}
 use Rattle.ob_base.specs.declared.mark.Mark.{Mark}
 use Rattle.ob_base.specs.declared.seen.End.{End}
-use Rattle.ob_base.specs.declared.seen.End.TheVariants.{Static, Whole, AfterCount, Cut}
+use Rattle.ob_base.specs.declared.seen.End.TheVariants.{Static, Whole, AfterCount, Joined, Cut}
 use Rattle.ob_base.specs.declared.seen.Seen.{Seen}
 use Rattle.ob_base.specs.declared.skeleton.Skeleton.{Skeleton}
 use Rattle.ob_mean.specs.Lawful.{Lawful, height_at}
@@ -24,7 +24,7 @@ use Rattle.ob_select.specs.Selecting.{AcceptsRows}
 use Rattle.ob_select.specs.Settings.{IsFree}
 use Rattle.ob_sql.specs.Skeleton.{skeleton}
 use Rattle.ob_sql.specs.declared.stmt.Stmt.{Stmt}
-use Rattle.ob_store.specs.Runs.{Later}
+use Rattle.ob_store.specs.Runs.{Since}
 use Rattle.ob_store.specs.State.{StoreState}
 use Rattle.ob_vault.specs.Calls.{Seals}
 use Rattle.ob_vault.specs.State.{RevState, World}
@@ -47,6 +47,7 @@ abbrev pub is_whole : End → Bool
 is_whole Static = false
 is_whole Whole = true
 is_whole AfterCount = false
+is_whole Joined = false
 is_whole (Cut n) = false
 
 -- tables are saved behind one that changes them and came to its end
@@ -133,7 +134,7 @@ pub record RanWhole {R : Type 0} (state : R → RevState) (outline : Skeleton)
     (result : Result Outcome RunStop) (old : Engine R) (s : StoreState) (new : Engine R)
     (t : StoreState) : Type 0 where
   pub asked : t.asked ≡ s.asked ++ script (public_of old) outline (seen_of new)
-  pub later : Later s t
+  pub later : Since s t
   pub keys : engine_keys new ≡ engine_keys old
   pub start : engine_start new ≡ engine_start old
   pub from_closing : is_saved (public_of old) outline ≡ false → opened_from new ≡ opened_from old
@@ -160,7 +161,7 @@ pub record RanWhole {R : Type 0} (state : R → RevState) (outline : Skeleton)
 
 -- ---- the keeper
 -- they were, or that stopped it, behind the engine's own share, which was answered so and left this engine and this store
-pub record WasSaved {R : Type 0} (state : R → RevState) (stmt : Stmt)
+pub record WasSaved {R : Type 0} (state : R → RevState) (stmt : Stmt) (owed : List Stmt)
     (result : Result Outcome RunStop) (old : Engine R) (s : StoreState) (new : Engine R)
     (t : StoreState) (keeper_old keeper_new : KeeperState) : Type 0 where
   pub saved : is_saved (public_of old) (skeleton stmt) ≡ true
@@ -169,8 +170,8 @@ pub record WasSaved {R : Type 0} (state : R → RevState) (stmt : Stmt)
   pub store : StoreState
   pub ran : RanStatement state (skeleton stmt) (Ok outcome) old s engine store
   pub whole : (seen_of engine).end ≡ Whole
-  pub means : Means state stmt (Ok outcome) old s engine store
-  pub later : Later store t
+  pub means : Means state stmt owed (Ok outcome) old s engine store
+  pub later : Since store t
   -- then a closing is made
   pub public : OnOk result (public_of new ≡ saved_public (public_of engine))
   pub answered : MatchResult result (λ answer. answer ≡ outcome)
@@ -185,19 +186,20 @@ pub record WasSaved {R : Type 0} (state : R → RevState) (stmt : Stmt)
       → t.kept q ≡ store.kept q)
 
 -- the keeper is as it was where tables weren't saved
-abbrev pub KeeperBehind : {R : Type 0} → (R → RevState) → Stmt → Result Outcome RunStop
-    → (old : Engine R) → StoreState → (new : Engine R) → StoreState
+abbrev pub KeeperBehind : {R : Type 0} → (R → RevState) → Stmt → (owed : List Stmt)
+    → Result Outcome RunStop → (old : Engine R) → StoreState → (new : Engine R) → StoreState
     → (keeper_old keeper_new : KeeperState) → Type 0
-KeeperBehind state stmt result old s new t keeper_old keeper_new =
+KeeperBehind state stmt owed result old s new t keeper_old keeper_new =
     ((keeper_new ≡ keeper_old)
     × WasNotSaved (public_of old) (skeleton stmt) result (seen_of new).end)
-    ⊎ WasSaved state stmt result old s new t keeper_old keeper_new
+    ⊎ WasSaved state stmt owed result old s new t keeper_old keeper_new
 
 -- ---- a statement was carried out
-pub record Ran {R E : Type 0} (state : R → RevState) (grew cut : E → E → List Event → Type 0)
-    (faults : E → ℕ) (stmt : Stmt) (result : Result Outcome RunStop)
-    (old : Engine R) (s : StoreState) (new : Engine R) (t : StoreState)
-    (out_old out_new : E) (keeper_old keeper_new : KeeperState) : Type 0 where
+-- but for what it emits: with it those that are owed were served, in its accesses, and an emitter wanted memory only where
+-- it halts
+pub record CarriedOut {R : Type 0} (state : R → RevState) (stmt : Stmt) (owed : List Stmt)
+    (Halts : Type 0) (result : Result Outcome RunStop) (old : Engine R) (s : StoreState)
+    (new : Engine R) (t : StoreState) (keeper_old keeper_new : KeeperState) : Type 0 where
   -- whatever the store answers, its accesses are those of what is public, its skeleton and what is seen of it
   pub ran : RanWhole state (skeleton stmt) result old s new t
   -- it is refused before any access exactly where its meaning says so
@@ -205,23 +207,32 @@ pub record Ran {R E : Type 0} (state : R → RevState) (grew cut : E → E → L
   -- what is seen may be seen
   pub lawful : Lawful (public_of old) (count_of old s) stmt (seen_of new)
   -- want of memory tells nothing of rows
-  pub memory : result ≡ Err NoMemory
-      → WantsMemory (public_of old) stmt (seen_of new) s t (HasHalted cut out_old out_new)
+  pub memory : result ≡ Err NoMemory → WantsMemory (public_of old) stmt (seen_of new) s t Halts
   -- a stash is full only where an access read more rows than fit
   pub full : result ≡ Err StashFull → (d : Draws) → AreDraws old d → FillsStash (next_draw d)
       (public_of old) (count_of old s) stmt (indexes_of old) (seen_of new).leaf s.asked
       (world_of state new t)
+  -- an emitter stops nothing but a SELECT
+  pub emits : result ≡ Err SinkFault → MayEmit stmt
   -- nothing comes to lie in clear
   pub seals : (good : ℕ → List ℕ → Bool) → AcceptsRows good (public_of old).pack
       → AcceptsRows good 1 → ((public_of old).save ≡ true → AcceptsClosings good)
       → Seals good (world_of state old s) (world_of state new t)
+  pub means : Means state stmt owed result old s new t
+  -- what becomes of the tables behind it
+  pub keeper : KeeperBehind state stmt owed result old s new t keeper_old keeper_new
+  pub counts : CountsKeeper result keeper_old keeper_new
+
+-- and what it emitted
+pub record Ran {R E : Type 0} (state : R → RevState) (grew cut : E → E → List Event → Type 0)
+    (faults : E → ℕ) (stmt : Stmt) (result : Result Outcome RunStop)
+    (old : Engine R) (s : StoreState) (new : Engine R) (t : StoreState)
+    (out_old out_new : E) (keeper_old keeper_new : KeeperState) : Type 0 where
+  pub carried : CarriedOut state stmt [] (HasHalted cut out_old out_new) result old s new t
+      keeper_old keeper_new
+  -- the store still lists its accesses
+  pub log : t.let_go ≡ s.let_go
   pub answered : IfOk result (λ outcome. Answered state grew stmt outcome old s t out_old out_new)
   pub stopped : IfErr result (λ stop.
       Stopped state grew cut stmt stop old s new t out_old out_new)
   pub sink : SinkStops result (faults out_old) (faults out_new)
-  -- an emitter stops nothing but a SELECT
-  pub emits : result ≡ Err SinkFault → MayEmit stmt
-  pub means : Means state stmt result old s new t
-  -- what becomes of the tables behind it
-  pub keeper : KeeperBehind state stmt result old s new t keeper_old keeper_new
-  pub counts : CountsKeeper result keeper_old keeper_new

@@ -1,9 +1,11 @@
 -- What saving an engine's tables behind a statement asks for, and what it leaves in the store and with the keeper, whatever
 -- fails.
-use Rattle.std.specs.Prelude.{◌≡◌, ◌≢◌, ◌⊎◌, ◌≤◌, ◌++◌, ℕ, Bool, true, false, IsTrue, List, Option, None, Some, Result, IfErr, OnOk, OnErr}
+use Rattle.std.specs.Prelude.{◌≡◌, ◌≢◌, ◌⊎◌, ◌≤◌, ◌<◌, ◌+◌, ◌^◌, ◌++◌, ℕ, Bool, true, false, IsTrue, List, Option, None, Some, Result, IfErr, OnOk, OnErr}
 use Rattle.ob_base.specs.Accesses.{drop_script, make_at}
 use Rattle.ob_base.specs.Counts.{Rises}
+use Rattle.ob_base.specs.Stored.{headings_of}
 use Rattle.ob_base.specs.declared.mark.Mark.{Mark}
+use Rattle.ob_mean.specs.Flats.{AreFlat}
 use Rattle.ob_mean.specs.Verdict.{Tables}
 use Rattle.ob_reopen.specs.Closed.{is_used_up}
 use Rattle.ob_reopen.specs.Closings.{saved_mark}
@@ -20,9 +22,9 @@ use Rattle.ob_store.specs.State.{StoreState}
 use Rattle.ob_vault.specs.Calls.{Seals}
 use Rattle.ob_vault.specs.State.{RevState}
 use Rattle.ob_vault.specs.Tied.{Calm}
-use Rattle.ob_tables.specs.Agreeing.{Agrees, draws_of, engine_keys, engine_start, has_ended, high_of, indexes_of, opened_from, public_of, replaced_of, seen_of, world_of}
+use Rattle.ob_tables.specs.Agreeing.{Agrees, count_of, draws_of, engine_keys, engine_start, has_ended, high_of, indexes_of, opened_from, public_of, replaced_of, seen_of, world_of}
 use Rattle.ob_tables.specs.Closing.{next_closing}
-use Rattle.ob_tables.specs.Saving.{RestsIn, save_script}
+use Rattle.ob_tables.specs.Saving.{RestsIn, Waits, save_script}
 use Rattle.ob_tables.specs.Telling.{Represents}
 use Rattle.ob_tables.specs.declared.engine.Engine.{Engine}
 use Rattle.ob_tables.specs.declared.stop.RunStop.{RunStop}
@@ -36,6 +38,18 @@ pub record MaySave {R : Type 0} (Saves : Type 0) (e : Engine R) : Type 0 where
   pub salted : (public_of e).save ≡ true → (q : ℕ) → (public_of e).next_region ≤ q
       → (pair_of (engine_keys e) q).salt ≢ None
   pub listed : (public_of e).save ≡ true → opened_from e ≡ (public_of e).closing
+
+-- and once its own share of a statement is done: it takes statements, and has nothing to discard but the region that the
+-- statement left; none of its tables is an index, and there are numbers and a salt left for the closing
+pub record MayBeSaved {R : Type 0} (state : R → RevState) (left : Option ℕ) (e : Engine R)
+    (s : StoreState) : Type 0 where
+  pub agrees : Agrees state e s
+  pub lives : has_ended e ≡ false
+  pub waits : Waits state left e s
+  pub settled : replaced_of e ≡ None
+  pub flat : AreFlat (headings_of (public_of e).tables)
+  pub few : count_of e s < 2 ^ 63 + 2 ^ 59
+  pub salted : (pair_of (engine_keys e) (public_of e).next_region).salt ≢ None
 
 -- ---- what it does
 -- the keeper holds the mark of the closing that is made next, and the tables that the engine holds rest there

@@ -1,12 +1,8 @@
 //! What becomes of the tables of an engine behind a statement that changed them: they are saved, or they aren't.
-ghost use Rattle.std.specs.Prelude.{◌≡◌, ◌≢◌, ◌<◌, ◌+◌, ◌^◌, ⊤, ℕ, None, false, true};
-ghost use Rattle.ob_base.specs.Stored.{headings_of};
-ghost use Rattle.ob_exec.specs.Saving.{SavesTables, saving_stop};
-ghost use Rattle.ob_mean.specs.Flats.{AreFlat};
+ghost use Rattle.std.specs.Prelude.{◌≡◌, ⊤, ℕ, None, true};
+ghost use Rattle.ob_exec.specs.Saving.{MayBeSaved, SavesTables, saving_stop};
 ghost use Rattle.ob_reopen.specs.Keepers.{KeeperState};
-ghost use Rattle.ob_seal.specs.KeySet.{pair_of};
-ghost use Rattle.ob_tables.specs.Agreeing.{Agrees, count_of, engine_keys, has_ended, public_of, replaced_of};
-ghost use Rattle.ob_tables.specs.Saving.{Waits};
+ghost use Rattle.ob_tables.specs.Agreeing.{public_of};
 
 use ob_reopen::Keeper;
 use ob_store::{BlockStore, Saving};
@@ -37,14 +33,7 @@ pub trait Behind<S: BlockStore> {
         store: &mut S,
         left: Option<u64>,
     ) -> Result<(), RunStop>
-        requires agrees { Agrees R.state engine.old (S.state store.old) }
-        requires lives { has_ended engine.old ≡ false }
-        requires waits { Waits R.state left engine.old (S.state store.old) }
-        requires settled { replaced_of engine.old ≡ None }
-        requires flat { AreFlat (headings_of (public_of engine.old).tables) }
-        requires few { count_of engine.old (S.state store.old) < 2 ^ 63 + 2 ^ 59 }
-        requires salted { (pair_of (engine_keys engine.old) (public_of engine.old).next_region).salt
-            ≢ None }
+        requires may { MayBeSaved R.state left engine.old (S.state store.old) }
         requires saves { (public_of engine.old).save ≡ true → Saves self.old }
         ensures saves { (public_of engine.old).save ≡ true → SavesTables R.state left result
             engine.old (S.state store.old) engine.new (S.state store.new)

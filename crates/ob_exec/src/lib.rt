@@ -1,24 +1,31 @@
 //! Statements over the tables of an engine, in a block store that others watch and change: SELECT of rows, from a
-//! table or a join, SELECT of totals, and `run`, which carries out any statement.
+//! table or a join, SELECT of totals, `run`, which carries out any statement, and `run_batch`, which serves INSERTs together.
 //!
 //! What is promised of `run` is `Ran` of `specs/Ran`: its accesses follow from what is public, the statement without its
 //! literals and conditions, and what is seen of it, whatever the store answers; and where nobody changed a block, its
 //! answer is that of the meaning. Where tables are saved, what it is handed as `Behind` does so before the answer
-//! (`SavesTables` of `specs/Saving`), as `SavedBy` a keeper; else it is handed `Unsaved`.
+//! (`SavesTables` of `specs/Saving`), as `SavedBy` a keeper; else it is handed `Unsaved`. Of `run_batch` the same is promised
+//! by `RanBatch`: what the first of a batch does is what they all do.
 //!
 //! `running` begins each statement, by what is refused before any access, by the index that it accesses, and else
 //! by its kind: what makes or changes a table is a call of `ob_tables`. `rows` and `totals` are the SELECTs;
 //! `specs/Sources` says what is done of the rows of a source (`SelectsRows`), and `specs/Totalling` of totals.
-//! `behind` has what becomes of the tables behind a statement.
+//! `gathering` says which INSERTs are served together, and `batching` serves them. `saving` saves the tables behind a
+//! statement, by what `behind` says becomes of them.
 #![tactic(auto)]
 
+mod batching;
 mod behind;
+mod gathering;
 mod rows;
 mod running;
+mod saving;
 mod totalling;
 mod totals;
 
+pub use batching::run_batch;
 pub use behind::{Behind, SavedBy, Unsaved};
+pub use gathering::{batch_most, begins_batch};
 pub use ob_tables::{
     CloseErr, Closing, Engine, Listed, OpenErr, Outcome, RunStop, names_are_apart,
 };

@@ -2,6 +2,7 @@
 ghost use Rattle.std.specs.Prelude.{◌≡◌, ◌≤◌, [], None, refl, false, length, take};
 ghost use Rattle.std.specs.Ordering.{nat_cmp};
 ghost use Rattle.std.specs.BTreeMap.{get};
+ghost use Rattle.ob_store.specs.Fresh.{past_within};
 ghost use Rattle.ob_store.specs.Logs.{asked_of};
 ghost use Rattle.ob_file.specs.Regions.{IsFresh, fresh_live, shape_of};
 
@@ -84,7 +85,6 @@ fn keep(buffer: &mut [u8], block: &[u8])
 impl<'a, R: Files> FileStore<'a, R> {
     /// A store of which nothing was asked, whose files have names that begin with this one and a dot. It takes its
     /// memory of `alloc`.
-    #[tactic(auto, unfolding(ob_store::specs::Logs::spelt))]
     pub fn new(alloc: Global, files: &'a R, name: String) -> FileStore<'a, R>
     where
         R::File: FileExt,
@@ -144,6 +144,7 @@ where
 {
     ghost state = { λ m. record {
       asked = asked_of m.log;
+      let_go = length m.log.past;
       spare = m.log.spare;
       faults = m.faults;
       slips = m.slips;
@@ -159,6 +160,8 @@ where
     ghost keeps_live = { λ m r shape told is. absurd (cc told) };
 
     ghost keeps_within = { λ m r region is. absurd (cc is) };
+
+    ghost within_asked = { λ m. past_within m.log };
 
     ghost starts_empty = { λ m r none. fresh_live (asked_of m.log) m.regions m.fresh none r };
 
@@ -260,8 +263,16 @@ where
         remove_from(self.files, &mut self.opened, from);
     }
 
+    fn let_go(&mut self) {
+        self.log.let_go();
+    }
+
     fn count(&self) -> u64 {
         self.log.count()
+    }
+
+    fn gone(&self) -> u64 {
+        self.log.gone()
     }
 
     fn nth(&self, i: u64) -> Access {

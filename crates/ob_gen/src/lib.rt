@@ -8,7 +8,7 @@ mod lines;
 mod summary;
 mod tally;
 
-pub use digest::trace_digest;
+pub use digest::{Digester, TraceDigest, Undigested};
 pub use discard::Discard;
 pub use generated::Generated;
 pub use summary::Summary;

@@ -1,55 +1,48 @@
 -- Sessions of the model that differ in the order of their tables, in where these lie, in how many accesses were asked, and in
 -- what is drawn: they answer alike, as long as no table is an index, and no statement comes too late.
-use Rattle.std.specs.Prelude.{is_some, if◌then◌else◌}
+use Rattle.std.specs.Prelude.{⊤, IsSome, is_some, if◌then◌else◌}
 use Rattle.std.proofs.Common.{◌≡◌, ◌<◌, ◌≤◌, ◌+◌, ◌^◌, ◌++◌, ℕ, Bool, true, false, List, [], ◌∷◌, length, map, Option, Some, None, Ok, Err, refl, sym, ◌∙◌, ap, subst, arith, length-append}
 use Rattle.std.proofs.lemmas.Bool.Decides.{nat_tests}
 use Rattle.std.specs.Option.{option_map_or, option_or}
 use Rattle.ob_base.specs.Labels.{column_label}
 use Rattle.ob_base.specs.Schemas.{Columns}
 use Rattle.ob_base.specs.Stored.{headings, headings_of}
-use Rattle.ob_base.specs.declared.config.Plan.{Plan}
-use Rattle.ob_base.specs.declared.config.Plan.TheVariants.{Small, Large, Continuous, Hash}
 use Rattle.ob_base.specs.declared.config.Public.{Public}
 use Rattle.ob_base.specs.declared.refusal.Refusal.{Refusal}
 use Rattle.ob_base.specs.declared.schema.Heading.{Heading}
 use Rattle.ob_base.specs.declared.schema.Shape.{Shape}
-use Rattle.ob_base.specs.declared.seen.End.TheVariants.{Static}
+use Rattle.ob_base.specs.declared.seen.End.TheVariants.{Static, Whole}
 use Rattle.ob_base.specs.declared.seen.Seen.{Seen}
 use Rattle.ob_base.specs.declared.skeleton.NewColumn.{NewColumn}
-use Rattle.ob_base.specs.declared.skeleton.Source.{Source}
-use Rattle.ob_base.specs.declared.skeleton.Source.TheVariants.{Table as OneTable, Join}
-use Rattle.ob_headline.proofs.InStep.{InStep, keeps_step}
+use Rattle.ob_headline.proofs.BatchLemmas.{IsUncut}
+use Rattle.ob_headline.proofs.InStep.{InStep, joins_step, keeps_step}
 use Rattle.ob_headline.specs.Failures.{failures, outcome_failures}
 use Rattle.ob_headline.specs.Words.{Answer}
 use Rattle.ob_headline.specs.Accesses.{AreSeen}
-use Rattle.ob_headline.specs.Meaning.{AnswersFrom, AnswersAs, AnswersIn}
+use Rattle.ob_headline.specs.Meaning.{AnswersFrom, AnswersAs, AnswersIn, AnswersMeant}
 use Rattle.ob_headline.specs.declared.ending.Ending.{Ending}
-use Rattle.ob_mean.proofs.FlatLemmas.{created_flat, makes_flat, seen_is, settle_is}
+use Rattle.ob_mean.proofs.FlatLemmas.{created_flat, makes_flat, no_access, seen_is, settle_is}
 use Rattle.ob_mean.proofs.FlatSessions.{after_flat, room_flat}
 use Rattle.ob_mean.proofs.ReplayLemmas.{after_room}
 use Rattle.ob_mean.proofs.VerdictLemmas.{headings-database}
+use Rattle.ob_mean.specs.Batches.{Gathering, gathering_after, inserts_into}
 use Rattle.ob_mean.specs.Flats.{AreFlat}
 use Rattle.ob_mean.specs.Prints.{is_join, item_label, label_at, labels_of}
 use Rattle.ob_mean.specs.Refusals.{early_refusal, limits_of}
-use Rattle.ob_mean.specs.Replay.{Broken, IsCutOff, Session, Spelt, after, after_all, head_of, is_full_now, rest_of, seen_now, seen_or_cut, served}
+use Rattle.ob_mean.specs.Replay.{Broken, How, Alone, CutAfter, With, CutWith, IsCutOff, IsMember, Session, Spelt, after, after_all, head_of, is_full_now, rest_of, seen_now, seen_or_cut, served}
 use Rattle.ob_mean.specs.Settle.{settle, settled}
-use Rattle.ob_mean.specs.Step.{accepted_answer, answered, followed, refusal_of, select_condition}
-use Rattle.ob_mean.specs.Verdict.{Draws, Tables, accessed, database, ended, forced_refusal, is_late, last_refusal, plan_for, refusal, refusal_by, rows_refusal, seen, seen_by, seen_started, seen_unpadded, seen_with, selected_places, source_slots, unpadded_refusal, verdict}
+use Rattle.ob_mean.specs.Step.{followed}
+use Rattle.ob_mean.specs.Verdict.{Draws, Tables, database, ended, is_late, refusal, seen, seen_started, verdict}
 use Rattle.ob_mean.specs.declared.answer.Answer.{Answer as Meaning}
-use Rattle.ob_row.specs.Slots.{Slots, selected}
-use Rattle.ob_row.specs.Truth.{is_true}
 use Rattle.ob_script.specs.Script.{script}
 use Rattle.ob_script.specs.Trace.{Served, next, trace}
-use Rattle.ob_sql.specs.declared.stmt.SelectRows.{SelectRows}
+use Rattle.ob_sql.specs.Skeleton.{skeleton}
 use Rattle.ob_sql.specs.declared.stmt.Stmt.{Stmt}
 use Rattle.ob_sql.specs.declared.stmt.Stmt.TheVariants.{Create, Insert, Update, Delete, Drop as DropTable, SelectRows as RowsStmt, SelectTotals as TotalsStmt}
 use Rattle.ob_verdict.proofs.AlikeHeadings.{SameHeadings, columns_same, headings_same, source_same}
 use Rattle.ob_verdict.proofs.AlikeProof.{order_is_nothing}
+use Rattle.ob_verdict.proofs.PlainSettings.{plain, seen_same, settle_same, verdict_same}
 use Rattle.ob_verdict.specs.Alike.{ActsAlike, AreAlike}
-
--- what is public but for the tables, the next region and the last closing
-abbrev pub plain : Public → Public
-plain p = record p { tables = []; next_region = 0; closing = None }
 
 -- their tables are kept, so that none of them is an index
 pub record SessionsAlike (s t : Session) : Type 0 where
@@ -60,109 +53,6 @@ pub record SessionsAlike (s t : Session) : Type 0 where
   pub flat_too : AreFlat (headings t.tables)
   pub here : InStep s
   pub there : InStep t
-
--- ---- what the model takes of what is public
-module _ (p : Public) (ts : Tables) where
-  source_plain : (source : Source) → source_slots (plain p) source ts ≡ source_slots p source ts
-  source_plain (OneTable name) = refl
-  source_plain (Join a b on equals) = refl
-
-  places_plain : (q : SelectRows) → selected_places (plain p) q ts ≡ selected_places p q ts
-  places_plain q = ap (λ (slots : Slots). selected (is_true (select_condition q (headings ts))) slots) (source_plain q.source)
-
-  forced_plain : (plan : Option Plan) (places : List ℕ) → forced_refusal (plain p) plan places ≡ forced_refusal p plan places
-  forced_plain None places = refl
-  forced_plain (Some Small) places = refl
-  forced_plain (Some Large) places = refl
-  forced_plain (Some Continuous) places = refl
-  forced_plain (Some Hash) places = refl
-
-  unpadded_plain : (places : List ℕ) → unpadded_refusal (plain p) places ≡ unpadded_refusal p places
-  unpadded_plain [] = refl
-  unpadded_plain (i ∷ is) = forced_plain p.plan (i ∷ is)
-
-  refusal_plain : (pad : Option ℕ) (places : List ℕ) → refusal_by pad (plain p) places ≡ refusal_by pad p places
-  refusal_plain None places = unpadded_plain places
-  refusal_plain (Some pad) places = refl
-
-  last_plain : (stmt : Stmt) → last_refusal (plain p) ts stmt ≡ last_refusal p ts stmt
-  last_plain (Create table columns capacity shape) = refl
-  last_plain (Insert table columns values) = refl
-  last_plain (Update table sets cond) = refl
-  last_plain (Delete table cond) = refl
-  last_plain (DropTable table) = refl
-  last_plain (RowsStmt q) =
-      let same : rows_refusal (plain p) (selected_places (plain p) q ts) ≡ rows_refusal p (selected_places p q ts) =
-      ap (refusal_by p.pad (plain p)) (places_plain q) ∙ refusal_plain p.pad (selected_places p q ts) in
-      ap (λ (o : Option Refusal). if is_some (accessed ts (RowsStmt q)) then None else o) same
-  last_plain (TotalsStmt q) = refl
-
-  with_plain : (plan : Plan) (places : List ℕ) → seen_with (plain p) plan places ≡ seen_with p plan places
-  with_plain Small places = refl
-  with_plain Large places = refl
-  with_plain Continuous places = refl
-  with_plain Hash places = refl
-
-  unpadded_seen_plain : (n : ℕ) (places : List ℕ) → seen_unpadded (plain p) n places ≡ seen_unpadded p n places
-  unpadded_seen_plain n [] = refl
-  unpadded_seen_plain n (i ∷ is) = with_plain (plan_for p n (i ∷ is)) (i ∷ is)
-
-  seen_plain : (pad : Option ℕ) (n : ℕ) (places : List ℕ) → seen_by pad (plain p) n places ≡ seen_by pad p n places
-  seen_plain None n places = unpadded_seen_plain n places
-  seen_plain (Some pad) n places = refl
-
-  started_plain : (stmt : Stmt) → seen_started (plain p) ts stmt ≡ seen_started p ts stmt
-  started_plain (Create table columns capacity shape) = refl
-  started_plain (Insert table columns values) = refl
-  started_plain (Update table sets cond) = refl
-  started_plain (Delete table cond) = refl
-  started_plain (DropTable table) = refl
-  started_plain (RowsStmt q) =
-      let slots = source_plain q.source in
-      let places = places_plain q in
-      (λ i. seen_by p.pad (plain p) (length (slots i)) (places i)) ∙ seen_plain p.pad (length (source_slots p q.source ts)) (selected_places p q ts)
-  started_plain (TotalsStmt q) = refl
-
-  settled_plain : (d : Draws) (stmt : Stmt) → settled d (plain p) ts stmt ≡ settled d p ts stmt
-  settled_plain d (Create table columns capacity shape) = refl
-  settled_plain d (Insert table columns values) = refl
-  settled_plain d (Update table sets cond) = refl
-  settled_plain d (Delete table cond) = refl
-  settled_plain d (DropTable table) = refl
-  settled_plain d (RowsStmt q) = refl
-  settled_plain d (TotalsStmt q) = refl
-
--- by settings that are the same, and neither late, over flat tables
-module _ (d : Draws) (p q : Public) (settings : plain p ≡ plain q) (m n : ℕ) (late : is_late m ≡ is_late n) (ts : Tables) (stmt : Stmt) (flat : AreFlat (headings ts)) where
-  last_same : last_refusal p ts stmt ≡ last_refusal q ts stmt
-  last_same = sym (last_plain p ts stmt) ∙ ap (λ (r : Public). last_refusal r ts stmt) settings ∙ last_plain q ts stmt
-
-  started_same : seen_started p ts stmt ≡ seen_started q ts stmt
-  started_same = sym (started_plain p ts stmt) ∙ ap (λ (r : Public). seen_started r ts stmt) settings ∙ started_plain q ts stmt
-
-  limits_same : limits_of p ≡ limits_of q
-  limits_same = ap limits_of settings
-
-  refusal_same : refusal p m ts stmt ≡ refusal q n ts stmt
-  refusal_same = λ i. option_or (refusal_of (late i) (limits_same i) (database ts) stmt) (last_same i)
-
-  verdict_same : verdict p m ts stmt ≡ verdict q n ts stmt
-  verdict_same = ap (λ (o : Option Refusal). answered o (accepted_answer (database ts) stmt)) refusal_same
-
-  settled_same : settled d p ts stmt ≡ settled d q ts stmt
-  settled_same = sym (settled_plain p ts d stmt) ∙ ap (λ (r : Public). settled d r ts stmt) settings ∙ settled_plain q ts d stmt
-
-  seen_same : seen d p m ts stmt ≡ seen d q n ts stmt
-  seen_same =
-      seen_is p ts stmt flat d m
-      ∙ (λ i. if is_some (early_refusal (late i) (limits_same i) (headings ts) stmt) then ended Static else started_same i)
-      ∙ sym (seen_is q ts stmt flat d n)
-
-  settle_same : settle d p m ts stmt ≡ settle d q n ts stmt
-  settle_same =
-      settle_is p ts stmt flat d m
-      ∙ (λ i. followed (refusal_same i) (settled_same i) ts)
-      ∙ sym (settle_is q ts stmt flat d n)
 
 -- ---- what is drawn, which is nothing where tables are kept
 module _ (d e : Draws) (p : Public) (m : ℕ) (ts : Tables) (flat : AreFlat (headings ts)) where
@@ -214,8 +104,44 @@ labels_same hs gs same (RowsStmt q) =
 labels_same hs gs same (TotalsStmt q) = ap (λ (cs : Columns). map (item_label cs) q.items) (columns_same hs gs same q.table)
 
 -- ---- one statement
+insert_starts : (p : Public) (ts : Tables) (stmt : Stmt) → IsSome (inserts_into (skeleton stmt)) → (seen_started p ts stmt).end ≡ Whole
+insert_starts p ts (Insert table columns values) inserts = refl
+insert_starts p ts (Create table columns capacity shape) inserts = absurd (cc inserts)
+insert_starts p ts (Update table sets cond) inserts = absurd (cc inserts)
+insert_starts p ts (Delete table cond) inserts = absurd (cc inserts)
+insert_starts p ts (DropTable table) inserts = absurd (cc inserts)
+insert_starts p ts (RowsStmt q) inserts = absurd (cc inserts)
+insert_starts p ts (TotalsStmt q) inserts = absurd (cc inserts)
+
 early : (m : ℕ) → m < 2 ^ 63 → is_late m ≡ false
 early m few = grind (arith, nat_tests)
+
+-- tables, and a session that has them in whichever order
+pub record TablesAlike (ts : Tables) (t : Session) : Type 0 where
+  pub tables : AreAlike ts t.tables
+  pub flat : AreFlat (headings ts)
+  pub flat_too : AreFlat (headings t.tables)
+  pub there : InStep t
+
+module _ (d : Draws) (p : Public) (m : ℕ) (ts : Tables) (t : Session) (alike : TablesAlike ts t) (settings : plain p ≡ plain t.public) (kept : p.keep ≡ true) (few : m < 2 ^ 63) (few_too : t.asked < 2 ^ 63) (stmt : Stmt) where
+  settles_by : settle d p m ts stmt ≡ settle t.draws t.public t.asked ts stmt
+  settles_by =
+      undrawn_settle d t.draws p m ts alike.flat stmt kept
+      ∙ settle_same t.draws p t.public settings m t.asked (early m few ∙ sym (early t.asked few_too)) ts stmt
+
+  tables_by : AreAlike (settle d p m ts stmt) (settle t.draws t.public t.asked t.tables stmt)
+  tables_by =
+      subst (λ (us : Tables). AreAlike us (settle t.draws t.public t.asked t.tables stmt)) (sym settles_by)
+      (order_is_nothing t.draws t.public t.asked ts t.tables stmt alike.tables).after
+
+  -- they are alike behind a statement
+  pub settled_alike : TablesAlike (settle d p m ts stmt) (after Alone t stmt)
+  settled_alike = record {
+    tables = tables_by;
+    flat = after_flat Alone (record { public = p; tables = ts; asked = m; draws = d }) stmt kept alike.flat;
+    flat_too = after_flat Alone t stmt (sym (ap (λ (q : Public). q.keep) settings) ∙ kept) alike.flat_too;
+    there = keeps_step t stmt alike.flat_too alike.there alike.tables.too;
+  }
 
 module _ (s t : Session) (alike : SessionsAlike s t) (few : s.asked < 2 ^ 63) (few_too : t.asked < 2 ^ 63) (stmt : Stmt) where
   late : is_late s.asked ≡ is_late t.asked
@@ -225,12 +151,12 @@ module _ (s t : Session) (alike : SessionsAlike s t) (few : s.asked < 2 ^ 63) (f
   acts = order_is_nothing t.draws t.public t.asked s.tables t.tables stmt alike.tables
 
   answer_alike : verdict s.public s.asked s.tables stmt ≡ verdict t.public t.asked t.tables stmt
-  answer_alike = verdict_same t.draws s.public t.public alike.settings s.asked t.asked late s.tables stmt alike.flat ∙ acts.answer
+  answer_alike = verdict_same t.draws s.public t.public alike.settings s.asked t.asked late s.tables stmt ∙ acts.answer
 
   pub shows_alike : seen_now s stmt ≡ seen_now t stmt
   shows_alike =
       undrawn_seen s.draws t.draws s.public s.asked s.tables alike.flat stmt
-      ∙ seen_same t.draws s.public t.public alike.settings s.asked t.asked late s.tables stmt alike.flat ∙ acts.shows
+      ∙ seen_same t.draws s.public t.public alike.settings s.asked t.asked late s.tables stmt ∙ acts.shows
 
   labels_alike : labels_of stmt (headings_of s.public.tables) ≡ labels_of stmt (headings_of t.public.tables)
   labels_alike =
@@ -238,29 +164,98 @@ module _ (s t : Session) (alike : SessionsAlike s t) (few : s.asked < 2 ^ 63) (f
       ∙ labels_same (headings s.tables) (headings t.tables) (headings_same s.tables t.tables alike.tables.count alike.tables.found) stmt
       ∙ ap (labels_of stmt) alike.there
 
-  pub answers_alike : (one : Answer) → AnswersIn None s stmt one → AnswersIn None t stmt one
+  pub answers_alike : (one : Answer) → AnswersMeant s stmt one → AnswersMeant t stmt one
   answers_alike one told =
       subst (λ (labels : List (List ℕ)). AnswersAs labels stmt (verdict t.public t.asked t.tables stmt) one) labels_alike
       (subst (λ (meaning : Meaning). AnswersAs (labels_of stmt (headings_of s.public.tables)) stmt meaning one) answer_alike told)
 
-  settles_alike : settle s.draws s.public s.asked s.tables stmt ≡ settle t.draws t.public t.asked s.tables stmt
-  settles_alike =
-      undrawn_settle s.draws t.draws s.public s.asked s.tables alike.flat stmt alike.kept
-      ∙ settle_same t.draws s.public t.public alike.settings s.asked t.asked late s.tables stmt alike.flat
+  steps_alike : TablesAlike (settle s.draws s.public s.asked s.tables stmt) (after Alone t stmt)
+  steps_alike =
+      settled_alike s.draws s.public s.asked s.tables t (record { tables = alike.tables; flat = alike.flat; flat_too = alike.flat_too; there = alike.there })
+      alike.settings alike.kept few few_too stmt
 
-  kept_too : t.public.keep ≡ true
-  kept_too = sym (ap (λ (p : Public). p.keep) alike.settings) ∙ alike.kept
-
-  pub after_alike : SessionsAlike (after None s stmt) (after None t stmt)
+  pub after_alike : SessionsAlike (after Alone s stmt) (after Alone t stmt)
   after_alike = record {
     settings = alike.settings;
     kept = alike.kept;
-    tables = subst (λ (ts : Tables). AreAlike ts (settle t.draws t.public t.asked t.tables stmt)) (sym settles_alike) acts.after;
-    flat = after_flat None s stmt alike.kept alike.flat;
-    flat_too = after_flat None t stmt kept_too alike.flat_too;
+    tables = steps_alike.tables;
+    flat = steps_alike.flat;
+    flat_too = steps_alike.flat_too;
     here = keeps_step s stmt alike.flat alike.here alike.tables.apart;
-    there = keeps_step t stmt alike.flat_too alike.there alike.tables.too;
+    there = steps_alike.there;
   }
+
+  -- ---- that is served with an INSERT before it
+  -- then in both
+  member_alike : IsMember s stmt → IsMember t stmt
+  member_alike member = record {
+    batched = sym (ap (λ (p : Public). is_some p.batch) alike.settings) ∙ member.batched;
+    inserts = member.inserts;
+    early = go (early_refusal (is_late t.asked) (limits_of t.public) (headings t.tables) stmt) refl;
+    unkeyed = no_access t.tables stmt alike.flat_too;
+  }
+    where
+      ends : (seen_now s stmt).end ≡ Whole
+      ends =
+          ap (λ (x : Seen). x.end) (seen_is s.public s.tables stmt alike.flat s.draws s.asked)
+          ∙ ap (λ (o : Option Refusal). (if is_some o then ended Static else seen_started s.public s.tables stmt).end) member.early
+          ∙ insert_starts s.public s.tables stmt member.inserts
+
+      go : (o : Option Refusal) → early_refusal (is_late t.asked) (limits_of t.public) (headings t.tables) stmt ≡ o → early_refusal (is_late t.asked) (limits_of t.public) (headings t.tables) stmt ≡ None
+      go None is = is
+      go (Some r) is =
+          let static : (seen_now t stmt).end ≡ Static =
+          ap (λ (x : Seen). x.end) (seen_is t.public t.tables stmt alike.flat_too t.draws t.asked) ∙ ap (λ (o : Option Refusal). (if is_some o then ended Static else seen_started t.public t.tables stmt).end) is in
+          let whole : Whole ≡ Static = sym ends ∙ ap (λ (x : Seen). x.end) shows_alike ∙ static in
+          absurd (cc whole)
+
+  pub joined_alike : IsMember s stmt → SessionsAlike (after With s stmt) (after With t stmt)
+  joined_alike member = record {
+    settings = alike.settings;
+    kept = alike.kept;
+    tables = steps_alike.tables;
+    flat = steps_alike.flat;
+    flat_too = steps_alike.flat_too;
+    here = joins_step s stmt alike.flat alike.here member.inserts;
+    there = joins_step t stmt alike.flat_too alike.there member.inserts;
+  }
+
+  -- or by itself in the other
+  pub parted_alike : IsMember s stmt → SessionsAlike (after With s stmt) (after Alone t stmt)
+  parted_alike member = record {
+    settings = alike.settings;
+    kept = alike.kept;
+    tables = steps_alike.tables;
+    flat = steps_alike.flat;
+    flat_too = steps_alike.flat_too;
+    here = joins_step s stmt alike.flat alike.here member.inserts;
+    there = steps_alike.there;
+  }
+
+  -- ---- in either way, where the store doesn't fail
+  cut_alike : (how : How) → IsUncut how → IsCutOff how s stmt → IsCutOff how t stmt
+  cut_alike Alone uncut cut = tt
+  cut_alike (CutAfter n) uncut cut = absurd uncut
+  cut_alike With uncut cut = member_alike cut
+  cut_alike CutWith uncut cut = absurd uncut
+
+  told_alike : (how : How) (one : Answer) → IsUncut how → AnswersIn how s stmt one → AnswersIn how t stmt one
+  told_alike Alone one uncut told = answers_alike one told
+  told_alike (CutAfter n) one uncut told = absurd uncut
+  told_alike With one uncut told = answers_alike one told
+  told_alike CutWith one uncut told = absurd uncut
+
+  seen_alike : (how : How) → IsUncut how → seen_or_cut how s stmt ≡ seen_or_cut how t stmt
+  seen_alike Alone uncut = shows_alike
+  seen_alike (CutAfter n) uncut = absurd uncut
+  seen_alike With uncut = refl
+  seen_alike CutWith uncut = absurd uncut
+
+  behind_alike : (how : How) → IsUncut how → IsCutOff how s stmt → SessionsAlike (after how s stmt) (after how t stmt)
+  behind_alike Alone uncut cut = after_alike
+  behind_alike (CutAfter n) uncut cut = absurd uncut
+  behind_alike With uncut cut = joined_alike cut
+  behind_alike CutWith uncut cut = absurd uncut
 
 -- ---- many texts
 pub grows : (s : Session) (spelt : List Spelt) (broken : Broken) → s.asked ≤ (after_all s spelt broken).asked
@@ -278,50 +273,139 @@ keeps_plain s (Ok stmt ∷ spelt) broken =
     [ true ↦ refl | false ↦ keeps_plain (after (head_of broken) s stmt) spelt (rest_of broken) ]
 keeps_plain s (Err at ∷ spelt) broken = keeps_plain s spelt (rest_of broken)
 
--- a statement that is answered otherwise than that the store failed was not cut off
-uncut : (broken : Option ℕ) (s : Session) (stmt : Stmt) (one : Answer) → outcome_failures one.outcome ≡ 0 → AnswersIn broken s stmt one → broken ≡ None
-uncut None s stmt one none told = refl
-uncut (Some n) s stmt one none told = let failed = ap outcome_failures told.outcome in absurd (omega (arith, failed, none))
+-- as each of these texts is served
+abbrev pub hows_of : List Spelt → Broken → Broken
+hows_of [] broken = []
+hows_of (Ok stmt ∷ spelt) broken = head_of broken ∷ hows_of spelt (rest_of broken)
+hows_of (Err at ∷ spelt) broken = Alone ∷ hows_of spelt (rest_of broken)
 
--- more texts behind sessions that are alike
-abbrev Goes : Ending → (more : List Spelt) → (others : List Answer) → (behind : List Served) → (u v : Session) → Type 0
-Goes f more others behind u v = SessionsAlike u v → (after_all v more []).asked < 2 ^ 63 → AnswersFrom f v more [] others behind []
+-- more texts ask no less
+pub grows_on : (t : Session) (spelt : List Spelt) (broken : Broken) (more : List Spelt) (later : Broken) → (after_all t spelt (hows_of spelt broken)).asked ≤ (after_all t (spelt ++ more) (hows_of spelt broken ++ later)).asked
+grows_on t [] broken more later = grows t more later
+grows_on t (Ok stmt ∷ spelt) broken more later =
+    let rest = grows_on (after (head_of broken) t stmt) spelt (rest_of broken) more later in
+    elim (is_full_now t stmt) as (λ (full : Bool). (if full then t else after_all (after (head_of broken) t stmt) spelt (hows_of spelt (rest_of broken))).asked
+    ≤ (if full then t else after_all (after (head_of broken) t stmt) (spelt ++ more) (hows_of spelt (rest_of broken) ++ later)).asked)
+    [ true ↦ omega arith | false ↦ rest ]
+grows_on t (Err at ∷ spelt) broken more later = grows_on t spelt (rest_of broken) more later
+
+-- a statement that is answered otherwise than that the store failed was not cut off
+pub uncut : (how : How) (s : Session) (stmt : Stmt) (one : Answer) → outcome_failures one.outcome ≡ 0 → AnswersIn how s stmt one → IsUncut how
+uncut Alone s stmt one none told = tt
+uncut (CutAfter n) s stmt one none told = let failed = ap outcome_failures told.outcome in absurd (omega (arith, failed, none))
+uncut With s stmt one none told = tt
+uncut CutWith s stmt one none told = let failed = ap outcome_failures told.outcome in absurd (omega (arith, failed, none))
+
+-- behind these texts a session is alike, and where more texts are answered behind it, they are so behind these
+pub record GoesOn (s : Session) (spelt : List Spelt) (broken : Broken) (answers : List Answer) (seen : List Served) (t : Session) : Type 0 where
+  pub alike : SessionsAlike (after_all s spelt broken) (after_all t spelt (hows_of spelt broken))
+  pub along : (more : List Spelt) (later : Broken) → after_all t (spelt ++ more) (hows_of spelt broken ++ later) ≡ after_all (after_all t spelt (hows_of spelt broken)) more later
+  pub on : (f : Ending) (more : List Spelt) (later : Broken) (others : List Answer) (behind : List Served) → AnswersFrom f (after_all t spelt (hows_of spelt broken)) more later others behind []
+      → AnswersFrom f t (spelt ++ more) (hows_of spelt broken ++ later) (answers ++ others) (seen ++ behind) []
 
 -- these texts, each of which was answered and none by the store's fault, are answered alike, and so are more behind them
-pub answers_on : (Leaves : Public → Stmt → Seen → Type 0) (e f : Ending) (spelt : List Spelt) (s t : Session) (broken : Broken) (answers : List Answer) (seen : List Served) (part : List ℕ) (more : List Spelt) (others : List Answer) (behind : List Served)
-    → SessionsAlike s t → length answers ≡ length spelt → failures answers ≡ 0 → AnswersFrom e s spelt broken answers seen part → AreSeen Leaves s.public s.asked spelt answers seen
-    → s.asked + length (trace s.public seen) < 2 ^ 63 → (after_all t (spelt ++ more) []).asked < 2 ^ 63
-    → Goes f more others behind (after_all s spelt broken) (after_all t spelt []) → AnswersFrom f t (spelt ++ more) [] (answers ++ others) (seen ++ behind) []
+pub answers_on : (Leaves : Public → Stmt → Seen → Type 0) (g : Option Gathering) (e : Ending) (spelt : List Spelt) (s t : Session) (broken : Broken) (answers : List Answer) (seen : List Served) (part : List ℕ)
+    → SessionsAlike s t → length answers ≡ length spelt → failures answers ≡ 0 → AnswersFrom e s spelt broken answers seen part → AreSeen Leaves s.public s.asked g spelt answers seen
+    → s.asked + length (trace s.public seen) < 2 ^ 63 → (after_all t spelt (hows_of spelt broken)).asked < 2 ^ 63 → GoesOn s spelt broken answers seen t
 unfolding AnswersFrom AreSeen failures
-answers_on Leaves e f [] s t broken answers seen part more others behind alike each none told lawful few few_too follows =
-    subst (λ (a : List Answer). AnswersFrom f t more [] (a ++ others) (seen ++ behind) []) (sym told.0)
-    (subst (λ (x : List Served). AnswersFrom f t more [] ([] ++ others) (x ++ behind) []) (sym lawful) (follows alike few_too))
-answers_on Leaves e f (x ∷ spelt) s t broken [] seen part more others behind alike each none told lawful few few_too follows = absurd (omega (arith, each))
-answers_on Leaves e f (Err at ∷ spelt) s t broken (one ∷ answers) seen part more others behind alike each none told lawful few few_too follows =
-    (told.0, answers_on Leaves e f spelt s t (rest_of broken) answers seen part more others behind alike (omega (arith, each)) (omega (arith, none)) told.1 lawful.1 few few_too follows)
-answers_on Leaves e f (Ok stmt ∷ spelt) s t broken (one ∷ answers) [] part more others behind alike each none told lawful few few_too follows = absurd told
-answers_on Leaves e f (Ok stmt ∷ spelt) s t broken (one ∷ answers) (x ∷ seen) part more others behind alike each none told lawful few few_too follows =
-    let whole = uncut (head_of broken) s stmt one (omega (arith, none)) told.2 in
-    let here = subst (λ (o : Option ℕ). (is_full_now s stmt ≡ false) × IsCutOff o s stmt × AnswersIn o s stmt one × (x.seen ≡ seen_or_cut o s stmt) × AnswersFrom e (after o s stmt) spelt (rest_of broken) answers seen part) whole told in
-    let entry : x ≡ served None s stmt = λ i. record { skeleton = lawful.0 i; seen = here.3 i } in
+answers_on Leaves g e [] s t broken answers seen part alike each none told lawful few few_too = record {
+  alike = alike;
+  along = λ more later. refl;
+  on = λ f more later others behind follows.
+      subst (λ (a : List Answer). AnswersFrom f t more later (a ++ others) (seen ++ behind) []) (sym told.0)
+      (subst (λ (x : List Served). AnswersFrom f t more later ([] ++ others) (x ++ behind) []) (sym lawful) follows);
+}
+answers_on Leaves g e (x ∷ spelt) s t broken [] seen part alike each none told lawful few few_too = absurd (omega (arith, each))
+answers_on Leaves g e (Err at ∷ spelt) s t broken (one ∷ answers) seen part alike each none told lawful few few_too =
+    let rest = answers_on Leaves None e spelt s t (rest_of broken) answers seen part alike (omega (arith, each)) (omega (arith, none)) told.1 lawful.1 few few_too in
+    record {
+      alike = rest.alike;
+      along = rest.along;
+      on = λ f more later others behind follows. (told.0, rest.on f more later others behind follows);
+    }
+answers_on Leaves g e (Ok stmt ∷ spelt) s t broken (one ∷ answers) [] part alike each none told lawful few few_too = absurd told
+answers_on Leaves g e (Ok stmt ∷ spelt) s t broken (one ∷ answers) (x ∷ seen) part alike each none told lawful few few_too =
+    let how : How = head_of broken in
+    let hs : Broken = hows_of spelt (rest_of broken) in
+    let whole = uncut how s stmt one (omega (arith, none)) told.2 in
+    let entry : x ≡ served how s stmt = λ i. record { skeleton = lawful.0 i; seen = told.3 i } in
     let long = length-append (script s.public x.skeleton x.seen) (trace (next s.public x.skeleton x.seen) seen) in
     let soon : s.asked < 2 ^ 63 = omega (arith, few) in
-    let few_behind : (after_all (after None t stmt) (spelt ++ more) []).asked < 2 ^ 63 =
-    subst (λ (u : Session). u.asked < 2 ^ 63) (after_room t stmt (spelt ++ more) [] (room_flat t stmt alike.flat_too)) few_too in
-    let grown = grows (after None t stmt) (spelt ++ more) [] in
+    let here = after_room s stmt spelt broken (room_flat s stmt alike.flat) in
+    let there = λ (xs : List Spelt) (hs : Broken). after_room t stmt xs (how ∷ hs) (room_flat t stmt alike.flat_too) in
+    let few_behind : (after_all (after how t stmt) spelt hs).asked < 2 ^ 63 = subst (λ (u : Session). u.asked < 2 ^ 63) (there spelt hs) few_too in
+    let grown = grows (after how t stmt) spelt hs in
     let soon_too : t.asked < 2 ^ 63 = omega (arith, few_behind, grown) in
     let few_all : s.asked + length (script s.public x.skeleton x.seen ++ trace (next s.public x.skeleton x.seen) seen) < 2 ^ 63 = few in
-    let rest : s.asked + length (script s.public x.skeleton x.seen) + length (trace (next s.public x.skeleton x.seen) seen) < 2 ^ 63 = omega (arith, few_all, long) in (
-      room_flat t stmt alike.flat_too,
-      tt,
-      answers_alike s t alike soon soon_too stmt one here.2,
-      here.3 ∙ shows_alike s t alike soon soon_too stmt,
-      answers_on Leaves e f spelt (after None s stmt) (after None t stmt) (rest_of broken) answers seen part more others behind
-          (after_alike s t alike soon soon_too stmt) (omega (arith, each)) (omega (arith, none)) here.4
-          (subst (λ (y : Served). AreSeen Leaves (next s.public y.skeleton y.seen) (s.asked + length (script s.public y.skeleton y.seen)) spelt answers seen) entry lawful.3)
-          (subst (λ (y : Served). s.asked + length (script s.public y.skeleton y.seen) + length (trace (next s.public y.skeleton y.seen) seen) < 2 ^ 63) entry rest)
-          few_behind
-          (subst (λ (o : Option ℕ). Goes f more others behind (after_all (after o s stmt) spelt (rest_of broken)) (after_all (after None t stmt) spelt [])) whole
-          (subst (λ (u : Session). Goes f more others behind u (after_all (after None t stmt) spelt [])) (after_room s stmt spelt broken (room_flat s stmt alike.flat))
-          (subst (λ (v : Session). Goes f more others behind (after_all s (Ok stmt ∷ spelt) broken) v) (after_room t stmt spelt [] (room_flat t stmt alike.flat_too)) follows))),
-    )
+    let fewer : s.asked + length (script s.public x.skeleton x.seen) + length (trace (next s.public x.skeleton x.seen) seen) < 2 ^ 63 = omega (arith, few_all, long) in
+    let rest =
+    answers_on Leaves (gathering_after s.public s.asked g stmt (seen_or_cut how s stmt).end) e spelt (after how s stmt) (after how t stmt) (rest_of broken) answers seen part
+    (behind_alike s t alike soon soon_too stmt how whole told.1) (omega (arith, each)) (omega (arith, none)) told.4
+    (subst (λ (y : Served). AreSeen Leaves (next s.public y.skeleton y.seen) (s.asked + length (script s.public y.skeleton y.seen)) (gathering_after s.public s.asked g stmt y.seen.end) spelt answers seen) entry lawful.3)
+    (subst (λ (y : Served). s.asked + length (script s.public y.skeleton y.seen) + length (trace (next s.public y.skeleton y.seen) seen) < 2 ^ 63) entry fewer)
+    few_behind in
+    record {
+      alike = subst (λ (u : Session). SessionsAlike u (after_all t (Ok stmt ∷ spelt) (how ∷ hs))) (sym here) (subst (λ (v : Session). SessionsAlike (after_all (after how s stmt) spelt (rest_of broken)) v) (sym (there spelt hs)) rest.alike);
+      along = λ more later. there (spelt ++ more) (hs ++ later) ∙ rest.along more later ∙ ap (λ (v : Session). after_all v more later) (sym (there spelt hs));
+      on = λ f more later others behind follows. (
+        room_flat t stmt alike.flat_too,
+        cut_alike s t alike soon soon_too stmt how whole told.1,
+        told_alike s t alike soon soon_too stmt how one whole told.2,
+        told.3 ∙ seen_alike s t alike soon soon_too stmt how whole,
+        rest.on f more later others behind (subst (λ (v : Session). AnswersFrom f v more later others behind []) (there spelt hs) follows),
+      );
+    }
+
+-- ---- without batches
+-- each text is served by itself
+abbrev pub AreAlone : Broken → Type 0
+AreAlone [] = ⊤
+AreAlone (how ∷ hows) = (how ≡ Alone) × AreAlone hows
+
+pub alone_both : (hows later : Broken) → AreAlone hows → AreAlone later → AreAlone (hows ++ later)
+alone_both [] later alone more = more
+alone_both (how ∷ hows) later alone more = (alone.0, alone_both hows later alone.1 more)
+
+alone_by : (how : How) (s : Session) (stmt : Stmt) → s.public.batch ≡ None → IsUncut how → IsCutOff how s stmt → how ≡ Alone
+alone_by Alone s stmt none whole cut = refl
+alone_by (CutAfter n) s stmt none whole cut = absurd whole
+alone_by With s stmt none whole cut = let batched = cut.batched in absurd (cc (ap is_some none, batched))
+alone_by CutWith s stmt none whole cut = absurd whole
+
+pub are_alone : (e : Ending) (spelt : List Spelt) (s : Session) (broken : Broken) (answers : List Answer) (seen : List Served) (part : List ℕ) → s.public.batch ≡ None → length answers ≡ length spelt → failures answers ≡ 0
+    → AnswersFrom e s spelt broken answers seen part → AreAlone (hows_of spelt broken)
+unfolding AnswersFrom failures
+are_alone e [] s broken answers seen part batchless each none told = tt
+are_alone e (x ∷ spelt) s broken [] seen part batchless each none told = absurd (omega (arith, each))
+are_alone e (Err at ∷ spelt) s broken (one ∷ answers) seen part batchless each none told = (refl, are_alone e spelt s (rest_of broken) answers seen part batchless (omega (arith, each)) (omega (arith, none)) told.1)
+are_alone e (Ok stmt ∷ spelt) s broken (one ∷ answers) [] part batchless each none told = absurd told
+are_alone e (Ok stmt ∷ spelt) s broken (one ∷ answers) (x ∷ seen) part batchless each none told = (
+  alone_by (head_of broken) s stmt batchless (uncut (head_of broken) s stmt one (omega (arith, none)) told.2) told.1,
+  are_alone e spelt (after (head_of broken) s stmt) (rest_of broken) answers seen part batchless (omega (arith, each)) (omega (arith, none)) told.4,
+)
+
+head_alone : (hows : Broken) → AreAlone hows → head_of hows ≡ Alone
+head_alone [] alone = refl
+head_alone (how ∷ hows) alone = alone.0
+
+rest_alone : (hows : Broken) → AreAlone hows → AreAlone (rest_of hows)
+rest_alone [] alone = tt
+rest_alone (how ∷ hows) alone = alone.1
+
+-- as if that weren't said
+pub after_alone : (t : Session) (spelt : List Spelt) (hows : Broken) → AreAlone hows → after_all t spelt hows ≡ after_all t spelt []
+after_alone t [] hows alone = refl
+after_alone t (Err at ∷ spelt) hows alone = after_alone t spelt (rest_of hows) (rest_alone hows alone)
+after_alone t (Ok stmt ∷ spelt) hows alone =
+    ap (λ (how : How). if is_full_now t stmt then t else after_all (after how t stmt) spelt (rest_of hows)) (head_alone hows alone)
+    ∙ ap (λ (u : Session). if is_full_now t stmt then t else u) (after_alone (after Alone t stmt) spelt (rest_of hows) (rest_alone hows alone))
+
+pub answers_alone : (f : Ending) (t : Session) (spelt : List Spelt) (hows : Broken) (answers : List Answer) (seen : List Served) (part : List ℕ) → AreAlone hows → AnswersFrom f t spelt hows answers seen part → AnswersFrom f t spelt [] answers seen part
+unfolding AnswersFrom
+answers_alone f t [] hows answers seen part alone told = told
+answers_alone f t (x ∷ spelt) hows [] seen part alone told = told
+answers_alone f t (Err at ∷ spelt) hows (one ∷ answers) seen part alone told = (told.0, answers_alone f t spelt (rest_of hows) answers seen part (rest_alone hows alone) told.1)
+answers_alone f t (Ok stmt ∷ spelt) hows (one ∷ answers) [] part alone told = absurd told
+answers_alone f t (Ok stmt ∷ spelt) hows (one ∷ answers) (x ∷ seen) part alone told =
+    let here = subst (λ (how : How). (is_full_now t stmt ≡ false) × IsCutOff how t stmt × AnswersIn how t stmt one × (x.seen ≡ seen_or_cut how t stmt) × AnswersFrom f (after how t stmt) spelt (rest_of hows) answers seen part) (head_alone hows alone) told in
+    (here.0, here.1, here.2, here.3, answers_alone f (after Alone t stmt) spelt (rest_of hows) answers seen part (rest_alone hows alone) here.4)

@@ -1,17 +1,19 @@
 -- Runs whose tables are kept answer as one run does over all their texts.
-use Rattle.std.specs.Prelude.{MatchBool, ⊤, if◌then◌else◌}
+use Rattle.std.specs.Prelude.{MatchBool, ⊤, if◌then◌else◌, nat_lt}
 use Rattle.std.proofs.Common.{◌≡◌, ◌<◌, ◌≤◌, ◌+◌, ◌^◌, ◌++◌, ℕ, Bool, true, false, IsTrue, List, [], ◌∷◌, length, Option, Some, None, Result, Ok, Err, inl, inr, refl, sym, ◌∙◌, ap, subst, arith}
+use Rattle.std.proofs.lemmas.Bool.Decides.{nat_tests}
 use Rattle.std.specs.Option.{option_map_or}
 use Rattle.clap.specs.Words.{Text}
 use Rattle.ob_base.specs.Stored.{headings}
 use Rattle.ob_base.specs.declared.config.Config.{Config}
+use Rattle.ob_base.specs.declared.config.Public.{Public}
 use Rattle.ob_base.specs.declared.mark.Mark.{Mark}
 use Rattle.ob_base.specs.declared.mark.Mark.TheVariants.{Fresh, InUse, Closed, Begun, Saved}
 use Rattle.ob_base.specs.declared.refusal.Stop.TheVariants as Stops
 use Rattle.ob_reopen.proofs.ByNameAlike.{named_alike}
 use Rattle.ob_reopen.specs.Closed.{is_used_up}
 use Rattle.ob_reopen.specs.Resting.{Rests, by_name}
-use Rattle.ob_headline.proofs.AlikeSessions.{SessionsAlike, answers_on, keeps_plain, plain}
+use Rattle.ob_headline.proofs.AlikeSessions.{AreAlone, GoesOn, SessionsAlike, after_alone, alone_both, answers_alone, answers_on, are_alone, grows_on, hows_of, keeps_plain}
 use Rattle.ob_headline.proofs.BeginsAlike.{Begins, begins_anew, begins_reopened}
 use Rattle.ob_headline.proofs.InStep.{InStep}
 use Rattle.ob_headline.proofs.SettingLemmas.{kept_settings}
@@ -45,6 +47,7 @@ use Rattle.ob_script.specs.Trace.{Served, trace}
 use Rattle.ob_seal.specs.KeySet.{KeySet}
 use Rattle.ob_seal.specs.Sealed.{keys_of}
 use Rattle.ob_store.specs.State.{KeptRegion, Lie, StoreState}
+use Rattle.ob_verdict.proofs.PlainSettings.{plain}
 use Rattle.ob_verdict.proofs.AlikeTables.{alike_chained, alike_turned}
 use Rattle.ob_verdict.specs.Alike.{AreAlike}
 use Rattle.ob_headline.specs.Story.{Story}
@@ -220,12 +223,12 @@ module _ (words : List Text) (secret : List ℕ) (f : Ending) (one : OneRun word
   waits_made true ts is rests = subst (λ (m : Mark). WaitsAt secret m one.new.store.kept ts) (sym (ap (λ (b : Bool). if b then InUse else mark_of tables.closing) is)) tt
   waits_made false ts is rests = subst (λ (m : Mark). WaitsAt secret m one.new.store.kept ts) (sym (ap (λ (b : Bool). if b then InUse else mark_of tables.closing) is)) (rests refl)
 
-  waits_behind : (used : Bool) → is_used_up tables.closing ≡ used → (broken : Broken) → Leaves used broken → (u : Session) → u ≡ after_all t run.session.story.spelt [] → SessionsAlike (after_all s run.session.story.spelt broken) u
+  waits_behind : (used : Bool) → is_used_up tables.closing ≡ used → (broken hows : Broken) → Leaves used broken → (u : Session) → u ≡ after_all t run.session.story.spelt hows → SessionsAlike (after_all s run.session.story.spelt broken) u
       → Waits words secret one.keeper1.held one.new.store.kept u
-  waits_behind used is broken leaves u same alike = record {
+  waits_behind used is broken hows leaves u same alike = record {
     mark = mark_made tables.closing;
     is = held_behind;
-    settings = ap (λ (v : Session). plain v.public) same ∙ keeps_plain t run.session.story.spelt [] ∙ waits.settings;
+    settings = ap (λ (v : Session). plain v.public) same ∙ keeps_plain t run.session.story.spelt hows ∙ waits.settings;
     flat = alike.flat_too;
     step = alike.there;
     at = waits_made used u.tables is (λ free.
@@ -237,27 +240,84 @@ module _ (words : List Text) (secret : List ℕ) (f : Ending) (one : OneRun word
         ));
   }
 
-  -- the rest follows from where it waits behind this run
-  one_of_all : (more : List Spelt) (others : List Answer) (behind : List Served) → (after_all t (run.session.story.spelt ++ more) []).asked < 2 ^ 63
-      → ((u : Session) → Waits words secret one.keeper1.held one.new.store.kept u → (after_all u more []).asked < 2 ^ 63 → AnswersFrom f u more [] others behind [])
-      → AnswersFrom f t (run.session.story.spelt ++ more) [] (one.run.answers ++ others) (all ++ behind) []
-  one_of_all more others behind few follows =
-      let used = is_used_up tables.closing in
-      let told = answered used refl in
-      let each = answered_all run.session (subst (λ (n : ℕ). n ≤ 1) (sym (run.session.status.status ∙ ap status_of closed.1)) (few_status closed.0)) in
-      let failed = subst (λ (a : List Answer). failures a ≡ 0) run.answered none in
-      let lawful = run.session.accesses.lawful in
-      subst (λ (a : List Answer). AnswersFrom f t (run.session.story.spelt ++ more) [] (a ++ others) (all ++ behind) []) (sym run.answered)
-      (answers_on _ (Ran (Ok closed.0)) f run.session.story.spelt s t told.0 run.session.story.answers all run.session.story.part more others behind begins.alike each failed told.1
-      lawful soon few
-      (λ alike enough. follows (after_all t run.session.story.spelt []) (waits_behind used refl told.0 told.2 (after_all t run.session.story.spelt []) refl alike) enough))
+  -- how its texts were served
+  told : (broken : Broken) × AnswersFrom (Ran (Ok closed.0)) s run.session.story.spelt broken run.session.story.answers all run.session.story.part × Leaves (is_used_up tables.closing) broken
+  told = answered (is_used_up tables.closing) refl
+
+  abbrev hows_here : Broken
+  hows_here = hows_of run.session.story.spelt told.0
+
+  each : length run.session.story.answers ≡ length run.session.story.spelt
+  each = answered_all run.session (subst (λ (n : ℕ). n ≤ 1) (sym (run.session.status.status ∙ ap status_of closed.1)) (few_status closed.0))
+
+  unfailed : failures run.session.story.answers ≡ 0
+  unfailed = subst (λ (a : List Answer). failures a ≡ 0) run.answered none
+
+  alone_here : t.public.batch ≡ None → AreAlone hows_here
+  alone_here batchless =
+      are_alone (Ran (Ok closed.0)) run.session.story.spelt s told.0 run.session.story.answers all run.session.story.part (ap (λ (p : Public). p.batch) begins.alike.settings ∙ batchless) each unfailed told.1
+
+  -- it is answered as in one run, and the rest follows from where it waits behind it
+  module _ (soon_too : (after_all t run.session.story.spelt hows_here).asked < 2 ^ 63) where
+    on : GoesOn s run.session.story.spelt told.0 run.session.story.answers all t
+    on = answers_on _ None (Ran (Ok closed.0)) run.session.story.spelt s t told.0 run.session.story.answers all run.session.story.part begins.alike each unfailed told.1 run.session.accesses.lawful soon soon_too
+
+    waits_on : Waits words secret one.keeper1.held one.new.store.kept (after_all t run.session.story.spelt hows_here)
+    waits_on = waits_behind (is_used_up tables.closing) refl told.0 hows_here told.2 (after_all t run.session.story.spelt hows_here) refl on.alike
 
 -- ---- all of them
-all_as_one : (words : List Text) (keeps : is_kept words ≡ true) (secret : List ℕ) (f : Ending) (runs : List (OneRun words)) (held : Option Mark) (kept : ℕ → Option KeptRegion) (t : Session) → GoOn secret held kept runs → Waits words secret held kept t
-    → (after_all t (all_spelt runs) []).asked < 2 ^ 63 → AnswersFrom f t (all_spelt runs) [] (all_answers runs) (all_seen runs) []
+-- these runs are answered as one from a session on
+record InOne (words : List Text) (f : Ending) (runs : List (OneRun words)) (t : Session) : Type 0 where
+  hows : Broken
+  alone : t.public.batch ≡ None → AreAlone hows
+  answered : (after_all t (all_spelt runs) hows).asked < 2 ^ 63 → AnswersFrom f t (all_spelt runs) hows (all_answers runs) (all_seen runs) []
+
+-- a run, and those behind it: its texts spell these statements, which were answered and seen so
+record FirstOf (words : List Text) (f : Ending) (t : Session) (spelt : List Spelt) (answers : List Answer) (seen : List Served) (Later : Session → Type 0) : Type 0 where
+  broken : Broken
+  alone : t.public.batch ≡ None → AreAlone (hows_of spelt broken)
+  base : Session
+  goes : (after_all t spelt (hows_of spelt broken)).asked < 2 ^ 63 → GoesOn base spelt broken answers seen t × Later (after_all t spelt (hows_of spelt broken))
+
+is_few : (n : ℕ) → nat_lt n (2 ^ 63) ≡ true → n < 2 ^ 63
+is_few n is = grind (arith, nat_tests)
+
+is_many : (n : ℕ) → nat_lt n (2 ^ 63) ≡ false → 2 ^ 63 ≤ n
+is_many n is = grind (arith, nat_tests)
+
+module _ (words : List Text) (f : Ending) (runs : List (OneRun words)) (t : Session) (spelt : List Spelt) (answers : List Answer) (seen : List Served) (Later : Session → Type 0) (first : FirstOf words f t spelt answers seen Later) (follows : (u : Session) → Later u → InOne words f runs u) where
+  abbrev here : Broken
+  here = hows_of spelt first.broken
+
+  abbrev Joined : Type 0
+  Joined =
+      (hows : Broken) × (t.public.batch ≡ None → AreAlone hows)
+      × ((after_all t (spelt ++ all_spelt runs) hows).asked < 2 ^ 63 → AnswersFrom f t (spelt ++ all_spelt runs) hows (answers ++ all_answers runs) (seen ++ all_seen runs) [])
+
+  go_on : (b : Bool) → nat_lt (after_all t spelt here).asked (2 ^ 63) ≡ b → Joined
+  go_on true is =
+      let goes = first.goes (is_few _ is) in
+      let rest = follows (after_all t spelt here) goes.1 in (
+        here ++ rest.hows,
+        (λ batchless. alone_both here rest.hows (first.alone batchless) (rest.alone (ap (λ (p : Public). p.batch) (keeps_plain t spelt here) ∙ batchless))),
+        (λ few. goes.0.on f (all_spelt runs) rest.hows (all_answers runs) (all_seen runs) (rest.answered (subst (λ (u : Session). u.asked < 2 ^ 63) (goes.0.along (all_spelt runs) rest.hows) few))),
+      )
+  go_on false is = (
+    here ++ [],
+    (λ batchless. alone_both here [] (first.alone batchless) tt),
+    (λ few.
+        let many = is_many _ is in
+        let grown = grows_on t spelt first.broken (all_spelt runs) [] in
+        absurd (omega (arith, few, many, grown))),
+  )
+
+  first_and_more : Joined
+  first_and_more = go_on (nat_lt (after_all t spelt here).asked (2 ^ 63)) refl
+
+all_as_one : (words : List Text) (keeps : is_kept words ≡ true) (secret : List ℕ) (f : Ending) (runs : List (OneRun words)) (held : Option Mark) (kept : ℕ → Option KeptRegion) (t : Session) → GoOn secret held kept runs → Waits words secret held kept t → InOne words f runs t
 unfolding AnswersFrom
-all_as_one words keeps secret f [] held kept t goes waits few = (refl, refl)
-all_as_one words keeps secret f (one ∷ runs) held kept t goes waits few =
+all_as_one words keeps secret f [] held kept t goes waits = record { hows = []; alone = λ batchless. tt; answered = λ few. (refl, refl) }
+all_as_one words keeps secret f (one ∷ runs) held kept t goes waits =
     let good = goes.2 in
     let ended = well_ended one.run.ending (subst (λ (n : ℕ). n ≤ 1) one.run.status good.well.ended) in
     let found = has_session one.run.ran ended.0 ended.1 in
@@ -265,12 +325,27 @@ all_as_one words keeps secret f (one ∷ runs) held kept t goes waits few =
     let keyed : run.secret ≡ secret = cc (subst (λ (r : RunKept (settings_of kept_usage words) (IsTaken kept_usage words) (is_traced kept_usage words) one.old one.new one.keeper0 one.keeper1 one.run.ending one.run.answers one.report). secret_in r ≡ Some secret) found.1 good.keyed) in
     let soon = subst (λ (r : RunKept (settings_of kept_usage words) (IsTaken kept_usage words) (is_traced kept_usage words) one.old one.new one.keeper0 one.keeper1 one.run.ending one.run.answers one.report). count_in r < 2 ^ 63) found.1 good.early in
     let here = subst (λ (k : ℕ → Option KeptRegion). Waits words secret held k t) (sym (λ i q. goes.1 q i)) waits in
-    subst (λ (r : RunKept (settings_of kept_usage words) (IsTaken kept_usage words) (is_traced kept_usage words) one.old one.new one.keeper0 one.keeper1 one.run.ending one.run.answers one.report).
-    AnswersFrom f t (spelt_in r ++ all_spelt runs) [] (one.run.answers ++ all_answers runs) (seen_in r ++ all_seen runs) []) (sym found.1)
-    (one_of_all words secret f one run found.1 ended.0 ended.1 keeps keyed good.well.none good.tells good.honest soon held goes.0 t here (all_spelt runs) (all_answers runs) (all_seen runs)
-    (subst (λ (r : RunKept (settings_of kept_usage words) (IsTaken kept_usage words) (is_traced kept_usage words) one.old one.new one.keeper0 one.keeper1 one.run.ending one.run.answers one.report).
-    (after_all t (spelt_in r ++ all_spelt runs) []).asked < 2 ^ 63) found.1 few)
-    (λ u later enough. all_as_one words keeps secret f runs one.keeper1.held one.new.store.kept u goes.3 later enough))
+    let first : FirstOf words f t run.session.story.spelt run.session.story.answers (run.session.story.seen ++ run.session.story.last) (λ u. Waits words secret one.keeper1.held one.new.store.kept u) = record {
+      broken = (told words secret f one run found.1 ended.0 ended.1 keeps keyed good.well.none good.tells good.honest soon held goes.0 t here).0;
+      alone = alone_here words secret f one run found.1 ended.0 ended.1 keeps keyed good.well.none good.tells good.honest soon held goes.0 t here;
+      base = s words secret f one run found.1 ended.0 ended.1 keeps keyed good.well.none good.tells good.honest soon held goes.0 t here;
+      goes = λ few. (
+        on words secret f one run found.1 ended.0 ended.1 keeps keyed good.well.none good.tells good.honest soon held goes.0 t here few,
+        waits_on words secret f one run found.1 ended.0 ended.1 keeps keyed good.well.none good.tells good.honest soon held goes.0 t here few,
+      );
+    } in
+    let joined =
+    first_and_more words f runs t run.session.story.spelt run.session.story.answers (run.session.story.seen ++ run.session.story.last) (λ u. Waits words secret one.keeper1.held one.new.store.kept u) first
+    (λ u later. all_as_one words keeps secret f runs one.keeper1.held one.new.store.kept u goes.3 later) in
+    record {
+      hows = joined.0;
+      alone = joined.1;
+      answered =
+          subst (λ (r : RunKept (settings_of kept_usage words) (IsTaken kept_usage words) (is_traced kept_usage words) one.old one.new one.keeper0 one.keeper1 one.run.ending one.run.answers one.report).
+          (after_all t (spelt_in r ++ all_spelt runs) joined.0).asked < 2 ^ 63 → AnswersFrom f t (spelt_in r ++ all_spelt runs) joined.0 (one.run.answers ++ all_answers runs) (seen_in r ++ all_seen runs) []) (sym found.1)
+          (subst (λ (a : List Answer). (after_all t (run.session.story.spelt ++ all_spelt runs) joined.0).asked < 2 ^ 63
+          → AnswersFrom f t (run.session.story.spelt ++ all_spelt runs) joined.0 (a ++ all_answers runs) ((run.session.story.seen ++ run.session.story.last) ++ all_seen runs) []) (sym run.answered) joined.2);
+    }
 
 -- no tables are public before the first statement
 pub none_there : (settings : Option Config) → InStep (start settings)
@@ -278,6 +353,22 @@ none_there None = refl
 none_there (Some config) = refl
 
 pub answer_as_one : (words : List Text) (keeps : is_kept words ≡ true) (secret : List ℕ) (kept : ℕ → Option KeptRegion) (runs : List (OneRun words)) → GoOn secret (Some Fresh) kept runs → AnswerAsOne secret runs
-answer_as_one words keeps secret kept runs goes few =
-    all_as_one words keeps secret (Ran (Ok (any_refused (all_answers runs)))) runs (Some Fresh) kept (first_of words secret) goes
-    (record { mark = Fresh; is = refl; settings = refl; flat = tt; step = none_there (settings_of kept_usage words); at = record { count = refl; found = λ name. refl; apart = refl; too = refl } }) few
+answer_as_one words keeps secret kept runs goes = go (first_of words secret).public.batch refl
+  where
+    f : Ending
+    f = Ran (Ok (any_refused (all_answers runs)))
+
+    all : InOne words f runs (first_of words secret)
+    all =
+        all_as_one words keeps secret f runs (Some Fresh) kept (first_of words secret) goes
+        (record { mark = Fresh; is = refl; settings = refl; flat = tt; step = none_there (settings_of kept_usage words); at = record { count = refl; found = λ name. refl; apart = refl; too = refl } })
+
+    go : (o : Option ℕ) → (first_of words secret).public.batch ≡ o → AnswerAsOne secret runs
+    go (Some most) is = record { hows = all.hows; alone = λ none. absurd (cc (none, is)); answered = all.answered }
+    go None is = record {
+      hows = [];
+      alone = λ none. refl;
+      answered = λ few.
+          answers_alone f (first_of words secret) (all_spelt runs) all.hows (all_answers runs) (all_seen runs) [] (all.alone is)
+          (all.answered (subst (λ (u : Session). u.asked < 2 ^ 63) (sym (after_alone (first_of words secret) (all_spelt runs) all.hows (all.alone is))) few));
+    }

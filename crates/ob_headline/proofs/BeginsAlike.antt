@@ -2,7 +2,7 @@
 use Rattle.std.proofs.Common.{◌≡◌, true, [], Option, Some, sym, ◌∙◌, ap, subst}
 use Rattle.ob_base.specs.Stored.{headings, headings_of}
 use Rattle.ob_base.specs.declared.config.Config.{Config}
-use Rattle.ob_headline.proofs.AlikeSessions.{SessionsAlike, plain}
+use Rattle.ob_headline.proofs.AlikeSessions.{SessionsAlike}
 use Rattle.ob_headline.proofs.FlatLemmas.{rested_flat}
 use Rattle.ob_headline.proofs.InStep.{InStep}
 use Rattle.ob_headline.specs.Bases.{Base, FromEach, Opened, Rested, drawing, fresh, public_with, reopened, session_at}
@@ -10,6 +10,7 @@ use Rattle.ob_mean.specs.Flats.{AreFlat}
 use Rattle.ob_mean.specs.Replay.{Session}
 use Rattle.ob_mean.specs.Verdict.{Tables}
 use Rattle.ob_seal.specs.KeySet.{KeySet}
+use Rattle.ob_verdict.proofs.PlainSettings.{plain}
 use Rattle.ob_verdict.specs.Alike.{AreAlike}
 
 -- what is said of each session that the run may go on from holds of this one

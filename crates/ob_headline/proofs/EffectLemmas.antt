@@ -1,37 +1,47 @@
 -- Texts that take effect in a session do so in one that is alike, and are answered alike.
-use Rattle.std.specs.Prelude.{◌↔◌, if◌then◌else◌, is_some}
-use Rattle.std.proofs.Common.{◌≡◌, ◌<◌, ◌+◌, ◌^◌, ◌++◌, ℕ, zero, suc, Bool, true, false, IsTrue, List, [], ◌∷◌, length, take, Option, Some, None, Ok, Err, refl, sym, ◌∙◌, ap, subst, arith, length-append}
+use Rattle.std.specs.Prelude.{◌↔◌, ◌==◌, if◌then◌else◌}
+use Rattle.std.specs.Option.{option_map_or, option_or}
+use Rattle.std.proofs.Common.{◌≡◌, ◌<◌, ◌+◌, ◌^◌, ◌++◌, ℕ, zero, suc, Bool, true, false, IsTrue, List, [], ◌∷◌, length, map, take, Option, Some, None, Ok, Err, refl, sym, ◌∙◌, ap, subst, arith, length-append}
 use Rattle.ob_base.specs.Refusals.{is_store_fault}
-use Rattle.ob_base.specs.Stored.{headings}
-use Rattle.ob_base.specs.declared.config.Plan.{Plan}
-use Rattle.ob_base.specs.declared.config.Plan.TheVariants.{Small, Large, Continuous, Hash}
+use Rattle.ob_base.specs.Stored.{Stored, headings, stored_at}
+use Rattle.ob_base.specs.Indexes.{by_shape}
+use Rattle.ob_base.specs.Limits.{buffered}
+use Rattle.ob_base.specs.Schemas.{key_place}
 use Rattle.ob_base.specs.declared.config.Public.{Public}
 use Rattle.ob_base.specs.declared.refusal.Refusal.{Refusal}
-use Rattle.ob_base.specs.declared.refusal.Refusal.TheVariants.{StoreFault}
-use Rattle.ob_base.specs.declared.seen.End.TheVariants.{Static, Whole, AfterCount}
+use Rattle.ob_base.specs.declared.refusal.Refusal.TheVariants.{Duplicate, Full as FullTable, KeyRange, StoreFault}
+use Rattle.ob_base.specs.declared.schema.Heading.{Heading}
+use Rattle.ob_base.specs.declared.schema.Shape.{Shape}
+use Rattle.ob_base.specs.declared.schema.Shape.TheVariants.{Flat, Indexed}
 use Rattle.ob_base.specs.declared.seen.Seen.{Seen}
-use Rattle.ob_headline.proofs.AlikeSessions.{SessionsAlike, after_alike, answers_alike, grows}
-use Rattle.ob_headline.specs.Accesses.{AreSeen, Says, is_cut}
-use Rattle.ob_headline.specs.Meaning.{AnswersFrom, AnswersIn}
-use Rattle.ob_headline.specs.SavedHeadline.{left_by, taken_by}
-use Rattle.ob_headline.specs.SavedRuns.{AnsweredInOne, Effect, effects_of, has_failed, texts_of}
+use Rattle.ob_headline.proofs.AlikeSessions.{SessionsAlike, TablesAlike, after_alike, answers_alike, grows, parted_alike, settled_alike}
+use Rattle.ob_headline.proofs.BatchLemmas.{sound_now}
+use Rattle.ob_headline.specs.Accesses.{AreSeen, Says}
+use Rattle.ob_headline.specs.Batches.{Joins, is_failed}
+use Rattle.ob_headline.specs.Meaning.{AnswersFrom, AnswersIn, AnswersMeant}
+use Rattle.ob_headline.specs.SavedHeadline.{answered_by, left_by, taken_by}
+use Rattle.ob_headline.specs.SavedRuns.{AnsweredInOne, Effect, effects_of, has_failed, texts_of, unanswered}
+use Rattle.ob_headline.specs.Statements.{statements}
 use Rattle.ob_headline.specs.Words.{Answer}
 use Rattle.ob_headline.specs.declared.ending.Ending.{Ending}
-use Rattle.ob_mean.proofs.FlatLemmas.{seen_is}
 use Rattle.ob_mean.proofs.FlatSessions.{room_flat}
 use Rattle.ob_mean.proofs.ReplayLemmas.{after_room}
-use Rattle.ob_mean.specs.Flats.{AreFlat}
+use Rattle.ob_mean.proofs.VerdictLemmas.{headings-database}
+use Rattle.ob_mean.specs.Batches.{Gathering, gathering_after, settle_all}
 use Rattle.ob_mean.specs.Lawful.{Lawful}
 use Rattle.ob_mean.specs.Refusals.{early_refusal, limits_of}
-use Rattle.ob_mean.specs.Replay.{Broken, IsCutOff, Session, Spelt, after, after_all, head_of, is_full_now, rest_of, seen_now, seen_or_cut, served}
-use Rattle.ob_mean.specs.Verdict.{Tables, counted, ended, is_late, plan_for, seen_by, seen_started, seen_with, selected_places, source_slots}
-use Rattle.ob_row.specs.Slots.{is_consecutive}
+use Rattle.ob_mean.specs.Replay.{Broken, How, Alone, CutAfter, With, CutWith, IsCutOff, IsMember, Session, Spelt, after, after_all, head_of, is_full_now, rest_of, seen_now, seen_or_cut, served}
+use Rattle.ob_mean.specs.Settle.{settle}
+use Rattle.ob_mean.specs.Step.{Database, accepted_answer, answered, has_own_key, insert_refusal, late_refusal, new_row, room_refusal}
+use Rattle.ob_mean.specs.Verdict.{Draws, Tables, database, is_late, verdict}
+use Rattle.ob_row.specs.Rows.{Row, has_key}
 use Rattle.ob_script.specs.Script.{script}
 use Rattle.ob_script.specs.Trace.{Served, next, trace}
 use Rattle.ob_sql.specs.Skeleton.{skeleton}
 use Rattle.ob_sql.specs.declared.stmt.Stmt.{Stmt}
 use Rattle.ob_sql.specs.declared.stmt.Stmt.TheVariants.{Create, Insert, Update, Delete, Drop as DropTable, SelectRows as RowsStmt, SelectTotals as TotalsStmt}
-use Rattle.ob_verdict.specs.Outcomes.{refusal_now}
+use Rattle.ob_verdict.proofs.PlainSettings.{plain}
+use Rattle.ob_verdict.specs.Outcomes.{outcome_of, refusal_now}
 use Rattle.ob_verdict.specs.declared.outcome.Outcome.{Outcome}
 use Rattle.ob_verdict.specs.declared.outcome.Outcome.TheVariants.{Created, Inserted, Changed, Deleted, Dropped, Rows, Refused}
 
@@ -49,49 +59,71 @@ failed_is (Deleted n) is = absurd (cc is)
 failed_is Dropped is = absurd (cc is)
 failed_is (Rows k) is = absurd (cc is)
 
--- ---- what is seen of a statement by its meaning is cut off nowhere
-module _ (p : Public) where
-  with_uncut : (plan : Plan) (places : List ℕ) → is_cut (seen_with p plan places).end ≡ false
-  with_uncut Small places = refl
-  with_uncut Large places = refl
-  with_uncut Continuous places =
-      elim (is_consecutive places) as (λ (b : Bool). is_cut (if b then counted (length places) (Some Continuous) None Whole else counted (length places) None None AfterCount).end ≡ false)
-      [ true ↦ refl | false ↦ refl ]
-  with_uncut Hash places = refl
-
-  rows_uncut : (pad : Option ℕ) (n : ℕ) (places : List ℕ) → is_cut (seen_by pad p n places).end ≡ false
-  rows_uncut (Some pad) n places = refl
-  rows_uncut None n [] = refl
-  rows_uncut None n (i ∷ is) = with_uncut (plan_for p n (i ∷ is)) (i ∷ is)
-
-  started_uncut : (ts : Tables) (stmt : Stmt) → is_cut (seen_started p ts stmt).end ≡ false
-  started_uncut ts (Create table columns capacity shape) = refl
-  started_uncut ts (Insert table columns values) = refl
-  started_uncut ts (Update table sets cond) = refl
-  started_uncut ts (Delete table cond) = refl
-  started_uncut ts (DropTable table) = refl
-  started_uncut ts (RowsStmt q) = rows_uncut p.pad (length (source_slots p q.source ts)) (selected_places p q ts)
-  started_uncut ts (TotalsStmt q) = refl
-
-now_uncut : (s : Session) (stmt : Stmt) → AreFlat (headings s.tables) → is_cut (seen_now s stmt).end ≡ false
-now_uncut s stmt flat =
-    ap (λ (x : Seen). is_cut x.end) (seen_is s.public s.tables stmt flat s.draws s.asked)
-    ∙ go (is_some (early_refusal (is_late s.asked) (limits_of s.public) (headings s.tables) stmt))
-  where
-    go : (early : Bool) → is_cut (if early then ended Static else seen_started s.public s.tables stmt).end ≡ false
-    go true = refl
-    go false = started_uncut s.public s.tables stmt
-
--- so its answer isn't that the store had failed
-unfailed : (s : Session) (stmt : Stmt) (o : Outcome) (here : Seen) → AreFlat (headings s.tables) → (IsTrue (is_cut here.end) ↔ (o ≡ Refused StoreFault)) → here ≡ seen_now s stmt → has_failed o ≡ false
-unfailed s stmt o here flat cut seen = go (has_failed o) refl
+-- what is seen of a statement by its meaning isn't that the store failed it, so its answer isn't that
+unfailed : (g : Option Gathering) (s : Session) (stmt : Stmt) (o : Outcome) (here : Seen) → (IsTrue (is_failed g here.end) ↔ (o ≡ Refused StoreFault)) → here ≡ seen_now s stmt → has_failed o ≡ false
+unfailed g s stmt o here cut seen = go (has_failed o) refl
   where
     go : (b : Bool) → has_failed o ≡ b → b ≡ false
     go true is =
         let broken = cut.1 (failed_is o is) in
-        let same = ap (λ (x : Seen). is_cut x.end) seen in
-        absurd (cc (broken, same, now_uncut s stmt flat))
+        let same = ap (λ (x : Seen). is_failed g x.end) seen in
+        absurd (cc (broken, same, sound_now g s stmt))
     go false is = refl
+
+-- nor is that of an INSERT that is served with another: behind the refusals that come before any access, its key is there or
+-- no slot is left
+room_sound : (t : Stored (List Row)) (row : Row) (r : Refusal) → insert_refusal t row ≡ Some r → is_store_fault r ≡ false
+room_sound t row r is = by_key (has_key (key_place t.heading.schema) row t.held) is
+  where
+    by_full : (b : Bool) → (if b then Some FullTable else None) ≡ Some r → is_store_fault r ≡ false
+    by_full true is = let full : FullTable ≡ r = cc is in ap is_store_fault (sym full)
+    by_full false is = absurd (cc is)
+
+    by_range : (b : Bool) → (if b then None else Some KeyRange) ≡ Some r → is_store_fault r ≡ false
+    by_range true is = absurd (cc is)
+    by_range false is = let range : KeyRange ≡ r = cc is in ap is_store_fault (sym range)
+
+    by_room : (shape : Shape) → by_shape shape (if length t.held == t.heading.capacity then Some FullTable else None) (if has_own_key t.heading row then None else Some KeyRange) ≡ Some r → is_store_fault r ≡ false
+    by_room Flat is = by_full (length t.held == t.heading.capacity) is
+    by_room Indexed is = by_range (has_own_key t.heading row) is
+
+    by_key : (b : Bool) → (if b then Some Duplicate else room_refusal t row) ≡ Some r → is_store_fault r ≡ false
+    by_key true is = let duplicate : Duplicate ≡ r = cc is in ap is_store_fault (sym duplicate)
+    by_key false is = by_room t.heading.shape is
+
+member_sound : (s : Session) (stmt : Stmt) → IsMember s stmt → has_failed (outcome_of stmt (verdict s.public s.asked s.tables stmt)) ≡ false
+member_sound s (Create table columns capacity shape) member = let inserts = member.inserts in absurd (cc inserts)
+member_sound s (Update table sets cond) member = let inserts = member.inserts in absurd (cc inserts)
+member_sound s (Delete table cond) member = let inserts = member.inserts in absurd (cc inserts)
+member_sound s (DropTable table) member = let inserts = member.inserts in absurd (cc inserts)
+member_sound s (RowsStmt q) member = let inserts = member.inserts in absurd (cc inserts)
+member_sound s (TotalsStmt q) member = let inserts = member.inserts in absurd (cc inserts)
+member_sound s (Insert table columns values) member = at (stored_at table (database s.tables)) refl
+  where
+    stmt : Stmt
+    stmt = Insert table columns values
+
+    db : Database
+    db = database s.tables
+
+    early : early_refusal (is_late s.asked) (limits_of s.public) (headings db) stmt ≡ None
+    early = ap (λ (hs : List Heading). early_refusal (is_late s.asked) (limits_of s.public) hs stmt) (headings-database s.tables) ∙ member.early
+
+    -- by the refusal behind those
+    sound : (o : Option Refusal) → ((r : Refusal) → o ≡ Some r → is_store_fault r ≡ false) → has_failed (outcome_of stmt (answered (option_or (option_or None o) None) (accepted_answer db stmt))) ≡ false
+    sound None each = refl
+    sound (Some r) each = each r refl
+
+    by_late : (o : Option Refusal) → late_refusal (buffered s.public.pack s.public.buffer) db stmt ≡ o → ((r : Refusal) → o ≡ Some r → is_store_fault r ≡ false)
+        → has_failed (outcome_of stmt (verdict s.public s.asked s.tables stmt)) ≡ false
+    by_late o is each =
+        (λ i. has_failed (outcome_of stmt (answered (option_or (option_or (early i) (is i)) None) (accepted_answer db stmt)))) ∙ sound o each
+
+    at : (o : Option (Stored (List Row))) → stored_at table db ≡ o → has_failed (outcome_of stmt (verdict s.public s.asked s.tables stmt)) ≡ false
+    at None is = by_late None (ap (λ (u : Option (Stored (List Row))). option_map_or (λ (t : Stored (List Row)). insert_refusal t (new_row t.heading.schema columns values)) u None) is) (λ r none. absurd (cc none))
+    at (Some t) is =
+        let row : Row = new_row t.heading.schema columns values in
+        by_late (insert_refusal t row) (ap (λ (u : Option (Stored (List Row))). option_map_or (λ (t : Stored (List Row)). insert_refusal t (new_row t.heading.schema columns values)) u None) is) (room_sound t row)
 
 -- ---- the first of some texts
 no_take : {A : Type 0} (n : ℕ) → ◌≡◌ {A = List A} (take n []) []
@@ -106,27 +138,38 @@ rest_taken : (n : ℕ) (bs : Broken) → rest_of (take (suc n) bs) ≡ take n (r
 rest_taken n [] = sym (no_take n)
 rest_taken n (b ∷ bs) = refl
 
-taken_more : (more : Bool) (one : Answer) (answers : List Answer) → taken_by more (one ∷ answers) ≡ suc (taken_by more answers)
-taken_more more one answers = omega arith
+-- the tables behind these statements, from a session
+abbrev left_from : Session → List Stmt → Tables
+left_from u stmts = settle_all u.draws u.public u.asked stmts u.tables
 
-pub left_end : (more : Bool) (s : Session) (answers : List Answer) (broken : Broken) → left_by more s [] answers broken ≡ s
-left_end more s answers broken = ap (λ (xs : List Spelt). after_all s xs (take (length answers) broken)) (no_take (taken_by more answers))
+module _ (more : Option (List Stmt)) (s : Session) (spelt : List Spelt) (one : Answer) (answers : List Answer) (broken : Broken) where
+  taken_more : (x : Spelt) → taken_by more (x ∷ spelt) (one ∷ answers) ≡ taken_by more spelt answers
+  taken_more x = elim more as (λ o. taken_by o (x ∷ spelt) (one ∷ answers) ≡ taken_by o spelt answers) [ None ↦ refl | Some behind ↦ refl ]
 
-module _ (more : Bool) (s : Session) (spelt : List Spelt) (one : Answer) (answers : List Answer) (broken : Broken) where
   pub left_refused : (at : ℕ) → left_by more s (Err at ∷ spelt) (one ∷ answers) broken ≡ left_by more s spelt answers (rest_of broken)
-  left_refused at =
-      ap (λ (n : ℕ). after_all s (take n (Err at ∷ spelt)) (take (suc (length answers)) broken)) (taken_more more one answers)
-      ∙ ap (λ (bs : Broken). after_all s (take (taken_by more answers) spelt) bs) (rest_taken (length answers) broken)
+  left_refused at = λ i. left_from (after_all s (take (length answers) spelt) (rest_taken (length answers) broken i)) (taken_more (Err at) i)
 
   pub left_served : (stmt : Stmt) → is_full_now s stmt ≡ false → left_by more s (Ok stmt ∷ spelt) (one ∷ answers) broken ≡ left_by more (after (head_of broken) s stmt) spelt answers (rest_of broken)
   left_served stmt room =
-      ap (λ (n : ℕ). after_all s (take n (Ok stmt ∷ spelt)) (take (suc (length answers)) broken)) (taken_more more one answers)
-      ∙ after_room s stmt (take (taken_by more answers) spelt) (take (suc (length answers)) broken) room
-      ∙ (λ i. after_all (after (head_taken (length answers) broken i) s stmt) (take (taken_by more answers) spelt) (rest_taken (length answers) broken i))
+      let behind : answered_by s (Ok stmt ∷ spelt) (one ∷ answers) broken ≡ answered_by (after (head_of broken) s stmt) spelt answers (rest_of broken) =
+      after_room s stmt (take (length answers) spelt) (take (suc (length answers)) broken) room
+      ∙ (λ i. after_all (after (head_taken (length answers) broken i) s stmt) (take (length answers) spelt) (rest_taken (length answers) broken i)) in
+      λ i. left_from (behind i) (taken_more (Ok stmt) i)
 
--- ---- a statement that the store cut off has no effect
-cut_alike : (s t : Session) (stmt : Stmt) (n : ℕ) → SessionsAlike s t → SessionsAlike (after (Some n) s stmt) t
+-- ---- a statement that the store cut off, alone or with another, has no effect
+cut_alike : (s t : Session) (stmt : Stmt) (n : ℕ) → SessionsAlike s t → SessionsAlike (after (CutAfter n) s stmt) t
 cut_alike s t stmt n alike = record {
+  settings = alike.settings;
+  kept = alike.kept;
+  tables = alike.tables;
+  flat = alike.flat;
+  flat_too = alike.flat_too;
+  here = alike.here;
+  there = alike.there;
+}
+
+cut_with_alike : (s t : Session) (stmt : Stmt) → SessionsAlike s t → SessionsAlike (after CutWith s stmt) t
+cut_with_alike s t stmt alike = record {
   settings = alike.settings;
   kept = alike.kept;
   tables = alike.tables;
@@ -138,30 +181,54 @@ cut_alike s t stmt n alike = record {
 
 -- ---- texts that took effect
 -- they are answered alike, and what they leave is alike
-abbrev Took : (t left : Session) → List Effect → Type 0
-Took t left effects = AnsweredInOne t effects × SessionsAlike left (after_all t (texts_of effects) [])
+abbrev Took : (t : Session) (left : Tables) → List Effect → Type 0
+Took t left effects = AnsweredInOne t effects × TablesAlike left (after_all t (texts_of effects) [])
 
--- the one that wasn't answered
-one_more : (more : Bool) (x : Spelt) (spelt : List Spelt) (s t : Session) (broken : Broken) → SessionsAlike s t → s.asked < 2 ^ 63 → (after_all t (texts_of (effects_of more (x ∷ spelt) [])) []).asked < 2 ^ 63
-    → Took t (left_by more s (x ∷ spelt) [] broken) (effects_of more (x ∷ spelt) [])
-unfolding effects_of AnsweredInOne
-one_more false x spelt s t broken alike soon few = (tt, alike)
-one_more true (Err at) spelt s t broken alike soon few = ((tt, tt), alike)
-one_more true (Ok stmt) spelt s t broken alike soon few =
-    let here = after_room s stmt [] [] (room_flat s stmt alike.flat) in
-    let there = after_room t stmt [] [] (room_flat t stmt alike.flat_too) in
-    let behind : (after None t stmt).asked < 2 ^ 63 = subst (λ (u : Session). u.asked < 2 ^ 63) there few in
-    let soon_too : t.asked < 2 ^ 63 = omega (arith, behind) in (
-      (room_flat t stmt alike.flat_too, tt),
-      subst (λ (u : Session). SessionsAlike u (after_all t (Ok stmt ∷ []) [])) (sym here)
-          (subst (λ (v : Session). SessionsAlike (after None s stmt) v) (sym there) (after_alike s t alike soon soon_too stmt)),
-    )
+texts_unanswered : (xs : List Spelt) → texts_of (unanswered xs) ≡ xs
+texts_unanswered [] = refl
+texts_unanswered (x ∷ xs) = ap (λ (ys : List Spelt). x ∷ ys) (texts_unanswered xs)
+
+-- statements that weren't answered, by settings that are the same, and not late
+module _ (d : Draws) (p : Public) (m : ℕ) (kept : p.keep ≡ true) (soon : m < 2 ^ 63) where
+  abbrev MoreTook : (left : Tables) (t : Session) → List Stmt → Type 0
+  MoreTook left t stmts = AnsweredInOne t (unanswered (map Ok stmts)) × TablesAlike left (after_all t (map Ok stmts) [])
+
+  more_on : (stmts : List Stmt) (ts : Tables) (t : Session) → plain p ≡ plain t.public → TablesAlike ts t → (after_all t (map Ok stmts) []).asked < 2 ^ 63 → MoreTook (settle_all d p m stmts ts) t stmts
+  unfolding AnsweredInOne
+  more_on [] ts t settings alike few = (tt, alike)
+  more_on (stmt ∷ stmts) ts t settings alike few =
+      let room = room_flat t stmt alike.flat_too in
+      let first = after_room t stmt (map Ok stmts) [] room in
+      let behind : (after_all (after Alone t stmt) (map Ok stmts) []).asked < 2 ^ 63 = subst (λ (u : Session). u.asked < 2 ^ 63) first few in
+      let grown = grows (after Alone t stmt) (map Ok stmts) [] in
+      let soon_too : t.asked < 2 ^ 63 = omega (arith, behind, grown) in
+      let rest = more_on stmts (settle d p m ts stmt) (after Alone t stmt) settings (settled_alike d p m ts t alike settings kept soon soon_too stmt) behind in
+      ((room, rest.0), subst (λ (u : Session). TablesAlike (settle_all d p m stmts (settle d p m ts stmt)) u) (sym first) rest.1)
+
+-- from a session that is alike
+module _ (s t : Session) (alike : SessionsAlike s t) (soon : s.asked < 2 ^ 63) where
+  more_alike : (stmts : List Stmt) → (after_all t (texts_of (unanswered (map Ok stmts))) []).asked < 2 ^ 63 → Took t (left_from s stmts) (unanswered (map Ok stmts))
+  more_alike stmts few =
+      let texts = texts_unanswered (map Ok stmts) in
+      let took =
+      more_on s.draws s.public s.asked alike.kept soon stmts s.tables t alike.settings (record { tables = alike.tables; flat = alike.flat; flat_too = alike.flat_too; there = alike.there })
+      (subst (λ (xs : List Spelt). (after_all t xs []).asked < 2 ^ 63) texts few) in
+      (took.0, subst (λ (xs : List Spelt). TablesAlike (left_from s stmts) (after_all t xs [])) (sym texts) took.1)
+
+  -- the texts that weren't answered
+  one_more : (more : Option (List Stmt)) (spelt : List Spelt) (broken : Broken) → (after_all t (texts_of (effects_of more spelt [])) []).asked < 2 ^ 63 → Took t (left_by more s spelt [] broken) (effects_of more spelt [])
+  unfolding effects_of AnsweredInOne statements
+  one_more None spelt broken few = more_alike [] few
+  one_more (Some behind) [] broken few = more_alike behind few
+  one_more (Some behind) (Ok stmt ∷ spelt) broken few = more_alike (stmt ∷ behind) few
+  one_more (Some behind) (Err at ∷ spelt) broken few = let rest = more_alike behind few in ((tt, rest.0), rest.1)
 
 -- a statement that was answered, and more behind it
-module _ (Leaves : Public → Stmt → Seen → Type 0) (ending : Ending) (more : Bool) (stmt : Stmt) (spelt : List Spelt) (s t : Session) (broken : Broken) (one : Answer) (answers : List Answer) (x : Served) (seen : List Served) (part : List ℕ) (alike : SessionsAlike s t)
+module _ (Leaves : Public → Stmt → Seen → Type 0) (g : Option Gathering) (ending : Ending) (more : Option (List Stmt)) (stmt : Stmt) (spelt : List Spelt) (s t : Session) (broken : Broken) (one : Answer) (answers : List Answer) (x : Served) (seen : List Served) (part : List ℕ)
+    (alike : SessionsAlike s t)
     (lawful : (x.skeleton ≡ skeleton stmt) × Lawful s.public s.asked stmt x.seen
-    × (Says (refusal_now s.public s.asked stmt) s.public stmt one × (IsTrue (is_cut x.seen.end) ↔ (one.outcome ≡ Refused StoreFault)) × (one.plan ≡ x.seen.plan))
-    × AreSeen Leaves (next s.public x.skeleton x.seen) (s.asked + length (script s.public x.skeleton x.seen)) spelt answers seen)
+    × (Says (refusal_now s.public s.asked stmt) s.public stmt one × (IsTrue (is_failed g x.seen.end) ↔ (one.outcome ≡ Refused StoreFault)) × (one.plan ≡ x.seen.plan) × Joins s.public s.asked g stmt x.seen)
+    × AreSeen Leaves (next s.public x.skeleton x.seen) (s.asked + length (script s.public x.skeleton x.seen)) (gathering_after s.public s.asked g stmt x.seen.end) spelt answers seen)
     (few : s.asked + length (trace s.public (x ∷ seen)) < 2 ^ 63) where
   abbrev behind : List Effect
   behind = effects_of more spelt answers
@@ -170,11 +237,15 @@ module _ (Leaves : Public → Stmt → Seen → Type 0) (ending : Ending) (more 
   abbrev all : (failed : Bool) → List Effect
   all failed = if failed then behind else record { text = Ok stmt; answer = Some one } ∷ behind
 
-  abbrev Told : Option ℕ → Type 0
-  Told o = (is_full_now s stmt ≡ false) × IsCutOff o s stmt × AnswersIn o s stmt one × (x.seen ≡ seen_or_cut o s stmt) × AnswersFrom ending (after o s stmt) spelt (rest_of broken) answers seen part
+  abbrev Told : How → Type 0
+  Told how = (is_full_now s stmt ≡ false) × IsCutOff how s stmt × AnswersIn how s stmt one × (x.seen ≡ seen_or_cut how s stmt) × AnswersFrom ending (after how s stmt) spelt (rest_of broken) answers seen part
+
+  -- what is gathered behind it
+  abbrev gathered : How → Option Gathering
+  gathered how = gathering_after s.public s.asked g stmt (seen_or_cut how s stmt).end
 
   abbrev Follows : Type 0
-  Follows = (u v : Session) → SessionsAlike u v → AnswersFrom ending u spelt (rest_of broken) answers seen part → AreSeen Leaves u.public u.asked spelt answers seen → u.asked + length (trace u.public seen) < 2 ^ 63
+  Follows = (h : Option Gathering) (u v : Session) → SessionsAlike u v → AnswersFrom ending u spelt (rest_of broken) answers seen part → AreSeen Leaves u.public u.asked h spelt answers seen → u.asked + length (trace u.public seen) < 2 ^ 63
       → (after_all v (texts_of behind) []).asked < 2 ^ 63 → Took v (left_by more u spelt answers (rest_of broken)) behind
 
   -- the accesses behind it
@@ -184,63 +255,77 @@ module _ (Leaves : Public → Stmt → Seen → Type 0) (ending : Ending) (more 
       let whole : s.asked + length (script s.public x.skeleton x.seen ++ trace (next s.public x.skeleton x.seen) seen) < 2 ^ 63 = few in
       omega (arith, whole, long)
 
-  seen_at : (o : Option ℕ) → x.seen ≡ seen_or_cut o s stmt → AreSeen Leaves (after o s stmt).public (after o s stmt).asked spelt answers seen
-  seen_at o is =
-      let entry : x ≡ served o s stmt = λ i. record { skeleton = lawful.0 i; seen = is i } in
-      subst (λ (y : Served). AreSeen Leaves (next s.public y.skeleton y.seen) (s.asked + length (script s.public y.skeleton y.seen)) spelt answers seen) entry lawful.3
+  seen_at : (how : How) → x.seen ≡ seen_or_cut how s stmt → AreSeen Leaves (after how s stmt).public (after how s stmt).asked (gathered how) spelt answers seen
+  seen_at how is =
+      let entry : x ≡ served how s stmt = λ i. record { skeleton = lawful.0 i; seen = is i } in
+      subst (λ (y : Served). AreSeen Leaves (next s.public y.skeleton y.seen) (s.asked + length (script s.public y.skeleton y.seen)) (gathering_after s.public s.asked g stmt y.seen.end) spelt answers seen) entry lawful.3
 
-  few_at : (o : Option ℕ) → x.seen ≡ seen_or_cut o s stmt → (after o s stmt).asked + length (trace (after o s stmt).public seen) < 2 ^ 63
-  few_at o is =
-      let entry : x ≡ served o s stmt = λ i. record { skeleton = lawful.0 i; seen = is i } in
+  few_at : (how : How) → x.seen ≡ seen_or_cut how s stmt → (after how s stmt).asked + length (trace (after how s stmt).public seen) < 2 ^ 63
+  few_at how is =
+      let entry : x ≡ served how s stmt = λ i. record { skeleton = lawful.0 i; seen = is i } in
       subst (λ (y : Served). s.asked + length (script s.public y.skeleton y.seen) + length (trace (next s.public y.skeleton y.seen) seen) < 2 ^ 63) entry fewer
 
-  left_at : (o : Option ℕ) → head_of broken ≡ o → left_by more s (Ok stmt ∷ spelt) (one ∷ answers) broken ≡ left_by more (after o s stmt) spelt answers (rest_of broken)
-  left_at o is =
+  left_at : (how : How) → head_of broken ≡ how → left_by more s (Ok stmt ∷ spelt) (one ∷ answers) broken ≡ left_by more (after how s stmt) spelt answers (rest_of broken)
+  left_at how is =
       left_served more s spelt one answers broken stmt (room_flat s stmt alike.flat)
-      ∙ ap (λ (c : Option ℕ). left_by more (after c s stmt) spelt answers (rest_of broken)) is
+      ∙ ap (λ (h : How). left_by more (after h s stmt) spelt answers (rest_of broken)) is
 
-  step_on : (o : Option ℕ) → head_of broken ≡ o → Told o → Follows → (after_all t (texts_of (all (has_failed one.outcome))) []).asked < 2 ^ 63
-      → Took t (left_by more s (Ok stmt ∷ spelt) (one ∷ answers) broken) (all (has_failed one.outcome))
+  abbrev Done : Type 0
+  Done = Took t (left_by more s (Ok stmt ∷ spelt) (one ∷ answers) broken) (all (has_failed one.outcome))
+
+  -- it was answered as it is meant
+  took_effect : (how : How) → head_of broken ≡ how → has_failed one.outcome ≡ false → AnswersMeant s stmt one → (s.asked < 2 ^ 63 → t.asked < 2 ^ 63 → SessionsAlike (after how s stmt) (after Alone t stmt)) → Told how → Follows
+      → (after_all t (texts_of (all (has_failed one.outcome))) []).asked < 2 ^ 63 → Done
   unfolding AnsweredInOne
-  step_on None is told follows few_too =
-      let whole : has_failed one.outcome ≡ false = unfailed s stmt one.outcome x.seen alike.flat lawful.2.1 told.3 in
+  took_effect how is whole meant steps told follows few_too =
       let there = after_room t stmt (texts_of behind) [] (room_flat t stmt alike.flat_too) in
       let few_all : (after_all t (Ok stmt ∷ texts_of behind) []).asked < 2 ^ 63 = subst (λ (b : Bool). (after_all t (texts_of (all b)) []).asked < 2 ^ 63) whole few_too in
-      let few_behind : (after_all (after None t stmt) (texts_of behind) []).asked < 2 ^ 63 = subst (λ (u : Session). u.asked < 2 ^ 63) there few_all in
-      let grown = grows (after None t stmt) (texts_of behind) [] in
+      let few_behind : (after_all (after Alone t stmt) (texts_of behind) []).asked < 2 ^ 63 = subst (λ (u : Session). u.asked < 2 ^ 63) there few_all in
+      let grown = grows (after Alone t stmt) (texts_of behind) [] in
       let soon : s.asked < 2 ^ 63 = omega (arith, few) in
       let soon_too : t.asked < 2 ^ 63 = omega (arith, few_behind, grown) in
-      let rest = follows (after None s stmt) (after None t stmt) (after_alike s t alike soon soon_too stmt) told.4 (seen_at None told.3) (few_at None told.3) few_behind in
+      let rest = follows (gathered how) (after how s stmt) (after Alone t stmt) (steps soon soon_too) told.4 (seen_at how told.3) (few_at how told.3) few_behind in
       subst (λ (b : Bool). Took t (left_by more s (Ok stmt ∷ spelt) (one ∷ answers) broken) (all b)) (sym whole) (
-        ((room_flat t stmt alike.flat_too, answers_alike s t alike soon soon_too stmt one told.2), rest.0),
-        subst (λ (u : Session). SessionsAlike u (after_all t (Ok stmt ∷ texts_of behind) [])) (sym (left_at None is))
-            (subst (λ (v : Session). SessionsAlike (left_by more (after None s stmt) spelt answers (rest_of broken)) v) (sym there) rest.1),
-      )
-  step_on (Some n) is told follows few_too =
-      let failed : has_failed one.outcome ≡ true = ap has_failed told.2.outcome in
-      let few_behind : (after_all t (texts_of behind) []).asked < 2 ^ 63 = subst (λ (b : Bool). (after_all t (texts_of (all b)) []).asked < 2 ^ 63) failed few_too in
-      let rest = follows (after (Some n) s stmt) t (cut_alike s t stmt n alike) told.4 (seen_at (Some n) told.3) (few_at (Some n) told.3) few_behind in
-      subst (λ (b : Bool). Took t (left_by more s (Ok stmt ∷ spelt) (one ∷ answers) broken) (all b)) (sym failed) (
-        rest.0,
-        subst (λ (u : Session). SessionsAlike u (after_all t (texts_of behind) [])) (sym (left_at (Some n) is)) rest.1,
+        ((room_flat t stmt alike.flat_too, answers_alike s t alike soon soon_too stmt one meant), rest.0),
+        subst (λ (ts : Tables). TablesAlike ts (after_all t (Ok stmt ∷ texts_of behind) [])) (sym (left_at how is))
+            (subst (λ (v : Session). TablesAlike (left_by more (after how s stmt) spelt answers (rest_of broken)) v) (sym there) rest.1),
       )
 
-pub effects_on : (Leaves : Public → Stmt → Seen → Type 0) (ending : Ending) (more : Bool) (spelt : List Spelt) (s t : Session) (broken : Broken) (answers : List Answer) (seen : List Served) (part : List ℕ)
-    → SessionsAlike s t → AnswersFrom ending s spelt broken answers seen part → AreSeen Leaves s.public s.asked spelt answers seen → s.asked + length (trace s.public seen) < 2 ^ 63
+  -- the store had failed it
+  took_none : (how : How) → head_of broken ≡ how → one.outcome ≡ Refused StoreFault → SessionsAlike (after how s stmt) t → Told how → Follows → (after_all t (texts_of (all (has_failed one.outcome))) []).asked < 2 ^ 63 → Done
+  took_none how is outcome stays told follows few_too =
+      let failed : has_failed one.outcome ≡ true = ap has_failed outcome in
+      let few_behind : (after_all t (texts_of behind) []).asked < 2 ^ 63 = subst (λ (b : Bool). (after_all t (texts_of (all b)) []).asked < 2 ^ 63) failed few_too in
+      let rest = follows (gathered how) (after how s stmt) t stays told.4 (seen_at how told.3) (few_at how told.3) few_behind in
+      subst (λ (b : Bool). Took t (left_by more s (Ok stmt ∷ spelt) (one ∷ answers) broken) (all b)) (sym failed) (
+        rest.0,
+        subst (λ (ts : Tables). TablesAlike ts (after_all t (texts_of behind) [])) (sym (left_at how is)) rest.1,
+      )
+
+  step_on : (how : How) → head_of broken ≡ how → Told how → Follows → (after_all t (texts_of (all (has_failed one.outcome))) []).asked < 2 ^ 63 → Done
+  step_on Alone is told follows few_too =
+      took_effect Alone is (unfailed g s stmt one.outcome x.seen lawful.2.1 told.3) told.2 (λ soon soon_too. after_alike s t alike soon soon_too stmt) told follows few_too
+  step_on (CutAfter n) is told follows few_too = took_none (CutAfter n) is told.2.outcome (cut_alike s t stmt n alike) told follows few_too
+  step_on With is told follows few_too =
+      took_effect With is (ap has_failed told.2.outcome ∙ member_sound s stmt told.1) told.2 (λ soon soon_too. parted_alike s t alike soon soon_too stmt told.1) told follows few_too
+  step_on CutWith is told follows few_too = took_none CutWith is told.2.outcome (cut_with_alike s t stmt alike) told follows few_too
+
+pub effects_on : (Leaves : Public → Stmt → Seen → Type 0) (g : Option Gathering) (ending : Ending) (more : Option (List Stmt)) (spelt : List Spelt) (s t : Session) (broken : Broken) (answers : List Answer) (seen : List Served) (part : List ℕ)
+    → SessionsAlike s t → AnswersFrom ending s spelt broken answers seen part → AreSeen Leaves s.public s.asked g spelt answers seen → s.asked + length (trace s.public seen) < 2 ^ 63
     → (after_all t (texts_of (effects_of more spelt answers)) []).asked < 2 ^ 63 → Took t (left_by more s spelt answers broken) (effects_of more spelt answers)
 unfolding AnswersFrom AreSeen effects_of AnsweredInOne
-effects_on Leaves ending more [] s t broken answers seen part alike told lawful few few_too =
-    (tt, subst (λ (u : Session). SessionsAlike u t) (sym (left_end more s answers broken)) alike)
-effects_on Leaves ending more (x ∷ spelt) s t broken [] seen part alike told lawful few few_too = one_more more x spelt s t broken alike (omega (arith, few)) few_too
-effects_on Leaves ending more (Err at ∷ spelt) s t broken (one ∷ answers) seen part alike told lawful few few_too =
+effects_on Leaves g ending more [] s t broken [] seen part alike told lawful few few_too = one_more s t alike (omega (arith, few)) more [] broken few_too
+effects_on Leaves g ending more [] s t broken (one ∷ answers) seen part alike told lawful few few_too = absurd (cc told.0)
+effects_on Leaves g ending more (x ∷ spelt) s t broken [] seen part alike told lawful few few_too = one_more s t alike (omega (arith, few)) more (x ∷ spelt) broken few_too
+effects_on Leaves g ending more (Err at ∷ spelt) s t broken (one ∷ answers) seen part alike told lawful few few_too =
     let whole : has_failed one.outcome ≡ false = ap (λ (a : Answer). has_failed a.outcome) told.0 in
     let behind : List Effect = effects_of more spelt answers in
     let here : Effect = record { text = Err at; answer = Some one } in
-    let rest = effects_on Leaves ending more spelt s t (rest_of broken) answers seen part alike told.1 lawful.1 few
+    let rest = effects_on Leaves None ending more spelt s t (rest_of broken) answers seen part alike told.1 lawful.1 few
     (subst (λ (b : Bool). (after_all t (texts_of (if b then behind else here ∷ behind)) []).asked < 2 ^ 63) whole few_too) in
     subst (λ (b : Bool). Took t (left_by more s (Err at ∷ spelt) (one ∷ answers) broken) (if b then behind else here ∷ behind)) (sym whole)
-    ((told.0, rest.0), subst (λ (u : Session). SessionsAlike u (after_all t (texts_of behind) [])) (sym (left_refused more s spelt one answers broken at)) rest.1)
-effects_on Leaves ending more (Ok stmt ∷ spelt) s t broken (one ∷ answers) [] part alike told lawful few few_too = absurd told
-effects_on Leaves ending more (Ok stmt ∷ spelt) s t broken (one ∷ answers) (x ∷ seen) part alike told lawful few few_too =
-    step_on Leaves ending more stmt spelt s t broken one answers x seen part alike lawful few (head_of broken) refl told
-    (λ u v same from are fewer enough. effects_on Leaves ending more spelt u v (rest_of broken) answers seen part same from are fewer enough) few_too
+    ((told.0, rest.0), subst (λ (ts : Tables). TablesAlike ts (after_all t (texts_of behind) [])) (sym (left_refused more s spelt one answers broken at)) rest.1)
+effects_on Leaves g ending more (Ok stmt ∷ spelt) s t broken (one ∷ answers) [] part alike told lawful few few_too = absurd told
+effects_on Leaves g ending more (Ok stmt ∷ spelt) s t broken (one ∷ answers) (x ∷ seen) part alike told lawful few few_too =
+    step_on Leaves g ending more stmt spelt s t broken one answers x seen part alike lawful few (head_of broken) refl told
+    (λ h u v same from are fewer enough. effects_on Leaves h ending more spelt u v (rest_of broken) answers seen part same from are fewer enough) few_too

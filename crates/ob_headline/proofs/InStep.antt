@@ -1,5 +1,5 @@
 -- The headings of a session's tables are those of what is public, statement for statement, while each table is flat.
-use Rattle.std.specs.Prelude.{bytes_eq, filter, is_some, not, if◌then◌else◌}
+use Rattle.std.specs.Prelude.{IsSome, bytes_eq, filter, is_some, not, if◌then◌else◌}
 use Rattle.std.proofs.Common.{◌≡◌, ℕ, Bool, true, false, cond, List, [], ◌∷◌, ◌++◌, map, Option, Some, None, refl, sym, ◌∙◌, ap}
 use Rattle.std.proofs.lemmas.List.{map_push}
 use Rattle.std.specs.List.{list_any}
@@ -13,7 +13,7 @@ use Rattle.ob_base.specs.declared.refusal.Refusal.{Refusal}
 use Rattle.ob_base.specs.declared.schema.Heading.{Heading}
 use Rattle.ob_base.specs.declared.schema.Table.{Table}
 use Rattle.ob_base.specs.declared.seen.End.{End}
-use Rattle.ob_base.specs.declared.seen.End.TheVariants.{Static, Whole, AfterCount, Cut}
+use Rattle.ob_base.specs.declared.seen.End.TheVariants.{Static, Whole, AfterCount, Joined, Cut}
 use Rattle.ob_base.specs.declared.seen.Seen.{Seen}
 use Rattle.ob_base.specs.declared.skeleton.Skeleton.{Skeleton}
 use Rattle.ob_mean.proofs.EarlyLemmas.{neither}
@@ -21,13 +21,15 @@ use Rattle.ob_mean.proofs.FlatLemmas.{seen_is, settle_is}
 use Rattle.ob_mean.proofs.VerdictLemmas.{headings-database}
 use Rattle.ob_mean.specs.Flats.{AreFlat}
 use Rattle.ob_mean.specs.Refusals.{early_refusal, limits_of}
-use Rattle.ob_mean.specs.Replay.{Session, after}
+use Rattle.ob_mean.specs.Batches.{inserts_into}
+use Rattle.ob_mean.specs.Replay.{Alone, With, Session, after}
 use Rattle.ob_mean.specs.Settle.{new_held, settle, settled}
 use Rattle.ob_mean.specs.Step.{followed, late_refusal}
 use Rattle.ob_mean.specs.Verdict.{Draws, Held, Tables, database, ended, is_late, last_refusal, refusal, seen, seen_started}
 use Rattle.ob_script.specs.Tables.{tables_after, tables_then}
 use Rattle.ob_script.specs.Trace.{next}
 use Rattle.ob_sql.specs.Skeleton.{skeleton}
+use Rattle.ob_sql.specs.declared.stmt.Literal.{Literal}
 use Rattle.ob_sql.specs.declared.stmt.Stmt.{Stmt}
 use Rattle.ob_sql.specs.declared.stmt.Stmt.TheVariants.{Create, Insert, Update, Delete, Drop as DropTable, SelectRows as RowsStmt, SelectTotals as TotalsStmt}
 use Rattle.ob_verdict.proofs.MovingProof.{is_name, moves, same_name}
@@ -94,6 +96,7 @@ module _ (d : Draws) (p : Public) (m : ℕ) (ts : Tables) (flat : AreFlat (headi
   still s Static after = refl
   still s Whole after = after
   still s AfterCount after = refl
+  still s Joined after = refl
   still s (Cut n) after = refl
 
   followed_still : (o : Option Refusal) (later : Tables) → headings later ≡ headings ts → headings (followed o later ts) ≡ headings ts
@@ -105,6 +108,12 @@ module _ (d : Draws) (p : Public) (m : ℕ) (ts : Tables) (flat : AreFlat (headi
   leaves stmt settles after =
       ap headings (settle_is p ts stmt flat d m)
       ∙ followed_still (refusal p m ts stmt) (settled d p ts stmt) settles ∙ same ∙ sym (still (skeleton stmt) (seen d p m ts stmt).end after)
+
+  -- an INSERT by itself leaves them
+  stays : (table : List ℕ) (columns : Option (List (List ℕ))) (values : List Literal) → headings (settle d p m ts (Insert table columns values)) ≡ headings_of p.tables
+  stays table columns values =
+      let stmt : Stmt = Insert table columns values in
+      ap headings (settle_is p ts stmt flat d m) ∙ followed_still (refusal p m ts stmt) (settled d p ts stmt) (changed_headings table _ ts) ∙ same
 
   -- one that adds a table or drops one
   changes : (stmt : Stmt) → late_refusal (buffered p.pack p.buffer) (database ts) stmt ≡ None → last_refusal p ts stmt ≡ None → seen_started p ts stmt ≡ ended Whole
@@ -147,5 +156,15 @@ module _ (d : Draws) (p : Public) (m : ℕ) (ts : Tables) (flat : AreFlat (headi
   steps (RowsStmt q) apart = leaves (RowsStmt q) refl refl
   steps (TotalsStmt q) apart = leaves (TotalsStmt q) refl refl
 
-pub keeps_step : (s : Session) (stmt : Stmt) → AreFlat (headings s.tables) → InStep s → AreApart (headings s.tables) → InStep (after None s stmt)
+pub keeps_step : (s : Session) (stmt : Stmt) → AreFlat (headings s.tables) → InStep s → AreApart (headings s.tables) → InStep (after Alone s stmt)
 keeps_step s stmt flat same apart = steps s.draws s.public s.asked s.tables flat same stmt apart
+
+-- so they are behind one that is served with another
+pub joins_step : (s : Session) (stmt : Stmt) → AreFlat (headings s.tables) → InStep s → IsSome (inserts_into (skeleton stmt)) → InStep (after With s stmt)
+joins_step s (Insert table columns values) flat same inserts = stays s.draws s.public s.asked s.tables flat same table columns values
+joins_step s (Create table columns capacity shape) flat same inserts = absurd (cc inserts)
+joins_step s (Update table sets cond) flat same inserts = absurd (cc inserts)
+joins_step s (Delete table cond) flat same inserts = absurd (cc inserts)
+joins_step s (DropTable table) flat same inserts = absurd (cc inserts)
+joins_step s (RowsStmt q) flat same inserts = absurd (cc inserts)
+joins_step s (TotalsStmt q) flat same inserts = absurd (cc inserts)

@@ -13,7 +13,7 @@ use Rattle.ob_base.specs.declared.schema.Shape.{Shape}
 use Rattle.ob_base.specs.declared.schema.Shape.TheVariants.{Flat, Indexed}
 use Rattle.ob_base.specs.declared.schema.Table.{Table}
 use Rattle.ob_base.specs.declared.seen.End.{End}
-use Rattle.ob_base.specs.declared.seen.End.TheVariants.{Static, Whole, AfterCount, Cut}
+use Rattle.ob_base.specs.declared.seen.End.TheVariants.{Static, Whole, AfterCount, Joined, Cut}
 use Rattle.ob_base.specs.declared.seen.Seen.{Seen}
 use Rattle.ob_base.specs.declared.skeleton.Skeleton.{Skeleton}
 use Rattle.ob_base.specs.declared.skeleton.Skeleton.TheVariants.{Create, Insert, Update, Delete, Drop as DropTable, Rows, Groups}
@@ -60,6 +60,7 @@ module _ (P : ℕ → Type 0) where
   onto_until Static all a = tt
   onto_until Whole all a = a
   onto_until AfterCount all a = a
+  onto_until Joined all a = tt
   onto_until (Cut k) all a = onto_first k all a
 
   pub onto_at : (xs : List Access) (i q x : ℕ) → Onto xs → slice_get xs i ≡ Some (Write q x) → P q
@@ -160,4 +161,5 @@ next_index p s seen q of = by_end seen.end of
     by_end Static of = inl of
     by_end Whole of = behind s of
     by_end AfterCount of = inl of
+    by_end Joined of = inl of
     by_end (Cut n) of = inl of

@@ -1,5 +1,6 @@
 -- What a run asks of which no text was answered that the store failed, however it ended.
-use Rattle.std.specs.Prelude.{is_some}
+use Rattle.std.specs.Prelude.{◌&&◌, is_some}
+use Rattle.std.specs.Option.{is_none}
 use Rattle.std.proofs.Common.{◌≡◌, ◌+◌, ◌≤◌, ◌++◌, ℕ, Bool, true, false, Ok, Err, List, [], ◌∷◌, length, take, drop, Option, Some, None, refl, sym, ◌∙◌, ap, subst, append-nil, append_assoc, arith}
 use Rattle.std.proofs.lemmas.List.{take-append-drop}
 use Rattle.clap.specs.Words.{App, Text}
@@ -9,25 +10,28 @@ use Rattle.ob_base.specs.Limits.{buffered_blocks}
 use Rattle.ob_base.specs.Stored.{Stored}
 use Rattle.ob_base.specs.declared.access.Access.{Access}
 use Rattle.ob_base.specs.declared.config.Public.{Public}
+use Rattle.ob_base.specs.declared.refusal.Refusal.{Refusal}
 use Rattle.ob_base.specs.declared.schema.Heading.{Heading}
 use Rattle.ob_base.specs.declared.seen.End.{End}
-use Rattle.ob_base.specs.declared.seen.End.TheVariants.{Static, Whole, AfterCount, Cut}
+use Rattle.ob_base.specs.declared.seen.End.TheVariants.{Static, Whole, AfterCount, Joined, Cut}
 use Rattle.ob_base.specs.declared.seen.Seen.{Seen}
 use Rattle.ob_base.specs.declared.skeleton.Skeleton.{Skeleton}
 use Rattle.ob_base.specs.declared.skeleton.Skeleton.TheVariants as K
 use Rattle.ob_base.specs.declared.skeleton.Source.TheVariants.{Table as OneTable, Join}
 use Rattle.ob_verdict.specs.Outcomes.{refusal_now}
+use Rattle.ob_headline.proofs.BatchLemmas.{cut_fails}
 use Rattle.ob_headline.proofs.FlatLemmas.{no_leaf}
-use Rattle.ob_headline.proofs.RerunLemmas.{holds_none, not_cut, shows_plainly}
+use Rattle.ob_headline.proofs.RerunLemmas.{GathersIf, gathered_if, gathers_none, gathers_on, holds_none, none_before, not_cut, shows_plainly}
 use Rattle.ob_headline.specs.Bases.{Base}
+use Rattle.ob_headline.specs.Batches.{Joins}
 use Rattle.ob_headline.specs.Failures.{failures}
 use Rattle.ob_headline.specs.Headline.{Headline}
-use Rattle.ob_headline.specs.Reruns.{ArePlain, AsksByKinds, IsPlain, plainly, seen_plainly, shown_plainly}
+use Rattle.ob_headline.specs.Reruns.{ArePlain, AsksByKinds, IsPlain, Turn, gathered_then, plainly, seen_plainly, shown_plainly, turns, turns_in}
 use Rattle.ob_headline.specs.Settings.{IsTaken, IsTakenSaved, MeddleParses}
 use Rattle.ob_headline.specs.Words.{Answer, Begins, Outside}
-use Rattle.ob_headline.specs.Statements.{statements}
-use Rattle.ob_headline.specs.Accesses.{AreSeen, is_cut}
+use Rattle.ob_headline.specs.Accesses.{AreSeen}
 use Rattle.ob_headline.specs.declared.ending.Report.{Report}
+use Rattle.ob_mean.specs.Batches.{Gathering, goes_into, is_cut, is_joined}
 use Rattle.ob_mean.specs.Lawful.{Lawful}
 use Rattle.ob_mean.specs.Replay.{Spelt}
 use Rattle.ob_script.specs.Parts.{count_part, join_part}
@@ -73,35 +77,42 @@ begins_all xs = record { rest = []; joined = sym (append-nil xs) }
 begins_take : (n : ℕ) (xs : List Access) → Begins (take n xs) xs
 begins_take n xs = record { rest = drop n xs; joined = sym (take-append-drop n xs) }
 
--- it was not refused where it was cut off
+-- it was neither refused where it was cut off, nor served with another
 not_refused : (p : Public) (m : ℕ) (stmt : Stmt) (here : Seen) (n : ℕ) (early : Bool) → here.end ≡ Cut n → is_some (refusal_now p m stmt) ≡ early → Lawful p m stmt here → early ≡ false
 not_refused p m stmt here n true is now lawful = let static = lawful.static.1 now in absurd (cc (static, is))
 not_refused p m stmt here n false is now lawful = refl
 
-begins_cut : (p : Public) (m : ℕ) (stmt : Stmt) (here : Seen) (n : ℕ) → here.end ≡ Cut n → IsPlain p stmt → Lawful p m stmt here
-    → Begins (script p (skeleton stmt) here) (script p (skeleton stmt) (plainly p m stmt))
-begins_cut p m stmt here n is plain lawful =
+not_joined : (goes : Bool) (o : Option Refusal) → is_some o ≡ false → false ≡ (goes && is_none o) → goes ≡ false
+not_joined false o none joins = refl
+not_joined true None none joins = absurd (cc joins)
+not_joined true (Some r) none joins = absurd (cc none)
+
+begins_cut : (p : Public) (m : ℕ) (g : Option Gathering) (stmt : Stmt) (here : Seen) (n : ℕ) → here.end ≡ Cut n → IsPlain p stmt → Lawful p m stmt here → Joins p m g stmt here
+    → Begins (script p (skeleton stmt) here) (script p (skeleton stmt) (plainly p m g stmt))
+begins_cut p m g stmt here n is plain lawful joins =
     let held = holds_none p stmt here plain here.k here.plan here.then lawful.holds in
     let so : here ≡ ended_so (Cut n) = λ i. record { k = held.no_k i; plan = held.no_plan i; then = held.no_second i; leaf = no_leaf p (skeleton stmt) here.leaf here.end plain.0 lawful.leaf i; end = is i } in
     let not : is_some (refusal_now p m stmt) ≡ false = not_refused p m stmt here n (is_some (refusal_now p m stmt)) is refl lawful in
-    let whole : plainly p m stmt ≡ ended_so Whole = ap seen_plainly not in
-    subst (λ (x : Seen). Begins (script p (skeleton stmt) x) (script p (skeleton stmt) (plainly p m stmt))) (sym so)
+    let apart : goes_into p g (skeleton stmt) ≡ false = not_joined (goes_into p g (skeleton stmt)) (refusal_now p m stmt) not (sym (ap is_joined is) ∙ joins) in
+    let whole : plainly p m g stmt ≡ ended_so Whole = λ i. seen_plainly (not i) (apart i) in
+    subst (λ (x : Seen). Begins (script p (skeleton stmt) x) (script p (skeleton stmt) (plainly p m g stmt))) (sym so)
     (subst (λ (x : Seen). Begins (take n (whole_script p (skeleton stmt) (ended_so (Cut n)))) (script p (skeleton stmt) x)) (sym whole)
     (subst (λ (l : List Access). Begins (take n l) (whole_script p (skeleton stmt) (ended_so Whole))) (whole_same p (skeleton stmt) Whole (Cut n))
     (begins_take n (whole_script p (skeleton stmt) (ended_so Whole)))))
 
-begins_uncut : (p : Public) (m : ℕ) (stmt : Stmt) (here : Seen) → is_cut here.end ≡ false → IsPlain p stmt → Lawful p m stmt here
-    → Begins (script p (skeleton stmt) here) (script p (skeleton stmt) (plainly p m stmt))
-begins_uncut p m stmt here uncut plain lawful =
-    subst (λ (x : Seen). Begins (script p (skeleton stmt) here) (script p (skeleton stmt) x)) (shows_plainly p m stmt here lawful plain uncut)
+begins_uncut : (p : Public) (m : ℕ) (g : Option Gathering) (stmt : Stmt) (here : Seen) → is_cut here.end ≡ false → IsPlain p stmt → Lawful p m stmt here → Joins p m g stmt here
+    → Begins (script p (skeleton stmt) here) (script p (skeleton stmt) (plainly p m g stmt))
+begins_uncut p m g stmt here uncut plain lawful joins =
+    subst (λ (x : Seen). Begins (script p (skeleton stmt) here) (script p (skeleton stmt) x)) (shows_plainly p m g stmt here lawful joins plain uncut)
     (begins_all (script p (skeleton stmt) here))
 
-pub begins_by : (p : Public) (m : ℕ) (stmt : Stmt) (here : Seen) (end : End) → here.end ≡ end → IsPlain p stmt → Lawful p m stmt here
-    → Begins (script p (skeleton stmt) here) (script p (skeleton stmt) (plainly p m stmt))
-begins_by p m stmt here Static is plain lawful = begins_uncut p m stmt here (ap is_cut is) plain lawful
-begins_by p m stmt here Whole is plain lawful = begins_uncut p m stmt here (ap is_cut is) plain lawful
-begins_by p m stmt here AfterCount is plain lawful = begins_uncut p m stmt here (ap is_cut is) plain lawful
-begins_by p m stmt here (Cut n) is plain lawful = begins_cut p m stmt here n is plain lawful
+pub begins_by : (p : Public) (m : ℕ) (g : Option Gathering) (stmt : Stmt) (here : Seen) (end : End) → here.end ≡ end → IsPlain p stmt → Lawful p m stmt here → Joins p m g stmt here
+    → Begins (script p (skeleton stmt) here) (script p (skeleton stmt) (plainly p m g stmt))
+begins_by p m g stmt here Static is plain lawful joins = begins_uncut p m g stmt here (ap is_cut is) plain lawful joins
+begins_by p m g stmt here Whole is plain lawful joins = begins_uncut p m g stmt here (ap is_cut is) plain lawful joins
+begins_by p m g stmt here AfterCount is plain lawful joins = begins_uncut p m g stmt here (ap is_cut is) plain lawful joins
+begins_by p m g stmt here Joined is plain lawful joins = begins_uncut p m g stmt here (ap is_cut is) plain lawful joins
+begins_by p m g stmt here (Cut n) is plain lawful joins = begins_cut p m g stmt here n is plain lawful joins
 
 -- ---- all statements do
 -- the last one
@@ -114,36 +125,43 @@ pub begins_more : (one xs ys : List Access) → Begins xs ys → Begins (one ++ 
 begins_more one xs ys begins =
     record { rest = begins.rest; joined = ap (λ (l : List Access). one ++ l) begins.joined ∙ sym (append_assoc one xs begins.rest) }
 
-begins_plainly : (Leaves : Public → Stmt → Seen → Type 0) (spelt : List Spelt) (answers : List Answer) (p : Public) (m : ℕ) (seen : List Entry) → AreSeen Leaves p m spelt answers seen
-    → length spelt ≤ length answers + 1 → failures answers ≡ 0 → ArePlain p m (statements spelt) → Begins (trace p seen) (trace p (shown_plainly p m (statements spelt)))
-unfolding AreSeen ArePlain failures statements shown_plainly
-begins_plainly Leaves [] answers p m seen lawful few none plain = subst (λ (xs : List Entry). Begins (trace p xs) []) (sym lawful) (begins_all [])
-begins_plainly Leaves (Err at ∷ spelt) [] p m seen lawful few none plain = begins_plainly Leaves spelt [] p m seen lawful (omega (arith, few)) none plain
-begins_plainly Leaves (Err at ∷ spelt) (one ∷ answers) p m seen lawful few none plain =
-    begins_plainly Leaves spelt answers p m seen lawful.1 (omega (arith, few)) (omega (arith, none)) plain
-begins_plainly Leaves (Ok stmt ∷ spelt) [] p m [] lawful few none plain = absurd lawful
-begins_plainly Leaves (Ok stmt ∷ spelt) (one ∷ answers) p m [] lawful few none plain = absurd lawful
-begins_plainly Leaves (Ok stmt ∷ []) [] p m (x ∷ seen) lawful few none plain =
-    let begins = begins_by p m stmt x.seen x.seen.end refl plain.0 lawful.1 in
-    begins_last p (next p x.skeleton x.seen) (next p (skeleton stmt) (plainly p m stmt)) (script p x.skeleton x.seen) (script p (skeleton stmt) (plainly p m stmt)) seen lawful.3
-    (subst (λ (s : Skeleton). Begins (script p s x.seen) (script p (skeleton stmt) (plainly p m stmt))) (sym lawful.0) begins)
-begins_plainly Leaves (Ok stmt ∷ (y ∷ spelt)) [] p m (x ∷ seen) lawful few none plain = absurd (omega (arith, few))
-begins_plainly Leaves (Ok stmt ∷ spelt) (one ∷ answers) p m (x ∷ seen) lawful few none plain =
-    let uncut = not_cut (is_cut x.seen.end) one.outcome lawful.2.1.0 (omega (arith, none)) in
-    let here : x.seen ≡ plainly p m stmt = shows_plainly p m stmt x.seen lawful.1 plain.0 uncut in
-    let same : x ≡ record { skeleton = skeleton stmt; seen = plainly p m stmt } = λ i. record { skeleton = lawful.0 i; seen = here i } in
-    let behind = subst (λ (z : Entry). ArePlain (next p z.skeleton z.seen) (m + length (script p z.skeleton z.seen)) (statements spelt)) (sym same) plain.1 in
-    let rest = begins_plainly Leaves spelt answers (next p x.skeleton x.seen) (m + length (script p x.skeleton x.seen)) seen lawful.3 (omega (arith, few)) (omega (arith, none)) behind in
+begins_plainly : (Leaves : Public → Stmt → Seen → Type 0) (spelt : List Spelt) (answers : List Answer) (batched apart : Bool) (p : Public) (m : ℕ) (g : Option Gathering) (seen : List Entry) → GathersIf batched p g
+    → AreSeen Leaves p m (gathered_if apart g) spelt answers seen → length spelt ≤ length answers + 1 → failures answers ≡ 0 → ArePlain p m g (turns batched apart spelt)
+    → Begins (trace p seen) (trace p (shown_plainly p m g (turns batched apart spelt)))
+unfolding AreSeen ArePlain failures turns shown_plainly
+begins_plainly Leaves [] answers batched apart p m g seen gathers lawful few none plain = subst (λ (xs : List Entry). Begins (trace p xs) []) (sym lawful) (begins_all [])
+begins_plainly Leaves (Err at ∷ spelt) [] batched apart p m g seen gathers lawful few none plain =
+    begins_plainly Leaves spelt [] batched batched p m g seen gathers (subst (λ (h : Option Gathering). AreSeen Leaves p m h spelt [] seen) (none_before batched p g gathers) lawful) (omega (arith, few)) none plain
+begins_plainly Leaves (Err at ∷ spelt) (one ∷ answers) batched apart p m g seen gathers lawful few none plain =
+    begins_plainly Leaves spelt answers batched batched p m g seen gathers (subst (λ (h : Option Gathering). AreSeen Leaves p m h spelt answers seen) (none_before batched p g gathers) lawful.1)
+    (omega (arith, few)) (omega (arith, none)) plain
+begins_plainly Leaves (Ok stmt ∷ spelt) [] batched apart p m g [] gathers lawful few none plain = absurd lawful
+begins_plainly Leaves (Ok stmt ∷ spelt) (one ∷ answers) batched apart p m g [] gathers lawful few none plain = absurd lawful
+begins_plainly Leaves (Ok stmt ∷ []) [] batched apart p m g (x ∷ seen) gathers lawful few none plain =
+    let h = gathered_if apart g in
+    let begins = begins_by p m h stmt x.seen x.seen.end refl plain.0 lawful.1 lawful.2.1 in
+    begins_last p (next p x.skeleton x.seen) (next p (skeleton stmt) (plainly p m h stmt)) (script p x.skeleton x.seen) (script p (skeleton stmt) (plainly p m h stmt)) seen lawful.3
+    (subst (λ (s : Skeleton). Begins (script p s x.seen) (script p (skeleton stmt) (plainly p m h stmt))) (sym lawful.0) begins)
+begins_plainly Leaves (Ok stmt ∷ (y ∷ spelt)) [] batched apart p m g (x ∷ seen) gathers lawful few none plain = absurd (omega (arith, few))
+begins_plainly Leaves (Ok stmt ∷ spelt) (one ∷ answers) batched apart p m g (x ∷ seen) gathers lawful few none plain =
+    let h = gathered_if apart g in
+    let t : Turn = record { stmt = stmt; apart = apart } in
+    let uncut = not_cut (is_cut x.seen.end) one.outcome (λ cut. lawful.2.1.0 (cut_fails h x.seen.end cut)) (omega (arith, none)) in
+    let here : x.seen ≡ plainly p m h stmt = shows_plainly p m h stmt x.seen lawful.1 lawful.2.3 plain.0 uncut in
+    let same : x ≡ record { skeleton = skeleton stmt; seen = plainly p m h stmt } = λ i. record { skeleton = lawful.0 i; seen = here i } in
+    let behind = subst (λ (z : Entry). ArePlain (next p z.skeleton z.seen) (m + length (script p z.skeleton z.seen)) (gathered_then p m g t z.seen.end) (turns batched false spelt)) (sym same) plain.1 in
+    let rest = begins_plainly Leaves spelt answers batched false (next p x.skeleton x.seen) (m + length (script p x.skeleton x.seen)) (gathered_then p m g t x.seen.end) seen
+    (gathers_on batched p m g t x.skeleton x.seen gathers) lawful.3 (omega (arith, few)) (omega (arith, none)) behind in
     subst (λ (z : Entry). Begins (script p x.skeleton x.seen ++ trace (next p x.skeleton x.seen) seen)
-    (script p z.skeleton z.seen ++ trace (next p z.skeleton z.seen) (shown_plainly (next p z.skeleton z.seen) (m + length (script p z.skeleton z.seen)) (statements spelt)))) same
+    (script p z.skeleton z.seen ++ trace (next p z.skeleton z.seen) (shown_plainly (next p z.skeleton z.seen) (m + length (script p z.skeleton z.seen)) (gathered_then p m g t z.seen.end) (turns batched false spelt)))) same
     (begins_more (script p x.skeleton x.seen) _ _ rest)
 
 -- ---- a run, by its headline
 asks : {base : Base} {keys : List ℕ → KeySet} {Takes : Type 0} {tracing : Bool} {old new : Outside} {report : Report} (run : Headline base keys Takes tracing old new report) → AsksByKinds run
 asks {base} {new = new} run none plain =
     let few : length run.story.spelt ≤ length run.story.answers + 1 = omega (arith, run.statements.begun, run.statements.each) in
-    let begins = begins_plainly _ run.story.spelt run.story.answers base.public base.count (run.story.seen ++ run.story.last) run.accesses.lawful few none plain in
-    subst (λ (l : List Access). Begins l (base.before ++ trace base.public (shown_plainly base.public base.count (statements run.story.spelt)))) (sym run.accesses.asked) (begins_more base.before _ _ begins)
+    let begins = begins_plainly _ run.story.spelt run.story.answers (is_some base.public.batch) false base.public base.count None (run.story.seen ++ run.story.last) (gathers_none base.public) run.accesses.lawful few none plain in
+    subst (λ (l : List Access). Begins l (base.before ++ trace base.public (shown_plainly base.public base.count None (turns_in base.public run.story.spelt)))) (sym run.accesses.asked) (begins_more base.before _ _ begins)
 
 pub asks_taken : (base : Base) (keys : List ℕ → KeySet) (app : App) (words : List Text) (tracing : Bool) (old new : Outside) (report : Report) (run : Headline base keys (IsTaken app words) tracing old new report) → AsksByKinds run
 asks_taken base keys app words tracing old new report run = asks run

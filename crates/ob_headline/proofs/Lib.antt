@@ -9,11 +9,13 @@ pub mod TextLemmas
 pub mod PromptLemmas
 pub mod BaseLemmas
 pub mod PieceLemmas
+pub mod BatchLemmas
 pub mod RerunLemmas
 pub mod KindLemmas
 pub mod CutLemmas
 pub mod FullLemmas
 mod Spelt
+mod Together
 pub mod ShownLemmas
 pub mod PlainLemmas
 pub mod IndexWrites

@@ -8,7 +8,7 @@ use Rattle.ob_base.specs.declared.schema.Shape.TheVariants.{Flat, Indexed}
 use Rattle.ob_base.specs.Indexes.{by_shape, height_of, tree_blocks}
 use Rattle.ob_base.specs.Accesses.{discard_at, drop_script, make_at, makes, read_at, write_at}
 use Rattle.ob_base.specs.Joins.{joined_slots}
-use Rattle.ob_base.specs.Limits.{buffered, buffered_blocks}
+use Rattle.ob_base.specs.Limits.{buffered_blocks}
 use Rattle.ob_base.specs.Lists.{each}
 use Rattle.ob_base.specs.Numbers.{blocks_for, first_bucket, second_bucket}
 use Rattle.ob_base.specs.Plans.{choose_padded, padded_rows}
@@ -20,7 +20,7 @@ use Rattle.ob_base.specs.declared.config.Plan.{Plan}
 use Rattle.ob_base.specs.declared.config.Plan.TheVariants.{Small, Large, Continuous, Hash}
 use Rattle.ob_base.specs.declared.config.Public.{Public}
 use Rattle.ob_base.specs.declared.seen.End.{End}
-use Rattle.ob_base.specs.declared.seen.End.TheVariants.{Static, Whole, AfterCount, Cut}
+use Rattle.ob_base.specs.declared.seen.End.TheVariants.{Static, Whole, AfterCount, Joined, Cut}
 use Rattle.ob_base.specs.declared.seen.Seen.{Seen}
 use Rattle.ob_base.specs.declared.skeleton.Skeleton.{Skeleton}
 use Rattle.ob_base.specs.declared.skeleton.Skeleton.TheVariants.{Create, Insert, Update, Delete, Drop as DropTable, Rows, Groups}
@@ -30,6 +30,7 @@ use Rattle.ob_headline.specs.Reruns.{SomeRun, seen_by}
 use Rattle.ob_headline.specs.Shown.{WriteOwn, WritesOwn, WritesWithin}
 use Rattle.ob_headline.specs.Words.{Answer}
 use Rattle.ob_headline.specs.Accesses.{AreSeen}
+use Rattle.ob_mean.specs.Batches.{Gathering, gathering_after}
 use Rattle.ob_mean.specs.Lawful.{Holds, Lawful}
 use Rattle.ob_mean.specs.Refusals.{is_indexed}
 use Rattle.ob_mean.specs.Replay.{Spelt, has_index, is_access}
@@ -264,7 +265,7 @@ after n g from p seen (Some k) t ending order a = go seen.plan seen.then order
 behind : (n g : ℕ) → n ≤ g → (pad : Option ℕ) (p : Public) (seen : Seen) (t : Stored ℕ) (ending : List Access) → InOrder seen.plan seen.then → Anywhere n ending → InTurn n g (behind_count pad p seen g (extent_of t) ending)
 behind n g from None p seen t ending order a = after n g from p seen seen.k t ending order a
 behind n g from (Some pad) p seen t ending order a =
-    let q = padded_rows pad t.heading.capacity in results n g from ending (a (g + 1)) p (choose_padded p.plan (buffered p.pack p.buffer) q) q t
+    let q = padded_rows pad t.heading.capacity in results n g from ending (a (g + 1)) p (choose_padded p.planner p.pack p.buffer t.heading.capacity q) q t
 
 selects : (n g : ℕ) → n ≤ g → (p : Public) (seen : Seen) (t : Stored ℕ) (ending : List Access) → InOrder seen.plan seen.then → Anywhere n ending → InTurn n g (select_part p seen g (extent_of t) ending)
 selects n g from p seen t ending order a =
@@ -377,6 +378,7 @@ module _ (p : Public) (seen : Seen) (order : InOrder seen.plan seen.then) where
   until Static all a = nothing p.next_region p.next_region
   until Whole all a = a
   until AfterCount all a = a
+  until Joined all a = nothing p.next_region p.next_region
   until (Cut k) all a = first_part p.next_region p.next_region k all a
 
   scripts : (s : Skeleton) → is_access p s ≡ false → InTurn p.next_region p.next_region (script p s seen)
@@ -398,17 +400,17 @@ lawful_own p m stmt x lawful =
     record { own = λ flat. writes_within p x.seen order x.skeleton (scripts p x.seen order x.skeleton flat); index = writes_indexes p x.skeleton x.seen }
 
 -- ---- a whole run
-pub write_own : (Leaves : Public → Stmt → Seen → Type 0) (spelt : List Spelt) (answers : List Answer) (p : Public) (m : ℕ) (seen : List Entry) → AreSeen Leaves p m spelt answers seen → WriteOwn p seen
+pub write_own : (Leaves : Public → Stmt → Seen → Type 0) (spelt : List Spelt) (answers : List Answer) (p : Public) (m : ℕ) (g : Option Gathering) (seen : List Entry) → AreSeen Leaves p m g spelt answers seen → WriteOwn p seen
 unfolding AreSeen WriteOwn
-write_own Leaves [] answers p m seen lawful = subst (λ (xs : List Entry). WriteOwn p xs) (sym lawful) tt
-write_own Leaves (Err at ∷ spelt) [] p m seen lawful = write_own Leaves spelt [] p m seen lawful
-write_own Leaves (Err at ∷ spelt) (one ∷ answers) p m seen lawful = write_own Leaves spelt answers p m seen lawful.1
-write_own Leaves (Ok stmt ∷ spelt) [] p m [] lawful = absurd lawful
-write_own Leaves (Ok stmt ∷ spelt) (one ∷ answers) p m [] lawful = absurd lawful
-write_own Leaves (Ok stmt ∷ spelt) [] p m (x ∷ seen) lawful =
-    (lawful_own p m stmt x lawful.1, write_own Leaves spelt [] (next p x.skeleton x.seen) (m + length (script p x.skeleton x.seen)) seen lawful.3)
-write_own Leaves (Ok stmt ∷ spelt) (one ∷ answers) p m (x ∷ seen) lawful =
-    (lawful_own p m stmt x lawful.1, write_own Leaves spelt answers (next p x.skeleton x.seen) (m + length (script p x.skeleton x.seen)) seen lawful.3)
+write_own Leaves [] answers p m g seen lawful = subst (λ (xs : List Entry). WriteOwn p xs) (sym lawful) tt
+write_own Leaves (Err at ∷ spelt) [] p m g seen lawful = write_own Leaves spelt [] p m None seen lawful
+write_own Leaves (Err at ∷ spelt) (one ∷ answers) p m g seen lawful = write_own Leaves spelt answers p m None seen lawful.1
+write_own Leaves (Ok stmt ∷ spelt) [] p m g [] lawful = absurd lawful
+write_own Leaves (Ok stmt ∷ spelt) (one ∷ answers) p m g [] lawful = absurd lawful
+write_own Leaves (Ok stmt ∷ spelt) [] p m g (x ∷ seen) lawful =
+    (lawful_own p m stmt x lawful.1, write_own Leaves spelt [] (next p x.skeleton x.seen) (m + length (script p x.skeleton x.seen)) (gathering_after p m g stmt x.seen.end) seen lawful.3)
+write_own Leaves (Ok stmt ∷ spelt) (one ∷ answers) p m g (x ∷ seen) lawful =
+    (lawful_own p m stmt x lawful.1, write_own Leaves spelt answers (next p x.skeleton x.seen) (m + length (script p x.skeleton x.seen)) (gathering_after p m g stmt x.seen.end) seen lawful.3)
 
 pub runs_write_own : (one : SomeRun) → WriteOwn one.base.public (seen_by one)
-runs_write_own one = write_own _ one.run.story.spelt one.run.story.answers one.base.public one.base.count (seen_by one) one.run.accesses.lawful
+runs_write_own one = write_own _ one.run.story.spelt one.run.story.answers one.base.public one.base.count None (seen_by one) one.run.accesses.lawful

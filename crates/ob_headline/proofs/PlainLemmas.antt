@@ -3,11 +3,16 @@ use Rattle.std.specs.Prelude.{if◌then◌else◌}
 use Rattle.std.proofs.Common.{◌≡◌, ◌+◌, ◌≤◌, ◌++◌, inl, inr, ℕ, Bool, true, false, Ok, Err, List, [], ◌∷◌, length, Option, Some, None, refl, sym, ◌∙◌, ap, subst, append-nil, arith}
 use Rattle.std.specs.Io.KnownBytes.{Appends, Consumes, IsAtEnd}
 use Rattle.ob_base.specs.declared.config.Public.{Public}
+use Rattle.ob_base.specs.declared.seen.Seen.{Seen}
 use Rattle.ob_base.specs.declared.refusal.Stop.TheVariants.{Tampered, SourceFault, SinkFault, NoMemory, InputLimit, StoreFault, StashFull, KeeperFault}
-use Rattle.ob_headline.proofs.RerunLemmas.{AreUncut, answered_all, failure_is, run_uncut}
+use Rattle.ob_headline.proofs.BatchLemmas.{IsUncut, how_is}
+use Rattle.ob_headline.proofs.RerunLemmas.{answered_all, failure_is}
+use Rattle.ob_headline.specs.Accesses.{AreSeen, StopsWithin}
 use Rattle.ob_headline.specs.Bases.{FromEach, HoldsFrom, Opened, drawing, session_at}
+use Rattle.ob_headline.specs.Batches.{gathered_now}
 use Rattle.ob_headline.specs.Endings.{last_line, status_of}
-use Rattle.ob_headline.specs.Failures.{failures, outcome_failures}
+use Rattle.ob_headline.specs.Failures.{FailsBeside, failures, outcome_failures}
+use Rattle.ob_headline.specs.FullStash.{ReadsFullStash}
 use Rattle.ob_headline.specs.KeyLine.{after_line}
 use Rattle.ob_headline.specs.Plainly.{AnsweredPlainly, IsUnhindered, RunsPlainly}
 use Rattle.ob_headline.specs.Reruns.{SomeRun, TakesWords, keys_by, seen_by}
@@ -15,42 +20,55 @@ use Rattle.ob_headline.specs.Settings.{limit_of}
 use Rattle.ob_headline.specs.Texts.{texts_in}
 use Rattle.ob_headline.specs.Tracing.{traced}
 use Rattle.ob_headline.specs.Words.{Answer, IsHonest, printed}
-use Rattle.ob_headline.specs.Statements.{statements}
-use Rattle.ob_headline.specs.Meaning.{AnswersFrom, AnswersIn}
+use Rattle.ob_headline.specs.Meaning.{AnswersFrom, AnswersIn, AnswersMeant}
 use Rattle.ob_headline.specs.Answers.{IsUndeceived}
 use Rattle.ob_headline.specs.Status.{Because, IsCompleted, StoreFails}
 use Rattle.ob_headline.specs.declared.ending.Ending.{Ending}
 use Rattle.ob_headline.specs.declared.ending.Ending.TheVariants.{Usage, BadKey, Ran}
 use Rattle.ob_mean.proofs.ReplayLemmas.{served_room}
-use Rattle.ob_mean.specs.Replay.{Broken, Session, Spelt, after, all_served, head_of, rest_of, seen_or_cut}
+use Rattle.ob_mean.specs.Batches.{Gathering, gathering_after}
+use Rattle.ob_mean.specs.Replay.{Broken, How, Alone, CutAfter, With, CutWith, Session, Spelt, after, all_served, head_of, how_now, hows, rest_of, seen_or_cut, served}
 use Rattle.ob_print.specs.Cuts.{Outputs}
 use Rattle.ob_script.specs.Script.{script}
 use Rattle.ob_script.specs.Trace.{Served as Entry, next, trace}
 use Rattle.ob_sql.specs.declared.stmt.Stmt.{Stmt}
 
 -- ---- its answers
-whole_where_unfailed : (s : Session) (stmt : Stmt) (one : Answer) (cut : Option ℕ) → AnswersIn cut s stmt one → outcome_failures one.outcome ≡ 0 → cut ≡ None
-whole_where_unfailed s stmt one None answers none = refl
-whole_where_unfailed s stmt one (Some n) answers none = let failed = failure_is one.outcome answers.outcome in absurd (omega (arith, failed, none))
+-- a text that isn't answered that the store failed is answered as it is meant
+uncut_where_unfailed : (s : Session) (stmt : Stmt) (one : Answer) (how : How) → AnswersIn how s stmt one → outcome_failures one.outcome ≡ 0 → IsUncut how
+uncut_where_unfailed s stmt one Alone answers none = tt
+uncut_where_unfailed s stmt one (CutAfter n) answers none = let failed = failure_is one.outcome answers.outcome in absurd (omega (arith, failed, none))
+uncut_where_unfailed s stmt one With answers none = tt
+uncut_where_unfailed s stmt one CutWith answers none = let failed = failure_is one.outcome answers.outcome in absurd (omega (arith, failed, none))
 
-answers_plainly : (ending : Ending) (s : Session) (spelt : List Spelt) (broken : Broken) (answers : List Answer) (seen : List Entry) (part : List ℕ) (p : Public) (m : ℕ)
-    → AnswersFrom ending s spelt broken answers seen part → AreUncut p m (statements spelt) seen → length answers ≡ length spelt → failures answers ≡ 0
-    → AnsweredPlainly s spelt answers × (seen ≡ all_served s spelt [])
-unfolding AnswersFrom AnsweredPlainly AreUncut failures statements
-answers_plainly ending s [] broken answers seen part p m all uncut each none = (all.0, uncut)
-answers_plainly ending s (x ∷ spelt) broken [] seen part p m all uncut each none = absurd (omega (arith, each))
-answers_plainly ending s (Err at ∷ spelt) broken (one ∷ more) seen part p m all uncut each none =
-    let rest = answers_plainly ending s spelt (rest_of broken) more seen part p m all.1 uncut (omega (arith, each)) (omega (arith, none)) in
+meant_where_uncut : (s : Session) (stmt : Stmt) (one : Answer) (how : How) → AnswersIn how s stmt one → IsUncut how → AnswersMeant s stmt one
+meant_where_uncut s stmt one Alone answers uncut = answers
+meant_where_uncut s stmt one (CutAfter n) answers uncut = absurd uncut
+meant_where_uncut s stmt one With answers uncut = answers
+meant_where_uncut s stmt one CutWith answers uncut = absurd uncut
+
+answers_plainly : (Leaves : Public → Stmt → Seen → Type 0) (ending : Ending) (g : Option Gathering) (s : Session) (spelt : List Spelt) (broken : Broken) (answers : List Answer) (seen : List Entry) (part : List ℕ)
+    → AnswersFrom ending s spelt broken answers seen part → AreSeen Leaves s.public s.asked g spelt answers seen → length answers ≡ length spelt → failures answers ≡ 0
+    → AnsweredPlainly g s spelt answers × (seen ≡ all_served s spelt (hows g s spelt))
+unfolding AnswersFrom AnsweredPlainly AreSeen failures
+answers_plainly Leaves ending g s [] broken answers seen part all lawful each none = (all.0, lawful)
+answers_plainly Leaves ending g s (x ∷ spelt) broken [] seen part all lawful each none = absurd (omega (arith, each))
+answers_plainly Leaves ending g s (Err at ∷ spelt) broken (one ∷ more) seen part all lawful each none =
+    let rest = answers_plainly Leaves ending None s spelt (rest_of broken) more seen part all.1 lawful.1 (omega (arith, each)) (omega (arith, none)) in
     ((all.0, rest.0), rest.1)
-answers_plainly ending s (Ok stmt ∷ spelt) broken (one ∷ more) [] part p m all uncut each none = absurd all
-answers_plainly ending s (Ok stmt ∷ spelt) broken (one ∷ more) (x ∷ seen) part p m all uncut each none =
-    let whole : head_of broken ≡ None = whole_where_unfailed s stmt one (head_of broken) all.2 (omega (arith, none)) in
-    let here : x.seen ≡ seen_or_cut None s stmt = all.3 ∙ ap (λ (b : Option ℕ). seen_or_cut b s stmt) whole in
-    let behind = subst (λ (b : Option ℕ). AnswersFrom ending (after b s stmt) spelt (rest_of broken) more seen part) whole all.4 in
-    let rest = answers_plainly ending (after None s stmt) spelt (rest_of broken) more seen part (next p x.skeleton x.seen) (m + length (script p x.skeleton x.seen)) behind uncut.3
-    (omega (arith, each)) (omega (arith, none)) in (
-      (all.0, subst (λ (b : Option ℕ). AnswersIn b s stmt one) whole all.2, rest.0),
-      (λ i. record { skeleton = uncut.0 i; seen = here i } ∷ rest.1 i) ∙ sym (served_room s stmt spelt [] all.0),
+answers_plainly Leaves ending g s (Ok stmt ∷ spelt) broken (one ∷ more) [] part all lawful each none = absurd all
+answers_plainly Leaves ending g s (Ok stmt ∷ spelt) broken (one ∷ more) (x ∷ seen) part all lawful each none =
+    let how = how_now g s stmt in
+    let uncut = uncut_where_unfailed s stmt one (head_of broken) all.2 (omega (arith, none)) in
+    let is : head_of broken ≡ how = how_is g s stmt (head_of broken) x.seen uncut all.3 lawful.2.3 in
+    let here : x.seen ≡ seen_or_cut how s stmt = all.3 ∙ ap (λ (h : How). seen_or_cut h s stmt) is in
+    let entry : x ≡ served how s stmt = λ i. record { skeleton = lawful.0 i; seen = here i } in
+    let behind = subst (λ (h : How). AnswersFrom ending (after h s stmt) spelt (rest_of broken) more seen part) is all.4 in
+    let later : AreSeen Leaves (after how s stmt).public (after how s stmt).asked (gathered_now g s stmt) spelt more seen =
+    subst (λ (y : Entry). AreSeen Leaves (next s.public y.skeleton y.seen) (s.asked + length (script s.public y.skeleton y.seen)) (gathering_after s.public s.asked g stmt y.seen.end) spelt more seen) entry lawful.3 in
+    let rest = answers_plainly Leaves ending (gathered_now g s stmt) (after how s stmt) spelt (rest_of broken) more seen part behind later (omega (arith, each)) (omega (arith, none)) in (
+      (all.0, meant_where_uncut s stmt one (head_of broken) all.2 uncut, rest.0),
+      (λ i. entry i ∷ rest.1 i) ∙ sym (served_room s stmt spelt (hows g s (Ok stmt ∷ spelt)) all.0),
     )
 
 -- ---- it comes to its end
@@ -96,14 +114,21 @@ module _ (one : SomeRun) (input : List ℕ) (free : IsUnhindered one input) wher
   taken_all (Some xs) (Some ys) is given end =
       sym (append-nil one.run.taken) ∙ ap (λ (l : List ℕ). one.run.taken ++ l) (sym end) ∙ sym given ∙ cc is
 
-  plainly : (s : Session) (refused : Bool) → one.run.ending ≡ Ran (Ok refused) → (broken : Broken) → AnswersFrom one.run.ending s one.run.story.spelt broken one.run.story.answers (seen_by one) one.run.story.part
-      → RunsPlainly one input s
-  plainly s refused is broken all =
+  -- what is seen, from a session with what is public there
+  abbrev Seen_at : Public → ℕ → Type 0
+  Seen_at p m = AreSeen (StopsWithin one.run.ending (FailsBeside one.run.story.seen one.old.store.faults one.new.store.faults) (ReadsFullStash (keys_by one) one.base.start one.new.store)) p m None one.run.story.spelt one.run.story.answers (seen_by one)
+
+  lawful_at : (s : Session) → (s.public ≡ one.base.public) → (s.asked ≡ one.base.count) → Seen_at s.public s.asked
+  lawful_at s public asked = subst (λ (p : Public). Seen_at p s.asked) (sym public) (subst (λ (m : ℕ). Seen_at one.base.public m) (sym asked) one.run.accesses.lawful)
+
+  plainly : (s : Session) (refused : Bool) → (s.public ≡ one.base.public) → (s.asked ≡ one.base.count) → one.run.ending ≡ Ran (Ok refused) → (broken : Broken)
+      → AnswersFrom one.run.ending s one.run.story.spelt broken one.run.story.answers (seen_by one) one.run.story.part → RunsPlainly one input s
+  plainly s refused public asked is broken all =
       let why : Because one.base (Ran (Ok refused)) (TakesWords one.program one.words) (limit_of one.base.settings) one.run.taken one.run.ended one.run.story.more one.run.story.answers one.run.story.part one.old one.new =
       subst (λ (ending : Ending). Because one.base ending (TakesWords one.program one.words) (limit_of one.base.settings) one.run.taken one.run.ended one.run.story.more one.run.story.answers one.run.story.part one.old one.new) is one.run.status.because in
       let few = status_few refused is in
-      let meant = answers_plainly one.run.ending s one.run.story.spelt broken one.run.story.answers (seen_by one) one.run.story.part one.base.public one.base.count all
-      (run_uncut one (record { ended = few; none = free.unfailed })) (answered_all one.run few) free.unfailed in
+      let meant = answers_plainly _ one.run.ending None s one.run.story.spelt broken one.run.story.answers (seen_by one) one.run.story.part all
+      (lawful_at s public asked) (answered_all one.run few) free.unfailed in
       let whole : one.run.taken ≡ input = taken_all one.old.left one.new.left free.left one.run.bytes.given (one.run.bytes.at_end why.2.whole) in
       let line : (printed one.run.story.answers ++ one.run.story.part) ++ last_line one.run.ending ≡ printed one.run.story.answers =
       ap (λ (ending : Ending). (printed one.run.story.answers ++ one.run.story.part) ++ last_line ending) is ∙ append-nil (printed one.run.story.answers ++ one.run.story.part)
@@ -129,9 +154,9 @@ module _ (one : SomeRun) (input : List ℕ) (free : IsUnhindered one input) wher
 
   pub runs_plainly : FromEach one.base (λ s. RunsPlainly one input (s_of s))
   runs_plainly = go one.base.opened (one.run.status.completes free.takes input free.left free.limits free.source free.sinks) (one.run.answers.meant undeceived) where
-    at : (s : Session) → Done s → Meant s → RunsPlainly one input (s_of s)
-    at s done all = let end = ends one.run.ending refl done in plainly (s_of s) end.0 end.1 all.0 all.1
+    at : (s : Session) → (s.public ≡ one.base.public) → (s.asked ≡ one.base.count) → Done s → Meant s → RunsPlainly one input (s_of s)
+    at s public asked done all = let end = ends one.run.ending refl done in plainly (s_of s) end.0 public asked end.1 all.0 all.1
 
     go : (o : Option Opened) → HoldsFrom o one.base Done → HoldsFrom o one.base Meant → HoldsFrom o one.base (λ s. RunsPlainly one input (s_of s))
-    go None done all = at (session_at one.base []) done all
-    go (Some o) done all = λ tables rested. at (session_at one.base tables) (done tables rested) (all tables rested)
+    go None done all = at (session_at one.base []) refl refl done all
+    go (Some o) done all = λ tables rested. at (session_at one.base tables) refl refl (done tables rested) (all tables rested)

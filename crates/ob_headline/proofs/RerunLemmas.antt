@@ -1,33 +1,38 @@
 -- Two runs that came to their end, and of which no text was answered that the store failed.
-use Rattle.std.specs.Prelude.{IsSome, is_some, not}
+use Rattle.std.specs.Prelude.{IsSome, if◌then◌else◌, is_some, not}
+use Rattle.std.specs.Option.{is_none}
 use Rattle.std.proofs.Common.{◌≡◌, ◌⊎◌, ◌+◌, ◌≤◌, ◌++◌, ◌||◌, ◌&&◌, inl, inr, ℕ, Bool, true, false, IsTrue, Ok, Err, List, [], ◌∷◌, length, Option, Some, None, refl, sym, ◌∙◌, ap, subst, append-nil, arith}
 use Rattle.ob_base.specs.declared.config.Plan.{Plan}
 use Rattle.ob_base.specs.declared.config.Plan.TheVariants.{Small, Large, Continuous, Hash}
 use Rattle.ob_base.specs.declared.config.Public.{Public}
+use Rattle.ob_base.specs.declared.refusal.Refusal.{Refusal}
 use Rattle.ob_base.specs.declared.refusal.Refusal.TheVariants.{StoreFault}
 use Rattle.ob_base.specs.declared.refusal.Stop.TheVariants as Stops
 use Rattle.ob_base.specs.declared.seen.End.{End}
-use Rattle.ob_base.specs.declared.seen.End.TheVariants.{Static, Whole, AfterCount, Cut}
+use Rattle.ob_base.specs.declared.seen.End.TheVariants.{Static, Whole, AfterCount, Joined, Cut}
 use Rattle.ob_base.specs.declared.seen.Seen.{Seen}
 use Rattle.ob_base.specs.declared.skeleton.Skeleton.{Skeleton}
 use Rattle.ob_base.specs.declared.skeleton.Skeleton.TheVariants as K
 use Rattle.ob_verdict.specs.Outcomes.{refusal_now}
 use Rattle.ob_verdict.specs.declared.outcome.Outcome.{Outcome}
 use Rattle.ob_verdict.specs.declared.outcome.Outcome.TheVariants.{Refused}
+use Rattle.ob_headline.proofs.BatchLemmas.{cut_fails, gathers_alike, none_gathered}
 use Rattle.ob_headline.proofs.FlatLemmas.{no_leaf}
 use Rattle.ob_headline.specs.Bases.{Base}
+use Rattle.ob_headline.specs.Batches.{Joins}
 use Rattle.ob_headline.specs.Endings.{status_of}
 use Rattle.ob_headline.specs.Failures.{failures, outcome_failures}
 use Rattle.ob_headline.specs.Headline.{Headline}
-use Rattle.ob_headline.specs.Reruns.{Alike, EndsWell, GoOnFromOne, IsPlain, ShowAlike, SomeRun, any_counted, asked_by, failures_of, plainly, seen_by, seen_plainly, shows_more, stmts_of}
+use Rattle.ob_headline.specs.Reruns.{Alike, EndsWell, GoOnFromOne, IsPlain, ShowAlike, SomeRun, Turn, any_counted, asked_by, failures_of, gathered_at, gathered_then, plainly, plainly_at, seen_by, seen_plainly, shows_more, turns, turns_of}
 use Rattle.ob_headline.specs.Settings.{limit_of}
 use Rattle.ob_headline.specs.Words.{Answer, Outside}
-use Rattle.ob_headline.specs.Statements.{SpellFirst, statements}
-use Rattle.ob_headline.specs.Accesses.{AreSeen, is_cut}
+use Rattle.ob_headline.specs.Statements.{SpellFirst}
+use Rattle.ob_headline.specs.Accesses.{AreSeen}
 use Rattle.ob_headline.specs.Status.{Because}
 use Rattle.ob_headline.specs.declared.ending.Ending.{Ending}
 use Rattle.ob_headline.specs.declared.ending.Ending.TheVariants.{Usage, BadKey, Ran}
 use Rattle.ob_headline.specs.declared.ending.Report.{Report}
+use Rattle.ob_mean.specs.Batches.{Gathering, gathering_after, goes_into, is_cut, is_joined}
 use Rattle.ob_mean.specs.Lawful.{EndsUncounted, Holds, IsCount, Lawful, is_counted, selects_rows}
 use Rattle.ob_mean.specs.Replay.{Spelt, is_access}
 use Rattle.ob_script.specs.Script.{script}
@@ -37,13 +42,14 @@ use Rattle.ob_sql.specs.Skeleton.{skeleton}
 use Rattle.ob_sql.specs.declared.stmt.Stmt.{Stmt}
 use Rattle.ob_sql.specs.declared.stmt.Stmt.TheVariants.{Create, Insert, Update, Delete, Drop as DropTable, SelectRows, SelectTotals}
 
--- of each statement its skeleton, and what is seen of it, which is lawful; none is cut off
-unfoldable pub AreUncut : Public → ℕ → List Stmt → List Entry → Type 0
-AreUncut p m [] seen = seen ≡ []
-AreUncut p m (stmt ∷ stmts) [] = ⊥
-AreUncut p m (stmt ∷ stmts) (x ∷ seen) =
-    (x.skeleton ≡ skeleton stmt) × Lawful p m stmt x.seen × (is_cut x.seen.end ≡ false)
-    × AreUncut (next p x.skeleton x.seen) (m + length (script p x.skeleton x.seen)) stmts seen
+-- of each statement its skeleton, and what is seen of it, which is lawful, and joins the batch that is gathered or doesn't;
+-- none is cut off
+unfoldable pub AreUncut : Public → ℕ → Option Gathering → List Turn → List Entry → Type 0
+AreUncut p m g [] seen = seen ≡ []
+AreUncut p m g (t ∷ ts) [] = ⊥
+AreUncut p m g (t ∷ ts) (x ∷ seen) =
+    (x.skeleton ≡ skeleton t.stmt) × Lawful p m t.stmt x.seen × (is_cut x.seen.end ≡ false) × Joins p m (gathered_at g t) t.stmt x.seen
+    × AreUncut (next p x.skeleton x.seen) (m + length (script p x.skeleton x.seen)) (gathered_then p m g t x.seen.end) ts seen
 
 -- ---- what is seen of a statement that was not cut off, where it accesses no index, and is no SELECT of rows or results are
 -- padded, follows from its early refusal
@@ -80,29 +86,63 @@ module _ (p : Public) (stmt : Stmt) (here : Seen) (plain : IsPlain p stmt) where
   holds_none (Some k) (Some Hash) (Some Continuous) holds = absurd holds
   holds_none (Some k) (Some Hash) (Some Hash) holds = absurd holds
 
--- the end of a statement by its early refusal
-abbrev end_by : Bool → End
-end_by true = Static
-end_by false = Whole
+-- the end of a statement by its early refusal, and by whether it goes into the batch that is gathered
+abbrev end_by : (early goes : Bool) → End
+end_by true goes = Static
+end_by false true = Joined
+end_by false false = Whole
 
-end_is : (p : Public) (m : ℕ) (stmt : Stmt) (here : Seen) (end : End) (early : Bool) → here.end ≡ end → is_some (refusal_now p m stmt) ≡ early
-    → Lawful p m stmt here → is_cut here.end ≡ false → EndsUncounted p stmt end → here.end ≡ end_by early
-end_is p m stmt here Static true is now lawful uncut ends = is
-end_is p m stmt here Static false is now lawful uncut ends = let early = lawful.static.0 is in absurd (cc (early, now))
-end_is p m stmt here Whole true is now lawful uncut ends = let static = lawful.static.1 now in absurd (cc (static, is))
-end_is p m stmt here Whole false is now lawful uncut ends = is
-end_is p m stmt here AfterCount early is now lawful uncut ends = absurd ends
-end_is p m stmt here (Cut n) early is now lawful uncut ends = absurd (cc (uncut, ap is_cut is))
+-- by what it joins or doesn't
+goes_by : (goes early joined : Bool) (o : Option Refusal) → is_some o ≡ early → joined ≡ (goes && is_none o) → joined ≡ (goes && not early)
+goes_by goes early joined None now joins = joins ∙ ap (λ (b : Bool). goes && not b) now
+goes_by goes early joined (Some r) now joins = joins ∙ ap (λ (b : Bool). goes && not b) now
 
-plain_of : (refused : Bool) (here : Seen) → here.k ≡ None → here.plan ≡ None → here.then ≡ None → here.leaf ≡ None → here.end ≡ end_by refused → here ≡ seen_plainly refused
-plain_of true here k plan second leaf end = λ i. record { k = k i; plan = plan i; then = second i; leaf = leaf i; end = end i }
-plain_of false here k plan second leaf end = λ i. record { k = k i; plan = plan i; then = second i; leaf = leaf i; end = end i }
+whole_by : (goes : Bool) → false ≡ (goes && true) → Whole ≡ end_by false goes
+whole_by true joins = absurd (cc joins)
+whole_by false joins = refl
 
-pub shows_plainly : (p : Public) (m : ℕ) (stmt : Stmt) (here : Seen) → Lawful p m stmt here → IsPlain p stmt → is_cut here.end ≡ false → here ≡ plainly p m stmt
-shows_plainly p m stmt here lawful plain uncut =
+joined_by : (goes early : Bool) → true ≡ (goes && not early) → Joined ≡ end_by early goes
+joined_by true true joins = absurd (cc joins)
+joined_by true false joins = refl
+joined_by false true joins = absurd (cc joins)
+joined_by false false joins = absurd (cc joins)
+
+module _ (p : Public) (m : ℕ) (g : Option Gathering) (stmt : Stmt) (here : Seen) (lawful : Lawful p m stmt here) (joins : Joins p m g stmt here) (uncut : is_cut here.end ≡ false) where
+  joins_at : (end : End) (early : Bool) → here.end ≡ end → is_some (refusal_now p m stmt) ≡ early → is_joined end ≡ (goes_into p g (skeleton stmt) && not early)
+  joins_at end early is now = goes_by (goes_into p g (skeleton stmt)) early (is_joined end) (refusal_now p m stmt) now (ap is_joined (sym is) ∙ joins)
+
+  end_is : (end : End) (early : Bool) → here.end ≡ end → is_some (refusal_now p m stmt) ≡ early → EndsUncounted p stmt end → end ≡ end_by early (goes_into p g (skeleton stmt))
+  end_is Static true is now ends = refl
+  end_is Static false is now ends = let early = lawful.static.0 is in absurd (cc (early, now))
+  end_is Whole true is now ends = let static = lawful.static.1 now in absurd (cc (static, is))
+  end_is Whole false is now ends = whole_by (goes_into p g (skeleton stmt)) (joins_at Whole false is now)
+  end_is AfterCount early is now ends = absurd ends
+  end_is Joined early is now ends = joined_by (goes_into p g (skeleton stmt)) early (joins_at Joined early is now)
+  end_is (Cut n) early is now ends = absurd (cc (uncut, ap is_cut is))
+
+plain_of : (refused goes : Bool) (here : Seen) → here.k ≡ None → here.plan ≡ None → here.then ≡ None → here.leaf ≡ None → here.end ≡ end_by refused goes → here ≡ seen_plainly refused goes
+plain_of true goes here k plan second leaf end = λ i. record { k = k i; plan = plan i; then = second i; leaf = leaf i; end = end i }
+plain_of false true here k plan second leaf end = λ i. record { k = k i; plan = plan i; then = second i; leaf = leaf i; end = end i }
+plain_of false false here k plan second leaf end = λ i. record { k = k i; plan = plan i; then = second i; leaf = leaf i; end = end i }
+
+pub shows_plainly : (p : Public) (m : ℕ) (g : Option Gathering) (stmt : Stmt) (here : Seen) → Lawful p m stmt here → Joins p m g stmt here → IsPlain p stmt → is_cut here.end ≡ false → here ≡ plainly p m g stmt
+shows_plainly p m g stmt here lawful joins plain uncut =
     let held = holds_none p stmt here plain here.k here.plan here.then lawful.holds in
-    plain_of (is_some (refusal_now p m stmt)) here held.no_k held.no_plan held.no_second (no_leaf p (skeleton stmt) here.leaf here.end plain.0 lawful.leaf)
-    (end_is p m stmt here here.end (is_some (refusal_now p m stmt)) refl refl lawful uncut held.ends)
+    plain_of (is_some (refusal_now p m stmt)) (goes_into p g (skeleton stmt)) here held.no_k held.no_plan held.no_second (no_leaf p (skeleton stmt) here.leaf here.end plain.0 lawful.leaf)
+    (end_is p m g stmt here lawful joins uncut here.end (is_some (refusal_now p m stmt)) refl refl held.ends)
+
+-- without batches none is served with another
+unjoined : (p : Public) (stmt : Stmt) (end : End) → p.batch ≡ None → EndsUncounted p stmt end → is_joined end ≡ false
+unjoined p stmt Static none ends = refl
+unjoined p stmt Whole none ends = refl
+unjoined p stmt AfterCount none ends = refl
+unjoined p stmt Joined none ends = let batched = ends.batched in absurd (cc (ap is_some none, batched))
+unjoined p stmt (Cut n) none ends = refl
+
+pub shows_alone : (p : Public) (m : ℕ) (stmt : Stmt) (here : Seen) → p.batch ≡ None → Lawful p m stmt here → IsPlain p stmt → is_cut here.end ≡ false → here ≡ plainly p m None stmt
+shows_alone p m stmt here none lawful plain uncut =
+    let held = holds_none p stmt here plain here.k here.plan here.then lawful.holds in
+    shows_plainly p m None stmt here lawful (unjoined p stmt here.end none held.ends) plain uncut
 
 -- a SELECT of rows is one by its skeleton
 abbrev is_rows : Skeleton → Bool
@@ -136,26 +176,41 @@ plain_too : (p : Public) (a b : Stmt) → skeleton a ≡ skeleton b → IsPlain 
 plain_too p a b sk plain =
     (ap (is_access p) (sym sk) ∙ plain.0, elim plain.1 [ inl none ↦ inl (sym (same_counted a b sk) ∙ none) | inr padded ↦ inr padded ])
 
-one_alike : (p : Public) (m : ℕ) (a b : Stmt) (x y : Seen) (more : Bool) → shows_more p a ≡ more → Lawful p m a x → Lawful p m b y → is_cut x.end ≡ false → is_cut y.end ≡ false
-    → skeleton a ≡ skeleton b → is_some (refusal_now p m a) ≡ is_some (refusal_now p m b) → (IsTrue (shows_more p a) → x ≡ y) → x ≡ y
-one_alike p m a b x y true is lawful lawful_too uncut uncut_too sk early shows = shows is
-one_alike p m a b x y false is lawful lawful_too uncut uncut_too sk early shows =
-    let plain = plain_unless p a is in
-    shows_plainly p m a x lawful plain uncut ∙ ap seen_plainly early ∙ sym (shows_plainly p m b y lawful_too (plain_too p a b sk plain) uncut_too)
+-- the same ones are apart
+same_gathered : (g : Option Gathering) (a b : Turn) → a.apart ≡ b.apart → gathered_at g a ≡ gathered_at g b
+same_gathered g a b apart = ap (λ (x : Bool). if x then None else g) apart
 
-same_seen : (p : Public) (m : ℕ) (ps : List Stmt) (xs : List Entry) (qs : List Stmt) (ys : List Entry) → AreUncut p m ps xs → AreUncut p m qs ys → ShowAlike p m ps xs qs ys → xs ≡ ys
+module _ (p : Public) (m : ℕ) (g : Option Gathering) (a b : Turn) (sk : skeleton a.stmt ≡ skeleton b.stmt) (early : is_some (refusal_now p m a.stmt) ≡ is_some (refusal_now p m b.stmt)) (apart : a.apart ≡ b.apart) where
+  plainly_alike : plainly_at p m g a ≡ plainly_at p m g b
+  plainly_alike = λ i. seen_plainly (early i) (goes_into p (same_gathered g a b apart i) (sk i))
+
+  then_alike : (end : End) → gathered_then p m g a end ≡ gathered_then p m g b end
+  then_alike end =
+      gathers_alike p m (gathered_at g a) a.stmt b.stmt end sk early
+      ∙ ap (λ (h : Option Gathering). gathering_after p m h b.stmt end) (same_gathered g a b apart)
+
+  one_alike : (x y : Seen) (more : Bool) → shows_more p a.stmt ≡ more → Lawful p m a.stmt x → Lawful p m b.stmt y → is_cut x.end ≡ false → is_cut y.end ≡ false
+      → Joins p m (gathered_at g a) a.stmt x → Joins p m (gathered_at g b) b.stmt y → (IsTrue (shows_more p a.stmt) → x ≡ y) → x ≡ y
+  one_alike x y true is lawful lawful_too uncut uncut_too joins joins_too shows = shows is
+  one_alike x y false is lawful lawful_too uncut uncut_too joins joins_too shows =
+      let plain = plain_unless p a.stmt is in
+      shows_plainly p m (gathered_at g a) a.stmt x lawful joins plain uncut ∙ plainly_alike
+      ∙ sym (shows_plainly p m (gathered_at g b) b.stmt y lawful_too joins_too (plain_too p a.stmt b.stmt sk plain) uncut_too)
+
+same_seen : (p : Public) (m : ℕ) (g : Option Gathering) (ps : List Turn) (xs : List Entry) (qs : List Turn) (ys : List Entry) → AreUncut p m g ps xs → AreUncut p m g qs ys → ShowAlike p m ps xs qs ys → xs ≡ ys
 unfolding AreUncut ShowAlike
-same_seen p m [] xs [] ys a b alike = a ∙ sym b
-same_seen p m [] xs (b ∷ qs) ys lawful lawful_too alike = absurd alike
-same_seen p m (a ∷ ps) xs [] ys lawful lawful_too alike = absurd alike
-same_seen p m (a ∷ ps) [] (b ∷ qs) ys lawful lawful_too alike = absurd alike
-same_seen p m (a ∷ ps) (x ∷ xs) (b ∷ qs) [] lawful lawful_too alike = absurd alike
-same_seen p m (a ∷ ps) (x ∷ xs) (b ∷ qs) (y ∷ ys) lawful lawful_too alike =
+same_seen p m g [] xs [] ys a b alike = a ∙ sym b
+same_seen p m g [] xs (b ∷ qs) ys lawful lawful_too alike = absurd alike
+same_seen p m g (a ∷ ps) xs [] ys lawful lawful_too alike = absurd alike
+same_seen p m g (a ∷ ps) [] (b ∷ qs) ys lawful lawful_too alike = absurd alike
+same_seen p m g (a ∷ ps) (x ∷ xs) (b ∷ qs) [] lawful lawful_too alike = absurd alike
+same_seen p m g (a ∷ ps) (x ∷ xs) (b ∷ qs) (y ∷ ys) lawful lawful_too alike =
     let sk : x.skeleton ≡ y.skeleton = lawful.0 ∙ alike.0 ∙ sym lawful_too.0 in
-    let here : x.seen ≡ y.seen = one_alike p m a b x.seen y.seen (shows_more p a) refl lawful.1 lawful_too.1 lawful.2 lawful_too.2 alike.0 alike.1 alike.2 in
+    let here : x.seen ≡ y.seen = one_alike p m g a b alike.0 alike.1 alike.2 x.seen y.seen (shows_more p a.stmt) refl lawful.1 lawful_too.1 lawful.2 lawful_too.2 lawful.3 lawful_too.3 alike.3 in
     let one : x ≡ y = λ i. record { skeleton = sk i; seen = here i } in
-    let rest = same_seen (next p x.skeleton x.seen) (m + length (script p x.skeleton x.seen)) ps xs qs ys lawful.3
-    (subst (λ (z : Entry). AreUncut (next p z.skeleton z.seen) (m + length (script p z.skeleton z.seen)) qs ys) (sym one) lawful_too.3) alike.3 in
+    let there = subst (λ (h : Option Gathering). AreUncut (next p y.skeleton y.seen) (m + length (script p y.skeleton y.seen)) h qs ys) (sym (then_alike p m g a b alike.0 alike.1 alike.2 y.seen.end)) lawful_too.4 in
+    let rest = same_seen (next p x.skeleton x.seen) (m + length (script p x.skeleton x.seen)) (gathered_then p m g a x.seen.end) ps xs qs ys lawful.4
+    (subst (λ (z : Entry). AreUncut (next p z.skeleton z.seen) (m + length (script p z.skeleton z.seen)) (gathered_then p m g a z.seen.end) qs ys) (sym one) there) alike.4 in
     λ i. one i ∷ rest i
 
 -- ---- of a run by its headline
@@ -167,19 +222,50 @@ pub not_cut : (b : Bool) (o : Outcome) → (IsTrue b → o ≡ Refused StoreFaul
 not_cut true o cut none = let one = failure_is o (cut refl) in absurd (omega (arith, one, none))
 not_cut false o cut none = refl
 
-all_uncut : (Leaves : Public → Stmt → Seen → Type 0) (spelt : List Spelt) (answers : List Answer) (p : Public) (m : ℕ) (seen : List Entry) → AreSeen Leaves p m spelt answers seen → length answers ≡ length spelt → failures answers ≡ 0
-    → AreUncut p m (statements spelt) seen
-unfolding AreSeen failures statements AreUncut
-all_uncut Leaves [] answers p m seen lawful each none = lawful
-all_uncut Leaves (x ∷ spelt) [] p m seen lawful each none = absurd (omega (arith, each))
-all_uncut Leaves (Err at ∷ spelt) (one ∷ answers) p m seen lawful each none = all_uncut Leaves spelt answers p m seen lawful.1 (omega (arith, each)) (omega (arith, none))
-all_uncut Leaves (Ok stmt ∷ spelt) (one ∷ answers) p m [] lawful each none = absurd lawful
-all_uncut Leaves (Ok stmt ∷ spelt) (one ∷ answers) p m (x ∷ seen) lawful each none = (
+-- what is gathered before a text, by whether one that is none was right before it
+abbrev pub gathered_if : (apart : Bool) → Option Gathering → Option Gathering
+gathered_if apart g = if apart then None else g
+
+-- without batches nothing is gathered
+abbrev pub GathersIf : (batched : Bool) → Public → Option Gathering → Type 0
+GathersIf batched p g = batched ≡ false → (p.batch ≡ None) × (g ≡ None)
+
+pub none_before : (batched : Bool) (p : Public) (g : Option Gathering) → GathersIf batched p g → None ≡ gathered_if batched g
+none_before true p g gathers = refl
+none_before false p g gathers = let none = gathers refl in sym none.1
+
+none_if : (apart : Bool) (g : Option Gathering) → g ≡ None → gathered_if apart g ≡ None
+none_if true g none = refl
+none_if false g none = none
+
+pub gathers_on : (batched : Bool) (p : Public) (m : ℕ) (g : Option Gathering) (t : Turn) (sk : Skeleton) (here : Seen) → GathersIf batched p g → GathersIf batched (next p sk here) (gathered_then p m g t here.end)
+gathers_on batched p m g t sk here gathers is =
+    let none = gathers is in
+    (none.0, ap (λ (h : Option Gathering). gathering_after p m h t.stmt here.end) (none_if t.apart g none.1) ∙ none_gathered p m t.stmt here.end none.0)
+
+all_uncut : (Leaves : Public → Stmt → Seen → Type 0) (spelt : List Spelt) (answers : List Answer) (batched apart : Bool) (p : Public) (m : ℕ) (g : Option Gathering) (seen : List Entry) → GathersIf batched p g
+    → AreSeen Leaves p m (gathered_if apart g) spelt answers seen → length answers ≡ length spelt → failures answers ≡ 0 → AreUncut p m g (turns batched apart spelt) seen
+unfolding AreSeen failures turns AreUncut
+all_uncut Leaves [] answers batched apart p m g seen gathers lawful each none = lawful
+all_uncut Leaves (x ∷ spelt) [] batched apart p m g seen gathers lawful each none = absurd (omega (arith, each))
+all_uncut Leaves (Err at ∷ spelt) (one ∷ answers) batched apart p m g seen gathers lawful each none =
+    all_uncut Leaves spelt answers batched batched p m g seen gathers (subst (λ (h : Option Gathering). AreSeen Leaves p m h spelt answers seen) (none_before batched p g gathers) lawful.1) (omega (arith, each)) (omega (arith, none))
+all_uncut Leaves (Ok stmt ∷ spelt) (one ∷ answers) batched apart p m g [] gathers lawful each none = absurd lawful
+all_uncut Leaves (Ok stmt ∷ spelt) (one ∷ answers) batched apart p m g (x ∷ seen) gathers lawful each none = (
   lawful.0,
   lawful.1,
-  not_cut (is_cut x.seen.end) one.outcome lawful.2.1.0 (omega (arith, none)),
-  all_uncut Leaves spelt answers (next p x.skeleton x.seen) (m + length (script p x.skeleton x.seen)) seen lawful.3 (omega (arith, each)) (omega (arith, none)),
+  not_cut (is_cut x.seen.end) one.outcome (λ cut. lawful.2.1.0 (cut_fails (gathered_if apart g) x.seen.end cut)) (omega (arith, none)),
+  lawful.2.3,
+  all_uncut Leaves spelt answers batched false (next p x.skeleton x.seen) (m + length (script p x.skeleton x.seen)) (gathering_after p m (gathered_if apart g) stmt x.seen.end) seen
+      (gathers_on batched p m g (record { stmt = stmt; apart = apart }) x.skeleton x.seen gathers) lawful.3 (omega (arith, each)) (omega (arith, none)),
 )
+
+none_is : (o : Option ℕ) → is_some o ≡ false → o ≡ None
+none_is None is = refl
+none_is (Some n) is = absurd (cc is)
+
+pub gathers_none : (p : Public) → GathersIf (is_some p.batch) p None
+gathers_none p is = (none_is p.batch is, refl)
 
 -- a run that came to its end answered all that it reached
 spell_few : (texts : List (List ℕ)) (spelt : List Spelt) → SpellFirst texts spelt → length spelt ≤ length texts
@@ -212,49 +298,52 @@ answered_all {base} {Takes = Takes} {old = old} {new = new} {report = report} a 
     omega (arith, most, a.statements.reached, a.statements.each)
 
 module _ (one : SomeRun) (well : EndsWell one.report.status (failures_of one)) where
-  pub run_uncut : AreUncut one.base.public one.base.count (stmts_of one) (seen_by one)
-  run_uncut = all_uncut _ one.run.story.spelt one.run.story.answers one.base.public one.base.count (seen_by one) one.run.accesses.lawful (answered_all one.run well.ended) well.none
+  pub run_uncut : AreUncut one.base.public one.base.count None (turns_of one) (seen_by one)
+  run_uncut =
+      all_uncut _ one.run.story.spelt one.run.story.answers (is_some one.base.public.batch) false one.base.public one.base.count None (seen_by one) (gathers_none one.base.public)
+      one.run.accesses.lawful (answered_all one.run well.ended) well.none
 
 -- ---- none is a SELECT of rows, or results are padded
 neither : (a b : Bool) → (a || b) ≡ false → (a ≡ false) × (b ≡ false)
 neither true b is = absurd (cc is)
 neither false b is = (refl, is)
 
-abbrev AreUncounted : Public → List Stmt → Type 0
-AreUncounted p stmts = (any_counted stmts ≡ false) ⊎ IsSome p.pad
+abbrev AreUncounted : Public → List Turn → Type 0
+AreUncounted p ts = (any_counted ts ≡ false) ⊎ IsSome p.pad
 
-first_uncounted : (p : Public) (a : Stmt) (ps : List Stmt) → AreUncounted p (a ∷ ps) → (selects_rows a ≡ false) ⊎ IsSome p.pad
+first_uncounted : (p : Public) (a : Turn) (ps : List Turn) → AreUncounted p (a ∷ ps) → (selects_rows a.stmt ≡ false) ⊎ IsSome p.pad
 unfolding any_counted
-first_uncounted p a ps none = elim none [ inl none ↦ inl (neither (selects_rows a) (any_counted ps) none).0 | inr padded ↦ inr padded ]
+first_uncounted p a ps none = elim none [ inl none ↦ inl (neither (selects_rows a.stmt) (any_counted ps) none).0 | inr padded ↦ inr padded ]
 
 -- after any statement results are still padded
-rest_uncounted : (p : Public) (a : Stmt) (ps : List Stmt) (x : Entry) → AreUncounted p (a ∷ ps) → AreUncounted (next p x.skeleton x.seen) ps
+rest_uncounted : (p : Public) (a : Turn) (ps : List Turn) (x : Entry) → AreUncounted p (a ∷ ps) → AreUncounted (next p x.skeleton x.seen) ps
 unfolding any_counted
-rest_uncounted p a ps x none = elim none [ inl none ↦ inl (neither (selects_rows a) (any_counted ps) none).1 | inr padded ↦ inr padded ]
+rest_uncounted p a ps x none = elim none [ inl none ↦ inl (neither (selects_rows a.stmt) (any_counted ps) none).1 | inr padded ↦ inr padded ]
 
 -- lists of statements that are alike show alike
-shows : (p : Public) (m : ℕ) (ps : List Stmt) (xs : List Entry) (qs : List Stmt) (ys : List Entry) → AreUncut p m ps xs → AreUncut p m qs ys → AreUncounted p ps → Alike p m ps qs → ShowAlike p m ps xs qs ys
+shows : (p : Public) (m : ℕ) (g : Option Gathering) (ps : List Turn) (xs : List Entry) (qs : List Turn) (ys : List Entry) → AreUncut p m g ps xs → AreUncut p m g qs ys → AreUncounted p ps → Alike p m g ps qs → ShowAlike p m ps xs qs ys
 unfolding AreUncut Alike ShowAlike
-shows p m [] xs [] ys a b none alike = tt
-shows p m [] xs (b ∷ qs) ys one two none alike = absurd alike
-shows p m (a ∷ ps) xs [] ys one two none alike = absurd alike
-shows p m (a ∷ ps) [] (b ∷ qs) ys one two none alike = absurd one
-shows p m (a ∷ ps) (x ∷ xs) (b ∷ qs) [] one two none alike = absurd two
-shows p m (a ∷ ps) (x ∷ xs) (b ∷ qs) (y ∷ ys) one two none alike =
-    let plain : IsPlain p a = (alike.1, first_uncounted p a ps none) in
-    let here : x.seen ≡ plainly p m a = shows_plainly p m a x.seen one.1 plain one.2 in
-    let there : y.seen ≡ plainly p m b = shows_plainly p m b y.seen two.1 (plain_too p a b alike.0 plain) two.2 in
-    let same : y.seen ≡ x.seen = there ∙ ap seen_plainly (sym alike.2) ∙ sym here in
-    let first : next p (skeleton a) (plainly p m a) ≡ next p x.skeleton x.seen = λ i. next p (sym one.0 i) (sym here i) in
-    let asked : m + length (script p (skeleton a) (plainly p m a)) ≡ m + length (script p x.skeleton x.seen) = λ i. m + length (script p (sym one.0 i) (sym here i)) in
+shows p m g [] xs [] ys a b none alike = tt
+shows p m g [] xs (b ∷ qs) ys one two none alike = absurd alike
+shows p m g (a ∷ ps) xs [] ys one two none alike = absurd alike
+shows p m g (a ∷ ps) [] (b ∷ qs) ys one two none alike = absurd one
+shows p m g (a ∷ ps) (x ∷ xs) (b ∷ qs) [] one two none alike = absurd two
+shows p m g (a ∷ ps) (x ∷ xs) (b ∷ qs) (y ∷ ys) one two none alike =
+    let plain : IsPlain p a.stmt = (alike.1, first_uncounted p a ps none) in
+    let here : x.seen ≡ plainly_at p m g a = shows_plainly p m (gathered_at g a) a.stmt x.seen one.1 one.3 plain one.2 in
+    let there : y.seen ≡ plainly_at p m g b = shows_plainly p m (gathered_at g b) b.stmt y.seen two.1 two.3 (plain_too p a.stmt b.stmt alike.0 plain) two.2 in
+    let same : y.seen ≡ x.seen = there ∙ sym (plainly_alike p m g a b alike.0 alike.2 alike.3) ∙ sym here in
+    let first : x ≡ record { skeleton = skeleton a.stmt; seen = plainly_at p m g a } = λ i. record { skeleton = one.0 i; seen = here i } in
     let sk : y.skeleton ≡ x.skeleton = two.0 ∙ sym alike.0 ∙ sym one.0 in
-    let rest : AreUncut (next p x.skeleton x.seen) (m + length (script p x.skeleton x.seen)) qs ys =
-    subst (λ (e : Entry). AreUncut (next p e.skeleton e.seen) (m + length (script p e.skeleton e.seen)) qs ys) (λ i. record { skeleton = sk i; seen = same i }) two.3 in (
+    let behind = subst (λ (h : Option Gathering). AreUncut (next p y.skeleton y.seen) (m + length (script p y.skeleton y.seen)) h qs ys) (sym (then_alike p m g a b alike.0 alike.2 alike.3 y.seen.end)) two.4 in
+    let rest : AreUncut (next p x.skeleton x.seen) (m + length (script p x.skeleton x.seen)) (gathered_then p m g a x.seen.end) qs ys =
+    subst (λ (e : Entry). AreUncut (next p e.skeleton e.seen) (m + length (script p e.skeleton e.seen)) (gathered_then p m g a e.seen.end) qs ys) (λ i. record { skeleton = sk i; seen = same i }) behind in (
       alike.0,
       alike.2,
+      alike.3,
       (λ more. sym same),
-      shows (next p x.skeleton x.seen) (m + length (script p x.skeleton x.seen)) ps xs qs ys one.3 rest (rest_uncounted p a ps x none)
-          (subst (λ (n : ℕ). Alike (next p x.skeleton x.seen) n ps qs) asked (subst (λ (r : Public). Alike r (m + length (script p (skeleton a) (plainly p m a))) ps qs) first alike.3)),
+      shows (next p x.skeleton x.seen) (m + length (script p x.skeleton x.seen)) (gathered_then p m g a x.seen.end) ps xs qs ys one.4 rest (rest_uncounted p a ps x none)
+          (subst (λ (e : Entry). Alike (next p e.skeleton e.seen) (m + length (script p e.skeleton e.seen)) (gathered_then p m g a e.seen.end) ps qs) (sym first) alike.4),
     )
 
 module _ (a b : SomeRun) (same : GoOnFromOne a b) (well : EndsWell a.report.status (failures_of a)) (well_too : EndsWell b.report.status (failures_of b)) where
@@ -264,21 +353,21 @@ module _ (a b : SomeRun) (same : GoOnFromOne a b) (well : EndsWell a.report.stat
   abbrev m : ℕ
   m = a.base.count
 
-  there : AreUncut p m (stmts_of b) (seen_by b)
+  there : AreUncut p m None (turns_of b) (seen_by b)
   there =
-      subst (λ (r : Public). AreUncut r m (stmts_of b) (seen_by b)) (sym same.public)
-      (subst (λ (n : ℕ). AreUncut b.base.public n (stmts_of b) (seen_by b)) (sym same.count) (run_uncut b well_too))
+      subst (λ (r : Public). AreUncut r m None (turns_of b) (seen_by b)) (sym same.public)
+      (subst (λ (n : ℕ). AreUncut b.base.public n None (turns_of b) (seen_by b)) (sym same.count) (run_uncut b well_too))
 
-  pub show_the_same : ShowAlike p m (stmts_of a) (seen_by a) (stmts_of b) (seen_by b) → (seen_by a ≡ seen_by b) × (asked_by a ≡ asked_by b)
+  pub show_the_same : ShowAlike p m (turns_of a) (seen_by a) (turns_of b) (seen_by b) → (seen_by a ≡ seen_by b) × (asked_by a ≡ asked_by b)
   show_the_same alike =
-      let seen = same_seen p m (stmts_of a) (seen_by a) (stmts_of b) (seen_by b) (run_uncut a well) there alike in
+      let seen = same_seen p m None (turns_of a) (seen_by a) (turns_of b) (seen_by b) (run_uncut a well) there alike in
       (seen, a.run.accesses.asked ∙ (λ i. same.before i ++ trace (same.public i) (seen i)) ∙ sym b.run.accesses.asked)
 
-  asks_alike : AreUncounted p (stmts_of a) → Alike p m (stmts_of a) (stmts_of b) → asked_by a ≡ asked_by b
-  asks_alike none alike = (show_the_same (shows p m (stmts_of a) (seen_by a) (stmts_of b) (seen_by b) (run_uncut a well) there none alike)).1
+  asks_alike : AreUncounted p (turns_of a) → Alike p m None (turns_of a) (turns_of b) → asked_by a ≡ asked_by b
+  asks_alike none alike = (show_the_same (shows p m None (turns_of a) (seen_by a) (turns_of b) (seen_by b) (run_uncut a well) there none alike)).1
 
-  pub ask_the_same : any_counted (stmts_of a) ≡ false → Alike p m (stmts_of a) (stmts_of b) → asked_by a ≡ asked_by b
+  pub ask_the_same : any_counted (turns_of a) ≡ false → Alike p m None (turns_of a) (turns_of b) → asked_by a ≡ asked_by b
   ask_the_same none = asks_alike (inl none)
 
-  pub padded_ask_the_same : IsSome p.pad → Alike p m (stmts_of a) (stmts_of b) → asked_by a ≡ asked_by b
+  pub padded_ask_the_same : IsSome p.pad → Alike p m None (turns_of a) (turns_of b) → asked_by a ≡ asked_by b
   padded_ask_the_same padded = asks_alike (inr padded)

@@ -7,7 +7,7 @@ use Rattle.ob_base.specs.Stored.{headings}
 use Rattle.ob_base.specs.declared.config.Config.{Config}
 use Rattle.ob_base.specs.declared.mark.Mark.{Mark}
 use Rattle.ob_base.specs.declared.mark.Mark.TheVariants.{Fresh, InUse, Closed, Begun, Saved}
-use Rattle.ob_headline.proofs.AlikeSessions.{grows, keeps_plain, plain}
+use Rattle.ob_headline.proofs.AlikeSessions.{grows, keeps_plain}
 use Rattle.ob_headline.proofs.AsOne.{none_there, unlied}
 use Rattle.ob_headline.proofs.BeginsAlike.{Begins, begins_anew, begins_reopened}
 use Rattle.ob_headline.proofs.EffectLemmas.{effects_on}
@@ -16,7 +16,7 @@ use Rattle.ob_headline.proofs.SavedMarks.{begun_held, leaves_held}
 use Rattle.ob_headline.proofs.SettingLemmas.{saved_settings}
 use Rattle.ob_headline.specs.Bases.{Base, Opened, drawing, fresh, public_with, session_at, start}
 use Rattle.ob_headline.specs.Keeping.{closing_named}
-use Rattle.ob_headline.specs.SavedHeadline.{LeavesMark, MayTakeMore, RestsBehind, RunSaved, SessionSaved, left_by}
+use Rattle.ob_headline.specs.SavedHeadline.{LeavesMark, MayTake, RestsBehind, RunSaved, SessionSaved, left_by}
 use Rattle.ob_headline.specs.SavedRuns.{AnswerInOne, AnsweredInOne, Effect, GoOnSaved, MayHaveAll, MayHaveMore, OneSaved, Outlasts, TakesEffect, all_effects, effects_of, held_by, kept_by, saved_count, saved_effects, saved_secret, session_behind, texts_of}
 use Rattle.ob_headline.specs.Saving.{BeginsSaved, ReopensSaved, RestsAlike, RestsAt, begun_mark}
 use Rattle.ob_headline.specs.Settings.{IsTakenSaved, saved_settings_of}
@@ -24,13 +24,16 @@ use Rattle.ob_headline.specs.Usage.{is_saved, is_traced, saved_usage}
 use Rattle.ob_headline.specs.Words.{Answer}
 use Rattle.ob_mean.proofs.ReplayLemmas.{after_room}
 use Rattle.ob_mean.specs.Flats.{AreFlat}
-use Rattle.ob_mean.specs.Replay.{Session, Spelt, after, after_all, is_full_now}
+use Rattle.ob_mean.specs.Batches.{batch_most}
+use Rattle.ob_mean.specs.Replay.{Alone, Session, Spelt, after, after_all, is_full_now}
 use Rattle.ob_mean.specs.Verdict.{Tables}
 use Rattle.ob_reopen.specs.Saved.{RestsBy}
 use Rattle.ob_reopen.specs.declared.closing.Closing.{Closing}
 use Rattle.ob_script.specs.Trace.{trace}
 use Rattle.ob_seal.specs.KeySet.{KeySet}
+use Rattle.ob_sql.specs.declared.stmt.Stmt.{Stmt}
 use Rattle.ob_store.specs.State.{KeptRegion, StoreState}
+use Rattle.ob_verdict.proofs.PlainSettings.{plain}
 use Rattle.ob_verdict.proofs.AlikeTables.{alike_chained}
 use Rattle.ob_verdict.specs.Alike.{AreAlike}
 
@@ -62,8 +65,8 @@ answered_joined t (e ∷ es) fs took more =
 grows_more : (t : Session) (xs ys : List Spelt) → (after_all t xs []).asked ≤ (after_all t (xs ++ ys) []).asked
 grows_more t [] ys = grows t ys []
 grows_more t (Ok stmt ∷ xs) ys =
-    let more = grows_more (after None t stmt) xs ys in
-    elim (is_full_now t stmt) as (λ (full : Bool). (if full then t else after_all (after None t stmt) xs []).asked ≤ (if full then t else after_all (after None t stmt) (xs ++ ys) []).asked)
+    let more = grows_more (after Alone t stmt) xs ys in
+    elim (is_full_now t stmt) as (λ (full : Bool). (if full then t else after_all (after Alone t stmt) xs []).asked ≤ (if full then t else after_all (after Alone t stmt) (xs ++ ys) []).asked)
     [ true ↦ omega arith | false ↦ more ]
 grows_more t (Err at ∷ xs) ys = grows_more t xs ys
 
@@ -105,18 +108,18 @@ tells_on (Saved region blocks number pack closed) config secret salt keys base o
 
 -- ---- one run
 -- what it leaves, unless a text comes too late in the one run: of its texts these took effect
-record Leaves (words : List Text) (secret : List ℕ) (held : Option Mark) (kept : ℕ → Option KeptRegion) (t : Session) (May : Type 0) (effects : Bool → List Effect) : Type 0 where
-  more : Bool
-  may : more ≡ true → May
+record Leaves (words : List Text) (secret : List ℕ) (held : Option Mark) (kept : ℕ → Option KeptRegion) (t : Session) (May : List Stmt → Type 0) (effects : Option (List Stmt) → List Effect) : Type 0 where
+  more : Option (List Stmt)
+  may : (behind : List Stmt) → more ≡ Some behind → May behind
   took : (after_all t (texts_of (effects more)) []).asked < 2 ^ 63 → AnsweredInOne t (effects more) × Waits words secret held kept (after_all t (texts_of (effects more)) [])
 
 -- no statement was served
 leaves_none : (words : List Text) (secret : List ℕ) (held mark : Mark) (old new : StoreState) (k1 : Option Mark) (t : Session) → Waits words secret (Some held) old.kept t → k1 ≡ Some mark → IsTrue old.tells → new.lie ≡ None → Outlasts secret held mark old new
-    → Leaves words secret k1 new.kept t ⊥ (λ more. [])
+    → Leaves words secret k1 new.kept t (λ behind. ⊥) (λ more. [])
 unfolding AnsweredInOne
 leaves_none words secret held mark old new k1 t waits is tells honest outlasts = record {
-  more = false;
-  may = λ is_more. cc is_more;
+  more = None;
+  may = λ behind is_more. cc is_more;
   took = λ few. (
     tt,
     record {
@@ -165,19 +168,19 @@ module _ (words : List Text) (secret : List ℕ) (one : OneSaved words) (run : S
       (run.leaves held same_mark).told (begun_mark run.began.mark)
       (begun_held run.config run.secret run.salt run.keys (is_traced saved_usage words) run.base one.old.store run.opened one.old.traced run.traced one.keeper0 run.begun run.began held same_mark)
 
-  behind : RestsBehind run.secret run.keys run.session.ending run.session.story left.0 one.new.store.kept (session_at run.base begins.tables)
+  behind : RestsBehind (batch_most run.base.public) run.secret run.keys run.session.ending run.session.story left.0 one.new.store.kept (session_at run.base begins.tables)
   behind =
-      begins.from (λ (u : Session). RestsBehind run.secret run.keys run.session.ending run.session.story left.0 one.new.store.kept u)
+      begins.from (λ (u : Session). RestsBehind (batch_most run.base.public) run.secret run.keys run.session.ending run.session.story left.0 one.new.store.kept u)
       (left.2.rests (record { tells = tells_opened; no_lie = honest }))
 
-  leaves_session : Leaves words secret one.keeper1.held one.new.store.kept t (MayTakeMore run.session.ending) (λ more. effects_of more run.session.story.spelt run.session.story.answers)
+  leaves_session : Leaves words secret one.keeper1.held one.new.store.kept t (MayTake (batch_most run.base.public) run.session.ending run.session.story) (λ more. effects_of more run.session.story.spelt run.session.story.answers)
   leaves_session = record {
     more = behind.more;
     may = behind.unanswered;
     took = λ few.
         let effects = effects_of behind.more run.session.story.spelt run.session.story.answers in
         let u = after_all t (texts_of effects) [] in
-        let took = effects_on _ run.session.ending behind.more run.session.story.spelt s t behind.broken run.session.story.answers (run.session.story.seen ++ run.session.story.last) run.session.story.part begins.alike behind.answered
+        let took = effects_on _ None run.session.ending behind.more run.session.story.spelt s t behind.broken run.session.story.answers (run.session.story.seen ++ run.session.story.last) run.session.story.part begins.alike behind.answered
         run.session.accesses.lawful soon few in (
           took.0,
           record {
@@ -189,7 +192,7 @@ module _ (words : List Text) (secret : List ℕ) (one : OneSaved words) (run : S
             at = record {
               resting = behind.rests.resting;
               rests = subst (λ (x : List ℕ). RestsAt x left.0 one.new.store.kept behind.rests.resting) keyed behind.rests.rests;
-              alike = alike_chained behind.rests.resting (left_by behind.more s run.session.story.spelt run.session.story.answers behind.broken).tables u.tables behind.rests.alike took.1.tables;
+              alike = alike_chained behind.rests.resting (left_by behind.more s run.session.story.spelt run.session.story.answers behind.broken) u.tables behind.rests.alike took.1.tables;
             };
           },
         );
@@ -210,7 +213,7 @@ leaves_by words secret one saves tells honest held is t waits (inr (inr run)) ke
 
 -- ---- all of them
 record InOne (words : List Text) (secret : List ℕ) (held : Option Mark) (kept : ℕ → Option KeptRegion) (t : Session) (runs : List (OneSaved words)) : Type 0 where
-  more : List Bool
+  more : List (Option (List Stmt))
   may : MayHaveAll more runs
   took : (after_all t (texts_of (all_effects more runs)) []).asked < 2 ^ 63
       → AnsweredInOne t (all_effects more runs) × Waits words secret (held_by held runs) (kept_by kept runs) (after_all t (texts_of (all_effects more runs)) [])
@@ -224,7 +227,7 @@ is_many n is = grind (arith, nat_tests)
 -- of none one more took effect
 none_have : {words : List Text} (runs : List (OneSaved words)) → MayHaveAll [] runs
 none_have [] = tt
-none_have (one ∷ runs) = ((λ is. absurd (cc is)), none_have runs)
+none_have (one ∷ runs) = ((λ behind is. absurd (cc is)), none_have runs)
 
 -- a run, and those behind it
 module _ (words : List Text) (secret : List ℕ) (one : OneSaved words) (runs : List (OneSaved words)) (held : Option Mark) (kept : ℕ → Option KeptRegion) (t : Session) (leaves : Leaves words secret one.keeper1.held one.new.store.kept t (MayHaveMore one.run.ran) (λ more. saved_effects more one.run.ran))

@@ -129,7 +129,7 @@ module _ {settings : Option Config} {Takes : Type 0} {tracing : Bool} {old new :
   writes_alone = record {
     own = λ i q x wrote.
         writes_own run.base (run.session.story.seen ++ run.session.story.last) new.store.asked begun (silent_saved run.began.mark run.config run.secret run.salt run.keys run.base old.store run.opened run.began.begins) run.session.accesses.flat
-        (write_own _ run.session.story.spelt run.session.story.answers run.base.public run.base.count (run.session.story.seen ++ run.session.story.last) run.session.accesses.lawful) run.session.accesses.asked i q x wrote;
+        (write_own _ run.session.story.spelt run.session.story.answers run.base.public run.base.count None (run.session.story.seen ++ run.session.story.last) run.session.accesses.lawful) run.session.accesses.asked i q x wrote;
     salted = λ q own. own_saved run.began.mark run.config run.secret run.salt run.keys run.base old.store run.opened run.began.begins q own;
     shown = λ tells.
         let both : IsSealed (PassesBoth run.base.public.pack) run.keys run.base.start (run.base.start.region + 1) run.opened new.store = record {

@@ -3,8 +3,8 @@ use Rattle.std.specs.Prelude.{nat_le, codes, option_map}
 use Rattle.std.proofs.Common.{◌&&◌, ◌+◌, ◌*◌, ℕ, if◌then◌else◌, sym, ap, subst, refl, Bool, true, false, ◌≡◌, ◌∙◌, List, Option, Some, None}
 use Rattle.clap.specs.Words.{Text}
 use Rattle.ob_base.specs.declared.config.Config.{Config}
-use Rattle.ob_base.specs.declared.config.Plan.{Plan}
-use Rattle.ob_headline.specs.Settings.{joined, may_mark, may_pad, number_in, pad_in, plan_in, saved_settings_of, saving, settings_by, settings_in, settings_of}
+use Rattle.ob_base.specs.declared.config.Planner.{Planner}
+use Rattle.ob_headline.specs.Settings.{batch_in, joined, may_mark, may_pad, number_in, pad_in, planner_in, saved_settings_of, saving, settings_by, settings_in, settings_of}
 use Rattle.ob_headline.specs.Usage.{is_kept, is_saved, is_set, kept_usage, saved_usage, value_of}
 
 module _ (keep : Bool) (config : Config) where
@@ -12,30 +12,31 @@ module _ (keep : Bool) (config : Config) where
   fits_keep true c same is = let of : c ≡ config = cc is in sym (ap (λ (x : Config). x.keep) of) ∙ same
   fits_keep false c same is = absurd (cc is)
 
-  joined_keep : (buffer depth : Option ℕ) (plan : Option (Option Plan)) (pack : Option ℕ) (pad : Option (Option ℕ)) (stash max_input : Option ℕ) → joined buffer depth plan pack pad stash keep max_input ≡ Some config
-      → config.keep ≡ keep
-  joined_keep None depth plan pack pad stash max_input is = absurd (cc is)
-  joined_keep (Some buffer) None plan pack pad stash max_input is = absurd (cc is)
-  joined_keep (Some buffer) (Some depth) None pack pad stash max_input is = absurd (cc is)
-  joined_keep (Some buffer) (Some depth) (Some plan) None pad stash max_input is = absurd (cc is)
-  joined_keep (Some buffer) (Some depth) (Some plan) (Some pack) None stash max_input is = absurd (cc is)
-  joined_keep (Some buffer) (Some depth) (Some plan) (Some pack) (Some pad) None max_input is = absurd (cc is)
-  joined_keep (Some buffer) (Some depth) (Some plan) (Some pack) (Some pad) (Some stash) None is = absurd (cc is)
-  joined_keep (Some buffer) (Some depth) (Some plan) (Some pack) (Some pad) (Some stash) (Some max_input) is =
-      fits_keep (nat_le (3 * pack + 1) buffer && may_pad pad plan)
-      (record { buffer = buffer; depth = depth; pack = pack; plan = plan; pad = pad; stash = stash; keep = keep; save = false; max_input = max_input }) refl is
+  joined_keep : (buffer depth : Option ℕ) (planner : Option Planner) (pack : Option ℕ) (pad : Option (Option ℕ)) (stash : Option ℕ) (batch : Option (Option ℕ)) (max_input : Option ℕ)
+      → joined buffer depth planner pack pad stash batch keep max_input ≡ Some config → config.keep ≡ keep
+  joined_keep None depth planner pack pad stash batch max_input is = absurd (cc is)
+  joined_keep (Some buffer) None planner pack pad stash batch max_input is = absurd (cc is)
+  joined_keep (Some buffer) (Some depth) None pack pad stash batch max_input is = absurd (cc is)
+  joined_keep (Some buffer) (Some depth) (Some planner) None pad stash batch max_input is = absurd (cc is)
+  joined_keep (Some buffer) (Some depth) (Some planner) (Some pack) None stash batch max_input is = absurd (cc is)
+  joined_keep (Some buffer) (Some depth) (Some planner) (Some pack) (Some pad) None batch max_input is = absurd (cc is)
+  joined_keep (Some buffer) (Some depth) (Some planner) (Some pack) (Some pad) (Some stash) None max_input is = absurd (cc is)
+  joined_keep (Some buffer) (Some depth) (Some planner) (Some pack) (Some pad) (Some stash) (Some batch) None is = absurd (cc is)
+  joined_keep (Some buffer) (Some depth) (Some planner) (Some pack) (Some pad) (Some stash) (Some batch) (Some max_input) is =
+      fits_keep (nat_le (3 * pack + 1) buffer && may_pad pad planner)
+      (record { buffer = buffer; depth = depth; pack = pack; planner = planner; pad = pad; stash = stash; keep = keep; save = false; batch = batch; max_input = max_input }) refl is
 
   -- the settings of these values, kept or not
   abbrev settings_if : (value : Text → Option Text) → (keeps : Bool) → Option Config
   settings_if value keeps =
-      joined (number_in 4 65536 64 (value (codes "buffer"))) (number_in 1 8 5 (value (codes "depth"))) (plan_in (value (codes "plan"))) (number_in 1 16 1 (value (codes "pack")))
-      (pad_in (value (codes "pad"))) (number_in 1 1024 32 (value (codes "stash"))) keeps (number_in 1024 1073741824 1073741824 (value (codes "max-input")))
+      joined (number_in 4 65536 64 (value (codes "buffer"))) (number_in 1 8 5 (value (codes "depth"))) (planner_in (value (codes "plan"))) (number_in 1 16 1 (value (codes "pack")))
+      (pad_in (value (codes "pad"))) (number_in 1 1024 32 (value (codes "stash"))) (batch_in (value (codes "batch"))) keeps (number_in 1024 1073741824 1073741824 (value (codes "max-input")))
 
   marked_keep : (value : Text → Option Text) (may : Bool) → is_set (value (codes "keep")) ≡ keep → (if may then settings_in value else None) ≡ Some config → config.keep ≡ keep
   marked_keep value false same is = absurd (cc is)
   marked_keep value true same is =
-      joined_keep (number_in 4 65536 64 (value (codes "buffer"))) (number_in 1 8 5 (value (codes "depth"))) (plan_in (value (codes "plan"))) (number_in 1 16 1 (value (codes "pack")))
-      (pad_in (value (codes "pad"))) (number_in 1 1024 32 (value (codes "stash"))) (number_in 1024 1073741824 1073741824 (value (codes "max-input")))
+      joined_keep (number_in 4 65536 64 (value (codes "buffer"))) (number_in 1 8 5 (value (codes "depth"))) (planner_in (value (codes "plan"))) (number_in 1 16 1 (value (codes "pack")))
+      (pad_in (value (codes "pad"))) (number_in 1 1024 32 (value (codes "stash"))) (batch_in (value (codes "batch"))) (number_in 1024 1073741824 1073741824 (value (codes "max-input")))
       (subst (λ (b : Bool). settings_if value b ≡ Some config) same is)
 
 -- the settings say so where the words do

@@ -5,7 +5,8 @@ use Rattle.clap.proofs.OnLiterals.{clap_on_literals}
 use Rattle.clap.specs.Words.{fault_of}
 use Rattle.clap.specs.declared.error.kind.ErrorKind.TheVariants as kind
 use Rattle.ob_base.specs.declared.config.Plan.TheVariants.{Continuous, Large, Hash}
-use Rattle.ob_headline.specs.Settings.{fitted, generated_by, number_in, pad_in, plan_in, saved_settings_of, seed_in, settings_of}
+use Rattle.ob_base.specs.declared.config.Planner.TheVariants.{Auto, Cheapest, Forced}
+use Rattle.ob_headline.specs.Settings.{batch_in, fitted, generated_by, number_in, pad_in, planner_in, saved_settings_of, seed_in, settings_of}
 use Rattle.ob_headline.specs.Usage.{Parses, is_saved, kept_usage, mark_of, meddle_usage, store_of, usage}
 
 -- ---- one value
@@ -33,13 +34,19 @@ no_sign = refl
 no_digits : number_in 4 65536 64 (Some []) ≡ None
 no_digits = refl
 
-hash : plan_in (Some (codes "hash")) ≡ Some (Some Hash)
+hash : planner_in (Some (codes "hash")) ≡ Some (Forced Hash)
 hash = refl
 
-auto : plan_in (Some (codes "auto")) ≡ Some None
+auto : planner_in (Some (codes "auto")) ≡ Some Auto
 auto = refl
 
-no_plan : plan_in (Some (codes "fast")) ≡ None
+no_planner_given : planner_in None ≡ Some Auto
+no_planner_given = refl
+
+cheapest : planner_in (Some (codes "cheapest")) ≡ Some Cheapest
+cheapest = refl
+
+no_plan : planner_in (Some (codes "fast")) ≡ None
 no_plan = refl
 
 unpadded : pad_in None ≡ Some None
@@ -57,21 +64,40 @@ pad_of_none = refl
 pad_too_great : pad_in (Some (codes "1048577")) ≡ None
 pad_too_great = refl
 
+unbatched : batch_in None ≡ Some None
+unbatched = refl
+
+least_batch : batch_in (Some (codes "2")) ≡ Some (Some 2)
+least_batch = refl
+
+greatest_batch : batch_in (Some (codes "65535")) ≡ Some (Some 65535)
+greatest_batch = refl
+
+batch_of_one : batch_in (Some (codes "1")) ≡ None
+batch_of_one = refl
+
+batch_too_great : batch_in (Some (codes "65536")) ≡ None
+batch_too_great = refl
+
 -- ---- three blocks and one row, and a plan that may be padded
-room_enough : fitted 49 5 None 16 None 32 false 4096 ≡ Some (record { buffer = 49; depth = 5; pack = 16; plan = None; pad = None; stash = 32; keep = false; save = false; max_input = 4096 })
+room_enough : fitted 49 5 Auto 16 None 32 None false 4096 ≡ Some (record { buffer = 49; depth = 5; pack = 16; planner = Auto; pad = None; stash = 32; keep = false; save = false; batch = None; max_input = 4096 })
 room_enough = refl
 
-too_little : fitted 48 5 None 16 None 32 false 4096 ≡ None
+too_little : fitted 48 5 Auto 16 None 32 None false 4096 ≡ None
 too_little = refl
 
-padded_by_large : fitted 64 5 (Some Large) 1 (Some 40) 32 false 4096
-    ≡ Some (record { buffer = 64; depth = 5; pack = 1; plan = Some Large; pad = Some 40; stash = 32; keep = false; save = false; max_input = 4096 })
+padded_by_large : fitted 64 5 (Forced Large) 1 (Some 40) 32 None false 4096
+    ≡ Some (record { buffer = 64; depth = 5; pack = 1; planner = Forced Large; pad = Some 40; stash = 32; keep = false; save = false; batch = None; max_input = 4096 })
 padded_by_large = refl
 
-no_padded_continuous : fitted 64 5 (Some Continuous) 1 (Some 40) 32 false 4096 ≡ None
+padded_by_cheapest : fitted 64 5 Cheapest 1 (Some 40) 32 None false 4096
+    ≡ Some (record { buffer = 64; depth = 5; pack = 1; planner = Cheapest; pad = Some 40; stash = 32; keep = false; save = false; batch = None; max_input = 4096 })
+padded_by_cheapest = refl
+
+no_padded_continuous : fitted 64 5 (Forced Continuous) 1 (Some 40) 32 None false 4096 ≡ None
 no_padded_continuous = refl
 
-no_padded_hash : fitted 64 5 (Some Hash) 1 (Some 40) 32 false 4096 ≡ None
+no_padded_hash : fitted 64 5 (Forced Hash) 1 (Some 40) 32 None false 4096 ≡ None
 no_padded_hash = refl
 
 -- ---- what is generated
@@ -109,7 +135,7 @@ three_numbers : seed_in (Some (codes "0,1,2")) ≡ None
 three_numbers = refl
 
 -- ---- whole command lines
-no_words : settings_of usage [] ≡ Some (record { buffer = 64; depth = 5; pack = 1; plan = None; pad = None; stash = 32; keep = false; save = false; max_input = 1073741824 })
+no_words : settings_of usage [] ≡ Some (record { buffer = 64; depth = 5; pack = 1; planner = Auto; pad = None; stash = 32; keep = false; save = false; batch = None; max_input = 1073741824 })
 unfolding clap_on_literals
 no_words = refl
 
@@ -118,9 +144,14 @@ unfolding clap_on_literals
 no_words_parse = refl
 
 two_words : settings_of usage (codes "--pack" ∷ codes "2" ∷ codes "--plan=hash" ∷ [])
-    ≡ Some (record { buffer = 64; depth = 5; pack = 2; plan = Some Hash; pad = None; stash = 32; keep = false; save = false; max_input = 1073741824 })
+    ≡ Some (record { buffer = 64; depth = 5; pack = 2; planner = Forced Hash; pad = None; stash = 32; keep = false; save = false; batch = None; max_input = 1073741824 })
 unfolding clap_on_literals
 two_words = refl
+
+cheapest_plans : settings_of usage (codes "--plan" ∷ codes "cheapest" ∷ [])
+    ≡ Some (record { buffer = 64; depth = 5; pack = 1; planner = Cheapest; pad = None; stash = 32; keep = false; save = false; batch = None; max_input = 1073741824 })
+unfolding clap_on_literals
+cheapest_plans = refl
 
 they_parse : Parses usage (codes "--pack" ∷ codes "2" ∷ codes "--plan=hash" ∷ [])
 unfolding clap_on_literals
@@ -130,13 +161,25 @@ pack_is_too_great : settings_of usage (codes "--pack" ∷ codes "22" ∷ []) ≡
 unfolding clap_on_literals
 pack_is_too_great = refl
 
-padded : settings_of usage (codes "--pad" ∷ codes "40" ∷ []) ≡ Some (record { buffer = 64; depth = 5; pack = 1; plan = None; pad = Some 40; stash = 32; keep = false; save = false; max_input = 1073741824 })
+padded : settings_of usage (codes "--pad" ∷ codes "40" ∷ []) ≡ Some (record { buffer = 64; depth = 5; pack = 1; planner = Auto; pad = Some 40; stash = 32; keep = false; save = false; batch = None; max_input = 1073741824 })
 unfolding clap_on_literals
 padded = refl
 
-stashed : settings_of meddle_usage (codes "--stash" ∷ codes "89" ∷ []) ≡ Some (record { buffer = 64; depth = 5; pack = 1; plan = None; pad = None; stash = 89; keep = false; save = false; max_input = 1073741824 })
+stashed : settings_of meddle_usage (codes "--stash" ∷ codes "89" ∷ []) ≡ Some (record { buffer = 64; depth = 5; pack = 1; planner = Auto; pad = None; stash = 89; keep = false; save = false; batch = None; max_input = 1073741824 })
 unfolding clap_on_literals
 stashed = refl
+
+batched : settings_of usage (codes "--batch" ∷ codes "16" ∷ []) ≡ Some (record { buffer = 64; depth = 5; pack = 1; planner = Auto; pad = None; stash = 32; keep = false; save = false; batch = Some 16; max_input = 1073741824 })
+unfolding clap_on_literals
+batched = refl
+
+batched_and_saved : saved_settings_of (codes "--batch" ∷ codes "2" ∷ codes "--save" ∷ []) ≡ Some (record { buffer = 64; depth = 5; pack = 1; planner = Auto; pad = None; stash = 32; keep = true; save = true; batch = Some 2; max_input = 1073741824 })
+unfolding clap_on_literals
+batched_and_saved = refl
+
+batched_alone : settings_of meddle_usage (codes "--batch" ∷ codes "1" ∷ []) ≡ None
+unfolding clap_on_literals
+batched_alone = refl
 
 stash_too_great : settings_of usage (codes "--stash" ∷ codes "1025" ∷ []) ≡ None
 unfolding clap_on_literals
@@ -179,7 +222,7 @@ no_value : fault_of usage (codes "--buffer" ∷ []) ≡ kind.InvalidValue ∷ []
 unfolding clap_on_literals
 no_value = refl
 
-input_bounded : settings_of usage (codes "--max-input" ∷ codes "1024" ∷ []) ≡ Some (record { buffer = 64; depth = 5; pack = 1; plan = None; pad = None; stash = 32; keep = false; save = false; max_input = 1024 })
+input_bounded : settings_of usage (codes "--max-input" ∷ codes "1024" ∷ []) ≡ Some (record { buffer = 64; depth = 5; pack = 1; planner = Auto; pad = None; stash = 32; keep = false; save = false; batch = None; max_input = 1024 })
 unfolding clap_on_literals
 input_bounded = refl
 
@@ -208,7 +251,7 @@ unfolding clap_on_literals
 mark_unplaced = refl
 
 mark_with_keep : settings_of kept_usage (codes "--keep" ∷ codes "--mark" ∷ codes "safe" ∷ [])
-    ≡ Some (record { buffer = 64; depth = 5; pack = 1; plan = None; pad = None; stash = 32; keep = true; save = false; max_input = 1073741824 })
+    ≡ Some (record { buffer = 64; depth = 5; pack = 1; planner = Auto; pad = None; stash = 32; keep = true; save = false; batch = None; max_input = 1073741824 })
 unfolding clap_on_literals
 mark_with_keep = refl
 
@@ -230,12 +273,12 @@ saves_not : is_saved (codes "--keep" ∷ []) ≡ false
 unfolding clap_on_literals
 saves_not = refl
 
-saves_and_keeps : saved_settings_of (codes "--save" ∷ []) ≡ Some (record { buffer = 64; depth = 5; pack = 1; plan = None; pad = None; stash = 32; keep = true; save = true; max_input = 1073741824 })
+saves_and_keeps : saved_settings_of (codes "--save" ∷ []) ≡ Some (record { buffer = 64; depth = 5; pack = 1; planner = Auto; pad = None; stash = 32; keep = true; save = true; batch = None; max_input = 1073741824 })
 unfolding clap_on_literals
 saves_and_keeps = refl
 
 mark_with_save : saved_settings_of (codes "--save" ∷ codes "--mark" ∷ codes "safe" ∷ [])
-    ≡ Some (record { buffer = 64; depth = 5; pack = 1; plan = None; pad = None; stash = 32; keep = true; save = true; max_input = 1073741824 })
+    ≡ Some (record { buffer = 64; depth = 5; pack = 1; planner = Auto; pad = None; stash = 32; keep = true; save = true; batch = None; max_input = 1073741824 })
 unfolding clap_on_literals
 mark_with_save = refl
 
@@ -243,7 +286,7 @@ no_save_beside_keep : saved_settings_of (codes "--save" ∷ codes "--keep" ∷ [
 unfolding clap_on_literals
 no_save_beside_keep = refl
 
-keeps_alone : saved_settings_of (codes "--keep" ∷ []) ≡ Some (record { buffer = 64; depth = 5; pack = 1; plan = None; pad = None; stash = 32; keep = true; save = false; max_input = 1073741824 })
+keeps_alone : saved_settings_of (codes "--keep" ∷ []) ≡ Some (record { buffer = 64; depth = 5; pack = 1; planner = Auto; pad = None; stash = 32; keep = true; save = false; batch = None; max_input = 1073741824 })
 unfolding clap_on_literals
 keeps_alone = refl
 

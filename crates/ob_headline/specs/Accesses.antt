@@ -7,8 +7,6 @@ use Rattle.ob_base.specs.declared.config.Public.{Public}
 use Rattle.ob_base.specs.declared.refusal.Refusal.{Refusal}
 use Rattle.ob_base.specs.declared.refusal.Refusal.TheVariants.{StoreFault}
 use Rattle.ob_base.specs.declared.refusal.Stop.TheVariants.{SinkFault, NoMemory, StashFull, StoreFault as StoreFails, KeeperFault}
-use Rattle.ob_base.specs.declared.seen.End.{End}
-use Rattle.ob_base.specs.declared.seen.End.TheVariants.{Cut}
 use Rattle.ob_base.specs.declared.seen.Seen.{Seen}
 use Rattle.ob_base.specs.declared.skeleton.Skeleton.{Skeleton}
 use Rattle.ob_select.specs.Memory.{AtMake, AtResult, AtEmission, starts_with_make}
@@ -17,6 +15,7 @@ use Rattle.ob_verdict.specs.declared.outcome.Outcome.TheVariants.{Refused}
 use Rattle.ob_headline.specs.Closing.{closing_line}
 use Rattle.ob_headline.specs.declared.ending.Ending.{Ending}
 use Rattle.ob_headline.specs.declared.ending.Ending.TheVariants.{Ran}
+use Rattle.ob_mean.specs.Batches.{Gathering, gathering_after, is_cut}
 use Rattle.ob_mean.specs.Flats.{AreFlat}
 use Rattle.ob_mean.specs.Lawful.{Lawful}
 use Rattle.ob_mean.specs.Prints.{labels_of}
@@ -30,17 +29,13 @@ use Rattle.ob_sql.specs.Skeleton.{skeleton}
 use Rattle.ob_sql.specs.declared.stmt.Stmt.{Stmt}
 use Rattle.ob_headline.specs.Words.{Answer, refused_as, refused_at}
 use Rattle.ob_headline.specs.Bases.{Base}
-use Rattle.ob_headline.specs.Failures.{FailsBeside, RisesBy, failures}
+use Rattle.ob_headline.specs.Batches.{Joins, is_failed}
+use Rattle.ob_headline.specs.Failures.{FailsBeside, RisesBy, cut_off, failures}
 use Rattle.ob_headline.specs.FullStash.{ReadsFullStash}
 use Rattle.ob_headline.specs.Leaves.{ReadsDraws}
 use Rattle.ob_headline.specs.Statements.{statements}
 use Rattle.ob_headline.specs.Story.{Story}
 use Rattle.ob_store.specs.State.{StoreState}
-
--- it was cut off
-abbrev pub is_cut : End → Bool
-is_cut (Cut n) = true
-is_cut _ = false
 
 unfoldable pub any_cut : List Served → Bool
 any_cut [] = false
@@ -98,34 +93,36 @@ StopsWithin ending Failed Full p stmt seen =
     × (ends_within ending ≡ true → may_end ending p (skeleton stmt) ≡ true)
     × (ending ≡ Ran (Err StashFull) → Full p stmt seen)
 
--- of each statement its skeleton and what is seen of it, which is lawful by what is public before it and m accesses;
--- its answer is its early refusal, if there is one, says that the store failed exactly where it was cut off, and has the
--- plan that is seen. The one that was begun has no answer, and was left so.
-unfoldable pub AreSeen : (Leaves : Public → Stmt → Seen → Type 0) → Public → (m : ℕ) → List Spelt
-    → List Answer → List Served → Type 0
-AreSeen Leaves p m [] answers seen = seen ≡ []
-AreSeen Leaves p m (Err at ∷ spelt) [] seen = AreSeen Leaves p m spelt [] seen
-AreSeen Leaves p m (Err at ∷ spelt) (one ∷ answers) seen =
-    (one ≡ refused_at at) × AreSeen Leaves p m spelt answers seen
-AreSeen Leaves p m (Ok stmt ∷ spelt) answers [] = ⊥
-AreSeen Leaves p m (Ok stmt ∷ spelt) [] (x ∷ seen) =
-    (x.skeleton ≡ skeleton stmt) × Lawful p m stmt x.seen × Leaves p stmt x.seen
-    × AreSeen Leaves (next p x.skeleton x.seen) (m + length (script p x.skeleton x.seen)) spelt []
-    seen
-AreSeen Leaves p m (Ok stmt ∷ spelt) (one ∷ answers) (x ∷ seen) =
+-- of each statement its skeleton and what is seen of it, which is lawful by what is public before it and m accesses, and
+-- says that it was served with an INSERT before it exactly where it joins the batch that is gathered; its answer is its
+-- early refusal, if there is one, says that the store failed exactly where it was cut off, or the batch was that it joined,
+-- and has the plan that is seen. The one that was begun has no answer, and was left so.
+unfoldable pub AreSeen : (Leaves : Public → Stmt → Seen → Type 0) → Public → (m : ℕ)
+    → Option Gathering → List Spelt → List Answer → List Served → Type 0
+AreSeen Leaves p m g [] answers seen = seen ≡ []
+AreSeen Leaves p m g (Err at ∷ spelt) [] seen = AreSeen Leaves p m None spelt [] seen
+AreSeen Leaves p m g (Err at ∷ spelt) (one ∷ answers) seen =
+    (one ≡ refused_at at) × AreSeen Leaves p m None spelt answers seen
+AreSeen Leaves p m g (Ok stmt ∷ spelt) answers [] = ⊥
+AreSeen Leaves p m g (Ok stmt ∷ spelt) [] (x ∷ seen) =
+    (x.skeleton ≡ skeleton stmt) × Lawful p m stmt x.seen
+    × (Leaves p stmt x.seen × Joins p m g stmt x.seen)
+    × AreSeen Leaves (next p x.skeleton x.seen) (m + length (script p x.skeleton x.seen))
+    (gathering_after p m g stmt x.seen.end) spelt [] seen
+AreSeen Leaves p m g (Ok stmt ∷ spelt) (one ∷ answers) (x ∷ seen) =
     (x.skeleton ≡ skeleton stmt) × Lawful p m stmt x.seen
     × (Says (refusal_now p m stmt) p stmt one
-    × (IsTrue (is_cut x.seen.end) ↔ (one.outcome ≡ Refused StoreFault))
-    × (one.plan ≡ x.seen.plan))
-    × AreSeen Leaves (next p x.skeleton x.seen) (m + length (script p x.skeleton x.seen)) spelt
-    answers seen
+    × (IsTrue (is_failed g x.seen.end) ↔ (one.outcome ≡ Refused StoreFault))
+    × (one.plan ≡ x.seen.plan) × Joins p m g stmt x.seen)
+    × AreSeen Leaves (next p x.skeleton x.seen) (m + length (script p x.skeleton x.seen))
+    (gathering_after p m g stmt x.seen.end) spelt answers seen
 
 -- They are those that the statements go on from, if there are any, and the trace of the skeletons and of what is seen of
 -- each: of those that were answered, and of the one begun, if it is a statement, as one is where a run ends in an access of
 -- an index, for a full stash only where that read too many rows, or while tables are saved. No table that they go on from is
 -- an index.
 -- The leaves of indexes that are read are those of draws of the keys, none of which is read twice. Calls that discard a region
--- are counted apart, and change no answer.
+-- are counted apart, and change no answer. One failed call may cut off a batch, each text of which is answered so.
 pub record Accesses (base : Base) (keys : KeySet) (ending : Ending) (story : Story)
     (old new : StoreState) : Type 0 where
   pub flat : AreFlat (headings_of base.public.tables)
@@ -133,10 +130,11 @@ pub record Accesses (base : Base) (keys : KeySet) (ending : Ending) (story : Sto
   pub begun : ends_within ending ≡ true → length story.last ≡ 1
   pub each_seen : length story.seen
       ≡ length (statements (take (length story.served) story.spelt))
-  pub lawful : AreSeen (StopsWithin ending (FailsBeside story.answers old.faults new.faults)
+  pub lawful : AreSeen (StopsWithin ending (FailsBeside story.seen old.faults new.faults)
       (ReadsFullStash keys base.start new))
-      base.public base.count story.spelt story.answers (story.seen ++ story.last)
+      base.public base.count None story.spelt story.answers (story.seen ++ story.last)
   pub drawn : ReadsDraws (draw_of keys) base.public (story.seen ++ story.last)
   pub asked : new.asked ≡ base.before ++ trace base.public (story.seen ++ story.last)
-  pub failed : RisesBy (failures story.answers) old.faults new.faults
+  pub failed : base.public.batch ≡ None → RisesBy (failures story.answers) old.faults new.faults
+  pub cut : RisesBy (cut_off story.seen) old.faults new.faults
   pub unfailed : any_cut (story.seen ++ story.last) ≡ false → new.faults ≡ old.faults

@@ -11,7 +11,7 @@ use Rattle.ob_headline.specs.Story.{Story}
 use Rattle.ob_headline.specs.declared.ending.Ending.{Ending}
 use Rattle.ob_mean.specs.Replay.{Broken}
 use Rattle.ob_store.specs.Calls.{IsBefore}
-use Rattle.ob_store.specs.Runs.{Later}
+use Rattle.ob_store.specs.Runs.{Since}
 
 -- the store tells what it holds, and of the first changed block that was read, if there is one, the tag doesn't fit
 pub record IsUndeceived (keys : KeySet) (start : Start) (store0 store1 : StoreState) : Type 0 where
@@ -26,6 +26,6 @@ pub record Answers (base : Base) (keys : KeySet) (ending : Ending) (story : Stor
   pub meant : IsUndeceived keys base.start old new → FromEach base (λ s. (broken : Broken)
       × AnswersFrom ending (drawing keys s) story.spelt broken story.answers
       (story.seen ++ story.last) story.part)
-  pub later : Later old new
+  pub later : Since old new
   pub always : IsTrue old.tells → (n : ℕ) → IsBefore (said_of base.opened old) n
       → Until base.settings keys n story.spelt story.answers (story.seen ++ story.last) new.asked

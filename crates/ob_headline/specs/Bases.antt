@@ -3,6 +3,7 @@ use Rattle.std.specs.Prelude.{false, ℕ, ◌≡◌, ◌+◌, IsTrue, List, [], 
 use Rattle.ob_base.specs.Publics.{first_public}
 use Rattle.ob_base.specs.declared.access.Access.{Access}
 use Rattle.ob_base.specs.declared.config.Config.{Config}
+use Rattle.ob_base.specs.declared.config.Planner.TheVariants.{Auto}
 use Rattle.ob_base.specs.declared.config.Public.{Public}
 use Rattle.ob_reopen.specs.Reopened.{opened_public, opened_start, opening_script}
 use Rattle.ob_reopen.specs.Resting.{Rests}
@@ -17,7 +18,7 @@ use Rattle.ob_vault.specs.State.{Start, earlier, from_nothing}
 
 -- what is public before the first statement, where there are no tables; without settings none is served
 abbrev pub public_with : Option Config → Public
-public_with None = first_public (record { buffer = 0; depth = 0; pack = 0; plan = None; pad = None; stash = 0; keep = false; save = false; max_input = 0 })
+public_with None = first_public (record { buffer = 0; depth = 0; pack = 0; planner = Auto; pad = None; stash = 0; keep = false; save = false; batch = None; max_input = 0 })
 public_with (Some config) = first_public config
 
 -- the model's session without tables

@@ -1,10 +1,12 @@
--- How many texts were answered that the store had failed.
+-- How many texts were answered that the store had failed, and how many statements were cut off.
 use Rattle.std.specs.Prelude.{◌+◌, ◌-◌, ◌^◌, ◌≤◌, min, ℕ, List, [], ◌∷◌, if◌then◌else◌}
 use Rattle.ob_base.specs.Refusals.{is_store_fault}
 use Rattle.ob_base.specs.declared.refusal.Refusal.{Refusal}
 use Rattle.ob_verdict.specs.declared.outcome.Outcome.{Outcome}
 use Rattle.ob_verdict.specs.declared.outcome.Outcome.TheVariants.{Created, Inserted, Changed, Deleted, Dropped, Rows, Refused}
 use Rattle.ob_headline.specs.Words.{Answer}
+use Rattle.ob_mean.specs.Batches.{is_cut}
+use Rattle.ob_script.specs.Trace.{Served}
 
 abbrev pub refusal_failures : Refusal → ℕ
 refusal_failures r = if is_store_fault r then 1 else 0
@@ -23,10 +25,15 @@ unfoldable pub failures : List Answer → ℕ
 failures [] = 0
 failures (answer ∷ answers) = outcome_failures answer.outcome + failures answers
 
+-- of these statements so many were cut off
+unfoldable pub cut_off : List Served → ℕ
+cut_off [] = 0
+cut_off (x ∷ seen) = (if is_cut x.seen.end then 1 else 0) + cut_off seen
+
 -- a count of faults has risen by so many at least, or stands at the last value of a u64
 abbrev pub RisesBy : ℕ → ℕ → ℕ → Type 0
 RisesBy n old new = min (old + n) (2 ^ 64 - 1) ≤ new
 
--- calls of the store failed beside those that texts were answered for
-abbrev pub FailsBeside : List Answer → ℕ → ℕ → Type 0
-FailsBeside answers old new = RisesBy (failures answers + 1) old new
+-- calls of the store failed beside those that cut these statements off
+abbrev pub FailsBeside : List Served → ℕ → ℕ → Type 0
+FailsBeside seen old new = RisesBy (cut_off seen + 1) old new

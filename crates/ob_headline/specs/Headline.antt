@@ -17,6 +17,7 @@ use Rattle.ob_headline.specs.Tampering.{Tampering}
 use Rattle.ob_headline.specs.Words.{Outside}
 use Rattle.ob_headline.specs.declared.ending.Ending.{Ending}
 use Rattle.ob_headline.specs.declared.ending.Report.{Report}
+use Rattle.ob_mean.specs.Batches.{batch_most}
 use Rattle.ob_seal.specs.KeySet.{KeySet}
 
 -- of words that the program takes, or doesn't, of what its statements go on from, with the settings, and of the keys that
@@ -30,8 +31,8 @@ pub record Headline (base : Base) (keys : List ℕ → KeySet) (Takes : Type 0) 
   pub story : Story
   -- the source gave these bytes, within the limit: a first line, then texts, of which the first ones were answered
   pub bytes : Bytes (limit_of base.settings) taken ended story old.left new.left
-  -- before more is read each text is answered
-  pub prompt : Prompt taken story.served new.gave
+  -- before more is read each text is answered, unless it waits to be served with others
+  pub prompt : Prompt (batch_most base.public) taken story.served new.gave
   -- these texts spell the statements, as the grammar has it
   pub statements : Statements (secret_of (first_line taken)) story
   -- the answers were written, and a last line; and with tracing the accesses; until a sink failed

@@ -70,7 +70,7 @@ pub record Unserved (Why : Config → (secret : List ℕ) → Type 0) (settings 
   pub taken : List ℕ
   pub given : Consumes old.left new.left taken
   pub within : length taken ≤ config.max_input
-  pub prompt : Prompt taken [] new.gave
+  pub prompt : Prompt 1 taken [] new.gave
   pub secret : List ℕ
   pub keyed : secret_of (first_line taken) ≡ Some secret
   pub begun : Why config secret

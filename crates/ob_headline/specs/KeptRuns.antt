@@ -17,7 +17,7 @@ use Rattle.ob_headline.specs.Meaning.{AnswersFrom}
 use Rattle.ob_headline.specs.declared.ending.Ending.TheVariants.{Ran}
 use Rattle.ob_headline.specs.declared.ending.KeptEnding.{KeptEnding}
 use Rattle.ob_headline.specs.declared.ending.Report.{Report}
-use Rattle.ob_mean.specs.Replay.{Session, Spelt, after_all}
+use Rattle.ob_mean.specs.Replay.{Broken, Session, Spelt, after_all}
 use Rattle.ob_reopen.specs.Keepers.{KeeperState}
 use Rattle.ob_script.specs.Trace.{Served, trace}
 use Rattle.ob_seal.specs.Sealed.{keys_of}
@@ -105,12 +105,15 @@ all_seen (one ∷ runs) = seen_in one.run.ran ++ all_seen runs
 abbrev pub first_of : List Text → (secret : List ℕ) → Session
 first_of words secret = drawing (keys_of secret) (start (settings_of kept_usage words))
 
--- they are answered as one run over all these texts answers them, from no tables, where none of them comes too late there
-abbrev pub AnswerAsOne : {words : List Text} → (secret : List ℕ) → List (OneRun words) → Type 0
-AnswerAsOne {words} secret runs =
-    (after_all (first_of words secret) (all_spelt runs) []).asked < 2 ^ 63
-    → AnswersFrom (Ran (Ok (any_refused (all_answers runs)))) (first_of words secret)
-    (all_spelt runs) [] (all_answers runs) (all_seen runs) []
+-- they are answered as one run over all these texts answers them, from no tables, where none of them comes too late there:
+-- a run in which the same ones are served with an INSERT before them
+pub record AnswerAsOne {words : List Text} (secret : List ℕ) (runs : List (OneRun words))
+    : Type 0 where
+  pub hows : Broken
+  pub alone : (first_of words secret).public.batch ≡ None → hows ≡ []
+  pub answered : (after_all (first_of words secret) (all_spelt runs) hows).asked < 2 ^ 63
+      → AnswersFrom (Ran (Ok (any_refused (all_answers runs)))) (first_of words secret)
+      (all_spelt runs) hows (all_answers runs) (all_seen runs) []
 
 -- ---- numbers over runs
 -- a run by any words

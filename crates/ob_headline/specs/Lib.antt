@@ -14,6 +14,7 @@ pub mod Status
 pub mod Meaning
 pub mod Words
 pub mod Bases
+pub mod Batches
 pub mod Closing
 pub mod Disturbed
 pub mod Endings

@@ -1,5 +1,5 @@
 -- What the model answers.
-use Rattle.std.specs.Prelude.{ℕ, ◌≡◌, ◌≤◌, ◌⊎◌, true, false, List, [], ◌∷◌, ◌++◌, length, Option, Some, None, Ok, Err}
+use Rattle.std.specs.Prelude.{ℕ, ◌≡◌, ◌≤◌, ◌⊎◌, true, false, List, [], ◌∷◌, ◌++◌, length, None, Ok, Err}
 use Rattle.ob_base.specs.Events.{Event}
 use Rattle.ob_base.specs.Stored.{headings, headings_of}
 use Rattle.ob_base.specs.declared.refusal.Refusal.TheVariants.{StoreFault}
@@ -14,7 +14,7 @@ use Rattle.ob_headline.specs.declared.ending.Ending.{Ending}
 use Rattle.ob_headline.specs.declared.ending.Ending.TheVariants.{Ran}
 use Rattle.ob_mean.specs.Prints.{Prints, Unfinished, labels_of}
 use Rattle.ob_mean.specs.Refusals.{early_refusal, limits_of}
-use Rattle.ob_mean.specs.Replay.{Session, Spelt, Broken, IsCutOff, after, cut_at, head_of, is_full_now, reads_of, rest_of, seen_now, seen_or_cut}
+use Rattle.ob_mean.specs.Replay.{Session, Spelt, Broken, How, Alone, CutAfter, With, CutWith, IsCutOff, after, cut_at, head_of, is_full_now, reads_of, rest_of, seen_now, seen_or_cut}
 use Rattle.ob_mean.specs.Verdict.{is_late, verdict}
 use Rattle.ob_mean.specs.declared.answer.Answer.{Answer as Meaning}
 use Rattle.ob_print.specs.Cuts.{IsCutOf}
@@ -33,20 +33,30 @@ pub record AnswersAs (labels : List (List ℕ)) (stmt : Stmt) (meaning : Meaning
   pub prints : Prints labels meaning events
   pub bytes : answer.bytes ≡ events_text events ++ closing_line answer.outcome
 
--- the store cut the statement off: a first part of its header and rows, and the line of a store that failed
+-- the store cut the statement off, or the one with which it was served: a first part of its header and rows, and the line of
+-- a store that failed
 pub record CutOff (labels : List (List ℕ)) (meaning : Meaning) (answer : Answer) : Type 0 where
   pub outcome : answer.outcome ≡ Refused StoreFault
   pub events : List Event
   pub unfinished : Unfinished labels meaning events
   pub bytes : answer.bytes ≡ events_text events ++ closing_line answer.outcome
 
-abbrev pub AnswersIn : Option ℕ → Session → Stmt → Answer → Type 0
-AnswersIn None s stmt answer =
+-- as it is meant, and where the store failed
+abbrev pub AnswersMeant : Session → Stmt → Answer → Type 0
+AnswersMeant s stmt answer =
     AnswersAs (labels_of stmt (headings_of s.public.tables)) stmt
     (verdict s.public s.asked s.tables stmt) answer
-AnswersIn (Some n) s stmt answer =
+
+abbrev pub AnswersCut : Session → Stmt → Answer → Type 0
+AnswersCut s stmt answer =
     CutOff (labels_of stmt (headings_of s.public.tables)) (verdict s.public s.asked s.tables stmt)
     answer
+
+abbrev pub AnswersIn : How → Session → Stmt → Answer → Type 0
+AnswersIn Alone s stmt answer = AnswersMeant s stmt answer
+AnswersIn (CutAfter n) s stmt answer = AnswersCut s stmt answer
+AnswersIn With s stmt answer = AnswersMeant s stmt answer
+AnswersIn CutWith s stmt answer = AnswersCut s stmt answer
 
 -- what was emitted until a stop is printed; where memory was wanting, maybe for the last of it, a first part
 abbrev pub PrintsUntil : Stop → (part text : List ℕ) → Type 0
@@ -80,11 +90,11 @@ pub record AnswersLast (ending : Ending) (s : Session) (stmt : Stmt) (here : See
     (part : List ℕ) : Type 0 where
   pub fault : ending ≡ Ran (Err SinkFault)
   pub room : is_full_now s stmt ≡ false
-  pub broken : Option ℕ
-  pub cuts : IsCutOff broken s stmt
-  pub seen : here ≡ seen_or_cut broken s stmt
+  pub how : How
+  pub cuts : IsCutOff how s stmt
+  pub seen : here ≡ seen_or_cut how s stmt
   pub answer : Answer
-  pub answers : AnswersIn broken s stmt answer
+  pub answers : AnswersIn how s stmt answer
   pub whole : part ≡ answer.bytes
 
 abbrev pub BeginsAnswer : Ending → Session → Spelt → List Served → (part : List ℕ) → Type 0
@@ -93,8 +103,9 @@ BeginsAnswer ending s (Ok stmt) [] part = ⊥
 BeginsAnswer ending s (Ok stmt) (x ∷ seen) part =
     StopsAt ending s stmt x.seen part ⊎ AnswersLast ending s stmt x.seen part
 
--- from a session of the model on: these statements, of which none meets a full stash and the store cut some off, each at
--- one of its accesses, are answered so, this is seen of each, and what was printed after them is a first part of the next answer
+-- from a session of the model on: these statements, of which none meets a full stash, some are served with an INSERT before
+-- them, and the store cut some off, each at one of its accesses, are answered so, this is seen of each, and what was printed
+-- after them is a first part of the next answer
 unfoldable pub AnswersFrom : Ending → Session → List Spelt → Broken → List Answer → List Served
     → (part : List ℕ) → Type 0
 AnswersFrom ending s [] broken answers seen part = (answers ≡ []) × (part ≡ [])

@@ -1,27 +1,29 @@
 -- A run that nothing hinders is one of the plain machine: SQL over plain tables, a text after the other.
-use Rattle.std.specs.Prelude.{ℕ, ◌≡◌, ◌≢◌, ◌++◌, if◌then◌else◌, true, false, List, [], ◌∷◌, Ok, Err, None, Some}
+use Rattle.std.specs.Prelude.{ℕ, ◌≡◌, ◌≢◌, ◌++◌, if◌then◌else◌, true, false, List, [], ◌∷◌, Ok, Err, Option, None, Some}
 use Rattle.std.specs.Io.KnownBytes.{Appends}
 use Rattle.ob_base.specs.Counts.{Rises}
+use Rattle.ob_headline.specs.Batches.{after_now, gathered_now, meant_seen}
 use Rattle.ob_headline.specs.KeyLine.{after_line}
 use Rattle.ob_headline.specs.Reruns.{SomeRun, TakesWords, asked_by, failures_of, seen_by}
 use Rattle.ob_headline.specs.Settings.{limit_of}
 use Rattle.ob_headline.specs.Texts.{texts_in}
 use Rattle.ob_headline.specs.Tracing.{traced}
 use Rattle.ob_headline.specs.Words.{Answer, IsHonest, SinksRose, any_refused, printed, refused_at}
-use Rattle.ob_headline.specs.Meaning.{AnswersIn}
+use Rattle.ob_headline.specs.Meaning.{AnswersMeant}
 use Rattle.ob_headline.specs.Status.{IsUsedUp, KeepsLimits}
-use Rattle.ob_mean.specs.Replay.{Session, Spelt, after, all_served, is_full_now}
+use Rattle.ob_mean.specs.Batches.{Gathering}
+use Rattle.ob_mean.specs.Replay.{Session, Spelt, is_full_now}
 use Rattle.ob_script.specs.Trace.{trace}
 
--- from this session of the model on these texts are answered so, each as it is meant
-unfoldable pub AnsweredPlainly : Session → List Spelt → List Answer → Type 0
-AnsweredPlainly s [] answers = answers ≡ []
-AnsweredPlainly s (x ∷ spelt) [] = ⊥
-AnsweredPlainly s (Err at ∷ spelt) (one ∷ more) =
-    (one ≡ refused_at at) × AnsweredPlainly s spelt more
-AnsweredPlainly s (Ok stmt ∷ spelt) (one ∷ more) =
-    (is_full_now s stmt ≡ false) × AnswersIn None s stmt one
-    × AnsweredPlainly (after None s stmt) spelt more
+-- from this session of the model on, in which so many INSERTs are gathered, these texts are answered so, each as it is meant
+unfoldable pub AnsweredPlainly : Option Gathering → Session → List Spelt → List Answer → Type 0
+AnsweredPlainly g s [] answers = answers ≡ []
+AnsweredPlainly g s (x ∷ spelt) [] = ⊥
+AnsweredPlainly g s (Err at ∷ spelt) (one ∷ more) =
+    (one ≡ refused_at at) × AnsweredPlainly None s spelt more
+AnsweredPlainly g s (Ok stmt ∷ spelt) (one ∷ more) =
+    (is_full_now s stmt ≡ false) × AnswersMeant s stmt one
+    × AnsweredPlainly (gathered_now g s stmt) (after_now g s stmt) spelt more
 
 -- the words are taken, the input keeps to the limits, neither the source nor a sink fails, the store tells what it holds,
 -- gave what was written and failed at no statement, neither memory nor the stash of an index was wanting, and, where tables
@@ -44,11 +46,11 @@ pub record IsUnhindered (one : SomeRun) (input : List ℕ) : Type 0 where
 -- asked what they ask by their meaning, that is what was traced, and the status says whether a text was refused
 pub record RunsPlainly (one : SomeRun) (input : List ℕ) (s : Session) : Type 0 where
   pub texts : texts_in true (after_line input) ≡ one.run.story.served
-  pub answered : AnsweredPlainly s one.run.story.spelt one.run.story.answers
-  pub seen : seen_by one ≡ all_served s one.run.story.spelt []
+  pub answered : AnsweredPlainly None s one.run.story.spelt one.run.story.answers
+  pub seen : seen_by one ≡ meant_seen s one.run.story.spelt
   pub asked : asked_by one
-      ≡ one.base.before ++ trace one.base.public (all_served s one.run.story.spelt [])
+      ≡ one.base.before ++ trace one.base.public (meant_seen s one.run.story.spelt)
   pub printed : Appends one.old.written one.new.written (printed one.run.story.answers)
   pub traced : Appends one.old.traced one.new.traced (traced one.tracing
-      (trace one.base.public (all_served s one.run.story.spelt [])))
+      (trace one.base.public (meant_seen s one.run.story.spelt)))
   pub status : one.report.status ≡ (if any_refused one.run.story.answers then 1 else 0)

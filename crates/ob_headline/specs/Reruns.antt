@@ -1,9 +1,10 @@
 -- What runs ask, and when two of them ask the same.
-use Rattle.std.specs.Prelude.{ℕ, ◌≡◌, ◌≤◌, ◌+◌, ◌⊎◌, ◌&&◌, ◌||◌, ⊤, Bool, true, false, not, if◌then◌else◌, List, [], ◌∷◌, ◌++◌, length, IsSome, IsTrue, None, is_some}
+use Rattle.std.specs.Prelude.{ℕ, ◌≡◌, ◌≤◌, ◌+◌, ◌⊎◌, ◌&&◌, ◌||◌, ⊤, Bool, true, false, not, if◌then◌else◌, List, [], ◌∷◌, ◌++◌, length, IsSome, IsTrue, Option, None, Ok, Err, is_some}
 use Rattle.clap.specs.Words.{App, Text}
 use Rattle.ob_base.specs.declared.access.Access.{Access}
 use Rattle.ob_base.specs.declared.config.Public.{Public}
-use Rattle.ob_base.specs.declared.seen.End.TheVariants.{Static, Whole}
+use Rattle.ob_base.specs.declared.seen.End.{End}
+use Rattle.ob_base.specs.declared.seen.End.TheVariants.{Static, Whole, Joined}
 use Rattle.ob_base.specs.declared.seen.Seen.{Seen}
 use Rattle.ob_verdict.specs.Outcomes.{refusal_now}
 use Rattle.ob_headline.specs.Bases.{Base, fresh}
@@ -12,10 +13,10 @@ use Rattle.ob_headline.specs.Headline.{Headline}
 use Rattle.ob_headline.specs.Settings.{IsTaken, IsTakenSaved, MeddleParses, settings_of}
 use Rattle.ob_headline.specs.Usage.{is_traced, usage}
 use Rattle.ob_headline.specs.Words.{Begins, Outside, keys_in}
-use Rattle.ob_headline.specs.Statements.{statements}
 use Rattle.ob_headline.specs.declared.ending.Report.{Report}
+use Rattle.ob_mean.specs.Batches.{Gathering, gathering_after, goes_into}
 use Rattle.ob_mean.specs.Lawful.{selects_rows}
-use Rattle.ob_mean.specs.Replay.{is_access}
+use Rattle.ob_mean.specs.Replay.{Spelt, is_access}
 use Rattle.ob_script.specs.Script.{script}
 use Rattle.ob_script.specs.Trace.{Served, next, trace}
 use Rattle.ob_seal.specs.KeySet.{KeySet}
@@ -67,8 +68,24 @@ shell_run {words} {old} {new} {report} run = record {
   run = run;
 }
 
-abbrev pub stmts_of : SomeRun → List Stmt
-stmts_of one = statements one.run.story.spelt
+-- a statement in its turn; and where INSERTs are served together, whether a text that is none came right before it, so that
+-- it is served apart from the ones before that
+pub record Turn : Type 0 where
+  pub stmt : Stmt
+  pub apart : Bool
+
+-- the statements among what texts spell, the first of which comes behind such a text or doesn't
+unfoldable pub turns : (batched apart : Bool) → List Spelt → List Turn
+turns batched apart [] = []
+turns batched apart (Ok stmt ∷ spelt) =
+    record { stmt = stmt; apart = apart } ∷ turns batched false spelt
+turns batched apart (Err at ∷ spelt) = turns batched batched spelt
+
+abbrev pub turns_in : Public → List Spelt → List Turn
+turns_in p spelt = turns (is_some p.batch) false spelt
+
+abbrev pub turns_of : SomeRun → List Turn
+turns_of one = turns_in one.base.public one.run.story.spelt
 
 abbrev pub seen_by : SomeRun → List Served
 seen_by one = one.run.story.seen ++ one.run.story.last
@@ -95,13 +112,26 @@ pub record EndsWell (status : ℕ) (failures : ℕ) : Type 0 where
   pub none : failures ≡ 0
 
 -- what is seen of a statement that was not cut off, where it is no SELECT of rows or results are padded: whether it was
--- refused before any access
-abbrev pub seen_plainly : (refused : Bool) → Seen
-seen_plainly true = record { k = None; plan = None; then = None; leaf = None; end = Static }
-seen_plainly false = record { k = None; plan = None; then = None; leaf = None; end = Whole }
+-- refused before any access, and else whether it was served with an INSERT before it
+abbrev pub seen_plainly : (refused joined : Bool) → Seen
+seen_plainly true joined = record { k = None; plan = None; then = None; leaf = None; end = Static }
+seen_plainly false true = record { k = None; plan = None; then = None; leaf = None; end = Joined }
+seen_plainly false false = record { k = None; plan = None; then = None; leaf = None; end = Whole }
 
-abbrev pub plainly : Public → ℕ → Stmt → Seen
-plainly p m stmt = seen_plainly (is_some (refusal_now p m stmt))
+-- where so many INSERTs were gathered before it
+abbrev pub plainly : Public → ℕ → Option Gathering → Stmt → Seen
+plainly p m g stmt = seen_plainly (is_some (refusal_now p m stmt)) (goes_into p g (skeleton stmt))
+
+-- what it may go into in its turn, and what is gathered behind it
+abbrev pub gathered_at : Option Gathering → Turn → Option Gathering
+gathered_at g t = if t.apart then None else g
+
+abbrev pub gathered_then : Public → ℕ → Option Gathering → Turn → End → Option Gathering
+gathered_then p m g t end = gathering_after p m (gathered_at g t) t.stmt end
+
+-- what is seen of it so in its turn
+abbrev pub plainly_at : Public → ℕ → Option Gathering → Turn → Seen
+plainly_at p m g t = plainly p m (gathered_at g t) t.stmt
 
 -- it accesses no index, and it is no SELECT of rows, or results are padded
 abbrev pub IsPlain : Public → Stmt → Type 0
@@ -114,98 +144,111 @@ abbrev pub shows_more : Public → Stmt → Bool
 shows_more p stmt = is_access p (skeleton stmt) || (selects_rows stmt && not (is_some p.pad))
 
 -- one of them is a SELECT of rows
-unfoldable pub any_counted : List Stmt → Bool
+unfoldable pub any_counted : List Turn → Bool
 any_counted [] = false
-any_counted (stmt ∷ stmts) = selects_rows stmt || any_counted stmts
+any_counted (t ∷ ts) = selects_rows t.stmt || any_counted ts
 
--- two lists of statements, of each of which is seen whether it was refused before any access, and nothing else: their
--- skeletons are the same, none accesses an index, and the same ones are refused so
-unfoldable pub Alike : Public → ℕ → List Stmt → List Stmt → Type 0
-Alike p m [] [] = ⊤
-Alike p m [] (b ∷ qs) = ⊥
-Alike p m (a ∷ ps) [] = ⊥
-Alike p m (a ∷ ps) (b ∷ qs) =
-    (skeleton a ≡ skeleton b) × (is_access p (skeleton a) ≡ false)
-    × (is_some (refusal_now p m a) ≡ is_some (refusal_now p m b))
-    × Alike (next p (skeleton a) (plainly p m a))
-    (m + length (script p (skeleton a) (plainly p m a))) ps qs
+-- two lists of statements, of each of which is seen whether it was refused before any access and whether it was served with
+-- an INSERT before it, and nothing else: their skeletons are the same, none accesses an index, the same ones are refused so,
+-- and the same ones are apart
+unfoldable pub Alike : Public → ℕ → Option Gathering → List Turn → List Turn → Type 0
+Alike p m g [] [] = ⊤
+Alike p m g [] (b ∷ qs) = ⊥
+Alike p m g (a ∷ ps) [] = ⊥
+Alike p m g (a ∷ ps) (b ∷ qs) =
+    (skeleton a.stmt ≡ skeleton b.stmt) × (is_access p (skeleton a.stmt) ≡ false)
+    × (is_some (refusal_now p m a.stmt) ≡ is_some (refusal_now p m b.stmt))
+    × (a.apart ≡ b.apart)
+    × Alike (next p (skeleton a.stmt) (plainly_at p m g a))
+    (m + length (script p (skeleton a.stmt) (plainly_at p m g a)))
+    (gathered_then p m g a (plainly_at p m g a).end) ps qs
 
 -- any two lists of statements, and what was seen of each: their skeletons are the same, the same ones are refused before
--- any access, and of each that accesses an index, and of each SELECT of rows that isn't padded, the same is seen
-unfoldable pub ShowAlike : Public → ℕ → List Stmt → List Served → List Stmt → List Served → Type 0
+-- any access, the same ones are apart, and of each that accesses an index, and of each SELECT of rows that isn't padded,
+-- the same is seen
+unfoldable pub ShowAlike : Public → ℕ → List Turn → List Served → List Turn → List Served → Type 0
 ShowAlike p m [] xs [] ys = ⊤
 ShowAlike p m [] xs (b ∷ qs) ys = ⊥
 ShowAlike p m (a ∷ ps) xs [] ys = ⊥
 ShowAlike p m (a ∷ ps) [] (b ∷ qs) ys = ⊥
 ShowAlike p m (a ∷ ps) (x ∷ xs) (b ∷ qs) [] = ⊥
 ShowAlike p m (a ∷ ps) (x ∷ xs) (b ∷ qs) (y ∷ ys) =
-    (skeleton a ≡ skeleton b) × (is_some (refusal_now p m a) ≡ is_some (refusal_now p m b))
-    × (IsTrue (shows_more p a) → x.seen ≡ y.seen)
+    (skeleton a.stmt ≡ skeleton b.stmt)
+    × (is_some (refusal_now p m a.stmt) ≡ is_some (refusal_now p m b.stmt))
+    × (a.apart ≡ b.apart) × (IsTrue (shows_more p a.stmt) → x.seen ≡ y.seen)
     × ShowAlike (next p x.skeleton x.seen) (m + length (script p x.skeleton x.seen)) ps xs qs ys
 
 -- of statements that are not cut off, each of which is no SELECT of rows or has its result padded, what is seen: a
--- function of their skeletons, and of which are refused before any access
-unfoldable pub shown_plainly : Public → ℕ → List Stmt → List Served
-shown_plainly p m [] = []
-shown_plainly p m (stmt ∷ stmts) =
-    record { skeleton = skeleton stmt; seen = plainly p m stmt }
-    ∷ shown_plainly (next p (skeleton stmt) (plainly p m stmt))
-    (m + length (script p (skeleton stmt) (plainly p m stmt))) stmts
+-- function of their skeletons, of which are refused before any access, and of which are apart
+unfoldable pub shown_plainly : Public → ℕ → Option Gathering → List Turn → List Served
+shown_plainly p m g [] = []
+shown_plainly p m g (t ∷ ts) =
+    record { skeleton = skeleton t.stmt; seen = plainly_at p m g t }
+    ∷ shown_plainly (next p (skeleton t.stmt) (plainly_at p m g t))
+    (m + length (script p (skeleton t.stmt) (plainly_at p m g t)))
+    (gathered_then p m g t (plainly_at p m g t).end) ts
 
 -- each of them accesses no index, and is no SELECT of rows or has its result padded
-unfoldable pub ArePlain : Public → ℕ → List Stmt → Type 0
-ArePlain p m [] = ⊤
-ArePlain p m (stmt ∷ stmts) =
-    IsPlain p stmt × ArePlain (next p (skeleton stmt) (plainly p m stmt))
-    (m + length (script p (skeleton stmt) (plainly p m stmt))) stmts
+unfoldable pub ArePlain : Public → ℕ → Option Gathering → List Turn → Type 0
+ArePlain p m g [] = ⊤
+ArePlain p m g (t ∷ ts) =
+    IsPlain p t.stmt × ArePlain (next p (skeleton t.stmt) (plainly_at p m g t))
+    (m + length (script p (skeleton t.stmt) (plainly_at p m g t)))
+    (gathered_then p m g t (plainly_at p m g t).end) ts
 
--- what is seen of a statement that isn't cut off: where more is seen than its early refusal what was seen of it, and else
--- what follows from that
-abbrev pub shown_as : Public → ℕ → Stmt → Seen → Served
-shown_as p m stmt seen = record {
-  skeleton = skeleton stmt;
-  seen = if shows_more p stmt then seen else plainly p m stmt;
+-- what is seen of a statement that isn't cut off: where more is seen than its early refusal, and whether it was served with
+-- an INSERT before it, what was seen of it, and else what follows from those
+abbrev pub shown_as : Public → ℕ → Option Gathering → Turn → Seen → Served
+shown_as p m g t seen = record {
+  skeleton = skeleton t.stmt;
+  seen = if shows_more p t.stmt then seen else plainly_at p m g t;
 }
 
 -- what is seen of statements of which none is cut off, but for those
-unfoldable pub shown : Public → ℕ → List Stmt → List Served → List Served
-shown p m [] xs = []
-shown p m (stmt ∷ stmts) [] = []
-shown p m (stmt ∷ stmts) (x ∷ xs) =
-    shown_as p m stmt x.seen
-    ∷ shown (next p (skeleton stmt) (shown_as p m stmt x.seen).seen)
-    (m + length (script p (skeleton stmt) (shown_as p m stmt x.seen).seen)) stmts xs
+unfoldable pub shown : Public → ℕ → Option Gathering → List Turn → List Served → List Served
+shown p m g [] xs = []
+shown p m g (t ∷ ts) [] = []
+shown p m g (t ∷ ts) (x ∷ xs) =
+    shown_as p m g t x.seen
+    ∷ shown (next p (skeleton t.stmt) (shown_as p m g t x.seen).seen)
+    (m + length (script p (skeleton t.stmt) (shown_as p m g t x.seen).seen))
+    (gathered_then p m g t (shown_as p m g t x.seen).seen.end) ts xs
 
 -- as far as both go two lists of statements show the same: their skeletons are the same, the same ones are refused before
--- any access, and of each that accesses an index, and of each SELECT of rows that isn't padded, the same is seen
-unfoldable pub AlikeSoFar : Public → ℕ → List Stmt → List Served → List Stmt → List Served → Type 0
-AlikeSoFar p m [] xs qs ys = ⊤
-AlikeSoFar p m (a ∷ ps) xs [] ys = ⊤
-AlikeSoFar p m (a ∷ ps) [] (b ∷ qs) ys = ⊤
-AlikeSoFar p m (a ∷ ps) (x ∷ xs) (b ∷ qs) [] = ⊤
-AlikeSoFar p m (a ∷ ps) (x ∷ xs) (b ∷ qs) (y ∷ ys) =
-    (shown_as p m a x.seen ≡ shown_as p m b y.seen)
-    × AlikeSoFar (next p (skeleton a) (shown_as p m a x.seen).seen)
-    (m + length (script p (skeleton a) (shown_as p m a x.seen).seen)) ps xs qs ys
+-- any access, the same ones are served with an INSERT before them, and of each that accesses an index, and of each SELECT of
+-- rows that isn't padded, the same is seen
+unfoldable pub AlikeSoFar : Public → ℕ → (g h : Option Gathering) → List Turn → List Served
+    → List Turn → List Served → Type 0
+AlikeSoFar p m g h [] xs qs ys = ⊤
+AlikeSoFar p m g h (a ∷ ps) xs [] ys = ⊤
+AlikeSoFar p m g h (a ∷ ps) [] (b ∷ qs) ys = ⊤
+AlikeSoFar p m g h (a ∷ ps) (x ∷ xs) (b ∷ qs) [] = ⊤
+AlikeSoFar p m g h (a ∷ ps) (x ∷ xs) (b ∷ qs) (y ∷ ys) =
+    (shown_as p m g a x.seen ≡ shown_as p m h b y.seen)
+    × AlikeSoFar (next p (skeleton a.stmt) (shown_as p m g a x.seen).seen)
+    (m + length (script p (skeleton a.stmt) (shown_as p m g a x.seen).seen))
+    (gathered_then p m g a (shown_as p m g a x.seen).seen.end)
+    (gathered_then p m h b (shown_as p m h b y.seen).seen.end) ps xs qs ys
 
 -- one of them is a first part of the other
 abbrev pub OneBegins : {A : Type 0} → (xs ys : List A) → Type 0
 OneBegins xs ys = Begins xs ys ⊎ Begins ys xs
 
 -- a run asks a first part of one list, behind what it begins with: of the accesses that follow from the skeletons of its
--- statements, from which are refused before any access, and from what is seen of those that access an index, and of its
--- SELECTs of rows that aren't padded
+-- statements, from which are refused before any access and which are apart, and from what is seen of those that access an
+-- index, and of its SELECTs of rows that aren't padded
 abbrev pub AsksAsShown : SomeRun → Type 0
-AsksAsShown one = Begins (asked_by one) (one.base.before
-    ++ trace one.base.public (shown one.base.public one.base.count (stmts_of one) (seen_by one)))
+AsksAsShown one = Begins (asked_by one) (one.base.before ++ trace one.base.public
+    (shown one.base.public one.base.count None (turns_of one) (seen_by one)))
 
 -- if no text of a run was answered that the store failed, and each of its statements accesses no index, and is no SELECT of
 -- rows or has its result padded, what it asks is a first part of one list, however it ends: behind what it begins with, of the
--- accesses that follow from the skeletons of its statements and from which are refused before any access
+-- accesses that follow from the skeletons of its statements, and from which are refused before any access and which are apart
 abbrev pub AsksByKinds : {base : Base} {keys : List ℕ → KeySet} {Takes : Type 0}
     {tracing : Bool} {old new : Outside} {report : Report}
     → Headline base keys Takes tracing old new report → Type 0
 AsksByKinds {base = base} {new = new} run =
-    failures run.story.answers ≡ 0 → ArePlain base.public base.count (statements run.story.spelt)
-    → Begins new.store.asked (base.before
-    ++ trace base.public (shown_plainly base.public base.count (statements run.story.spelt)))
+    failures run.story.answers ≡ 0
+    → ArePlain base.public base.count None (turns_in base.public run.story.spelt)
+    → Begins new.store.asked (base.before ++ trace base.public
+    (shown_plainly base.public base.count None (turns_in base.public run.story.spelt)))

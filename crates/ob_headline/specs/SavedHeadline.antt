@@ -1,17 +1,19 @@
 -- The headline of a run that saves its tables: an opening, a session that goes on from it, and what is held and rests once it
 -- ended, in whichever way.
-use Rattle.std.specs.Prelude.{ℕ, ◌≡◌, ◌<◌, ◌+◌, ◌⊎◌, Bool, true, List, ◌++◌, if◌then◌else◌, length, take, Option, Some, Err}
+use Rattle.std.specs.Prelude.{ℕ, ◌≡◌, ◌≢◌, ◌<◌, ◌⊎◌, Bool, List, [], ◌∷◌, ◌++◌, length, map, take, drop, Option, Some, None, Ok, Err}
 use Rattle.ob_base.specs.Counts.{Rises}
 use Rattle.ob_base.specs.declared.config.Config.{Config}
 use Rattle.ob_base.specs.declared.mark.Mark.{Mark}
 use Rattle.ob_base.specs.declared.refusal.Stop.TheVariants.{KeeperFault, SinkFault}
 use Rattle.ob_headline.specs.Bases.{Base, FromEach, drawing}
+use Rattle.ob_headline.specs.Batches.{AllInsert}
 use Rattle.ob_headline.specs.Headline.{Headline}
 use Rattle.ob_headline.specs.Keeping.{kept_status}
 use Rattle.ob_headline.specs.KeptHeadline.{Unkeyed, Unserved, begun_at}
 use Rattle.ob_headline.specs.KeyLine.{first_line, secret_of}
 use Rattle.ob_headline.specs.Meaning.{AnswersFrom}
 use Rattle.ob_headline.specs.Saving.{BeganSaved, NotBegunSaved, RestsAlike}
+use Rattle.ob_headline.specs.Statements.{SpellFirst, statements}
 use Rattle.ob_headline.specs.Story.{Story}
 use Rattle.ob_headline.specs.Words.{Answer, IsHonest, Outside}
 use Rattle.ob_headline.specs.declared.ending.Ending.{Ending}
@@ -19,11 +21,14 @@ use Rattle.ob_headline.specs.declared.ending.Ending.TheVariants.{Ran}
 use Rattle.ob_headline.specs.declared.ending.KeptEnding.{KeptEnding}
 use Rattle.ob_headline.specs.declared.ending.KeptEnding.TheVariants.{Plain}
 use Rattle.ob_headline.specs.declared.ending.Report.{Report}
+use Rattle.ob_mean.specs.Batches.{batch_most, settle_all}
 use Rattle.ob_mean.specs.Replay.{Broken, Session, Spelt, after_all}
+use Rattle.ob_mean.specs.Verdict.{Tables}
 use Rattle.ob_reopen.specs.Closings.{saved_mark}
 use Rattle.ob_reopen.specs.Keepers.{KeeperState}
 use Rattle.ob_reopen.specs.declared.closing.Closing.{Closing}
 use Rattle.ob_seal.specs.KeySet.{KeySet}
+use Rattle.ob_sql.specs.declared.stmt.Stmt.{Stmt}
 use Rattle.ob_store.specs.State.{KeptRegion, StoreState}
 
 -- ---- before a statement is served
@@ -37,29 +42,60 @@ UnbegunSaved settings Takes tracing old new keeper0 keeper1 ending answers repor
     answers report
 
 -- ---- what a session leaves
--- how many texts took effect: those that were answered, and maybe one more
-abbrev pub taken_by : (more : Bool) → List Answer → ℕ
-taken_by more answers = length answers + (if more then 1 else 0)
+-- the session of the model behind the texts that were answered
+abbrev pub answered_by : Session → List Spelt → List Answer → Broken → Session
+answered_by s spelt answers broken =
+    after_all s (take (length answers) spelt) (take (length answers) broken)
 
--- the session of the model behind them, of which the store cut off none but answered ones
-abbrev pub left_by : (more : Bool) → Session → List Spelt → List Answer → Broken → Session
+-- the statements behind them that took effect: none, or the next one, and these
+abbrev pub taken_by : (more : Option (List Stmt)) → List Spelt → List Answer → List Stmt
+taken_by None spelt answers = []
+taken_by (Some behind) spelt answers =
+    statements (take 1 (drop (length answers) spelt)) ++ behind
+
+-- the tables behind all of them, of which the store cut off none but answered ones
+abbrev pub left_by : (more : Option (List Stmt)) → Session → List Spelt → List Answer → Broken
+    → Tables
 left_by more s spelt answers broken =
-    after_all s (take (taken_by more answers) spelt) (take (length answers) broken)
+    let t = answered_by s spelt answers broken in
+    settle_all t.draws t.public t.asked (taken_by more spelt answers) t.tables
+
+-- the text begun and these statements are INSERTs into one table
+pub record InsertTogether (story : Story) (behind : List Stmt) : Type 0 where
+  pub begun : Stmt
+  pub last : story.spelt ≡ take (length story.served) story.spelt ++ Ok begun ∷ []
+  pub table : List ℕ
+  pub insert : AllInsert table (begun ∷ behind)
+
+-- the texts behind the one begun spell these statements, which are served with it, if there are any: no more than a batch may
+-- have
+pub record GoAlong (most : ℕ) (story : Story) (behind : List Stmt) : Type 0 where
+  pub few : length behind < most
+  pub spell : SpellFirst (story.served ++ story.more) (story.spelt ++ map Ok behind)
+  pub together : behind ≢ [] → InsertTogether story behind
 
 -- a text takes effect that isn't answered only where its answer's sink failed, or the keeper, which may hold the new mark
 abbrev pub MayTakeMore : Ending → Type 0
 MayTakeMore ending = (ending ≡ Ran (Err SinkFault)) ⊎ (ending ≡ Ran (Err KeeperFault))
 
--- the tables behind the texts that were answered, or behind one more, rest for this mark under the secret
-pub record RestsBehind (secret : List ℕ) (keys : KeySet) (ending : Ending) (story : Story)
-    (mark : Mark) (kept : ℕ → Option KeptRegion) (s : Session) : Type 0 where
+-- then those do that are served with it
+pub record MayTake (most : ℕ) (ending : Ending) (story : Story) (behind : List Stmt)
+    : Type 0 where
+  pub more : MayTakeMore ending
+  pub along : GoAlong most story behind
+
+-- the tables behind the texts that were answered, or behind one more and what is served with it, rest for this mark under the
+-- secret
+pub record RestsBehind (most : ℕ) (secret : List ℕ) (keys : KeySet) (ending : Ending)
+    (story : Story) (mark : Mark) (kept : ℕ → Option KeptRegion) (s : Session) : Type 0 where
   pub broken : Broken
   pub answered : AnswersFrom ending (drawing keys s) story.spelt broken story.answers
       (story.seen ++ story.last) story.part
-  pub more : Bool
-  pub unanswered : more ≡ true → MayTakeMore ending
+  pub more : Option (List Stmt)
+  pub unanswered : (behind : List Stmt) → more ≡ Some behind
+      → MayTake most ending story behind
   pub rests : RestsAlike secret mark kept
-      (left_by more (drawing keys s) story.spelt story.answers broken).tables
+      (left_by more (drawing keys s) story.spelt story.answers broken)
 
 -- the mark of a closing that the run wrote, under its own salt
 pub record SavesAs (salt : List ℕ) (base : Base) (mark : Mark) : Type 0 where
@@ -75,7 +111,8 @@ pub record LeavesMark (secret salt : List ℕ) (base : Base) (keys : KeySet) (en
     (story : Story) (begun new : StoreState) (held mark : Mark) : Type 0 where
   pub which : (mark ≡ held) ⊎ SavesAs salt base mark
   pub rests : IsHonest begun new
-      → FromEach base (λ s. RestsBehind secret keys ending story mark new.kept s)
+      → FromEach base (λ s. RestsBehind (batch_most base.public) secret keys ending story mark
+      new.kept s)
 
 -- however a session ended, and whichever calls of the store and of the keeper failed, a keeper that tells holds such a mark:
 -- so it is at each moment at which a run may be killed, since that is as if each later call failed

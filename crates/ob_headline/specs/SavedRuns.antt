@@ -1,5 +1,5 @@
 -- Runs that save their tables, each over the mark and the store that the one before it left, whatever became of that.
-use Rattle.std.specs.Prelude.{ℕ, ◌≡◌, ◌⊎◌, ◌<◌, ◌+◌, ◌^◌, ⊤, Bool, true, false, IsTrue, if◌then◌else◌, List, [], ◌∷◌, ◌++◌, length, map, slice_get, Option, Some, None, Ok, Err}
+use Rattle.std.specs.Prelude.{ℕ, ◌≡◌, ◌⊎◌, ◌<◌, ◌+◌, ◌^◌, ⊤, Bool, false, IsTrue, if◌then◌else◌, List, [], ◌∷◌, ◌++◌, length, map, take, slice_get, Option, Some, None, Ok, Err}
 use Rattle.std.proofs.Common.{inl, inr}
 use Rattle.clap.specs.Words.{Text}
 use Rattle.ob_base.specs.Refusals.{is_store_fault}
@@ -8,9 +8,9 @@ use Rattle.ob_base.specs.declared.config.Config.{Config}
 use Rattle.ob_base.specs.declared.mark.Mark.{Mark}
 use Rattle.ob_headline.specs.Bases.{Base, start}
 use Rattle.ob_headline.specs.KeptHeadline.{PassesBoth, begun_at}
-use Rattle.ob_headline.specs.Meaning.{AnswersIn}
+use Rattle.ob_headline.specs.Meaning.{AnswersMeant}
 use Rattle.ob_headline.specs.Reruns.{SomeRun, of_saving}
-use Rattle.ob_headline.specs.SavedHeadline.{MayTakeMore, RunSaved, SavedHeadline, SavesAs, SessionSaved}
+use Rattle.ob_headline.specs.SavedHeadline.{MayTake, RunSaved, SavedHeadline, SavesAs, SessionSaved}
 use Rattle.ob_headline.specs.Saving.{RestsAlike, RestsAt, begun_mark}
 use Rattle.ob_headline.specs.Settings.{IsTakenSaved, saved_settings_of}
 use Rattle.ob_headline.specs.Shown.{Shows, Wrote, number_at}
@@ -18,11 +18,13 @@ use Rattle.ob_headline.specs.Usage.{is_traced, saved_usage}
 use Rattle.ob_headline.specs.Words.{Answer, Outside, refused_at}
 use Rattle.ob_headline.specs.declared.ending.KeptEnding.{KeptEnding}
 use Rattle.ob_headline.specs.declared.ending.Report.{Report}
-use Rattle.ob_mean.specs.Replay.{Session, Spelt, after, after_all, is_full_now}
+use Rattle.ob_mean.specs.Batches.{batch_most}
+use Rattle.ob_mean.specs.Replay.{Alone, Session, Spelt, after, after_all, is_full_now}
 use Rattle.ob_mean.specs.Verdict.{Tables}
 use Rattle.ob_reopen.specs.Keepers.{KeeperState}
 use Rattle.ob_script.specs.Trace.{trace}
 use Rattle.ob_seal.specs.KeySet.{KeySet, pair_of}
+use Rattle.ob_sql.specs.declared.stmt.Stmt.{Stmt}
 use Rattle.ob_store.specs.State.{KeptRegion, StoreState}
 use Rattle.ob_verdict.specs.declared.outcome.Outcome.{Outcome}
 use Rattle.ob_verdict.specs.declared.outcome.Outcome.TheVariants.{Created, Inserted, Changed, Deleted, Dropped, Rows, Refused}
@@ -112,11 +114,20 @@ pub record Effect : Type 0 where
   pub text : Spelt
   pub answer : Option Answer
 
--- of texts that were answered so: each but those that the store had failed, and one more, if that did
-unfoldable pub effects_of : (more : Bool) → List Spelt → List Answer → List Effect
-effects_of more [] answers = []
-effects_of more (x ∷ spelt) [] =
-    if more then record { text = x; answer = None } ∷ [] else []
+-- of these texts each did, and none was answered
+abbrev pub unanswered : List Spelt → List Effect
+unanswered spelt = map (λ (x : Spelt). record { text = x; answer = None }) spelt
+
+-- of texts that weren't answered: none, or the first one, and these
+abbrev pub texts_more : (more : Option (List Stmt)) → List Spelt → List Spelt
+texts_more None spelt = []
+texts_more (Some behind) spelt = take 1 spelt ++ map Ok behind
+
+-- of texts that were answered so: each but those that the store had failed, and one more, if that did, with these statements
+-- behind it
+unfoldable pub effects_of : (more : Option (List Stmt)) → List Spelt → List Answer → List Effect
+effects_of more spelt [] = unanswered (texts_more more spelt)
+effects_of more [] (one ∷ answers) = []
 effects_of more (x ∷ spelt) (one ∷ answers) =
     if has_failed one.outcome then effects_of more spelt answers
     else record { text = x; answer = Some one } ∷ effects_of more spelt answers
@@ -148,21 +159,23 @@ saved_salt (inr (inr run)) = Some run.salt
 -- what took effect of its texts
 abbrev pub saved_effects : {settings : Option Config} {Takes : Type 0} {tracing : Bool}
     {old new : Outside} {keeper0 keeper1 : KeeperState} {ending : KeptEnding}
-    {answers : List Answer} {report : Report} → (more : Bool)
+    {answers : List Answer} {report : Report} → (more : Option (List Stmt))
     → RunSaved settings Takes tracing old new keeper0 keeper1 ending answers report → List Effect
 saved_effects more (inl run) = []
 saved_effects more (inr (inl run)) = []
 saved_effects more (inr (inr run)) =
     effects_of more run.session.story.spelt run.session.story.answers
 
--- whether one more may have, which wasn't answered
+-- whether one more may have, which wasn't answered, with these statements behind it
 abbrev pub MayHaveMore : {settings : Option Config} {Takes : Type 0} {tracing : Bool}
     {old new : Outside} {keeper0 keeper1 : KeeperState} {ending : KeptEnding}
     {answers : List Answer} {report : Report}
-    → RunSaved settings Takes tracing old new keeper0 keeper1 ending answers report → Type 0
-MayHaveMore (inl run) = ⊥
-MayHaveMore (inr (inl run)) = ⊥
-MayHaveMore (inr (inr run)) = MayTakeMore run.session.ending
+    → RunSaved settings Takes tracing old new keeper0 keeper1 ending answers report
+    → (behind : List Stmt) → Type 0
+MayHaveMore (inl run) behind = ⊥
+MayHaveMore (inr (inl run)) behind = ⊥
+MayHaveMore (inr (inr run)) behind =
+    MayTake (batch_most run.base.public) run.session.ending run.session.story behind
 
 -- how many accesses its statements came to, counted on from where its numbers are
 abbrev pub saved_count : {settings : Option Config} {Takes : Type 0} {tracing : Bool}
@@ -201,39 +214,41 @@ abbrev pub kept_by : {words : List Text} → (ℕ → Option KeptRegion) → Lis
 kept_by kept [] = kept
 kept_by kept (one ∷ runs) = kept_by one.new.store.kept runs
 
--- what took effect of all texts, where of these runs one more did
-abbrev pub head_more : List Bool → Bool
-head_more [] = false
+-- what took effect of all texts, where of these runs one more did, with what was served with it
+abbrev pub head_more : List (Option (List Stmt)) → Option (List Stmt)
+head_more [] = None
 head_more (m ∷ more) = m
 
-abbrev pub rest_more : List Bool → List Bool
+abbrev pub rest_more : List (Option (List Stmt)) → List (Option (List Stmt))
 rest_more [] = []
 rest_more (m ∷ more) = more
 
-abbrev pub all_effects : {words : List Text} → (more : List Bool) → List (OneSaved words)
-    → List Effect
+abbrev pub all_effects : {words : List Text} → (more : List (Option (List Stmt)))
+    → List (OneSaved words) → List Effect
 all_effects more [] = []
 all_effects more (one ∷ runs) =
     saved_effects (head_more more) one.run.ran ++ all_effects (rest_more more) runs
 
 -- so it is of each of these runs where one more took effect
-abbrev pub MayHaveAll : {words : List Text} → (more : List Bool) → List (OneSaved words) → Type 0
+abbrev pub MayHaveAll : {words : List Text} → (more : List (Option (List Stmt)))
+    → List (OneSaved words) → Type 0
 MayHaveAll more [] = ⊤
-MayHaveAll more (one ∷ runs) = (head_more more ≡ true → MayHaveMore one.run.ran)
+MayHaveAll more (one ∷ runs) =
+    ((behind : List Stmt) → head_more more ≡ Some behind → MayHaveMore one.run.ran behind)
     × MayHaveAll (rest_more more) runs
 
 -- from a session of the model on: a text that takes effect meets no full stash, and is answered as it is meant, if it is
 abbrev pub TakesEffect : Session → Spelt → Option Answer → Type 0
 TakesEffect s (Ok stmt) None = is_full_now s stmt ≡ false
-TakesEffect s (Ok stmt) (Some one) = (is_full_now s stmt ≡ false) × AnswersIn None s stmt one
+TakesEffect s (Ok stmt) (Some one) = (is_full_now s stmt ≡ false) × AnswersMeant s stmt one
 TakesEffect s (Err at) None = ⊤
 TakesEffect s (Err at) (Some one) = one ≡ refused_at at
 
 abbrev pub session_behind : Session → Spelt → Session
-session_behind s (Ok stmt) = after None s stmt
+session_behind s (Ok stmt) = after Alone s stmt
 session_behind s (Err at) = s
 
--- these texts take effect one after the other, as in one run that nothing hinders
+-- these texts take effect one after the other, as in one run that nothing hinders, in which each is served by itself
 unfoldable pub AnsweredInOne : Session → List Effect → Type 0
 AnsweredInOne s [] = ⊤
 AnsweredInOne s (e ∷ effects) =
@@ -244,11 +259,11 @@ abbrev pub one_run : (words : List Text) → List Effect → Session
 one_run words effects = after_all (start (saved_settings_of words)) (texts_of effects) []
 
 -- in one run over the texts that took effect, of each run those that were answered otherwise than that the store had failed,
--- and maybe one more, where the answer of that couldn't be written or the keeper failed, each is answered as it was; and the
--- tables that it leaves rest for the mark that is held: unless one of them comes too late there
+-- and maybe one more, with what was served with it, where the answer of that couldn't be written or the keeper failed, each is
+-- answered as it was; and the tables that it leaves rest for the mark that is held: unless one of them comes too late there
 pub record AnswerInOne {words : List Text} (secret : List ℕ) (held : Option Mark)
     (kept : ℕ → Option KeptRegion) (runs : List (OneSaved words)) : Type 0 where
-  pub more : List Bool
+  pub more : List (Option (List Stmt))
   pub may : MayHaveAll more runs
   pub answered : (one_run words (all_effects more runs)).asked < 2 ^ 63
       → AnsweredInOne (start (saved_settings_of words)) (all_effects more runs)

@@ -2,8 +2,9 @@
 use Rattle.std.specs.Prelude.{ℕ, ◌≡◌, ◌+◌, ◌*◌, ◌&&◌, nat_le, Bool, true, false, List, Option, Some, None, IsSome, option_map, codes, bytes_eq, if◌then◌else◌}
 use Rattle.clap.specs.Words.{App, Text}
 use Rattle.ob_base.specs.declared.config.Config.{Config}
-use Rattle.ob_base.specs.declared.config.Plan.{Plan}
 use Rattle.ob_base.specs.declared.config.Plan.TheVariants.{Small, Large, Continuous, Hash}
+use Rattle.ob_base.specs.declared.config.Planner.{Planner}
+use Rattle.ob_base.specs.declared.config.Planner.TheVariants.{Auto, Cheapest, Forced}
 use Rattle.ob_headline.specs.Usage.{Parses, changes_of, is_set, meddle_usage, saved_usage, value_of}
 use Rattle.ob_headline.specs.declared.seed.Seed.{Seed}
 use Rattle.ob_meddle.specs.Changes.{comma, front, number, rest, wide}
@@ -21,74 +22,87 @@ abbrev pub number_in : (least most default : ℕ) → Option Text → Option ℕ
 number_in least most default None = Some default
 number_in least most default (Some text) = at_least least (number most text)
 
--- the plan that a name forces; `auto` forces none
-abbrev pub plan_named : Text → Option (Option Plan)
-plan_named name =
-    if bytes_eq name (codes "auto") then Some None
-    else (if bytes_eq name (codes "small") then Some (Some Small)
-    else (if bytes_eq name (codes "large") then Some (Some Large)
-    else (if bytes_eq name (codes "continuous") then Some (Some Continuous)
-    else (if bytes_eq name (codes "hash") then Some (Some Hash) else None))))
+-- how plans are chosen: `auto`, `cheapest`, or always the one of this name
+abbrev pub planner_named : Text → Option Planner
+planner_named name =
+    if bytes_eq name (codes "auto") then Some Auto
+    else (if bytes_eq name (codes "cheapest") then Some Cheapest
+    else (if bytes_eq name (codes "small") then Some (Forced Small)
+    else (if bytes_eq name (codes "large") then Some (Forced Large)
+    else (if bytes_eq name (codes "continuous") then Some (Forced Continuous)
+    else (if bytes_eq name (codes "hash") then Some (Forced Hash) else None)))))
 
--- none is forced where none is named
-abbrev pub plan_in : Option Text → Option (Option Plan)
-plan_in None = Some None
-plan_in (Some name) = plan_named name
+-- `auto` where nothing is named
+abbrev pub planner_in : Option Text → Option Planner
+planner_in None = Some Auto
+planner_in (Some name) = planner_named name
 
 -- the rows to which results are padded, from 1 to 1,048,576; none where none are given
 abbrev pub pad_in : Option Text → Option (Option ℕ)
 pad_in None = Some None
 pad_in (Some text) = option_map Some (at_least 1 (number 1048576 text))
 
+-- how many INSERTs are served together at most, from 2 to 65,535; none are where no number is given
+abbrev pub batch_in : Option Text → Option (Option ℕ)
+batch_in None = Some None
+batch_in (Some text) = option_map Some (at_least 2 (number 65535 text))
+
 -- ---- settings
 
 -- where results are padded, neither Continuous nor Hash is forced
-abbrev pub may_pad : (pad : Option ℕ) → Option Plan → Bool
-may_pad None plan = true
-may_pad (Some rows) None = true
-may_pad (Some rows) (Some Small) = true
-may_pad (Some rows) (Some Large) = true
-may_pad (Some rows) (Some Continuous) = false
-may_pad (Some rows) (Some Hash) = false
+abbrev pub may_pad : (pad : Option ℕ) → Planner → Bool
+may_pad None planner = true
+may_pad (Some rows) Auto = true
+may_pad (Some rows) Cheapest = true
+may_pad (Some rows) (Forced Small) = true
+may_pad (Some rows) (Forced Large) = true
+may_pad (Some rows) (Forced Continuous) = false
+may_pad (Some rows) (Forced Hash) = false
 
--- settings whose buffer holds three blocks and one row, and whose plan may be padded
-abbrev pub fitted : (buffer depth : ℕ) → Option Plan → (pack : ℕ) → (pad : Option ℕ)
-    → (stash : ℕ) → (keep : Bool) → (max_input : ℕ) → Option Config
-fitted buffer depth plan pack pad stash keep max_input =
-    if nat_le (3 * pack + 1) buffer && may_pad pad plan
+-- settings whose buffer holds three blocks and one row, and whose plans may be padded
+abbrev pub fitted : (buffer depth : ℕ) → Planner → (pack : ℕ) → (pad : Option ℕ)
+    → (stash : ℕ) → (batch : Option ℕ) → (keep : Bool) → (max_input : ℕ) → Option Config
+fitted buffer depth planner pack pad stash batch keep max_input =
+    if nat_le (3 * pack + 1) buffer && may_pad pad planner
     then Some (record {
       buffer = buffer;
       depth = depth;
       pack = pack;
-      plan = plan;
+      planner = planner;
       pad = pad;
       stash = stash;
       keep = keep;
       save = false;
+      batch = batch;
       max_input = max_input;
     })
     else None
 
 -- settings of which each value has its form and its range
-abbrev pub joined : (buffer depth : Option ℕ) → Option (Option Plan) → (pack : Option ℕ)
-    → (pad : Option (Option ℕ)) → (stash : Option ℕ) → (keep : Bool) → (max_input : Option ℕ) → Option Config
-joined None depth plan pack pad stash keep max_input = None
-joined (Some buffer) None plan pack pad stash keep max_input = None
-joined (Some buffer) (Some depth) None pack pad stash keep max_input = None
-joined (Some buffer) (Some depth) (Some plan) None pad stash keep max_input = None
-joined (Some buffer) (Some depth) (Some plan) (Some pack) None stash keep max_input = None
-joined (Some buffer) (Some depth) (Some plan) (Some pack) (Some pad) None keep max_input = None
-joined (Some buffer) (Some depth) (Some plan) (Some pack) (Some pad) (Some stash) keep None = None
-joined (Some buffer) (Some depth) (Some plan) (Some pack) (Some pad) (Some stash) keep (Some max_input) =
-    fitted buffer depth plan pack pad stash keep max_input
+abbrev pub joined : (buffer depth : Option ℕ) → Option Planner → (pack : Option ℕ)
+    → (pad : Option (Option ℕ)) → (stash : Option ℕ) → (batch : Option (Option ℕ))
+    → (keep : Bool) → (max_input : Option ℕ) → Option Config
+joined None depth planner pack pad stash batch keep max_input = None
+joined (Some buffer) None planner pack pad stash batch keep max_input = None
+joined (Some buffer) (Some depth) None pack pad stash batch keep max_input = None
+joined (Some buffer) (Some depth) (Some planner) None pad stash batch keep max_input = None
+joined (Some buffer) (Some depth) (Some planner) (Some pack) None stash batch keep max_input = None
+joined (Some buffer) (Some depth) (Some planner) (Some pack) (Some pad) None batch keep
+    max_input = None
+joined (Some buffer) (Some depth) (Some planner) (Some pack) (Some pad) (Some stash) None keep
+    max_input = None
+joined (Some buffer) (Some depth) (Some planner) (Some pack) (Some pad) (Some stash) (Some batch)
+    keep None = None
+joined (Some buffer) (Some depth) (Some planner) (Some pack) (Some pad) (Some stash) (Some batch)
+    keep (Some max_input) = fitted buffer depth planner pack pad stash batch keep max_input
 
 -- the settings that these values spell, each under its name
 abbrev pub settings_in : (Text → Option Text) → Option Config
 settings_in value =
     joined (number_in 4 65536 64 (value (codes "buffer"))) (number_in 1 8 5 (value (codes "depth")))
-    (plan_in (value (codes "plan"))) (number_in 1 16 1 (value (codes "pack")))
+    (planner_in (value (codes "plan"))) (number_in 1 16 1 (value (codes "pack")))
     (pad_in (value (codes "pad"))) (number_in 1 1024 32 (value (codes "stash")))
-    (is_set (value (codes "keep")))
+    (batch_in (value (codes "batch"))) (is_set (value (codes "keep")))
     (number_in 1024 1073741824 1073741824 (value (codes "max-input")))
 
 -- a place of the mark may be given with `--keep` alone

@@ -64,6 +64,16 @@ pub record IsUsedUp (base : Base) (store : StoreState) : Type 0 where
 abbrev pub StoreFails : Base → (old new : StoreState) → Type 0
 StoreFails base old new = Rises old.faults new.faults ⊎ IsUsedUp base new
 
+-- a count of faults stays where statements are served alone, and else it stays or rises
+abbrev pub StaysAlone : (Alone : Type 0) → (old new : ℕ) → Type 0
+StaysAlone Alone old new = (Alone → new ≡ old) × ((new ≡ old) ⊎ Rises old new)
+
+-- the source didn't fail; where INSERTs may wait to be served together while more is read, it may have, before one of them was
+-- stopped
+abbrev pub SourceStays : Base → (old new : Outside) → Type 0
+SourceStays base old new =
+    StaysAlone (base.public.batch ≡ None) old.faults.source new.faults.source
+
 -- of the words, the bytes taken, what was served, the store and the counts of faults; a keeper is handed something only where
 -- tables are saved
 abbrev pub Because : Base → Ending → (Takes : Type 0) (max : ℕ) (taken : List ℕ) (ended : Bool)
@@ -78,24 +88,24 @@ Because base (Ran (Ok refused)) Takes max taken ended more answers part old new 
     × NoneRose old.faults new.faults
 Because base (Ran (Err (Tampered region place))) Takes max taken ended more answers part old new =
     Takes × HasSecret taken × FromEach base (λ s. ¬ IsHonest old.store new.store)
-    × EndsAtRead region place new.store.asked × (new.faults.source ≡ old.faults.source)
+    × EndsAtRead region place new.store.asked × SourceStays base old new
 Because base (Ran (Err SourceFault)) Takes max taken ended more answers part old new =
     Takes × ReadUntilFault taken ended more part × Rises old.faults.source new.faults.source
 Because base (Ran (Err SinkFault)) Takes max taken ended more answers part old new =
     Takes × HasSecret taken × SinksRose old.faults new.faults
-    × (new.faults.source ≡ old.faults.source)
+    × SourceStays base old new
 Because base (Ran (Err NoMemory)) Takes max taken ended more answers part old new =
-    new.faults.source ≡ old.faults.source
+    SourceStays base old new
 Because base (Ran (Err InputLimit)) Takes max taken ended more answers part old new =
     Takes × ReadToLimit max taken ended more part × (new.faults.source ≡ old.faults.source)
 Because base (Ran (Err StoreFault)) Takes max taken ended more answers part old new =
     Takes × HasSecret taken × StoreFails base old.store new.store
-    × (new.faults.source ≡ old.faults.source)
+    × SourceStays base old new
 Because base (Ran (Err StashFull)) Takes max taken ended more answers part old new =
-    Takes × HasSecret taken × (new.faults.source ≡ old.faults.source)
+    Takes × HasSecret taken × SourceStays base old new
 Because base (Ran (Err KeeperFault)) Takes max taken ended more answers part old new =
     Takes × HasSecret taken × (base.public.save ≡ true)
-    × (new.faults.source ≡ old.faults.source)
+    × SourceStays base old new
 
 -- an input that keeps to the limits: its first line is a secret, and neither it nor a text of it is too long
 pub record KeepsLimits (max : ℕ) (input : List ℕ) : Type 0 where

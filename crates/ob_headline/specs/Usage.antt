@@ -22,11 +22,13 @@ nameless a = record a { top = record a.top { no_binary_name = true } }
 abbrev pub common : Text → App
 common name =
     with_rule (with_rule (with_rule (with_rule (with_rule (with_rule (with_rule (with_rule (with_rule
-    (new_app name) (flag (codes "trace"))) (valued (codes "buffer"))) (valued (codes "depth")))
+    (with_rule (new_app name) (flag (codes "trace"))) (valued (codes "buffer")))
+    (valued (codes "depth")))
     (valued (codes "plan")))
     (valued (codes "pack")))
     (valued (codes "pad")))
     (valued (codes "stash")))
+    (valued (codes "batch")))
     (valued (codes "max-input")))
     (valued (codes "gen"))
 

@@ -1,5 +1,5 @@
 //! What follows of whole runs, and how bytes are cut into texts.
-ghost use Rattle.std.specs.Prelude.{◌≡◌, ◌<◌, Bool, List, [], ℕ, IsSome, IsTrue, Option, Some, false, true, length, slice_get};
+ghost use Rattle.std.specs.Prelude.{◌≡◌, ◌<◌, Bool, List, [], ℕ, IsSome, IsTrue, None, Option, Some, false, true, length, slice_get};
 ghost use Rattle.clap.specs.Words.{App, Text};
 ghost use Rattle.ob_base.specs.declared.config.Config.{Config};
 ghost use Rattle.ob_base.specs.declared.config.Public.{Public};
@@ -7,6 +7,7 @@ ghost use Rattle.ob_base.specs.declared.mark.Mark.{Mark};
 ghost use Rattle.ob_base.specs.declared.mark.Mark.TheVariants.{Fresh};
 ghost use Rattle.ob_base.specs.declared.seen.Seen.{Seen};
 ghost use Rattle.ob_headline.specs.Bases.{Base, FromEach, drawing, fresh};
+ghost use Rattle.ob_headline.specs.Batches.{Joins};
 ghost use Rattle.ob_headline.specs.Headline.{Headline};
 ghost use Rattle.ob_headline.specs.Keeping.{BeginsFrom};
 ghost use Rattle.ob_headline.specs.Leaves.{ReadsDraws};
@@ -16,7 +17,7 @@ ghost use Rattle.ob_headline.specs.Pieces.{BeginsWith};
 ghost use Rattle.ob_headline.specs.Plainly.{IsUnhindered, RunsPlainly};
 ghost use Rattle.ob_headline.specs.Reruns.{Alike, AlikeSoFar, AsksAsShown, AsksByKinds, EndsWell, GoOnFromOne, IsPlain};
 ghost use Rattle.ob_headline.specs.Reruns.{OneBegins, ShowAlike, SomeRun, any_counted, asked_by, failures_of, keys_by, plainly};
-ghost use Rattle.ob_headline.specs.Reruns.{seen_by, stmts_of};
+ghost use Rattle.ob_headline.specs.Reruns.{seen_by, turns_of};
 ghost use Rattle.ob_headline.specs.SavedRuns.{AnswerInOne, AnySaved, GoOnSaved, HaveOwnSalts, LeavesHeld, OneSaved};
 ghost use Rattle.ob_headline.specs.SavedRuns.{SavedRun, Seals, SealsAlone};
 ghost use Rattle.ob_headline.specs.Saving.{BeginsSaved};
@@ -27,8 +28,8 @@ ghost use Rattle.ob_headline.specs.Shown.{public_behind};
 ghost use Rattle.ob_headline.specs.Texts.{is_over, rest_of, texts_of};
 ghost use Rattle.ob_headline.specs.Usage.{is_kept, is_saved};
 ghost use Rattle.ob_headline.specs.Words.{Outside};
-ghost use Rattle.ob_headline.specs.Accesses.{is_cut};
 ghost use Rattle.ob_headline.specs.declared.ending.Report.{Report};
+ghost use Rattle.ob_mean.specs.Batches.{Gathering, is_cut};
 ghost use Rattle.ob_mean.specs.Lawful.{Lawful};
 ghost use Rattle.ob_reopen.specs.Keepers.{KeeperState};
 ghost use Rattle.ob_seal.specs.Draws.{draw_of};
@@ -47,16 +48,23 @@ pub fn texts_are_pieces()
 
 /// Of a statement that was not cut off, accesses no index, and is no SELECT of rows or has its result padded, nothing is
 /// seen but whether it was refused before any access: of CREATE, INSERT, UPDATE, DELETE, DROP and SELECT of totals no row
-/// and no literal has a part in it, and of a padded SELECT of rows neither has the number of rows selected.
+/// and no literal has a part in it, and of a padded SELECT of rows neither has the number of rows selected. Where INSERTs are
+/// served together, it is seen, too, whether it was served with one before it, which follows from what is gathered before it,
+/// its skeleton and that refusal.
 pub fn shows_its_refusal_alone()
-    ensures { (p : Public) (m : ℕ) (stmt : Stmt) (here : Seen) → Lawful p m stmt here
-        → IsPlain p stmt → is_cut here.end ≡ false → here ≡ plainly p m stmt }
+    ensures alone { (p : Public) (m : ℕ) (stmt : Stmt) (here : Seen) → p.batch ≡ None
+        → Lawful p m stmt here → IsPlain p stmt → is_cut here.end ≡ false
+        → here ≡ plainly p m None stmt }
+    ensures gathered { (p : Public) (m : ℕ) (g : Option Gathering) (stmt : Stmt) (here : Seen)
+        → Lawful p m stmt here → Joins p m g stmt here → IsPlain p stmt
+        → is_cut here.end ≡ false → here ≡ plainly p m g stmt }
 {}
 
 /// However a run ends and whatever the store does, as long as no text was answered that the store failed, its accesses are
 /// a first part of one list, which follows from the settings, the skeletons of the statements, which of these were refused
 /// before any access, and what is seen of those that access an index and of SELECTs of rows whose results aren't padded: by
-/// the words of any program, from no tables or from those of an earlier run.
+/// the words of any program, from no tables or from those of an earlier run. Where INSERTs are served together, it follows,
+/// too, from which statements come right behind a text that is none, and so go into no batch with those before.
 pub fn asks_as_shown()
     ensures { (one : SomeRun) → failures_of one ≡ 0 → AsksAsShown one }
 {}
@@ -65,7 +73,8 @@ pub fn asks_as_shown()
 /// what the other asks, over any stores, however they end, and whatever their literals and their rows.
 pub fn one_asks_a_first_part()
     ensures { (a b : SomeRun) → GoOnFromOne a b → failures_of a ≡ 0 → failures_of b ≡ 0
-        → AlikeSoFar a.base.public a.base.count (stmts_of a) (seen_by a) (stmts_of b) (seen_by b)
+        → AlikeSoFar a.base.public a.base.count None None (turns_of a) (seen_by a) (turns_of b)
+        (seen_by b)
         → OneBegins (asked_by a) (asked_by b) }
 {}
 
@@ -87,22 +96,25 @@ pub fn unhindered_runs_are_plain()
 
 /// Two runs that go on from the same, over any stores, that came to their end, and of which no text was answered that the
 /// store failed, ask the same, whatever their literals and their rows: if none of their statements is a SELECT of rows,
-/// none accesses an index, their skeletons are the same, and the same ones are refused before any access.
+/// none accesses an index, their skeletons are the same, the same ones are refused before any access, and, where INSERTs are
+/// served together, the same ones come right behind a text that is none.
 pub fn reruns_ask_the_same()
     ensures { (a b : SomeRun) → GoOnFromOne a b
         → EndsWell a.report.status (failures_of a) → EndsWell b.report.status (failures_of b)
-        → any_counted (stmts_of a) ≡ false
-        → Alike a.base.public a.base.count (stmts_of a) (stmts_of b) → asked_by a ≡ asked_by b }
+        → any_counted (turns_of a) ≡ false
+        → Alike a.base.public a.base.count None (turns_of a) (turns_of b)
+        → asked_by a ≡ asked_by b }
 {}
 
 /// Two such runs with `--pad`, over any stores, ask the same, whatever their literals and their rows and however many rows
-/// are selected: if none of their statements accesses an index, their skeletons are the same, and the same ones are refused
-/// before any access.
+/// are selected: if none of their statements accesses an index, their skeletons are the same, the same ones are refused
+/// before any access, and, where INSERTs are served together, the same ones come right behind a text that is none.
 pub fn padded_reruns_ask_the_same()
     ensures { (a b : SomeRun) → GoOnFromOne a b
         → EndsWell a.report.status (failures_of a) → EndsWell b.report.status (failures_of b)
         → IsSome a.base.public.pad
-        → Alike a.base.public a.base.count (stmts_of a) (stmts_of b) → asked_by a ≡ asked_by b }
+        → Alike a.base.public a.base.count None (turns_of a) (turns_of b)
+        → asked_by a ≡ asked_by b }
 {}
 
 /// The same over the whole language, where the same is seen of each statement that accesses an index, and of each SELECT of
@@ -110,7 +122,7 @@ pub fn padded_reruns_ask_the_same()
 pub fn reruns_show_the_same()
     ensures { (a b : SomeRun) → GoOnFromOne a b
         → EndsWell a.report.status (failures_of a) → EndsWell b.report.status (failures_of b)
-        → ShowAlike a.base.public a.base.count (stmts_of a) (seen_by a) (stmts_of b) (seen_by b)
+        → ShowAlike a.base.public a.base.count (turns_of a) (seen_by a) (turns_of b) (seen_by b)
         → (seen_by a ≡ seen_by b) × (asked_by a ≡ asked_by b) }
 {}
 
@@ -125,8 +137,8 @@ pub fn marks_are_held()
 
 /// Runs with one secret and the same words, `--keep` among them, that came to their end, the first over a fresh mark and
 /// each later one over the mark and the store that the one before it left, where that tells, gave what was written and
-/// failed at no statement: together they answer as one run does over all their texts. Only that so many accesses were
-/// asked that a statement is refused for it may come at another place.
+/// failed at no statement: together they answer as one run does over all their texts, in which the same INSERTs are served
+/// together. Only that so many accesses were asked that a statement is refused for it may come at another place.
 pub fn runs_answer_as_one()
     ensures { (words : List Text) → is_kept words ≡ true
         → (secret : List ℕ) (kept : ℕ → Option KeptRegion) (runs : List (OneRun words))
@@ -217,8 +229,9 @@ pub fn saved_marks_are_held()
 /// Runs with the same words, `--save` among them, and of one secret, each ended in any way, the first over a fresh mark
 /// and each later one over the mark and the regions that the one before it left, where the store tells and gave what was
 /// written: they answer as one run does over the texts that took effect, which are those that were answered otherwise
-/// than that the store had failed, and for each run maybe one more, and what rests then is what that run leaves. Only
-/// that so many accesses were asked that a statement is refused for it may come at another place.
+/// than that the store had failed, and for each run maybe one more, with INSERTs behind it that are served together with it,
+/// and what rests then is what that run leaves. Only that so many accesses were asked that a statement is refused for it may
+/// come at another place.
 pub fn saved_runs_answer_as_one()
     ensures { (words : List Text) → is_saved words ≡ true
         → (secret : List ℕ) (kept : ℕ → Option KeptRegion) (runs : List (OneSaved words))

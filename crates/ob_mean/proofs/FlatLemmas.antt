@@ -9,7 +9,7 @@ use Rattle.ob_base.specs.declared.schema.Shape.{Shape}
 use Rattle.ob_base.specs.declared.schema.Shape.TheVariants.{Flat}
 use Rattle.ob_base.specs.declared.schema.Table.{Table}
 use Rattle.ob_base.specs.declared.seen.End.{End}
-use Rattle.ob_base.specs.declared.seen.End.TheVariants.{Static, Whole, AfterCount, Cut}
+use Rattle.ob_base.specs.declared.seen.End.TheVariants.{Static, Whole, AfterCount, Joined, Cut}
 use Rattle.ob_base.specs.declared.seen.Seen.{Seen}
 use Rattle.ob_base.specs.declared.skeleton.Skeleton.{Skeleton}
 use Rattle.ob_base.specs.declared.skeleton.Skeleton.TheVariants.{Create as CreateSkeleton, Insert as InsertSkeleton, Update as UpdateSkeleton, Delete as DeleteSkeleton, Drop as DropSkeleton, Rows, Groups}
@@ -163,6 +163,7 @@ pub no_draws : (p : Public) (s : Skeleton) (end : End) → AreFlat (headings_of 
 no_draws p s Static flat made = refl
 no_draws p s Whole flat made = none_drawn p s flat made
 no_draws p s AfterCount flat made = none_drawn p s flat made
+no_draws p s Joined flat made = refl
 no_draws p s (Cut n) flat made = none_drawn p s flat made
 
 -- ---- the accesses

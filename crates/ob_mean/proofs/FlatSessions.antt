@@ -6,7 +6,7 @@ use Rattle.ob_base.specs.declared.refusal.Refusal.{Refusal}
 use Rattle.ob_base.specs.declared.schema.Shape.TheVariants.{Flat, Indexed}
 use Rattle.ob_base.specs.declared.schema.Table.{Table}
 use Rattle.ob_base.specs.declared.seen.End.{End}
-use Rattle.ob_base.specs.declared.seen.End.TheVariants.{Static, Whole, AfterCount, Cut}
+use Rattle.ob_base.specs.declared.seen.End.TheVariants.{Static, Whole, AfterCount, Joined, Cut}
 use Rattle.ob_base.specs.declared.seen.Seen.{Seen}
 use Rattle.ob_base.specs.declared.skeleton.Skeleton.{Skeleton}
 use Rattle.ob_base.specs.declared.skeleton.Skeleton.TheVariants.{Create as CreateSkeleton, Insert as InsertSkeleton, Update as UpdateSkeleton, Delete as DeleteSkeleton, Drop as DropSkeleton, Rows, Groups}
@@ -20,7 +20,7 @@ use Rattle.ob_sql.specs.Skeleton.{skeleton}
 use Rattle.ob_mean.specs.Flats.{AreFlat}
 use Rattle.ob_mean.specs.Lawful.{Lawful}
 use Rattle.ob_mean.specs.Refusals.{early_refusal, limits_of}
-use Rattle.ob_mean.specs.Replay.{Session, after, draws_taken, is_full_now, seen_or_cut}
+use Rattle.ob_mean.specs.Replay.{How, Alone, CutAfter, With, CutWith, Session, after, draws_taken, is_full_now, seen_or_cut}
 use Rattle.ob_mean.specs.Settle.{settle, settled}
 use Rattle.ob_mean.specs.Step.{followed}
 use Rattle.ob_mean.specs.Verdict.{Draws, Tables, is_late, refusal, seen}
@@ -103,6 +103,7 @@ public_flat p s now made flat = by_end now.end
     by_end Static = flat
     by_end Whole = behind s made
     by_end AfterCount = flat
+    by_end Joined = flat
     by_end (Cut n) = flat
 
 -- behind a statement of which only what is lawful was seen
@@ -117,19 +118,21 @@ next_flat p m stmt x law kept flat = go (early_refusal (is_late m) (limits_of p)
 pub room_flat : (s : Session) (stmt : Stmt) → AreFlat (headings s.tables) → is_full_now s stmt ≡ false
 room_flat s stmt flat = none_full s.public s.tables stmt flat s.draws s.asked
 
-pub after_flat : (broken : Option ℕ) (s : Session) (stmt : Stmt) → s.public.keep ≡ true → AreFlat (headings s.tables) → AreFlat (headings (after broken s stmt).tables)
-after_flat None s stmt kept flat = settles_flat s.draws s.public s.asked s.tables stmt kept flat
-after_flat (Some n) s stmt kept flat = flat
+pub after_flat : (how : How) (s : Session) (stmt : Stmt) → s.public.keep ≡ true → AreFlat (headings s.tables) → AreFlat (headings (after how s stmt).tables)
+after_flat Alone s stmt kept flat = settles_flat s.draws s.public s.asked s.tables stmt kept flat
+after_flat (CutAfter n) s stmt kept flat = flat
+after_flat With s stmt kept flat = settles_flat s.draws s.public s.asked s.tables stmt kept flat
+after_flat CutWith s stmt kept flat = flat
 
 -- a session draws nothing
-pub draws_stay : (s : Session) (stmt : Stmt) → AreFlat (headings_of s.public.tables) → MakesFlat (skeleton stmt) → (broken : Option ℕ) → (after broken s stmt).draws ≡ s.draws
-draws_stay s stmt flat made broken =
-    let none = no_draws s.public (skeleton stmt) (seen_or_cut broken s stmt).end flat made in
-    let same : s.draws.drawn + draws_taken s.public (skeleton stmt) (seen_or_cut broken s stmt).end ≡ s.draws.drawn = omega (arith, none) in
+pub draws_stay : (s : Session) (stmt : Stmt) → AreFlat (headings_of s.public.tables) → MakesFlat (skeleton stmt) → (how : How) → (after how s stmt).draws ≡ s.draws
+draws_stay s stmt flat made how =
+    let none = no_draws s.public (skeleton stmt) (seen_or_cut how s stmt).end flat made in
+    let same : s.draws.drawn + draws_taken s.public (skeleton stmt) (seen_or_cut how s stmt).end ≡ s.draws.drawn = omega (arith, none) in
     ap (λ (n : ℕ). record s.draws { drawn = n }) same
 
 -- nor for a statement that is refused before its first access
-pub draws_rest : (s : Session) (stmt : Stmt) (r : Refusal) → early_refusal (is_late s.asked) (limits_of s.public) (headings s.tables) stmt ≡ Some r → (after None s stmt).draws ≡ s.draws
+pub draws_rest : (s : Session) (stmt : Stmt) (r : Refusal) → early_refusal (is_late s.asked) (limits_of s.public) (headings s.tables) stmt ≡ Some r → (after Alone s stmt).draws ≡ s.draws
 draws_rest s stmt r early =
     let static = ap (λ (x : Seen). draws_taken s.public (skeleton stmt) x.end) (seen_early s.public s.asked s.tables stmt r early s.draws) in
     let same : s.draws.drawn + draws_taken s.public (skeleton stmt) (seen s.draws s.public s.asked s.tables stmt).end ≡ s.draws.drawn = omega (arith, static) in

@@ -1,6 +1,7 @@
 -- Statements on small indexes that the checker computes: what they answer, which leaf is seen, and what they leave.
 use Rattle.std.proofs.Common.{◌≡◌, ℕ, List, [], ◌∷◌, Some, None, true, false, refl}
 use Rattle.std.specs.Prelude.{◌++◌, Option, codes, pos, replicate}
+use Rattle.ob_base.specs.declared.config.Planner.TheVariants.{Auto}
 use Rattle.ob_base.specs.declared.config.Public.{Public}
 use Rattle.ob_base.specs.declared.comparison.ComparisonOperator.TheVariants.{Equal}
 use Rattle.ob_base.specs.declared.refusal.Refusal.TheVariants.{Duplicate, KeyRange}
@@ -33,7 +34,7 @@ k = codes "k"
 
 -- with a stash of one row
 abbrev by_one : Public
-by_one = first_public (record { buffer = 64; depth = 5; pack = 1; plan = None; pad = None; stash = 1; keep = false; save = false; max_input = 1048576 })
+by_one = first_public (record { buffer = 64; depth = 5; pack = 1; planner = Auto; pad = None; stash = 1; keep = false; save = false; batch = None; max_input = 1048576 })
 
 -- the next draw is this number
 abbrev drawing : ℕ → Draws

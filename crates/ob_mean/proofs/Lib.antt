@@ -6,6 +6,7 @@ pub mod InsertLemmas
 pub mod VerdictLemmas
 pub mod IndexExamples
 pub mod ReplayLemmas
+pub mod BatchLemmas
 pub mod FlatLemmas
 pub mod FlatSessions
 pub mod SameLemmas

@@ -4,9 +4,10 @@ use Rattle.std.specs.Option.{option_map_or}
 use Rattle.ob_base.specs.declared.config.Public.{Public}
 use Rattle.ob_base.specs.declared.config.Plan.{Plan}
 use Rattle.ob_base.specs.declared.config.Plan.TheVariants.{Small, Continuous, Hash}
+use Rattle.ob_base.specs.declared.config.Planner.TheVariants.{Auto, Forced}
 use Rattle.ob_base.specs.declared.seen.Seen.{Seen}
 use Rattle.ob_base.specs.declared.seen.End.{End}
-use Rattle.ob_base.specs.declared.seen.End.TheVariants.{Static, Whole, AfterCount, Cut}
+use Rattle.ob_base.specs.declared.seen.End.TheVariants.{Static, Whole, AfterCount, Joined, Cut}
 use Rattle.ob_base.specs.declared.schema.Heading.{Heading}
 use Rattle.ob_base.specs.declared.skeleton.Source.{Source}
 use Rattle.ob_base.specs.declared.skeleton.Source.TheVariants.{Table as OneTable, Join}
@@ -14,7 +15,6 @@ use Rattle.ob_base.specs.declared.skeleton.Skeleton.{Skeleton}
 use Rattle.ob_base.specs.declared.skeleton.Skeleton.TheVariants.{Insert as InsertSkeleton, Update as UpdateSkeleton, Delete as DeleteSkeleton, Rows as RowsSkeleton}
 use Rattle.ob_base.specs.Indexes.{height_of}
 use Rattle.ob_base.specs.Joins.{joined_slots}
-use Rattle.ob_base.specs.Limits.{buffered}
 use Rattle.ob_base.specs.Plans.{choose}
 use Rattle.ob_base.specs.Stored.{heading_at, headings_of}
 use Rattle.ob_script.specs.Script.{whole_script}
@@ -22,6 +22,7 @@ use Rattle.ob_script.specs.Sizes.{EndsWithin}
 use Rattle.ob_sql.specs.declared.stmt.Stmt.{Stmt}
 use Rattle.ob_sql.specs.declared.stmt.Stmt.TheVariants.{SelectRows as RowsStmt}
 use Rattle.ob_sql.specs.Skeleton.{skeleton}
+use Rattle.ob_mean.specs.Batches.{inserts_into}
 use Rattle.ob_mean.specs.Refusals.{early_refusal, limits_of}
 use Rattle.ob_mean.specs.Verdict.{is_late}
 use Rattle.ob_mean.specs.Replay.{count_end, is_access, walk_end}
@@ -56,28 +57,38 @@ pub record IsCount (p : Public) (stmt : Stmt) (k : ℕ) : Type 0 where
 -- the planner's choice for at least one row
 pub record IsPlan (p : Public) (stmt : Stmt) (k : ℕ) (plan : Plan) : Type 0 where
   pub some : 1 ≤ k
-  pub chosen : (c : Bool) × (plan ≡ choose p.plan (buffered p.pack p.buffer) (statement_slots p stmt) k c)
+  pub chosen : (c : Bool) × (plan ≡ choose p.planner p.pack p.buffer (statement_slots p stmt) k c)
 
 -- it came to its end, or was cut off after so many accesses at least
 abbrev pub EndsFrom : ℕ → End → Type 0
 EndsFrom m Static = ⊥
 EndsFrom m Whole = ⊤
 EndsFrom m AfterCount = ⊥
+EndsFrom m Joined = ⊥
 EndsFrom m (Cut n) = m ≤ n
 
--- without k: it was refused before any access, is no SELECT of rows or one whose result is padded, or was cut off
+-- an INSERT into a flat table, where batches are asked for
+pub record JoinsBatch (p : Public) (stmt : Stmt) : Type 0 where
+  pub batched : IsSome p.batch
+  pub inserts : IsSome (inserts_into (skeleton stmt))
+  pub flat : is_access p (skeleton stmt) ≡ false
+
+-- without k: it was refused before any access, is no SELECT of rows or one whose result is padded, was served with an INSERT
+-- before it, or was cut off
 abbrev pub EndsUncounted : Public → Stmt → End → Type 0
 EndsUncounted p stmt Static = ⊤
 EndsUncounted p stmt Whole = (is_counted p stmt ≡ false) ⊎ IsSome p.pad
 EndsUncounted p stmt AfterCount = ⊥
+EndsUncounted p stmt Joined = JoinsBatch p stmt
 EndsUncounted p stmt (Cut n) = ⊤
 
 -- with k and without a plan, behind a count of m accesses: none is selected, or Continuous is forced and refused
 abbrev pub EndsUnplanned : Public → (k m : ℕ) → End → Type 0
 EndsUnplanned p k m Static = ⊥
 EndsUnplanned p k m Whole = k ≡ 0
-EndsUnplanned p k m AfterCount = (1 ≤ k) × (p.plan ≡ Some Continuous)
-EndsUnplanned p k m (Cut n) = (m ≤ n) × ((k ≡ 0) ⊎ (p.plan ≡ Some Continuous))
+EndsUnplanned p k m AfterCount = (1 ≤ k) × (p.planner ≡ Forced Continuous)
+EndsUnplanned p k m Joined = ⊥
+EndsUnplanned p k m (Cut n) = (m ≤ n) × ((k ≡ 0) ⊎ (p.planner ≡ Forced Continuous))
 
 -- what may be held together of k, the plan and the one after it: nothing, k alone, also where it is refused for it,
 -- k and a plan once the count has ended, or behind a Hash that isn't forced, once it has ended, Small
@@ -86,7 +97,7 @@ Holds p stmt seen None None None = EndsUncounted p stmt seen.end
 Holds p stmt seen (Some k) None None = IsCount p stmt k × EndsUnplanned p k (count_end p (skeleton stmt)) seen.end
 Holds p stmt seen (Some k) (Some plan) None = IsCount p stmt k × IsPlan p stmt k plan × EndsFrom (count_end p (skeleton stmt)) seen.end
 Holds p stmt seen (Some k) (Some Hash) (Some Small) =
-    IsCount p stmt k × IsPlan p stmt k Hash × EndsFrom (walk_end p (skeleton stmt) seen) seen.end × (p.plan ≡ None)
+    IsCount p stmt k × IsPlan p stmt k Hash × EndsFrom (walk_end p (skeleton stmt) seen) seen.end × (p.planner ≡ Auto)
 Holds p stmt seen _ _ _ = ⊥
 
 -- if it was cut off, that was after so many accesses at most

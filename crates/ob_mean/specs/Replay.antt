@@ -1,5 +1,5 @@
 -- What a list of texts answers, and what is seen of each statement.
-use Rattle.std.specs.Prelude.{◌≡◌, ℕ, ◌+◌, ◌-◌, ◌≤◌, Bool, true, false, nat_le, nat_lt, List, [], ◌∷◌, length, Option, Some, None, Result, Ok, Err, if◌then◌else◌, ⊤}
+use Rattle.std.specs.Prelude.{◌≡◌, ℕ, ◌+◌, ◌-◌, ◌≤◌, Bool, true, false, ◌&&◌, nat_le, nat_lt, List, [], ◌∷◌, length, Option, Some, None, IsSome, Result, Ok, Err, if◌then◌else◌, ⊤}
 use Rattle.ob_base.specs.declared.config.Public.{Public}
 use Rattle.std.specs.Option.{option_map_or}
 use Rattle.ob_base.specs.Indexes.{by_shape, height_of, path_blocks}
@@ -7,7 +7,7 @@ use Rattle.ob_base.specs.Stored.{headings, headings_of}
 use Rattle.ob_base.specs.declared.refusal.Refusal.TheVariants.{Syntax, StoreFault}
 use Rattle.ob_base.specs.declared.seen.Seen.{Seen}
 use Rattle.ob_base.specs.declared.seen.End.{End}
-use Rattle.ob_base.specs.declared.seen.End.TheVariants.{Static, Whole, Cut}
+use Rattle.ob_base.specs.declared.seen.End.TheVariants.{Static, Whole, Joined, Cut}
 use Rattle.ob_base.specs.declared.skeleton.Source.TheVariants.{Table as OneTable, Join}
 use Rattle.ob_base.specs.declared.skeleton.Skeleton.{Skeleton}
 use Rattle.ob_base.specs.declared.skeleton.Skeleton.TheVariants.{Create as CreateSkeleton, Insert as InsertSkeleton, Update as UpdateSkeleton, Delete as DeleteSkeleton, Rows}
@@ -17,6 +17,7 @@ use Rattle.ob_script.specs.Script.{script, whole_script}
 use Rattle.ob_script.specs.Trace.{Served, next}
 use Rattle.ob_mean.specs.declared.answer.Answer.{Answer}
 use Rattle.ob_mean.specs.declared.answer.Answer.TheVariants.{Refused}
+use Rattle.ob_mean.specs.Batches.{Gathering, gathering_after, goes_into, inserts_into, is_unrefused}
 use Rattle.ob_mean.specs.Refusals.{early_refusal, is_index, limits_of}
 use Rattle.ob_mean.specs.Verdict.{Draws, Tables, accessed, is_full, verdict, seen, ended, is_late}
 use Rattle.ob_mean.specs.Settle.{settle}
@@ -84,13 +85,24 @@ cut_at failed n p s seen =
       end = Cut n;
     }
 
--- the same for each statement: whole, or cut off by the store, whose last access failed
-abbrev pub seen_or_cut : Option ℕ → Session → Stmt → Seen
-seen_or_cut None s stmt = seen_now s stmt
-seen_or_cut (Some n) s stmt = cut_at true n s.public (skeleton stmt) (seen_now s stmt)
+-- ---- how a statement was served
+-- by itself, to its end, or cut off by the store after so many accesses; or in the pass of an INSERT before it, which came
+-- to its end, or was cut off
+pub data How : Type 0 where
+  Alone : How
+  CutAfter : (n : ℕ) → How
+  With : How
+  CutWith : How
 
-abbrev pub served : Option ℕ → Session → Stmt → Served
-served broken s stmt = record { skeleton = skeleton stmt; seen = seen_or_cut broken s stmt }
+-- what is seen of it, where the last access of one that was cut off failed
+abbrev pub seen_or_cut : How → Session → Stmt → Seen
+seen_or_cut Alone s stmt = seen_now s stmt
+seen_or_cut (CutAfter n) s stmt = cut_at true n s.public (skeleton stmt) (seen_now s stmt)
+seen_or_cut With s stmt = ended Joined
+seen_or_cut CutWith s stmt = ended Joined
+
+abbrev pub served : How → Session → Stmt → Served
+served how s stmt = record { skeleton = skeleton stmt; seen = seen_or_cut how s stmt }
 
 -- the reads of an access, behind which a full stash ends the session
 abbrev pub reads_of : Session → Stmt → ℕ
@@ -100,9 +112,11 @@ abbrev pub served_full : Session → Stmt → Served
 served_full s stmt = record { skeleton = skeleton stmt; seen = cut_at false (reads_of s stmt) s.public (skeleton stmt) (seen_now s stmt) }
 
 -- a statement that the store cut off changes no table
-abbrev pub settle_or_cut : Option ℕ → Session → Stmt → Tables
-settle_or_cut None s stmt = settle s.draws s.public s.asked s.tables stmt
-settle_or_cut (Some n) s stmt = s.tables
+abbrev pub settle_or_cut : How → Session → Stmt → Tables
+settle_or_cut Alone s stmt = settle s.draws s.public s.asked s.tables stmt
+settle_or_cut (CutAfter n) s stmt = s.tables
+settle_or_cut With s stmt = settle s.draws s.public s.asked s.tables stmt
+settle_or_cut CutWith s stmt = s.tables
 
 -- the numbers that a statement draws: of a new index one for each key, of an access one
 abbrev pub drawn_by : Public → Skeleton → ℕ
@@ -111,26 +125,29 @@ drawn_by p s = if is_access p s then 1 else 0
 
 abbrev pub draws_taken : Public → Skeleton → End → ℕ
 draws_taken p s Static = 0
+draws_taken p s Joined = 0
 draws_taken p s end = drawn_by p s
 
-abbrev pub after : Option ℕ → Session → Stmt → Session
-after broken s stmt = record {
-  public = next s.public (skeleton stmt) (seen_or_cut broken s stmt);
-  tables = settle_or_cut broken s stmt;
-  asked = s.asked + length (script s.public (skeleton stmt) (seen_or_cut broken s stmt));
-  draws = record s.draws { drawn = s.draws.drawn + draws_taken s.public (skeleton stmt) (seen_or_cut broken s stmt).end };
+abbrev pub after : How → Session → Stmt → Session
+after how s stmt = record {
+  public = next s.public (skeleton stmt) (seen_or_cut how s stmt);
+  tables = settle_or_cut how s stmt;
+  asked = s.asked + length (script s.public (skeleton stmt) (seen_or_cut how s stmt));
+  draws = record s.draws { drawn = s.draws.drawn + draws_taken s.public (skeleton stmt) (seen_or_cut how s stmt).end };
 }
 
-abbrev pub answer_or_cut : Option ℕ → Session → Stmt → Answer
-answer_or_cut None s stmt = verdict s.public s.asked s.tables stmt
-answer_or_cut (Some n) s stmt = Refused StoreFault
+abbrev pub answer_or_cut : How → Session → Stmt → Answer
+answer_or_cut Alone s stmt = verdict s.public s.asked s.tables stmt
+answer_or_cut (CutAfter n) s stmt = Refused StoreFault
+answer_or_cut With s stmt = verdict s.public s.asked s.tables stmt
+answer_or_cut CutWith s stmt = Refused StoreFault
 
--- ---- a whole session: of each text, after how many accesses the store cut it off, if it did
+-- ---- a whole session: how each text was served
 abbrev pub Broken : Type 0
-Broken = List (Option ℕ)
+Broken = List How
 
-abbrev pub head_of : Broken → Option ℕ
-head_of [] = None
+abbrev pub head_of : Broken → How
+head_of [] = Alone
 head_of (b ∷ bs) = b
 
 abbrev pub rest_of : Broken → Broken
@@ -155,18 +172,38 @@ after_all s [] bs = s
 after_all s (Ok stmt ∷ texts) bs = if is_full_now s stmt then s else after_all (after (head_of bs) s stmt) texts (rest_of bs)
 after_all s (Err at ∷ texts) bs = after_all s texts (rest_of bs)
 
+-- an INSERT that is not refused before its first access and accesses no index, where batches are asked for
+pub record IsMember (s : Session) (stmt : Stmt) : Type 0 where
+  pub batched : IsSome s.public.batch
+  pub inserts : IsSome (inserts_into (skeleton stmt))
+  pub early : early_refusal (is_late s.asked) (limits_of s.public) (headings s.tables) stmt ≡ None
+  pub unkeyed : accessed s.tables stmt ≡ None
+
 -- the store cuts off only a statement that is not refused before its first access and accesses no index, at one of its
--- accesses: a failed call in an access of an index ends the session
-abbrev pub IsCutOff : Option ℕ → Session → Stmt → Type 0
-IsCutOff None s stmt = ⊤
-IsCutOff (Some n) s stmt =
+-- accesses: a failed call in an access of an index ends the session; such an INSERT alone is served with another
+abbrev pub IsCutOff : How → Session → Stmt → Type 0
+IsCutOff Alone s stmt = ⊤
+IsCutOff (CutAfter n) s stmt =
     (early_refusal (is_late s.asked) (limits_of s.public) (headings s.tables) stmt ≡ None)
     × (accessed s.tables stmt ≡ None) × (1 ≤ n) × (n ≤ length (whole_script s.public (skeleton stmt) (seen_now s stmt)))
+IsCutOff With s stmt = IsMember s stmt
+IsCutOff CutWith s stmt = IsMember s stmt
 
 abbrev pub AreCutOff : Session → List Spelt → Broken → Type 0
 AreCutOff s [] bs = bs ≡ []
 AreCutOff s (Ok stmt ∷ texts) bs = IsCutOff (head_of bs) s stmt × AreCutOff (after (head_of bs) s stmt) texts (rest_of bs)
-AreCutOff s (Err at ∷ texts) bs = (head_of bs ≡ None) × AreCutOff s texts (rest_of bs)
+AreCutOff s (Err at ∷ texts) bs = (head_of bs ≡ Alone) × AreCutOff s texts (rest_of bs)
+
+-- ---- how texts are served where the store never fails, by what is gathered before them
+abbrev pub how_now : Option Gathering → Session → Stmt → How
+how_now g s stmt = if goes_into s.public g (skeleton stmt) && is_unrefused s.public s.asked stmt then With else Alone
+
+abbrev pub hows : Option Gathering → Session → List Spelt → Broken
+hows g s [] = []
+hows g s (Ok stmt ∷ texts) =
+    let how = how_now g s stmt in
+    how ∷ hows (gathering_after s.public s.asked g stmt (seen_or_cut how s stmt).end) (after how s stmt) texts
+hows g s (Err at ∷ texts) = Alone ∷ hows None s texts
 
 -- no tables, and nothing asked
 abbrev pub first_session : Public → Session

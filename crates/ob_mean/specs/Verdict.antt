@@ -4,6 +4,8 @@ use Rattle.std.specs.Option.{is_none, option_and_then, option_map_or, option_map
 use Rattle.ob_base.specs.declared.config.Public.{Public}
 use Rattle.ob_base.specs.declared.config.Plan.{Plan}
 use Rattle.ob_base.specs.declared.config.Plan.TheVariants.{Small, Large, Continuous, Hash}
+use Rattle.ob_base.specs.declared.config.Planner.{Planner}
+use Rattle.ob_base.specs.declared.config.Planner.TheVariants.{Auto, Cheapest, Forced}
 use Rattle.ob_base.specs.declared.seen.Seen.{Seen}
 use Rattle.ob_base.specs.declared.seen.End.{End}
 use Rattle.ob_base.specs.declared.seen.End.TheVariants.{Static, Whole, AfterCount}
@@ -13,7 +15,6 @@ use Rattle.ob_base.specs.declared.skeleton.Source.{Source}
 use Rattle.ob_base.specs.declared.skeleton.Source.TheVariants.{Table as OneTable, Join}
 use Rattle.ob_base.specs.declared.schema.Heading.{Heading}
 use Rattle.ob_base.specs.Indexes.{by_shape, height_of, leaf_of_draw, tree_blocks}
-use Rattle.ob_base.specs.Limits.{buffered}
 use Rattle.ob_base.specs.Lists.{tabulate}
 use Rattle.ob_base.specs.Plans.{choose}
 use Rattle.ob_base.specs.Schemas.{key_place}
@@ -132,7 +133,7 @@ selected_places p q ts = selected (is_true (select_condition q (headings ts))) (
 
 -- the plan for these selected places of n
 abbrev pub plan_for : Public → (n : ℕ) → List ℕ → Plan
-plan_for p n places = choose p.plan (buffered p.pack p.buffer) n (length places) (is_consecutive places)
+plan_for p n places = choose p.planner p.pack p.buffer n (length places) (is_consecutive places)
 
 -- the slots of a bucket, and the first place with no bucket
 abbrev pub bucket_size : Public → ℕ
@@ -142,17 +143,18 @@ abbrev pub first_unplaced : Public → List ℕ → Option ℕ
 first_unplaced p places = unplaced (length places) (bucket_size p) places
 
 -- a plan that is forced refuses: Continuous where the places are not consecutive, Hash where a place finds no bucket
-abbrev pub forced_refusal : Public → Option Plan → List ℕ → Option Refusal
-forced_refusal p None places = None
-forced_refusal p (Some Small) places = None
-forced_refusal p (Some Large) places = None
-forced_refusal p (Some Continuous) places = if is_consecutive places then None else Some NotConsecutive
-forced_refusal p (Some Hash) places = option_map Overflow (first_unplaced p places)
+abbrev pub forced_refusal : Public → Planner → List ℕ → Option Refusal
+forced_refusal p Auto places = None
+forced_refusal p Cheapest places = None
+forced_refusal p (Forced Small) places = None
+forced_refusal p (Forced Large) places = None
+forced_refusal p (Forced Continuous) places = if is_consecutive places then None else Some NotConsecutive
+forced_refusal p (Forced Hash) places = option_map Overflow (first_unplaced p places)
 
 -- none for no rows
 abbrev pub unpadded_refusal : Public → List ℕ → Option Refusal
 unpadded_refusal p [] = None
-unpadded_refusal p (i ∷ is) = forced_refusal p p.plan (i ∷ is)
+unpadded_refusal p (i ∷ is) = forced_refusal p p.planner (i ∷ is)
 
 -- where results are padded, more places than that are refused
 abbrev pub padded_refusal : (pad : ℕ) → List ℕ → Option Refusal
@@ -188,10 +190,11 @@ abbrev pub counted : (k : ℕ) → (plan second : Option Plan) → End → Seen
 counted k plan second end = record { k = Some k; plan = plan; then = second; leaf = None; end = end }
 
 -- after a Hash that wasn't forced and left a place out, Small is taken
-abbrev pub fallback : (forced : Option Plan) → (left : Option ℕ) → Option Plan
-fallback (Some plan) left = None
-fallback None None = None
-fallback None (Some i) = Some Small
+abbrev pub fallback : Planner → (left : Option ℕ) → Option Plan
+fallback Auto None = None
+fallback Auto (Some i) = Some Small
+fallback Cheapest left = None
+fallback (Forced plan) left = None
 
 -- after the count: no plan for no rows, none for Continuous where it refuses
 abbrev pub seen_with : Public → Plan → List ℕ → Seen
@@ -199,7 +202,7 @@ seen_with p Small places = counted (length places) (Some Small) None Whole
 seen_with p Large places = counted (length places) (Some Large) None Whole
 seen_with p Continuous places =
     if is_consecutive places then counted (length places) (Some Continuous) None Whole else counted (length places) None None AfterCount
-seen_with p Hash places = counted (length places) (Some Hash) (fallback p.plan (first_unplaced p places)) Whole
+seen_with p Hash places = counted (length places) (Some Hash) (fallback p.planner (first_unplaced p places)) Whole
 
 abbrev pub seen_unpadded : Public → (n : ℕ) → List ℕ → Seen
 seen_unpadded p n [] = counted 0 None None Whole

@@ -15,7 +15,8 @@ fn is_indexed(shape: Shape) -> bool
     matches!(shape, Shape::Indexed)
 }
 
-fn is_index(tables: &[Table], name: &Name) -> bool
+/// Whether the table of this name is one with an index.
+pub fn is_index(tables: &[Table], name: &Name) -> bool
     ensures { result ≡ is_index (headings_of tables.now) name.now }
 {
     match heading_at(tables, name) {

@@ -19,6 +19,6 @@ pub use condition::{literal_cell, where_at};
 pub use creates::new_schema;
 pub use early::early_refusal;
 pub use items::{agg_in, agg_of, item_in, item_of};
-pub use keyed::key_asked;
+pub use keyed::{is_index, key_asked};
 pub use laws::meaning_is_of_bags;
 pub use values::{new_row, set_cell};

@@ -143,11 +143,12 @@ shown m caught live last kept gave = record (state_of m) { live = live; last = l
 
 -- one access more was asked, and perhaps it failed
 module _ (a : Access) (old new : MeddledStore) (faults slips : ℕ) (live : ℕ → Option Shape) (last : ℕ → ℕ → Option (List ℕ)) (kept : ℕ → Option KeptRegion) (gave : List ℕ) (asked : asked_of new.log ≡ asked_of old.log ++ a ∷ [])
-    (spare : old.log.spare ≤ new.log.spare + 1) (list : new.list ≡ old.list) (reopened : new.reopened ≡ old.reopened) (failed : new.faults ≡ old.faults + faults) (slipped : new.slips ≡ old.slips + slips) where
+    (past : new.log.past ≡ old.log.past) (spare : old.log.spare ≤ new.log.spare + 1) (list : new.list ≡ old.list) (reopened : new.reopened ≡ old.reopened) (failed : new.faults ≡ old.faults + faults) (slipped : new.slips ≡ old.slips + slips) where
   asks_of : (caught : Option Caught) → ((lie : Lie) → (state_of old).lie ≡ Some lie → lie_of caught (asked_of new.log) ≡ Some lie) → IsEarly caught (asked_of new.log) → (new.reopened ≡ false → IsCaused new.list caught)
       → Asks a (state_of old) (shown new caught live last kept gave)
   asks_of caught stays early caused = record {
     asked = asked;
+    log = ap length past;
     spare = spare;
     faults = omega (arith, failed);
     slips = omega (arith, slipped);

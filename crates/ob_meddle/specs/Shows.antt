@@ -25,6 +25,7 @@ told_of false list = disturbances list
 abbrev pub state_of : MeddledStore → StoreState
 state_of m = record {
   asked = asked_of m.log;
+  let_go = length m.log.past;
   spare = m.log.spare;
   faults = m.faults;
   slips = m.slips;

@@ -3,6 +3,7 @@ ghost use Rattle.std.specs.Ordering.{nat_cmp};
 ghost use Rattle.std.specs.BTreeMap.{get};
 ghost use Rattle.std.specs.BTreeSet.{contains};
 ghost use Rattle.std.specs.Option.{ForSome};
+ghost use Rattle.ob_store.specs.Fresh.{past_within};
 ghost use Rattle.ob_store.specs.Logs.{asked_of};
 ghost use Rattle.ob_meddle.specs.Acts.{rests_of, stands_of, after_acts};
 ghost use Rattle.ob_meddle.specs.Due.{disturbances, fails_at, failed_among, has_acted, is_discard, is_source};
@@ -102,6 +103,7 @@ impl MeddledStore {
     fn begin(&mut self, access: Access) -> Result<(), Failed>
         requires { 1 ≤ self.old.log.spare }
         ensures asked { asked_of self.new.log ≡ asked_of self.old.log ++ access ∷ [] }
+        ensures past { self.new.log.past ≡ self.old.log.past }
         ensures steady { IsSteady (state_of self.new) }
         ensures spare { self.old.log.spare ≤ self.new.log.spare + 1 }
         ensures list { self.new.list ≡ self.old.list }
@@ -137,7 +139,7 @@ impl MeddledStore {
 impl BlockStore for MeddledStore {
     ghost use Rattle.std.specs.Prelude.{OnOk, OnErr};
     ghost use Rattle.ob_base.specs.Accesses.{highest};
-    ghost use Rattle.ob_store.specs.Calls.{IsLive, IsPlace, IsGivenUp, Asks, CountsFault, CountsSlip, CountsMakeFault, Keeps, Makes, ReadGives, OnlyAt, Holds, MayHold, OnlyRegion, ChangesNothing};
+    ghost use Rattle.ob_store.specs.Calls.{IsLive, IsPlace, IsGivenUp, Asks, CountsFault, CountsSlip, CountsMakeFault, Keeps, Makes, ReadGives, OnlyAt, Holds, MayHold, OnlyRegion, ChangesNothing, without_list};
     ghost use Rattle.ob_meddle.specs.Calls.{Made, Gave, Wrote, Retired};
     ghost use Rattle.ob_meddle.specs.Shows.{list_of, state_of, standing, held};
 
@@ -148,6 +150,8 @@ impl BlockStore for MeddledStore {
         refl (λ x. refl) };
 
     ghost keeps_within = { λ m q region is. keeps_within (get nat_cmp m.regions q) region is };
+
+    ghost within_asked = { λ m. past_within m.log };
 
     ghost starts_empty = { λ m q none.
         fresh_live (asked_of m.log) m.usable m.fresh none q (rests_of m.regions q) };
@@ -261,8 +265,23 @@ impl BlockStore for MeddledStore {
         Ok(())
     }
 
+    fn let_go(&mut self)
+        ensures is { state_of self.new
+            ≡ without_list (state_of self.new).spare (state_of self.old) }
+        ensures spare { (state_of self.old).spare ≤ (state_of self.new).spare }
+        ensures list { list_of self.new ≡ list_of self.old }
+        ensures stays { standing self.new ≡ standing self.old }
+        ensures held { held self.new ≡ held self.old }
+    {
+        self.log.let_go();
+    }
+
     fn count(&self) -> u64 {
         self.log.count()
+    }
+
+    fn gone(&self) -> u64 {
+        self.log.gone()
     }
 
     fn nth(&self, i: u64) -> Access {

@@ -17,7 +17,7 @@ use std::process::Abort;
 pub(crate) fn check_next<S: BlockStore>(rt: &impl Abort, store: &S, at: u64, want: Access) -> u64
     ensures { result ≡ at + 1 }
 {
-    assert!(rt; at < store.count());
+    assert!(rt; store.gone() <= at && at < store.count());
     assert_eq!(rt; store.nth(at), want);
     at + 1
 }

@@ -36,6 +36,7 @@ fn of_one_key(rt: &impl Abort, alloc: Global, before: u64, want: Result<(), OpEr
     let got = discarded(rt, &mut store, &mut vault, index);
     assert!(rt; got == want);
     assert_eq!(rt; store.count(), 9);
+    assert_eq!(rt; store.gone(), 0);
     assert_eq!(rt; store.nth(7), Access::Discard { region: 1 });
     assert_eq!(rt; store.nth(8), Access::Discard { region: 2 });
 }

@@ -27,7 +27,7 @@ fn push_access(out: &mut String, access: Access) -> Result<(), Stop> {
 
 // The accesses of these indices.
 fn accesses(out: &mut String, store: &KeepingStore, from: u64, to: u64) -> Result<(), Stop> {
-    for at in from..to.min(store.count()) {
+    for at in from.max(store.gone())..to.min(store.count()) {
         if from < at {
             out.push_str(", ")?;
         }

@@ -1,30 +1,38 @@
 //! The planner: which way a SELECT writes its rows, from sizes alone.
 #![tactic(auto)]
 
-ghost use Rattle.std.specs.Prelude.{◌≡◌, ◌*◌, ◌≤◌};
-ghost use Rattle.ob_base.specs.Limits.{buffered};
-ghost use Rattle.ob_base.specs.Plans.{choose, choose_padded};
+mod laws;
+mod lengths;
 
-use ob_base::{Plan, Public};
+ghost use Rattle.std.specs.Prelude.{◌≡◌, ◌*◌, ◌≤◌};
+ghost use Rattle.ob_base.specs.declared.config.Planner.TheVariants.{Cheapest};
+ghost use Rattle.ob_base.specs.Limits.{buffered};
+ghost use Rattle.ob_base.specs.Plans.{by_buffer, choose, choose_padded};
+
+use crate::lengths::{continuous_length, large_length, small_length};
+pub use laws::cheapest_fits;
+use ob_base::{Plan, Planner, Public};
 
 /// The plan for `k` selected rows among `n` slots, which stand side by side or don't: the one that is
-/// forced, or else by the rows that may be buffered.
+/// forced, or else the one by the rows that may be buffered, or that with the shortest script.
 pub fn plan(n: u32, k: u32, consecutive: bool, public: &Public) -> Plan
     requires pack { 1 ≤ public.now.pack }
     requires buffer { 2 * public.now.pack ≤ public.now.buffer }
+    requires cheapest { public.now.planner ≡ Cheapest → 3 * public.now.pack ≤ public.now.buffer }
     ensures { result
-        ≡ choose public.now.plan (buffered public.now.pack public.now.buffer) n k consecutive }
+        ≡ choose public.now.planner public.now.pack public.now.buffer n k consecutive }
 {
-    match public.plan {
-        Some(plan) => plan,
-        None => by_sizes(n, k, consecutive, public),
+    match public.planner {
+        Planner::Auto => by_buffer(n, k, consecutive, public),
+        Planner::Cheapest => cheapest(n, k, consecutive, public),
+        Planner::Forced(plan) => plan,
     }
 }
 
-fn by_sizes(n: u32, k: u32, consecutive: bool, public: &Public) -> Plan
+fn by_buffer(n: u32, k: u32, consecutive: bool, public: &Public) -> Plan
     requires pack { 1 ≤ public.now.pack }
     requires buffer { 2 * public.now.pack ≤ public.now.buffer }
-    ensures { result ≡ choose None (buffered public.now.pack public.now.buffer) n k consecutive }
+    ensures { result ≡ by_buffer (buffered public.now.pack public.now.buffer) n k consecutive }
 {
     if u64::from(k) <= 4 * buffered_rows(public) {
         Plan::Small
@@ -37,18 +45,53 @@ fn by_sizes(n: u32, k: u32, consecutive: bool, public: &Public) -> Plan
     }
 }
 
-/// The plan for the `q` rows of a padded result: the one that is forced, or else by the rows that may be
-/// buffered.
-pub fn padded_plan(q: u32, public: &Public) -> Plan
+// The first of Small, Continuous and Large whose script is shortest; Continuous only for rows side by side.
+fn cheapest(n: u32, k: u32, consecutive: bool, public: &Public) -> Plan
+    requires pack { 1 ≤ public.now.pack }
+    requires buffer { 3 * public.now.pack ≤ public.now.buffer }
+    ensures { result ≡ choose Cheapest public.now.pack public.now.buffer n k consecutive }
+{
+    if !consecutive {
+        return shorter(n, k, public);
+    }
+    let continuous = continuous_length(n, k, public);
+    let large = large_length(n, public);
+    if small_length(n, k, public) <= continuous.min(large) {
+        Plan::Small
+    } else if continuous <= large {
+        Plan::Continuous
+    } else {
+        Plan::Large
+    }
+}
+
+// The first of Small and Large whose script is shorter.
+fn shorter(n: u32, k: u32, public: &Public) -> Plan
+    requires pack { 1 ≤ public.now.pack }
+    requires buffer { 3 * public.now.pack ≤ public.now.buffer }
+    ensures { result ≡ choose_padded Cheapest public.now.pack public.now.buffer n k }
+{
+    if small_length(n, k, public) <= large_length(n, public) {
+        Plan::Small
+    } else {
+        Plan::Large
+    }
+}
+
+/// The plan for the `q` rows of a padded result of `n` slots: the one that is forced, or else Small or Large,
+/// by the rows that may be buffered or by which script is shorter.
+pub fn padded_plan(n: u32, q: u32, public: &Public) -> Plan
     requires pack { 1 ≤ public.now.pack }
     requires buffer { 2 * public.now.pack ≤ public.now.buffer }
+    requires cheapest { public.now.planner ≡ Cheapest → 3 * public.now.pack ≤ public.now.buffer }
     ensures { result
-        ≡ choose_padded public.now.plan (buffered public.now.pack public.now.buffer) q }
+        ≡ choose_padded public.now.planner public.now.pack public.now.buffer n q }
 {
-    match public.plan {
-        Some(forced) => forced,
-        None if u64::from(q) <= 4 * buffered_rows(public) => Plan::Small,
-        None => Plan::Large,
+    match public.planner {
+        Planner::Forced(forced) => forced,
+        Planner::Cheapest => shorter(n, q, public),
+        Planner::Auto if u64::from(q) <= 4 * buffered_rows(public) => Plan::Small,
+        Planner::Auto => Plan::Large,
     }
 }
 

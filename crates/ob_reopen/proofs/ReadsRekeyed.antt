@@ -57,6 +57,7 @@ module _ (closing : Closing) (keys : KeySet) (old new : World)
     region = stays.region;
     given = stays.given;
     next = stays.next;
+    log = stays.log;
     faults = stays.faults;
     tells = stays.tells;
     lie = stays.lie;

@@ -26,11 +26,12 @@ opened_public config closing listed = record {
   buffer = config.buffer;
   depth = config.depth;
   pack = config.pack;
-  plan = config.plan;
+  planner = config.planner;
   pad = config.pad;
   stash = config.stash;
   keep = config.keep;
   save = config.save;
+  batch = config.batch;
   closing = if config.save then Some closing.region else None;
 }
 

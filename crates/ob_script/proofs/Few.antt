@@ -6,7 +6,7 @@ use Rattle.ob_base.specs.declared.access.Access.{Access}
 use Rattle.ob_base.specs.declared.schema.Table.{Table}
 use Rattle.ob_base.specs.declared.seen.Seen.{Seen}
 use Rattle.ob_base.specs.declared.seen.End.{End}
-use Rattle.ob_base.specs.declared.seen.End.TheVariants.{Static, Whole, AfterCount, Cut}
+use Rattle.ob_base.specs.declared.seen.End.TheVariants.{Static, Whole, AfterCount, Joined, Cut}
 use Rattle.ob_base.specs.declared.skeleton.Source.{Source}
 use Rattle.ob_base.specs.declared.skeleton.Source.TheVariants.{Table as OneTable, Join}
 use Rattle.ob_base.specs.declared.skeleton.Skeleton.{Skeleton}
@@ -28,7 +28,7 @@ use Rattle.std.proofs.Math.Nat.{mul-le-mul, mul-le-mul_right, mul-le-mul_left, l
 use Rattle.ob_base.specs.declared.config.Public.{Public}
 use Rattle.ob_base.specs.declared.config.Plan.{Plan}
 use Rattle.ob_base.specs.declared.config.Plan.TheVariants.{Small, Large, Continuous, Hash}
-use Rattle.ob_base.specs.Limits.{buffered, buffered_blocks}
+use Rattle.ob_base.specs.Limits.{buffered_blocks}
 use Rattle.ob_base.specs.Plans.{choose_padded, padded_rows}
 use Rattle.ob_base.specs.Numbers.{blocks_for}
 use Rattle.ob_script.specs.declared.extent.Extent.{Extent}
@@ -41,7 +41,7 @@ use Rattle.ob_script.proofs.Lengths.{length-count_part}
 use Rattle.ob_script.proofs.Numbers.{ceil-ceil, length-access_part, length-closing_part, length-index_part, length-create_part, length-insert_part, length-rewrite_part, length-join_part, length-small_part, length-large_part, length-continuous_part, length-hash_part, length-emission_part}
 
 -- at least one block may be buffered, and at least two rows
-buffer_some : (p : Public) → IsPublic p → 1 ≤ buffered_blocks p.pack p.buffer
+pub buffer_some : (p : Public) → IsPublic p → 1 ≤ buffered_blocks p.pack p.buffer
 buffer_some p h =
     let a = h.pack_some in let b = h.buffer_some in
     (le-div_iff_mul-le {k = p.pack} {x = 1} {y = p.buffer - 2 * p.pack} a).1 (omega arith)
@@ -132,7 +132,7 @@ select_few p seen g t ending h c one = either p.pad where
       let q = padded_rows pad t.slots in
       let least : q ≤ t.slots = omega arith in
       let few : q ≤ 2 ^ 24 = let slots = c.slots in omega arith in
-      let x = result_few p (Some (choose_padded p.plan (buffered p.pack p.buffer) q)) q g t h few c.slots in
+      let x = result_few p (Some (choose_padded p.planner p.pack p.buffer t.slots q)) q g t h few c.slots in
       let a = length-append (count_part t.region (blocks_of p t)) (padded_part p pad g t ++ ending) in
       let b = length-count_part t.region (blocks_of p t) in
       let d = length-append (padded_part p pad g t) ending in
@@ -308,4 +308,5 @@ script_few p s seen h w = go seen.end w where
   go Static w = omega arith
   go Whole w = whole_few p s seen h (w (λ e. cc))
   go AfterCount w = whole_few p s seen h (w (λ e. cc))
+  go Joined w = omega arith
   go (Cut n) w = let m = whole_few p s seen h (w (λ e. cc)) in omega (arith, length-take n (whole_script p s seen))

@@ -10,3 +10,5 @@ pub mod Numbers
 pub mod Few
 pub mod Makes
 pub mod SavedParts
+pub mod Shortest
+pub mod Unasked

@@ -79,7 +79,7 @@ length-index_part tree stash slots height width =
     let c = length-create_part stash slots width in omega (arith, a, b, c)
 
 -- the least number of parts of q that hold n
-ceil_least : (n q m : ℕ) → 0 < q → n ≤ m * q → div_ceil n q ≤ m
+pub ceil_least : (n q m : ℕ) → 0 < q → n ≤ m * q → div_ceil n q ≤ m
 ceil_least n q m pos h =
     let d = div_ceil_times n q pos in
     let e : div_ceil n q * q < suc m * q = let s : suc m * q ≡ m * q + q = omega arith in omega (arith, d.1) in

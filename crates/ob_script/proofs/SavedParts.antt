@@ -7,7 +7,7 @@ use Rattle.ob_base.specs.declared.access.Access.{Access}
 use Rattle.ob_base.specs.declared.config.Public.{Public}
 use Rattle.ob_base.specs.declared.seen.Seen.{Seen}
 use Rattle.ob_base.specs.declared.seen.End.{End}
-use Rattle.ob_base.specs.declared.seen.End.TheVariants.{Static, Whole, AfterCount, Cut}
+use Rattle.ob_base.specs.declared.seen.End.TheVariants.{Static, Whole, AfterCount, Joined, Cut}
 use Rattle.ob_base.specs.declared.schema.Shape.{Shape}
 use Rattle.ob_base.specs.declared.skeleton.Skeleton.{Skeleton}
 use Rattle.ob_base.specs.declared.skeleton.Skeleton.TheVariants.{Create, Insert, Update, Delete, Drop as DropTable, Rows, Groups}
@@ -84,6 +84,7 @@ module _ (p : Public) (s : Skeleton) (seen : Seen) (unsaved : p.save ≡ false) 
   closing_stays Static = refl
   closing_stays Whole = ap (λ (b : Bool). if b then Some (closing_behind p s) else p.closing) (none_saved (changes_tables s) p.save unsaved)
   closing_stays AfterCount = refl
+  closing_stays Joined = refl
   closing_stays (Cut n) = refl
 
   pub next_is : run_next p s seen ≡ next p s seen

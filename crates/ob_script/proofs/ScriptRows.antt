@@ -8,8 +8,9 @@ use Rattle.ob_base.specs.Lists.{each}
 use Rattle.ob_base.specs.declared.config.Public.{Public}
 use Rattle.ob_base.specs.declared.config.Plan.{Plan}
 use Rattle.ob_base.specs.declared.config.Plan.TheVariants.{Small, Large, Continuous, Hash}
+use Rattle.ob_base.specs.declared.config.Planner.TheVariants.{Auto}
 use Rattle.ob_base.specs.declared.schema.Shape.TheVariants.{Flat, Indexed}
-use Rattle.ob_base.specs.declared.seen.End.TheVariants.{Whole, AfterCount, Cut}
+use Rattle.ob_base.specs.declared.seen.End.TheVariants.{Whole, AfterCount, Joined, Cut}
 use Rattle.ob_base.specs.declared.skeleton.NewKind.TheVariants.{Int as NewInt}
 use Rattle.ob_base.specs.declared.skeleton.NewColumn.{NewColumn}
 use Rattle.ob_base.specs.declared.skeleton.ColumnName.{ColumnName}
@@ -20,7 +21,7 @@ use Rattle.ob_script.specs.Script.{script}
 use Rattle.ob_script.specs.Trace.{trace, after_all, Served}
 
 abbrev start_with : (pack buffer depth : ℕ) → Public
-start_with pack buffer depth = record { tables = []; next_region = 1; buffer = buffer; depth = depth; pack = pack; plan = None; pad = None; stash = 32; keep = false; save = false; closing = None }
+start_with pack buffer depth = record { tables = []; next_region = 1; buffer = buffer; depth = depth; pack = pack; planner = Auto; pad = None; stash = 32; keep = false; save = false; batch = None; closing = None }
 
 abbrev column : List ℕ → ℕ → NewColumn
 column name keys = record { name = name; kind = NewInt; keys = keys }
@@ -40,6 +41,9 @@ create_u = whole (Create (codes "u") (column (codes "k") 0 ∷ column (codes "w"
 
 abbrev insert_in : List ℕ → Served
 insert_in name = whole (Insert name None)
+
+abbrev joined_in : List ℕ → Served
+joined_in name = record { skeleton = Insert name None; seen = record { k = None; plan = None; then = None; leaf = None; end = Joined } }
 
 -- with four inserts in t, and two in u
 abbrev four : List Served
@@ -69,6 +73,12 @@ inserted_and_counted : trace (start_with 1 4 5) (create_t ∷ insert_in (codes "
     Read 2 0 ∷ Read 2 1 ∷ Read 2 2 ∷ Read 2 3 ∷ []
 unfolding makes
 inserted_and_counted = refl
+
+-- an INSERT that was served with the one before it
+inserted_together : trace (start_with 1 4 5) (create_t ∷ insert_in (codes "t") ∷ joined_in (codes "t") ∷ whole (Groups (codes "t") [] None) ∷ []) ≡
+    trace (start_with 1 4 5) (create_t ∷ insert_in (codes "t") ∷ whole (Groups (codes "t") [] None) ∷ [])
+unfolding makes
+inserted_together = refl
 
 selected_by_small : after_setup (start_with 1 4 5) four (counted rows_of_t 2 (Some Small) None) ≡
     Read 5 0 ∷ Read 5 1 ∷ Read 5 2 ∷ Read 5 3 ∷ Make 6 2 49 ∷ Read 5 0 ∷ Read 5 1 ∷ Read 5 2 ∷ Read 5 3 ∷ Write 6 0 ∷ Write 6 1 ∷ Read 6 0 ∷ Read 6 1 ∷ Discard 6 ∷ []

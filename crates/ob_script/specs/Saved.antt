@@ -7,7 +7,7 @@ use Rattle.ob_base.specs.declared.config.Public.{Public}
 use Rattle.ob_base.specs.declared.schema.Shape.TheVariants.{Flat}
 use Rattle.ob_base.specs.declared.seen.Seen.{Seen}
 use Rattle.ob_base.specs.declared.seen.End.{End}
-use Rattle.ob_base.specs.declared.seen.End.TheVariants.{Static, Whole, AfterCount, Cut}
+use Rattle.ob_base.specs.declared.seen.End.TheVariants.{Static, Whole, AfterCount, Joined, Cut}
 use Rattle.ob_base.specs.declared.skeleton.Skeleton.{Skeleton}
 use Rattle.ob_base.specs.declared.skeleton.Skeleton.TheVariants.{Create, Insert, Update, Delete, Drop as DropTable, Rows, Groups}
 use Rattle.ob_base.specs.Accesses.{drop_script, makes}
@@ -59,6 +59,7 @@ abbrev pub left_then : Public → Skeleton → End → Option ℕ
 left_then p s Static = None
 left_then p s Whole = left_by p s
 left_then p s AfterCount = None
+left_then p s Joined = None
 left_then p s (Cut n) = None
 
 -- ---- statements behind which tables are saved

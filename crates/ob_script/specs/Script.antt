@@ -9,7 +9,7 @@ use Rattle.ob_base.specs.declared.schema.Heading.{Heading}
 use Rattle.ob_base.specs.declared.schema.Shape.{Shape}
 use Rattle.ob_base.specs.declared.seen.Seen.{Seen}
 use Rattle.ob_base.specs.declared.seen.End.{End}
-use Rattle.ob_base.specs.declared.seen.End.TheVariants.{Static, Whole, AfterCount, Cut}
+use Rattle.ob_base.specs.declared.seen.End.TheVariants.{Static, Whole, AfterCount, Joined, Cut}
 use Rattle.ob_base.specs.declared.skeleton.Source.{Source}
 use Rattle.ob_base.specs.declared.skeleton.Source.TheVariants.{Table as OneTable, Join}
 use Rattle.ob_base.specs.declared.skeleton.Skeleton.{Skeleton}
@@ -17,7 +17,7 @@ use Rattle.ob_base.specs.declared.skeleton.Skeleton.TheVariants.{Create, Insert,
 use Rattle.ob_base.specs.Accesses.{discard_at, drop_script}
 use Rattle.ob_base.specs.Indexes.{by_shape, height_of}
 use Rattle.ob_base.specs.Joins.{joined_slots}
-use Rattle.ob_base.specs.Limits.{buffered, buffered_blocks}
+use Rattle.ob_base.specs.Limits.{buffered_blocks}
 use Rattle.ob_base.specs.Numbers.{blocks_for}
 use Rattle.ob_base.specs.Plans.{choose_padded, padded_rows}
 use Rattle.ob_base.specs.Schemas.{width, columns_of}
@@ -79,7 +79,7 @@ after_count p seen (Some k) g t ending = result_part p seen.plan k g t ++ (resul
 -- a padded result, whatever is selected
 abbrev pub padded_part : Public → (pad g : ℕ) → Extent → List Access
 padded_part p pad g t =
-    let q = padded_rows pad t.slots in result_part p (Some (choose_padded p.plan (buffered p.pack p.buffer) q)) q g t
+    let q = padded_rows pad t.slots in result_part p (Some (choose_padded p.planner p.pack p.buffer t.slots q)) q g t
 
 -- what follows the count: where results are padded, one that is and what ends the statement
 abbrev pub behind_count : Option ℕ → Public → Seen → (g : ℕ) → Extent → (ending : List Access) → List Access
@@ -162,6 +162,7 @@ abbrev pub closing_then : Public → Skeleton → End → Option ℕ
 closing_then p s Static = p.closing
 closing_then p s Whole = if is_saved p s then Some (closing_behind p s) else p.closing
 closing_then p s AfterCount = p.closing
+closing_then p s Joined = p.closing
 closing_then p s (Cut n) = p.closing
 
 -- ---- all statements
@@ -202,6 +203,7 @@ abbrev pub until_end : End → List Access → List Access
 until_end Static all = []
 until_end Whole all = all
 until_end AfterCount all = all
+until_end Joined all = []
 until_end (Cut n) all = take n all
 
 abbrev pub script : Public → Skeleton → Seen → List Access

@@ -9,7 +9,7 @@ use Rattle.ob_base.specs.declared.schema.Shape.{Shape}
 use Rattle.ob_base.specs.declared.schema.Shape.TheVariants.{Flat, Indexed}
 use Rattle.ob_base.specs.declared.seen.Seen.{Seen}
 use Rattle.ob_base.specs.declared.seen.End.{End}
-use Rattle.ob_base.specs.declared.seen.End.TheVariants.{Static, Whole, AfterCount, Cut}
+use Rattle.ob_base.specs.declared.seen.End.TheVariants.{Static, Whole, AfterCount, Joined, Cut}
 use Rattle.ob_base.specs.declared.skeleton.Source.{Source}
 use Rattle.ob_base.specs.declared.skeleton.Source.TheVariants.{Table as OneTable, Join}
 use Rattle.ob_base.specs.declared.skeleton.Skeleton.{Skeleton}
@@ -35,7 +35,7 @@ pub record IsPublic (p : Public) : Type 0 where
   pub depth_some : 1 ≤ p.depth
   pub depth_few : p.depth ≤ 8
   pub next : p.next_region ≤ 2 ^ 63 + 2 ^ 60
-  pub padded : IsPadded p.pad p.plan
+  pub padded : IsPadded p.pad p.planner
   pub stash : p.stash ≤ 1024
   pub tables : All IsTable p.tables
   -- where tables are saved a closing lists them
@@ -49,11 +49,12 @@ pub record IsCounted (seen : Seen) (t : Extent) : Type 0 where
   pub plan : IfSome seen.plan (λ plan. IfSome seen.k (λ k. 1 ≤ k))
   pub then : IfSome seen.then (λ plan. IfSome seen.k (λ k. 1 ≤ k))
 
--- it was cut off after so many accesses at most, or refused before
+-- it was cut off after so many accesses at most, or asked for none
 abbrev pub EndsWithin : ℕ → End → Type 0
 EndsWithin n Static = ⊤
 EndsWithin n Whole = ⊥
 EndsWithin n AfterCount = ⊥
+EndsWithin n Joined = ⊤
 EndsWithin n (Cut m) = m ≤ n
 
 -- the leaf that is held is one of a tree of this height; without one no more than so many slots were read

@@ -1,12 +1,17 @@
 //! Laws of the scripts.
-ghost use Rattle.std.specs.Prelude.{◌≡◌, ◌≢◌, ◌<◌, ◌+◌, ◌++◌, ◌*◌, ◌^◌, ℕ, List, true, false, length};
+ghost use Rattle.std.specs.Prelude.{◌≡◌, ◌≢◌, ◌≤◌, ◌<◌, ◌+◌, ◌++◌, ◌*◌, ◌^◌, ℕ, Bool, List, [], None, Some, true, false, length};
 ghost use Rattle.ob_base.specs.declared.access.Access.{Access};
+ghost use Rattle.ob_base.specs.declared.config.Plan.{Plan};
+ghost use Rattle.ob_base.specs.declared.config.Plan.TheVariants.{Continuous};
+ghost use Rattle.ob_base.specs.declared.config.Planner.TheVariants.{Cheapest};
 ghost use Rattle.ob_base.specs.declared.config.Public.{Public};
 ghost use Rattle.ob_base.specs.declared.seen.Seen.{Seen};
 ghost use Rattle.ob_base.specs.declared.skeleton.Skeleton.{Skeleton};
 ghost use Rattle.ob_base.specs.Accesses.{makes};
-ghost use Rattle.ob_script.specs.Saved.{ChangesFlat, left_by, run_next, run_script, saved_public, whole_run};
-ghost use Rattle.ob_script.specs.Script.{made_by, save_part, script};
+ghost use Rattle.ob_script.specs.Saved.{ChangesFlat, left_by, left_then, run_next, run_script, saved_public, whole_run};
+ghost use Rattle.ob_base.specs.Plans.{choose, choose_padded};
+ghost use Rattle.ob_script.specs.declared.extent.Extent.{Extent};
+ghost use Rattle.ob_script.specs.Script.{made_by, result_part, save_part, script};
 ghost use Rattle.ob_script.specs.Sizes.{IsPublic, IsWithin};
 ghost use Rattle.ob_script.specs.Trace.{next};
 ghost use Rattle.std.specs.Int.{div_ceil};
@@ -71,6 +76,16 @@ pub fn part_makes()
         makes (index_part tree stash slots height width) ≡ 2 }
 {}
 
+/// A statement that was served with the one before it asks nothing and leaves no region, and what is public stays.
+pub fn joined_asks_nothing()
+    ensures asks { (p : Public) (s : Skeleton) (seen : Seen) → seen.end ≡ End.Joined
+        → script p s seen ≡ [] }
+    ensures leaves { (p : Public) (s : Skeleton) (seen : Seen) → seen.end ≡ End.Joined
+        → left_then p s seen.end ≡ None }
+    ensures stays { (p : Public) (s : Skeleton) (seen : Seen) → seen.end ≡ End.Joined
+        → next p s seen ≡ p }
+{}
+
 /// As many buffers of blocks hold the blocks of so many rows, as buffers of rows hold the rows.
 pub fn buffers_by_rows()
     ensures { (n pack buffered : ℕ) → 0 < pack → 0 < buffered →
@@ -81,6 +96,21 @@ pub fn buffers_by_rows()
 pub fn scripts_are_short()
     ensures { (p : Public) (s : Skeleton) (seen : Seen) → IsPublic p →
         (seen.end ≢ End.Static → IsWithin p s seen) → length (script p s seen) < 2 ^ 49 }
+{}
+
+/// What `Cheapest` chooses for `k` rows of a region asks for no more than any plan that may be taken: each but Continuous, and
+/// that, too, where the rows lie side by side.
+pub fn cheapest_is_shortest()
+    ensures rows { (p : Public) (k g : ℕ) (t : Extent) (consecutive : Bool) (plan : Plan) →
+        IsPublic p → (plan ≡ Continuous → consecutive ≡ true) →
+        length (result_part p (Some
+        (choose Cheapest p.pack p.buffer t.slots k consecutive)) k g t)
+        ≤ length (result_part p (Some plan) k g t) }
+    ensures padded { (p : Public) (q g : ℕ) (t : Extent) (plan : Plan) →
+        IsPublic p → plan ≢ Continuous →
+        length (result_part p (Some
+        (choose_padded Cheapest p.pack p.buffer t.slots q)) q g t)
+        ≤ length (result_part p (Some plan) q g t) }
 {}
 
 /// Where tables aren't saved a statement's script is the engine's part alone. Where they are, a closing follows each change

@@ -11,6 +11,9 @@ mod sections;
 mod tree;
 
 pub use bucket::{first_bucket, second_bucket};
-pub use laws::{buffers_by_rows, part_lengths, part_makes, saved_scripts, scripts_are_short};
+pub use laws::{
+    buffers_by_rows, cheapest_is_shortest, joined_asks_nothing, part_lengths, part_makes,
+    saved_scripts, scripts_are_short,
+};
 pub use script::{script_len, script_nth};
 pub use tree::tree_blocks;

@@ -390,7 +390,7 @@ fn push_result(
 fn push_padded(sections: &mut Sections, public: &Public, pad: u32, to: u64, from: Extent)
     requires room { length sections.old ≤ 11 }
     requires public { IsPublic public.now }
-    requires plan { MayPad public.now.plan }
+    requires plan { MayPad public.now.planner }
     requires slots { IsFew from.slots }
     requires width { from.width ≤ 1024 }
     ensures adds { Adds sections.old sections.new (padded_part public.now pad to from) }
@@ -400,7 +400,7 @@ fn push_padded(sections: &mut Sections, public: &Public, pad: u32, to: u64, from
     push_result(
         sections,
         public,
-        Some(padded_plan(rows, public)),
+        Some(padded_plan(from.slots, rows, public)),
         rows,
         to,
         from,
@@ -726,7 +726,7 @@ pub fn script_len(public: &Public, skeleton: &Skeleton, seen: &Seen) -> u64
     ensures { result ≡ length (script public.now skeleton.now seen.now) }
 {
     match seen.end {
-        End::Static => 0,
+        End::Static | End::Joined => 0,
         End::Whole | End::AfterCount => whole(public, skeleton, seen).len(),
         End::Cut(n) => n.min(whole(public, skeleton, seen).len()),
     }

@@ -4,6 +4,7 @@ use Rattle.ob_base.specs.declared.access.Access.{Access}
 use Rattle.ob_base.specs.declared.config.Plan.{Plan}
 use Rattle.ob_base.specs.Plans.{MayPad}
 use Rattle.ob_base.specs.declared.config.Plan.TheVariants.{Small, Large, Continuous, Hash}
+use Rattle.ob_base.specs.declared.config.Planner.TheVariants.{Forced}
 use Rattle.ob_base.specs.Accesses.{make_at}
 use Rattle.ob_base.specs.Limits.{buffered_blocks}
 use Rattle.ob_base.specs.Numbers.{blocks_for}
@@ -43,7 +44,7 @@ lacks_make : (m : Access) (more : List Access) (old new : World) → IsTrue (is_
 lacks_make m more old new make did = record { done = m ∷ []; rest = more; split = refl; asked = did.asked; place = inl make }
 
 -- a plan that may be taken for a padded result, and isn't Large
-pub small_alone : (plan : Plan) → MayPad (Some plan) → (plan ≡ Small) ⊎ (plan ≡ Continuous) ⊎ (plan ≡ Hash) → plan ≡ Small
+pub small_alone : (plan : Plan) → MayPad (Forced plan) → (plan ≡ Small) ⊎ (plan ≡ Continuous) ⊎ (plan ≡ Hash) → plan ≡ Small
 small_alone Small may is = refl
 small_alone Large may is = elim is [ inl a ↦ absurd (cc a) | inr b ↦ elim b [ inl c ↦ absurd (cc c) | inr d ↦ absurd (cc d) ] ]
 small_alone Continuous may is = absurd may

@@ -1,12 +1,14 @@
 -- A padded result, and where more rows are selected than it is padded to.
-use Rattle.std.proofs.Common.{◌≡◌, ◌<◌, ◌≤◌, ◌*◌, ℕ, Bool, true, false, List, Option, None, Some, Result, length, sym, ◌∙◌, ap, subst, arith}
-use Rattle.std.specs.Prelude.{nat_lt, if◌then◌else◌}
+use Rattle.std.proofs.Common.{◌≡◌, ◌<◌, ◌≤◌, ◌*◌, ℕ, Bool, true, false, List, None, Some, Result, length, sym, ◌∙◌, ap, subst, arith}
+use Rattle.std.specs.Prelude.{nat_le, nat_lt, if◌then◌else◌}
 use Rattle.std.proofs.lemmas.Bool.Decides.{nat_tests}
 use Rattle.ob_base.specs.declared.config.Plan.{Plan}
 use Rattle.ob_base.specs.declared.config.Plan.TheVariants.{Small, Large, Continuous, Hash}
+use Rattle.ob_base.specs.declared.config.Planner.{Planner}
+use Rattle.ob_base.specs.declared.config.Planner.TheVariants.{Auto, Cheapest, Forced}
 use Rattle.ob_base.specs.declared.refusal.Refusal.TheVariants.{PadPassed}
 use Rattle.ob_base.specs.Limits.{buffered}
-use Rattle.ob_base.specs.Plans.{MayPad, choose_padded, padded_rows}
+use Rattle.ob_base.specs.Plans.{MayPad, choose_padded, large_length, padded_rows, small_length}
 use Rattle.ob_base.specs.Schemas.{width}
 use Rattle.ob_room.specs.RoomState.{RoomState}
 use Rattle.ob_script.specs.Sizes.{HasRows}
@@ -21,27 +23,28 @@ use Rattle.ob_select.specs.Selecting.{Selection}
 use Rattle.ob_select.specs.Results.{Planned, MakesResult, padded, padded_to}
 
 -- the plan of a padded result may be taken
-may_if : (b : Bool) → MayPad (Some (if b then Small else Large))
+may_if : (b : Bool) → MayPad (Forced (if b then Small else Large))
 may_if true = tt
 may_if false = tt
 
-pub may_choose : (forced : Option Plan) (s q : ℕ) → MayPad forced → MayPad (Some (choose_padded forced s q))
-may_choose None s q may = may_if (Rattle.std.specs.Prelude.nat_le q (4 * s))
-may_choose (Some plan) s q may = may
+pub may_choose : (planner : Planner) (pack rows n q : ℕ) → MayPad planner → MayPad (Forced (choose_padded planner pack rows n q))
+may_choose Auto pack rows n q may = may_if (nat_le q (4 * buffered pack rows))
+may_choose Cheapest pack rows n q may = may_if (nat_le (small_length pack rows n q) (large_length pack n))
+may_choose (Forced plan) pack rows n q may = may
 
 -- and goes by no rows
-pub rows_of_padded : (plan : Plan) (k : ℕ) → MayPad (Some plan) → HasRows plan k
+pub rows_of_padded : (plan : Plan) (k : ℕ) → MayPad (Forced plan) → HasRows plan k
 rows_of_padded Small k may = tt
 rows_of_padded Large k may = tt
 rows_of_padded Continuous k may = absurd may
 rows_of_padded Hash k may = absurd may
 
 -- by what its code computes
-pub padded_at : (q : Selection) (plan : Plan) (rows pad k : ℕ) → rows ≡ padded_rows pad q.flat.capacity → plan ≡ choose_padded q.public.plan (buffered q.public.pack q.public.buffer) rows
+pub padded_at : (q : Selection) (plan : Plan) (rows pad k : ℕ) → rows ≡ padded_rows pad q.flat.capacity → plan ≡ choose_padded q.public.planner q.public.pack q.public.buffer q.flat.capacity rows
     → padded q plan rows pad k ≡ padded_to q pad k
 padded_at q plan rows pad k is so =
-    let plan_is : plan ≡ choose_padded q.public.plan (buffered q.public.pack q.public.buffer) (padded_rows pad q.flat.capacity)
-    = so ∙ ap (choose_padded q.public.plan (buffered q.public.pack q.public.buffer)) is in
+    let plan_is : plan ≡ choose_padded q.public.planner q.public.pack q.public.buffer q.flat.capacity (padded_rows pad q.flat.capacity)
+    = so ∙ ap (choose_padded q.public.planner q.public.pack q.public.buffer q.flat.capacity) is in
     λ i. padded q (plan_is i) (is i) pad k
 
 -- the rows that are selected, and the padding
@@ -57,9 +60,9 @@ pad_holds pad k places count off = sym (ap (λ (b : Bool). if b then Some PadPas
 pub pad_passed : (pad k : ℕ) (places : List ℕ) → k ≡ length places → pad < k → Some PadPassed ≡ padded_refusal pad places
 pad_passed pad k places count more = sym (ap (λ (b : Bool). if b then Some PadPassed else None) (beyond pad (length places) (omega (arith, count, more))))
 
-pub padded_goes : (q : Selection) (pad k : ℕ) → MayPad q.public.plan → HasRows (padded_to q pad k).plan k
+pub padded_goes : (q : Selection) (pad k : ℕ) → MayPad q.public.planner → HasRows (padded_to q pad k).plan k
 padded_goes q pad k may =
-    rows_of_padded (padded_to q pad k).plan k (may_choose q.public.plan (buffered q.public.pack q.public.buffer) (padded_rows pad q.flat.capacity) may)
+    rows_of_padded (padded_to q pad k).plan k (may_choose q.public.planner q.public.pack q.public.buffer q.flat.capacity (padded_rows pad q.flat.capacity) may)
 
 pub padded_fits : (pad n k : ℕ) → k ≤ pad → k ≤ n → k ≤ padded_rows pad n
 padded_fits pad n k off most = omega (arith, off, most)

@@ -1,15 +1,17 @@
 -- How a selection ends.
 use Rattle.std.proofs.Common.{◌≡◌, ◌⊎◌, inl, inr, ◌≤◌, ◌<◌, ◌+◌, ◌-◌, ◌*◌, mul-le-mul, ℕ, suc, zero, Bool, true, false, IsTrue, List, [], ◌++◌, Option, None, Some, Result, Ok, Err, length, refl, sym, ◌∙◌, ap, subst, arith, append_assoc, length-append, append-nil}
-use Rattle.std.specs.Prelude.{IsSome, IfErr, IfOk, OnErr}
+use Rattle.std.specs.Prelude.{IfErr, IfOk, OnErr}
 use Rattle.ob_base.specs.declared.access.Access.{Access}
 use Rattle.ob_base.specs.declared.config.Plan.{Plan}
 use Rattle.ob_base.specs.declared.config.Plan.TheVariants.{Small, Continuous, Hash}
+use Rattle.ob_base.specs.declared.config.Planner.{Planner}
+use Rattle.ob_base.specs.declared.config.Planner.TheVariants.{Auto, Forced}
 use Rattle.ob_base.specs.declared.refusal.Refusal.{Refusal}
 use Rattle.ob_base.specs.declared.refusal.Refusal.TheVariants as Refusals
 use Rattle.ob_base.specs.declared.seen.End.TheVariants.{Whole, AfterCount}
 use Rattle.ob_base.specs.Events.{Event, row_events}
-use Rattle.ob_base.specs.Limits.{buffered}
 use Rattle.ob_base.specs.Plans.{choose}
+use Rattle.ob_base.proofs.PlanLemmas.{forced_hash}
 use Rattle.ob_base.proofs.EventLemmas.{emitted_head}
 use Rattle.ob_room.specs.RoomState.{RoomState}
 use Rattle.ob_row.specs.Truth.{is_true}
@@ -33,7 +35,6 @@ use Rattle.ob_mean.specs.Verdict.{counted, plan_for, ended as seen_to}
 use Rattle.ob_select.specs.declared.selecting.Selected.{Selected}
 use Rattle.ob_select.specs.declared.selecting.Selected.TheVariants.{Rows, Refused}
 use Rattle.ob_select.specs.Selecting.{Selection, MaySelect, SelectsFrom, SelectsToEnd, SelectsToHalt, EmitsSelected, places, selected_as, shown_rows, result_of, selection_seen, selection_answer, answer_events, emitted_unless, EndsSelected, IsCountOf, selection_script, region_of, counted_after, from}
-use Rattle.std.specs.Prelude.{is_some}
 use Rattle.ob_vault.proofs.Runs.{lives_apart}
 use Rattle.ob_flat.proofs.Tables.{blocks_few, flat_lasts}
 use Rattle.ob_select.specs.Settings.{IsFree}
@@ -72,10 +73,6 @@ on_err_of (Err e) h = h
 ran_long : {T : Type 0} {some : ℕ → Type 0} {x : List Access} {a b : World} (result : Result T OpErr) → PassRan x some result a b → length a.store.asked ≤ length b.store.asked
 ran_long {T} {some} {x} {a} {b} (Ok v) ran = omega (arith, went_length some x a b ran.ok)
 ran_long {T} {some} {x} {a} {b} (Err e) ran = (began-few x a b ran.err.began).1
-
-forced_is : (q : Selection) (k : ℕ) (plan : Plan) (c : Bool) (forced : Option Plan) → plan ≡ choose forced (buffered q.public.pack q.public.buffer) q.flat.capacity k c → IsSome forced → forced ≡ Some plan
-forced_is q k plan c None chosen some = absurd (cc some)
-forced_is q k plan c (Some p) chosen some = ap Some (sym chosen)
 
 module _ {E : Type 0} (grew cut : E → E → List Event → Type 0) (faults : E → ℕ) (q : Selection) (room : RoomState) (old mid : World) (may : MaySelect q room old) where
   -- the count failed
@@ -206,7 +203,7 @@ module _ {E : Type 0} (grew cut : E → E → List Event → Type 0) (faults : E
     }
 
     -- Continuous was forced, and refused
-    pub end_refused : (out : E) → 1 ≤ k → q.public.plan ≡ Some Continuous → c ≡ false → SelectsFrom grew cut faults q (Ok (Refused Refusals.NotConsecutive)) (counted k None None AfterCount) old mid out out
+    pub end_refused : (out : E) → 1 ≤ k → q.public.planner ≡ Forced Continuous → c ≡ false → SelectsFrom grew cut faults q (Ok (Refused Refusals.NotConsecutive)) (counted k None None AfterCount) old mid out out
     end_refused out least forced apart = record {
       ran = by_script (counted k None None AfterCount) (Ok (Refused Refusals.NotConsecutive)) mid (ran_alone (Ok (Refused Refusals.NotConsecutive)) tt);
       gone = gone_alone;
@@ -224,7 +221,7 @@ module _ {E : Type 0} (grew cut : E → E → List Event → Type 0) (faults : E
           let are = counted_is q k c Continuous old mid is s.slots s.is s.nolie in
           let some : 1 ≤ length (places q s.slots) = omega (arith, least, are.0) in
           let off = sym are.1 ∙ apart in
-          let so : Continuous ≡ plan_for q.public (length s.slots) (places q s.slots) = sym (ap (λ (o : Option Plan). choose o (buffered q.public.pack q.public.buffer) (length s.slots) (length (places q s.slots)) (is_consecutive (places q s.slots))) forced) in (
+          let so : Continuous ≡ plan_for q.public (length s.slots) (places q s.slots) = sym (ap (λ (planner : Planner). choose planner q.public.pack q.public.buffer (length s.slots) (length (places q s.slots)) (is_consecutive (places q s.slots))) forced) in (
             sym (ap (λ (o : Option Refusal). selected_as o (length (places q s.slots))) (refuses_apart q.public (places q s.slots) (length s.slots) Continuous some so unpadded forced off)),
             ap (λ (n : ℕ). counted n None None AfterCount) are.0 ∙ sym (seen_apart q.public (places q s.slots) (length s.slots) Continuous some so unpadded refl off),
           );
@@ -232,11 +229,11 @@ module _ {E : Type 0} (grew cut : E → E → List Event → Type 0) (faults : E
       begun = λ s lie told. went_in (counts_of q) _ old mid lie count s.nolie told;
     }
 
-    module _ (plan : Plan) (side : plan ≡ Continuous → IsTrue c) (least : 1 ≤ k) (chosen : plan ≡ choose q.public.plan (buffered q.public.pack q.public.buffer) q.flat.capacity k c) where
+    module _ (plan : Plan) (side : plan ≡ Continuous → IsTrue c) (least : 1 ≤ k) (chosen : plan ≡ choose q.public.planner q.public.pack q.public.buffer q.flat.capacity k c) where
       first_ended : (result : Result Selected OpErr) → IfOk result (IsFinal q) → IfOk result (MayAnswer plan None) → IfOk result (λ a. EndsSelected q a (counted k (Some plan) None Whole))
       first_ended (Ok (Rows n)) final answers = inl (record { counted = k; count = refl; end = refl; none = λ none. absurd (cc none) })
       first_ended (Ok (Refused (Refusals.Overflow i))) final answers =
-          record { forced = forced_is q k plan c q.public.plan chosen final ∙ ap Some answers.0; plan = ap Some answers.0; second = refl; end = refl }
+          record { forced = forced_hash plan q.public.planner q.public.pack q.public.buffer q.flat.capacity k c chosen answers.0 final; plan = ap Some answers.0; second = refl; end = refl }
       first_ended (Err e) final answers = tt
       first_ended (Ok (Refused Refusals.PadPassed)) final answers = absurd (cc answers)
       first_ended (Ok (Refused _)) final answers = absurd answers
@@ -280,7 +277,7 @@ module _ {E : Type 0} (grew cut : E → E → List Event → Type 0) (faults : E
           }
 
     -- Small took the place of a Hash that left a row out
-    module _ (least : 1 ≤ k) (free : q.public.plan ≡ None) (chosen : Hash ≡ choose q.public.plan (buffered q.public.pack q.public.buffer) q.flat.capacity k c) (i : ℕ) (late : World) (out : E)
+    module _ (least : 1 ≤ k) (free : q.public.planner ≡ Auto) (chosen : Hash ≡ choose q.public.planner q.public.pack q.public.buffer q.flat.capacity k c) (i : ℕ) (late : World) (out : E)
         (first : SelectsBy grew cut faults (planned q Hash k) (Ok (Refused (Refusals.Overflow i))) mid late out out) where
       second_ended : (result : Result Selected OpErr) → IfOk result (MayAnswer Small None) → IfOk result (λ a. EndsSelected q a (counted k (Some Hash) (Some Small) Whole))
       second_ended (Ok (Rows n)) answers = inl (record { counted = k; count = refl; end = refl; none = λ none. absurd (cc none) })
@@ -346,10 +343,6 @@ module _ {E : Type 0} (grew cut : E → E → List Event → Type 0) (faults : E
 pub some_of : (k : ℕ) → (k ≡ 0 → ⊥) → 1 ≤ k
 some_of zero off = absurd (off refl)
 some_of (suc k) off = omega arith
-
-pub none_of : {A : Type 0} (o : Option A) → is_some o ≡ false → o ≡ None
-none_of None is = refl
-none_of (Some x) is = absurd (cc is)
 
 hashed_by : (plan : Plan) (why : Refusal) → MayAnswer plan None (Refused why) → (i : ℕ) × (why ≡ Refusals.Overflow i) × (plan ≡ Hash)
 hashed_by plan (Refusals.Overflow i) is = (i, refl, is.0)

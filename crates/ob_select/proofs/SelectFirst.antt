@@ -1,17 +1,19 @@
 -- What is told of a selection that its first plan ended.
-use Rattle.std.proofs.Common.{◌≡◌, ◌⊎◌, inl, inr, ◌≤◌, ◌+◌, ◌-◌, ℕ, Bool, IsTrue, List, [], ◌++◌, append_assoc, Option, None, Some, Result, Ok, Err, length, refl, sym, ◌∙◌, ap, subst, arith}
+use Rattle.std.proofs.Common.{◌≡◌, ◌≢◌, ◌⊎◌, inl, inr, ◌≤◌, ◌+◌, ◌-◌, ℕ, Bool, IsTrue, List, [], ◌++◌, append_assoc, Option, None, Some, Result, Ok, Err, length, refl, sym, ◌∙◌, ap, subst, arith}
 use Rattle.std.specs.Prelude.{IsSome, IfErr, IfOk, MatchResult}
 use Rattle.std.specs.Option.{option_map}
 use Rattle.ob_base.specs.declared.config.Plan.{Plan}
 use Rattle.ob_base.specs.declared.config.Plan.TheVariants.{Small, Large, Continuous, Hash}
+use Rattle.ob_base.specs.declared.config.Planner.{Planner}
+use Rattle.ob_base.specs.declared.config.Planner.TheVariants.{Auto, Cheapest, Forced}
 use Rattle.ob_base.specs.declared.refusal.Refusal.{Refusal}
 use Rattle.ob_base.specs.declared.refusal.Refusal.TheVariants.{Overflow}
 use Rattle.ob_base.specs.declared.access.Access.{Access}
 use Rattle.ob_base.specs.declared.seen.Seen.{Seen}
 use Rattle.ob_base.specs.declared.seen.End.TheVariants.{Whole}
 use Rattle.ob_base.specs.Events.{Event, row_events}
-use Rattle.ob_base.specs.Limits.{buffered}
 use Rattle.ob_base.specs.Plans.{choose}
+use Rattle.ob_base.proofs.PlanLemmas.{forced_hash}
 use Rattle.ob_row.specs.Slots.{Slots, is_consecutive}
 use Rattle.ob_row.specs.Truth.{is_true}
 use Rattle.ob_store.specs.State.{Lie}
@@ -43,7 +45,7 @@ use Rattle.ob_select.proofs.SelectTold.{suits_mid, rows_left, refused_left, none
 -- what may be answered at last where a plan was taken first
 abbrev pub IsFinal : Selection → Selected → Type 0
 IsFinal q (Rows n) = Unit {0}
-IsFinal q (Refused why) = IsSome q.public.plan
+IsFinal q (Refused why) = q.public.planner ≢ Auto
 
 left_hashed : (r : Planned) (plan : Plan) (slots : Slots) (i : ℕ) → left_by r plan slots ≡ Some i → plan ≡ Hash
 left_hashed r Hash slots i is = refl
@@ -57,12 +59,13 @@ left_place r Small slots i is = absurd (cc is)
 left_place r Large slots i is = absurd (cc is)
 left_place r Continuous slots i is = absurd (cc is)
 
-fallback_forced : (o : Option Plan) (left : Option ℕ) → IsSome o → fallback o left ≡ None
-fallback_forced None left some = absurd (cc some)
-fallback_forced (Some plan) left some = refl
+fallback_other : (planner : Planner) (left : Option ℕ) → planner ≢ Auto → fallback planner left ≡ None
+fallback_other Auto left other = absurd (other refl)
+fallback_other Cheapest left other = refl
+fallback_other (Forced plan) left other = refl
 
 module _ (q : Selection) (k : ℕ) (c : Bool) (plan : Plan) (old mid : World) (is : CountsRows q.public.pack q.flat (is_true q.condition) (Ok (record { k = k; consecutive = c })) old mid)
-    (side : plan ≡ Continuous → IsTrue c) (least : 1 ≤ k) (chosen : plan ≡ choose q.public.plan (buffered q.public.pack q.public.buffer) q.flat.capacity k c) (unpadded : q.public.pad ≡ None) where
+    (side : plan ≡ Continuous → IsTrue c) (least : 1 ≤ k) (chosen : plan ≡ choose q.public.planner q.public.pack q.public.buffer q.flat.capacity k c) (unpadded : q.public.pad ≡ None) where
   -- whatever is left out, k and the plan are seen
   module _ (mid_slots : Slots) (size : length mid_slots ≡ q.flat.capacity) (suits : Rattle.ob_select.specs.Results.Suits (planned q plan k) mid_slots) (same : c ≡ is_consecutive (places q mid_slots)) where
     some : 1 ≤ length (places q mid_slots)
@@ -74,31 +77,28 @@ module _ (q : Selection) (k : ℕ) (c : Bool) (plan : Plan) (old mid : World) (i
     placed_so : (i : ℕ) → left_out (planned q plan k) mid_slots ≡ Some i → first_unplaced q.public (places q mid_slots) ≡ Some i
     placed_so i left = ap (λ (n : ℕ). Rattle.ob_row.specs.Results.unplaced n (bucket_size q.public) (places q mid_slots)) (sym suits.count) ∙ left_place (planned q plan k) plan mid_slots i left
 
-    forced_seen : IsSome q.public.plan → counted k (Some plan) None Whole ≡ selection_seen q mid_slots
-    forced_seen forced = ap (λ (n : ℕ). counted n (Some plan) None Whole) suits.count
-        ∙ sym (seen_is_first q.public (places q mid_slots) (length mid_slots) plan some planned_so unpadded (suits.consecutive, λ hashed. fallback_forced q.public.plan _ forced))
+    other_seen : q.public.planner ≢ Auto → counted k (Some plan) None Whole ≡ selection_seen q mid_slots
+    other_seen other = ap (λ (n : ℕ). counted n (Some plan) None Whole) suits.count
+        ∙ sym (seen_is_first q.public (places q mid_slots) (length mid_slots) plan some planned_so unpadded (suits.consecutive, λ hashed. fallback_other q.public.planner _ other))
 
-    forced_plan : (o : Option Plan) → plan ≡ choose o (buffered q.public.pack q.public.buffer) q.flat.capacity k c → IsSome o → o ≡ Some plan
-    forced_plan None is_it forced = absurd (cc forced)
-    forced_plan (Some other) is_it forced = ap Some (sym is_it)
-
-    forced_answer : (i : ℕ) → left_out (planned q plan k) mid_slots ≡ Some i → IsSome q.public.plan → Refused (Overflow i) ≡ selection_answer q mid_slots
-    forced_answer i left forced =
+    other_answer : (i : ℕ) → left_out (planned q plan k) mid_slots ≡ Some i → q.public.planner ≢ Auto → Refused (Overflow i) ≡ selection_answer q mid_slots
+    other_answer i left other =
         let hashed = left_hashed (planned q plan k) plan mid_slots i left in
-        let refuses = refuses_forced q.public (places q mid_slots) (length mid_slots) plan some planned_so unpadded i (forced_plan q.public.plan chosen forced ∙ ap Some hashed) (placed_so i left) in
+        let refuses = refuses_forced q.public (places q mid_slots) (length mid_slots) plan some planned_so unpadded i (forced_hash plan q.public.planner q.public.pack q.public.buffer q.flat.capacity k c chosen hashed other) (placed_so i left) in
         sym (ap (λ (o : Option Refusal). selected_as o (length (places q mid_slots))) refuses)
 
     -- what is seen of it
     pub seen_cases : (selection_seen q mid_slots ≡ counted k (Some plan) None Whole) ⊎ ((plan ≡ Hash) × IsSome (left_out (planned q plan k) mid_slots) × (selection_seen q mid_slots ≡ counted k (Some Hash) (Some Small) Whole))
     seen_cases = elim (none_or_some (left_out (planned q plan k) mid_slots)) [
       | inl none ↦ inl (sym (seen_last q k c plan old mid is side mid_slots size suits same least chosen unpadded none))
-      | inr left ↦ by_forced q.public.plan refl left.0 left.1
+      | inr left ↦ by_planner q.public.planner refl left.0 left.1
     ]
       where
-        by_forced : (o : Option Plan) → q.public.plan ≡ o → (i : ℕ) → left_out (planned q plan k) mid_slots ≡ Some i
+        by_planner : (planner : Planner) → q.public.planner ≡ planner → (i : ℕ) → left_out (planned q plan k) mid_slots ≡ Some i
             → (selection_seen q mid_slots ≡ counted k (Some plan) None Whole) ⊎ ((plan ≡ Hash) × IsSome (left_out (planned q plan k) mid_slots) × (selection_seen q mid_slots ≡ counted k (Some Hash) (Some Small) Whole))
-        by_forced (Some other) is_it i left = inl (sym (forced_seen (ap Rattle.std.specs.Prelude.is_some is_it)))
-        by_forced None is_it i left =
+        by_planner (Forced taken) is_it i left = inl (sym (other_seen (λ auto. cc (sym is_it ∙ auto))))
+        by_planner Cheapest is_it i left = inl (sym (other_seen (λ auto. cc (sym is_it ∙ auto))))
+        by_planner Auto is_it i left =
             let hashed = left_hashed (planned q plan k) plan mid_slots i left in
             inr (
               hashed,
@@ -155,8 +155,8 @@ module _ (q : Selection) (k : ℕ) (c : Bool) (plan : Plan) (old mid : World) (i
         let nolie = Rattle.ob_store.proofs.Steps.none_before mid.store new.store by.ran.ok.lasts.later s.nolie in
         let same = (counted_is q k c plan old mid is s.slots s.is nolie).1 in
         let left = refused_left _ why k (by.told (back s)) in (
-          by.told (back s) ∙ ap (λ (o : Option ℕ). selected_as (option_map Overflow o) k) left.1 ∙ forced_answer s.slots s.is.size (back s).suits same left.0 left.1 last,
-          forced_seen s.slots s.is.size (back s).suits same last,
+          by.told (back s) ∙ ap (λ (o : Option ℕ). selected_as (option_map Overflow o) k) left.1 ∙ other_answer s.slots s.is.size (back s).suits same left.0 left.1 last,
+          other_seen s.slots s.is.size (back s).suits same last,
         )
     first_told (Err e) last by s = by.told (end_back q k c plan old mid is side mid.vault.next new by.ran.err.lasts s)
 

@@ -8,7 +8,7 @@ use Rattle.ob_base.specs.declared.seen.Seen.{Seen}
 use Rattle.ob_base.specs.Lists.{each}
 use Rattle.ob_base.specs.Stored.{Stored}
 use Rattle.ob_base.specs.Accesses.{discard_at}
-use Rattle.ob_base.specs.Limits.{buffered, buffered_blocks}
+use Rattle.ob_base.specs.Limits.{buffered_blocks}
 use Rattle.ob_base.specs.Numbers.{blocks_for}
 use Rattle.ob_base.specs.Plans.{choose_padded, padded_rows}
 use Rattle.ob_script.specs.Parts.{continuous_block, continuous_part, copy_part, count_part, create_part, emission_part, hash_block, hash_part, large_part}
@@ -70,7 +70,7 @@ module _ (p : Public) (some : 0 < p.pack) (enough : 0 < buffered_blocks p.pack p
   behind_length (Some pad) now g h t ending =
       let q = padded_rows pad t.heading.capacity in
       both_length (padded_part p pad g (extent_of t)) (padded_part p pad h (extent_of t)) ending ending
-      (result_length (Some (choose_padded p.plan (buffered p.pack p.buffer) q)) q g h t) refl
+      (result_length (Some (choose_padded p.planner p.pack p.buffer t.heading.capacity q)) q g h t) refl
 
   pub select_length : (now : Seen) (g h : ℕ) (t : Stored ℕ) (ending : List Access)
       → length (select_part p now g (extent_of t) ending) ≡ length (select_part p now h (extent_of t) ending)

@@ -4,11 +4,12 @@ use Rattle.std.specs.Prelude.{if◌then◌else◌}
 use Rattle.std.specs.Option.{option_map}
 use Rattle.ob_base.specs.declared.config.Plan.{Plan}
 use Rattle.ob_base.specs.declared.config.Plan.TheVariants.{Small, Large, Continuous, Hash}
+use Rattle.ob_base.specs.declared.config.Planner.{Planner}
+use Rattle.ob_base.specs.declared.config.Planner.TheVariants.{Auto, Cheapest, Forced}
 use Rattle.ob_base.specs.declared.config.Public.{Public}
 use Rattle.ob_base.specs.declared.refusal.Refusal.TheVariants.{NotConsecutive, Overflow}
 use Rattle.ob_base.specs.declared.seen.End.TheVariants.{Whole, AfterCount}
 use Rattle.ob_base.specs.declared.shown.Shown.{Shown}
-use Rattle.ob_base.specs.Limits.{buffered}
 use Rattle.ob_base.specs.Plans.{choose}
 use Rattle.ob_row.specs.Slots.{is_consecutive}
 use Rattle.ob_mean.specs.Verdict.{counted, first_unplaced, fallback, forced_refusal, unpadded_refusal, refusal_by, rows_refusal, seen_unpadded, seen_by, seen_rows, seen_with, plan_for}
@@ -27,7 +28,7 @@ seen_some : (p : Public) (n : ℕ) (chosen : List ℕ) → 1 ≤ length chosen �
 seen_some p n [] some unpadded = absurd (omega (arith, some))
 seen_some p n (i ∷ is) some unpadded = seen_is p n (i ∷ is) unpadded
 
-refusal_some : (p : Public) (chosen : List ℕ) → 1 ≤ length chosen → p.pad ≡ None → rows_refusal p chosen ≡ forced_refusal p p.plan chosen
+refusal_some : (p : Public) (chosen : List ℕ) → 1 ≤ length chosen → p.pad ≡ None → rows_refusal p chosen ≡ forced_refusal p p.planner chosen
 refusal_some p [] some unpadded = absurd (omega (arith, some))
 refusal_some p (i ∷ is) some unpadded = refusal_is p (i ∷ is) unpadded
 
@@ -56,7 +57,7 @@ side_by_side p chosen false same is = absurd (cc is)
 module _ (p : Public) (chosen : List ℕ) where
   -- the first plan's result is the last
   abbrev pub Lasts : Plan → Type 0
-  Lasts plan = (plan ≡ Continuous → IsTrue (is_consecutive chosen)) × (plan ≡ Hash → fallback p.plan (first_unplaced p chosen) ≡ None)
+  Lasts plan = (plan ≡ Continuous → IsTrue (is_consecutive chosen)) × (plan ≡ Hash → fallback p.planner (first_unplaced p chosen) ≡ None)
 
   seen_first : (plan : Plan) → Lasts plan → seen_with p plan chosen ≡ counted (length chosen) (Some plan) None Whole
   seen_first Small is = refl
@@ -71,24 +72,27 @@ module _ (p : Public) (chosen : List ℕ) where
   last_first Hash is = ap (λ (o : Option Plan). if Rattle.std.specs.Prelude.is_some o then Small else Hash) (is.1 refl)
 
   -- the plan is the one that is forced
-  abbrev Follows : Option Plan → Plan → Type 0
-  Follows None plan = Unit {0}
-  Follows (Some forced) plan = plan ≡ forced
+  abbrev Follows : Planner → Plan → Type 0
+  Follows Auto plan = Unit {0}
+  Follows Cheapest plan = Unit {0}
+  Follows (Forced forced) plan = plan ≡ forced
 
-  follows : (forced : Option Plan) (plan : Plan) (s n k : ℕ) (c : Bool) → plan ≡ choose forced s n k c → Follows forced plan
-  follows None plan s n k c is = tt
-  follows (Some other) plan s n k c is = is
+  follows : (planner : Planner) (plan : Plan) (pack rows n k : ℕ) (c : Bool) → plan ≡ choose planner pack rows n k c → Follows planner plan
+  follows Auto plan pack rows n k c is = tt
+  follows Cheapest plan pack rows n k c is = tt
+  follows (Forced other) plan pack rows n k c is = is
 
-  none_refused : (forced : Option Plan) (plan : Plan) → Follows forced plan → (plan ≡ Continuous → IsTrue (is_consecutive chosen)) → (plan ≡ Hash → first_unplaced p chosen ≡ None) → forced_refusal p forced chosen ≡ None
-  none_refused None plan follows side room = refl
-  none_refused (Some Small) plan follows side room = refl
-  none_refused (Some Large) plan follows side room = refl
-  none_refused (Some Continuous) plan follows side room = go (is_consecutive chosen) (side follows)
+  none_refused : (planner : Planner) (plan : Plan) → Follows planner plan → (plan ≡ Continuous → IsTrue (is_consecutive chosen)) → (plan ≡ Hash → first_unplaced p chosen ≡ None) → forced_refusal p planner chosen ≡ None
+  none_refused Auto plan follows side room = refl
+  none_refused Cheapest plan follows side room = refl
+  none_refused (Forced Small) plan follows side room = refl
+  none_refused (Forced Large) plan follows side room = refl
+  none_refused (Forced Continuous) plan follows side room = go (is_consecutive chosen) (side follows)
     where
       go : (b : Bool) → IsTrue b → (if b then None else Some NotConsecutive) ≡ None
       go true is = refl
       go false is = absurd (cc is)
-  none_refused (Some Hash) plan follows side room = ap (option_map Overflow) (room follows)
+  none_refused (Forced Hash) plan follows side room = ap (option_map Overflow) (room follows)
 
   module _ (n : ℕ) (plan : Plan) (some : 1 ≤ length chosen) (is_plan : plan ≡ plan_for p n chosen) (unpadded : p.pad ≡ None) where
     pub seen_is_first : Lasts plan → seen_rows p n chosen ≡ counted (length chosen) (Some plan) None Whole
@@ -98,13 +102,13 @@ module _ (p : Public) (chosen : List ℕ) where
     last_is_first is = ap (λ (x : Plan). last_plan p x chosen) (sym is_plan) ∙ last_first plan is
 
     pub refuses_none : (plan ≡ Continuous → IsTrue (is_consecutive chosen)) → (plan ≡ Hash → first_unplaced p chosen ≡ None) → rows_refusal p chosen ≡ None
-    refuses_none side room = refusal_some p chosen some unpadded ∙ none_refused p.plan plan (follows p.plan plan (buffered p.pack p.buffer) n (length chosen) (is_consecutive chosen) is_plan) side room
+    refuses_none side room = refusal_some p chosen some unpadded ∙ none_refused p.planner plan (follows p.planner plan p.pack p.buffer n (length chosen) (is_consecutive chosen) is_plan) side room
 
-    pub refuses_forced : (i : ℕ) → p.plan ≡ Some Hash → first_unplaced p chosen ≡ Some i → rows_refusal p chosen ≡ Some (Overflow i)
-    refuses_forced i forced left = refusal_some p chosen some unpadded ∙ ap (λ (o : Option Plan). forced_refusal p o chosen) forced ∙ ap (option_map Overflow) left
+    pub refuses_forced : (i : ℕ) → p.planner ≡ Forced Hash → first_unplaced p chosen ≡ Some i → rows_refusal p chosen ≡ Some (Overflow i)
+    refuses_forced i forced left = refusal_some p chosen some unpadded ∙ ap (λ (planner : Planner). forced_refusal p planner chosen) forced ∙ ap (option_map Overflow) left
 
-    pub refuses_apart : p.plan ≡ Some Continuous → is_consecutive chosen ≡ false → rows_refusal p chosen ≡ Some NotConsecutive
-    refuses_apart forced apart = refusal_some p chosen some unpadded ∙ ap (λ (o : Option Plan). forced_refusal p o chosen) forced ∙ ap (λ (b : Bool). if b then None else Some NotConsecutive) apart
+    pub refuses_apart : p.planner ≡ Forced Continuous → is_consecutive chosen ≡ false → rows_refusal p chosen ≡ Some NotConsecutive
+    refuses_apart forced apart = refusal_some p chosen some unpadded ∙ ap (λ (planner : Planner). forced_refusal p planner chosen) forced ∙ ap (λ (b : Bool). if b then None else Some NotConsecutive) apart
 
     pub seen_apart : plan ≡ Continuous → is_consecutive chosen ≡ false → seen_rows p n chosen ≡ counted (length chosen) None None AfterCount
     seen_apart is apart =
@@ -112,14 +116,14 @@ module _ (p : Public) (chosen : List ℕ) where
         ∙ ap (λ (b : Bool). if b then counted (length chosen) (Some Continuous) None Whole else counted (length chosen) None None AfterCount) apart
 
     -- Small takes the place of a Hash that wasn't forced
-    pub seen_second : (i : ℕ) → plan ≡ Hash → p.plan ≡ None → first_unplaced p chosen ≡ Some i → seen_rows p n chosen ≡ counted (length chosen) (Some Hash) (Some Small) Whole
+    pub seen_second : (i : ℕ) → plan ≡ Hash → p.planner ≡ Auto → first_unplaced p chosen ≡ Some i → seen_rows p n chosen ≡ counted (length chosen) (Some Hash) (Some Small) Whole
     seen_second i is free left =
         seen_some p n chosen some unpadded ∙ ap (λ (x : Plan). seen_with p x chosen) (sym is_plan ∙ is)
         ∙ (λ j. counted (length chosen) (Some Hash) (fallback (free j) (left j)) Whole)
 
-    pub last_second : (i : ℕ) → plan ≡ Hash → p.plan ≡ None → first_unplaced p chosen ≡ Some i → last_plan p (plan_for p n chosen) chosen ≡ Small
+    pub last_second : (i : ℕ) → plan ≡ Hash → p.planner ≡ Auto → first_unplaced p chosen ≡ Some i → last_plan p (plan_for p n chosen) chosen ≡ Small
     last_second i is free left =
         ap (λ (x : Plan). last_plan p x chosen) (sym is_plan ∙ is) ∙ (λ j. if Rattle.std.specs.Prelude.is_some (fallback (free j) (left j)) then Small else Hash)
 
-    pub refuses_free : p.plan ≡ None → rows_refusal p chosen ≡ None
-    refuses_free free = refusal_some p chosen some unpadded ∙ ap (λ (o : Option Plan). forced_refusal p o chosen) free
+    pub refuses_free : p.planner ≡ Auto → rows_refusal p chosen ≡ None
+    refuses_free free = refusal_some p chosen some unpadded ∙ ap (λ (planner : Planner). forced_refusal p planner chosen) free

@@ -5,12 +5,12 @@ use Rattle.std.proofs.lemmas.List.{length-map}
 use Rattle.ob_base.specs.declared.access.Access.{Access}
 use Rattle.ob_base.specs.declared.config.Plan.{Plan}
 use Rattle.ob_base.specs.declared.config.Plan.TheVariants.{Small, Large, Continuous, Hash}
+use Rattle.ob_base.specs.declared.config.Planner.TheVariants.{Forced}
 use Rattle.ob_base.specs.declared.refusal.Refusal.TheVariants as Refusals
 use Rattle.ob_base.specs.declared.seen.Seen.{Seen}
 use Rattle.ob_base.specs.declared.seen.End.TheVariants.{Whole}
 use Rattle.ob_base.specs.declared.shown.Shown.{Shown}
 use Rattle.ob_base.specs.Events.{Event, row_events}
-use Rattle.ob_base.specs.Limits.{buffered}
 use Rattle.ob_base.specs.Plans.{IsPadded, MayPad, choose_padded, padded_rows}
 use Rattle.ob_room.specs.RoomState.{RoomState}
 use Rattle.ob_row.specs.Slots.{Slots, rows}
@@ -55,7 +55,7 @@ use Rattle.ob_select.proofs.SelectRuns.{counts_of, none_above, none_still, none_
 use Rattle.ob_select.proofs.SelectTold.{counted_is, held_mid}
 
 -- a plan that may be taken for a padded result asks for no order of the rows
-side_of : (plan : Plan) → MayPad (Some plan) → plan ≡ Continuous → ⊥
+side_of : (plan : Plan) → MayPad (Forced plan) → plan ≡ Continuous → ⊥
 side_of Small may is = cc is
 side_of Large may is = cc is
 side_of Continuous may is = absurd may
@@ -67,7 +67,7 @@ shown_padded [] [] same = refl
 shown_padded [] (x ∷ shown) same = absurd (omega (arith, same))
 shown_padded (i ∷ is) shown same = refl
 
-left_padded : (r : Planned) (plan : Plan) (slots : Slots) → MayPad (Some plan) → None ≡ left_by r plan slots
+left_padded : (r : Planned) (plan : Plan) (slots : Slots) → MayPad (Forced plan) → None ≡ left_by r plan slots
 left_padded r Small slots may = refl
 left_padded r Large slots may = refl
 left_padded r Continuous slots may = absurd may
@@ -90,24 +90,24 @@ module _ (q : Selection) (pad : ℕ) (is_pad : q.public.pad ≡ Some pad) where
 
   plan_padded : (slots : Slots) (k : ℕ) → length slots ≡ q.flat.capacity → (padded_to q pad k).plan ≡ result_plan q.public.pad q.public (length slots) (places q slots)
   plan_padded slots k size =
-      ap (λ (n : ℕ). choose_padded q.public.plan (buffered q.public.pack q.public.buffer) (padded_rows pad n)) (sym size)
+      ap (λ (n : ℕ). choose_padded q.public.planner q.public.pack q.public.buffer n (padded_rows pad n)) (sym size)
       ∙ sym (ap (λ (o : Option ℕ). result_plan o q.public (length slots) (places q slots)) is_pad)
 
-  pub pad_some : IsPadded q.public.pad q.public.plan → (1 ≤ pad) × MayPad q.public.plan
-  pad_some is = let all = subst (λ (o : Option ℕ). IsPadded o q.public.plan) is_pad is in (all.0, all.2)
+  pub pad_some : IsPadded q.public.pad q.public.planner → (1 ≤ pad) × MayPad q.public.planner
+  pad_some is = let all = subst (λ (o : Option ℕ). IsPadded o q.public.planner) is_pad is in (all.0, all.2)
 
   ends_padded : EndsPadded q (seen_to Whole)
   ends_padded = record { padded = ap is_some is_pad; nothing = refl }
 
-  module _ (k : ℕ) (c : Bool) (old mid : World) (is : CountsRows q.public.pack q.flat (is_true q.condition) (Ok (record { k = k; consecutive = c })) old mid) (may_plan : MayPad q.public.plan) where
+  module _ (k : ℕ) (c : Bool) (old mid : World) (is : CountsRows q.public.pack q.flat (is_true q.condition) (Ok (record { k = k; consecutive = c })) old mid) (may_plan : MayPad q.public.planner) where
     abbrev r : Planned
     r = padded_to q pad k
 
     count : Went (counts_of q) none old mid
     count = is.ran.ok
 
-    may_taken : MayPad (Some r.plan)
-    may_taken = may_choose q.public.plan (buffered q.public.pack q.public.buffer) (padded_rows pad q.flat.capacity) may_plan
+    may_taken : MayPad (Forced r.plan)
+    may_taken = may_choose q.public.planner q.public.pack q.public.buffer q.flat.capacity (padded_rows pad q.flat.capacity) may_plan
 
     suits : (slots : Slots) → k ≡ length (places q slots) → Suits r slots
     suits slots is = record { count = is; consecutive = λ same. absurd (side_of r.plan may_taken same) }

@@ -2,12 +2,12 @@
 use Rattle.std.proofs.Common.{◌≡◌, ◌⊎◌, inl, ◌≤◌, ◌+◌, ◌-◌, ℕ, Bool, IsTrue, List, [], ◌++◌, append_assoc, Option, None, Some, Result, Ok, Err, length, refl, sym, ◌∙◌, ap, subst, arith}
 use Rattle.std.specs.Prelude.{IfErr, IfOk, MatchResult, map}
 use Rattle.ob_base.specs.declared.config.Plan.TheVariants.{Small, Hash}
+use Rattle.ob_base.specs.declared.config.Planner.TheVariants.{Auto}
 use Rattle.ob_base.specs.declared.refusal.Refusal.TheVariants.{Overflow}
 use Rattle.ob_base.specs.declared.access.Access.{Access}
 use Rattle.ob_base.specs.declared.seen.Seen.{Seen}
 use Rattle.ob_base.specs.declared.seen.End.TheVariants.{Whole}
 use Rattle.ob_base.specs.Events.{Event, row_events}
-use Rattle.ob_base.specs.Limits.{buffered}
 use Rattle.ob_base.specs.Plans.{choose}
 use Rattle.ob_row.specs.Slots.{Slots, rows, is_consecutive}
 use Rattle.ob_row.specs.Results.{result_slots, unplaced}
@@ -45,7 +45,7 @@ use Rattle.ob_select.proofs.SelectTold.{refused_left, counted_is, held_mid}
 use Rattle.ob_select.proofs.SelectHeld.{walked_held, walked_hash, done_behind}
 
 module _ (q : Selection) (k : ℕ) (c : Bool) (old mid : World) (ready : Ready old) (is : CountsRows q.public.pack q.flat (is_true q.condition) (Ok (record { k = k; consecutive = c })) old mid)
-    (least : 1 ≤ k) (free : q.public.plan ≡ None) (chosen : Hash ≡ choose q.public.plan (buffered q.public.pack q.public.buffer) q.flat.capacity k c) (unpadded : q.public.pad ≡ None) where
+    (least : 1 ≤ k) (free : q.public.planner ≡ Auto) (chosen : Hash ≡ choose q.public.planner q.public.pack q.public.buffer q.flat.capacity k c) (unpadded : q.public.pad ≡ None) where
   -- slots of which one finds no bucket
   module _ (slots : Slots) (size : length slots ≡ q.flat.capacity) (count : k ≡ length (places q slots)) (same : c ≡ is_consecutive (places q slots))
       (j : ℕ) (left : unplaced k (bucket_size q.public) (places q slots) ≡ Some j) where
@@ -53,7 +53,7 @@ module _ (q : Selection) (k : ℕ) (c : Bool) (old mid : World) (ready : Ready o
     some = omega (arith, least, count)
 
     so : Hash ≡ plan_for q.public (length slots) (places q slots)
-    so = chosen ∙ (λ i. choose q.public.plan (buffered q.public.pack q.public.buffer) (sym size i) (count i) (same i))
+    so = chosen ∙ (λ i. choose q.public.planner q.public.pack q.public.buffer (sym size i) (count i) (same i))
 
     left_so : first_unplaced q.public (places q slots) ≡ Some j
     left_so = ap (λ (n : ℕ). unplaced n (bucket_size q.public) (places q slots)) (sym count) ∙ left

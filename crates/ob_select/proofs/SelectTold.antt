@@ -4,10 +4,11 @@ use Rattle.std.specs.Prelude.{map}
 use Rattle.std.specs.Option.{option_map}
 use Rattle.ob_base.specs.declared.config.Plan.{Plan}
 use Rattle.ob_base.specs.declared.config.Plan.TheVariants.{Continuous, Hash}
+use Rattle.ob_base.specs.declared.config.Planner.{Planner}
+use Rattle.ob_base.specs.declared.config.Planner.TheVariants.{Auto, Cheapest, Forced}
 use Rattle.ob_base.specs.declared.refusal.Refusal.{Refusal}
 use Rattle.ob_base.specs.declared.refusal.Refusal.TheVariants.{Overflow}
 use Rattle.ob_base.specs.Events.{row_events}
-use Rattle.ob_base.specs.Limits.{buffered}
 use Rattle.ob_base.specs.Plans.{choose}
 use Rattle.ob_row.specs.Slots.{Slots, rows, is_consecutive}
 use Rattle.ob_row.specs.Results.{result_slots, unplaced}
@@ -31,9 +32,10 @@ use Rattle.ob_select.proofs.ResultRows.{left_hash}
 use Rattle.ob_select.proofs.SelectRuns.{counts_of}
 use Rattle.ob_select.proofs.SelectMeans.{Lasts as IsLast, seen_is_first, last_is_first, refuses_none, shown_some}
 
-fallback_none : (o : Option Plan) → fallback o None ≡ None
-fallback_none None = refl
-fallback_none (Some plan) = refl
+fallback_none : (planner : Planner) → fallback planner None ≡ None
+fallback_none Auto = refl
+fallback_none Cheapest = refl
+fallback_none (Forced plan) = refl
 
 -- rows are answered only where none was left out
 pub rows_left : (o : Option ℕ) (n k : ℕ) → Rows n ≡ selected_as (option_map Overflow o) k → None ≡ o
@@ -75,12 +77,12 @@ module _ (q : Selection) (k : ℕ) (c : Bool) (plan : Plan) (old mid : World) (i
 
     -- of slots that are counted so
     module _ (slots : Slots) (size : length slots ≡ q.flat.capacity) (suits : Suits r slots) (same : c ≡ is_consecutive (places q slots)) (least : 1 ≤ k)
-        (chosen : plan ≡ choose q.public.plan (buffered q.public.pack q.public.buffer) q.flat.capacity k c) (unpadded : q.public.pad ≡ None) where
+        (chosen : plan ≡ choose q.public.planner q.public.pack q.public.buffer q.flat.capacity k c) (unpadded : q.public.pad ≡ None) where
       some : 1 ≤ length (places q slots)
       some = omega (arith, least, suits.count)
 
       pub is_plan : plan ≡ plan_for q.public (length slots) (places q slots)
-      is_plan = chosen ∙ (λ i. choose q.public.plan (buffered q.public.pack q.public.buffer) (sym size i) (suits.count i) (same i))
+      is_plan = chosen ∙ (λ i. choose q.public.planner q.public.pack q.public.buffer (sym size i) (suits.count i) (same i))
 
       unplaced_is : first_unplaced q.public (places q slots) ≡ unplaced k (bucket_size q.public) (places q slots)
       unplaced_is = ap (λ (n : ℕ). unplaced n (bucket_size q.public) (places q slots)) (sym suits.count)
@@ -91,7 +93,7 @@ module _ (q : Selection) (k : ℕ) (c : Bool) (plan : Plan) (old mid : World) (i
         room hashed = unplaced_is ∙ left_hash r slots plan left hashed
 
         is_last : IsLast q.public (places q slots) plan
-        is_last = (suits.consecutive, λ hashed. ap (fallback q.public.plan) (room hashed) ∙ fallback_none q.public.plan)
+        is_last = (suits.consecutive, λ hashed. ap (fallback q.public.planner) (room hashed) ∙ fallback_none q.public.planner)
 
         result_is : held_slots r slots ≡ result_of q slots
         result_is =

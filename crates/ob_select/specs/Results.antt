@@ -5,12 +5,12 @@ use Rattle.std.specs.List.{list_all}
 use Rattle.ob_base.specs.declared.access.Access.{Access}
 use Rattle.ob_base.specs.declared.config.Plan.{Plan}
 use Rattle.ob_base.specs.declared.config.Plan.TheVariants.{Small, Large, Continuous, Hash}
+use Rattle.ob_base.specs.declared.config.Planner.TheVariants.{Forced}
 use Rattle.ob_base.specs.declared.refusal.Refusal.{Refusal}
 use Rattle.ob_base.specs.declared.refusal.Refusal.TheVariants.{Overflow, PadPassed}
 use Rattle.ob_base.specs.declared.shown.Shown.{Shown}
 use Rattle.ob_base.specs.Events.{Event, Leads, IsEmitted, row_events}
 use Rattle.ob_base.specs.declared.config.Public.{Public}
-use Rattle.ob_base.specs.Limits.{buffered}
 use Rattle.ob_base.specs.Plans.{choose, choose_padded, padded_rows}
 use Rattle.ob_room.specs.RoomState.{RoomState}
 use Rattle.ob_row.specs.Results.{result_slots, unplaced}
@@ -66,7 +66,7 @@ padded q plan taken pad k =
 abbrev pub padded_to : Selection → (pad k : ℕ) → Planned
 padded_to q pad k =
     let rows = padded_rows pad q.flat.capacity in
-    padded q (choose_padded q.public.plan (buffered q.public.pack q.public.buffer) rows) rows pad k
+    padded q (choose_padded q.public.planner q.public.pack q.public.buffer q.flat.capacity rows) rows pad k
 
 -- ---- its sizes, and its accesses where its region is g
 abbrev pub slots_for : Planned → (plan : Plan) → ℕ
@@ -294,6 +294,6 @@ pub record EmitsHead {E : Type 0} (grew cut : E → E → List Event → Type 0)
 pub record ChoosesPlan (public : Public) (n k : ℕ) (consecutive : Bool)
     (result : Option Plan) : Type 0 where
   pub some : IfSome result (λ plan.
-      (plan ≡ choose public.plan (buffered public.pack public.buffer) n k consecutive)
+      (plan ≡ choose public.planner public.pack public.buffer n k consecutive)
       × (plan ≡ Continuous → IsTrue consecutive))
-  pub none : result ≡ None → (public.plan ≡ Some Continuous) × (consecutive ≡ false)
+  pub none : result ≡ None → (public.planner ≡ Forced Continuous) × (consecutive ≡ false)

@@ -4,6 +4,7 @@ use Rattle.ob_base.specs.declared.schema.Shape.TheVariants.{Flat as FlatShape}
 use Rattle.ob_base.specs.declared.access.Access.{Access}
 use Rattle.ob_base.specs.declared.config.Plan.{Plan}
 use Rattle.ob_base.specs.declared.config.Plan.TheVariants.{Small, Continuous, Hash}
+use Rattle.ob_base.specs.declared.config.Planner.TheVariants.{Auto, Forced}
 use Rattle.ob_base.specs.declared.config.Public.{Public}
 use Rattle.ob_base.specs.declared.refusal.Refusal.{Refusal}
 use Rattle.ob_base.specs.declared.refusal.Refusal.TheVariants.{NotConsecutive, Overflow, PadPassed}
@@ -11,7 +12,6 @@ use Rattle.ob_base.specs.declared.seen.Seen.{Seen}
 use Rattle.ob_base.specs.declared.seen.End.TheVariants.{Whole, AfterCount}
 use Rattle.ob_base.specs.declared.shown.Shown.{Shown}
 use Rattle.ob_base.specs.Events.{Event, Leads, IsEmitted, row_events}
-use Rattle.ob_base.specs.Limits.{buffered}
 use Rattle.ob_base.specs.Plans.{choose}
 use Rattle.ob_base.specs.Schemas.{Columns}
 use Rattle.ob_base.specs.Stored.{Stored}
@@ -140,7 +140,7 @@ pub record IsPlanOf (q : Selection) (k : ℕ) (plan : Plan) : Type 0 where
   pub some : 1 ≤ k
   pub consecutive : Bool
   pub chosen : plan
-      ≡ choose q.public.plan (buffered q.public.pack q.public.buffer) q.flat.capacity k consecutive
+      ≡ choose q.public.planner q.public.pack q.public.buffer q.flat.capacity k consecutive
 
 -- k is a count of its slots, where results aren't padded
 pub record IsCountOf (q : Selection) (k : ℕ) : Type 0 where
@@ -149,10 +149,10 @@ pub record IsCountOf (q : Selection) (k : ℕ) : Type 0 where
 
 abbrev pub MayHold : Selection → (k : Option ℕ) → (plan second : Option Plan) → Type 0
 MayHold q None None None = ⊤
-MayHold q (Some k) None None = IsCountOf q k × ((k ≡ 0) ⊎ (q.public.plan ≡ Some Continuous))
+MayHold q (Some k) None None = IsCountOf q k × ((k ≡ 0) ⊎ (q.public.planner ≡ Forced Continuous))
 MayHold q (Some k) (Some plan) None = IsCountOf q k × IsPlanOf q k plan
 MayHold q (Some k) (Some Hash) (Some Small) =
-    IsCountOf q k × IsPlanOf q k Hash × (q.public.plan ≡ None)
+    IsCountOf q k × IsPlanOf q k Hash × (q.public.planner ≡ Auto)
 MayHold q _ _ _ = ⊥
 
 -- it came to its end, and without a plan where none was counted
@@ -167,13 +167,13 @@ pub record EndsUnplanned (q : Selection) (seen : Seen) : Type 0 where
   pub k : ℕ
   pub some : 1 ≤ k
   pub count : seen.k ≡ Some k
-  pub forced : q.public.plan ≡ Some Continuous
+  pub forced : q.public.planner ≡ Forced Continuous
   pub plan : seen.plan ≡ None
   pub end : seen.end ≡ AfterCount
 
 -- a forced Hash left a row out
 pub record EndsOverflowed (q : Selection) (seen : Seen) : Type 0 where
-  pub forced : q.public.plan ≡ Some Hash
+  pub forced : q.public.planner ≡ Forced Hash
   pub plan : seen.plan ≡ Some Hash
   pub second : seen.then ≡ None
   pub end : seen.end ≡ Whole

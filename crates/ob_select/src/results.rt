@@ -1,5 +1,6 @@
 //! The result of a selection by one plan: made, read back and discarded.
 ghost use Rattle.std.specs.Prelude.{◌≡◌, ◌≤◌, ◌+◌, ℕ, Some, length};
+ghost use Rattle.ob_base.specs.declared.config.Planner.TheVariants.{Forced};
 ghost use Rattle.ob_base.specs.Plans.{MayPad};
 ghost use Rattle.ob_base.specs.Schemas.{width};
 ghost use Rattle.ob_blocks.specs.Idle.{IsIdle};
@@ -60,7 +61,7 @@ pub fn padded_length(public: &Public, n: u32) -> u64
         return 0;
     };
     let rows = pad.min(n);
-    result_length(public, n, rows, padded_plan(rows, public))
+    result_length(public, n, rows, padded_plan(n, rows, public))
 }
 
 // A result that has each row.
@@ -113,7 +114,7 @@ fn make_padded<S: BlockStore, R: Revisions>(
 ) -> Result<Flat, OpErr>
     requires may { IsPlanned (planned (selection_of _public.now query.now) plan rows) room.old
         (at R.state vault.old (S.state store.old)) }
-    requires plan { MayPad (Some plan) }
+    requires plan { MayPad (Forced plan) }
     requires spare { length (make_part (planned (selection_of _public.now query.now) plan rows)
         vault.old.next) ≤ (S.state store.old).spare }
     ensures room { KeepsRoom room.old room.new }
@@ -243,7 +244,7 @@ pub(crate) fn select_padded<S: BlockStore, R: Revisions, E: Emit>(
     requires spare { query.now.ending + length (whole_part
         (padded_to (selection_of public.now query.now) pad k) vault.old.next)
         ≤ (S.state store.old).spare }
-    requires plan { MayPad public.now.plan }
+    requires plan { MayPad public.now.planner }
     requires count { k ≤ query.now.flat.now.capacity }
     ensures room { KeepsRoom room.old room.new }
     ensures selects { SelectsBy E.grew E.cut E.faults
@@ -252,7 +253,7 @@ pub(crate) fn select_padded<S: BlockStore, R: Revisions, E: Emit>(
         out.old out.new }
 {
     let rows = pad.min(query.flat.capacity);
-    let plan = padded_plan(rows, public);
+    let plan = padded_plan(query.flat.capacity, rows, public);
     let fresh = make_padded(store, vault, room, public, query, rows, plan)?;
     if k > pad {
         walk_result(store, vault, room, fresh)?;

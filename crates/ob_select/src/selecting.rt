@@ -1,5 +1,6 @@
 //! A SELECT of rows from one region, a table's or a joined one.
-ghost use Rattle.std.specs.Prelude.{◌≡◌};
+ghost use Rattle.std.specs.Prelude.{◌≡◌, ◌≢◌, true, false};
+ghost use Rattle.ob_base.specs.declared.config.Planner.TheVariants.{Auto};
 ghost use Rattle.ob_base.specs.declared.seen.End.TheVariants.{Whole};
 ghost use Rattle.ob_vault.specs.Places.{at};
 ghost use Rattle.ob_mean.specs.Verdict.{ended as seen_to};
@@ -9,7 +10,7 @@ ghost use Rattle.ob_select.specs.Results.{ChoosesPlan, EmitsHead};
 ghost use Rattle.ob_select.specs.Selecting.{MaySelect, SelectsFrom, UsesRoom, selection_of};
 
 use crate::results::{select_by, select_padded};
-use ob_base::{Emit, EmitErr, End, Plan, Public, Refusal, Seen};
+use ob_base::{Emit, EmitErr, End, Plan, Planner, Public, Refusal, Seen};
 use ob_emit::emit_head;
 use ob_flat::{Counted, Flat, OpErr};
 use ob_room::Room;
@@ -54,6 +55,7 @@ fn emit_none<E: Emit>(query: &Query<'_>, out: &mut E) -> Result<Selected, OpErr>
 }
 
 // The plan for so many of `n` rows; none where Continuous is forced, and they don't stand side by side.
+#[tactic(auto, using(ob_base::proofs::PlanLemmas::forced_apart))]
 fn plan_of(n: u32, counted: Counted, public: &Public) -> Option<Plan>
     requires { AreSettings public.now }
     ensures { ChoosesPlan public.now n counted.k counted.consecutive result }
@@ -68,6 +70,18 @@ fn plan_of(n: u32, counted: Counted, public: &Public) -> Option<Plan>
             }
         }
         Plan::Small | Plan::Large | Plan::Hash => Some(plan),
+    }
+}
+
+// Whether no other plan follows a Hash that left a row out: Small does where that was chosen by the rows that may
+// be buffered.
+fn is_last(public: &Public) -> bool
+    ensures last { result ≡ true → public.now.planner ≢ Auto }
+    ensures followed { result ≡ false → public.now.planner ≡ Auto }
+{
+    match public.planner {
+        Planner::Auto => false,
+        Planner::Cheapest | Planner::Forced(_) => true,
     }
 }
 
@@ -118,7 +132,7 @@ pub fn select_from<S: BlockStore, R: Revisions, E: Emit>(
     match select_by(store, vault, room, public, query, counted.k, plan, out)? {
         Selected::Rows(n) => Ok(Selected::Rows(n)),
         Selected::Refused(refusal) => {
-            if public.plan.is_some() {
+            if is_last(public) {
                 return Ok(Selected::Refused(refusal));
             }
             seen.then = Some(Plan::Small);

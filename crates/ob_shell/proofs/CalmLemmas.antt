@@ -47,7 +47,7 @@ module _ {R : Type 0} (state : R → RevState) where
 
   pub step_calm : (m0 m1 : Machine R) (text : List ℕ) (answer : Answer) → Step state m0 m1 text answer → IsCalm m0 → IsCalm m1
   step_calm m0 m1 text answer step calm = elim step.done [
-    | inl bad ↦ subst (λ (m : Machine R). IsCalm m) (sym bad.same) calm
+    | inl still ↦ subst (λ (m : Machine R). IsCalm m) (sym still.same) calm
     | inr did ↦ did.does.ran.cause.1 calm
   ]
 

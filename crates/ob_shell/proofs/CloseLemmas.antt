@@ -1,6 +1,6 @@
 -- What a run promises once its last line was written.
 use Rattle.std.specs.Prelude.{⊤, ◌≢◌}
-use Rattle.std.proofs.Common.{◌≡◌, ◌⊎◌, ℕ, Bool, true, false, List, [], ◌++◌, Option, Ok, Err, refl, sym, subst, arith}
+use Rattle.std.proofs.Common.{◌≡◌, ◌⊎◌, ℕ, Bool, true, false, List, [], ◌++◌, Option, Ok, Err, refl, sym, inl, subst, arith}
 use Rattle.ob_base.specs.Counts.{Rises}
 use Rattle.ob_base.specs.declared.config.Config.{Config}
 use Rattle.ob_base.specs.declared.refusal.Stop.TheVariants.{Tampered, SourceFault, SinkFault, NoMemory, InputLimit, StoreFault, StashFull, KeeperFault}
@@ -17,11 +17,11 @@ use Rattle.ob_print.specs.Cuts.{Outputs}
 use Rattle.ob_shell.proofs.CompleteLemmas.{reported_line, reported_quiet}
 use Rattle.ob_shell.proofs.TopLemmas.{shown_unread}
 use Rattle.ob_shell.specs.Closed.{Unwritten, LineWritten, refused_by}
-use Rattle.ob_shell.specs.Running.{OutFailed}
-use Rattle.ob_shell.specs.Top.{EndingCause, EndingWords, IsFresh, Reported, RunShown, TraceSink}
+use Rattle.ob_shell.specs.Running.{OutFailed, ServesAlone}
+use Rattle.ob_shell.specs.Top.{EndingCause, EndingWords, IsFresh, Reported, RunShown, TraceSink, StatusCause}
 use Rattle.ob_shell.specs.declared.top.Ended.{Ended}
-use Rattle.ob_shell.specs.declared.words.WordsErr.{WordsErr}
-use Rattle.ob_shell.specs.declared.words.WordsErr.TheVariants as Words
+use Rattle.ob_words.specs.declared.words.WordsErr.{WordsErr}
+use Rattle.ob_words.specs.declared.words.WordsErr.TheVariants as Words
 use Rattle.ob_store.specs.State.{StoreState}
 use Rattle.ob_seal.specs.KeySet.{KeySet}
 
@@ -29,7 +29,7 @@ module _ {tally : Tally} {tr : TraceSink} {Takes : Type 0} {base : Base} {keys :
   -- the last line was written, or might not be
   pub reported_closed : (ended : Ended) (report : Report) (old mid new : Faults)
       → report.status ≡ status_of ended.ending → report.high ≡ ended.high → EndingWords ended.ending Takes
-      → RunShown tally tr base keys l0 l1 gave w0 w1 s0 s1 ended.high ended.ending [] (OutFailed ended.quiet old.out mid.out) → EndingCause ended.ending old mid
+      → RunShown tally tr base keys l0 l1 gave w0 w1 s0 s1 ended.high ended.ending [] (OutFailed ended.quiet old.out mid.out) → EndingCause (ServesAlone base.public) ended.ending old mid
       → (ended.quiet ≡ true → Unwritten w1 w2 mid.out new.out) → (ended.quiet ≡ false → LineWritten (last_line ended.ending) w1 w2 mid.out new.out)
       → (ended.quiet ≡ true → SinksRose old mid) → (ended.quiet ≡ false → mid.trace ≡ old.trace) → new.trace ≡ mid.trace → new.source ≡ mid.source
       → Reported tally tr Takes base keys l0 l1 gave w0 w2 s0 s1 old new report
@@ -53,9 +53,9 @@ pub words_end : (error : WordsErr) {Takes : Type 0} → (error ≡ Words.Usage �
 words_end Words.Usage not = not refl
 words_end Words.NoMemory not = tt
 
-pub words_cause : (error : WordsErr) (faults : Faults) → EndingCause (refused_by error) faults faults
-words_cause Words.Usage faults = record { source = refl; out = refl; trace = refl }
-words_cause Words.NoMemory faults = (refl, omega arith, omega arith)
+pub words_cause : (Alone : Type 0) (error : WordsErr) (faults : Faults) → EndingCause Alone (refused_by error) faults faults
+words_cause Alone Words.Usage faults = record { source = refl; out = refl; trace = refl }
+words_cause Alone Words.NoMemory faults = ((λ alone. refl, inl refl), omega arith, omega arith)
 
 unfoldable pub words_shown : {F : Type 0} {keys : List ℕ → KeySet} (tally : Tally) (tr : TraceSink) (settings : Option Config) (error : WordsErr) (l : Option (List ℕ)) (gave : ℕ) (w : Option (List ℕ)) (s : StoreState) → IsFresh s → tr.new ≡ tr.old
     → RunShown tally tr (fresh settings) keys l l gave w w s s 0 (refused_by error) [] F
@@ -75,7 +75,7 @@ pub reported_words : (tally : Tally) (tr : TraceSink) {Takes : Type 0} {keys : L
     → Reported tally tr Takes (fresh settings) keys l l gave w0 w1 s s old new report
 reported_words tally tr {settings = settings} {gave = gave} {l = l} {w0 = w0} {s = s} error report old new fresh untraced not status high line trace source =
     reported_closed (record { ending = refused_by error; quiet = false; high = 0; tally = tally }) report old old new status high (words_end error not)
-    (words_shown tally tr settings error l gave w0 s fresh untraced) (words_cause error old) (λ loud. absurd (cc loud)) (λ loud. line) (λ loud. absurd (cc loud)) (λ loud. refl) trace source
+    (words_shown tally tr settings error l gave w0 s fresh untraced) (words_cause _ error old) (λ loud. absurd (cc loud)) (λ loud. line) (λ loud. absurd (cc loud)) (λ loud. refl) trace source
 
 -- the words were taken
 pub words_taken : (ending : Ending) {Takes : Type 0} → EndingWords ending ⊤ → Takes → EndingWords ending Takes
@@ -106,7 +106,7 @@ reported_taken {tally = tally} {tr = tr} {Takes = Takes} {keys = keys} {gave = g
       shown = both.0;
       through = both.2;
       silent = both.1;
-      cause = r.cause;
+      cause = subst (λ (o : Option Config). StatusCause (ServesAlone (fresh o).public) r.ending old new) (sym is) r.cause;
       completes = λ taken input e keeps source sinks.
           subst (λ (o : Option Config). FromEach (fresh o) (λ s. IsCompleted (IsHonest s0 s1) (StoreFails (fresh o) s0 s1) ((fresh o).public.save ≡ true) r.ending)) (sym is)
           (r.completes tt input e (subst (λ (o : Option Config). KeepsLimits (limit_of o) input) is keeps) source sinks);

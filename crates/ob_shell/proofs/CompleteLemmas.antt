@@ -1,4 +1,5 @@
 -- An input that keeps to the limits is served to its end.
+use Rattle.ob_shell.specs.Running.{ServesAlone}
 use Rattle.std.proofs.Common.{◌≡◌, ℕ, ◌≤◌, Bool, true, false, List, [], ◌++◌, length, Option, Some, None, Ok, Err, refl, ap, ◌∙◌, subst, inl, inr, arith, append-nil, length-append}
 use Rattle.std.proofs.KnownBytes.{Appends-nil}
 use Rattle.std.specs.Io.KnownBytes.{Consumes}
@@ -20,7 +21,7 @@ use Rattle.ob_headline.specs.declared.ending.Report.{Report}
 use Rattle.ob_print.proofs.CutLemmas.{Outputs-by, Outputs-fault}
 use Rattle.ob_print.specs.Cuts.{Outputs}
 use Rattle.ob_shell.proofs.KeyLemmas.{after_line-none, first_line-long, secret_of-long}
-use Rattle.ob_shell.proofs.RunLemmas.{took_more, took_of, took_or}
+use Rattle.ob_shell.proofs.TookLemmas.{took_more, took_of, took_or}
 use Rattle.ob_shell.proofs.TopLemmas.{first_line-more, after_line-more, shown_line, cut_line, quiet_line, line_rose, status_cause}
 use Rattle.ob_shell.specs.Top.{TraceSink, EndsUntampered, EndingSays, EndingWords, EndingCause, RunShown, StatusCause, Reported}
 use Rattle.ob_store.specs.State.{StoreState}
@@ -58,28 +59,28 @@ module _ (taken rest : List ℕ) (secret : HasSecret (taken ++ rest)) where
       let k = rw all at small in cc
   not_over false lf small over = let k = rw (after_line-none taken lf, rest_of-nil) at over in cc
 
-limits_kept : (ending : Ending) (max : ℕ) (taken rest : List ℕ) (ended : Bool) (more : List (List ℕ)) (part : List ℕ) {Takes : Type 0}
+limits_kept : (Alone : Type 0) (ending : Ending) (max : ℕ) (taken rest : List ℕ) (ended : Bool) (more : List (List ℕ)) (part : List ℕ) {Takes : Type 0}
     → Takes → EndingWords ending Takes
-    → KeepsLimits max (taken ++ rest) → EndingSays ending max taken (Some rest) ended more part → (old new : Faults) → StatusCause ending old new
+    → KeepsLimits max (taken ++ rest) → EndingSays ending max taken (Some rest) ended more part → (old new : Faults) → StatusCause Alone ending old new
     → ¬ Rises old.source new.source → ¬ SinksRose old new → {Honest Faulted Saving : Type 0} → (Honest → EndsUntampered ending) → (ending ≡ Ran (Err StoreFault) → Faulted) → (ending ≡ Ran (Err KeeperFault) → Saving) → IsCompleted Honest Faulted Saving ending
-limits_kept Usage max taken rest ended more part t words k says old new cause a c calm faulted saving = words t
-limits_kept BadKey max taken rest ended more part t words k says old new cause a c calm faulted saving = good_key taken rest k.secret says.1 says.0
-limits_kept (Ran (Ok refused)) max taken rest ended more part t words k says old new cause a c calm faulted saving = tt
-limits_kept (Ran (Err (Tampered region place))) max taken rest ended more part t words k says old new cause a c calm faulted saving = calm
-limits_kept (Ran (Err SourceFault)) max taken rest ended more part t words k says old new cause a c calm faulted saving = a cause
-limits_kept (Ran (Err SinkFault)) max taken rest ended more part t words k says old new cause a c calm faulted saving = c cause.1
-limits_kept (Ran (Err NoMemory)) max taken rest ended more part t words k says old new cause a c calm faulted saving = tt
-limits_kept (Ran (Err StoreFault)) max taken rest ended more part t words k says old new cause a c calm faulted saving = faulted refl
-limits_kept (Ran (Err StashFull)) max taken rest ended more part t words k says old new cause a c calm faulted saving = tt
-limits_kept (Ran (Err KeeperFault)) max taken rest ended more part t words k says old new cause a c calm faulted saving = saving refl
-limits_kept (Ran (Err InputLimit)) max taken rest ended more part t words k says old new cause a c calm faulted saving =
+limits_kept Alone Usage max taken rest ended more part t words k says old new cause a c calm faulted saving = words t
+limits_kept Alone BadKey max taken rest ended more part t words k says old new cause a c calm faulted saving = good_key taken rest k.secret says.1 says.0
+limits_kept Alone (Ran (Ok refused)) max taken rest ended more part t words k says old new cause a c calm faulted saving = tt
+limits_kept Alone (Ran (Err (Tampered region place))) max taken rest ended more part t words k says old new cause a c calm faulted saving = calm
+limits_kept Alone (Ran (Err SourceFault)) max taken rest ended more part t words k says old new cause a c calm faulted saving = a cause
+limits_kept Alone (Ran (Err SinkFault)) max taken rest ended more part t words k says old new cause a c calm faulted saving = c cause.1
+limits_kept Alone (Ran (Err NoMemory)) max taken rest ended more part t words k says old new cause a c calm faulted saving = tt
+limits_kept Alone (Ran (Err StoreFault)) max taken rest ended more part t words k says old new cause a c calm faulted saving = faulted refl
+limits_kept Alone (Ran (Err StashFull)) max taken rest ended more part t words k says old new cause a c calm faulted saving = tt
+limits_kept Alone (Ran (Err KeeperFault)) max taken rest ended more part t words k says old new cause a c calm faulted saving = saving refl
+limits_kept Alone (Ran (Err InputLimit)) max taken rest ended more part t words k says old new cause a c calm faulted saving =
     elim says.limit [
       | inl over ↦ not_over taken rest k.secret (has_lf taken) refl k.texts over
       | inr full ↦ let few = k.short in absurd (omega (arith, few, full, length-append taken rest))
     ]
 
 pub completes : {tally : Tally} {tr : TraceSink} {base : Base} {keys : List ℕ → KeySet} {gave : ℕ} {l0 l1 w0 w1 : Option (List ℕ)} {s0 s1 : StoreState} {high : ℕ} {ending : Ending} {line : List ℕ} {F Takes : Type 0} (old new : Faults) (input : List ℕ)
-    → RunShown tally tr base keys l0 l1 gave w0 w1 s0 s1 high ending line F → EndingWords ending Takes → StatusCause ending old new
+    → RunShown tally tr base keys l0 l1 gave w0 w1 s0 s1 high ending line F → EndingWords ending Takes → StatusCause (ServesAlone base.public) ending old new
     → Takes → l0 ≡ Some input → KeepsLimits (limit_of base.settings) input → ¬ Rises old.source new.source → ¬ SinksRose old new
     → FromEach base (λ s. IsCompleted (IsHonest s0 s1) (StoreFails base s0 s1) (base.public.save ≡ true) ending)
 completes {base = base} {l1 = l1} {s0 = s0} {s1 = s1} {ending = ending} old new input shown words cause t e k a c =
@@ -90,26 +91,26 @@ completes {base = base} {l1 = l1} {s0 = s0} {s1 = s1} {ending = ending} old new 
         → IsCompleted (IsHonest s0 s1) (StoreFails base s0 s1) (base.public.save ≡ true) ending
     go None says given calm = absurd given
     go (Some rest) says given calm =
-        limits_kept ending (limit_of base.settings) shown.taken rest shown.ended shown.story.more shown.story.part t words (subst (KeepsLimits (limit_of base.settings)) given k) says old new cause a c
+        limits_kept (ServesAlone base.public) ending (limit_of base.settings) shown.taken rest shown.ended shown.story.more shown.story.part t words (subst (KeepsLimits (limit_of base.settings)) given k) says old new cause a c
         calm shown.carried.faulted shown.carried.saving
 
 -- the last line was written, or cut by a sink's fault
 unfoldable pub reported_line : {tally : Tally} {tr : TraceSink} {Takes : Type 0} {base : Base} {keys : List ℕ → KeySet} {report : Report} (ending : Ending) (old mid new : Faults)
     {gave : ℕ} {l0 l1 w0 w1 w2 : Option (List ℕ)} {s0 s1 : StoreState} {E Lost : Type 0}
     → report.status ≡ status_of ending → EndingWords ending Takes
-    → RunShown tally tr base keys l0 l1 gave w0 w1 s0 s1 report.high ending [] Lost → ¬ Lost → EndingCause ending old mid
+    → RunShown tally tr base keys l0 l1 gave w0 w1 s0 s1 report.high ending [] Lost → ¬ Lost → EndingCause (ServesAlone base.public) ending old mid
     → Outputs w1 w2 E (last_line ending) → (E → Rises mid.out new.out) → (last_line ending ≡ [] → new.out ≡ mid.out)
     → mid.out ≤ new.out → new.trace ≡ mid.trace → new.source ≡ mid.source → mid.trace ≡ old.trace
     → Reported tally tr Takes base keys l0 l1 gave w0 w2 s0 s1 old new report
 unfolding shown_line
-reported_line ending old mid new {w0 = w0} {w1 = w1} status takes shown loud cause cut rose none later trace source kept =
-    let causes : StatusCause ending old new = status_cause ending old mid new cause later trace source none in
+reported_line {base = base} ending old mid new {w0 = w0} {w1 = w1} status takes shown loud cause cut rose none later trace source kept =
+    let causes : StatusCause (ServesAlone base.public) ending old new = status_cause (ServesAlone base.public) ending old mid new cause later trace source none in
     let whole : Outputs w0 w1 ⊥ ((printed shown.story.answers ++ shown.story.part) ++ []) = Outputs-by loud shown.grew in
     record {
       ending = ending;
       status = status;
       takes = takes;
-      shown = shown_line cut.grown shown cut.appends (cut_line _ _ (λ e. line_rose ending old mid new cause (rose e) later trace) whole cut);
+      shown = shown_line cut.grown shown cut.appends (cut_line _ _ (λ e. line_rose (ServesAlone base.public) ending old mid new cause (rose e) later trace) whole cut);
       through = inl (took_more cut.grown (took_of (subst (λ (l : List ℕ). Outputs w0 w1 ⊥ l) (append-nil (printed shown.story.answers ++ shown.story.part)) whole) (λ never. never)) cut.appends);
       silent = λ other. absurd (other (trace ∙ kept));
       cause = causes;
@@ -120,11 +121,11 @@ reported_line ending old mid new {w0 = w0} {w1 = w1} status takes shown loud cau
 unfoldable pub reported_quiet : {tally : Tally} {tr : TraceSink} {Takes : Type 0} {base : Base} {keys : List ℕ → KeySet} {report : Report} (ending : Ending) (old new : Faults)
     {gave : ℕ} {l0 l1 w0 w1 : Option (List ℕ)} {s0 s1 : StoreState} {Lost : Type 0}
     → report.status ≡ status_of ending → EndingWords ending Takes
-    → RunShown tally tr base keys l0 l1 gave w0 w1 s0 s1 report.high ending [] Lost → (Lost → Rises old.out new.out) → EndingCause ending old new → SinksRose old new
+    → RunShown tally tr base keys l0 l1 gave w0 w1 s0 s1 report.high ending [] Lost → (Lost → Rises old.out new.out) → EndingCause (ServesAlone base.public) ending old new → SinksRose old new
     → Reported tally tr Takes base keys l0 l1 gave w0 w1 s0 s1 old new report
 unfolding shown_line
-reported_quiet ending old new {w0 = w0} {w1 = w1} {Lost = Lost} status takes shown lost cause rose =
-    let causes : StatusCause ending old new = status_cause ending old new new cause (omega arith) refl refl (λ e. refl) in
+reported_quiet {base = base} ending old new {w0 = w0} {w1 = w1} {Lost = Lost} status takes shown lost cause rose =
+    let causes : StatusCause (ServesAlone base.public) ending old new = status_cause (ServesAlone base.public) ending old new new cause (omega arith) refl refl (λ e. refl) in
     record {
       ending = ending;
       status = status;

@@ -25,27 +25,27 @@ silenced_kept true old new silenced is = absurd (cc is)
 silenced_kept false old new silenced is = silenced.1
 
 -- the cause of a stop, whatever was counted until then
-pub same_cause : (A B : Type 0) (stop : Stop) (old new : Faults) → StopCause {T = A} old new (Err stop) → StopCause {T = B} old new (Err stop)
-same_cause A B (Tampered region place) old new cause = cause
-same_cause A B SourceFault old new cause = cause
-same_cause A B SinkFault old new cause = cause
-same_cause A B NoMemory old new cause = cause
-same_cause A B InputLimit old new cause = cause
-same_cause A B StoreFault old new cause = cause
-same_cause A B StashFull old new cause = cause
-same_cause A B KeeperFault old new cause = cause
+pub same_cause : (Alone A B : Type 0) (stop : Stop) (old new : Faults) → StopCause {T = A} Alone old new (Err stop) → StopCause {T = B} Alone old new (Err stop)
+same_cause Alone A B (Tampered region place) old new cause = cause
+same_cause Alone A B SourceFault old new cause = cause
+same_cause Alone A B SinkFault old new cause = cause
+same_cause Alone A B NoMemory old new cause = cause
+same_cause Alone A B InputLimit old new cause = cause
+same_cause Alone A B StoreFault old new cause = cause
+same_cause Alone A B StashFull old new cause = cause
+same_cause Alone A B KeeperFault old new cause = cause
 
 -- what was lost since a count that hadn't risen before
 pub lost_since : {quiet : Bool} {k0 k1 k2 : ℕ} → k1 ≡ k0 → OutFailed quiet k1 k2 → OutFailed quiet k0 k2
 lost_since {k2 = k2} same lost = (lost.0, subst (λ (n : ℕ). Rises n k2) same lost.1)
 
 -- a stop, and what was traced after it
-pub traced_cause : (told stop : RunStop) (out0 out1 trace0 trace1 : ℕ) → told ≡ stop → StopCause {T = Tally} (faults_of 0 out0 0) (faults_of 0 out1 0) (Err (session_stop told)) → trace0 ≤ trace1
-    → StopCause {T = Tally} (faults_of 0 out0 trace0) (faults_of 0 out1 trace1) (Err (session_stop stop))
+pub traced_cause : (told stop : RunStop) (out0 out1 trace0 trace1 : ℕ) → told ≡ stop → StopCause {T = Tally} (Unit {0}) (faults_of 0 out0 0) (faults_of 0 out1 0) (Err (session_stop told)) → trace0 ≤ trace1
+    → StopCause {T = Tally} (Unit {0}) (faults_of 0 out0 trace0) (faults_of 0 out1 trace1) (Err (session_stop stop))
 traced_cause told stop out0 out1 trace0 trace1 is cause later =
-    subst (λ (s : RunStop). StopCause {T = Tally} (faults_of 0 out0 trace0) (faults_of 0 out1 trace1) (Err (session_stop s))) is (go told cause)
+    subst (λ (s : RunStop). StopCause {T = Tally} (Unit {0}) (faults_of 0 out0 trace0) (faults_of 0 out1 trace1) (Err (session_stop s))) is (go told cause)
   where
-    go : (s : RunStop) → StopCause {T = Tally} (faults_of 0 out0 0) (faults_of 0 out1 0) (Err (session_stop s)) → StopCause {T = Tally} (faults_of 0 out0 trace0) (faults_of 0 out1 trace1) (Err (session_stop s))
+    go : (s : RunStop) → StopCause {T = Tally} (Unit {0}) (faults_of 0 out0 0) (faults_of 0 out1 0) (Err (session_stop s)) → StopCause {T = Tally} (Unit {0}) (faults_of 0 out0 trace0) (faults_of 0 out1 trace1) (Err (session_stop s))
     go (Runs.Tampered region place) cause = (cause.0, cause.1, later)
     go Runs.NoMemory cause = (cause.0, cause.1, later)
     go Runs.StoreFault cause = (cause.0, cause.1, later)

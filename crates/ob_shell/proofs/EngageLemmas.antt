@@ -1,5 +1,5 @@
 -- The engine of a run whose tables are kept, and what a failed trace leaves.
-use Rattle.std.specs.Prelude.{IsErr, ◌==◌, drop}
+use Rattle.std.specs.Prelude.{IsErr, ◌==◌, drop, take}
 use Rattle.std.proofs.Common.{◌≡◌, ◌<◌, ◌≤◌, ◌+◌, ◌++◌, ◌^◌, ℕ, Bool, true, false, List, [], ◌∷◌, length, Option, Some, None, Result, Ok, Err, inl, inr, refl, sym, ◌∙◌, ap, subst, arith, append-nil, length-append}
 use Rattle.std.proofs.lemmas.Bool.Decides.{nat_tests}
 use Rattle.std.specs.Result.{is_err}
@@ -41,7 +41,7 @@ use Rattle.ob_reopen.specs.declared.listed.Listed.{Listed}
 use Rattle.ob_seal.specs.KeySet.{KeySet}
 use Rattle.ob_seal.specs.Sealed.{keys_of}
 use Rattle.ob_shell.proofs.StandLemmas.{none_asked, stands_first}
-use Rattle.ob_shell.proofs.TraceLemmas.{since}
+use Rattle.ob_shell.proofs.TraceLemmas.{since, until}
 use Rattle.ob_shell.specs.Engaging.{ClosesRun, Engages, IsHushed}
 use Rattle.ob_shell.specs.Standing.{StandsOn}
 use Rattle.ob_shell.specs.Steps.{IsReady, machine_of, told_nothing}
@@ -214,6 +214,10 @@ closing_after r e s t closes from is =
     let long = ap length grew.1 in
     let sum = length-append s.asked grew.0 in
     omega (arith, is, long, sum)
+
+-- and what was asked before it
+pub closing_until : {R : Type 0} {state : R → RevState} (r : Result Mark CloseErr) (e : Engine R) (s t : StoreState) → ClosesEngine state r e s t → (from : ℕ) → from ≡ length s.asked → take from t.asked ≡ s.asked
+closing_until r e s t closes from is = let grew = closing_grew r e s t closes in until s.asked t.asked grew.0 from grew.1 is
 
 pub closes_run : {R T E : Type 0} {state : R → RevState} (tally : Tally) (tracing : Bool) (e : Engine R) (ended : KeptEnded) (s t : StoreState) (t0 t1 : Option (List ℕ)) (f0 f1 : ℕ) (k0 k1 : KeeperState) (result : Result Mark CloseErr)
     → ClosesEngine state result e s t → (call : Result T E) (from : ℕ) → from ≡ length s.asked → Outputs t0 t1 (IsErr call) (traced tracing (drop from t.asked)) → HasCause f0 f1 call

@@ -1,28 +1,36 @@
--- At least as many calls of the store failed as texts were answered so.
-use Rattle.std.specs.Prelude.{if◌then◌else◌}
-use Rattle.std.proofs.Common.{◌≡◌, ◌≤◌, ◌+◌, ℕ, Bool, true, false, List, [], ◌∷◌, Result, inl, inr, refl, sym, ap, subst, arith}
+-- At least as many calls of the store failed as statements were cut off, and as texts were answered so one by one.
+use Rattle.std.specs.Prelude.{if◌then◌else◌, take}
+use Rattle.std.specs.Option.{option_map}
+use Rattle.std.proofs.Common.{◌≡◌, ◌≤◌, ◌+◌, ◌++◌, ℕ, Bool, true, false, List, [], ◌∷◌, length, Option, None, Some, Ok, Err, refl, sym, ap, subst, arith}
 use Rattle.ob_base.specs.Counts.{Rises}
 use Rattle.ob_base.specs.Refusals.{is_store_fault}
-use Rattle.ob_base.specs.declared.refusal.Stop.{Stop}
-use Rattle.ob_verdict.specs.Outcomes.{by_fault}
+use Rattle.ob_base.specs.declared.config.Public.{Public}
+use Rattle.ob_base.specs.declared.refusal.Refusal.{Refusal}
+use Rattle.ob_base.specs.declared.refusal.Refusal.TheVariants.{StoreFault}
+use Rattle.ob_base.specs.declared.seen.End.{End}
+use Rattle.ob_base.specs.declared.seen.End.TheVariants.{Joined, Cut}
+use Rattle.ob_base.specs.declared.seen.Seen.{Seen}
+use Rattle.ob_headline.specs.Accesses.{AreSeen}
+use Rattle.ob_headline.specs.Batches.{is_failed}
+use Rattle.ob_headline.specs.Failures.{FailsBeside, RisesBy, cut_off, failures, outcome_failures, refusal_failures}
+use Rattle.ob_headline.specs.Statements.{statements}
+use Rattle.ob_headline.specs.Words.{Answer}
+use Rattle.ob_mean.specs.Batches.{Gathering, and_one, begins_batch, begun_by, gathering_after, goes_into, inserts_into, is_cut}
+use Rattle.ob_mean.specs.Replay.{Spelt}
+use Rattle.ob_script.specs.Trace.{Served}
+use Rattle.ob_shell.specs.Steps.{has_failed}
+use Rattle.ob_sql.specs.Skeleton.{skeleton}
+use Rattle.ob_sql.specs.declared.stmt.Stmt.{Stmt}
 use Rattle.ob_tables.specs.Running.{is_fault}
+use Rattle.ob_verdict.specs.Outcomes.{by_fault}
 use Rattle.ob_verdict.specs.declared.outcome.Outcome.{Outcome}
 use Rattle.ob_verdict.specs.declared.outcome.Outcome.TheVariants.{Created, Inserted, Changed, Deleted, Dropped, Rows, Refused}
-use Rattle.ob_headline.specs.Failures.{FailsBeside, outcome_failures, failures, RisesBy}
-use Rattle.ob_headline.specs.Words.{Answer}
-use Rattle.ob_shell.proofs.LaterLemmas.{last_later}
-use Rattle.ob_shell.specs.Running.{LastPart}
-use Rattle.ob_shell.specs.Steps.{Machine, Step, Steps}
-use Rattle.ob_vault.specs.State.{RevState}
 
 stays : (a b : ℕ) → b ≡ a → RisesBy 0 a b
 stays a b same = omega (arith, same)
 
 grows : (a b c n m : ℕ) → RisesBy n a b → RisesBy m b c → RisesBy (n + m) a c
 grows a b c n m first second = omega (arith, first, second)
-
-later : (a b c n : ℕ) → RisesBy n a b → b ≤ c → RisesBy n a c
-later a b c n by le = omega (arith, by, le)
 
 -- the answer that the store failed comes only where the count rose
 no_failure : (o : Outcome) → is_fault o ≡ false → outcome_failures o ≡ 0
@@ -46,34 +54,106 @@ one_failure (Deleted n) = omega arith
 one_failure Dropped = omega arith
 one_failure (Rows k) = omega arith
 
-answered : (o : Outcome) (a b : ℕ) → by_fault (is_fault o) (Rises a b) (b ≡ a) → RisesBy (outcome_failures o) a b
+pub answered : (o : Outcome) (a b : ℕ) → by_fault (is_fault o) (Rises a b) (b ≡ a) → RisesBy (outcome_failures o) a b
 answered o a b cause = go (is_fault o) refl cause where
   go : (failed : Bool) → is_fault o ≡ failed → by_fault failed (Rises a b) (b ≡ a) → RisesBy (outcome_failures o) a b
   go true e rose = let few = one_failure o in omega (arith, rose, few)
   go false e same = subst (λ (n : ℕ). RisesBy n a b) (sym (no_failure o e)) (stays a b same)
 
-module _ {R : Type 0} (state : R → RevState) where
-  step_fails : (m0 m1 : Machine R) (text : List ℕ) (answer : Answer) → Step state m0 m1 text answer → RisesBy (outcome_failures answer.outcome) m0.store.faults m1.store.faults
-  step_fails m0 m1 text answer step = elim step.done [
-    | inl bad ↦ subst (λ (o : Outcome). RisesBy (outcome_failures o) m0.store.faults m1.store.faults) (sym bad.refused) (stays _ _ (ap (λ (m : Machine R). m.store.faults) bad.same))
-    | inr did ↦ answered answer.outcome _ _ did.does.ran.cause.0
-  ]
+-- ---- of statements that were cut off
+pub beside_none : (a b : ℕ) → Rises a b → FailsBeside [] a b
+unfolding cut_off
+beside_none a b rose = omega (arith, rose)
 
-  pub steps_fail : (m0 m2 : Machine R) (texts : List (List ℕ)) (answers : List Answer) → Steps state m0 m2 texts answers → RisesBy (failures answers) m0.store.faults m2.store.faults
-  unfolding Steps failures
-  steps_fail m0 m2 [] answers steps =
-      subst (λ (xs : List Answer). RisesBy (failures xs) m0.store.faults m2.store.faults) (sym steps.1) (stays _ _ (ap (λ (m : Machine R). m.store.faults) steps.0))
-  steps_fail m0 m2 (text ∷ texts) answers steps =
-      subst (λ (xs : List Answer). RisesBy (failures xs) m0.store.faults m2.store.faults) (sym steps.3)
-      (grows _ _ _ _ _ (step_fails m0 steps.0 text steps.1 steps.4) (steps_fail steps.0 m2 texts steps.2 steps.5))
+pub beside_more : (x : Served) (seen : List Served) (a b c : ℕ) → RisesBy (if is_cut x.seen.end then 1 else 0) a b → FailsBeside seen b c → FailsBeside (x ∷ seen) a c
+unfolding cut_off
+beside_more x seen a b c first rest = let all = grows a b c (if is_cut x.seen.end then 1 else 0) (cut_off seen + 1) first rest in omega (arith, all)
 
-  -- of the texts that were served, and what was done after them
-  pub session_fails : (m0 m1 m2 : Machine R) (texts more : List (List ℕ)) (answers : List Answer) (part : List ℕ) (result : Result Bool Stop)
-      → Steps state m0 m1 texts answers → LastPart state m1 m2 more part result → RisesBy (failures answers) m0.store.faults m2.store.faults
-  session_fails m0 m1 m2 texts more answers part result steps last =
-      later _ _ _ _ (steps_fail m0 m1 texts answers steps) (last_later state m1 m2 more part result last).faults
+pub cuts_none : (a b : ℕ) → a ≤ b → RisesBy (cut_off []) a b
+unfolding cut_off
+cuts_none a b le = omega (arith, le)
 
-  -- and where a call failed behind those texts
-  pub fails_beside : (m0 m1 m2 : Machine R) (texts : List (List ℕ)) (answers : List Answer) → Steps state m0 m1 texts answers → Rises m1.store.faults m2.store.faults
-      → FailsBeside answers m0.store.faults m2.store.faults
-  fails_beside m0 m1 m2 texts answers steps rose = let most = steps_fail m0 m1 texts answers steps in omega (arith, most, rose)
+pub cuts_more : (x : Served) (seen : List Served) (a b c : ℕ) → RisesBy (if is_cut x.seen.end then 1 else 0) a b → RisesBy (cut_off seen) b c → RisesBy (cut_off (x ∷ seen)) a c
+unfolding cut_off
+cuts_more x seen a b c first rest = grows a b c (if is_cut x.seen.end then 1 else 0) (cut_off seen) first rest
+
+-- ---- of answers
+pub fails_none : (a b : ℕ) → a ≤ b → RisesBy (failures []) a b
+unfolding failures
+fails_none a b le = omega (arith, le)
+
+pub fails_more : (one : Answer) (answers : List Answer) (a b c : ℕ) → RisesBy (outcome_failures one.outcome) a b → RisesBy (failures answers) b c → RisesBy (failures (one ∷ answers)) a c
+unfolding failures
+fails_more one answers a b c first rest = grows a b c (outcome_failures one.outcome) (failures answers) first rest
+
+-- the store failed none
+pub own_rises : (o : Outcome) (a b : ℕ) → is_fault o ≡ false → b ≡ a → RisesBy (outcome_failures o) a b
+own_rises o a b own same = subst (λ (n : ℕ). RisesBy n a b) (sym (no_failure o own)) (stays a b same)
+
+-- it was cut off exactly where the store failed it
+pub cut_rises : (o : Outcome) (cut : Bool) (a b : ℕ) → cut ≡ is_fault o → by_fault (is_fault o) (Rises a b) (b ≡ a) → RisesBy (if cut then 1 else 0) a b
+cut_rises o true a b is cause = let rose : Rises a b = rw (sym is) at cause in omega (arith, rose)
+cut_rises o false a b is cause = let same : b ≡ a = rw (sym is) at cause in omega (arith, same)
+
+pub uncut_rises : (cut : Bool) (a b : ℕ) → cut ≡ false → b ≡ a → RisesBy (if cut then 1 else 0) a b
+uncut_rises true a b is same = absurd (cc is)
+uncut_rises false a b is same = omega (arith, same)
+
+-- ---- where no statement was cut off
+-- no answer is that the store failed, unless it is that one
+not_fault : (r : Refusal) → (r ≡ StoreFault → ⊥) → refusal_failures r ≡ 0
+not_fault StoreFault off = absurd (off refl)
+not_fault r off = refl
+
+not_failure : (o : Outcome) → (o ≡ Refused StoreFault → ⊥) → outcome_failures o ≡ 0
+not_failure (Refused r) off = not_fault r (λ is. off (ap (λ (x : Refusal). Refused x) is))
+not_failure Created off = refl
+not_failure Inserted off = refl
+not_failure (Changed n) off = refl
+not_failure (Deleted n) off = refl
+not_failure Dropped off = refl
+not_failure (Rows k) off = refl
+
+-- nor is what is gathered
+one_more : (g : Option Gathering) → has_failed g ≡ false → has_failed (option_map and_one g) ≡ false
+one_more None sound = refl
+one_more (Some h) sound = sound
+
+begun_uncut : (o : Option (List ℕ)) (cut : Bool) → cut ≡ false → has_failed (option_map (λ (table : List ℕ). record { table = table; count = 1; failed = cut }) o) ≡ false
+begun_uncut None cut off = refl
+begun_uncut (Some table) cut off = off
+
+gathers_sound : (p : Public) (m : ℕ) (g : Option Gathering) (stmt : Stmt) (end : End) → has_failed g ≡ false → is_cut end ≡ false → has_failed (gathering_after p m g stmt end) ≡ false
+gathers_sound p m g stmt end sound off = go (goes_into p g (skeleton stmt)) (begins_batch p m stmt)
+  where
+    go : (along begins : Bool) → has_failed (if along then option_map and_one g else if begins then begun_by (skeleton stmt) end else None) ≡ false
+    go true begins = one_more g sound
+    go false true = begun_uncut (inserts_into (skeleton stmt)) (is_cut end) off
+    go false false = refl
+
+not_failed : (g : Option Gathering) (end : End) → has_failed g ≡ false → is_cut end ≡ false → is_failed g end ≡ false
+not_failed g Joined sound off = sound
+not_failed g (Cut n) sound off = absurd (cc off)
+not_failed g end sound off = refl
+
+none_cut : (cut : Bool) (n : ℕ) → (if cut then 1 else 0) + n ≡ 0 → (cut ≡ false) × (n ≡ 0)
+none_cut true n is = absurd (omega (arith, is))
+none_cut false n is = (refl, omega (arith, is))
+
+-- of statements that were answered, before some that weren't
+pub none_failed : (Leaves : Public → Stmt → Seen → Type 0) (spelt : List Spelt) (answers : List Answer) (seen last : List Served) (p : Public) (m : ℕ) (g : Option Gathering)
+    → AreSeen Leaves p m g spelt answers (seen ++ last) → length answers ≤ length spelt → length seen ≡ length (statements (take (length answers) spelt)) → has_failed g ≡ false → cut_off seen ≡ 0 → failures answers ≡ 0
+unfolding AreSeen cut_off failures statements
+none_failed Leaves spelt [] seen last p m g are reached each sound uncut = refl
+none_failed Leaves [] (one ∷ answers) seen last p m g are reached each sound uncut = absurd (omega (arith, reached))
+none_failed Leaves (Err at ∷ spelt) (one ∷ answers) seen last p m g are reached each sound uncut =
+    let own : outcome_failures one.outcome ≡ 0 = ap (λ (a : Answer). outcome_failures a.outcome) are.0 in
+    let rest = none_failed Leaves spelt answers seen last p m None are.1 (omega (arith, reached)) each refl uncut in
+    omega (arith, own, rest)
+none_failed Leaves (Ok stmt ∷ spelt) (one ∷ answers) [] last p m g are reached each sound uncut = absurd (omega (arith, each))
+none_failed Leaves (Ok stmt ∷ spelt) (one ∷ answers) (x ∷ seen) last p m g are reached each sound uncut =
+    let parts = none_cut (is_cut x.seen.end) (cut_off seen) uncut in
+    let fine : is_failed g x.seen.end ≡ false = not_failed g x.seen.end sound parts.0 in
+    let own : outcome_failures one.outcome ≡ 0 = not_failure one.outcome (λ is. absurd (cc (are.2.1.1 is, fine))) in
+    let rest = none_failed Leaves spelt answers seen last _ _ _ are.3 (omega (arith, reached)) (omega (arith, each)) (gathers_sound p m g stmt x.seen.end sound parts.0) parts.1 in
+    omega (arith, own, rest)

@@ -1,14 +1,14 @@
 -- Fewer accesses are asked than there are numbers.
-use Rattle.std.specs.Prelude.{All, IfSome, ⊤, bytes_eq, if◌then◌else◌, option_map, slice_get}
+use Rattle.std.specs.Prelude.{All, IfSome, IsSome, bytes_eq, if◌then◌else◌, option_map, slice_get, ⊤}
 use Rattle.std.proofs.Common.{◌≡◌, ◌≤◌, ◌<◌, ◌+◌, ◌^◌, ℕ, suc, Bool, true, false, List, [], ◌∷◌, ◌++◌, length, Option, None, Some, Ok, Result, inl, inr, refl, sym, ◌∙◌, ap, subst, arith, get_or}
 use Rattle.std.proofs.lemmas.Bool.Decides.{nat_tests}
 use Rattle.std.proofs.lemmas.Option.{slice_get-get_or}
 use Rattle.std.specs.Option.{option_map_or}
 use Rattle.ob_base.proofs.AccessLemmas.{makes_few}
 use Rattle.ob_base.specs.Accesses.{discard_at}
-use Rattle.ob_base.specs.Indexes.{height_of}
+use Rattle.ob_base.specs.Indexes.{by_shape, height_of}
 use Rattle.ob_base.specs.Joins.{joined_slots}
-use Rattle.ob_base.specs.Limits.{buffered, buffered_blocks}
+use Rattle.ob_base.specs.Limits.{buffered_blocks}
 use Rattle.ob_base.specs.Plans.{choose_padded, padded_rows}
 use Rattle.ob_base.specs.Schemas.{width}
 use Rattle.ob_base.specs.Stored.{Stored, heading_at, headings_of, stored_at, stored_regions}
@@ -19,7 +19,7 @@ use Rattle.ob_base.specs.declared.refusal.Refusal.{Refusal}
 use Rattle.ob_base.specs.declared.access.Access.{Access}
 use Rattle.ob_base.specs.declared.schema.Heading.{Heading}
 use Rattle.ob_base.specs.declared.schema.Shape.{Shape}
-use Rattle.ob_base.specs.declared.schema.Shape.TheVariants.{Flat}
+use Rattle.ob_base.specs.declared.schema.Shape.TheVariants.{Flat, Indexed}
 use Rattle.ob_base.specs.declared.schema.Table.{Table}
 use Rattle.ob_base.specs.declared.seen.Seen.{Seen}
 use Rattle.ob_base.specs.declared.skeleton.Skeleton.{Skeleton}
@@ -40,12 +40,12 @@ use Rattle.ob_mean.proofs.EarlyLemmas.{allowed, within}
 use Rattle.ob_mean.proofs.FlatLemmas.{MakesFlat, flat_whole, headings-regions, makes_flat, region_flat, script_is}
 use Rattle.ob_mean.proofs.VerdictLemmas.{heading-stored}
 use Rattle.ob_mean.specs.Lawful.{Holds, IsCount, counted_slots, statement_slots}
-use Rattle.ob_mean.specs.Refusals.{early_refusal, limits_of}
+use Rattle.ob_mean.specs.Refusals.{early_refusal, is_indexed, limits_of}
 use Rattle.ob_mean.specs.Verdict.{is_late}
 use Rattle.ob_reopen.specs.Limits.{IsStored}
 use Rattle.ob_script.proofs.Few.{script_few}
-use Rattle.ob_script.specs.Parts.{count_part, join_part}
-use Rattle.ob_script.specs.Script.{after_count, behind_count, blocks_of, extent_of, joined_extent, result_part, rows_width, script, until_end, with_table}
+use Rattle.ob_script.specs.Parts.{count_part, insert_part, join_part}
+use Rattle.ob_script.specs.Script.{after_count, behind_change, behind_count, blocks_of, extent_of, joined_extent, mutation_script, result_part, rows_width, script, shape_script, until_end, whole_script, with_table}
 use Rattle.ob_script.specs.Sizes.{SeesLeaf, IfFlat, IfTable, IsCounted, IsHeld, IsPublic, IsSourceCounted, IsTable, IsWithin}
 use Rattle.ob_shell.proofs.ReplayLemmas.{counts_on}
 use Rattle.ob_shell.specs.Feeding.{Fetch}
@@ -58,6 +58,9 @@ use Rattle.ob_sql.specs.declared.stmt.Stmt.TheVariants.{Create, Insert, Update, 
 use Rattle.ob_store.specs.State.{StoreState}
 use Rattle.ob_vault.specs.Places.{start_of}
 use Rattle.ob_vault.specs.State.{RevState, Start, earlier}
+use Rattle.ob_mean.specs.Batches.{inserts_into}
+use Rattle.ob_mean.specs.Replay.{is_access}
+use Rattle.ob_verdict.proofs.LawfulProof.{region_index}
 use Rattle.ob_verdict.proofs.AcceptedProof.{joins_fit}
 
 -- ---- what is public is within its limits
@@ -223,7 +226,7 @@ result_same p (Some Hash) k g t = refl
 
 behind_same : (p : Public) (seen : Seen) (pad k : Option ℕ) (g : ℕ) (t : _) (ending : List Access) → seen.k ≡ k → behind_count pad (stashless p) seen g t ending ≡ behind_count pad p seen g t ending
 behind_same p seen (Some pad) k g t ending is =
-    let q = padded_rows pad t.slots in ap (λ (l : List Access). l ++ ending) (result_same p (Some (choose_padded p.plan (buffered p.pack p.buffer) q)) q g t)
+    let q = padded_rows pad t.slots in ap (λ (l : List Access). l ++ ending) (result_same p (Some (choose_padded p.planner p.pack p.buffer t.slots q)) q g t)
 behind_same p seen None k g t ending is = ap (λ (o : Option ℕ). after_count (stashless p) seen o g t ending) is ∙ go k ∙ sym (ap (λ (o : Option ℕ). after_count p seen o g t ending) is)
   where
     go : (o : Option ℕ) → after_count (stashless p) seen o g t ending ≡ after_count p seen o g t ending
@@ -252,6 +255,48 @@ script_same p s seen flat made = ap (until_end seen.end) (script_is (stashless p
 late_or_not : (m : ℕ) (late : Bool) → is_late m ≡ late → late ≡ false → m < 2 ^ 63
 late_or_not m true is not = absurd (cc not)
 late_or_not m false is not = grind (arith, nat_tests)
+
+-- ---- an INSERT into a flat table, whatever else there is
+by_flat : {A : Type 0} (shape : Shape) (flat indexed : A) → is_indexed shape ≡ false → by_shape shape flat indexed ≡ flat
+by_flat Flat flat indexed is = refl
+by_flat Indexed flat indexed is = absurd (cc is)
+
+module _ (p : Public) (table : List ℕ) (columns : Option (List (List ℕ))) (seen : Seen) (apart : is_access p (K.Insert table columns) ≡ false) where
+  insert_same : script (stashless p) (K.Insert table columns) seen ≡ script p (K.Insert table columns) seen
+  insert_same = ap (until_end seen.end) (go (stored_at table (stored_regions p.tables)) refl)
+    where
+      at : Public → Stored ℕ → List Access
+      at q t = shape_script q seen.leaf (mutation_script q insert_part (behind_change q (K.Insert table columns))) t
+
+      go : (o : Option (Stored ℕ)) → stored_at table (stored_regions p.tables) ≡ o → whole_script (stashless p) (K.Insert table columns) seen ≡ whole_script p (K.Insert table columns) seen
+      go None is = ap (λ (o : Option (Stored ℕ)). option_map_or (at (stashless p)) o []) is ∙ sym (ap (λ (o : Option (Stored ℕ)). option_map_or (at p) o []) is)
+      go (Some t) is =
+          let flat = sym (region_index p table t is) ∙ apart in
+          ap (λ (o : Option (Stored ℕ)). option_map_or (at (stashless p)) o []) is ∙ by_flat t.heading.shape _ _ flat ∙ sym (by_flat t.heading.shape _ _ flat)
+          ∙ sym (ap (λ (o : Option (Stored ℕ)). option_map_or (at p) o []) is)
+
+  insert_within : IsWithin (stashless p) (K.Insert table columns) seen
+  insert_within = go (stored_at table (stored_regions p.tables)) refl
+    where
+      flat_is : (shape : Shape) → is_indexed shape ≡ false → shape ≡ Flat
+      flat_is Flat is = refl
+      flat_is Indexed is = absurd (cc is)
+
+      go : (o : Option (Stored ℕ)) → stored_at table (stored_regions p.tables) ≡ o → IfSome o (IsHeld (stashless p) seen ⊤)
+      go None is = tt
+      go (Some t) is = held_flat (stashless p) seen ⊤ t (flat_is t.heading.shape (sym (region_index p table t is) ∙ apart)) tt
+
+pub insert_few : {R : Type 0} (state : R → RevState) (e : Engine R) (s : StoreState) (outline : Skeleton) (seen : Seen) → Agrees state e s → count_of e s < 2 ^ 63 → IsSome (inserts_into outline) → is_access (public_of e) outline ≡ false
+    → length (script (public_of e) outline seen) < 2 ^ 49
+insert_few state e s (K.Insert table columns) seen agrees small inserts apart =
+    subst (λ (l : List Access). length l < 2 ^ 49) (insert_same (public_of e) table columns seen apart)
+    (script_few (stashless (public_of e)) (K.Insert table columns) seen (public_is state e s agrees small) (λ started. insert_within (public_of e) table columns seen apart))
+insert_few state e s (K.Create table cs n shape) seen agrees small inserts apart = absurd (cc inserts)
+insert_few state e s (K.Update table cs) seen agrees small inserts apart = absurd (cc inserts)
+insert_few state e s (K.Delete table) seen agrees small inserts apart = absurd (cc inserts)
+insert_few state e s (K.Drop table) seen agrees small inserts apart = absurd (cc inserts)
+insert_few state e s (K.Rows source cs) seen agrees small inserts apart = absurd (cc inserts)
+insert_few state e s (K.Groups table cs key) seen agrees small inserts apart = absurd (cc inserts)
 
 -- the tables are kept for the next run
 abbrev pub IsKept : {R : Type 0} → Machine R → Type 0
@@ -318,4 +363,9 @@ module _ {R : Type 0} (state : R → RevState) where
 pub session_few : {R : Type 0} (state : R → RevState) {Lost : Type 0} {on : Bool} {f0 f1 : Fetch} {l0 l1 : Option (List ℕ)} {gave : ℕ} {w0 w1 t0 t1 : Option (List ℕ)} (m0 m2 : Machine R) (tally : Tally)
     → SessionRan state on f0 f1 l0 l1 gave w0 w1 t0 t1 m0 m2 Lost (Ok tally) → Agrees state m0.engine m0.store → IsKept m0 → asked_of m0 < 2 ^ 63 + 2 ^ 59 → Closable state m2
 session_few {R = R} state m0 m2 tally ran agrees kept few =
-    subst (λ (m : Machine R). Closable state m) (sym ran.last.machine) (steps_few state m0 ran.middle ran.served ran.answers ran.steps agrees kept few)
+    let all = steps_few state m0 ran.middle ran.served ran.answers ran.steps agrees kept few in
+    let same = ran.last.machine in
+    record {
+      few = subst (λ (m : Machine R). asked_of m < 2 ^ 63 + 2 ^ 59) (sym same) all.few;
+      flat = subst (λ (m : Machine R). IsFlat (public_of m.engine)) (sym same) all.flat;
+    }

@@ -7,7 +7,7 @@ use Rattle.ob_base.specs.declared.config.Plan.{Plan}
 use Rattle.ob_base.specs.declared.config.Plan.TheVariants.{Small, Large, Continuous, Hash}
 use Rattle.ob_base.specs.declared.config.Public.{Public}
 use Rattle.ob_base.specs.declared.seen.End.{End}
-use Rattle.ob_base.specs.declared.seen.End.TheVariants.{Static, Whole, AfterCount, Cut}
+use Rattle.ob_base.specs.declared.seen.End.TheVariants.{Static, Whole, AfterCount, Joined, Cut}
 use Rattle.ob_base.specs.declared.seen.Seen.{Seen}
 use Rattle.ob_tables.proofs.HeldLemmas.{held_headings}
 use Rattle.ob_tables.specs.Agreeing.{AreDraws, public_of, seen_of}
@@ -24,7 +24,7 @@ use Rattle.ob_mean.specs.Replay.{cut_at, is_full_now, reads_of}
 use Rattle.ob_mean.specs.Verdict.{Accessed, Draws, Tables, accessed, counted, is_late, seen, seen_by, seen_served, seen_started, seen_with}
 use Rattle.ob_script.specs.Script.{script, until_end, whole_script}
 use Rattle.ob_shell.proofs.ReplayLemmas.{cut_early}
-use Rattle.ob_shell.specs.Steps.{Machine, Does, asked_of, session_of}
+use Rattle.ob_shell.specs.Steps.{Does, Machine, asked_of, session_of, statements_of}
 use Rattle.ob_sql.specs.Skeleton.{skeleton}
 use Rattle.ob_sql.specs.declared.stmt.Stmt.{Stmt}
 use Rattle.ob_sql.specs.declared.stmt.Stmt.TheVariants.{Create, Insert, Update, Delete, Drop as DropTable, SelectRows as RowsStmt, SelectTotals as TotalsStmt}
@@ -42,6 +42,7 @@ abbrev IsToEnd : End → Type 0
 IsToEnd Static = ⊥
 IsToEnd Whole = Unit {0}
 IsToEnd AfterCount = Unit {0}
+IsToEnd Joined = ⊥
 IsToEnd (Cut n) = ⊥
 
 with_ends : (p : Public) (plan : Plan) (places : List ℕ) → IsToEnd (seen_with p plan places).end
@@ -75,6 +76,7 @@ to_end : (end : End) (all : List Access) → IsToEnd end → until_end end all �
 to_end Static all ends = absurd ends
 to_end Whole all ends = refl
 to_end AfterCount all ends = refl
+to_end Joined all ends = absurd ends
 to_end (Cut n) all ends = absurd ends
 
 -- what was asked of a statement that was cut off after n accesses is a first part of what its meaning asks
@@ -105,7 +107,7 @@ module _ {R : Type 0} (state : R → RevState) (m0 m1 : Machine R) (d : Draws) (
         (begins_cut d p (asked_of m0) tables stmt failed n (cut_early state m0 m1 tables stmt result d does failed n is reads.held))
 
   as_told : (failed : Bool) (outcome : Outcome) → Does state m0 m1 stmt (Ok outcome) → ReadsTrueUntil state m0.engine m0.store m1.engine m1.store tables → is_fault outcome ≡ failed
-      → Told state stmt d tables outcome m0.engine m0.store m1.engine m1.store → IsFirstPart
+      → Told state stmt (statements_of m1.owed) d tables outcome m0.engine m0.store m1.engine m1.store → IsFirstPart
   as_told true outcome does reads e told = as_cut (Ok outcome) does reads true _ (rw e at told).seen
   as_told false outcome does reads e told = as_meant (rw e at told).seen
 

@@ -1,4 +1,5 @@
 -- What a run over the generated text promises.
+use Rattle.ob_shell.specs.Running.{ServesAlone}
 use Rattle.std.specs.Prelude.{◌≢◌, ⊤, option_and_then}
 use Rattle.std.proofs.Common.{◌≡◌, ℕ, ◌≤◌, Bool, true, false, List, [], Option, Some, None, Ok, Err, refl, sym, ◌∙◌, ap, subst, inl, inr, arith}
 use Rattle.std.proofs.KnownBytes.{Appends-nil}
@@ -29,8 +30,8 @@ use Rattle.ob_shell.specs.Closed.{LineWritten, refused_by}
 use Rattle.ob_shell.specs.Generating.{RanGenerated, ClosedBy, ConcludedBy, Concludes, StatusIs, Summarized, asked_for, conclusion}
 use Rattle.ob_shell.specs.Top.{EndingCause, EndingWords, IsFresh, Reported, RunShown, StatusCause, TraceSink, sink_of}
 use Rattle.ob_shell.specs.Traces.{Traced}
-use Rattle.ob_shell.specs.declared.words.WordsErr.{WordsErr}
-use Rattle.ob_shell.specs.declared.words.WordsErr.TheVariants as Words
+use Rattle.ob_words.specs.declared.words.WordsErr.{WordsErr}
+use Rattle.ob_words.specs.declared.words.WordsErr.TheVariants as Words
 use Rattle.ob_store.specs.State.{StoreState}
 use Rattle.ob_seal.specs.KeySet.{KeySet}
 
@@ -75,17 +76,17 @@ module _ (tally : Tally) (asked : List Access) (w0 w1 : Option (List ℕ)) (trac
   }
 
   pub concludes_by : (ending : Ending) (quiet : Bool) → ConcludedBy ending quiet tally asked w0 w1 out0 out1 report.status → (quiet ≡ true → Rises trace0 trace1) → (quiet ≡ false → trace1 ≡ trace0)
-      → EndingCause ending (faults_of 0 0 trace0) (faults_of 0 0 trace1) → Concludes ending tally asked report.high w0 w1 before after report
-  concludes_by Usage quiet by rose kept cause = closed_by Usage quiet by rose kept by.told refl
-  concludes_by BadKey quiet by rose kept cause = closed_by BadKey quiet by rose kept by.told refl
-  concludes_by (Ran (Ok refused)) quiet by rose kept cause = record {
+      → (Alone : Type 0) → EndingCause Alone ending (faults_of 0 0 trace0) (faults_of 0 0 trace1) → Concludes ending tally asked report.high w0 w1 before after report
+  concludes_by Usage quiet by rose kept Alone cause = closed_by Usage quiet by rose kept by.told refl
+  concludes_by BadKey quiet by rose kept Alone cause = closed_by BadKey quiet by rose kept by.told refl
+  concludes_by (Ran (Ok refused)) quiet by rose kept Alone cause = record {
     grew = cut_rose _ (λ r. inl r) by.cut;
     silent = λ other. absurd (other cause.trace);
     status = elim by.told [ inl whole ↦ inl (whole.0, (whole.1, whole.2)) | inr cut ↦ inr cut ];
     later = by.later;
     high = refl;
   }
-  concludes_by (Ran (Err stop)) quiet by rose kept cause = closed_by (Ran (Err stop)) quiet by rose kept by.told refl
+  concludes_by (Ran (Err stop)) quiet by rose kept Alone cause = closed_by (Ran (Err stop)) quiet by rose kept by.told refl
 
 pub concludes_at : {ending : Ending} {tally : Tally} {asked : List Access} {w0 w1 : Option (List ℕ)} {old new : Faults} {report : Report} (rows : ℕ)
     → report.high ≡ rows → Concludes ending tally asked report.high w0 w1 old new report → Concludes ending tally asked rows w0 w1 old new report
@@ -99,10 +100,10 @@ with_source source c = record { grew = c.grew; silent = c.silent; status = c.sta
 
 -- ---- the run, whose answers are kept nowhere
 unfoldable unkept : {Lost : Type 0} {tally : Tally} {tr : TraceSink} {Takes : Type 0} {base : Base} {keys : List ℕ → KeySet} {gave : ℕ} {l0 l1 : Option (List ℕ)} {s0 s1 : StoreState} (ending : Ending) (high : ℕ) (old new : Faults)
-    → EndingWords ending Takes → RunShown tally tr base keys l0 l1 gave None None s0 s1 high ending [] Lost → EndingCause ending old new
+    → EndingWords ending Takes → RunShown tally tr base keys l0 l1 gave None None s0 s1 high ending [] Lost → EndingCause (ServesAlone base.public) ending old new
     → Reported tally tr Takes base keys l0 l1 gave None None s0 s1 old new (record { status = status_of ending; high = high })
-unkept ending high old new takes shown cause =
-    let causes : StatusCause ending old new = status_cause ending old new new cause (omega arith) refl refl (λ e. refl) in
+unkept {base = base} ending high old new takes shown cause =
+    let causes : StatusCause (ServesAlone base.public) ending old new = status_cause (ServesAlone base.public) ending old new new cause (omega arith) refl refl (λ e. refl) in
     record {
       ending = ending;
       status = refl;
@@ -118,7 +119,7 @@ pub ran_generated : {Lost : Type 0} {tally : Tally} {tracing : Bool} {settings :
     (seed : Seed) (left : List ℕ) (ending : Ending) (high trace0 trace1 out0 out1 : ℕ) (report : Report)
     → EndingWords ending ⊤
     → RunShown tally (sink_of tracing t0 t1) (fresh settings) keys_in (Some (generated seed.start seed.rows)) (Some left) gave None None s0 s1 high ending [] Lost
-    → EndingCause ending (faults_of 0 0 trace0) (faults_of 0 0 trace1)
+    → EndingCause (ServesAlone (fresh settings).public) ending (faults_of 0 0 trace0) (faults_of 0 0 trace1)
     → Traced tracing s0.asked s1.asked t0 t1 (SinksRose (faults_of 0 0 trace0) (faults_of 0 0 trace1))
     → Concludes ending tally s1.asked high w0 w1 (faults_of 0 out0 trace0) (faults_of 0 out1 trace1) report
     → RanGenerated seed tracing settings t0 t1 s0 s1 trace0 trace1 w0 w1 out0 out1 report
@@ -165,7 +166,7 @@ unread_summarized {Takes = Takes} {settings = settings} {tracing = tracing} {s =
     let ending = refused_by error in
     let faults : Faults = faults_of 0 0 trace in
     let shown = words_shown {F = ⊥} {keys = keys_in} empty_tally (sink_of tracing t t) settings error (Some (generated seed.start seed.rows)) 0 None s blank refl in
-    let r = unkept ending 0 faults faults (words_end error not) shown (words_cause error faults) in
+    let r = unkept ending 0 faults faults (words_end error not) shown (words_cause _ error faults) in
     let closed : ClosedBy ending false w0 w1 out0 out1 report.status = record { told = status; silent = λ loud. absurd (cc loud); line = λ loud. line } in
     record {
       unread = record { left = refl; gave = refl; source = refl };
@@ -176,7 +177,7 @@ unread_summarized {Takes = Takes} {settings = settings} {tracing = tracing} {s =
       tally = empty_tally;
       counted = r.shown.counted;
       concludes = with_source source (concludes_at 0 high
-          (concludes_by empty_tally s.asked w0 w1 trace trace out0 out1 report ending false (unread_closed empty_tally s.asked error closed) (λ loud. absurd (cc loud)) (λ loud. refl) (words_cause error faults)));
+          (concludes_by empty_tally s.asked w0 w1 trace trace out0 out1 report ending false (unread_closed empty_tally s.asked error closed) (λ loud. absurd (cc loud)) (λ loud. refl) (Unit {0}) (words_cause (Unit {0}) error faults)));
     }
 
 -- ---- faults

@@ -23,7 +23,7 @@ use Rattle.ob_shell.proofs.TopLemmas.{piece_is, piece_prompt, piece_within, show
 use Rattle.ob_shell.specs.Engaging.{ClosedRun, ClosesRun, EndsUnserved, Engages, RanBegun, RanStopped, RanUnbegun, RanUnkeyed, RanWhole, ServesAll, StartsRun, StopsRun}
 use Rattle.ob_shell.specs.Feeding.{Fetch, IsFedBy}
 use Rattle.ob_shell.specs.LineRead.{KeyRead}
-use Rattle.ob_shell.specs.Running.{OutFailed, SessionRan, Silenced, StopCause}
+use Rattle.ob_shell.specs.Running.{OutFailed, ServesAlone, SessionRan, Silenced, StopCause}
 use Rattle.ob_shell.specs.Steps.{machine_of}
 use Rattle.ob_shell.specs.Tallies.{has_refused}
 use Rattle.ob_shell.specs.Top.{Carried, IsFresh, RanAfter, sink_of}
@@ -48,14 +48,14 @@ module _ {R : Type 0} (state : R → RevState) (base : Base) (config : Config) (
 
   pub serves_stop : (stop : Stop) (ended : KeptEnded) (k : KeeperState) (old new : Faults) → ended.high ≡ high
       → SessionRan state tracing f0 f1 l0 l1 gave w0 w1 t0 t1 (machine_of first s0 p0) (machine_of last s1 p1) (OutFailed ended.quiet old.out new.out) (Err stop)
-      → Traced tracing s0.asked s1.asked t0 t1 (ended.quiet ≡ true) → StopCause {T = Tally} old new (Err stop) → Silenced ended.quiet old new → ended.ending ≡ Plain (Ran (Err stop))
+      → Traced tracing s0.asked s1.asked t0 t1 (ended.quiet ≡ true) → StopCause {T = Tally} (ServesAlone (public_of first)) old new (Err stop) → Silenced ended.quiet old new → ended.ending ≡ Plain (Ran (Err stop))
       → StopsRun state base key tracing ended f0 f1 l0 l1 gave w0 w1 t0 t1 s0 s1 old new k k
   serves_stop stop ended k old new rows ran traced cause silent ending = record {
     stop = stop;
     ran = subst (λ (n : ℕ). RanAfter state (sink_of tracing t0 t1) base (keys_of key) (Some key) f0 f1 l0 l1 gave w0 w1 s0 s1 n (OutFailed ended.quiet old.out new.out) (Err stop)) (sym rows)
         (ran_after base config (keys_of key) key first last high (Err stop) p0 p1 s0 s1 engages.stands most is_high (sink_of tracing t0 t1) f0 f1 l0 l1 gave w0 w1 ran);
     traced_all = traced;
-    cause = same_cause Tally Bool stop old new cause;
+    cause = subst (λ (p : Public). StopCause {T = Bool} (ServesAlone p) old new (Err stop)) engages.stands.public (same_cause _ Tally Bool stop old new cause);
     silent = silent;
     ending = ending;
     kept = refl;
@@ -145,7 +145,7 @@ module _ (config : Config) (tracing : Bool) (f0 f1 : Fetch) (none : f0.unread �
         taken = read.fed.piece;
         given = read.fed.consumed;
         within = piece_within empty_tally tr refl (Some config) f0 f1 none start top below by read.fed;
-        prompt = piece_prompt empty_tally tr refl (Some config) f0 f1 none start top below by read.fed read.ahead;
+        prompt = piece_prompt empty_tally tr refl (Some config) f0 f1 none start top below by 1 (omega arith) read.fed read.ahead;
         secret = key;
         keyed = ap (λ (l : List ℕ). secret_of (first_line l)) (piece_is read.fed none) ∙ is;
         unserved = unserved;
@@ -191,7 +191,7 @@ module _ (config : Config) (tracing : Bool) (f0 f1 : Fetch) (none : f0.unread �
             (subst (λ (x : Option (List ℕ)). Carried (sink_of tracing t1 t2) starts.base (keys_with x) x s1 s2 ended.high stops.ran.story (Ran (Err stops.stop))) (sym keyed) stops.ran.carried) tt;
         keyed = keyed;
         traced_all = stops.traced_all;
-        cause = subst (λ (f : Faults). StopCause {T = Bool} f new (Err stops.stop)) same_faults stops.cause;
+        cause = subst (λ (f : Faults). StopCause {T = Bool} (ServesAlone starts.base.public) f new (Err stops.stop)) same_faults stops.cause;
         silent = subst (λ (f : Faults). Silenced ended.quiet f new) same_faults stops.silent;
         ending = stops.ending;
         kept = stops.kept;

@@ -14,7 +14,7 @@ use Rattle.ob_shell.proofs.TraceLemmas.{traced_none, traced_whole}
 use Rattle.ob_shell.specs.Engaging.{ClosesRun, RanKept, ServesRun, StartsRun}
 use Rattle.ob_shell.specs.Feeding.{Fetch, IsFedBy}
 use Rattle.ob_shell.specs.LineRead.{KeyRead}
-use Rattle.ob_shell.specs.Steps.{machine_of, told_nothing}
+use Rattle.ob_shell.specs.Steps.{told_nothing}
 use Rattle.ob_shell.specs.declared.keeping.KeptEnded.{KeptEnded}
 use Rattle.ob_shell.specs.declared.key.FirstLine.TheVariants.{Secret, Last}
 use Rattle.ob_store.specs.State.{StoreState}
@@ -28,7 +28,7 @@ module _ {R : Type 0} (state : R → RevState) (config : Config) (key : List ℕ
   unfolding serves_all ran_after ran_last
   last_ran read below by high r2 most is_high closes =
       let ends = read.ends in
-      let ran = ran_last state tracing f1 l1 gave w t1 (machine_of e s1 told_nothing) ends.4 ends.2 ends.3 in
+      let ran = ran_last state tracing f1 l1 gave w t1 e s1 told_nothing ends.4 ends.2 ends.3 in
       let serves = serves_all state starts.base config key e e told_nothing told_nothing s1 s1 starts.engages high most is_high tracing t1 t1 f1 f1 l1 l1 gave w w
       empty_tally ended s2 t2 k1 k2 (record old { trace = r1 }) (record old { trace = r2 }) ran (traced_whole _ (traced_none tracing s1.asked t1)) refl refl closes in
       let behind = after_last serves.ran.piece refl none read in

@@ -35,8 +35,8 @@ use Rattle.ob_shell.specs.Engaging.{IsHushed, KeptClosedBy, KeptConcludedBy, Kep
 use Rattle.ob_shell.specs.KeptSummary.{KeptConcludes, KeptStatusIs, KeptSummarized, KeptTally, MayKeep, kept_conclusion}
 use Rattle.ob_shell.specs.Top.{IsFresh, Reported, RunShown, sink_of}
 use Rattle.ob_shell.specs.declared.keeping.KeptEnded.{KeptEnded}
-use Rattle.ob_shell.specs.declared.words.WordsErr.{WordsErr}
-use Rattle.ob_shell.specs.declared.words.WordsErr.TheVariants as Words
+use Rattle.ob_words.specs.declared.words.WordsErr.{WordsErr}
+use Rattle.ob_words.specs.declared.words.WordsErr.TheVariants as Words
 use Rattle.ob_store.specs.State.{StoreState}
 
 -- ---- what was written
@@ -155,7 +155,7 @@ unread_run {Takes = Takes} {settings = settings} {tracing = tracing} {s = s} {t 
     let shown = subst (λ (n : ℕ). (x : RunShown empty_tally tr (fresh settings) keys_in l l gave w0 w0 s s n ending [] ⊥) × (x.taken ≡ [])) (sym high)
     (words_shown empty_tally tr settings error l gave w0 s blank refl, words_none ⊥ keys_in empty_tally tr settings error l gave w0 s blank refl) in
     let r : Reported empty_tally tr Takes (fresh settings) keys_in l l gave w0 w1 s s old new report =
-    reported_line ending old old new status (words_end error not) shown.0 (λ never. never) (words_cause error old) line.cut (λ rises. rises) line.empty line.later refl refl refl in
+    reported_line ending old old new status (words_end error not) shown.0 (λ never. never) (words_cause _ error old) line.cut (λ rises. rises) line.empty line.later refl refl refl in
     record {
       headline = headlined Takes (fresh settings) tracing (outside_of l gave w0 t s old) (outside_of l gave w1 t s new) report blank.unasked r (traced_whole _ (traced_none tracing s.asked t));
       ends = unkeyed_words error shown.0.taken shown.1;

@@ -29,12 +29,12 @@ use Rattle.ob_shell.proofs.CompleteLemmas.{reported_line, reported_quiet}
 use Rattle.ob_shell.proofs.CountLemmas.{silenced_kept, silenced_rose}
 use Rattle.ob_shell.proofs.GeneratingLemmas.{cut_rose, nothing_written, traced_by_fault}
 use Rattle.ob_shell.proofs.HeadLemmas.{headlined}
-use Rattle.ob_shell.proofs.TopLemmas.{shown_line, takes_of}
+use Rattle.ob_shell.proofs.TopLemmas.{shown_line, takes_of, cause_alone}
 use Rattle.ob_shell.proofs.TraceLemmas.{traced_none, traced_whole}
 use Rattle.ob_shell.specs.Closed.{LineWritten, Unwritten}
 use Rattle.ob_shell.specs.Engaging.{RanKept, RanStopped, RanUnbegun, RanUnkeyed, RanWhole}
 use Rattle.ob_shell.specs.KeptSummary.{KeptTally}
-use Rattle.ob_shell.specs.Running.{OutFailed}
+use Rattle.ob_shell.specs.Running.{OutFailed, ServesAlone}
 use Rattle.ob_shell.specs.Tallies.{has_refused}
 use Rattle.ob_shell.specs.Top.{EndingWords, Reported, RunShown, sink_of, EndingTally}
 use Rattle.ob_shell.specs.Traces.{Traced}
@@ -99,7 +99,7 @@ module _ {Takes : Type 0} (settings : Option Config) (config : Config) (takes : 
       (sym set) at_high in
       let l = subst (λ (e : KeptEnding). LineWritten (kept_line e) mid.written w2 mid.faults.out out2) ran.is (line ran.loud) in
       let r : Reported ended.tally tr Takes (fresh settings) keys_in old.left mid.left mid.gave old.written w2 old.store mid.store old.faults new.faults report =
-      reported_line ending old.faults mid.faults new.faults (status ∙ ap kept_status ran.is) (words_taken ending (takes_of ending ran.read tt) takes) shown.0 (λ never. never) ran.cause l.cut (λ rises. rises) l.empty l.later refl refl
+      reported_line ending old.faults mid.faults new.faults (status ∙ ap kept_status ran.is) (words_taken ending (takes_of ending ran.read tt) takes) shown.0 (λ never. never) (cause_alone (ServesAlone (fresh settings).public) ending old.faults mid.faults ran.cause) l.cut (λ rises. rises) l.empty l.later refl refl
       ran.silent.1 in
       let traces : Traced tracing old.store.asked mid.store.asked old.traced mid.traced (SinksRose old.faults new.faults) =
       subst (λ (s : StoreState). Traced tracing old.store.asked s.asked old.traced mid.traced (SinksRose old.faults new.faults)) (sym ran.unasked)

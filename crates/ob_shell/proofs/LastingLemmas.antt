@@ -27,7 +27,7 @@ pub record HasSizes {R : Type 0} (config : Config) (m : Machine R) : Type 0 wher
 module _ {R : Type 0} (state : R → RevState) (config : Config) where
   step_sizes : (m0 m1 : Machine R) (text : List ℕ) (answer : Answer) → Step state m0 m1 text answer → HasSizes config m0 → HasSizes config m1
   step_sizes m0 m1 text answer step sizes = elim step.done [
-    | inl bad ↦ subst (λ (m : Machine R). HasSizes config m) (sym bad.same) sizes
+    | inl still ↦ subst (λ (m : Machine R). HasSizes config m) (sym still.same) (record { pack = sizes.pack; buffer = sizes.buffer; rows = sizes.rows; save = sizes.save })
     | inr did ↦ record {
       pack = ap (λ (p : Public). p.pack) did.does.ran.goes_on.public ∙ sizes.pack;
       buffer = ap (λ (p : Public). p.buffer) did.does.ran.goes_on.public ∙ sizes.buffer;
@@ -62,7 +62,7 @@ module _ {R : Type 0} (state : R → RevState) (config : Config) where
 
     step_sealed : (m0 m1 : Machine R) (text : List ℕ) (answer : Answer) → Step state m0 m1 text answer → HasSizes config m0 → IsBelow m0 → IsTrue m0.store.tells → IsSealed m0 → IsSealed m1
     step_sealed m0 m1 text answer step sizes few tells all = elim step.done [
-      | inl bad ↦ subst (λ (m : Machine R). IsSealed m) (sym bad.same) all
+      | inl still ↦ subst (λ (m : Machine R). IsSealed m) (sym still.same) all
       | inr did ↦ (did.does.seals good (accepts_at m0 sizes) single (closings_at m0 sizes)).seals scope few tells all
     ]
 

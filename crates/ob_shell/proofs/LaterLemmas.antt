@@ -5,22 +5,25 @@ use Rattle.ob_headline.specs.Words.{Answer}
 use Rattle.ob_shell.proofs.StepLemmas.{last_by}
 use Rattle.ob_shell.specs.Running.{LastPart}
 use Rattle.ob_shell.specs.Steps.{Machine, Step, Steps}
-use Rattle.ob_store.proofs.Steps.{later_refl, later_trans}
-use Rattle.ob_store.specs.Runs.{Later}
+use Rattle.ob_store.proofs.Steps.{since_refl, since_trans}
+use Rattle.ob_store.specs.Runs.{Since}
 use Rattle.ob_vault.specs.State.{RevState}
 
 module _ {R : Type 0} (state : R → RevState) where
-  same : (m0 m1 : Machine R) → m1 ≡ m0 → Later m0.store m1.store
-  same m0 m1 is = subst (λ (m : Machine R). Later m0.store m.store) (sym is) (later_refl m0.store)
+  same : (m0 m1 : Machine R) → m1 ≡ m0 → Since m0.store m1.store
+  same m0 m1 is = subst (λ (m : Machine R). Since m0.store m.store) (sym is) (since_refl m0.store)
 
-  pub step_later : (m0 m1 : Machine R) (text : List ℕ) (answer : Answer) → Step state m0 m1 text answer → Later m0.store m1.store
-  step_later m0 m1 text answer step = elim step.done [ inl bad ↦ same m0 m1 bad.same | inr did ↦ did.does.ran.later ]
+  pub step_later : (m0 m1 : Machine R) (text : List ℕ) (answer : Answer) → Step state m0 m1 text answer → Since m0.store m1.store
+  step_later m0 m1 text answer step = elim step.done [
+    | inl still ↦ subst (λ (m : Machine R). Since m0.store m.store) (sym still.same) (since_refl m0.store)
+    | inr did ↦ did.does.ran.later
+  ]
 
-  pub steps_later : (m0 m2 : Machine R) (texts : List (List ℕ)) (answers : List Answer) → Steps state m0 m2 texts answers → Later m0.store m2.store
+  pub steps_later : (m0 m2 : Machine R) (texts : List (List ℕ)) (answers : List Answer) → Steps state m0 m2 texts answers → Since m0.store m2.store
   unfolding Steps
   steps_later m0 m2 [] answers steps = same m0 m2 steps.0
   steps_later m0 m2 (text ∷ texts) answers steps =
-      later_trans _ _ _ (step_later m0 steps.0 text steps.1 steps.4) (steps_later steps.0 m2 texts steps.2 steps.5)
+      since_trans _ _ _ (step_later m0 steps.0 text steps.1 steps.4) (steps_later steps.0 m2 texts steps.2 steps.5)
 
-  pub last_later : (m1 m2 : Machine R) (more : List (List ℕ)) (part : List ℕ) (result : Result Bool Stop) → LastPart state m1 m2 more part result → Later m1.store m2.store
-  last_later m1 m2 more part result last = last_by state m1 m2 more part (Later m1.store m2.store) result last (same m1 m2) (λ text run cut. cut.does.ran.later) (step_later m1 m2)
+  pub last_later : (m1 m2 : Machine R) (more : List (List ℕ)) (part : List ℕ) (result : Result Bool Stop) → LastPart state m1 m2 more part result → Since m1.store m2.store
+  last_later m1 m2 more part result last = last_by state m1 m2 more part (Since m1.store m2.store) result last (same m1 m2) (λ text run cut. cut.does.ran.later) (step_later m1 m2)

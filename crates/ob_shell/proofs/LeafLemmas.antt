@@ -39,6 +39,16 @@ none_apart i j x before within = absurd (omega (arith, within))
 pub reads_none : (d : Draws) (indexes : List Index) (g : Given d indexes) (p : Public) → Reads d indexes g p []
 reads_none d indexes g p = record { numbers = []; are = refl; apart = none_apart; unread = All-nil (Unread d indexes g.number) }
 
+-- one that reads none, behind which the same is public
+pub reads_unasked : (d : Draws) (indexes : List Index) (g : Given d indexes) (p q : Public) (x : Served) (seen : List Served) → x.seen.leaf ≡ None → next p x.skeleton x.seen ≡ q → Reads d indexes g q seen → Reads d indexes g p (x ∷ seen)
+reads_unasked d indexes g p q x seen none same rest = record {
+  numbers = rest.numbers;
+  are = subst (λ (o : Option ℕ). IsDrawn d.draw (height_at p x.skeleton) o rest.numbers (AreDrawn d.draw (next p x.skeleton x.seen) seen)) (sym none)
+      (subst (λ (r : Public). AreDrawn d.draw r seen rest.numbers) (sym same) rest.are);
+  apart = rest.apart;
+  unread = rest.unread;
+}
+
 -- ---- one statement
 module _ (d : Draws) (taken : ℕ) (old new : List Index) (g : Given d old) (p : Public) (x : Served) where
   abbrev IsLeaf : Option ℕ → Type 0

@@ -50,7 +50,7 @@ module _ {R : Type 0} (state : R → RevState) where
 
   step_counts : (m0 m1 : Machine R) (text : List ℕ) (answer : Answer) → Step state m0 m1 text answer → m1.keeper.faults ≡ m0.keeper.faults
   step_counts m0 m1 text answer step = elim step.done [
-    | inl bad ↦ unmoved m0 m1 bad.same
+    | inl still ↦ ap (λ (m : Machine R). m.keeper.faults) still.same
     | inr did ↦ did.does.counts
   ]
 

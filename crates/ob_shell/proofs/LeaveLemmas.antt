@@ -1,175 +1,301 @@
 -- What a session leaves whose tables are saved: the mark that is held, and the tables that rest for it.
-use Rattle.std.proofs.Common.{◌≡◌, inl, inr, ◌<◌, ◌+◌, ℕ, Bool, true, false, IsTrue, List, [], ◌∷◌, ◌++◌, length, Option, Some, None, Ok, Err, refl, sym, ◌∙◌, ap, subst, arith, length-append}
-use Rattle.std.specs.Prelude.{if◌then◌else◌}
+use Rattle.std.specs.Prelude.{◌≢◌, drop, if◌then◌else◌, map, take}
+use Rattle.std.proofs.Common.{◌≡◌, inl, inr, ◌⊎◌, ◌<◌, ◌≤◌, ◌+◌, ℕ, Bool, true, false, IsTrue, List, [], ◌∷◌, ◌++◌, length, Option, Some, None, Ok, Err, refl, sym, ◌∙◌, ap, subst, arith}
+use Rattle.std.proofs.lemmas.List.{length-drop, length-map, take-append-drop}
 use Rattle.ob_base.specs.declared.config.Public.{Public}
 use Rattle.ob_base.specs.declared.mark.Mark.{Mark}
+use Rattle.ob_base.specs.declared.refusal.Stop.TheVariants as Stops
 use Rattle.ob_base.specs.declared.seen.Seen.{Seen}
-use Rattle.ob_headline.proofs.EffectLemmas.{left_end, left_refused, left_served}
+use Rattle.ob_headline.proofs.EffectLemmas.{left_refused, left_served}
 use Rattle.ob_headline.specs.Bases.{Base, FromEach, HoldsFrom, Opened, drawing, session_at}
+use Rattle.ob_headline.specs.Batches.{AllInsert}
 use Rattle.ob_headline.specs.Meaning.{AnswersFrom}
-use Rattle.ob_headline.specs.SavedHeadline.{LeavesSaved, MayTakeMore, RestsBehind, left_by}
+use Rattle.ob_headline.specs.SavedHeadline.{LeavesSaved, MayTake, MayTakeMore, RestsBehind, left_by}
 use Rattle.ob_headline.specs.Saving.{RestsAlike}
+use Rattle.ob_headline.specs.Statements.{SpellFirst, statements}
 use Rattle.ob_headline.specs.Story.{Story}
 use Rattle.ob_headline.specs.Words.{Answer, IsHonest}
 use Rattle.ob_headline.specs.declared.ending.Ending.{Ending}
-use Rattle.ob_mean.proofs.FlatSessions.{room_flat}
-use Rattle.ob_mean.proofs.ReplayLemmas.{after_room}
-use Rattle.ob_mean.specs.Replay.{Broken, Session, Spelt, after, draws_taken, head_of, is_full_now, rest_of, seen_or_cut}
+use Rattle.ob_headline.specs.declared.ending.Ending.TheVariants.{Ran}
+use Rattle.ob_mean.specs.Batches.{batch_most, settle_all}
+use Rattle.ob_mean.specs.Replay.{Broken, How, Session, Spelt, after, draws_taken, head_of, rest_of}
 use Rattle.ob_mean.specs.Verdict.{Draws, Tables}
-use Rattle.ob_script.specs.Script.{script}
-use Rattle.ob_script.specs.Trace.{Served as Entry, next}
+use Rattle.ob_script.specs.Trace.{Served as Entry}
 use Rattle.ob_seal.specs.KeySet.{KeySet, pair_of}
 use Rattle.ob_seal.specs.Sealed.{AreOfSecret}
-use Rattle.ob_shell.proofs.LeavePath.{Along}
-use Rattle.ob_shell.proofs.LeaveSteps.{HoldsMark, Saves, mark_answered, mark_stopped, rests_now, saves_on}
-use Rattle.ob_shell.proofs.LeaveTables.{Resting, flat, held_then, last_answered, last_stopped, none_earlier, rests_then}
+use Rattle.ob_shell.proofs.LeavePath.{Along, IsLast, IsStopped, IsWith, Path, StandsSo}
+use Rattle.ob_shell.proofs.LeaveSteps.{HoldsMark, Saves, mark_answered, mark_still, mark_stopped, rests_now, saves_on, saves_still}
+use Rattle.ob_shell.proofs.LeaveTables.{Resting, last_answered, last_stopped, none_earlier, rests_then}
+use Rattle.ob_shell.proofs.ReplayLemmas.{free_holds, holds_free}
 use Rattle.ob_shell.specs.Leaving.{BeginsToSave, RestsOn}
-use Rattle.ob_shell.specs.Steps.{Does, Machine, asked_of, session_of}
+use Rattle.ob_shell.specs.Steps.{GoTogether, Holds, Machine, Owed, StaysAs, TakesOwed, asked_of, draws_behind, has_failed, session_of, standing, statements_of, tables_behind}
 use Rattle.ob_sql.specs.Skeleton.{skeleton}
 use Rattle.ob_sql.specs.declared.stmt.Stmt.{Stmt}
-use Rattle.ob_tables.specs.Agreeing.{AreDraws, first_draws, public_of, seen_of}
+use Rattle.ob_tables.specs.Agreeing.{AreDraws, first_draws, public_of}
 use Rattle.ob_tables.specs.Telling.{Represents}
-use Rattle.ob_vault.specs.State.{RevState, earlier}
+use Rattle.ob_vault.specs.State.{RevState}
 use Rattle.ob_verdict.specs.declared.outcome.Outcome.{Outcome}
-
--- ---- the model's session behind a statement
-module _ {R : Type 0} (state : R → RevState) (m0 m1 : Machine R) (stmt : Stmt) (outcome : Outcome) (does : Does state m0 m1 stmt (Ok outcome)) (d : Draws) (tables : Tables) (how : Option ℕ)
-    (seen : seen_of m1.engine ≡ seen_or_cut how (session_of m0 d tables) stmt) where
-  abbrev past : Session
-  past = after how (session_of m0 d tables) stmt
-
-  -- it is where the machine stands
-  stands : past ≡ session_of m1 past.draws past.tables
-  stands =
-      let p = public_of m0.engine in
-      let sk = skeleton stmt in
-      let public_is : next p sk (seen_or_cut how (session_of m0 d tables) stmt) ≡ public_of m1.engine = ap (next p sk) (sym seen) ∙ sym does.ran.goes_on.public in
-      let from = ap earlier does.ran.start in
-      let grew = ap length does.ran.asked in
-      let parts = length-append m0.store.asked (script p sk (seen_of m1.engine)) in
-      let counts : asked_of m0 + length (script p sk (seen_of m1.engine)) ≡ asked_of m1 = omega (arith, from, grew, parts) in
-      let asked_is : asked_of m0 + length (script p sk (seen_or_cut how (session_of m0 d tables) stmt)) ≡ asked_of m1 =
-      ap (λ (x : Seen). asked_of m0 + length (script p sk x)) (sym seen) ∙ counts in
-      λ i. record { public = public_is i; tables = past.tables; asked = asked_is i; draws = past.draws }
-
-  draws_then : AreDraws m0.engine d → AreDraws m1.engine past.draws
-  draws_then drawn =
-      subst (λ (x : Seen). AreDraws m1.engine (record d { drawn = d.drawn + draws_taken (public_of m0.engine) (skeleton stmt) x.end })) seen (does.ran.goes_on.drawn d drawn)
 
 -- ---- along the statements
 module _ {R : Type 0} (state : R → RevState) (ending : Ending) (m2 : Machine R) where
-  none_along : (spelt : List Spelt) (m0 : Machine R) (answers : List Answer) (seen : List Entry) → m2.store.lie ≡ None → Along state ending m0 m2 spelt answers seen → m0.store.lie ≡ None
-  none_along [] m0 answers seen none same = ap (λ (m : Machine R). m.store.lie) (sym same) ∙ none
-  none_along (Err at ∷ spelt) m0 [] seen none same = ap (λ (m : Machine R). m.store.lie) (sym same) ∙ none
-  none_along (Ok stmt ∷ spelt) m0 [] seen none (inl stop) = none_earlier m0.store m2.store stop.does.ran.later none
-  none_along (Ok stmt ∷ spelt) m0 [] seen none (inr last) = none_earlier m0.store m2.store last.does.ran.later none
-  none_along (Err at ∷ spelt) m0 (one ∷ answers) seen none along = none_along spelt m0 answers seen none along
-  none_along (Ok stmt ∷ spelt) m0 (one ∷ answers) [] none along = absurd along
-  none_along (Ok stmt ∷ spelt) m0 (one ∷ answers) (x ∷ seen) none along =
-      none_earlier m0.store along.0.store along.1.does.ran.later (none_along spelt along.0 answers seen none along.2)
+  none_still : (m0 m1 : Machine R) → StaysAs m0 m1 → m1.store.lie ≡ None → m0.store.lie ≡ None
+  none_still m0 m1 same none = ap (λ (m : Machine R). m.store.lie) (sym same) ∙ none
+
+  none_last : (m0 : Machine R) (stmt : Stmt) → m2.store.lie ≡ None → IsStopped state ending m0 m2 stmt ⊎ IsLast state ending m0 m2 stmt → m0.store.lie ≡ None
+  none_last m0 stmt none (inl stop) = none_earlier m0.store m2.store stop.does.ran.later none
+  none_last m0 stmt none (inr last) = elim last.done [
+    | inl done ↦ none_earlier m0.store m2.store done.does.ran.later none
+    | inr with ↦ none_still m0 m2 with.same none
+  ]
+
+  -- no lie was told before one in which none is
+  none_path : (spelt : List Spelt) (m0 : Machine R) (d : Draws) (tables : Tables) (answers : List Answer) (broken : Broken) → m2.store.lie ≡ None → Path state ending m0 m2 d tables spelt answers broken → m0.store.lie ≡ None
+  none_path [] m0 d tables answers broken none over = ap (λ (m : Machine R). m.store.lie) (sym over.0.same) ∙ none
+  none_path (Err at ∷ spelt) m0 d tables [] broken none passed = none_still m0 m2 passed.same none
+  none_path (Ok stmt ∷ spelt) m0 d tables [] broken none last = none_last m0 stmt none last
+  none_path (Err at ∷ spelt) m0 d tables (one ∷ answers) broken none path = none_still m0 path.0 path.1.same (none_path spelt path.0 d tables answers (rest_of broken) none path.2)
+  none_path (Ok stmt ∷ spelt) m0 d tables (one ∷ answers) broken none path =
+      let there = none_path spelt path.0 _ _ answers (rest_of broken) none path.2 in
+      elim path.1.served [
+        | inl served ↦ none_earlier m0.store path.0.store served.done.does.ran.later there
+        | inr joins ↦ none_still m0 path.0 joins.same there
+      ]
 
   module _ (salt : List ℕ) (base : Base) (keys : KeySet) where
     -- the mark is one of the run's own, or the one that was held
+    mark_last : (held : Mark) → ((q : ℕ) → base.start.region < q → (pair_of keys q).salt ≡ Some salt) → (m0 : Machine R) (stmt : Stmt) → Saves state salt base keys m0 → HoldsMark state salt base keys held m0
+        → IsStopped state ending m0 m2 stmt ⊎ IsLast state ending m0 m2 stmt → HoldsMark state salt base keys held m2
+    mark_last held salted m0 stmt old holds (inl stop) = mark_stopped state salt base keys held salted m0 m2 stmt old stop.run stop.does holds
+    mark_last held salted m0 stmt old holds (inr last) = elim last.done [
+      | inl done ↦ mark_answered state salt base keys held salted m0 m2 stmt old last.outcome done.does holds
+      | inr with ↦ mark_still state salt base keys held m0 m2 with.same holds
+    ]
+
     mark_along : (held : Mark) → ((q : ℕ) → base.start.region < q → (pair_of keys q).salt ≡ Some salt) → (spelt : List Spelt) (m0 : Machine R) (answers : List Answer) (seen : List Entry) → Saves state salt base keys m0
         → HoldsMark state salt base keys held m0 → Along state ending m0 m2 spelt answers seen → HoldsMark state salt base keys held m2
-    mark_along held salted [] m0 answers seen old holds same = subst (HoldsMark state salt base keys held) (sym same) holds
-    mark_along held salted (Err at ∷ spelt) m0 [] seen old holds same = subst (HoldsMark state salt base keys held) (sym same) holds
-    mark_along held salted (Ok stmt ∷ spelt) m0 [] seen old holds (inl stop) = mark_stopped state salt base keys held salted m0 m2 stmt old stop.run stop.does holds
-    mark_along held salted (Ok stmt ∷ spelt) m0 [] seen old holds (inr last) = mark_answered state salt base keys held salted m0 m2 stmt old last.outcome last.does holds
-    mark_along held salted (Err at ∷ spelt) m0 (one ∷ answers) seen old holds along = mark_along held salted spelt m0 answers seen old holds along
+    mark_along held salted [] m0 answers seen old holds over = subst (HoldsMark state salt base keys held) (sym over.same) holds
+    mark_along held salted (Err at ∷ spelt) m0 [] seen old holds passed = mark_still state salt base keys held m0 m2 passed.same holds
+    mark_along held salted (Ok stmt ∷ spelt) m0 [] seen old holds last = mark_last held salted m0 stmt old holds last
+    mark_along held salted (Err at ∷ spelt) m0 (one ∷ answers) seen old holds along =
+        mark_along held salted spelt along.0 answers seen (saves_still state salt base keys m0 along.0 along.1.same old) (mark_still state salt base keys held m0 along.0 along.1.same holds) along.2
     mark_along held salted (Ok stmt ∷ spelt) m0 (one ∷ answers) [] old holds along = absurd along
-    mark_along held salted (Ok stmt ∷ spelt) m0 (one ∷ answers) (x ∷ seen) old holds along =
-        mark_along held salted spelt along.0 answers seen (saves_on state salt base keys m0 along.0 stmt one.outcome along.1.does old)
-        (mark_answered state salt base keys held salted m0 along.0 stmt old one.outcome along.1.does holds) along.2
+    mark_along held salted (Ok stmt ∷ spelt) m0 (one ∷ answers) (x ∷ seen) old holds along = elim along.1 [
+      | inl served ↦
+          mark_along held salted spelt along.0 answers seen (saves_on state salt base keys m0 along.0 stmt one.outcome served.done.does old)
+          (mark_answered state salt base keys held salted m0 along.0 stmt old one.outcome served.done.does holds) along.2
+      | inr with ↦
+          mark_along held salted spelt along.0 answers seen (saves_still state salt base keys m0 along.0 with.same old) (mark_still state salt base keys held m0 along.0 with.same holds) along.2
+    ]
 
     module _ (secret : List ℕ) (of : AreOfSecret secret keys) (none : m2.store.lie ≡ None) where
-      -- for the mark that is held in the end these tables rest, by whether one more text took effect
-      pub record Left (left : Bool → Tables) : Type 0 where
-        pub more : Bool
-        pub unanswered : more ≡ true → MayTakeMore ending
+      -- the statements that took effect with the one begun
+      abbrev pub behind : List Stmt
+      behind = statements_of m2.owed
+
+      pub record BeginsThem (spelt : List Spelt) (answers : List Answer) : Type 0 where
+        pub begun : Stmt
+        pub last : take 1 (drop (length answers) spelt) ≡ Ok begun ∷ []
+        pub table : List ℕ
+        pub insert : AllInsert table (begun ∷ behind)
+
+      pub record MayBehind (spelt : List Spelt) (answers : List Answer) : Type 0 where
+        pub more : MayTakeMore ending
+        pub few : length behind < batch_most base.public
+        pub together : behind ≢ [] → BeginsThem spelt answers
+
+      -- for the mark that is held in the end these tables rest, by whether one more text took effect, and others with it
+      pub record Left (spelt : List Spelt) (answers : List Answer) (left : Option (List Stmt) → Tables) : Type 0 where
+        pub more : Option (List Stmt)
+        pub unanswered : (stmts : List Stmt) → more ≡ Some stmts → (stmts ≡ behind) × MayBehind spelt answers
         pub mark : Mark
         pub is : m2.keeper.held ≡ Some mark
         pub rests : RestsAlike secret mark m2.store.kept (left more)
 
-      left_same : (m0 : Machine R) (tables : Tables) (left : Bool → Tables) → left false ≡ tables → m2 ≡ m0 → Resting state secret salt base keys of m0 tables → Left left
-      left_same m0 tables left is same rests = record {
-        more = false;
-        unanswered = λ more. absurd (cc more);
+      left_none : (spelt : List Spelt) (answers : List Answer) (m0 : Machine R) (tables : Tables) (left : Option (List Stmt) → Tables) → left None ≡ tables → StaysAs m0 m2 → Resting state secret salt base keys of m0 tables → Left spelt answers left
+      left_none spelt answers m0 tables left is same rests = record {
+        more = None;
+        unanswered = λ stmts more. absurd (cc more);
         mark = rests.mark;
         is = ap (λ (m : Machine R). m.keeper.held) same ∙ rests.is;
         rests = subst (λ (ts : Tables). RestsAlike secret rests.mark m2.store.kept ts) (sym is)
             (subst (λ (m : Machine R). RestsAlike secret rests.mark m.store.kept tables) (sym same) (rests_now secret rests.mark tables (public_of m0.engine) m0.store.kept rests.on));
       }
 
-      left_as : (left other : Bool → Tables) → ((more : Bool) → left more ≡ other more) → Left other → Left left
-      left_as left other same rest = record {
+      left_as : (spelt spelt_too : List Spelt) (answers answers_too : List Answer) (left other : Option (List Stmt) → Tables) → ((more : Option (List Stmt)) → left more ≡ other more)
+          → drop (length answers) spelt ≡ drop (length answers_too) spelt_too → Left spelt_too answers_too other → Left spelt answers left
+      left_as spelt spelt_too answers answers_too left other same begun rest = record {
         more = rest.more;
-        unanswered = rest.unanswered;
+        unanswered = λ stmts is.
+            let may = rest.unanswered stmts is in (
+              may.0,
+              record {
+                more = may.1.more;
+                few = may.1.few;
+                together = λ some. let them = may.1.together some in record { begun = them.begun; last = ap (take 1) begun ∙ them.last; table = them.table; insert = them.insert };
+              },
+            );
         mark = rest.mark;
         is = rest.is;
         rests = subst (λ (ts : Tables). RestsAlike secret rest.mark m2.store.kept ts) (sym (same rest.more)) rest.rests;
       }
 
-      -- the tables behind the last statement, or before it
-      left_last : (s : Session) (stmt : Stmt) (spelt : List Spelt) (broken : Broken) → is_full_now s stmt ≡ false → (more : Bool)
-          → (left_by more s (Ok stmt ∷ spelt) [] broken).tables ≡ (if more then (after None s stmt).tables else s.tables)
-      left_last s stmt spelt broken room true = ap (λ (x : Session). x.tables) (after_room s stmt [] [] room)
-      left_last s stmt spelt broken room false = refl
+      over_still : (m0 : Machine R) → m2 ≡ m0 → StaysAs m0 m2
+      over_still m0 same = ap (λ (m : Machine R). standing m m2.owed m2.gathered) same
 
-      left_along : (spelt : List Spelt) (m0 : Machine R) (d : Draws) (tables : Tables) (broken : Broken) (answers : List Answer) (seen : List Entry) (part : List ℕ) → Saves state salt base keys m0
-          → AreDraws m0.engine d → IsTrue m0.store.tells → Represents state m0.engine m0.store tables → Resting state secret salt base keys of m0 tables
-          → Along state ending m0 m2 spelt answers seen → AnswersFrom ending (session_of m0 d tables) spelt broken answers seen part
-          → Left (λ more. (left_by more (session_of m0 d tables) spelt answers broken).tables)
-      unfolding AnswersFrom
-      left_along [] m0 d tables broken answers seen part old drawn tells held rests same told =
-          left_same m0 tables (λ more. (left_by more (session_of m0 d tables) [] answers broken).tables) (ap (λ (s : Session). s.tables) (left_end false (session_of m0 d tables) answers broken)) same rests
-      left_along (Err at ∷ spelt) m0 d tables broken [] seen part old drawn tells held rests same told =
-          left_same m0 tables (λ more. (left_by more (session_of m0 d tables) (Err at ∷ spelt) [] broken).tables) refl same rests
-      left_along (Ok stmt ∷ spelt) m0 d tables broken [] seen part old drawn tells held rests (inl stop) told =
-          let room = room_flat (session_of m0 d tables) stmt (flat state secret salt base keys of m0 m2 stmt old d drawn tables tells held rests none) in
-          let last = last_stopped state secret salt base keys of m0 m2 stmt old d drawn tables tells held rests none ending stop.run stop.ends stop.does in
-          record {
-            more = last.more;
-            unanswered = last.unanswered;
-            mark = last.mark;
-            is = last.is;
-            rests = subst (λ (ts : Tables). RestsAlike secret last.mark m2.store.kept ts) (sym (left_last (session_of m0 d tables) stmt spelt broken room last.more)) last.resting;
-          }
-      left_along (Ok stmt ∷ spelt) m0 d tables broken [] seen part old drawn tells held rests (inr end) told =
-          let room = room_flat (session_of m0 d tables) stmt (flat state secret salt base keys of m0 m2 stmt old d drawn tables tells held rests none) in
-          let last = last_answered state secret salt base keys of m0 m2 stmt old d drawn tables tells held rests none ending end.ends end.outcome end.does in
-          record {
-            more = last.more;
-            unanswered = last.unanswered;
-            mark = last.mark;
-            is = last.is;
-            rests = subst (λ (ts : Tables). RestsAlike secret last.mark m2.store.kept ts) (sym (left_last (session_of m0 d tables) stmt spelt broken room last.more)) last.resting;
-          }
-      left_along (Err at ∷ spelt) m0 d tables broken (one ∷ answers) seen part old drawn tells held rests along told =
+      rests_free : (m : Machine R) (d : Draws) (tables : Tables) → m.owed ≡ [] → Resting state secret salt base keys of m (tables_behind m d tables) → Resting state secret salt base keys of m tables
+      rests_free m d tables free rests = subst (Resting state secret salt base keys of m) (ap (λ (owed : List Owed). settle_all d (public_of m.engine) (asked_of m) (statements_of owed) tables) free) rests
+
+      rests_still : (m0 m1 : Machine R) → StaysAs m0 m1 → (ts us : Tables) → ts ≡ us → Resting state secret salt base keys of m0 ts → Resting state secret salt base keys of m1 us
+      rests_still m0 m1 same ts us is rests = record {
+        mark = rests.mark;
+        is = ap (λ (m : Machine R). m.keeper.held) same ∙ rests.is;
+        on = subst (λ (m : Machine R). RestsOn secret rests.mark (public_of m.engine) m.store.kept us) (sym same) (subst (RestsOn secret rests.mark (public_of m0.engine) m0.store.kept) is rests.on);
+      }
+
+      tables_none : (m0 m1 : Machine R) (d : Draws) (tables : Tables) → m0.owed ≡ [] → m1.owed ≡ [] → tables_behind m0 d tables ≡ tables_behind m1 d tables
+      tables_none m0 m1 d tables free owed =
+          ap (λ (l : List Owed). settle_all d (public_of m0.engine) (asked_of m0) (statements_of l) tables) free ∙ sym (ap (λ (l : List Owed). settle_all d (public_of m1.engine) (asked_of m1) (statements_of l) tables) owed)
+
+      -- behind one that was answered
+      pub record RestsNext (m1 : Machine R) (d : Draws) (tables : Tables) : Type 0 where
+        pub saves : Saves state salt base keys m1
+        pub tells : IsTrue m1.store.tells
+        pub rests : Resting state secret salt base keys of m1 (tables_behind m1 d tables)
+
+      next_rests : (m0 m1 : Machine R) (d : Draws) (tables : Tables) (stmt : Stmt) (one : Answer) (how : How) → Saves state salt base keys m0 → AreDraws m0.engine d → IsTrue m0.store.tells → Holds state m0 d tables
+          → Resting state secret salt base keys of m0 (tables_behind m0 d tables) → m1.store.lie ≡ None → StandsSo state m0 m1 d tables stmt one how
+          → RestsNext m1 (after how (session_of m0 d tables) stmt).draws (after how (session_of m0 d tables) stmt).tables
+      next_rests m0 m1 d tables stmt one how old drawn tells holds rests honest so =
+          let behind_it = after how (session_of m0 d tables) stmt in
+          elim so.served [
+            | inl served ↦
+                let does = served.done.does in
+                let draws : draws_behind m0 m1 stmt d ≡ behind_it.draws = ap (λ (x : Seen). record d { drawn = d.drawn + draws_taken (public_of m0.engine) (skeleton stmt) x.end }) served.seen in
+                record {
+                  saves = saves_on state salt base keys m0 m1 stmt one.outcome does old;
+                  tells = subst (λ (b : Bool). IsTrue b) (sym does.ran.later.tells) tells;
+                  rests = subst (λ (e : Draws). Resting state secret salt base keys of m1 (tables_behind m1 e behind_it.tables)) draws
+                      (rests_then state secret salt base keys of m0 m1 stmt old d drawn tables tells (free_holds state m0 d tables does.free holds) (rests_free m0 d tables does.free rests) honest one.outcome served.done how served.seen);
+                }
+            | inr joins ↦ record {
+              saves = saves_still state salt base keys m0 m1 joins.same old;
+              tells = subst (λ (m : Machine R). IsTrue m.store.tells) (sym joins.same) tells;
+              rests = rests_still m0 m1 joins.same (tables_behind m0 d tables) (tables_behind m1 behind_it.draws behind_it.tables)
+                  (sym (ap (λ (e : Draws). tables_behind m1 e behind_it.tables) joins.draws ∙ joins.still)) rests;
+            }
+          ]
+
+      -- where it took effect
+      may_behind : (m0 : Machine R) (stmt : Stmt) → Saves state salt base keys m0 → GoTogether (public_of m0.engine) stmt m2.owed → MayTakeMore ending → MayBehind (Ok stmt ∷ []) []
+      may_behind m0 stmt old along more = record {
+        more = more;
+        few = let less = along.few in let long = length-map m2.owed (λ (one : Owed). one.stmt) in omega (arith, less, long, old.most);
+        together = λ some. elim along.alike [
+          | inl off ↦ absurd (some (ap statements_of off))
+          | inr all ↦ record { begun = stmt; last = refl; table = all.0; insert = all.1 }
+        ];
+      }
+
+      left_begun : (s : Session) (stmt : Stmt) (broken : Broken) → left_by (Some behind) s (Ok stmt ∷ []) [] broken ≡ settle_all s.draws s.public s.asked (stmt ∷ behind) s.tables
+      unfolding statements
+      left_begun s stmt broken = refl
+
+      left_rests : (m0 : Machine R) (d : Draws) (tables : Tables) (stmt : Stmt) (broken : Broken) (more : Bool) (mark : Mark) → Saves state salt base keys m0 → GoTogether (public_of m0.engine) stmt m2.owed → (more ≡ true → MayTakeMore ending) → m2.keeper.held ≡ Some mark
+          → RestsAlike secret mark m2.store.kept (if more then settle_all d (public_of m0.engine) (asked_of m0) (stmt ∷ behind) tables else tables)
+          → Left (Ok stmt ∷ []) [] (λ o. left_by o (session_of m0 d tables) (Ok stmt ∷ []) [] broken)
+      left_rests m0 d tables stmt broken false mark old along may is rests = record { more = None; unanswered = λ stmts more. absurd (cc more); mark = mark; is = is; rests = rests }
+      left_rests m0 d tables stmt broken true mark old along may is rests = record {
+        more = Some behind;
+        unanswered = λ stmts more. let same : behind ≡ stmts = cc more in (sym same, may_behind m0 stmt old along (may refl));
+        mark = mark;
+        is = is;
+        rests = subst (λ (ts : Tables). RestsAlike secret mark m2.store.kept ts) (sym (left_begun (session_of m0 d tables) stmt broken)) rests;
+      }
+
+      -- one that was carried out with the one before it, and whose line was lost
+      with_left : (m0 : Machine R) (d : Draws) (tables : Tables) (stmt : Stmt) (outcome : Outcome) (broken : Broken) → Saves state salt base keys m0 → Resting state secret salt base keys of m0 (tables_behind m0 d tables) → ending ≡ Ran (Err Stops.SinkFault)
+          → IsWith state m0 m2 stmt outcome → Left (Ok stmt ∷ []) [] (λ o. left_by o (session_of m0 d tables) (Ok stmt ∷ []) [] broken)
+      with_left m0 d tables stmt outcome broken old rests ends with = by_failed (has_failed m0.gathered) with.owed
+        where
+          there : RestsAlike secret rests.mark m2.store.kept (tables_behind m0 d tables)
+          there = subst (λ (m : Machine R). RestsAlike secret rests.mark m.store.kept (tables_behind m0 d tables)) (sym with.same) (rests_now secret rests.mark (tables_behind m0 d tables) (public_of m0.engine) m0.store.kept rests.on)
+
+          held : m2.keeper.held ≡ Some rests.mark
+          held = ap (λ (m : Machine R). m.keeper.held) with.same ∙ rests.is
+
+          owing : (l : List Owed) → m0.owed ≡ l → tables_behind m0 d tables ≡ settle_all d (public_of m0.engine) (asked_of m0) (statements_of l) tables
+          owing l is = ap (λ (owed : List Owed). settle_all d (public_of m0.engine) (asked_of m0) (statements_of owed) tables) is
+
+          by_failed : (failed : Bool) → TakesOwed failed (record { stmt = stmt; outcome = outcome }) m0.owed m2.owed → Left (Ok stmt ∷ []) [] (λ o. left_by o (session_of m0 d tables) (Ok stmt ∷ []) [] broken)
+          by_failed true off = left_rests m0 d tables stmt broken false rests.mark old with.along (λ more. absurd (cc more)) held (subst (λ (ts : Tables). RestsAlike secret rests.mark m2.store.kept ts) (owing [] off.0) there)
+          by_failed false is =
+              left_rests m0 d tables stmt broken true rests.mark old with.along (λ more. inl ends) held (subst (λ (ts : Tables). RestsAlike secret rests.mark m2.store.kept ts) (owing (record { stmt = stmt; outcome = outcome } ∷ m2.owed) is) there)
+
+      -- of the one begun
+      left_end : (m0 : Machine R) (d : Draws) (tables : Tables) (stmt : Stmt) (broken : Broken) → Saves state salt base keys m0 → AreDraws m0.engine d → IsTrue m0.store.tells → Holds state m0 d tables
+          → Resting state secret salt base keys of m0 (tables_behind m0 d tables) → IsStopped state ending m0 m2 stmt ⊎ IsLast state ending m0 m2 stmt → Left (Ok stmt ∷ []) [] (λ o. left_by o (session_of m0 d tables) (Ok stmt ∷ []) [] broken)
+      left_end m0 d tables stmt broken old drawn tells holds rests (inl stop) =
+          let free = stop.does.free in
+          let last = last_stopped state secret salt base keys of m0 m2 stmt old d drawn tables tells (free_holds state m0 d tables free holds) (rests_free m0 d tables free rests) none ending stop.run stop.ends stop.does in
+          left_rests m0 d tables stmt broken last.more last.mark old stop.does.along last.unanswered last.is last.resting
+      left_end m0 d tables stmt broken old drawn tells holds rests (inr end) = elim end.done [
+        | inl done ↦
+            let free = done.does.free in
+            let last = last_answered state secret salt base keys of m0 m2 stmt old d drawn tables tells (free_holds state m0 d tables free holds) (rests_free m0 d tables free rests) none ending end.ends end.outcome done in
+            left_rests m0 d tables stmt broken last.more last.mark old done.does.along last.unanswered last.is last.resting
+        | inr with ↦ with_left m0 d tables stmt end.outcome broken old rests end.ends with
+      ]
+
+      -- the text begun is the last of those that are spelt
+      left_along : (spelt : List Spelt) (m0 : Machine R) (d : Draws) (tables : Tables) (broken : Broken) (answers : List Answer) → length spelt ≤ length answers + 1 → Saves state salt base keys m0
+          → AreDraws m0.engine d → IsTrue m0.store.tells → Holds state m0 d tables → Resting state secret salt base keys of m0 (tables_behind m0 d tables)
+          → Path state ending m0 m2 d tables spelt answers broken → Left spelt answers (λ more. left_by more (session_of m0 d tables) spelt answers broken)
+      left_along [] m0 d tables broken answers few old drawn tells holds rests over =
+          let free = over.0.free in
+          subst (λ (xs : List Answer). Left [] xs (λ more. left_by more (session_of m0 d tables) [] xs broken)) (sym over.1)
+          (left_none [] [] m0 tables (λ more. left_by more (session_of m0 d tables) [] [] broken) refl (over_still m0 over.0.same) (rests_free m0 d tables free rests))
+      left_along (Err at ∷ spelt) m0 d tables broken [] few old drawn tells holds rests passed =
+          left_none (Err at ∷ spelt) [] m0 tables (λ more. left_by more (session_of m0 d tables) (Err at ∷ spelt) [] broken) refl passed.same (rests_free m0 d tables passed.free rests)
+      left_along (Ok stmt ∷ []) m0 d tables broken [] few old drawn tells holds rests last = left_end m0 d tables stmt broken old drawn tells holds rests last
+      left_along (Ok stmt ∷ x ∷ spelt) m0 d tables broken [] few old drawn tells holds rests last = absurd (omega (arith, few))
+      left_along (Err at ∷ spelt) m0 d tables broken (one ∷ answers) few old drawn tells holds rests path =
           let s = session_of m0 d tables in
-          left_as (λ more. (left_by more s (Err at ∷ spelt) (one ∷ answers) broken).tables) (λ more. (left_by more s spelt answers (rest_of broken)).tables)
-          (λ more. ap (λ (x : Session). x.tables) (left_refused more s spelt one answers broken at))
-          (left_along spelt m0 d tables (rest_of broken) answers seen part old drawn tells held rests along told.1)
-      left_along (Ok stmt ∷ spelt) m0 d tables broken (one ∷ answers) [] part old drawn tells held rests along told = absurd along
-      left_along (Ok stmt ∷ spelt) m0 d tables broken (one ∷ answers) (x ∷ seen) part old drawn tells held rests along told =
+          let m1 = path.0 in
+          let same = path.1.same in
+          let on : Resting state secret salt base keys of m1 (tables_behind m1 d tables) =
+          rests_still m0 m1 same (tables_behind m0 d tables) (tables_behind m1 d tables) (tables_none m0 m1 d tables path.1.free path.1.owed) rests in
+          let rest = left_along spelt m1 d tables (rest_of broken) answers (omega (arith, few)) (saves_still state salt base keys m0 m1 same old)
+          (subst (λ (m : Machine R). AreDraws m.engine d) (sym same) drawn) (subst (λ (m : Machine R). IsTrue m.store.tells) (sym same) tells)
+          (holds_free state m1 d tables path.1.owed (subst (λ (m : Machine R). Represents state m.engine m.store tables) (sym same) (free_holds state m0 d tables path.1.free holds))) on path.2 in
+          left_as (Err at ∷ spelt) spelt (one ∷ answers) answers (λ more. left_by more s (Err at ∷ spelt) (one ∷ answers) broken) (λ more. left_by more s spelt answers (rest_of broken))
+          (λ more. left_refused more s spelt one answers broken at) refl
+          (subst (λ (x : Session). Left spelt answers (λ more. left_by more x spelt answers (rest_of broken))) (ap (λ (m : Machine R). session_of m d tables) same) rest)
+      left_along (Ok stmt ∷ spelt) m0 d tables broken (one ∷ answers) few old drawn tells holds rests path =
           let s = session_of m0 d tables in
-          let m1 = along.0 in
-          let does = along.1.does in
+          let m1 = path.0 in
+          let so = path.1 in
           let how = head_of broken in
-          let here : seen_of m1.engine ≡ seen_or_cut how s stmt = sym along.1.seen ∙ told.3 in
-          let behind = after how s stmt in
-          let none_there = none_along spelt m1 answers seen none along.2 in
-          let is : behind ≡ session_of m1 behind.draws behind.tables = stands state m0 m1 stmt one.outcome does d tables how here in
-          let rest = left_along spelt m1 behind.draws behind.tables (rest_of broken) answers seen part (saves_on state salt base keys m0 m1 stmt one.outcome does old)
-          (draws_then state m0 m1 stmt one.outcome does d tables how here drawn) (subst (λ (b : Bool). IsTrue b) (sym does.ran.later.tells) tells)
-          (held_then state secret salt base keys of m0 m1 stmt old d drawn tables tells held rests none_there one.outcome does how here)
-          (rests_then state secret salt base keys of m0 m1 stmt old d drawn tables tells held rests none_there one.outcome does how here) along.2
-          (subst (λ (y : Session). AnswersFrom ending y spelt (rest_of broken) answers seen part) is told.4) in
-          left_as (λ more. (left_by more s (Ok stmt ∷ spelt) (one ∷ answers) broken).tables) (λ more. (left_by more (session_of m1 behind.draws behind.tables) spelt answers (rest_of broken)).tables)
-          (λ more.
-          ap (λ (y : Session). y.tables) (left_served more s spelt one answers broken stmt told.0)
-          ∙ ap (λ (y : Session). (left_by more y spelt answers (rest_of broken)).tables) is)
+          let behind_it = after how s stmt in
+          let none_there = none_path spelt m1 _ _ answers (rest_of broken) none path.2 in
+          let next = next_rests m0 m1 d tables stmt one how old drawn tells holds rests none_there so in
+          let rest = left_along spelt m1 behind_it.draws behind_it.tables (rest_of broken) answers (omega (arith, few)) next.saves so.drawn next.tells so.holds next.rests path.2 in
+          left_as (Ok stmt ∷ spelt) spelt (one ∷ answers) answers (λ more. left_by more s (Ok stmt ∷ spelt) (one ∷ answers) broken) (λ more. left_by more (session_of m1 behind_it.draws behind_it.tables) spelt answers (rest_of broken))
+          (λ more. left_served more s spelt one answers broken stmt so.room ∙ ap (λ (y : Session). left_by more y spelt answers (rest_of broken)) so.stands) refl
           rest
+
+-- the last of these is the one behind so many
+last_at : (n : ℕ) (spelt : List Spelt) (begun : Stmt) → length spelt ≤ n + 1 → take 1 (drop n spelt) ≡ Ok begun ∷ [] → drop n spelt ≡ Ok begun ∷ []
+last_at n spelt begun few is = go (drop n spelt) (let long = length-drop n spelt in omega (arith, few, long)) is
+  where
+    go : (xs : List Spelt) → length xs ≤ 1 → take 1 xs ≡ Ok begun ∷ [] → xs ≡ Ok begun ∷ []
+    go [] few is = absurd (cc is)
+    go (x ∷ []) few is = is
+    go (x ∷ y ∷ xs) few is = absurd (omega (arith, few))
+
+last_of : (n m : ℕ) → n ≡ m → (spelt : List Spelt) (begun : Stmt) → length spelt ≤ m + 1 → take 1 (drop n spelt) ≡ Ok begun ∷ [] → spelt ≡ take m spelt ++ Ok begun ∷ []
+last_of n m same spelt begun few is =
+    let there : drop m spelt ≡ Ok begun ∷ [] = last_at m spelt begun few (subst (λ (k : ℕ). take 1 (drop k spelt) ≡ Ok begun ∷ []) same is) in
+    sym (take-append-drop m spelt) ∙ ap (λ (l : List Spelt). take m spelt ++ l) there
 
 -- ---- what follows for each session that statements may go on from
 from_both : (base : Base) (P Q T : Session → Type 0) → ((tables : Tables) → P (session_at base tables) → Q (session_at base tables) → T (session_at base tables)) → FromEach base P → FromEach base Q → FromEach base T
@@ -182,9 +308,11 @@ from_both base P Q T follows first second = go base.opened first second
 -- ---- a session whose tables are saved leaves them so
 -- of statements that were carried out along these machines, and answered as the model does
 module _ {R : Type 0} (state : R → RevState) (secret salt : List ℕ) (base : Base) (keys : KeySet) (m0 m2 : Machine R) (begins : BeginsToSave state secret salt base keys m0) (ending : Ending) (story : Story)
-    (along : Along state ending m0 m2 story.spelt story.answers (story.seen ++ story.last))
-    (meant : IsTrue m0.store.tells → m2.store.lie ≡ None → (tables : Tables) → Represents state m0.engine m0.store tables
-    → (broken : Broken) × AnswersFrom ending (session_of m0 (first_draws keys) tables) story.spelt broken story.answers (story.seen ++ story.last) story.part) where
+    (along : Along state ending m0 m2 story.spelt story.answers (story.seen ++ story.last)) (each : length story.answers ≡ length story.served) (begun : length story.spelt ≤ length story.served + 1)
+    (follow : SpellFirst (story.served ++ story.more) (story.spelt ++ map Ok (statements_of m2.owed)))
+    (meant : IsTrue m0.store.tells → m2.store.lie ≡ None → (tables : Tables) → Holds state m0 (first_draws keys) tables
+    → (broken : Broken) × AnswersFrom ending (session_of m0 (first_draws keys) tables) story.spelt broken story.answers (story.seen ++ story.last) story.part
+    × Path state ending m0 m2 (first_draws keys) tables story.spelt story.answers broken) where
   abbrev d0 : Draws
   d0 = first_draws keys
 
@@ -192,7 +320,7 @@ module _ {R : Type 0} (state : R → RevState) (secret salt : List ℕ) (base : 
   here tables = λ i. record { public = begins.public i; tables = tables; asked = begins.count i; draws = d0 }
 
   saves0 : Saves state salt base keys m0
-  saves0 = record { agrees = begins.agrees; saves = begins.saves; pack = ap (λ (p : Public). p.pack) begins.public; start = begins.start; keyed = begins.keyed }
+  saves0 = record { agrees = begins.agrees; saves = begins.saves; pack = ap (λ (p : Public). p.pack) begins.public; most = ap batch_most begins.public; start = begins.start; keyed = begins.keyed }
 
   module _ (held : Mark) (is : m0.keeper.held ≡ Some held) where
     holds2 : HoldsMark state salt base keys held m2
@@ -201,19 +329,42 @@ module _ {R : Type 0} (state : R → RevState) (secret salt : List ℕ) (base : 
         (record { mark = held; is = is; which = inl refl }) along
 
     rests_behind : IsHonest m0.store m2.store → (tables : Tables) → Represents state m0.engine m0.store tables → RestsOn secret held base.public m0.store.kept tables
-        → RestsBehind secret keys ending story holds2.mark m2.store.kept (session_at base tables)
+        → RestsBehind (batch_most base.public) secret keys ending story holds2.mark m2.store.kept (session_at base tables)
     rests_behind honest tables represents on =
-        let from = meant honest.tells honest.no_lie tables represents in
-        let rest = left_along state ending m2 salt base keys secret begins.of honest.no_lie story.spelt m0 d0 tables from.0 story.answers (story.seen ++ story.last) story.part saves0 begins.drawn honest.tells represents
-        (record { mark = held; is = is; on = subst (λ (p : Public). RestsOn secret held p m0.store.kept tables) (sym begins.public) on }) along from.1 in
+        let holds = holds_free state m0 d0 tables begins.free represents in
+        let from = meant honest.tells honest.no_lie tables holds in
+        let none : tables_behind m0 d0 tables ≡ tables = ap (λ (owed : List Owed). settle_all d0 (public_of m0.engine) (asked_of m0) (statements_of owed) tables) begins.free in
+        let rest = left_along state ending m2 salt base keys secret begins.of honest.no_lie story.spelt m0 d0 tables from.0 story.answers (omega (arith, begun, each)) saves0 begins.drawn honest.tells holds
+        (record {
+          mark = held;
+          is = is;
+          on = subst (λ (ts : Tables). RestsOn secret held (public_of m0.engine) m0.store.kept ts) (sym none) (subst (λ (p : Public). RestsOn secret held p m0.store.kept tables) (sym begins.public) on);
+        }) from.2 in
         let same : rest.mark ≡ holds2.mark = let one = rest.is in let other = holds2.is in cc (one, other) in
         record {
           broken = from.0;
           answered = subst (λ (s : Session). AnswersFrom ending s story.spelt from.0 story.answers (story.seen ++ story.last) story.part) (here tables) from.1;
           more = rest.more;
-          unanswered = rest.unanswered;
-          rests = subst (λ (m : Mark). RestsAlike secret m m2.store.kept (left_by rest.more (drawing keys (session_at base tables)) story.spelt story.answers from.0).tables) same
-              (subst (λ (s : Session). RestsAlike secret rest.mark m2.store.kept (left_by rest.more s story.spelt story.answers from.0).tables) (here tables) rest.rests);
+          unanswered = λ stmts some. let may = rest.unanswered stmts some in may_take stmts may.0 may.1;
+          rests = subst (λ (m : Mark). RestsAlike secret m m2.store.kept (left_by rest.more (drawing keys (session_at base tables)) story.spelt story.answers from.0)) same
+              (subst (λ (s : Session). RestsAlike secret rest.mark m2.store.kept (left_by rest.more s story.spelt story.answers from.0)) (here tables) rest.rests);
+        }
+      where
+        may_take : (stmts : List Stmt) → stmts ≡ statements_of m2.owed → MayBehind state ending m2 salt base keys secret begins.of honest.no_lie story.spelt story.answers → MayTake (batch_most base.public) ending story stmts
+        may_take stmts same may = record {
+          more = may.more;
+          along = record {
+            few = subst (λ (l : List Stmt). length l < batch_most base.public) (sym same) may.few;
+            spell = subst (λ (l : List Stmt). SpellFirst (story.served ++ story.more) (story.spelt ++ map Ok l)) (sym same) follow;
+            together = λ some.
+                let them = may.together (λ off. some (same ∙ off)) in
+                record {
+                  begun = them.begun;
+                  last = last_of (length story.answers) (length story.served) each story.spelt them.begun begun them.last;
+                  table = them.table;
+                  insert = subst (λ (l : List Stmt). AllInsert them.table (them.begun ∷ l)) (sym same) them.insert;
+                };
+          };
         }
 
   pub leaves_saved : LeavesSaved secret salt base keys ending story m0.store m2.store m0.keeper m2.keeper
@@ -225,7 +376,7 @@ module _ {R : Type 0} (state : R → RevState) (secret salt : List ℕ) (base : 
         which = (holds2 held is).which;
         rests = λ honest.
             from_both base (λ s. Represents state m0.engine m0.store s.tables) (λ s. RestsOn secret held base.public m0.store.kept s.tables)
-            (λ s. RestsBehind secret keys ending story (holds2 held is).mark m2.store.kept s) (rests_behind held is honest) begins.held (begins.rests held is);
+            (λ s. RestsBehind (batch_most base.public) secret keys ending story (holds2 held is).mark m2.store.kept s) (rests_behind held is honest) begins.held (begins.rests held is);
       },
     );
   }

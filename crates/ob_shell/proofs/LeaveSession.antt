@@ -15,8 +15,8 @@ use Rattle.ob_tables.specs.Agreeing.{first_draws, world_of}
 use Rattle.ob_vault.proofs.WorldSteps.{calm_none}
 use Rattle.ob_vault.specs.State.{RevState}
 
-module _ {R : Type 0} (state : R → RevState) (ending : Ending) (Failed : Type 0) (m0 m1 m2 : Machine R) (texts more : List (List ℕ)) (answers : List Answer) (part : List ℕ)
-    (walk : Walked state ending Failed m0 m1 m2 texts more answers part) where
+module _ {R : Type 0} (state : R → RevState) (ending : Ending) (m0 m1 m2 : Machine R) (texts more : List (List ℕ)) (answers : List Answer) (part : List ℕ)
+    (walk : Walked state ending m0 m1 m2 texts more answers part) where
   -- what became of the texts
   abbrev pub walked_story : Story
   walked_story = record {
@@ -36,8 +36,8 @@ module _ {R : Type 0} (state : R → RevState) (ending : Ending) (Failed : Type 
   pub session_leaves : (secret salt : List ℕ) (base : Base) (keys : KeySet) → BeginsToSave state secret salt base keys m0
       → LeavesSaved secret salt base keys ending walked_story m0.store m2.store m0.keeper m2.keeper
   session_leaves secret salt base keys begins =
-      leaves_saved state secret salt base keys m0 m2 begins ending walked_story walk.along
+      leaves_saved state secret salt base keys m0 m2 begins ending walked_story walk.along walk.each walk.begun walk.follow
       (λ tells none tables held.
       let from = walk.meant (first_draws keys) begins.drawn tells (calm_none (world_of state m0.engine m0.store) (no_lie_first m0.store.lie refl none))
       (record { unfit = λ lie is fits. absurd (cc (is, none)) }) tables held in
-      (from.0, from.1))
+      (from.0, from.1, from.3))

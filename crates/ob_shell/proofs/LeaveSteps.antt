@@ -9,7 +9,7 @@ use Rattle.ob_base.specs.declared.refusal.Refusal.{Refusal}
 use Rattle.ob_base.specs.declared.refusal.Refusal.TheVariants as Refusals
 use Rattle.ob_base.specs.declared.schema.Table.{Table}
 use Rattle.ob_base.specs.declared.seen.End.{End}
-use Rattle.ob_base.specs.declared.seen.End.TheVariants.{Static, Whole, AfterCount, Cut}
+use Rattle.ob_base.specs.declared.seen.End.TheVariants.{Static, Whole, AfterCount, Joined, Cut}
 use Rattle.ob_base.specs.declared.seen.Seen.{Seen}
 use Rattle.ob_base.specs.declared.skeleton.Skeleton.{Skeleton}
 use Rattle.ob_base.specs.declared.skeleton.Skeleton.TheVariants as Skeletons
@@ -22,7 +22,8 @@ use Rattle.ob_mean.proofs.FlatLemmas.{seen_is, settle_is}
 use Rattle.ob_mean.proofs.VerdictLemmas.{refused_early}
 use Rattle.ob_mean.specs.Flats.{AreFlat}
 use Rattle.ob_mean.specs.Refusals.{early_refusal, limits_of}
-use Rattle.ob_mean.specs.Replay.{Session, seen_now, seen_or_cut, settle_or_cut}
+use Rattle.ob_mean.specs.Batches.{batch_most, is_joined}
+use Rattle.ob_mean.specs.Replay.{Alone, CutAfter, CutWith, How, Session, With, seen_now, seen_or_cut, settle_or_cut}
 use Rattle.ob_mean.specs.Settle.{settle, settled}
 use Rattle.ob_mean.specs.Step.{followed}
 use Rattle.ob_mean.specs.Verdict.{Draws, Tables, ended as seen_to, is_late, refusal, seen_started}
@@ -36,7 +37,7 @@ use Rattle.ob_script.specs.Tables.{tables_after, tables_then}
 use Rattle.ob_seal.specs.KeySet.{KeySet, pair_of}
 use Rattle.ob_seal.specs.Sealed.{AreOfSecret}
 use Rattle.ob_shell.specs.Leaving.{IsRead, RestsOn}
-use Rattle.ob_shell.specs.Steps.{Does, Machine}
+use Rattle.ob_shell.specs.Steps.{Does, Machine, StaysAs, statements_of}
 use Rattle.ob_sql.specs.Skeleton.{skeleton}
 use Rattle.ob_sql.specs.declared.stmt.Stmt.{Stmt}
 use Rattle.ob_sql.specs.declared.stmt.Stmt.TheVariants.{Create, Insert, Update, Delete, Drop as DropTable, SelectRows as RowsStmt, SelectTotals as TotalsStmt}
@@ -146,11 +147,13 @@ module _ (p : Public) (m : ℕ) (d : Draws) (ts : Tables) (saves : p.save ≡ tr
           seen_is p ts stmt flat d m ∙ ap (λ (o : Option Refusal). if is_some o then seen_to Static else seen_started p ts stmt) early in
           started_same stmt (subst (λ (x : Seen). is_saved_behind p (skeleton stmt) x.end ≡ false) is not) (refusal p m ts stmt)
 
--- whether or not the store cut it off
-pub unsaved_same : (o : Option ℕ) (s : Session) (stmt : Stmt) → s.public.save ≡ true → AreFlat (headings s.tables) → is_saved_behind s.public (skeleton stmt) (seen_or_cut o s stmt).end ≡ false
+-- whether or not the store cut it off, where it was served by itself
+pub unsaved_same : (o : How) (s : Session) (stmt : Stmt) → s.public.save ≡ true → AreFlat (headings s.tables) → is_joined (seen_or_cut o s stmt).end ≡ false → is_saved_behind s.public (skeleton stmt) (seen_or_cut o s stmt).end ≡ false
     → settle_or_cut o s stmt ≡ s.tables
-unsaved_same None s stmt saves flat not = settles_same s.public s.asked s.draws s.tables saves stmt flat not
-unsaved_same (Some n) s stmt saves flat not = refl
+unsaved_same Alone s stmt saves flat apart not = settles_same s.public s.asked s.draws s.tables saves stmt flat not
+unsaved_same (CutAfter n) s stmt saves flat apart not = refl
+unsaved_same With s stmt saves flat apart not = absurd (cc apart)
+unsaved_same CutWith s stmt saves flat apart not = refl
 
 -- so does what is public
 after_same : (p : Public) (sk : Skeleton) → p.save ≡ true → is_saved_behind p sk Whole ≡ false → tables_after p sk ≡ p.tables
@@ -166,6 +169,7 @@ pub then_same : (p : Public) (sk : Skeleton) (end : End) → p.save ≡ true →
 then_same p sk Static saves not = refl
 then_same p sk Whole saves not = after_same p sk saves not
 then_same p sk AfterCount saves not = refl
+then_same p sk Joined saves not = refl
 then_same p sk (Cut n) saves not = refl
 
 -- ---- what rests while nothing that is read of it changes
@@ -243,6 +247,7 @@ module _ {R : Type 0} (state : R → RevState) (salt : List ℕ) (base : Base) (
     pub agrees : Agrees state m.engine m.store
     pub saves : (public_of m.engine).save ≡ true
     pub pack : (public_of m.engine).pack ≡ base.public.pack
+    pub most : batch_most (public_of m.engine) ≡ batch_most base.public
     pub start : engine_start m.engine ≡ base.start
     pub keyed : engine_keys m.engine ≡ keys
 
@@ -251,9 +256,14 @@ module _ {R : Type 0} (state : R → RevState) (salt : List ℕ) (base : Base) (
     agrees = does.ran.goes_on.agrees;
     saves = ap (λ (p : Public). p.save) does.ran.goes_on.public ∙ old.saves;
     pack = ap (λ (p : Public). p.pack) does.ran.goes_on.public ∙ old.pack;
+    most = ap batch_most does.ran.goes_on.public ∙ old.most;
     start = does.ran.start ∙ old.start;
     keyed = does.ran.keys ∙ old.keyed;
   }
+
+  -- where nothing was asked
+  pub saves_still : (m0 m1 : Machine R) → StaysAs m0 m1 → Saves m0 → Saves m1
+  saves_still m0 m1 same old = subst Saves (sym same) (record { agrees = old.agrees; saves = old.saves; pack = old.pack; most = old.most; start = old.start; keyed = old.keyed })
 
   -- the mark that is held is this one, or one of the run's own
   pub record HoldsMark (held : Mark) (m : Machine R) : Type 0 where
@@ -261,12 +271,15 @@ module _ {R : Type 0} (state : R → RevState) (salt : List ℕ) (base : Base) (
     pub is : m.keeper.held ≡ Some mark
     pub which : (mark ≡ held) ⊎ SavesAs salt base mark
 
+  pub mark_still : (held : Mark) (m0 m1 : Machine R) → StaysAs m0 m1 → HoldsMark held m0 → HoldsMark held m1
+  mark_still held m0 m1 same holds = record { mark = holds.mark; is = ap (λ (m : Machine R). m.keeper.held) same ∙ holds.is; which = holds.which }
+
   module _ (held : Mark) (salted : (q : ℕ) → base.start.region < q → (pair_of keys q).salt ≡ Some salt) (m0 m1 : Machine R) (stmt : Stmt) (old : Saves m0) where
     mark_same : m1.keeper ≡ m0.keeper → HoldsMark held m0 → HoldsMark held m1
     mark_same same holds = record { mark = holds.mark; is = ap (λ (k : KeeperState). k.held) same ∙ holds.is; which = holds.which }
 
     -- behind what was saved
-    mark_new : (result : Result Outcome RunStop) (was : WasSaved state stmt result m0.engine m0.store m1.engine m1.store m0.keeper m1.keeper) → HoldsSaved state was.engine was.store m1.store m1.keeper → HoldsMark held m1
+    mark_new : (result : Result Outcome RunStop) (was : WasSaved state stmt (statements_of m1.owed) result m0.engine m0.store m1.engine m1.store m0.keeper m1.keeper) → HoldsSaved state was.engine was.store m1.store m1.keeper → HoldsMark held m1
     mark_new result was holds = record {
       mark = own_mark state was.engine was.store m1.store m1.keeper holds was.ran.goes_on.agrees;
       is = holds.is;

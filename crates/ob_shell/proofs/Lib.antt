@@ -9,7 +9,11 @@ pub mod KeepRunLemmas
 pub mod KeptGenLemmas
 pub mod KeptLemmas
 pub mod KeyLemmas
+pub mod TookLemmas
+pub mod WaitLemmas
 pub mod RunLemmas
+pub mod ReadLemmas
+pub mod ServedLemmas
 pub mod ServeLemmas
 pub mod StandLemmas
 pub mod SessionLemmas
@@ -20,18 +24,25 @@ pub mod TallyLemmas
 pub mod TopLemmas
 pub mod TraceLemmas
 pub mod ReplayLemmas
+pub mod WithLemmas
 pub mod LastingLemmas
 pub mod CalmLemmas
 pub mod FailureLemmas
 pub mod LeafLemmas
+pub mod HowLemmas
 mod WalkLemmas
+mod WalkSteps
+pub mod BatchSteps
+pub mod LineLemmas
+pub mod FlushLemmas
+pub mod GatherLemmas
+pub mod TakesLemmas
 pub mod HeadLemmas
 pub mod OpenLemmas
 pub mod CloseLemmas
-pub mod WordLemmas
-pub mod SavedWordLemmas
 pub mod FirstPartLemmas
 pub mod LaterLemmas
+pub mod LetGoLemmas
 pub mod DisturbLemmas
 pub mod MeddleLemmas
 pub mod LeavePath

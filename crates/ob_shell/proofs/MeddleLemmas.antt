@@ -1,5 +1,5 @@
 -- What the changes of a store do to a run.
-use Rattle.std.specs.Prelude.{nat_lt, ⊤}
+use Rattle.std.specs.Prelude.{nat_lt, take, ⊤}
 use Rattle.std.proofs.Common.{◌≡◌, ◌≢◌, ◌+◌, ℕ, Bool, true, false, not, IsSome, IsTrue, List, [], ◌∷◌, length, Option, None, Some, Ok, Err, inl, inr, refl, sym, ◌∙◌, ap, subst, arith}
 use Rattle.std.proofs.lemmas.List.Folds.{list_all-map}
 use Rattle.std.specs.List.{list_all}
@@ -10,11 +10,14 @@ use Rattle.ob_base.specs.declared.refusal.Stop.TheVariants.{Tampered, SourceFaul
 use Rattle.ob_gen.specs.declared.tally.Tally.{Tally}
 use Rattle.ob_headline.specs.Bases.{fresh}
 use Rattle.ob_headline.specs.Endings.{status_of}
-use Rattle.ob_headline.specs.Failures.{RisesBy, failures}
+use Rattle.ob_headline.specs.Accesses.{Accesses}
+use Rattle.ob_headline.specs.Failures.{RisesBy, cut_off}
 use Rattle.ob_headline.specs.Headline.{Headline}
 use Rattle.ob_headline.specs.Settings.{MeddleParses, ParsesChanges, settings_of}
+use Rattle.ob_headline.specs.Statements.{Statements, statements}
+use Rattle.ob_headline.specs.Story.{Story}
 use Rattle.ob_headline.specs.Usage.{is_traced, meddle_usage}
-use Rattle.ob_headline.specs.Words.{Answer, Faults, IsHonest, Outside, SinksRose, faults_of, keys_in, outside_of}
+use Rattle.ob_headline.specs.Words.{Faults, IsHonest, Outside, SinksRose, faults_of, keys_in, outside_of}
 use Rattle.ob_headline.specs.declared.ending.Ending.{Ending}
 use Rattle.ob_headline.specs.declared.ending.Ending.TheVariants.{Usage, BadKey, Ran}
 use Rattle.ob_headline.specs.declared.ending.Report.{Report}
@@ -29,6 +32,7 @@ use Rattle.ob_meddle.specs.declared.meddle.Meddle.{Meddle}
 use Rattle.ob_meddle.specs.declared.store.MeddledStore.{MeddledStore}
 use Rattle.ob_shell.proofs.CloseLemmas.{reported_taken}
 use Rattle.ob_shell.proofs.DisturbLemmas.{before_less}
+use Rattle.ob_shell.proofs.FailureLemmas.{none_failed}
 use Rattle.ob_shell.proofs.GeneratingLemmas.{with_source}
 use Rattle.ob_shell.proofs.HeadLemmas.{headlined}
 use Rattle.ob_shell.specs.Generating.{RanGenerated, MeddleRan, MeddleSummarized}
@@ -107,9 +111,11 @@ module _ {tally : Tally} {tr : TraceSink} {Takes : Type 0} {keys : List ℕ → 
   pub honest_status : IsHonest s0 s1 → report.status ≢ 4
   honest_status honest is = status_not r.ending (r.shown.carried.untampered honest) (sym r.status ∙ is)
 
-  pub undisturbed : (answers : List Answer) → (fresh settings).public.save ≡ false → RisesBy (failures answers) s0.faults s1.faults → IsTrue s0.tells → IsQuiet s1 → Undisturbed answers s0 s1 report
-  undisturbed answers unsaved failed tells quiet =
+  pub undisturbed : (story : Story) (secret : Option (List ℕ)) (key : KeySet) (ending : Ending) → Statements secret story → Accesses (fresh settings) key ending story s0 s1 → (fresh settings).public.save ≡ false → IsTrue s0.tells → IsQuiet s1
+      → Undisturbed story.answers s0 s1 report
+  undisturbed story secret key ending spelt accesses unsaved tells quiet =
       let honest : IsHonest s0 s1 = record { tells = tells; no_lie = quiet.lie } in
+      let uncut : cut_off story.seen ≡ 0 = none_rose _ s0.faults (subst (λ (n : ℕ). RisesBy (cut_off story.seen) s0.faults n) quiet.faults accesses.cut) in
       record {
         honest = honest;
         untampered = honest_status honest;
@@ -118,7 +124,8 @@ module _ {tally : Tally} {tr : TraceSink} {Takes : Type 0} {keys : List ℕ → 
               | inl rose ↦ let none = quiet.faults in absurd (omega (arith, rose, none))
               | inr late ↦ absurd (cc (late.saves, unsaved))
             ];
-        unfailed = none_rose _ s0.faults (subst (λ (n : ℕ). RisesBy (failures answers) s0.faults n) quiet.faults failed);
+        unfailed = none_failed _ story.spelt story.answers story.seen story.last _ _ _ accesses.lawful (let each = spelt.each in let reached = spelt.reached in omega (arith, each, reached))
+            (accesses.each_seen ∙ ap (λ (n : ℕ). length (statements (take n story.spelt))) (sym spelt.each)) refl uncut;
       }
 
 pub meddled : {tally : Tally} {words : List Text} {gave0 gave : ℕ} {l0 l1 w0 w1 t0 t1 : Option (List ℕ)} {old new : Faults} {report : Report}
@@ -171,11 +178,15 @@ meddled {tally = tally} {words = words} {gave0 = gave0} {gave = gave} {l0 = l0} 
           let within = (h.answers.always refl n (before n after)).quiet few in
           let before_there : IsBefore s1.disturbed (length s1.asked) =
           subst (λ (o : Option (List Disturbance)). IsBefore o (length s1.asked)) (sym later.disturbed) (before_less s0.disturbed (length s1.asked) n within (before n after)) in
-          undisturbed r h.story.answers (subst (λ (o : Option Config). (fresh o).public.save ≡ false) (sym parses.settings.settings) unsaved) h.accesses.failed refl ((later.steady steady).quiet before_there);
+          undisturbed r h.story _ _ _ h.statements h.accesses (subst (λ (o : Option Config). (fresh o).public.save ≡ false) (sym parses.settings.settings) unsaved) refl ((later.steady steady).quiet before_there);
       unchanged = λ all.
           let honest : IsHonest s0 s1 = record { tells = refl; no_lie = no_lie_by here s1 there (none_acts here (length s1.asked) all) } in (honest, honest_status r honest);
-      failed =
-          let rose = h.accesses.failed in
+      cut =
+          let rose = h.accesses.cut in
+          let most = there.counted in
+          omega (arith, rose, most, faults);
+      failed = λ alone.
+          let rose = h.accesses.failed alone in
           let most = there.counted in
           omega (arith, rose, most, faults);
       tampered = λ is. acted_or_not (has_acted here (length s1.asked)) (λ no. honest_status r (record { tells = refl; no_lie = no_lie_by here s1 there no }) is);

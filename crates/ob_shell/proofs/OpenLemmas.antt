@@ -30,7 +30,7 @@ module _ {R : Type 0} (state : R → RevState) where
 
   step_opens : (m0 m1 : Machine R) (text : List ℕ) (answer : Answer) → Step state m0 m1 text answer → Used m0 → Used m1
   step_opens m0 m1 text answer step used = elim step.done [
-    | inl bad ↦ same m0 m1 bad.same used
+    | inl still ↦ subst (λ (m : Machine R). Used m) (sym still.same) used
     | inr did ↦ after _ _ _ _ _ did.does.ran.asked did.does.ran.opened used
   ]
 

@@ -1,5 +1,5 @@
 -- One statement that was answered or cut off, by its meaning.
-use Rattle.std.proofs.Common.{◌≡◌, ◌⊎◌, inl, inr, ◌+◌, ◌≤◌, ℕ, Bool, true, false, List, ◌++◌, length, Option, Some, None, Result, refl, sym, ◌∙◌, ap, subst, arith}
+use Rattle.std.proofs.Common.{◌≡◌, ◌⊎◌, inl, inr, ◌+◌, ◌≤◌, ℕ, Bool, true, false, List, [], ◌++◌, length, Option, Some, None, Result, refl, sym, ◌∙◌, ap, subst, arith}
 use Rattle.std.proofs.lemmas.List.{length-append}
 use Rattle.ob_base.specs.Refusals.{is_store_fault}
 use Rattle.ob_base.specs.Stored.{headings}
@@ -21,14 +21,15 @@ use Rattle.ob_headline.proofs.CutLemmas.{cut_shorter}
 use Rattle.ob_headline.specs.Words.{Answer}
 use Rattle.ob_mean.specs.Lawful.{CutUpTo}
 use Rattle.ob_mean.specs.Refusals.{early_refusal, limits_of}
-use Rattle.ob_mean.specs.Replay.{Session, after, cut_at, draws_taken, seen_now, seen_or_cut}
+use Rattle.ob_mean.specs.Batches.{settle_all}
+use Rattle.ob_mean.specs.Replay.{How, Session, after, cut_at, draws_taken, seen_now, seen_or_cut}
 use Rattle.ob_mean.specs.Verdict.{Draws, Tables, is_late}
 use Rattle.ob_script.specs.Script.{script, whole_script}
 use Rattle.ob_script.specs.Trace.{next}
-use Rattle.ob_shell.specs.Steps.{Machine, Does, Misspelt, ServedStatement, asked_of, session_of}
+use Rattle.ob_shell.specs.Steps.{AreOwed, Does, Holds, Machine, Owed, ServedStatement, Unasked, asked_of, session_of, statements_of}
 use Rattle.ob_sql.specs.Skeleton.{skeleton}
 use Rattle.ob_sql.specs.declared.stmt.Stmt.{Stmt}
-use Rattle.ob_store.specs.Runs.{Later}
+use Rattle.ob_store.specs.Runs.{Since}
 use Rattle.ob_store.specs.State.{Lie, StoreState}
 use Rattle.ob_vault.specs.State.{RevState, earlier}
 
@@ -58,7 +59,7 @@ outcome_cases o whole cut with also a b = go (is_fault o) refl a b where
   go false e a b = inl (a, b)
 
 -- ---- no lie is told before a state in which none is
-pub no_lie : (o : Option Lie) (a b : StoreState) → a.lie ≡ o → Later a b → b.lie ≡ None → a.lie ≡ None
+pub no_lie : (o : Option Lie) (a b : StoreState) → a.lie ≡ o → Since a b → b.lie ≡ None → a.lie ≡ None
 no_lie None a b is later none = is
 no_lie (Some lie) a b is later none = absurd (cc (later.lie lie is, none))
 
@@ -67,16 +68,28 @@ pub record Goes (a b : StoreState) : Type 0 where
   pub tells : b.tells ≡ a.tells
   pub lie : b.lie ≡ None → a.lie ≡ None
 
-pub step_goes : {R : Type 0} (state : R → RevState) (m0 m1 : Machine R) (text : List ℕ) (answer : Answer) → Misspelt m0 m1 text answer ⊎ ServedStatement state m0 m1 text answer → Goes m0.store m1.store
+pub step_goes : {R : Type 0} (state : R → RevState) (m0 m1 : Machine R) (text : List ℕ) (answer : Answer) → Unasked m0 m1 text answer ⊎ ServedStatement state m0 m1 text answer → Goes m0.store m1.store
 step_goes {R} state m0 m1 text answer (inl bad) = record { tells = ap (λ (m : Machine R). m.store.tells) bad.same; lie = λ none. ap (λ (m : Machine R). m.store.lie) (sym bad.same) ∙ none }
 step_goes state m0 m1 text answer (inr did) = record { tells = did.does.ran.later.tells; lie = no_lie m0.store.lie m0.store m1.store refl did.does.ran.later }
+
+-- ---- what a machine holds by which nothing else was carried out
+module _ {R : Type 0} (state : R → RevState) (m : Machine R) (d : Draws) (tables : Tables) (free : m.owed ≡ []) where
+  pub free_holds : Holds state m d tables → Represents state m.engine m.store tables
+  free_holds holds = subst (λ (owed : List Owed). Represents state m.engine m.store (settle_all d (public_of m.engine) (asked_of m) (statements_of owed) tables)) free holds.held
+
+  pub holds_free : Represents state m.engine m.store tables → Holds state m d tables
+  holds_free held = record {
+    listed = held_headings _ _ _ tables _ held.held;
+    held = subst (λ (owed : List Owed). Represents state m.engine m.store (settle_all d (public_of m.engine) (asked_of m) (statements_of owed) tables)) (sym free) held;
+    owed = subst (λ (owed : List Owed). AreOwed d (public_of m.engine) (asked_of m) owed tables) (sym free) tt;
+  }
 
 -- ---- the session after a statement
 -- what was asked counts on
 pub counts_on : {R : Type 0} (m0 m1 : Machine R) (part : List Access) → engine_start m1.engine ≡ engine_start m0.engine → m1.store.asked ≡ m0.store.asked ++ part → asked_of m1 ≡ asked_of m0 + length part
 counts_on m0 m1 part start grew = omega (arith, ap earlier start, ap length grew, length-append m0.store.asked part)
 
-module _ {R : Type 0} (state : R → RevState) (m0 m1 : Machine R) (d : Draws) (tables : Tables) (text : List ℕ) (one : Answer) (did : ServedStatement state m0 m1 text one) (how : Option ℕ)
+module _ {R : Type 0} (state : R → RevState) (m0 m1 : Machine R) (d : Draws) (tables : Tables) (text : List ℕ) (one : Answer) (did : ServedStatement state m0 m1 text one) (how : How)
     (seen_is : seen_of m1.engine ≡ seen_or_cut how (session_of m0 d tables) did.stmt) where
   abbrev behind : Session
   behind = after how (session_of m0 d tables) did.stmt

@@ -85,6 +85,7 @@ module _ {R : Type 0} (state : R → RevState) (config : Config) (secret salt : 
 
   pub begins_started : keeper.held ≡ Some Begun → BeginsToSave state secret salt (fresh (Some config)) own_keys (machine_of e t keeper)
   begins_started begun = record {
+    free = refl;
     agrees = started.agrees t blank.unasked;
     saves = ap (λ (p : Public). p.save) started.public ∙ saves;
     public = started.public;
@@ -270,6 +271,7 @@ module _ {R : Type 0} (state : R → RevState) (config : Config) (secret salt : 
     pub begins_opened : (mark : Mark) → ((now : ℕ → Option KeptRegion) (tables : Tables) → RestsBy secret closed closing now tables → RestsAt secret mark now tables) → keeper.held ≡ Some mark
         → BeginsToSave state secret salt base keys (machine_of e s2 keeper)
     begins_opened mark at held = record {
+      free = refl;
       agrees = agrees_swept state e s1 s2 sweeps engine.agrees;
       saves = ap (λ (p : Public). p.save) engine.public ∙ saves;
       public = engine.public;

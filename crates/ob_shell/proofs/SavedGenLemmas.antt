@@ -1,5 +1,5 @@
 -- A run whose tables are saved over the generated text, one whose words are not read, and which of them the words ask for.
-use Rattle.std.proofs.Common.{◌≡◌, ℕ, Bool, true, false, List, [], Option, Some, None, Result, Ok, inl, inr, refl, sym, ◌∙◌, ap, subst, arith}
+use Rattle.std.proofs.Common.{◌≡◌, ℕ, Bool, true, false, List, [], Option, Some, None, Result, Ok, inl, inr, refl, sym, subst, arith}
 use Rattle.ob_base.specs.Counts.{Rises}
 use Rattle.ob_base.specs.declared.config.Config.{Config}
 use Rattle.ob_base.specs.declared.refusal.Stop.{Stop}
@@ -29,16 +29,16 @@ use Rattle.ob_shell.specs.Running.{StopCause}
 use Rattle.ob_shell.specs.SavedSummary.{KeepsOrSaves, SavedSummarized}
 use Rattle.ob_shell.specs.Top.{IsFresh}
 use Rattle.ob_shell.specs.declared.keeping.KeptEnded.{KeptEnded}
-use Rattle.ob_shell.specs.declared.words.WordsErr.{WordsErr}
-use Rattle.ob_shell.specs.declared.words.WordsErr.TheVariants as Words
+use Rattle.ob_words.specs.declared.words.WordsErr.{WordsErr}
+use Rattle.ob_words.specs.declared.words.WordsErr.TheVariants as Words
 use Rattle.ob_store.specs.State.{StoreState}
 
 -- ---- the run
 -- nothing failed of one that came to its end
-whole_cause : (result : Result Bool Stop) (refused : Bool) (ending : KeptEnding) (old new : Faults) → ending ≡ Plain (Ran result) → ending ≡ Plain (Ran (Ok refused)) → StopCause old new result → new.trace ≡ old.trace
-whole_cause result refused ending old new is whole cause =
+whole_cause : (Alone : Type 0) (result : Result Bool Stop) (refused : Bool) (ending : KeptEnding) (old new : Faults) → ending ≡ Plain (Ran result) → ending ≡ Plain (Ran (Ok refused)) → StopCause Alone old new result → new.trace ≡ old.trace
+whole_cause Alone result refused ending old new is whole cause =
     let same : result ≡ Ok refused = cc (is, whole) in
-    (subst (λ (r : Result Bool Stop). StopCause old new r) same cause).trace
+    (subst (λ (r : Result Bool Stop). StopCause Alone old new r) same cause).trace
 
 module _ (config : Config) (tracing : Bool) (ended : KeptEnded) (old mid : Outside) (k0 k1 : KeeperState) where
   saved_quiet : (SinksRose old.faults mid.faults → Rises old.faults.trace mid.faults.trace) → RanSaved config tracing ended old mid k0 k1 → IsHushed ended.quiet old.faults.trace mid.faults.trace
@@ -52,7 +52,7 @@ module _ (config : Config) (tracing : Bool) (ended : KeptEnded) (old mid : Outsi
   saved_calm : RanSaved config tracing ended old mid k0 k1 → (refused : Bool) → ended.ending ≡ Plain (Ran (Ok refused)) → mid.faults.trace ≡ old.faults.trace
   saved_calm (inl ran) refused is = ran.silent.1
   saved_calm (inr (inl ran)) refused is = absurd (unbegun_stops config ran.secret ended.ending _ _ _ _ _ _ refused ran.unserved.begun is)
-  saved_calm (inr (inr ran)) refused is = whole_cause ran.result refused ended.ending old.faults mid.faults ran.ending is ran.cause
+  saved_calm (inr (inr ran)) refused is = whole_cause _ ran.result refused ended.ending old.faults mid.faults ran.ending is ran.cause
 
 pub saved_summarized : {Takes : Type 0} {settings : Option Config} {config : Config} {tracing : Bool} {seed : Seed} {s0 s1 : StoreState} {t0 t1 w0 w1 l : Option (List ℕ)} {gave trace0 trace1 out0 out1 : ℕ} {k0 k1 : KeeperState}
     {report : Report} (source : ℕ)

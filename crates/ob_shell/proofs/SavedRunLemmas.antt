@@ -1,9 +1,8 @@
 -- A run whose tables are saved, behind its first line.
 use Rattle.std.specs.Prelude.{IfOk}
-use Rattle.std.proofs.Common.{◌≡◌, ◌≤◌, ◌++◌, ℕ, Bool, true, false, List, [], Option, Some, Result, Ok, Err, inl, inr, refl, sym, ◌∙◌, ap, subst}
+use Rattle.std.proofs.Common.{◌≡◌, ◌≤◌, ◌++◌, ℕ, Bool, true, false, List, [], Option, Some, Result, Ok, Err, inr, refl, sym, ◌∙◌, ap, subst, arith}
 use Rattle.ob_base.specs.declared.config.Config.{Config}
 use Rattle.ob_base.specs.declared.config.Public.{Public}
-use Rattle.ob_base.specs.declared.mark.Mark.{Mark}
 use Rattle.ob_base.specs.declared.refusal.Stop.{Stop}
 use Rattle.ob_gen.specs.Tally.{empty_tally}
 use Rattle.ob_gen.specs.declared.tally.Tally.{Tally}
@@ -23,7 +22,7 @@ use Rattle.ob_shell.specs.EngagingSaved.{EndsUnsaved, EngagesSaved, RanSaved, Ra
 use Rattle.ob_shell.specs.Feeding.{Fetch, IsFedBy}
 use Rattle.ob_shell.specs.Leaving.{BeginsToSave}
 use Rattle.ob_shell.specs.LineRead.{KeyRead}
-use Rattle.ob_shell.specs.Running.{OutFailed, SessionRan, Silenced, StopCause}
+use Rattle.ob_shell.specs.Running.{OutFailed, ServesAlone, SessionRan, Silenced, StopCause}
 use Rattle.ob_shell.specs.Steps.{machine_of}
 use Rattle.ob_shell.specs.Tallies.{flagged}
 use Rattle.ob_shell.specs.Top.{Carried, sink_of}
@@ -33,7 +32,7 @@ use Rattle.ob_shell.specs.declared.keeping.KeptEnded.{KeptEnded}
 use Rattle.ob_shell.specs.declared.key.FirstLine.{FirstLine}
 use Rattle.ob_shell.specs.declared.key.FirstLine.TheVariants.{Secret, Last}
 use Rattle.ob_store.specs.State.{StoreState}
-use Rattle.ob_tables.specs.Agreeing.{high_of, rows_of}
+use Rattle.ob_tables.specs.Agreeing.{high_of, public_of, rows_of}
 use Rattle.ob_tables.specs.declared.engine.Engine.{Engine}
 use Rattle.ob_vault.specs.State.{RevState}
 
@@ -42,14 +41,14 @@ module _ {R : Type 0} (state : R → RevState) (base : Base) (config : Config) (
     (ended : KeptEnded) (most : ended.high ≤ rows_of last) (is_high : ended.high ≡ high_of last) (tracing : Bool) (t0 t1 : Option (List ℕ)) (f0 f1 : Fetch) (l0 l1 : Option (List ℕ)) (gave : ℕ) (w0 w1 : Option (List ℕ)) where
   unfoldable pub serves_saved : (result : Result Tally Stop) (old new : Faults)
       → SessionRan state tracing f0 f1 l0 l1 gave w0 w1 t0 t1 (machine_of first s0 k0) (machine_of last s1 k1) (OutFailed ended.quiet old.out new.out) result
-      → Traced tracing s0.asked s1.asked t0 t1 (ended.quiet ≡ true) → StopCause old new result → Silenced ended.quiet old new → ended.ending ≡ Plain (Ran (flagged result)) → IfOk result (λ (t : Tally). ended.tally ≡ t)
+      → Traced tracing s0.asked s1.asked t0 t1 (ended.quiet ≡ true) → StopCause (ServesAlone (public_of first)) old new result → Silenced ended.quiet old new → ended.ending ≡ Plain (Ran (flagged result)) → IfOk result (λ (t : Tally). ended.tally ≡ t)
       → ServesSaved state base keys secret salt tracing ended f0 f1 l0 l1 gave w0 w1 t0 t1 s0 s1 old new k0 k1 (BeginsToSave state secret salt base keys (machine_of first s0 k0))
   unfolding ran_after
   serves_saved result old new ran traced cause silent ending counted = record {
     result = result;
     ran = ran_after base config keys secret first last ended.high result k0 k1 s0 s1 engages.stands most is_high (sink_of tracing t0 t1) f0 f1 l0 l1 gave w0 w1 ran;
     traced_all = traced;
-    cause = cause;
+    cause = subst (λ (p : Public). StopCause (ServesAlone p) old new result) engages.stands.public cause;
     silent = silent;
     ending = ending;
     counted = counted;
@@ -59,9 +58,9 @@ module _ {R : Type 0} (state : R → RevState) (base : Base) (config : Config) (
         (ap (λ (p : Public). p.save) (sym begins.public) ∙ begins.saves) begins.of begins.salted begins.rests;
   }
 
-flagged_cause : (result : Result Tally Stop) (old new : Faults) → StopCause old new result → StopCause old new (flagged result)
-flagged_cause (Ok tally) old new cause = cause
-flagged_cause (Err stop) old new cause = same_cause Tally Bool stop old new cause
+flagged_cause : (Alone : Type 0) (result : Result Tally Stop) (old new : Faults) → StopCause Alone old new result → StopCause Alone old new (flagged result)
+flagged_cause Alone (Ok tally) old new cause = cause
+flagged_cause Alone (Err stop) old new cause = same_cause _ Tally Bool stop old new cause
 
 -- ---- the whole run
 -- the first line came, and no statement was served
@@ -75,7 +74,7 @@ unsaved config tracing f0 f1 none start top l0 l1 g0 key ended w t0 t1 s0 s1 a o
       taken = read.fed.piece;
       given = read.fed.consumed;
       within = piece_within empty_tally tr refl (Some config) f0 f1 none start top below by read.fed;
-      prompt = piece_prompt empty_tally tr refl (Some config) f0 f1 none start top below by read.fed read.ahead;
+      prompt = piece_prompt empty_tally tr refl (Some config) f0 f1 none start top below by 1 (omega arith) read.fed read.ahead;
       secret = key;
       keyed = ap (λ (l : List ℕ). secret_of (first_line l)) (piece_is read.fed none) ∙ is;
       unserved = unserved;
@@ -116,7 +115,7 @@ module _ {R : Type 0} (state : R → RevState) (config : Config) (key : List ℕ
         (subst (λ (x : Option (List ℕ)). Carried (sink_of tracing t1 t2) starts.base starts.keys x s1 s2 ended.high serves.ran.story (Ran (flagged serves.result))) (sym keyed) serves.ran.carried) serves.counted;
     keyed = keyed;
     traced_all = serves.traced_all;
-    cause = subst (λ (f : Faults). StopCause f new (flagged serves.result)) same_faults (flagged_cause serves.result begun_faults new serves.cause);
+    cause = subst (λ (f : Faults). StopCause (ServesAlone starts.base.public) f new (flagged serves.result)) same_faults (flagged_cause _ serves.result begun_faults new serves.cause);
     silent = subst (λ (f : Faults). Silenced ended.quiet f new) same_faults serves.silent;
     ending = serves.ending;
     keeper = serves.keeper;
@@ -140,7 +139,7 @@ unfolding serves_saved ran_after ran_last
 last_saved state config key tracing f0 f1 none start top l0 l1 g0 gave e s0 s1 t0 t1 w old r1 k0 k1 starts ended read below by most is_high loud ending counted =
     let ends = read.ends in
     let faults : Faults = record old { trace = r1 } in
-    let ran = ran_last state tracing f1 l1 gave w t1 (machine_of e s1 k1) ends.4 ends.2 ends.3 in
+    let ran = ran_last state tracing f1 l1 gave w t1 e s1 k1 ends.4 ends.2 ends.3 in
     let silent : Silenced ended.quiet faults faults = subst (λ (b : Bool). Silenced b faults faults) (sym loud) (refl, refl) in
     let serves = serves_saved state starts.base config starts.keys key starts.salt e e k1 k1 s1 s1 starts.engages ended most is_high tracing t1 t1 f1 f1 l1 l1 gave w w
     (Ok empty_tally) faults faults ran (traced_whole _ (traced_none tracing s1.asked t1)) (record { source = refl; out = refl; trace = refl }) silent ending counted in

@@ -1,13 +1,13 @@
 -- What the engine was given and what it left.
-use Rattle.std.specs.Prelude.{IsErr}
-use Rattle.std.proofs.Common.{ℕ, List, [], ◌∷◌, ◌++◌, ◌≡◌, ◌≤◌, Bool, Option, None, Result, Ok, Err, refl, sym, ◌∙◌, inl, inr, subst, append-nil, arith}
-use Rattle.std.proofs.KnownBytes.{Appends-nil}
+use Rattle.std.specs.Prelude.{IsErr, if◌then◌else◌}
+use Rattle.std.specs.Option.{option_map}
+use Rattle.std.proofs.Common.{ℕ, List, [], ◌∷◌, ◌++◌, ◌≡◌, ◌≤◌, Bool, Option, None, Result, Ok, Err, refl, sym, ◌∙◌, inl, inr, subst, append-nil, arith, true, false}
 use Rattle.std.specs.Io.KnownBytes.{Appends}
 use Rattle.std.specs.Result.{is_err}
 use Rattle.ob_base.specs.Events.{Event}
 use Rattle.ob_base.specs.declared.refusal.Refusal.TheVariants.{Syntax}
-use Rattle.ob_tables.specs.Agreeing.{Agrees, seen_of}
-use Rattle.ob_tables.specs.Running.{SinkStops}
+use Rattle.ob_tables.specs.Agreeing.{Agrees, AreDraws, public_of, seen_of}
+use Rattle.ob_tables.specs.Running.{SinkStops, is_fault}
 use Rattle.ob_tables.specs.Serving.{StopsEmission}
 use Rattle.ob_exec.specs.Ran.{Ran}
 use Rattle.ob_tables.specs.Stops.{session_stop}
@@ -25,40 +25,69 @@ use Rattle.ob_print.specs.Cuts.{Outputs}
 use Rattle.ob_print.specs.Rows.{events_text}
 use Rattle.ob_shell.proofs.CountLemmas.{rises_earlier, rises_later}
 use Rattle.ob_shell.specs.Running.{OutFailed, Silenced, StopCause}
-use Rattle.ob_shell.specs.Steps.{Machine, Does, HasBody, ServedStatement, StopsIn}
+use Rattle.ob_mean.proofs.BatchLemmas.{most_some}
+use Rattle.ob_mean.specs.Batches.{Gathering, and_one, begins_batch, begun_by, goes_into}
+use Rattle.ob_mean.specs.Verdict.{Draws, Tables}
+use Rattle.ob_shell.specs.Lines.{line_answer}
+use Rattle.ob_shell.specs.Steps.{Does, HasBody, Machine, Owes, ServedStatement, Step, StopsIn, asked_of, standing}
+use Rattle.ob_sql.specs.Skeleton.{skeleton}
+use Rattle.ob_tables.proofs.HeldLemmas.{held_headings}
+use Rattle.ob_tables.specs.Telling.{Kept, Meant, ReadsTrue}
+use Rattle.ob_verdict.specs.Outcomes.{by_fault}
 use Rattle.ob_sql.specs.declared.stmt.Stmt.{Stmt}
 use Rattle.ob_vault.specs.State.{RevState}
 
 module _ {R E : Type 0} (state : R → RevState) (grew cut : E → E → List Event → Type 0) (faults : E → ℕ)
-    (m0 m1 : Machine R) (out_old out_new : E) (stmt : Stmt) (agrees : Agrees state m0.engine m0.store) where
+    (m0 m1 : Machine R) (out_old out_new : E) (stmt : Stmt) (agrees : Agrees state m0.engine m0.store)
+    (apart : begins_batch (public_of m0.engine) (asked_of m0) stmt ≡ false) (g : Option Gathering) (alone : goes_into (public_of m0.engine) g (skeleton stmt) ≡ false) where
   abbrev pub Called : Result Outcome RunStop → Type 0
   Called result = Ran state grew cut faults stmt result m0.engine m0.store m1.engine m1.store out_old out_new m0.keeper m1.keeper
 
+  -- before it, and behind it
+  abbrev pub start : Machine R
+  start = standing m0 [] g
+
+  abbrev pub end : Machine R
+  end = standing m1 [] None
+
   -- what a call of the engine did
-  done : (result : Result Outcome RunStop) → Called result → Does state m0 m1 stmt result
-  done result serves = record {
-    agrees = agrees;
-    ran = serves.ran;
-    early = serves.early;
-    lawful = serves.lawful;
-    memory = λ is. let lacks = serves.memory is in record {
-      done = lacks.done;
-      rest = lacks.rest;
-      split = lacks.split;
-      asked = lacks.asked;
-      place = elim lacks.place [ inl make ↦ inl make | inr (inl result) ↦ inr (inl result) | inr (inr (inl emits)) ↦ inr (inr (inl (emits.0, tt))) | inr (inr (inr closing)) ↦ inr (inr (inr closing)) ];
-    };
-    full = serves.full;
-    emits = serves.emits;
-    seals = serves.seals;
-    means = serves.means;
-    keeper = serves.keeper;
-    counts = serves.counts;
-  }
+  done : (result : Result Outcome RunStop) → Called result → Does state start end stmt result
+  done result serves =
+      let c = serves.carried in
+      record {
+        free = refl;
+        alone = alone;
+        along = record { few = let some = most_some (public_of m0.engine) in omega (arith, some); alike = inl refl };
+        agrees = agrees;
+        ran = c.ran;
+        early = c.early;
+        lawful = c.lawful;
+        memory = λ is. let lacks = c.memory is in record {
+          done = lacks.done;
+          rest = lacks.rest;
+          split = lacks.split;
+          asked = lacks.asked;
+          place = elim lacks.place [ inl make ↦ inl make | inr (inl result) ↦ inr (inl result) | inr (inr (inl emits)) ↦ inr (inr (inl (emits.0, tt))) | inr (inr (inr closing)) ↦ inr (inr (inr closing)) ];
+        };
+        full = c.full;
+        emits = c.emits;
+        seals = c.seals;
+        means = c.means;
+        keeper = c.keeper;
+        counts = c.counts;
+      }
+
+  -- nothing else was carried out
+  owes_none : (outcome : Outcome) → Called (Ok outcome) → (tables : Tables) (d : Draws) → AreDraws m0.engine d → ReadsTrue state m0.engine m0.store m1.store tables → by_fault (is_fault outcome) (end.owed ≡ []) (Owes start end stmt d tables)
+  owes_none outcome serves tables d drawn reads = go (is_fault outcome) (serves.carried.means.told tables d drawn reads)
+    where
+      go : (failed : Bool) → by_fault failed (Kept state stmt d tables m0.engine m0.store m1.engine m1.store) (Meant state stmt [] (asked_of m0) d tables outcome m0.engine m1.engine m1.store) → by_fault failed (end.owed ≡ []) (Owes start end stmt d tables)
+      go true kept = refl
+      go false meant = record { whole = inl refl; listed = held_headings _ _ _ _ _ meant.held.held; same = refl; answered = tt }
 
   module _ (text : List ℕ) (spells : Spells text (Ok stmt)) where
     served_by : (outcome : Outcome) → (serves : Called (Ok outcome))
-        → ServedStatement state m0 m1 text (record { outcome = outcome; bytes = events_text serves.answered.events ++ closing_line outcome; plan = (seen_of m1.engine).plan })
+        → ServedStatement state start end text (record { outcome = outcome; bytes = events_text serves.answered.events ++ closing_line outcome; plan = (seen_of m1.engine).plan })
     served_by outcome serves =
         let answer = serves.answered in
         record {
@@ -70,12 +99,14 @@ module _ {R E : Type 0} (state : R → RevState) (grew cut : E → E → List Ev
           emitted = answer.told;
           printed = refl;
           planned = refl;
+          gathered = λ i. if sym alone i then option_map and_one g else if sym apart i then begun_by (skeleton stmt) (seen_of m1.engine).end else None;
+          owes = owes_none outcome serves;
         }
 
   module _ (w0 w1 : Option (List ℕ)) (text : List ℕ) (spells : Spells text (Ok stmt)) where
     -- the engine answered, and the sink took all of these events
     pub answered_by : (outcome : Outcome) → Called (Ok outcome) → ((events : List Event) → grew out_old out_new events → Appends w0 w1 (events_text events))
-        → HasBody state w0 w1 text outcome (seen_of m1.engine).plan m0 m1
+        → HasBody state w0 w1 text outcome (seen_of m1.engine).plan start end
     answered_by outcome serves took =
         let answer = serves.answered in
         record {
@@ -87,7 +118,7 @@ module _ {R E : Type 0} (state : R → RevState) (grew cut : E → E → List Ev
     module _ {Lost : Type 0} where
       -- the engine answered, and a sink failed within these events
       pub finished_by : (outcome : Outcome) → Called (Ok outcome) → Lost → ((events : List Event) → grew out_old out_new events → Outputs w0 w1 (Unit {0}) (events_text events))
-          → StopsIn state w0 w1 Lost (text ∷ []) SinkFault m0 m1
+          → StopsIn state w0 w1 Lost (text ∷ []) SinkFault start end
       finished_by outcome serves lost began =
           let answer = serves.answered in
           let text_of = events_text answer.events in
@@ -103,7 +134,7 @@ module _ {R E : Type 0} (state : R → RevState) (grew cut : E → E → List Ev
           }
 
       -- the engine was stopped, and of the text of these events this was printed
-      cut_short : (stop : RunStop) (serves : Called (Err stop)) (bytes : List ℕ) → PrintsUntil (session_stop stop) bytes (events_text serves.stopped.events) → Outputs w0 w1 Lost bytes → StopsIn state w0 w1 Lost (text ∷ []) stop m0 m1
+      cut_short : (stop : RunStop) (serves : Called (Err stop)) (bytes : List ℕ) → PrintsUntil (session_stop stop) bytes (events_text serves.stopped.events) → Outputs w0 w1 Lost bytes → StopsIn state w0 w1 Lost (text ∷ []) stop start end
       cut_short stop serves bytes printed took = record {
         bytes = bytes;
         partly = inr (inl (record {
@@ -119,12 +150,12 @@ module _ {R E : Type 0} (state : R → RevState) (grew cut : E → E → List Ev
       }
 
       -- a sink failed within them
-      pub failed_by : Called (Err SinkFault) → Lost → ((events : List Event) → cut out_old out_new events → Outputs w0 w1 (Unit {0}) (events_text events)) → StopsIn state w0 w1 Lost (text ∷ []) SinkFault m0 m1
+      pub failed_by : Called (Err SinkFault) → Lost → ((events : List Event) → cut out_old out_new events → Outputs w0 w1 (Unit {0}) (events_text events)) → StopsIn state w0 w1 Lost (text ∷ []) SinkFault start end
       failed_by serves lost began = cut_short SinkFault serves (events_text serves.stopped.events) refl (Outputs-fault lost (began serves.stopped.events serves.stopped.ends))
 
       -- the sink took them, unless it failed; or memory was wanting for the last of them
       pub stopped_by : (stop : RunStop) → (stop ≡ SinkFault → ⊥) → Called (Err stop) → ((events : List Event) → grew out_old out_new events → Outputs w0 w1 Lost (events_text events))
-          → ((events : List Event) → cut out_old out_new events → Outputs w0 w1 (Unit {0}) (events_text events)) → StopsIn state w0 w1 Lost (text ∷ []) stop m0 m1
+          → ((events : List Event) → cut out_old out_new events → Outputs w0 w1 (Unit {0}) (events_text events)) → StopsIn state w0 w1 Lost (text ∷ []) stop start end
       stopped_by (Tampered region place) other serves whole began = cut_short (Tampered region place) serves (events_text serves.stopped.events) refl (whole serves.stopped.events serves.stopped.ends)
       stopped_by SinkFault other serves whole began = absurd (other refl)
       stopped_by StoreFault other serves whole began = cut_short StoreFault serves (events_text serves.stopped.events) refl (whole serves.stopped.events serves.stopped.ends.0)
@@ -136,12 +167,12 @@ module _ {R E : Type 0} (state : R → RevState) (grew cut : E → E → List Ev
       ]
 
 -- a text that is no statement is answered by its line alone
-pub misspelt : {R : Type 0} (state : R → RevState) (w : Option (List ℕ)) (m : Machine R) (text : List ℕ) (at : ℕ) → Spells text (Err at)
-    → HasBody state w w text (Refused (Syntax at)) None m m
-misspelt state w m text at spells = record {
-  body = [];
-  appends = Appends-nil w;
-  step = record { done = inl (record { same = refl; at = at; spells = spells; refused = refl; line = refl; unplanned = refl }) };
+pub misspelt : {R : Type 0} (state : R → RevState) (m : Machine R) (g : Option Gathering) (text : List ℕ) (at : ℕ) → Spells text (Err at) → Step state (standing m [] g) (standing m [] None) text (line_answer (Refused (Syntax at)))
+misspelt state m g text at spells = record {
+  done = inl (record {
+    same = refl;
+    why = inl (record { free = refl; owed = refl; gathered = refl; at = at; spells = spells; refused = refl; line = refl; unplanned = refl });
+  });
 }
 
 -- of the emitter's stop alone the count rises
@@ -155,13 +186,13 @@ stop_keeps SinkFault out0 out1 not cause = absurd (not refl)
 
 -- a stop of the engine, and what waited was flushed after it
 pub stop_cause : (T : Type 0) (stop : RunStop) (out0 out1 out2 : ℕ) → SinkStops (Err stop) out0 out1 → out1 ≤ out2
-    → StopCause {T = T} (faults_of 0 out0 0) (faults_of 0 out2 0) (Err (session_stop stop))
-stop_cause T (Tampered region place) out0 out1 out2 cause later = (refl, omega arith, omega arith)
-stop_cause T NoMemory out0 out1 out2 cause later = (refl, omega arith, omega arith)
-stop_cause T StoreFault out0 out1 out2 cause later = (refl, omega arith, omega arith)
-stop_cause T StashFull out0 out1 out2 cause later = (refl, omega arith, omega arith)
-stop_cause T KeeperFault out0 out1 out2 cause later = (refl, omega arith, omega arith)
-stop_cause T SinkFault out0 out1 out2 cause later = (refl, inl (rises_later out0 out1 out2 cause later))
+    → StopCause {T = T} (Unit {0}) (faults_of 0 out0 0) (faults_of 0 out2 0) (Err (session_stop stop))
+stop_cause T (Tampered region place) out0 out1 out2 cause later = ((λ alone. refl, inl refl), omega arith, omega arith)
+stop_cause T NoMemory out0 out1 out2 cause later = ((λ alone. refl, inl refl), omega arith, omega arith)
+stop_cause T StoreFault out0 out1 out2 cause later = ((λ alone. refl, inl refl), omega arith, omega arith)
+stop_cause T StashFull out0 out1 out2 cause later = ((λ alone. refl, inl refl), omega arith, omega arith)
+stop_cause T KeeperFault out0 out1 out2 cause later = ((λ alone. refl, inl refl), omega arith, omega arith)
+stop_cause T SinkFault out0 out1 out2 cause later = ((λ alone. refl, inl refl), inl (rises_later out0 out1 out2 cause later))
 
 -- whether what waited could be flushed after it
 pub flush_silences : {T E : Type 0} (stop : RunStop) (r : Result T E) (quiet : Bool) (out0 out1 out2 : ℕ) → (stop ≡ SinkFault → ⊥) → SinkStops (Err stop) out0 out1 → quiet ≡ is_err r → HasCause out1 out2 r

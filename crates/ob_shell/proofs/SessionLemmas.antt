@@ -4,9 +4,7 @@ use Rattle.std.proofs.Common.{◌≡◌, ℕ, ◌+◌, ◌≤◌, ◌<◌, ◌^�
 use Rattle.std.proofs.KnownBytes.{Appends-nil, Consumes-nil}
 use Rattle.std.proofs.lemmas.Bool.{cases_lt}
 use Rattle.std.specs.Io.KnownBytes.{IsAtEnd}
-use Rattle.std.specs.List.{list_any}
 use Rattle.ob_base.specs.Counts.{Rises}
-use Rattle.ob_base.specs.Publics.{first_public}
 use Rattle.ob_base.specs.declared.access.Access.{Access}
 use Rattle.ob_base.specs.declared.access.Access.TheVariants.{Read}
 use Rattle.ob_base.specs.declared.config.Config.{Config}
@@ -14,24 +12,23 @@ use Rattle.ob_base.specs.declared.config.Public.{Public}
 use Rattle.ob_base.specs.declared.mark.Mark.{Mark}
 use Rattle.ob_base.specs.declared.refusal.Stop.{Stop}
 use Rattle.ob_base.specs.declared.refusal.Stop.TheVariants.{Tampered, SourceFault, SinkFault, NoMemory, InputLimit, StoreFault, StashFull, KeeperFault}
-use Rattle.ob_tables.specs.Agreeing.{Agrees, AreDraws, count_of, engine_keys, first_draws, engine_start, indexes_of, opened_from, public_of, high_of, rows_of, world_of}
+use Rattle.ob_tables.specs.Agreeing.{Agrees, engine_keys, first_draws, engine_start, indexes_of, opened_from, public_of, high_of, rows_of, world_of}
 use Rattle.ob_tables.specs.Closing.{ClosesEngine, closing_script, next_closing}
 use Rattle.ob_reopen.specs.Closed.{IsClosedAs, StaysInUse, is_used_up}
-use Rattle.ob_select.specs.Opening.{is_of_rows}
 use Rattle.ob_reopen.specs.Resting.{AcceptsClosings, Rests, by_name}
 use Rattle.ob_select.specs.Selecting.{AcceptsRows}
-use Rattle.ob_tables.specs.Telling.{AreHeld, Represents}
-use Rattle.ob_tables.specs.Engines.{AreTables, others_of}
+use Rattle.ob_tables.specs.Telling.{Represents}
 use Rattle.ob_tables.specs.declared.engine.Engine.{Engine}
 use Rattle.ob_gen.specs.Tally.{empty_tally}
 use Rattle.ob_gen.specs.declared.tally.Tally.{Tally}
 use Rattle.ob_headline.proofs.BaseLemmas.{from_each}
-use Rattle.ob_headline.proofs.PromptLemmas.{prompt_all}
+use Rattle.ob_headline.proofs.PromptLemmas.{all_answered, prompt_all}
 use Rattle.ob_headline.proofs.TextLemmas.{rest_of-nil, texts_of-nil}
-use Rattle.ob_headline.specs.Bases.{Base, FromEach, Opened, drawing, fresh, session_at, start}
+use Rattle.ob_headline.specs.Batches.{AnsweredBut, meant_seen}
+use Rattle.ob_headline.specs.Bases.{Base, FromEach, Opened, drawing, session_at, start}
 use Rattle.ob_headline.specs.Disturbed.{MeantUntil, meant_trace}
 use Rattle.ob_headline.specs.FullStash.{ReadsFullStash}
-use Rattle.ob_headline.specs.Failures.{FailsBeside}
+use Rattle.ob_headline.specs.Failures.{FailsBeside, cut_off}
 use Rattle.ob_headline.specs.Leaves.{AreDrawn}
 use Rattle.ob_headline.specs.Keeping.{EndsWith, Writes, closing_behind, last_script, region_opened}
 use Rattle.ob_headline.specs.KeptHeadline.{ClosesTables, PassesBoth}
@@ -46,7 +43,9 @@ use Rattle.ob_headline.specs.declared.ending.Ending.{Ending}
 use Rattle.ob_headline.specs.declared.ending.Ending.TheVariants.{Ran as RanEnding}
 use Rattle.ob_headline.specs.declared.ending.KeptEnding.{KeptEnding}
 use Rattle.ob_headline.specs.declared.ending.KeptEnding.TheVariants.{Plain}
-use Rattle.ob_mean.specs.Replay.{Broken, Session, after_all, all_served}
+use Rattle.ob_mean.proofs.BatchLemmas.{most_some}
+use Rattle.ob_mean.specs.Batches.{batch_most}
+use Rattle.ob_mean.specs.Replay.{Broken, Session, after_all}
 use Rattle.ob_mean.specs.Verdict.{Draws, Tables}
 use Rattle.ob_print.proofs.CutLemmas.{Outputs-whole}
 use Rattle.ob_reopen.specs.Keepers.{KeeperState}
@@ -55,35 +54,34 @@ use Rattle.ob_reopen.specs.declared.fault.CloseErr.{CloseErr}
 use Rattle.ob_script.specs.Trace.{Served, after_all as all_public, trace}
 use Rattle.ob_seal.specs.KeySet.{KeySet, pair_of}
 use Rattle.ob_seal.specs.Sealed.{AreOfSecret, sealed}
-use Rattle.ob_shell.proofs.CalmLemmas.{MeetsChange, first_calm, last_met, steps_calm}
-use Rattle.ob_shell.proofs.FailureLemmas.{fails_beside, session_fails}
+use Rattle.ob_shell.proofs.CalmLemmas.{MeetsChange, last_met, steps_calm}
 use Rattle.ob_shell.proofs.LastingLemmas.{HasSizes, steps_sizes, last_rows, steps_sealed, last_sealed, steps_tell, none_sealed}
 use Rattle.ob_shell.proofs.LeaveCounts.{session_counts}
 use Rattle.ob_shell.proofs.LeaveSession.{session_leaves}
 use Rattle.ob_shell.proofs.LaterLemmas.{steps_later, last_later}
-use Rattle.ob_shell.proofs.LeafLemmas.{Reads, given_none, no_indexes}
+use Rattle.ob_shell.proofs.LeafLemmas.{Reads, given_none}
 use Rattle.ob_shell.proofs.OpenLemmas.{session_opens}
-use Rattle.ob_shell.proofs.RunLemmas.{traces_all}
+use Rattle.ob_shell.proofs.ReplayLemmas.{holds_free}
+use Rattle.ob_shell.proofs.TookLemmas.{traces_all}
 use Rattle.ob_shell.proofs.StepLemmas.{Steps-none, printed-nil}
 use Rattle.ob_shell.proofs.TallyLemmas.{tally_after-nil}
 use Rattle.ob_shell.proofs.TopLemmas.{nothing_over, took_none}
 use Rattle.ob_shell.proofs.TraceLemmas.{traced_none}
-use Rattle.ob_shell.proofs.WalkLemmas.{EndsWhole, Walked, save_stays, walked, walked_last}
+use Rattle.ob_shell.proofs.WalkLemmas.{EndsWhole, Walked, save_stays, walked_last}
+use Rattle.ob_shell.proofs.WalkSteps.{walked}
 use Rattle.ob_shell.specs.Feeding.{Fetch}
 use Rattle.ob_shell.specs.Leaving.{RestsOn}
 use Rattle.ob_shell.specs.Running.{SessionRan, LastPart}
 use Rattle.ob_shell.specs.Standing.{IsUsed, StandsOn}
-use Rattle.ob_shell.specs.Steps.{Machine, asked_of, machine_of, session_of, told_nothing}
+use Rattle.ob_shell.specs.Steps.{Holds, Machine, asked_of, machine_of, session_of, standing}
 use Rattle.ob_shell.specs.Tallies.{flagged, has_refused}
-use Rattle.ob_shell.specs.Top.{EndsUntampered, IsFresh, TraceSink, Carried, RanAfter}
+use Rattle.ob_shell.specs.Top.{EndsUntampered, TraceSink, Carried, RanAfter}
 use Rattle.ob_shell.specs.Traces.{Traced}
-use Rattle.ob_store.proofs.Steps.{later_trans}
-use Rattle.ob_store.specs.Calls.{IsSteady}
-use Rattle.ob_store.specs.Runs.{Later}
+use Rattle.ob_store.proofs.Steps.{since_trans}
+use Rattle.ob_store.specs.Runs.{Later, Since}
 use Rattle.ob_store.specs.State.{Lie, StoreState}
-use Rattle.ob_vault.proofs.WordLemmas.{earlier_nothing}
 use Rattle.ob_vault.specs.Numbers.{number_after}
-use Rattle.ob_vault.specs.State.{RevState, Start, VaultState, World, earlier, from_nothing}
+use Rattle.ob_vault.specs.State.{RevState, Start, VaultState, World, earlier}
 use Rattle.ob_vault.specs.Tied.{AllSealed, EndsAt, TagFits, Scope, SealedAt, at_of, next_fault}
 use Rattle.ob_headline.specs.Story.{Story}
 use Rattle.ob_base.proofs.AccessLemmas.{makes_few, writes_few}
@@ -192,15 +190,18 @@ module _ {R : Type 0} {state : R → RevState} {Lost : Type 0} (base : Base) (co
   m0 = machine_of first s0 k0
 
   abbrev m2 : Machine R
-  m2 = machine_of last s1 k1
+  m2 = standing (machine_of last s1 k1) ran.owed ran.gathered
 
-  -- the store failed once more than texts were answered so
+  pub walk : Walked state (RanEnding result) m0 ran.middle m2 ran.served ran.more ran.answers ran.part
+  walk = walked state (RanEnding result) ran.served m0 ran.middle m2 ran.more ran.answers ran.part ran.steps (walked_last state ran.middle m2 ran.more ran.part result ran.follow ran.last)
+
+  -- the store failed once more than statements were cut off
   abbrev Failed : Type 0
-  Failed = FailsBeside ran.answers s0.faults s1.faults
+  Failed = FailsBeside walk.seen s0.faults s1.faults
 
-  pub walk : Walked state (RanEnding result) Failed m0 ran.middle m2 ran.served ran.more ran.answers ran.part
-  walk = walked state (RanEnding result) Failed ran.served m0 ran.middle m2 ran.more ran.answers ran.part ran.steps
-      (walked_last state Failed ran.middle m2 ran.more ran.part result (fails_beside state m0 ran.middle m2 ran.served ran.answers ran.steps) ran.last)
+  -- the tables that it begins with
+  holds : (d : Draws) (tables : Tables) → Represents state first s0 tables → Holds state m0 d tables
+  holds d tables held = holds_free state m0 d tables refl held
 
   abbrev all : List Served
   all = walk.seen ++ walk.last
@@ -306,30 +307,31 @@ module _ {R : Type 0} {state : R → RevState} {Lost : Type 0} (base : Base) (co
       one_last = walk.one_last;
       begun = walk.in_access;
       each_seen = walk.each_seen;
-      lawful = subst (λ (s : Session). AreSeen (StopsWithin (RanEnding result) Failed (ReadsFullStash keys base.start s1)) s.public s.asked walk.spelt ran.answers all) (here [])
-          (subst (λ (k : KeySet). AreSeen (StopsWithin (RanEnding result) Failed (ReadsFullStash k base.start s1)) (public_of first) (asked_of m0) walk.spelt ran.answers all) keys_are
-          (subst (λ (x : Start). AreSeen (StopsWithin (RanEnding result) Failed (ReadsFullStash last.vault.keys x s1)) (public_of first) (asked_of m0) walk.spelt ran.answers all) start_is
-          (walk.lawful d0 on.drawn (given_none d0 (indexes_of first) on.unindexed))));
+      lawful = subst (λ (s : Session). AreSeen (StopsWithin (RanEnding result) Failed (ReadsFullStash keys base.start s1)) s.public s.asked None walk.spelt ran.answers all) (here [])
+          (subst (λ (k : KeySet). AreSeen (StopsWithin (RanEnding result) Failed (ReadsFullStash k base.start s1)) (public_of first) (asked_of m0) None walk.spelt ran.answers all) keys_are
+          (subst (λ (x : Start). AreSeen (StopsWithin (RanEnding result) Failed (ReadsFullStash last.vault.keys x s1)) (public_of first) (asked_of m0) None walk.spelt ran.answers all) start_is
+          (walk.lawful (cut_off walk.seen + 1) s0.faults (λ beside. beside) d0 on.drawn (given_none d0 (indexes_of first) on.unindexed))));
       drawn = record { numbers = reads.numbers; are = subst (λ (p : Public). AreDrawn d0.draw p all reads.numbers) on.public reads.are; apart = reads.apart };
       asked = walk.asked ∙ (λ i. on.asked i ++ trace (on.public i) all);
-      failed = session_fails state m0 ran.middle m2 ran.served ran.more ran.answers ran.part result ran.steps ran.last;
+      failed = λ alone. walk.failed (ap (λ (p : Public). p.batch) on.public ∙ alone);
+      cut = walk.cuts;
       unfailed = walk.unfailed;
     };
     traced_whole = ran.traced.whole (trace base.public walk.seen) (walk.passed ∙ ap (λ (p : Public). s0.asked ++ trace p walk.seen) on.public);
     answers = record {
       meant = λ undeceived. from_each base (λ x. Represents state first s0 x.tables) (λ x. (broken : Broken) × AnswersFrom (RanEnding result) (drawing keys x) walk.spelt broken ran.answers all ran.part)
           (λ tables held.
-          let from = walk.meant d0 on.drawn undeceived.tells on.calm (record { unfit = λ lie is fits. undeceived.unfit lie is (fits_here lie fits) }) tables held in
+          let from = walk.meant d0 on.drawn undeceived.tells on.calm (record { unfit = λ lie is fits. undeceived.unfit lie is (fits_here lie fits) }) tables (holds d0 tables held) in
           (from.0, subst (λ (s : Session). AnswersFrom (RanEnding result) s walk.spelt from.0 ran.answers all ran.part) (here tables) from.1)) on.held;
-      later = later_trans _ _ _ (steps_later state m0 ran.middle ran.served ran.answers ran.steps) (last_later state ran.middle m2 ran.more ran.part result ran.last);
+      later = since_trans _ _ _ (steps_later state m0 ran.middle ran.served ran.answers ran.steps) (last_later state ran.middle m2 ran.more ran.part result ran.last);
       always = λ tells n before.
           let facts = on.early n before in
           let is = facts.0 in
-          let from = walk.early d0 on.drawn tells is.steady [] is.nothing n facts.1 (omega (arith, ap length is.unasked)) in
-          let joined : s0.asked ++ trace (session_of m0 d0 []).public (all_served (session_of m0 d0 []) walk.spelt []) ≡ meant_trace base.settings keys walk.spelt =
-          λ i. is.unasked i ++ trace (is.here i).public (all_served (is.here i) walk.spelt []) in
+          let from = walk.early d0 on.drawn tells is.steady [] (holds d0 [] is.nothing) refl n facts.1 (omega (arith, ap length is.unasked)) in
+          let joined : s0.asked ++ trace (session_of m0 d0 []).public (meant_seen (session_of m0 d0 []) walk.spelt) ≡ meant_trace base.settings keys walk.spelt =
+          λ i. is.unasked i ++ trace (is.here i).public (meant_seen (is.here i) walk.spelt) in
           record {
-            meant = subst (λ (s : Session). MeantUntil n s walk.spelt ran.answers all) is.here from.meant;
+            meant = subst (λ (s : Session). MeantUntil n None s walk.spelt ran.answers all) is.here from.meant;
             begins = subst (λ (l : List Access). Begins (take n s1.asked) l) joined from.begins;
             quiet = λ le. from.quiet (subst (λ (l : List Access). length l ≤ n) (sym joined) le);
           };
@@ -345,7 +347,7 @@ module _ {R : Type 0} {state : R → RevState} {Lost : Type 0} (base : Base) (co
       some_open = subst (λ (n : ℕ). IsUsed s1.asked n) (sym opened) (session_opens state m0 ran.middle m2 ran.served ran.more ran.answers ran.part result on.used ran.steps ran.last);
     };
     untampered = from_each base (λ x. Represents state first s0 x.tables) (λ x. IsHonest s0 s1 → EndsUntampered (RanEnding result))
-        (λ tables held honest. walk.untampered d0 on.drawn honest.tells tables held honest.no_lie) on.held;
+        (λ tables held honest. walk.untampered d0 on.drawn honest.tells tables (holds d0 tables held) honest.no_lie) on.held;
     at_read = λ region place is. let stopped : result ≡ Err (Tampered region place) = cc is in
         last_read state ran.middle m2 ran.more ran.part region place (subst (λ (x : Result Bool Stop). LastPart state ran.middle m2 ran.more ran.part x) stopped ran.last);
     faulted = λ is.
@@ -367,8 +369,8 @@ module _ {R : Type 0} {state : R → RevState} {Lost : Type 0} (base : Base) (co
   last_sizes : (tally : Tally) → told ≡ Ok tally → HasSizes config m2
   last_sizes tally is = subst (λ (m : Machine R). HasSizes config m) (sym (last_on tally is)) middle_sizes
 
-  lasting : Later s0 s1
-  lasting = later_trans _ _ _ (steps_later state m0 ran.middle ran.served ran.answers ran.steps) (last_later state ran.middle m2 ran.more ran.part result ran.last)
+  lasting : Since s0 s1
+  lasting = since_trans _ _ _ (steps_later state m0 ran.middle ran.served ran.answers ran.steps) (last_later state ran.middle m2 ran.more ran.part result ran.last)
 
   public_is : (tally : Tally) → told ≡ Ok tally → public_of last ≡ all_public base.public walk.seen
   public_is tally is = ap (λ (m : Machine R). public_of m.engine) (last_on tally is) ∙ walk.public ∙ ap (λ (p : Public). all_public p walk.seen) on.public
@@ -388,7 +390,7 @@ module _ {R : Type 0} {state : R → RevState} {Lost : Type 0} (base : Base) (co
         × Rests keys closing s2.kept (by_name (after_all (drawing keys (session_at base tables)) walk.spelt broken).tables)
     rests_last tables honest left mark closed held =
         let none : s1.lie ≡ None = none_lies s1.lie s1 s2 refl closes.later honest.no_lie in
-        let from_it = walk.meant d0 on.drawn honest.tells on.calm (record { unfit = λ lie it. absurd (cc (none, it)) }) tables held in
+        let from_it = walk.meant d0 on.drawn honest.tells on.calm (record { unfit = λ lie it. absurd (cc (none, it)) }) tables (holds d0 tables held) in
         let whole = subst (λ (e : Ending). EndsWhole e) (sym (ending_is tally is)) tt in
         let tables_after = (after_all (session_of m0 d0 tables) walk.spelt from_it.0).tables in
         let tells : IsTrue s1.tells = subst (λ (b : Bool). IsTrue b) (sym lasting.tells) honest.tells in
@@ -448,8 +450,9 @@ module _ {R : Type 0} {state : R → RevState} {Lost : Type 0} (base : Base) (co
   pub leaves : (secret salt : List ℕ) → Agrees state first s0 → base.public.save ≡ true → AreOfSecret secret keys → ((q : ℕ) → base.start.region < q → (pair_of keys q).salt ≡ Some salt)
       → ((mark : Mark) → k0.held ≡ Some mark → FromEach base (λ x. RestsOn secret mark base.public s0.kept x.tables)) → LeavesSaved secret salt base keys (RanEnding result) story s0 s1 k0 k1
   leaves secret salt agrees saves of salted rests =
-      session_leaves state (RanEnding result) Failed m0 ran.middle m2 ran.served ran.more ran.answers ran.part walk secret salt base keys
+      session_leaves state (RanEnding result) m0 ran.middle m2 ran.served ran.more ran.answers ran.part walk secret salt base keys
       (record {
+        free = refl;
         agrees = agrees;
         saves = ap (λ (p : Public). p.save) on.public ∙ saves;
         public = on.public;
@@ -473,7 +476,7 @@ module _ {R : Type 0} {state : R → RevState} {Lost : Type 0} (base : Base) (co
     at_end = ran.at_end;
     story = story;
     texts = ran.texts;
-    prompt = ran.prompt;
+    prompt = subst (λ (p : Public). AnsweredBut (batch_most p) (texts_in false (before_read gave (f0.unread ++ ran.piece))) ran.served) on.public ran.prompt;
     carried = carried_by;
     rows = inl (record { first = first; last = last; keeper0 = k0; keeper1 = k1; ran = ran; counts = opened });
     cut = ran.cut;
@@ -483,9 +486,9 @@ module _ {R : Type 0} {state : R → RevState} {Lost : Type 0} (base : Base) (co
   }
 
 -- nothing is served, since the input has ended
-unfoldable pub ran_last : {R : Type 0} {Lost : Type 0} (state : R → RevState) (on : Bool) (f : Fetch) (l : Option (List ℕ)) (gave : ℕ) (w t : Option (List ℕ)) (m : Machine R) → f.unread ≡ [] → IsAtEnd l → f.taken < f.limit
-    → SessionRan state on f f l l gave w w t t m m Lost (Ok empty_tally)
-ran_last {Lost = Lost} state on f l gave w t m none at_end below = record {
+unfoldable pub ran_last : {R : Type 0} {Lost : Type 0} (state : R → RevState) (on : Bool) (f : Fetch) (l : Option (List ℕ)) (gave : ℕ) (w t : Option (List ℕ)) (e : Engine R) (s : StoreState) (k : KeeperState) → f.unread ≡ [] → IsAtEnd l → f.taken < f.limit
+    → SessionRan state on f f l l gave w w t t (machine_of e s k) (machine_of e s k) Lost (Ok empty_tally)
+ran_last {Lost = Lost} state on f l gave w t e s k none at_end below = record {
   piece = [];
   consumed = Consumes-nil l;
   taken = omega arith;
@@ -495,16 +498,20 @@ ran_last {Lost = Lost} state on f l gave w t m none at_end below = record {
   served = [];
   more = [];
   texts = rw (none, texts_of-nil, rest_of-nil) refl;
-  prompt = subst (λ (xs : List (List ℕ)). Begins (texts_in false (before_read gave (f.unread ++ []))) xs) (texts_of-nil [])
-      (prompt_all (f.unread ++ []) [] f.unread gave (append-nil f.unread) (let few = ap length none in omega (arith, few)));
-  middle = m;
+  prompt = all_answered (batch_most (public_of e)) _ [] (most_some (public_of e))
+      (subst (λ (xs : List (List ℕ)). Begins (texts_in false (before_read gave (f.unread ++ []))) xs) (texts_of-nil [])
+      (prompt_all (f.unread ++ []) [] f.unread gave (append-nil f.unread) (let few = ap length none in omega (arith, few))));
+  middle = machine_of e s k;
   answers = [];
-  steps = Steps-none state m;
+  steps = Steps-none state (machine_of e s k);
   part = [];
-  last = record { machine = refl; none = refl };
+  owed = [];
+  gathered = None;
+  follow = tt;
+  last = record { machine = refl; free = refl; none = refl };
   cut = rw printed-nil (Outputs-whole w w Lost [] (Appends-nil w));
   whole = took_none w;
-  traced = traces_all (traced_none on m.store.asked t);
+  traced = traces_all (traced_none on s.asked t);
   counted = sym (tally_after-nil empty_tally);
   ends = (refl, refl, refl, rw none nothing_over, below);
 }

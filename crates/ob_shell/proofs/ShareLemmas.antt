@@ -7,7 +7,7 @@ use Rattle.ob_base.specs.declared.config.Public.{Public}
 use Rattle.ob_base.specs.declared.refusal.Refusal.{Refusal}
 use Rattle.ob_base.specs.declared.schema.Heading.{Heading}
 use Rattle.ob_base.specs.declared.seen.End.{End}
-use Rattle.ob_base.specs.declared.seen.End.TheVariants.{Static, Whole, AfterCount, Cut}
+use Rattle.ob_base.specs.declared.seen.End.TheVariants.{Static, Whole, AfterCount, Joined, Cut}
 use Rattle.ob_base.specs.declared.seen.Seen.{Seen}
 use Rattle.ob_base.specs.declared.skeleton.Skeleton.{Skeleton}
 use Rattle.ob_exec.proofs.ChangedScripts.{changes_flat, unsaved_whole, whole_saved}
@@ -39,6 +39,7 @@ until_longer : (end : End) (xs more : List Access) → Begins (until_end end xs)
 until_longer Static xs more = record { rest = []; joined = refl }
 until_longer Whole xs more = record { rest = more; joined = refl }
 until_longer AfterCount xs more = record { rest = more; joined = refl }
+until_longer Joined xs more = record { rest = []; joined = refl }
 until_longer (Cut n) xs more = take_longer n xs more
 
 -- a read in a first part is one in all

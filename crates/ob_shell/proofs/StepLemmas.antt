@@ -1,6 +1,5 @@
 -- Texts that are answered one after the other.
 use Rattle.std.proofs.Common.{◌≡◌, ℕ, List, [], ◌∷◌, ◌++◌, Bool, Option, Ok, Err, Result, refl, sym, ap, ◌∙◌, subst, inl, inr, append_assoc, append-nil}
-use Rattle.std.proofs.KnownBytes.{Appends-nil}
 use Rattle.std.specs.Io.KnownBytes.{Appends}
 use Rattle.ob_base.specs.declared.refusal.Stop.{Stop}
 use Rattle.ob_base.specs.declared.refusal.Stop.TheVariants.{SourceFault, InputLimit}
@@ -11,7 +10,7 @@ use Rattle.ob_gen.specs.declared.tally.Tally.{Tally}
 use Rattle.ob_headline.specs.Words.{Answer, printed}
 use Rattle.ob_print.proofs.CutLemmas.{Outputs-by, Outputs-whole}
 use Rattle.ob_shell.proofs.StopLemmas.{by_stop, stopped_as}
-use Rattle.ob_shell.proofs.TallyLemmas.{tally_after-nil, tally_after-one}
+use Rattle.ob_shell.proofs.TallyLemmas.{tally_after-one}
 use Rattle.ob_shell.specs.Running.{LastPart}
 use Rattle.ob_shell.specs.Steps.{CutStep, Machine, Step, Steps, Idle, IsUndone, PartlyAt, AnswersAll, StopsIn}
 use Rattle.ob_shell.specs.Tallies.{tally_with}
@@ -44,14 +43,6 @@ Steps-append state m0 m1 m2 (t ∷ ts) us xs ys p q = (
   Steps-append state p.0 m1 m2 ts us p.2 ys p.5 q,
 )
 
-pub answers_none : {R : Type 0} {state : R → RevState} (w : Option (List ℕ)) (t : Tally) (m : Machine R) → AnswersAll state w w [] t t m m
-answers_none {state = state} w t m = record {
-  answers = [];
-  steps = Steps-none state m;
-  appends = rw printed-nil (Appends-nil w);
-  counted = sym (tally_after-nil t);
-}
-
 one_step : {R : Type 0} {state : R → RevState} (m0 m1 : Machine R) (text : List ℕ) (answer : Answer) → Step state m0 m1 text answer → Steps state m0 m1 (text ∷ []) (answer ∷ [])
 unfolding Steps
 one_step m0 m1 text answer step = (m1, answer, [], refl, step, (refl, refl))
@@ -70,9 +61,9 @@ answers_one text t answer step bytes = record {
   counted = sym (tally_after-one t answer);
 }
 
-pub PartlyAt-none : {R : Type 0} (state : R → RevState) (m : Machine R) (texts : List (List ℕ)) (stop : RunStop) → stop ≡ Runs.NoMemory → PartlyAt state m m texts stop []
-PartlyAt-none state m [] stop fine = record { rests = record { machine = refl; none = refl }; memory = fine }
-PartlyAt-none state m (t ∷ ts) stop fine = inl (record { rests = record { machine = refl; none = refl }; memory = fine })
+pub PartlyAt-none : {R : Type 0} (state : R → RevState) (m : Machine R) (texts : List (List ℕ)) (stop : RunStop) → m.owed ≡ [] → stop ≡ Runs.NoMemory → PartlyAt state m m texts stop []
+PartlyAt-none state m [] stop free fine = record { rests = record { machine = refl; free = free; none = refl }; memory = fine }
+PartlyAt-none state m (t ∷ ts) stop free fine = inl (record { rests = record { machine = refl; free = free; none = refl }; memory = fine })
 
 pub PartlyAt-rests : {R : Type 0} (state : R → RevState) (m0 m1 : Machine R) (texts : List (List ℕ)) (stop : RunStop) (bytes : List ℕ) → Idle m0 m1 stop bytes → PartlyAt state m0 m1 texts stop bytes
 PartlyAt-rests state m0 m1 [] stop bytes r = r
@@ -82,10 +73,6 @@ pub PartlyAt-more : {R : Type 0} (state : R → RevState) (m0 m1 : Machine R) (t
     → PartlyAt state m0 m1 texts stop bytes → PartlyAt state m0 m1 (texts ++ more) stop bytes
 PartlyAt-more state m0 m1 [] more stop bytes p = PartlyAt-rests state m0 m1 more stop bytes p
 PartlyAt-more state m0 m1 (t ∷ ts) more stop bytes p = p
-
--- nothing was done of the texts
-pub stops_before : {R : Type 0} {state : R → RevState} {Lost : Type 0} (w : Option (List ℕ)) (m : Machine R) (texts : List (List ℕ)) (stop : RunStop) → stop ≡ Runs.NoMemory → StopsIn state w w Lost texts stop m m
-stops_before {state = state} w m texts stop fine = record { bytes = []; partly = PartlyAt-none state m texts stop fine; cut = Outputs-whole w w _ [] (Appends-nil w) }
 
 -- the only answer of a list
 record OneAnswer {R : Type 0} (state : R → RevState) (m0 m1 : Machine R) (text : List ℕ) (answers : List Answer) : Type 0 where

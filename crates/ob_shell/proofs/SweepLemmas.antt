@@ -25,6 +25,7 @@ use Rattle.ob_vault.specs.declared.region.Region.{Region}
 
 pub later_sweeps : (s t : StoreState) → Sweeps s t → Later s t
 later_sweeps s t sweeps = record {
+  log = sweeps.log;
   faults = let same = sweeps.faults in omega (arith, same);
   tells = sweeps.tells;
   lie = λ lie is. sweeps.lie ∙ is;

@@ -1,5 +1,5 @@
 -- What is counted of answers, one after the other.
-use Rattle.std.specs.Prelude.{IfOk, nat_lt}
+use Rattle.std.specs.Prelude.{IfOk, OnOk, nat_lt}
 use Rattle.std.proofs.Common.{◌≡◌, ℕ, ◌||◌, Bool, true, false, List, [], ◌∷◌, ◌++◌, Option, Some, None, Result, Ok, Err, refl, sym, ap, ◌∙◌, arith}
 use Rattle.std.proofs.lemmas.Bool.Decides.{nat_tests}
 use Rattle.ob_base.specs.declared.config.Plan.{Plan}
@@ -10,10 +10,14 @@ use Rattle.ob_gen.specs.Tally.{empty_tally, one_if, raised, with_plan}
 use Rattle.ob_gen.specs.declared.tally.Tally.{Tally}
 use Rattle.ob_headline.specs.Closing.{is_refused}
 use Rattle.ob_headline.specs.Words.{Answer, Faults, any_refused}
+use Rattle.ob_headline.specs.declared.ending.Ending.{Ending}
 use Rattle.ob_headline.specs.declared.ending.Ending.TheVariants.{Ran}
-use Rattle.ob_shell.specs.Running.{FlagIs, StopCause}
+use Rattle.ob_headline.specs.declared.ending.KeptEnding.{KeptEnding}
+use Rattle.ob_headline.specs.declared.ending.KeptEnding.TheVariants.{Plain}
+use Rattle.ob_shell.specs.Running.{FlagIs, StopCause, stop_of}
 use Rattle.ob_shell.specs.Tallies.{TallyIs, flagged, has_refused, tally_after, tally_with}
 use Rattle.ob_shell.specs.Top.{EndingTally}
+use Rattle.ob_shell.specs.declared.session.Halted.{Halted}
 
 pub tally_after-nil : (t : Tally) → tally_after t [] ≡ t
 unfolding tally_after
@@ -74,13 +78,21 @@ tally_by (Ok t) answers tally is same = same ∙ is
 tally_by (Err stop) answers tally is same = tt
 
 -- the stop has the same cause
-pub cause_flagged : (old new : Faults) (result : Result Tally Stop) → StopCause old new result → StopCause old new (flagged result)
-cause_flagged old new (Ok tally) cause = cause
-cause_flagged old new (Err (Tampered region place)) cause = cause
-cause_flagged old new (Err SourceFault) cause = cause
-cause_flagged old new (Err SinkFault) cause = cause
-cause_flagged old new (Err NoMemory) cause = cause
-cause_flagged old new (Err InputLimit) cause = cause
-cause_flagged old new (Err StoreFault) cause = cause
-cause_flagged old new (Err StashFull) cause = cause
-cause_flagged old new (Err KeeperFault) cause = cause
+pub cause_flagged : (Alone : Type 0) (old new : Faults) (result : Result Tally Stop) → StopCause Alone old new result → StopCause Alone old new (flagged result)
+cause_flagged Alone old new (Ok tally) cause = cause
+cause_flagged Alone old new (Err (Tampered region place)) cause = cause
+cause_flagged Alone old new (Err SourceFault) cause = cause
+cause_flagged Alone old new (Err SinkFault) cause = cause
+cause_flagged Alone old new (Err NoMemory) cause = cause
+cause_flagged Alone old new (Err InputLimit) cause = cause
+cause_flagged Alone old new (Err StoreFault) cause = cause
+cause_flagged Alone old new (Err StashFull) cause = cause
+cause_flagged Alone old new (Err KeeperFault) cause = cause
+
+-- what holds where a session came to its end, where it did
+pub took_whole : {P : Type 0} (ran : Result Tally Halted) (refused : Bool) → Ran (flagged (stop_of ran)) ≡ Ran (Ok refused) → OnOk ran P → P
+took_whole (Ok tally) refused is took = took
+took_whole (Err halted) refused is took = absurd (cc is)
+
+pub plain_whole : {P : Type 0} (ran : Result Tally Halted) (ended : Ending) (ending : KeptEnding) (refused : Bool) → ended ≡ Ran (flagged (stop_of ran)) → ending ≡ Plain ended → ending ≡ Plain (Ran (Ok refused)) → OnOk ran P → P
+plain_whole ran ended ending refused of plain is took = let same : ended ≡ Ran (Ok refused) = cc (plain, is) in took_whole ran refused (sym of ∙ same) took

@@ -12,12 +12,12 @@ use Rattle.ob_base.specs.declared.refusal.Stop.TheVariants.{Tampered, SourceFaul
 use Rattle.ob_select.specs.Opening.{is_of_rows}
 use Rattle.ob_gen.specs.declared.tally.Tally.{Tally}
 use Rattle.ob_headline.proofs.FlatLemmas.{start_flat}
-use Rattle.ob_headline.proofs.PromptLemmas.{prompt_all, prompt_behind, prompt_line}
+use Rattle.ob_headline.proofs.PromptLemmas.{all_answered, prompt_all, prompt_from, prompt_line, waits_behind}
 use Rattle.ob_headline.proofs.TextLemmas.{rest_of-nil, texts_of-nil}
 use Rattle.ob_headline.specs.Bases.{Base, fresh, start}
 use Rattle.ob_headline.specs.Disturbed.{MeantUntil}
 use Rattle.ob_headline.specs.Endings.{last_line}
-use Rattle.ob_headline.specs.Failures.{failures}
+use Rattle.ob_headline.specs.Failures.{cut_off, failures}
 use Rattle.ob_headline.specs.KeyLine.{has_lf, first_line, after_line, secret_of}
 use Rattle.ob_headline.specs.Settings.{limit_of}
 use Rattle.ob_headline.specs.Texts.{is_over, rest_of, texts_of, texts_in}
@@ -26,16 +26,18 @@ use Rattle.ob_headline.specs.Words.{Begins, Faults, SinksRose, Took, before_read
 use Rattle.ob_headline.specs.Statements.{SpellFirst, statements}
 use Rattle.ob_headline.specs.Accesses.{AreSeen, any_cut, ends_within}
 use Rattle.ob_headline.specs.Meaning.{AnswersFrom}
-use Rattle.ob_headline.specs.Status.{HasSecret}
+use Rattle.ob_headline.specs.Status.{HasSecret, StaysAlone}
 use Rattle.ob_headline.specs.declared.ending.Ending.{Ending}
 use Rattle.ob_headline.specs.declared.ending.Ending.TheVariants.{Usage, BadKey, Ran as RanEnding}
+use Rattle.ob_mean.proofs.BatchLemmas.{most_some}
+use Rattle.ob_mean.specs.Batches.{batch_most}
 use Rattle.ob_print.proofs.CutLemmas.{Outputs-whole, Outputs-after, Outputs-fault, Outputs-more}
 use Rattle.ob_print.specs.Cuts.{Outputs}
 use Rattle.ob_script.specs.Trace.{trace}
 use Rattle.ob_shell.proofs.CountLemmas.{rises_earlier, rises_later}
 use Rattle.ob_shell.proofs.DisturbLemmas.{take_begins}
 use Rattle.ob_shell.proofs.KeyLemmas.{after_line-none, has_lf-nil}
-use Rattle.ob_shell.proofs.RunLemmas.{took_more, took_whole}
+use Rattle.ob_shell.proofs.TookLemmas.{took_more, took_whole}
 use Rattle.ob_shell.proofs.StepLemmas.{printed-nil}
 use Rattle.ob_shell.proofs.TallyLemmas.{any_refused-nil, flag_by, tally_by}
 use Rattle.ob_shell.proofs.TraceLemmas.{traced-nil}
@@ -47,7 +49,7 @@ use Rattle.ob_shell.specs.Top.{EndingTally, EndsUnfaulted, EndsUntampered, IsFre
 use Rattle.ob_shell.specs.declared.feed.Halt.{Halt}
 use Rattle.ob_shell.specs.declared.key.FirstLine.{FirstLine}
 use Rattle.ob_shell.specs.declared.key.FirstLine.TheVariants.{Secret, Last, Bad}
-use Rattle.ob_store.proofs.Steps.{later_refl}
+use Rattle.ob_store.proofs.Steps.{since_refl}
 use Rattle.ob_store.specs.State.{StoreState}
 use Rattle.ob_vault.specs.State.{RevState}
 use Rattle.ob_headline.specs.Story.{unserved}
@@ -99,7 +101,7 @@ unfaulted_ends (RanEnding (Err KeeperFault)) fine ends = fine
 
 pub unstarted : {keys : KeySet} (tr : TraceSink) (settings : Option Config) (secret : Option (List ℕ)) (s : StoreState) (more : List (List ℕ)) (ending : Ending) → IsFresh s → tr.new ≡ tr.old → EndsUntampered ending → EndsUnfaulted ending
     → Carried tr (fresh settings) keys secret s s 0 (unserved more) ending
-unfolding SpellFirst AreSeen AnswersFrom MeantUntil failures any_cut statements
+unfolding SpellFirst AreSeen AnswersFrom MeantUntil failures cut_off any_cut statements
 unstarted tr settings secret s more ending blank untraced untampered unfaulted = record {
   statements = record { spells = tt; reached = omega arith; begun = omega arith; keyed = inr refl; each = refl };
   accesses = record {
@@ -110,13 +112,14 @@ unstarted tr settings secret s more ending blank untraced untampered unfaulted =
     lawful = refl;
     drawn = record { numbers = []; are = refl; apart = λ i j x before within. absurd (omega (arith, within)) };
     asked = blank.unasked;
-    failed = omega arith;
+    failed = λ alone. omega arith;
+    cut = omega arith;
     unfailed = λ not. refl;
   };
   traced_whole = took_whole (subst (λ (w : Option (List ℕ)). Appends tr.old w (traced tr.on [])) (sym untraced) (rw (traced-nil) (Appends-nil tr.old)));
   answers = record {
     meant = λ undeceived. ([], (refl, refl));
-    later = later_refl s;
+    later = since_refl s;
     always = λ tells n before. record {
       meant = tt;
       begins = subst (λ (xs : List Access). Begins (take n xs) []) (sym blank.unasked) (take_begins n []);
@@ -154,16 +157,19 @@ module _ (tally : Tally) (tr : TraceSink) (untraced : tr.new ≡ tr.old) (settin
   piece_within fed = omega (arith, fed.taken, fed.limit)
 
   -- no text was whole before the last read
-  pub piece_prompt : {l0 l1 : Option (List ℕ)} {xs : List ℕ} (fed : Fed f0 f1 l0 l1 xs) → length (after_line (xs ++ f1.unread)) ≤ length f1.unread
-      → Prompt fed.piece [] gave
-  piece_prompt {xs = xs} fed ahead =
+  pub piece_prompt : {l0 l1 : Option (List ℕ)} {xs : List ℕ} (most : ℕ) → 1 ≤ most → (fed : Fed f0 f1 l0 l1 xs) → length (after_line (xs ++ f1.unread)) ≤ length f1.unread
+      → Prompt most fed.piece [] gave
+  piece_prompt {xs = xs} most some fed ahead =
       let late = by.late in
       let few = by.few in
       let same = ap (λ (l : List ℕ). length (after_line l)) (piece_is fed none) in
-      record {
-        few = omega (arith, few, fed.taken);
-        prompt = prompt_line gave fed.piece [] (omega (arith, late, same, ahead));
-      }
+      prompt_from most fed.piece [] gave (omega (arith, few, fed.taken))
+      (all_answered most _ [] some (prompt_line gave fed.piece [] (omega (arith, late, same, ahead))))
+
+  -- where a run begins afresh
+  pub fresh_prompt : {l0 l1 : Option (List ℕ)} {xs : List ℕ} (fed : Fed f0 f1 l0 l1 xs) → length (after_line (xs ++ f1.unread)) ≤ length f1.unread
+      → Prompt (batch_most (fresh settings).public) fed.piece [] gave
+  fresh_prompt = piece_prompt (batch_most (fresh settings).public) (most_some (fresh settings).public)
 
   unfoldable pub shown_source_fault : {F : Type 0} {keys : List ℕ → KeySet} {l0 l1 : Option (List ℕ)} (w : Option (List ℕ)) (s : StoreState) → IsFresh s
       → KeyRead f0 f1 l0 l1 (Err Halt.SourceFault) → RunShown tally tr (fresh settings) keys l0 l1 gave w w s s 0 (RanEnding (Err SourceFault)) [] F
@@ -181,7 +187,7 @@ module _ (tally : Tally) (tr : TraceSink) (untraced : tr.new ≡ tr.old) (settin
           at_end = λ (h : false ≡ true). absurd (cc);
           texts = rw after (texts_of-nil []);
         };
-        prompt = piece_prompt read.fed read.ahead;
+        prompt = fresh_prompt read.fed read.ahead;
         carried = unstarted tr settings _ s [] _ fresh untraced tt tt;
         grew = no_bytes w;
         whole = took_none w;
@@ -205,7 +211,7 @@ module _ (tally : Tally) (tr : TraceSink) (untraced : tr.new ≡ tr.old) (settin
           at_end = λ (h : false ≡ true). absurd (cc);
           texts = refl;
         };
-        prompt = piece_prompt read.fed read.ahead;
+        prompt = fresh_prompt read.fed read.ahead;
         carried = unstarted tr settings _ s _ _ fresh untraced tt tt;
         grew = no_bytes w;
         whole = took_none w;
@@ -229,7 +235,7 @@ module _ (tally : Tally) (tr : TraceSink) (untraced : tr.new ≡ tr.old) (settin
           at_end = λ _. ends.2;
           texts = rw (ends.1, texts_of-nil, rest_of-nil);
         };
-        prompt = piece_prompt read.fed read.ahead;
+        prompt = fresh_prompt read.fed read.ahead;
         carried = unstarted tr settings _ s [] _ fresh untraced tt tt;
         grew = no_bytes w;
         whole = took_none w;
@@ -250,7 +256,7 @@ module _ (tally : Tally) (tr : TraceSink) (untraced : tr.new ≡ tr.old) (settin
 pub ran_nothing : {R : Type 0} {state : R → RevState} {Lost : Type 0} {keys : KeySet} (tr : TraceSink) (settings : Option Config) (secret : Option (List ℕ)) (f : Fetch)
     (l : Option (List ℕ)) (gave : ℕ) (w : Option (List ℕ)) (s : StoreState) → IsFresh s → tr.new ≡ tr.old → length f.unread ≤ gave
     → RanAfter state tr (fresh settings) keys secret f f l l gave w w s s 0 Lost (Err NoMemory)
-ran_nothing {Lost = Lost} tr settings secret f l gave w s fresh untraced late = record {
+ran_nothing {Lost = Lost} tr settings secret f l gave w s blank untraced late = record {
   piece = [];
   consumed = Consumes-nil l;
   taken = omega arith;
@@ -259,9 +265,10 @@ ran_nothing {Lost = Lost} tr settings secret f l gave w s fresh untraced late = 
   at_end = λ (h : false ≡ true). absurd (cc);
   story = unserved (texts_in false (f.unread ++ []));
   texts = refl;
-  prompt = subst (λ (xs : List (List ℕ)). Begins (texts_in false (before_read gave (f.unread ++ []))) xs) (texts_of-nil [])
-      (prompt_all (f.unread ++ []) [] f.unread gave (append-nil f.unread) late);
-  carried = unstarted tr settings secret s _ _ fresh untraced tt tt;
+  prompt = all_answered (batch_most (fresh settings).public) _ [] (most_some (fresh settings).public)
+      (subst (λ (xs : List (List ℕ)). Begins (texts_in false (before_read gave (f.unread ++ []))) xs) (texts_of-nil [])
+      (prompt_all (f.unread ++ []) [] f.unread gave (append-nil f.unread) late));
+  carried = unstarted tr settings secret s _ _ blank untraced tt tt;
   rows = inr (refl, refl);
   cut = rw printed-nil (Outputs-whole w w Lost [] (Appends-nil w));
   whole = took_none w;
@@ -342,10 +349,8 @@ shown_by {Lost = Lost} {tally = tally} base {f1 = f1} {f2 = f2} {gave = gave} {l
         at_end = ran.at_end;
         texts = ap (texts_in ran.ended) after ∙ ran.texts;
       };
-      prompt = record {
-        few = let few = by.few in omega (arith, few, count);
-        prompt = prompt_behind gave _ _ ran.story.served after ran.prompt;
-      };
+      prompt = prompt_from (batch_most base.public) (read.fed.piece ++ ran.piece) ran.story.served gave (let few = by.few in omega (arith, few, count))
+          (waits_behind (batch_most base.public) gave _ _ ran.story.served after ran.prompt);
       carried = carried;
       grew = subst (λ (l : List ℕ). Outputs w0 w2 Lost l) (sym (append-nil (printed ran.story.answers ++ ran.story.part))) ran.cut;
       whole = ran.whole;
@@ -374,7 +379,7 @@ shown_ran keys {tr = tr} base {s0 = s0} {s2 = s2} {high = high} key result none 
 -- nothing was read
 unfoldable pub shown_unread : {F : Type 0} {keys : List ℕ → KeySet} (tally : Tally) (tr : TraceSink) (settings : Option Config) (l : Option (List ℕ)) (gave : ℕ) (w : Option (List ℕ)) (s : StoreState) (ending : Ending) → IsFresh s → tr.new ≡ tr.old → EndsUntampered ending → EndsUnfaulted ending → EndingFlag ending [] → EndingTally ending [] tally
     → EndingSays ending (limit_of settings) [] l false (texts_of [] (after_line [])) [] → RunShown tally tr (fresh settings) keys l l gave w w s s 0 ending [] F
-shown_unread tally tr settings l gave w s ending fresh untraced untampered unfaulted flag counted says = record {
+shown_unread tally tr settings l gave w s ending blank untraced untampered unfaulted flag counted says = record {
   taken = [];
   ended = false;
   story = unserved (texts_of [] (after_line []));
@@ -384,11 +389,10 @@ shown_unread tally tr settings l gave w s ending fresh untraced untampered unfau
     at_end = λ (h : false ≡ true). absurd (cc);
     texts = refl;
   };
-  prompt = record {
-    few = omega arith;
-    prompt = prompt_line gave [] [] (rw (after_line-none [] has_lf-nil) (omega arith));
-  };
-  carried = unstarted tr settings _ s _ _ fresh untraced untampered unfaulted;
+  prompt = prompt_from (batch_most (fresh settings).public) [] [] gave (omega arith)
+      (all_answered (batch_most (fresh settings).public) _ [] (most_some (fresh settings).public)
+      (prompt_line gave [] [] (rw (after_line-none [] has_lf-nil) (omega arith))));
+  carried = unstarted tr settings _ s _ _ blank untraced untampered unfaulted;
   grew = no_bytes w;
   whole = took_none w;
   flag = flag;
@@ -427,37 +431,51 @@ rose_with old mid new r later same =
     elim r [ inl a ↦ inl (rises_later _ _ _ a later) | inr b ↦ inr (subst (λ (n : ℕ). Rises old.trace n) (sym same) b) ]
 
 -- the last line was cut by a fault
-pub line_rose : (ending : Ending) (old mid new : Faults) → EndingCause ending old mid → Rises mid.out new.out → mid.out ≤ new.out → new.trace ≡ mid.trace → SinksRose old new
-line_rose Usage old mid new cause rose later trace = inl (subst (λ (n : ℕ). Rises n new.out) cause.out rose)
-line_rose BadKey old mid new cause rose later trace = inl (subst (λ (n : ℕ). Rises n new.out) cause.out rose)
-line_rose (RanEnding (Ok refused)) old mid new cause rose later trace = inl (subst (λ (n : ℕ). Rises n new.out) cause.out rose)
-line_rose (RanEnding (Err (Tampered region place))) old mid new cause rose later trace = inl (rises_earlier _ _ _ cause.1 rose)
-line_rose (RanEnding (Err SourceFault)) old mid new cause rose later trace = inl (subst (λ (n : ℕ). Rises n new.out) cause.1 rose)
-line_rose (RanEnding (Err SinkFault)) old mid new cause rose later trace = rose_with old mid new cause.1 later trace
-line_rose (RanEnding (Err NoMemory)) old mid new cause rose later trace = inl (rises_earlier _ _ _ cause.1 rose)
-line_rose (RanEnding (Err StoreFault)) old mid new cause rose later trace = inl (rises_earlier _ _ _ cause.1 rose)
-line_rose (RanEnding (Err StashFull)) old mid new cause rose later trace = inl (rises_earlier _ _ _ cause.1 rose)
-line_rose (RanEnding (Err KeeperFault)) old mid new cause rose later trace = inl (rises_earlier _ _ _ cause.1 rose)
-line_rose (RanEnding (Err InputLimit)) old mid new cause rose later trace = inl (subst (λ (n : ℕ). Rises n new.out) cause.out rose)
+pub line_rose : (Alone : Type 0) (ending : Ending) (old mid new : Faults) → EndingCause Alone ending old mid → Rises mid.out new.out → mid.out ≤ new.out → new.trace ≡ mid.trace → SinksRose old new
+line_rose Alone Usage old mid new cause rose later trace = inl (subst (λ (n : ℕ). Rises n new.out) cause.out rose)
+line_rose Alone BadKey old mid new cause rose later trace = inl (subst (λ (n : ℕ). Rises n new.out) cause.out rose)
+line_rose Alone (RanEnding (Ok refused)) old mid new cause rose later trace = inl (subst (λ (n : ℕ). Rises n new.out) cause.out rose)
+line_rose Alone (RanEnding (Err (Tampered region place))) old mid new cause rose later trace = inl (rises_earlier _ _ _ cause.1 rose)
+line_rose Alone (RanEnding (Err SourceFault)) old mid new cause rose later trace = inl (subst (λ (n : ℕ). Rises n new.out) cause.1 rose)
+line_rose Alone (RanEnding (Err SinkFault)) old mid new cause rose later trace = rose_with old mid new cause.1 later trace
+line_rose Alone (RanEnding (Err NoMemory)) old mid new cause rose later trace = inl (rises_earlier _ _ _ cause.1 rose)
+line_rose Alone (RanEnding (Err StoreFault)) old mid new cause rose later trace = inl (rises_earlier _ _ _ cause.1 rose)
+line_rose Alone (RanEnding (Err StashFull)) old mid new cause rose later trace = inl (rises_earlier _ _ _ cause.1 rose)
+line_rose Alone (RanEnding (Err KeeperFault)) old mid new cause rose later trace = inl (rises_earlier _ _ _ cause.1 rose)
+line_rose Alone (RanEnding (Err InputLimit)) old mid new cause rose later trace = inl (subst (λ (n : ℕ). Rises n new.out) cause.out rose)
+
+-- a cause holds where INSERTs may wait, too
+pub cause_alone : (Alone : Type 0) (ending : Ending) (old new : Faults) → EndingCause (Unit {0}) ending old new → EndingCause Alone ending old new
+cause_alone Alone Usage old new cause = cause
+cause_alone Alone BadKey old new cause = cause
+cause_alone Alone (RanEnding (Ok refused)) old new cause = cause
+cause_alone Alone (RanEnding (Err SourceFault)) old new cause = cause
+cause_alone Alone (RanEnding (Err InputLimit)) old new cause = cause
+cause_alone Alone (RanEnding (Err (Tampered region place))) old new cause = ((λ alone. cause.0.0 tt, cause.0.1), cause.1, cause.2)
+cause_alone Alone (RanEnding (Err SinkFault)) old new cause = ((λ alone. cause.0.0 tt, cause.0.1), cause.1)
+cause_alone Alone (RanEnding (Err NoMemory)) old new cause = ((λ alone. cause.0.0 tt, cause.0.1), cause.1, cause.2)
+cause_alone Alone (RanEnding (Err StoreFault)) old new cause = ((λ alone. cause.0.0 tt, cause.0.1), cause.1, cause.2)
+cause_alone Alone (RanEnding (Err StashFull)) old new cause = ((λ alone. cause.0.0 tt, cause.0.1), cause.1, cause.2)
+cause_alone Alone (RanEnding (Err KeeperFault)) old new cause = ((λ alone. cause.0.0 tt, cause.0.1), cause.1, cause.2)
 
 -- the counts after the last line
-pub status_cause : (ending : Ending) (old mid new : Faults) → EndingCause ending old mid → mid.out ≤ new.out → new.trace ≡ mid.trace → new.source ≡ mid.source
-    → (last_line ending ≡ [] → new.out ≡ mid.out) → StatusCause ending old new
-status_cause Usage old mid new cause later trace source none = source ∙ cause.source
-status_cause BadKey old mid new cause later trace source none = source ∙ cause.source
-status_cause (RanEnding (Ok refused)) old mid new cause later trace source none = record {
+pub status_cause : (Alone : Type 0) (ending : Ending) (old mid new : Faults) → EndingCause Alone ending old mid → mid.out ≤ new.out → new.trace ≡ mid.trace → new.source ≡ mid.source
+    → (last_line ending ≡ [] → new.out ≡ mid.out) → StatusCause Alone ending old new
+status_cause Alone Usage old mid new cause later trace source none = source ∙ cause.source
+status_cause Alone BadKey old mid new cause later trace source none = source ∙ cause.source
+status_cause Alone (RanEnding (Ok refused)) old mid new cause later trace source none = record {
   source = source ∙ cause.source;
   out = none refl ∙ cause.out;
   trace = trace ∙ cause.trace;
 }
-status_cause (RanEnding (Err (Tampered region place))) old mid new cause later trace source none = source ∙ cause.0
-status_cause (RanEnding (Err SourceFault)) old mid new cause later trace source none = subst (λ (n : ℕ). Rises old.source n) (sym source) cause.0
-status_cause (RanEnding (Err SinkFault)) old mid new cause later trace source none = (source ∙ cause.0, rose_with old mid new cause.1 later trace)
-status_cause (RanEnding (Err NoMemory)) old mid new cause later trace source none = source ∙ cause.0
-status_cause (RanEnding (Err StoreFault)) old mid new cause later trace source none = source ∙ cause.0
-status_cause (RanEnding (Err StashFull)) old mid new cause later trace source none = source ∙ cause.0
-status_cause (RanEnding (Err KeeperFault)) old mid new cause later trace source none = source ∙ cause.0
-status_cause (RanEnding (Err InputLimit)) old mid new cause later trace source none = source ∙ cause.source
+status_cause Alone (RanEnding (Err (Tampered region place))) old mid new cause later trace source none = subst (λ (n : ℕ). StaysAlone Alone old.source n) (sym source) cause.0
+status_cause Alone (RanEnding (Err SourceFault)) old mid new cause later trace source none = subst (λ (n : ℕ). Rises old.source n) (sym source) cause.0
+status_cause Alone (RanEnding (Err SinkFault)) old mid new cause later trace source none = (subst (λ (n : ℕ). StaysAlone Alone old.source n) (sym source) cause.0, rose_with old mid new cause.1 later trace)
+status_cause Alone (RanEnding (Err NoMemory)) old mid new cause later trace source none = subst (λ (n : ℕ). StaysAlone Alone old.source n) (sym source) cause.0
+status_cause Alone (RanEnding (Err StoreFault)) old mid new cause later trace source none = subst (λ (n : ℕ). StaysAlone Alone old.source n) (sym source) cause.0
+status_cause Alone (RanEnding (Err StashFull)) old mid new cause later trace source none = subst (λ (n : ℕ). StaysAlone Alone old.source n) (sym source) cause.0
+status_cause Alone (RanEnding (Err KeeperFault)) old mid new cause later trace source none = subst (λ (n : ℕ). StaysAlone Alone old.source n) (sym source) cause.0
+status_cause Alone (RanEnding (Err InputLimit)) old mid new cause later trace source none = source ∙ cause.source
 
 -- nothing more may be written
 pub quiet_line : {w0 w1 : Option (List ℕ)} {F G : Type 0} (bytes line : List ℕ) → Outputs w0 w1 F (bytes ++ []) → G → Outputs w0 w1 G (bytes ++ line)

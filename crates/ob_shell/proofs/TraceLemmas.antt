@@ -1,9 +1,10 @@
 -- The text of accesses, one after the other.
 use Rattle.std.specs.Prelude.{slice_get}
-use Rattle.std.proofs.Common.{◌≡◌, ℕ, ◌+◌, ◌≤◌, Bool, true, false, suc, List, [], ◌∷◌, ◌++◌, length, drop, Option, Some, refl, sym, ap, ◌∙◌, subst, append_assoc, append-nil, drop-cons, add-one}
+use Rattle.std.proofs.Common.{◌≡◌, inr, ℕ, ◌+◌, ◌≤◌, Bool, true, false, suc, List, [], ◌∷◌, ◌++◌, length, drop, take, Option, Some, refl, sym, ap, ◌∙◌, subst, append_assoc, append-nil, drop-cons, add-one}
 use Rattle.std.proofs.KnownBytes.{Appends-nil, Appends-trans}
 use Rattle.std.proofs.Math.ListN.{drop_of_length-le}
 use Rattle.std.proofs.Math.Seq.{drop-append_seam}
+use Rattle.std.proofs.lemmas.List.{take_at}
 use Rattle.std.proofs.lemmas.Option.{slice_get_within, get_or_from_slice_get}
 use Rattle.ob_base.specs.declared.access.Access.{Access}
 use Rattle.ob_headline.specs.Tracing.{traced}
@@ -64,6 +65,14 @@ traced_cut {a0 = a0} p q = record {
 pub traced_whole : {tracing : Bool} {a0 a1 : List Access} {w0 w1 : Option (List ℕ)} (F : Type 0) → TracedAll tracing a0 a1 w0 w1 → Traced tracing a0 a1 w0 w1 F
 traced_whole F p = record { seen = p.seen; grew = p.grew; cut = Outputs-whole _ _ F _ p.appends }
 
+-- of what was asked nothing was traced, for this cause
+pub lost_trace : {tracing : Bool} {a0 a1 : List Access} {w : Option (List ℕ)} {F : Type 0} → (seen : List Access) × (a1 ≡ a0 ++ seen) → F → Traced tracing a0 a1 w w F
+lost_trace {w = w} asked fault = record { seen = asked.0; grew = asked.1; cut = record { grown = []; appends = Appends-nil w; prefix = record { lost = _; whole = refl }; all = inr fault } }
+
 -- what was asked since the mark
 pub since : (asked0 asked1 seen : List Access) (mark : ℕ) → asked1 ≡ asked0 ++ seen → mark ≡ length asked0 → drop mark asked1 ≡ seen
 since asked0 asked1 seen mark e m = rw (m, e) (drop-append_seam asked0 seen)
+
+-- what was asked before it
+pub until : (asked0 asked1 seen : List Access) (mark : ℕ) → asked1 ≡ asked0 ++ seen → mark ≡ length asked0 → take mark asked1 ≡ asked0
+until asked0 asked1 seen mark e m = subst (λ (l : List Access). take mark l ≡ asked0) (sym e) (take_at asked0 seen mark (sym m))

@@ -5,8 +5,8 @@ use Rattle.ob_base.specs.declared.refusal.Stop.TheVariants.{NoMemory}
 use Rattle.ob_headline.specs.declared.ending.Ending.{Ending}
 use Rattle.ob_headline.specs.declared.ending.Ending.TheVariants.{Usage, Ran}
 use Rattle.ob_print.specs.Cuts.{Outputs}
-use Rattle.ob_shell.specs.declared.words.WordsErr.{WordsErr}
-use Rattle.ob_shell.specs.declared.words.WordsErr.TheVariants as Words
+use Rattle.ob_words.specs.declared.words.WordsErr.{WordsErr}
+use Rattle.ob_words.specs.declared.words.WordsErr.TheVariants as Words
 use Rattle.ob_store.specs.State.{StoreState}
 
 -- nothing more was written, and no call failed

@@ -33,7 +33,7 @@ use Rattle.ob_seal.specs.Sealed.{keys_of}
 use Rattle.ob_shell.specs.Closed.{LineWritten, Unwritten}
 use Rattle.ob_shell.specs.Feeding.{Fetch}
 use Rattle.ob_shell.specs.Generating.{SummedUp}
-use Rattle.ob_shell.specs.Running.{OutFailed, Silenced, StopCause}
+use Rattle.ob_shell.specs.Running.{OutFailed, ServesAlone, Silenced, StopCause}
 use Rattle.ob_shell.specs.Standing.{StandsOn}
 use Rattle.ob_shell.specs.Steps.{IsReady, machine_of, told_nothing}
 use Rattle.ob_shell.specs.Tallies.{has_refused}
@@ -69,6 +69,7 @@ pub record FindsEngine {R : Type 0} (state : R → RevState) (config : Config) (
     : Type 0 where
   pub mark : Result Mark Failed
   pub gives : GivesMark mark keeper0 keeper1
+  pub log : new.let_go ≡ old.let_go
   pub ok : IfOk result (λ e. HasEngine state mark config key e old new)
   pub err : IfErr result (λ ending. EndsAtMark mark config (keys_of key) ending old new)
 
@@ -134,7 +135,7 @@ pub record StopsRun {R : Type 0} (state : R → RevState) (base : Base) (key : L
       feed0 feed1 left0 left1 gave written0 written1 begun new ended.high
       (OutFailed ended.quiet old_faults.out new_faults.out) (Err stop)
   pub traced_all : Traced tracing begun.asked new.asked traced0 traced1 (ended.quiet ≡ true)
-  pub cause : StopCause {T = Bool} old_faults new_faults (Err stop)
+  pub cause : StopCause {T = Bool} (ServesAlone base.public) old_faults new_faults (Err stop)
   pub silent : Silenced ended.quiet old_faults new_faults
   pub ending : ended.ending ≡ Plain (Ran (Err stop))
   pub kept : keeper1 ≡ keeper0
@@ -212,7 +213,7 @@ pub record RanUnkeyed (config : Config) (tracing : Bool) (ended : KeptEnded) (ol
       ending [] ⊥
   pub ends : EndsUnkeyed ending shown.taken
   pub unanswered : shown.story.answers ≡ []
-  pub cause : EndingCause ending old.faults new.faults
+  pub cause : EndingCause (Unit {0}) ending old.faults new.faults
   pub loud : ended.quiet ≡ false
   pub silent : Silenced false old.faults new.faults
   pub traced : new.traced ≡ old.traced
@@ -225,7 +226,7 @@ pub record RanUnbegun (config : Config) (tracing : Bool) (ended : KeptEnded) (ol
   pub taken : List ℕ
   pub given : Consumes old.left new.left taken
   pub within : length taken ≤ config.max_input
-  pub prompt : Prompt taken [] new.gave
+  pub prompt : Prompt 1 taken [] new.gave
   pub secret : List ℕ
   pub keyed : secret_of (first_line taken) ≡ Some secret
   pub unserved : EndsUnserved config secret tracing ended old.store new.store
@@ -258,7 +259,8 @@ pub record RanStopped (config : Config) (tracing : Bool) (ended : KeptEnded) (ol
   pub keyed : secret_of (first_line shown.taken) ≡ Some begun.secret
   pub traced_all : Traced tracing begun.opened.asked new.store.asked begun.traced new.traced
       (ended.quiet ≡ true)
-  pub cause : EndingCause (Ran (Err stop)) old.faults new.faults
+  pub cause : EndingCause (ServesAlone begun.base.public) (Ran (Err stop))
+      old.faults new.faults
   pub silent : Silenced ended.quiet old.faults new.faults
   pub ending : ended.ending ≡ Plain (Ran (Err stop))
   pub kept : keeper1 ≡ begun.in_use

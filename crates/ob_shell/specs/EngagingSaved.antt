@@ -29,7 +29,7 @@ use Rattle.ob_seal.specs.Sealed.{keys_salted}
 use Rattle.ob_shell.specs.Engaging.{IsHushed, KeptConcludedBy, RanUnkeyed}
 use Rattle.ob_shell.specs.Feeding.{Fetch}
 use Rattle.ob_shell.specs.Leaving.{BeginsToSave}
-use Rattle.ob_shell.specs.Running.{OutFailed, Silenced, StopCause}
+use Rattle.ob_shell.specs.Running.{OutFailed, ServesAlone, Silenced, StopCause}
 use Rattle.ob_shell.specs.Standing.{StandsOn}
 use Rattle.ob_shell.specs.Steps.{IsReady, machine_of}
 use Rattle.ob_shell.specs.Tallies.{flagged}
@@ -110,6 +110,7 @@ pub record HasSaved {R : Type 0} (state : R → RevState) (config : Config) (sec
 pub record FindsSaved {R : Type 0} (state : R → RevState) (config : Config) (secret : List ℕ)
     (result : Result (Engine R) KeptEnding) (old new : StoreState) (keeper0 keeper1 : KeeperState)
     : Type 0 where
+  pub log : new.let_go ≡ old.let_go
   pub ok : IfOk result (λ e. HasSaved state config secret e old new keeper0 keeper1)
   pub err : IfErr result (λ ending. (fault0 fault1 : ℕ)
       → NotBegunSaved config secret ending old new fault0 fault1 keeper0 keeper1)
@@ -152,7 +153,7 @@ pub record ServesSaved {R : Type 0} (state : R → RevState) (base : Base) (keys
       feed0 feed1 left0 left1 gave written0 written1 begun new ended.high
       (OutFailed ended.quiet old_faults.out new_faults.out) result
   pub traced_all : Traced tracing begun.asked new.asked traced0 traced1 (ended.quiet ≡ true)
-  pub cause : StopCause old_faults new_faults result
+  pub cause : StopCause (ServesAlone base.public) old_faults new_faults result
   pub silent : Silenced ended.quiet old_faults new_faults
   pub ending : ended.ending ≡ Plain (Ran (flagged result))
   pub counted : IfOk result (λ tally. ended.tally ≡ tally)
@@ -167,7 +168,7 @@ pub record RanUnsaved (config : Config) (tracing : Bool) (ended : KeptEnded) (ol
   pub taken : List ℕ
   pub given : Consumes old.left new.left taken
   pub within : length taken ≤ config.max_input
-  pub prompt : Prompt taken [] new.gave
+  pub prompt : Prompt 1 taken [] new.gave
   pub secret : List ℕ
   pub keyed : secret_of (first_line taken) ≡ Some secret
   pub unserved : EndsUnsaved config secret tracing ended old.store new.store
@@ -197,7 +198,7 @@ pub record RanSession (config : Config) (tracing : Bool) (ended : KeptEnded) (ol
   pub keyed : secret_of (first_line shown.taken) ≡ Some secret
   pub traced_all : Traced tracing opened.asked new.store.asked traced new.traced
       (ended.quiet ≡ true)
-  pub cause : EndingCause (Ran result) old.faults new.faults
+  pub cause : EndingCause (ServesAlone base.public) (Ran result) old.faults new.faults
   pub silent : Silenced ended.quiet old.faults new.faults
   pub ending : ended.ending ≡ Plain (Ran result)
   pub keeper : CountsKeeper (Ran result) begun keeper1

@@ -1,5 +1,5 @@
 -- What rests for the mark that a keeper holds while statements are served behind which tables are saved.
-use Rattle.std.specs.Prelude.{ℕ, ◌≡◌, ◌⊎◌, ◌<◌, true, List, Option, Some}
+use Rattle.std.specs.Prelude.{ℕ, ◌≡◌, ◌⊎◌, ◌<◌, true, List, [], Option, Some}
 use Rattle.ob_base.specs.declared.config.Public.{Public}
 use Rattle.ob_base.specs.declared.mark.Mark.{Mark}
 use Rattle.ob_headline.specs.Bases.{Base, FromEach}
@@ -31,6 +31,7 @@ pub record RestsOn (secret : List ℕ) (mark : Mark) (p : Public) (kept : ℕ �
 -- and for the mark that is held its tables rest
 pub record BeginsToSave {R : Type 0} (state : R → RevState) (secret salt : List ℕ) (base : Base)
     (keys : KeySet) (m : Machine R) : Type 0 where
+  pub free : m.owed ≡ []
   pub agrees : Agrees state m.engine m.store
   pub saves : (public_of m.engine).save ≡ true
   pub public : public_of m.engine ≡ base.public

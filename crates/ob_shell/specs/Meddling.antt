@@ -1,12 +1,12 @@
 -- What a run over a store that others change promises, by its words.
-use Rattle.std.specs.Prelude.{ℕ, ◌≡◌, ◌≢◌, ◌≤◌, ◌++◌, true, List, Option, length, IsTrue}
+use Rattle.std.specs.Prelude.{ℕ, ◌≡◌, ◌≢◌, ◌≤◌, ◌++◌, true, List, Option, length, IsTrue, None}
 use Rattle.std.specs.List.{list_all}
 use Rattle.clap.specs.Words.{Text}
 use Rattle.ob_base.specs.declared.config.Config.{Config}
 use Rattle.ob_headline.specs.Bases.{fresh}
 use Rattle.ob_headline.specs.Disturbed.{Until, meant_trace}
 use Rattle.ob_headline.specs.Endings.{last_line, status_of}
-use Rattle.ob_headline.specs.Failures.{RisesBy, failures}
+use Rattle.ob_headline.specs.Failures.{RisesBy, cut_off, failures}
 use Rattle.ob_headline.specs.Headline.{Headline}
 use Rattle.ob_headline.specs.Settings.{MeddleParses, ParsesChanges, settings_of}
 use Rattle.ob_headline.specs.Usage.{is_traced, meddle_usage}
@@ -18,8 +18,8 @@ use Rattle.ob_meddle.specs.declared.meddle.Meddle.{Meddle}
 use Rattle.ob_meddle.specs.declared.store.MeddledStore.{MeddledStore}
 use Rattle.ob_shell.specs.Closed.{LineWritten, refused_by}
 use Rattle.ob_shell.specs.Top.{IsFresh}
-use Rattle.ob_shell.specs.declared.words.WordsErr.{WordsErr}
-use Rattle.ob_shell.specs.declared.words.WordsErr.TheVariants as Words
+use Rattle.ob_words.specs.declared.words.WordsErr.{WordsErr}
+use Rattle.ob_words.specs.declared.words.WordsErr.TheVariants as Words
 use Rattle.ob_store.specs.Calls.{IsSteady}
 use Rattle.ob_store.specs.State.{StoreState}
 
@@ -74,8 +74,12 @@ pub record Meddled (words : List Text) (old : StoreState → Outside) (new : Out
   -- where accesses fail and no block is changed
   pub unchanged : IsTrue (list_all (λ m. is_fail m.act) (list_of store))
       → IsHonest start new.store × (report.status ≢ 4)
-  -- at most as many answers are that the store failed as accesses failed, and a block was changed where one ends the run
-  pub failed : RisesBy (failures headline.story.answers) 0
+  -- at most as many statements were cut off as accesses failed, and where none are served together at most as many answers are
+  -- that the store failed; and a block was changed where one ends the run
+  pub cut : RisesBy (cut_off headline.story.seen) 0
+      (failed_among (list_of store) (length new.store.asked))
+  pub failed : (fresh (settings_of meddle_usage words)).public.batch ≡ None
+      → RisesBy (failures headline.story.answers) 0
       (failed_among (list_of store) (length new.store.asked))
   pub tampered : report.status ≡ 4
       → has_acted (list_of store) (length new.store.asked) ≡ true

@@ -1,23 +1,30 @@
 -- What a session did until its input ended or it stopped, by the bytes that its source gave.
-use Rattle.std.specs.Prelude.{ℕ, ◌≡◌, ◌+◌, ◌≤◌, ◌<◌, ◌⊎◌, Bool, true, false, List, [], ◌++◌, length, Option, Result, Ok, Err}
-use Rattle.std.specs.Io.KnownBytes.{Appends, Consumes, IsAtEnd}
+use Rattle.std.specs.Prelude.{ℕ, ◌≡◌, ◌+◌, ◌≤◌, ◌<◌, ◌⊎◌, Bool, true, false, List, [], ◌++◌, length, Option, None, Result, Ok, Err}
+use Rattle.std.specs.Io.KnownBytes.{Consumes, IsAtEnd}
 use Rattle.ob_base.specs.Counts.{Rises}
+use Rattle.ob_base.specs.declared.config.Public.{Public}
 use Rattle.ob_base.specs.declared.refusal.Stop.{Stop}
 use Rattle.ob_base.specs.declared.refusal.Stop.TheVariants.{Tampered, SourceFault, SinkFault, NoMemory, InputLimit, StoreFault, StashFull, KeeperFault}
-use Rattle.ob_tables.specs.Agreeing.{high_of}
+use Rattle.ob_mean.specs.Batches.{Gathering, batch_most}
+use Rattle.ob_tables.specs.Agreeing.{high_of, public_of}
 use Rattle.ob_tables.specs.Stops.{session_stop}
 use Rattle.ob_tables.specs.declared.engine.Engine.{Engine}
 use Rattle.ob_tables.specs.declared.stop.RunStop.{RunStop}
 use Rattle.ob_tables.specs.declared.stop.RunStop.TheVariants as Runs
 use Rattle.ob_gen.specs.declared.tally.Tally.{Tally}
 use Rattle.ob_headline.specs.Texts.{is_over, rest_of, texts_of, texts_in}
-use Rattle.ob_headline.specs.Words.{Answer, Begins, Faults, NoneRose, SinksRose, Took, any_refused, before_read, printed}
+use Rattle.ob_gen.specs.Tally.{empty_tally}
+use Rattle.ob_headline.specs.Batches.{AnsweredBut}
+use Rattle.ob_headline.specs.Status.{StaysAlone}
+use Rattle.ob_headline.specs.Words.{Answer, Faults, NoneRose, SinksRose, Took, any_refused, before_read, printed}
 use Rattle.ob_print.specs.Cuts.{Outputs}
 use Rattle.ob_reopen.specs.Keepers.{KeeperState}
 use Rattle.ob_shell.specs.Feeding.{Fetch, Fed}
-use Rattle.ob_shell.specs.Steps.{Machine, Steps, PartlyAt, IsUndone, machine_of}
-use Rattle.ob_shell.specs.Tallies.{TallyIs, flagged, tally_of}
+use Rattle.ob_shell.specs.Steps.{Follow, Machine, Owed, Steps, PartlyAt, IsUndone, machine_of, standing}
+use Rattle.ob_shell.specs.Tallies.{TallyIs, flagged}
 use Rattle.ob_shell.specs.Traces.{Traces}
+use Rattle.ob_shell.specs.Waiting.{IsFree, ServedSo}
+use Rattle.ob_sql.specs.declared.stmt.Stmt.{Stmt}
 use Rattle.ob_shell.specs.declared.session.Halted.{Halted}
 use Rattle.ob_shell.specs.declared.session.TextHalted.{TextHalted}
 use Rattle.ob_store.specs.State.{StoreState}
@@ -65,35 +72,38 @@ abbrev pub OutFailed : (quiet : Bool) → (old new : ℕ) → Type 0
 OutFailed quiet old new = (quiet ≡ true) × Rises old new
 
 -- when each stop comes: only where that count rose; those of the sinks may have risen behind a stop by a block, for want of
--- memory, by the store, for a full stash or by the keeper
-abbrev pub StopCause : {T : Type 0} (old new : Faults) → Result T Stop → Type 0
-StopCause old new (Ok x) = NoneRose old new
-StopCause old new (Err (Tampered region place)) = (new.source ≡ old.source)
+-- memory, by the store, for a full stash or by the keeper; where INSERTs may wait to be served together while more is read,
+-- the source may have failed before one of them was stopped
+abbrev pub StopCause : {T : Type 0} (Alone : Type 0) (old new : Faults) → Result T Stop → Type 0
+StopCause Alone old new (Ok x) = NoneRose old new
+StopCause Alone old new (Err (Tampered region place)) = StaysAlone Alone old.source new.source
     × (old.out ≤ new.out) × (old.trace ≤ new.trace)
-StopCause old new (Err SinkFault) = (new.source ≡ old.source) × SinksRose old new
-StopCause old new (Err NoMemory) = (new.source ≡ old.source) × (old.out ≤ new.out)
-    × (old.trace ≤ new.trace)
-StopCause old new (Err SourceFault) = Rises old.source new.source × (new.out ≡ old.out)
+StopCause Alone old new (Err SinkFault) = StaysAlone Alone old.source new.source × SinksRose old new
+StopCause Alone old new (Err NoMemory) = StaysAlone Alone old.source new.source
+    × (old.out ≤ new.out) × (old.trace ≤ new.trace)
+StopCause Alone old new (Err SourceFault) = Rises old.source new.source × (new.out ≡ old.out)
     × (new.trace ≡ old.trace)
-StopCause old new (Err InputLimit) = NoneRose old new
-StopCause old new (Err StoreFault) = (new.source ≡ old.source) × (old.out ≤ new.out)
-    × (old.trace ≤ new.trace)
-StopCause old new (Err StashFull) = (new.source ≡ old.source) × (old.out ≤ new.out)
-    × (old.trace ≤ new.trace)
-StopCause old new (Err KeeperFault) = (new.source ≡ old.source) × (old.out ≤ new.out)
-    × (old.trace ≤ new.trace)
+StopCause Alone old new (Err InputLimit) = NoneRose old new
+StopCause Alone old new (Err StoreFault) = StaysAlone Alone old.source new.source
+    × (old.out ≤ new.out) × (old.trace ≤ new.trace)
+StopCause Alone old new (Err StashFull) = StaysAlone Alone old.source new.source
+    × (old.out ≤ new.out) × (old.trace ≤ new.trace)
+StopCause Alone old new (Err KeeperFault) = StaysAlone Alone old.source new.source
+    × (old.out ≤ new.out) × (old.trace ≤ new.trace)
 
--- what was done while no stop came
+-- INSERTs aren't served together
+abbrev pub ServesAlone : Public → Type 0
+ServesAlone p = p.batch ≡ None
+
+-- what was done while no stop came: these bytes were passed on, and their texts served, but for those that wait
 pub record SoFar {R : Type 0} (state : R → RevState) (feed0 feed1 : Fetch)
-    (left0 left1 written0 written1 : Option (List ℕ)) (pending : List ℕ) (tally : Tally)
-    (m0 m1 : Machine R) : Type 0 where
+    (left0 left1 written0 written1 : Option (List ℕ)) (pending : List ℕ) (batch : List Stmt)
+    (tally : Tally) (m0 m1 : Machine R) : Type 0 where
   pub passed : List ℕ
-  pub answers : List Answer
   pub fed : Fed feed0 feed1 left0 left1 passed
   pub pending_is : pending ≡ rest_of [] passed
-  pub steps : Steps state m0 m1 (texts_of [] passed) answers
-  pub appends : Appends written0 written1 (printed answers)
-  pub counted : tally ≡ tally_of answers
+  pub so : ServedSo state written0 written1 (texts_of [] passed) batch
+      (IsFree (public_of m1.engine) batch) empty_tally tally m0 m1
 
 -- by how the session ended: how far the texts were served, and where the limits stood
 abbrev pub EndsBy : (feed1 : Fetch) (ended : Bool) (bytes : List ℕ) (more : List (List ℕ))
@@ -127,7 +137,8 @@ FlagIs answers (Ok refused) = refused ≡ any_refused answers
 FlagIs answers (Err stop) = Unit {0}
 
 -- what a session did: the sink took the answers of all texts that were served, and of the last part all or, where its end
--- was lost, a first part; and the texts that were whole before the source's last read, which gave so many, were served
+-- was lost, a first part; and the texts that were whole before the source's last read, which gave so many, were served, but for
+-- those that wait to be served together
 pub record SessionRan {R : Type 0} (state : R → RevState) (tracing : Bool) (feed0 feed1 : Fetch)
     (left0 left1 : Option (List ℕ)) (gave : ℕ)
     (written0 written1 traced0 traced1 : Option (List ℕ))
@@ -141,12 +152,17 @@ pub record SessionRan {R : Type 0} (state : R → RevState) (tracing : Bool) (fe
   pub served : List (List ℕ)
   pub more : List (List ℕ)
   pub texts : texts_in ended (feed0.unread ++ piece) ≡ served ++ more
-  pub prompt : Begins (texts_in false (before_read gave (feed0.unread ++ piece))) served
+  pub prompt : AnsweredBut (batch_most (public_of m0.engine))
+      (texts_in false (before_read gave (feed0.unread ++ piece))) served
   pub middle : Machine R
   pub answers : List Answer
   pub steps : Steps state m0 middle served answers
   pub part : List ℕ
-  pub last : LastPart state middle m2 more part (flagged result)
+  -- what was carried out of those that were not answered
+  pub owed : List Owed
+  pub gathered : Option Gathering
+  pub follow : Follow more owed
+  pub last : LastPart state middle (standing m2 owed gathered) more part (flagged result)
   pub cut : Outputs written0 written1 Lost (printed answers ++ part)
   pub whole : Took written0 written1 (printed answers)
   pub traced : Traces tracing traced0 traced1 m0.store.asked middle.store.asked

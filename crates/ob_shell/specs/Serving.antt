@@ -1,33 +1,178 @@
 -- What becomes of texts that are served.
-use Rattle.std.specs.Prelude.{List, ℕ, Option, Result, IfErr, IfOk, OnOk}
-use Rattle.ob_headline.specs.Words.{Faults}
-use Rattle.ob_shell.specs.Running.{OutFailed, Silenced, StopCause, StoppedBy, halted_of, is_quiet, stop_of}
-use Rattle.ob_shell.specs.Steps.{IsReady, Machine, StopsIn}
+use Rattle.std.specs.Prelude.{◌≡◌, ◌+◌, List, [], ◌∷◌, ◌++◌, length, ⊤, ℕ, Bool, true, false, Option, Result, Ok, Err, IfErr, IfOk, OnOk, OnErr}
+use Rattle.std.specs.Io.KnownBytes.{Consumes, IsAtEnd}
+use Rattle.ob_base.specs.declared.refusal.Stop.{Stop}
+use Rattle.ob_base.specs.declared.refusal.Stop.TheVariants.{InputLimit, NoMemory, SourceFault}
+use Rattle.ob_gen.specs.Tally.{empty_tally}
+use Rattle.ob_gen.specs.declared.tally.Tally.{Tally}
+use Rattle.ob_headline.specs.Texts.{is_over, rest_after, texts_at, texts_in}
+use Rattle.ob_headline.specs.Words.{Begins, Faults, before_read}
+use Rattle.ob_mean.specs.Batches.{Gathering}
+use Rattle.ob_shell.specs.Feeding.{Fetch}
+use Rattle.ob_shell.specs.Running.{EndsBy, IsQuiet, OutFailed, SessionRan, Silenced, StopCause, halted_of, is_quiet, session_halted, stop_of}
+use Rattle.ob_shell.specs.Steps.{IsReady, Machine, StopsIn, asked_of, standing}
+use Rattle.ob_shell.specs.Traces.{Traced, TracedAll}
+use Rattle.ob_shell.specs.Waiting.{AreGathered, AreSpelt, BreaksIn, ComesFree, IsClosed, ServedSo}
+use Rattle.ob_shell.specs.declared.session.Break.{Break}
+use Rattle.ob_shell.specs.declared.session.Break.TheVariants.{Served, Unread}
 use Rattle.ob_shell.specs.declared.session.Halted.{Halted}
 use Rattle.ob_shell.specs.declared.session.TextHalted.{TextHalted}
+use Rattle.ob_sql.specs.declared.stmt.Stmt.{Stmt}
+use Rattle.ob_tables.specs.Agreeing.{public_of}
+use Rattle.ob_tables.specs.Stops.{session_stop}
 use Rattle.ob_vault.specs.State.{RevState}
 
--- this was done of these texts, and the engine may be given the next one, behind which this saves tables where they are to be
--- saved; or a stop came within the first of them, which has its cause
+-- this was done of these texts, where they may come behind what is gathered, and the engine may be given the next one, behind
+-- which this saves tables where they are to be saved; or a stop came within the first of them, which has its cause
 pub record ServesTexts {R T : Type 0} (state : R → RevState) (Saves : Type 0)
-    (texts : List (List ℕ))
+    (May : Option Gathering → Type 0) (texts : List (List ℕ))
     (Done : T → (m0 m1 : Machine R) → Type 0) (written0 written1 : Option (List ℕ))
     (old new : Faults) (m0 m1 : Machine R) (result : Result T TextHalted) : Type 0 where
   pub ready : OnOk result (IsReady state Saves m1)
-  pub done : IfOk result (λ x. Done x m0 m1)
-  pub stopped : IfErr result (λ halted. StopsIn state written0 written1
-      (OutFailed halted.quiet old.out new.out) texts halted.stop m0 m1)
-  pub cause : StopCause old new (stop_of (halted_of result))
+  pub done : IfOk result (λ x. (gathered : Option Gathering) → May gathered
+      → Done x (standing m0 [] gathered) m1)
+  pub stopped : IfErr result (λ halted. (gathered : Option Gathering) → May gathered
+      → StopsIn state written0 written1 (OutFailed halted.quiet old.out new.out) texts
+      halted.stop (standing m0 [] gathered) m1)
+  pub cause : StopCause (Unit {0}) old new (stop_of (halted_of result))
   pub quiet : Silenced (is_quiet (halted_of result)) old new
 
--- the same of the texts that a byte ends: it may bring a limit, too, where this one was reached, but no fault of the source
-pub record ServesByte {R T : Type 0} (state : R → RevState) (Saves : Type 0)
-    (texts : List (List ℕ))
-    (Done : T → (m0 m1 : Machine R) → Type 0) (Reached : Type 0) (written0 written1 : Option (List ℕ))
-    (old new : Faults) (m0 m1 : Machine R) (result : Result T Halted) : Type 0 where
+-- what was counted, until a stop nothing more
+abbrev pub counted_by : {E : Type 0} → Tally → Result Tally E → Tally
+counted_by tally (Ok counted) = counted
+counted_by tally (Err e) = tally
+
+-- what became of the texts that waited, which these statements spell, and of those behind them, from what is gathered then:
+-- the first were answered, and the others wait; or a stop came
+pub record TakesTexts {R T : Type 0} (state : R → RevState) (Saves : Type 0) (tracing : Bool)
+    (May : Option Gathering → Type 0) (Then : (old new : Option Gathering) → Type 0)
+    (batch0 batch1 : List Stmt) (texts : List (List ℕ)) (tally0 tally1 : Tally)
+    (written0 written1 traced0 traced1 : Option (List ℕ)) (old new : Faults)
+    (m0 m1 : Machine R) (result : Result T TextHalted) : Type 0 where
   pub ready : OnOk result (IsReady state Saves m1)
-  pub done : IfOk result (λ x. Done x m0 m1)
-  pub stopped : IfErr result (λ halted. StoppedBy (λ run. StopsIn state written0 written1
-      (OutFailed halted.quiet old.out new.out) texts run m0 m1) ⊥ Reached halted.stop)
-  pub cause : StopCause old new (stop_of result)
-  pub quiet : Silenced (is_quiet result) old new
+  pub waits : OnOk result (AreGathered (public_of m1.engine) (asked_of m1) batch1)
+  pub done : OnOk result ((gathered : Option Gathering) (held : List (List ℕ)) → May gathered
+      → AreSpelt held batch0 → ServedSo state written0 written1 (held ++ texts) batch1
+      (Then gathered) tally0 tally1 (standing m0 [] gathered) m1)
+  pub stopped : IfErr result (λ halted. (gathered : Option Gathering) (held : List (List ℕ))
+      → May gathered → AreSpelt held batch0
+      → BreaksIn state tracing written0 written1 traced0 traced1
+      (OutFailed halted.quiet old.out new.out) (held ++ texts) halted.stop
+      (standing m0 [] gathered) m1)
+  pub traced : OnOk result (TracedAll tracing m0.store.asked m1.store.asked traced0 traced1)
+  pub traced_stop : OnErr result (Traced tracing m0.store.asked m1.store.asked traced0 traced1
+      (IsQuiet (halted_of result)))
+  pub cause : StopCause (Unit {0}) old new (stop_of (halted_of result))
+  pub quiet : Silenced (is_quiet (halted_of result)) old new
+
+-- a batch was served: each of its texts was answered, and nothing else goes into it; or a stop came
+abbrev pub ServesBatch : {R : Type 0} (state : R → RevState) (Saves : Type 0) (tracing : Bool)
+    (first : Stmt) (rest : List Stmt) (tally : Tally)
+    (written0 written1 traced0 traced1 : Option (List ℕ)) (old new : Faults)
+    (m0 m1 : Machine R) → Result Tally TextHalted → Type 0
+ServesBatch state Saves tracing first rest tally w0 w1 t0 t1 old new m0 m1 result =
+    TakesTexts state Saves tracing (ComesFree (public_of m0.engine) (first ∷ rest))
+    (IsClosed (public_of m1.engine) (first ∷ rest)) (first ∷ rest) [] [] tally
+    (counted_by tally result) w0 w1 t0 t1 old new m0 m1 result
+
+-- the same where a stop may leave what comes next unread, for one of these causes: then no text came behind those that waited
+abbrev pub TakesMore : {R T : Type 0} (state : R → RevState) (Saves : Type 0) (tracing : Bool)
+    (May : Option Gathering → Type 0) (Then : (old new : Option Gathering) → Type 0)
+    (batch0 batch1 : List Stmt) (texts : List (List ℕ)) (Why : Stop → Type 0)
+    (tally0 tally1 : Tally)
+    (written0 written1 traced0 traced1 : Option (List ℕ)) (old new : Faults)
+    (m0 m1 : Machine R) → Result T Break → Type 0
+TakesMore state Saves tracing May Then batch0 batch1 texts Why tally0 tally1 w0 w1 t0 t1 old new
+    m0 m1 (Ok x) = TakesTexts state Saves tracing May Then batch0 batch1 texts tally0 tally1
+    w0 w1 t0 t1 old new m0 m1 (Ok x)
+TakesMore {T = T} state Saves tracing May Then batch0 batch1 texts Why tally0 tally1 w0 w1 t0 t1
+    old new m0 m1 (Err (Served halted)) = TakesTexts {T = T} state Saves tracing May Then
+    batch0 batch1 texts tally0 tally1 w0 w1 t0 t1 old new m0 m1 (Err halted)
+TakesMore state Saves tracing May Then batch0 batch1 texts Why tally0 tally1 w0 w1 t0 t1 old new
+    m0 m1 (Err (Unread stop)) = TakesTexts {T = Unit {0}} state Saves tracing May
+    (λ old new. ComesFree (public_of m1.engine) batch1 new) batch0 batch1 [] tally0 tally1 w0 w1 t0 t1 old new m0 m1 (Ok tt) × Why stop
+
+-- memory is wanting for a text
+abbrev pub WantsRoom : Stop → Type 0
+WantsRoom stop = stop ≡ NoMemory
+
+-- a byte is not taken for want of memory, or since a limit was reached
+abbrev pub IsNotTaken : (pending : List ℕ) (b : ℕ) → Stop → Type 0
+IsNotTaken pending b NoMemory = Unit {0}
+IsNotTaken pending b InputLimit =
+    (texts_at pending b ≡ []) × (is_over (rest_after pending b) ≡ true)
+IsNotTaken pending b _ = ⊥
+
+-- what a session goes on from: an engine that may be given the next statement, INSERTs that wait for more or to be served, and
+-- a digest that took what was asked
+pub record StandsReady {R : Type 0} (state : R → RevState) (Saves Took : Type 0)
+    (batch : List Stmt) (m : Machine R) : Type 0 where
+  pub ready : IsReady state Saves m
+  pub waits : AreGathered (public_of m.engine) (asked_of m) batch
+  pub took : Took
+
+-- ---- until no more is read
+-- how the reading ended: at the end of the input, or by its source, a limit or want of memory
+abbrev pub EndsReading : (feed1 : Fetch) (ended : Bool) (bytes : List ℕ) (more : List (List ℕ))
+    → Result (Unit {0}) Stop → Type 0
+EndsReading feed1 ended bytes more (Ok done) = EndsBy feed1 ended bytes more [] (Ok false)
+EndsReading feed1 ended bytes more (Err NoMemory) = Unit {0}
+EndsReading feed1 ended bytes more (Err SourceFault) =
+    EndsBy feed1 ended bytes more [] (Err SourceFault)
+EndsReading feed1 ended bytes more (Err InputLimit) =
+    EndsBy feed1 ended bytes more [] (Err InputLimit)
+EndsReading feed1 ended bytes more (Err _) = ⊥
+
+-- what was read, and of its texts served but for those that wait, until then; those that were whole before the source's last read are among these texts
+pub record HasRead {R : Type 0} (state : R → RevState) (tracing : Bool) (feed0 feed1 : Fetch)
+    (left0 left1 : Option (List ℕ)) (gave : ℕ)
+    (written0 written1 traced0 traced1 : Option (List ℕ)) (batch : List Stmt) (tally : Tally)
+    (m0 m1 : Machine R) (how : Result (Unit {0}) Stop) : Type 0 where
+  pub piece : List ℕ
+  pub consumed : Consumes left0 left1 piece
+  pub taken : feed1.taken ≡ feed0.taken + length piece
+  pub limit : feed1.limit ≡ feed0.limit
+  pub ended : Bool
+  pub at_end : ended ≡ true → IsAtEnd left1
+  pub texts : List (List ℕ)
+  pub more : List (List ℕ)
+  pub parts : texts_in ended (feed0.unread ++ piece) ≡ texts ++ more
+  pub before : Begins (texts_in false (before_read gave (feed0.unread ++ piece))) texts
+  pub so : ServedSo state written0 written1 texts batch
+      (ComesFree (public_of m1.engine) batch) empty_tally tally m0 m1
+  pub traced : TracedAll tracing m0.store.asked m1.store.asked traced0 traced1
+  pub ends : EndsReading feed1 ended (feed0.unread ++ piece) more how
+
+-- by how it ended: or a text that was served stopped it
+abbrev pub ReadsTexts : {R T : Type 0} (state : R → RevState) (tracing : Bool)
+    (feed0 feed1 : Fetch) (left0 left1 : Option (List ℕ)) (gave : ℕ)
+    (written0 written1 traced0 traced1 : Option (List ℕ)) (batch : List Stmt) (tally : Tally)
+    (m0 m1 : Machine R) (out0 out1 : ℕ) → Result T Break → Type 0
+ReadsTexts state tracing f0 f1 l0 l1 gave w0 w1 t0 t1 batch tally m0 m1 out0 out1 (Ok x) =
+    HasRead state tracing f0 f1 l0 l1 gave w0 w1 t0 t1 batch tally m0 m1 (Ok tt)
+ReadsTexts state tracing f0 f1 l0 l1 gave w0 w1 t0 t1 batch tally m0 m1 out0 out1
+    (Err (Served halted)) = SessionRan state tracing f0 f1 l0 l1 gave w0 w1 t0 t1 m0 m1
+    (OutFailed halted.quiet out0 out1) (Err (session_stop halted.stop))
+ReadsTexts state tracing f0 f1 l0 l1 gave w0 w1 t0 t1 batch tally m0 m1 out0 out1
+    (Err (Unread stop)) =
+    HasRead state tracing f0 f1 l0 l1 gave w0 w1 t0 t1 batch tally m0 m1 (Err stop)
+
+-- so a session ends where none that waited stopped it
+abbrev pub ended_with : Result (Unit {0}) Stop → Tally → Result Tally Stop
+ended_with (Ok done) tally = Ok tally
+ended_with (Err stop) tally = Err stop
+
+-- no text that was served stopped it
+abbrev pub UnlessServed : {T : Type 0} → Result T Break → Type 0 → Type 0
+UnlessServed (Ok x) P = P
+UnlessServed (Err (Served halted)) P = ⊤
+UnlessServed (Err (Unread stop)) P = P
+
+-- the stop of a text, or that of the reading, behind which a line may be written
+abbrev pub break_halted : Break → Halted
+break_halted (Served halted) = session_halted halted
+break_halted (Unread stop) = record { stop = stop; quiet = false }
+
+abbrev pub broken_of : {T : Type 0} → Result T Break → Result T Halted
+broken_of (Ok x) = Ok x
+broken_of (Err broken) = Err (break_halted broken)

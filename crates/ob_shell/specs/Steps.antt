@@ -1,16 +1,23 @@
 -- What texts do to an engine, its store and the keeper behind it, one after the other, and what is printed of them.
-use Rattle.std.specs.Prelude.{ℕ, Bool, ◌≡◌, ◌⊎◌, ⊤, true, false, List, [], ◌∷◌, ◌++◌, Option, None, Result, Ok, Err}
+use Rattle.std.specs.Prelude.{ℕ, Bool, ◌≡◌, ◌⊎◌, ◌+◌, ◌<◌, ⊤, true, false, List, [], ◌∷◌, ◌++◌, length, map, Option, None, Some, Result, Ok, Err}
+use Rattle.std.specs.Option.{option_map_or}
 use Rattle.std.specs.Io.KnownBytes.{Appends}
 use Rattle.ob_base.specs.Events.{Event}
+use Rattle.ob_base.specs.Stored.{headings, headings_of}
 use Rattle.ob_base.specs.declared.config.Plan.{Plan}
+use Rattle.ob_base.specs.declared.config.Public.{Public}
+use Rattle.ob_base.specs.declared.refusal.Refusal.{Refusal}
 use Rattle.ob_base.specs.declared.refusal.Refusal.TheVariants.{Syntax}
+use Rattle.ob_base.specs.declared.seen.End.{End}
+use Rattle.ob_base.specs.declared.seen.End.TheVariants.{Static, Whole, Joined}
 use Rattle.ob_tables.specs.Agreeing.{Agrees, AreDraws, count_of, has_ended, indexes_of, public_of, replaced_of, seen_of, world_of}
 use Rattle.ob_tables.specs.Indexed.{FillsStash}
-use Rattle.ob_tables.specs.Running.{RefusedEarly}
-use Rattle.ob_verdict.specs.Outcomes.{refusal_now, Emits, MayEmit, Partly}
+use Rattle.ob_tables.specs.Batch.{IsServedWith}
+use Rattle.ob_tables.specs.Running.{RefusedEarly, is_fault}
+use Rattle.ob_verdict.specs.Outcomes.{by_fault, outcome_of, refusal_now, Emits, MayEmit, Partly}
 use Rattle.ob_tables.specs.Serving.{Means}
 use Rattle.ob_tables.specs.Stops.{session_stop}
-use Rattle.ob_tables.specs.Telling.{ReadsTrue, ReadsTrueUntil, Emitted, answer_labels}
+use Rattle.ob_tables.specs.Telling.{ReadsTrue, ReadsTrueUntil, Represents, Emitted, answer_labels}
 use Rattle.ob_tables.specs.declared.engine.Engine.{Engine}
 use Rattle.ob_verdict.specs.declared.outcome.Outcome.{Outcome}
 use Rattle.ob_verdict.specs.declared.outcome.Outcome.TheVariants.{Refused}
@@ -21,10 +28,13 @@ use Rattle.ob_exec.specs.Saving.{MaySave}
 use Rattle.ob_gen.specs.declared.tally.Tally.{Tally}
 use Rattle.ob_headline.specs.Closing.{closing_line}
 use Rattle.ob_headline.specs.Words.{Answer, printed}
-use Rattle.ob_headline.specs.Statements.{Spells}
+use Rattle.ob_headline.specs.Batches.{AllInsert}
+use Rattle.ob_headline.specs.Statements.{SpellFirst, Spells}
 use Rattle.ob_headline.specs.Meaning.{PrintsUntil}
+use Rattle.ob_mean.specs.Batches.{Gathering, batch_most, gathering_after, goes_into, settle_all}
 use Rattle.ob_mean.specs.Lawful.{Lawful}
-use Rattle.ob_mean.specs.Replay.{Session}
+use Rattle.ob_mean.specs.Replay.{Session, draws_taken, is_access}
+use Rattle.ob_mean.specs.Settle.{settle}
 use Rattle.ob_mean.specs.Verdict.{Draws, Tables, next_draw, verdict}
 use Rattle.ob_print.specs.Cuts.{Outputs}
 use Rattle.ob_print.specs.Rows.{events_text}
@@ -38,14 +48,46 @@ use Rattle.ob_store.specs.State.{StoreState}
 use Rattle.ob_vault.specs.Calls.{Seals}
 use Rattle.ob_vault.specs.State.{RevState}
 
--- an engine, what its store has come to, and what the keeper has that its tables are saved with
+-- an INSERT that was carried out with the one before it, and how it is to be answered
+pub record Owed : Type 0 where
+  pub stmt : Stmt
+  pub outcome : Outcome
+
+abbrev pub statements_of : List Owed → List Stmt
+statements_of owed = map (λ (one : Owed). one.stmt) owed
+
+-- an engine, what its store has come to, and what the keeper has that its tables are saved with; those that come next and were
+-- carried out, and what is gathered
 pub record Machine (R : Type 0) : Type 0 where
   pub engine : Engine R
   pub store : StoreState
   pub keeper : KeeperState
+  pub owed : List Owed
+  pub gathered : Option Gathering
 
+-- nothing else was carried out, and nothing is gathered
 abbrev pub machine_of : {R : Type 0} → Engine R → StoreState → KeeperState → Machine R
-machine_of engine store keeper = record { engine = engine; store = store; keeper = keeper }
+machine_of engine store keeper = record {
+  engine = engine;
+  store = store;
+  keeper = keeper;
+  owed = [];
+  gathered = None;
+}
+
+-- the same one with these carried out, and this gathered
+abbrev pub standing : {R : Type 0} → Machine R → List Owed → Option Gathering → Machine R
+standing m owed gathered = record {
+  engine = m.engine;
+  store = m.store;
+  keeper = m.keeper;
+  owed = owed;
+  gathered = gathered;
+}
+
+-- nothing is asked of its engine, its store and its keeper
+abbrev pub StaysAs : {R : Type 0} → (m0 m1 : Machine R) → Type 0
+StaysAs m0 m1 = m1 ≡ standing m0 m1.owed m1.gathered
 
 -- what is known of a keeper where no tables are saved
 abbrev pub told_nothing : KeeperState
@@ -59,10 +101,12 @@ pub record IsReady {R : Type 0} (state : R → RevState) (Saves : Type 0) (m : M
   pub settled : replaced_of m.engine ≡ None
   pub saves : MaySave Saves m.engine
 
--- the text is no statement: nothing was asked, of the keeper neither
+-- the text is no statement, and ends what is gathered
 pub record Misspelt {R : Type 0} (m0 m1 : Machine R) (text : List ℕ)
     (answer : Answer) : Type 0 where
-  pub same : m1 ≡ m0
+  pub free : m0.owed ≡ []
+  pub owed : m1.owed ≡ []
+  pub gathered : m1.gathered ≡ None
   pub at : ℕ
   pub spells : Spells text (Err at)
   pub refused : answer.outcome ≡ Refused (Syntax at)
@@ -82,9 +126,36 @@ session_of m d tables = record {
   draws = d;
 }
 
--- the engine, which agreed with its store, carried out a statement, whatever it answered
+-- those that come next were answered as they are meant, from these tables on
+abbrev pub AreOwed : Draws → Public → (m : ℕ) → List Owed → Tables → Type 0
+AreOwed d p m [] tables = ⊤
+AreOwed d p m (one ∷ owed) tables =
+    (one.outcome ≡ outcome_of one.stmt (verdict p m tables one.stmt))
+    × AreOwed d p m owed (settle d p m tables one.stmt)
+
+-- the tables of a machine's engine, behind those that come next and were carried out
+abbrev pub tables_behind : {R : Type 0} → Machine R → Draws → Tables → Tables
+tables_behind m d tables =
+    settle_all d (public_of m.engine) (asked_of m) (statements_of m.owed) tables
+
+-- a machine stands at these tables: behind those that come next and were carried out its engine and its store hold what is meant
+pub record Holds {R : Type 0} (state : R → RevState) (m : Machine R) (d : Draws) (tables : Tables)
+    : Type 0 where
+  pub listed : headings tables ≡ headings_of (public_of m.engine).tables
+  pub held : Represents state m.engine m.store (tables_behind m d tables)
+  pub owed : AreOwed d (public_of m.engine) (asked_of m) m.owed tables
+
+-- they are INSERTs into the table of this one, fewer than a batch may have
+pub record GoTogether (p : Public) (stmt : Stmt) (owed : List Owed) : Type 0 where
+  pub few : length owed < batch_most p
+  pub alike : (owed ≡ []) ⊎ ((table : List ℕ) × AllInsert table (stmt ∷ statements_of owed))
+
+-- the engine, which agreed with its store, carried out a statement by itself, and maybe others with it, whatever it answered
 pub record Does {R : Type 0} (state : R → RevState) (m0 m1 : Machine R) (stmt : Stmt)
     (result : Result Outcome RunStop) : Type 0 where
+  pub free : m0.owed ≡ []
+  pub alone : goes_into (public_of m0.engine) m0.gathered (skeleton stmt) ≡ false
+  pub along : GoTogether (public_of m0.engine) stmt m1.owed
   pub agrees : Agrees state m0.engine m0.store
   pub ran : RanWhole state (skeleton stmt) result m0.engine m0.store m1.engine m1.store
   pub early : RefusedEarly (refusal_now (public_of m0.engine) (asked_of m0) stmt) result
@@ -103,11 +174,33 @@ pub record Does {R : Type 0} (state : R → RevState) (m0 m1 : Machine R) (stmt 
   pub seals : (good : ℕ → List ℕ → Bool) → AcceptsRows good (public_of m0.engine).pack
       → AcceptsRows good 1 → ((public_of m0.engine).save ≡ true → AcceptsClosings good)
       → Seals good (world_of state m0.engine m0.store) (world_of state m1.engine m1.store)
-  pub means : Means state stmt result m0.engine m0.store m1.engine m1.store
+  pub means : Means state stmt (statements_of m1.owed) result m0.engine m0.store
+      m1.engine m1.store
   -- where tables are to be saved they are so behind a change, and the keeper holds the mark; else it is as it was
-  pub keeper : KeeperBehind state stmt result m0.engine m0.store m1.engine m1.store
-      m0.keeper m1.keeper
+  pub keeper : KeeperBehind state stmt (statements_of m1.owed) result m0.engine m0.store
+      m1.engine m1.store m0.keeper m1.keeper
   pub counts : CountsKeeper result m0.keeper m1.keeper
+
+-- the numbers that are drawn behind a statement
+abbrev pub draws_behind : {R : Type 0} → (m0 m1 : Machine R) → Stmt → Draws → Draws
+draws_behind m0 m1 stmt d = record d {
+  drawn = d.drawn + draws_taken (public_of m0.engine) (skeleton stmt) (seen_of m1.engine).end;
+}
+
+-- the tables behind it
+abbrev pub settled_by : {R : Type 0} → Machine R → Stmt → Draws → Tables → Tables
+settled_by m stmt d tables = settle d (public_of m.engine) (asked_of m) tables stmt
+
+-- those that were carried out with a statement mean the same by what is public behind it as before it, and were answered so
+pub record Owes {R : Type 0} (m0 m1 : Machine R) (stmt : Stmt) (d : Draws) (tables : Tables)
+    : Type 0 where
+  pub whole : (m1.owed ≡ []) ⊎ ((seen_of m1.engine).end ≡ Whole)
+  pub listed : headings (settled_by m0 stmt d tables) ≡ headings_of (public_of m1.engine).tables
+  pub same : tables_behind m1 (draws_behind m0 m1 stmt d) (settled_by m0 stmt d tables)
+      ≡ settle_all d (public_of m0.engine) (asked_of m0) (statements_of m1.owed)
+      (settled_by m0 stmt d tables)
+  pub answered : AreOwed (draws_behind m0 m1 stmt d) (public_of m1.engine) (asked_of m1) m1.owed
+      (settled_by m0 stmt d tables)
 
 -- the engine answered a statement, and its header and rows were printed before the closing line
 pub record ServedStatement {R : Type 0} (state : R → RevState) (m0 m1 : Machine R) (text : List ℕ)
@@ -121,11 +214,54 @@ pub record ServedStatement {R : Type 0} (state : R → RevState) (m0 m1 : Machin
       → Emitted stmt (public_of m0.engine) (asked_of m0) tables answer.outcome events
   pub printed : answer.bytes ≡ events_text events ++ closing_line answer.outcome
   pub planned : answer.plan ≡ (seen_of m1.engine).plan
+  pub gathered : m1.gathered ≡ gathering_after (public_of m0.engine) (asked_of m0) m0.gathered
+      stmt (seen_of m1.engine).end
+  -- where the store didn't fail
+  pub owes : (tables : Tables) (d : Draws) → AreDraws m0.engine d
+      → ReadsTrue state m0.engine m0.store m1.store tables
+      → by_fault (is_fault answer.outcome) (m1.owed ≡ []) (Owes m0 m1 stmt d tables)
+
+-- ---- one that was carried out with the INSERT before it
+-- whether the store failed that one
+abbrev pub has_failed : Option Gathering → Bool
+has_failed gathered = option_map_or (λ (g : Gathering). g.failed) gathered false
+
+-- nothing is owed where the store failed; else it is the next one
+abbrev pub TakesOwed : (failed : Bool) → Owed → (old new : List Owed) → Type 0
+TakesOwed failed one old new = by_fault failed ((old ≡ []) × (new ≡ [])) (old ≡ one ∷ new)
+
+-- what is seen of it
+abbrev pub end_with : Option Refusal → End
+end_with (Some r) = Static
+end_with None = Joined
+
+-- nothing was asked for it, and its answer is its line
+pub record ServedWith {R : Type 0} (m0 m1 : Machine R) (text : List ℕ) (answer : Answer)
+    : Type 0 where
+  pub stmt : Stmt
+  pub spells : Spells text (Ok stmt)
+  pub joins : goes_into (public_of m0.engine) m0.gathered (skeleton stmt) ≡ true
+  pub along : GoTogether (public_of m0.engine) stmt m1.owed
+  pub unindexed : is_access (public_of m0.engine) (skeleton stmt) ≡ false
+  pub answered : IsServedWith (refusal_now (public_of m0.engine) (asked_of m0) stmt)
+      (has_failed m0.gathered) answer.outcome
+  pub owed : TakesOwed (has_failed m0.gathered)
+      (record { stmt = stmt; outcome = answer.outcome }) m0.owed m1.owed
+  pub gathered : m1.gathered ≡ gathering_after (public_of m0.engine) (asked_of m0) m0.gathered
+      stmt (end_with (refusal_now (public_of m0.engine) (asked_of m0) stmt))
+  pub line : answer.bytes ≡ closing_line answer.outcome
+  pub unplanned : answer.plan ≡ None
+
+-- a text was answered for which nothing was asked
+pub record Unasked {R : Type 0} (m0 m1 : Machine R) (text : List ℕ) (answer : Answer)
+    : Type 0 where
+  pub same : StaysAs m0 m1
+  pub why : Misspelt m0 m1 text answer ⊎ ServedWith m0 m1 text answer
 
 -- from the first machine to the second this text was answered
 pub record Step {R : Type 0} (state : R → RevState) (m0 m1 : Machine R) (text : List ℕ)
     (answer : Answer) : Type 0 where
-  pub done : Misspelt m0 m1 text answer ⊎ ServedStatement state m0 m1 text answer
+  pub done : Unasked m0 m1 text answer ⊎ ServedStatement state m0 m1 text answer
 
 -- from the first machine to the second this text was answered so, of which this plan was seen, and all but the closing
 -- line was written
@@ -163,6 +299,7 @@ Steps {R = R} state m0 m2 (text ∷ texts) answers =
 -- nothing was done
 pub record IsUndone {R : Type 0} (m0 m1 : Machine R) (bytes : List ℕ) : Type 0 where
   pub machine : m1 ≡ m0
+  pub free : m0.owed ≡ []
   pub none : bytes ≡ []
 
 -- it was answered, and a sink failed within its last line or after it
@@ -177,6 +314,12 @@ pub record Finished {R : Type 0} (state : R → RevState) (m0 m1 : Machine R) (t
 pub record Idle {R : Type 0} (m0 m1 : Machine R) (stop : RunStop) (bytes : List ℕ) : Type 0 where
   pub rests : IsUndone m0 m1 bytes
   pub memory : stop ≡ NoMemory
+
+-- the texts behind the first spell those that come next and were carried out
+abbrev pub Follow : (texts : List (List ℕ)) → List Owed → Type 0
+Follow texts [] = ⊤
+Follow [] (one ∷ owed) = ⊥
+Follow (text ∷ texts) (one ∷ owed) = SpellFirst texts (map Ok (statements_of (one ∷ owed)))
 
 -- what a stop left of the first of these texts
 abbrev pub PartlyAt : {R : Type 0} → (R → RevState) → Machine R → Machine R → List (List ℕ)

@@ -6,21 +6,23 @@ use Rattle.ob_base.specs.declared.refusal.Stop.{Stop}
 use Rattle.ob_base.specs.declared.refusal.Stop.TheVariants.{Tampered, SourceFault, SinkFault, NoMemory, InputLimit, StoreFault, StashFull, KeeperFault}
 use Rattle.ob_gen.specs.declared.tally.Tally.{Tally}
 use Rattle.ob_headline.specs.Bases.{Base, FromEach}
+use Rattle.ob_headline.specs.Batches.{AnsweredBut}
 use Rattle.ob_headline.specs.Endings.{last_line, status_of}
 use Rattle.ob_headline.specs.KeyLine.{LineTaken, first_line, secret_of}
 use Rattle.ob_headline.specs.Settings.{limit_of}
 use Rattle.ob_headline.specs.Texts.{texts_in}
 use Rattle.ob_headline.specs.Tracing.{traced}
-use Rattle.ob_headline.specs.Words.{Answer, Begins, Faults, IsHonest, NoneRose, SinksRose, Took, before_read, printed}
-use Rattle.ob_headline.specs.Status.{EndsAtRead, HasSecret, IsCompleted, KeepsLimits, ReadToLimit, ReadUntilFault, ReadWhole, StoreFails}
+use Rattle.ob_headline.specs.Words.{Answer, Faults, IsHonest, NoneRose, SinksRose, Took, before_read, printed}
+use Rattle.ob_headline.specs.Status.{EndsAtRead, HasSecret, IsCompleted, KeepsLimits, ReadToLimit, ReadUntilFault, ReadWhole, StaysAlone, StoreFails}
 use Rattle.ob_headline.specs.declared.ending.Ending.{Ending}
 use Rattle.ob_headline.specs.declared.ending.Ending.TheVariants.{Usage, BadKey, Ran}
 use Rattle.ob_headline.specs.declared.ending.Report.{Report}
+use Rattle.ob_mean.specs.Batches.{batch_most}
 use Rattle.ob_print.specs.Cuts.{Outputs}
 use Rattle.ob_script.specs.Trace.{trace}
 use Rattle.ob_seal.specs.KeySet.{KeySet}
 use Rattle.ob_shell.specs.Feeding.{Fetch}
-use Rattle.ob_shell.specs.Running.{CountsRows, EndsBy, FlagIs, StopCause}
+use Rattle.ob_shell.specs.Running.{CountsRows, EndsBy, FlagIs, ServesAlone, StopCause}
 use Rattle.ob_shell.specs.Tallies.{TallyIs, flagged, tally_of}
 use Rattle.ob_store.specs.State.{StoreState}
 use Rattle.ob_vault.specs.State.{RevState}
@@ -93,7 +95,8 @@ pub record RanAfter {R : Type 0} (state : R → RevState) (tr : TraceSink) (base
   pub at_end : ended ≡ true → IsAtEnd left1
   pub story : Story
   pub texts : texts_in ended (feed0.unread ++ piece) ≡ story.served ++ story.more
-  pub prompt : Begins (texts_in false (before_read gave (feed0.unread ++ piece))) story.served
+  pub prompt : AnsweredBut (batch_most base.public)
+      (texts_in false (before_read gave (feed0.unread ++ piece))) story.served
   pub carried : Carried tr base keys secret store0 store1 high story (Ran (flagged result))
   -- the rows that were open are those of the session's engine; where none was started, there are none
   pub rows : CountsRows state tr.on feed0 feed1 left0 left1 gave written0 written1 tr.old tr.new
@@ -155,24 +158,25 @@ EndingTally (Ran (Ok refused)) answers tally = tally ≡ tally_of answers
 EndingTally (Ran (Err stop)) answers tally = Unit {0}
 
 -- which counts rose, before the last line
-abbrev pub EndingCause : Ending → (old new : Faults) → Type 0
-EndingCause Usage old new = NoneRose old new
-EndingCause BadKey old new = NoneRose old new
-EndingCause (Ran ran) old new = StopCause old new ran
+abbrev pub EndingCause : (Alone : Type 0) → Ending → (old new : Faults) → Type 0
+EndingCause Alone Usage old new = NoneRose old new
+EndingCause Alone BadKey old new = NoneRose old new
+EndingCause Alone (Ran ran) old new = StopCause Alone old new ran
 
 -- which counts rose in the whole run: with a stop before, those of the sinks may have risen at the last lines, too
-abbrev pub StatusCause : Ending → (old new : Faults) → Type 0
-StatusCause Usage old new = new.source ≡ old.source
-StatusCause BadKey old new = new.source ≡ old.source
-StatusCause (Ran (Ok refused)) old new = NoneRose old new
-StatusCause (Ran (Err (Tampered region place))) old new = new.source ≡ old.source
-StatusCause (Ran (Err SourceFault)) old new = Rises old.source new.source
-StatusCause (Ran (Err SinkFault)) old new = (new.source ≡ old.source) × SinksRose old new
-StatusCause (Ran (Err NoMemory)) old new = new.source ≡ old.source
-StatusCause (Ran (Err InputLimit)) old new = new.source ≡ old.source
-StatusCause (Ran (Err StoreFault)) old new = new.source ≡ old.source
-StatusCause (Ran (Err StashFull)) old new = new.source ≡ old.source
-StatusCause (Ran (Err KeeperFault)) old new = new.source ≡ old.source
+abbrev pub StatusCause : (Alone : Type 0) → Ending → (old new : Faults) → Type 0
+StatusCause Alone Usage old new = new.source ≡ old.source
+StatusCause Alone BadKey old new = new.source ≡ old.source
+StatusCause Alone (Ran (Ok refused)) old new = NoneRose old new
+StatusCause Alone (Ran (Err (Tampered region place))) old new = StaysAlone Alone old.source new.source
+StatusCause Alone (Ran (Err SourceFault)) old new = Rises old.source new.source
+StatusCause Alone (Ran (Err SinkFault)) old new =
+    StaysAlone Alone old.source new.source × SinksRose old new
+StatusCause Alone (Ran (Err NoMemory)) old new = StaysAlone Alone old.source new.source
+StatusCause Alone (Ran (Err InputLimit)) old new = new.source ≡ old.source
+StatusCause Alone (Ran (Err StoreFault)) old new = StaysAlone Alone old.source new.source
+StatusCause Alone (Ran (Err StashFull)) old new = StaysAlone Alone old.source new.source
+StatusCause Alone (Ran (Err KeeperFault)) old new = StaysAlone Alone old.source new.source
 
 -- what was taken, what of it was served, under the keys that these bytes come to, and what the sink took of the answers and
 -- the last line
@@ -184,7 +188,7 @@ pub record RunShown (tally : Tally) (tr : TraceSink) (base : Base) (keys : List 
   pub ended : Bool
   pub story : Story
   pub bytes : Bytes (limit_of base.settings) taken ended story left0 left1
-  pub prompt : Prompt taken story.served gave
+  pub prompt : Prompt (batch_most base.public) taken story.served gave
   pub carried : Carried tr base (keys taken) (secret_of (first_line taken)) store0 store1 high
       story ending
   pub grew : Outputs written0 written1 Fault ((printed story.answers ++ story.part) ++ line)
@@ -210,7 +214,7 @@ pub record Reported (tally : Tally) (tr : TraceSink) (Takes : Type 0) (base : Ba
       ⊎ Rises old.out new.out
   pub silent : new.trace ≢ old.trace
       → Outputs written0 written1 (Unit {0}) (printed shown.story.answers ++ shown.story.part)
-  pub cause : StatusCause ending old new
+  pub cause : StatusCause (ServesAlone base.public) ending old new
   pub completes : Takes → (input : List ℕ) → left0 ≡ Some input
       → KeepsLimits (limit_of base.settings) input
       → ¬ Rises old.source new.source → ¬ SinksRose old new

@@ -1,37 +1,47 @@
 //! Runs over the text that is generated in place of the input.
-ghost use Rattle.std.specs.Prelude.{◌≡◌, [], Some};
+ghost use Rattle.std.specs.Prelude.{◌≡◌, Bool, Ok, [], Some};
 ghost use Rattle.ob_gen.specs.SummaryText.{summary_of, summary_text};
 ghost use Rattle.ob_headline.specs.Endings;
 ghost use Rattle.ob_shell.specs.Generating.{RanGenerated, ConcludedBy, SummedUp};
-ghost use Rattle.ob_shell.specs.WordsRead.{AreWithin};
+ghost use Rattle.ob_words.specs.WordsRead.{AreWithin};
 
 use crate::top::{Ended, close, run, status_of};
-use crate::words::Words;
 use ob_base::{Failed, Stop};
-use ob_gen::{Discard, Generated, Summary, trace_digest};
+use ob_gen::{Digester, Discard, Generated, Summary, Tally, TraceDigest};
 use ob_headline::{Ending, Report, Seed};
 use ob_io::Sink;
 use ob_store::BlockStore;
+use ob_words::Words;
 use std::alloc::Global;
+
+// The summary of a run of which this was counted, and whose accesses were digested.
+fn summary<S: BlockStore>(tally: Tally, digest: TraceDigest, store: &S) -> Summary
+    requires { ⟦<TraceDigest as Digester>⟧.took digest (S.state store.now).asked }
+    ensures { result ≡ summary_of tally (S.state store.now).asked }
+{
+    Summary {
+        tally,
+        accesses: store.count(),
+        trace: digest.finish(),
+    }
+}
 
 // Writes the summary of a run that came to the end of the text, in which a text was refused or none was.
 pub(crate) fn sum_up<O: Sink, S: BlockStore>(
     ended: Ended,
     refused: bool,
+    digest: TraceDigest,
     store: &S,
     out: &mut O,
 ) -> Report
+    requires { ⟦<TraceDigest as Digester>⟧.took digest (S.state store.now).asked }
     ensures high { result.high ≡ ended.high }
     ensures summed { SummedUp refused
         (summary_text (summary_of ended.tally (S.state store.now).asked))
         (O.written out.old) (O.written out.new) (O.faults out.old) (O.faults out.new)
         result.status }
 {
-    let summary = Summary {
-        tally: ended.tally,
-        accesses: store.count(),
-        trace: trace_digest(store),
-    };
+    let summary = summary(ended.tally, digest, store);
     let ending = match summary.write(out) {
         Ok(()) => Ending::Ran(Ok(refused)),
         Err(Failed) => Ending::Ran(Err(Stop::SinkFault)),
@@ -43,14 +53,21 @@ pub(crate) fn sum_up<O: Sink, S: BlockStore>(
 }
 
 // Writes what is written of a run: its summary, or its last line.
-fn conclude<O: Sink, S: BlockStore>(ended: Ended, store: &S, out: &mut O) -> Report
+fn conclude<O: Sink, S: BlockStore>(
+    ended: Ended,
+    digest: TraceDigest,
+    store: &S,
+    out: &mut O,
+) -> Report
+    requires { (refused : Bool) → ended.ending ≡ Ending.Ran (Ok refused)
+        → ⟦<TraceDigest as Digester>⟧.took digest (S.state store.now).asked }
     ensures high { result.high ≡ ended.high }
     ensures concluded { ConcludedBy ended.ending ended.quiet ended.tally (S.state store.now).asked
         (O.written out.old) (O.written out.new) (O.faults out.old) (O.faults out.new)
         result.status }
 {
     match ended.ending {
-        Ending::Ran(Ok(refused)) => sum_up(ended, refused, store, out),
+        Ending::Ran(Ok(refused)) => sum_up(ended, refused, digest, store, out),
         Ending::Usage | Ending::BadKey | Ending::Ran(Err(_)) => close(ended, out),
     }
 }
@@ -73,6 +90,15 @@ pub(crate) fn serve_generated<O: Sink, T: Sink, S: BlockStore>(
         (O.written out.old) (O.written out.new) (O.faults out.old) (O.faults out.new) result }
 {
     let mut input = Generated::new(seed.start, seed.rows);
-    let ended = run(alloc, words, &mut input, &mut Discard, trace, store);
-    conclude(ended, store, out)
+    let mut digest = TraceDigest::new();
+    let ended = run(
+        alloc,
+        words,
+        &mut input,
+        &mut Discard,
+        trace,
+        &mut digest,
+        store,
+    );
+    conclude(ended, digest, store, out)
 }

@@ -1,5 +1,5 @@
 //! Runs whose tables are kept for the next one.
-ghost use Rattle.std.specs.Prelude.{◌≡◌, ◌≤◌, ◌<◌, ◌+◌, ◌^◌, ℕ, List, [], Err, IfErr, IfOk, Some, false, map, string_bytes, true};
+ghost use Rattle.std.specs.Prelude.{◌≡◌, ◌≤◌, ◌<◌, ◌+◌, ◌^◌, ℕ, Bool, List, [], Err, IfErr, IfOk, Ok, Some, false, map, string_bytes, true};
 ghost use Rattle.ob_base.specs.declared.config.Config.{Config};
 ghost use Rattle.ob_base.specs.Stored.{headings_of};
 ghost use Rattle.ob_tables.specs.Agreeing.{count_of, high_of, public_of};
@@ -18,7 +18,7 @@ ghost use Rattle.ob_shell.specs.Feeding.{IsFedBy};
 ghost use Rattle.ob_shell.specs.Generating.{asked_for};
 ghost use Rattle.ob_shell.specs.KeptSummary.{MayKeep};
 ghost use Rattle.ob_shell.specs.Steps.{IsReady, machine_of, told_nothing};
-ghost use Rattle.ob_shell.specs.WordsRead.{AreWithin};
+ghost use Rattle.ob_words.specs.WordsRead.{AreWithin};
 
 use crate::feed::{Feed, Halt};
 use crate::generating::{serve_generated, sum_up};
@@ -26,10 +26,9 @@ use crate::key::{FirstLine, read_key};
 use crate::session::serve;
 use crate::top::{Ended, ended_with, last_line, refuse_words, serve_over, status_of};
 use crate::trace::trace_from;
-use crate::words::{Words, read_kept_words};
 use ob_base::{Config, Mark, Stop};
 use ob_exec::{CloseErr, Engine, OpenErr, Unsaved};
-use ob_gen::{Discard, Generated, Tally};
+use ob_gen::{Digester, Discard, Generated, Tally, TraceDigest, Undigested};
 use ob_headline::{Ending, KeptEnding, Report, Seed};
 use ob_io::{Sink, Source};
 use ob_print::{Line, write_all};
@@ -37,6 +36,7 @@ use ob_reopen::Keeper;
 use ob_seal::Keys;
 use ob_store::{BlockStore, Lasting};
 use ob_vault::{BaseRevs, Revisions};
+use ob_words::{Words, read_kept_words};
 use std::alloc::Global;
 
 /// How a run ended, whether its last line may not be written any more, how many rows were open, and what was counted of
@@ -168,31 +168,34 @@ fn find_engine<R: Revisions, S: Lasting, K: Keeper>(
 }
 
 // The same, once the accesses were traced, and the keeper holds that the store is in use.
-fn start_run<R: Revisions, T: Sink, S: Lasting, K: Keeper>(
+fn start_run<R: Revisions, T: Sink, D: Digester, S: Lasting, K: Keeper>(
     alloc: Global,
     words: Words,
     key: &[u8; 32],
     trace: &mut T,
+    digest: &mut D,
     store: &mut S,
     keeper: &mut K,
 ) -> Result<Engine<R>, KeptEnded>
     requires within { AreWithin words.config }
     requires fresh { (S.state store.old).asked ≡ [] }
+    requires took { D.took digest.old (S.state store.old).asked }
     ensures ok { IfOk result (λ e. StartsRun R.state words.config key.now words.trace e
         (S.state store.old) (S.state store.new) (T.written trace.old) (T.written trace.new)
         (T.faults trace.old) (T.faults trace.new) (K.state keeper.old) (K.state keeper.new)) }
     ensures err { IfErr result (λ ended. EndsUnserved words.config key.now words.trace ended
         (S.state store.old) (S.state store.new) (T.written trace.old) (T.written trace.new)
         (T.faults trace.old) (T.faults trace.new) (K.state keeper.old) (K.state keeper.new)) }
+    ensures took { D.took digest.new (S.state store.new).asked }
 {
     match find_engine(alloc, words.config, key, store, keeper) {
         Err(ending) => {
-            let quiet = trace_from(words.trace, store, 0, trace).is_err();
+            let quiet = trace_from(words.trace, store, 0, trace, digest).is_err();
             Err(kept_at(ending, quiet, 0))
         }
         Ok(engine) => {
             let high = engine.high();
-            match trace_from(words.trace, store, 0, trace) {
+            match trace_from(words.trace, store, 0, trace, digest) {
                 Err(_) => Err(kept_at(stopped(Stop::SinkFault), true, high)),
                 Ok(()) => match keeper.set(&Mark::InUse) {
                     Ok(()) => Ok(engine),
@@ -205,12 +208,13 @@ fn start_run<R: Revisions, T: Sink, S: Lasting, K: Keeper>(
 
 // Closes an engine whose session came to its end, and of which so many rows were open: the accesses are traced, and
 // then the keeper holds the mark.
-fn close_run<R: Revisions, T: Sink, S: BlockStore, K: Keeper>(
+fn close_run<R: Revisions, T: Sink, D: Digester, S: BlockStore, K: Keeper>(
     tally: Tally,
     tracing: bool,
     high: u64,
     engine: Engine<R>,
     trace: &mut T,
+    digest: &mut D,
     store: &mut S,
     keeper: &mut K,
 ) -> KeptEnded
@@ -218,17 +222,19 @@ fn close_run<R: Revisions, T: Sink, S: BlockStore, K: Keeper>(
     requires few { count_of engine (S.state store.old) < 2 ^ 63 + 2 ^ 59 }
     requires flat { AreFlat (headings_of (public_of engine).tables) }
     requires high { high ≡ high_of engine }
-    ensures { ClosesRun R.state tally tracing engine result
+    requires took { D.took digest.old (S.state store.old).asked }
+    ensures closes { ClosesRun R.state tally tracing engine result
         (S.state store.old) (S.state store.new) (T.written trace.old) (T.written trace.new)
         (T.faults trace.old) (T.faults trace.new) (K.state keeper.old) (K.state keeper.new) }
+    ensures took { D.took digest.new (S.state store.new).asked }
 {
     let from = store.count();
     match engine.close(store) {
         Err(error) => {
-            let quiet = trace_from(tracing, store, from, trace).is_err();
+            let quiet = trace_from(tracing, store, from, trace, digest).is_err();
             kept_at(closing_end(error), quiet, high)
         }
-        Ok(mark) => match trace_from(tracing, store, from, trace) {
+        Ok(mark) => match trace_from(tracing, store, from, trace, digest) {
             Err(_) => kept_at(stopped(Stop::SinkFault), true, high),
             Ok(()) => match keeper.set(&mark) {
                 Ok(()) => plainly(ended_with(Ok(tally), high)),
@@ -239,7 +245,7 @@ fn close_run<R: Revisions, T: Sink, S: BlockStore, K: Keeper>(
 }
 
 // Serves what follows the first line, and closes the engine where that comes to its end.
-fn serve_run<R: Revisions, I: Source, O: Sink, T: Sink, S: BlockStore, K: Keeper>(
+fn serve_run<R: Revisions, I: Source, O: Sink, T: Sink, D: Digester, S: BlockStore, K: Keeper>(
     alloc: Global,
     tracing: bool,
     engine: Engine<R>,
@@ -247,6 +253,7 @@ fn serve_run<R: Revisions, I: Source, O: Sink, T: Sink, S: BlockStore, K: Keeper
     input: &mut I,
     out: &mut O,
     trace: &mut T,
+    digest: &mut D,
     store: &mut S,
     keeper: &mut K,
 ) -> KeptEnded
@@ -255,6 +262,7 @@ fn serve_run<R: Revisions, I: Source, O: Sink, T: Sink, S: BlockStore, K: Keeper
     requires kept { (public_of engine).keep ≡ true }
     requires taken { feed.old.taken ≤ feed.old.limit }
     requires fed_by { IsFedBy feed.old (I.gave input.old) }
+    requires took { D.took digest.old (S.state store.old).asked }
     ensures served { (base : Base) (config : Config) (key : List ℕ)
         → Engages R.state base config (keys_of key) engine (S.state store.old)
         → ServesRun R.state base key tracing result feed.old feed.new
@@ -266,6 +274,8 @@ fn serve_run<R: Revisions, I: Source, O: Sink, T: Sink, S: BlockStore, K: Keeper
         (K.state keeper.old) (K.state keeper.new) }
     ensures within { feed.new.taken ≤ feed.new.limit }
     ensures fed_by { IsFedBy feed.new (I.gave input.new) }
+    ensures took { (refused : Bool) → result.ending ≡ KeptEnding.Plain (Ending.Ran (Ok refused))
+        → D.took digest.new (S.state store.new).asked }
 {
     let mut engine = engine;
     match serve(
@@ -278,29 +288,32 @@ fn serve_run<R: Revisions, I: Source, O: Sink, T: Sink, S: BlockStore, K: Keeper
         &mut Unsaved,
         out,
         trace,
+        digest,
     ) {
         Ok(tally) => {
             let high = engine.high();
-            close_run(tally, tracing, high, engine, trace, store, keeper)
+            close_run(tally, tracing, high, engine, trace, digest, store, keeper)
         }
         Err(halted) => plainly(ended_with(Err(halted), engine.high())),
     }
 }
 
 // Reads the first line, and serves the texts with the tables that are kept: all but the last line.
-pub(crate) fn run_kept<I: Source, O: Sink, T: Sink, S: Lasting, K: Keeper>(
+pub(crate) fn run_kept<I: Source, O: Sink, T: Sink, D: Digester, S: Lasting, K: Keeper>(
     alloc: Global,
     words: Words,
     input: &mut I,
     out: &mut O,
     trace: &mut T,
+    digest: &mut D,
     store: &mut S,
     keeper: &mut K,
 ) -> KeptEnded
     requires within { AreWithin words.config }
     requires kept { words.config.keep ≡ true }
     requires fresh { (S.state store.old).asked ≡ [] }
-    ensures { RanKept words.config words.trace result
+    requires took { D.took digest.old (S.state store.old).asked }
+    ensures ran { RanKept words.config words.trace result
         (outside_of (I.left input.old) (I.gave input.old) (O.written out.old) (T.written trace.old)
         (S.state store.old)
         (faults_of (I.faults input.old) (O.faults out.old) (T.faults trace.old)))
@@ -308,42 +321,34 @@ pub(crate) fn run_kept<I: Source, O: Sink, T: Sink, S: Lasting, K: Keeper>(
         (S.state store.new)
         (faults_of (I.faults input.new) (O.faults out.new) (T.faults trace.new)))
         (K.state keeper.old) (K.state keeper.new) }
+    ensures took { (refused : Bool) → result.ending ≡ KeptEnding.Plain (Ending.Ran (Ok refused))
+        → D.took digest.new (S.state store.new).asked }
 {
+    let tracing = words.trace;
     let mut feed = Feed::new(words.config.max_input);
     match read_key(&mut feed, input) {
         Err(Halt::SourceFault) => kept_at(stopped(Stop::SourceFault), false, 0),
         Err(Halt::InputLimit) => kept_at(stopped(Stop::InputLimit), false, 0),
         Ok(FirstLine::Bad) => kept_at(KeptEnding::Plain(Ending::BadKey), false, 0),
         Ok(FirstLine::Last(key)) => {
-            match start_run::<BaseRevs, T, S, K>(alloc, words, &key, trace, store, keeper) {
+            match start_run::<BaseRevs, T, D, S, K>(
+                alloc, words, &key, trace, digest, store, keeper,
+            ) {
                 Err(ended) => ended,
                 Ok(engine) => {
                     let high = engine.high();
-                    close_run(
-                        Tally::new(),
-                        words.trace,
-                        high,
-                        engine,
-                        trace,
-                        store,
-                        keeper,
-                    )
+                    let tally = Tally::new();
+                    close_run(tally, tracing, high, engine, trace, digest, store, keeper)
                 }
             }
         }
         Ok(FirstLine::Secret(key)) => {
-            match start_run::<BaseRevs, T, S, K>(alloc, words, &key, trace, store, keeper) {
+            match start_run::<BaseRevs, T, D, S, K>(
+                alloc, words, &key, trace, digest, store, keeper,
+            ) {
                 Err(ended) => ended,
                 Ok(engine) => serve_run(
-                    alloc,
-                    words.trace,
-                    engine,
-                    &mut feed,
-                    input,
-                    out,
-                    trace,
-                    store,
-                    keeper,
+                    alloc, tracing, engine, &mut feed, input, out, trace, digest, store, keeper,
                 ),
             }
         }
@@ -371,9 +376,12 @@ pub(crate) fn close_kept<O: Sink>(ended: KeptEnded, out: &mut O) -> Report
 // Writes what is written of a run over the generated text: its summary, or its last line.
 pub(crate) fn conclude_kept<O: Sink, S: BlockStore>(
     ended: KeptEnded,
+    digest: TraceDigest,
     store: &S,
     out: &mut O,
 ) -> Report
+    requires { (refused : Bool) → ended.ending ≡ KeptEnding.Plain (Ending.Ran (Ok refused))
+        → ⟦<TraceDigest as Digester>⟧.took digest (S.state store.now).asked }
     ensures high { result.high ≡ ended.high }
     ensures concluded { KeptConcludedBy ended.ending ended.quiet ended.tally
         (S.state store.now).asked (O.written out.old) (O.written out.new) (O.faults out.old)
@@ -387,7 +395,7 @@ pub(crate) fn conclude_kept<O: Sink, S: BlockStore>(
                 high: ended.high,
                 tally: ended.tally,
             };
-            sum_up(plain, refused, store, out)
+            sum_up(plain, refused, digest, store, out)
         }
         KeptEnding::Plain(Ending::Usage | Ending::BadKey | Ending::Ran(Err(_)))
         | KeptEnding::OtherPack
@@ -419,8 +427,18 @@ pub(crate) fn keep_generated<O: Sink, T: Sink, S: Lasting, K: Keeper>(
         (O.written out.old) (O.written out.new) (O.faults out.old) (O.faults out.new) result }
 {
     let mut input = Generated::new(seed.start, seed.rows);
-    let ended = run_kept(alloc, words, &mut input, &mut Discard, trace, store, keeper);
-    conclude_kept(ended, store, out)
+    let mut digest = TraceDigest::new();
+    let ended = run_kept(
+        alloc,
+        words,
+        &mut input,
+        &mut Discard,
+        trace,
+        &mut digest,
+        store,
+        keeper,
+    );
+    conclude_kept(ended, digest, store, out)
 }
 
 /// Serves the input over a store of which nothing was asked, as `shell_top` does. With `--keep` its tables are kept for
@@ -459,7 +477,8 @@ pub fn keep_top<I: Source, O: Sink, T: Sink, S: Lasting, K: Keeper>(
     if words.keep {
         match common.generated {
             None => {
-                let ended = run_kept(alloc, common, input, out, trace, store, keeper);
+                let none = &mut Undigested;
+                let ended = run_kept(alloc, common, input, out, trace, none, store, keeper);
                 close_kept(ended, out)
             }
             Some(seed) => keep_generated(alloc, common, seed, out, trace, store, keeper),

@@ -1,6 +1,7 @@
 //! From the bytes of the input to the bytes of the answers.
 #![tactic(auto)]
 
+mod batching;
 mod feed;
 mod generating;
 mod keeping;
@@ -10,7 +11,6 @@ mod saving;
 mod session;
 mod top;
 mod trace;
-mod words;
 
 pub use feed::{Feed, Halt};
 pub use keeping::{KeptEnded, keep_top};
@@ -20,7 +20,3 @@ pub use saving::save_top;
 pub use session::{Halted, serve};
 pub use top::{Ended, meddle_top, shell_top};
 pub use trace::trace_from;
-pub use words::{
-    KeptWords, MeddleWords, SavedWords, Words, WordsErr, mark_place, read_kept_words,
-    read_meddle_words, read_saved_words, read_words, store_name,
-};

@@ -1,5 +1,5 @@
 //! Runs whose tables are saved behind each statement that changes them.
-ghost use Rattle.std.specs.Prelude.{◌≡◌, ◌≢◌, ◌≤◌, ⊤, ℕ, List, [], IfErr, IfOk, OnOk, true};
+ghost use Rattle.std.specs.Prelude.{◌≡◌, ◌≢◌, ◌≤◌, ⊤, ℕ, Bool, List, [], IfErr, IfOk, Ok, OnOk, true};
 ghost use Rattle.std.specs.Prelude.{codes, map, string_bytes};
 ghost use Rattle.ob_base.specs.declared.config.Config.{Config};
 ghost use Rattle.ob_headline.specs.Bases.{Base};
@@ -17,7 +17,7 @@ ghost use Rattle.ob_shell.specs.Feeding.{IsFedBy};
 ghost use Rattle.ob_shell.specs.Generating.{asked_for};
 ghost use Rattle.ob_shell.specs.Leaving.{BeginsToSave};
 ghost use Rattle.ob_shell.specs.SavedSummary.{KeepsOrSaves};
-ghost use Rattle.ob_shell.specs.SavedWords.{AreFit};
+ghost use Rattle.ob_words.specs.SavedWords.{AreFit};
 ghost use Rattle.ob_shell.specs.Steps.{IsReady, machine_of};
 
 use crate::feed::{Feed, Halt};
@@ -30,16 +30,16 @@ use crate::key::{FirstLine, read_key};
 use crate::session::serve;
 use crate::top::{ended_with, refuse_words, serve_over};
 use crate::trace::trace_from;
-use crate::words::{Words, read_saved_words};
 use ob_base::{Config, Failed, Mark, NoMemory, Stop};
 use ob_exec::{Engine, SavedBy};
-use ob_gen::{Discard, Generated, Tally};
+use ob_gen::{Digester, Discard, Generated, Tally, TraceDigest, Undigested};
 use ob_headline::{Ending, KeptEnding, Report, Seed};
 use ob_io::{Sink, Source};
 use ob_reopen::{Keeper, Salts};
 use ob_seal::Keys;
 use ob_store::{Lasting, Saving};
 use ob_vault::{BaseRevs, Revisions};
+use ob_words::{Words, read_saved_words};
 use std::alloc::Global;
 
 // The pack of the tables that a mark names a closing of.
@@ -60,6 +60,7 @@ fn may_begin<S: Saving>(mark: &Mark, store: &mut S) -> Result<(), KeptEnding>
         (LooksBare mark.now (S.state store.old) (S.state store.new)) }
     ensures ends { IfErr result (λ ending.
         RefusesMark mark.now ending (S.state store.old) (S.state store.new)) }
+    ensures log { (S.state store.new).let_go ≡ (S.state store.old).let_go }
 {
     match *mark {
         Mark::InUse => Err(KeptEnding::NotClosed),
@@ -107,6 +108,7 @@ fn engine_by<R: Revisions, S: Lasting>(
         (S.state store.old) (S.state store.new)) }
     ensures err { IfErr result (λ ending. EndsShut (begun_mark mark.now) config secret.now salt.now
         ending (S.state store.old) (S.state store.new)) }
+    ensures log { (S.state store.new).let_go ≡ (S.state store.old).let_go }
 {
     match pack_of(mark) {
         None => match start_salted::<R>(alloc, config, secret, salt) {
@@ -179,30 +181,33 @@ pub(crate) fn find_saved<R: Revisions, S: Saving, K: Salts>(
 }
 
 // The same, once the accesses were traced.
-fn start_saving<R: Revisions, T: Sink, S: Saving, K: Salts>(
+fn start_saving<R: Revisions, T: Sink, D: Digester, S: Saving, K: Salts>(
     alloc: Global,
     words: Words,
     secret: &[u8; 32],
     trace: &mut T,
+    digest: &mut D,
     store: &mut S,
     keeper: &mut K,
 ) -> Result<Engine<R>, KeptEnded>
     requires fits { AreFit words.config }
     requires saves { words.config.save ≡ true }
     requires fresh { (S.state store.old).asked ≡ [] }
+    requires took { D.took digest.old (S.state store.old).asked }
     ensures ok { IfOk result (λ e. StartsSaved R.state words.config secret.now words.trace e
         (S.state store.old) (S.state store.new) (T.written trace.old) (T.written trace.new)
         (T.faults trace.old) (T.faults trace.new) (K.state keeper.old) (K.state keeper.new)) }
     ensures err { IfErr result (λ ended. EndsUnsaved words.config secret.now words.trace ended
         (S.state store.old) (S.state store.new) (T.written trace.old) (T.written trace.new)
         (T.faults trace.old) (T.faults trace.new) (K.state keeper.old) (K.state keeper.new)) }
+    ensures took { D.took digest.new (S.state store.new).asked }
 {
     match find_saved::<R, S, K>(alloc, words.config, secret, store, keeper) {
         Err(ending) => {
-            let quiet = trace_from(words.trace, store, 0, trace).is_err();
+            let quiet = trace_from(words.trace, store, 0, trace, digest).is_err();
             Err(kept_at(ending, quiet, 0))
         }
-        Ok(engine) => match trace_from(words.trace, store, 0, trace) {
+        Ok(engine) => match trace_from(words.trace, store, 0, trace, digest) {
             Err(_) => Err(kept_at(stopped(Stop::SinkFault), true, engine.high())),
             Ok(()) => Ok(engine),
         },
@@ -210,7 +215,7 @@ fn start_saving<R: Revisions, T: Sink, S: Saving, K: Salts>(
 }
 
 // Serves what follows the first line. Nothing is closed behind that: each statement was saved before it was answered.
-fn serve_saving<R: Revisions, I: Source, O: Sink, T: Sink, S: Saving, K: Keeper>(
+fn serve_saving<R: Revisions, I: Source, O: Sink, T: Sink, D: Digester, S: Saving, K: Keeper>(
     alloc: Global,
     tracing: bool,
     engine: Engine<R>,
@@ -218,6 +223,7 @@ fn serve_saving<R: Revisions, I: Source, O: Sink, T: Sink, S: Saving, K: Keeper>
     input: &mut I,
     out: &mut O,
     trace: &mut T,
+    digest: &mut D,
     store: &mut S,
     keeper: &mut K,
 ) -> KeptEnded
@@ -225,6 +231,7 @@ fn serve_saving<R: Revisions, I: Source, O: Sink, T: Sink, S: Saving, K: Keeper>
         (machine_of engine (S.state store.old) (K.state keeper.old)) }
     requires taken { feed.old.taken ≤ feed.old.limit }
     requires fed_by { IsFedBy feed.old (I.gave input.old) }
+    requires took { D.took digest.old (S.state store.old).asked }
     ensures served { (base : Base) (config : Config) (keys : KeySet) (secret salt : List ℕ)
         → EngagesSaved R.state base config keys engine (S.state store.old) (K.state keeper.old)
         → ServesSaved R.state base keys secret salt tracing result feed.old feed.new
@@ -238,6 +245,8 @@ fn serve_saving<R: Revisions, I: Source, O: Sink, T: Sink, S: Saving, K: Keeper>
         (machine_of engine (S.state store.old) (K.state keeper.old))) }
     ensures within { feed.new.taken ≤ feed.new.limit }
     ensures fed_by { IsFedBy feed.new (I.gave input.new) }
+    ensures took { (refused : Bool) → result.ending ≡ KeptEnding.Plain (Ending.Ran (Ok refused))
+        → D.took digest.new (S.state store.new).asked }
 {
     let mut engine = engine;
     let mut behind = SavedBy { keeper };
@@ -251,24 +260,27 @@ fn serve_saving<R: Revisions, I: Source, O: Sink, T: Sink, S: Saving, K: Keeper>
         &mut behind,
         out,
         trace,
+        digest,
     );
     plainly(ended_with(served, engine.high()))
 }
 
 // Reads the first line, and serves the texts with the tables that are saved: all but the last line.
-fn run_saved<I: Source, O: Sink, T: Sink, S: Saving, K: Salts>(
+fn run_saved<I: Source, O: Sink, T: Sink, D: Digester, S: Saving, K: Salts>(
     alloc: Global,
     words: Words,
     input: &mut I,
     out: &mut O,
     trace: &mut T,
+    digest: &mut D,
     store: &mut S,
     keeper: &mut K,
 ) -> KeptEnded
     requires fits { AreFit words.config }
     requires saves { words.config.save ≡ true }
     requires fresh { (S.state store.old).asked ≡ [] }
-    ensures { RanSaved words.config words.trace result
+    requires took { D.took digest.old (S.state store.old).asked }
+    ensures ran { RanSaved words.config words.trace result
         (outside_of (I.left input.old) (I.gave input.old) (O.written out.old) (T.written trace.old)
         (S.state store.old)
         (faults_of (I.faults input.old) (O.faults out.old) (T.faults trace.old)))
@@ -276,6 +288,8 @@ fn run_saved<I: Source, O: Sink, T: Sink, S: Saving, K: Salts>(
         (S.state store.new)
         (faults_of (I.faults input.new) (O.faults out.new) (T.faults trace.new)))
         (K.state keeper.old) (K.state keeper.new) }
+    ensures took { (refused : Bool) → result.ending ≡ KeptEnding.Plain (Ending.Ran (Ok refused))
+        → D.took digest.new (S.state store.new).asked }
 {
     let mut feed = Feed::new(words.config.max_input);
     match read_key(&mut feed, input) {
@@ -283,13 +297,17 @@ fn run_saved<I: Source, O: Sink, T: Sink, S: Saving, K: Salts>(
         Err(Halt::InputLimit) => kept_at(stopped(Stop::InputLimit), false, 0),
         Ok(FirstLine::Bad) => kept_at(KeptEnding::Plain(Ending::BadKey), false, 0),
         Ok(FirstLine::Last(key)) => {
-            match start_saving::<BaseRevs, T, S, K>(alloc, words, &key, trace, store, keeper) {
+            match start_saving::<BaseRevs, T, D, S, K>(
+                alloc, words, &key, trace, digest, store, keeper,
+            ) {
                 Err(ended) => ended,
                 Ok(engine) => plainly(ended_with(Ok(Tally::new()), engine.high())),
             }
         }
         Ok(FirstLine::Secret(key)) => {
-            match start_saving::<BaseRevs, T, S, K>(alloc, words, &key, trace, store, keeper) {
+            match start_saving::<BaseRevs, T, D, S, K>(
+                alloc, words, &key, trace, digest, store, keeper,
+            ) {
                 Err(ended) => ended,
                 Ok(engine) => serve_saving(
                     alloc,
@@ -299,6 +317,7 @@ fn run_saved<I: Source, O: Sink, T: Sink, S: Saving, K: Salts>(
                     input,
                     out,
                     trace,
+                    digest,
                     store,
                     keeper,
                 ),
@@ -327,8 +346,18 @@ fn save_generated<O: Sink, T: Sink, S: Saving, K: Salts>(
         (O.written out.old) (O.written out.new) (O.faults out.old) (O.faults out.new) result }
 {
     let mut input = Generated::new(seed.start, seed.rows);
-    let ended = run_saved(alloc, words, &mut input, &mut Discard, trace, store, keeper);
-    conclude_kept(ended, store, out)
+    let mut digest = TraceDigest::new();
+    let ended = run_saved(
+        alloc,
+        words,
+        &mut input,
+        &mut Discard,
+        trace,
+        &mut digest,
+        store,
+        keeper,
+    );
+    conclude_kept(ended, digest, store, out)
 }
 
 /// Serves the input over a store of which nothing was asked, as `keep_top` does. With `--save` its tables are saved: behind
@@ -369,7 +398,8 @@ pub fn save_top<I: Source, O: Sink, T: Sink, S: Saving, K: Salts>(
     if words.save {
         return match common.generated {
             None => {
-                let ended = run_saved(alloc, common, input, out, trace, store, keeper);
+                let none = &mut Undigested;
+                let ended = run_saved(alloc, common, input, out, trace, none, store, keeper);
                 close_kept(ended, out)
             }
             Some(seed) => save_generated(alloc, common, seed, out, trace, store, keeper),
@@ -378,7 +408,8 @@ pub fn save_top<I: Source, O: Sink, T: Sink, S: Saving, K: Salts>(
     if words.keep {
         match common.generated {
             None => {
-                let ended = run_kept(alloc, common, input, out, trace, store, keeper);
+                let none = &mut Undigested;
+                let ended = run_kept(alloc, common, input, out, trace, none, store, keeper);
                 close_kept(ended, out)
             }
             Some(seed) => keep_generated(alloc, common, seed, out, trace, store, keeper),

@@ -1,23 +1,29 @@
-//! The texts of an input, each served as soon as it has come.
+//! The texts of an input, each served as soon as it has come, or together with INSERTs behind it.
 ghost use Rattle.std.specs.Prelude.{◌≡◌, ◌<◌, ◌≤◌, ◌++◌, List, [], ◌∷◌, true, false, Ok, Err, length, OnOk, OnErr, codes, decimal};
 ghost use Rattle.ob_base.specs.declared.access.Access.{Access};
+ghost use Rattle.ob_gen.specs.Tally.{empty_tally};
 ghost use Rattle.ob_headline.specs.Closing;
-ghost use Rattle.ob_headline.specs.Texts.{text_max, is_over, rest_after, texts_at, tail_text};
+ghost use Rattle.ob_headline.specs.Texts.{text_max, rest_after, tail_text, texts_at};
 ghost use Rattle.ob_headline.specs.Words.{faults_of};
 ghost use Rattle.ob_headline.specs.Statements.{Spells};
+ghost use Rattle.ob_mean.specs.Batches.{begins_batch, goes_into};
 ghost use Rattle.ob_shell.specs.Feeding.{IsFedBy};
-ghost use Rattle.ob_shell.specs.Running.{IsQuiet, OutFailed, SessionRan, Silenced, StopCause, halted_of, is_quiet, stop_of};
-ghost use Rattle.ob_shell.specs.Serving.{ServesByte, ServesTexts};
+ghost use Rattle.ob_shell.specs.Running.{IsQuiet, OutFailed, ServesAlone, SessionRan, Silenced, StopCause, halted_of, is_quiet, stop_of};
+ghost use Rattle.ob_shell.specs.Serving.{IsNotTaken, ReadsTexts, ServesTexts, StandsReady, TakesMore, TakesTexts, UnlessServed, WantsRoom, broken_of};
 ghost use Rattle.ob_shell.specs.Steps.{machine_of, IsReady, HasBody, AnswersAll};
 ghost use Rattle.ob_shell.specs.Tallies;
 ghost use Rattle.ob_shell.specs.Traces.{TracedAll, Traced};
+ghost use Rattle.ob_shell.specs.Waiting.{AreGathered, GoesAlong, IsFree};
+ghost use Rattle.ob_sql.specs.Skeleton.{skeleton};
+ghost use Rattle.ob_tables.specs.Agreeing.{count_of, public_of};
 
+use crate::batching::{flush, goes_along};
 use crate::feed::{Feed, Halt};
 use crate::pending::{Grown, Pending, PushStop};
-use crate::trace::trace_from;
+use crate::trace::{let_go_from, trace_from};
 use ob_base::{Failed, Plan, Refusal, Stop};
-use ob_exec::{Behind, Engine, Outcome, RunStop, run};
-use ob_gen::Tally;
+use ob_exec::{Behind, Engine, Outcome, RunStop, batch_most, begins_batch, run};
+use ob_gen::{Digester, Tally};
 use ob_io::{Sink, Source};
 use ob_parse::{ParseErr, parse};
 use ob_print::{Line, Pieces, Printer, RecordLine, refusal_line, write_all};
@@ -55,15 +61,25 @@ impl From<TextHalted> for Halted {
 }
 
 // The stop by a sink's fault.
-const SINK_FAILED: TextHalted = TextHalted {
+pub(crate) const SINK_FAILED: TextHalted = TextHalted {
     stop: RunStop::SinkFault,
     quiet: true,
 };
 
-/// What a session knows beside the state of its engine.
+/// Why no further text is served: a stop in one that was served, or one behind those that were, where what comes next is
+/// left unread.
+#[derive(Clone, Copy, Debug, PartialEq, Eq)]
+pub enum Break {
+    Served(TextHalted),
+    Unread(Stop),
+}
+
+/// What a session knows beside the state of its engine: the text that is read, the INSERTs that wait to be served together,
+/// and what was counted.
 #[derive(Drop)]
 pub struct Session {
     pub pending: Pending,
+    pub batch: Vec<Stmt>,
     pub tally: Tally,
 }
 
@@ -75,7 +91,7 @@ pub struct Answered {
 }
 
 // With one more answer.
-fn tally_with(tally: Tally, answered: Answered) -> Tally
+pub(crate) fn tally_with(tally: Tally, answered: Answered) -> Tally
     ensures { result ≡ Tallies.tally_with tally answered.outcome answered.plan }
 {
     let (refused, rows) = match answered.outcome {
@@ -88,7 +104,7 @@ fn tally_with(tally: Tally, answered: Answered) -> Tally
     tally
 }
 
-fn closing_line(outcome: Outcome) -> Line
+pub(crate) fn closing_line(outcome: Outcome) -> Line
     ensures { result ≡ Closing.closing_line outcome }
 {
     match outcome {
@@ -123,11 +139,15 @@ fn run_stmt<R: Revisions, S: BlockStore, B: Behind<S>, K: Sink>(
     printer: &mut Printer<'_, K>,
 ) -> Result<Answered, TextHalted>
     requires spells { Spells text.now (Ok stmt.now) }
+    requires alone { begins_batch (public_of engine.old) (count_of engine.old (S.state store.old))
+        stmt.now ≡ false }
     requires ready { IsReady R.state (B.Saves behind.old)
         (machine_of engine.old (S.state store.old) (B.state behind.old)) }
     requires none { printer.old.out.waiting.items ≡ [] }
     ensures same_sink { printer.new.out.out.ghost_name ≡ printer.old.out.out.ghost_name }
-    ensures serves { ServesTexts R.state (B.Saves behind.new) (text.now ∷ [])
+    ensures serves { ServesTexts R.state (B.Saves behind.new)
+        (λ gathered. goes_into (public_of engine.old) gathered (skeleton stmt.now) ≡ false)
+        (text.now ∷ [])
         (λ a. HasBody R.state (K.written printer.old.out.out.now)
         (K.written printer.new.out.out.now) text.now a.outcome a.plan)
         (K.written printer.old.out.out.now) (K.written printer.new.out.out.now)
@@ -138,6 +158,7 @@ fn run_stmt<R: Revisions, S: BlockStore, B: Behind<S>, K: Sink>(
         result }
     ensures asked { (seen : List Access) × ((S.state store.new).asked
         ≡ (S.state store.old).asked ++ seen) }
+    ensures listed { (S.state store.new).let_go ≡ (S.state store.old).let_go }
     ensures same { B.name behind.new ≡ B.name behind.old }
 {
     match run(engine, store, behind, stmt, printer) {
@@ -158,19 +179,24 @@ fn run_stmt<R: Revisions, S: BlockStore, B: Behind<S>, K: Sink>(
     }
 }
 
-// Answers one text but for its closing line.
+// Answers a statement, whose text this is, but for its closing line.
 fn run_text<R: Revisions, S: BlockStore, B: Behind<S>, K: Sink>(
     alloc: Global,
     engine: &mut Engine<R>,
     store: &mut S,
     behind: &mut B,
     text: &[u8],
+    stmt: &Stmt,
     out: &mut K,
 ) -> Result<Answered, TextHalted>
-    requires short { length text.now ≤ text_max }
+    requires spells { Spells text.now (Ok stmt.now) }
+    requires alone { begins_batch (public_of engine.old) (count_of engine.old (S.state store.old))
+        stmt.now ≡ false }
     requires ready { IsReady R.state (B.Saves behind.old)
         (machine_of engine.old (S.state store.old) (B.state behind.old)) }
-    ensures serves { ServesTexts R.state (B.Saves behind.new) (text.now ∷ [])
+    ensures serves { ServesTexts R.state (B.Saves behind.new)
+        (λ gathered. goes_into (public_of engine.old) gathered (skeleton stmt.now) ≡ false)
+        (text.now ∷ [])
         (λ a. HasBody R.state
         (K.written out.old) (K.written out.new) text.now a.outcome a.plan)
         (K.written out.old) (K.written out.new)
@@ -180,34 +206,18 @@ fn run_text<R: Revisions, S: BlockStore, B: Behind<S>, K: Sink>(
         result }
     ensures asked { (seen : List Access) × ((S.state store.new).asked
         ≡ (S.state store.old).asked ++ seen) }
+    ensures listed { (S.state store.new).let_go ≡ (S.state store.old).let_go }
     ensures same { B.name behind.new ≡ B.name behind.old }
 {
-    let stmt = match parse(alloc, text) {
-        Ok(stmt) => stmt,
-        Err(error) => match error {
-            ParseErr::Syntax(at) => {
-                return Ok(Answered {
-                    outcome: Outcome::Refused(Refusal::Syntax(at)),
-                    plan: None,
-                });
-            }
-            ParseErr::NoMemory => {
-                return Err(TextHalted {
-                    stop: RunStop::NoMemory,
-                    quiet: false,
-                });
-            }
-        },
-    };
     let mut line = RecordLine::new(alloc);
     let mut printer = Printer {
         out: Pieces::new(out),
         line: &mut line,
     };
-    run_stmt(engine, store, behind, text, &stmt, &mut printer)
+    run_stmt(engine, store, behind, text, stmt, &mut printer)
 }
 
-// Answers one text whole, with its closing line, and counts it.
+// Answers a statement whole, with its closing line, and counts it.
 fn answer<R: Revisions, S: BlockStore, B: Behind<S>, K: Sink>(
     alloc: Global,
     tally: Tally,
@@ -215,12 +225,17 @@ fn answer<R: Revisions, S: BlockStore, B: Behind<S>, K: Sink>(
     store: &mut S,
     behind: &mut B,
     text: &[u8],
+    stmt: &Stmt,
     out: &mut K,
 ) -> Result<Tally, TextHalted>
-    requires short { length text.now ≤ text_max }
+    requires spells { Spells text.now (Ok stmt.now) }
+    requires alone { begins_batch (public_of engine.old) (count_of engine.old (S.state store.old))
+        stmt.now ≡ false }
     requires ready { IsReady R.state (B.Saves behind.old)
         (machine_of engine.old (S.state store.old) (B.state behind.old)) }
-    ensures serves { ServesTexts R.state (B.Saves behind.new) (text.now ∷ [])
+    ensures serves { ServesTexts R.state (B.Saves behind.new)
+        (λ gathered. goes_into (public_of engine.old) gathered (skeleton stmt.now) ≡ false)
+        (text.now ∷ [])
         (λ counted. AnswersAll R.state
         (K.written out.old) (K.written out.new) (text.now ∷ []) tally counted)
         (K.written out.old) (K.written out.new)
@@ -230,9 +245,10 @@ fn answer<R: Revisions, S: BlockStore, B: Behind<S>, K: Sink>(
         result }
     ensures asked { (seen : List Access) × ((S.state store.new).asked
         ≡ (S.state store.old).asked ++ seen) }
+    ensures listed { (S.state store.new).let_go ≡ (S.state store.old).let_go }
     ensures same { B.name behind.new ≡ B.name behind.old }
 {
-    match run_text(alloc, engine, store, behind, text, out) {
+    match run_text(alloc, engine, store, behind, text, stmt, out) {
         Err(halted) => Err(halted),
         Ok(answered) => match write_all(out, closing_line(answered.outcome).as_bytes()) {
             Ok(()) => Ok(tally_with(tally, answered)),
@@ -241,8 +257,9 @@ fn answer<R: Revisions, S: BlockStore, B: Behind<S>, K: Sink>(
     }
 }
 
-// Answers one text whole, and then traces what it asked. After a sink's fault nothing more is written.
-fn answer_traced<R: Revisions, S: BlockStore, B: Behind<S>, K: Sink, T: Sink>(
+// Answers a statement whole, and then traces what it asked, of which the store lets go. After a sink's fault nothing more is
+// written.
+fn answer_traced<R: Revisions, S: BlockStore, B: Behind<S>, K: Sink, T: Sink, D: Digester>(
     alloc: Global,
     tracing: bool,
     tally: Tally,
@@ -250,13 +267,20 @@ fn answer_traced<R: Revisions, S: BlockStore, B: Behind<S>, K: Sink, T: Sink>(
     store: &mut S,
     behind: &mut B,
     text: &[u8],
+    stmt: &Stmt,
     out: &mut K,
     trace: &mut T,
+    digest: &mut D,
 ) -> Result<Tally, TextHalted>
-    requires short { length text.now ≤ text_max }
+    requires spells { Spells text.now (Ok stmt.now) }
+    requires alone { begins_batch (public_of engine.old) (count_of engine.old (S.state store.old))
+        stmt.now ≡ false }
     requires ready { IsReady R.state (B.Saves behind.old)
         (machine_of engine.old (S.state store.old) (B.state behind.old)) }
-    ensures serves { ServesTexts R.state (B.Saves behind.new) (text.now ∷ [])
+    requires took { D.took digest.old (S.state store.old).asked }
+    ensures serves { ServesTexts R.state (B.Saves behind.new)
+        (λ gathered. goes_into (public_of engine.old) gathered (skeleton stmt.now) ≡ false)
+        (text.now ∷ [])
         (λ counted. AnswersAll R.state
         (K.written out.old) (K.written out.new) (text.now ∷ []) tally counted)
         (K.written out.old) (K.written out.new)
@@ -271,23 +295,283 @@ fn answer_traced<R: Revisions, S: BlockStore, B: Behind<S>, K: Sink, T: Sink>(
         (S.state store.new).asked (T.written trace.old) (T.written trace.new)
         (IsQuiet (halted_of result))) }
     ensures same { B.name behind.new ≡ B.name behind.old }
+    ensures took { OnOk result (D.took digest.new (S.state store.new).asked) }
 {
     let mark = store.count();
-    match answer(alloc, tally, engine, store, behind, text, out) {
-        Ok(counted) => match trace_from(tracing, store, mark, trace) {
-            Ok(()) => Ok(counted),
+    match answer(alloc, tally, engine, store, behind, text, stmt, out) {
+        Ok(counted) => match trace_from(tracing, store, mark, trace, digest) {
+            Ok(()) => {
+                let_go_from(store, mark);
+                Ok(counted)
+            }
             Err(Failed) => Err(SINK_FAILED),
         },
         Err(TextHalted { stop, quiet: true }) => Err(TextHalted { stop, quiet: true }),
         Err(TextHalted { stop, quiet: false }) => {
-            let quiet = trace_from(tracing, store, mark, trace).is_err();
+            let quiet = trace_from(tracing, store, mark, trace, digest).is_err();
             Err(TextHalted { stop, quiet })
         }
     }
 }
 
-// Takes one byte, and serves the text that it ends.
-fn turn<R: Revisions, S: BlockStore, B: Behind<S>, K: Sink, T: Sink>(
+// Gives one more INSERT to those that wait, and serves them once they are as many as a batch may have.
+fn gather<R: Revisions, S: BlockStore, B: Behind<S>, K: Sink, T: Sink, D: Digester>(
+    alloc: Global,
+    tracing: bool,
+    session: &mut Session,
+    stmt: Stmt,
+    engine: &mut Engine<R>,
+    store: &mut S,
+    behind: &mut B,
+    out: &mut K,
+    trace: &mut T,
+    digest: &mut D,
+) -> Result<(), Break>
+    requires spells { Spells session.old.pending (Ok stmt) }
+    requires goes { GoesAlong (public_of engine.old) (count_of engine.old (S.state store.old))
+        session.old.batch.items stmt }
+    requires ready { IsReady R.state (B.Saves behind.old)
+        (machine_of engine.old (S.state store.old) (B.state behind.old)) }
+    requires took { D.took digest.old (S.state store.old).asked }
+    ensures pending { session.new.pending ≡ session.old.pending }
+    ensures takes { TakesMore R.state (B.Saves behind.new) tracing
+        (IsFree (public_of engine.old) (session.old.batch.items ++ stmt ∷ []))
+        (λ old new. IsFree (public_of engine.new) session.new.batch.items new)
+        session.old.batch.items session.new.batch.items (session.old.pending ∷ []) WantsRoom
+        session.old.tally session.new.tally (K.written out.old) (K.written out.new)
+        (T.written trace.old) (T.written trace.new)
+        (faults_of 0 (K.faults out.old) (T.faults trace.old))
+        (faults_of 0 (K.faults out.new) (T.faults trace.new))
+        (machine_of engine.old (S.state store.old) (B.state behind.old))
+        (machine_of engine.new (S.state store.new) (B.state behind.new)) result }
+    ensures same { B.name behind.new ≡ B.name behind.old }
+    ensures took { UnlessServed result (D.took digest.new (S.state store.new).asked) }
+{
+    if session.batch.push(stmt).is_err() {
+        return Err(Break::Unread(Stop::NoMemory));
+    }
+    if (session.batch.len() as u64) < batch_most(engine.public()) {
+        return Ok(());
+    }
+    match flush(
+        alloc, tracing, session, engine, store, behind, out, trace, digest,
+    ) {
+        Ok(()) => Ok(()),
+        Err(halted) => Err(Break::Served(halted)),
+    }
+}
+
+// Serves a statement before which none waits, or lets it wait for the next ones.
+fn begin<R: Revisions, S: BlockStore, B: Behind<S>, K: Sink, T: Sink, D: Digester>(
+    alloc: Global,
+    tracing: bool,
+    session: &mut Session,
+    stmt: Stmt,
+    engine: &mut Engine<R>,
+    store: &mut S,
+    behind: &mut B,
+    out: &mut K,
+    trace: &mut T,
+    digest: &mut D,
+) -> Result<(), Break>
+    requires spells { Spells session.old.pending (Ok stmt) }
+    requires none { session.old.batch.items ≡ [] }
+    requires ready { IsReady R.state (B.Saves behind.old)
+        (machine_of engine.old (S.state store.old) (B.state behind.old)) }
+    requires took { D.took digest.old (S.state store.old).asked }
+    ensures pending { session.new.pending ≡ session.old.pending }
+    ensures takes { TakesMore R.state (B.Saves behind.new) tracing
+        (IsFree (public_of engine.old) (stmt ∷ []))
+        (λ old new. IsFree (public_of engine.new) session.new.batch.items new)
+        [] session.new.batch.items (session.old.pending ∷ []) WantsRoom
+        session.old.tally session.new.tally (K.written out.old) (K.written out.new)
+        (T.written trace.old) (T.written trace.new)
+        (faults_of 0 (K.faults out.old) (T.faults trace.old))
+        (faults_of 0 (K.faults out.new) (T.faults trace.new))
+        (machine_of engine.old (S.state store.old) (B.state behind.old))
+        (machine_of engine.new (S.state store.new) (B.state behind.new)) result }
+    ensures same { B.name behind.new ≡ B.name behind.old }
+    ensures took { UnlessServed result (D.took digest.new (S.state store.new).asked) }
+{
+    if begins_batch(engine, store, &stmt) {
+        return gather(
+            alloc, tracing, session, stmt, engine, store, behind, out, trace, digest,
+        );
+    }
+    let answered = answer_traced(
+        alloc,
+        tracing,
+        session.tally,
+        engine,
+        store,
+        behind,
+        session.pending.text(),
+        &stmt,
+        out,
+        trace,
+        digest,
+    );
+    match answered {
+        Ok(tally) => {
+            session.tally = tally;
+            Ok(())
+        }
+        Err(halted) => Err(Break::Served(halted)),
+    }
+}
+
+// Takes a statement: it goes into the batch of those that wait, or they are served before it.
+fn take_stmt<R: Revisions, S: BlockStore, B: Behind<S>, K: Sink, T: Sink, D: Digester>(
+    alloc: Global,
+    tracing: bool,
+    session: &mut Session,
+    stmt: Stmt,
+    engine: &mut Engine<R>,
+    store: &mut S,
+    behind: &mut B,
+    out: &mut K,
+    trace: &mut T,
+    digest: &mut D,
+) -> Result<(), Break>
+    requires spells { Spells session.old.pending (Ok stmt) }
+    requires waits { AreGathered (public_of engine.old) (count_of engine.old (S.state store.old))
+        session.old.batch.items }
+    requires ready { IsReady R.state (B.Saves behind.old)
+        (machine_of engine.old (S.state store.old) (B.state behind.old)) }
+    requires took { D.took digest.old (S.state store.old).asked }
+    ensures pending { session.new.pending ≡ session.old.pending }
+    ensures takes { TakesMore R.state (B.Saves behind.new) tracing
+        (IsFree (public_of engine.old) session.old.batch.items)
+        (λ old new. IsFree (public_of engine.new) session.new.batch.items new)
+        session.old.batch.items session.new.batch.items (session.old.pending ∷ []) WantsRoom
+        session.old.tally session.new.tally (K.written out.old) (K.written out.new)
+        (T.written trace.old) (T.written trace.new)
+        (faults_of 0 (K.faults out.old) (T.faults trace.old))
+        (faults_of 0 (K.faults out.new) (T.faults trace.new))
+        (machine_of engine.old (S.state store.old) (B.state behind.old))
+        (machine_of engine.new (S.state store.new) (B.state behind.new)) result }
+    ensures same { B.name behind.new ≡ B.name behind.old }
+    ensures took { UnlessServed result (D.took digest.new (S.state store.new).asked) }
+{
+    if goes_along(session.batch.as_slice(), &stmt) {
+        return gather(
+            alloc, tracing, session, stmt, engine, store, behind, out, trace, digest,
+        );
+    }
+    match flush(
+        alloc, tracing, session, engine, store, behind, out, trace, digest,
+    ) {
+        Ok(()) => begin(
+            alloc, tracing, session, stmt, engine, store, behind, out, trace, digest,
+        ),
+        Err(halted) => Err(Break::Served(halted)),
+    }
+}
+
+// Answers a text that is no statement, behind those that wait.
+fn take_misspelt<R: Revisions, S: BlockStore, B: Behind<S>, K: Sink, T: Sink, D: Digester>(
+    alloc: Global,
+    tracing: bool,
+    session: &mut Session,
+    at: u32,
+    engine: &mut Engine<R>,
+    store: &mut S,
+    behind: &mut B,
+    out: &mut K,
+    trace: &mut T,
+    digest: &mut D,
+) -> Result<(), TextHalted>
+    requires spells { Spells session.old.pending (Err at) }
+    requires waits { AreGathered (public_of engine.old) (count_of engine.old (S.state store.old))
+        session.old.batch.items }
+    requires ready { IsReady R.state (B.Saves behind.old)
+        (machine_of engine.old (S.state store.old) (B.state behind.old)) }
+    requires took { D.took digest.old (S.state store.old).asked }
+    ensures pending { session.new.pending ≡ session.old.pending }
+    ensures takes { TakesTexts R.state (B.Saves behind.new) tracing
+        (IsFree (public_of engine.old) session.old.batch.items)
+        (λ old new. IsFree (public_of engine.new) session.new.batch.items new)
+        session.old.batch.items session.new.batch.items (session.old.pending ∷ [])
+        session.old.tally session.new.tally (K.written out.old) (K.written out.new)
+        (T.written trace.old) (T.written trace.new)
+        (faults_of 0 (K.faults out.old) (T.faults trace.old))
+        (faults_of 0 (K.faults out.new) (T.faults trace.new))
+        (machine_of engine.old (S.state store.old) (B.state behind.old))
+        (machine_of engine.new (S.state store.new) (B.state behind.new)) result }
+    ensures same { B.name behind.new ≡ B.name behind.old }
+    ensures took { OnOk result (D.took digest.new (S.state store.new).asked) }
+{
+    if let Err(halted) = flush(
+        alloc, tracing, session, engine, store, behind, out, trace, digest,
+    ) {
+        return Err(halted);
+    }
+    let answered = Answered {
+        outcome: Outcome::Refused(Refusal::Syntax(at)),
+        plan: None,
+    };
+    match write_all(out, closing_line(answered.outcome).as_bytes()) {
+        Ok(()) => {
+            session.tally = tally_with(session.tally, answered);
+            Ok(())
+        }
+        Err(Failed) => Err(SINK_FAILED),
+    }
+}
+
+// Takes a text that is whole, which stays where it was read.
+fn take_text<R: Revisions, S: BlockStore, B: Behind<S>, K: Sink, T: Sink, D: Digester>(
+    alloc: Global,
+    tracing: bool,
+    session: &mut Session,
+    engine: &mut Engine<R>,
+    store: &mut S,
+    behind: &mut B,
+    out: &mut K,
+    trace: &mut T,
+    digest: &mut D,
+) -> Result<(), Break>
+    requires short { length session.old.pending ≤ text_max }
+    requires waits { AreGathered (public_of engine.old) (count_of engine.old (S.state store.old))
+        session.old.batch.items }
+    requires ready { IsReady R.state (B.Saves behind.old)
+        (machine_of engine.old (S.state store.old) (B.state behind.old)) }
+    requires took { D.took digest.old (S.state store.old).asked }
+    ensures pending { session.new.pending ≡ session.old.pending }
+    ensures takes { TakesMore R.state (B.Saves behind.new) tracing
+        (IsFree (public_of engine.old) session.old.batch.items)
+        (λ old new. IsFree (public_of engine.new) session.new.batch.items new)
+        session.old.batch.items session.new.batch.items (session.old.pending ∷ []) WantsRoom
+        session.old.tally session.new.tally (K.written out.old) (K.written out.new)
+        (T.written trace.old) (T.written trace.new)
+        (faults_of 0 (K.faults out.old) (T.faults trace.old))
+        (faults_of 0 (K.faults out.new) (T.faults trace.new))
+        (machine_of engine.old (S.state store.old) (B.state behind.old))
+        (machine_of engine.new (S.state store.new) (B.state behind.new)) result }
+    ensures same { B.name behind.new ≡ B.name behind.old }
+    ensures took { UnlessServed result (D.took digest.new (S.state store.new).asked) }
+{
+    match parse(alloc, session.pending.text()) {
+        Ok(stmt) => take_stmt(
+            alloc, tracing, session, stmt, engine, store, behind, out, trace, digest,
+        ),
+        Err(error) => match error {
+            ParseErr::Syntax(at) => {
+                let taken = take_misspelt(
+                    alloc, tracing, session, at, engine, store, behind, out, trace, digest,
+                );
+                match taken {
+                    Ok(()) => Ok(()),
+                    Err(halted) => Err(Break::Served(halted)),
+                }
+            }
+            ParseErr::NoMemory => Err(Break::Unread(Stop::NoMemory)),
+        },
+    }
+}
+
+// Takes one byte, and the text that it ends.
+fn turn<R: Revisions, S: BlockStore, B: Behind<S>, K: Sink, T: Sink, D: Digester>(
     alloc: Global,
     tracing: bool,
     session: &mut Session,
@@ -297,127 +581,155 @@ fn turn<R: Revisions, S: BlockStore, B: Behind<S>, K: Sink, T: Sink>(
     behind: &mut B,
     out: &mut K,
     trace: &mut T,
-) -> Result<(), Halted>
+    digest: &mut D,
+) -> Result<(), Break>
     requires short { length session.old.pending < text_max }
+    requires waits { AreGathered (public_of engine.old) (count_of engine.old (S.state store.old))
+        session.old.batch.items }
     requires ready { IsReady R.state (B.Saves behind.old)
         (machine_of engine.old (S.state store.old) (B.state behind.old)) }
+    requires took { D.took digest.old (S.state store.old).asked }
     ensures pending { OnOk result ((session.new.pending ≡ rest_after session.old.pending b)
         × (length session.new.pending < text_max)) }
-    ensures serves { ServesByte R.state (B.Saves behind.new) (texts_at session.old.pending b)
-        (λ served. AnswersAll R.state
-        (K.written out.old) (K.written out.new) (texts_at session.old.pending b)
-        session.old.tally session.new.tally)
-        ((texts_at session.old.pending b ≡ [])
-        × (is_over (rest_after session.old.pending b) ≡ true)
-        × AnswersAll R.state (K.written out.old) (K.written out.new) []
-        session.old.tally session.old.tally
-        (machine_of engine.old (S.state store.old) (B.state behind.old))
-        (machine_of engine.new (S.state store.new) (B.state behind.new)))
-        (K.written out.old) (K.written out.new)
+    ensures takes { TakesMore R.state (B.Saves behind.new) tracing
+        (IsFree (public_of engine.old) session.old.batch.items)
+        (λ old new. IsFree (public_of engine.new) session.new.batch.items new)
+        session.old.batch.items session.new.batch.items (texts_at session.old.pending b)
+        (IsNotTaken session.old.pending b)
+        session.old.tally session.new.tally (K.written out.old) (K.written out.new)
+        (T.written trace.old) (T.written trace.new)
         (faults_of 0 (K.faults out.old) (T.faults trace.old))
         (faults_of 0 (K.faults out.new) (T.faults trace.new))
         (machine_of engine.old (S.state store.old) (B.state behind.old))
-        (machine_of engine.new (S.state store.new) (B.state behind.new))
-        result }
-    ensures traced { OnOk result (TracedAll tracing (S.state store.old).asked
-        (S.state store.new).asked (T.written trace.old) (T.written trace.new)) }
-    ensures traced_stop { OnErr result (Traced tracing (S.state store.old).asked
-        (S.state store.new).asked (T.written trace.old) (T.written trace.new) (IsQuiet result)) }
+        (machine_of engine.new (S.state store.new) (B.state behind.new)) result }
     ensures same { B.name behind.new ≡ B.name behind.old }
+    ensures took { UnlessServed result (D.took digest.new (S.state store.new).asked) }
 {
     match session.pending.push(b) {
         Ok(Grown::More) => Ok(()),
         Ok(Grown::Whole) => {
-            match answer_traced(
-                alloc,
-                tracing,
-                session.tally,
-                engine,
-                store,
-                behind,
-                session.pending.text(),
-                out,
-                trace,
+            match take_text(
+                alloc, tracing, session, engine, store, behind, out, trace, digest,
             ) {
-                Err(halted) => Err(Halted::from(halted)),
-                Ok(tally) => {
-                    session.tally = tally;
+                Ok(()) => {
                     session.pending.clear();
                     Ok(())
                 }
+                Err(broken) => Err(broken),
             }
         }
-        Err(PushStop::NoMemory) => Err(Halted {
-            stop: Stop::NoMemory,
-            quiet: false,
-        }),
-        Err(PushStop::InputLimit) => Err(Halted {
-            stop: Stop::InputLimit,
-            quiet: false,
-        }),
+        Err(PushStop::NoMemory) => Err(Break::Unread(Stop::NoMemory)),
+        Err(PushStop::InputLimit) => Err(Break::Unread(Stop::InputLimit)),
     }
 }
 
-// Serves what has come of a text with no end, once no more comes.
-fn finish<R: Revisions, S: BlockStore, B: Behind<S>, K: Sink, T: Sink>(
+// Takes what has come of a text with no end, once no more comes.
+fn finish<R: Revisions, S: BlockStore, B: Behind<S>, K: Sink, T: Sink, D: Digester>(
     alloc: Global,
     tracing: bool,
-    session: &Session,
+    session: &mut Session,
     engine: &mut Engine<R>,
     store: &mut S,
     behind: &mut B,
     out: &mut K,
     trace: &mut T,
-) -> Result<Tally, TextHalted>
-    requires short { length session.now.pending ≤ text_max }
+    digest: &mut D,
+) -> Result<(), Break>
+    requires short { length session.old.pending ≤ text_max }
+    requires waits { AreGathered (public_of engine.old) (count_of engine.old (S.state store.old))
+        session.old.batch.items }
     requires ready { IsReady R.state (B.Saves behind.old)
         (machine_of engine.old (S.state store.old) (B.state behind.old)) }
-    ensures serves { ServesTexts R.state (B.Saves behind.new) (tail_text session.now.pending)
-        (λ counted. AnswersAll R.state
-        (K.written out.old) (K.written out.new) (tail_text session.now.pending)
-        session.now.tally counted)
-        (K.written out.old) (K.written out.new)
+    requires took { D.took digest.old (S.state store.old).asked }
+    ensures takes { TakesMore R.state (B.Saves behind.new) tracing
+        (IsFree (public_of engine.old) session.old.batch.items)
+        (λ old new. IsFree (public_of engine.new) session.new.batch.items new)
+        session.old.batch.items session.new.batch.items (tail_text session.old.pending) WantsRoom
+        session.old.tally session.new.tally (K.written out.old) (K.written out.new)
+        (T.written trace.old) (T.written trace.new)
         (faults_of 0 (K.faults out.old) (T.faults trace.old))
         (faults_of 0 (K.faults out.new) (T.faults trace.new))
         (machine_of engine.old (S.state store.old) (B.state behind.old))
-        (machine_of engine.new (S.state store.new) (B.state behind.new))
-        result }
-    ensures traced { OnOk result (TracedAll tracing (S.state store.old).asked
-        (S.state store.new).asked (T.written trace.old) (T.written trace.new)) }
-    ensures traced_stop { OnErr result (Traced tracing (S.state store.old).asked
-        (S.state store.new).asked (T.written trace.old) (T.written trace.new)
-        (IsQuiet (halted_of result))) }
+        (machine_of engine.new (S.state store.new) (B.state behind.new)) result }
     ensures same { B.name behind.new ≡ B.name behind.old }
+    ensures took { UnlessServed result (D.took digest.new (S.state store.new).asked) }
 {
     if !session.pending.has_words() {
-        return Ok(session.tally);
+        return Ok(());
     }
-    answer_traced(
-        alloc,
-        tracing,
-        session.tally,
-        engine,
-        store,
-        behind,
-        session.pending.text(),
-        out,
-        trace,
+    take_text(
+        alloc, tracing, session, engine, store, behind, out, trace, digest,
     )
 }
 
-// The stop of a text ends the session.
-fn session_result(served: Result<Tally, TextHalted>) -> Result<Tally, Halted>
-    ensures { result ≡ halted_of served }
+// Reads a feed to its end or a stop, and serves the texts that it brings, but for those that wait then.
+fn read_texts<I: Source, R: Revisions, S: BlockStore, B: Behind<S>, K: Sink, T: Sink, D: Digester>(
+    alloc: Global,
+    tracing: bool,
+    session: &mut Session,
+    feed: &mut Feed,
+    input: &mut I,
+    engine: &mut Engine<R>,
+    store: &mut S,
+    behind: &mut B,
+    out: &mut K,
+    trace: &mut T,
+    digest: &mut D,
+) -> Result<(), Break>
+    requires none { session.old.batch.items ≡ [] }
+    requires fresh { session.old.pending ≡ [] }
+    requires uncounted { session.old.tally ≡ empty_tally }
+    requires ready { IsReady R.state (B.Saves behind.old)
+        (machine_of engine.old (S.state store.old) (B.state behind.old)) }
+    requires fed_by { IsFedBy feed.old (I.gave input.old) }
+    requires took { D.took digest.old (S.state store.old).asked }
+    ensures reads { ReadsTexts R.state tracing feed.old feed.new
+        (I.left input.old) (I.left input.new) (I.gave input.new)
+        (K.written out.old) (K.written out.new) (T.written trace.old) (T.written trace.new)
+        session.new.batch.items session.new.tally
+        (machine_of engine.old (S.state store.old) (B.state behind.old))
+        (machine_of engine.new (S.state store.new) (B.state behind.new))
+        (K.faults out.old) (K.faults out.new) result }
+    ensures stands { UnlessServed result (StandsReady R.state (B.Saves behind.new)
+        (D.took digest.new (S.state store.new).asked) session.new.batch.items
+        (machine_of engine.new (S.state store.new) (B.state behind.new))) }
+    ensures within { feed.new.taken ≤ feed.new.limit }
+    ensures fed_by { IsFedBy feed.new (I.gave input.new) }
+    ensures traced { Traced tracing (S.state store.old).asked (S.state store.new).asked
+        (T.written trace.old) (T.written trace.new) (IsQuiet (broken_of result)) }
+    ensures cause { StopCause (ServesAlone (public_of engine.old))
+        (faults_of (I.faults input.old) (K.faults out.old) (T.faults trace.old))
+        (faults_of (I.faults input.new) (K.faults out.new) (T.faults trace.new))
+        (stop_of (broken_of result)) }
+    ensures quiet { Silenced (is_quiet (broken_of result))
+        (faults_of (I.faults input.old) (K.faults out.old) (T.faults trace.old))
+        (faults_of (I.faults input.new) (K.faults out.new) (T.faults trace.new)) }
+    ensures same { B.name behind.new ≡ B.name behind.old }
 {
-    match served {
-        Ok(tally) => Ok(tally),
-        Err(halted) => Err(Halted::from(halted)),
+    'bytes: loop {
+        match feed.next(input) {
+            Err(Halt::SourceFault) => return Err(Break::Unread(Stop::SourceFault)),
+            Err(Halt::InputLimit) => return Err(Break::Unread(Stop::InputLimit)),
+            Ok(None) => {
+                return finish(
+                    alloc, tracing, session, engine, store, behind, out, trace, digest,
+                );
+            }
+            Ok(Some(b)) => {
+                let turned = turn(
+                    alloc, tracing, session, b, engine, store, behind, out, trace, digest,
+                );
+                if let Err(broken) = turned {
+                    return Err(broken);
+                }
+            }
+        }
     }
 }
 
-/// Serves the texts that a feed brings, to its end or a stop, with what is behind each statement. Tells what was
-/// counted of them.
-pub fn serve<I: Source, R: Revisions, S: BlockStore, B: Behind<S>, K: Sink, T: Sink>(
+/// Serves the texts that a feed brings, to its end or a stop, with what is behind each statement, and then those that wait.
+/// Tells what was counted of them.
+pub fn serve<I: Source, R: Revisions, S: BlockStore, B: Behind<S>, K: Sink, T: Sink, D: Digester>(
     alloc: Global,
     tracing: bool,
     feed: &mut Feed,
@@ -427,10 +739,12 @@ pub fn serve<I: Source, R: Revisions, S: BlockStore, B: Behind<S>, K: Sink, T: S
     behind: &mut B,
     out: &mut K,
     trace: &mut T,
+    digest: &mut D,
 ) -> Result<Tally, Halted>
     requires ready { IsReady R.state (B.Saves behind.old)
         (machine_of engine.old (S.state store.old) (B.state behind.old)) }
     requires fed_by { IsFedBy feed.old (I.gave input.old) }
+    requires took { D.took digest.old (S.state store.old).asked }
     ensures ready { OnOk result (IsReady R.state (B.Saves behind.new)
         (machine_of engine.new (S.state store.new) (B.state behind.new))) }
     ensures ran { SessionRan R.state tracing feed.old feed.new
@@ -443,51 +757,38 @@ pub fn serve<I: Source, R: Revisions, S: BlockStore, B: Behind<S>, K: Sink, T: S
     ensures fed_by { IsFedBy feed.new (I.gave input.new) }
     ensures traced { Traced tracing (S.state store.old).asked (S.state store.new).asked
         (T.written trace.old) (T.written trace.new) (IsQuiet result) }
-    ensures cause { StopCause
+    ensures cause { StopCause (ServesAlone (public_of engine.old))
         (faults_of (I.faults input.old) (K.faults out.old) (T.faults trace.old))
         (faults_of (I.faults input.new) (K.faults out.new) (T.faults trace.new)) (stop_of result) }
     ensures quiet { Silenced (is_quiet result)
         (faults_of (I.faults input.old) (K.faults out.old) (T.faults trace.old))
         (faults_of (I.faults input.new) (K.faults out.new) (T.faults trace.new)) }
     ensures same { B.name behind.new ≡ B.name behind.old }
+    ensures took { OnOk result (D.took digest.new (S.state store.new).asked) }
 {
-    let mut session = Session {
+    let mut here = Session {
         pending: Pending::new(alloc),
+        batch: Vec::new(alloc),
         tally: Tally::new(),
     };
-    'bytes: loop {
-        match feed.next(input) {
-            Err(Halt::SourceFault) => {
-                return Err(Halted {
-                    stop: Stop::SourceFault,
-                    quiet: false,
-                });
-            }
-            Err(Halt::InputLimit) => {
-                return Err(Halted {
-                    stop: Stop::InputLimit,
-                    quiet: false,
-                });
-            }
-            Ok(None) => {
-                let served = finish(alloc, tracing, &session, engine, store, behind, out, trace);
-                return session_result(served);
-            }
-            Ok(Some(b)) => {
-                if let Err(halted) = turn(
-                    alloc,
-                    tracing,
-                    &mut session,
-                    b,
-                    engine,
-                    store,
-                    behind,
-                    out,
-                    trace,
-                ) {
-                    return Err(halted);
-                }
+    let read = read_texts(
+        alloc, tracing, &mut here, feed, input, engine, store, behind, out, trace, digest,
+    );
+    match read {
+        Ok(()) => match flush(
+            alloc, tracing, &mut here, engine, store, behind, out, trace, digest,
+        ) {
+            Ok(()) => Ok(here.tally),
+            Err(halted) => Err(Halted::from(halted)),
+        },
+        Err(Break::Unread(stop)) => {
+            match flush(
+                alloc, tracing, &mut here, engine, store, behind, out, trace, digest,
+            ) {
+                Ok(()) => Err(Halted { stop, quiet: false }),
+                Err(halted) => Err(Halted::from(halted)),
             }
         }
+        Err(Break::Served(halted)) => Err(Halted::from(halted)),
     }
 }

@@ -1,5 +1,5 @@
 //! The top calls.
-ghost use Rattle.std.specs.Prelude.{IfOk, MatchOption, string_bytes};
+ghost use Rattle.std.specs.Prelude.{Bool, IfOk, MatchOption, OnOk, string_bytes};
 ghost use Rattle.std.specs.Prelude.{◌≡◌, ◌≢◌, ◌≤◌, [], map, Ok, Err, Some, None, true, false, ⊤};
 ghost use Rattle.ob_gen.specs.Tally.{empty_tally};
 ghost use Rattle.ob_gen.specs.declared.tally.Tally.{Tally};
@@ -16,20 +16,19 @@ ghost use Rattle.ob_shell.specs.Closed.{LineWritten, Untouched, Unwritten, refus
 ghost use Rattle.ob_shell.specs.Feeding.{IsFedBy};
 ghost use Rattle.ob_shell.specs.Generating.{MeddleRan, Summarized, asked_for};
 ghost use Rattle.ob_shell.specs.Meddling.{Unserved};
-ghost use Rattle.ob_shell.specs.Running.{IsQuiet, OutFailed, Silenced, StopCause, is_quiet, stop_of};
+ghost use Rattle.ob_shell.specs.Running.{IsQuiet, OutFailed, ServesAlone, Silenced, StopCause, is_quiet, stop_of};
 ghost use Rattle.ob_shell.specs.Tallies.{flagged};
 ghost use Rattle.ob_shell.specs.Top.{EndingCause, RanAfter, Reported, RunShown, sink_of};
 ghost use Rattle.ob_shell.specs.Traces.{Traced};
-ghost use Rattle.ob_shell.specs.WordsRead.{AreWithin};
+ghost use Rattle.ob_words.specs.WordsRead.{AreWithin};
 
 use crate::feed::{Feed, Halt};
 use crate::generating::serve_generated;
 use crate::key::{FirstLine, read_key};
 use crate::session::{Halted, serve};
-use crate::words::{Words, WordsErr, read_meddle_words, read_words};
 use ob_base::Stop;
 use ob_exec::{Engine, Unsaved};
-use ob_gen::Tally;
+use ob_gen::{Digester, Tally, Undigested};
 use ob_headline::{Ending, Report};
 use ob_io::{Sink, Source};
 use ob_meddle::MeddledStore;
@@ -37,6 +36,7 @@ use ob_print::{Line, stop_line, write_all};
 use ob_seal::Keys;
 use ob_store::BlockStore;
 use ob_vault::{BaseRevs, Revisions};
+use ob_words::{Words, WordsErr, read_meddle_words, read_words};
 use std::alloc::Global;
 
 /// How a run ended, whether its last line may not be written any more, how many rows were open, and what was counted of
@@ -117,7 +117,7 @@ pub(crate) fn ended_with(ran: Result<Tally, Halted>, high: u64) -> Ended
 
 // Starts an engine with this secret, and serves what follows the first line; no tables are saved. Tells of the rows open,
 // too.
-fn serve_with<I: Source, O: Sink, T: Sink, S: BlockStore>(
+fn serve_with<I: Source, O: Sink, T: Sink, D: Digester, S: BlockStore>(
     alloc: Global,
     words: Words,
     key: &[u8; 32],
@@ -125,12 +125,14 @@ fn serve_with<I: Source, O: Sink, T: Sink, S: BlockStore>(
     input: &mut I,
     out: &mut O,
     trace: &mut T,
+    digest: &mut D,
     store: &mut S,
 ) -> (Result<Tally, Halted>, u64)
     requires within { AreWithin words.config }
     requires taken { feed.old.taken ≤ feed.old.limit }
     requires fed_by { IsFedBy feed.old (I.gave input.old) }
     requires fresh { (S.state store.old).asked ≡ [] }
+    requires took { D.took digest.old (S.state store.old).asked }
     ensures ran { RanAfter ⟦<BaseRevs as Revisions>⟧.state
         (sink_of words.trace (T.written trace.old) (T.written trace.new))
         (fresh (Some words.config)) (keys_of key.now) (Some key.now)
@@ -143,13 +145,14 @@ fn serve_with<I: Source, O: Sink, T: Sink, S: BlockStore>(
     ensures fed_by { IsFedBy feed.new (I.gave input.new) }
     ensures traced { Traced words.trace (S.state store.old).asked (S.state store.new).asked
         (T.written trace.old) (T.written trace.new) (IsQuiet result.0) }
-    ensures cause { StopCause
+    ensures cause { StopCause (ServesAlone (fresh (Some words.config)).public)
         (faults_of (I.faults input.old) (O.faults out.old) (T.faults trace.old))
         (faults_of (I.faults input.new) (O.faults out.new) (T.faults trace.new))
         (stop_of result.0) }
     ensures quiet { Silenced (is_quiet result.0)
         (faults_of (I.faults input.old) (O.faults out.old) (T.faults trace.old))
         (faults_of (I.faults input.new) (O.faults out.new) (T.faults trace.new)) }
+    ensures took { OnOk result.0 (D.took digest.new (S.state store.new).asked) }
 {
     match Engine::<BaseRevs>::start(alloc, words.config, Keys::derive(key)) {
         Err(_) => {
@@ -167,6 +170,7 @@ fn serve_with<I: Source, O: Sink, T: Sink, S: BlockStore>(
                 &mut Unsaved,
                 out,
                 trace,
+                digest,
             );
             (ran, engine.high())
         }
@@ -174,16 +178,18 @@ fn serve_with<I: Source, O: Sink, T: Sink, S: BlockStore>(
 }
 
 // Reads the first line and serves the texts: all but the last line.
-pub(crate) fn run<I: Source, O: Sink, T: Sink, S: BlockStore>(
+pub(crate) fn run<I: Source, O: Sink, T: Sink, D: Digester, S: BlockStore>(
     alloc: Global,
     words: Words,
     input: &mut I,
     out: &mut O,
     trace: &mut T,
+    digest: &mut D,
     store: &mut S,
 ) -> Ended
     requires within { AreWithin words.config }
     requires fresh { (S.state store.old).asked ≡ [] }
+    requires took { D.took digest.old (S.state store.old).asked }
     ensures shown { RunShown result.tally
         (sink_of words.trace (T.written trace.old) (T.written trace.new))
         (fresh (Some words.config)) keys_in
@@ -195,12 +201,14 @@ pub(crate) fn run<I: Source, O: Sink, T: Sink, S: BlockStore>(
     ensures words { result.ending ≢ Ending.Usage }
     ensures traced { Traced words.trace (S.state store.old).asked (S.state store.new).asked
         (T.written trace.old) (T.written trace.new) (result.quiet ≡ true) }
-    ensures cause { EndingCause result.ending
+    ensures cause { EndingCause (ServesAlone (fresh (Some words.config)).public) result.ending
         (faults_of (I.faults input.old) (O.faults out.old) (T.faults trace.old))
         (faults_of (I.faults input.new) (O.faults out.new) (T.faults trace.new)) }
     ensures quiet { Silenced result.quiet
         (faults_of (I.faults input.old) (O.faults out.old) (T.faults trace.old))
         (faults_of (I.faults input.new) (O.faults out.new) (T.faults trace.new)) }
+    ensures took { (refused : Bool) → result.ending ≡ Ending.Ran (Ok refused)
+        → D.took digest.new (S.state store.new).asked }
 {
     let mut feed = Feed::new(words.config.max_input);
     match read_key(&mut feed, input) {
@@ -209,7 +217,9 @@ pub(crate) fn run<I: Source, O: Sink, T: Sink, S: BlockStore>(
         Ok(FirstLine::Bad) => ended_at(Ending::BadKey),
         Ok(FirstLine::Last(_)) => ended_at(Ending::Ran(Ok(false))),
         Ok(FirstLine::Secret(key)) => {
-            let (ran, high) = serve_with(alloc, words, &key, &mut feed, input, out, trace, store);
+            let (ran, high) = serve_with(
+                alloc, words, &key, &mut feed, input, out, trace, digest, store,
+            );
             ended_with(ran, high)
         }
     }
@@ -271,7 +281,7 @@ pub(crate) fn serve_over<I: Source, O: Sink, T: Sink, S: BlockStore>(
         (faults_of (I.faults input.old) (O.faults out.old) (T.faults trace.old))
         (faults_of (I.faults input.new) (O.faults out.new) (T.faults trace.new))) }
 {
-    let ended = run(alloc, words, input, out, trace, store);
+    let ended = run(alloc, words, input, out, trace, &mut Undigested, store);
     close(ended, out)
 }
 

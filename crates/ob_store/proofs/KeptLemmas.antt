@@ -7,7 +7,7 @@ use Rattle.std.proofs.lemmas.Bool.Decides.{nat_tests}
 use Rattle.ob_base.specs.Lists.{tabulate}
 use Rattle.ob_base.specs.declared.access.Access.{Access}
 use Rattle.ob_base.specs.declared.access.Access.TheVariants.{Make}
-use Rattle.ob_store.specs.declared.log.Start.{Start}
+use Rattle.ob_store.specs.declared.runs.Start.{Start}
 use Rattle.ob_store.specs.Logs.{Run, access_at, entry, spelt, whole, is_next, is_turn, goes_on, comes_round, joins, lengthened, added}
 use Rattle.ob_store.specs.Kept.{start_of, runs_of, place_of, Sound, IsLog}
 use Rattle.ob_store.proofs.RunLemmas.{Full, spelt_added}

@@ -6,13 +6,14 @@ use Rattle.ob_base.specs.declared.access.Access.{Access}
 use Rattle.ob_store.specs.State.{Lie, Disturbance, StoreState}
 use Rattle.ob_store.specs.Calls.{Asks, ReadGives, ChangesNothing, IsBefore}
 use Rattle.ob_base.specs.Lists.{each}
-use Rattle.ob_store.specs.Runs.{Did, Began, Later}
+use Rattle.ob_store.specs.Runs.{Did, Began, Since, Later}
 
 pub later_refl : (s : StoreState) → Later s s
-later_refl s = record { faults = omega arith; tells = refl; lie = λ lie is. is; disturbed = refl; steady = λ steady. steady }
+later_refl s = record { log = refl; faults = omega arith; tells = refl; lie = λ lie is. is; disturbed = refl; steady = λ steady. steady }
 
 pub later_trans : (old mid new : StoreState) → Later old mid → Later mid new → Later old new
 later_trans old mid new first second = record {
+  log = second.log ∙ first.log;
   faults = omega (arith, first.faults, second.faults);
   tells = second.tells ∙ first.tells;
   lie = λ lie is. second.lie lie (first.lie lie is);
@@ -20,9 +21,25 @@ later_trans old mid new first second = record {
   steady = λ steady. second.steady (first.steady steady);
 }
 
+pub since_refl : (s : StoreState) → Since s s
+since_refl s = record { faults = omega arith; tells = refl; lie = λ lie is. is; disturbed = refl; steady = λ steady. steady }
+
+pub since_trans : (old mid new : StoreState) → Since old mid → Since mid new → Since old new
+since_trans old mid new first second = record {
+  faults = omega (arith, first.faults, second.faults);
+  tells = second.tells ∙ first.tells;
+  lie = λ lie is. second.lie lie (first.lie lie is);
+  disturbed = second.disturbed ∙ first.disturbed;
+  steady = λ steady. second.steady (first.steady steady);
+}
+
+pub since_later : (old new : StoreState) → Later old new → Since old new
+since_later old new later = record { faults = later.faults; tells = later.tells; lie = later.lie; disturbed = later.disturbed; steady = later.steady }
+
 -- one call
 pub later_call : (access : Access) (old new : StoreState) → Asks access old new → Later old new
 later_call access old new asks = record {
+  log = asks.log;
   faults = asks.faults;
   tells = asks.tells;
   lie = asks.lie;
@@ -33,6 +50,7 @@ later_call access old new asks = record {
 -- room is made
 pub later_rests : (old new : StoreState) → ChangesNothing old new → Later old new
 later_rests old new rests = record {
+  log = rests.log;
   faults = omega (arith, rests.faults);
   tells = rests.tells;
   lie = λ lie is. rests.lie ∙ is;
@@ -50,12 +68,15 @@ later_rests old new rests = record {
   before_old n before = subst (λ (o : Option (List Disturbance)). IsBefore o n) rests.disturbed before
 
 -- no lie afterwards is none throughout
-pub none_before : (old new : StoreState) → Later old new → new.lie ≡ None → old.lie ≡ None
-none_before old new later none = none_of old.lie later.lie
+pub none_since : (old new : StoreState) → Since old new → new.lie ≡ None → old.lie ≡ None
+none_since old new since none = none_of old.lie since.lie
   where
     none_of : (o : Option Lie) → ((lie : Lie) → o ≡ Some lie → new.lie ≡ Some lie) → o ≡ None
     none_of None stays = refl
     none_of (Some lie) stays = absurd (cc (stays lie refl, none))
+
+pub none_before : (old new : StoreState) → Later old new → new.lie ≡ None → old.lie ≡ None
+none_before old new later none = none_since old new (since_later old new later) none
 
 pub did_none : (s : StoreState) → Did [] s s
 did_none s = record { asked = sym (append-nil s.asked); faults = refl }

@@ -45,6 +45,7 @@ pub record IsSteady (s : StoreState) : Type 0 where
 -- one access was asked, whatever was answered; a lie stays
 pub record Asks (access : Access) (old new : StoreState) : Type 0 where
   pub asked : new.asked ≡ old.asked ++ access ∷ []
+  pub log : new.let_go ≡ old.let_go
   pub spare : old.spare ≤ new.spare + 1
   pub faults : old.faults ≤ new.faults
   pub slips : old.slips ≤ new.slips
@@ -112,6 +113,7 @@ pub record MayHold (region place : ℕ) (block : List ℕ) (old new : StoreState
 pub record ChangesNothing (old new : StoreState) : Type 0 where
   pub spare : old.spare ≤ new.spare
   pub asked : new.asked ≡ old.asked
+  pub log : new.let_go ≡ old.let_go
   pub faults : new.faults ≡ old.faults
   pub slips : new.slips ≡ old.slips
   pub tells : new.tells ≡ old.tells
@@ -119,6 +121,10 @@ pub record ChangesNothing (old new : StoreState) : Type 0 where
   pub gave : new.gave ≡ old.gave
   pub disturbed : new.disturbed ≡ old.disturbed
   pub keeps : Keeps old new
+
+-- the list has let go of the accesses so far, and there is room for so many more; nothing else has changed
+abbrev pub without_list : (spare : ℕ) → StoreState → StoreState
+without_list spare s = record s { let_go = length s.asked; spare = spare }
 
 -- ---- regions of earlier runs
 -- a live region is kept as it stands
@@ -151,6 +157,7 @@ is_failed (Err StoreErrs.Failed) = true
 -- an earlier run's region was asked for, whatever was answered; from here on nothing is told of what others do
 pub record Reopens (access : Access) (old new : StoreState) : Type 0 where
   pub asked : new.asked ≡ old.asked ++ access ∷ []
+  pub log : new.let_go ≡ old.let_go
   pub spare : old.spare ≤ new.spare + 1
   pub faults : old.faults ≤ new.faults
   pub slips : new.slips ≡ old.slips
@@ -171,6 +178,7 @@ pub record Resumes (number blocks len : ℕ) (old new : StoreState) : Type 0 whe
 -- nothing has changed but that the store may have failed
 pub record Syncs (old new : StoreState) : Type 0 where
   pub asked : new.asked ≡ old.asked
+  pub log : new.let_go ≡ old.let_go
   pub spare : new.spare ≡ old.spare
   pub faults : old.faults ≤ new.faults
   pub slips : new.slips ≡ old.slips
@@ -188,6 +196,7 @@ pub record IsBare (s : StoreState) : Type 0 where
 -- each region that is live stays, and of those that aren't none is kept but as one that was given up
 pub record Sweeps (old new : StoreState) : Type 0 where
   pub asked : new.asked ≡ old.asked
+  pub log : new.let_go ≡ old.let_go
   pub spare : new.spare ≡ old.spare
   pub faults : new.faults ≡ old.faults
   pub slips : old.slips ≤ new.slips

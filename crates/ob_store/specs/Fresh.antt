@@ -1,13 +1,18 @@
 -- What follows of a store in memory from what it has.
-use Rattle.std.specs.Prelude.{◌≡◌, ◌<◌, ℕ, zero, suc, slice_index_or, Bool, true, false, IsTrue, List, [], ◌∷◌, Option, Some, None, refl, length, if◌then◌else◌}
+use Rattle.std.specs.Prelude.{◌≡◌, ◌<◌, ◌≤◌, ℕ, zero, suc, slice_index_or, Bool, true, false, IsTrue, List, [], ◌∷◌, Option, Some, None, refl, length, if◌then◌else◌}
 use Rattle.std.specs.Ordering.{nat_cmp}
 use Rattle.std.specs.BTreeSet.{BTreeSet, contains}
-use Rattle.std.proofs.Common.{ap, arith, subst, sym}
+use Rattle.std.proofs.Common.{ap, arith, length-append, subst, sym}
 use Rattle.ob_base.specs.declared.access.Access.{Access}
 use Rattle.ob_store.specs.declared.blocks.Blocks.{Blocks}
 use Rattle.ob_store.specs.State.{Disturbance, KeptRegion, Shape, StoreState}
 use Rattle.ob_store.specs.Calls.{IsBefore, IsBounded, IsSteady, KeepsLive}
+use Rattle.ob_store.specs.Logs.{LogState, asked_of, spelt}
 use Rattle.ob_store.specs.Memory.{bytes_at, live_shape, kept_of, last_of, written_at}
+
+-- what a log has let go of is no more than all
+pub past_within : (log : LogState) → length log.past ≤ length (asked_of log)
+past_within log = omega (arith, length-append log.past (spelt log.runs))
 
 -- before the first access no region is live
 abbrev pub is_fresh : List Access → List ℕ → Bool

@@ -3,7 +3,7 @@ use Rattle.std.specs.Prelude.{◌≡◌, ◌<◌, ◌≤◌, ◌-◌, ◌^◌, �
 use Rattle.ob_base.specs.declared.access.Access.{Access}
 use Rattle.ob_base.specs.declared.access.Access.TheVariants.{Make, Read, Write, Discard, Open}
 use Rattle.ob_store.specs.Logs.{Run, access_at, spelt}
-use Rattle.ob_store.specs.declared.log.Start.{Start}
+use Rattle.ob_store.specs.declared.runs.Start.{Start}
 
 abbrev pub start_of : List Start → ℕ → Start
 start_of starts k = slice_index_or starts k (record { access = 0; cycle = 0 })

@@ -1,5 +1,5 @@
 -- The accesses asked of a store, kept as runs.
-use Rattle.std.specs.Prelude.{◌==◌, ◌&&◌, ◌+◌, ◌/◌, ◌%◌, ℕ, zero, suc, Bool, true, false, List, [], ◌∷◌, ◌++◌, length, drop, nat_le, slice_index_or, if◌then◌else◌}
+use Rattle.std.specs.Prelude.{◌≡◌, ◌≤◌, ◌-◌, ◌^◌, ◌==◌, ◌&&◌, ◌+◌, ◌/◌, ◌%◌, ℕ, zero, suc, Bool, true, false, List, [], ◌∷◌, ◌++◌, length, drop, nat_le, slice_index_or, if◌then◌else◌}
 use Rattle.std.specs.List.{list_all}
 use Rattle.ob_base.specs.Lists.{tabulate}
 use Rattle.ob_base.specs.declared.access.Access.{Access}
@@ -10,8 +10,14 @@ pub record Run : Type 0 where
   pub cycle : List Access
   pub count : ℕ
 
--- what contracts see of a log: its runs, the last of them first, and for how many more there is room
+-- what contracts see of runs: the last of them first, and for how many more accesses there is room
+pub record RunsState : Type 0 where
+  pub runs : List Run
+  pub spare : ℕ
+
+-- and of a log: the accesses that it has let go of, the runs of those behind them, and for how many more there is room
 pub record LogState : Type 0 where
+  pub past : List Access
   pub runs : List Run
   pub spare : ℕ
 
@@ -39,7 +45,12 @@ spelt [] = []
 spelt (last ∷ before) = spelt before ++ spelt_run last
 
 abbrev pub asked_of : LogState → List Access
-asked_of log = spelt log.runs
+asked_of log = log.past ++ spelt log.runs
+
+-- so many are gone, and with those of these runs they are few enough to be counted
+pub record AreCounted (gone : ℕ) (past : List Access) (runs : List Run) : Type 0 where
+  pub count : gone ≡ length past
+  pub few : gone + length (spelt runs) ≤ 2 ^ 64 - 1
 
 abbrev pub is_block : Access → Bool
 is_block (Read region place) = true

@@ -1,5 +1,5 @@
 -- What contracts see of a store in memory.
-use Rattle.std.specs.Prelude.{true, Some, None, [], if◌then◌else◌}
+use Rattle.std.specs.Prelude.{length, true, Some, None, [], if◌then◌else◌}
 use Rattle.std.specs.Ordering.{nat_cmp}
 use Rattle.std.specs.BTreeMap.{get}
 use Rattle.std.specs.BTreeSet.{contains}
@@ -12,6 +12,7 @@ use Rattle.ob_store.specs.declared.memory.MemStore.{MemStore}
 abbrev pub state_of : MemStore → StoreState
 state_of m = record {
   asked = asked_of m.log;
+  let_go = length m.log.past;
   spare = m.log.spare;
   faults = m.faults;
   slips = 0;

@@ -17,7 +17,16 @@ pub record Began (script : List Access) (old new : StoreState) : Type 0 where
   pub asked : new.asked ≡ old.asked ++ done
 
 -- what holds from any state to any later one
+pub record Since (old new : StoreState) : Type 0 where
+  pub faults : old.faults ≤ new.faults
+  pub tells : new.tells ≡ old.tells
+  pub lie : (lie : Lie) → old.lie ≡ Some lie → new.lie ≡ Some lie
+  pub disturbed : new.disturbed ≡ old.disturbed
+  pub steady : IsSteady old → IsSteady new
+
+-- and where the list let go of no access meanwhile
 pub record Later (old new : StoreState) : Type 0 where
+  pub log : new.let_go ≡ old.let_go
   pub faults : old.faults ≤ new.faults
   pub tells : new.tells ≡ old.tells
   pub lie : (lie : Lie) → old.lie ≡ Some lie → new.lie ≡ Some lie

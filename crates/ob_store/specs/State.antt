@@ -30,6 +30,8 @@ pub record Disturbance : Type 0 where
 pub record StoreState : Type 0 where
   -- the accesses so far
   pub asked : List Access
+  -- how many of them, from the first one on, its list has let go of
+  pub let_go : ℕ
   -- how many more there is room for
   pub spare : ℕ
   -- how often the store has failed

@@ -1,15 +1,15 @@
 ghost use Rattle.std.specs.Prelude.{◌≡◌, ◌⊎◌, ◌<◌, ◌≤◌, ℕ, IsTrue, [], Some, None, length, slice_get, true, IfOk, OnOk, OnErr};
 ghost use Rattle.ob_store.specs.State.{KeptRegion, Shape, StoreState};
 ghost use Rattle.ob_base.specs.Accesses.{highest};
-ghost use Rattle.ob_store.specs.Calls.{IsBare, IsBounded, IsLive, IsPlace, IsGivenUp, KeepsLive, Reopens, Resumes, Asks, CountsFault, CountsSlip, CountsMakeFault, Keeps, Makes, ReadGives, OnlyAt, Holds, MayHold, OnlyRegion, ChangesNothing, IsSteady, Sweeps, Syncs};
+ghost use Rattle.ob_store.specs.Calls.{IsBare, IsBounded, IsLive, IsPlace, IsGivenUp, KeepsLive, Reopens, Resumes, Asks, CountsFault, CountsSlip, CountsMakeFault, Keeps, Makes, ReadGives, OnlyAt, Holds, MayHold, OnlyRegion, ChangesNothing, IsSteady, Sweeps, Syncs, without_list};
 
 use ob_base::{Access, Failed, NoMemory, StoreErr};
 
 /// A store that is not trusted: regions, each of blocks of one length, that others may change between
 /// any two calls.
 ///
-/// Each `make`, `read`, `write` and `discard` is one access, which the store lists whatever it answers;
-/// `room` is none. A store that tells says what was last written at each place, and which read was the
+/// Each `make`, `read`, `write` and `discard` is one access, which the store lists whatever it answers, until
+/// `let_go`; `room` is none. A store that tells says what was last written at each place, and which read was the
 /// first that gave other bytes (the lie). `gave` is what the last read gave, of any store. `disturbed` is
 /// what others do between its accesses, where it says so: before the first such access no call fails and
 /// no read lies. `faults` counts the calls of `make`, `read` and `write` that failed, and `slips` those of
@@ -95,13 +95,25 @@ pub trait BlockStore {
         ensures same { state self.new ≡ state self.old }
     {}
 
+    /// Has the list let go of the accesses so far: from here on it has those behind them alone.
+    ///
+    /// It is no access, takes no memory, and can't fail.
+    fn let_go(&mut self)
+        ensures is { state self.new ≡ without_list (state self.new).spare (state self.old) }
+        ensures spare { (state self.old).spare ≤ (state self.new).spare };
+
     /// How many accesses were asked so far.
     fn count(&self) -> u64
         ensures { result ≡ length (state self.now).asked };
 
-    /// The access at an index, from 0.
+    /// How many of them, from the first on, the list has let go of.
+    fn gone(&self) -> u64
+        ensures { result ≡ (state self.now).let_go };
+
+    /// The access at an index, from 0, that the list has.
     fn nth(&self, i: u64) -> Access
-        requires { i < length (state self.now).asked }
+        requires has { (state self.now).let_go ≤ i }
+        requires within { i < length (state self.now).asked }
         ensures { slice_get (state self.now).asked i ≡ Some result };
 
     /// A live region is kept as it stands, where that is told.
@@ -111,6 +123,9 @@ pub trait BlockStore {
     /// What is kept of a region lies at its places.
     ghost keeps_within: { (store : Self) (number : ℕ) (region : KeptRegion)
         → (state store).kept number ≡ Some region → IsBounded region };
+
+    /// What the list has let go of was asked.
+    ghost within_asked: { (store : Self) → (state store).let_go ≤ length (state store).asked };
 
     /// Before the first access no region is live.
     ghost starts_empty: { (store : Self) (region : ℕ) → (state store).asked ≡ []

@@ -74,7 +74,7 @@ fn put_log(out: &mut String, log: &Log) -> Result<(), AllocError> {
         log.count()
     )?;
     let count = log.count();
-    if count < 2 {
+    if count.saturating_sub(log.gone()) < 2 {
         return out.push_str("none");
     }
     put_access(out, log.nth(count - 2))

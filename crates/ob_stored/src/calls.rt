@@ -274,7 +274,7 @@ fn serve<S: Lasting>(store: &mut S, text: &str, out: &mut String) -> Result<(), 
 // Writes the accesses that were asked.
 fn put_accesses<S: BlockStore>(store: &S, out: &mut String) -> Result<(), AllocError> {
     out.push_str(" of")?;
-    for i in 0..store.count() {
+    for i in store.gone()..store.count() {
         out.push_str(" ")?;
         put_access(out, store.nth(i))?;
         out.push_str(",")?;

@@ -7,7 +7,7 @@ use Rattle.ob_tables.specs.declared.stop.RunStop.{RunStop}
 use Rattle.ob_tables.specs.declared.stop.RunStop.TheVariants as Stops
 use Rattle.ob_base.specs.declared.seen.Seen.{Seen}
 use Rattle.ob_base.specs.declared.seen.End.{End}
-use Rattle.ob_base.specs.declared.seen.End.TheVariants.{Static, Whole, AfterCount, Cut}
+use Rattle.ob_base.specs.declared.seen.End.TheVariants.{Static, Whole, AfterCount, Joined, Cut}
 use Rattle.ob_script.specs.Parts.{insert_part, rewrite_part}
 use Rattle.ob_script.specs.Saved.{behind_run, run_script, whole_run}
 use Rattle.ob_script.specs.Script.{mutation_script, shape_script, until_end, with_table}
@@ -41,6 +41,7 @@ until_part : (end : End) (all : List Access) → (rest : List Access) × (until_
 until_part Static all = (all, refl)
 until_part Whole all = ([], append-nil all)
 until_part AfterCount all = ([], append-nil all)
+until_part Joined all = (all, refl)
 until_part (Cut n) all = (drop n all, take-append-drop n all)
 
 plain_run : (p : Public) (stmt : Stmt) (a b : Seen) → selects_rows stmt ≡ false → a.leaf ≡ b.leaf → whole_run p (skeleton stmt) a ≡ whole_run p (skeleton stmt) b

@@ -53,7 +53,7 @@ count_found name cond tables x found =
 
 pub update_alters : (p : Public) (m : ℕ) (name : List ℕ) (sets : List Set) (cond : Option Search) (heading : Heading) (pred : Condition) (cells : List (ℕ × Cell))
     → pred ≡ where_at cond heading.schema → cells ≡ set_cells sets heading.schema
-    → Alters p m (Update name sets cond) name heading rewrite_part Changed (λ slots. count_by (is_true pred) (rows slots)) (map (option_map (updated pred cells)))
+    → Alters p m (Update name sets cond) [] name heading rewrite_part Changed (λ slots. count_by (is_true pred) (rows slots)) (map (option_map (updated pred cells)))
 update_alters p m name sets cond heading pred cells pred_is cells_is = record {
   script = λ end. refl;
   leaves = refl;
@@ -65,7 +65,7 @@ update_alters p m name sets cond heading pred cells pred_is cells_is = record {
   plain = refl;
   makes_none = tt;
   unindexed = λ none. none;
-  meant = λ tables x unread early found size is.
+  meant = λ tables x headed unread early found size is.
       let stmt = Update name sets cond in
       let none : refusal p m tables stmt ≡ None = refused_late p m tables stmt early in
       let condition : pred ≡ where_at cond x.heading.schema = pred_is ∙ ap (λ (h : Heading). where_at cond h.schema) (sym is) in
@@ -83,7 +83,7 @@ update_alters p m name sets cond heading pred cells pred_is cells_is = record {
 }
 
 pub delete_alters : (p : Public) (m : ℕ) (name : List ℕ) (cond : Option Search) (heading : Heading) (pred : Condition) → pred ≡ where_at cond heading.schema
-    → Alters p m (Delete name cond) name heading rewrite_part Deleted (λ slots. count_by (is_true pred) (rows slots)) (map (emptied (is_true pred)))
+    → Alters p m (Delete name cond) [] name heading rewrite_part Deleted (λ slots. count_by (is_true pred) (rows slots)) (map (emptied (is_true pred)))
 delete_alters p m name cond heading pred pred_is = record {
   script = λ end. refl;
   leaves = refl;
@@ -95,7 +95,7 @@ delete_alters p m name cond heading pred pred_is = record {
   plain = refl;
   makes_none = tt;
   unindexed = λ none. none;
-  meant = λ tables x unread early found size is.
+  meant = λ tables x headed unread early found size is.
       let stmt = Delete name cond in
       let none : refusal p m tables stmt ≡ None = refused_late p m tables stmt early in
       let condition : pred ≡ where_at cond x.heading.schema = pred_is ∙ ap (λ (h : Heading). where_at cond h.schema) (sym is) in

@@ -392,7 +392,7 @@ module _ {R : Type 0} (state : R → RevState) (old : Engine R) (s s1 : StoreSta
         subst (λ (is : List Index). AreHeld old.public.pack is tables_now (tables ++ record { heading = new_table.heading; held = new_held d old.public.stash new_table.heading } ∷ []) after) (sym pushed)
         (held_added old.public.pack more old.public.tables tables new_table (new_held d old.public.stash new_table.heading) after (held_more tables held) (holds_new tells d of))
 
-    pub made_index : ServesSilently state (CreateStmt table columns capacity Indexed) (Ok Created) old s new t
+    pub made_index : ServesSilently state (CreateStmt table columns capacity Indexed) [] (Ok Created) old s new t
     made_index =
         finished_left state (CreateStmt table columns capacity Indexed) old s agrees now refl refl indexes draws v room t tables_now Created answered tt ran_made (sealed regions_ok new refl)
         (λ tables d of reads.
@@ -472,7 +472,7 @@ module _ {R : Type 0} (state : R → RevState) (old : Engine R) (s s1 : StoreSta
           ];
         }
 
-    pub not_made : ServesSilently state (CreateStmt table columns capacity Indexed) (answer_of e) old s cut_engine t
+    pub not_made : ServesSilently state (CreateStmt table columns capacity Indexed) [] (answer_of e) old s cut_engine t
     not_made = record {
       ran = ran_left;
       started = λ is. absurd (cc is);

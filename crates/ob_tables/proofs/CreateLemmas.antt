@@ -30,6 +30,7 @@ use Rattle.ob_base.specs.Stored.{has_table}
 use Rattle.ob_room.specs.RoomState.{RoomState}
 use Rattle.ob_blocks.specs.Idle.{IsIdle}
 use Rattle.ob_store.specs.State.{StoreState}
+use Rattle.ob_select.specs.Selecting.{UsesRoom}
 use Rattle.ob_store.specs.Calls.{ChangesNothing}
 use Rattle.ob_vault.specs.State.{RevState, World}
 use Rattle.ob_vault.specs.declared.vault.Vault.{Vault}
@@ -187,7 +188,7 @@ module _ (p : Public) (m : ℕ) (table : List ℕ) (columns : List NewColumn) (c
 
 module _ {R : Type 0} (state : R → RevState) (old : Engine R) (s s1 : StoreState) (v : Vault R) (room : RoomState) (t : StoreState)
     (table : List ℕ) (columns : List NewColumn) (schema : Columns) (capacity : ℕ) (shape : Shape)
-    (agrees : Agrees state old s) (rests : ChangesNothing s s1) (room_is : room ≡ record old.room { high = max old.room.high old.room.pack }) (schema_is : schema ≡ columns_of table columns)
+    (agrees : Agrees state old s) (rests : ChangesNothing s s1) (uses : UsesRoom old.room room) (schema_is : schema ≡ columns_of table columns)
     (now : refusal_now old.public (count_of old s) (CreateStmt table columns capacity shape) ≡ None) (flat_shape : shape ≡ FlatShape) where
   abbrev before : World
   before = at state old.vault s1
@@ -222,7 +223,7 @@ module _ {R : Type 0} (state : R → RevState) (old : Engine R) (s s1 : StoreSta
   made : length table ≤ 32 → All IsShort columns → Went part (one old.vault.next) before done → IsFlat old.room.pack fresh done
       → Lives old.vault.next (table_region Round old.room.pack schema capacity) done → (IsTrue s.tells → FlatRepresents old.room.pack fresh (empty_slots capacity) done)
       → SealsTable old.room.pack schema old.vault.next before done → old.ended ≡ false
-      → ServesSilently state (CreateStmt table columns capacity shape) (Ok Created) old s (engine_after old v room (old.public.tables ++ new_table ∷ []) Whole old.ended) t
+      → ServesSilently state (CreateStmt table columns capacity shape) [] (Ok Created) old s (engine_after old v room (old.public.tables ++ new_table ∷ []) Whole old.ended) t
   made short names went flat round told seals lives =
       let stmt = CreateStmt table columns capacity shape in
       let all = went_join (one old.vault.next) _ _ _ [] part (went_rests _ s s1 rests (one old.vault.next) agrees.ready) went in
@@ -237,7 +238,7 @@ module _ {R : Type 0} (state : R → RevState) (old : Engine R) (s s1 : StoreSta
       } in
       let answered : IsAnswered Created = record { whole = λ n. refl; own = refl } in
       let unnamed = new_name old.public (count_of old s) table columns capacity shape now in
-      let ran = ran_done state (Create table columns capacity shape) old s v room t agrees room_is (none_drawn old.public (Create table columns capacity shape) refl flat_shape) (one old.vault.next)
+      let ran = ran_done state (Create table columns capacity shape) old s v room t agrees uses (none_drawn old.public (Create table columns capacity shape) refl flat_shape) (one old.vault.next)
       (old.public.tables ++ new_table ∷ []) part Created lives answered all (script_is Whole)
       (ap (λ (c : Columns). old.public.tables ++ record { heading = record { name = table; schema = c; capacity = capacity; shape = shape }; region = old.public.next_region } ∷ []) schema_is)
       (tables_added old.public.pack old.vault.next old.public.tables (others_of old.closing old.indexes.items) old.indexes.items new_table _ _ all.lasts agrees.ready refl agrees.tables
@@ -270,7 +271,7 @@ module _ {R : Type 0} (state : R → RevState) (old : Engine R) (s s1 : StoreSta
 
   -- the table was made
   pub created : length table ≤ 32 → All IsShort columns → (flat : Flat) (new : Engine R) (result : Result Outcome RunStop) → Creates Round old.room.pack fresh (Ok flat) before done → old.ended ≡ false
-      → result ≡ Ok Created → new ≡ engine_after old v room (old.public.tables ++ new_table ∷ []) Whole old.ended → ServesSilently state (CreateStmt table columns capacity shape) result old s new t
+      → result ≡ Ok Created → new ≡ engine_after old v room (old.public.tables ++ new_table ∷ []) Whole old.ended → ServesSilently state (CreateStmt table columns capacity shape) [] result old s new t
   created short names flat new result creates lives answered is =
       serves_as state (CreateStmt table columns capacity shape) old s t _ _ _ _ answered is
       (made short names creates.ran.ok (subst (λ (f : Flat). IsFlat old.room.pack f done) creates.makes.value creates.makes.flat)
@@ -280,10 +281,10 @@ module _ {R : Type 0} (state : R → RevState) (old : Engine R) (s s1 : StoreSta
   -- it was not
   pub not_created : (e : OpErr) (n : ℕ) (new : Engine R) (result : Result Outcome RunStop) → Creates Round old.room.pack fresh (Err e) before done
       → n ≡ length t.asked - length s.asked → result ≡ answer_of e → new ≡ engine_after old v room old.public.tables (Cut n) (is_stop (answer_of e))
-      → ServesSilently state (CreateStmt table columns capacity shape) result old s new t
+      → ServesSilently state (CreateStmt table columns capacity shape) [] result old s new t
   not_created e n new result creates count answered is =
       serves_as state (CreateStmt table columns capacity shape) old s t _ _ _ _ answered is
-      (cut_off state (CreateStmt table columns capacity shape) old s agrees now refl refl flat_shape s1 v room t rests room_is part _ _ _ n e script_is refl creates.ran.err count creates.makes.gone
+      (cut_off state (CreateStmt table columns capacity shape) old s agrees now refl refl flat_shape s1 v room t rests uses part _ _ _ n e script_is refl creates.ran.err count creates.makes.gone
       (λ is. creates.memory.did (ap (λ (z : OpErr). Err z) is)) (silent_fault e creates.never) (λ tables reads. fault_made e creates.never)
       (λ good accepts. creates.makes.seals.seals good (accepts _ _)))
 

@@ -146,7 +146,7 @@ module _ {R : Type 0} (state : R → RevState) (old : Engine R) (s s1 : StoreSta
         here.get here.named)
 
     -- the table was dropped, whatever the store answered
-    pub dropped_index : ServesSilently state (DropTable name) (Ok Dropped) old s new t
+    pub dropped_index : ServesSilently state (DropTable name) [] (Ok Dropped) old s new t
     dropped_index =
         finished_left state (DropTable name) old s agrees now refl refl left old.draws v old.room t (remove old.public.tables i) Dropped (record { whole = λ n. refl; own = refl }) tt ran_dropped
         (keeps_pass state old s s1 rests agrees new t (at state v t) refl (λ good accepts. discards.seals.seals good))

@@ -293,7 +293,7 @@ module _ {R : Type 0} (state : R → RevState) (old : Engine R) (s s1 : StoreSta
   -- the table was dropped, whatever the store answered
   pub dropped : (region : ℕ) (former : Former) (new : Engine R) (result : Result Outcome RunStop) → region ≡ table.region → former ≡ former_of old.public
       → LeavesFormer former region (at state old.vault s1) (at state v t) → old.ended ≡ false → result ≡ Ok Dropped
-      → new ≡ engine_after old v old.room (remove old.public.tables i) Whole old.ended → ServesSilently state (DropTable name) result old s new t
+      → new ≡ engine_after old v old.room (remove old.public.tables i) Whole old.ended → ServesSilently state (DropTable name) [] result old s new t
   dropped region former new result region_is former_is leaves_it lives answered is =
       let stmt = DropTable name in
       let r = table.region in

@@ -150,7 +150,7 @@ module _ {R : Type 0} (state : R → RevState) (stmt : Stmt) (old : Engine R) (s
     at_emission = subst (λ (z : Stmt). AtEmission old.public z now_seen []) (sym stmt_is) (inr (subst (λ (o : Option ℕ). IsSome o) (sym leaf_seen) refl, refl))
 
     module _ (stop : RunStop) (other : IsOfOthers stop) (ran : RanStatement state (skeleton stmt) (Err stop) old s halted t) where
-      means_halt : Means state stmt (Err stop) old s halted t
+      means_halt : Means state stmt [] (Err stop) old s halted t
       means_halt = record {
         told = λ tables d of reads. tt;
         room = λ tables d of reads. tt;

@@ -1,5 +1,5 @@
 -- What a statement on an index means, beside its access in the engine.
-use Rattle.std.proofs.Common.{◌≡◌, ◌-◌, ℕ, Bool, IsTrue, List, ◌++◌, length, None, Ok, Result, Global, MatchResult, sym, ◌∙◌, ap, subst, append_assoc}
+use Rattle.std.proofs.Common.{◌≡◌, ◌-◌, ℕ, Bool, IsTrue, List, [], ◌++◌, length, None, Ok, Result, Global, MatchResult, sym, ◌∙◌, ap, subst, append_assoc}
 use Rattle.std.specs.Prelude.{slice_set}
 use Rattle.std.specs.declared.vec.Vec.{Vec}
 use Rattle.ob_base.specs.declared.access.Access.{Access}
@@ -141,7 +141,7 @@ module _ {R : Type 0} (state : R → RevState) (stmt : Stmt) (old : Engine R) (s
         (subst (λ (ts : Tables). AreHeld old.public.pack (slice_set old.indexes.items k y) old.public.tables ts after) (sym told.settled)
         (subst (λ (name : List ℕ). AreHeld old.public.pack (slice_set old.indexes.items k y) old.public.tables (changed_at name (λ held. told.after) tables) after) (sym name_is) set_held))
 
-    pub told_access : (tables : Tables) (d : Draws) → AreDraws old d → ReadsTrue state old s t tables → Told state stmt d tables outcome old s new t
+    pub told_access : (tables : Tables) (d : Draws) → AreDraws old d → ReadsTrue state old s t tables → Told state stmt [] d tables outcome old s new t
     told_access tables d of reads = told_whole outcome _ _ (got_answered stmt (got_in got)) (record {
       answer = sym (told_keyed tables d of reads).outcome;
       seen = sym (meant tables reads.held d of).shown;

@@ -127,7 +127,7 @@ module _ {R : Type 0} (state : R → RevState) (stmt : Stmt) (old : Engine R) (s
         (tables_stay old.public accessed.place accessed.is.table accessed.name agrees.tables.names here.get here.named accessed.is.of.indexed stmt accessed.keyed)
         (ap (λ (p : DrawPlace). p.key) next) drawn
 
-    pub means_access : Means state stmt (Ok outcome) old s new t
+    pub means_access : Means state stmt [] (Ok outcome) old s new t
     means_access = record {
       told = λ tables d of reads. told_access state stmt old s s1 v room t k draw keyed indexes draws agrees rests now accessed done drew got answers tables d of reads;
       room = λ tables d of reads. (told_keyed state stmt old s s1 v room t k draw keyed indexes draws agrees rests now accessed done drew got answers tables d of reads).room;
@@ -181,7 +181,7 @@ module _ {R : Type 0} (state : R → RevState) (stmt : Stmt) (old : Engine R) (s
         by_stop h left ask (OramErrs.Tampered q z) told = absurd told
         by_stop h left ask OramErrs.StashFull told = refl
 
-    means_stop : Means state stmt (Err (stop_of e)) old s ended t
+    means_stop : Means state stmt [] (Err (stop_of e)) old s ended t
     means_stop = record {
       told = λ tables d of reads. tt;
       room = λ tables d of reads. tt;

@@ -50,7 +50,7 @@ settle_plain true b name row tables = sym (changed_same name tables)
 settle_plain false true name row tables = sym (changed_same name tables)
 settle_plain false false name row tables = refl
 
-insert_meant : (p : Public) (m : ℕ) (tables : Tables) (name : List ℕ) (columns : Option (List (List ℕ))) (values : List Literal) (x : Stored Held) (row : Row) (answer : InsertedAs)
+pub insert_meant : (p : Public) (m : ℕ) (tables : Tables) (name : List ℕ) (columns : Option (List (List ℕ))) (values : List Literal) (x : Stored Held) (row : Row) (answer : InsertedAs)
     → accessed tables (InsertStmt name columns values) ≡ None → early_refusal (is_late m) (limits_of p) (headings tables) (InsertStmt name columns values) ≡ None → stored_at name tables ≡ Some x → length x.held.slots ≡ x.heading.capacity
     → x.heading.shape ≡ Flat → row ≡ new_row x.heading.schema columns values → answer ≡ insert_answer x.heading.schema row x.held.slots
     → (inserted_as answer ≡ outcome_of (InsertStmt name columns values) (verdict p m tables (InsertStmt name columns values)))
@@ -76,20 +76,20 @@ insert_meant p m tables name columns values x row answer unread early found size
           ∙ ap (λ (k : InsertedAs). changed_at name (in_slots (λ slots. slots_after k row slots)) tables) (sym is),
     )
 
-is_answered : (answer : InsertedAs) → IsAnswered (inserted_as answer)
+pub is_answered : (answer : InsertedAs) → IsAnswered (inserted_as answer)
 is_answered Done = record { whole = λ n. refl; own = refl }
 is_answered Duplicate = record { whole = λ n. refl; own = refl }
 is_answered Full = record { whole = λ n. refl; own = refl }
 
 -- it emits nothing
-silent_inserted : (answer : InsertedAs) → HasNoRows (inserted_as answer)
+pub silent_inserted : (answer : InsertedAs) → HasNoRows (inserted_as answer)
 silent_inserted Done = tt
 silent_inserted Duplicate = tt
 silent_inserted Full = tt
 
 pub insert_alters : (p : Public) (m : ℕ) (name : List ℕ) (columns : Option (List (List ℕ))) (values : List Literal) (heading : Heading) (cs : Columns) (row : Row)
     → heading.shape ≡ Flat → cs ≡ heading.schema → row ≡ new_row heading.schema columns values
-    → Alters p m (InsertStmt name columns values) name heading insert_part inserted_as (insert_answer cs row) (λ slots. slots_after (insert_answer cs row slots) row slots)
+    → Alters p m (InsertStmt name columns values) [] name heading insert_part inserted_as (insert_answer cs row) (λ slots. slots_after (insert_answer cs row slots) row slots)
 insert_alters p m name columns values heading cs row flat schema_is row_is = record {
   script = λ end. refl;
   leaves = refl;
@@ -101,7 +101,7 @@ insert_alters p m name columns values heading cs row flat schema_is row_is = rec
   plain = refl;
   makes_none = tt;
   unindexed = λ none. none;
-  meant = λ tables x unread early found size is.
+  meant = λ tables x headed unread early found size is.
       let cs_is : cs ≡ x.heading.schema = schema_is ∙ ap (λ (h : Heading). h.schema) (sym is) in
       let meant = insert_meant p m tables name columns values x row (insert_answer cs row x.held.slots) unread early found size
       (ap (λ (h : Heading). h.shape) is ∙ flat) (row_is ∙ ap (λ (h : Heading). new_row h.schema columns values) (sym is)) (ap (λ (d : Columns). insert_answer d row x.held.slots) cs_is) in

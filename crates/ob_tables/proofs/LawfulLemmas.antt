@@ -9,7 +9,7 @@ use Rattle.ob_base.specs.declared.refusal.Refusal.{Refusal}
 use Rattle.ob_base.specs.declared.refusal.Refusal.TheVariants.{Syntax, NoTable, NameTaken, NoColumn, WrongType, ValueRange, Limit, KeyRule, JoinKey, Duplicate, Full, TooManyGroups, NotConsecutive, Overflow, StoreFault, PadPassed, KeyRange, NeedsKey}
 use Rattle.ob_tables.specs.declared.stop.RunStop.{RunStop}
 use Rattle.ob_base.specs.declared.seen.End.{End}
-use Rattle.ob_base.specs.declared.seen.End.TheVariants.{Static, Whole, AfterCount, Cut}
+use Rattle.ob_base.specs.declared.seen.End.TheVariants.{Static, Whole, AfterCount, Joined, Cut}
 use Rattle.ob_base.specs.declared.seen.Seen.{Seen}
 use Rattle.ob_base.specs.declared.skeleton.Skeleton.{Skeleton}
 use Rattle.ob_base.specs.declared.schema.Shape.{Shape}
@@ -65,6 +65,37 @@ ends_cut (Ok (Deleted m)) k n is = absurd (cc is)
 ends_cut (Ok Dropped) k n is = absurd (cc is)
 ends_cut (Ok (Rows m)) k n is = absurd (cc is)
 ends_cut (Err stop) k n is = cc is
+
+-- none was served with a statement before it
+refused_alone : (r : Refusal) (n : ℕ) → Joined ≡ refused_end r n → ⊥
+refused_alone StoreFault n is = cc is
+refused_alone (Syntax at) n is = cc is
+refused_alone NoTable n is = cc is
+refused_alone NameTaken n is = cc is
+refused_alone NoColumn n is = cc is
+refused_alone WrongType n is = cc is
+refused_alone ValueRange n is = cc is
+refused_alone Limit n is = cc is
+refused_alone KeyRule n is = cc is
+refused_alone JoinKey n is = cc is
+refused_alone Duplicate n is = cc is
+refused_alone Full n is = cc is
+refused_alone TooManyGroups n is = cc is
+refused_alone NotConsecutive n is = cc is
+refused_alone (Overflow i) n is = cc is
+refused_alone PadPassed n is = cc is
+refused_alone KeyRange n is = cc is
+refused_alone NeedsKey n is = cc is
+
+ends_alone : (result : Result Outcome RunStop) (n : ℕ) → Joined ≡ result_end result n → ⊥
+ends_alone (Ok (Refused r)) n is = refused_alone r n is
+ends_alone (Ok Created) n is = cc is
+ends_alone (Ok Inserted) n is = cc is
+ends_alone (Ok (Changed m)) n is = cc is
+ends_alone (Ok (Deleted m)) n is = cc is
+ends_alone (Ok Dropped) n is = cc is
+ends_alone (Ok (Rows m)) n is = cc is
+ends_alone (Err stop) n is = cc is
 
 -- no more is asked than the whole script
 take_short : (n : ℕ) (xs : List Access) → length (take n xs) ≤ length xs
@@ -130,6 +161,7 @@ within : (p : Public) (sk : Skeleton) (result : Result Outcome RunStop) (end : E
 within p sk result Static before after asked ends = tt
 within p sk result Whole before after asked ends = tt
 within p sk result AfterCount before after asked ends = tt
+within p sk result Joined before after asked ends = tt
 within p sk result (Cut k) before after asked ends =
     let is = ends_cut result k (length after - length before) ends in
     let sum = ap length asked in
@@ -152,18 +184,19 @@ pub leaf_none : (p : Public) (stmt : Stmt) (leaf : Option ℕ) (end : End) → i
 leaf_none p stmt leaf end unkeyed none = subst (λ (l : Option ℕ). HoldsLeaf p (skeleton stmt) l end) (sym none) (λ keyed. absurd (cc (keyed, unkeyed)))
 
 -- nothing is held
-held_nothing : (p : Public) (stmt : Stmt) (end : End) → is_counted p stmt ≡ false → (end ≡ AfterCount → ⊥) → EndsUncounted p stmt end
-held_nothing p stmt Static uncounted after = tt
-held_nothing p stmt Whole uncounted after = inl uncounted
-held_nothing p stmt AfterCount uncounted after = after refl
-held_nothing p stmt (Cut n) uncounted after = tt
+held_nothing : (p : Public) (stmt : Stmt) (end : End) → is_counted p stmt ≡ false → (end ≡ AfterCount → ⊥) → (end ≡ Joined → ⊥) → EndsUncounted p stmt end
+held_nothing p stmt Static uncounted after alone = tt
+held_nothing p stmt Whole uncounted after alone = inl uncounted
+held_nothing p stmt AfterCount uncounted after alone = after refl
+held_nothing p stmt Joined uncounted after alone = absurd (alone refl)
+held_nothing p stmt (Cut n) uncounted after alone = tt
 
 plain : (p : Public) (m : ℕ) (stmt : Stmt) (result : Result Outcome RunStop) (end : End) (before after : List Access) → selects_rows stmt ≡ false → is_access p (skeleton stmt) ≡ false → (end ≡ AfterCount → ⊥)
     → RefusedEarly (refusal_now p m stmt) result (ended end) → after ≡ before ++ run_script p (skeleton stmt) (ended end) → end ≡ result_end result (length after - length before)
     → Lawful p m stmt (ended end)
 plain p m stmt result end before after uncounted unkeyed whole early asked ends = record {
   static = static_as (refusal_now p m stmt) result (ended end) early;
-  holds = held_nothing p stmt end (uncounted_is p stmt uncounted) whole;
+  holds = held_nothing p stmt end (uncounted_is p stmt uncounted) whole (λ joined. ends_alone result (length after - length before) (sym joined ∙ ends));
   leaf = leaf_none p stmt None end unkeyed refl;
   cut = within p (skeleton stmt) result end before after asked ends;
 }

@@ -29,6 +29,10 @@ pub mod IntKey
 pub mod DrawsTaken
 pub mod CreateIndex
 pub mod InsertLemmas
+pub mod BatchMeans
+pub mod BatchAlike
+pub mod BatchServed
+pub mod BatchLoops
 pub mod ChangeLemmas
 pub mod DropLemmas
 pub mod DropIndex

@@ -1,5 +1,5 @@
 -- INSERT, UPDATE and DELETE: a table's slots change, and it lies in a fresh region.
-use Rattle.std.proofs.Common.{◌≡◌, inl, inr, ◌-◌, ◌*◌, max, ℕ, Bool, false, List, [], ◌++◌, length, Some, None, Option, Ok, Err, Result, refl, sym, ◌∙◌, ap, subst, arith, slice_get, slice_set}
+use Rattle.std.proofs.Common.{◌≡◌, inl, inr, ◌-◌, ◌*◌, ℕ, Bool, false, List, [], ◌∷◌, ◌++◌, length, Some, None, Option, Ok, Err, Result, refl, sym, ◌∙◌, ap, subst, arith, slice_get, slice_set}
 use Rattle.std.specs.Option.{option_map, option_map_or}
 use Rattle.std.specs.Prelude.{IsTrue}
 use Rattle.std.proofs.lemmas.Bool.{cases_eq}
@@ -13,9 +13,10 @@ use Rattle.ob_base.specs.declared.seen.End.TheVariants.{Whole, Cut}
 use Rattle.ob_base.specs.Accesses.{make_at}
 use Rattle.ob_base.specs.Numbers.{blocks_for}
 use Rattle.ob_base.specs.Schemas.{width}
-use Rattle.ob_base.specs.Stored.{Stored, headings, stored_at, stored_region, stored_regions, changed_at}
+use Rattle.ob_base.specs.Stored.{Stored, headings, headings_of, stored_at, stored_region, stored_regions, changed_at}
 use Rattle.ob_room.specs.RoomState.{RoomState}
 use Rattle.ob_store.specs.State.{StoreState}
+use Rattle.ob_select.specs.Selecting.{UsesRoom}
 use Rattle.ob_store.specs.Calls.{ChangesNothing}
 use Rattle.ob_vault.specs.State.{RevState, World}
 use Rattle.ob_vault.specs.declared.vault.Vault.{Vault}
@@ -38,7 +39,7 @@ use Rattle.ob_mutate.specs.declared.settling.Former.{Former}
 use Rattle.ob_sql.specs.declared.stmt.Stmt.{Stmt}
 use Rattle.ob_sql.specs.Skeleton.{skeleton}
 use Rattle.ob_mean.specs.Refusals.{early_refusal, limits_of}
-use Rattle.ob_mean.specs.Settle.{settle}
+use Rattle.ob_mean.specs.Batches.{settle_all}
 use Rattle.ob_mean.proofs.FlatLemmas.{MakesFlat, shape_is}
 use Rattle.ob_mean.specs.Replay.{has_index, is_access}
 use Rattle.ob_base.specs.declared.schema.Shape.TheVariants.{Flat as FlatShape}
@@ -54,7 +55,7 @@ use Rattle.ob_verdict.specs.Outcomes.{refusal_now, outcome_of}
 use Rattle.ob_tables.specs.Serving.{ServesSilently}
 use Rattle.ob_tables.specs.Telling.{AreHeld, ReadsTrue, Represents}
 use Rattle.ob_tables.proofs.FormerLemmas.{former_is, kept_former, left_stays}
-use Rattle.ob_tables.proofs.HeldLemmas.{Beside, held_at, held_plain, held_moved}
+use Rattle.ob_tables.proofs.HeldLemmas.{Beside, held_at, held_headings, held_plain, held_moved}
 use Rattle.ob_tables.proofs.FoundLemmas.{named_flat, shape_found}
 use Rattle.ob_tables.proofs.PlainLemmas.{none_drawn}
 use Rattle.ob_tables.proofs.RunLemmas.{IsAnswered, engine_after, ran_done}
@@ -63,15 +64,15 @@ use Rattle.ob_tables.proofs.SilentLemmas.{cut_off, finished, serves_as}
 use Rattle.ob_tables.proofs.TableLemmas.{beside_below, region_below, set_moved, shifted, shifted_is, stored_found, tables_moved}
 use Rattle.ob_tables.proofs.ToldLemmas.{early_held, fault_made, silent_pass}
 
--- what a statement makes of the slots of the table of a name
-pub record MeansFor {T : Type 0} (p : Public) (m : ℕ) (stmt : Stmt) (name : List ℕ) (outcome : T → Outcome) (answer : Slots → T) (after : Slots → Slots) (tables : Tables) (slots : Slots) : Type 0 where
+-- what a statement makes of the slots of the table of a name, with others that are served with it
+pub record MeansFor {T : Type 0} (p : Public) (m : ℕ) (stmt : Stmt) (owed : List Stmt) (name : List ℕ) (outcome : T → Outcome) (answer : Slots → T) (after : Slots → Slots) (tables : Tables) (slots : Slots) : Type 0 where
   pub to : Slots → Slots
   pub answered : outcome (answer slots) ≡ outcome_of stmt (verdict p m tables stmt)
-  pub settles : (d : Draws) → settle d p m tables stmt ≡ changed_at name (in_slots to) tables
+  pub settles : (d : Draws) → settle_all d p m (stmt ∷ owed) tables ≡ changed_at name (in_slots to) tables
   pub here : to slots ≡ after slots
 
 -- a statement that changes the slots of the table of a name
-pub record Alters {T : Type 0} (p : Public) (m : ℕ) (stmt : Stmt) (name : List ℕ) (heading : Heading) (part : ℕ → ℕ → ℕ → ℕ → List Access → List Access)
+pub record Alters {T : Type 0} (p : Public) (m : ℕ) (stmt : Stmt) (owed : List Stmt) (name : List ℕ) (heading : Heading) (part : ℕ → ℕ → ℕ → ℕ → List Access → List Access)
     (outcome : T → Outcome) (answer : Slots → T) (after : Slots → Slots) : Type 0 where
   pub script : (end : End) → whole_run p (skeleton stmt) (seen_to end) ≡ with_table name p (shape_script p None (mutation_script p part (behind_run p)))
   pub leaves : left_region p (skeleton stmt) ≡ region_at name p
@@ -83,14 +84,14 @@ pub record Alters {T : Type 0} (p : Public) (m : ℕ) (stmt : Stmt) (name : List
   pub plain : selects_rows stmt ≡ false
   pub makes_none : MakesFlat (skeleton stmt)
   pub unindexed : is_access p (skeleton stmt) ≡ false → has_index p name ≡ false
-  pub meant : (tables : Tables) (x : Stored Held) → accessed tables stmt ≡ None → early_refusal (is_late m) (limits_of p) (headings tables) stmt ≡ None → stored_at name tables ≡ Some x
-      → length x.held.slots ≡ x.heading.capacity → x.heading ≡ heading → MeansFor p m stmt name outcome answer after tables x.held.slots
+  pub meant : (tables : Tables) (x : Stored Held) → headings tables ≡ headings_of p.tables → accessed tables stmt ≡ None → early_refusal (is_late m) (limits_of p) (headings tables) stmt ≡ None → stored_at name tables ≡ Some x
+      → length x.held.slots ≡ x.heading.capacity → x.heading ≡ heading → MeansFor p m stmt owed name outcome answer after tables x.held.slots
 
-module _ {R T : Type 0} (state : R → RevState) (stmt : Stmt) (name : List ℕ) (part : ℕ → ℕ → ℕ → ℕ → List Access → List Access) (outcome : T → Outcome) (answer : Slots → T) (after : Slots → Slots)
+module _ {R T : Type 0} {owed : List Stmt} (state : R → RevState) (stmt : Stmt) (name : List ℕ) (part : ℕ → ℕ → ℕ → ℕ → List Access → List Access) (outcome : T → Outcome) (answer : Slots → T) (after : Slots → Slots)
     (old : Engine R) (s s1 : StoreState) (v : Vault R) (room : RoomState) (t : StoreState) (i : ℕ) (table : Table) (flat left : Flat)
-    (agrees : Agrees state old s) (rests : ChangesNothing s s1) (room_is : room ≡ record old.room { high = max old.room.high old.room.pack })
+    (agrees : Agrees state old s) (rests : ChangesNothing s s1) (uses : UsesRoom old.room room)
     (here : IsAt name i table old.public.tables) (flat_is : flat ≡ flat_of table) (now : refusal_now old.public (count_of old s) stmt ≡ None) (none : is_access old.public (skeleton stmt) ≡ false)
-    (alters : Alters old.public (count_of old s) stmt name table.heading part outcome answer after) where
+    (alters : Alters old.public (count_of old s) stmt owed name table.heading part outcome answer after) where
   abbrev before : World
   before = at state old.vault s1
 
@@ -149,7 +150,7 @@ module _ {R T : Type 0} (state : R → RevState) (stmt : Stmt) (name : List ℕ)
       omega (arith, less, same)
 
   changed : (y : T) → Mutates kept old.room.pack (flat_of table) left x answer after (Ok y) before done → old.ended ≡ false
-      → ServesSilently state stmt (Ok (outcome y)) old s (engine_after old v room (slice_set old.public.tables i moved_table) Whole old.ended) t
+      → ServesSilently state stmt owed (Ok (outcome y)) old s (engine_after old v room (slice_set old.public.tables i moved_table) Whole old.ended) t
   changed y mutates lives =
       let r = table.region in
       let all = went_join (two r g) _ _ _ [] x (went_rests _ s s1 rests (two r g) agrees.ready) mutates.ok in
@@ -164,7 +165,7 @@ module _ {R T : Type 0} (state : R → RevState) (stmt : Stmt) (name : List ℕ)
         };
       } in
       let set = set_moved name g old.public.tables i table agrees.tables.names here.get here.named in
-      let ran = ran_done state (skeleton stmt) old s v room t agrees room_is (none_drawn old.public (skeleton stmt) none alters.makes_none) (two r g) (slice_set old.public.tables i moved_table) x (outcome y) lives (alters.answers y) all (script_is Whole)
+      let ran = ran_done state (skeleton stmt) old s v room t agrees uses (none_drawn old.public (skeleton stmt) none alters.makes_none) (two r g) (slice_set old.public.tables i moved_table) x (outcome y) lives (alters.answers y) all (script_is Whole)
       (set ∙ ap (λ (n : ℕ). shifted name n old.public.tables) (sym agrees.next) ∙ sym (shifted_is name old.public.next_region old.public.tables (named_flat name old.public.tables agrees.tables.names (alters.unindexed none))) ∙ sym alters.tables)
       (subst (λ (ts : List Table). AreTables ts (others_of old.closing old.indexes.items) old.indexes.items old.public.pack done) (sym set)
       (tables_moved old.public.pack g r name old.public.tables (others_of old.closing old.indexes.items) old.indexes.items table i _ _ all.lasts agrees.ready refl agrees.tables here.get here.named refl shape_is_flat is_table
@@ -183,7 +184,7 @@ module _ {R T : Type 0} (state : R → RevState) (stmt : Stmt) (name : List ℕ)
       let size : length (beside tables reads.held).table.held.slots ≡ (beside tables reads.held).table.heading.capacity =
       (beside tables reads.held).represents.size ∙ ap (λ (h : Heading). h.capacity) (sym (beside tables reads.held).heading) in
       let unread = held_plain old.public old.indexes.items tables (world_of state old s) stmt reads.held.held none in
-      let meant = alters.meant tables (beside tables reads.held).table unread early found size (beside tables reads.held).heading in
+      let meant = alters.meant tables (beside tables reads.held).table (held_headings old.public.pack old.indexes.items old.public.tables tables (world_of state old s) reads.held.held) unread early found size (beside tables reads.held).heading in
       let slots_now : FlatRepresents old.public.pack (flat_of moved_table) (meant.to (beside tables reads.held).table.held.slots) done =
       subst (λ (slots : Slots). FlatRepresents old.public.pack (flat_of moved_table) slots done) (sym meant.here)
       (subst (λ (k : ℕ). FlatRepresents k (flat_of moved_table) (after (beside tables reads.held).table.held.slots) done) agrees.room.pack
@@ -198,20 +199,31 @@ module _ {R T : Type 0} (state : R → RevState) (stmt : Stmt) (name : List ℕ)
       ))
 
   unchanged : (e : OpErr) (n : ℕ) → Mutates kept old.room.pack (flat_of table) left x answer after (Err e) before done → n ≡ length t.asked - length s.asked
-      → ServesSilently state stmt (answer_of e) old s (engine_after old v room old.public.tables (Cut n) (is_stop (answer_of e))) t
+      → ServesSilently state stmt owed (answer_of e) old s (engine_after old v room old.public.tables (Cut n) (is_stop (answer_of e))) t
   unchanged e n mutates count =
-      cut_off state stmt old s agrees now alters.plain none alters.makes_none s1 v room t rests room_is x _ _ _ n e script_is (alters.makes _ _ _ _ _) mutates.err count mutates.gone
+      cut_off state stmt old s agrees now alters.plain none alters.makes_none s1 v room t rests uses x _ _ _ n e script_is (alters.makes _ _ _ _ _) mutates.err count mutates.gone
       (λ is. mutates.memory.did (ap (λ (z : OpErr). Err z) is)) (silent_pass e mutates.never)
       (λ tables reads. fault_made e (mutates.told (honest tables reads) (beside tables reads.held).table.held.slots (slots_before tables reads.held)).0)
       (λ good accepts. mutates.seals.seals good (accepts _ _))
 
+  of_kept : (former : Former) → former ≡ kept → (result : Result T OpErr) → Mutates former old.room.pack flat left (asks former flat) answer after result before done
+      → Mutates kept old.room.pack (flat_of table) left x answer after result before done
+  of_kept former former_is result mutates =
+      subst (λ (f : Flat). Mutates kept old.room.pack f left (asks kept f) answer after result before done) flat_is
+      (subst (λ (k : Former). Mutates k old.room.pack flat left (asks k flat) answer after result before done) former_is mutates)
+
+  -- what was answered is of the slots that the table in place had
+  pub told_slots : (former : Former) → former ≡ kept → (y : T) → Mutates former old.room.pack flat left (asks former flat) answer after (Ok y) before done → (tables : Tables) → ReadsTrue state old s t tables
+      → (stood : Beside old.public.pack name table tables (world_of state old s)) × (y ≡ answer stood.table.held.slots)
+  told_slots former former_is y mutates tables reads =
+      (beside tables reads.held, ((of_kept former former_is (Ok y) mutates).told (honest tables reads) (beside tables reads.held).table.held.slots (slots_before tables reads.held)).0)
+
   -- the table was changed
   pub mutated : (former : Former) → former ≡ kept → (y : T) (new : Engine R) (result : Result Outcome RunStop) → Mutates former old.room.pack flat left (asks former flat) answer after (Ok y) before done → old.ended ≡ false
       → result ≡ Ok (outcome y) → new ≡ engine_after old v room (slice_set old.public.tables i (record table { region = left.region })) Whole old.ended
-      → ServesSilently state stmt result old s new t
+      → ServesSilently state stmt owed result old s new t
   mutated former former_is y new result mutates lives answered is =
-      let all = subst (λ (f : Flat). Mutates kept old.room.pack f left (asks kept f) answer after (Ok y) before done) flat_is
-      (subst (λ (k : Former). Mutates k old.room.pack flat left (asks k flat) answer after (Ok y) before done) former_is mutates) in
+      let all = of_kept former former_is (Ok y) mutates in
       let region : left.region ≡ g = ap (λ (f : Flat). f.region) all.moves in
       serves_as state stmt old s t _ _ _ _ answered
       (is ∙ ap (λ (n : ℕ). engine_after old v room (slice_set old.public.tables i (record table { region = n })) Whole old.ended) region) (changed y all lives)
@@ -219,8 +231,7 @@ module _ {R T : Type 0} (state : R → RevState) (stmt : Stmt) (name : List ℕ)
   -- it was not
   pub unmutated : (former : Former) → former ≡ kept → (e : OpErr) (n : ℕ) (new : Engine R) (result : Result Outcome RunStop) → Mutates former old.room.pack flat left (asks former flat) answer after (Err e) before done
       → n ≡ length t.asked - length s.asked → result ≡ answer_of e → new ≡ engine_after old v room old.public.tables (Cut n) (is_stop (answer_of e))
-      → ServesSilently state stmt result old s new t
+      → ServesSilently state stmt owed result old s new t
   unmutated former former_is e n new result mutates count answered is =
       serves_as state stmt old s t _ _ _ _ answered is
-      (unchanged e n (subst (λ (f : Flat). Mutates kept old.room.pack f left (asks kept f) answer after (Err e) before done) flat_is
-      (subst (λ (k : Former). Mutates k old.room.pack flat left (asks k flat) answer after (Err e) before done) former_is mutates)) count)
+      (unchanged e n (of_kept former former_is (Err e) mutates) count)

@@ -59,12 +59,13 @@ module _ {R : Type 0} (state : R → RevState) (config : Config) (secret salt : 
   first_keys = reopening_keys secret salt closed closing []
 
   -- it was not opened
-  ends : (e : OpenErr) (t : StoreState) → NotOpened closing first_keys e s t → s.faults ≤ t.faults → t.tells ≡ s.tells → ((q : ℕ) → t.kept q ≡ s.kept q)
+  ends : (e : OpenErr) (t : StoreState) → NotOpened closing first_keys e s t → s.faults ≤ t.faults → t.let_go ≡ s.let_go → t.tells ≡ s.tells → ((q : ℕ) → t.kept q ≡ s.kept q)
       → (IsTrue s.tells → t.lie ≡ None → (tables : Tables) → RestsBy secret closed closing s.kept tables → (e ≡ Failed) ⊎ (e ≡ NoMemory))
       → OpensSaved {R = R} state config secret salt closed closing (Err e) s t
-  ends e t shut faults tells kept told = record {
+  ends e t shut faults log tells kept told = record {
     ok = tt;
     err = shut;
+    log = log;
     faults = faults;
     tells = tells;
     kept = kept;
@@ -76,7 +77,7 @@ module _ {R : Type 0} (state : R → RevState) (config : Config) (secret salt : 
   pub saved_none : OpensSaved {R = R} state config secret salt closed closing (Err NoMemory) s s1
   saved_none =
       let is = not_begun state config first_keys closing marked s s1 fresh honest room in
-      ends NoMemory s1 is.err is.faults is.tells room.keeps.kept (λ tells nolie tables rests. inr refl)
+      ends NoMemory s1 is.err is.faults is.log is.tells room.keeps.kept (λ tells nolie tables rests. inr refl)
 
   module _ (v0 : Vault R) (ready : (x : StoreState) → x.asked ≡ [] → Ready (at state v0 x))
       (started : start_of v0 ≡ from_earlier (closing.number + closing.blocks - 1) closing.region) (keyed : v0.keys ≡ first_keys)
@@ -113,7 +114,7 @@ module _ {R : Type 0} (state : R → RevState) (config : Config) (secret salt : 
         let more = reads.opens.err.stays.faults in
         let same = room.faults in
         ends e s2 (not_read state config first_keys closing marked s s1 fresh honest room v0 ready started keyed none v1 s2 e reads) (omega (arith, more, same))
-        (reads.opens.err.stays.tells ∙ room.tells) (λ q. reads.kept q ∙ room.keeps.kept q)
+        (reads.opens.err.stays.log ∙ room.log) (reads.opens.err.stays.tells ∙ room.tells) (λ q. reads.kept q ∙ room.keeps.kept q)
         (λ tells nolie tables rests.
         (reads.told (read_true tells nolie) (catalogue_rows closing.region rests.rests.listed) (rows_there tables rests)).read rests.rests.listed rests.rests.closing_is.catalogue refl)
 
@@ -147,7 +148,7 @@ module _ {R : Type 0} (state : R → RevState) (config : Config) (secret salt : 
           let same = faults_mid state config first_keys closing marked s s1 fresh honest room v0 ready started keyed none v1 s2 listed reads in
           ends NoMemory s2
           (shut_by NoMemory s2 (record { done = []; rest = open_script closing.pack listed; split = refl; asked = sym (append-nil s2.asked) }) same refl)
-          (omega (arith, same)) (reads.opens.ok.stays.tells ∙ room.tells) (λ q. reads.kept q ∙ room.keeps.kept q) (λ tells nolie tables rests. inr refl)
+          (omega (arith, same)) (reads.opens.ok.stays.log ∙ room.log) (reads.opens.ok.stays.tells ∙ room.tells) (λ q. reads.kept q ∙ room.keeps.kept q) (λ tells nolie tables rests. inr refl)
 
       module _ (v2 : Vault R) (rekeys : (x : StoreState) → at state v2 x ≡ rekeyed keys (at state v1 x)) where
         -- as if it had had these keys from the first
@@ -171,7 +172,7 @@ module _ {R : Type 0} (state : R → RevState) (config : Config) (secret salt : 
               → OpensSaved {R = R} state config secret salt closed closing (Err e) s t
           saved_shut {T} e v3 t reopens =
               let is = opens_shut state config keys closing marked pack_is is_config s s1 fresh honest empty bounded room from_first ready_first started refl none v2 s2 listed reads_first {T = T} e v3 t reopens in
-              ends e t (shut_by e t reopens.opens.err.began is.err.cause reopens.lie) is.faults is.tells (λ q. reopens.kept q ∙ reads.kept q ∙ room.keeps.kept q) (λ tells nolie tables rests. reopens.never)
+              ends e t (shut_by e t reopens.opens.err.began is.err.cause reopens.lie) is.faults is.log is.tells (λ q. reopens.kept q ∙ reads.kept q ∙ room.keeps.kept q) (λ tells nolie tables rests. reopens.never)
 
           module _ {T : Type 0} (value : T) (t : StoreState) where
             -- no memory for the list of tables
@@ -181,7 +182,7 @@ module _ {R : Type 0} (state : R → RevState) (config : Config) (secret salt : 
                 let is = opens_unlisted state config keys closing marked pack_is is_config s s1 fresh honest empty bounded room from_first ready_first started refl none v2 s2 listed reads_first value t v3 reopens in
                 let all = open_script closing.pack listed in
                 ends NoMemory t (shut_by NoMemory t (record { done = all; rest = []; split = append-nil all; asked = reopens.opens.ok.did.asked }) is.err.cause reopens.lie)
-                is.faults is.tells (λ q. reopens.kept q ∙ reads.kept q ∙ room.keeps.kept q) (λ tells nolie tables rests. inr refl)
+                is.faults is.log is.tells (λ q. reopens.kept q ∙ reads.kept q ∙ room.keeps.kept q) (λ tells nolie tables rests. inr refl)
 
             -- all is open
             module _ (e : Engine R) (reopens : ReopensTables closing listed (Ok value) (at state v2 s2) (at state e.vault t))
@@ -211,6 +212,7 @@ module _ {R : Type 0} (state : R → RevState) (config : Config) (secret salt : 
                   lists = λ tells nolie tables by. sym (same_list tells (sym reopens.lie ∙ nolie) tables by);
                 };
                 err = tt;
+                log = (all_open settled).log;
                 faults = (all_open settled).faults;
                 tells = (all_open settled).tells;
                 kept = λ q. reopens.kept q ∙ reads.kept q ∙ room.keeps.kept q;

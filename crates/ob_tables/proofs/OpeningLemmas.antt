@@ -233,6 +233,7 @@ module _ {R : Type 0} (state : R → RevState) (config : Config) (keys : KeySet)
       tampered = λ lie told unfit. absurd (cc (honest, room.lie, told));
     };
     faults = let same = room.faults in omega (arith, same);
+    log = room.log;
     tells = room.tells;
     told = λ tells nolie tables rests. inr refl;
     sealed = λ tells nolie tables rests. tt;
@@ -483,6 +484,7 @@ module _ {R : Type 0} (state : R → RevState) (config : Config) (keys : KeySet)
     ok = tt;
     err = not_read state config keys closing marked s s1 fresh honest room v0 ready started keyed none v1 s2 e reads;
     faults = let more = reads.opens.err.stays.faults in let same = room.faults in omega (arith, more, same);
+    log = reads.opens.err.stays.log ∙ room.log;
     tells = reads.opens.err.stays.tells ∙ room.tells;
     told = λ tells nolie tables rests. refused_never state config keys closing marked s s1 fresh honest empty bounded room v0 keyed v1 s2 e reads tells nolie tables rests;
     sealed = λ tells nolie tables rests. tt;
@@ -500,6 +502,7 @@ module _ {R : Type 0} (state : R → RevState) (config : Config) (keys : KeySet)
           let first = reads.opens.ok.stays.faults in
           let same = room.faults in
           omega (arith, more, first, same);
+      log = reopens.opens.err.stays.log ∙ reads.opens.ok.stays.log ∙ room.log;
       tells = reopens.opens.err.stays.tells ∙ reads.opens.ok.stays.tells ∙ room.tells;
       told = λ tells nolie tables rests. reopens.never;
       sealed = λ tells nolie tables rests. tt;
@@ -514,6 +517,7 @@ module _ {R : Type 0} (state : R → RevState) (config : Config) (keys : KeySet)
             ok = tt;
             err = not_listed state config keys closing marked s s1 fresh honest room v0 ready started keyed none v1 s2 listed reads v2 t value reopens;
             faults = let same = did.faults in omega (arith, same);
+            log = reopens.opens.ok.stays.log ∙ reads.opens.ok.stays.log ∙ room.log;
             tells = reopens.opens.ok.stays.tells ∙ reads.opens.ok.stays.tells ∙ room.tells;
             told = λ tells nolie tables rests. inr refl;
             sealed = λ tells nolie tables rests. tt;
@@ -605,6 +609,7 @@ module _ {R : Type 0} (state : R → RevState) (config : Config) (keys : KeySet)
               ok = opened_as settled;
               err = tt;
               faults = let same = did.faults in omega (arith, same);
+              log = reopens.opens.ok.stays.log ∙ reads.opens.ok.stays.log ∙ room.log;
               tells = reopens.opens.ok.stays.tells ∙ reads.opens.ok.stays.tells ∙ room.tells;
               told = represents;
               sealed = λ tells nolie tables rests good accepts closes scope few.

@@ -9,7 +9,7 @@ use Rattle.ob_base.specs.declared.schema.Heading.{Heading}
 use Rattle.ob_base.specs.declared.schema.Shape.{Shape}
 use Rattle.ob_base.specs.declared.schema.Shape.TheVariants.{Flat as FlatShape}
 use Rattle.ob_base.specs.declared.seen.End.{End}
-use Rattle.ob_base.specs.declared.seen.End.TheVariants.{Static, Whole, AfterCount, Cut}
+use Rattle.ob_base.specs.declared.seen.End.TheVariants.{Static, Whole, AfterCount, Joined, Cut}
 use Rattle.ob_base.specs.declared.skeleton.Skeleton.{Skeleton}
 use Rattle.ob_base.specs.declared.skeleton.Skeleton.TheVariants.{Create as CreateSkeleton, Insert as InsertSkeleton, Update as UpdateSkeleton, Delete as DeleteSkeleton, Drop as DropSkeleton, Rows, Groups}
 use Rattle.ob_base.specs.Indexes.{by_shape}
@@ -118,6 +118,7 @@ pub no_draws : (p : Public) (s : Skeleton) (end : End) → is_access p s ≡ fal
 no_draws p s Static none made = refl
 no_draws p s Whole none made = none_drawn p s none made
 no_draws p s AfterCount none made = none_drawn p s none made
+no_draws p s Joined none made = refl
 no_draws p s (Cut n) none made = none_drawn p s none made
 
 -- what belongs to the table of a name, where it is the same for each flat one

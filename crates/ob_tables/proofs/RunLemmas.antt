@@ -7,7 +7,7 @@ use Rattle.ob_base.specs.declared.refusal.Refusal.{Refusal}
 use Rattle.ob_tables.specs.declared.stop.RunStop.{RunStop}
 use Rattle.ob_tables.specs.declared.stop.RunStop.TheVariants as Stops
 use Rattle.ob_base.specs.declared.seen.End.{End}
-use Rattle.ob_base.specs.declared.seen.End.TheVariants.{Static, Whole, AfterCount, Cut}
+use Rattle.ob_base.specs.declared.seen.End.TheVariants.{Static, Whole, AfterCount, Joined, Cut}
 use Rattle.ob_base.specs.declared.seen.Seen.{Seen}
 use Rattle.ob_base.specs.declared.skeleton.Skeleton.{Skeleton}
 use Rattle.ob_base.specs.Accesses.{makes}
@@ -49,6 +49,7 @@ use Rattle.ob_verdict.specs.Outcomes.{by_fault}
 use Rattle.ob_base.specs.Refusals.{is_store_fault}
 use Rattle.ob_tables.specs.Agreeing.{Agrees, AreDraws, world_of}
 use Rattle.ob_select.specs.Opening.{Opens}
+use Rattle.ob_select.specs.Selecting.{UsesRoom}
 use Rattle.ob_tables.specs.Running.{answer_of, is_fault, is_stop, outcome_end, result_end, stops_access, RunCause, GoesOn, Continues, RanStatement, IsFaulted}
 use Rattle.ob_select.proofs.RoomLemmas.{free_after}
 use Rattle.ob_tables.proofs.TableLemmas.{no_entry}
@@ -121,6 +122,7 @@ pub leaves_none : (p : Public) (s : Skeleton) (end : End) (q : ℕ) (P : Type 0)
 leaves_none p s Static q P none is = absurd (cc is)
 leaves_none p s Whole q P none is = absurd (cc (none, is))
 leaves_none p s AfterCount q P none is = absurd (cc is)
+leaves_none p s Joined q P none is = absurd (cc is)
 leaves_none p s (Cut n) q P none is = absurd (cc is)
 
 -- as where tables aren't saved, or none is changed
@@ -152,6 +154,7 @@ pub taken_none : (p : Public) (s : Skeleton) → drawn_by p s ≡ 0 → (end : E
 taken_none p s none Static = refl
 taken_none p s none Whole = none
 taken_none p s none AfterCount = none
+taken_none p s none Joined = refl
 taken_none p s none (Cut n) = none
 
 -- the same draws, where none was taken
@@ -346,14 +349,24 @@ module _ {R : Type 0} (state : R → RevState) (skeleton : Skeleton) (old : Engi
       stopped_left state skeleton old s v room t agrees free old.indexes old.draws some n x e refl opens cut is count are (may_have state old s agrees) refl
       (λ d of. let sum : d.drawn ≡ d.drawn + drawn_by old.public skeleton = omega (arith, undrawn) in of.next ∙ ap (λ (k : ℕ). k % 2 ^ 67) sum) fresh
 
+-- as many rows of the room were open as a block has, or more
+pub opens_rows : {R : Type 0} {state : R → RevState} {old : Engine R} {s : StoreState} {room : RoomState} (most : ℕ) → Agrees state old s → old.room.pack ≤ most → room ≡ record old.room { high = max old.room.high most } → UsesRoom old.room room
+opens_rows {old = old} most agrees least is =
+    let high = ap (λ (r : RoomState). r.high) is in
+    let some = agrees.settings.pack_least in
+    let same = agrees.room.pack in
+    record { same = is ∙ (λ i. record old.room { high = sym high i }); kept = omega (arith, high); some = omega (arith, high, some, same, least) }
+
+pub opens_block : {R : Type 0} {state : R → RevState} {old : Engine R} {s : StoreState} {room : RoomState} → Agrees state old s → room ≡ record old.room { high = max old.room.high old.room.pack } → UsesRoom old.room room
+opens_block {old = old} agrees is = opens_rows old.room.pack agrees (omega (arith)) is
+
 module _ {R : Type 0} (state : R → RevState) (skeleton : Skeleton) (old : Engine R) (s : StoreState) (v : Vault R) (room : RoomState) (t : StoreState)
-    (agrees : Agrees state old s) (room_is : room ≡ record old.room { high = max old.room.high old.room.pack }) (undrawn : drawn_by old.public skeleton ≡ 0) where
+    (agrees : Agrees state old s) (uses : UsesRoom old.room room) (undrawn : drawn_by old.public skeleton ≡ 0) where
   free : IsFree old.public room
-  free = free_after old.public old.room room _ agrees.room room_is
+  free = free_after old.public old.room room _ agrees.room uses.same
 
   opened : (part : List Access) → Opens part old.room.high room.high
-  opened part = subst (λ (r : RoomState). Opens part old.room.high r.high) (sym room_is)
-      (opens_some part old.room.high old.room.pack (let some = agrees.settings.pack_least in let same = agrees.room.pack in omega (arith, some, same)))
+  opened part = record { kept = uses.kept; some = λ any. uses.some }
 
   -- all of a pass over the room was asked
   pub ran_done : (some : ℕ → Type 0) (tables : List Table) (x : List Access) (outcome : Outcome) → old.ended ≡ false → IsAnswered outcome → Went x some (world_of state old s) (at state v t)
@@ -422,4 +435,4 @@ ran_no_room state skeleton old s t tables agrees rests = ran_unasked state skele
 
 -- a store that no call was made on
 pub rests_refl : (s : StoreState) → ChangesNothing s s
-rests_refl s = record { spare = omega (arith); asked = refl; gave = refl; faults = refl; slips = refl; tells = refl; lie = refl; disturbed = refl; keeps = record { live = λ q. refl; last = λ q x. refl; kept = λ q. refl } }
+rests_refl s = record { spare = omega (arith); asked = refl; log = refl; gave = refl; faults = refl; slips = refl; tells = refl; lie = refl; disturbed = refl; keeps = record { live = λ q. refl; last = λ q x. refl; kept = λ q. refl } }

@@ -6,7 +6,7 @@ use Rattle.std.specs.Option.{option_map}
 use Rattle.ob_base.specs.declared.config.Public.{Public}
 use Rattle.ob_base.specs.declared.schema.Table.{Table}
 use Rattle.ob_base.specs.declared.seen.End.{End}
-use Rattle.ob_base.specs.declared.seen.End.TheVariants.{Static, Whole, AfterCount, Cut}
+use Rattle.ob_base.specs.declared.seen.End.TheVariants.{Static, Whole, AfterCount, Joined, Cut}
 use Rattle.ob_base.specs.declared.skeleton.Skeleton.{Skeleton}
 use Rattle.ob_base.specs.declared.skeleton.Skeleton.TheVariants.{Create, Insert, Update, Delete, Drop as DropTable, Rows, Groups}
 use Rattle.ob_base.specs.Stored.{Stored, stored_at, stored_region, stored_regions}
@@ -98,6 +98,7 @@ module _ {R : Type 0} (state : R → RevState) (old : Engine R) (s : StoreState)
     left_at (Ok outcome) Static same ran q is = let none = ap (left_then old.public skeleton) same in absurd (cc (none, is))
     left_at (Ok outcome) Whole same ran q is = left_waits ran.goes_on q (sym (ap (left_then old.public skeleton) same) ∙ is) (ran.stays q is)
     left_at (Ok outcome) AfterCount same ran q is = let none = ap (left_then old.public skeleton) same in absurd (cc (none, is))
+    left_at (Ok outcome) Joined same ran q is = let none = ap (left_then old.public skeleton) same in absurd (cc (none, is))
     left_at (Ok outcome) (Cut n) same ran q is = let none = ap (left_then old.public skeleton) same in absurd (cc (none, is))
 
     pub waits_behind : (result : Result Outcome RunStop) → RanStatement state skeleton result old s new t → replaced_of old ≡ None → Waits state (left_then old.public skeleton new.seen.end) new t

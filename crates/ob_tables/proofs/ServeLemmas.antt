@@ -122,7 +122,7 @@ silent_stopped grew cut P out starts (Err Stops.KeeperFault) silent h = h Stops.
 module _ {R E : Type 0} (state : R → RevState) (grew cut : E → E → List Event → Type 0) (faults : E → ℕ) (stmt : Stmt) (old : Engine R) (s : StoreState) (out : E) (starts : grew out out []) where
   -- a statement that emits nothing and of which nothing is counted
   pub serves_silently : (result : Result Outcome RunStop) (new : Engine R) (t : StoreState) → refusal_now old.public (count_of old s) stmt ≡ None → is_access old.public (skeleton stmt) ≡ false → selects_rows stmt ≡ false
-      → ((tables : Tables) → IsBare (accepted_answer (database tables) stmt)) → ServesSilently state stmt result old s new t
+      → ((tables : Tables) → IsBare (accepted_answer (database tables) stmt)) → ServesSilently state stmt [] result old s new t
       → Serves state grew cut faults stmt result old s new t out out
   serves_silently result new t now flat uncounted bare serves =
       let early = refused_none (refusal_now old.public (count_of old s) stmt) result new.seen now serves.started in
@@ -201,7 +201,7 @@ module _ {R E : Type 0} (state : R → RevState) (grew cut : E → E → List Ev
 -- a statement by what its kind says of it
 pub served_as : {R E : Type 0} (state : R → RevState) (grew cut : E → E → List Event → Type 0) (faults : E → ℕ) (stmt other : Stmt) (old : Engine R) (s : StoreState) (out : E) (result : Result Outcome RunStop)
     (new : Engine R) (t : StoreState) → grew out out [] → other ≡ stmt → refusal_now old.public (count_of old s) stmt ≡ None → is_access old.public (skeleton stmt) ≡ false → selects_rows other ≡ false
-    → ((tables : Tables) → IsBare (accepted_answer (database tables) other)) → ServesSilently state other result old s new t → Serves state grew cut faults stmt result old s new t out out
+    → ((tables : Tables) → IsBare (accepted_answer (database tables) other)) → ServesSilently state other [] result old s new t → Serves state grew cut faults stmt result old s new t out out
 served_as state grew cut faults stmt other old s out result new t starts is now flat uncounted bare serves =
     subst (λ (x : Stmt). Serves state grew cut faults x result old s new t out out) is
     (serves_silently state grew cut faults other old s out starts result new t (ap (refusal_now old.public (count_of old s)) is ∙ now)

@@ -47,7 +47,7 @@ pub record IsStash (slots : ℕ) : Type 0 where
 -- settings that an engine may be started with: tables that are saved are kept
 abbrev pub IsConfig : Config → Type 0
 IsConfig config =
-    IsSettings config.buffer config.depth config.pack config.plan config.pad × IsStash config.stash
+    IsSettings config.buffer config.depth config.pack config.planner config.pad × IsStash config.stash
     × (config.save ≡ true → config.keep ≡ true)
 
 -- the region in which a table lay before it was changed stays in the store where tables are saved

@@ -9,6 +9,7 @@ pub mod Running
 pub mod Memory
 pub mod Telling
 pub mod Serving
+pub mod Batch
 pub mod Reopening
 pub mod Saving
 pub mod Closing

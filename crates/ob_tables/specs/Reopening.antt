@@ -58,6 +58,7 @@ pub record OpensEngine {R : Type 0} (state : R → RevState) (config : Config) (
     (closing : Closing) (result : Result (Engine R) OpenErr) (s t : StoreState) : Type 0 where
   pub ok : IfOk result (λ e. IsOpened state config keys closing e s t)
   pub err : IfErr result (λ e. NotOpened closing keys e s t)
+  pub log : t.let_go ≡ s.let_go
   pub faults : s.faults ≤ t.faults
   pub tells : t.tells ≡ s.tells
   -- the tables that rest there are those that the engine holds, and no block is taken for a changed one that isn't

@@ -163,6 +163,7 @@ pub record OpensSaved {R : Type 0} (state : R → RevState) (config : Config) (s
   pub ok : IfOk result (λ e. IsOpenedBy state config secret salt closed closing e s t)
   pub err : IfErr result
       (λ e. NotOpened closing (reopening_keys secret salt closed closing []) e s t)
+  pub log : t.let_go ≡ s.let_go
   pub faults : s.faults ≤ t.faults
   pub tells : t.tells ≡ s.tells
   -- nothing that is kept has changed: the mark opens again

@@ -49,13 +49,13 @@ pub record Stopped {R E : Type 0} (state : R → RevState) (grew cut : E → E �
   pub told : (tables : Tables) → ReadsTrueUntil state old s new t tables
       → Partly (answer_labels stmt old.public) (verdict old.public (count_of old s) tables stmt) events
 
--- what is known of a statement by its meaning
-pub record Means {R : Type 0} (state : R → RevState) (stmt : Stmt) (result : Result Outcome RunStop)
-    (old : Engine R) (s : StoreState) (new : Engine R) (t : StoreState) : Type 0 where
+-- what is known of a statement by its meaning, where these others were served with it
+pub record Means {R : Type 0} (state : R → RevState) (stmt : Stmt) (owed : List Stmt)
+    (result : Result Outcome RunStop) (old : Engine R) (s : StoreState) (new : Engine R) (t : StoreState) : Type 0 where
   -- the answer, what is seen and the tables afterwards are those of the statement over the tables before, by the numbers that
   -- are drawn next
   pub told : (tables : Tables) (d : Draws) → AreDraws old d → ReadsTrue state old s t tables
-      → IfOk result (λ outcome. Told state stmt d tables outcome old s new t)
+      → IfOk result (λ outcome. Told state stmt owed d tables outcome old s new t)
   -- where it is answered no stash is full
   pub room : (tables : Tables) (d : Draws) → AreDraws old d → ReadsTrue state old s t tables
       → IfOk result (λ outcome. is_full d old.public (count_of old s) tables stmt ≡ false)
@@ -95,11 +95,11 @@ pub record Serves {R E : Type 0} (state : R → RevState) (grew cut : E → E �
   pub sink : SinkStops result (faults out_old) (faults out_new)
   -- an emitter stops nothing but a SELECT
   pub emits : result ≡ Err SinkFault → MayEmit stmt
-  pub means : Means state stmt result old s new t
+  pub means : Means state stmt [] result old s new t
 
 -- the same of a statement that emits nothing and of which nothing is counted, once it isn't refused before any access
-pub record ServesSilently {R : Type 0} (state : R → RevState) (stmt : Stmt) (result : Result Outcome RunStop)
-    (old : Engine R) (s : StoreState) (new : Engine R) (t : StoreState) : Type 0 where
+pub record ServesSilently {R : Type 0} (state : R → RevState) (stmt : Stmt) (owed : List Stmt)
+    (result : Result Outcome RunStop) (old : Engine R) (s : StoreState) (new : Engine R) (t : StoreState) : Type 0 where
   pub ran : RanStatement state (skeleton stmt) result old s new t
   pub started : new.seen.end ≡ Static → ⊥
   pub uncounted : new.seen.end ≡ AfterCount → ⊥
@@ -107,4 +107,4 @@ pub record ServesSilently {R : Type 0} (state : R → RevState) (stmt : Stmt) (r
   pub silent : IsSilent result
   pub memory : result ≡ Err NoMemory → LacksMemory old.public stmt new.seen s t ⊥
   pub seals : KeepsSealed state old s new t
-  pub means : Means state stmt result old s new t
+  pub means : Means state stmt owed result old s new t

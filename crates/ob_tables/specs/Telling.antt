@@ -22,7 +22,7 @@ use Rattle.ob_flat.specs.Flats as F
 use Rattle.ob_sql.specs.declared.stmt.Stmt.{Stmt}
 use Rattle.ob_sql.specs.Skeleton.{skeleton}
 use Rattle.ob_mean.specs.Verdict.{Draws, Held, Tables, accessed, index_of, is_full, verdict, seen}
-use Rattle.ob_mean.specs.Settle.{settle}
+use Rattle.ob_mean.specs.Batches.{settle_all}
 use Rattle.ob_mean.specs.Replay.{cut_at}
 use Rattle.ob_mean.specs.Prints.{Prints, Unfinished, labels_of}
 use Rattle.ob_base.specs.Stored.{headings_of}
@@ -74,11 +74,11 @@ abbrev pub meant_script : Draws → Public → (m : ℕ) → Tables → Stmt →
 meant_script d p m tables stmt = run_script p (skeleton stmt) (seen d p m tables stmt)
 
 -- a statement that went to its end, or was refused before: its answer is the verdict, and what is seen and what the tables are
--- follows from the tables before, of which m accesses were asked
-pub record Meant {R : Type 0} (state : R → RevState) (stmt : Stmt) (m : ℕ) (d : Draws) (tables : Tables) (outcome : Outcome) (old new : Engine R) (t : StoreState) : Type 0 where
+-- follows from the tables before, of which m accesses were asked; the tables are those behind others too that it was served with
+pub record Meant {R : Type 0} (state : R → RevState) (stmt : Stmt) (owed : List Stmt) (m : ℕ) (d : Draws) (tables : Tables) (outcome : Outcome) (old new : Engine R) (t : StoreState) : Type 0 where
   pub answer : outcome ≡ outcome_of stmt (verdict old.public m tables stmt)
   pub seen : new.seen ≡ seen d old.public m tables stmt
-  pub held : Represents state new t (settle d old.public m tables stmt)
+  pub held : Represents state new t (settle_all d old.public m (stmt ∷ owed) tables)
 
 -- what is seen of one that was cut off, at an access that failed or behind one
 abbrev pub SeenCut : {R : Type 0} → (failed : Bool) → Draws → Stmt → Tables → (old : Engine R) → StoreState → (new : Engine R) → StoreState → Type 0
@@ -92,8 +92,9 @@ pub record Kept {R : Type 0} (state : R → RevState) (stmt : Stmt) (d : Draws) 
   pub held : Represents state new t tables
 
 -- a statement that was answered
-abbrev pub Told : {R : Type 0} → (R → RevState) → Stmt → Draws → Tables → Outcome → (old : Engine R) → StoreState → (new : Engine R) → StoreState → Type 0
-Told state stmt d tables outcome old s new t = by_fault (is_fault outcome) (Kept state stmt d tables old s new t) (Meant state stmt (count_of old s) d tables outcome old new t)
+abbrev pub Told : {R : Type 0} → (R → RevState) → Stmt → (owed : List Stmt) → Draws → Tables → Outcome → (old : Engine R) → StoreState → (new : Engine R) → StoreState → Type 0
+Told state stmt owed d tables outcome old s new t =
+    by_fault (is_fault outcome) (Kept state stmt d tables old s new t) (Meant state stmt owed (count_of old s) d tables outcome old new t)
 
 -- whether the access that a statement was stopped at is the last, and was not carried out
 abbrev pub is_refused : RunStop → Bool

@@ -1,5 +1,5 @@
 //! CREATE TABLE.
-ghost use Rattle.std.specs.Prelude.{◌≡◌, ◌≤◌, ◌+◌, ◌%◌, ◌^◌, None, false, length, IfOk, OnOk};
+ghost use Rattle.std.specs.Prelude.{◌≡◌, ◌≤◌, ◌+◌, ◌%◌, ◌^◌, [], None, false, length, IfOk, OnOk};
 ghost use Rattle.ob_base.specs.Lists.{tabulate};
 ghost use Rattle.ob_base.specs.declared.schema.Shape.TheVariants.{Flat as FlatShape, Indexed};
 ghost use Rattle.ob_seal.specs.Draws.{draw_at};
@@ -72,7 +72,7 @@ impl<R: Revisions> Engine<R> {
         requires allowed { refusal_now (public_of self.old) (count_of self.old (S.state store.old))
             (Create table.now columns.now capacity FlatShape) ≡ None }
         ensures serves { ServesSilently R.state (Create table.now columns.now capacity FlatShape)
-            result self.old (S.state store.old) self.new (S.state store.new) }
+            [] result self.old (S.state store.old) self.new (S.state store.new) }
     {
         let before = store.count();
         let schema = new_schema(table, columns);
@@ -107,7 +107,7 @@ impl<R: Revisions> Engine<R> {
         requires allowed { refusal_now (public_of self.old) (count_of self.old (S.state store.old))
             (Create table.now columns.now capacity Indexed) ≡ None }
         ensures serves { ServesSilently R.state (Create table.now columns.now capacity Indexed)
-            result self.old (S.state store.old) self.new (S.state store.new) }
+            [] result self.old (S.state store.old) self.new (S.state store.new) }
     {
         let before = store.count();
         let schema = new_schema(table, columns);
@@ -159,8 +159,8 @@ impl<R: Revisions> Engine<R> {
         requires lives { has_ended self.old ≡ false }
         requires allowed { refusal_now (public_of self.old) (count_of self.old (S.state store.old))
             (Create table.now columns.now capacity shape) ≡ None }
-        ensures serves { ServesSilently R.state (Create table.now columns.now capacity shape) result
-            self.old (S.state store.old) self.new (S.state store.new) }
+        ensures serves { ServesSilently R.state (Create table.now columns.now capacity shape) []
+            result self.old (S.state store.old) self.new (S.state store.new) }
     {
         match shape {
             Shape::Flat => self.create_flat(store, table, columns, capacity),

@@ -1,5 +1,5 @@
 //! DELETE.
-ghost use Rattle.std.specs.Prelude.{◌≡◌, None, false};
+ghost use Rattle.std.specs.Prelude.{◌≡◌, [], None, false};
 ghost use Rattle.ob_sql.specs.declared.stmt.Stmt.TheVariants.{Delete};
 ghost use Rattle.ob_mean.specs.Replay.{is_access};
 ghost use Rattle.ob_sql.specs.Skeleton.{skeleton};
@@ -32,7 +32,7 @@ impl<R: Revisions> Engine<R> {
             (Delete table.now cond.now) ≡ None }
         requires flat { is_access (public_of self.old)
             (skeleton (Delete table.now cond.now)) ≡ false }
-        ensures serves { ServesSilently R.state (Delete table.now cond.now) result
+        ensures serves { ServesSilently R.state (Delete table.now cond.now) [] result
             self.old (S.state store.old) self.new (S.state store.new) }
     {
         let (i, mut flat) = self.table_at(table);

@@ -1,5 +1,5 @@
 //! DROP TABLE.
-ghost use Rattle.std.specs.Prelude.{◌≡◌, ◌<◌, ℕ, None, Some, false, length, slice_get};
+ghost use Rattle.std.specs.Prelude.{◌≡◌, ◌<◌, ℕ, [], None, Some, false, length, slice_get};
 ghost use Rattle.std.specs.List.{remove};
 ghost use Rattle.ob_base.specs.declared.schema.Shape.TheVariants.{Flat as FlatShape, Indexed};
 ghost use Rattle.ob_oram.specs.declared.index.Index.{Index as AnIndex};
@@ -42,7 +42,7 @@ impl<R: Revisions> Engine<R> {
         requires allowed { refusal_now (public_of self.old) (count_of self.old (S.state store.old))
             (DropTable table.now) ≡ None }
         requires at { IsFlatAt table.now i flat.now (public_of self.old).tables }
-        ensures serves { ServesSilently R.state (DropTable table.now) result
+        ensures serves { ServesSilently R.state (DropTable table.now) [] result
             self.old (S.state store.old) self.new (S.state store.new) }
     {
         if store.room(1).is_err() {
@@ -67,7 +67,7 @@ impl<R: Revisions> Engine<R> {
         requires allowed { refusal_now (public_of self.old) (count_of self.old (S.state store.old))
             (DropTable table.now) ≡ None }
         requires at { IsIndexAt table.now i k (public_of self.old).tables (indexes_of self.old) }
-        ensures serves { ServesSilently R.state (DropTable table.now) result
+        ensures serves { ServesSilently R.state (DropTable table.now) [] result
             self.old (S.state store.old) self.new (S.state store.new) }
     {
         if store.room(2).is_err() {
@@ -89,7 +89,7 @@ impl<R: Revisions> Engine<R> {
         requires lives { has_ended self.old ≡ false }
         requires allowed { refusal_now (public_of self.old) (count_of self.old (S.state store.old))
             (DropTable table.now) ≡ None }
-        ensures serves { ServesSilently R.state (DropTable table.now) result
+        ensures serves { ServesSilently R.state (DropTable table.now) [] result
             self.old (S.state store.old) self.new (S.state store.new) }
     {
         let (i, flat) = self.table_at(table);

@@ -1,5 +1,5 @@
 //! INSERT.
-ghost use Rattle.std.specs.Prelude.{◌≡◌, None, false};
+ghost use Rattle.std.specs.Prelude.{◌≡◌, [], None, false};
 ghost use Rattle.ob_sql.specs.declared.stmt.Stmt.TheVariants.{Insert};
 ghost use Rattle.ob_mean.specs.Replay.{is_access};
 ghost use Rattle.ob_sql.specs.Skeleton.{skeleton};
@@ -19,7 +19,7 @@ use ob_store::BlockStore;
 use ob_vault::Revisions;
 use ob_verdict::Outcome;
 
-fn outcome_of(inserted: Inserted) -> Outcome
+pub(crate) fn outcome_of(inserted: Inserted) -> Outcome
     ensures { result ≡ inserted_as inserted }
 {
     match inserted {
@@ -44,7 +44,7 @@ impl<R: Revisions> Engine<R> {
             (Insert table.now columns.now values.now) ≡ None }
         requires flat { is_access (public_of self.old)
             (skeleton (Insert table.now columns.now values.now)) ≡ false }
-        ensures serves { ServesSilently R.state (Insert table.now columns.now values.now) result
+        ensures serves { ServesSilently R.state (Insert table.now columns.now values.now) [] result
             self.old (S.state store.old) self.new (S.state store.new) }
     {
         let (i, mut flat) = self.table_at(table);

@@ -54,11 +54,12 @@ pub(crate) fn public_at(config: Config, closing: Closing, tables: Items<Table>) 
         buffer: config.buffer,
         depth: config.depth,
         pack: config.pack,
-        plan: config.plan,
+        planner: config.planner,
         pad: config.pad,
         stash: config.stash,
         keep: config.keep,
         save: config.save,
+        batch: config.batch,
         closing: saved,
     }
 }

@@ -1,5 +1,5 @@
 //! UPDATE.
-ghost use Rattle.std.specs.Prelude.{◌≡◌, ◌≤◌, None, false, length, IfOk};
+ghost use Rattle.std.specs.Prelude.{◌≡◌, ◌≤◌, [], None, false, length, IfOk};
 ghost use Rattle.ob_sql.specs.declared.stmt.Stmt.TheVariants.{Update};
 ghost use Rattle.ob_mean.specs.Step.{set_cells};
 ghost use Rattle.ob_mean.specs.Replay.{is_access};
@@ -53,7 +53,7 @@ impl<R: Revisions> Engine<R> {
             (Update table.now sets.now cond.now) ≡ None }
         requires flat { is_access (public_of self.old)
             (skeleton (Update table.now sets.now cond.now)) ≡ false }
-        ensures serves { ServesSilently R.state (Update table.now sets.now cond.now) result
+        ensures serves { ServesSilently R.state (Update table.now sets.now cond.now) [] result
             self.old (S.state store.old) self.new (S.state store.new) }
     {
         let (i, mut flat) = self.table_at(table);

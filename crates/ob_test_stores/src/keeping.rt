@@ -1,6 +1,6 @@
 //! A store in memory that keeps each block of 49 bytes that was written to it, in order.
 ghost use Rattle.std.specs.Prelude.{◌≡◌};
-ghost use Rattle.ob_store.specs.contracts.memory.MemStoreBlockStore.TheImpl.Laws.{keeps_live-law, keeps_within-law, starts_empty-law, starts_honest-law, starts_steady-law};
+ghost use Rattle.ob_store.specs.contracts.memory.MemStoreBlockStore.TheImpl.Laws.{keeps_live-law, keeps_within-law, starts_empty-law, starts_honest-law, starts_steady-law, within_asked-law};
 
 use ob_base::{Access, Failed, NoMemory, StoreErr};
 use ob_store::{BlockStore, MemStore};
@@ -40,6 +40,8 @@ impl BlockStore for KeepingStore {
 
     ghost keeps_within = { λ s r region is. keeps_within-law s.inner r region is };
 
+    ghost within_asked = { λ s. within_asked-law s.inner };
+
     ghost starts_empty = { λ s r none. starts_empty-law s.inner r none };
 
     ghost starts_honest = { λ s none. starts_honest-law s.inner none };
@@ -69,8 +71,16 @@ impl BlockStore for KeepingStore {
         self.inner.discard(region)
     }
 
+    fn let_go(&mut self) {
+        self.inner.let_go();
+    }
+
     fn count(&self) -> u64 {
         self.inner.count()
+    }
+
+    fn gone(&self) -> u64 {
+        self.inner.gone()
     }
 
     fn nth(&self, i: u64) -> Access {

@@ -1,6 +1,6 @@
 //! A store in memory whose holder has the keys: one read gives a block that was sealed for its place.
 ghost use Rattle.std.specs.Prelude.{◌≡◌, false, None, refl, if◌then◌else◌};
-ghost use Rattle.ob_store.specs.contracts.memory.MemStoreBlockStore.TheImpl.Laws.{starts_empty-law};
+ghost use Rattle.ob_store.specs.contracts.memory.MemStoreBlockStore.TheImpl.Laws.{starts_empty-law, within_asked-law};
 
 use ob_base::{Access, Failed, NoMemory, StoreErr};
 use ob_seal::{At, Keys, seal};
@@ -53,6 +53,8 @@ impl BlockStore for ForgingStore {
 
     ghost keeps_within = { λ s r region is. absurd (cc is) };
 
+    ghost within_asked = { λ s. within_asked-law s.inner };
+
     ghost starts_empty = { λ s r none. starts_empty-law s.inner r none };
 
     ghost starts_honest = { λ s none. refl };
@@ -93,8 +95,16 @@ impl BlockStore for ForgingStore {
         self.inner.discard(region)
     }
 
+    fn let_go(&mut self) {
+        self.inner.let_go();
+    }
+
     fn count(&self) -> u64 {
         self.inner.count()
+    }
+
+    fn gone(&self) -> u64 {
+        self.inner.gone()
     }
 
     fn nth(&self, i: u64) -> Access {

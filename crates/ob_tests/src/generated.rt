@@ -1,5 +1,5 @@
 use ob_base::{Failed, Plan};
-use ob_gen::{Discard, Generated, Summary, Tally, trace_digest};
+use ob_gen::{Digester, Discard, Generated, Summary, Tally, TraceDigest};
 use ob_io::{MemSink, Sink, Source};
 use ob_store::{BlockStore, MemStore};
 use sha2::{Digest, Sha256};
@@ -125,21 +125,29 @@ fn discards_all(rt: HostRuntime) -> Result<(), Fail> {
     Ok(())
 }
 
-// The digests are those of no bytes, and of `M 1 4 49`, `W 1 0`, `W 1 1` and `D 1`, each with its end of line.
+// The digests are those of no bytes, and of `M 1 4 49`, `W 1 0`, `W 1 1` and `D 1`, each with its end of line, of which the
+// first two are taken before the others are asked, and the list lets go of all behind that.
 #[test]
 fn digests_the_trace(rt: HostRuntime) -> Result<(), Fail> {
     let mut store = MemStore::new(rt.alloc());
     let mut expected = [0; 32];
     let none = "e3b0c44298fc1c149afbf4c8996fb92427ae41e4649b934ca495991b7852b855";
     assert_eq!(rt; hex::decode_to_slice(none, &mut expected), Ok(()));
-    assert_eq!(rt; trace_digest(&store), expected);
+    assert_eq!(rt; TraceDigest::new().finish(), expected);
+    let mut digest = TraceDigest::new();
     store.room(4)?;
     store.make(1, 4, 49)?;
     store.write(1, 0, &[7; 49])?;
+    assert_eq!(rt; store.gone(), 0);
+    digest.take_from(&store, 0);
     store.write(1, 1, &[7; 49])?;
     store.discard(1)?;
+    assert!(rt; store.gone() == 0 && store.count() == 4);
+    digest.take_from(&store, 2);
+    store.let_go();
+    assert_eq!(rt; store.gone(), 4);
     let four = "addcfe484bc8bf37f82bb995002436d37c66996caf05eb2d2b3550292f232f7c";
     assert_eq!(rt; hex::decode_to_slice(four, &mut expected), Ok(()));
-    assert_eq!(rt; trace_digest(&store), expected);
+    assert_eq!(rt; digest.finish(), expected);
     Ok(())
 }

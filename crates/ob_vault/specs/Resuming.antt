@@ -50,6 +50,7 @@ pub record Stays (some : ℕ → Type 0) (old new : World) : Type 0 where
   pub region : new.vault.start.region ≡ old.vault.start.region
   pub given : (q x : ℕ) → (some q → ⊥) → new.vault.start.given q x ≡ old.vault.start.given q x
   pub next : old.vault.next ≤ new.vault.next
+  pub log : new.store.let_go ≡ old.store.let_go
   pub faults : old.store.faults ≤ new.store.faults
   pub tells : new.store.tells ≡ old.store.tells
   pub lie : (lie : Lie) → old.store.lie ≡ Some lie → new.store.lie ≡ Some lie

@@ -75,11 +75,11 @@ alike_added t ts us alike new too = record {
 }
 
 -- ---- one changed
-abbrev with_slots : (Held → Held) → Stored Held → Stored Held
+abbrev pub with_slots : (Held → Held) → Stored Held → Stored Held
 with_slots f t = record { heading = t.heading; held = f t.held }
 
 module _ (name : List ℕ) (f : Held → Held) where
-  headings_changed : (ts : Tables) → headings (changed_at name f ts) ≡ headings ts
+  pub headings_changed : (ts : Tables) → headings (changed_at name f ts) ≡ headings ts
   headings_changed [] = refl
   headings_changed (t ∷ ts) =
       elim (bytes_eq t.heading.name name) as (λ b. headings (if b then with_slots f t ∷ ts else t ∷ changed_at name f ts) ≡ t.heading ∷ headings ts)
@@ -91,7 +91,7 @@ module _ (name : List ℕ) (f : Held → Held) where
       elim (bytes_eq t.heading.name name) as (λ b. length (if b then with_slots f t ∷ ts else t ∷ changed_at name f ts) ≡ suc (length ts))
       [ true ↦ refl | false ↦ ap suc (length-changed ts) ]
 
-  changed_here : (ts : Tables) → stored_at name (changed_at name f ts) ≡ option_map (with_slots f) (stored_at name ts)
+  pub changed_here : (ts : Tables) → stored_at name (changed_at name f ts) ≡ option_map (with_slots f) (stored_at name ts)
   changed_here [] = refl
   changed_here (t ∷ ts) = go (bytes_eq t.heading.name name) refl (changed_here ts) where
     go : (b : Bool) → bytes_eq t.heading.name name ≡ b → stored_at name (changed_at name f ts) ≡ option_map (with_slots f) (stored_at name ts)

@@ -6,13 +6,16 @@ use Rattle.std.specs.Option.{option_map_or, option_map, option_or}
 use Rattle.ob_base.specs.declared.config.Public.{Public}
 use Rattle.ob_base.specs.declared.config.Plan.{Plan}
 use Rattle.ob_base.specs.declared.config.Plan.TheVariants.{Small, Large, Continuous, Hash}
+use Rattle.ob_base.specs.declared.config.Planner.{Planner}
+use Rattle.ob_base.specs.declared.config.Planner.TheVariants.{Auto, Cheapest, Forced}
 use Rattle.ob_base.specs.declared.refusal.Refusal.{Refusal}
 use Rattle.ob_base.specs.declared.refusal.Refusal.TheVariants.{Overflow, NotConsecutive}
 use Rattle.ob_base.specs.declared.schema.Heading.{Heading}
 use Rattle.ob_base.specs.declared.skeleton.Source.{Source}
 use Rattle.ob_base.specs.declared.skeleton.Source.TheVariants.{Table as OneTable, Join}
 use Rattle.ob_base.specs.Limits.{buffered, buffered_blocks}
-use Rattle.ob_base.specs.Plans.{IsPadded, MayPad, choose, choose_padded, padded_rows}
+use Rattle.ob_base.specs.Plans.{IsPadded, MayPad, choose, choose_padded, large_length, padded_rows, small_length}
+use Rattle.ob_base.proofs.PlanLemmas.{continuous_by, hash_by}
 use Rattle.ob_base.specs.Schemas.{key_place}
 use Rattle.ob_base.specs.Stored.{Stored, headings, stored_at, heading_at}
 use Rattle.ob_row.specs.Bags.{Same}
@@ -61,46 +64,37 @@ no_overflow None h = refl
 no_overflow (Some i) h = cc
 
 -- Continuous is planned for places that are consecutive, or forced, and then refuses others
-consecutive_if : (p : Public) (s n k : ℕ) (places : List ℕ) (forced : Option Plan) → choose forced s n k (is_consecutive places) ≡ Continuous →
-    forced_refusal p forced places ≡ None → is_consecutive places ≡ true
-consecutive_if p s n k places (Some Small) e r = absurd (cc)
-consecutive_if p s n k places (Some Large) e r = absurd (cc)
-consecutive_if p s n k places (Some Continuous) e r = consecutive (is_consecutive places) r
-consecutive_if p s n k places (Some Hash) e r = absurd (cc)
-consecutive_if p s n k places None e r = planned (nat_le k (4 * s)) (is_consecutive places) (nat_le (3 * n) (4 * k)) e where
-  planned : (a b c : Bool) → cond a Small (cond b Continuous (cond c Large Hash)) ≡ Continuous → b ≡ true
-  planned true b c e = absurd (cc)
-  planned false true c e = refl
-  planned false false true e = absurd (cc)
-  planned false false false e = absurd (cc)
+consecutive_if : (p : Public) (pack rows n k : ℕ) (places : List ℕ) (planner : Planner) → choose planner pack rows n k (is_consecutive places) ≡ Continuous →
+    forced_refusal p planner places ≡ None → is_consecutive places ≡ true
+consecutive_if p pack rows n k places planner e r = elim (continuous_by planner pack rows n k (is_consecutive places) e) [
+  | inl forced ↦ consecutive (is_consecutive places) (sym (ap (λ (x : Planner). forced_refusal p x places) forced) ∙ r)
+  | inr side ↦ side
+]
 
 -- Hash that is forced refuses where it leaves a place out
-placed_if : (p : Public) (s n k : ℕ) (places : List ℕ) (forced : Option Plan) → choose forced s n k (is_consecutive places) ≡ Hash →
-    forced_refusal p forced places ≡ None → (forced ≡ None) ⊎ (first_unplaced p places ≡ None)
-placed_if p s n k places (Some Small) e r = absurd (cc)
-placed_if p s n k places (Some Large) e r = absurd (cc)
-placed_if p s n k places (Some Continuous) e r = absurd (cc)
-placed_if p s n k places (Some Hash) e r = inr (no_overflow (first_unplaced p places) r)
-placed_if p s n k places None e r = inl refl
-
-some_not_none : {A : Type 0} (x : A) → Some x ≡ None → ⊥
-some_not_none x e = cc
+placed_if : (p : Public) (pack rows n k : ℕ) (places : List ℕ) (planner : Planner) → choose planner pack rows n k (is_consecutive places) ≡ Hash →
+    forced_refusal p planner places ≡ None → (planner ≡ Auto) ⊎ (first_unplaced p places ≡ None)
+placed_if p pack rows n k places planner e r = elim (hash_by planner pack rows n k (is_consecutive places) e) [
+  | inl forced ↦ inr (no_overflow (first_unplaced p places) (sym (ap (λ (x : Planner). forced_refusal p x places) forced) ∙ r))
+  | inr auto ↦ inl auto
+]
 
 -- after Hash, Small where it left a place out
-hash_fits : (n : ℕ) (places : List ℕ) (forced : Option Plan) (left : Option ℕ) → (forced ≡ None) ⊎ (left ≡ None) → (left ≡ None → PlanFits Hash n places) →
-    PlanFits (cond (is_some (fallback forced left)) Small Hash) n places
-hash_fits n places None None h fits = fits refl
-hash_fits n places None (Some i) h fits = tt
-hash_fits n places (Some x) None h fits = fits refl
-hash_fits n places (Some x) (Some i) (inl e) fits = absurd (some_not_none x e)
-hash_fits n places (Some x) (Some i) (inr e) fits = absurd (some_not_none i e)
+hash_fits : (n : ℕ) (places : List ℕ) (planner : Planner) (left : Option ℕ) → (planner ≡ Auto) ⊎ (left ≡ None) → (left ≡ None → PlanFits Hash n places) →
+    PlanFits (cond (is_some (fallback planner left)) Small Hash) n places
+hash_fits n places Auto None h fits = fits refl
+hash_fits n places Auto (Some i) h fits = tt
+hash_fits n places Cheapest left (inl e) fits = absurd (cc e)
+hash_fits n places Cheapest left (inr e) fits = fits e
+hash_fits n places (Forced plan) left (inl e) fits = absurd (cc e)
+hash_fits n places (Forced plan) left (inr e) fits = fits e
 
-last_fits : (p : Public) (n : ℕ) (places : List ℕ) (plan : Plan) → plan_for p n places ≡ plan → forced_refusal p p.plan places ≡ None → PlanFits (last_plan p plan places) (bucket_size p) places
+last_fits : (p : Public) (n : ℕ) (places : List ℕ) (plan : Plan) → plan_for p n places ≡ plan → forced_refusal p p.planner places ≡ None → PlanFits (last_plan p plan places) (bucket_size p) places
 last_fits p n places Small e r = tt
 last_fits p n places Large e r = tt
-last_fits p n places Continuous e r = consecutive_if p (buffered p.pack p.buffer) n (length places) places p.plan e r
+last_fits p n places Continuous e r = consecutive_if p p.pack p.buffer n (length places) places p.planner e r
 last_fits p n places Hash e r =
-    hash_fits (bucket_size p) places p.plan (first_unplaced p places) (placed_if p (buffered p.pack p.buffer) n (length places) places p.plan e r) (λ f. f)
+    hash_fits (bucket_size p) places p.planner (first_unplaced p places) (placed_if p p.pack p.buffer n (length places) places p.planner e r) (λ f. f)
 
 rows-slots_at : (name : List ℕ) (ts : Tables) → rows_at name (database ts) ≡ rows (slots_at name ts)
 rows-slots_at name [] = refl
@@ -144,22 +138,25 @@ pub both_none : (a b : Option Refusal) → option_or a b ≡ None → (a ≡ Non
 both_none None b h = (refl, h)
 both_none (Some x) b h = absurd (cc)
 
-not_empty : (p : Public) (places : List ℕ) → 0 < length places → unpadded_refusal p places ≡ None → forced_refusal p p.plan places ≡ None
+not_empty : (p : Public) (places : List ℕ) → 0 < length places → unpadded_refusal p places ≡ None → forced_refusal p p.planner places ≡ None
 not_empty p [] h r = absurd (omega arith)
 not_empty p (i ∷ is) h r = r
 
 -- a padded result is one of Small or Large
-padded_fits : (forced : Option Plan) (s q n : ℕ) (places : List ℕ) → MayPad forced → PlanFits (choose_padded forced s q) n places
-padded_fits (Some Small) s q n places h = tt
-padded_fits (Some Large) s q n places h = tt
-padded_fits (Some Continuous) s q n places h = absurd h
-padded_fits (Some Hash) s q n places h = absurd h
-padded_fits None s q n places h = elim (nat_le q (4 * s)) as (λ b. PlanFits (cond b Small Large) n places) [ true ↦ tt | false ↦ tt ]
+padded_fits : (planner : Planner) (pack rows slots q n : ℕ) (places : List ℕ) → MayPad planner → PlanFits (choose_padded planner pack rows slots q) n places
+padded_fits (Forced Small) pack rows slots q n places h = tt
+padded_fits (Forced Large) pack rows slots q n places h = tt
+padded_fits (Forced Continuous) pack rows slots q n places h = absurd h
+padded_fits (Forced Hash) pack rows slots q n places h = absurd h
+padded_fits Auto pack rows slots q n places h =
+    elim (nat_le q (4 * buffered pack rows)) as (λ b. PlanFits (cond b Small Large) n places) [ true ↦ tt | false ↦ tt ]
+padded_fits Cheapest pack rows slots q n places h =
+    elim (nat_le (small_length pack rows slots q) (large_length pack slots)) as (λ b. PlanFits (cond b Small Large) n places) [ true ↦ tt | false ↦ tt ]
 
-result_fits : (pad : Option ℕ) (p : Public) (n : ℕ) (places : List ℕ) → IsPadded pad p.plan → 0 < length places → refusal_by pad p places ≡ None →
+result_fits : (pad : Option ℕ) (p : Public) (n : ℕ) (places : List ℕ) → IsPadded pad p.planner → 0 < length places → refusal_by pad p places ≡ None →
     PlanFits (result_plan pad p n places) (bucket_size p) places
 result_fits None p n places h some r = last_fits p n places (plan_for p n places) refl (not_empty p places some r)
-result_fits (Some pad) p n places h some r = padded_fits p.plan (buffered p.pack p.buffer) (padded_rows pad n) (bucket_size p) places h.2
+result_fits (Some pad) p n places h some r = padded_fits p.planner p.pack p.buffer n (padded_rows pad n) (bucket_size p) places h.2
 
 pub prints_answer : PrintsAnswer
 prints_answer p m ts q one s padded k unkeyed r h =

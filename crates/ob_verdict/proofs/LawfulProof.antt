@@ -10,9 +10,11 @@ use Rattle.ob_base.specs.declared.access.Access.TheVariants.{Discard}
 use Rattle.ob_base.specs.declared.config.Public.{Public}
 use Rattle.ob_base.specs.declared.config.Plan.{Plan}
 use Rattle.ob_base.specs.declared.config.Plan.TheVariants.{Small, Large, Continuous, Hash}
+use Rattle.ob_base.specs.declared.config.Planner.{Planner}
+use Rattle.ob_base.specs.declared.config.Planner.TheVariants.{Auto, Cheapest, Forced}
 use Rattle.ob_base.specs.declared.seen.Seen.{Seen}
 use Rattle.ob_base.specs.declared.seen.End.{End}
-use Rattle.ob_base.specs.declared.seen.End.TheVariants.{Static, Whole, AfterCount, Cut}
+use Rattle.ob_base.specs.declared.seen.End.TheVariants.{Static, Whole, AfterCount, Joined, Cut}
 use Rattle.ob_base.specs.declared.refusal.Refusal.{Refusal}
 use Rattle.ob_base.specs.declared.schema.Heading.{Heading}
 use Rattle.ob_base.specs.declared.skeleton.ColumnName.{ColumnName}
@@ -24,6 +26,7 @@ use Rattle.ob_base.specs.Accesses.{discard_at}
 use Rattle.ob_base.specs.Limits.{buffered, buffered_blocks}
 use Rattle.ob_base.specs.Lists.{each, places_from}
 use Rattle.ob_base.specs.Plans.{choose}
+use Rattle.ob_base.proofs.PlanLemmas.{forced_apart}
 use Rattle.ob_base.specs.Stored.{Stored, headings, headings_of, stored_at, stored_regions, heading_at}
 use Rattle.ob_row.specs.Slots.{Slots, is_consecutive, rows, selected}
 use Rattle.ob_row.specs.Results.{joined, joined_chunk, joined_slot, padded, chunk}
@@ -45,7 +48,7 @@ use Rattle.std.specs.Prelude.{replicate}
 use Rattle.ob_base.specs.Joins.{chunks, joined_slots}
 use Rattle.ob_base.specs.Numbers.{blocks_for}
 use Rattle.ob_mean.specs.Lawful.{Lawful, Holds, HoldsLeaf, IsCount, IsPlan, EndsUnplanned, height_at, is_counted, selects_rows, statement_slots, counted_slots, capacity_at, CutUpTo}
-use Rattle.ob_verdict.specs.Laws.{AreInPlace, HoldsByShape, SeenIsLawful, CutIsLawful}
+use Rattle.ob_verdict.specs.Laws.{AreInPlace, HoldsByShape, SeenIsLawful, CutIsLawful, JoinedIsLawful}
 use Rattle.ob_verdict.proofs.AccessedProof.{FlatAt, SourceFlat, access_public, flat_slots, not_index, source_flat}
 use Rattle.ob_verdict.proofs.InPlaceProof.{place_at}
 use Rattle.ob_verdict.proofs.SeenProof.{started-unread}
@@ -87,50 +90,42 @@ module _ (p : Public) (stmt : Stmt) (rows : is_counted p stmt ≡ true) (unpadde
   no_rows : Started p stmt (counted 0 None None Whole)
   no_rows = record { not_static = λ e. cc; not_cut = λ m. tt; leaf = refl; holds = (count_of 0 (omega arith), refl) }
 
-  plan_of : (k : ℕ) (plan : Plan) (c : Bool) → 1 ≤ k → plan ≡ choose p.plan (buffered p.pack p.buffer) n k c → IsPlan p stmt k plan
+  plan_of : (k : ℕ) (plan : Plan) (c : Bool) → 1 ≤ k → plan ≡ choose p.planner p.pack p.buffer n k c → IsPlan p stmt k plan
   plan_of k plan c h e = record { some = h; chosen = (c, e) }
 
-  stopped : (k : ℕ) → 1 ≤ k → k ≤ n → p.plan ≡ Some Continuous → Started p stmt (counted k None None AfterCount)
+  stopped : (k : ℕ) → 1 ≤ k → k ≤ n → p.planner ≡ Forced Continuous → Started p stmt (counted k None None AfterCount)
   stopped k h l e = record { not_static = λ e. cc; not_cut = λ m. tt; leaf = refl; holds = (count_of k l, (h, e)) }
 
   -- a plan after Hash is Small, where none is forced
-  hash_holds : (k : ℕ) (forced : Option Plan) (left : Option ℕ) → p.plan ≡ forced → IsCount p stmt k → IsPlan p stmt k Hash
-      → Holds p stmt (counted k (Some Hash) (fallback forced left) Whole) (Some k) (Some Hash) (fallback forced left)
-  hash_holds k (Some plan) left e count is = (count, is, tt)
-  hash_holds k None None e count is = (count, is, tt)
-  hash_holds k None (Some i) e count is = (count, is, tt, e)
-
--- Continuous for places that are not consecutive is forced
-forced_only : (forced : Option Plan) (s n k : ℕ) → choose forced s n k false ≡ Continuous → forced ≡ Some Continuous
-forced_only (Some x) s n k h = ap Some h
-forced_only None s n k h = absurd (unforced (nat_le k (4 * s)) (nat_le (3 * n) (4 * k)) h) where
-  unforced : (a b : Bool) → cond a Small (cond b Large Hash) ≡ Continuous → ⊥
-  unforced true b h = cc
-  unforced false true h = cc
-  unforced false false h = cc
+  hash_holds : (k : ℕ) (planner : Planner) (left : Option ℕ) → p.planner ≡ planner → IsCount p stmt k → IsPlan p stmt k Hash
+      → Holds p stmt (counted k (Some Hash) (fallback planner left) Whole) (Some k) (Some Hash) (fallback planner left)
+  hash_holds k (Forced plan) left e count is = (count, is, tt)
+  hash_holds k Cheapest left e count is = (count, is, tt)
+  hash_holds k Auto None e count is = (count, is, tt)
+  hash_holds k Auto (Some i) e count is = (count, is, tt, e)
 
 module _ (p : Public) (stmt : Stmt) (counts : is_counted p stmt ≡ true) (unpadded : p.pad ≡ None) where
   abbrev slots : ℕ
   slots = statement_slots p stmt
 
-  planned : (k : ℕ) (plan : Plan) (c : Bool) → 1 ≤ k → k ≤ slots → choose p.plan (buffered p.pack p.buffer) slots k c ≡ plan → IsCount p stmt k × IsPlan p stmt k plan
+  planned : (k : ℕ) (plan : Plan) (c : Bool) → 1 ≤ k → k ≤ slots → choose p.planner p.pack p.buffer slots k c ≡ plan → IsCount p stmt k × IsPlan p stmt k plan
   planned k plan c h l e = (count_of p stmt counts unpadded k l, plan_of p stmt counts unpadded k plan c h (sym e))
 
   with_plan : (plan : Plan) (places : List ℕ) → 1 ≤ length places → length places ≤ slots →
-      choose p.plan (buffered p.pack p.buffer) slots (length places) (is_consecutive places) ≡ plan → Started p stmt (seen_with p plan places)
+      choose p.planner p.pack p.buffer slots (length places) (is_consecutive places) ≡ plan → Started p stmt (seen_with p plan places)
   with_plan Small places h l e =
       let both = planned (length places) Small (is_consecutive places) h l e in record { not_static = λ e. cc; not_cut = λ m. tt; leaf = refl; holds = (both.0, both.1, tt) }
   with_plan Large places h l e =
       let both = planned (length places) Large (is_consecutive places) h l e in record { not_static = λ e. cc; not_cut = λ m. tt; leaf = refl; holds = (both.0, both.1, tt) }
   with_plan Hash places h l e =
       let both = planned (length places) Hash (is_consecutive places) h l e in
-      record { not_static = λ e. cc; not_cut = λ m. tt; leaf = refl; holds = hash_holds p stmt counts unpadded (length places) p.plan (first_unplaced p places) refl both.0 both.1 }
+      record { not_static = λ e. cc; not_cut = λ m. tt; leaf = refl; holds = hash_holds p stmt counts unpadded (length places) p.planner (first_unplaced p places) refl both.0 both.1 }
   with_plan Continuous places h l e = at_answer (is_consecutive places) e where
-    at_answer : (b : Bool) → choose p.plan (buffered p.pack p.buffer) slots (length places) b ≡ Continuous →
+    at_answer : (b : Bool) → choose p.planner p.pack p.buffer slots (length places) b ≡ Continuous →
         Started p stmt (cond b (counted (length places) (Some Continuous) None Whole) (counted (length places) None None AfterCount))
     at_answer true e =
         let both = planned (length places) Continuous true h l e in record { not_static = λ e. cc; not_cut = λ m. tt; leaf = refl; holds = (both.0, both.1, tt) }
-    at_answer false e = stopped p stmt counts unpadded (length places) h l (forced_only p.plan (buffered p.pack p.buffer) slots (length places) e)
+    at_answer false e = stopped p stmt counts unpadded (length places) h l (forced_apart Continuous p.planner p.pack p.buffer slots (length places) false (sym e) refl refl)
 
   unpadded_started : (places : List ℕ) → length places ≤ slots → Started p stmt (seen_unpadded p slots places)
   unpadded_started [] l = no_rows p stmt counts unpadded
@@ -486,6 +481,7 @@ module _ (p : Public) (stmt : Stmt) (n done : ℕ) (within : done ≤ n) (last :
   unplanned k m Static le h = absurd h
   unplanned k m Whole le h = (le, inl h)
   unplanned k m AfterCount le h = (le, inr h.1)
+  unplanned k m Joined le h = absurd h
   unplanned k m (Cut j) le h = (le, h.1)
 
   uncounted : done < count_end p (skeleton stmt) → Cutting None None None
@@ -644,3 +640,16 @@ cut_is_lawful d p m ts stmt failed n some e h early long = served (accessed ts s
         subst (λ (x : Seen). Lawful p m stmt (cut_at failed n p (skeleton stmt) x)) (sym begun)
         (subst (λ (q : Option Accessed). Lawful p m stmt (cut_at failed n p (skeleton stmt) (seen_served d q p ts stmt))) (sym is)
         (cut o is (subst (λ (q : Option Accessed). n ≤ length (whole_script p (skeleton stmt) (seen_served d q p ts stmt))) is long) (subst (λ (q : Option Accessed). Lawful p m stmt (seen_served d q p ts stmt)) is law)))
+
+-- ---- an INSERT that was served with the one before it
+pub joined_is_lawful : JoinedIsLawful
+joined_is_lawful s stmt e member = record {
+  static = (λ f. cc, λ f. absurd (not_both f (ap is_some (sym (early-public s.public s.asked s.tables stmt e) ∙ member.early))));
+  holds = record {
+    batched = member.batched;
+    inserts = member.inserts;
+    flat = access_public s.public s.tables e (is_late s.asked) (limits_of s.public) stmt member.early ∙ ap is_some member.unkeyed;
+  };
+  leaf = λ yes. tt;
+  cut = tt;
+}

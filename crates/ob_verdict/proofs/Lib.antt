@@ -24,3 +24,7 @@ pub mod AlikeHeadings
 pub mod AlikeTables
 pub mod AlikeProof
 pub mod BagwiseProof
+pub mod BatchProof
+pub mod BatchSessions
+pub mod PlainSettings
+pub mod OneByOneProof

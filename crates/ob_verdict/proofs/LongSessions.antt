@@ -4,6 +4,7 @@ use Rattle.std.specs.Prelude.{Option, Some, None, Ok, codes, map}
 use Rattle.ob_base.specs.declared.config.Public.{Public}
 use Rattle.ob_base.specs.declared.config.Plan.{Plan}
 use Rattle.ob_base.specs.declared.config.Plan.TheVariants.{Small, Large, Hash}
+use Rattle.ob_base.specs.declared.config.Planner.TheVariants.{Auto, Cheapest, Forced}
 use Rattle.ob_base.specs.declared.seen.End.TheVariants.{Whole}
 use Rattle.ob_base.specs.declared.seen.Seen.{Seen}
 use Rattle.ob_base.specs.declared.skeleton.Source.TheVariants.{Table as OneTable, Join}
@@ -49,40 +50,40 @@ its_answers =
     Done ∷ Done ∷ Rows [] ∷ Rows (ints (1 ∷ []) ∷ []) ∷ Rows (ints (7 ∷ []) ∷ []) ∷ Rows (ints (7 ∷ 1 ∷ []) ∷ []) ∷ Changed 0 ∷ Changed 0 ∷ Done ∷ Done
     ∷ Rows (ints (1 ∷ 7 ∷ 1 ∷ []) ∷ []) ∷ Rows (ints (1 ∷ 7 ∷ []) ∷ []) ∷ Done ∷ Done ∷ []
 
-generated_answers : answers_of (by_settings 64 5 1 None None) generated ≡ its_answers
+generated_answers : answers_of (by_settings 64 5 1 Auto None) generated ≡ its_answers
 unfolding makes
 generated_answers = refl
 
-generated_total : asked_by (by_settings 64 5 1 None None) generated ≡ 74
+generated_total : asked_by (by_settings 64 5 1 Auto None) generated ≡ 74
 unfolding makes
 generated_total = refl
 
 -- with room for four rows, of which a pass buffers two
-generated_answers_of_four : answers_of (by_settings 4 5 1 None None) generated ≡ its_answers
+generated_answers_of_four : answers_of (by_settings 4 5 1 Auto None) generated ≡ its_answers
 unfolding makes
 generated_answers_of_four = refl
 
-generated_total_of_four : asked_by (by_settings 4 5 1 None None) generated ≡ 74
+generated_total_of_four : asked_by (by_settings 4 5 1 Auto None) generated ≡ 74
 unfolding makes
 generated_total_of_four = refl
 
 abbrev plans_of : Public → List Spelt → List (Option Plan)
 plans_of p texts = map (λ s. s.seen.plan) (all_served (first_session p) texts [])
 
-generated_plans_of_four : plans_of (by_settings 4 5 1 None None) generated ≡
+generated_plans_of_four : plans_of (by_settings 4 5 1 Auto None) generated ≡
     None ∷ None ∷ None ∷ Some Small ∷ Some Small ∷ None ∷ None ∷ None ∷ None ∷ None ∷ Some Small ∷ None ∷ None ∷ None ∷ []
 unfolding makes
 generated_plans_of_four = refl
 
-generated_by_large : asked_by (by_settings 64 5 1 (Some Large) None) generated ≡ 92
+generated_by_large : asked_by (by_settings 64 5 1 (Forced Large) None) generated ≡ 92
 unfolding makes
 generated_by_large = refl
 
-generated_by_hash : asked_by (by_settings 64 5 1 (Some Hash) None) generated ≡ 218
+generated_by_hash : asked_by (by_settings 64 5 1 (Forced Hash) None) generated ≡ 218
 unfolding makes
 generated_by_hash = refl
 
-generated_in_pairs : asked_by (by_settings 64 5 2 None None) generated ≡ 58
+generated_in_pairs : asked_by (by_settings 64 5 2 Auto None) generated ≡ 58
 unfolding makes
 generated_in_pairs = refl
 
@@ -104,10 +105,19 @@ abbrev seen_in : Session → Spelt → Option Seen
 seen_in s (Ok stmt) = Some (seen_now s stmt)
 seen_in s _ = None
 
-fallback_seen : seen_in (after_all (first_session (by_settings 4 1 1 None None)) thirteen []) nine_of_them ≡ Some (record { k = Some 9; plan = Some Hash; then = Some Small; leaf = None; end = Whole })
+fallback_seen : seen_in (after_all (first_session (by_settings 4 1 1 Auto None)) thirteen []) nine_of_them ≡ Some (record { k = Some 9; plan = Some Hash; then = Some Small; leaf = None; end = Whole })
 unfolding makes
 fallback_seen = refl
 
-fallback_total : asked_by (by_settings 4 1 1 None None) (thirteen ++ nine_of_them ∷ []) ≡ 730
+fallback_total : asked_by (by_settings 4 1 1 Auto None) (thirteen ++ nine_of_them ∷ []) ≡ 730
 unfolding makes
 fallback_total = refl
+
+-- where the shortest script is taken, it is Large's: 67 accesses, and Small asks 85
+cheapest_seen : seen_in (after_all (first_session (by_settings 4 1 1 Cheapest None)) thirteen []) nine_of_them ≡ Some (record { k = Some 9; plan = Some Large; then = None; leaf = None; end = Whole })
+unfolding makes
+cheapest_seen = refl
+
+cheapest_total : asked_by (by_settings 4 1 1 Cheapest None) (thirteen ++ nine_of_them ∷ []) ≡ 627
+unfolding makes
+cheapest_total = refl

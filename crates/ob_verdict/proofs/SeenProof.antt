@@ -1,9 +1,11 @@
 -- What the seen of a statement tells.
-use Rattle.std.proofs.Common.{◌≡◌, ℕ, Bool, true, false, List, [], ◌∷◌, length, refl, sym, ◌∙◌, ap, subst, cond}
+use Rattle.std.proofs.Common.{◌≡◌, ◌≢◌, ℕ, Bool, true, false, List, [], ◌∷◌, length, refl, sym, ◌∙◌, ap, subst, cond}
 use Rattle.std.specs.Prelude.{Option, Some, None, IsSome, is_some, nat_le, ◌*◌, if◌then◌else◌}
 use Rattle.ob_base.specs.declared.config.Public.{Public}
 use Rattle.ob_base.specs.declared.config.Plan.{Plan}
 use Rattle.ob_base.specs.declared.config.Plan.TheVariants.{Small, Large, Continuous, Hash}
+use Rattle.ob_base.specs.declared.config.Planner.{Planner}
+use Rattle.ob_base.specs.declared.config.Planner.TheVariants.{Auto, Cheapest, Forced}
 use Rattle.ob_base.specs.declared.seen.Seen.{Seen}
 use Rattle.ob_base.specs.declared.seen.End.{End}
 use Rattle.ob_base.specs.declared.seen.End.TheVariants.{Static, Whole, AfterCount}
@@ -15,7 +17,8 @@ use Rattle.ob_base.specs.Indexes.{by_shape}
 use Rattle.ob_mean.specs.Step.{late_refusal, insert_refusal, new_row, Database, overgroups, totals_columns, totalled_rows}
 use Rattle.ob_mean.proofs.VerdictLemmas.{headings-database}
 use Rattle.ob_mean.specs.Verdict.{database, refusal, last_refusal, refusal_by, unpadded_refusal, forced_refusal, first_unplaced, fallback, source_slots, selected_places}
-use Rattle.ob_base.specs.Plans.{choose}
+use Rattle.ob_base.specs.Plans.{choose, continuous_length, large_length, least, small_length}
+use Rattle.ob_base.proofs.PlanLemmas.{by_least}
 use Rattle.std.specs.Option.{option_map, option_map_or, option_or}
 use Rattle.ob_sql.specs.declared.stmt.Stmt.{Stmt}
 use Rattle.ob_sql.specs.declared.stmt.Stmt.TheVariants.{Create, Insert, Update, Delete, Drop as DropTable, SelectRows as RowsStmt, SelectTotals as TotalsStmt}
@@ -26,7 +29,7 @@ use Rattle.ob_base.specs.Limits.{buffered}
 use Rattle.ob_base.specs.Stored.{Stored, headings, stored_at}
 use Rattle.ob_row.specs.Rows.{Row}
 use Rattle.ob_mean.specs.Lawful.{selects_rows}
-use Rattle.ob_verdict.specs.Laws.{AccessShowsLeaf, IsStarted, ShowsKindAlone, PaddedShowsKind, PlanIsWhole, ForcedShowsAlike, ShowsNotConsecutive}
+use Rattle.ob_verdict.specs.Laws.{AccessShowsLeaf, IsStarted, ShowsKindAlone, PaddedShowsKind, PlanIsWhole, ShowsPlanAlone, CheapestAccepts, CheapestShows, ShowsNotConsecutive}
 
 seen-started : (d : Draws) (p : Public) (m : ℕ) (ts : Tables) (stmt : Stmt) → IsStarted p m ts stmt → seen d p m ts stmt ≡ seen_served d (accessed ts stmt) p ts stmt
 seen-started d p m ts stmt h = ap (λ r. cond (is_some r) (ended Static) (seen_served d (accessed ts stmt) p ts stmt)) h
@@ -201,18 +204,27 @@ unforced-shows p places false d = go (is_consecutive places) refl where
   go true e = subst (λ c. Shows (cond c (counted (length places) (Some Continuous) None Whole) (counted (length places) None None AfterCount)) None) (sym e) (λ e. cc, λ e. cc)
   go false e = last d
 
-plan-shows : (p : Public) (s n k : ℕ) (places : List ℕ) (forced : Option Plan) → Shows (seen_with p (choose forced s n k (is_consecutive places)) places) (forced_refusal p forced places)
+-- nor is the plan with the shortest script
+cheapest-shows : (p : Public) (places : List ℕ) (small continuous large : ℕ) → Shows (seen_with p (least small continuous large (is_consecutive places)) places) None
+unfolding Shows
+cheapest-shows p places small continuous large =
+    by_least (λ plan. Shows (seen_with p plan places) None) small continuous large (is_consecutive places) (λ e. cc, λ e. cc) (λ e. cc, λ e. cc)
+    (λ is. subst (λ c. Shows (cond c (counted (length places) (Some Continuous) None Whole) (counted (length places) None None AfterCount)) None) (sym is) (λ e. cc, λ e. cc))
+
+plan-shows : (p : Public) (pack rows n k : ℕ) (places : List ℕ) (planner : Planner)
+    → Shows (seen_with p (choose planner pack rows n k (is_consecutive places)) places) (forced_refusal p planner places)
 unfolding Shows NotSame
-plan-shows p s n k places (Some Small) = (λ e. cc, λ e. cc)
-plan-shows p s n k places (Some Large) = (λ e. cc, λ e. cc)
-plan-shows p s n k places (Some Continuous) = continuous-shows (is_consecutive places) (length places)
-plan-shows p s n k places (Some Hash) = (λ e. cc, λ e. absurd (overflow-not (first_unplaced p places) e))
-plan-shows p s n k places None = unforced-shows p places (nat_le k (4 * s)) (nat_le (3 * n) (4 * k))
+plan-shows p pack rows n k places (Forced Small) = (λ e. cc, λ e. cc)
+plan-shows p pack rows n k places (Forced Large) = (λ e. cc, λ e. cc)
+plan-shows p pack rows n k places (Forced Continuous) = continuous-shows (is_consecutive places) (length places)
+plan-shows p pack rows n k places (Forced Hash) = (λ e. cc, λ e. absurd (overflow-not (first_unplaced p places) e))
+plan-shows p pack rows n k places Auto = unforced-shows p places (nat_le k (4 * buffered pack rows)) (nat_le (3 * n) (4 * k))
+plan-shows p pack rows n k places Cheapest = cheapest-shows p places (small_length pack rows n k) (continuous_length pack n k) (large_length pack n)
 
 unpadded-shows : (p : Public) (n : ℕ) (places : List ℕ) → Shows (seen_unpadded p n places) (unpadded_refusal p places)
 unfolding Shows
 unpadded-shows p n [] = (λ e. cc, λ e. cc)
-unpadded-shows p n (i ∷ is) = plan-shows p (buffered p.pack p.buffer) n (length (i ∷ is)) (i ∷ is) p.plan
+unpadded-shows p n (i ∷ is) = plan-shows p p.pack p.buffer n (length (i ∷ is)) (i ∷ is) p.planner
 
 passed-not : (b : Bool) → NotSame (cond b (Some PadPassed) None)
 unfolding NotSame
@@ -274,60 +286,116 @@ shows_not_consecutive d p m ts stmt h =
     let both = served-shows d p ts stmt (accessed ts stmt) refl in
     (λ e. r ∙ both.0 (sym (ap (λ x. x.end) s) ∙ e), λ e. ap (λ x. x.end) s ∙ both.1 (sym r ∙ e))
 
--- ---- a forced plan has none after it
-NoSecond : Option Plan → Seen → Type 0
-NoSecond forced x = (plan : Plan) → forced ≡ Some plan → x.then ≡ None
+-- ---- a plan that is forced, or the one with the shortest script, has none after it
+NoSecond : Planner → Seen → Type 0
+NoSecond planner x = planner ≢ Auto → x.then ≡ None
 
-fallback-none : (p : Public) (places : List ℕ) (forced : Option Plan) (plan : Plan) → forced ≡ Some plan → fallback forced (first_unplaced p places) ≡ None
-fallback-none p places None plan e = cc
-fallback-none p places (Some x) plan e = refl
+fallback-none : (planner : Planner) (left : Option ℕ) → planner ≢ Auto → fallback planner left ≡ None
+fallback-none Auto left other = absurd (other refl)
+fallback-none Cheapest left other = refl
+fallback-none (Forced plan) left other = refl
 
-seen_with-second : (p : Public) (plan : Plan) (places : List ℕ) → NoSecond p.plan (seen_with p plan places)
+seen_with-second : (p : Public) (plan : Plan) (places : List ℕ) → NoSecond p.planner (seen_with p plan places)
 unfolding NoSecond
-seen_with-second p Small places = λ x e. refl
-seen_with-second p Large places = λ x e. refl
-seen_with-second p Continuous places = of_cond (λ s. (plan : Plan) → p.plan ≡ Some plan → s.then ≡ None) (is_consecutive places) _ _ (λ x e. refl) (λ x e. refl)
-seen_with-second p Hash places = λ x e. fallback-none p places p.plan x e
+seen_with-second p Small places = λ e. refl
+seen_with-second p Large places = λ e. refl
+seen_with-second p Continuous places = of_cond (λ s. p.planner ≢ Auto → s.then ≡ None) (is_consecutive places) _ _ (λ e. refl) (λ e. refl)
+seen_with-second p Hash places = fallback-none p.planner (first_unplaced p places)
 
-seen_unpadded-second : (p : Public) (n : ℕ) (places : List ℕ) → NoSecond p.plan (seen_unpadded p n places)
+seen_unpadded-second : (p : Public) (n : ℕ) (places : List ℕ) → NoSecond p.planner (seen_unpadded p n places)
 unfolding NoSecond
-seen_unpadded-second p n [] = λ x e. refl
+seen_unpadded-second p n [] = λ e. refl
 seen_unpadded-second p n (i ∷ is) = seen_with-second p (plan_for p n (i ∷ is)) (i ∷ is)
 
-seen_by-second : (pad : Option ℕ) (p : Public) (n : ℕ) (places : List ℕ) → NoSecond p.plan (seen_by pad p n places)
+seen_by-second : (pad : Option ℕ) (p : Public) (n : ℕ) (places : List ℕ) → NoSecond p.planner (seen_by pad p n places)
 unfolding NoSecond
 seen_by-second None p n places = seen_unpadded-second p n places
-seen_by-second (Some pad) p n places = λ x e. refl
+seen_by-second (Some pad) p n places = λ e. refl
 
-started-second : (p : Public) (ts : Tables) (stmt : Stmt) → NoSecond p.plan (seen_started p ts stmt)
+started-second : (p : Public) (ts : Tables) (stmt : Stmt) → NoSecond p.planner (seen_started p ts stmt)
 unfolding NoSecond
-started-second p ts (Create a b c d) = λ x e. refl
-started-second p ts (Insert a b c) = λ x e. refl
-started-second p ts (Update a b c) = λ x e. refl
-started-second p ts (Delete a b) = λ x e. refl
-started-second p ts (DropTable a) = λ x e. refl
+started-second p ts (Create a b c d) = λ e. refl
+started-second p ts (Insert a b c) = λ e. refl
+started-second p ts (Update a b c) = λ e. refl
+started-second p ts (Delete a b) = λ e. refl
+started-second p ts (DropTable a) = λ e. refl
 started-second p ts (RowsStmt q) = seen_by-second p.pad p _ _
-started-second p ts (TotalsStmt q) = λ x e. refl
+started-second p ts (TotalsStmt q) = λ e. refl
 
-served-second : (d : Draws) (o : Option Accessed) (p : Public) (ts : Tables) (stmt : Stmt) → NoSecond p.plan (seen_served d o p ts stmt)
+served-second : (d : Draws) (o : Option Accessed) (p : Public) (ts : Tables) (stmt : Stmt) → NoSecond p.planner (seen_served d o p ts stmt)
 unfolding NoSecond
 served-second d None p ts stmt = started-second p ts stmt
-served-second d (Some a) p ts stmt = λ x e. refl
+served-second d (Some a) p ts stmt = λ e. refl
 
-all-second : (d : Draws) (p : Public) (m : ℕ) (ts : Tables) (stmt : Stmt) → NoSecond p.plan (seen d p m ts stmt)
+all-second : (d : Draws) (p : Public) (m : ℕ) (ts : Tables) (stmt : Stmt) → NoSecond p.planner (seen d p m ts stmt)
 unfolding NoSecond
 all-second d p m ts stmt =
-    of_cond (λ s. (plan : Plan) → p.plan ≡ Some plan → s.then ≡ None) (is_some (early_refusal (is_late m) (limits_of p) (headings ts) stmt)) _ _ (λ x e. refl) (served-second d (accessed ts stmt) p ts stmt)
+    of_cond (λ s. p.planner ≢ Auto → s.then ≡ None) (is_some (early_refusal (is_late m) (limits_of p) (headings ts) stmt)) _ _ (λ e. refl) (served-second d (accessed ts stmt) p ts stmt)
 
-pub forced_shows_alike : ForcedShowsAlike
+pub shows_plan_alone : ShowsPlanAlone
 unfolding PlanEnds NoSecond
-forced_shows_alike d e p m ts us a b forced plan f x y k =
+shows_plan_alone d e p m ts us a b plan other x y k =
     let s = seen d p m ts a in
     let t = seen e p m us b in
     let plans : s.plan ≡ t.plan = x ∙ sym y in
-    let seconds : s.then ≡ t.then = all-second d p m ts a forced f ∙ sym (all-second e p m us b forced f) in
+    let seconds : s.then ≡ t.then = all-second d p m ts a other ∙ sym (all-second e p m us b other) in
     let first = all-plan d p m ts a plan x in
     let second = all-plan e p m us b plan y in
     let leaves : s.leaf ≡ t.leaf = first.1 ∙ sym second.1 in
     let ends : s.end ≡ t.end = first.0 ∙ sym second.0 in
     λ i. record { k = k i; plan = plans i; then = seconds i; leaf = leaves i; end = ends i }
+
+-- ---- the shortest script
+-- no Hash, and no end behind the count
+IsPlain : Seen → Type 0
+IsPlain x = (x.plan ≢ Some Hash) × (x.end ≢ AfterCount)
+
+whole-plain : IsPlain (ended Whole)
+unfolding IsPlain
+whole-plain = (λ e. cc, λ e. cc)
+
+least-plain : (p : Public) (places : List ℕ) (small continuous large : ℕ) → IsPlain (seen_with p (least small continuous large (is_consecutive places)) places)
+unfolding IsPlain
+least-plain p places small continuous large =
+    by_least (λ plan. IsPlain (seen_with p plan places)) small continuous large (is_consecutive places) (λ e. cc, λ e. cc) (λ e. cc, λ e. cc)
+    (λ is. subst (λ c. IsPlain (cond c (counted (length places) (Some Continuous) None Whole) (counted (length places) None None AfterCount))) (sym is) (λ e. cc, λ e. cc))
+
+planned-plain : (p : Public) (pack rows n k : ℕ) (places : List ℕ) (planner : Planner) → planner ≡ Cheapest
+    → IsPlain (seen_with p (choose planner pack rows n k (is_consecutive places)) places)
+planned-plain p pack rows n k places Auto e = absurd (cc e)
+planned-plain p pack rows n k places Cheapest e = least-plain p places (small_length pack rows n k) (continuous_length pack n k) (large_length pack n)
+planned-plain p pack rows n k places (Forced plan) e = absurd (cc e)
+
+unpadded-plain : (p : Public) (n : ℕ) (places : List ℕ) → p.planner ≡ Cheapest → IsPlain (seen_unpadded p n places)
+unfolding IsPlain
+unpadded-plain p n [] e = (λ e. cc, λ e. cc)
+unpadded-plain p n (i ∷ is) e = planned-plain p p.pack p.buffer n (length (i ∷ is)) (i ∷ is) p.planner e
+
+by-plain : (pad : Option ℕ) (p : Public) (n : ℕ) (places : List ℕ) → p.planner ≡ Cheapest → IsPlain (seen_by pad p n places)
+by-plain None p n places e = unpadded-plain p n places e
+by-plain (Some pad) p n places e = whole-plain
+
+started-plain : (p : Public) (ts : Tables) (stmt : Stmt) → p.planner ≡ Cheapest → IsPlain (seen_started p ts stmt)
+started-plain p ts (Create a b c d) e = whole-plain
+started-plain p ts (Insert a b c) e = whole-plain
+started-plain p ts (Update a b c) e = whole-plain
+started-plain p ts (Delete a b) e = whole-plain
+started-plain p ts (DropTable a) e = whole-plain
+started-plain p ts (RowsStmt q) e = by-plain p.pad p _ _ e
+started-plain p ts (TotalsStmt q) e = whole-plain
+
+served-plain : (d : Draws) (o : Option Accessed) (p : Public) (ts : Tables) (stmt : Stmt) → p.planner ≡ Cheapest → IsPlain (seen_served d o p ts stmt)
+unfolding IsPlain
+served-plain d None p ts stmt e = started-plain p ts stmt e
+served-plain d (Some a) p ts stmt e = (λ e. cc, λ e. cc)
+
+pub cheapest_shows : CheapestShows
+unfolding IsPlain
+cheapest_shows d p m ts stmt e =
+    of_cond IsPlain (is_some (early_refusal (is_late m) (limits_of p) (headings ts) stmt)) (ended Static) (seen_served d (accessed ts stmt) p ts stmt) (λ e. cc, λ e. cc) (served-plain d (accessed ts stmt) p ts stmt e)
+
+pub cheapest_accepts : CheapestAccepts
+cheapest_accepts p places is unpadded = ap (λ (pad : Option ℕ). refusal_by pad p places) unpadded ∙ go places where
+  go : (places : List ℕ) → unpadded_refusal p places ≡ None
+  go [] = refl
+  go (i ∷ more) = ap (λ (planner : Planner). forced_refusal p planner (i ∷ more)) is

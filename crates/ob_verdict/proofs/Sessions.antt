@@ -4,6 +4,8 @@ use Rattle.std.specs.Prelude.{false, Option, Some, None, Ok, codes, pos, map}
 use Rattle.ob_base.specs.declared.access.Access.{Access}
 use Rattle.ob_base.specs.declared.config.Public.{Public}
 use Rattle.ob_base.specs.declared.config.Plan.{Plan}
+use Rattle.ob_base.specs.declared.config.Planner.{Planner}
+use Rattle.ob_base.specs.declared.config.Planner.TheVariants.{Auto, Forced}
 use Rattle.ob_base.specs.declared.schema.Shape.TheVariants.{Flat}
 use Rattle.ob_base.specs.declared.shown.Shown.{Shown}
 use Rattle.ob_base.specs.declared.shown.Shown.TheVariants.{Int as I}
@@ -84,19 +86,19 @@ abbrev pub update_v : ℕ → Option Search → Spelt
 update_v x c = Ok (Update t (record { column = v; value = int x } ∷ []) c)
 
 -- what is public before the first statement, by these settings
-abbrev pub by_settings : (buffer depth pack : ℕ) → Option Plan → (pad : Option ℕ) → Public
-by_settings buffer depth pack plan pad =
-    first_public (record { buffer = buffer; depth = depth; pack = pack; plan = plan; pad = pad; stash = 32; keep = false; save = false; max_input = 1048576 })
+abbrev pub by_settings : (buffer depth pack : ℕ) → Planner → (pad : Option ℕ) → Public
+by_settings buffer depth pack planner pad =
+    first_public (record { buffer = buffer; depth = depth; pack = pack; planner = planner; pad = pad; stash = 32; keep = false; save = false; batch = None; max_input = 1048576 })
 
 abbrev pub by_four : Public
-by_four = by_settings 4 5 1 None None
+by_four = by_settings 4 5 1 Auto None
 
 abbrev pub forced : Plan → (depth : ℕ) → Public
-forced plan depth = by_settings 4 depth 1 (Some plan) None
+forced plan depth = by_settings 4 depth 1 (Forced plan) None
 
 -- two rows in each block
-abbrev pub in_pairs : Option Plan → (depth : ℕ) → Public
-in_pairs plan depth = by_settings 7 depth 2 plan None
+abbrev pub in_pairs : Planner → (depth : ℕ) → Public
+in_pairs planner depth = by_settings 7 depth 2 planner None
 
 abbrev pub trace_of : Public → List Spelt → Broken → List Access
 trace_of p texts broken = trace p (all_served (first_session p) texts broken)

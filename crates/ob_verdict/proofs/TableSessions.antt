@@ -5,20 +5,21 @@ use Rattle.ob_base.specs.declared.access.Access.{Access}
 use Rattle.ob_base.specs.declared.access.Access.TheVariants.{Make, Read, Write, Discard}
 use Rattle.ob_base.specs.declared.config.Public.{Public}
 use Rattle.ob_base.specs.declared.config.Plan.TheVariants.{Small, Large, Continuous, Hash}
+use Rattle.ob_base.specs.declared.config.Planner.TheVariants.{Auto, Cheapest, Forced}
 use Rattle.ob_base.specs.declared.refusal.Refusal.TheVariants.{Syntax, Duplicate, Full, TooManyGroups, NotConsecutive, Overflow, NameTaken, NoColumn, WrongType, KeyRule, JoinKey, StoreFault, PadPassed}
 use Rattle.ob_base.specs.declared.shown.Shown.TheVariants.{Int as I, Null}
 use Rattle.ob_base.specs.declared.skeleton.ColumnName.{ColumnName}
 use Rattle.ob_base.specs.declared.skeleton.Source.TheVariants.{Join}
 use Rattle.ob_base.specs.Accesses.{makes}
 use Rattle.ob_base.specs.Numbers.{first_bucket, second_bucket}
-use Rattle.ob_base.specs.Plans.{choose}
+use Rattle.ob_base.specs.Plans.{choose, choose_padded}
 use Rattle.ob_base.specs.declared.comparison.ComparisonOperator.TheVariants.{Equal, Less, GreaterOrEqual}
 use Rattle.ob_sql.specs.declared.stmt.Listed.TheVariants.{Column as ListedColumn, CountAll, Sum, Min, Max}
 use Rattle.ob_sql.specs.declared.stmt.Literal.TheVariants.{Text as TextLiteral}
 use Rattle.ob_sql.specs.declared.stmt.Stmt.TheVariants.{Insert, Update, Delete, Drop as DropTable, SelectRows as RowsStmt}
 use Rattle.ob_sql.specs.Search.{Search, Not, Or}
 use Rattle.ob_mean.specs.declared.answer.Answer.TheVariants.{Done, Changed, Rows, Refused}
-use Rattle.ob_mean.specs.Replay.{Spelt, first_session, answers}
+use Rattle.ob_mean.specs.Replay.{Alone, CutAfter, Spelt, first_session, answers}
 use Rattle.ob_verdict.proofs.Sessions.{by_settings, t, u, id, v, col, of_table, int, compare, create_t, insert, four_rows, two_tables, select_where, select_columns, select_items, join_on, update_v, by_four, forced, in_pairs, trace_of, answers_of, asked_by, last_answers, last_trace, result_after, row_of, ints}
 use Rattle.std.specs.Prelude.{Option}
 
@@ -158,7 +159,7 @@ large_result = refl
 
 -- results padded to two rows: the count and the result of two, whatever is selected
 abbrev padded : Public
-padded = by_settings 4 5 1 None (Some 2)
+padded = by_settings 4 5 1 Auto (Some 2)
 
 -- of a table of four slots with three rows
 abbrev three_rows : List Spelt
@@ -196,7 +197,7 @@ unfolding makes
 padded_passed_trace = refl
 
 -- forced Large, of all slots
-padded_large_trace : last_trace (by_settings 4 5 1 (Some Large) (Some 2)) three_rows (select_where (Some (compare v Equal 99)) ∷ []) ≡ Read 4 0 ∷ Read 4 1 ∷ Read 4 2 ∷ Read 4 3 ∷ Make 5 4 49 ∷ Read 4 0 ∷ Write 5 0 ∷ Read 4 1 ∷ Write 5 1 ∷ Read 4 2 ∷ Write 5 2 ∷ Read 4 3 ∷ Write 5 3 ∷ Read 5 0 ∷ Write 5 0 ∷ Read 5 1 ∷ Write 5 1 ∷ Read 5 2 ∷ Write 5 2 ∷ Read 5 3 ∷ Write 5 3 ∷ Read 5 0 ∷ Read 5 1 ∷ Read 5 2 ∷ Read 5 3 ∷ Discard 5 ∷ []
+padded_large_trace : last_trace (by_settings 4 5 1 (Forced Large) (Some 2)) three_rows (select_where (Some (compare v Equal 99)) ∷ []) ≡ Read 4 0 ∷ Read 4 1 ∷ Read 4 2 ∷ Read 4 3 ∷ Make 5 4 49 ∷ Read 4 0 ∷ Write 5 0 ∷ Read 4 1 ∷ Write 5 1 ∷ Read 4 2 ∷ Write 5 2 ∷ Read 4 3 ∷ Write 5 3 ∷ Read 5 0 ∷ Write 5 0 ∷ Read 5 1 ∷ Write 5 1 ∷ Read 5 2 ∷ Write 5 2 ∷ Read 5 3 ∷ Write 5 3 ∷ Read 5 0 ∷ Read 5 1 ∷ Read 5 2 ∷ Read 5 3 ∷ Discard 5 ∷ []
 unfolding makes
 padded_large_trace = refl
 
@@ -268,11 +269,11 @@ too_many_groups_total : asked_by by_four (four_rows ++ (update_v 30 (Some (compa
 unfolding makes
 too_many_groups_total = refl
 
-groups_in_larger_buffer : last_answers (by_settings 5 5 1 None None) four_rows (update_v 30 (Some (compare id Equal 4)) ∷ by_v ∷ []) ≡ Changed 1 ∷ Rows (ints (10 ∷ 2 ∷ 4 ∷ []) ∷ ints (20 ∷ 1 ∷ 2 ∷ []) ∷ ints (30 ∷ 1 ∷ 4 ∷ []) ∷ []) ∷ []
+groups_in_larger_buffer : last_answers (by_settings 5 5 1 Auto None) four_rows (update_v 30 (Some (compare id Equal 4)) ∷ by_v ∷ []) ≡ Changed 1 ∷ Rows (ints (10 ∷ 2 ∷ 4 ∷ []) ∷ ints (20 ∷ 1 ∷ 2 ∷ []) ∷ ints (30 ∷ 1 ∷ 4 ∷ []) ∷ []) ∷ []
 unfolding makes
 groups_in_larger_buffer = refl
 
-groups_in_larger_buffer_total : asked_by (by_settings 5 5 1 None None) (four_rows ++ (update_v 30 (Some (compare id Equal 4)) ∷ by_v ∷ [])) ≡ 75
+groups_in_larger_buffer_total : asked_by (by_settings 5 5 1 Auto None) (four_rows ++ (update_v 30 (Some (compare id Equal 4)) ∷ by_v ∷ [])) ≡ 75
 unfolding makes
 groups_in_larger_buffer_total = refl
 
@@ -360,95 +361,95 @@ deleted_total : asked_by by_four (four_rows ++ (Ok (Delete t (Some (compare v Eq
 unfolding makes
 deleted_total = refl
 
-created_in_pairs_trace : last_trace (in_pairs None 5) [] (create_t ∷ []) ≡ Make 1 2 66 ∷ Write 1 0 ∷ Write 1 1 ∷ []
+created_in_pairs_trace : last_trace (in_pairs Auto 5) [] (create_t ∷ []) ≡ Make 1 2 66 ∷ Write 1 0 ∷ Write 1 1 ∷ []
 unfolding makes
 created_in_pairs_trace = refl
 
-created_in_pairs_total : asked_by (in_pairs None 5) ([] ++ (create_t ∷ [])) ≡ 3
+created_in_pairs_total : asked_by (in_pairs Auto 5) ([] ++ (create_t ∷ [])) ≡ 3
 unfolding makes
 created_in_pairs_total = refl
 
-inserted_in_pairs : last_answers (in_pairs None 5) [] (create_t ∷ insert t 1 10 ∷ count_all ∷ []) ≡ Done ∷ Done ∷ Rows (ints (1 ∷ []) ∷ []) ∷ []
+inserted_in_pairs : last_answers (in_pairs Auto 5) [] (create_t ∷ insert t 1 10 ∷ count_all ∷ []) ≡ Done ∷ Done ∷ Rows (ints (1 ∷ []) ∷ []) ∷ []
 unfolding makes
 inserted_in_pairs = refl
 
-inserted_in_pairs_trace : last_trace (in_pairs None 5) [] (create_t ∷ insert t 1 10 ∷ count_all ∷ []) ≡ Make 1 2 66 ∷ Write 1 0 ∷ Write 1 1 ∷ Make 2 2 66 ∷ Read 1 0 ∷ Read 1 1 ∷ Read 1 0 ∷ Write 2 0 ∷ Read 1 1 ∷ Write 2 1 ∷ Discard 1 ∷ Read 2 0 ∷ Read 2 1 ∷ []
+inserted_in_pairs_trace : last_trace (in_pairs Auto 5) [] (create_t ∷ insert t 1 10 ∷ count_all ∷ []) ≡ Make 1 2 66 ∷ Write 1 0 ∷ Write 1 1 ∷ Make 2 2 66 ∷ Read 1 0 ∷ Read 1 1 ∷ Read 1 0 ∷ Write 2 0 ∷ Read 1 1 ∷ Write 2 1 ∷ Discard 1 ∷ Read 2 0 ∷ Read 2 1 ∷ []
 unfolding makes
 inserted_in_pairs_trace = refl
 
-inserted_in_pairs_total : asked_by (in_pairs None 5) ([] ++ (create_t ∷ insert t 1 10 ∷ count_all ∷ [])) ≡ 13
+inserted_in_pairs_total : asked_by (in_pairs Auto 5) ([] ++ (create_t ∷ insert t 1 10 ∷ count_all ∷ [])) ≡ 13
 unfolding makes
 inserted_in_pairs_total = refl
 
-small_in_pairs : last_answers (in_pairs None 5) four_rows (select_where (Some (compare v Equal 10)) ∷ []) ≡ Rows (ints (1 ∷ 10 ∷ []) ∷ ints (3 ∷ 10 ∷ []) ∷ []) ∷ []
+small_in_pairs : last_answers (in_pairs Auto 5) four_rows (select_where (Some (compare v Equal 10)) ∷ []) ≡ Rows (ints (1 ∷ 10 ∷ []) ∷ ints (3 ∷ 10 ∷ []) ∷ []) ∷ []
 unfolding makes
 small_in_pairs = refl
 
-small_in_pairs_trace : last_trace (in_pairs None 5) four_rows (select_where (Some (compare v Equal 10)) ∷ []) ≡ Read 5 0 ∷ Read 5 1 ∷ Make 6 1 66 ∷ Read 5 0 ∷ Read 5 1 ∷ Write 6 0 ∷ Read 6 0 ∷ Discard 6 ∷ []
+small_in_pairs_trace : last_trace (in_pairs Auto 5) four_rows (select_where (Some (compare v Equal 10)) ∷ []) ≡ Read 5 0 ∷ Read 5 1 ∷ Make 6 1 66 ∷ Read 5 0 ∷ Read 5 1 ∷ Write 6 0 ∷ Read 6 0 ∷ Discard 6 ∷ []
 unfolding makes
 small_in_pairs_trace = refl
 
-small_in_pairs_total : asked_by (in_pairs None 5) (four_rows ++ (select_where (Some (compare v Equal 10)) ∷ [])) ≡ 43
+small_in_pairs_total : asked_by (in_pairs Auto 5) (four_rows ++ (select_where (Some (compare v Equal 10)) ∷ [])) ≡ 43
 unfolding makes
 small_in_pairs_total = refl
 
-small_in_pairs_result : result_after (in_pairs None 5) four_rows (select_where (Some (compare v Equal 10))) ≡ Some (row_of 1 10) ∷ Some (row_of 3 10) ∷ []
+small_in_pairs_result : result_after (in_pairs Auto 5) four_rows (select_where (Some (compare v Equal 10))) ≡ Some (row_of 1 10) ∷ Some (row_of 3 10) ∷ []
 unfolding makes
 small_in_pairs_result = refl
 
-pairs_in_pairs : last_answers (in_pairs None 5) two_tables (join_all None None ∷ []) ≡ Rows (ints (1 ∷ 10 ∷ 1 ∷ 7 ∷ []) ∷ ints (1 ∷ 10 ∷ 1 ∷ 8 ∷ []) ∷ []) ∷ []
+pairs_in_pairs : last_answers (in_pairs Auto 5) two_tables (join_all None None ∷ []) ≡ Rows (ints (1 ∷ 10 ∷ 1 ∷ 7 ∷ []) ∷ ints (1 ∷ 10 ∷ 1 ∷ 8 ∷ []) ∷ []) ∷ []
 unfolding makes
 pairs_in_pairs = refl
 
-pairs_in_pairs_trace : last_trace (in_pairs None 5) two_tables (join_all None None ∷ []) ≡ Make 9 4 98 ∷ Read 5 0 ∷ Read 8 0 ∷ Write 9 0 ∷ Read 8 1 ∷ Write 9 1 ∷ Read 5 1 ∷ Read 8 0 ∷ Write 9 2 ∷ Read 8 1 ∷ Write 9 3 ∷ Read 9 0 ∷ Read 9 1 ∷ Read 9 2 ∷ Read 9 3 ∷ Make 10 1 98 ∷ Read 9 0 ∷ Read 9 1 ∷ Read 9 2 ∷ Read 9 3 ∷ Write 10 0 ∷ Read 10 0 ∷ Discard 10 ∷ Discard 9 ∷ []
+pairs_in_pairs_trace : last_trace (in_pairs Auto 5) two_tables (join_all None None ∷ []) ≡ Make 9 4 98 ∷ Read 5 0 ∷ Read 8 0 ∷ Write 9 0 ∷ Read 8 1 ∷ Write 9 1 ∷ Read 5 1 ∷ Read 8 0 ∷ Write 9 2 ∷ Read 8 1 ∷ Write 9 3 ∷ Read 9 0 ∷ Read 9 1 ∷ Read 9 2 ∷ Read 9 3 ∷ Make 10 1 98 ∷ Read 9 0 ∷ Read 9 1 ∷ Read 9 2 ∷ Read 9 3 ∷ Write 10 0 ∷ Read 10 0 ∷ Discard 10 ∷ Discard 9 ∷ []
 unfolding makes
 pairs_in_pairs_trace = refl
 
-pairs_in_pairs_total : asked_by (in_pairs None 5) (two_tables ++ (join_all None None ∷ [])) ≡ 78
+pairs_in_pairs_total : asked_by (in_pairs Auto 5) (two_tables ++ (join_all None None ∷ [])) ≡ 78
 unfolding makes
 pairs_in_pairs_total = refl
 
-continuous_in_pairs_trace : last_trace (in_pairs (Some Continuous) 5) four_rows (select_where (Some (compare id GreaterOrEqual 2)) ∷ []) ≡ Read 5 0 ∷ Read 5 1 ∷ Make 6 2 66 ∷ Write 6 0 ∷ Write 6 1 ∷ Read 5 0 ∷ Read 6 0 ∷ Write 6 0 ∷ Read 6 0 ∷ Write 6 0 ∷ Read 5 1 ∷ Read 6 1 ∷ Write 6 1 ∷ Read 6 0 ∷ Write 6 0 ∷ Read 6 0 ∷ Read 6 1 ∷ Discard 6 ∷ []
+continuous_in_pairs_trace : last_trace (in_pairs (Forced Continuous) 5) four_rows (select_where (Some (compare id GreaterOrEqual 2)) ∷ []) ≡ Read 5 0 ∷ Read 5 1 ∷ Make 6 2 66 ∷ Write 6 0 ∷ Write 6 1 ∷ Read 5 0 ∷ Read 6 0 ∷ Write 6 0 ∷ Read 6 0 ∷ Write 6 0 ∷ Read 5 1 ∷ Read 6 1 ∷ Write 6 1 ∷ Read 6 0 ∷ Write 6 0 ∷ Read 6 0 ∷ Read 6 1 ∷ Discard 6 ∷ []
 unfolding makes
 continuous_in_pairs_trace = refl
 
-continuous_in_pairs_total : asked_by (in_pairs (Some Continuous) 5) (four_rows ++ (select_where (Some (compare id GreaterOrEqual 2)) ∷ [])) ≡ 53
+continuous_in_pairs_total : asked_by (in_pairs (Forced Continuous) 5) (four_rows ++ (select_where (Some (compare id GreaterOrEqual 2)) ∷ [])) ≡ 53
 unfolding makes
 continuous_in_pairs_total = refl
 
-continuous_in_pairs_result : result_after (in_pairs (Some Continuous) 5) four_rows (select_where (Some (compare id GreaterOrEqual 2))) ≡ Some (row_of 4 20) ∷ Some (row_of 2 20) ∷ Some (row_of 3 10) ∷ []
+continuous_in_pairs_result : result_after (in_pairs (Forced Continuous) 5) four_rows (select_where (Some (compare id GreaterOrEqual 2))) ≡ Some (row_of 4 20) ∷ Some (row_of 2 20) ∷ Some (row_of 3 10) ∷ []
 unfolding makes
 continuous_in_pairs_result = refl
 
-hash_in_pairs : last_answers (in_pairs (Some Hash) 1) four_rows (select_where (Some (compare v Equal 10)) ∷ []) ≡ Rows (ints (1 ∷ 10 ∷ []) ∷ ints (3 ∷ 10 ∷ []) ∷ []) ∷ []
+hash_in_pairs : last_answers (in_pairs (Forced Hash) 1) four_rows (select_where (Some (compare v Equal 10)) ∷ []) ≡ Rows (ints (1 ∷ 10 ∷ []) ∷ ints (3 ∷ 10 ∷ []) ∷ []) ∷ []
 unfolding makes
 hash_in_pairs = refl
 
-hash_in_pairs_trace : last_trace (in_pairs (Some Hash) 1) four_rows (select_where (Some (compare v Equal 10)) ∷ []) ≡ Read 5 0 ∷ Read 5 1 ∷ Make 6 2 66 ∷ Write 6 0 ∷ Write 6 1 ∷ Read 5 0 ∷ Read 6 0 ∷ Write 6 0 ∷ Read 6 0 ∷ Write 6 0 ∷ Read 6 1 ∷ Write 6 1 ∷ Read 6 1 ∷ Write 6 1 ∷ Read 5 1 ∷ Read 6 0 ∷ Write 6 0 ∷ Read 6 0 ∷ Write 6 0 ∷ Read 6 1 ∷ Write 6 1 ∷ Read 6 1 ∷ Write 6 1 ∷ Read 6 0 ∷ Read 6 1 ∷ Discard 6 ∷ []
+hash_in_pairs_trace : last_trace (in_pairs (Forced Hash) 1) four_rows (select_where (Some (compare v Equal 10)) ∷ []) ≡ Read 5 0 ∷ Read 5 1 ∷ Make 6 2 66 ∷ Write 6 0 ∷ Write 6 1 ∷ Read 5 0 ∷ Read 6 0 ∷ Write 6 0 ∷ Read 6 0 ∷ Write 6 0 ∷ Read 6 1 ∷ Write 6 1 ∷ Read 6 1 ∷ Write 6 1 ∷ Read 5 1 ∷ Read 6 0 ∷ Write 6 0 ∷ Read 6 0 ∷ Write 6 0 ∷ Read 6 1 ∷ Write 6 1 ∷ Read 6 1 ∷ Write 6 1 ∷ Read 6 0 ∷ Read 6 1 ∷ Discard 6 ∷ []
 unfolding makes
 hash_in_pairs_trace = refl
 
-hash_in_pairs_total : asked_by (in_pairs (Some Hash) 1) (four_rows ++ (select_where (Some (compare v Equal 10)) ∷ [])) ≡ 61
+hash_in_pairs_total : asked_by (in_pairs (Forced Hash) 1) (four_rows ++ (select_where (Some (compare v Equal 10)) ∷ [])) ≡ 61
 unfolding makes
 hash_in_pairs_total = refl
 
-hash_in_pairs_result : result_after (in_pairs (Some Hash) 1) four_rows (select_where (Some (compare v Equal 10))) ≡ Some (row_of 1 10) ∷ Some (row_of 3 10) ∷ None ∷ None ∷ []
+hash_in_pairs_result : result_after (in_pairs (Forced Hash) 1) four_rows (select_where (Some (compare v Equal 10))) ≡ Some (row_of 1 10) ∷ Some (row_of 3 10) ∷ None ∷ None ∷ []
 unfolding makes
 hash_in_pairs_result = refl
 
-large_in_pairs : last_answers (in_pairs (Some Large) 5) four_rows (select_where (Some (compare v Equal 10)) ∷ []) ≡ Rows (ints (1 ∷ 10 ∷ []) ∷ ints (3 ∷ 10 ∷ []) ∷ []) ∷ []
+large_in_pairs : last_answers (in_pairs (Forced Large) 5) four_rows (select_where (Some (compare v Equal 10)) ∷ []) ≡ Rows (ints (1 ∷ 10 ∷ []) ∷ ints (3 ∷ 10 ∷ []) ∷ []) ∷ []
 unfolding makes
 large_in_pairs = refl
 
-large_in_pairs_trace : last_trace (in_pairs (Some Large) 5) four_rows (select_where (Some (compare v Equal 10)) ∷ []) ≡ Read 5 0 ∷ Read 5 1 ∷ Make 6 2 66 ∷ Read 5 0 ∷ Write 6 0 ∷ Read 5 1 ∷ Write 6 1 ∷ Read 6 0 ∷ Write 6 0 ∷ Read 6 1 ∷ Write 6 1 ∷ Read 6 0 ∷ Read 6 1 ∷ Discard 6 ∷ []
+large_in_pairs_trace : last_trace (in_pairs (Forced Large) 5) four_rows (select_where (Some (compare v Equal 10)) ∷ []) ≡ Read 5 0 ∷ Read 5 1 ∷ Make 6 2 66 ∷ Read 5 0 ∷ Write 6 0 ∷ Read 5 1 ∷ Write 6 1 ∷ Read 6 0 ∷ Write 6 0 ∷ Read 6 1 ∷ Write 6 1 ∷ Read 6 0 ∷ Read 6 1 ∷ Discard 6 ∷ []
 unfolding makes
 large_in_pairs_trace = refl
 
-large_in_pairs_total : asked_by (in_pairs (Some Large) 5) (four_rows ++ (select_where (Some (compare v Equal 10)) ∷ [])) ≡ 49
+large_in_pairs_total : asked_by (in_pairs (Forced Large) 5) (four_rows ++ (select_where (Some (compare v Equal 10)) ∷ [])) ≡ 49
 unfolding makes
 large_in_pairs_total = refl
 
-large_in_pairs_result : result_after (in_pairs (Some Large) 5) four_rows (select_where (Some (compare v Equal 10))) ≡ Some (row_of 1 10) ∷ None ∷ Some (row_of 3 10) ∷ None ∷ []
+large_in_pairs_result : result_after (in_pairs (Forced Large) 5) four_rows (select_where (Some (compare v Equal 10))) ≡ Some (row_of 1 10) ∷ None ∷ Some (row_of 3 10) ∷ None ∷ []
 unfolding makes
 large_in_pairs_result = refl
 
@@ -456,8 +457,19 @@ large_in_pairs_result = refl
 buckets_of_two : (map (first_bucket 2) (0 ∷ 1 ∷ 2 ∷ 3 ∷ []) ≡ 0 ∷ 1 ∷ 0 ∷ 1 ∷ []) × (map (second_bucket 2) (0 ∷ 1 ∷ 2 ∷ 3 ∷ []) ≡ 0 ∷ 1 ∷ 0 ∷ 1 ∷ [])
 buckets_of_two = (refl, refl)
 
-chosen : (choose None 2 10 8 true ≡ Small) × (choose None 2 10 9 true ≡ Continuous) × (choose None 2 10 9 false ≡ Large) × (choose None 2 100 9 false ≡ Hash)
+chosen : (choose Auto 1 4 10 8 true ≡ Small) × (choose Auto 1 4 10 9 true ≡ Continuous) × (choose Auto 1 4 10 9 false ≡ Large) × (choose Auto 1 4 100 9 false ≡ Hash)
 chosen = (refl, refl, refl, refl)
+
+-- by the lengths of scripts: for 6 of 10 rows Small's 44 accesses are Continuous's, too, and for 10 Large's 52 are
+cheapest : (choose Cheapest 1 4 10 6 true ≡ Small) × (choose Cheapest 1 4 10 7 true ≡ Continuous) × (choose Cheapest 1 4 10 10 true ≡ Continuous) × (choose Cheapest 1 4 10 6 false ≡ Small) × (choose Cheapest 1 4 10 7 false ≡ Large)
+cheapest = (refl, refl, refl, refl, refl)
+
+-- with two rows in a block, Continuous is longer than Large
+cheapest_in_pairs : (choose Cheapest 2 7 10 6 true ≡ Small) × (choose Cheapest 2 7 10 7 true ≡ Large)
+cheapest_in_pairs = (refl, refl)
+
+cheapest_padded : (choose_padded Cheapest 1 4 10 6 ≡ Small) × (choose_padded Cheapest 1 4 10 7 ≡ Large) × (choose_padded Cheapest 2 7 10 7 ≡ Large)
+cheapest_padded = (refl, refl, refl)
 
 -- refused before any access
 refused_early : last_answers by_four four_rows
@@ -473,11 +485,11 @@ unfolding makes
 off_key = refl
 
 -- the store fails at the fourth access of the INSERT, and the table is as it was
-store_fault : answers (first_session by_four) (create_t ∷ insert t 1 10 ∷ count_all ∷ []) (None ∷ Some 4 ∷ []) ≡ Done ∷ Refused StoreFault ∷ Rows (ints (0 ∷ []) ∷ []) ∷ []
+store_fault : answers (first_session by_four) (create_t ∷ insert t 1 10 ∷ count_all ∷ []) (Alone ∷ CutAfter 4 ∷ []) ≡ Done ∷ Refused StoreFault ∷ Rows (ints (0 ∷ []) ∷ []) ∷ []
 unfolding makes
 store_fault = refl
 
-store_fault_trace : trace_of by_four (create_t ∷ insert t 1 10 ∷ count_all ∷ []) (None ∷ Some 4 ∷ []) ≡
+store_fault_trace : trace_of by_four (create_t ∷ insert t 1 10 ∷ count_all ∷ []) (Alone ∷ CutAfter 4 ∷ []) ≡
     Make 1 4 49 ∷ Write 1 0 ∷ Write 1 1 ∷ Write 1 2 ∷ Write 1 3 ∷ Make 2 4 49 ∷ Read 1 0 ∷ Read 1 1 ∷ Read 1 2 ∷ Read 1 0 ∷ Read 1 1 ∷ Read 1 2 ∷ Read 1 3 ∷ []
 unfolding makes
 store_fault_trace = refl

@@ -1,26 +1,31 @@
 -- A session over tables as bags, and what the session over tables in place has to do with it.
 use Rattle.std.specs.Prelude.{◌≡◌, ◌⊎◌, ◌<◌, ◌^◌, ℕ, false, List, [], ◌∷◌, Option, Some, None, IsSome, Ok, Err, ⊤}
 use Rattle.ob_base.specs.declared.config.Public.{Public}
-use Rattle.ob_base.specs.declared.config.Plan.{Plan}
 use Rattle.ob_base.specs.declared.config.Plan.TheVariants.{Continuous, Hash}
+use Rattle.ob_base.specs.declared.config.Planner.{Planner}
+use Rattle.ob_base.specs.declared.config.Planner.TheVariants.{Forced}
 use Rattle.ob_base.specs.declared.refusal.Refusal.TheVariants.{Syntax, StoreFault, NotConsecutive, Overflow, PadPassed}
 use Rattle.ob_sql.specs.declared.stmt.Stmt.{Stmt}
 use Rattle.ob_mean.specs.declared.answer.Answer.{Answer}
 use Rattle.ob_mean.specs.declared.answer.Answer.TheVariants.{Refused}
-use Rattle.ob_mean.specs.Replay.{Broken, Session, Spelt, after, after_all, is_full_now, answers, head_of, rest_of}
+use Rattle.ob_mean.specs.Replay.{Alone, Broken, CutAfter, CutWith, How, Session, With, Spelt, after, after_all, is_full_now, answers, head_of, rest_of}
 use Rattle.ob_mean.specs.SameMeaning.{SameAnswer, SameTables}
 use Rattle.ob_mean.specs.Step.{Database, step_answer, step_next}
 use Rattle.ob_mean.specs.Verdict.{database}
 use Rattle.ob_verdict.specs.Laws.{AreInPlace}
 
 -- ---- a session over tables as bags: a statement that the store cut off changes no table
-abbrev pub bag_answer : Option ℕ → Public → Database → Stmt → Answer
-bag_answer None p db stmt = step_answer p db stmt
-bag_answer (Some n) p db stmt = Refused StoreFault
+abbrev pub bag_answer : How → Public → Database → Stmt → Answer
+bag_answer Alone p db stmt = step_answer p db stmt
+bag_answer (CutAfter n) p db stmt = Refused StoreFault
+bag_answer With p db stmt = step_answer p db stmt
+bag_answer CutWith p db stmt = Refused StoreFault
 
-abbrev pub bag_next : Option ℕ → Public → Database → Stmt → Database
-bag_next None p db stmt = step_next p db stmt
-bag_next (Some n) p db stmt = db
+abbrev pub bag_next : How → Public → Database → Stmt → Database
+bag_next Alone p db stmt = step_next p db stmt
+bag_next (CutAfter n) p db stmt = db
+bag_next With p db stmt = step_next p db stmt
+bag_next CutWith p db stmt = db
 
 -- the answers of many texts, and the tables behind them
 abbrev pub bag_answers : Public → Database → List Spelt → Broken → List Answer
@@ -35,14 +40,14 @@ bags_after p db (Err at ∷ texts) bs = bags_after p db texts (rest_of bs)
 
 -- ---- what the answers of both have to do with each other
 -- a refusal that no bag tells: a plan that was forced, or the padding that was asked for, doesn't hold the result
-abbrev pub IsForced : (plan : Option Plan) → (pad : Option ℕ) → Answer → Type 0
-IsForced plan pad (Refused NotConsecutive) = plan ≡ Some Continuous
-IsForced plan pad (Refused (Overflow i)) = plan ≡ Some Hash
-IsForced plan pad (Refused PadPassed) = IsSome pad
-IsForced plan pad _ = ⊥
+abbrev pub IsForced : Planner → (pad : Option ℕ) → Answer → Type 0
+IsForced planner pad (Refused NotConsecutive) = planner ≡ Forced Continuous
+IsForced planner pad (Refused (Overflow i)) = planner ≡ Forced Hash
+IsForced planner pad (Refused PadPassed) = IsSome pad
+IsForced planner pad _ = ⊥
 
 abbrev pub IsByPlan : Public → Answer → Type 0
-IsByPlan p x = IsForced p.plan p.pad x
+IsByPlan p x = IsForced p.planner p.pad x
 
 -- each answer is the meaning's, rows as a bag, or such a refusal
 abbrev pub AnswersMeant : Public → (given meant : List Answer) → Type 0

@@ -1,15 +1,16 @@
 -- What is proved of these definitions.
-use Rattle.std.specs.Prelude.{◌≡◌, ◌↔◌, ℕ, ◌<◌, ◌≤◌, ◌^◌, Bool, false, List, [], ◌∷◌, map, length, Option, Some, None, IsSome, is_some, ⊤, if◌then◌else◌}
+use Rattle.std.specs.Prelude.{◌≡◌, ◌≢◌, ◌↔◌, ℕ, ◌<◌, ◌≤◌, ◌^◌, Bool, false, List, [], ◌∷◌, map, length, Option, Some, None, IsSome, is_some, ⊤, if◌then◌else◌}
 use Rattle.ob_base.specs.declared.config.Public.{Public}
 use Rattle.ob_base.specs.declared.config.Plan.{Plan}
 use Rattle.ob_base.specs.declared.config.Plan.TheVariants.{Small, Hash}
+use Rattle.ob_base.specs.declared.config.Planner.TheVariants.{Auto, Cheapest}
 use Rattle.ob_base.specs.declared.schema.Shape.{Shape}
 use Rattle.ob_base.specs.declared.schema.Shape.TheVariants.{Flat, Indexed}
-use Rattle.ob_base.specs.declared.seen.End.TheVariants.{Whole, AfterCount}
+use Rattle.ob_base.specs.declared.seen.End.TheVariants.{Whole, AfterCount, Joined}
 use Rattle.ob_base.specs.declared.refusal.Refusal.TheVariants.{NotConsecutive}
 use Rattle.ob_base.specs.declared.shown.Shown.{Shown}
 use Rattle.ob_base.specs.Indexes.{slots_in_place}
-use Rattle.ob_base.specs.Limits.{buffered, buffered_blocks}
+use Rattle.ob_base.specs.Limits.{buffered_blocks}
 use Rattle.ob_base.specs.Plans.{IsPadded, choose_padded, padded_rows}
 use Rattle.ob_base.specs.Schemas.{key_place}
 use Rattle.ob_base.specs.Stored.{Stored, NamesTable, headings, headings_of}
@@ -26,10 +27,10 @@ use Rattle.ob_mean.specs.Refusals.{early_refusal, limits_of}
 use Rattle.ob_mean.specs.SameMeaning.{SameTables}
 use Rattle.ob_mean.specs.Step.{step_next, select_columns, select_condition, rows_answer, selected_rows, printed_places}
 use Rattle.ob_row.specs.Results.{RowTest, result_slots}
-use Rattle.ob_mean.specs.Verdict.{Accessed, Draws, Held, IsIndexed, Tables, accessed, database, is_full, leaf_gone, source_slots, selected_places, plan_for, bucket_size, first_unplaced, fallback, refusal, seen, ended, is_late}
+use Rattle.ob_mean.specs.Verdict.{Accessed, Draws, Held, IsIndexed, Tables, accessed, database, is_full, leaf_gone, source_slots, selected_places, plan_for, bucket_size, first_unplaced, fallback, refusal, rows_refusal, seen, ended, is_late}
 use Rattle.ob_mean.specs.Settle.{settle}
 use Rattle.ob_mean.specs.Lawful.{Lawful, selects_rows}
-use Rattle.ob_mean.specs.Replay.{cut_at}
+use Rattle.ob_mean.specs.Replay.{IsMember, Session, cut_at}
 use Rattle.ob_script.specs.Script.{whole_script}
 
 -- ---- the tables in place and the tables as bags
@@ -78,10 +79,19 @@ AccessShowsLeaf = (d : Draws) (p : Public) (m : ℕ) (ts : Tables) (stmt : Stmt)
 abbrev pub PlanIsWhole : Type 0
 PlanIsWhole = (d : Draws) (p : Public) (m : ℕ) (ts : Tables) (stmt : Stmt) (plan : Plan) → (seen d p m ts stmt).plan ≡ Some plan → (seen d p m ts stmt).end ≡ Whole
 
--- where a plan is forced, k and the plan are all that is seen
-abbrev pub ForcedShowsAlike : Type 0
-ForcedShowsAlike = (d e : Draws) (p : Public) (m : ℕ) (ts us : Tables) (a b : Stmt) (forced plan : Plan) → p.plan ≡ Some forced →
+-- where a plan is forced, or the shortest script is taken, k and the plan are all that is seen
+abbrev pub ShowsPlanAlone : Type 0
+ShowsPlanAlone = (d e : Draws) (p : Public) (m : ℕ) (ts us : Tables) (a b : Stmt) (plan : Plan) → p.planner ≢ Auto →
     (seen d p m ts a).plan ≡ Some plan → (seen e p m us b).plan ≡ Some plan → (seen d p m ts a).k ≡ (seen e p m us b).k → seen d p m ts a ≡ seen e p m us b
+
+-- where the shortest script is taken, that is never Hash, and no statement ends behind its count
+abbrev pub CheapestShows : Type 0
+CheapestShows = (d : Draws) (p : Public) (m : ℕ) (ts : Tables) (stmt : Stmt) → p.planner ≡ Cheapest →
+    ((seen d p m ts stmt).plan ≢ Some Hash) × ((seen d p m ts stmt).end ≢ AfterCount)
+
+-- and whatever is selected, no plan refuses it
+abbrev pub CheapestAccepts : Type 0
+CheapestAccepts = (p : Public) (places : List ℕ) → p.planner ≡ Cheapest → p.pad ≡ None → rows_refusal p places ≡ None
 
 -- where results are padded, a SELECT of rows shows its kind alone, whatever rows there are and however many are selected
 abbrev pub PaddedShowsKind : Type 0
@@ -101,16 +111,20 @@ abbrev pub CutIsLawful : Type 0
 CutIsLawful = (d : Draws) (p : Public) (m : ℕ) (ts : Tables) (stmt : Stmt) (failed : Bool) (n : ℕ) → 1 ≤ p.pack → headings ts ≡ headings_of p.tables → AreInPlace p.stash ts →
     IsStarted p m ts stmt → n ≤ length (whole_script p (skeleton stmt) (seen d p m ts stmt)) → Lawful p m stmt (cut_at failed n p (skeleton stmt) (seen d p m ts stmt))
 
+-- nor does more show of an INSERT that was served with the one before it
+abbrev pub JoinedIsLawful : Type 0
+JoinedIsLawful = (s : Session) (stmt : Stmt) → headings s.tables ≡ headings_of s.public.tables → IsMember s stmt → Lawful s.public s.asked stmt (ended Joined)
+
 -- ---- what a SELECT of rows prints from its result
 -- the plan by which the rows are printed: the one after the first, where there is one
 abbrev pub last_plan : Public → Plan → List ℕ → Plan
-last_plan p Hash places = if is_some (fallback p.plan (first_unplaced p places)) then Small else Hash
+last_plan p Hash places = if is_some (fallback p.planner (first_unplaced p places)) then Small else Hash
 last_plan p plan places = plan
 
 -- the plan by which the rows of n slots are printed, at least one of which is selected, or the result is padded
 abbrev pub result_plan : Option ℕ → Public → (n : ℕ) → List ℕ → Plan
 result_plan None p n places = last_plan p (plan_for p n places) places
-result_plan (Some pad) p n places = choose_padded p.plan (buffered p.pack p.buffer) (padded_rows pad n)
+result_plan (Some pad) p n places = choose_padded p.planner p.pack p.buffer n (padded_rows pad n)
 
 -- the result of selecting from these slots, but for the empty slots to which it is padded
 abbrev pub selected_result : Public → RowTest → Slots → Slots
@@ -125,6 +139,6 @@ abbrev pub printed_rows : Public → Tables → SelectRows → List (List Shown)
 printed_rows p ts q = map (printed (printed_places q (select_columns q (headings ts)))) (rows (result_of p ts q))
 
 abbrev pub PrintsAnswer : Type 0
-PrintsAnswer = (p : Public) (m : ℕ) (ts : Tables) (q : SelectRows) → 1 ≤ p.pack → 1 ≤ buffered_blocks p.pack p.buffer → IsPadded p.pad p.plan → AreInPlace p.stash ts → accessed ts (RowsStmt q) ≡ None →
+PrintsAnswer = (p : Public) (m : ℕ) (ts : Tables) (q : SelectRows) → 1 ≤ p.pack → 1 ≤ buffered_blocks p.pack p.buffer → IsPadded p.pad p.planner → AreInPlace p.stash ts → accessed ts (RowsStmt q) ≡ None →
     refusal p m ts (RowsStmt q) ≡ None → 0 < length (selected_places p q ts) →
     Same (rows_answer q (select_columns q (headings (database ts))) (selected_rows q (database ts))) (printed_rows p ts q)

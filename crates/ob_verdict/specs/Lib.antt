@@ -8,3 +8,4 @@ pub mod Accepted
 pub mod Moving
 pub mod Alike
 pub mod Outcomes
+pub mod OneByOne

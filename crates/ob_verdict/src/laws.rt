@@ -15,7 +15,8 @@ ghost use Rattle.ob_verdict.specs.Alike.{AreAlike, OrderIsNothing};
 ghost use Rattle.ob_verdict.specs.Accepted.{PlacesFit, TotalsPlacesFit, JoinsFit, SetsFit, ConditionsFit, BucketsFit, NamesFlat};
 ghost use Rattle.ob_verdict.specs.Moving.{Moves, CreatesNew, DropsOne};
 ghost use Rattle.ob_verdict.specs.Full.{FullIsLawful};
-ghost use Rattle.ob_verdict.specs.Laws.{SettlesAsStep, KeepsInPlace, ShowsKindAlone, AccessShowsLeaf, PaddedShowsKind, PlanIsWhole, ForcedShowsAlike, ShowsNotConsecutive, SeenIsLawful, CutIsLawful, PrintsAnswer};
+ghost use Rattle.ob_verdict.specs.OneByOne.{BatchesAnswerAlike};
+ghost use Rattle.ob_verdict.specs.Laws.{SettlesAsStep, KeepsInPlace, ShowsKindAlone, AccessShowsLeaf, PaddedShowsKind, PlanIsWhole, ShowsPlanAlone, CheapestAccepts, CheapestShows, ShowsNotConsecutive, SeenIsLawful, CutIsLawful, JoinedIsLawful, PrintsAnswer};
 
 /// Being the same bag is an equivalence, and is kept where lists are joined, mapped and filtered.
 pub fn bags_are_kept<A, B>()
@@ -41,6 +42,12 @@ pub fn sessions_are_bagwise()
     ensures { SessionsAreBagwise }
 {}
 
+/// Where the store never fails, a session whose INSERTs are served together answers what it answers one by one, and leaves the
+/// same tables, slot by slot, until 2^63 accesses were asked.
+pub fn batches_answer_alike()
+    ensures { BatchesAnswerAlike }
+{}
+
 /// A statement leaves the tables in place, with as many slots as they are to have, distinct primary keys, columns that
 /// name their tables, and indexes that stand.
 pub fn keeps_in_place()
@@ -54,10 +61,13 @@ pub fn seen_laws()
     ensures leaf { AccessShowsLeaf }
     ensures padded { PaddedShowsKind }
     ensures plan_is_whole { PlanIsWhole }
-    ensures forced_alike { ForcedShowsAlike }
+    ensures plan_alone { ShowsPlanAlone }
+    ensures cheapest_shows { CheapestShows }
+    ensures cheapest_accepts { CheapestAccepts }
     ensures one_refusal_shows { ShowsNotConsecutive }
     ensures lawful { SeenIsLawful }
     ensures cut_is_lawful { CutIsLawful }
+    ensures joined_is_lawful { JoinedIsLawful }
 {}
 
 /// What is seen of an access that met a full stash is lawful, behind its reads.

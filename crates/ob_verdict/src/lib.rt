@@ -9,8 +9,8 @@ pub use indexed::{
     access_answers, access_refused, access_settles, settles_indexed, settles_refused,
 };
 pub use laws::{
-    accepted_laws, alike_tables, bags_are_kept, full_is_lawful, joined_pairs, keeps_in_place,
-    moving_laws, order_is_nothing, prints_answer, results_have_selected, seen_laws,
+    accepted_laws, alike_tables, bags_are_kept, batches_answer_alike, full_is_lawful, joined_pairs,
+    keeps_in_place, moving_laws, order_is_nothing, prints_answer, results_have_selected, seen_laws,
     sessions_are_bagwise, settles_as_step,
 };
 pub use outcome::Outcome;

@@ -1,7 +1,7 @@
 //! What a run begins with.
 
 use ob_file::{StartErr, follow, lock, mark_beside, may_begin_anew, may_keep};
-use ob_shell::{WordsErr, mark_place, read_saved_words, store_name};
+use ob_words::{WordsErr, mark_place, read_saved_words, store_name};
 use std::env;
 use std::fs::File;
 use std::io::ErrorKind;

@@ -1,9 +1,8 @@
 use Rattle.std.proofs.Common.{◌≡◌, refl, sym, ◌∙◌, ap, subst, arith, length}
-use Rattle.std.specs.Prelude.{Some}
 use Rattle.std.proofs.lemmas.Result.{err_from_is_err_and}
 use Rattle.ob_base.specs.declared.config.Plan.{Plan}
+use Rattle.ob_base.specs.declared.config.Planner.TheVariants.{Forced}
 use Rattle.ob_base.specs.declared.refusal.Refusal.TheVariants.{PadPassed}
-use Rattle.ob_base.specs.Limits.{buffered}
 use Rattle.ob_base.specs.Plans.{MayPad}
 use Rattle.ob_vault.specs.Places.{at}
 use Rattle.ob_room.specs.RoomState.{RoomState}
@@ -41,7 +40,8 @@ make_padded-requires-clause-spare g c =
 pub make_padded-requires-clause-plan : goal.make_padded-requires-clause-plan
 make_padded-requires-clause-plan g c =
     let p = c.args.public.now in
-    subst (λ (x : Plan). MayPad (Some x)) (sym c.padded_plan-plan.ensures) (may_choose p.plan (buffered p.pack p.buffer) c.min-rows.result c.requires.plan)
+    let q = selection_of p c.args.query.now in
+    subst (λ (x : Plan). MayPad (Forced x)) (sym c.padded_plan-plan.ensures) (may_choose p.planner p.pack p.buffer q.flat.capacity c.min-rows.result c.requires.plan)
 
 pub returns-in_err-fresh-clause-selects : goal.returns-in_err-fresh-clause-selects
 returns-in_err-fresh-clause-selects g c =

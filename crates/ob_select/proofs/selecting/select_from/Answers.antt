@@ -2,7 +2,7 @@ use Rattle.std.proofs.Common.{sym, ◌∙◌, Ok, Err}
 use Rattle.std.proofs.lemmas.Result.{err_from_is_err_and}
 use Rattle.ob_select.specs.declared.selecting.Selected.TheVariants.{Rows, Refused}
 use Rattle.ob_select.specs.Selecting.{selection_of}
-use Rattle.ob_select.proofs.SelectEnds.{end_uncounted, end_none, end_refused, end_first, end_second_at, counts_at, some_of, none_of, planned_first, planned_second, hashed_first}
+use Rattle.ob_select.proofs.SelectEnds.{end_uncounted, end_none, end_refused, end_first, end_second_at, counts_at, some_of, planned_first, planned_second, hashed_first}
 use Rattle.ob_select.proofs.SelectPadded.{pad_some, planned_padded, spare_padded, end_padded}
 use Rattle.ob_select.proofs.selecting.select_from.Goals as goal
 use Rattle.ob_select.proofs.RoomLemmas.{free_after}
@@ -65,8 +65,8 @@ returns-in-Rows-clause-selects g c =
     let rows = rw c.in-Rows.is at c.in_ok-n.ensures.selects in
     rw (c.requires.fresh, c.from.ensures) (end_first g.E.Emit.grew g.E.Emit.cut g.E.Emit.faults q c.args.room.now _ _ may c.in_default.is k c1 counts c.in-Some-plan_of.plan chosen.1 least chosen.0 (Ok (Rows c.in-Rows.n)) _ _ _ tt rows)
 
-pub returns-then-is_some-clause-selects : goal.returns-then-is_some-clause-selects
-returns-then-is_some-clause-selects g c =
+pub returns-then-is_last-clause-selects : goal.returns-then-is_last-clause-selects
+returns-then-is_last-clause-selects g c =
     let q = selection_of c.args.public.now c.args.query.now in
     let may = c.requires.may in
     let k = c.in_ok-counted.counted.k in
@@ -75,7 +75,7 @@ returns-then-is_some-clause-selects g c =
     let least = some_of k c.if-counted-eq0.false in
     let chosen = c.in-Some-plan_of.ensures.some in
     let refused = rw c.in-Refused.is at c.in_ok-n.ensures.selects in
-    rw (c.requires.fresh, c.from.ensures) (end_first g.E.Emit.grew g.E.Emit.cut g.E.Emit.faults q c.args.room.now _ _ may c.in_default.is k c1 counts c.in-Some-plan_of.plan chosen.1 least chosen.0 (Ok (Refused c.in-Refused.refusal)) _ _ _ (sym c.is_some.ensures ∙ c.if-is_some.true) refused)
+    rw (c.requires.fresh, c.from.ensures) (end_first g.E.Emit.grew g.E.Emit.cut g.E.Emit.faults q c.args.room.now _ _ may c.in_default.is k c1 counts c.in-Some-plan_of.plan chosen.1 least chosen.0 (Ok (Refused c.in-Refused.refusal)) _ _ _ (c.is_last.ensures.last c.if-is_last.true) refused)
 
 pub select_by-requires-in-Refused-clause-may : goal.select_by-requires-in-Refused-clause-may
 select_by-requires-in-Refused-clause-may g c =
@@ -89,8 +89,8 @@ select_by-requires-in-Refused-clause-may g c =
     let first = hashed_first g.E.Emit.grew g.E.Emit.cut g.E.Emit.faults q c.in-Some-plan_of.plan k c.in-Refused.refusal _ _ _ _ refused in
     planned_second q c.args.room.now _ _ may k c1 counts least c.select_by.new.room (free_after _ _ _ _ (free_after _ _ _ _ may.free c.count.ensures.room) c.select_by.ensures.room.same) _ first.3.ran.ok
 
-pub returns-else-is_some-clause-selects : goal.returns-else-is_some-clause-selects
-returns-else-is_some-clause-selects g c =
+pub returns-else-is_last-clause-selects : goal.returns-else-is_last-clause-selects
+returns-else-is_last-clause-selects g c =
     let q = selection_of c.args.public.now c.args.query.now in
     let may = c.requires.may in
     let k = c.in_ok-counted.counted.k in
@@ -100,7 +100,7 @@ returns-else-is_some-clause-selects g c =
     let chosen = c.in-Some-plan_of.ensures.some in
     let refused = rw c.in-Refused.is at c.in_ok-n.ensures.selects in
     let first = hashed_first g.E.Emit.grew g.E.Emit.cut g.E.Emit.faults q c.in-Some-plan_of.plan k c.in-Refused.refusal _ _ _ _ refused in
-    let free = none_of q.public.plan (sym c.is_some.ensures ∙ c.if-is_some.false) in
+    let free = c.is_last.ensures.followed c.if-is_last.false in
     rw (c.requires.fresh, c.from.ensures, first.1) (end_second_at g.E.Emit.grew g.E.Emit.cut g.E.Emit.faults q c.args.room.now _ _ may c.in_default.is k c1 counts least free (sym first.1 ∙ chosen.0) first.0 _ c.args.out.now first.3 c.select_by-in-Refused.result _ _ _ first.2 c.select_by-in-Refused.ensures.selects)
 
 pub select_padded-requires-clause-may : goal.select_padded-requires-clause-may

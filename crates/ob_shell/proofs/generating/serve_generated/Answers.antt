@@ -18,4 +18,7 @@ returns g c =
     (rw (ap (λ (s : GeneratedState). s.left) c.new-input.ensures) at run.shown) run.cause (traced_by_fault rose run.traced)
     (concludes_at ended.high c.conclude.ensures.high
     (concludes_by ended.tally asked _ _ trace0 trace1 _ _ report ended.ending ended.quiet c.conclude.ensures.concluded (λ quiet. trace_rose trace0 trace1 (rose quiet))
-    (silenced_kept ended.quiet _ _ run.quiet) run.cause))
+    (silenced_kept ended.quiet _ _ run.quiet) _ run.cause))
+
+pub run-ended-requires-clause-took : goal.run-ended-requires-clause-took
+run-ended-requires-clause-took g c = rw c.requires.fresh c.new-digest.ensures

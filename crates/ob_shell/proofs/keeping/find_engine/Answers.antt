@@ -18,6 +18,7 @@ returns-in-Ok-start g c =
     record {
       mark = Ok c.in-Ok.mark;
       gives = c.in-Ok.ensures.gives;
+      log = refl;
       ok = record {
         held = Fresh;
         is = ap Ok c.in-Fresh.is;
@@ -44,6 +45,7 @@ returns-in-Ok-open g c =
     record {
       mark = Ok c.in-Ok.mark;
       gives = c.in-Ok.ensures.gives;
+      log = opens.log;
       ok = record {
         held = Closed c.in-Closed.region c.in-Closed.blocks c.in-Closed.number c.in-Closed.pack;
         is = ap Ok c.in-Closed.is;
@@ -66,6 +68,7 @@ returns-in-Err-open g c =
     record {
       mark = Ok c.in-Ok.mark;
       gives = c.in-Ok.ensures.gives;
+      log = opens.log;
       ok = tt;
       err = subst (λ (m : Mark). EndsFrom m c.args.config (keys_of c.args.key.now) c.opening_end.result s t) (sym c.in-Closed.is)
           (rw (packs c.in-Closed.pack c.args.config.pack pack) ends);

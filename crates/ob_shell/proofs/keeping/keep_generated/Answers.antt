@@ -19,7 +19,10 @@ returns g c =
       gave = gave;
       ran = subst (λ (s : GeneratedState). RanKept c.args.words.config c.args.words.trace ended
           (outside_of (Some s.left) s.gave None (g.T.Sink.written c.args.trace.now) (g.S.BlockStore.state c.args.store.now) (faults_of 0 0 trace0))
-          (outside_of (Some left) gave None (g.T.Sink.written c.run_kept-ended.new.trace) (g.S.BlockStore.state c.run_kept-ended.new.store) (faults_of 0 0 trace1)) k0 k1) c.new-input.ensures c.run_kept-ended.ensures;
+          (outside_of (Some left) gave None (g.T.Sink.written c.run_kept-ended.new.trace) (g.S.BlockStore.state c.run_kept-ended.new.store) (faults_of 0 0 trace1)) k0 k1) c.new-input.ensures c.run_kept-ended.ensures.ran;
       high = c.conclude_kept.ensures.high;
       concluded = c.conclude_kept.ensures.concluded;
     }
+
+pub run_kept-ended-requires-clause-took : goal.run_kept-ended-requires-clause-took
+run_kept-ended-requires-clause-took g c = rw c.requires.fresh c.new-digest.ensures

@@ -27,7 +27,7 @@ returns-in-None-clause-ran g c =
     let closes = c.close_kept.ensures in
     may_keep _ _ _ _ _ _ _ _ _ _ _ None (sym read.keep ∙ c.if-words.true) (asked_is kept_usage words read.generated c.in-None.is)
     (kept_headlined _ c.in-Ok.words.common.config (c.in-Ok.words.common.config, read.ok) read.ok.settings _ _ _ c.run_kept-ended.result _ _ _ _ c.close_kept.result closes.status closes.high closes.quiet closes.line c.requires.fresh
-    (rw read.trace at c.run_kept-ended.ensures))
+    (rw read.trace at c.run_kept-ended.ensures.ran))
 
 pub returns-in-Some-clause-ran : goal.returns-in-Some-clause-ran
 returns-in-Some-clause-ran g c =

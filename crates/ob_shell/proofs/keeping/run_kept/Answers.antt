@@ -6,8 +6,8 @@ use Rattle.ob_shell.proofs.KeepLemmas.{unbegun, unkeyed_fault, unkeyed_line}
 use Rattle.ob_shell.proofs.KeepRunLemmas.{last_ran, secret_ran}
 use Rattle.ob_shell.proofs.keeping.run_kept.Goals as goal
 
-pub returns-in-Err-SourceFault : goal.returns-in-Err-SourceFault
-returns-in-Err-SourceFault g c =
+pub returns-in-Err-SourceFault-clause-ran : goal.returns-in-Err-SourceFault-clause-ran
+returns-in-Err-SourceFault-clause-ran g c =
     let new = c.new-feed.ensures in
     let read = rw c.in-Err-SourceFault.field-0-is at c.in-Err-SourceFault.ensures in
     rw (c.kept_at.ensures, c.stopped.ensures)
@@ -18,8 +18,8 @@ returns-in-Err-SourceFault g c =
       empty = λ q. g.met.S.BlockStore.starts_empty c.args.store.now q c.requires.fresh;
     }) read.read read.cause))
 
-pub returns-in-Ok-Bad : goal.returns-in-Ok-Bad
-returns-in-Ok-Bad g c =
+pub returns-in-Ok-Bad-clause-ran : goal.returns-in-Ok-Bad-clause-ran
+returns-in-Ok-Bad-clause-ran g c =
     let new = c.new-feed.ensures in
     let read = rw c.in-Ok-Bad.field-0-is at c.in-Ok-Bad.ensures in
     rw (c.kept_at-in-Ok-Bad.ensures, read.cause)
@@ -30,33 +30,33 @@ returns-in-Ok-Bad g c =
       empty = λ q. g.met.S.BlockStore.starts_empty c.args.store.now q c.requires.fresh;
     }) read.read))
 
-pub returns-in-Err : goal.returns-in-Err
-returns-in-Err g c =
+pub returns-in-Err-clause-ran : goal.returns-in-Err-clause-ran
+returns-in-Err-clause-ran g c =
     let new = c.new-feed.ensures in
     let read = rw c.in-Ok-Last.field-0-is at c.in-Ok-Last.ensures in
     rw read.cause
     (inr (inl (unbegun c.args.words.config c.args.words.trace _ _ new.unread new.taken new.limit _ _ _ c.in-Ok-Last.key c.in-Err.ended _ _ _ _ _ _ _ _ _ _ _ read.within read.fed_by read.read read.read.ends.0 c.in-Err.ensures.err)))
 
-pub returns-in-Ok : goal.returns-in-Ok
-returns-in-Ok g c =
+pub returns-in-Ok-clause-ran : goal.returns-in-Ok-clause-ran
+returns-in-Ok-clause-ran g c =
     let new = c.new-feed.ensures in
     let read = rw c.in-Ok-Last.field-0-is at c.in-Ok-Last.ensures in
     let starts = c.in-Ok.ensures.ok in
-    let closes = rw c.new.ensures at c.close_run.ensures in
+    let closes = rw c.new-tally.ensures at c.close_run.ensures.closes in
     rw read.cause
     (last_ran _ c.args.words.config c.in-Ok-Last.key c.args.words.trace _ _ new.unread new.taken new.limit _ _ _ _ c.in-Ok.engine _ _ _ _ _ _ _ _ _ _ _ _ starts c.close_run.result
     read.read read.within read.fed_by c.high-high.result _ c.high-high.ensures.most c.high-high.ensures.value closes)
 
-pub returns-in-Err-start_run : goal.returns-in-Err-start_run
-returns-in-Err-start_run g c =
+pub returns-in-Err-start_run-clause-ran : goal.returns-in-Err-start_run-clause-ran
+returns-in-Err-start_run-clause-ran g c =
     let new = c.new-feed.ensures in
     let read = rw c.in-Ok-Secret.field-0-is at c.in-Ok-Secret.ensures in
     rw read.cause
     (inr (inl (unbegun c.args.words.config c.args.words.trace _ _ new.unread new.taken new.limit _ _ _ c.in-Ok-Secret.key c.in-Err-start_run.ended _ _ _ _ _ _ _ _ _ _ _ read.within read.fed_by read.read read.read.ends.0
     c.in-Err-start_run.ensures.err)))
 
-pub returns-in-Ok-start_run : goal.returns-in-Ok-start_run
-returns-in-Ok-start_run g c =
+pub returns-in-Ok-start_run-clause-ran : goal.returns-in-Ok-start_run-clause-ran
+returns-in-Ok-start_run-clause-ran g c =
     let new = c.new-feed.ensures in
     let read = rw c.in-Ok-Secret.field-0-is at c.in-Ok-Secret.ensures in
     let starts = c.in-Ok-start_run.ensures.ok in

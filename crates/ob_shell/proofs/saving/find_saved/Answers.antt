@@ -16,6 +16,7 @@ returns-in-Ok-hand_begun g c =
       empty = λ q. g.met.S.BlockStore.starts_empty c.sweep.new.self q unasked;
     }) (λ unasked. g.met.S.BlockStore.starts_steady c.sweep.new.self unasked) (keeper c.hand_begun.new.keeper) c.in-Ok.mark c.in-Ok-may_begin.ensures.begins c.in-Ok-engine_by.ensures.ok in
     record {
+      log = c.sweep.ensures.sweeps.log ∙ c.engine_by.ensures.log ∙ c.may_begin.ensures.log;
       ok = record {
         mark = c.in-Ok.mark;
         read = keeper c.mark.new.self;
@@ -38,6 +39,7 @@ returns-in-Err-hand_begun g c =
     let store = g.S.BlockStore.state in
     let keeper = g.K.Keeper.state in
     record {
+      log = c.engine_by.ensures.log ∙ c.may_begin.ensures.log;
       ok = tt;
       err = λ fault0 fault1. record {
         mark = Ok c.in-Ok.mark;

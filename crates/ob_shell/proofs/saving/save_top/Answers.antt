@@ -29,7 +29,7 @@ returns-in-None-clause-ran g c =
     let closes = c.close_kept.ensures in
     keeps_or_saves _ _ _ _ _ _ _ _ _ _ _ _ _ None (sym read.save ∙ c.if-words.true) refl (asked_is saved_usage words read.generated c.in-None.is)
     (saved_headlined _ c.in-Ok.words.common.config (c.in-Ok.words.common.config, read.ok) read.ok.settings _ _ _ c.run_saved-ended.result _ _ _ _ c.close_kept.result closes.status closes.high closes.quiet closes.line c.requires.fresh
-    (rw read.trace at c.run_saved-ended.ensures))
+    (rw read.trace at c.run_saved-ended.ensures.ran))
 
 pub returns-in-Some-clause-ran : goal.returns-in-Some-clause-ran
 returns-in-Some-clause-ran g c =
@@ -45,7 +45,7 @@ returns-in-None-generated-clause-ran g c =
     let closes = c.close_kept-in-None-generated.ensures in
     keeps_or_saves _ _ _ _ _ _ _ _ _ _ _ _ _ None (sym read.save ∙ c.if-words.false) (sym read.keep ∙ c.if-words-2.true) (asked_is saved_usage words read.generated c.in-None-generated.is)
     (kept_headlined _ c.in-Ok.words.common.config (c.in-Ok.words.common.config, read.ok) read.ok.settings _ _ _ c.run_kept-ended.result _ _ _ _ c.close_kept-in-None-generated.result closes.status closes.high closes.quiet closes.line c.requires.fresh
-    (rw read.trace at c.run_kept-ended.ensures))
+    (rw read.trace at c.run_kept-ended.ensures.ran))
 
 pub returns-in-Some-generated-clause-ran : goal.returns-in-Some-generated-clause-ran
 returns-in-Some-generated-clause-ran g c =

@@ -1,11 +1,13 @@
-use Rattle.std.proofs.Common.{refl, rules, subst}
+use Rattle.std.proofs.Common.{ap, refl, rules, subst}
 use Rattle.ob_headline.specs.Words.{faults_of}
 use Rattle.ob_shell.proofs.SavedRunLemmas.{serves_saved}
+use Rattle.ob_shell.proofs.TallyLemmas.{plain_whole}
 use Rattle.ob_shell.proofs.saving.serve_saving.Goals as goal
 use Rattle.ob_shell.specs.EngagingSaved.{ServesSaved}
 use Rattle.ob_shell.specs.Leaving.{BeginsToSave}
 use Rattle.ob_shell.specs.Running.{stop_of}
 use Rattle.ob_shell.specs.Steps.{machine_of}
+use Rattle.ob_shell.specs.declared.keeping.KeptEnded.{KeptEnded}
 
 pub returns-clause-served : goal.returns-clause-served
 returns-clause-served g c base config keys secret salt engages =
@@ -21,3 +23,7 @@ returns-clause-served g c base config keys secret salt engages =
     (rw c.plainly.ensures
     (serves_saved _ base config keys secret salt c.args.engine c.serve-served.new.engine _ _ _ _ engages _ (rw ended.high c.high.ensures.most) (rw ended.high c.high.ensures.value) c.args.tracing _ _ _ _ _ _ _ _ _ (stop_of c.serve-served.result) _ _
     (rw ended.quiet ran.ran) (rw ended.quiet ran.traced) ran.cause (rw ended.quiet ran.quiet) (rw ended.ending refl) ended.tally))
+
+pub returns-clause-took : goal.returns-clause-took
+returns-clause-took g c =
+    λ refused is. plain_whole c.serve-served.result c.ended_with.result.ending _ refused c.ended_with.ensures.ending (ap (λ (k : KeptEnded). k.ending) c.plainly.ensures) is c.serve-served.ensures.took

@@ -1,22 +1,19 @@
-use Rattle.std.proofs.Common.{◌≡◌, ℕ, Bool, false, List, [], ◌∷◌, if◌then◌else◌, ap, rules}
+use Rattle.std.proofs.Common.{◌≡◌, ℕ, Bool, false, true, List, [], ◌∷◌, if◌then◌else◌, ap}
 use Rattle.ob_headline.specs.Texts.{tail_text, has_words, reading_of}
-use Rattle.ob_shell.proofs.StepLemmas.{answers_none}
-use Rattle.ob_shell.proofs.TraceLemmas.{traced_none}
+use Rattle.ob_shell.proofs.TakesLemmas.{takes_idle, takes_of_text}
+use Rattle.ob_shell.specs.Steps.{machine_of}
 use Rattle.ob_shell.proofs.session.finish.Goals as goal
 
-tail_text-none : (rest : List ℕ) → has_words (reading_of rest) ≡ false → tail_text rest ≡ []
-tail_text-none rest none = ap (λ (b : Bool). if b then rest ∷ [] else []) none
+tail_text-by : (rest : List ℕ) (b : Bool) → has_words (reading_of rest) ≡ b → tail_text rest ≡ (if b then rest ∷ [] else [])
+tail_text-by rest b is = ap (λ (x : Bool). if x then rest ∷ [] else []) is
 
-pub returns-then-not-has_words-clause-serves : goal.returns-then-not-has_words-clause-serves
-returns-then-not-has_words-clause-serves g c =
+pub returns-then-not-has_words-clause-takes : goal.returns-then-not-has_words-clause-takes
+returns-then-not-has_words-clause-takes g c =
     let none : has_words (reading_of c.args.session.now.pending) ≡ false = cc (c.has_words.ensures, c.if-not-has_words.true) in
-    record {
-      ready = search rules;
-      done = rw (tail_text-none c.args.session.now.pending none) (answers_none _ _ _);
-      stopped = tt;
-      cause = search rules;
-      quiet = search rules;
-    }
+    rw (tail_text-by c.args.session.now.pending false none)
+    (takes_idle c.args.tracing c.args.session.now.batch.items c.args.session.now.tally _ _ _ (machine_of c.args.engine.now (g.S.BlockStore.state c.args.store.now) (g.B.Behind.state c.args.behind.now)) tt c.requires.ready c.requires.waits (λ h free. free))
 
-pub returns-then-not-has_words-clause-traced : goal.returns-then-not-has_words-clause-traced
-returns-then-not-has_words-clause-traced g c = traced_none _ _ _
+pub returns-clause-takes : goal.returns-clause-takes
+returns-clause-takes g c =
+    let some : has_words (reading_of c.args.session.now.pending) ≡ true = cc (c.has_words.ensures, c.if-not-has_words.false) in
+    takes_of_text _ _ _ _ _ _ _ _ _ _ _ _ _ _ _ _ _ (tail_text c.args.session.now.pending) c.args.session.now.pending (tail_text-by c.args.session.now.pending true some) c.take_text.result c.take_text.ensures.takes

@@ -5,16 +5,19 @@ use Rattle.ob_print.proofs.SentLemmas.{Sends-cut, flushed, flushed_cut, flushed_
 use Rattle.ob_shell.proofs.CountLemmas.{rises_earlier}
 use Rattle.ob_shell.proofs.ServeLemmas.{answered_by, failed_by, finished_by, flush_loses, flush_silences, stop_cause, stopped_by}
 use Rattle.ob_print.specs.Rows.{events_text}
+use Rattle.ob_shell.specs.Steps.{machine_of}
 use Rattle.ob_shell.specs.declared.session.Answered.{Answered}
 use Rattle.ob_shell.proofs.session.run_stmt.Goals as goal
 
 pub returns-in-Ok-flush-clause-serves : goal.returns-in-Ok-flush-clause-serves
 returns-in-Ok-flush-clause-serves g c =
-    let on = c.in-Ok.ensures.ran.ran.goes_on in
+    let on = c.in-Ok.ensures.ran.carried.ran.goes_on in
+    let m0 = machine_of c.args.engine.now (g.S.BlockStore.state c.args.store.now) (g.B.Behind.state c.args.behind.now) in
+    let m1 = machine_of c.run.new.engine (g.S.BlockStore.state c.run.new.store) (g.B.Behind.state c.run.new.behind) in
     record {
-      ready = record { agrees = on.agrees; lives = on.lives; settled = c.in-Ok.ensures.ran.ran.settled; saves = c.in-Ok.ensures.saves };
-      done = rw (ap (λ (s : Seen). s.plan) c.seen.ensures)
-          (answered_by _ _ _ _ _ _ _ _ c.args.stmt.now c.requires.ready.agrees _ _ c.args.text.now c.requires.spells c.in-Ok.outcome c.in-Ok.ensures.ran
+      ready = record { agrees = on.agrees; lives = on.lives; settled = c.in-Ok.ensures.ran.carried.ran.settled; saves = c.in-Ok.ensures.saves };
+      done = λ h may. rw (ap (λ (s : Seen). s.plan) c.seen.ensures)
+          (answered_by g.R.Revisions.state _ _ _ m0 m1 _ _ c.args.stmt.now c.requires.ready.agrees c.requires.alone h may _ _ c.args.text.now c.requires.spells c.in-Ok.outcome c.in-Ok.ensures.ran
           (λ events took. flushed_whole (events_text events) c.requires.none took.0 c.in-Ok-flush.ensures.cut (λ (h : false ≡ true). absurd (cc))));
       stopped = tt;
       cause = search rules;
@@ -23,11 +26,14 @@ returns-in-Ok-flush-clause-serves g c =
 
 pub returns-in-Err-flush-clause-serves : goal.returns-in-Err-flush-clause-serves
 returns-in-Err-flush-clause-serves g c =
+    let m0 = machine_of c.args.engine.now (g.S.BlockStore.state c.args.store.now) (g.B.Behind.state c.args.behind.now) in
+    let m1 = machine_of c.run.new.engine (g.S.BlockStore.state c.run.new.store) (g.B.Behind.state c.run.new.behind) in
     record {
       ready = tt;
       done = tt;
-      stopped = finished_by _ _ _ _ _ _ _ _ c.args.stmt.now c.requires.ready.agrees _ _ c.args.text.now c.requires.spells c.in-Ok.outcome c.in-Ok.ensures.ran (refl, rises_earlier _ _ _ (omega (arith, c.in-Ok.ensures.ran.sink)) c.in-Err-flush.ensures.cause.failed)
-          (λ events took. flushed_cut (events_text events) c.requires.none took.0 c.flush.ensures.cut);
+      stopped = λ h may.
+          finished_by g.R.Revisions.state _ _ _ m0 m1 _ _ c.args.stmt.now c.requires.ready.agrees c.requires.alone h may _ _ c.args.text.now c.requires.spells c.in-Ok.outcome c.in-Ok.ensures.ran
+          (refl, rises_earlier _ _ _ (omega (arith, c.in-Ok.ensures.ran.sink)) c.in-Err-flush.ensures.cause.failed) (λ events took. flushed_cut (events_text events) c.requires.none took.0 c.flush.ensures.cut);
       cause = search rules;
       quiet = search rules;
     }
@@ -35,10 +41,13 @@ returns-in-Err-flush-clause-serves g c =
 pub returns-in-SinkFault-clause-serves : goal.returns-in-SinkFault-clause-serves
 returns-in-SinkFault-clause-serves g c =
     let serves = rw c.in-SinkFault.is at c.in-Err.ensures.ran in
+    let m0 = machine_of c.args.engine.now (g.S.BlockStore.state c.args.store.now) (g.B.Behind.state c.args.behind.now) in
+    let m1 = machine_of c.run.new.engine (g.S.BlockStore.state c.run.new.store) (g.B.Behind.state c.run.new.behind) in
     record {
       ready = tt;
       done = tt;
-      stopped = failed_by _ _ _ _ _ _ _ _ c.args.stmt.now c.requires.ready.agrees _ _ c.args.text.now c.requires.spells serves (refl, serves.sink) (λ events began. Sends-cut (events_text events) c.requires.none began.0);
+      stopped = λ h may.
+          failed_by g.R.Revisions.state _ _ _ m0 m1 _ _ c.args.stmt.now c.requires.ready.agrees c.requires.alone h may _ _ c.args.text.now c.requires.spells serves (refl, serves.sink) (λ events began. Sends-cut (events_text events) c.requires.none began.0);
       cause = search rules;
       quiet = search rules;
     }
@@ -46,10 +55,13 @@ returns-in-SinkFault-clause-serves g c =
 pub returns-in_default-clause-serves : goal.returns-in_default-clause-serves
 returns-in_default-clause-serves g c =
     let lost = flush_loses c.in-Err.stop c.flush-in_default.result c.is_err-quiet.result _ _ _ c.in_default.not-SinkFault c.in-Err.ensures.ran.sink c.is_err-quiet.ensures.value c.flush-in_default.ensures.cause in
+    let m0 = machine_of c.args.engine.now (g.S.BlockStore.state c.args.store.now) (g.B.Behind.state c.args.behind.now) in
+    let m1 = machine_of c.run.new.engine (g.S.BlockStore.state c.run.new.store) (g.B.Behind.state c.run.new.behind) in
     record {
       ready = tt;
       done = tt;
-      stopped = stopped_by _ _ _ _ _ _ _ _ c.args.stmt.now c.requires.ready.agrees _ _ c.args.text.now c.requires.spells c.in-Err.stop c.in_default.not-SinkFault c.in-Err.ensures.ran
+      stopped = λ h may.
+          stopped_by g.R.Revisions.state _ _ _ m0 m1 _ _ c.args.stmt.now c.requires.ready.agrees c.requires.alone h may _ _ c.args.text.now c.requires.spells c.in-Err.stop c.in_default.not-SinkFault c.in-Err.ensures.ran
           (λ events took. Outputs-by lost (flushed (events_text events) c.requires.none took.0 c.flush-in_default.ensures.cut))
           (λ events began. flushed_cut (events_text events) c.requires.none began.0 c.flush-in_default.ensures.cut);
       cause = stop_cause Answered c.in-Err.stop _ _ _ c.in-Err.ensures.ran.sink c.flush-in_default.ensures.cause.later;

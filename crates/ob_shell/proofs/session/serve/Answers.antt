@@ -1,71 +1,160 @@
-use Rattle.std.proofs.Common.{arith, ◌∙◌, refl}
-use Rattle.ob_shell.proofs.FeedLemmas.{fed_smaller}
-use Rattle.ob_shell.proofs.RunLemmas.{so_far_start, so_far_end, so_far_turn, ran_source_fault, ran_input_limit, ran_finish, ran_turn, ready_after, traced_by}
-use Rattle.ob_shell.proofs.TraceLemmas.{traced_none, traced_then, traced_cut}
+use Rattle.std.proofs.Common.{◌≡◌, Err, Ok, ap, inl, ◌∙◌}
+use Rattle.ob_gen.specs.declared.tally.Tally.{Tally}
+use Rattle.ob_shell.proofs.CountLemmas.{same_cause}
+use Rattle.ob_shell.proofs.GatherLemmas.{are_batched}
+use Rattle.ob_shell.proofs.RunLemmas.{ran_flushed, ran_unflushed}
+use Rattle.ob_shell.proofs.ServedLemmas.{alone_read, source_later, stop_stays, waited_quiet, waited_stops}
+use Rattle.ob_shell.proofs.TraceLemmas.{traced_cut, traced_then, traced_whole}
 use Rattle.ob_shell.proofs.session.serve.Goals as goal
+use Rattle.ob_shell.specs.declared.session.Break.TheVariants.{Served, Unread}
+use Rattle.ob_tables.specs.Agreeing.{count_of, public_of}
+use Rattle.ob_tables.specs.Stops.{session_stop}
 
-pub bytes-init : goal.bytes-init
-bytes-init g c = record {
-  so_far = rw c.new-2.ensures (so_far_start _ _ _ _ _ c.new.ensures);
-  short = rw c.new.ensures (omega arith);
-  ready = c.requires.ready;
-  same = refl;
-  fed_by = c.requires.fed_by;
-  source = refl;
-  sink = refl;
-  trace = refl;
-  traced = traced_none _ _ _;
-}
+pub read_texts-read-requires : goal.read_texts-read-requires
+read_texts-read-requires g c = record { none = c.new-2.ensures.items; fresh = c.new.ensures; uncounted = c.new-3.ensures; ready = c.requires.ready; fed_by = c.requires.fed_by; took = c.requires.took }
 
-pub returns-in-Err-SourceFault-clause-ran : goal.returns-in-Err-SourceFault-clause-ran
-returns-in-Err-SourceFault-clause-ran g c =
-    let fetch = rw c.in-Err-SourceFault.field-0-is at c.in-Err-SourceFault.ensures in
-    ran_source_fault (so_far_end c.bytes.invariant.so_far fetch.fed) fetch.cause.1 c.bytes.invariant.short c.bytes.invariant.traced
+pub flush-requires : goal.flush-requires
+flush-requires g c =
+    let e = c.read_texts-read.new.engine in
+    let stands = c.in-Ok.ensures.stands in
+    record { waits = are_batched (public_of e) (count_of e (g.S.BlockStore.state c.read_texts-read.new.store)) c.read_texts-read.new.session.batch.items stands.waits; ready = stands.ready; took = stands.took }
 
-pub returns-in-Err-InputLimit-clause-ran : goal.returns-in-Err-InputLimit-clause-ran
-returns-in-Err-InputLimit-clause-ran g c =
-    let fetch = rw c.in-Err-InputLimit.field-0-is at c.in-Err-InputLimit.ensures in
-    ran_input_limit (so_far_end c.bytes.invariant.so_far fetch.fed) fetch.cause.1 fetch.cause.2 c.bytes.invariant.traced
+pub flush-requires-in-Err-Unread : goal.flush-requires-in-Err-Unread
+flush-requires-in-Err-Unread g c =
+    let unread : c.read_texts-read.result ≡ Err (Unread c.in-Err-Unread.stop) = c.in-Err-Unread.is ∙ ap Err (rw c.in-Err-Unread.is at c.in-Err-Unread.field-0-is) in
+    let e = c.read_texts-read.new.engine in
+    let stands = rw unread at c.read_texts-read.ensures.stands in
+    record { waits = are_batched (public_of e) (count_of e (g.S.BlockStore.state c.read_texts-read.new.store)) c.read_texts-read.new.session.batch.items stands.waits; ready = stands.ready; took = stands.took }
 
-pub returns-in-Ok-None-clause-ran : goal.returns-in-Ok-None-clause-ran
-returns-in-Ok-None-clause-ran g c =
-    let fetch = rw c.in-Ok-None.field-0-is at c.in-Ok-None.ensures in
-    let done = c.finish-served.ensures in
-    rw c.session_result.ensures (ran_finish c.finish-served.result (so_far_end c.bytes.invariant.so_far fetch.fed) fetch.cause.1 fetch.cause.2 fetch.cause.3
-    c.bytes.invariant.short done.serves.done done.serves.stopped c.bytes.invariant.sink _ c.bytes.invariant.traced done.traced done.traced_stop)
+pub returns-in-Ok-flush-clause-ran : goal.returns-in-Ok-flush-clause-ran
+returns-in-Ok-flush-clause-ran g c =
+    let flushed = rw c.in-Ok-flush.ensures.none at c.in-Ok-flush.ensures.takes in
+    ran_flushed (Ok tt) c.in-Ok.ensures.reads flushed.done flushed.traced
 
-pub returns-in-Err-clause-ran : goal.returns-in-Err-clause-ran
-returns-in-Err-clause-ran g c =
-    let fetch = rw c.in-Ok-Some.field-0-is at c.in-Ok-Some.ensures in
-    let turn = c.in-Err.ensures in
-    ran_turn c.in-Err.halted.quiet c.in-Err.halted.stop c.bytes.invariant.so_far fetch.fed fetch.cause.2 turn.serves.stopped c.bytes.invariant.sink _ c.bytes.invariant.traced turn.traced_stop
+pub returns-in-Ok-clause-ran : goal.returns-in-Ok-clause-ran
+returns-in-Ok-clause-ran g c = rw c.from.ensures (ran_unflushed (Ok tt) c.in-Err.halted.stop c.in-Ok.ensures.reads c.in-Ok.ensures.stands.waits (rw c.in-Ok.ensures.quiet.0 at c.in-Err.ensures.takes.stopped))
 
-pub bytes-smaller : goal.bytes-smaller
-bytes-smaller g c =
-    let fetch = rw c.in-Ok-Some.field-0-is at c.in-Ok-Some.ensures in fed_smaller _ fetch.fed fetch.within
+pub returns-in-Ok-flush-2-clause-ran : goal.returns-in-Ok-flush-2-clause-ran
+returns-in-Ok-flush-2-clause-ran g c =
+    let unread : c.read_texts-read.result ≡ Err (Unread c.in-Err-Unread.stop) = c.in-Err-Unread.is ∙ ap Err (rw c.in-Err-Unread.is at c.in-Err-Unread.field-0-is) in
+    let reads = rw unread at c.read_texts-read.ensures.reads in
+    let flushed = rw c.in-Ok-flush-2.ensures.none at c.in-Ok-flush-2.ensures.takes in
+    ran_flushed (Err c.in-Err-Unread.stop) reads flushed.done flushed.traced
 
-pub bytes-preserved : goal.bytes-preserved
-bytes-preserved g c =
-    let fetch = rw c.in-Ok-Some.field-0-is at c.in-Ok-Some.ensures in
-    let turn = c.in_default.ensures in
-    let before = c.bytes.invariant in
-    record {
-      so_far = so_far_turn before.so_far fetch.fed turn.pending.0 refl turn.serves.done;
-      short = turn.pending.1;
-      ready = turn.serves.ready;
-      same = turn.same ∙ before.same;
-      fed_by = fetch.fed_by;
-      source = fetch.cause.0 ∙ before.source;
-      sink = turn.serves.cause.out ∙ before.sink;
-      trace = turn.serves.cause.trace ∙ before.trace;
-      traced = traced_then before.traced turn.traced;
-    }
+pub returns-in-Err-Unread-clause-ran : goal.returns-in-Err-Unread-clause-ran
+returns-in-Err-Unread-clause-ran g c =
+    let unread : c.read_texts-read.result ≡ Err (Unread c.in-Err-Unread.stop) = c.in-Err-Unread.is ∙ ap Err (rw c.in-Err-Unread.is at c.in-Err-Unread.field-0-is) in
+    let reads = rw unread at c.read_texts-read.ensures.reads in
+    let stands = rw unread at c.read_texts-read.ensures.stands in
+    let quiet = rw unread at c.read_texts-read.ensures.quiet in
+    let stopped = rw quiet.0 at c.in-Err-flush.ensures.takes.stopped in
+    rw c.from-in-Err-flush.ensures (ran_unflushed (Err c.in-Err-Unread.stop) c.in-Err-flush.halted.stop reads stands.waits stopped)
 
-pub returns-in-Ok-None-clause-traced : goal.returns-in-Ok-None-clause-traced
-returns-in-Ok-None-clause-traced g c = rw c.session_result.ensures (traced_by c.finish-served.result c.bytes.invariant.traced c.finish-served.ensures.traced c.finish-served.ensures.traced_stop)
+pub returns-clause-ran : goal.returns-clause-ran
+returns-clause-ran g c =
+    let served : c.read_texts-read.result ≡ Err (Served c.in-Err-Served.halted) = c.in-Err-Served.is ∙ ap Err (rw c.in-Err-Served.is at c.in-Err-Served.field-0-is) in
+    let reads = rw served at c.read_texts-read.ensures.reads in
+    rw c.from-in-Err-Served.ensures reads
 
-pub returns-in-Err-clause-traced : goal.returns-in-Err-clause-traced
-returns-in-Err-clause-traced g c = traced_cut c.bytes.invariant.traced c.in-Err.ensures.traced_stop
+-- ---- what rose, and what may still be written
+pub returns-in-Ok-flush-clause-traced : goal.returns-in-Ok-flush-clause-traced
+returns-in-Ok-flush-clause-traced g c = traced_whole _ (traced_then c.in-Ok.ensures.reads.traced c.in-Ok-flush.ensures.takes.traced)
 
-pub returns-in-Ok-None-clause-ready : goal.returns-in-Ok-None-clause-ready
-returns-in-Ok-None-clause-ready g c = rw c.session_result.ensures (ready_after _ c.finish-served.result c.finish-served.ensures.serves.ready)
+pub returns-in-Ok-flush-2-clause-traced : goal.returns-in-Ok-flush-2-clause-traced
+returns-in-Ok-flush-2-clause-traced g c =
+    let unread : c.read_texts-read.result ≡ Err (Unread c.in-Err-Unread.stop) = c.in-Err-Unread.is ∙ ap Err (rw c.in-Err-Unread.is at c.in-Err-Unread.field-0-is) in
+    let reads = rw unread at c.read_texts-read.ensures.reads in
+    traced_whole _ (traced_then reads.traced c.in-Ok-flush-2.ensures.takes.traced)
+
+pub returns-in-Ok-clause-traced : goal.returns-in-Ok-clause-traced
+returns-in-Ok-clause-traced g c = rw c.from.ensures (traced_cut c.in-Ok.ensures.reads.traced c.in-Err.ensures.takes.traced_stop)
+
+pub returns-in-Err-Unread-clause-traced : goal.returns-in-Err-Unread-clause-traced
+returns-in-Err-Unread-clause-traced g c =
+    let unread : c.read_texts-read.result ≡ Err (Unread c.in-Err-Unread.stop) = c.in-Err-Unread.is ∙ ap Err (rw c.in-Err-Unread.is at c.in-Err-Unread.field-0-is) in
+    let reads = rw unread at c.read_texts-read.ensures.reads in
+    rw c.from-in-Err-flush.ensures (traced_cut reads.traced c.in-Err-flush.ensures.takes.traced_stop)
+
+pub returns-clause-traced : goal.returns-clause-traced
+returns-clause-traced g c =
+    let served : c.read_texts-read.result ≡ Err (Served c.in-Err-Served.halted) = c.in-Err-Served.is ∙ ap Err (rw c.in-Err-Served.is at c.in-Err-Served.field-0-is) in
+    let traced = rw served at c.read_texts-read.ensures.traced in
+    rw c.from-in-Err-Served.ensures traced
+
+pub returns-in-Ok-flush-clause-cause : goal.returns-in-Ok-flush-clause-cause
+returns-in-Ok-flush-clause-cause g c =
+    let before = c.in-Ok.ensures.cause in
+    let now = c.in-Ok-flush.ensures.takes.cause in
+    record { source = before.source; out = now.out ∙ before.out; trace = now.trace ∙ before.trace }
+
+pub returns-in-Ok-flush-2-clause-cause : goal.returns-in-Ok-flush-2-clause-cause
+returns-in-Ok-flush-2-clause-cause g c =
+    let unread : c.read_texts-read.result ≡ Err (Unread c.in-Err-Unread.stop) = c.in-Err-Unread.is ∙ ap Err (rw c.in-Err-Unread.is at c.in-Err-Unread.field-0-is) in
+    let cause = rw unread at c.read_texts-read.ensures.cause in
+    let now = c.in-Ok-flush-2.ensures.takes.cause in
+    let there = c.read_texts-read.new in
+    let end = c.flush-in-Err-Unread.new in
+    same_cause _ (Unit {0}) Tally c.in-Err-Unread.stop _ _
+    (stop_stays (Unit {0}) _ c.in-Err-Unread.stop (g.I.Source.faults c.args.input.now) (g.I.Source.faults there.input) (g.K.Sink.faults c.args.out.now, g.T.Sink.faults c.args.trace.now) (g.K.Sink.faults there.out, g.T.Sink.faults there.trace)
+    (g.K.Sink.faults end.out, g.T.Sink.faults end.trace) now.out now.trace cause)
+
+pub returns-in-Ok-clause-cause : goal.returns-in-Ok-clause-cause
+returns-in-Ok-clause-cause g c =
+    let before = c.in-Ok.ensures.cause in
+    let there = c.read_texts-read.new in
+    let end = c.flush.new in
+    rw c.from.ensures
+    (waited_stops (Unit {0}) Tally _ c.in-Err.halted.stop (g.I.Source.faults c.args.input.now) (g.I.Source.faults there.input) (g.K.Sink.faults c.args.out.now, g.T.Sink.faults c.args.trace.now) (g.K.Sink.faults there.out, g.T.Sink.faults there.trace)
+    (g.K.Sink.faults end.out, g.T.Sink.faults end.trace) (λ alone. before.source, inl before.source) before.out before.trace c.in-Err.ensures.takes.cause)
+
+-- the source may have failed before one of them was stopped, where INSERTs are served together
+pub returns-in-Err-Unread-clause-cause : goal.returns-in-Err-Unread-clause-cause
+returns-in-Err-Unread-clause-cause g c =
+    let unread : c.read_texts-read.result ≡ Err (Unread c.in-Err-Unread.stop) = c.in-Err-Unread.is ∙ ap Err (rw c.in-Err-Unread.is at c.in-Err-Unread.field-0-is) in
+    let reads = rw unread at c.read_texts-read.ensures.reads in
+    let stands = rw unread at c.read_texts-read.ensures.stands in
+    let cause = rw unread at c.read_texts-read.ensures.cause in
+    let quiet = rw unread at c.read_texts-read.ensures.quiet in
+    let there = c.read_texts-read.new in
+    let end = c.flush-in-Err-Unread.new in
+    rw c.from-in-Err-flush.ensures
+    (waited_stops (Unit {0}) Tally _ c.in-Err-flush.halted.stop (g.I.Source.faults c.args.input.now) (g.I.Source.faults there.input) (g.K.Sink.faults c.args.out.now, g.T.Sink.faults c.args.trace.now) (g.K.Sink.faults there.out, g.T.Sink.faults there.trace)
+    (g.K.Sink.faults end.out, g.T.Sink.faults end.trace) (λ alone. absurd (alone_read reads stands.waits c.in-Err-flush.ensures.idle alone), source_later (Unit {0}) _ c.in-Err-Unread.stop _ _ cause) quiet.0 quiet.1 c.in-Err-flush.ensures.takes.cause)
+
+pub returns-clause-cause : goal.returns-clause-cause
+returns-clause-cause g c =
+    let served : c.read_texts-read.result ≡ Err (Served c.in-Err-Served.halted) = c.in-Err-Served.is ∙ ap Err (rw c.in-Err-Served.is at c.in-Err-Served.field-0-is) in
+    let cause = rw served at c.read_texts-read.ensures.cause in
+    rw c.from-in-Err-Served.ensures (same_cause _ (Unit {0}) Tally (session_stop c.in-Err-Served.halted.stop) _ _ cause)
+
+pub returns-in-Ok-flush-2-clause-quiet : goal.returns-in-Ok-flush-2-clause-quiet
+returns-in-Ok-flush-2-clause-quiet g c =
+    let unread : c.read_texts-read.result ≡ Err (Unread c.in-Err-Unread.stop) = c.in-Err-Unread.is ∙ ap Err (rw c.in-Err-Unread.is at c.in-Err-Unread.field-0-is) in
+    let quiet = rw unread at c.read_texts-read.ensures.quiet in
+    let now = c.in-Ok-flush-2.ensures.takes.quiet in
+    (now.0 ∙ quiet.0, now.1 ∙ quiet.1)
+
+pub returns-in-Ok-clause-quiet : goal.returns-in-Ok-clause-quiet
+returns-in-Ok-clause-quiet g c =
+    let before = c.in-Ok.ensures.cause in
+    let there = c.read_texts-read.new in
+    let end = c.flush.new in
+    rw c.from.ensures
+    (waited_quiet c.in-Err.halted.quiet (g.I.Source.faults c.args.input.now) (g.I.Source.faults there.input) (g.K.Sink.faults c.args.out.now, g.T.Sink.faults c.args.trace.now) (g.K.Sink.faults there.out, g.T.Sink.faults there.trace)
+    (g.K.Sink.faults end.out, g.T.Sink.faults end.trace) before.out before.trace c.in-Err.ensures.takes.quiet)
+
+pub returns-in-Err-Unread-clause-quiet : goal.returns-in-Err-Unread-clause-quiet
+returns-in-Err-Unread-clause-quiet g c =
+    let unread : c.read_texts-read.result ≡ Err (Unread c.in-Err-Unread.stop) = c.in-Err-Unread.is ∙ ap Err (rw c.in-Err-Unread.is at c.in-Err-Unread.field-0-is) in
+    let quiet = rw unread at c.read_texts-read.ensures.quiet in
+    let there = c.read_texts-read.new in
+    let end = c.flush-in-Err-Unread.new in
+    rw c.from-in-Err-flush.ensures
+    (waited_quiet c.in-Err-flush.halted.quiet (g.I.Source.faults c.args.input.now) (g.I.Source.faults there.input) (g.K.Sink.faults c.args.out.now, g.T.Sink.faults c.args.trace.now) (g.K.Sink.faults there.out, g.T.Sink.faults there.trace)
+    (g.K.Sink.faults end.out, g.T.Sink.faults end.trace) quiet.0 quiet.1 c.in-Err-flush.ensures.takes.quiet)
+
+pub returns-clause-quiet : goal.returns-clause-quiet
+returns-clause-quiet g c =
+    let served : c.read_texts-read.result ≡ Err (Served c.in-Err-Served.halted) = c.in-Err-Served.is ∙ ap Err (rw c.in-Err-Served.is at c.in-Err-Served.field-0-is) in
+    let quiet = rw served at c.read_texts-read.ensures.quiet in
+    rw c.from-in-Err-Served.ensures quiet

@@ -1,7 +1,7 @@
-use Rattle.std.proofs.Common.{ap, refl, sym}
+use Rattle.std.proofs.Common.{◌∙◌, ap, refl, sym}
 use Rattle.ob_gen.specs.Tally.{empty_tally}
 use Rattle.ob_headline.specs.Words.{keys_in, keys_with}
-use Rattle.ob_shell.proofs.TallyLemmas.{tally_after-nil}
+use Rattle.ob_shell.proofs.TallyLemmas.{cause_flagged, took_whole, tally_after-nil}
 use Rattle.ob_shell.specs.Running.{stop_of}
 use Rattle.ob_shell.proofs.TopLemmas.{shown_source_fault, shown_bad_key, shown_last, shown_ran}
 use Rattle.ob_shell.proofs.TraceLemmas.{traced_none, traced_whole}
@@ -57,3 +57,12 @@ returns-in-Ok-Secret-clause-shown g c =
     rw (ended.ending, ended.high, ended.quiet)
     (shown_ran keys_in _ c.in-Ok-Secret.key (stop_of c.serve_with-ran.result.0) new.unread new.taken new.limit c.serve_with-ran.ensures.within c.serve_with-ran.ensures.fed_by read.read c.serve_with-ran.ensures.ran
     (λ taken is. ap keys_with is) ended.tally)
+
+pub returns-in-Ok-Secret-clause-took : goal.returns-in-Ok-Secret-clause-took
+returns-in-Ok-Secret-clause-took g c = λ refused is. took_whole c.serve_with-ran.result.0 refused (sym c.ended_with.ensures.ending ∙ is) c.serve_with-ran.ensures.took
+
+pub returns-in-Ok-Secret-clause-cause : goal.returns-in-Ok-Secret-clause-cause
+returns-in-Ok-Secret-clause-cause g c =
+    let read = rw c.in-Ok-Secret.field-0-is at c.in-Ok-Secret.ensures in
+    let cause = rw read.cause at c.serve_with-ran.ensures.cause in
+    rw c.ended_with.ensures.ending (cause_flagged _ _ _ (stop_of c.serve_with-ran.result.0) cause)

@@ -1,12 +1,14 @@
 use Rattle.std.proofs.Common.{◌∙◌, ap, refl, subst}
 use Rattle.ob_base.specs.declared.config.Public.{Public}
 use Rattle.ob_tables.specs.Agreeing.{AreDraws, first_draws}
+use Rattle.ob_headline.specs.Words.{faults_of}
 use Rattle.ob_seal.specs.KeySet.{KeySet}
 use Rattle.ob_shell.proofs.EngageLemmas.{ready_unsaved}
 use Rattle.ob_shell.proofs.SessionLemmas.{ran_after}
 use Rattle.ob_shell.proofs.StandLemmas.{stands_first}
 use Rattle.ob_shell.proofs.TopLemmas.{ran_nothing}
 use Rattle.ob_shell.proofs.TraceLemmas.{traced_none, traced_whole}
+use Rattle.ob_shell.specs.Running.{ServesAlone, StopCause, stop_of}
 use Rattle.ob_shell.proofs.top.serve_with.Goals as goal
 
 pub returns-in-Err-clause-ran : goal.returns-in-Err-clause-ran
@@ -33,3 +35,10 @@ returns-in-Ok-clause-ran g c =
 pub serve-ran-requires-clause-ready : goal.serve-ran-requires-clause-ready
 serve-ran-requires-clause-ready g c =
     ready_unsaved _ _ _ _ _ (c.in-Ok.ensures.agrees (g.S.BlockStore.state c.args.store.now) c.requires.fresh) c.in-Ok.ensures.alive c.in-Ok.ensures.settled (ap (λ (p : Public). p.save) c.in-Ok.ensures.public ∙ c.requires.within.unsaved)
+
+pub returns-in-Ok-clause-cause : goal.returns-in-Ok-clause-cause
+returns-in-Ok-clause-cause g c =
+    let now = c.serve-ran.new in
+    let before = faults_of (g.I.Source.faults c.args.input.now) (g.O.Sink.faults c.args.out.now) (g.T.Sink.faults c.args.trace.now) in
+    let after = faults_of (g.I.Source.faults now.input) (g.O.Sink.faults now.out) (g.T.Sink.faults now.trace) in
+    subst (λ (p : Public). StopCause (ServesAlone p) before after (stop_of c.serve-ran.result)) c.in-Ok.ensures.public c.serve-ran.ensures.cause

@@ -5,6 +5,9 @@ use Rattle.ob_exec.proofs.SavingLemmas.{agrees_synced, rests_then, saved_all, un
 use Rattle.ob_exec.specs.Saving.{SavesTables}
 use Rattle.ob_exec.proofs.behind.SavedByBehind.save.Goals as goal
 
+pub save-requires : goal.save-requires
+save-requires g c = let may = c.requires.may in record { agrees = may.agrees; lives = may.lives; settled = may.settled; flat = may.flat; few = may.few; salted = may.salted }
+
 pub returns-in-Err-clause-saves : goal.returns-in-Err-clause-saves
 returns-in-Err-clause-saves g c = λ save.
     let e = c.args.engine.now in
@@ -35,11 +38,11 @@ pub settle-requires-clause-waits : goal.settle-requires-clause-waits
 settle-requires-clause-waits g c =
     let rests = rests_then g.R.Revisions.state c.args.left c.args.engine.now (g.S.BlockStore.state c.args.store.now) c.in-Ok.mark c.save.new.self (g.S.BlockStore.state c.save.new.store) c.in-Ok.ensures.saves
     (g.S.BlockStore.state c.sync.new.self) c.sync.ensures.syncs c.in-Ok-sync.ensures.cause in
-    waits_synced g.R.Revisions.state c.save.new.self (g.S.BlockStore.state c.save.new.store) (g.S.BlockStore.state c.sync.new.self) rests c.args.left (c.in-Ok.ensures.saves.ok.waits c.args.left c.requires.waits)
+    waits_synced g.R.Revisions.state c.save.new.self (g.S.BlockStore.state c.save.new.store) (g.S.BlockStore.state c.sync.new.self) rests c.args.left (c.in-Ok.ensures.saves.ok.waits c.args.left c.requires.may.waits)
 
 pub returns-clause-saves : goal.returns-clause-saves
 returns-clause-saves g c = λ save.
     saved_all g.R.Revisions.state c.args.left c.args.engine.now (g.S.BlockStore.state c.args.store.now) c.in-Ok.mark c.save.new.self (g.S.BlockStore.state c.save.new.store) c.in-Ok.ensures.saves
     (g.S.BlockStore.state c.sync.new.self) c.sync.ensures.syncs c.in-Ok-sync.ensures.cause
-    c.requires.agrees c.requires.waits c.settle.new.self (g.S.BlockStore.state c.settle.new.store) c.settle.ensures.settles tt c.in-Ok-set.field-0
+    c.requires.may.agrees c.requires.may.waits c.settle.new.self (g.S.BlockStore.state c.settle.new.store) c.settle.ensures.settles tt c.in-Ok-set.field-0
     (g.K.Keeper.state c.args.self.now.keeper.now) (g.K.Keeper.state c.set.new.self) c.in-Ok-set.ensures.sets

@@ -21,13 +21,13 @@ invariant_of-self c =
     }
 
 pub returns-in-Err-clause-asks : goal.returns-in-Err-clause-asks
-returns-in-Err-clause-asks c = let begun = c.begin.ensures in asks_same _ c.args.self.now c.begin.new.self _ _ _ _ _ _ begun.asked begun.spare begun.list begun.reopened begun.faults begun.slips begun.caught
+returns-in-Err-clause-asks c = let begun = c.begin.ensures in asks_same _ c.args.self.now c.begin.new.self _ _ _ _ _ _ begun.asked begun.past begun.spare begun.list begun.reopened begun.faults begun.slips begun.caught
 
 pub returns-in-Err-add-clause-asks : goal.returns-in-Err-add-clause-asks
-returns-in-Err-add-clause-asks c = let begun = c.begin.ensures in asks_same _ c.args.self.now c.begin.new.self _ _ _ _ _ _ begun.asked begun.spare begun.list begun.reopened begun.faults begun.slips begun.caught
+returns-in-Err-add-clause-asks c = let begun = c.begin.ensures in asks_same _ c.args.self.now c.begin.new.self _ _ _ _ _ _ begun.asked begun.past begun.spare begun.list begun.reopened begun.faults begun.slips begun.caught
 
 pub returns-in-Ok-add-clause-asks : goal.returns-in-Ok-add-clause-asks
-returns-in-Ok-add-clause-asks c = let begun = c.begin.ensures in asks_same _ c.args.self.now c.begin.new.self _ _ _ _ _ _ begun.asked begun.spare begun.list begun.reopened begun.faults begun.slips begun.caught
+returns-in-Ok-add-clause-asks c = let begun = c.begin.ensures in asks_same _ c.args.self.now c.begin.new.self _ _ _ _ _ _ begun.asked begun.past begun.spare begun.list begun.reopened begun.faults begun.slips begun.caught
 
 pub returns-in_err-begin-clause-made : goal.returns-in_err-begin-clause-made
 returns-in_err-begin-clause-made c = record {

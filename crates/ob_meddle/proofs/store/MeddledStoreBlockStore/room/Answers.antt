@@ -3,7 +3,7 @@ use Rattle.ob_meddle.proofs.store.MeddledStoreBlockStore.room.Goals as goal
 pub invariant_of-self : goal.invariant_of-self
 invariant_of-self c =
     let old = c.args.self.now in
-    let same = c.room.ensures.runs in
+    let same = c.room.ensures.asked in
     record {
       fresh = rw same old.fresh;
       few = rw same old.few;

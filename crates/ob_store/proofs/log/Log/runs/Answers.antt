@@ -1,12 +1,15 @@
-use Rattle.std.proofs.Common.{ap, length, arith}
-use Rattle.ob_store.specs.Logs.{LogState, asked_of}
-use Rattle.ob_store.proofs.KeptLemmas.{length-spelt, length-runs_of, reach}
+use Rattle.std.proofs.Common.{◌∙◌, ap, arith, length, length-append}
+use Rattle.ob_store.specs.Logs.{LogState, asked_of, spelt}
 use Rattle.ob_store.proofs.log.Log.runs.Goals as goal
 
 pub returns-clause-runs : goal.returns-clause-runs
-returns-clause-runs c = omega (arith, c.len.ensures, c.self.inside.starts.ok.0, length-runs_of c.self.inside.cycles.items c.self.inside.starts.items (length c.self.inside.starts.items) (length c.self.inside.cycles.items) c.self.inside.count, ap (λ (s : LogState). length s.runs) c.self.view_is)
+returns-clause-runs c = c.runs.ensures.runs ∙ ap (λ (s : LogState). length s.runs) c.self.view_is
 
 pub returns-clause-few : goal.returns-clause-few
 returns-clause-few c =
-    let r = reach _ _ _ _ c.self.invariant.sound in
-    omega (arith, c.len.ensures, c.self.inside.starts.ok.0, r.0, r.1, length-spelt c.self.inside.cycles.items _ _ _ _ c.self.invariant.sound, ap (λ (s : LogState). length (asked_of s)) c.self.view_is)
+    omega (
+      arith,
+      c.runs.ensures.few,
+      length-append c.self.inside.past.accesses (spelt c.self.inside.runs.runs),
+      ap (λ (s : LogState). length (asked_of s)) c.self.view_is,
+    )

@@ -12,6 +12,7 @@ returns c =
     record {
       sweeps = record {
         asked = refl;
+        log = refl;
         spare = refl;
         faults = refl;
         slips = omega arith;

@@ -11,7 +11,7 @@ use Rattle.ob_vault.specs.State.{earlier}
 use Rattle.ob_tables.specs.Agreeing.{count_of, engine_start}
 use Rattle.ob_verdict.specs.declared.outcome.Outcome.{Outcome}
 use Rattle.ob_tables.specs.Running.{answer_of, is_stop}
-use Rattle.ob_tables.proofs.RunLemmas.{at_ok, count_rises, engine_after}
+use Rattle.ob_tables.proofs.RunLemmas.{at_ok, count_rises, engine_after, opens_block}
 use Rattle.ob_tables.proofs.SilentLemmas.{serves_as, unasked}
 use Rattle.ob_tables.proofs.CreateLemmas.{created, not_created, new_within, new_few, new_asked, new_size, new_idle, popped}
 use Rattle.ob_tables.proofs.engine.Engine.create_flat.Goals as goal
@@ -44,7 +44,7 @@ returns-in-Ok g c =
     record {
       serves =
           created g.R.Revisions.state old (g.S.BlockStore.state c.args.store.now) (g.S.BlockStore.state c.room.new.self) v room (g.S.BlockStore.state c.create.new.store) c.args.table.now c.args.columns.now
-          c.new_schema-schema.result c.args.capacity FlatShape c.requires.agrees c.room.ensures.rests c.create.ensures.room c.new_schema-schema.ensures.value c.requires.allowed refl
+          c.new_schema-schema.result c.args.capacity FlatShape c.requires.agrees c.room.ensures.rests (opens_block c.requires.agrees c.create.ensures.room) c.new_schema-schema.ensures.value c.requires.allowed refl
           c.new_table-new.ensures.short c.new_schema-schema.ensures.names _ _ _ c.in-Ok.ensures.creates c.requires.lives (ap (λ (o : Outcome). Ok o) c.finish.ensures.answer)
           (c.finish.ensures.seen ∙ ap (λ (ts : List Table). engine_after old v room ts Whole old.ended) tables);
     }
@@ -61,7 +61,7 @@ returns-in-Err g c =
     record {
       serves =
           not_created g.R.Revisions.state old (g.S.BlockStore.state c.args.store.now) (g.S.BlockStore.state c.room.new.self) v room (g.S.BlockStore.state c.create.new.store) c.args.table.now c.args.columns.now
-          c.new_schema-schema.result c.args.capacity FlatShape c.requires.agrees c.room.ensures.rests c.create.ensures.room c.new_schema-schema.ensures.value c.requires.allowed refl
+          c.new_schema-schema.result c.args.capacity FlatShape c.requires.agrees c.room.ensures.rests (opens_block c.requires.agrees c.create.ensures.room) c.new_schema-schema.ensures.value c.requires.allowed refl
           error n _ _ c.in-Err.ensures.creates (λ i. c.count.ensures i - c.count-before.ensures i) c.cut-in-Err.ensures.answer
           (c.cut-in-Err.ensures.seen ∙ ap (λ (ts : List Table). engine_after old v room ts (Cut n) (is_stop (answer_of error))) tables);
     }

@@ -17,7 +17,7 @@ use Rattle.ob_tables.proofs.ChangeLemmas.{delete_alters}
 use Rattle.ob_tables.proofs.FoundLemmas.{shape_found}
 use Rattle.ob_tables.proofs.MutateLemmas.{mutated, unmutated}
 use Rattle.ob_tables.proofs.ReadLemmas.{read_flat}
-use Rattle.ob_tables.proofs.RunLemmas.{rests_refl}
+use Rattle.ob_tables.proofs.RunLemmas.{opens_block, rests_refl}
 use Rattle.ob_tables.proofs.SilentLemmas.{serves_as, unasked}
 use Rattle.ob_tables.proofs.engine.Engine.delete.Goals as goal
 
@@ -64,7 +64,7 @@ returns-in-Ok-delete g c =
       serves =
           mutated g.R.Revisions.state (Delete c.args.table.now c.args.cond.now) c.args.table.now rewrite_part Deleted (λ slots. count_by (is_true pred) (rows slots))
           (map (emptied (is_true pred))) old s (g.S.BlockStore.state c.make_room.new.store) c.delete.new.vault c.delete.new.room (g.S.BlockStore.state c.delete.new.store)
-          c.table_at-i.result.0 table flat c.delete.new.flat c.requires.agrees c.make_room.ensures.rests c.delete.ensures.room found.here found.is c.requires.allowed c.requires.flat
+          c.table_at-i.result.0 table flat c.delete.new.flat c.requires.agrees c.make_room.ensures.rests (opens_block c.requires.agrees c.delete.ensures.room) found.here found.is c.requires.allowed c.requires.flat
           (delete_alters old.public (count_of old s) c.args.table.now c.args.cond.now table.heading pred pred_is)
           c.former-former.result c.former-former.ensures c.in-Ok-delete.deleted c.finish.new.self _ c.in-Ok-delete.ensures.deletes c.requires.lives (ap (λ (o : Outcome). Ok o) c.finish.ensures.answer)
           (c.finish.ensures.seen
@@ -85,7 +85,7 @@ returns g c =
       serves =
           unmutated g.R.Revisions.state (Delete c.args.table.now c.args.cond.now) c.args.table.now rewrite_part Deleted (λ slots. count_by (is_true pred) (rows slots))
           (map (emptied (is_true pred))) old s (g.S.BlockStore.state c.make_room.new.store) c.delete.new.vault c.delete.new.room (g.S.BlockStore.state c.delete.new.store)
-          c.table_at-i.result.0 table flat c.delete.new.flat c.requires.agrees c.make_room.ensures.rests c.delete.ensures.room found.here found.is c.requires.allowed c.requires.flat
+          c.table_at-i.result.0 table flat c.delete.new.flat c.requires.agrees c.make_room.ensures.rests (opens_block c.requires.agrees c.delete.ensures.room) found.here found.is c.requires.allowed c.requires.flat
           (delete_alters old.public (count_of old s) c.args.table.now c.args.cond.now table.heading pred pred_is)
           c.former-former.result c.former-former.ensures c.in-Err.error (c.count.result - c.count-before.result) c.cut-in-Err.new.self _ c.in-Err.ensures.deletes (λ i. c.count.ensures i - c.count-before.ensures i) c.cut-in-Err.ensures.answer c.cut-in-Err.ensures.seen;
     }

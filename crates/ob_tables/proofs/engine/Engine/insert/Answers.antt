@@ -22,7 +22,7 @@ use Rattle.ob_tables.proofs.FoundLemmas.{heading_found, shape_found}
 use Rattle.ob_tables.proofs.InsertLemmas.{insert_alters}
 use Rattle.ob_tables.proofs.MutateLemmas.{mutated, unmutated}
 use Rattle.ob_tables.proofs.ReadLemmas.{read_flat}
-use Rattle.ob_tables.proofs.RunLemmas.{rests_refl}
+use Rattle.ob_tables.proofs.RunLemmas.{opens_block, rests_refl}
 use Rattle.ob_tables.proofs.SilentLemmas.{serves_as, unasked}
 use Rattle.ob_tables.proofs.engine.Engine.insert.Goals as goal
 
@@ -84,7 +84,7 @@ returns-in-Ok-result g c =
       serves =
           mutated g.R.Revisions.state (Insert c.args.table.now c.args.columns.now c.args.values.now) c.args.table.now insert_part inserted_as (insert_answer flat.schema row)
           (λ slots. slots_after (insert_answer flat.schema row slots) row slots) old s (g.S.BlockStore.state c.make_room.new.store) c.insert-result.new.vault c.insert-result.new.room (g.S.BlockStore.state c.insert-result.new.store)
-          c.table_at-i.result.0 table flat c.insert-result.new.flat c.requires.agrees c.make_room.ensures.rests c.insert-result.ensures.room found.here found.is c.requires.allowed c.requires.flat alters
+          c.table_at-i.result.0 table flat c.insert-result.new.flat c.requires.agrees c.make_room.ensures.rests (opens_block c.requires.agrees c.insert-result.ensures.room) found.here found.is c.requires.allowed c.requires.flat alters
           c.former-former.result c.former-former.ensures c.in-Ok-result.inserted c.finish.new.self _ c.in-Ok-result.ensures.inserts c.requires.lives (ap (λ (o : Outcome). Ok o) (c.finish.ensures.answer ∙ c.outcome_of.ensures))
           (c.finish.ensures.seen
           ∙ ap (λ (e : Engine g.row.R.Denot). record e { seen = seen_to Whole; public = record e.public { next_region = e.vault.next } }) (c.move_table.ensures table found.here.get));
@@ -106,6 +106,6 @@ returns g c =
       serves =
           unmutated g.R.Revisions.state (Insert c.args.table.now c.args.columns.now c.args.values.now) c.args.table.now insert_part inserted_as (insert_answer flat.schema row)
           (λ slots. slots_after (insert_answer flat.schema row slots) row slots) old s (g.S.BlockStore.state c.make_room.new.store) c.insert-result.new.vault c.insert-result.new.room (g.S.BlockStore.state c.insert-result.new.store)
-          c.table_at-i.result.0 table flat c.insert-result.new.flat c.requires.agrees c.make_room.ensures.rests c.insert-result.ensures.room found.here found.is c.requires.allowed c.requires.flat alters
+          c.table_at-i.result.0 table flat c.insert-result.new.flat c.requires.agrees c.make_room.ensures.rests (opens_block c.requires.agrees c.insert-result.ensures.room) found.here found.is c.requires.allowed c.requires.flat alters
           c.former-former.result c.former-former.ensures c.in-Err.error (c.count.result - c.count-before.result) c.cut-in-Err.new.self _ c.in-Err.ensures.inserts (λ i. c.count.ensures i - c.count-before.ensures i) c.cut-in-Err.ensures.answer c.cut-in-Err.ensures.seen;
     }

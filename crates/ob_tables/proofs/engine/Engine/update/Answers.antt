@@ -22,7 +22,7 @@ use Rattle.ob_tables.proofs.ChangeLemmas.{sets_found, update_alters}
 use Rattle.ob_tables.proofs.FoundLemmas.{heading_found, shape_found}
 use Rattle.ob_tables.proofs.MutateLemmas.{mutated, unmutated}
 use Rattle.ob_tables.proofs.ReadLemmas.{read_flat}
-use Rattle.ob_tables.proofs.RunLemmas.{rests_refl}
+use Rattle.ob_tables.proofs.RunLemmas.{opens_block, rests_refl}
 use Rattle.ob_tables.proofs.SilentLemmas.{serves_as, unasked}
 use Rattle.ob_tables.proofs.engine.Engine.update.Goals as goal
 
@@ -89,7 +89,7 @@ returns-in-Ok-update g c =
       serves =
           mutated g.R.Revisions.state (Update c.args.table.now c.args.sets.now c.args.cond.now) c.args.table.now rewrite_part Changed (λ slots. count_by (is_true pred) (rows slots))
           (map (option_map (updated pred cells))) old s (g.S.BlockStore.state c.make_room.new.store) c.update.new.vault c.update.new.room (g.S.BlockStore.state c.update.new.store)
-          c.table_at-i.result.0 table flat c.update.new.flat c.requires.agrees c.make_room.ensures.rests c.update.ensures.room found.here found.is c.requires.allowed c.requires.flat
+          c.table_at-i.result.0 table flat c.update.new.flat c.requires.agrees c.make_room.ensures.rests (opens_block c.requires.agrees c.update.ensures.room) found.here found.is c.requires.allowed c.requires.flat
           (update_alters old.public (count_of old s) c.args.table.now c.args.sets.now c.args.cond.now table.heading pred cells pred_is cells_is)
           c.former-former.result c.former-former.ensures c.in-Ok-update.changed c.finish.new.self _ c.in-Ok-update.ensures.updates c.requires.lives (ap (λ (o : Outcome). Ok o) c.finish.ensures.answer)
           (c.finish.ensures.seen
@@ -113,7 +113,7 @@ returns g c =
       serves =
           unmutated g.R.Revisions.state (Update c.args.table.now c.args.sets.now c.args.cond.now) c.args.table.now rewrite_part Changed (λ slots. count_by (is_true pred) (rows slots))
           (map (option_map (updated pred cells))) old s (g.S.BlockStore.state c.make_room.new.store) c.update.new.vault c.update.new.room (g.S.BlockStore.state c.update.new.store)
-          c.table_at-i.result.0 table flat c.update.new.flat c.requires.agrees c.make_room.ensures.rests c.update.ensures.room found.here found.is c.requires.allowed c.requires.flat
+          c.table_at-i.result.0 table flat c.update.new.flat c.requires.agrees c.make_room.ensures.rests (opens_block c.requires.agrees c.update.ensures.room) found.here found.is c.requires.allowed c.requires.flat
           (update_alters old.public (count_of old s) c.args.table.now c.args.sets.now c.args.cond.now table.heading pred cells pred_is cells_is)
           c.former-former.result c.former-former.ensures c.in-Err.error (c.count.result - c.count-before.result) c.cut-in-Err.new.self _ c.in-Err.ensures.updates (λ i. c.count.ensures i - c.count-before.ensures i) c.cut-in-Err.ensures.answer c.cut-in-Err.ensures.seen;
     }

@@ -1,0 +1,64 @@
+use Rattle.std.proofs.Common.{refl}
+use Rattle.ob_exec.proofs.BatchRuns.{batch_then}
+use Rattle.ob_exec.proofs.FollowedRuns.{able_then, counted_then, forgotten_then, log_then, may_behind, may_then, saves_then}
+use Rattle.ob_exec.proofs.Shares.{share_batch}
+use Rattle.ob_exec.specs.Behind.{is_due}
+use Rattle.ob_exec.proofs.batching.run_batch.Goals as goal
+
+pub finish-requires : goal.finish-requires
+finish-requires g c =
+    let state = g.R.Revisions.state in
+    let first = c.args.first.now in
+    let rest = c.args.rest.now in
+    let old = c.args.engine.now in
+    let s = g.S.BlockStore.state c.args.store.now in
+    let mid = c.insert_batch-answer.new.self in
+    let s1 = g.S.BlockStore.state c.insert_batch-answer.new.store in
+    let answer = c.insert_batch-answer.result in
+    let share = share_batch state first rest answer c.insert_batch-answer.new.outcomes old s mid s1 c.requires.batch c.insert_batch-answer.ensures.serves in
+    let begun = c.begin-begun.result in
+    let is = c.begin-begun.ensures in
+    record {
+      forgotten = forgotten_then state first rest ⊥ old s mid s1 c.requires.agrees c.requires.settled begun is answer share;
+      may = may_then state first rest ⊥ old s mid s1 c.requires.agrees c.requires.settled begun is answer (g.B.Behind.Saves c.args.behind.now) share c.requires.saves;
+      wants = saves_then state first rest ⊥ old s mid s1 c.requires.agrees c.requires.settled begun is answer share;
+      saves = able_then state first rest ⊥ old s mid s1 c.requires.agrees c.requires.settled begun is answer (g.B.Behind.Saves c.args.behind.now) c.requires.saves;
+      counted = counted_then state first rest ⊥ old s mid s1 c.requires.agrees c.requires.settled begun is answer share;
+    }
+
+pub returns-clause-ran : goal.returns-clause-ran
+returns-clause-ran g c =
+    batch_then g.R.Revisions.state c.args.first.now c.args.rest.now c.insert_batch-answer.new.outcomes c.args.engine.now (g.S.BlockStore.state c.args.store.now)
+    c.insert_batch-answer.new.self (g.S.BlockStore.state c.insert_batch-answer.new.store) c.begin-begun.result c.finish.result c.finish.new.engine (g.S.BlockStore.state c.finish.new.store)
+    (g.B.Behind.state c.args.behind.now) (g.B.Behind.state c.finish.new.behind) c.requires.agrees c.requires.settled c.begin-begun.ensures c.requires.batch
+    (g.B.Behind.Saves c.args.behind.now) c.requires.saves c.insert_batch-answer.result c.insert_batch-answer.ensures.serves c.finish.ensures.behind
+
+pub returns-clause-saves : goal.returns-clause-saves
+returns-clause-saves g c =
+    let state = g.R.Revisions.state in
+    let first = c.args.first.now in
+    let rest = c.args.rest.now in
+    let old = c.args.engine.now in
+    let s = g.S.BlockStore.state c.args.store.now in
+    let mid = c.insert_batch-answer.new.self in
+    let s1 = g.S.BlockStore.state c.insert_batch-answer.new.store in
+    let answer = c.insert_batch-answer.result in
+    let share = share_batch state first rest answer c.insert_batch-answer.new.outcomes old s mid s1 c.requires.batch c.insert_batch-answer.ensures.serves in
+    may_behind state first rest ⊥ old s mid s1 c.requires.agrees c.requires.settled c.begin-begun.result c.begin-begun.ensures (g.B.Behind.Saves c.args.behind.now) c.requires.saves
+    c.finish.result c.finish.new.engine (g.S.BlockStore.state c.finish.new.store) (g.B.Behind.state c.args.behind.now) (g.B.Behind.state c.finish.new.behind)
+    (g.B.Behind.Saves c.finish.new.behind) answer (is_due c.begin-begun.result.saved answer mid.seen.end) refl share c.finish.ensures.behind c.finish.ensures.stays
+
+pub returns-clause-listed : goal.returns-clause-listed
+returns-clause-listed g c =
+    let state = g.R.Revisions.state in
+    let first = c.args.first.now in
+    let rest = c.args.rest.now in
+    let old = c.args.engine.now in
+    let s = g.S.BlockStore.state c.args.store.now in
+    let mid = c.insert_batch-answer.new.self in
+    let s1 = g.S.BlockStore.state c.insert_batch-answer.new.store in
+    let answer = c.insert_batch-answer.result in
+    let share = share_batch state first rest answer c.insert_batch-answer.new.outcomes old s mid s1 c.requires.batch c.insert_batch-answer.ensures.serves in
+    log_then state first rest ⊥ old s mid s1 c.requires.agrees c.requires.settled c.begin-begun.result c.begin-begun.ensures (g.B.Behind.Saves c.args.behind.now) c.requires.saves
+    c.finish.result c.finish.new.engine (g.S.BlockStore.state c.finish.new.store) (g.B.Behind.state c.args.behind.now) (g.B.Behind.state c.finish.new.behind)
+    answer (is_due c.begin-begun.result.saved answer mid.seen.end) refl share c.finish.ensures.behind

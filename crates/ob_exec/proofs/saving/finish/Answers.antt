@@ -1,0 +1,103 @@
+use Rattle.std.proofs.Common.{◌≡◌, ◌≤◌, ◌-◌, ◌++◌, ℕ, Bool, true, false, List, length, Result, Ok, Err, refl, sym, ◌∙◌, ap, subst, arith, length-append}
+use Rattle.std.specs.Prelude.{◌&&◌}
+use Rattle.ob_base.specs.declared.access.Access.{Access}
+use Rattle.ob_base.specs.declared.seen.End.{End}
+use Rattle.ob_base.specs.declared.seen.Seen.{Seen}
+use Rattle.ob_exec.specs.Behind.{SavesBehind, ended_at, is_due}
+use Rattle.ob_exec.specs.Ran.{is_whole}
+use Rattle.ob_exec.specs.Saving.{MayBeSaved, SavesTables}
+use Rattle.ob_store.specs.State.{StoreState}
+use Rattle.ob_tables.specs.declared.stop.RunStop.{RunStop}
+use Rattle.ob_verdict.specs.declared.outcome.Outcome.{Outcome}
+use Rattle.ob_exec.proofs.saving.finish.Goals as goal
+
+-- whether tables are due to be saved behind a statement that was answered
+due_is : (saved now : Bool) (answer : Result Outcome RunStop) (outcome : Outcome) (end : End) → answer ≡ Ok outcome → now ≡ (is_whole end && saved) → is_due saved answer end ≡ now
+due_is saved now answer outcome end is now_is = ap (λ (a : Result Outcome RunStop). is_due saved a end) is ∙ sym now_is
+
+-- a list that goes on from another of some length
+longer : (n : ℕ) (first more last : List Access) → n ≤ length first → last ≡ first ++ more → n ≤ length last
+longer n first more last within is =
+    let long = ap length is in
+    let parts = length-append first more in
+    omega (arith, within, long, parts)
+
+pub returns-in-Err-clause-behind : goal.returns-in-Err-clause-behind
+returns-in-Err-clause-behind g c =
+    let e = c.args.engine.now in
+    let s = g.S.BlockStore.state c.args.store.now in
+    let k = g.B.Behind.state c.args.behind.now in
+    subst (λ (a : Result Outcome RunStop). SavesBehind g.R.Revisions.state (is_due c.args.begun.saved a e.seen.end) c.args.begun a (Err c.in-Err.stop) e s e s k k) (sym c.in-Err.is)
+    (record { answer_is = refl; engine_is = refl; store_is = refl; keeper_is = refl })
+
+pub leave_forgotten-requires : goal.leave_forgotten-requires
+leave_forgotten-requires g c = record { forgotten = λ is. c.requires.forgotten (c.in-Ok.is ∙ ap (λ (o : Outcome). Ok o) is) }
+
+pub returns-then-not-is_saved_behind-clause-behind : goal.returns-then-not-is_saved_behind-clause-behind
+returns-then-not-is_saved_behind-clause-behind g c =
+    let e = c.args.engine.now in
+    let s = g.S.BlockStore.state c.args.store.now in
+    let k = g.B.Behind.state c.args.behind.now in
+    let t = g.S.BlockStore.state c.leave_forgotten.new.store in
+    let now_is : c.is_saved_behind.result ≡ (is_whole e.seen.end && c.args.begun.saved) = c.is_saved_behind.ensures ∙ ap (λ (x : Seen). is_whole x.end && c.args.begun.saved) c.seen.ensures in
+    let due = due_is c.args.begun.saved c.is_saved_behind.result c.args.answer c.in-Ok.outcome e.seen.end c.in-Ok.is now_is ∙ c.if-not-is_saved_behind.true in
+    subst (λ (b : Bool). SavesBehind g.R.Revisions.state b c.args.begun c.args.answer (Ok c.in-Ok.outcome) e s e t k k) (sym due)
+    (record { answer_is = sym c.in-Ok.is; engine_is = refl; store_is = c.leave_forgotten.ensures.same; keeper_is = refl })
+
+pub save-requires : goal.save-requires
+save-requires g c =
+    let e = c.args.engine.now in
+    let now_is : c.is_saved_behind.result ≡ (is_whole e.seen.end && c.args.begun.saved) = c.is_saved_behind.ensures ∙ ap (λ (x : Seen). is_whole x.end && c.args.begun.saved) c.seen.ensures in
+    let due = due_is c.args.begun.saved c.is_saved_behind.result c.args.answer c.in-Ok.outcome e.seen.end c.in-Ok.is now_is ∙ c.if-not-is_saved_behind.false in
+    record {
+      may = subst (λ (t : StoreState). MayBeSaved g.R.Revisions.state c.args.begun.left e t) (sym c.leave_forgotten.ensures.same) (c.requires.may due);
+      saves = λ is. c.requires.saves due;
+    }
+
+pub returns-in-Ok-save-clause-behind : goal.returns-in-Ok-save-clause-behind
+returns-in-Ok-save-clause-behind g c =
+    let e = c.args.engine.now in
+    let s = g.S.BlockStore.state c.args.store.now in
+    let k0 = g.B.Behind.state c.args.behind.now in
+    let k1 = g.B.Behind.state c.save.new.self in
+    let t = g.S.BlockStore.state c.save.new.store in
+    let last = c.save.new.engine in
+    let now_is : c.is_saved_behind.result ≡ (is_whole e.seen.end && c.args.begun.saved) = c.is_saved_behind.ensures ∙ ap (λ (x : Seen). is_whole x.end && c.args.begun.saved) c.seen.ensures in
+    let due = due_is c.args.begun.saved c.is_saved_behind.result c.args.answer c.in-Ok.outcome e.seen.end c.in-Ok.is now_is ∙ c.if-not-is_saved_behind.false in
+    subst (λ (b : Bool). SavesBehind g.R.Revisions.state b c.args.begun c.args.answer (Ok c.in-Ok.outcome) e s last t k0 k1) (sym due)
+    (record {
+      saving = Ok c.in-Ok-save.field-0;
+      last = last;
+      saves = subst (λ (u : StoreState). SavesTables {T = Unit {0}} g.R.Revisions.state c.args.begun.left (Ok c.in-Ok-save.field-0) e u last t k0 k1) c.leave_forgotten.ensures.same (c.in-Ok-save.ensures.saves (c.requires.wants due));
+      ends = (sym c.in-Ok.is, refl);
+    })
+
+pub overflow_sub-accesses : goal.overflow_sub-accesses
+overflow_sub-accesses g c =
+    let e = c.args.engine.now in
+    let now_is : c.is_saved_behind.result ≡ (is_whole e.seen.end && c.args.begun.saved) = c.is_saved_behind.ensures ∙ ap (λ (x : Seen). is_whole x.end && c.args.begun.saved) c.seen.ensures in
+    let due = due_is c.args.begun.saved c.is_saved_behind.result c.args.answer c.in-Ok.outcome e.seen.end c.in-Ok.is now_is ∙ c.if-not-is_saved_behind.false in
+    let began = (c.in-Err-save.ensures.saves (c.requires.wants due)).began in
+    let same = ap (λ (t : StoreState). length t.asked) c.leave_forgotten.ensures.same in
+    let counted = c.requires.counted in
+    let count = c.count.ensures in
+    let grown = longer c.args.begun.accesses (g.S.BlockStore.state c.leave_forgotten.new.store).asked began.done (g.S.BlockStore.state c.save.new.store).asked (omega (arith, counted, same)) began.asked in
+    omega (arith, grown, count)
+
+pub returns-in-Err-save-clause-behind : goal.returns-in-Err-save-clause-behind
+returns-in-Err-save-clause-behind g c =
+    let e = c.args.engine.now in
+    let s = g.S.BlockStore.state c.args.store.now in
+    let k0 = g.B.Behind.state c.args.behind.now in
+    let k1 = g.B.Behind.state c.save.new.self in
+    let t = g.S.BlockStore.state c.save.new.store in
+    let last = c.save.new.engine in
+    let now_is : c.is_saved_behind.result ≡ (is_whole e.seen.end && c.args.begun.saved) = c.is_saved_behind.ensures ∙ ap (λ (x : Seen). is_whole x.end && c.args.begun.saved) c.seen.ensures in
+    let due = due_is c.args.begun.saved c.is_saved_behind.result c.args.answer c.in-Ok.outcome e.seen.end c.in-Ok.is now_is ∙ c.if-not-is_saved_behind.false in
+    subst (λ (b : Bool). SavesBehind g.R.Revisions.state b c.args.begun c.args.answer (Err c.in-Err-save.stop) e s c.end_at.new.engine t k0 k1) (sym due)
+    (record {
+      saving = Err c.in-Err-save.stop;
+      last = last;
+      saves = subst (λ (u : StoreState). SavesTables {T = Unit {0}} g.R.Revisions.state c.args.begun.left (Err c.in-Err-save.stop) e u last t k0 k1) c.leave_forgotten.ensures.same (c.in-Err-save.ensures.saves (c.requires.wants due));
+      ends = (refl, c.end_at.ensures ∙ ap (λ (n : ℕ). ended_at (n - c.args.begun.accesses) last) c.count.ensures);
+    })

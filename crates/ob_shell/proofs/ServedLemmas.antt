@@ -1,0 +1,73 @@
+-- How a session ends behind its reading, once those that waited were served.
+use Rattle.std.specs.Prelude.{max, min}
+use Rattle.std.specs.Option.{option_map_or}
+use Rattle.std.proofs.Common.{◌≡◌, ◌≢◌, ◌⊎◌, ◌-◌, inl, inr, ℕ, Bool, true, false, List, [], ◌∷◌, Option, Result, Err, refl, sym, ap, ◌∙◌, subst, arith}
+use Rattle.ob_base.specs.Counts.{Rises}
+use Rattle.ob_base.specs.declared.config.Public.{Public}
+use Rattle.ob_base.specs.declared.refusal.Stop.{Stop}
+use Rattle.ob_base.specs.declared.refusal.Stop.TheVariants as Stops
+use Rattle.ob_gen.specs.declared.tally.Tally.{Tally}
+use Rattle.ob_headline.specs.Status.{StaysAlone}
+use Rattle.ob_headline.specs.Words.{Faults, faults_of}
+use Rattle.ob_mean.proofs.BatchLemmas.{begins}
+use Rattle.ob_mean.specs.Batches.{batch_most}
+use Rattle.ob_shell.proofs.CountLemmas.{rises_earlier}
+use Rattle.ob_shell.proofs.WaitLemmas.{steps_most}
+use Rattle.ob_shell.specs.Feeding.{Fetch}
+use Rattle.ob_shell.specs.Running.{ServesAlone, Silenced, StopCause}
+use Rattle.ob_shell.specs.Serving.{HasRead}
+use Rattle.ob_shell.specs.Steps.{Machine, asked_of, standing}
+use Rattle.ob_shell.specs.Waiting.{AreGathered}
+use Rattle.ob_sql.specs.declared.stmt.Stmt.{Stmt}
+use Rattle.ob_tables.specs.Agreeing.{public_of}
+use Rattle.ob_tables.specs.Stops.{session_stop}
+use Rattle.ob_tables.specs.declared.stop.RunStop.{RunStop}
+use Rattle.ob_tables.specs.declared.stop.RunStop.TheVariants as Runs
+use Rattle.ob_vault.specs.State.{RevState}
+
+-- the count of the source's faults stays or rises
+pub source_later : (T Alone : Type 0) (stop : Stop) (old new : Faults) → StopCause {T = T} Alone old new (Err stop) → (new.source ≡ old.source) ⊎ Rises old.source new.source
+source_later T Alone (Stops.Tampered q x) old new cause = cause.0.1
+source_later T Alone Stops.SourceFault old new cause = inr cause.0
+source_later T Alone Stops.SinkFault old new cause = cause.0.1
+source_later T Alone Stops.NoMemory old new cause = cause.0.1
+source_later T Alone Stops.InputLimit old new cause = inl cause.source
+source_later T Alone Stops.StoreFault old new cause = cause.0.1
+source_later T Alone Stops.StashFull old new cause = cause.0.1
+source_later T Alone Stops.KeeperFault old new cause = cause.0.1
+
+-- ---- the counts
+-- the reading's stop, behind which those that waited were served
+pub stop_stays : (T Alone : Type 0) (stop : Stop) (s0 s1 : ℕ) (old mid new : ℕ × ℕ) → new.0 ≡ mid.0 → new.1 ≡ mid.1 → StopCause {T = T} Alone (faults_of s0 old.0 old.1) (faults_of s1 mid.0 mid.1) (Err stop) → StopCause {T = T} Alone (faults_of s0 old.0 old.1) (faults_of s1 new.0 new.1) (Err stop)
+stop_stays T Alone stop s0 s1 old mid new out trace cause =
+    let same : faults_of s1 mid.0 mid.1 ≡ faults_of s1 new.0 new.1 = λ i. faults_of s1 (sym out i) (sym trace i) in
+    subst (λ (f : Faults). StopCause {T = T} Alone (faults_of s0 old.0 old.1) f (Err stop)) same cause
+
+-- one of those that waited was stopped
+pub waited_stops : (T U Alone : Type 0) (stop : RunStop) (s0 s1 : ℕ) (old mid new : ℕ × ℕ) → StaysAlone Alone s0 s1 → mid.0 ≡ old.0 → mid.1 ≡ old.1 → StopCause {T = T} (Unit {0}) (faults_of 0 mid.0 mid.1) (faults_of 0 new.0 new.1) (Err (session_stop stop))
+    → StopCause {T = U} Alone (faults_of s0 old.0 old.1) (faults_of s1 new.0 new.1) (Err (session_stop stop))
+waited_stops T U Alone (Runs.Tampered q x) s0 s1 old mid new same out trace cause = (same, omega (arith, out, cause.1), omega (arith, trace, cause.2))
+waited_stops T U Alone Runs.SinkFault s0 s1 old mid new same out trace cause = (same, elim cause.1 [ inl rose ↦ inl (rises_earlier old.0 mid.0 new.0 (omega (arith, out)) rose) | inr rose ↦ inr (rises_earlier old.1 mid.1 new.1 (omega (arith, trace)) rose) ])
+waited_stops T U Alone Runs.NoMemory s0 s1 old mid new same out trace cause = (same, omega (arith, out, cause.1), omega (arith, trace, cause.2))
+waited_stops T U Alone Runs.StoreFault s0 s1 old mid new same out trace cause = (same, omega (arith, out, cause.1), omega (arith, trace, cause.2))
+waited_stops T U Alone Runs.StashFull s0 s1 old mid new same out trace cause = (same, omega (arith, out, cause.1), omega (arith, trace, cause.2))
+waited_stops T U Alone Runs.KeeperFault s0 s1 old mid new same out trace cause = (same, omega (arith, out, cause.1), omega (arith, trace, cause.2))
+
+-- and whether a line may still be written
+pub waited_quiet : (quiet : Bool) (s0 s1 : ℕ) (old mid new : ℕ × ℕ) → mid.0 ≡ old.0 → mid.1 ≡ old.1 → Silenced quiet (faults_of 0 mid.0 mid.1) (faults_of 0 new.0 new.1) → Silenced quiet (faults_of s0 old.0 old.1) (faults_of s1 new.0 new.1)
+waited_quiet true s0 s1 old mid new out trace told = elim told [ inl rose ↦ inl (rises_earlier old.0 mid.0 new.0 (omega (arith, out)) rose) | inr rose ↦ inr (rises_earlier old.1 mid.1 new.1 (omega (arith, trace)) rose) ]
+waited_quiet false s0 s1 old mid new out trace told = (told.0 ∙ out, told.1 ∙ trace)
+
+-- ---- where INSERTs are served alone none waits
+alone_waits : (p0 p1 : Public) (m : ℕ) (batch : List Stmt) → batch_most p1 ≡ batch_most p0 → ServesAlone p0 → AreGathered p1 m batch → batch ≡ []
+alone_waits p0 p1 m [] same alone waits = refl
+alone_waits p0 p1 m (first ∷ rest) same alone waits =
+    let most = (begins p1 m first waits.batch.begins).most in
+    let one : batch_most p0 ≡ 1 = ap (λ (o : Option ℕ). option_map_or (λ (n : ℕ). max 1 (min n (p0.buffer - p0.pack))) o 1) alone in
+    absurd (omega (arith, most, one, same))
+
+-- so none of them was stopped
+pub alone_read : {R : Type 0} {state : R → RevState} {on : Bool} {f0 f1 : Fetch} {l0 l1 : Option (List ℕ)} {gave : ℕ} {w0 w1 t0 t1 : Option (List ℕ)} {batch : List Stmt} {r : Tally} {m0 m1 : Machine R} {ends : Result (Unit {0}) Stop}
+    → HasRead state on f0 f1 l0 l1 gave w0 w1 t0 t1 batch r m0 m1 ends → AreGathered (public_of m1.engine) (asked_of m1) batch → batch ≢ [] → ServesAlone (public_of m0.engine) → ⊥
+alone_read {state = state} {batch = batch} {m0 = m0} {m1 = m1} read waits some alone =
+    some (alone_waits (public_of m0.engine) (public_of m1.engine) (asked_of m1) batch (steps_most state m0 (standing m1 [] read.so.gathered) read.so.served read.so.answers read.so.steps) alone waits)

@@ -1,0 +1,30 @@
+use Rattle.std.proofs.Common.{Err, List, refl, subst, ℕ}
+use Rattle.ob_headline.specs.Statements.{Spells}
+use Rattle.ob_parse.specs.Refusal.{IsRefused}
+use Rattle.ob_parse.specs.declared.parser.ParseErr.{ParseErr}
+use Rattle.ob_token.specs.Tokens.{tokens_of}
+use Rattle.ob_shell.proofs.GatherLemmas.{comes_free}
+use Rattle.ob_shell.proofs.TakesLemmas.{takes_idle}
+use Rattle.ob_shell.specs.Steps.{machine_of}
+use Rattle.ob_tables.specs.Agreeing.{public_of}
+use Rattle.ob_shell.proofs.session.take_text.Goals as goal
+
+pub take_misspelt-taken-requires : goal.take_misspelt-taken-requires
+take_misspelt-taken-requires g c = record {
+  spells =
+      subst (λ (l : List ℕ). Spells l (Err c.in-Syntax.at)) c.text.ensures
+      (subst (λ (e : ParseErr). IsRefused c.text.result.now (tokens_of c.text.result.now) e) c.in-Syntax.is c.in-Err.ensures.refused);
+  waits = c.requires.waits;
+  ready = c.requires.ready;
+  took = c.requires.took;
+}
+
+pub returns-in-NoMemory-clause-takes : goal.returns-in-NoMemory-clause-takes
+returns-in-NoMemory-clause-takes g c = (
+  takes_idle c.args.tracing c.args.session.now.batch.items c.args.session.now.tally _ _ _ (machine_of c.args.engine.now (g.S.BlockStore.state c.args.store.now) (g.B.Behind.state c.args.behind.now)) tt c.requires.ready c.requires.waits
+      (λ h free. comes_free (public_of c.args.engine.now) c.args.session.now.batch.items h free),
+  refl,
+)
+
+pub returns-in-Ok-clause-takes : goal.returns-in-Ok-clause-takes
+returns-in-Ok-clause-takes g c = c.take_stmt.ensures.takes

@@ -1,0 +1,255 @@
+//! INSERTs that wait to be served together.
+ghost use Rattle.std.specs.Prelude.{◌≡◌, ◌≢◌, ◌≤◌, ◌∷◌, [], drop, length, take, IsErr, OnErr, OnOk};
+ghost use Rattle.std.specs.Io.KnownBytes.{Appends};
+ghost use Rattle.ob_headline.specs.Tracing.{traced};
+ghost use Rattle.ob_headline.specs.Words.{faults_of, printed};
+ghost use Rattle.ob_io.specs.Causes.{HasCause};
+ghost use Rattle.ob_print.specs.Cuts.{Outputs};
+ghost use Rattle.ob_shell.specs.Lines.{BatchCut, SinksCause, line_answers};
+ghost use Rattle.ob_shell.specs.Serving.{ServesBatch, TakesTexts};
+ghost use Rattle.ob_shell.specs.Steps.{IsReady, machine_of};
+ghost use Rattle.ob_shell.specs.Tallies.{tally_after};
+ghost use Rattle.ob_shell.specs.Waiting.{AreBatched, ComesFree, IsClosed, are_alike, goes_along};
+ghost use Rattle.ob_sql.specs.Skeleton.{skeleton};
+ghost use Rattle.ob_tables.specs.Agreeing.{count_of, public_of};
+ghost use Rattle.ob_tables.specs.Batch.{AreBatch};
+
+use crate::session::{Answered, SINK_FAILED, Session, TextHalted, closing_line, tally_with};
+use crate::trace::{let_go_from, trace_from};
+use ob_base::Failed;
+use ob_exec::{Behind, Engine, Outcome, RunStop, run_batch};
+use ob_gen::{Digester, Tally};
+use ob_io::Sink;
+use ob_print::{Pieces, write_all};
+use ob_sql::Stmt;
+use ob_store::BlockStore;
+use ob_vault::Revisions;
+use std::alloc::Global;
+
+// Whether both insert into one table.
+fn are_alike(first: &Stmt, stmt: &Stmt) -> bool
+    ensures { result ≡ are_alike (skeleton first.now) (skeleton stmt.now) }
+{
+    let Stmt::Insert { table, .. } = first else {
+        return false;
+    };
+    match stmt {
+        Stmt::Insert { table: other, .. } => table.as_bytes() == other.as_bytes(),
+        _ => false,
+    }
+}
+
+/// Whether a statement goes into the batch of these, of which the first began it, where it may have one more.
+pub(crate) fn goes_along(batch: &[Stmt], stmt: &Stmt) -> bool
+    ensures { result ≡ goes_along batch.now stmt.now }
+{
+    match batch.first() {
+        Some(first) => are_alike(first, stmt),
+        None => false,
+    }
+}
+
+// Writes the line of each answer, of which none waits afterwards.
+fn write_pieces<K: Sink>(outcomes: &[Outcome], out: &mut Pieces<'_, K>) -> Result<(), Failed>
+    requires none { out.old.waiting.items ≡ [] }
+    ensures same_sink { out.new.out.ghost_name ≡ out.old.out.ghost_name }
+    ensures ok { OnOk result (Appends (K.written out.old.out.now) (K.written out.new.out.now)
+        (printed (line_answers outcomes.now))) }
+    ensures cut { Outputs (K.written out.old.out.now) (K.written out.new.out.now) (IsErr result)
+        (printed (line_answers outcomes.now)) }
+    ensures cause { HasCause (K.faults out.old.out.now) (K.faults out.new.out.now) result }
+{
+    for i in 0..outcomes.len() {
+        let line = closing_line(outcomes[i]);
+        if let Err(failed) = out.write_all(line.as_bytes()) {
+            return Err(failed);
+        }
+    }
+    out.flush()
+}
+
+// The same to a sink that takes them in pieces.
+fn write_lines<K: Sink>(outcomes: &[Outcome], out: &mut K) -> Result<(), Failed>
+    ensures ok { OnOk result (Appends (K.written out.old) (K.written out.new)
+        (printed (line_answers outcomes.now))) }
+    ensures cut { Outputs (K.written out.old) (K.written out.new) (IsErr result)
+        (printed (line_answers outcomes.now)) }
+    ensures cause { HasCause (K.faults out.old) (K.faults out.new) result }
+{
+    let mut pieces = Pieces::new(out);
+    write_pieces(outcomes, &mut pieces)
+}
+
+// Writes the line of the first, digests and traces what was asked since the mark, and writes the lines of the others. After a
+// sink's fault nothing more is written.
+fn write_batch<S: BlockStore, K: Sink, T: Sink, D: Digester>(
+    tracing: bool,
+    store: &S,
+    mark: u64,
+    outcome: Outcome,
+    outcomes: &[Outcome],
+    out: &mut K,
+    trace: &mut T,
+    digest: &mut D,
+) -> Result<(), Failed>
+    requires listed { (S.state store.now).let_go ≤ mark }
+    requires within { mark ≤ length (S.state store.now).asked }
+    ensures ok { OnOk result (Appends (K.written out.old) (K.written out.new)
+        (printed (line_answers (outcome ∷ outcomes.now)))) }
+    ensures traced { OnOk result (Appends (T.written trace.old) (T.written trace.new)
+        (traced tracing (drop mark (S.state store.now).asked))) }
+    ensures cut { OnErr result (BatchCut (outcome ∷ outcomes.now)
+        (K.written out.old) (K.written out.new) (T.written trace.old) (T.written trace.new)
+        (traced tracing (drop mark (S.state store.now).asked))
+        (K.faults out.old) (K.faults out.new)) }
+    ensures cause { SinksCause (faults_of 0 (K.faults out.old) (T.faults trace.old))
+        (faults_of 0 (K.faults out.new) (T.faults trace.new)) result }
+    ensures took { OnOk result (D.took digest.old (take mark (S.state store.now).asked)
+        → D.took digest.new (S.state store.now).asked) }
+{
+    if let Err(failed) = write_all(out, closing_line(outcome).as_bytes()) {
+        return Err(failed);
+    }
+    if let Err(failed) = trace_from(tracing, store, mark, trace, digest) {
+        return Err(failed);
+    }
+    write_lines(outcomes, out)
+}
+
+// With the answers of all of these.
+fn tally_all(tally: Tally, outcomes: &[Outcome]) -> Tally
+    ensures { result ≡ tally_after tally (line_answers outcomes.now) }
+{
+    let mut tally = tally;
+    for i in 0..outcomes.len() {
+        tally = tally_with(
+            tally,
+            Answered {
+                outcome: outcomes[i],
+                plan: None,
+            },
+        );
+    }
+    tally
+}
+
+// Serves a batch: the first, and the rest with it. Tells what was counted then.
+fn serve_batch<R: Revisions, S: BlockStore, B: Behind<S>, K: Sink, T: Sink, D: Digester>(
+    alloc: Global,
+    tracing: bool,
+    tally: Tally,
+    first: &Stmt,
+    rest: &[Stmt],
+    engine: &mut Engine<R>,
+    store: &mut S,
+    behind: &mut B,
+    out: &mut K,
+    trace: &mut T,
+    digest: &mut D,
+) -> Result<Tally, TextHalted>
+    requires batch { AreBatch (public_of engine.old) (count_of engine.old (S.state store.old))
+        first.now rest.now }
+    requires ready { IsReady R.state (B.Saves behind.old)
+        (machine_of engine.old (S.state store.old) (B.state behind.old)) }
+    requires took { D.took digest.old (S.state store.old).asked }
+    ensures serves { ServesBatch R.state (B.Saves behind.new) tracing first.now rest.now tally
+        (K.written out.old) (K.written out.new) (T.written trace.old) (T.written trace.new)
+        (faults_of 0 (K.faults out.old) (T.faults trace.old))
+        (faults_of 0 (K.faults out.new) (T.faults trace.new))
+        (machine_of engine.old (S.state store.old) (B.state behind.old))
+        (machine_of engine.new (S.state store.new) (B.state behind.new)) result }
+    ensures same { B.name behind.new ≡ B.name behind.old }
+    ensures took { OnOk result (D.took digest.new (S.state store.new).asked) }
+{
+    let mark = store.count();
+    let Ok(mut outcomes) = Vec::from_elem(alloc, Outcome::Inserted, rest.len()) else {
+        return Err(TextHalted {
+            stop: RunStop::NoMemory,
+            quiet: false,
+        });
+    };
+    match run_batch(engine, store, behind, first, rest, outcomes.as_mut_slice()) {
+        Ok(outcome) => {
+            match write_batch(
+                tracing,
+                store,
+                mark,
+                outcome,
+                outcomes.as_slice(),
+                out,
+                trace,
+                digest,
+            ) {
+                Ok(()) => {
+                    let_go_from(store, mark);
+                    let plan = None;
+                    let counted = tally_with(tally, Answered { outcome, plan });
+                    Ok(tally_all(counted, outcomes.as_slice()))
+                }
+                Err(Failed) => Err(SINK_FAILED),
+            }
+        }
+        Err(stop) => {
+            let quiet = trace_from(tracing, store, mark, trace, digest).is_err();
+            Err(TextHalted { stop, quiet })
+        }
+    }
+}
+
+/// Serves those that wait, if there are any.
+pub(crate) fn flush<R: Revisions, S: BlockStore, B: Behind<S>, K: Sink, T: Sink, D: Digester>(
+    alloc: Global,
+    tracing: bool,
+    session: &mut Session,
+    engine: &mut Engine<R>,
+    store: &mut S,
+    behind: &mut B,
+    out: &mut K,
+    trace: &mut T,
+    digest: &mut D,
+) -> Result<(), TextHalted>
+    requires waits { AreBatched (public_of engine.old)
+        (count_of engine.old (S.state store.old)) session.old.batch.items }
+    requires ready { IsReady R.state (B.Saves behind.old)
+        (machine_of engine.old (S.state store.old) (B.state behind.old)) }
+    requires took { D.took digest.old (S.state store.old).asked }
+    ensures pending { session.new.pending ≡ session.old.pending }
+    ensures none { OnOk result (session.new.batch.items ≡ []) }
+    ensures idle { OnErr result (session.old.batch.items ≢ []) }
+    ensures takes { TakesTexts R.state (B.Saves behind.new) tracing
+        (ComesFree (public_of engine.old) session.old.batch.items)
+        (IsClosed (public_of engine.new) session.old.batch.items)
+        session.old.batch.items session.new.batch.items []
+        session.old.tally session.new.tally (K.written out.old) (K.written out.new)
+        (T.written trace.old) (T.written trace.new)
+        (faults_of 0 (K.faults out.old) (T.faults trace.old))
+        (faults_of 0 (K.faults out.new) (T.faults trace.new))
+        (machine_of engine.old (S.state store.old) (B.state behind.old))
+        (machine_of engine.new (S.state store.new) (B.state behind.new)) result }
+    ensures same { B.name behind.new ≡ B.name behind.old }
+    ensures took { OnOk result (D.took digest.new (S.state store.new).asked) }
+{
+    let Some((first, rest)) = session.batch.as_slice().split_first() else {
+        return Ok(());
+    };
+    match serve_batch(
+        alloc,
+        tracing,
+        session.tally,
+        first,
+        rest,
+        engine,
+        store,
+        behind,
+        out,
+        trace,
+        digest,
+    ) {
+        Ok(tally) => {
+            session.tally = tally;
+            session.batch.clear();
+            Ok(())
+        }
+        Err(halted) => Err(halted),
+    }
+}

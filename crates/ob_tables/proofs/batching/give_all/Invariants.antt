@@ -1,0 +1,11 @@
+use Rattle.std.proofs.Common.{◌≡◌, ◌≤◌, ◌++◌, length, take, drop}
+use Rattle.ob_tables.specs.Batch.{given_all}
+use Rattle.ob_tables.proofs.batching.give_all.Given as goal
+
+abbrev pub invariant-loop-j : goal.invariant-loop-j
+invariant-loop-j l =
+    record {
+      size : length l.outcomes ≡ length l.refusals;
+      within : l.given ≤ length l.answers;
+      told : given_all (drop l.fn.given l.answers) l.refusals ≡ take l.j l.outcomes ++ given_all (drop l.given l.answers) (drop l.j l.refusals);
+    }

@@ -1,0 +1,2 @@
+pub mod WordsRead
+pub mod SavedWords
