@@ -12,3 +12,5 @@ pub mod Makes
 pub mod SavedParts
 pub mod Shortest
 pub mod Unasked
+pub mod FlightLemmas
+pub mod FlightRows
