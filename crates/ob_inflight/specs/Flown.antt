@@ -1,0 +1,1 @@
+-- Statements in flight: how all of them stand, and what their turns ask.

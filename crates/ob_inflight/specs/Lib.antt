@@ -1,0 +1,4 @@
+pub mod Leaving
+pub mod Progress
+pub mod Answers
+pub mod Flown

@@ -1,0 +1,2 @@
+//! The SELECTs that fly: each kind's stages, a step of which asks one access.
+#![tactic(auto)]
