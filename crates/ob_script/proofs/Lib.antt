@@ -12,5 +12,7 @@ pub mod Makes
 pub mod SavedParts
 pub mod Shortest
 pub mod Unasked
+pub mod ListPlaces
+pub mod Steady
 pub mod FlightLemmas
 pub mod FlightRows

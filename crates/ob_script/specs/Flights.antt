@@ -135,12 +135,16 @@ own i log = map (λ (e : ℕ × Access). e.1) (filter (λ (e : ℕ × Access). e
 abbrev pub asked_at : Public → ℕ → Served → List Access
 asked_at p g x = script (record p { next_region = g }) x.skeleton x.seen
 
--- it makes its own region and no other; and what it asks before that, and how much it asks, doesn't hang on its number
-pub record IsSteady (p : Public) (x : Served) : Type 0 where
-  pub before : (n g h : ℕ) → makes (take n (asked_at p g x)) ≡ 0
-      → take n (asked_at p g x) ≡ take n (asked_at p h x)
-  pub makes_own : (n g q blocks len : ℕ) → slice_get (asked_at p g x) n ≡ Some (Make q blocks len) → q ≡ g
-  pub long : (g h : ℕ) → length (asked_at p g x) ≡ length (asked_at p h x)
+-- accesses by the number of a region: they make that region and no other, what comes before doesn't hang on its number,
+-- nor does how many they are
+pub record AreSteadyAccesses (asks : ℕ → List Access) : Type 0 where
+  pub before : (n g h : ℕ) → makes (take n (asks g)) ≡ 0 → take n (asks g) ≡ take n (asks h)
+  pub makes_own : (n g q blocks len : ℕ) → slice_get (asks g) n ≡ Some (Make q blocks len) → q ≡ g
+  pub long : (g h : ℕ) → length (asks g) ≡ length (asks h)
+
+-- so are those of a statement
+abbrev pub IsSteady : Public → Served → Type 0
+IsSteady p x = AreSteadyAccesses (λ g. asked_at p g x)
 
 -- a statement has asked the first of its accesses, in order, and all of them where it has ended
 pub record IsAhead (p : Public) (next i : ℕ) (f : Flying) (log : List (ℕ × Access)) : Type 0 where

@@ -1,0 +1,109 @@
+-- What the laws of flights speak of.
+use Rattle.std.specs.Prelude.{◌≡◌, ◌<◌, ◌+◌, ℕ, Bool, true, false, ◌&&◌, List, [], ◌∷◌, length, map, take, Option, Some, None, unwrap_or, slice_get, ⊤}
+use Rattle.ob_base.specs.declared.access.Access.{Access}
+use Rattle.ob_base.specs.declared.config.Public.{Public}
+use Rattle.ob_base.specs.declared.skeleton.Source.TheVariants.{Table as OneTable, Join}
+use Rattle.ob_base.specs.declared.skeleton.Skeleton.{Skeleton}
+use Rattle.ob_base.specs.declared.skeleton.Skeleton.TheVariants.{Create, Insert, Update, Delete, Drop as DropTable, Rows, Groups}
+use Rattle.ob_script.specs.Script.{script}
+use Rattle.ob_script.specs.Trace.{Served}
+use Rattle.ob_script.specs.Flights.{Flight, Flying, Gate, asked_at, flight, flight_public, gone_on, next_act, own, prints, turn}
+
+-- ---- which statements may fly
+-- a SELECT without a join
+abbrev pub SelectsFromOne : Skeleton → Type 0
+SelectsFromOne (Create table cs n shape) = ⊥
+SelectsFromOne (Insert table cs) = ⊥
+SelectsFromOne (Update table cs) = ⊥
+SelectsFromOne (Delete table) = ⊥
+SelectsFromOne (DropTable table) = ⊥
+SelectsFromOne (Rows (OneTable name) cs) = ⊤
+SelectsFromOne (Rows (Join a b on equals) cs) = ⊥
+SelectsFromOne (Groups table cs key) = ⊤
+
+-- no other plan was taken after the first
+pub record MayFly (x : Served) : Type 0 where
+  pub skeleton : SelectsFromOne x.skeleton
+  pub then : x.seen.then ≡ None
+
+pub record AllMayFly (flown : List Served) : Type 0 where
+  pub each : (i : ℕ) (x : Served) → slice_get flown i ≡ Some x → MayFly x
+
+-- ---- one turn
+-- each has ended
+pub record AllEnded (s : Flight) : Type 0 where
+  pub each : (i : ℕ) (f : Flying) → slice_get s.flying i ≡ Some f → f.ended ≡ true
+
+-- the word picks a statement that has not ended; if its next act prints, all before it have
+pub record Picks (word : ℕ) (s : Flight) : Type 0 where
+  pub place : ℕ
+  pub flying : Flying
+  pub at : slice_get s.flying place ≡ Some flying
+  pub goes_on : flying.ended ≡ false
+  pub turn : turn word s ≡ gone_on place (next_act s.public flying) flying s
+  pub first : prints flying.region (next_act s.public flying) ≡ true
+      → (j : ℕ) (f : Flying) → j < place → slice_get s.flying j ≡ Some f → f.ended ≡ true
+
+-- whether all of these have ended
+unfoldable pub all_over : List Gate → Bool
+all_over [] = true
+all_over (g ∷ gates) = g.ended && all_over gates
+
+-- ---- a whole flight
+-- how many have ended
+abbrev pub one_if : Bool → ℕ
+one_if true = 1
+one_if false = 0
+
+unfoldable pub number_ended : List Flying → ℕ
+number_ended [] = 0
+number_ended (f ∷ fs) = one_if f.ended + number_ended fs
+
+-- how many accesses these statements ask together
+unfoldable pub accesses_for : Public → List Served → ℕ
+accesses_for p [] = 0
+accesses_for p (x ∷ xs) = length (script p x.skeleton x.seen) + accesses_for p xs
+
+-- what a statement asked in its flight is all that it asks where its region has this number
+pub record AsksWhole (p : Public) (flown : List Served) (words : ℕ → ℕ) (i : ℕ) (x : Served) : Type 0 where
+  pub region : ℕ
+  pub asked : own i (flight p flown words).log ≡ asked_at (flight_public (length flown) p) region x
+
+-- ---- flights that go alike
+-- how far a statement is, whatever is seen of it
+pub record Way : Type 0 where
+  pub asked : ℕ
+  pub region : Option ℕ
+  pub ended : Bool
+
+abbrev pub way_of : Flying → Way
+way_of f = record { asked = f.asked; region = f.region; ended = f.ended }
+
+-- flights of which the same was asked by the same statements
+pub record FlyAlike (s r : Flight) : Type 0 where
+  pub public : s.public ≡ r.public
+  pub ways : map way_of s.flying ≡ map way_of r.flying
+  pub log : s.log ≡ r.log
+
+-- its next act where this is the next region
+abbrev pub next_at : Public → ℕ → Flying → Option Access
+next_at p g f = next_act (record p { next_region = g }) f
+
+-- the same one, if something else is seen of it in the end
+abbrev pub seen_as : Served → Flying → Flying
+seen_as y f = record f { served = y }
+
+-- so far it would have asked the same and printed alike
+pub record AsksAlike (p : Public) (f : Flying) (y : Served) : Type 0 where
+  pub asked : (g : ℕ) → take f.asked (asked_at p g f.served) ≡ take f.asked (asked_at p g y)
+  pub prints : (g : ℕ) → prints f.region (next_at p g f) ≡ prints f.region (next_at p g (seen_as y f))
+  pub ended : f.ended ≡ true → (g : ℕ) → next_at p g (seen_as y f) ≡ None
+
+-- so would each
+pub record AllAskAlike (p : Public) (s : Flight) (ys : List Served) : Type 0 where
+  pub each : (i : ℕ) (f : Flying) (y : Served) → slice_get s.flying i ≡ Some f → slice_get ys i ≡ Some y → AsksAlike p f y
+
+-- the statement that goes next has the same next act
+pub record NextAlike (word : ℕ) (s : Flight) (ys : List Served) : Type 0 where
+  pub act : (picks : Picks word s) (y : Served) → slice_get ys picks.place ≡ Some y
+      → next_act s.public picks.flying ≡ next_act s.public (seen_as y picks.flying)
