@@ -14,5 +14,7 @@ pub mod Shortest
 pub mod Unasked
 pub mod ListPlaces
 pub mod Steady
+pub mod FlightTurns
 pub mod FlightLemmas
+pub mod FlightEnds
 pub mod FlightRows

@@ -7,7 +7,7 @@ use Rattle.ob_base.specs.declared.skeleton.Skeleton.{Skeleton}
 use Rattle.ob_base.specs.declared.skeleton.Skeleton.TheVariants.{Create, Insert, Update, Delete, Drop as DropTable, Rows, Groups}
 use Rattle.ob_script.specs.Script.{script}
 use Rattle.ob_script.specs.Trace.{Served}
-use Rattle.ob_script.specs.Flights.{Flight, Flying, Gate, asked_at, flight, flight_public, gone_on, next_act, own, prints, turn}
+use Rattle.ob_script.specs.Flights.{Flight, Flying, Gate, accesses_in, asked_at, flight, flight_public, gone_on, next_act, own, prints, turn}
 
 -- ---- which statements may fly
 -- a SELECT without a join
@@ -34,15 +34,19 @@ pub record AllMayFly (flown : List Served) : Type 0 where
 pub record AllEnded (s : Flight) : Type 0 where
   pub each : (i : ℕ) (f : Flying) → slice_get s.flying i ≡ Some f → f.ended ≡ true
 
--- the word picks a statement that has not ended; if its next act prints, all before it have
-pub record Picks (word : ℕ) (s : Flight) : Type 0 where
+-- the word picks this statement, which has not ended; if its next act prints, all before it have
+pub record Picks (word : ℕ) (s : Flight) (i : ℕ) (f : Flying) : Type 0 where
+  pub at : slice_get s.flying i ≡ Some f
+  pub goes_on : f.ended ≡ false
+  pub turn : turn word s ≡ gone_on i (next_act s.public f) f s
+  pub first : prints f.region (next_act s.public f) ≡ true
+      → (j : ℕ) (g : Flying) → j < i → slice_get s.flying j ≡ Some g → g.ended ≡ true
+
+-- it picks one
+pub record PicksOne (word : ℕ) (s : Flight) : Type 0 where
   pub place : ℕ
   pub flying : Flying
-  pub at : slice_get s.flying place ≡ Some flying
-  pub goes_on : flying.ended ≡ false
-  pub turn : turn word s ≡ gone_on place (next_act s.public flying) flying s
-  pub first : prints flying.region (next_act s.public flying) ≡ true
-      → (j : ℕ) (f : Flying) → j < place → slice_get s.flying j ≡ Some f → f.ended ≡ true
+  pub picks : Picks word s place flying
 
 -- whether all of these have ended
 unfoldable pub all_over : List Gate → Bool
@@ -63,6 +67,14 @@ number_ended (f ∷ fs) = one_if f.ended + number_ended fs
 unfoldable pub accesses_for : Public → List Served → ℕ
 accesses_for p [] = 0
 accesses_for p (x ∷ xs) = length (script p x.skeleton x.seen) + accesses_for p xs
+
+-- each of n turns asked an access, or a statement ended in it
+abbrev pub TurnsAddUp : (n : ℕ) → Flight → Type 0
+TurnsAddUp n s = length s.log + number_ended s.flying ≡ n
+
+-- what was asked so far are the first of these accesses
+abbrev pub IsFirstOf : List Access → Flight → Type 0
+IsFirstOf all s = accesses_in s.log ≡ take (length s.log) all
 
 -- what a statement asked in its flight is all that it asks where its region has this number
 pub record AsksWhole (p : Public) (flown : List Served) (words : ℕ → ℕ) (i : ℕ) (x : Served) : Type 0 where
@@ -105,5 +117,5 @@ pub record AllAskAlike (p : Public) (s : Flight) (ys : List Served) : Type 0 whe
 
 -- the statement that goes next has the same next act
 pub record NextAlike (word : ℕ) (s : Flight) (ys : List Served) : Type 0 where
-  pub act : (picks : Picks word s) (y : Served) → slice_get ys picks.place ≡ Some y
-      → next_act s.public picks.flying ≡ next_act s.public (seen_as y picks.flying)
+  pub act : (i : ℕ) (f : Flying) (y : Served) → Picks word s i f → slice_get ys i ≡ Some y
+      → next_act s.public f ≡ next_act s.public (seen_as y f)

@@ -1,8 +1,9 @@
 //! Laws of flights.
-ghost use Rattle.std.specs.Prelude.{◌≡◌, ◌+◌, ℕ, List, length};
+ghost use Rattle.std.specs.Prelude.{◌≡◌, ◌⊎◌, ◌≤◌, ◌+◌, ℕ, true, List, Some, length, slice_get};
+ghost use Rattle.ob_base.specs.Accesses.{makes};
 ghost use Rattle.ob_base.specs.declared.config.Public.{Public};
-ghost use Rattle.ob_script.specs.Flights.{AreSteady, Flight, InOrder, LogGrows, all_alone, boarding, flight_public, trace_in, turns};
-ghost use Rattle.ob_script.specs.FlightLaws.{AllMayFly};
+ghost use Rattle.ob_script.specs.Flights.{AreSteady, Flight, Flying, Gate, InOrder, LogGrows, all_alone, boarding, flight, flight_public, gates_of, merge, place_by, runnable, trace_in, turn, turns, turns_of};
+ghost use Rattle.ob_script.specs.FlightLaws.{AllEnded, AllMayFly, AsksWhole, IsFirstOf, Picks, PicksOne, TurnsAddUp, accesses_for, number_ended};
 ghost use Rattle.ob_script.specs.Trace.{Served, trace};
 
 /// What was asked by some turn of a flight stays, whatever comes after.
@@ -17,11 +18,45 @@ pub fn selects_are_steady()
     ensures { (p : Public) (flown : List Served) → AllMayFly flown → AreSteady p flown }
 {}
 
+/// The next turn is that of the statement at the place that the word tells among those that may go, as their gates say; there
+/// is one unless all have ended, and then nothing changes.
+pub fn turns_by_gates()
+    ensures picks { (word : ℕ) (s : Flight) (gates : List Gate) (i : ℕ) (f : Flying) →
+        gates_of s ≡ gates → place_by word (length gates) (runnable true 0 gates) ≡ i →
+        slice_get s.flying i ≡ Some f → Picks word s i f }
+    ensures goes { (word : ℕ) (s : Flight) → AllEnded s ⊎ PicksOne word s }
+    ensures rests { (word : ℕ) (s : Flight) → AllEnded s → turn word s ≡ s }
+{}
+
 /// Whatever the turns, each statement of a flight has asked the first of its accesses, in order, and all of
 /// them where it has ended.
 pub fn flights_keep_order()
     ensures { (p : Public) (flown : List Served) (words : ℕ → ℕ) (n : ℕ) → AreSteady p flown →
         InOrder (flight_public (length flown) p) (turns words n (boarding p flown)) }
+{}
+
+/// All have ended after a turn for each access and one for each end, and not before; more turns change nothing. Then each has
+/// asked its whole script, so the accesses are as many as those of all scripts, and the next region is as many further as
+/// regions were made. Whatever was asked by some turn are the first of these accesses.
+pub fn flights_end()
+    ensures ended { (p : Public) (flown : List Served) (words : ℕ → ℕ) → AreSteady p flown → (n : ℕ) →
+        turns_of p flown ≤ n → AllEnded (turns words n (boarding p flown)) }
+    ensures needed { (p : Public) (flown : List Served) (words : ℕ → ℕ) → AreSteady p flown → (n : ℕ) →
+        AllEnded (turns words n (boarding p flown)) → turns_of p flown ≤ n }
+    ensures settled { (p : Public) (flown : List Served) (words : ℕ → ℕ) → AreSteady p flown → (n : ℕ) →
+        turns_of p flown ≤ n → turns words n (boarding p flown) ≡ flight p flown words }
+    ensures turns { (p : Public) (flown : List Served) (words : ℕ → ℕ) → AreSteady p flown → (n : ℕ) →
+        n ≤ turns_of p flown → TurnsAddUp n (turns words n (boarding p flown)) }
+    ensures ends { (p : Public) (flown : List Served) (words : ℕ → ℕ) → AreSteady p flown →
+        number_ended (flight p flown words).flying ≡ length flown }
+    ensures long { (p : Public) (flown : List Served) (words : ℕ → ℕ) → AreSteady p flown →
+        length (merge p flown words) ≡ accesses_for (flight_public (length flown) p) flown }
+    ensures whole { (p : Public) (flown : List Served) (words : ℕ → ℕ) → AreSteady p flown →
+        (i : ℕ) (x : Served) → slice_get flown i ≡ Some x → AsksWhole p flown words i x }
+    ensures next { (p : Public) (flown : List Served) (words : ℕ → ℕ) →
+        (flight p flown words).public.next_region ≡ p.next_region + makes (merge p flown words) }
+    ensures first { (p : Public) (flown : List Served) (words : ℕ → ℕ) → AreSteady p flown → (n : ℕ) →
+        IsFirstOf (merge p flown words) (turns words n (boarding p flown)) }
 {}
 
 /// A trace without flights is that of its statements, whatever the words are.
