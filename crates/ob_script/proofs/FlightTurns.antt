@@ -1,12 +1,12 @@
 -- Which statement goes next.
-use Rattle.std.proofs.Common.{◌≡◌, ℕ, zero, suc, ◌+◌, ◌%◌, ◌<◌, ◌≤◌, ◌⊎◌, Bool, true, false, List, [], ◌∷◌, ◌++◌, Some, None, Option, length, map, refl, sym, ◌∙◌, ap, subst, inl, inr, arith}
+use Rattle.std.proofs.Common.{◌≡◌, ℕ, zero, suc, ◌+◌, ◌%◌, ◌<◌, ◌⊎◌, Bool, true, false, List, [], ◌∷◌, ◌++◌, Some, None, Option, length, refl, sym, ◌∙◌, ap, subst, inl, inr, arith}
 use Rattle.std.specs.Prelude.{◌&&◌, ◌||◌, not, if◌then◌else◌, option_map, slice_get, take}
 use Rattle.std.proofs.Math.Nat.{mod-lt}
 use Rattle.std.proofs.lemmas.Bool.{and_from, and_parts, false≢true}
 use Rattle.std.proofs.lemmas.List.{append-nil, append_assoc, length-append, length-map, length-take-le}
 use Rattle.std.proofs.lemmas.Option.{same_Some, slice_get-get_or, slice_get-map, slice_get_past, slice_get_within}
-use Rattle.ob_script.specs.Flights.{Flight, Flying, Gate, gate_of, gates_of, gone_on, may_go, next_act, picked, place_by, prints, runnable, turn, turns}
-use Rattle.ob_script.specs.FlightLaws.{AllEnded, Picks, PicksOne, all_over}
+use Rattle.ob_script.specs.Flights.{Flight, Flying, Gate, gate_of, gates_of, may_go, picked, place_by, prints, runnable, turn, turns}
+use Rattle.ob_script.specs.FlightLaws.{AllEnded, Picks, PicksOne, all_over, next_place}
 use Rattle.ob_script.proofs.Eaches.{at_back}
 use Rattle.ob_script.proofs.ListPlaces.{get_none, take_next}
 
@@ -142,9 +142,6 @@ place_at : (word none : ℕ) (places : List ℕ) → (places ≡ []) ⊎ (slice_
 place_at word none [] = inl refl
 place_at word none (k ∷ places) = inr (slice_get-get_or (k ∷ places) (word % length (k ∷ places)) none (mod-lt word {m = length (k ∷ places)} (omega arith)))
 
-abbrev next_place : (word : ℕ) → Flight → ℕ
-next_place word s = place_by word (length s.flying) (runnable true 0 (gates_of s))
-
 gate_at : (s : Flight) (i : ℕ) (f : Flying) → slice_get s.flying i ≡ Some f → slice_get (gates_of s) i ≡ Some (gate_of s.public f)
 gate_at s i f at = slice_get-map (gate_of s.public) s.flying i ∙ ap (option_map (gate_of s.public)) at
 
@@ -167,6 +164,7 @@ module _ (word : ℕ) (s : Flight) where
       let here : i ≡ o.place = omega (arith, o.is) in
       let gate : o.gate ≡ gate_of s.public f = same_Some o.gate (gate_of s.public f) (sym o.at ∙ ap (slice_get (gates_of s)) (sym here) ∙ gate_at s i f at) in
       record {
+        place = is;
         at = at;
         goes_on = sym (ap (λ (g : Gate). g.ended) gate) ∙ o.goes_on;
         turn = ap (λ (k : ℕ). picked k (slice_get s.flying k) s) is ∙ ap (λ (o : Option Flying). picked i o s) at;

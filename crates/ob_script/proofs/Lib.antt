@@ -17,4 +17,6 @@ pub mod Steady
 pub mod FlightTurns
 pub mod FlightLemmas
 pub mod FlightEnds
+pub mod FlightAlike
+pub mod FlightCounts
 pub mod FlightRows

@@ -316,7 +316,7 @@ module _ (p : Public) (seen : Seen) (no_second : seen.then ≡ None) where
 
 -- a SELECT without a join, whatever is seen of it but for a second plan
 pub steady_of : (p : Public) (x : Served) → MayFly x → IsSteady p x
-steady_of p x may = steady_select p x.seen may.then x.skeleton may.skeleton
+steady_of p x may = steady_select p x.seen may.one_plan x.skeleton may.skeleton
 
 -- and so is each of a flight
 pub all_steady : (p : Public) (flown : List Served) → AllMayFly flown → AreSteady p flown

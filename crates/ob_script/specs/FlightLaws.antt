@@ -1,5 +1,5 @@
 -- What the laws of flights speak of.
-use Rattle.std.specs.Prelude.{◌≡◌, ◌<◌, ◌+◌, ℕ, Bool, true, false, ◌&&◌, List, [], ◌∷◌, length, map, take, Option, Some, None, unwrap_or, slice_get, ⊤}
+use Rattle.std.specs.Prelude.{◌≡◌, ◌<◌, ◌+◌, ℕ, Bool, true, false, ◌&&◌, List, [], ◌∷◌, length, map, take, Option, Some, None, slice_get, ⊤}
 use Rattle.ob_base.specs.declared.access.Access.{Access}
 use Rattle.ob_base.specs.declared.config.Public.{Public}
 use Rattle.ob_base.specs.declared.skeleton.Source.TheVariants.{Table as OneTable, Join}
@@ -7,7 +7,7 @@ use Rattle.ob_base.specs.declared.skeleton.Skeleton.{Skeleton}
 use Rattle.ob_base.specs.declared.skeleton.Skeleton.TheVariants.{Create, Insert, Update, Delete, Drop as DropTable, Rows, Groups}
 use Rattle.ob_script.specs.Script.{script}
 use Rattle.ob_script.specs.Trace.{Served}
-use Rattle.ob_script.specs.Flights.{Flight, Flying, Gate, accesses_in, asked_at, flight, flight_public, gone_on, next_act, own, prints, turn}
+use Rattle.ob_script.specs.Flights.{Flight, Flying, Gate, accesses_in, asked_at, flight, flight_public, gates_of, gone_on, next_act, own, place_by, prints, runnable, turn}
 
 -- ---- which statements may fly
 -- a SELECT without a join
@@ -24,7 +24,7 @@ SelectsFromOne (Groups table cs key) = ⊤
 -- no other plan was taken after the first
 pub record MayFly (x : Served) : Type 0 where
   pub skeleton : SelectsFromOne x.skeleton
-  pub then : x.seen.then ≡ None
+  pub one_plan : x.seen.then ≡ None
 
 pub record AllMayFly (flown : List Served) : Type 0 where
   pub each : (i : ℕ) (x : Served) → slice_get flown i ≡ Some x → MayFly x
@@ -34,8 +34,13 @@ pub record AllMayFly (flown : List Served) : Type 0 where
 pub record AllEnded (s : Flight) : Type 0 where
   pub each : (i : ℕ) (f : Flying) → slice_get s.flying i ≡ Some f → f.ended ≡ true
 
+-- the place that the word tells
+abbrev pub next_place : (word : ℕ) → Flight → ℕ
+next_place word s = place_by word (length s.flying) (runnable true 0 (gates_of s))
+
 -- the word picks this statement, which has not ended; if its next act prints, all before it have
 pub record Picks (word : ℕ) (s : Flight) (i : ℕ) (f : Flying) : Type 0 where
+  pub place : next_place word s ≡ i
   pub at : slice_get s.flying i ≡ Some f
   pub goes_on : f.ended ≡ false
   pub turn : turn word s ≡ gone_on i (next_act s.public f) f s
@@ -54,14 +59,21 @@ all_over [] = true
 all_over (g ∷ gates) = g.ended && all_over gates
 
 -- ---- a whole flight
--- how many have ended
-abbrev pub one_if : Bool → ℕ
-one_if true = 1
-one_if false = 0
+-- the sum of a number of each
+unfoldable pub total : {F : Type 0} → (F → ℕ) → List F → ℕ
+total n [] = 0
+total n (f ∷ fs) = n f + total n fs
 
-unfoldable pub number_ended : List Flying → ℕ
-number_ended [] = 0
-number_ended (f ∷ fs) = one_if f.ended + number_ended fs
+abbrev pub one_if : Bool → ℕ
+one_if false = 0
+one_if true = 1
+
+-- how many have ended, and how many acts they did: an access each, or the end
+abbrev pub number_ended : List Flying → ℕ
+number_ended fs = total (λ (f : Flying). one_if f.ended) fs
+
+abbrev pub acts_in : List Flying → ℕ
+acts_in fs = total (λ (f : Flying). f.asked + one_if f.ended) fs
 
 -- how many accesses these statements ask together
 unfoldable pub accesses_for : Public → List Served → ℕ

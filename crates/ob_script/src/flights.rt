@@ -3,7 +3,7 @@ ghost use Rattle.std.specs.Prelude.{◌≡◌, ◌⊎◌, ◌≤◌, ◌+◌, �
 ghost use Rattle.ob_base.specs.Accesses.{makes};
 ghost use Rattle.ob_base.specs.declared.config.Public.{Public};
 ghost use Rattle.ob_script.specs.Flights.{AreSteady, Flight, Flying, Gate, InOrder, LogGrows, all_alone, boarding, flight, flight_public, gates_of, merge, place_by, runnable, trace_in, turn, turns, turns_of};
-ghost use Rattle.ob_script.specs.FlightLaws.{AllEnded, AllMayFly, AsksWhole, IsFirstOf, Picks, PicksOne, TurnsAddUp, accesses_for, number_ended};
+ghost use Rattle.ob_script.specs.FlightLaws.{AllAskAlike, AllEnded, AllMayFly, AsksWhole, FlyAlike, IsFirstOf, NextAlike, Picks, PicksOne, TurnsAddUp, accesses_for, number_ended};
 ghost use Rattle.ob_script.specs.Trace.{Served, trace};
 
 /// What was asked by some turn of a flight stays, whatever comes after.
@@ -57,6 +57,19 @@ pub fn flights_end()
         (flight p flown words).public.next_region ≡ p.next_region + makes (merge p flown words) }
     ensures first { (p : Public) (flown : List Served) (words : ℕ → ℕ) → AreSteady p flown → (n : ℕ) →
         IsFirstOf (merge p flown words) (turns words n (boarding p flown)) }
+{}
+
+/// A flight hangs on nothing but what was asked, and who prints: if so far each statement has asked what it would have asked,
+/// were something else seen of it in the end, and its next act prints alike, the flights are alike so far, and a turn further,
+/// if the act that is done in it is the same.
+pub fn flights_go_alike()
+    ensures so_far { (p : Public) (xs ys : List Served) (words : ℕ → ℕ) → length xs ≡ length ys → (n : ℕ) →
+        AllAskAlike (flight_public (length xs) p) (turns words n (boarding p xs)) ys →
+        FlyAlike (turns words n (boarding p xs)) (turns words n (boarding p ys)) }
+    ensures further { (p : Public) (xs ys : List Served) (words : ℕ → ℕ) → length xs ≡ length ys → (n : ℕ) →
+        AllAskAlike (flight_public (length xs) p) (turns words n (boarding p xs)) ys →
+        NextAlike (words n) (turns words n (boarding p xs)) ys →
+        FlyAlike (turns words (n + 1) (boarding p xs)) (turns words (n + 1) (boarding p ys)) }
 {}
 
 /// A trace without flights is that of its statements, whatever the words are.

@@ -13,8 +13,8 @@ mod tree;
 
 pub use bucket::{first_bucket, second_bucket};
 pub use flights::{
-    flights_end, flights_go_on, flights_keep_order, selects_are_steady, traces_alone,
-    turns_by_gates,
+    flights_end, flights_go_alike, flights_go_on, flights_keep_order, selects_are_steady,
+    traces_alone, turns_by_gates,
 };
 pub use laws::{
     buffers_by_rows, cheapest_is_shortest, joined_asks_nothing, part_lengths, part_makes,
