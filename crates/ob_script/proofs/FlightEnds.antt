@@ -9,7 +9,7 @@ use Rattle.ob_base.specs.declared.config.Public.{Public}
 use Rattle.ob_script.specs.Script.{script}
 use Rattle.ob_script.specs.Trace.{Served}
 use Rattle.ob_script.specs.Flights.{AreSteady, Flight, Flying, InOrder, IsAhead, IsSteady, accesses_in, acted, asked_at, boarded, boarding, flight, flight_public, gone_on, merge, next_act, own, turn, turns, turns_for, turns_of}
-use Rattle.ob_script.specs.FlightLaws.{AllEnded, AsksWhole, accesses_for, acts_in, number_ended, one_if, total}
+use Rattle.ob_script.specs.FlightLaws.{AllEnded, AsksWhole, EndsWhole, accesses_for, acts_in, number_ended, one_if, total}
 use Rattle.ob_script.proofs.FlightLemmas.{act_is, boarded_served, flown_in_order, grows_turns, ordered_boarding, ordered_turns, served_turns}
 use Rattle.ob_script.proofs.FlightTurns.{goes_or_rests, rest_turns, rests}
 use Rattle.ob_script.proofs.ListPlaces.{get_none}
@@ -319,3 +319,16 @@ module _ (p : Public) (flown : List Served) (words : ℕ → ℕ) (steady : AreS
             region = region;
             asked = ahead.asked ∙ take_all f.asked (asked_at settings region f.served) (omega (arith, all, long)) ∙ ap (asked_at settings region) mine;
           }
+
+  pub ends_whole : EndsWhole p flown words
+  ends_whole = record {
+    ended = all_ended;
+    needed = turns_needed;
+    settled = settled;
+    adds_up = turns_add_up;
+    acts = acts_are;
+    ends = number_of_ends;
+    long = length-merge;
+    whole = asks_whole;
+    first = first_of_merge;
+  }

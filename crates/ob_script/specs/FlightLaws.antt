@@ -1,5 +1,6 @@
--- What the laws of flights speak of.
-use Rattle.std.specs.Prelude.{◌≡◌, ◌<◌, ◌+◌, ℕ, Bool, true, false, ◌&&◌, List, [], ◌∷◌, length, map, take, Option, Some, None, slice_get, ⊤}
+-- What the laws of flights speak of: which statements may fly, what one turn does, how a flight ends, and which flights go
+-- alike. `all_over`, `total` and `accesses_for` stay shut in proofs.
+use Rattle.std.specs.Prelude.{◌≡◌, ◌<◌, ◌≤◌, ◌+◌, ℕ, Bool, true, false, ◌&&◌, List, [], ◌∷◌, length, map, take, Option, Some, None, slice_get, ⊤}
 use Rattle.ob_base.specs.declared.access.Access.{Access}
 use Rattle.ob_base.specs.declared.config.Public.{Public}
 use Rattle.ob_base.specs.declared.skeleton.Source.TheVariants.{Table as OneTable, Join}
@@ -7,7 +8,7 @@ use Rattle.ob_base.specs.declared.skeleton.Skeleton.{Skeleton}
 use Rattle.ob_base.specs.declared.skeleton.Skeleton.TheVariants.{Create, Insert, Update, Delete, Drop as DropTable, Rows, Groups}
 use Rattle.ob_script.specs.Script.{script}
 use Rattle.ob_script.specs.Trace.{Served}
-use Rattle.ob_script.specs.Flights.{Flight, Flying, Gate, accesses_in, asked_at, flight, flight_public, gates_of, gone_on, next_act, own, place_by, prints, runnable, turn}
+use Rattle.ob_script.specs.Flights.{Flight, Flying, Gate, accesses_in, asked_at, boarding, flight, flight_public, gates_of, gone_on, merge, next_act, own, place_by, prints, runnable, turn, turns, turns_of}
 
 -- ---- which statements may fly
 -- a SELECT without a join
@@ -92,6 +93,23 @@ IsFirstOf all s = accesses_in s.log ≡ take (length s.log) all
 pub record AsksWhole (p : Public) (flown : List Served) (words : ℕ → ℕ) (i : ℕ) (x : Served) : Type 0 where
   pub region : ℕ
   pub asked : own i (flight p flown words).log ≡ asked_at (flight_public (length flown) p) region x
+
+-- a flight comes to its end
+pub record EndsWhole (p : Public) (flown : List Served) (words : ℕ → ℕ) : Type 0 where
+  -- after a turn for each access and one for each end all have ended, and not before
+  pub ended : (n : ℕ) → turns_of p flown ≤ n → AllEnded (turns words n (boarding p flown))
+  pub needed : (n : ℕ) → AllEnded (turns words n (boarding p flown)) → turns_of p flown ≤ n
+  -- more turns change nothing
+  pub settled : (n : ℕ) → turns_of p flown ≤ n → turns words n (boarding p flown) ≡ flight p flown words
+  -- and up to there none is in vain
+  pub adds_up : (n : ℕ) → n ≤ turns_of p flown → TurnsAddUp n (turns words n (boarding p flown))
+  pub acts : (n : ℕ) → n ≤ turns_of p flown → acts_in (turns words n (boarding p flown)).flying ≡ n
+  pub ends : number_ended (flight p flown words).flying ≡ length flown
+  -- all that each asks is asked, and no more
+  pub long : length (merge p flown words) ≡ accesses_for (flight_public (length flown) p) flown
+  pub whole : (i : ℕ) (x : Served) → slice_get flown i ≡ Some x → AsksWhole p flown words i x
+  -- at any stop the first of it was
+  pub first : (n : ℕ) → IsFirstOf (merge p flown words) (turns words n (boarding p flown))
 
 -- ---- flights that go alike
 -- how far a statement is, whatever is seen of it

@@ -1,9 +1,9 @@
 //! Laws of flights.
-ghost use Rattle.std.specs.Prelude.{◌≡◌, ◌⊎◌, ◌≤◌, ◌+◌, ℕ, true, List, Some, length, slice_get};
+ghost use Rattle.std.specs.Prelude.{◌≡◌, ◌⊎◌, ◌+◌, ℕ, true, List, Some, length, slice_get};
 ghost use Rattle.ob_base.specs.Accesses.{makes};
 ghost use Rattle.ob_base.specs.declared.config.Public.{Public};
-ghost use Rattle.ob_script.specs.Flights.{AreSteady, Flight, Flying, Gate, InOrder, LogGrows, all_alone, boarding, flight, flight_public, gates_of, merge, place_by, runnable, trace_in, turn, turns, turns_of};
-ghost use Rattle.ob_script.specs.FlightLaws.{AllAskAlike, AllEnded, AllMayFly, AsksWhole, FlyAlike, IsFirstOf, NextAlike, Picks, PicksOne, TurnsAddUp, accesses_for, number_ended};
+ghost use Rattle.ob_script.specs.Flights.{AreSteady, Flight, Flying, Gate, InOrder, LogGrows, all_alone, boarding, flight, flight_public, gates_of, merge, place_by, runnable, trace_in, turn, turns};
+ghost use Rattle.ob_script.specs.FlightLaws.{AllAskAlike, AllEnded, AllMayFly, EndsWhole, FlyAlike, NextAlike, Picks, PicksOne};
 ghost use Rattle.ob_script.specs.Trace.{Served, trace};
 
 /// What was asked by some turn of a flight stays, whatever comes after.
@@ -12,7 +12,7 @@ pub fn flights_go_on()
         LogGrows (turns words n s) (turns words (k + n) s) }
 {}
 
-/// A SELECT without a join makes one region at most. What it asks before that doesn't hang on the region's number, nor does
+/// A SELECT without a join makes no region but its own. What it asks before that doesn't hang on the region's number, nor does
 /// how much it asks, whatever is seen of it, unless a second plan was taken.
 pub fn selects_are_steady()
     ensures { (p : Public) (flown : List Served) → AllMayFly flown → AreSteady p flown }
@@ -39,35 +39,21 @@ pub fn flights_keep_order()
 /// asked its whole script, so the accesses are as many as those of all scripts, and the next region is as many further as
 /// regions were made. Whatever was asked by some turn are the first of these accesses.
 pub fn flights_end()
-    ensures ended { (p : Public) (flown : List Served) (words : ℕ → ℕ) → AreSteady p flown → (n : ℕ) →
-        turns_of p flown ≤ n → AllEnded (turns words n (boarding p flown)) }
-    ensures needed { (p : Public) (flown : List Served) (words : ℕ → ℕ) → AreSteady p flown → (n : ℕ) →
-        AllEnded (turns words n (boarding p flown)) → turns_of p flown ≤ n }
-    ensures settled { (p : Public) (flown : List Served) (words : ℕ → ℕ) → AreSteady p flown → (n : ℕ) →
-        turns_of p flown ≤ n → turns words n (boarding p flown) ≡ flight p flown words }
-    ensures turns { (p : Public) (flown : List Served) (words : ℕ → ℕ) → AreSteady p flown → (n : ℕ) →
-        n ≤ turns_of p flown → TurnsAddUp n (turns words n (boarding p flown)) }
     ensures ends { (p : Public) (flown : List Served) (words : ℕ → ℕ) → AreSteady p flown →
-        number_ended (flight p flown words).flying ≡ length flown }
-    ensures long { (p : Public) (flown : List Served) (words : ℕ → ℕ) → AreSteady p flown →
-        length (merge p flown words) ≡ accesses_for (flight_public (length flown) p) flown }
-    ensures whole { (p : Public) (flown : List Served) (words : ℕ → ℕ) → AreSteady p flown →
-        (i : ℕ) (x : Served) → slice_get flown i ≡ Some x → AsksWhole p flown words i x }
+        EndsWhole p flown words }
     ensures next { (p : Public) (flown : List Served) (words : ℕ → ℕ) →
         (flight p flown words).public.next_region ≡ p.next_region + makes (merge p flown words) }
-    ensures first { (p : Public) (flown : List Served) (words : ℕ → ℕ) → AreSteady p flown → (n : ℕ) →
-        IsFirstOf (merge p flown words) (turns words n (boarding p flown)) }
 {}
 
 /// A flight hangs on nothing but what was asked, and who prints: if so far each statement has asked what it would have asked,
 /// were something else seen of it in the end, and its next act prints alike, the flights are alike so far, and a turn further,
 /// if the act that is done in it is the same.
 pub fn flights_go_alike()
-    ensures so_far { (p : Public) (xs ys : List Served) (words : ℕ → ℕ) → length xs ≡ length ys → (n : ℕ) →
-        AllAskAlike (flight_public (length xs) p) (turns words n (boarding p xs)) ys →
+    ensures so_far { (p : Public) (xs ys : List Served) (words : ℕ → ℕ) → length xs ≡ length ys →
+        (n : ℕ) → AllAskAlike (flight_public (length xs) p) (turns words n (boarding p xs)) ys →
         FlyAlike (turns words n (boarding p xs)) (turns words n (boarding p ys)) }
-    ensures further { (p : Public) (xs ys : List Served) (words : ℕ → ℕ) → length xs ≡ length ys → (n : ℕ) →
-        AllAskAlike (flight_public (length xs) p) (turns words n (boarding p xs)) ys →
+    ensures further { (p : Public) (xs ys : List Served) (words : ℕ → ℕ) → length xs ≡ length ys →
+        (n : ℕ) → AllAskAlike (flight_public (length xs) p) (turns words n (boarding p xs)) ys →
         NextAlike (words n) (turns words n (boarding p xs)) ys →
         FlyAlike (turns words (n + 1) (boarding p xs)) (turns words (n + 1) (boarding p ys)) }
 {}
