@@ -2,7 +2,7 @@
 use Rattle.std.proofs.Common.{◌≡◌, ℕ, zero, suc, ◌+◌, true, false, List, [], ◌∷◌, ◌++◌, Some, None, Option, length, map, refl, sym, ◌∙◌, ap, subst, inl, inr, arith}
 use Rattle.std.specs.Prelude.{option_map, slice_get, slice_set, take, unwrap_or}
 use Rattle.std.proofs.lemmas.Bool.{cases_eq, false≢true}
-use Rattle.std.proofs.lemmas.List.{length-map, take-take}
+use Rattle.std.proofs.lemmas.List.{length-map, map-set, take-take}
 use Rattle.std.proofs.lemmas.Option.{same_Some, slice_get-map}
 use Rattle.ob_base.specs.declared.access.Access.{Access}
 use Rattle.ob_base.specs.declared.config.Public.{Public}
@@ -11,7 +11,7 @@ use Rattle.ob_script.specs.Flights.{Flight, Flying, acted, asked_at, boarded, bo
 use Rattle.ob_script.specs.FlightLaws.{AllAskAlike, AsksAlike, FlyAlike, NextAlike, Picks, Way, all_over, next_place, seen_as, way_of}
 use Rattle.ob_script.proofs.FlightLemmas.{boarded_served, public_turns, served_turns}
 use Rattle.ob_script.proofs.FlightTurns.{ended_over, goes_or_rests, over_ended, picks_at, rests, turns_more}
-use Rattle.ob_script.proofs.ListPlaces.{get_set_other, get_set_same, get_take, map_set}
+use Rattle.ob_script.proofs.ListPlaces.{get_set_other, get_set_same, get_take}
 
 -- ---- statements on the same way
 abbrev way_after : Option Access → Way → Way
@@ -62,9 +62,9 @@ gates_by q (f ∷ fs) (g ∷ gs) ways alike =
 gone_alike : (i : ℕ) (act : Option Access) (f g : Flying) (s r : Flight) → way_of f ≡ way_of g → FlyAlike s r → FlyAlike (gone_on i act f s) (gone_on i act g r)
 gone_alike i act f g s r way alike = record {
   public = λ j. record (alike.public j) { next_region = (alike.public j).next_region + made_by act };
-  ways = map_set way_of s.flying i (acted act f)
+  ways = map-set way_of s.flying i (acted act f)
       ∙ (λ j. slice_set (alike.ways j) i ((way_acted act f ∙ ap (way_after act) way ∙ sym (way_acted act g)) j))
-      ∙ sym (map_set way_of r.flying i (acted act g));
+      ∙ sym (map-set way_of r.flying i (acted act g));
   log = ap (λ (l : List (ℕ × Access)). l ++ entry_of i act) alike.log;
 }
 

@@ -21,11 +21,6 @@ set_same [] i x h = refl
 set_same (z ∷ xs) zero x h = ap (λ (y : _). y ∷ xs) (sym (same_Some z x h))
 set_same (z ∷ xs) (suc i) x h = ap (λ (l : List _). z ∷ l) (set_same xs i x h)
 
-pub map_set : {A B : Type 0} (f : A → B) (xs : List A) (i : ℕ) (y : A) → map f (slice_set xs i y) ≡ slice_set (map f xs) i (f y)
-map_set f [] i y = refl
-map_set f (x ∷ xs) zero y = refl
-map_set f (x ∷ xs) (suc i) y = ap (λ (l : List _). f x ∷ l) (map_set f xs i y)
-
 pub get_none : {A : Type 0} (xs : List A) (n : ℕ) → slice_get xs n ≡ None → length xs ≤ n
 get_none [] n h = omega arith
 get_none (x ∷ xs) zero h = cc
