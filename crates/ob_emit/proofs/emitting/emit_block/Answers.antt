@@ -137,7 +137,7 @@ returns-in-Err-clause-emits g c =
       most = tt;
       emitted = tt;
       halted = ends_of g.E.Emit.grew g.E.Emit.cut (halt_error halt flat.region u) [] (λ (s : AreSlots flat.schema c.get.new.rows). slots_shown flat.capacity cols (u * pack) s.slots)
-          (λ (s : SlotsToHalt pack flat _ _). block_shown pack flat cols u s.slots) _ _ (ends_as g.E.Emit.grew g.E.Emit.cut halt flat.region u (λ s. slots_shown flat.capacity cols (u * pack) s.slots) _ _ emits.halted)
+          (λ (s : SlotsToHalt pack flat _ _). block_shown pack flat cols u s.slots) _ _ (ends_as g.E.Emit.grew g.E.Emit.cut halt flat.region u (λ (s : AreSlots flat.schema c.get.new.rows). slots_shown flat.capacity cols (u * pack) s.slots) _ _ emits.halted)
           (λ s.
           let nolie = none_before none none _ _ _ _ read.ok (went_none none _ read.ok.lasts.ready).lasts s.nolie s.unfit in
           let bytes = read.told _ shape table.written.lives (block_long pack flat s.slots _ s.is table.some u below) (s.is.holds u below) nolie in
