@@ -50,6 +50,11 @@ module _ (pack : ℕ) (flat : Flat) (cols : List ℕ) (slots : Slots) (w : World
         ∙ ap (slots_shown flat.capacity cols 0) (take_all (blocks * pack) whole (omega (arith, whole_size pack flat slots w is some)))
         ∙ shown-table flat.capacity cols (blocks * pack) slots is.size
 
+-- what an emitter took by then
+emitted_now : {E : Type 0} {pack done k : ℕ} {flat : Flat} {cols : List ℕ} {shown : List (List Shown)} {w : World} (grew : E → E → List Event → Type 0) (head : List Event) (a b : E)
+    → HasEmitted pack flat cols done k shown w → Leads grew grew a b (head ++ row_events shown) → IsEmitted grew head (λ (s : SlotsToEnd pack flat w w). blocks_shown pack flat cols done s.slots) 0 k a b
+emitted_now {shown = shown} grew head a b is leads = record { rows = shown; count = omega (arith, is.count); leads = leads; told = is.told }
+
 module _ (pack : ℕ) (flat : Flat) (cols : List ℕ) where
   -- no block was read
   pub emitted_begins : (w : World) → MayScan pack flat w → HasEmitted pack flat cols 0 0 [] w
@@ -110,15 +115,12 @@ module _ (pack : ℕ) (flat : Flat) (cols : List ℕ) where
 
       -- what an emitter took behind a header
       module _ (head : List Event) (a b : E) (leads : Leads grew grew a b (head ++ row_events shown)) where
-        emitted_now : IsEmitted grew head (λ (s : SlotsToEnd pack flat w w). blocks_shown pack flat cols done s.slots) 0 k a b
-        emitted_now = record { rows = shown; count = is.count; leads = leads; told = is.told }
-
         -- it gave up in the next block
         pub emitted_ends : (e : OpErr) (later : World) (c : E) → done < blocks_of pack flat → EmitsBlock grew cut faults pack flat cols done k (Err e) w later b c
             → EndsAs grew cut e head (λ (s : SlotsToHalt pack flat w later). table_shown cols s.slots) a c
         emitted_ends e later c below block =
             ends_after grew cut e head (λ (s : SlotsToEnd pack flat w w). blocks_shown pack flat cols done s.slots) (λ (s : SlotsToHalt pack flat w later). block_shown pack flat cols done s.slots)
-            (λ (s : SlotsToHalt pack flat w later). table_shown cols s.slots) 0 k a b c emitted_now block.halted
+            (λ (s : SlotsToHalt pack flat w later). table_shown cols s.slots) 0 k a b c (emitted_now grew head a b is leads) block.halted
             (λ s.
             let rest = blocks_rest pack flat cols s.slots w s.is (done + 1) in (
               record { slots = s.slots; is = s.is; nolie = s.nolie },
@@ -162,7 +164,7 @@ module _ (pack : ℕ) (flat : Flat) (cols : List ℕ) where
             most = is.most.1;
             emitted = record {
               rows = shown;
-              count = is.count;
+              count = omega (arith, is.count);
               leads = leads;
               told = λ s. emitted_whole last (record { slots = s.slots; is = represents_lasts pack flat none old w went.lasts (λ x. x) s.slots s.is; nolie = s.nolie });
             };

@@ -52,18 +52,18 @@ emit_block-requires g c =
       few = rw before.cells c.requires.columns.few;
     }
 
-pub returns-in_err-emit_block-clause-rows : goal.returns-in_err-emit_block-clause-rows
-returns-in_err-emit_block-clause-rows g c = fit_trans _ _ _ c.loop-u.invariant.same c.emit_block.ensures.rows
+pub returns-in_err-k-clause-rows : goal.returns-in_err-k-clause-rows
+returns-in_err-k-clause-rows g c = fit_trans _ _ _ c.loop-u.invariant.same c.emit_block.ensures.rows
 
-pub returns-in_err-emit_block-clause-emits : goal.returns-in_err-emit_block-clause-emits
-returns-in_err-emit_block-clause-emits g c =
+pub returns-in_err-k-clause-emits : goal.returns-in_err-k-clause-emits
+returns-in_err-k-clause-emits g c =
     let p = err_from_is_err_and c.from_residual.result c.from_residual.ensures.1 in
     let pack = length c.args.rows.now in
     let flat = c.args.flat.now in
     let u = c.loop-u.u in
     let below : u < blocks_of pack flat = below_all c.loop-u-test.true c.div_ceil-blocks.ensures in
     let before = c.loop-u.invariant in
-    let block = rw before.same.count at c.in_err-emit_block.ensures.emits in
+    let block = rw before.same.count at c.in_err-k.ensures.emits in
     rw (p.1, p.2) (emits_ended pack flat c.args.cols.now u c.loop-u.k before.shown _ before.emitted [] _ _ before.leads _ before.went before.seals before.faults _ _ _ below block)
 
 pub loop-u-preserved : goal.loop-u-preserved
@@ -73,7 +73,7 @@ loop-u-preserved g c =
     let u = c.loop-u.u in
     let below : u < blocks_of pack flat = below_all c.loop-u-test.true c.div_ceil-blocks.ensures in
     let before = c.loop-u.invariant in
-    let block = rw before.same.count at c.in_ok-emit_block.ensures.emits in
+    let block = rw before.same.count at c.in_ok-k.ensures.emits in
     record {
       cells = c.emit_block.ensures.cells ∙ before.cells;
       went = went_each none (read_at flat.region) _ _ _ u before.went block.ran.ok;
