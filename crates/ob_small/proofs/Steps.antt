@@ -9,7 +9,7 @@ use Rattle.ob_row.specs.Spelling.{Begins}
 use Rattle.ob_vault.specs.declared.region.Order.TheVariants.{Any}
 use Rattle.ob_vault.specs.Rows.{row_at, Wide}
 use Rattle.ob_vault.specs.State.{World}
-use Rattle.ob_vault.specs.Tied.{Holds, Written}
+use Rattle.ob_vault.specs.Tied.{Written}
 use Rattle.ob_vault.specs.Calls.{Lasts, Only, none, one}
 use Rattle.ob_vault.specs.Words.{IsHonest}
 use Rattle.ob_vault.proofs.Runs.{own_lasts, lives_lasts, written_lasts as place_lasts, holds_lasts, own_only, lives_only, written_only, holds_only, turn_any}
@@ -21,7 +21,8 @@ use Rattle.ob_flat.specs.Flats.{IsFlat, HoldsBlock, HoldsRows, Represents, table
 use Rattle.ob_flat.specs.Scans.{MayScan}
 use Rattle.ob_flat.specs.Words.{IsTable, blocks_of}
 use Rattle.ob_flat.proofs.Rows.{slots_of}
-use Rattle.ob_flat.proofs.Tables.{blocks_hold, block_lasts, block_only, fits_sized, written_flat, written_lasts}
+use Rattle.ob_flat.proofs.Scanning.{may_scan_lasts}
+use Rattle.ob_flat.proofs.Tables.{blocks_hold, block_lasts, block_only, fits_sized, represents_before, written_flat}
 use Rattle.ob_small.specs.Keeping.{AreKept, chosen, fitted}
 use Rattle.ob_small.specs.Selection.{Selection, IsNext, Extends, HoldsChosen, blocks, results, table, result_slots}
 use Rattle.ob_small.specs.Steps.{AreSeen, CollectsBlock, HasCollected, IsBlock, IsFilledTo, IsUnordered, MayWrite, WritesBlock, chosen_in}
@@ -31,27 +32,13 @@ use Rattle.ob_small.proofs.Lengths.{pass_next}
 use Rattle.ob_small.proofs.Places.{next_turned, extends_one}
 use Rattle.ob_small.proofs.Windows.{part_long, part_wide, part_slots, keeps_part, represents_fitted}
 
--- what a region holds after calls for others, it held before
+-- an honest run was so before its last calls
 module _ (some : ℕ → Type 0) (w v : World) (lasts : Lasts some w v) where
-  holds_before : (q p : ℕ) (bytes : List ℕ) → (some q → ⊥) → Holds q p bytes v → Holds q p bytes w
-  holds_before q p bytes off is =
-      let here = is.last in
-      let last = lasts.apart.last q p off in
-      let number = lasts.apart.number q p off in
-      let keys = lasts.keys in
-      record { last = cc (here, last, number, keys) }
-
   tells_before : IsTrue v.store.tells → IsTrue w.store.tells
   tells_before tells = subst (λ (t : Bool). IsTrue t) lasts.later.tells tells
 
   honest_back : IsHonest v v → IsHonest w w
   honest_back honest = record { tells = tells_before honest.tells; nolie = none_before _ _ lasts.later honest.nolie }
-
-  pub represents_before : (pack : ℕ) (flat : Flat) → (some flat.region → ⊥) → (slots : Slots) → Represents pack flat slots v → Represents pack flat slots w
-  represents_before pack flat off slots is = record { size = is.size; fits = is.fits; holds = λ p below. holds_before flat.region p _ off (is.holds p below) }
-
-  pub may_scan_lasts : (pack : ℕ) (flat : Flat) → (some flat.region → ⊥) → MayScan pack flat w → MayScan pack flat v
-  may_scan_lasts pack flat off may = record { some = may.some; most = may.most; size = may.size; written = written_lasts pack flat some w v lasts off may.written }
 
 -- a table may be read block by block
 pub may_scan : (pack : ℕ) (flat : Flat) (w : World) → IsTable pack flat w → MayScan pack flat w
@@ -81,12 +68,12 @@ module _ (pack : ℕ) (flat : Flat) (p : Row → Bool) (from k : ℕ) where
   collected_next u seen n rows after w v below block is =
       let lasts = block.ran.ok.lasts in
       record {
-        table = may_scan_lasts none w v lasts pack flat (λ s. s) is.table;
+        table = may_scan_lasts pack flat none w v lasts (λ s. s) is.table;
         within = omega (arith, below);
         few = omega (arith, block.most, is.few, pass_next u pack);
         spells = block.spells is.spells;
         told = λ slots held nolie.
-            let was = represents_before none w v lasts pack flat (λ s. s) slots held in
+            let was = represents_before pack flat none w v lasts (λ s. s) slots held in
             let seen = is.told slots was (none_before _ _ lasts.later nolie) in
             subst (λ (l : Slots). AreSeen flat.schema l n from k after) (chosen_block p pack (whole_blocks pack flat.capacity slots) u)
             (block.told slots was nolie (chosen_in pack flat p slots u) seen);
@@ -96,11 +83,11 @@ module _ (pack : ℕ) (flat : Flat) (p : Row → Bool) (from k : ℕ) where
   pub collected_lasts : (u seen : ℕ) (rows : List (List ℕ)) (some : ℕ → Type 0) (w v : World) → Lasts some w v → (some flat.region → ⊥)
       → HasCollected pack flat p u seen from k rows w → HasCollected pack flat p u seen from k rows v
   collected_lasts u seen rows some w v lasts off is = record {
-    table = may_scan_lasts some w v lasts pack flat off is.table;
+    table = may_scan_lasts pack flat some w v lasts off is.table;
     within = is.within;
     few = is.few;
     spells = is.spells;
-    told = λ slots held nolie. is.told slots (represents_before some w v lasts pack flat off slots held) (none_before _ _ lasts.later nolie);
+    told = λ slots held nolie. is.told slots (represents_before pack flat some w v lasts off slots held) (none_before _ _ lasts.later nolie);
   }
 
   -- all blocks
@@ -190,7 +177,7 @@ module _ (s : Selection) (to : Flat) where
     written = λ p less. place_lasts some w v lasts to.region p other (is.written p less);
     rows = λ tells p less. block_lasts s.pack to.schema some w v to.region p lasts other (is.rows (tells_before some w v lasts tells) p less);
     told = λ honest slots held p less.
-        holds_lasts some w v lasts to.region p _ other (is.told (honest_back some w v lasts honest) slots (represents_before some w v lasts s.pack s.flat off slots held) p less);
+        holds_lasts some w v lasts to.region p _ other (is.told (honest_back some w v lasts honest) slots (represents_before s.pack s.flat some w v lasts off slots held) p less);
   }
 
   -- n blocks more
@@ -203,7 +190,7 @@ module _ (s : Selection) (to : Flat) where
     rows = λ tells p less. let now = tells_before (one to.region) w v lasts tells in (rows now).each p less (λ old. is.rows now p old);
     told = λ honest slots held p less.
         let now = honest_back (one to.region) w v lasts honest in
-        let was = represents_before (one to.region) w v lasts s.pack s.flat off slots held in
+        let was = represents_before s.pack s.flat (one to.region) w v lasts off slots held in
         (told now slots was).each p less (λ old. is.told now slots was p old);
   }
 
@@ -214,9 +201,9 @@ module _ (s : Selection) (to : Flat) where
   filled_next first x seen rows t w v same off inside collected writes is =
       let block = take s.pack (drop (x * s.pack) rows) in
       filled_more (first + x) 1 w v writes.ran.ok.lasts off (put_written s.pack to (first + x) block t w v writes) (put_rows s.pack to (first + x) block t w v writes) (λ honest slots held.
-        let kept = (collected_whole s.pack s.flat s.p (first * s.pack) s.k (blocks s) seen rows w refl collected slots held honest.nolie).kept in
-        let keeps = subst (λ (f : Flat). AreKept f.schema (chosen s.p slots) (first * s.pack) f.capacity rows) (sym same) kept in
-        put_told s.pack to (first + x) block t w v writes honest.tells (chosen s.p slots) (keeps_part to.schema s.pack to.capacity first x (chosen s.p slots) rows inside keeps)) is
+      let kept = (collected_whole s.pack s.flat s.p (first * s.pack) s.k (blocks s) seen rows w refl collected slots held honest.nolie).kept in
+      let keeps = subst (λ (f : Flat). AreKept f.schema (chosen s.p slots) (first * s.pack) f.capacity rows) (sym same) kept in
+      put_told s.pack to (first + x) block t w v writes honest.tells (chosen s.p slots) (keeps_part to.schema s.pack to.capacity first x (chosen s.p slots) rows inside keeps)) is
 
   -- all blocks
   module _ (x : ℕ) (w : World) (all : x ≡ results s) (same : to ≡ table s to.region) (is : IsFilledTo s to x w) where

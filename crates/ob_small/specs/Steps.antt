@@ -49,9 +49,9 @@ pub record CollectsBlock (pack : ℕ) (flat : Flat) (p : Row → Bool) (place se
   pub told : (slots : Slots) → Represents pack flat slots old → new.store.lie ≡ None
       → MatchResult result
       (λ n. (before : Slots) → AreSeen flat.schema before seen from k first
-        → AreSeen flat.schema
-          (before ++ chosen p (block_at pack (whole_blocks pack flat.capacity slots) place))
-          n from k last)
+      → AreSeen flat.schema
+      (before ++ chosen p (block_at pack (whole_blocks pack flat.capacity slots) place))
+      n from k last)
       (λ e. e ≡ Failed)
 
 -- a pass over a table has come to block u: it has seen so many selected rows, and these are kept

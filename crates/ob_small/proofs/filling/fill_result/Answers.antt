@@ -19,13 +19,13 @@ use Rattle.ob_flat.proofs.Loops.{nearer, pack_fits, went_all}
 use Rattle.ob_flat.proofs.Rooms.{same_rows}
 use Rattle.ob_flat.proofs.Rows.{wide_same}
 use Rattle.ob_flat.proofs.Runs.{pass_each, pass_more, pass_after, pass_wider}
-use Rattle.ob_flat.proofs.Tables.{reads, blocks_few, blocks_end, flat_lasts, represents_lasts}
+use Rattle.ob_flat.proofs.Tables.{reads, blocks_few, blocks_end, flat_lasts, represents_lasts, represents_before}
 use Rattle.ob_flat.proofs.WordLemmas.{seals_any, seals_after}
 use Rattle.ob_small.specs.Keeping.{chosen, AreKept}
 use Rattle.ob_small.specs.Selection.{select_of, blocks, results, passes, pass_script}
 use Rattle.ob_small.proofs.Lengths.{spent, passes_reach, pass_inside, product_within, pass_next}
 use Rattle.ob_small.proofs.Places.{next_at, next_first, next_read, next_last}
-use Rattle.ob_small.proofs.Steps.{represents_before, filled_at, filled_none, filled_lasts, filled_more, filled_rows, filled_whole}
+use Rattle.ob_small.proofs.Steps.{filled_at, filled_none, filled_lasts, filled_more, filled_rows, filled_whole}
 use Rattle.ob_small.proofs.filling.fill_result.Goals as goal
 
 -- a pass that there is
@@ -250,9 +250,9 @@ loop-j-preserved g c =
       kept = fit_trans _ _ _ before.kept c.collect_blocks.ensures.kept;
       next = next_at pack to next writes.next;
       filled = filled_at s to next (filled_more s to (j * q) (min q (results s - j * q)) _ _ writes.ran.ok.lasts c.requires.new.apart writes.written writes.rows (λ honest slots held.
-        let was = represents_before none _ _ went.lasts pack flat (λ r. r) slots held in
-        let keeps = subst (λ (z : Columns). AreKept z (chosen s.p slots) (j * q * pack) to.capacity c.collect_blocks.new.kept) (sym schema) (read.told slots was honest.nolie) in
-        writes.told honest.tells (chosen s.p slots) keeps) filled);
+          let was = represents_before pack flat none _ _ went.lasts (λ r. r) slots held in
+          let keeps = subst (λ (z : Columns). AreKept z (chosen s.p slots) (j * q * pack) to.capacity c.collect_blocks.new.kept) (sym schema) (read.told slots was honest.nolie) in
+          writes.told honest.tells (chosen s.p slots) keeps) filled);
     }
 
 pub loop-j-smaller : goal.loop-j-smaller
