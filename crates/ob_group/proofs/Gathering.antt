@@ -26,6 +26,7 @@ use Rattle.ob_flat.specs.Flats.{Represents, whole_blocks}
 use Rattle.ob_flat.specs.Scans.{MayScan}
 use Rattle.ob_flat.specs.Words.{blocks_of}
 use Rattle.ob_flat.proofs.Rows.{wide_same}
+use Rattle.ob_flat.proofs.Scanning.{may_scan_lasts}
 use Rattle.ob_flat.proofs.Tables.{index_in, represents_before, whole_size}
 use Rattle.ob_group.specs.Answers.{answer_of}
 use Rattle.ob_group.specs.Grouping.{Group, put_slot, aggs_of, groups_of, groups_shown}
@@ -64,11 +65,12 @@ module _ (pack : ℕ) (flat : Flat) (p : Row → Bool) (key : ℕ) (items : List
   count = length items
 
   -- before the first block
-  pub gathered_none : (groups : List (List ℕ)) (buckets : BucketsState) (w : World) → AreGroupRows groups → length groups ≤ buckets.most → AreBucketed 0 (kind_width kind) 0 groups buckets
+  pub gathered_none : (groups : List (List ℕ)) (buckets : BucketsState) (w : World) → MayScan pack flat w → AreGroupRows groups → length groups ≤ buckets.most → AreBucketed 0 (kind_width kind) 0 groups buckets
       → AreGathered pack flat p key items 0 0 groups buckets w
-  gathered_none groups buckets w places most none =
+  gathered_none groups buckets w table places most none =
       let zero : 0 ≡ 0 * pack = omega arith in
       record {
+        table = table;
         places = places;
         most = most;
         kept = λ few. none;
@@ -79,9 +81,10 @@ module _ (pack : ℕ) (flat : Flat) (p : Row → Bool) (key : ℕ) (items : List
 
   module _ (done n : ℕ) (groups : List (List ℕ)) (buckets : BucketsState) (w : World) (is : AreGathered pack flat p key items done n groups buckets w) where
     -- after other calls: what represents the table then did so before, and no lie then was none before
-    pub gathered_frames : (v : World) → (v.store.lie ≡ None → w.store.lie ≡ None) → ((slots : Slots) → Represents pack flat slots v → Represents pack flat slots w)
+    pub gathered_stays : (v : World) → MayScan pack flat v → (v.store.lie ≡ None → w.store.lie ≡ None) → ((slots : Slots) → Represents pack flat slots v → Represents pack flat slots w)
         → AreGathered pack flat p key items done n groups buckets v
-    gathered_frames v honest before = record {
+    gathered_stays v table honest before = record {
+      table = table;
       places = is.places;
       most = is.most;
       kept = is.kept;
@@ -91,22 +94,23 @@ module _ (pack : ℕ) (flat : Flat) (p : Row → Bool) (key : ℕ) (items : List
     }
 
     pub gathered_lasts : (some : ℕ → Type 0) (v : World) → Lasts some w v → (some flat.region → ⊥) → AreGathered pack flat p key items done n groups buckets v
-    gathered_lasts some v lasts off = gathered_frames v (none_before _ _ lasts.later) (represents_before pack flat some w v lasts off)
+    gathered_lasts some v lasts off = gathered_stays v (may_scan_lasts pack flat some w v lasts off is.table) (none_before _ _ lasts.later) (represents_before pack flat some w v lasts off)
 
     -- there is room for the rows of one block more
-    pub gathered_may : MayScan pack flat w → done < blocks_of pack flat → MayGrow kind count n pack groups
-    gathered_may table below = record { groups = groups_of p key items is.seen; m = done * pack; room = room_at done table below; are = is.are }
+    pub gathered_may : done < blocks_of pack flat → MayGrow kind count n pack groups
+    gathered_may below = record { groups = groups_of p key items is.seen; m = done * pack; room = room_at done is.table below; are = is.are }
 
   -- one block more
-  pub gathered_next : (place seen n : ℕ) (groups_old groups_new : List (List ℕ)) (buckets_old buckets_new : BucketsState) (old new : World) → MayScan pack flat old → place < blocks_of pack flat
-      → buckets_new.most ≡ buckets_old.most → GathersAt pack flat p key items place seen (Ok n) groups_old groups_new buckets_new old new
+  pub gathered_next : (place seen n : ℕ) (groups_old groups_new : List (List ℕ)) (buckets_old buckets_new : BucketsState) (old new : World) → place < blocks_of pack flat → buckets_new.most ≡ buckets_old.most
+      → GathersAt pack flat p key items place seen (Ok n) groups_old groups_new buckets_new old new
       → AreGathered pack flat p key items place seen groups_old buckets_old old → AreGathered pack flat p key items (place + 1) n groups_new buckets_new new
-  gathered_next place seen n groups_old groups_new buckets_old buckets_new old new table below same at was =
+  gathered_next place seen n groups_old groups_new buckets_old buckets_new old new below same at was =
       let lasts = at.ran.ok.lasts in
       let block = at.held.block in
-      let grown = at.held.put (groups_of p key items was.seen) (place * pack) (room_at place table below) was.are in
+      let grown = at.held.put (groups_of p key items was.seen) (place * pack) (room_at place was.table below) was.are in
       let joined = sym (fold-append (put_slot p key (aggs_of items)) [] was.seen block) in
       record {
+        table = may_scan_lasts pack flat none old new lasts (λ s. s) was.table;
         places = record { wide = wide_same _ _ _ at.size was.places.wide; few = subst (λ (k : ℕ). k ≤ 4294967295) (sym at.size.count) was.places.few };
         most = omega (arith, at.size.count, same, was.most);
         kept = at.kept;
@@ -122,15 +126,15 @@ module _ (pack : ℕ) (flat : Flat) (p : Row → Bool) (key : ℕ) (items : List
       }
 
   -- ---- all blocks
-  module _ (done n : ℕ) (groups : List (List ℕ)) (buckets : BucketsState) (w : World) (table : MayScan pack flat w) (all : done ≡ blocks_of pack flat) (is : AreGathered pack flat p key items done n groups buckets w) where
+  module _ (done n : ℕ) (groups : List (List ℕ)) (buckets : BucketsState) (w : World) (all : done ≡ blocks_of pack flat) (is : AreGathered pack flat p key items done n groups buckets w) where
     pub gathered_all : (slots : Slots) → Represents pack flat slots w → w.store.lie ≡ None → is.seen ≡ whole_blocks pack flat.capacity slots
     gathered_all slots held nolie =
         let end : done * pack ≡ blocks_of pack flat * pack = ap (λ (k : ℕ). k * pack) all in
-        is.told slots held nolie ∙ take_all (done * pack) (whole_blocks pack flat.capacity slots) (size_most _ _ _ end (whole_size pack flat slots _ held table.some))
+        is.told slots held nolie ∙ take_all (done * pack) (whole_blocks pack flat.capacity slots) (size_most _ _ _ end (whole_size pack flat slots _ held is.table.some))
 
     pub gathered_are : AreGroups kind 2147483648 count n (groups_of p key items is.seen) groups
     gathered_are =
-        let few : done * pack ≤ 2147483648 = subst (λ (k : ℕ). k * pack ≤ 2147483648) (sym all) (few_all pack (blocks_of pack flat) table.most table.size.blocks) in
+        let few : done * pack ≤ 2147483648 = subst (λ (k : ℕ). k * pack ≤ 2147483648) (sym all) (few_all pack (blocks_of pack flat) is.table.most is.table.size.blocks) in
         groups_weak kind (done * pack) 2147483648 count n _ groups few is.are
 
     -- they may be emitted
@@ -157,12 +161,14 @@ module _ (pack : ℕ) (flat : Flat) (p : Row → Bool) (key : ℕ) (items : List
       module _ {E T : Type 0} (grew cut : E → E → List Event → Type 0) (faults : E → ℕ) (a b : E) where
         pub gathered_emitted : (x : T) → EmitsGroups grew cut faults kind items n groups (header flat.schema key items) (Ok x) a b
             → IsEmitted grew (header flat.schema key items) (λ (s : SlotsToEnd pack flat w w). grouped key items (filter p (rows_in s.slots))) 0 n a b
+        unfolding gathered_has
         gathered_emitted x given =
             let e = given.emitted in
             record { rows = e.rows; count = e.count; leads = e.leads; told = λ s. e.told gathered_has ∙ gathered_shown s }
 
         pub gathered_halted : (e : EmitErr) → EmitsGroups {T = T} grew cut faults kind items n groups (header flat.schema key items) (Err e) a b
             → IsHalted grew cut (λ (s : SlotsToEnd pack flat w w). header flat.schema key items ++ row_events (grouped key items (filter p (rows_in s.slots)))) a b
+        unfolding gathered_has
         gathered_halted e given =
             let h = given.halted in
             record {

@@ -1,11 +1,11 @@
 -- The rows of groups that were emitted.
-use Rattle.std.proofs.Common.{◌≡◌, ◌<◌, ◌+◌, ℕ, List, [], ◌∷◌, ◌++◌, length, take, drop, slice_index_or, Result, Ok, Err, OnOk, OnErr, refl, sym, ◌∙◌, ap, subst, arith}
+use Rattle.std.proofs.Common.{◌≡◌, ◌<◌, ◌+◌, ℕ, List, [], ◌∷◌, ◌++◌, length, take, drop, slice_index_or, Result, Ok, Err, OnOk, OnErr, refl, sym, ◌∙◌, ap, subst, arith, append_assoc}
 use Rattle.std.proofs.lemmas.List.{append-nil, map-append, take_more, take-append-drop}
 use Rattle.ob_base.specs.declared.shown.Shown.{Shown}
 use Rattle.ob_base.specs.declared.emit.EmitErr.{EmitErr}
 use Rattle.ob_base.specs.declared.schema.Kind.{Kind}
 use Rattle.ob_base.specs.Events.{Event, Row, EmitCause, row_events, Leads, IsEmitted, IsHalted}
-use Rattle.ob_base.proofs.EventLemmas.{begun_under, emitted_head, emitted_join, halted_join, halted_under}
+use Rattle.ob_base.proofs.EventLemmas.{emitted_head, emitted_join, halted_join}
 use Rattle.ob_row.specs.declared.aggregate.Item.{Item}
 use Rattle.ob_group.specs.Grouping.{Group, group_shown, groups_shown}
 use Rattle.ob_group.specs.Held.{no_group}
@@ -52,17 +52,15 @@ module _ {E T : Type 0} (grew cut : E → E → List Event → Type 0) (faults :
   pub row_emitted : (a b c : E) → Leads grew grew a b head → faults b ≡ faults a → (r : Result T EmitErr) → OnOk r (Leads grew grew b c (Row cells ∷ [])) → OnErr r (Leads grew cut b c (Row cells ∷ []))
       → EmitCause r (faults b) (faults c) → EmitsAll grew cut faults (head ++ Row cells ∷ []) r a c
   row_emitted a b c leads same (Ok x) ok err cause = record {
-    ok = (begun_under grew head (λ (s : ℕ). cells ∷ []) a b c leads (record { rows = cells ∷ []; leads = ok; told = λ s. ([], refl) })).leads;
+    ok = λ s events is. subst (grew s c) (append_assoc events head (Row cells ∷ [])) (ok s (events ++ head) (leads s events is));
     err = tt;
     cause = cause ∙ same;
   }
-  row_emitted a b c leads same (Err e) ok err cause =
-      let halted = halted_under grew cut head (λ (s : ℕ). Row cells ∷ []) a b c leads (record { events = Row cells ∷ []; ends = err; told = λ s. ([], refl) }) in
-      record {
-        ok = tt;
-        err = (halted.events, halted.ends, halted.told 0);
-        cause = subst (λ (k : ℕ). EmitCause {T = T} (Err e) k (faults c)) same cause;
-      }
+  row_emitted a b c leads same (Err e) ok err cause = record {
+    ok = tt;
+    err = (head ++ Row cells ∷ [], λ s events is. subst (cut s c) (append_assoc events head (Row cells ∷ [])) (err s (events ++ head) (leads s events is)), ([], append-nil (head ++ Row cells ∷ [])));
+    cause = subst (λ (k : ℕ). EmitCause {T = T} (Err e) k (faults c)) same cause;
+  }
 
   pub row_headless : (a b : E) (e : EmitErr) → Leads grew cut a b head → EmitCause {T = T} (Err e) (faults a) (faults b) → EmitsAll {T = T} grew cut faults (head ++ Row cells ∷ []) (Err e) a b
   row_headless a b e ends cause = record { ok = tt; err = (head, ends, (Row cells ∷ [], refl)); cause = cause }

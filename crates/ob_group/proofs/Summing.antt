@@ -13,7 +13,9 @@ use Rattle.ob_blocks.specs.Blocks.{block_at, up_to}
 use Rattle.ob_blocks.proofs.Blocks.{take_blocks}
 use Rattle.ob_flat.specs.declared.flat.Flat.{Flat}
 use Rattle.ob_flat.specs.Flats.{Represents, whole_blocks}
+use Rattle.ob_flat.specs.Scans.{MayScan}
 use Rattle.ob_flat.specs.Words.{blocks_of}
+use Rattle.ob_flat.proofs.Scanning.{may_scan_lasts}
 use Rattle.ob_flat.proofs.Tables.{represents_before, whole_size}
 use Rattle.ob_group.specs.Running.{Sums, AreUpTo, starts, seen_slot, sums_with, sums_of, sums_shown, total_shown}
 use Rattle.ob_group.specs.Steps.{AggregatesAt, AreSummed}
@@ -31,27 +33,28 @@ module _ (pack : ℕ) (flat : Flat) (p : Row → Bool) (aggs : List Agg) where
   whole slots = whole_blocks pack flat.capacity slots
 
   -- before the first block
-  pub summed_none : (sums : Sums) (w : World) → AreUpTo 0 sums → take (length aggs) sums ≡ starts aggs → AreSummed pack flat p aggs 0 sums w
-  summed_none sums w few is =
+  pub summed_none : (sums : Sums) (w : World) → MayScan pack flat w → AreUpTo 0 sums → take (length aggs) sums ≡ starts aggs → AreSummed pack flat p aggs 0 sums w
+  summed_none sums w table few is =
       let zero : 0 ≡ 0 * pack = omega arith in
       record {
+        table = table;
         few = subst (λ (m : ℕ). AreUpTo m sums) zero few;
         told = λ slots held nolie. is ∙ ap (sums_of p aggs) (none_taken pack (whole slots));
       }
 
   module _ (done : ℕ) (sums : Sums) (w : World) (is : AreSummed pack flat p aggs done sums w) where
     -- after other calls: what represents the table then did so before, and no lie then was none before
-    pub summed_frames : (v : World) → (v.store.lie ≡ None → w.store.lie ≡ None) → ((slots : Slots) → Represents pack flat slots v → Represents pack flat slots w) → AreSummed pack flat p aggs done sums v
-    summed_frames v honest before = record { few = is.few; told = λ slots held nolie. is.told slots (before slots held) (honest nolie) }
+    pub summed_stays : (v : World) → MayScan pack flat v → (v.store.lie ≡ None → w.store.lie ≡ None) → ((slots : Slots) → Represents pack flat slots v → Represents pack flat slots w) → AreSummed pack flat p aggs done sums v
+    summed_stays v table honest before = record { table = table; few = is.few; told = λ slots held nolie. is.told slots (before slots held) (honest nolie) }
 
     pub summed_lasts : (some : ℕ → Type 0) (v : World) → Lasts some w v → (some flat.region → ⊥) → AreSummed pack flat p aggs done sums v
-    summed_lasts some v lasts off = summed_frames v (none_before _ _ lasts.later) (represents_before pack flat some w v lasts off)
+    summed_lasts some v lasts off = summed_stays v (may_scan_lasts pack flat some w v lasts off is.table) (none_before _ _ lasts.later) (represents_before pack flat some w v lasts off)
 
     -- all blocks: the row of the answer
-    pub summed_shown : 1 ≤ pack → done ≡ blocks_of pack flat → (slots : Slots) → Represents pack flat slots w → w.store.lie ≡ None → sums_shown aggs sums ≡ totals aggs (filter p (rows_in slots))
-    summed_shown some all slots held nolie =
+    pub summed_shown : done ≡ blocks_of pack flat → (slots : Slots) → Represents pack flat slots w → w.store.lie ≡ None → sums_shown aggs sums ≡ totals aggs (filter p (rows_in slots))
+    summed_shown all slots held nolie =
         let end : done * pack ≡ blocks_of pack flat * pack = ap (λ (k : ℕ). k * pack) all in
-        let last = take_all (done * pack) (whole slots) (size_most _ _ _ end (whole_size pack flat slots _ held some)) in
+        let last = take_all (done * pack) (whole slots) (size_most _ _ _ end (whole_size pack flat slots _ held is.table.some)) in
         ap (map total_shown) (is.told slots held nolie ∙ ap (sums_of p aggs) last) ∙ sums_whole p aggs (blocks_of pack flat * pack) slots
 
   -- one block more
@@ -60,6 +63,7 @@ module _ (pack : ℕ) (flat : Flat) (p : Row → Bool) (aggs : List Agg) where
   summed_next place sums_old sums_new old new at was =
       let lasts = at.ran.ok.lasts in
       record {
+        table = may_scan_lasts pack flat none old new lasts (λ s. s) was.table;
         few = at.few;
         told = λ slots held nolie.
             let before = represents_before pack flat none old new lasts (λ s. s) slots held in

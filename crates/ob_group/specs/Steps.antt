@@ -19,6 +19,7 @@ use Rattle.ob_flat.specs.declared.flat.Flat.{Flat}
 use Rattle.ob_flat.specs.declared.fault.OpErr.{OpErr}
 use Rattle.ob_flat.specs.declared.fault.OpErr.TheVariants.{Failed}
 use Rattle.ob_flat.specs.Flats.{Represents, whole_blocks}
+use Rattle.ob_flat.specs.Scans.{MayScan}
 use Rattle.ob_flat.specs.Words.{PassRan, TamperedAt}
 use Rattle.ob_group.specs.Running.{Sums, AreUpTo, sums_with, sums_of, sums_shown}
 use Rattle.ob_group.specs.Grouping.{Group, aggs_of, groups_with, groups_of}
@@ -42,9 +43,10 @@ pub record AggregatesAt {T : Type 0} (pack : ℕ) (flat : Flat) (p : Row → Boo
           (block_at pack (whole_blocks pack flat.capacity slots) place))
       (λ e. e ≡ Failed)
 
--- the sums are those of so many blocks of a table
+-- the sums are those of so many blocks of a table, whatever was asked of other regions between the reads
 pub record AreSummed (pack : ℕ) (flat : Flat) (p : Row → Bool) (aggs : List Agg) (done : ℕ)
     (sums : Sums) (w : World) : Type 0 where
+  pub table : MayScan pack flat w
   pub few : AreUpTo (done * pack) sums
   pub told : (slots : Slots) → Represents pack flat slots w → w.store.lie ≡ None
       → take (length aggs) sums
@@ -89,9 +91,10 @@ pub record GathersAt (pack : ℕ) (flat : Flat) (p : Row → Bool) (key : ℕ) (
   pub told : (slots : Slots) → Represents pack flat slots old → new.store.lie ≡ None
       → IfErr result (λ e. e ≡ Failed)
 
--- the groups of so many blocks of a table, n of them, are in these rows and buckets
+-- the groups of so many blocks of a table, n of them, are in these rows and buckets, likewise
 pub record AreGathered (pack : ℕ) (flat : Flat) (p : Row → Bool) (key : ℕ) (items : List Item)
     (done n : ℕ) (groups : List (List ℕ)) (buckets : BucketsState) (w : World) : Type 0 where
+  pub table : MayScan pack flat w
   pub places : AreGroupRows groups
   pub most : length groups ≤ buckets.most
   pub kept : KeepsGroups (kind_at flat.schema key) n groups buckets

@@ -1,4 +1,4 @@
-use Rattle.std.proofs.Common.{◌≡◌, ◌*◌, length, ◌∙◌, ap, subst, sym}
+use Rattle.std.proofs.Common.{◌≡◌, ◌*◌, length, refl, ◌∙◌, ap, subst, sym}
 use Rattle.ob_row.specs.Truth.{is_true}
 use Rattle.ob_blocks.specs.Blocks.{block_at}
 use Rattle.ob_flat.specs.Flats.{whole_blocks}
@@ -41,6 +41,6 @@ returns-in-Err-clause-aggregates g c =
       never = scans.never;
       seals = scans.seals;
       few = tt;
-      kept = c.sums.view_is;
+      kept = refl;
       told = scans.told;
     }

@@ -6,7 +6,7 @@ use Rattle.ob_row.specs.declared.aggregate.Item.{Item}
 use Rattle.ob_row.specs.Rows.{Row}
 use Rattle.ob_row.specs.Spelling.{kind_at}
 use Rattle.ob_row.specs.Truth.{is_true}
-use Rattle.ob_vault.specs.Calls.{Lasts, none}
+use Rattle.ob_vault.specs.Calls.{none}
 use Rattle.ob_vault.specs.Places.{RowsFit, at}
 use Rattle.ob_vault.specs.State.{World}
 use Rattle.ob_vault.proofs.Runs.{went_none, went_each, fit_same, fit_trans, seals_none}
@@ -24,12 +24,8 @@ use Rattle.ob_group.specs.Steps.{GathersAt}
 use Rattle.ob_group.proofs.Gathering.{gathered_none, gathered_may, gathered_next, gathered_are, gathered_all}
 use Rattle.ob_group.proofs.reading.group_blocks.Goals as goal
 
--- a table may be read, and may be after its first blocks were
 may_scan : (pack : ℕ) (flat : Flat) (w : World) → IsTable pack flat w → MayScan pack flat w
 may_scan pack flat w is = record { some = is.some; most = is.most; size = fits_sized pack flat.schema flat.capacity is.some is.size; written = written_flat pack flat w is.written }
-
-table_lasts : (pack : ℕ) (flat : Flat) (old now : World) → Lasts none old now → IsTable pack flat old → IsTable pack flat now
-table_lasts pack flat old now lasts is = record { some = is.some; most = is.most; size = is.size; written = flat_lasts pack flat none old now lasts (λ s. s) is.written }
 
 -- of as many rows
 gathers_as : {flat : Flat} {p : Row → Bool} {key : ℕ} {items : List Item} {place seen : ℕ} {result : Result ℕ OpErr} {a b : List (List ℕ)} {buckets : BucketsState} {old new : World} (n m : ℕ)
@@ -46,7 +42,7 @@ loop-u-init g c =
       same = same_rows c.args.rows.now;
       kept = same_rows groups;
       most = refl;
-      held = gathered_none (length c.args.rows.now) c.args.flat.now (is_true c.args.pred.now) c.args.key c.args.items.now groups c.clear.new.self _ c.requires.places (omega (arith, c.clear.ensures.most, c.requires.most))
+      held = gathered_none (length c.args.rows.now) c.args.flat.now (is_true c.args.pred.now) c.args.key c.args.items.now groups c.clear.new.self _ (may_scan _ _ _ c.requires.table) c.requires.places (omega (arith, c.clear.ensures.most, c.requires.most))
           (c.clear.ensures.empty 0 (kind_width kind) groups);
     }
 
@@ -59,10 +55,9 @@ group_block-requires-clause-spare g c = record {
 pub group_block-requires-clause-table : goal.group_block-requires-clause-table
 group_block-requires-clause-table g c =
     let before = c.loop-u.invariant in
-    let pack = length c.args.rows.now in
     let flat = c.args.flat.now in
     let now = at g.R.Revisions.state c.loop-u.vault (g.S.BlockStore.state c.loop-u.store) in
-    subst (λ (n : ℕ). MayScan n flat now) (sym before.same.count) (may_scan pack flat now (table_lasts pack flat _ now before.went.lasts c.requires.table))
+    subst (λ (n : ℕ). MayScan n flat now) (sym before.same.count) before.held.table
 
 pub group_block-requires-clause-within : goal.group_block-requires-clause-within
 group_block-requires-clause-within g c =
@@ -86,8 +81,7 @@ group_block-requires-clause-held g c =
     let flat = c.args.flat.now in
     let now = at g.R.Revisions.state c.loop-u.vault (g.S.BlockStore.state c.loop-u.store) in
     subst (λ (n : ℕ). MayGrow (kind_at flat.schema c.args.key) (length c.args.items.now) c.loop-u.n n c.loop-u.groups) (sym before.same.count)
-    (gathered_may pack flat (is_true c.args.pred.now) c.args.key c.args.items.now c.loop-u.u c.loop-u.n c.loop-u.groups c.loop-u.buckets now before.held
-    (may_scan pack flat now (table_lasts pack flat _ now before.went.lasts c.requires.table)) (below_all c.loop-u-test.true c.div_ceil-blocks.ensures))
+    (gathered_may pack flat (is_true c.args.pred.now) c.args.key c.args.items.now c.loop-u.u c.loop-u.n c.loop-u.groups c.loop-u.buckets now before.held (below_all c.loop-u-test.true c.div_ceil-blocks.ensures))
 
 pub group_block-requires-clause-kept : goal.group_block-requires-clause-kept
 group_block-requires-clause-kept g c = c.loop-u.invariant.held.kept
@@ -137,8 +131,7 @@ loop-u-preserved g c =
       same = fit_trans _ _ _ before.same c.group_block.ensures.rows;
       kept = fit_trans _ _ _ before.kept block.size;
       most = c.group_block.ensures.most ∙ before.most;
-      held = gathered_next pack flat (is_true c.args.pred.now) c.args.key c.args.items.now u c.loop-u.n c.in-Ok.more c.loop-u.groups c.group_block.new.groups c.loop-u.buckets c.group_block.new.buckets now _
-          (may_scan pack flat now (table_lasts pack flat _ now before.went.lasts c.requires.table)) below c.group_block.ensures.most block before.held;
+      held = gathered_next pack flat (is_true c.args.pred.now) c.args.key c.args.items.now u c.loop-u.n c.in-Ok.more c.loop-u.groups c.group_block.new.groups c.loop-u.buckets c.group_block.new.buckets now _ below c.group_block.ensures.most block before.held;
     }
 
 pub returns-clause-most : goal.returns-clause-most
@@ -153,7 +146,6 @@ returns-clause-gathers g c =
     let last : u ≡ blocks_of pack flat = at_end c.loop-u.auto.u-end c.loop-u-test.false c.div_ceil-blocks.ensures in
     let all = c.loop-u.invariant in
     let now = at g.R.Revisions.state c.loop-u.vault (g.S.BlockStore.state c.loop-u.store) in
-    let table = may_scan pack flat now (table_lasts pack flat _ now all.went.lasts c.requires.table) in
     record {
       ran = record { ok = went_all (read_at flat.region) last all.went; err = tt };
       never = tt;
@@ -161,9 +153,9 @@ returns-clause-gathers g c =
       source = flat_lasts pack flat none _ _ all.went.lasts (λ s. s) c.requires.table.written;
       held = record {
         seen = all.held.seen;
-        are = gathered_are pack flat p c.args.key c.args.items.now u c.loop-u.n c.loop-u.groups c.loop-u.buckets now table last all.held;
+        are = gathered_are pack flat p c.args.key c.args.items.now u c.loop-u.n c.loop-u.groups c.loop-u.buckets now last all.held;
         told = λ slots is nolie.
-            gathered_all pack flat p c.args.key c.args.items.now u c.loop-u.n c.loop-u.groups c.loop-u.buckets now table last all.held slots
+            gathered_all pack flat p c.args.key c.args.items.now u c.loop-u.n c.loop-u.groups c.loop-u.buckets now last all.held slots
             (represents_lasts pack flat none _ _ all.went.lasts (λ s. s) slots is) nolie;
       };
       told = λ slots is nolie. tt;
