@@ -2,7 +2,7 @@ use Rattle.std.proofs.Common.{◌≡◌, [], length, take}
 use Rattle.ob_base.specs.Events.{IsEmitted}
 use Rattle.ob_group.specs.Grouping.{groups_shown}
 use Rattle.ob_group.specs.Held.{HasGroups}
-use Rattle.ob_group.proofs.emitting.emit_groups.Given as goal
+use Rattle.ob_group.proofs.emitting.emit_rows.Given as goal
 
 abbrev pub invariant-loop-i : goal.invariant-loop-i
 invariant-loop-i g l =
