@@ -30,6 +30,11 @@ length-set_at [] i y = refl
 length-set_at (x ∷ xs) zero y = refl
 length-set_at (x ∷ xs) (suc i) y = ap suc (length-set_at xs i y)
 
+pub get_some : {A : Type 0} (xs : List A) (i : ℕ) → i < length xs → (x : A) × (slice_get xs i ≡ Some x)
+get_some [] i less = absurd (omega (arith, less))
+get_some (x ∷ xs) zero less = (x, refl)
+get_some (x ∷ xs) (suc i) less = get_some xs i (omega (arith, less))
+
 -- ---- sums
 pub total_set : {F : Type 0} (n : F → ℕ) (fs : List F) (i : ℕ) (f g : F) → slice_get fs i ≡ Some f → total n (slice_set fs i g) + n f ≡ total n fs + n g
 unfolding total

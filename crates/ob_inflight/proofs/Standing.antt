@@ -13,7 +13,7 @@ use Rattle.ob_vault.specs.Calls.{Lasts}
 use Rattle.ob_vault.specs.Rows.{SameSizes}
 use Rattle.ob_vault.specs.State.{World}
 use Rattle.ob_verdict.specs.declared.outcome.Outcome.{Outcome}
-use Rattle.ob_inflight.specs.Aloft.{AllFit, AreFlying, IsMade, KeepCourse, LeavesRest, booked_by, failed_of, most_of}
+use Rattle.ob_inflight.specs.Aloft.{AllFit, AreFlying, IsMade, KeepCourse, KeepFailed, LeavesRest, booked_by, failed_of, most_of}
 use Rattle.ob_inflight.specs.Closing.{Closed, RisesBy, events_at, outcome_at}
 use Rattle.ob_inflight.specs.Kinds.{Kind, Moment, share_at}
 use Rattle.ob_inflight.specs.Leaving.{Leaves, own_or_next}
@@ -236,7 +236,23 @@ course_next {F} k start last now i f g at flyers same course = record {
     | Here here is ↦
         let was = course.each j a f get_a (ap (slice_get last.flyers) here ∙ at) in
         let it : Progress → Type 0 = λ q. KeepsCourse (k.progress a) q in
-        subst it (ap k.progress (sym is)) (record { stmt = same.stmt ∙ was.stmt; flat = same.flat ∙ was.flat; public = same.public ∙ was.public })
+        subst it (ap k.progress (sym is)) (record { stmt = same.stmt ∙ was.stmt; flat = same.flat ∙ was.flat; refusal = same.refusal ∙ was.refusal; public = same.public ∙ was.public })
     | There off was ↦ course.each j a b get_a was
+  ];
+}
+
+-- what the store failed is seen as it was
+pub failed_next : {F : Type 0} (k : Kind F) (last now : Moment F) (i : ℕ) (f g : F) → slice_get last.flyers i ≡ Some f → now.flyers ≡ slice_set last.flyers i g
+    → ((k.progress f).failed ≡ true → ((k.progress g).served ≡ (k.progress f).served) × ((k.progress g).failed ≡ true)) → KeepFailed k last now
+failed_next {F} k last now i f g at flyers same = record {
+  size = ap (λ (l : List F). length l) flyers ∙ length-set_at last.flyers i g;
+  each = λ j a b get_a get_b is. elim (now_at last.flyers i f g at now.flyers flyers j b get_b) [
+    | Here here it ↦
+        let was : a ≡ f = the_same (sym get_a ∙ ap (slice_get last.flyers) here ∙ at) in
+        let kept = same (ap (λ (x : F). (k.progress x).failed) (sym was) ∙ is) in
+        (ap (λ (x : F). (k.progress x).served) it ∙ kept.0 ∙ ap (λ (x : F). (k.progress x).served) (sym was), ap (λ (x : F). (k.progress x).failed) it ∙ kept.1)
+    | There off was ↦
+        let it : a ≡ b = the_same (sym get_a ∙ was) in
+        (ap (λ (x : F). (k.progress x).served) (sym it), ap (λ (x : F). (k.progress x).failed) (sym it) ∙ is)
   ];
 }

@@ -8,7 +8,7 @@ use Rattle.ob_base.specs.Events.{Event}
 use Rattle.ob_base.specs.declared.access.Access.{Access}
 use Rattle.ob_base.specs.declared.config.Public.{Public}
 use Rattle.ob_flat.specs.declared.fault.OpErr.{OpErr}
-use Rattle.ob_script.specs.Flights.{accesses_in, acted, made_by, place_by, prints, turns}
+use Rattle.ob_script.specs.Flights.{Flight, accesses_in, acted, made_by, place_by, prints, turns}
 use Rattle.ob_script.specs.Trace.{Served}
 use Rattle.ob_store.specs.State.{Lie}
 use Rattle.ob_vault.proofs.Runs.{lasts_trans, lasts_wider, seals_join}
@@ -31,11 +31,11 @@ use Rattle.ob_inflight.specs.Progress.{KeepsCourse, Progress, Steps, act_of, fly
 use Rattle.ob_inflight.proofs.Acts.{reads_calm, reads_cut, calm_none, step_asked, step_calm, step_lasts, stops_faults}
 use Rattle.ob_inflight.proofs.Emitting.{emitted_ends, emitted_more}
 use Rattle.ob_inflight.proofs.Ending.{ends_acts, ends_flying, rest_ends, same_total, stand_ends}
-use Rattle.ob_inflight.proofs.Lists.{length-set_at, the_same, total_few, total_set, total_within}
+use Rattle.ob_inflight.proofs.Lists.{get_some, length-set_at, the_same, total_few, total_set, total_within}
 use Rattle.ob_inflight.proofs.Picks.{IsGoing, picked_going, going_some}
-use Rattle.ob_inflight.proofs.Standing.{course_next, events_here, events_there, fit_next, rest_step, stand_step, step_next}
+use Rattle.ob_inflight.proofs.Standing.{course_next, failed_next, events_here, events_there, fit_next, rest_step, stand_step, step_next}
 use Rattle.ob_inflight.proofs.Stopping.{began_next, begun_next}
-use Rattle.ob_inflight.proofs.Turning.{Laws, asks_none, asks_of, asks_some, log_on, outcome_open, turned_next}
+use Rattle.ob_inflight.proofs.Turning.{Laws, asks_none, asks_some, log_on, outcome_open, turn_on, turned_next}
 
 -- ---- who was picked
 get_drop : {A : Type 0} (n : ℕ) (xs : List A) (m : ℕ) → slice_get (drop n xs) m ≡ slice_get xs (n + m)
@@ -47,11 +47,6 @@ get_map : {A B : Type 0} (f : A → B) (xs : List A) (m : ℕ) (x : A) → slice
 get_map f [] m x at = cc
 get_map f (y ∷ xs) zero x at = ap (λ z. Some (f z)) (the_same at)
 get_map f (y ∷ xs) (suc m) x at = get_map f xs m x at
-
-get_some : {A : Type 0} (xs : List A) (i : ℕ) → i < length xs → (x : A) × (slice_get xs i ≡ Some x)
-get_some [] i less = absurd (omega (arith, less))
-get_some (x ∷ xs) zero less = (x, refl)
-get_some (x ∷ xs) (suc i) less = get_some xs i (omega (arith, less))
 
 pub record IsPicked {F : Type 0} (k : Kind F) (e i : ℕ) (fs : List F) : Type 0 where
   pub after : e ≤ i
@@ -173,11 +168,12 @@ module _ {F E : Type 0} (k : Kind F) (t : Taker E) (laws : Laws k) (words : ℕ 
           within = omega (arith, long, turned.within);
           emitted = emitted_more t.grew t.closed turned.ended turned.current more.more out_start out_old out_new turned.emitted more.leads;
           over = λ all. absurd (omega (arith, all, long, picked.after, picked.within));
-          begun = begun_next k words n turned.public share turned.ended turned.current start last turned.aloft v (steps.access ∷ []) [] asked
+          begun = begun_next k words n turned.public share turned.ended turned.current start last turned.aloft now (steps.access ∷ []) [] asked
               (λ xs all. log_on k laws words n turned.public share turned.ended turned.current start last stand turned.aloft.turned i f did.at place (Some steps.access) next xs all
               ∙ ap (λ (l : List Access). accesses_in turned.aloft.turned.log ++ l) (asks_some steps.access))
               (λ lie none is. reads_calm v lie is (step_calm steps.access (k.progress f).region last.world v (k.progress g).failed went (calm_none last.world none)))
-              (λ lie was. lasts.later.lie lie was) turned.begun;
+              (λ lie was. lasts.later.lie lie was)
+              (failed_next k last now i f g did.at did.flyers (λ is. absurd (cc (is, steps.unfailed)))) turned.begun;
         }
       where
         quiet_off : {more : List Event} {P : Type 0} → ((k.progress did.before).prints ≡ false → (more ≡ []) × P) → (i ≡ e → ⊥) → more ≡ []
@@ -239,29 +235,34 @@ module _ {F E : Type 0} (k : Kind F) (t : Taker E) (laws : Laws k) (words : ℕ 
           aloft = turned.aloft;
           out_last = out_old;
           emitted = turned.emitted;
+          place = i;
+          act = Some stops.access;
+          log = λ xs all. ap (λ (s : Flight). s.log) (turn_on k laws words n turned.public share turned.ended turned.current start last stand turned.aloft.turned i f did.at place (Some stops.access) next xs all);
           by = inl (record {
-            place = i;
             before = f;
             after = did.after;
             at = did.at;
             flyers = did.flyers;
+            going = stand.outcome i f did.at ∙ outcome_open turned.ended i picked.after;
             stops = stops;
+            asks = refl;
             first = picked.first f did.at;
             part = part.part;
             ends = λ printing. part.leads printing turned.emitted.between turned.current turned.emitted.now;
             quiet = part.quiet;
             halts = part.halts;
           });
-          began = began_next k words n turned.public share turned.ended turned.current start last turned.aloft v stops.cut.began.done stops.cut.began.rest stops.cut.began.asked log;
+          began = began_next k words n turned.public share turned.ended turned.current start last turned.aloft now stops.cut.began.done stops.cut.began.rest stops.cut.began.asked log;
           lasts = lasts_trans (λ q. start.world.vault.next ≤ q) start.world last.world v turned.aloft.rest.lasts
               (lasts_wider (own_or_next (k.progress f).region last.world.vault.next) last.world v (λ q. start.world.vault.next ≤ q)
               (own_within k turned.public start last turned.aloft.rest i f did.at) lasts);
           faults = stops_faults err last.world v stops.never stops.cut.cause;
           seals = λ good accepts. seals_join good start.world last.world v turned.aloft.rest.lasts.later (turned.aloft.rest.seals good accepts)
               (stops.seals good (λ columns region. subst (λ (n : ℕ). Accepts good n columns region) (sym (ap (λ (q : Public). q.pack) (stand.public i f did.at))) (accepts columns region)));
-          begun = begun_next k words n turned.public share turned.ended turned.current start last turned.aloft v stops.cut.began.done stops.cut.began.rest stops.cut.began.asked log
+          begun = begun_next k words n turned.public share turned.ended turned.current start last turned.aloft now stops.cut.began.done stops.cut.began.rest stops.cut.began.asked log
               (λ lie none is. reads_cut err (stops.access ∷ []) (own_or_next (k.progress f).region last.world.vault.next) last.world v lie none is stops.cut)
-              (λ lie was. lasts.later.lie lie was) turned.begun;
+              (λ lie was. lasts.later.lie lie was)
+              (failed_next k last now i f did.after did.at did.flyers (λ is. (stops.stays.served, stops.stays.failed ∙ is))) turned.begun;
         }
 
 -- ---- an end
@@ -284,8 +285,10 @@ module _ {F E : Type 0} (k : Kind F) (t : Taker E) (laws : Laws k) (words : ℕ 
   asked_none : last.world.store.asked ≡ last.world.store.asked ++ []
   asked_none = sym (append-nil last.world.store.asked)
 
-  begun_same : IsBegun k words turned.public share start last.world
-  begun_same = turned.begun
+  begun_over : (g : F) → gs ≡ slice_set last.flyers i g → ((k.progress f).failed ≡ true → ((k.progress g).served ≡ (k.progress f).served) × ((k.progress g).failed ≡ true))
+      → IsBegun k words turned.public share start (moment gs last.kept last.world)
+  begun_over g flyers kept = begun_next k words n turned.public share turned.ended turned.current start last turned.aloft (moment gs last.kept last.world) [] [] asked_none log_none
+      (λ lie none is. absurd (cc (none, is))) (λ lie was. was) (failed_next k last (moment gs last.kept last.world) i f g at flyers kept) turned.begun
 
   module _ (own : List (List ℕ)) (is_own : own ≡ share_at share i last.kept) (g : F) (flyers : gs ≡ slice_set last.flyers i g) (needs : (q : ℕ) → k.Needs g q → k.Needs f q) (may : (x : Served) → k.May g x → k.May f x) where
 
@@ -295,7 +298,7 @@ module _ {F E : Type 0} (k : Kind F) (t : Taker E) (laws : Laws k) (words : ℕ 
         let finished = whole.finishes turned.current last.world (subst (λ (l : List (List ℕ)). k.Holds f l turned.current last.world) (sym is_own) holds_first) in
         let closed : Closed = record { outcome = whole.outcome; events = turned.current ++ finished.more } in
         let now : Moment F = moment gs last.kept last.world in
-        let same : KeepsCourse (k.progress f) (k.progress g) = record { stmt = ap (λ (q : Progress). q.stmt) whole.answered; flat = ap (λ (q : Progress). q.flat) whole.answered; public = ap (λ (q : Progress). q.public) whole.answered } in
+        let same : KeepsCourse (k.progress f) (k.progress g) = record { stmt = ap (λ (q : Progress). q.stmt) whole.answered; flat = ap (λ (q : Progress). q.flat) whole.answered; refusal = ap (λ (q : Progress). q.refusal) whole.answered; public = ap (λ (q : Progress). q.public) whole.answered } in
         let long = ap (λ (l : List F). length l) flyers ∙ length-set_at last.flyers i g in
         let one_more = length-append turned.ended (closed ∷ []) in
         record {
@@ -324,7 +327,7 @@ module _ {F E : Type 0} (k : Kind F) (t : Taker E) (laws : Laws k) (words : ℕ 
             now = starts out_new;
           };
           over = λ all. refl;
-          begun = turned.begun;
+          begun = begun_over g flyers (λ is. (ap (λ (q : Progress). q.served) whole.answered, ap (λ (q : Progress). q.failed) whole.answered ∙ is));
         }
 
     pub end_less : count < length last.flyers → EndsWhole k t i own f g out_old out_new → left_to k (count + 1) gs < left_to k count last.flyers
@@ -335,10 +338,11 @@ module _ {F E : Type 0} (k : Kind F) (t : Taker E) (laws : Laws k) (words : ℕ 
 
     -- it gave up
     stops_ending : (err : OpErr)
-        → (StopsInFinish k t err turned.ended turned.current last (moment gs last.kept last.world) turned.emitted.between out_new
-        ⊎ StopsInClosing k t share err turned.ended last (moment gs last.kept last.world) turned.emitted.between out_new)
+        → (StopsInFinish k t err turned.ended turned.current i None last (moment gs last.kept last.world) turned.emitted.between out_new
+        ⊎ StopsInClosing k t share err turned.ended i None last (moment gs last.kept last.world) turned.emitted.between out_new)
+        → ((k.progress f).failed ≡ true → ((k.progress g).served ≡ (k.progress f).served) × ((k.progress g).failed ≡ true))
         → StopsFlight k t words share err start (moment gs last.kept last.world) out_start out_new
-    stops_ending err by = record {
+    stops_ending err by kept = record {
       public = turned.public;
       turn = n;
       ended = turned.ended;
@@ -347,12 +351,15 @@ module _ {F E : Type 0} (k : Kind F) (t : Taker E) (laws : Laws k) (words : ℕ 
       aloft = turned.aloft;
       out_last = out_old;
       emitted = turned.emitted;
+      place = i;
+      act = None;
+      log = λ xs all. ap (λ (s : Flight). s.log) (turn_on k laws words n turned.public share turned.ended turned.current start last turned.aloft.stand turned.aloft.turned i f at place None (λ x may. (laws.acts f x last.world.vault.next may).over over) xs all);
       by = inr by;
-      began = began_next k words n turned.public share turned.ended turned.current start last turned.aloft last.world [] [] asked_none log_none;
+      began = began_next k words n turned.public share turned.ended turned.current start last turned.aloft (moment gs last.kept last.world) [] [] asked_none log_none;
       lasts = turned.aloft.rest.lasts;
       faults = refl;
       seals = turned.aloft.rest.seals;
-      begun = turned.begun;
+      begun = begun_over g flyers kept;
     }
 
     pub end_stops : (err : OpErr) → EndsInFinish k t own err f g out_old out_new ⊎ EndsInClosing k t i own err f g out_old out_new
@@ -364,8 +371,10 @@ module _ {F E : Type 0} (k : Kind F) (t : Taker E) (laws : Laws k) (words : ℕ 
           stops_ending err (inl (record {
             before = f;
             after = g;
-            at = ap (slice_get last.flyers) (sym first) ∙ at;
-            flyers = flyers ∙ ap (λ (m : ℕ). slice_set last.flyers m g) first;
+            first = first;
+            none = refl;
+            at = at;
+            flyers = flyers;
             over = over;
             same = finish.same;
             world = refl;
@@ -374,15 +383,17 @@ module _ {F E : Type 0} (k : Kind F) (t : Taker E) (laws : Laws k) (words : ℕ 
             part = part.part;
             ends = part.leads refl turned.emitted.between turned.current turned.emitted.now;
             halts = part.halts;
-          }))
+          })) (λ is. (ap (λ (q : Progress). q.served) finish.same, ap (λ (q : Progress). q.failed) finish.same ∙ is))
       | inr closing ↦
           let holds = subst (λ (l : List (List ℕ)). k.Holds f l turned.current last.world) (sym is_own) holds_first in
           let finished = closing.finishes turned.current last.world holds in
           stops_ending err (inr (record {
             before = f;
             after = g;
-            at = ap (slice_get last.flyers) (sym first) ∙ at;
-            flyers = flyers ∙ ap (λ (m : ℕ). slice_set last.flyers m g) first;
+            first = first;
+            none = refl;
+            at = at;
+            flyers = flyers;
             over = over;
             outcome = closing.outcome;
             answered = closing.answered;
@@ -390,10 +401,9 @@ module _ {F E : Type 0} (k : Kind F) (t : Taker E) (laws : Laws k) (words : ℕ 
             error = closing.error;
             is = closing.is;
             events = turned.current ++ finished.more;
-            holds = subst (λ (m : ℕ). k.Holds g (share_at share m last.kept) (turned.current ++ finished.more) last.world) first
-                (subst (λ (l : List (List ℕ)). k.Holds g l (turned.current ++ finished.more) last.world) is_own finished.holds);
+            holds = subst (λ (l : List (List ℕ)). k.Holds g l (turned.current ++ finished.more) last.world) is_own finished.holds;
             took = closing.between;
             grew = finished.leads turned.emitted.between turned.current turned.emitted.now;
-            parted = subst (λ (m : ℕ). t.parted closing.between out_new m closing.outcome) first closing.parted;
-          }))
+            parted = closing.parted;
+          })) (λ is. (ap (λ (q : Progress). q.served) closing.answered, ap (λ (q : Progress). q.failed) closing.answered ∙ is))
     ]

@@ -1,5 +1,5 @@
 -- How statements in flight stand after some turns, and what these turns asked.
-use Rattle.std.specs.Prelude.{◌≡◌, ◌<◌, ◌≤◌, ◌+◌, ◌++◌, ◌*◌, ◌^◌, ℕ, false, List, [], ◌∷◌, Some, None, is_some, length, map, slice_get}
+use Rattle.std.specs.Prelude.{◌≡◌, ◌<◌, ◌≤◌, ◌+◌, ◌++◌, ◌*◌, ◌^◌, ℕ, true, false, List, [], ◌∷◌, Some, None, is_some, length, map, slice_get}
 use Rattle.ob_base.specs.Events.{Event}
 use Rattle.ob_base.specs.declared.access.Access.{Access}
 use Rattle.ob_base.specs.declared.config.Public.{Public}
@@ -12,7 +12,6 @@ use Rattle.ob_script.specs.Trace.{Served}
 use Rattle.ob_store.specs.State.{Lie}
 use Rattle.ob_vault.specs.Calls.{Lasts}
 use Rattle.ob_vault.specs.Numbers.{spent}
-use Rattle.ob_vault.specs.State.{World}
 use Rattle.ob_vault.specs.Tied.{Calm, ReadsIn, Ready}
 
 -- ---- a list of statements
@@ -125,19 +124,26 @@ pub record IsAloft {F : Type 0} (k : Kind F) (words : ℕ → ℕ) (n : ℕ) (p 
   pub rest : LeavesRest k p start now
   pub course : KeepCourse k start now
 
+-- those that the store failed are seen as they were
+pub record KeepFailed {F : Type 0} (k : Kind F) (last now : Moment F) : Type 0 where
+  pub size : length now.flyers ≡ length last.flyers
+  pub each : (i : ℕ) (f g : F) → slice_get last.flyers i ≡ Some f → slice_get now.flyers i ≡ Some g
+      → (k.progress f).failed ≡ true → ((k.progress g).served ≡ (k.progress f).served) × ((k.progress g).failed ≡ true)
+
 -- ---- the first block that was read and is not what was written
 -- just before the access that read it they stood as they should, and whatever they turn out to be served, that access is
 -- among those of a turn more
-pub record BeginsIn {F : Type 0} (k : Kind F) (words : ℕ → ℕ) (p : Public) (share : ℕ) (lie : Lie) (start : Moment F) : Type 0 where
+pub record BeginsIn {F : Type 0} (k : Kind F) (words : ℕ → ℕ) (p : Public) (share : ℕ) (lie : Lie) (start now : Moment F) : Type 0 where
   pub turn : ℕ
   pub last : Moment F
   pub ended : List Closed
   pub current : List Event
   pub aloft : IsAloft k words turn p share ended current start last
   pub none : last.world.store.lie ≡ None
+  pub failed : KeepFailed k last now
   pub reads : (xs : List Served) → AllMay k.May last.flyers xs
       → ReadsIn lie (start.world.store.asked ++ accesses_in (turns words (turn + 1) (setting_off p start.world.vault.next xs)).log)
 
-abbrev pub IsBegun : {F : Type 0} → Kind F → (words : ℕ → ℕ) → Public → (share : ℕ) → (start : Moment F) → World → Type 0
-IsBegun k words p share start w =
-    start.world.store.lie ≡ None → (lie : Lie) → w.store.lie ≡ Some lie → BeginsIn k words p share lie start
+abbrev pub IsBegun : {F : Type 0} → Kind F → (words : ℕ → ℕ) → Public → (share : ℕ) → (start now : Moment F) → Type 0
+IsBegun k words p share start now =
+    start.world.store.lie ≡ None → (lie : Lie) → now.world.store.lie ≡ Some lie → BeginsIn k words p share lie start now

@@ -4,6 +4,7 @@ use Rattle.ob_base.specs.declared.access.Access.{Access}
 use Rattle.ob_base.specs.declared.access.Access.TheVariants.{Make, Read, Write, Discard, Open}
 use Rattle.ob_base.specs.declared.config.Public.{Public}
 use Rattle.ob_base.specs.declared.emit.EmitErr.{EmitErr}
+use Rattle.ob_base.specs.declared.refusal.Refusal.{Refusal}
 use Rattle.ob_base.specs.Schemas.{Columns}
 use Rattle.ob_flat.specs.declared.fault.OpErr.{OpErr}
 use Rattle.ob_flat.specs.declared.fault.OpErr.TheVariants.{Failed, Sink}
@@ -20,9 +21,11 @@ use Rattle.ob_inflight.specs.Leaving.{own_or_next}
 
 -- how far a statement is
 pub record Progress : Type 0 where
-  -- the statement, the table that it reads, and what its flight goes by, but for the next region: these stay
+  -- the statement, the table that it reads, why it is refused before any access, and what its flight goes by, but for the
+  -- next region: these stay
   pub stmt : Stmt
   pub flat : Flat
+  pub refusal : Option Refusal
   pub public : Public
   -- what is seen of it so far
   pub served : Served
@@ -45,6 +48,7 @@ pub record Progress : Type 0 where
 pub record KeepsCourse (before after : Progress) : Type 0 where
   pub stmt : after.stmt ≡ before.stmt
   pub flat : after.flat ≡ before.flat
+  pub refusal : after.refusal ≡ before.refusal
   pub public : after.public ≡ before.public
 
 -- and nothing more was seen of it
