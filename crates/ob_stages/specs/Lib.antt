@@ -1,0 +1,4 @@
+pub mod Totalling
+pub mod Reading
+pub mod ReadingLaws
+pub mod Refusing
