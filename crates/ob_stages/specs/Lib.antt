@@ -2,3 +2,4 @@ pub mod Totalling
 pub mod Reading
 pub mod ReadingLaws
 pub mod Refusing
+pub mod Totals

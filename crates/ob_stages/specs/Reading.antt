@@ -98,8 +98,18 @@ pub record IsBoarded (r : Reading) : Type 0 where
   pub script : (seen : Seen) → whole_script (public_of r) (skeleton (stmt_of r)) seen ≡ count_part r.flat.region r.blocks
   pub blocks : r.blocks ≡ blocks_of r.public.now.pack r.flat
   pub within : r.asked ≤ r.blocks
+  pub rows : r.public.now.buffer ≤ 65536
   pub meant : r.pred ≡ where_at r.select.now.cond r.flat.schema
   pub items : TotalsFit r.flat.schema r.select.now
+
+-- the same before it starts
+pub record MayBoard (p : Public) (n : ℕ) (s : SelectTotals) (t : Flat) (c : Condition) : Type 0 where
+  pub pack : 1 ≤ p.pack
+  pub rows : p.buffer ≤ 65536
+  pub script : (seen : Seen)
+      → whole_script (flight_public n p) (skeleton (TotalsStmt s)) seen ≡ count_part t.region (blocks_of p.pack t)
+  pub meant : c ≡ where_at s.cond t.schema
+  pub items : TotalsFit t.schema s
 
 -- it comes to its end, or will be cut off behind what was asked; one that failed was cut off there
 abbrev pub EndsLater : (failed : Bool) → (asked : ℕ) → End → Type 0
@@ -154,6 +164,7 @@ pub record IsReading (r : Reading) (events : List Event) (w : World) : Type 0 wh
   pub ready : Ready w
   pub boarded : IsBoarded r
   pub table : MayScan r.public.now.pack r.flat w
+  pub going : is_over r ≡ false → r.outcome ≡ None
   pub answered : Answered r.outcome r events w
 
 -- where it gave up a first part of its answer was emitted, and nothing before all was read

@@ -1,4 +1,4 @@
-ghost use Rattle.std.specs.Prelude.{◌≡◌, ◌≤◌, ◌<◌, ◌+◌, true};
+ghost use Rattle.std.specs.Prelude.{◌≡◌, ◌≤◌, ◌<◌, ◌+◌, true, Some};
 ghost use Rattle.ob_stages.specs.Reading.{StartsReading, is_over, reads_left};
 
 use ob_base::Public;
@@ -84,5 +84,14 @@ impl<'a> Reading<'a> {
     {
         self.asked += 1;
         self.failed = true;
+    }
+
+    /// It was answered.
+    pub(crate) fn end(&mut self, outcome: Outcome) -> Outcome
+        ensures answer { result ≡ outcome }
+        ensures ends { self.new ≡ record self.old { outcome = Some outcome } }
+    {
+        self.outcome = Some(outcome);
+        outcome
     }
 }
