@@ -1,0 +1,5 @@
+pub mod Totalling
+pub mod Reading
+pub mod ReadingLaws
+pub mod Refusing
+pub mod Totals

@@ -1,0 +1,4 @@
+pub mod TotalsLemmas
+pub mod ReadingSteps
+pub mod ReadingEnds
+pub mod TotalsEnds
