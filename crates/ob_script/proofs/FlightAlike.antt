@@ -70,7 +70,7 @@ gone_alike i act f g s r way alike = record {
 }
 
 -- where the gates and the next act are the same
-alike_turn : (word : ℕ) (s r : Flight) → FlyAlike s r → gates_of s ≡ gates_of r
+pub alike_turn : (word : ℕ) (s r : Flight) → FlyAlike s r → gates_of s ≡ gates_of r
     → ((i : ℕ) (f g : Flying) → Picks word s i f → slice_get r.flying i ≡ Some g → way_of f ≡ way_of g → next_act s.public f ≡ next_act r.public g)
     → FlyAlike (turn word s) (turn word r)
 alike_turn word s r alike gates acts = elim (goes_or_rests word s) [
