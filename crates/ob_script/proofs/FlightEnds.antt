@@ -317,6 +317,8 @@ module _ (p : Public) (flown : List Served) (words : ℕ → ℕ) (steady : AreS
           let mine : f.served ≡ x = same_Some f.served x (sym (served_at (turns_of p flown) i f there) ∙ at) in
           record {
             region = region;
+            made = λ h g also is.
+                ap (λ (k : Flying). unwrap_or k.region s.public.next_region) (same_Some f h (sym there ∙ also)) ∙ ap (λ (o : Option ℕ). unwrap_or o s.public.next_region) is;
             asked = ahead.asked ∙ take_all f.asked (asked_at settings region f.served) (omega (arith, all, long)) ∙ ap (asked_at settings region) mine;
           }
 
