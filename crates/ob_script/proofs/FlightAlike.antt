@@ -7,8 +7,9 @@ use Rattle.std.proofs.lemmas.Option.{same_Some, slice_get-map}
 use Rattle.ob_base.specs.declared.access.Access.{Access}
 use Rattle.ob_base.specs.declared.config.Public.{Public}
 use Rattle.ob_script.specs.Trace.{Served}
-use Rattle.ob_script.specs.Flights.{Flight, Flying, acted, asked_at, boarded, boarding, entry_of, flight_public, gate_of, gates_of, gone_on, made_by, next_act, place_by, prints, region_after, runnable, turn, turns}
-use Rattle.ob_script.specs.FlightLaws.{AllAskAlike, AsksAlike, FlyAlike, NextAlike, Picks, Way, all_over, next_place, seen_as, way_of}
+use Rattle.ob_script.specs.Flights.{AreSteady, Flight, accesses_in, merge, Flying, acted, asked_at, boarded, boarding, entry_of, flight_public, gate_of, gates_of, gone_on, made_by, next_act, place_by, prints, region_after, runnable, turn, turns}
+use Rattle.ob_script.specs.FlightLaws.{AllAskAlike, AsksAlike, FlyAlike, IsFirstOf, NextAlike, Picks, Way, all_over, next_place, seen_as, way_of}
+use Rattle.ob_script.proofs.FlightEnds.{first_of_merge}
 use Rattle.ob_script.proofs.FlightLemmas.{boarded_served, public_turns, served_turns}
 use Rattle.ob_script.proofs.FlightTurns.{ended_over, goes_or_rests, over_ended, picks_at, rests, turns_more}
 use Rattle.ob_script.proofs.ListPlaces.{get_set_other, get_set_same, get_take}
@@ -69,7 +70,7 @@ gone_alike i act f g s r way alike = record {
 }
 
 -- where the gates and the next act are the same
-alike_turn : (word : ℕ) (s r : Flight) → FlyAlike s r → gates_of s ≡ gates_of r
+pub alike_turn : (word : ℕ) (s r : Flight) → FlyAlike s r → gates_of s ≡ gates_of r
     → ((i : ℕ) (f g : Flying) → Picks word s i f → slice_get r.flying i ≡ Some g → way_of f ≡ way_of g → next_act s.public f ≡ next_act r.public g)
     → FlyAlike (turn word s) (turn word r)
 alike_turn word s r alike gates acts = elim (goes_or_rests word s) [
@@ -214,3 +215,8 @@ module _ (p : Public) (xs ys : List Served) (words : ℕ → ℕ) (size : length
       let more = alike_more (flight_public (length xs) p) (words n) s r ys (same n) (served n) (flights_alike n all) all next in
       subst (λ (x : Flight). FlyAlike x (turns words (n + 1) (boarding p ys))) (sym (turns_more words n (boarding p xs)))
       (subst (λ (y : Flight). FlyAlike (turn (words n) s) y) (sym (turns_more words n (boarding p ys))) more)
+
+  -- then what was asked is the first part of what the others ask in all
+  pub first_alike : AreSteady p ys → (n : ℕ) → FlyAlike (turns words n (boarding p xs)) (turns words n (boarding p ys)) → IsFirstOf (merge p ys words) (turns words n (boarding p xs))
+  first_alike steady n alike =
+      ap accesses_in alike.log ∙ first_of_merge p ys words steady n ∙ sym (ap (λ (l : List (ℕ × Access)). take (length l) (merge p ys words)) alike.log)

@@ -273,7 +273,7 @@ module _ (p : Public) (flown : List Served) (words : ℕ → ℕ) (steady : AreS
         let grown = grows_turns words (boarding p flown) n more in
         let whole : (flight p flown words).log ≡ (after n).log ++ grown.rest = ap (λ (m : ℕ). (turns words m (boarding p flown)).log) (sym sum) ∙ grown.log in
         let parts : merge p flown words ≡ accesses_in (after n).log ++ accesses_in grown.rest =
-            ap accesses_in whole ∙ map-append (λ (e : ℕ × Access). e.1) (after n).log grown.rest in
+        ap accesses_in whole ∙ map-append (λ (e : ℕ × Access). e.1) (after n).log grown.rest in
         sym (ap (take (length (after n).log)) parts
         ∙ take_at (accesses_in (after n).log) (accesses_in grown.rest) (length (after n).log) (length-map (after n).log (λ (e : ℕ × Access). e.1)))
     | inr past ↦
@@ -317,6 +317,8 @@ module _ (p : Public) (flown : List Served) (words : ℕ → ℕ) (steady : AreS
           let mine : f.served ≡ x = same_Some f.served x (sym (served_at (turns_of p flown) i f there) ∙ at) in
           record {
             region = region;
+            made = λ h g also is.
+                ap (λ (k : Flying). unwrap_or k.region s.public.next_region) (same_Some f h (sym there ∙ also)) ∙ ap (λ (o : Option ℕ). unwrap_or o s.public.next_region) is;
             asked = ahead.asked ∙ take_all f.asked (asked_at settings region f.served) (omega (arith, all, long)) ∙ ap (asked_at settings region) mine;
           }
 

@@ -1,10 +1,10 @@
 -- Before it is made a SELECT doesn't hang on the number of its region.
-use Rattle.std.proofs.Common.{◌≡◌, ℕ, zero, suc, ◌+◌, ◌-◌, ◌*◌, ◌/◌, ◌%◌, ◌<◌, ◌≤◌, min, List, [], ◌∷◌, ◌++◌, Some, None, Option, length, refl, sym, ◌∙◌, ap, subst, inl, inr, arith}
+use Rattle.std.proofs.Common.{◌≡◌, ℕ, zero, suc, ◌+◌, ◌-◌, ◌*◌, ◌/◌, ◌%◌, ◌<◌, ◌≤◌, min, List, [], ◌∷◌, ◌++◌, Some, None, Option, length, refl, sym, ◌∙◌, ap, inl, inr, arith}
 use Rattle.std.specs.Prelude.{slice_get, take}
 use Rattle.std.specs.Int.{div_ceil}
 use Rattle.std.specs.Option.{option_map_or}
 use Rattle.std.proofs.lemmas.Bool.{cases_eq, cases_lt}
-use Rattle.std.proofs.lemmas.List.{length-append, length-take, take-append-drop, take-append-le, take-take, take_all}
+use Rattle.std.proofs.lemmas.List.{length-append, length-take, take-append-le, take-take, take_all}
 use Rattle.std.proofs.lemmas.Option.{slice_get_within}
 use Rattle.ob_base.specs.declared.access.Access.{Access}
 use Rattle.ob_base.specs.declared.access.Access.TheVariants.{Make, Read, Write, Discard, Open}
@@ -29,7 +29,7 @@ use Rattle.ob_base.specs.Stored.{Stored, stored_at, stored_regions}
 use Rattle.ob_base.proofs.AccessLemmas.{makes-append}
 use Rattle.ob_script.specs.declared.extent.Extent.{Extent}
 use Rattle.ob_script.specs.Parts.{bucket_part, continuous_block, copy_at, copy_part, count_part, emission_part, hash_block, hash_slot, slots_in, small_pass, write_from}
-use Rattle.ob_script.specs.Script.{after_count, behind_count, blocks_of, extent_of, flat_script, index_part_of, result_blocks, result_part, rows_width, script, select_part, table_script, until_end, with_table}
+use Rattle.ob_script.specs.Script.{after_count, behind_count, blocks_of, extent_of, flat_script, index_part_of, result_part, rows_width, script, table_script, until_end, with_table}
 use Rattle.ob_script.specs.Trace.{Served}
 use Rattle.ob_script.specs.Flights.{AreSteady, AreSteadyAccesses, IsSteady, flight_public}
 use Rattle.ob_script.specs.FlightLaws.{AllMayFly, MayFly, SelectsFromOne}

@@ -89,9 +89,10 @@ TurnsAddUp n s = length s.log + number_ended s.flying ≡ n
 abbrev pub IsFirstOf : List Access → Flight → Type 0
 IsFirstOf all s = accesses_in s.log ≡ take (length s.log) all
 
--- what a statement asked in its flight is all that it asks where its region has this number
+-- what a statement asked in its flight is all that it asks where its region has this number: that which it made, if it made one
 pub record AsksWhole (p : Public) (flown : List Served) (words : ℕ → ℕ) (i : ℕ) (x : Served) : Type 0 where
   pub region : ℕ
+  pub made : (f : Flying) (g : ℕ) → slice_get (flight p flown words).flying i ≡ Some f → f.region ≡ Some g → region ≡ g
   pub asked : own i (flight p flown words).log ≡ asked_at (flight_public (length flown) p) region x
 
 -- a flight comes to its end

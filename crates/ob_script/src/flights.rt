@@ -3,7 +3,7 @@ ghost use Rattle.std.specs.Prelude.{◌≡◌, ◌⊎◌, ◌+◌, ℕ, true, Li
 ghost use Rattle.ob_base.specs.Accesses.{makes};
 ghost use Rattle.ob_base.specs.declared.config.Public.{Public};
 ghost use Rattle.ob_script.specs.Flights.{AreSteady, Flight, Flying, Gate, InOrder, LogGrows, all_alone, boarding, flight, flight_public, gates_of, merge, place_by, runnable, trace_in, turn, turns};
-ghost use Rattle.ob_script.specs.FlightLaws.{AllAskAlike, AllEnded, AllMayFly, EndsWhole, FlyAlike, NextAlike, Picks, PicksOne};
+ghost use Rattle.ob_script.specs.FlightLaws.{AllAskAlike, AllEnded, AllMayFly, EndsWhole, FlyAlike, IsFirstOf, NextAlike, Picks, PicksOne};
 ghost use Rattle.ob_script.specs.Trace.{Served, trace};
 
 /// What was asked by some turn of a flight stays, whatever comes after.
@@ -47,7 +47,7 @@ pub fn flights_end()
 
 /// A flight hangs on nothing but what was asked, and who prints: if so far each statement has asked what it would have asked,
 /// were something else seen of it in the end, and its next act prints alike, the flights are alike so far, and a turn further,
-/// if the act that is done in it is the same.
+/// if the act that is done in it is the same. So what was asked by then is the first part of what the others ask in all.
 pub fn flights_go_alike()
     ensures so_far { (p : Public) (xs ys : List Served) (words : ℕ → ℕ) → length xs ≡ length ys →
         (n : ℕ) → AllAskAlike (flight_public (length xs) p) (turns words n (boarding p xs)) ys →
@@ -56,6 +56,10 @@ pub fn flights_go_alike()
         (n : ℕ) → AllAskAlike (flight_public (length xs) p) (turns words n (boarding p xs)) ys →
         NextAlike (words n) (turns words n (boarding p xs)) ys →
         FlyAlike (turns words (n + 1) (boarding p xs)) (turns words (n + 1) (boarding p ys)) }
+    ensures first { (p : Public) (xs ys : List Served) (words : ℕ → ℕ) → length xs ≡ length ys →
+        AreSteady p ys → (n : ℕ) →
+        FlyAlike (turns words n (boarding p xs)) (turns words n (boarding p ys)) →
+        IsFirstOf (merge p ys words) (turns words n (boarding p xs)) }
 {}
 
 /// A trace without flights is that of its statements, whatever the words are.
