@@ -1,4 +1,4 @@
-ghost use Rattle.std.specs.Prelude.{◌≡◌, ◌≤◌, ◌<◌, ◌*◌, [], length};
+ghost use Rattle.std.specs.Prelude.{◌≡◌, ◌≤◌, ◌<◌, ◌+◌, ◌*◌, [], length};
 ghost use Rattle.ob_vault.specs.Places.{at};
 ghost use Rattle.ob_vault.specs.Rows.{SameSizes};
 ghost use Rattle.ob_flat.specs.Words.{HasSpare, FitBlock, blocks_of};
@@ -42,6 +42,7 @@ pub fn emit_block<S: BlockStore, R: Revisions, E: Emit>(
     requires few { length cols.now ≤ length cells.old }
     ensures rows { SameSizes rows.old rows.new }
     ensures cells { length cells.new ≡ length cells.old }
+    ensures spent { (S.state store.old).spare ≤ (S.state store.new).spare + 1 }
     ensures emits { EmitsBlock E.grew E.cut E.faults (length rows.old) flat.now cols.now place seen
         result (at R.state vault.old (S.state store.old))
         (at R.state vault.new (S.state store.new)) out.old out.new }
