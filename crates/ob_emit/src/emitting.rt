@@ -14,9 +14,8 @@ use ob_vault::{Revisions, Vault};
 use std::array;
 
 /// Reads one block of a table into these rows, as many as a block has, and emits the cells of these
-/// columns of each row below the capacity, in order of their slots. Answers how many rows those are with
-/// the ones that were seen, which were emitted of the blocks before. The cells of each row are put over
-/// the first of these.
+/// columns of each row below the capacity, in order of their slots. Answers how many rows were emitted,
+/// with the `seen` ones of the blocks before. The cells of each row are put over the first of these.
 ///
 /// `Failed` where the store failed; `Tampered` where the block is not what was written there last, or has
 /// a malformed row; `Sink` where the emitter failed, and `NoMemory` where it had no memory. What was
