@@ -142,7 +142,7 @@ pub record EmitsRows {E : Type 0} (grew cut : E → E → List Event → Type 0)
   pub malformed : IfErr result (λ halt. halt ≡ Halts.Malformed → AreSlots flat.schema rows → ⊥)
   pub cause : HaltCause result (faults out_old) (faults out_new)
 
--- one block of a table was read, and its rows emitted behind as many of its blocks before
+-- one block of a table was read, and its rows emitted, behind as many as were seen
 pub record EmitsBlock {E : Type 0} (grew cut : E → E → List Event → Type 0) (faults : E → ℕ)
     (pack : ℕ) (flat : Flat) (cols : List ℕ) (place seen : ℕ)
     (result : Result ℕ OpErr) (old new : World) (out_old out_new : E) : Type 0 where

@@ -1,4 +1,4 @@
-ghost use Rattle.std.specs.Prelude.{◌≡◌, ◌≤◌, ◌<◌, ◌*◌, [], length};
+ghost use Rattle.std.specs.Prelude.{◌≡◌, ◌≤◌, ◌<◌, ◌+◌, ◌*◌, [], length};
 ghost use Rattle.ob_vault.specs.Places.{at};
 ghost use Rattle.ob_vault.specs.Rows.{SameSizes};
 ghost use Rattle.ob_flat.specs.Words.{HasSpare, FitBlock, blocks_of};
@@ -14,9 +14,8 @@ use ob_vault::{Revisions, Vault};
 use std::array;
 
 /// Reads one block of a table into these rows, as many as a block has, and emits the cells of these
-/// columns of each row below the capacity, in order of their slots. Answers how many rows those are with
-/// the ones that were seen, which were emitted of the blocks before. The cells of each row are put over
-/// the first of these.
+/// columns of each row below the capacity, in order of their slots. Answers how many rows were emitted,
+/// with the `seen` ones of the blocks before. The cells of each row are put over the first of these.
 ///
 /// `Failed` where the store failed; `Tampered` where the block is not what was written there last, or has
 /// a malformed row; `Sink` where the emitter failed, and `NoMemory` where it had no memory. What was
@@ -42,6 +41,7 @@ pub fn emit_block<S: BlockStore, R: Revisions, E: Emit>(
     requires few { length cols.now ≤ length cells.old }
     ensures rows { SameSizes rows.old rows.new }
     ensures cells { length cells.new ≡ length cells.old }
+    ensures spent { (S.state store.old).spare ≤ (S.state store.new).spare + 1 }
     ensures emits { EmitsBlock E.grew E.cut E.faults (length rows.old) flat.now cols.now place seen
         result (at R.state vault.old (S.state store.old))
         (at R.state vault.new (S.state store.new)) out.old out.new }

@@ -1,4 +1,4 @@
-ghost use Rattle.std.specs.Prelude.{◌≡◌, ◌<◌, max, length};
+ghost use Rattle.std.specs.Prelude.{◌≡◌, ◌≤◌, ◌<◌, ◌+◌, max, length};
 ghost use Rattle.ob_base.specs.Schemas.{width};
 ghost use Rattle.ob_vault.specs.Places.{at};
 ghost use Rattle.ob_vault.specs.Rows.{SameSizes};
@@ -47,6 +47,7 @@ pub fn walk_block<S: BlockStore, R: Revisions>(
     requires within { place < blocks_of (length rows.old) flat.now }
     requires fit { FitBlock flat.now.schema rows.old }
     ensures rows { SameSizes rows.old rows.new }
+    ensures spent { (S.state store.old).spare ≤ (S.state store.new).spare + 1 }
     ensures walks { WalksBlock (length rows.old) flat.now place result
         (at R.state vault.old (S.state store.old)) (at R.state vault.new (S.state store.new)) }
 {

@@ -32,7 +32,7 @@ pub record ScansBlock {T V : Type 0} (pack : ℕ) (flat : Flat) (place : ℕ)
   pub told : (slots : Slots) → Represents pack flat slots old → new.store.lie ≡ None
       → MatchResult result
       (λ _. last ≡ scanned after (place * pack) first
-          (block_at pack (whole_blocks pack flat.capacity slots) place))
+      (block_at pack (whole_blocks pack flat.capacity slots) place))
       (λ e. e ≡ Failed)
 
 -- each block was read once, in order, and each slot shown to the visitor

@@ -1,4 +1,4 @@
-ghost use Rattle.std.specs.Prelude.{◌<◌, ◌*◌, length};
+ghost use Rattle.std.specs.Prelude.{◌≤◌, ◌<◌, ◌+◌, ◌*◌, length};
 ghost use Rattle.ob_vault.specs.Places.{at};
 ghost use Rattle.ob_vault.specs.Rows.{SameSizes};
 ghost use Rattle.ob_flat.specs.Words.{HasSpare, FitBlock, blocks_of};
@@ -30,6 +30,7 @@ pub fn scan_block<S: BlockStore, R: Revisions, V: Visit>(
     requires fit { FitBlock flat.now.schema rows.old }
     requires suits { V.Suits flat.now visit.old (place * length rows.old) }
     ensures rows { SameSizes rows.old rows.new }
+    ensures spent { (S.state store.old).spare ≤ (S.state store.new).spare + 1 }
     ensures scans { ScansBlock (length rows.old) flat.now place (V.after flat.now)
         (V.Suits flat.now) result visit.old visit.new
         (at R.state vault.old (S.state store.old)) (at R.state vault.new (S.state store.new)) }

@@ -44,6 +44,9 @@ get-requires g c =
 pub returns-in_err-get-clause-rows : goal.returns-in_err-get-clause-rows
 returns-in_err-get-clause-rows g c = c.get.ensures.rows
 
+pub returns-in_err-get-clause-spent : goal.returns-in_err-get-clause-spent
+returns-in_err-get-clause-spent g c = c.get.ensures.spent
+
 pub returns-in_err-get-clause-emits : goal.returns-in_err-get-clause-emits
 returns-in_err-get-clause-emits g c =
     let p = err_from_is_err_and c.from_residual.result c.from_residual.ensures.1 in
@@ -82,6 +85,9 @@ emit_rows-requires g c =
 pub returns-in-Ok-clause-rows : goal.returns-in-Ok-clause-rows
 returns-in-Ok-clause-rows g c = c.get.ensures.rows
 
+pub returns-in-Ok-clause-spent : goal.returns-in-Ok-clause-spent
+returns-in-Ok-clause-spent g c = c.get.ensures.spent
+
 pub returns-in-Ok-clause-emits : goal.returns-in-Ok-clause-emits
 returns-in-Ok-clause-emits g c =
     let table = c.requires.table in
@@ -114,6 +120,9 @@ returns-in-Ok-clause-emits g c =
 
 pub returns-in-Err-clause-rows : goal.returns-in-Err-clause-rows
 returns-in-Err-clause-rows g c = c.get.ensures.rows
+
+pub returns-in-Err-clause-spent : goal.returns-in-Err-clause-spent
+returns-in-Err-clause-spent g c = c.get.ensures.spent
 
 pub returns-in-Err-clause-emits : goal.returns-in-Err-clause-emits
 returns-in-Err-clause-emits g c =

@@ -9,6 +9,9 @@ scan_block-requires g c = record { spare = c.requires.spare; table = c.requires.
 pub returns-clause-rows : goal.returns-clause-rows
 returns-clause-rows g c = c.scan_block.ensures.rows
 
+pub returns-clause-spent : goal.returns-clause-spent
+returns-clause-spent g c = c.scan_block.ensures.spent
+
 pub returns-clause-walks : goal.returns-clause-walks
 returns-clause-walks g c =
     let scans = c.scan_block.ensures.scans in

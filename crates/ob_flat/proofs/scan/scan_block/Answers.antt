@@ -37,6 +37,9 @@ get-requires g c =
 pub returns-in_err-get-clause-rows : goal.returns-in_err-get-clause-rows
 returns-in_err-get-clause-rows g c = c.get.ensures.rows
 
+pub returns-in_err-get-clause-spent : goal.returns-in_err-get-clause-spent
+returns-in_err-get-clause-spent g c = c.get.ensures.spent
+
 pub returns-in_err-get-clause-scans : goal.returns-in_err-get-clause-scans
 returns-in_err-get-clause-scans g c =
     let p = err_from_is_err_and c.from_residual.result c.from_residual.ensures.1 in
@@ -69,6 +72,9 @@ visit_rows-requires g c =
 pub returns-in-Ok-clause-rows : goal.returns-in-Ok-clause-rows
 returns-in-Ok-clause-rows g c = c.get.ensures.rows
 
+pub returns-in-Ok-clause-spent : goal.returns-in-Ok-clause-spent
+returns-in-Ok-clause-spent g c = c.get.ensures.spent
+
 pub returns-in-Ok-clause-scans : goal.returns-in-Ok-clause-scans
 returns-in-Ok-clause-scans g c =
     let table = c.requires.table in
@@ -95,6 +101,9 @@ returns-in-Ok-clause-scans g c =
 
 pub returns-in-Err-clause-rows : goal.returns-in-Err-clause-rows
 returns-in-Err-clause-rows g c = c.get.ensures.rows
+
+pub returns-in-Err-clause-spent : goal.returns-in-Err-clause-spent
+returns-in-Err-clause-spent g c = c.get.ensures.spent
 
 pub returns-in-Err-clause-scans : goal.returns-in-Err-clause-scans
 returns-in-Err-clause-scans g c =
