@@ -71,7 +71,7 @@ pub record IsBlock (columns : Columns) (rows : List (List ℕ)) : Type 0 where
   pub wide : Wide (width columns) rows
   pub spells : AreSlots columns rows
 
--- this run made the region of a table, in whichever order, and a write to this place of it is in turn
+-- this run made the region of a table, in whichever order, and a write to this place is in turn
 pub record MayWrite (pack : ℕ) (to : Flat) (place : ℕ) (w : World) : Type 0 where
   pub own : IsOwn to.region w
   pub order : Order
@@ -79,7 +79,7 @@ pub record MayWrite (pack : ℕ) (to : Flat) (place : ℕ) (w : World) : Type 0 
   pub within : place < blocks_of pack to
   pub turn : OnTurn to.region (table_region order pack to.schema to.capacity) place w
 
--- this run made it in no order: a write to any of its places is in turn
+-- this run made the region of a table, to be written in any order
 pub record IsUnordered (pack : ℕ) (to : Flat) (w : World) : Type 0 where
   pub own : IsOwn to.region w
   pub lives : Lives to.region (table_region Any pack to.schema to.capacity) w
@@ -101,7 +101,8 @@ pub record WritesBlock {T : Type 0} (pack : ℕ) (to : Flat) (place : ℕ) (bloc
       → AreKept to.schema slots (place * pack) to.capacity block
       → HoldsChosen pack to slots place new)
 
--- the first x places of the result of a selection were written, and hold its blocks
+-- the first x places of the result of a selection were written: they hold rows or dummies, and where the table's slots
+-- are told, its blocks
 pub record IsFilledTo (s : Selection) (to : Flat) (x : ℕ) (w : World) : Type 0 where
   pub written : (p : ℕ) → p < x → Written to.region p w
   pub rows : IsTrue w.store.tells

@@ -1,4 +1,4 @@
-ghost use Rattle.std.specs.Prelude.{◌<◌, ◌≤◌, ◌*◌, length};
+ghost use Rattle.std.specs.Prelude.{◌<◌, ◌≤◌, ◌+◌, ◌*◌, length};
 ghost use Rattle.ob_base.specs.Schemas.{width};
 ghost use Rattle.ob_vault.specs.Places.{at};
 ghost use Rattle.ob_vault.specs.Rows.{SameSizes, Wide};
@@ -41,6 +41,7 @@ pub fn collect_block<S: BlockStore, R: Revisions>(
     requires fit { FitBlock flat.now.schema rows.old }
     requires wide { Wide (width flat.now.schema) kept.old }
     requires few { seen ≤ place * length rows.old }
+    ensures spent { (S.state store.old).spare ≤ (S.state store.new).spare + 1 }
     ensures rows { SameSizes rows.old rows.new }
     ensures kept { SameSizes kept.old kept.new }
     ensures collects { CollectsBlock (length rows.old) flat.now (is_true pred.now) place seen from k

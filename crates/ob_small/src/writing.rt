@@ -24,6 +24,7 @@ pub fn write_block<S: BlockStore, R: Revisions>(
     requires may { MayWrite (length block.now) to.now place
         (at R.state vault.old (S.state store.old)) }
     requires block { IsBlock to.now.schema block.now }
+    ensures spent { (S.state store.old).spare ≤ (S.state store.new).spare + 1 }
     ensures writes { WritesBlock (length block.now) to.now place block.now result
         (at R.state vault.old (S.state store.old)) (at R.state vault.new (S.state store.new)) }
 {

@@ -21,8 +21,8 @@ put-requires-clause-place g c =
     let fit : RowsFit block (length block * width to.schema) = record { each = width to.schema; whole = refl; some = c.requires.block.some; wide = c.requires.block.wide } in
     may_put _ c.args.place (table_region may.order (length block) to.schema to.capacity) _ _ may.own may.lives may.within fit may.turn
 
-pub returns-in_err-put : goal.returns-in_err-put
-returns-in_err-put g c =
+pub returns-in_err-put-clause-writes : goal.returns-in_err-put-clause-writes
+returns-in_err-put-clause-writes g c =
     let p = err_from_is_err_and c.from_residual.result c.from_residual.ensures.1 in
     let may = c.requires.may in
     let to = c.args.to.now in
@@ -30,20 +30,18 @@ returns-in_err-put g c =
     let shape = table_region may.order (length block) to.schema to.capacity in
     let put = c.in_err-put.ensures.puts in
     rw (p.1, p.2) (record {
-      writes = record {
-        ran = record { ok = tt; err = pass_of _ _ _ _ _ put.err };
-        never = ap pass_error put.never;
-        seals = record { seals = λ good fine. put.seals good shape may.lives (accepted good (length block) to.region to.schema block c.requires.block.some refl fine c.requires.block.spells) };
-        only = put.only;
-        turn = put.turn;
-        written = tt;
-        rows = tt;
-        told = tt;
-      };
+      ran = record { ok = tt; err = pass_of _ _ _ _ _ put.err };
+      never = ap pass_error put.never;
+      seals = record { seals = λ good fine. put.seals good shape may.lives (accepted good (length block) to.region to.schema block c.requires.block.some refl fine c.requires.block.spells) };
+      only = put.only;
+      turn = put.turn;
+      written = tt;
+      rows = tt;
+      told = tt;
     })
 
-pub returns : goal.returns
-returns g c =
+pub returns-clause-writes : goal.returns-clause-writes
+returns-clause-writes g c =
     let may = c.requires.may in
     let to = c.args.to.now in
     let block = c.args.block.now in
@@ -53,16 +51,14 @@ returns g c =
     let shape = table_region may.order pack to.schema to.capacity in
     let put = c.in_ok-put.ensures.puts in
     record {
-      writes = record {
-        ran = record { ok = put.ok; err = tt };
-        never = tt;
-        seals = record { seals = λ good fine. put.seals good shape may.lives (accepted good pack to.region to.schema block some refl fine c.requires.block.spells) };
-        only = put.only;
-        turn = put.turn;
-        written = put.written;
-        rows = λ tells. block_put pack to.schema block to.region place _ some refl c.requires.block.spells (put.told tells shape may.lives);
-        told = λ tells slots keeps.
-            let spelt = kept_block to.schema pack to.capacity (blocks_for pack to.capacity) place slots block (blocks_hold pack to.capacity some) refl may.within keeps in
-            holds_rows to.region place _ _ _ (joined_block pack to.schema (block_at pack (whole_blocks pack to.capacity (fitted to.capacity slots)) place) block some refl spelt) (put.told tells shape may.lives);
-      };
+      ran = record { ok = put.ok; err = tt };
+      never = tt;
+      seals = record { seals = λ good fine. put.seals good shape may.lives (accepted good pack to.region to.schema block some refl fine c.requires.block.spells) };
+      only = put.only;
+      turn = put.turn;
+      written = put.written;
+      rows = λ tells. block_put pack to.schema block to.region place _ some refl c.requires.block.spells (put.told tells shape may.lives);
+      told = λ tells slots keeps.
+          let spelt = kept_block to.schema pack to.capacity (blocks_for pack to.capacity) place slots block (blocks_hold pack to.capacity some) refl may.within keeps in
+          holds_rows to.region place _ _ _ (joined_block pack to.schema (block_at pack (whole_blocks pack to.capacity (fitted to.capacity slots)) place) block some refl spelt) (put.told tells shape may.lives);
     }
