@@ -1,4 +1,4 @@
-use Rattle.std.proofs.Common.{◌≡◌, ◌≤◌, ◌+◌, ℕ, inr, length, sym, ap, subst}
+use Rattle.std.proofs.Common.{◌≤◌, ◌+◌, ℕ, inr, length, sym, ap, subst}
 use Rattle.std.proofs.lemmas.Result.{err_from_is_err_and}
 use Rattle.ob_base.specs.Schemas.{width}
 use Rattle.ob_row.specs.Spelling.{kind_at}
