@@ -44,3 +44,9 @@ returns-in-Err-clause-aggregates g c =
       kept = refl;
       told = scans.told;
     }
+
+pub returns-in-Ok-clause-spent : goal.returns-in-Ok-clause-spent
+returns-in-Ok-clause-spent g c = c.scan_block.ensures.spent
+
+pub returns-in-Err-clause-spent : goal.returns-in-Err-clause-spent
+returns-in-Err-clause-spent g c = c.scan_block.ensures.spent

@@ -96,3 +96,13 @@ returns-in-Err-clause-gathers g c =
           let spelt = got pack flat slots _ is table.some u (length c.args.rows.now) c.get.new.rows c.requires.within refl same.count wide bytes in
           absurd (c.in-Err.ensures.gathers.malformed (record { slots = block_at pack (whole_blocks pack flat.capacity slots) u; spelt = spelt }));
     }
+
+-- ---- what is left to ask
+pub returns-in_err-get-clause-spent : goal.returns-in_err-get-clause-spent
+returns-in_err-get-clause-spent g c = c.get.ensures.spent
+
+pub returns-in-Ok-clause-spent : goal.returns-in-Ok-clause-spent
+returns-in-Ok-clause-spent g c = c.get.ensures.spent
+
+pub returns-in-Err-clause-spent : goal.returns-in-Err-clause-spent
+returns-in-Err-clause-spent g c = c.get.ensures.spent
