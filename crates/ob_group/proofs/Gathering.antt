@@ -1,5 +1,5 @@
 -- The groups of a table that is read block by block, while other calls are made between its own.
-use Rattle.std.proofs.Common.{◌≡◌, ◌≤◌, ◌<◌, ◌+◌, ◌*◌, ◌++◌, ℕ, Bool, inl, inr, List, [], None, Option, Result, Ok, Err, length, take, sym, ◌∙◌, ap, subst, arith}
+use Rattle.std.proofs.Common.{◌≡◌, ◌≤◌, ◌<◌, ◌+◌, ◌*◌, ◌++◌, ℕ, Bool, inl, inr, List, [], None, Ok, Err, length, take, sym, ◌∙◌, ap, subst, arith}
 use Rattle.std.specs.Prelude.{filter}
 use Rattle.std.proofs.lemmas.Bool.{cases_lt}
 use Rattle.std.proofs.lemmas.List.{take_all}
@@ -20,7 +20,6 @@ use Rattle.ob_row.specs.Spelling.{kind_at}
 use Rattle.ob_row.specs.Totals.{group_heads, grouped}
 use Rattle.ob_blocks.proofs.Blocks.{take_blocks}
 use Rattle.ob_flat.specs.declared.flat.Flat.{Flat}
-use Rattle.ob_flat.specs.declared.fault.OpErr.{OpErr}
 use Rattle.ob_flat.specs.Emission.{SlotsToEnd}
 use Rattle.ob_flat.specs.Flats.{Represents, whole_blocks}
 use Rattle.ob_flat.specs.Scans.{MayScan}

@@ -40,7 +40,7 @@ pub record AggregatesAt {T : Type 0} (pack : ℕ) (flat : Flat) (p : Row → Boo
   pub told : (slots : Slots) → Represents pack flat slots old → new.store.lie ≡ None
       → MatchResult result
       (λ _. sums_new ≡ sums_with p aggs sums_old
-          (block_at pack (whole_blocks pack flat.capacity slots) place))
+      (block_at pack (whole_blocks pack flat.capacity slots) place))
       (λ e. e ≡ Failed)
 
 -- the sums are those of so many blocks of a table, whatever was asked of other regions between the reads

@@ -1,4 +1,4 @@
-ghost use Rattle.std.specs.Prelude.{◌≡◌, ◌≤◌, ◌<◌, ◌*◌, max, map, take, length};
+ghost use Rattle.std.specs.Prelude.{◌≡◌, ◌≤◌, ◌<◌, ◌+◌, ◌*◌, max, map, take, length};
 ghost use Rattle.ob_base.specs.Schemas.{width};
 ghost use Rattle.ob_vault.specs.Places.{at};
 ghost use Rattle.ob_vault.specs.Rows.{SameSizes};
@@ -109,6 +109,7 @@ pub fn aggregate_block<S: BlockStore, R: Revisions>(
     requires aggs { AreAggs flat.now.schema aggs.now }
     requires sums { AreUpTo (place * length rows.old) sums.old }
     ensures rows { SameSizes rows.old rows.new }
+    ensures spent { (S.state store.old).spare ≤ (S.state store.new).spare + 1 }
     ensures aggregates { AggregatesAt (length rows.old) flat.now (is_true pred.now) aggs.now place
         result sums.old sums.new
         (at R.state vault.old (S.state store.old)) (at R.state vault.new (S.state store.new)) }

@@ -1,4 +1,4 @@
-ghost use Rattle.std.specs.Prelude.{◌≡◌, ◌≤◌, ◌<◌, length};
+ghost use Rattle.std.specs.Prelude.{◌≡◌, ◌≤◌, ◌<◌, ◌+◌, length};
 ghost use Rattle.ob_vault.specs.Places.{at};
 ghost use Rattle.ob_vault.specs.Rows.{SameSizes};
 ghost use Rattle.ob_row.specs.Spelling.{kind_at};
@@ -48,6 +48,7 @@ pub fn group_block<S: BlockStore, R: Revisions>(
     requires most { length groups.old ≤ buckets.old.most }
     ensures most { buckets.new.most ≡ buckets.old.most }
     ensures rows { SameSizes rows.old rows.new }
+    ensures spent { (S.state store.old).spare ≤ (S.state store.new).spare + 1 }
     ensures gathers { GathersAt (length rows.old) flat.now (is_true pred.now) key items.now place n
         result groups.old groups.new buckets.new
         (at R.state vault.old (S.state store.old)) (at R.state vault.new (S.state store.new)) }

@@ -1,4 +1,4 @@
-use Rattle.std.proofs.Common.{◌≡◌, ◌*◌, length, refl, ◌∙◌, ap, subst, sym}
+use Rattle.std.proofs.Common.{◌*◌, length, refl, ◌∙◌, ap, subst, sym}
 use Rattle.ob_row.specs.Truth.{is_true}
 use Rattle.ob_blocks.specs.Blocks.{block_at}
 use Rattle.ob_flat.specs.Flats.{whole_blocks}
@@ -44,3 +44,9 @@ returns-in-Err-clause-aggregates g c =
       kept = refl;
       told = scans.told;
     }
+
+pub returns-in-Ok-clause-spent : goal.returns-in-Ok-clause-spent
+returns-in-Ok-clause-spent g c = c.scan_block.ensures.spent
+
+pub returns-in-Err-clause-spent : goal.returns-in-Err-clause-spent
+returns-in-Err-clause-spent g c = c.scan_block.ensures.spent

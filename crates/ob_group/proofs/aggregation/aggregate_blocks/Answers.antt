@@ -1,8 +1,7 @@
-use Rattle.std.proofs.Common.{◌≡◌, ◌*◌, ℤ, List, Option, length, filter, map, take, sym, ◌∙◌, ap, subst, arith}
+use Rattle.std.proofs.Common.{◌≡◌, ◌*◌, List, length, map, take, ◌∙◌, ap, arith}
 use Rattle.std.proofs.lemmas.List.{length-map, length-take-le}
 use Rattle.std.proofs.lemmas.Result.{err_from_is_err_and}
 use Rattle.ob_base.specs.declared.shown.Shown.{Shown}
-use Rattle.ob_row.specs.Slots.{rows}
 use Rattle.ob_row.specs.Truth.{is_true}
 use Rattle.ob_vault.specs.Calls.{none}
 use Rattle.ob_flat.specs.Flats.{whole_blocks}

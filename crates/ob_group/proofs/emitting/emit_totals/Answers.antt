@@ -1,9 +1,6 @@
-use Rattle.std.proofs.Common.{List, [], ◌∷◌, ℕ, length, map, take, Result, Err, sym, ◌∙◌, ap}
-use Rattle.ob_base.specs.declared.emit.EmitErr.{EmitErr}
+use Rattle.std.proofs.Common.{List, [], ◌∷◌, length, take, sym, ◌∙◌, ap}
 use Rattle.ob_base.specs.declared.shown.Shown.{Shown}
-use Rattle.ob_base.specs.Events.{Head, Row}
-use Rattle.ob_group.specs.Labels.{agg_label}
-use Rattle.ob_group.specs.Steps.{EmitsAll}
+use Rattle.ob_base.specs.Events.{Head}
 use Rattle.ob_group.proofs.Rows.{row_emitted, row_headless}
 use Rattle.ob_group.proofs.emitting.emit_totals.Goals as goal
 

@@ -1,4 +1,4 @@
-use Rattle.std.proofs.Common.{◌≡◌, ◌≤◌, ◌+◌, ℕ, inr, length, sym, ap, subst}
+use Rattle.std.proofs.Common.{◌≤◌, ◌+◌, ℕ, inr, length, sym, ap, subst}
 use Rattle.std.proofs.lemmas.Result.{err_from_is_err_and}
 use Rattle.ob_base.specs.Schemas.{width}
 use Rattle.ob_row.specs.Spelling.{kind_at}
@@ -96,3 +96,13 @@ returns-in-Err-clause-gathers g c =
           let spelt = got pack flat slots _ is table.some u (length c.args.rows.now) c.get.new.rows c.requires.within refl same.count wide bytes in
           absurd (c.in-Err.ensures.gathers.malformed (record { slots = block_at pack (whole_blocks pack flat.capacity slots) u; spelt = spelt }));
     }
+
+-- ---- what is left to ask
+pub returns-in_err-get-clause-spent : goal.returns-in_err-get-clause-spent
+returns-in_err-get-clause-spent g c = c.get.ensures.spent
+
+pub returns-in-Ok-clause-spent : goal.returns-in-Ok-clause-spent
+returns-in-Ok-clause-spent g c = c.get.ensures.spent
+
+pub returns-in-Err-clause-spent : goal.returns-in-Err-clause-spent
+returns-in-Err-clause-spent g c = c.get.ensures.spent
