@@ -83,6 +83,7 @@ module _ {F : Type 0} (k : Kind F) (p : Public) (share : ℕ) (ended : List Clos
         omega (arith, e, s, stand.most);
     several = let e = ap (λ (l : List F). length l) flyers ∙ length-set_at last.flyers i g in omega (arith, e, stand.several);
     shares = ap (λ (l : List (List ℕ)). length l) kept ∙ stand.shares ∙ ap (λ (m : ℕ). m * share) (sym (ap (λ (l : List F). length l) flyers ∙ length-set_at last.flyers i g));
+    narrow = stand.narrow;
   }
 
   pub rest_ends : (start : Moment F) → LeavesRest k p start last → LeavesRest k p start now

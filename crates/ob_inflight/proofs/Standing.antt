@@ -156,6 +156,7 @@ module _ {F : Type 0} (k : Kind F) (laws : Laws k) (p : Public) (share : ℕ) (e
         omega (arith, sum, is, more, steps.books.most, stand.most);
     several = let e = ap (λ (l : List F). length l) flyers ∙ length-set_at last.flyers i g in omega (arith, e, stand.several);
     shares = count ∙ stand.shares ∙ ap (λ (m : ℕ). m * share) (sym (ap (λ (l : List F). length l) flyers ∙ length-set_at last.flyers i g));
+    narrow = stand.narrow;
   }
 
   -- what has changed since the start

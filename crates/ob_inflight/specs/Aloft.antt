@@ -68,6 +68,7 @@ pub record AreFlying {F : Type 0} (k : Kind F) (p : Public) (share : ℕ) (ended
   pub most : spent now.world + most_of k now.flyers < 2 ^ 63 + 2 ^ 60
   pub several : length now.flyers ≤ 8
   pub shares : length now.kept ≡ length now.flyers * share
+  pub narrow : share < 2 ^ 32
 
 -- the rows fit those that have not ended
 pub record AllFit {F : Type 0} (k : Kind F) (share : ℕ) (rows : List (List ℕ)) (now : Moment F) : Type 0 where

@@ -23,6 +23,7 @@ pub record MayStep {F : Type 0} (k : Kind F) (share place : ℕ) (rows : List (L
   pub at : slice_get now.flyers place ≡ Some flyer
   pub several : length now.flyers ≤ 8
   pub shares : length now.kept ≡ length now.flyers * share
+  pub narrow : share < 2 ^ 32
   pub ready : Ready now.world
   pub few : spent now.world + (k.progress flyer).most < 2 ^ 63 + 2 ^ 60
   pub spare : booked_by k now.flyers ≤ now.world.store.spare
@@ -55,6 +56,7 @@ pub record MayEnd {F : Type 0} (k : Kind F) (share place : ℕ) (flyers : List F
   pub at : slice_get flyers place ≡ Some flyer
   pub several : length flyers ≤ 8
   pub shares : length kept ≡ length flyers * share
+  pub narrow : share < 2 ^ 32
   pub over : (k.progress flyer).over ≡ true
   pub going : (k.progress flyer).outcome ≡ None
   pub held : IsHeldSomewhere (k.Holds flyer (share_at share place kept))

@@ -143,8 +143,8 @@ fn end_at<F: Flyer, E: FlightOut>(
         flyers.old flyers.new out.old out.new }
     ensures sink { SinkCause result (E.faults out.old) (E.faults out.new) }
 {
-    let from = place * share;
-    let own = &kept[from..from + share];
+    let (_front, rest) = kept.split_at(place * share);
+    let (own, _back) = rest.split_at(share);
     let outcome = match flyers[place].finish(own, out) {
         Ok(outcome) => outcome,
         Err(e) => return Err(op_error(e)),

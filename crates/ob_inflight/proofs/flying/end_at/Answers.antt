@@ -1,0 +1,154 @@
+use Rattle.std.proofs.Common.{◌≡◌, ◌⊎◌, inl, inr, ◌≤◌, ◌<◌, ◌+◌, ◌-◌, ◌*◌, ◌^◌, ℕ, Bool, true, false, List, [], ◌∷◌, ◌++◌, Some, None, length, take, drop, refl, sym, ◌∙◌, ap, subst, arith, length-drop}
+use Rattle.std.specs.Prelude.{Result, Ok, Err, OnOk, slice_get, slice_set, slice_index_or}
+use Rattle.std.proofs.lemmas.Option.{get_or_from_slice_get, slice_get-get_or, slice_get_within}
+use Rattle.ob_base.specs.Events.{Event}
+use Rattle.ob_base.specs.Counts.{Rises}
+use Rattle.ob_base.specs.Events.{EmitCause}
+use Rattle.ob_base.specs.declared.emit.EmitErr.{EmitErr}
+use Rattle.ob_base.specs.declared.emit.EmitErr.TheVariants.{Failed, NoMemory}
+use Rattle.ob_flat.specs.Passes.{SinkCause}
+use Rattle.ob_flat.specs.declared.fault.OpErr.{OpErr}
+use Rattle.ob_vault.proofs.RowsLemmas.{rows_room}
+use Rattle.ob_vault.specs.State.{World}
+use Rattle.ob_verdict.specs.declared.outcome.Outcome.{Outcome}
+use Rattle.ob_inflight.specs.Answers.{Finishes, error_of}
+use Rattle.ob_inflight.specs.Kinds.{share_at}
+use Rattle.ob_inflight.proofs.Emitting.{sink_behind, sink_error}
+use Rattle.ob_inflight.proofs.flying.end_at.Goals as goal
+
+pub overflow_mul-place : goal.overflow_mul-place
+overflow_mul-place g c =
+    let less = slice_get_within c.args.flyers.now c.args.place c.requires.flyer c.requires.at in
+    let room = rows_room c.args.place 8 c.args.share (omega (arith, less, c.requires.several)) in
+    omega (arith, room, c.requires.narrow)
+
+pub split_at-requires : goal.split_at-requires
+split_at-requires g c =
+    let less = slice_get_within c.args.flyers.now c.args.place c.requires.flyer c.requires.at in
+    omega (arith, rows_room c.args.place (length c.args.flyers.now) c.args.share less, c.requires.shares)
+
+pub split_at-requires-2 : goal.split_at-requires-2
+split_at-requires-2 g c =
+    let less = slice_get_within c.args.flyers.now c.args.place c.requires.flyer c.requires.at in
+    omega (arith, rows_room c.args.place (length c.args.flyers.now) c.args.share less, c.requires.shares, c.split_at.ensures.back_len)
+
+pub bounds-flyers-place : goal.bounds-flyers-place
+bounds-flyers-place g c = slice_get_within c.args.flyers.now c.args.place c.requires.flyer c.requires.at
+
+pub finish-requires-clause-over : goal.finish-requires-clause-over
+finish-requires-clause-over g c =
+    ap (λ f. (g.F.Flyer.progress f).over) (get_or_from_slice_get c.args.flyers.now c.args.place c.requires.flyer c.index-flyers-place.result c.requires.at) ∙ c.requires.over
+
+pub finish-requires-clause-going : goal.finish-requires-clause-going
+finish-requires-clause-going g c =
+    ap (λ f. (g.F.Flyer.progress f).outcome) (get_or_from_slice_get c.args.flyers.now c.args.place c.requires.flyer c.index-flyers-place.result c.requires.at) ∙ c.requires.going
+
+pub finish-requires-clause-holds : goal.finish-requires-clause-holds
+finish-requires-clause-holds g c =
+    let same = get_or_from_slice_get c.args.flyers.now c.args.place c.requires.flyer c.index-flyers-place.result c.requires.at in
+    let own = c.split_at-2.ensures.front ∙ ap (take c.args.share) c.split_at.ensures.back in
+    record {
+      world = c.requires.held.world;
+      held = record {
+        events = c.requires.held.held.events;
+        holds = subst (λ f. g.F.Flyer.Holds f c.split_at-2.result.0.now c.requires.held.held.events c.requires.held.world) (sym same)
+            (subst (λ (l : List (List ℕ)). g.F.Flyer.Holds c.requires.flyer l c.requires.held.held.events c.requires.held.world) (sym own) c.requires.held.held.holds);
+      };
+    }
+
+pub overflow_cast-place : goal.overflow_cast-place
+overflow_cast-place g c =
+    let less = slice_get_within c.args.flyers.now c.args.place c.requires.flyer c.requires.at in
+    omega (arith, less, c.requires.several)
+
+pub ended-requires : goal.ended-requires
+ended-requires g c = record { few = c.in-Ok.ensures.few }
+
+-- the share, as it is called
+own_is : (share place : ℕ) (kept front rest own : List (List ℕ)) → rest ≡ drop (place * share) kept → own ≡ take share rest → own ≡ share_at share place kept
+own_is share place kept front rest own back now = now ∙ ap (take share) back
+
+pub returns-in-Err-clause-ends : goal.returns-in-Err-clause-ends
+returns-in-Err-clause-ends g c =
+    let less = slice_get_within c.args.flyers.now c.args.place c.requires.flyer c.requires.at in
+    let before = slice_index_or c.args.flyers.now c.args.place c.index-flyers-place.result in
+    let own : c.split_at-2.result.0.now ≡ share_at c.args.share c.args.place c.args.kept.now = c.split_at-2.ensures.front ∙ ap (take c.args.share) c.split_at.ensures.back in
+    let finishes = subst (λ (l : List (List ℕ)). Finishes g.E.Emit.grew g.E.Emit.cut (g.F.Flyer.Holds before l) (g.F.Flyer.Holds c.finish.new.self l) (g.F.Flyer.Halts before) (Err {T = Outcome} c.in-Err.e) c.args.out.now c.finish.new.out) own c.in-Err.ensures.finishes in
+    record {
+      before = slice_index_or c.args.flyers.now c.args.place c.index-flyers-place.result;
+      after = c.finish.new.self;
+      at = slice_get-get_or c.args.flyers.now c.args.place c.index-flyers-place.result less;
+      flyers = refl;
+      needs = c.finish.ensures.needs;
+      may = c.finish.ensures.may;
+      ends = inl (record {
+        same = c.in-Err.ensures.ends.err;
+        error = c.in-Err.e;
+        is = c.op_error.ensures;
+        finishes = λ events w holds.
+            let part = finishes.err events w holds in
+            record {
+              part = part.part;
+              leads = part.leads;
+              quiet = part.quiet;
+              halts = subst (λ (e : OpErr). g.F.Flyer.Halts before events part.part e w w) (sym c.op_error.ensures) part.halts;
+            };
+      });
+    }
+
+pub returns-in-Ok-ended-clause-ends : goal.returns-in-Ok-ended-clause-ends
+returns-in-Ok-ended-clause-ends g c =
+    let less = slice_get_within c.args.flyers.now c.args.place c.requires.flyer c.requires.at in
+    let before = slice_index_or c.args.flyers.now c.args.place c.index-flyers-place.result in
+    let own : c.split_at-2.result.0.now ≡ share_at c.args.share c.args.place c.args.kept.now = c.split_at-2.ensures.front ∙ ap (take c.args.share) c.split_at.ensures.back in
+    let finishes = subst (λ (l : List (List ℕ)). Finishes g.E.Emit.grew g.E.Emit.cut (g.F.Flyer.Holds before l) (g.F.Flyer.Holds c.finish.new.self l) (g.F.Flyer.Halts before) (Ok {E = EmitErr} c.in-Ok.outcome) c.args.out.now c.finish.new.out) own c.in-Ok.ensures.finishes in
+    record {
+      before = slice_index_or c.args.flyers.now c.args.place c.index-flyers-place.result;
+      after = c.finish.new.self;
+      at = slice_get-get_or c.args.flyers.now c.args.place c.index-flyers-place.result less;
+      flyers = refl;
+      needs = c.finish.ensures.needs;
+      may = c.finish.ensures.may;
+      ends = record {
+        outcome = c.in-Ok.outcome;
+        answered = c.in-Ok.ensures.ends.ok;
+        between = c.finish.new.out;
+        finishes = finishes.ok;
+        closes = c.in-Ok-ended.ensures.ok;
+      };
+    }
+
+pub returns-in-Err-ended-clause-ends : goal.returns-in-Err-ended-clause-ends
+returns-in-Err-ended-clause-ends g c =
+    let less = slice_get_within c.args.flyers.now c.args.place c.requires.flyer c.requires.at in
+    let before = slice_index_or c.args.flyers.now c.args.place c.index-flyers-place.result in
+    let own : c.split_at-2.result.0.now ≡ share_at c.args.share c.args.place c.args.kept.now = c.split_at-2.ensures.front ∙ ap (take c.args.share) c.split_at.ensures.back in
+    let finishes = subst (λ (l : List (List ℕ)). Finishes g.E.Emit.grew g.E.Emit.cut (g.F.Flyer.Holds before l) (g.F.Flyer.Holds c.finish.new.self l) (g.F.Flyer.Halts before) (Ok {E = EmitErr} c.in-Ok.outcome) c.args.out.now c.finish.new.out) own c.in-Ok.ensures.finishes in
+    record {
+      before = slice_index_or c.args.flyers.now c.args.place c.index-flyers-place.result;
+      after = c.finish.new.self;
+      at = slice_get-get_or c.args.flyers.now c.args.place c.index-flyers-place.result less;
+      flyers = refl;
+      needs = c.finish.ensures.needs;
+      may = c.finish.ensures.may;
+      ends = inr (record {
+        outcome = c.in-Ok.outcome;
+        answered = c.in-Ok.ensures.ends.ok;
+        error = c.in-Err-ended.e;
+        is = c.op_error-in-Err-ended.ensures;
+        between = c.finish.new.out;
+        finishes = finishes.ok;
+        parted = c.in-Err-ended.ensures.err;
+      });
+    }
+
+pub returns-in-Err-clause-sink : goal.returns-in-Err-clause-sink
+returns-in-Err-clause-sink g c = sink_error _ _ c.in-Err.e c.op_error.result (g.E.Emit.faults c.args.out.now) (g.E.Emit.faults c.finish.new.out) c.op_error.ensures c.in-Err.ensures.sink
+
+pub returns-in-Ok-ended-clause-sink : goal.returns-in-Ok-ended-clause-sink
+returns-in-Ok-ended-clause-sink g c = c.in-Ok-ended.ensures.cause ∙ c.in-Ok.ensures.sink
+
+pub returns-in-Err-ended-clause-sink : goal.returns-in-Err-ended-clause-sink
+returns-in-Err-ended-clause-sink g c =
+    sink_behind _ _ c.in-Err-ended.e c.op_error-in-Err-ended.result (g.E.Emit.faults c.args.out.now) (g.E.Emit.faults c.finish.new.out) (g.E.Emit.faults c.ended.new.self)
+    c.op_error-in-Err-ended.ensures c.in-Ok.ensures.sink c.in-Err-ended.ensures.cause
