@@ -69,7 +69,7 @@ fn picked<F: Flyer>(flyers: &[F], ended: usize, word: u64) -> usize
     ensures place { (none : ℕ) → result ≡ place_by word none
         (going true ended (map (λ f. (F.progress f).prints) (drop ended flyers.now))) }
 {
-    let open = &flyers[ended..];
+    let (_ended, open) = flyers.split_at(ended);
     let n = count_going(open, true);
     place_going(open, true, ended, (word % n as u64) as usize)
 }
