@@ -1,4 +1,15 @@
 -- Statements in flight: SELECTs without a join that ask in turns, and how their accesses are merged.
+--
+-- A flight (`Flight`) is what is public, the statements, each with how far it is (`Flying`), and what was asked so far and by
+-- which of them. It begins with `boarding`. In a turn (`turn`) a word picks one of those that may go, and that one does its
+-- next act: an access of its script, or its end. One may go that has not ended, and whose next act doesn't print unless it is
+-- the first that has not ended; so the answers come in the order of the statements. The number of a region is drawn at its
+-- make: until then a statement's script is taken with the next one. After `turns_of` turns all have ended, and `merge` is
+-- what was asked.
+--
+-- `runnable`, `turn`, `turns`, `turns_for`, `trace_in`, `views` and `draw` stay shut in proofs: else a goal would show whole
+-- scripts. Open them by an `unfolding` line, or take the laws: `turns_by_gates` for one turn, `flights_keep_order` for any
+-- number of them, and `flights_end` for all. What else there is opens by itself.
 use Rattle.std.specs.Prelude.{◌≡◌, ◌≤◌, ◌==◌, ◌||◌, ◌&&◌, ◌+◌, ◌/◌, ◌%◌, ◌*◌, ℕ, zero, suc, Bool, true, false, not, List, [], ◌∷◌, ◌++◌, length, map, filter, take, replicate, Option, Some, None, unwrap_or, slice_get, slice_set, slice_index_or, if◌then◌else◌}
 use Rattle.ob_base.specs.Accesses.{makes}
 use Rattle.ob_base.specs.declared.access.Access.{Access}
@@ -24,7 +35,7 @@ pub record Flying : Type 0 where
 abbrev pub boarded : Served → Flying
 boarded x = record { served = x; asked = 0; region = None; ended = false }
 
--- all its accesses, where a region that it is yet to make has the next number
+-- all its accesses; a region that it is yet to make has the next number
 abbrev pub accesses_of : Public → Flying → List Access
 accesses_of p f =
     script (record p { next_region = unwrap_or f.region p.next_region }) f.served.skeleton f.served.seen
@@ -135,12 +146,16 @@ own i log = map (λ (e : ℕ × Access). e.1) (filter (λ (e : ℕ × Access). e
 abbrev pub asked_at : Public → ℕ → Served → List Access
 asked_at p g x = script (record p { next_region = g }) x.skeleton x.seen
 
--- it makes its own region and no other; and what it asks before that, and how much it asks, doesn't hang on its number
-pub record IsSteady (p : Public) (x : Served) : Type 0 where
-  pub before : (n g h : ℕ) → makes (take n (asked_at p g x)) ≡ 0
-      → take n (asked_at p g x) ≡ take n (asked_at p h x)
-  pub makes_own : (n g q blocks len : ℕ) → slice_get (asked_at p g x) n ≡ Some (Make q blocks len) → q ≡ g
-  pub long : (g h : ℕ) → length (asked_at p g x) ≡ length (asked_at p h x)
+-- accesses by the number of a region: they make that region and no other, what comes before doesn't hang on its number,
+-- nor does how many they are
+pub record AreSteadyAccesses (asks : ℕ → List Access) : Type 0 where
+  pub before : (n g h : ℕ) → makes (take n (asks g)) ≡ 0 → take n (asks g) ≡ take n (asks h)
+  pub makes_own : (n g q blocks len : ℕ) → slice_get (asks g) n ≡ Some (Make q blocks len) → q ≡ g
+  pub long : (g h : ℕ) → length (asks g) ≡ length (asks h)
+
+-- so are those of a statement
+abbrev pub IsSteady : Public → Served → Type 0
+IsSteady p x = AreSteadyAccesses (λ g. asked_at p g x)
 
 -- a statement has asked the first of its accesses, in order, and all of them where it has ended
 pub record IsAhead (p : Public) (next i : ℕ) (f : Flying) (log : List (ℕ × Access)) : Type 0 where
