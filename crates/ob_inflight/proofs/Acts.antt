@@ -17,7 +17,7 @@ use Rattle.ob_vault.specs.State.{Start, World, earlier}
 use Rattle.ob_vault.specs.Tied.{Calm, EndsAt, ReadsIn, Ready}
 use Rattle.ob_inflight.specs.Closing.{RisesBy}
 use Rattle.ob_inflight.specs.Leaving.{own_or_next}
-use Rattle.ob_inflight.specs.Picking.{one_if}
+use Rattle.ob_script.specs.FlightLaws.{one_if}
 use Rattle.ob_inflight.specs.Progress.{KeepsRegion, MakesNext, WentOrFailed}
 
 -- a first part of one access, which was asked, is that access

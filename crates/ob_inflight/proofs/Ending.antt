@@ -13,9 +13,11 @@ use Rattle.ob_verdict.specs.declared.outcome.Outcome.{Outcome}
 use Rattle.ob_inflight.specs.Aloft.{AreFlying, IsMade, LeavesRest, booked_by, failed_of, most_of}
 use Rattle.ob_inflight.specs.Closing.{Closed, RisesBy, events_at, outcome_at}
 use Rattle.ob_inflight.specs.Kinds.{Kind, Moment, moment, share_at}
-use Rattle.ob_inflight.specs.Picking.{one_if, total}
+use Rattle.ob_script.specs.FlightLaws.{one_if, total}
 use Rattle.ob_inflight.specs.Progress.{Progress, flying_of}
-use Rattle.ob_inflight.proofs.Lists.{length-set_at, the_same, total_set}
+use Rattle.ob_inflight.proofs.Lists.{length-set_at}
+use Rattle.ob_script.proofs.FlightEnds.{total_set}
+use Rattle.std.proofs.lemmas.Option.{same_Some}
 use Rattle.ob_inflight.proofs.Turning.{outcome_open}
 use Rattle.ob_inflight.proofs.Standing.{Here, Now, There, ended_here, ended_there, get_now, get_then, now_at, outcome_here, outcome_there}
 
@@ -103,7 +105,7 @@ module _ {F : Type 0} (k : Kind F) (p : Public) (share : ℕ) (ended : List Clos
       made_before : {q : ℕ} → IsMade k q last → IsMade k q (moment now.flyers now.kept last.world)
       made_before {q} was = elim (cases_eq was.place i) [
         | inl here ↦
-            let is : was.flyer ≡ f = the_same (sym was.at ∙ ap (slice_get last.flyers) here ∙ at) in
+            let is : was.flyer ≡ f = same_Some _ _ (sym was.at ∙ ap (slice_get last.flyers) here ∙ at) in
             record {
               place = i;
               flyer = g;

@@ -3,7 +3,7 @@ use Rattle.std.proofs.Common.{◌≡◌, ◌⊎◌, inl, inr, ℕ, zero, suc, �
 use Rattle.std.specs.Prelude.{Result, Ok, Err, is_some, slice_get, slice_set}
 use Rattle.std.proofs.lemmas.Bool.{cases_eq}
 use Rattle.std.proofs.lemmas.List.{append-nil, length-drop, length-map}
-use Rattle.std.proofs.lemmas.Option.{slice_get_within}
+use Rattle.std.proofs.lemmas.Option.{same_Some, slice_get_within}
 use Rattle.ob_base.specs.Events.{Event}
 use Rattle.ob_base.specs.declared.access.Access.{Access}
 use Rattle.ob_base.specs.declared.config.Public.{Public}
@@ -27,12 +27,14 @@ use Rattle.ob_inflight.specs.Flown.{HasFlown, StopsFlight, StopsInClosing, Stops
 use Rattle.ob_inflight.specs.Kinds.{Kind, Moment, Taker, moment, share_at}
 use Rattle.ob_inflight.specs.Leaving.{own_or_next}
 use Rattle.ob_inflight.specs.Parts.{EndsAt, EndsInClosing, EndsInFinish, EndsWhole, HasTurned, MayEnd, MayStep, MayTurn, StepsAt, TakesTurn, left_to}
-use Rattle.ob_inflight.specs.Picking.{going, one_if, total}
+use Rattle.ob_inflight.specs.Picking.{going}
+use Rattle.ob_script.specs.FlightLaws.{one_if, total}
 use Rattle.ob_inflight.specs.Progress.{KeepsCourse, Progress, Steps, act_of, flying_of}
 use Rattle.ob_inflight.proofs.Acts.{reads_calm, reads_cut, calm_none, rises_none, step_asked, step_calm, step_lasts, stops_faults}
 use Rattle.ob_inflight.proofs.Emitting.{emitted_ends, emitted_more}
 use Rattle.ob_inflight.proofs.Ending.{ends_acts, ends_flying, rest_ends, same_total, stand_ends}
-use Rattle.ob_inflight.proofs.Lists.{get_some, length-set_at, the_same, total_few, total_none, total_set, total_within}
+use Rattle.ob_inflight.proofs.Lists.{get_some, length-set_at, total_few}
+use Rattle.ob_script.proofs.FlightEnds.{total_none, total_set, total_part}
 use Rattle.ob_inflight.proofs.Picks.{IsGoing, picked_going, going_some}
 use Rattle.ob_inflight.proofs.Standing.{course_next, failed_next, events_here, events_there, fit_next, rest_step, stand_step, step_next}
 use Rattle.ob_inflight.proofs.Stopping.{began_next, begun_next}
@@ -46,7 +48,7 @@ get_drop (suc n) (x ∷ xs) m = let e : suc n + m ≡ suc (n + m) = omega arith 
 
 get_map : {A B : Type 0} (f : A → B) (xs : List A) (m : ℕ) (x : A) → slice_get xs m ≡ Some x → slice_get (map f xs) m ≡ Some (f x)
 get_map f [] m x at = cc
-get_map f (y ∷ xs) zero x at = ap (λ z. Some (f z)) (the_same at)
+get_map f (y ∷ xs) zero x at = ap (λ z. Some (f z)) (same_Some _ _ at)
 get_map f (y ∷ xs) (suc m) x at = get_map f xs m x at
 
 pub record IsPicked {F : Type 0} (k : Kind F) (e i : ℕ) (fs : List F) : Type 0 where
@@ -64,7 +66,7 @@ is_picked {F} k word e i fs some less place =
       within = less;
       first = λ f at printing.
           let there : slice_get (drop e fs) o.at ≡ Some f = get_drop e fs o.at ∙ ap (slice_get fs) (sym o.is) ∙ at in
-          let same : o.printing ≡ (k.progress f).prints = the_same (sym o.get ∙ get_map (λ (f : F). (k.progress f).prints) (drop e fs) o.at f there) in
+          let same : o.printing ≡ (k.progress f).prints = same_Some _ _ (sym o.get ∙ get_map (λ (f : F). (k.progress f).prints) (drop e fs) o.at f there) in
           omega (arith, o.is, (o.quiet (same ∙ printing)).0);
     }
   where
@@ -97,7 +99,7 @@ module _ {F : Type 0} (k : Kind F) (laws : Laws k) (p : Public) (share : ℕ) (r
 
   pub may_step : (k.progress f).over ≡ false → MayStep k share i rows last
   may_step left =
-      let most = total_within (λ (h : F). (k.progress h).most) last.flyers i f at in
+      let most = total_part (λ (h : F). (k.progress h).most) last.flyers i f at in
       let small = total_few (λ (h : F). (k.progress h).booked) (2 ^ 59) last.flyers stand.few in
       record {
         flyer = f;
@@ -440,7 +442,7 @@ module _ {F E : Type 0} (k : Kind F) (t : Taker E) (laws : Laws k) (word share c
         over_first k laws turned.public share rows_old turned.ended turned.current last turned.aloft.stand turned.fit i f at picked.after picked over
 
     same_flyer : (x : F) → slice_get last.flyers i ≡ Some x → x ≡ f
-    same_flyer x get = the_same (sym get ∙ at)
+    same_flyer x get = same_Some _ _ (sym get ∙ at)
 
     pub takes_end : {T : Type 0} (x : T) → ((s : E) → t.grew s s []) → EndsAt k t i (share_at share i last.kept) (Ok x) last.flyers gs out_old out_new
         → TakesTurn k t word share count (Ok (count + 1)) rows_old rows_old last (moment gs last.kept last.world) out_old out_new
@@ -494,7 +496,7 @@ turned_first {F} {E} k t starts words share rows start out boarded = record {
     };
     course = record {
       size = refl;
-      each = λ i f g at get. let same : f ≡ g = the_same (sym at ∙ get) in subst (λ (h : F). KeepsCourse (k.progress f) (k.progress h)) same (record { stmt = refl; flat = refl; refusal = refl; public = refl });
+      each = λ i f g at get. let same : f ≡ g = same_Some _ _ (sym at ∙ get) in subst (λ (h : F). KeepsCourse (k.progress f) (k.progress h)) same (record { stmt = refl; flat = refl; refusal = refl; public = refl });
     };
   };
   fit = boarded.fit;

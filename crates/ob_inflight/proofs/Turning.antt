@@ -13,9 +13,13 @@ use Rattle.ob_inflight.specs.Aloft.{AllMay, AreFlying, Turned, acts_of, flight_i
 use Rattle.ob_inflight.specs.Closing.{Closed, outcome_at}
 use Rattle.ob_inflight.specs.Kinds.{Kind, Moment}
 use Rattle.ob_inflight.specs.Leaving.{Leaves}
-use Rattle.ob_inflight.specs.Picking.{going, one_if, total}
+use Rattle.ob_inflight.specs.Picking.{going}
+use Rattle.ob_script.specs.FlightLaws.{one_if, total}
 use Rattle.ob_inflight.specs.Progress.{ActsAs, Progress, act_of, flying_of, numbered}
-use Rattle.ob_inflight.proofs.Lists.{set_here, set_there, the_same, total_set}
+use Rattle.ob_script.proofs.FlightEnds.{total_set}
+use Rattle.ob_script.proofs.ListPlaces.{get_set_same, get_set_other}
+use Rattle.std.proofs.lemmas.Option.{same_Some}
+use Rattle.ob_script.proofs.FlightTurns.{turns_more}
 use Rattle.ob_inflight.proofs.Picks.{runnable_behind}
 
 -- the laws of a kind
@@ -37,7 +41,7 @@ module _ {F : Type 0} (k : Kind F) where
   unfolding AllMay
   may_at [] xs i f all at = cc
   may_at (g ∷ fs) [] i f all at = absurd all
-  may_at (g ∷ fs) (x ∷ xs) zero f all at = record { x = x; get = refl; may = subst (λ (h : F). k.May h x) (the_same at) all.0 }
+  may_at (g ∷ fs) (x ∷ xs) zero f all at = record { x = x; get = refl; may = subst (λ (h : F). k.May h x) (same_Some _ _ at) all.0 }
   may_at (g ∷ fs) (x ∷ xs) (suc i) f all at = let m = may_at fs xs i f all.1 at in record { x = m.x; get = m.get; may = m.may }
 
   pub may_before : (fs : List F) (xs : List Served) (i : ℕ) (f g : F) → slice_get fs i ≡ Some f → ((x : Served) → k.May g x → k.May f x)
@@ -46,7 +50,7 @@ module _ {F : Type 0} (k : Kind F) where
   may_before [] xs i f g at earlier all = all
   may_before (h ∷ fs) [] zero f g at earlier all = absurd all
   may_before (h ∷ fs) [] (suc i) f g at earlier all = absurd all
-  may_before (h ∷ fs) (x ∷ xs) zero f g at earlier all = (subst (λ (y : F). k.May y x) (sym (the_same at)) (earlier x all.0), all.1)
+  may_before (h ∷ fs) (x ∷ xs) zero f g at earlier all = (subst (λ (y : F). k.May y x) (sym (same_Some _ _ at)) (earlier x all.0), all.1)
   may_before (h ∷ fs) (x ∷ xs) (suc i) f g at earlier all = (all.0, may_before fs xs i f g at earlier all.1)
 
   pub may_size : (fs : List F) (xs : List Served) → AllMay k.May fs xs → length xs ≡ length fs
@@ -66,14 +70,14 @@ module _ {F : Type 0} (k : Kind F) where
   unfolding flying_in
   flying_at [] xs i f x at get = cc
   flying_at (g ∷ fs) [] i f x at get = cc
-  flying_at (g ∷ fs) (y ∷ xs) zero f x at get = λ j. Some (flying_of (k.progress (the_same at j)) (the_same get j))
+  flying_at (g ∷ fs) (y ∷ xs) zero f x at get = λ j. Some (flying_of (k.progress (same_Some _ _ at j)) (same_Some _ _ get j))
   flying_at (g ∷ fs) (y ∷ xs) (suc i) f x at get = flying_at fs xs i f x at get
 
   flying_set : (fs : List F) (xs : List Served) (i : ℕ) (g : F) (x : Served) → slice_get xs i ≡ Some x → flying_in k (slice_set fs i g) xs ≡ slice_set (flying_in k fs xs) i (flying_of (k.progress g) x)
   unfolding flying_in
   flying_set [] xs i g x get = refl
   flying_set (f ∷ fs) [] i g x get = cc
-  flying_set (f ∷ fs) (y ∷ xs) zero g x get = λ j. flying_of (k.progress g) (the_same get j) ∷ flying_in k fs xs
+  flying_set (f ∷ fs) (y ∷ xs) zero g x get = λ j. flying_of (k.progress g) (same_Some _ _ get j) ∷ flying_in k fs xs
   flying_set (f ∷ fs) (y ∷ xs) (suc i) g x get = ap (λ (l : List Flying). flying_of (k.progress f) y ∷ l) (flying_set fs xs i g x get)
 
   -- ---- who is picked
@@ -102,7 +106,7 @@ module _ {F : Type 0} (k : Kind F) where
 
   gate_at : (fs : List F) (i : ℕ) (g : Gate) → slice_get (map gate fs) i ≡ Some g → (f : F) × (slice_get fs i ≡ Some f) × (g ≡ gate f)
   gate_at [] i g at = cc
-  gate_at (f ∷ fs) zero g at = (f, refl, sym (the_same at))
+  gate_at (f ∷ fs) zero g at = (f, refl, sym (same_Some _ _ at))
   gate_at (f ∷ fs) (suc i) g at = gate_at fs i g at
 
   prints_drop : (n : ℕ) (fs : List F) → map (λ (g : Gate). g.prints) (drop n (map gate fs)) ≡ map (λ (f : F). (k.progress f).prints) (drop n fs)
@@ -133,10 +137,6 @@ turn_at word i s fl act place at is =
     ap (λ (j : ℕ). picked_in j (slice_get s.flying j) s) place
     ∙ ap (λ (o : Option Flying). picked_in i o s) at
     ∙ ap (λ (a : Option Access). gone_on i a fl s) is
-
-turns_more : (words : ℕ → ℕ) (n : ℕ) (s : Flight) → turns words (n + 1) s ≡ turn (words n) (turns words n s)
-unfolding turns
-turns_more words n s = let e : n + 1 ≡ suc n = omega arith in ap (λ (m : ℕ). turns words m s) e
 
 -- the accesses of an act
 pub asks_of : Option Access → List Access

@@ -5,7 +5,7 @@ use Rattle.ob_base.specs.declared.access.Access.{Access}
 use Rattle.ob_base.specs.declared.config.Public.{Public}
 use Rattle.ob_inflight.specs.Closing.{Closed, RisesBy, events_at, outcome_at}
 use Rattle.ob_inflight.specs.Kinds.{Kind, Moment, share_at}
-use Rattle.ob_inflight.specs.Picking.{one_if, total}
+use Rattle.ob_script.specs.FlightLaws.{one_if, total}
 use Rattle.ob_inflight.specs.Progress.{KeepsCourse, SealsBlocks, flying_of, numbered}
 use Rattle.ob_script.specs.Flights.{Flight, Flying, accesses_in, boarded, turns}
 use Rattle.ob_script.specs.Trace.{Served}

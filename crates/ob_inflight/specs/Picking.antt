@@ -6,12 +6,3 @@ unfoldable pub going : (first : Bool) → (place : ℕ) → (prints : List Bool)
 going first place [] = []
 going first place (prints ∷ more) =
     (if first || not prints then place ∷ [] else []) ++ going false (place + 1) more
-
--- the sum of a number of each
-unfoldable pub total : {F : Type 0} → (F → ℕ) → List F → ℕ
-total n [] = 0
-total n (f ∷ fs) = n f + total n fs
-
-abbrev pub one_if : Bool → ℕ
-one_if false = 0
-one_if true = 1

@@ -7,9 +7,10 @@ use Rattle.ob_vault.specs.Places.{at}
 use Rattle.ob_vault.specs.Rows.{SameSizes}
 use Rattle.ob_inflight.specs.Answers.{Tells}
 use Rattle.ob_inflight.specs.Kinds.{share_at}
-use Rattle.ob_inflight.specs.Picking.{total}
+use Rattle.ob_script.specs.FlightLaws.{total}
 use Rattle.ob_inflight.specs.Progress.{Progress}
-use Rattle.ob_inflight.proofs.Lists.{share_here, share_there, sizes_there, total_within}
+use Rattle.ob_inflight.proofs.Lists.{share_here, share_there, sizes_there}
+use Rattle.ob_script.proofs.FlightEnds.{total_part}
 use Rattle.ob_inflight.proofs.flying.step_at.Goals as goal
 
 pub booked_by-requires : goal.booked_by-requires
@@ -24,7 +25,7 @@ bounds-flyers-place-2 g c = slice_get_within c.args.flyers.now c.args.place c.re
 pub overflow_sub-others : goal.overflow_sub-others
 overflow_sub-others g c =
     let same = ap (λ f. (g.F.Flyer.progress f).booked) (get_or_from_slice_get c.args.flyers.now c.args.place c.requires.flyer c.index-flyers-place.result c.requires.at) in
-    omega (arith, same, c.booked.ensures, c.booked_by.ensures, total_within (λ f. (g.F.Flyer.progress f).booked) c.args.flyers.now c.args.place c.requires.flyer c.requires.at)
+    omega (arith, same, c.booked.ensures, c.booked_by.ensures, total_part (λ f. (g.F.Flyer.progress f).booked) c.args.flyers.now c.args.place c.requires.flyer c.requires.at)
 
 pub overflow_mul-place : goal.overflow_mul-place
 overflow_mul-place g c =
@@ -54,7 +55,7 @@ pub step-requires-clause-spare : goal.step-requires-clause-spare
 step-requires-clause-spare g c =
     let same = ap (λ f. (g.F.Flyer.progress f).booked) (get_or_from_slice_get c.args.flyers.now c.args.place c.requires.flyer c.index-flyers-place.result c.requires.at) in
     let too = ap (λ f. (g.F.Flyer.progress f).booked) (get_or_from_slice_get c.args.flyers.now c.args.place c.requires.flyer c.index-flyers-place-2.result c.requires.at) in
-    omega (arith, same, too, c.booked.ensures, c.booked_by.ensures, c.requires.spare, total_within (λ f. (g.F.Flyer.progress f).booked) c.args.flyers.now c.args.place c.requires.flyer c.requires.at)
+    omega (arith, same, too, c.booked.ensures, c.booked_by.ensures, c.requires.spare, total_part (λ f. (g.F.Flyer.progress f).booked) c.args.flyers.now c.args.place c.requires.flyer c.requires.at)
 
 pub step-requires-clause-others : goal.step-requires-clause-others
 step-requires-clause-others g c = omega (arith, c.booked_by.ensures, c.requires.small)
@@ -118,7 +119,7 @@ returns-clause-steps g c =
       flyers = refl;
       kept = λ i within off. share_there c.args.share c.args.place front own now back front_len own_len c.step.ensures.kept i off ∙ ap (share_at c.args.share i) (sym all);
       others = c.booked_by.result - c.booked.result;
-      rest = omega (arith, same, too, c.booked.ensures, c.booked_by.ensures, total_within (λ f. (g.F.Flyer.progress f).booked) c.args.flyers.now c.args.place c.requires.flyer c.requires.at);
+      rest = omega (arith, same, too, c.booked.ensures, c.booked_by.ensures, total_part (λ f. (g.F.Flyer.progress f).booked) c.args.flyers.now c.args.place c.requires.flyer c.requires.at);
       fits = subst (λ (l : List (List ℕ)). OnOk c.step.result (g.F.Flyer.Fits c.step.new.self c.step.new.rows l)) (sym is) c.step.ensures.fits;
       steps = c.step.ensures.steps;
       stops = c.step.ensures.stops;
