@@ -101,9 +101,10 @@ fn step_at<S: BlockStore, R: Revisions, F: Flyer, E: FlightOut>(
     place: usize,
     out: &mut E,
 ) -> Result<(), OpErr>
-    requires {
+    requires may {
         MayStep (kind_of F.progress F.May F.Needs F.Fits F.Holds F.Halts) share place rows.old
         (moment flyers.old kept.old (at R.state vault.old (S.state store.old))) }
+    requires within { place < length flyers.old }
     ensures rows { SameSizes rows.old rows.new }
     ensures kept { SameSizes kept.old kept.new }
     ensures steps { StepsAt (kind_of F.progress F.May F.Needs F.Fits F.Holds F.Halts)
@@ -136,9 +137,10 @@ fn end_at<F: Flyer, E: FlightOut>(
     place: usize,
     out: &mut E,
 ) -> Result<(), OpErr>
-    requires {
+    requires may {
         MayEnd (kind_of F.progress F.May F.Needs F.Fits F.Holds F.Halts) share place flyers.old
         kept.now }
+    requires within { place < length flyers.old }
     ensures ends { EndsAt (kind_of F.progress F.May F.Needs F.Fits F.Holds F.Halts)
         (taker_of E.grew E.cut E.closed E.parted) place (share_at share place kept.now) result
         flyers.old flyers.new out.old out.new }

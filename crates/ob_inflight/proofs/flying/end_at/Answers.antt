@@ -1,6 +1,6 @@
 use Rattle.std.proofs.Common.{◌≡◌, ◌⊎◌, inl, inr, ◌≤◌, ◌<◌, ◌+◌, ◌-◌, ◌*◌, ◌^◌, ℕ, Bool, true, false, List, [], ◌∷◌, ◌++◌, Some, None, length, take, drop, refl, sym, ◌∙◌, ap, subst, arith, length-drop}
 use Rattle.std.specs.Prelude.{Result, Ok, Err, OnOk, slice_get, slice_set, slice_index_or}
-use Rattle.std.proofs.lemmas.Option.{get_or_from_slice_get, slice_get-get_or, slice_get_within}
+use Rattle.std.proofs.lemmas.Option.{get_or_from_slice_get, slice_get-get_or}
 use Rattle.ob_base.specs.Events.{Event}
 use Rattle.ob_base.specs.Counts.{Rises}
 use Rattle.ob_base.specs.Events.{EmitCause}
@@ -18,48 +18,45 @@ use Rattle.ob_inflight.proofs.flying.end_at.Goals as goal
 
 pub overflow_mul-place : goal.overflow_mul-place
 overflow_mul-place g c =
-    let less = slice_get_within c.args.flyers.now c.args.place c.requires.flyer c.requires.at in
-    let room = rows_room c.args.place 8 c.args.share (omega (arith, less, c.requires.several)) in
-    omega (arith, room, c.requires.narrow)
+    let less = c.requires.within in
+    let room = rows_room c.args.place 8 c.args.share (omega (arith, less, c.requires.may.several)) in
+    omega (arith, room, c.requires.may.narrow)
 
 pub split_at-requires : goal.split_at-requires
 split_at-requires g c =
-    let less = slice_get_within c.args.flyers.now c.args.place c.requires.flyer c.requires.at in
-    omega (arith, rows_room c.args.place (length c.args.flyers.now) c.args.share less, c.requires.shares)
+    let less = c.requires.within in
+    omega (arith, rows_room c.args.place (length c.args.flyers.now) c.args.share less, c.requires.may.shares)
 
 pub split_at-requires-2 : goal.split_at-requires-2
 split_at-requires-2 g c =
-    let less = slice_get_within c.args.flyers.now c.args.place c.requires.flyer c.requires.at in
-    omega (arith, rows_room c.args.place (length c.args.flyers.now) c.args.share less, c.requires.shares, c.split_at.ensures.back_len)
-
-pub bounds-flyers-place : goal.bounds-flyers-place
-bounds-flyers-place g c = slice_get_within c.args.flyers.now c.args.place c.requires.flyer c.requires.at
+    let less = c.requires.within in
+    omega (arith, rows_room c.args.place (length c.args.flyers.now) c.args.share less, c.requires.may.shares, c.split_at.ensures.back_len)
 
 pub finish-requires-clause-over : goal.finish-requires-clause-over
 finish-requires-clause-over g c =
-    ap (λ f. (g.F.Flyer.progress f).over) (get_or_from_slice_get c.args.flyers.now c.args.place c.requires.flyer c.index-flyers-place.result c.requires.at) ∙ c.requires.over
+    ap (λ f. (g.F.Flyer.progress f).over) (get_or_from_slice_get c.args.flyers.now c.args.place c.requires.may.flyer c.index-flyers-place.result c.requires.may.at) ∙ c.requires.may.over
 
 pub finish-requires-clause-going : goal.finish-requires-clause-going
 finish-requires-clause-going g c =
-    ap (λ f. (g.F.Flyer.progress f).outcome) (get_or_from_slice_get c.args.flyers.now c.args.place c.requires.flyer c.index-flyers-place.result c.requires.at) ∙ c.requires.going
+    ap (λ f. (g.F.Flyer.progress f).outcome) (get_or_from_slice_get c.args.flyers.now c.args.place c.requires.may.flyer c.index-flyers-place.result c.requires.may.at) ∙ c.requires.may.going
 
 pub finish-requires-clause-holds : goal.finish-requires-clause-holds
 finish-requires-clause-holds g c =
-    let same = get_or_from_slice_get c.args.flyers.now c.args.place c.requires.flyer c.index-flyers-place.result c.requires.at in
+    let same = get_or_from_slice_get c.args.flyers.now c.args.place c.requires.may.flyer c.index-flyers-place.result c.requires.may.at in
     let own = c.split_at-2.ensures.front ∙ ap (take c.args.share) c.split_at.ensures.back in
     record {
-      world = c.requires.held.world;
+      world = c.requires.may.held.world;
       held = record {
-        events = c.requires.held.held.events;
-        holds = subst (λ f. g.F.Flyer.Holds f c.split_at-2.result.0.now c.requires.held.held.events c.requires.held.world) (sym same)
-            (subst (λ (l : List (List ℕ)). g.F.Flyer.Holds c.requires.flyer l c.requires.held.held.events c.requires.held.world) (sym own) c.requires.held.held.holds);
+        events = c.requires.may.held.held.events;
+        holds = subst (λ f. g.F.Flyer.Holds f c.split_at-2.result.0.now c.requires.may.held.held.events c.requires.may.held.world) (sym same)
+            (subst (λ (l : List (List ℕ)). g.F.Flyer.Holds c.requires.may.flyer l c.requires.may.held.held.events c.requires.may.held.world) (sym own) c.requires.may.held.held.holds);
       };
     }
 
 pub overflow_cast-place : goal.overflow_cast-place
 overflow_cast-place g c =
-    let less = slice_get_within c.args.flyers.now c.args.place c.requires.flyer c.requires.at in
-    omega (arith, less, c.requires.several)
+    let less = c.requires.within in
+    omega (arith, less, c.requires.may.several)
 
 pub ended-requires : goal.ended-requires
 ended-requires g c = record { few = c.in-Ok.ensures.few }
@@ -70,7 +67,7 @@ own_is share place kept front rest own back now = now ∙ ap (take share) back
 
 pub returns-in-Err-clause-ends : goal.returns-in-Err-clause-ends
 returns-in-Err-clause-ends g c =
-    let less = slice_get_within c.args.flyers.now c.args.place c.requires.flyer c.requires.at in
+    let less = c.requires.within in
     let before = slice_index_or c.args.flyers.now c.args.place c.index-flyers-place.result in
     let own : c.split_at-2.result.0.now ≡ share_at c.args.share c.args.place c.args.kept.now = c.split_at-2.ensures.front ∙ ap (take c.args.share) c.split_at.ensures.back in
     let finishes = subst (λ (l : List (List ℕ)). Finishes g.E.Emit.grew g.E.Emit.cut (g.F.Flyer.Holds before l) (g.F.Flyer.Holds c.finish.new.self l) (g.F.Flyer.Halts before) (Err {T = Outcome} c.in-Err.e) c.args.out.now c.finish.new.out) own c.in-Err.ensures.finishes in
@@ -98,7 +95,7 @@ returns-in-Err-clause-ends g c =
 
 pub returns-in-Ok-ended-clause-ends : goal.returns-in-Ok-ended-clause-ends
 returns-in-Ok-ended-clause-ends g c =
-    let less = slice_get_within c.args.flyers.now c.args.place c.requires.flyer c.requires.at in
+    let less = c.requires.within in
     let before = slice_index_or c.args.flyers.now c.args.place c.index-flyers-place.result in
     let own : c.split_at-2.result.0.now ≡ share_at c.args.share c.args.place c.args.kept.now = c.split_at-2.ensures.front ∙ ap (take c.args.share) c.split_at.ensures.back in
     let finishes = subst (λ (l : List (List ℕ)). Finishes g.E.Emit.grew g.E.Emit.cut (g.F.Flyer.Holds before l) (g.F.Flyer.Holds c.finish.new.self l) (g.F.Flyer.Halts before) (Ok {E = EmitErr} c.in-Ok.outcome) c.args.out.now c.finish.new.out) own c.in-Ok.ensures.finishes in
@@ -120,7 +117,7 @@ returns-in-Ok-ended-clause-ends g c =
 
 pub returns-in-Err-ended-clause-ends : goal.returns-in-Err-ended-clause-ends
 returns-in-Err-ended-clause-ends g c =
-    let less = slice_get_within c.args.flyers.now c.args.place c.requires.flyer c.requires.at in
+    let less = c.requires.within in
     let before = slice_index_or c.args.flyers.now c.args.place c.index-flyers-place.result in
     let own : c.split_at-2.result.0.now ≡ share_at c.args.share c.args.place c.args.kept.now = c.split_at-2.ensures.front ∙ ap (take c.args.share) c.split_at.ensures.back in
     let finishes = subst (λ (l : List (List ℕ)). Finishes g.E.Emit.grew g.E.Emit.cut (g.F.Flyer.Holds before l) (g.F.Flyer.Holds c.finish.new.self l) (g.F.Flyer.Halts before) (Ok {E = EmitErr} c.in-Ok.outcome) c.args.out.now c.finish.new.out) own c.in-Ok.ensures.finishes in

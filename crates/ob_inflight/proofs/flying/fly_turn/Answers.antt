@@ -20,14 +20,14 @@ bounds-flyers-place g c = c.picked-place.ensures.within
 pub overflow_add-result : goal.overflow_add-result
 overflow_add-result g c = omega (arith, c.requires.counts, c.requires.some, c.requires.stand.several)
 
-pub end_at-requires : goal.end_at-requires
-end_at-requires g c =
+pub end_at-requires-clause-may : goal.end_at-requires-clause-may
+end_at-requires-clause-may g c =
     let laws : Laws (kind_of g.F.Flyer.progress g.F.Flyer.May g.F.Flyer.Needs g.F.Flyer.Fits g.F.Flyer.Holds g.F.Flyer.Halts) = record { served = g.met.F.Flyer.served; acts = g.met.F.Flyer.acts; frames = g.met.F.Flyer.frames; below = g.met.F.Flyer.below; refits = g.met.F.Flyer.refits } in
     may_end (kind_of g.F.Flyer.progress g.F.Flyer.May g.F.Flyer.Needs g.F.Flyer.Fits g.F.Flyer.Holds g.F.Flyer.Halts) laws c.requires.public c.args.share c.args.rows.now c.requires.ended c.requires.current (moment c.args.flyers.now c.args.kept.now (at g.R.Revisions.state c.args.vault.now (g.S.BlockStore.state c.args.store.now)))
     c.requires.stand c.requires.fit c.picked-place.result (slice_index_or c.args.flyers.now c.picked-place.result c.index-flyers-place.result) (slice_get-get_or c.args.flyers.now c.picked-place.result c.index-flyers-place.result c.picked-place.ensures.within) (picked_by (kind_of g.F.Flyer.progress g.F.Flyer.May g.F.Flyer.Needs g.F.Flyer.Fits g.F.Flyer.Holds g.F.Flyer.Halts) c.args.word c.args.ended (length c.requires.ended) c.picked-place.result c.args.flyers.now c.requires.counts (omega (arith, c.requires.counts, c.requires.some)) c.picked-place.ensures.within c.picked-place.ensures.place).after (sym c.is_over.ensures ∙ c.if-is_over.true)
 
-pub step_at-requires : goal.step_at-requires
-step_at-requires g c =
+pub step_at-requires-clause-may : goal.step_at-requires-clause-may
+step_at-requires-clause-may g c =
     let laws : Laws (kind_of g.F.Flyer.progress g.F.Flyer.May g.F.Flyer.Needs g.F.Flyer.Fits g.F.Flyer.Holds g.F.Flyer.Halts) = record { served = g.met.F.Flyer.served; acts = g.met.F.Flyer.acts; frames = g.met.F.Flyer.frames; below = g.met.F.Flyer.below; refits = g.met.F.Flyer.refits } in
     may_step (kind_of g.F.Flyer.progress g.F.Flyer.May g.F.Flyer.Needs g.F.Flyer.Fits g.F.Flyer.Holds g.F.Flyer.Halts) laws c.requires.public c.args.share c.args.rows.now c.requires.ended c.requires.current (moment c.args.flyers.now c.args.kept.now (at g.R.Revisions.state c.args.vault.now (g.S.BlockStore.state c.args.store.now)))
     c.requires.stand c.requires.fit c.picked-place.result (slice_index_or c.args.flyers.now c.picked-place.result c.index-flyers-place.result) (slice_get-get_or c.args.flyers.now c.picked-place.result c.index-flyers-place.result c.picked-place.ensures.within) (picked_by (kind_of g.F.Flyer.progress g.F.Flyer.May g.F.Flyer.Needs g.F.Flyer.Fits g.F.Flyer.Holds g.F.Flyer.Halts) c.args.word c.args.ended (length c.requires.ended) c.picked-place.result c.args.flyers.now c.requires.counts (omega (arith, c.requires.counts, c.requires.some)) c.picked-place.ensures.within c.picked-place.ensures.place).after (sym c.is_over.ensures ∙ c.if-is_over.false)
