@@ -76,7 +76,7 @@ fn picked<F: Flyer>(flyers: &[F], ended: usize, word: u64) -> usize
 }
 
 // For how many of their accesses the store has room.
-#[tactic(auto, unfolding(crate::specs::Picking::total))]
+#[tactic(auto, unfolding(ob_script::specs::FlightLaws::total))]
 fn booked_by<F: Flyer>(flyers: &[F]) -> u64
     requires { total (λ f. (F.progress f).booked) flyers.now < 2 ^ 64 }
     ensures { result ≡ total (λ f. (F.progress f).booked) flyers.now }

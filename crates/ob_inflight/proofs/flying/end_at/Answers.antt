@@ -61,16 +61,12 @@ overflow_cast-place g c =
 pub ended-requires : goal.ended-requires
 ended-requires g c = record { few = c.in-Ok.ensures.few }
 
--- the share, as it is called
-own_is : (share place : ℕ) (kept front rest own : List (List ℕ)) → rest ≡ drop (place * share) kept → own ≡ take share rest → own ≡ share_at share place kept
-own_is share place kept front rest own back now = now ∙ ap (take share) back
-
 pub returns-in-Err-clause-ends : goal.returns-in-Err-clause-ends
 returns-in-Err-clause-ends g c =
     let less = c.requires.within in
     let before = slice_index_or c.args.flyers.now c.args.place c.index-flyers-place.result in
     let own : c.split_at-2.result.0.now ≡ share_at c.args.share c.args.place c.args.kept.now = c.split_at-2.ensures.front ∙ ap (take c.args.share) c.split_at.ensures.back in
-    let finishes = subst (λ (l : List (List ℕ)). Finishes g.E.Emit.grew g.E.Emit.cut (g.F.Flyer.Holds before l) (g.F.Flyer.Holds c.finish.new.self l) (g.F.Flyer.Halts before) (Err {T = Outcome} c.in-Err.e) c.args.out.now c.finish.new.out) own c.in-Err.ensures.finishes in
+    let finishes = subst (λ (l : List (List ℕ)). Finishes {T = Outcome} g.E.Emit.grew g.E.Emit.cut (g.F.Flyer.Holds before l) (g.F.Flyer.Holds c.finish.new.self l) (g.F.Flyer.Halts before) (Err c.in-Err.e) c.args.out.now c.finish.new.out) own c.in-Err.ensures.finishes in
     record {
       before = slice_index_or c.args.flyers.now c.args.place c.index-flyers-place.result;
       after = c.finish.new.self;
@@ -98,7 +94,7 @@ returns-in-Ok-ended-clause-ends g c =
     let less = c.requires.within in
     let before = slice_index_or c.args.flyers.now c.args.place c.index-flyers-place.result in
     let own : c.split_at-2.result.0.now ≡ share_at c.args.share c.args.place c.args.kept.now = c.split_at-2.ensures.front ∙ ap (take c.args.share) c.split_at.ensures.back in
-    let finishes = subst (λ (l : List (List ℕ)). Finishes g.E.Emit.grew g.E.Emit.cut (g.F.Flyer.Holds before l) (g.F.Flyer.Holds c.finish.new.self l) (g.F.Flyer.Halts before) (Ok {E = EmitErr} c.in-Ok.outcome) c.args.out.now c.finish.new.out) own c.in-Ok.ensures.finishes in
+    let finishes = subst (λ (l : List (List ℕ)). Finishes {T = Outcome} g.E.Emit.grew g.E.Emit.cut (g.F.Flyer.Holds before l) (g.F.Flyer.Holds c.finish.new.self l) (g.F.Flyer.Halts before) (Ok c.in-Ok.outcome) c.args.out.now c.finish.new.out) own c.in-Ok.ensures.finishes in
     record {
       before = slice_index_or c.args.flyers.now c.args.place c.index-flyers-place.result;
       after = c.finish.new.self;
@@ -120,7 +116,7 @@ returns-in-Err-ended-clause-ends g c =
     let less = c.requires.within in
     let before = slice_index_or c.args.flyers.now c.args.place c.index-flyers-place.result in
     let own : c.split_at-2.result.0.now ≡ share_at c.args.share c.args.place c.args.kept.now = c.split_at-2.ensures.front ∙ ap (take c.args.share) c.split_at.ensures.back in
-    let finishes = subst (λ (l : List (List ℕ)). Finishes g.E.Emit.grew g.E.Emit.cut (g.F.Flyer.Holds before l) (g.F.Flyer.Holds c.finish.new.self l) (g.F.Flyer.Halts before) (Ok {E = EmitErr} c.in-Ok.outcome) c.args.out.now c.finish.new.out) own c.in-Ok.ensures.finishes in
+    let finishes = subst (λ (l : List (List ℕ)). Finishes {T = Outcome} g.E.Emit.grew g.E.Emit.cut (g.F.Flyer.Holds before l) (g.F.Flyer.Holds c.finish.new.self l) (g.F.Flyer.Halts before) (Ok c.in-Ok.outcome) c.args.out.now c.finish.new.out) own c.in-Ok.ensures.finishes in
     record {
       before = slice_index_or c.args.flyers.now c.args.place c.index-flyers-place.result;
       after = c.finish.new.self;
@@ -140,12 +136,12 @@ returns-in-Err-ended-clause-ends g c =
     }
 
 pub returns-in-Err-clause-sink : goal.returns-in-Err-clause-sink
-returns-in-Err-clause-sink g c = sink_error _ _ c.in-Err.e c.op_error.result (g.E.Emit.faults c.args.out.now) (g.E.Emit.faults c.finish.new.out) c.op_error.ensures c.in-Err.ensures.sink
+returns-in-Err-clause-sink g c = sink_error Outcome (Unit {0}) c.in-Err.e c.op_error.result (g.E.Emit.faults c.args.out.now) (g.E.Emit.faults c.finish.new.out) c.op_error.ensures c.in-Err.ensures.sink
 
 pub returns-in-Ok-ended-clause-sink : goal.returns-in-Ok-ended-clause-sink
 returns-in-Ok-ended-clause-sink g c = c.in-Ok-ended.ensures.cause ∙ c.in-Ok.ensures.sink
 
 pub returns-in-Err-ended-clause-sink : goal.returns-in-Err-ended-clause-sink
 returns-in-Err-ended-clause-sink g c =
-    sink_behind _ _ c.in-Err-ended.e c.op_error-in-Err-ended.result (g.E.Emit.faults c.args.out.now) (g.E.Emit.faults c.finish.new.out) (g.E.Emit.faults c.ended.new.self)
+    sink_behind (Unit {0}) (Unit {0}) c.in-Err-ended.e c.op_error-in-Err-ended.result (g.E.Emit.faults c.args.out.now) (g.E.Emit.faults c.finish.new.out) (g.E.Emit.faults c.ended.new.self)
     c.op_error-in-Err-ended.ensures c.in-Ok.ensures.sink c.in-Err-ended.ensures.cause

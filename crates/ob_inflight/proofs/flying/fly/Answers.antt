@@ -66,7 +66,7 @@ returns-in-Err-clause-kept g c = sizes_trans c.args.kept.now c.loop-ended.kept c
 
 pub returns-in-Err-clause-sink : goal.returns-in-Err-clause-sink
 returns-in-Err-clause-sink g c = subst (λ (n : ℕ). SinkCause {T = Unit {0}} (Err c.in-Err.e) n (g.E.Emit.faults c.fly_turn.new.out)) c.loop-ended.invariant.sink
-    (sink_as _ _ c.in-Err.e (g.E.Emit.faults c.loop-ended.out) (g.E.Emit.faults c.fly_turn.new.out) c.in-Err.ensures.sink)
+    (sink_as ℕ (Unit {0}) c.in-Err.e (g.E.Emit.faults c.loop-ended.out) (g.E.Emit.faults c.fly_turn.new.out) c.in-Err.ensures.sink)
 
 pub returns-clause-rows : goal.returns-clause-rows
 returns-clause-rows g c = c.loop-ended.invariant.rows
