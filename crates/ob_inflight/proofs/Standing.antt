@@ -84,7 +84,6 @@ module _ {F : Type 0} (k : Kind F) (laws : Laws k) (p : Public) (share : ℕ) (e
     (stand : AreFlying k p share ended current last) (i : ℕ) (f g : F) (at : slice_get last.flyers i ≡ Some f) (flyers : now.flyers ≡ slice_set last.flyers i g)
     (kept : (j : ℕ) → j < length last.flyers → (j ≡ i → ⊥) → share_at share j now.kept ≡ share_at share j last.kept) (others : ℕ)
     (steps : Steps others (k.progress f) (k.progress g) (k.May f) (k.May g) (k.Needs f) (k.Needs g) last.world now.world) where
-
   lasts : Lasts (own_or_next (k.progress f).region last.world.vault.next) last.world now.world
   lasts = step_lasts steps.access (k.progress f).region last.world now.world (k.progress g).failed steps.went
 
@@ -173,11 +172,11 @@ module _ {F : Type 0} (k : Kind F) (laws : Laws k) (p : Public) (share : ℕ) (e
     made = λ q least less. elim (cases_lt_next q) [
       | inl before ↦ made_before (rest.made q least before)
       | inr after ↦ record {
-          place = i;
-          flyer = g;
-          at = get_now last.flyers i f g at now.flyers flyers;
-          made = region_new last.world.vault.next (k.progress f).region (k.progress g).region steps.access steps.region q after (omega (arith, less, step_next));
-        }
+        place = i;
+        flyer = g;
+        at = get_now last.flyers i f g at now.flyers flyers;
+        made = region_new last.world.vault.next (k.progress f).region (k.progress g).region steps.access steps.region q after (omega (arith, less, step_next));
+      }
     ];
     faults =
         let sum = total_set (λ (h : F). one_if (k.progress h).failed) last.flyers i f g at in

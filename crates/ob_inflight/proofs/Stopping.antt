@@ -47,7 +47,6 @@ module _ {F : Type 0} (k : Kind F) (words : ℕ → ℕ) (n : ℕ) (p : Public) 
   module _ (done rest : List Access) (asked : v.store.asked ≡ last.world.store.asked ++ done)
       (next : (xs : List Served) → AllMay k.May last.flyers xs
       → accesses_in (turns words (n + 1) (setting_off p start.world.vault.next xs)).log ≡ accesses_in aloft.turned.log ++ (done ++ rest)) where
-
     all_asked : v.store.asked ≡ start.world.store.asked ++ (accesses_in aloft.turned.log ++ done)
     all_asked = asked ∙ ap (λ (l : List Access). l ++ done) aloft.turned.asked ∙ append_assoc start.world.store.asked (accesses_in aloft.turned.log) done
 
@@ -77,8 +76,8 @@ module _ {F : Type 0} (k : Kind F) (words : ℕ → ℕ) (n : ℕ) (p : Public) 
           failed = failed;
           reads = λ xs all.
               let log : start.world.store.asked ++ accesses_in (turns words (n + 1) (setting_off p start.world.vault.next xs)).log ≡ v.store.asked ++ rest =
-                  ap (λ (l : List Access). start.world.store.asked ++ l) (next xs all ∙ sym (append_assoc (accesses_in aloft.turned.log) done rest))
-                  ∙ sym (append_assoc start.world.store.asked (accesses_in aloft.turned.log ++ done) rest)
-                  ∙ ap (λ (l : List Access). l ++ rest) (sym all_asked) in
+              ap (λ (l : List Access). start.world.store.asked ++ l) (next xs all ∙ sym (append_assoc (accesses_in aloft.turned.log) done rest))
+              ∙ sym (append_assoc start.world.store.asked (accesses_in aloft.turned.log ++ done) rest)
+              ∙ ap (λ (l : List Access). l ++ rest) (sym all_asked) in
               subst (ReadsIn lie) (sym log) (reads_more lie v.store.asked rest (reads lie was is));
         }

@@ -93,7 +93,6 @@ over_prints k laws f x n may over = sym (laws.acts f x n may).prints ∙ ap (pri
 
 module _ {F : Type 0} (k : Kind F) (laws : Laws k) (p : Public) (share : ℕ) (rows : List (List ℕ)) (ended : List Closed) (current : List Event) (last : Moment F)
     (stand : AreFlying k p share ended current last) (fit : AllFit k share rows last) (i : ℕ) (f : F) (at : slice_get last.flyers i ≡ Some f) (after : length ended ≤ i) where
-
   outcome_none : (k.progress f).outcome ≡ None
   outcome_none = stand.outcome i f at ∙ outcome_open ended i after
 
@@ -144,7 +143,6 @@ module _ {F E : Type 0} (k : Kind F) (t : Taker E) (laws : Laws k) (words : ℕ 
     (out_start out_old out_new : E) (turned : HasTurned k t words n share count rows_old start last out_start out_old) (i : ℕ)
     (place : (none : ℕ) → i ≡ place_by (words n) none (going true (length turned.ended) (map (λ (f : F). (k.progress f).prints) (drop (length turned.ended) last.flyers))))
     (picked : IsPicked k (length turned.ended) i last.flyers) (same : SameSizes rows_old rows_new) where
-
   abbrev e : ℕ
   e = length turned.ended
 
@@ -234,7 +232,7 @@ module _ {F E : Type 0} (k : Kind F) (t : Taker E) (laws : Laws k) (words : ℕ 
         let v = now.world in
         let lasts = stops.cut.lasts in
         let log = λ (xs : List Served) (all : AllMay k.May last.flyers xs). log_on k laws words n turned.public share turned.ended turned.current start last stand turned.aloft.turned i f did.at place (Some stops.access) next xs all
-            ∙ ap (λ (l : List Access). accesses_in turned.aloft.turned.log ++ l) (asks_some stops.access ∙ sym stops.cut.began.split) in
+        ∙ ap (λ (l : List Access). accesses_in turned.aloft.turned.log ++ l) (asks_some stops.access ∙ sym stops.cut.began.split) in
         record {
           public = turned.public;
           turn = n;
@@ -279,7 +277,6 @@ module _ {F E : Type 0} (k : Kind F) (t : Taker E) (laws : Laws k) (words : ℕ 
     (out_start out_old out_new : E) (turned : HasTurned k t words n share count rows start last out_start out_old) (i : ℕ)
     (place : (none : ℕ) → i ≡ place_by (words n) none (going true (length turned.ended) (map (λ (f : F). (k.progress f).prints) (drop (length turned.ended) last.flyers))))
     (within : i < length last.flyers) (first : i ≡ length turned.ended) (f : F) (at : slice_get last.flyers i ≡ Some f) (over : (k.progress f).over ≡ true) where
-
   now : Moment F
   now = moment gs last.kept last.world
 
@@ -300,7 +297,6 @@ module _ {F E : Type 0} (k : Kind F) (t : Taker E) (laws : Laws k) (words : ℕ 
       (λ lie none is. absurd (cc (none, is))) (λ lie was. was) (failed_next k last (moment gs last.kept last.world) i f g at flyers kept) turned.begun
 
   module _ (own : List (List ℕ)) (is_own : own ≡ share_at share i last.kept) (g : F) (flyers : gs ≡ slice_set last.flyers i g) (needs : (q : ℕ) → k.Needs g q → k.Needs f q) (may : (x : Served) → k.May g x → k.May f x) where
-
     pub end_turns : (starts : (s : E) → t.grew s s []) → EndsWhole k t i own f g out_old out_new → HasTurned k t words (n + 1) share (count + 1) rows start (moment gs last.kept last.world) out_start out_new
     end_turns starts whole =
         let stand = turned.aloft.stand in
@@ -414,7 +410,6 @@ module _ {F E : Type 0} (k : Kind F) (t : Taker E) (laws : Laws k) (words : ℕ 
 -- ---- whatever the turns before were
 module _ {F E : Type 0} (k : Kind F) (t : Taker E) (laws : Laws k) (word share count : ℕ) (rows_old rows_new : List (List ℕ)) (last : Moment F) (out_old out_new : E) (i : ℕ)
     (place : (none : ℕ) → i ≡ place_by word none (going true count (map (λ (f : F). (k.progress f).prints) (drop count last.flyers)))) (within : i < length last.flyers) (some : count < length last.flyers) where
-
   place_then : (words : ℕ → ℕ) (n e : ℕ) → words n ≡ word → count ≡ e → (none : ℕ) → i ≡ place_by (words n) none (going true e (map (λ (f : F). (k.progress f).prints) (drop e last.flyers)))
   place_then words n e w counts none = place none ∙ (λ j. place_by (sym w j) none (going true (counts j) (map (λ (f : F). (k.progress f).prints) (drop (counts j) last.flyers))))
 

@@ -94,7 +94,7 @@ module _ {F : Type 0} (k : Kind F) where
     gate_one f x public may =
         let fl : Flying = flying_of (k.progress f) x in
         let is : prints (k.progress f).region (next_act (numbered next p) fl) ≡ (k.progress f).prints =
-            ap (λ (q : Public). prints (k.progress f).region (next_act (numbered next q) fl)) (sym public) ∙ (laws.acts f x next may).prints in
+        ap (λ (q : Public). prints (k.progress f).region (next_act (numbered next q) fl)) (sym public) ∙ (laws.acts f x next may).prints in
         λ j. record { ended = is_some (k.progress f).outcome; prints = is j }
 
     gates_in : (fs : List F) (xs : List Served) → ((i : ℕ) (f : F) → slice_get fs i ≡ Some f → (k.progress f).public ≡ p) → AllMay k.May fs xs
@@ -160,7 +160,6 @@ module _ {F : Type 0} (k : Kind F) (laws : Laws k) (words : ℕ → ℕ) (n : �
     (stand : AreFlying k p share ended current last) (turned : Turned k words n p start last) (i : ℕ) (f : F) (at : slice_get last.flyers i ≡ Some f)
     (picked : (none : ℕ) → i ≡ place_by (words n) none (going true (length ended) (map (λ (f : F). (k.progress f).prints) (drop (length ended) last.flyers))))
     (act : Option Access) (next : (x : Served) → k.May f x → act_of (k.progress f) x last.world.vault.next ≡ act) where
-
   places : (xs : List Served) → AllMay k.May last.flyers xs → runnable true 0 (map (gate_of (numbered last.world.vault.next p)) (flying_in k last.flyers xs))
       ≡ going true (length ended) (map (λ (f : F). (k.progress f).prints) (drop (length ended) last.flyers))
   places xs all =
@@ -179,9 +178,9 @@ module _ {F : Type 0} (k : Kind F) (laws : Laws k) (words : ℕ → ℕ) (n : �
       let s : Flight = flight_in k p last.world.vault.next last.flyers xs turned.log in
       let fl : Flying = flying_of (k.progress f) m.x in
       let place : place_by (words n) (length s.flying) (runnable true 0 (gates_of s)) ≡ i =
-          ap (place_by (words n) (length s.flying)) (places xs all) ∙ sym (picked (length s.flying)) in
+      ap (place_by (words n) (length s.flying)) (places xs all) ∙ sym (picked (length s.flying)) in
       let is : next_act s.public fl ≡ act =
-          ap (λ (q : Public). next_act (numbered last.world.vault.next q) fl) (sym (stand.public i f at)) ∙ next m.x m.may in
+      ap (λ (q : Public). next_act (numbered last.world.vault.next q) fl) (sym (stand.public i f at)) ∙ next m.x m.may in
       turns_more words n (setting_off p start.world.vault.next xs)
       ∙ ap (turn (words n)) (turned.turns xs all)
       ∙ turn_at (words n) i s fl act place (flying_at k last.flyers xs i f m.x at m.get) is
@@ -194,7 +193,6 @@ module _ {F : Type 0} (k : Kind F) (laws : Laws k) (words : ℕ → ℕ) (n : �
       (after : (x : Served) → acted act (flying_of (k.progress f) x) ≡ flying_of (k.progress g) x)
       (made : now.world.vault.next ≡ last.world.vault.next + made_by act) (asked : now.world.store.asked ≡ last.world.store.asked ++ asks_of act)
       (acts : (k.progress g).asked + one_if (is_some (k.progress g).outcome) ≡ (k.progress f).asked + one_if (is_some (k.progress f).outcome) + 1) where
-
     all_before : (xs : List Served) → AllMay k.May now.flyers xs → AllMay k.May last.flyers xs
     all_before xs all = may_before k last.flyers xs i f g at may (subst (λ (fs : List F). AllMay k.May fs xs) flyers all)
 
@@ -208,7 +206,7 @@ module _ {F : Type 0} (k : Kind F) (laws : Laws k) (words : ℕ → ℕ) (n : �
           let before = all_before xs all in
           let m = may_at k last.flyers xs i f before at in
           let fly : slice_set (flying_in k last.flyers xs) i (acted act (flying_of (k.progress f) m.x)) ≡ flying_in k now.flyers xs =
-              ap (slice_set (flying_in k last.flyers xs) i) (after m.x) ∙ sym (flying_set k last.flyers xs i g m.x m.get) ∙ ap (λ (fs : List F). flying_in k fs xs) (sym flyers) in
+          ap (slice_set (flying_in k last.flyers xs) i) (after m.x) ∙ sym (flying_set k last.flyers xs i g m.x m.get) ∙ ap (λ (fs : List F). flying_in k fs xs) (sym flyers) in
           turn_on xs before
           ∙ (λ j. record { public = numbered (sym made j) p; flying = fly j; log = turned.log ++ entry_of i act });
       acts =

@@ -16,8 +16,11 @@ loop-ended-init g c = record {
   rows = record { count = refl; sizes = λ j. refl };
   kept = record { count = refl; sizes = λ j. refl };
   sink = refl;
-  turned = (0, turned_first (kind_of g.F.Flyer.progress g.F.Flyer.May g.F.Flyer.Needs g.F.Flyer.Fits g.F.Flyer.Holds g.F.Flyer.Halts) (taker_of g.E.Emit.grew g.E.Emit.cut g.E.FlightOut.closed g.E.FlightOut.parted) g.met.E.Emit.starts (g.T.Turns.word c.args.turns.now) c.args.share c.args.rows.now (moment c.args.flyers.now c.args.kept.now (at g.R.Revisions.state c.args.vault.now (g.S.BlockStore.state c.args.store.now))) c.args.out.now c.requires.boarded,
-      λ t. ap (g.T.Turns.word c.args.turns.now) (omega arith));
+  turned = (
+    0,
+    turned_first (kind_of g.F.Flyer.progress g.F.Flyer.May g.F.Flyer.Needs g.F.Flyer.Fits g.F.Flyer.Holds g.F.Flyer.Halts) (taker_of g.E.Emit.grew g.E.Emit.cut g.E.FlightOut.closed g.E.FlightOut.parted) g.met.E.Emit.starts (g.T.Turns.word c.args.turns.now) c.args.share c.args.rows.now (moment c.args.flyers.now c.args.kept.now (at g.R.Revisions.state c.args.vault.now (g.S.BlockStore.state c.args.store.now))) c.args.out.now c.requires.boarded,
+    λ t. ap (g.T.Turns.word c.args.turns.now) (omega arith),
+  );
 }
 
 -- the word of this turn
@@ -35,10 +38,12 @@ loop-ended-preserved g c =
       rows = sizes_trans c.args.rows.now c.loop-ended.rows c.fly_turn.new.rows before.rows c.in-Ok.ensures.rows;
       kept = sizes_trans c.args.kept.now c.loop-ended.kept c.fly_turn.new.kept before.kept c.in-Ok.ensures.kept;
       sink = c.in-Ok.ensures.sink ∙ before.sink;
-      turned = (turned.0 + 1,
-          c.in-Ok.ensures.turn (g.T.Turns.word c.args.turns.now) turned.0 (moment c.args.flyers.now c.args.kept.now (at g.R.Revisions.state c.args.vault.now (g.S.BlockStore.state c.args.store.now))) c.args.out.now
-          (word_now (g.T.Turns.word c.args.turns.now) (g.T.Turns.word c.loop-ended.turns) turned.0 c.next-word.result c.next-word.ensures.value turned.2) turned.1,
-          words_next (g.T.Turns.word c.args.turns.now) (g.T.Turns.word c.loop-ended.turns) (g.T.Turns.word c.next-word.new.self) turned.0 c.next-word.ensures.rest turned.2);
+      turned = (
+        turned.0 + 1,
+        c.in-Ok.ensures.turn (g.T.Turns.word c.args.turns.now) turned.0 (moment c.args.flyers.now c.args.kept.now (at g.R.Revisions.state c.args.vault.now (g.S.BlockStore.state c.args.store.now))) c.args.out.now
+            (word_now (g.T.Turns.word c.args.turns.now) (g.T.Turns.word c.loop-ended.turns) turned.0 c.next-word.result c.next-word.ensures.value turned.2) turned.1,
+        words_next (g.T.Turns.word c.args.turns.now) (g.T.Turns.word c.loop-ended.turns) (g.T.Turns.word c.next-word.new.self) turned.0 c.next-word.ensures.rest turned.2,
+      );
     }
 
 pub fly_turn-requires : goal.fly_turn-requires
