@@ -1,5 +1,5 @@
 -- How all stand behind an end.
-use Rattle.std.proofs.Common.{◌≡◌, ◌⊎◌, inl, inr, ℕ, ◌+◌, ◌*◌, ◌<◌, ◌≤◌, Bool, true, false, List, [], ◌∷◌, ◌++◌, Some, None, Option, length, refl, sym, ◌∙◌, ap, subst, arith}
+use Rattle.std.proofs.Common.{◌≡◌, inl, inr, ℕ, ◌+◌, ◌*◌, ◌<◌, List, [], ◌∷◌, ◌++◌, Some, None, Option, length, sym, ◌∙◌, ap, subst, arith}
 use Rattle.std.specs.Prelude.{is_some, slice_get, slice_set}
 use Rattle.std.proofs.lemmas.Bool.{cases_eq}
 use Rattle.ob_base.specs.Events.{Event}
@@ -10,7 +10,7 @@ use Rattle.ob_vault.specs.Numbers.{spent}
 use Rattle.ob_vault.specs.State.{World}
 use Rattle.ob_vault.specs.Tied.{Ready}
 use Rattle.ob_verdict.specs.declared.outcome.Outcome.{Outcome}
-use Rattle.ob_inflight.specs.Aloft.{AreFlying, IsMade, LeavesRest, booked_by, failed_of, most_of}
+use Rattle.ob_inflight.specs.Aloft.{AreFlying, IsMade, LeavesRest}
 use Rattle.ob_inflight.specs.Closing.{Closed, RisesBy, events_at, outcome_at}
 use Rattle.ob_inflight.specs.Kinds.{Kind, Moment, moment, share_at}
 use Rattle.ob_script.specs.FlightLaws.{one_if, total}
@@ -19,7 +19,7 @@ use Rattle.ob_inflight.proofs.Lists.{length-set_at}
 use Rattle.ob_script.proofs.FlightEnds.{total_set}
 use Rattle.std.proofs.lemmas.Option.{same_Some}
 use Rattle.ob_inflight.proofs.Turning.{outcome_open}
-use Rattle.ob_inflight.proofs.Standing.{Here, Now, There, ended_here, ended_there, get_now, get_then, now_at, outcome_here, outcome_there}
+use Rattle.ob_inflight.proofs.Standing.{Here, There, ended_here, ended_there, get_now, get_then, now_at, outcome_here, outcome_there}
 
 -- the same number of each
 pub same_total : {F : Type 0} (n : F → ℕ) (fs gs : List F) (i : ℕ) (f g : F) → slice_get fs i ≡ Some f → gs ≡ slice_set fs i g → n g ≡ n f → total n gs ≡ total n fs

@@ -1,5 +1,5 @@
 -- How all stand behind one turn.
-use Rattle.std.proofs.Common.{◌≡◌, ◌⊎◌, inl, inr, ℕ, zero, suc, ◌+◌, ◌*◌, ◌<◌, ◌≤◌, ◌^◌, Bool, true, false, List, [], ◌∷◌, ◌++◌, Some, None, Option, length, refl, sym, ◌∙◌, ap, subst, arith, length-append}
+use Rattle.std.proofs.Common.{◌≡◌, ◌⊎◌, inl, inr, ℕ, zero, suc, ◌+◌, ◌*◌, ◌<◌, ◌≤◌, true, List, [], ◌∷◌, ◌++◌, Some, None, length, refl, sym, ◌∙◌, ap, subst, arith}
 use Rattle.std.specs.Prelude.{slice_get, slice_set}
 use Rattle.std.proofs.lemmas.Bool.{cases_eq, cases_lt}
 use Rattle.std.proofs.lemmas.Option.{same_Some, slice_get_within}
@@ -7,20 +7,17 @@ use Rattle.ob_base.specs.Events.{Event}
 use Rattle.ob_base.specs.declared.config.Public.{Public}
 use Rattle.ob_flat.specs.Flats.{Accepts}
 use Rattle.ob_script.specs.Flights.{made_by}
-use Rattle.ob_vault.proofs.Runs.{lasts_trans, lasts_wider, seals_join, seals_none}
-use Rattle.ob_vault.proofs.WorldSteps.{lasts_none}
+use Rattle.ob_vault.proofs.Runs.{lasts_trans, lasts_wider, seals_join}
 use Rattle.ob_vault.specs.Calls.{Lasts}
 use Rattle.ob_vault.specs.Rows.{SameSizes}
-use Rattle.ob_vault.specs.State.{World}
-use Rattle.ob_verdict.specs.declared.outcome.Outcome.{Outcome}
 use Rattle.ob_inflight.specs.Aloft.{AllFit, AreFlying, IsMade, KeepCourse, KeepFailed, LeavesRest, booked_by, failed_of, most_of}
-use Rattle.ob_inflight.specs.Closing.{Closed, RisesBy, events_at, outcome_at}
+use Rattle.ob_inflight.specs.Closing.{Closed, events_at, outcome_at}
 use Rattle.ob_inflight.specs.Kinds.{Kind, Moment, share_at}
 use Rattle.ob_inflight.specs.Leaving.{Leaves, own_or_next}
 use Rattle.ob_script.specs.FlightLaws.{one_if, total}
 use Rattle.ob_inflight.specs.Progress.{KeepsCourse, Progress, Steps}
-use Rattle.ob_inflight.proofs.Acts.{next_made, region_below, region_new, region_own, region_stays, rises_join, rises_none, spent_more, step_asked, step_calm, step_faults, step_lasts}
-use Rattle.ob_inflight.proofs.Lists.{length-set_at, total_few}
+use Rattle.ob_inflight.proofs.Acts.{next_made, region_below, region_new, region_own, region_stays, rises_join, spent_more, step_asked, step_calm, step_faults, step_lasts}
+use Rattle.ob_inflight.proofs.Lists.{length-set_at}
 use Rattle.ob_script.proofs.FlightEnds.{total_set}
 use Rattle.ob_script.proofs.ListPlaces.{get_set_same, get_set_other}
 use Rattle.ob_inflight.proofs.Turning.{Laws}

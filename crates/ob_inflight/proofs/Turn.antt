@@ -1,6 +1,6 @@
 -- One turn of statements in flight.
-use Rattle.std.proofs.Common.{◌≡◌, ◌⊎◌, inl, inr, ℕ, zero, suc, ◌+◌, ◌-◌, ◌*◌, ◌<◌, ◌≤◌, ◌^◌, Bool, true, false, List, [], ◌∷◌, ◌++◌, Some, None, Option, map, length, drop, refl, sym, ◌∙◌, ap, subst, arith, length-append}
-use Rattle.std.specs.Prelude.{Result, Ok, Err, is_some, slice_get, slice_set}
+use Rattle.std.proofs.Common.{◌≡◌, ◌⊎◌, inl, inr, ℕ, zero, suc, ◌+◌, ◌<◌, ◌≤◌, ◌^◌, Bool, true, false, List, [], ◌∷◌, ◌++◌, Some, None, Option, map, length, drop, refl, sym, ◌∙◌, ap, subst, arith, length-append}
+use Rattle.std.specs.Prelude.{Ok, Err, is_some, slice_get, slice_set}
 use Rattle.std.proofs.lemmas.Bool.{cases_eq}
 use Rattle.std.proofs.lemmas.List.{append-nil, length-drop, length-map}
 use Rattle.std.proofs.lemmas.Option.{same_Some, slice_get_within}
@@ -8,28 +8,22 @@ use Rattle.ob_base.specs.Events.{Event}
 use Rattle.ob_base.specs.declared.access.Access.{Access}
 use Rattle.ob_base.specs.declared.config.Public.{Public}
 use Rattle.ob_flat.specs.declared.fault.OpErr.{OpErr}
-use Rattle.ob_script.specs.Flights.{Flight, accesses_in, acted, made_by, place_by, prints, turns}
+use Rattle.ob_script.specs.Flights.{Flight, accesses_in, place_by, prints, turns}
 use Rattle.ob_script.specs.Trace.{Served}
-use Rattle.ob_store.specs.State.{Lie}
 use Rattle.ob_vault.proofs.Runs.{lasts_trans, lasts_wider, seals_join, seals_none}
 use Rattle.ob_vault.proofs.WorldSteps.{lasts_none}
-use Rattle.ob_vault.specs.Calls.{Lasts}
-use Rattle.ob_vault.specs.Numbers.{spent}
 use Rattle.ob_vault.specs.Rows.{SameSizes}
-use Rattle.ob_vault.specs.State.{World}
-use Rattle.ob_vault.specs.Tied.{ReadsIn}
 use Rattle.ob_flat.specs.Flats.{Accepts}
 use Rattle.ob_verdict.specs.declared.outcome.Outcome.{Outcome}
-use Rattle.ob_inflight.specs.Aloft.{AllFit, AllMay, AreBoarded, AreFlying, IsAloft, IsBegun, LeavesRest, booked_by, most_of, setting_off}
-use Rattle.ob_inflight.specs.Answers.{EndsBy, error_of}
+use Rattle.ob_inflight.specs.Aloft.{AllFit, AllMay, AreBoarded, AreFlying, IsAloft, IsBegun, LeavesRest, most_of, setting_off}
 use Rattle.ob_inflight.specs.Closing.{Closed, ClosesAll, RisesBy, events_at}
-use Rattle.ob_inflight.specs.Flown.{HasFlown, StopsFlight, StopsInClosing, StopsInFinish, StopsInStep}
+use Rattle.ob_inflight.specs.Flown.{HasFlown, StopsFlight, StopsInClosing, StopsInFinish}
 use Rattle.ob_inflight.specs.Kinds.{Kind, Moment, Taker, moment, share_at}
 use Rattle.ob_inflight.specs.Leaving.{own_or_next}
 use Rattle.ob_inflight.specs.Parts.{EndsAt, EndsInClosing, EndsInFinish, EndsWhole, HasTurned, MayEnd, MayStep, MayTurn, StepsAt, TakesTurn, left_to}
 use Rattle.ob_inflight.specs.Picking.{going}
 use Rattle.ob_script.specs.FlightLaws.{one_if, total}
-use Rattle.ob_inflight.specs.Progress.{KeepsCourse, Progress, Steps, act_of, flying_of}
+use Rattle.ob_inflight.specs.Progress.{KeepsCourse, Progress}
 use Rattle.ob_inflight.proofs.Acts.{reads_calm, reads_cut, calm_none, rises_none, step_asked, step_calm, step_lasts, stops_faults}
 use Rattle.ob_inflight.proofs.Emitting.{emitted_ends, emitted_more}
 use Rattle.ob_inflight.proofs.Ending.{ends_acts, ends_flying, rest_ends, same_total, stand_ends}

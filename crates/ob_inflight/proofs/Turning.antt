@@ -1,5 +1,5 @@
 -- What one turn asks, whatever the statements turn out to be served.
-use Rattle.std.proofs.Common.{◌≡◌, ◌⊎◌, inl, inr, ℕ, zero, suc, ◌+◌, ◌<◌, ◌≤◌, Bool, true, false, List, [], ◌∷◌, ◌++◌, Some, None, Option, map, length, drop, refl, sym, ◌∙◌, ap, subst, arith, append_assoc}
+use Rattle.std.proofs.Common.{◌≡◌, ℕ, zero, suc, ◌+◌, ◌<◌, ◌≤◌, Bool, true, List, [], ◌∷◌, ◌++◌, Some, None, Option, map, length, drop, refl, sym, ◌∙◌, ap, subst, arith, append_assoc}
 use Rattle.std.specs.Prelude.{is_some, slice_get, slice_set}
 use Rattle.std.proofs.lemmas.List.{append-nil, map-append}
 use Rattle.ob_base.specs.Events.{Event}
@@ -15,9 +15,8 @@ use Rattle.ob_inflight.specs.Kinds.{Kind, Moment}
 use Rattle.ob_inflight.specs.Leaving.{Leaves}
 use Rattle.ob_inflight.specs.Picking.{going}
 use Rattle.ob_script.specs.FlightLaws.{one_if, total}
-use Rattle.ob_inflight.specs.Progress.{ActsAs, Progress, act_of, flying_of, numbered}
+use Rattle.ob_inflight.specs.Progress.{ActsAs, act_of, flying_of, numbered}
 use Rattle.ob_script.proofs.FlightEnds.{total_set}
-use Rattle.ob_script.proofs.ListPlaces.{get_set_same, get_set_other}
 use Rattle.std.proofs.lemmas.Option.{same_Some}
 use Rattle.ob_script.proofs.FlightTurns.{turns_more}
 use Rattle.ob_inflight.proofs.Picks.{runnable_behind}

@@ -1,5 +1,5 @@
 -- What statements in flight emit.
-use Rattle.std.specs.Prelude.{◌≡◌, ◌<◌, ◌^◌, ◌++◌, ⊤, ℕ, Bool, true, false, List, [], Result, IfOk, IfErr}
+use Rattle.std.specs.Prelude.{◌≡◌, ◌<◌, ◌^◌, ◌++◌, ⊤, Bool, true, false, List, [], Result, IfOk, IfErr}
 use Rattle.ob_base.specs.Events.{Event, Leads}
 use Rattle.ob_base.specs.declared.emit.EmitErr.{EmitErr}
 use Rattle.ob_base.specs.declared.emit.EmitErr.TheVariants as EmitErrs

@@ -1,5 +1,5 @@
 -- Answers of several statements, one behind the other.
-use Rattle.std.specs.Prelude.{◌≡◌, ◌+◌, ◌-◌, ◌^◌, ◌≤◌, min, ℕ, zero, suc, List, [], ◌∷◌, Option, Some, None, length, option_map, slice_get}
+use Rattle.std.specs.Prelude.{◌≡◌, ◌+◌, ◌-◌, ◌^◌, ◌≤◌, min, ℕ, zero, suc, List, [], ◌∷◌, Option, option_map, slice_get}
 use Rattle.ob_base.specs.Events.{Event}
 use Rattle.ob_verdict.specs.declared.outcome.Outcome.{Outcome}
 

@@ -1,6 +1,6 @@
 -- One turn of statements in flight, by its parts.
 use Rattle.std.specs.Prelude.{◌≡◌, ◌⊎◌, ◌<◌, ◌≤◌, ◌+◌, ◌-◌, ◌*◌, ◌^◌, ℕ, true, false, List, Some, None, Result, IfErr, OnOk, MatchResult, length, slice_get, slice_set}
-use Rattle.ob_base.specs.Events.{Event, Leads}
+use Rattle.ob_base.specs.Events.{Event}
 use Rattle.ob_base.specs.declared.config.Public.{Public}
 use Rattle.ob_base.specs.declared.emit.EmitErr.{EmitErr}
 use Rattle.ob_flat.specs.declared.fault.OpErr.{OpErr}

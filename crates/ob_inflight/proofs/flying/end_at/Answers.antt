@@ -1,17 +1,10 @@
-use Rattle.std.proofs.Common.{◌≡◌, ◌⊎◌, inl, inr, ◌≤◌, ◌<◌, ◌+◌, ◌-◌, ◌*◌, ◌^◌, ℕ, Bool, true, false, List, [], ◌∷◌, ◌++◌, Some, None, length, take, drop, refl, sym, ◌∙◌, ap, subst, arith, length-drop}
-use Rattle.std.specs.Prelude.{Result, Ok, Err, OnOk, slice_get, slice_set, slice_index_or}
+use Rattle.std.proofs.Common.{◌≡◌, inl, inr, ℕ, List, length, take, refl, sym, ◌∙◌, ap, subst, arith}
+use Rattle.std.specs.Prelude.{Ok, Err, slice_index_or}
 use Rattle.std.proofs.lemmas.Option.{get_or_from_slice_get, slice_get-get_or}
-use Rattle.ob_base.specs.Events.{Event}
-use Rattle.ob_base.specs.Counts.{Rises}
-use Rattle.ob_base.specs.Events.{EmitCause}
-use Rattle.ob_base.specs.declared.emit.EmitErr.{EmitErr}
-use Rattle.ob_base.specs.declared.emit.EmitErr.TheVariants.{Failed, NoMemory}
-use Rattle.ob_flat.specs.Passes.{SinkCause}
 use Rattle.ob_flat.specs.declared.fault.OpErr.{OpErr}
 use Rattle.ob_vault.proofs.RowsLemmas.{rows_room}
-use Rattle.ob_vault.specs.State.{World}
 use Rattle.ob_verdict.specs.declared.outcome.Outcome.{Outcome}
-use Rattle.ob_inflight.specs.Answers.{Finishes, error_of}
+use Rattle.ob_inflight.specs.Answers.{Finishes}
 use Rattle.ob_inflight.specs.Kinds.{share_at}
 use Rattle.ob_inflight.proofs.Emitting.{sink_behind, sink_error}
 use Rattle.ob_inflight.proofs.flying.end_at.Goals as goal

@@ -1,10 +1,7 @@
-use Rattle.std.proofs.Common.{◌≡◌, ◌≤◌, ◌<◌, ◌+◌, ◌-◌, ◌*◌, ◌^◌, ℕ, Bool, true, false, List, Some, None, length, refl, sym, ◌∙◌, ap, subst, arith}
-use Rattle.std.specs.Prelude.{Result, Ok, Err, slice_get, slice_set, slice_index_or}
-use Rattle.std.proofs.lemmas.Option.{get_or_from_slice_get, slice_get-get_or, slice_get_within}
+use Rattle.std.proofs.Common.{◌≡◌, ◌+◌, ℕ, refl, sym, ◌∙◌, ap, subst, arith}
+use Rattle.std.specs.Prelude.{Err}
 use Rattle.ob_vault.specs.Places.{at}
-use Rattle.ob_vault.specs.Rows.{SameSizes}
 use Rattle.ob_inflight.specs.Kinds.{kind_of, moment, taker_of}
-use Rattle.ob_inflight.proofs.Turning.{Laws}
 use Rattle.ob_flat.specs.Passes.{SinkCause}
 use Rattle.ob_vault.proofs.RowsLemmas.{sizes_trans}
 use Rattle.ob_inflight.proofs.Emitting.{sink_as}

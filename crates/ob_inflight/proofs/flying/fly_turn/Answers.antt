@@ -1,8 +1,7 @@
-use Rattle.std.proofs.Common.{◌≡◌, ◌≤◌, ◌<◌, ◌+◌, ◌-◌, ◌*◌, ◌^◌, ℕ, Bool, true, false, List, Some, None, length, refl, sym, ◌∙◌, ap, subst, arith}
-use Rattle.std.specs.Prelude.{Result, Ok, Err, slice_get, slice_set, slice_index_or}
-use Rattle.std.proofs.lemmas.Option.{get_or_from_slice_get, slice_get-get_or, slice_get_within}
+use Rattle.std.proofs.Common.{length, sym, ◌∙◌, arith}
+use Rattle.std.specs.Prelude.{slice_index_or}
+use Rattle.std.proofs.lemmas.Option.{slice_get-get_or}
 use Rattle.ob_vault.specs.Places.{at}
-use Rattle.ob_vault.specs.Rows.{SameSizes}
 use Rattle.ob_inflight.specs.Kinds.{kind_of, moment, taker_of}
 use Rattle.ob_inflight.proofs.Turning.{Laws}
 use Rattle.ob_inflight.proofs.Turn.{ends_less, may_end, may_step, picked_by, steps_less, takes_end, takes_end_stop, takes_step, takes_stop}

@@ -1,4 +1,4 @@
-use Rattle.std.proofs.Common.{◌≡◌, ◌%◌, ◌≤◌, ℕ, Bool, true, List, map, length, drop, refl, ◌∙◌, ap, arith}
+use Rattle.std.proofs.Common.{◌≡◌, ◌%◌, Bool, true, List, map, length, drop, refl, ◌∙◌, ap, arith}
 use Rattle.std.specs.Prelude.{slice_index_or}
 use Rattle.ob_inflight.specs.Picking.{going}
 use Rattle.ob_inflight.proofs.Turn.{picked_within}

@@ -1,14 +1,11 @@
-use Rattle.std.proofs.Common.{◌≡◌, ◌⊎◌, inl, inr, ◌≤◌, ◌<◌, ◌+◌, ◌-◌, ◌*◌, ◌^◌, ℕ, Bool, true, false, List, [], ◌∷◌, ◌++◌, Some, None, length, take, drop, refl, sym, ◌∙◌, ap, subst, arith, length-drop}
-use Rattle.std.specs.Prelude.{Result, Ok, Err, OnOk, slice_get, slice_set, slice_index_or}
+use Rattle.std.proofs.Common.{◌≡◌, ◌-◌, ℕ, List, ◌++◌, length, take, refl, sym, ◌∙◌, ap, subst, arith}
+use Rattle.std.specs.Prelude.{OnOk, slice_index_or}
 use Rattle.std.proofs.lemmas.Option.{get_or_from_slice_get, slice_get-get_or}
-use Rattle.ob_base.specs.Events.{Event}
 use Rattle.ob_vault.proofs.RowsLemmas.{rows_room}
 use Rattle.ob_vault.specs.Places.{at}
 use Rattle.ob_vault.specs.Rows.{SameSizes}
 use Rattle.ob_inflight.specs.Answers.{Tells}
 use Rattle.ob_inflight.specs.Kinds.{share_at}
-use Rattle.ob_script.specs.FlightLaws.{total}
-use Rattle.ob_inflight.specs.Progress.{Progress}
 use Rattle.ob_inflight.proofs.Lists.{share_here, share_there, sizes_there}
 use Rattle.ob_script.proofs.FlightEnds.{total_part}
 use Rattle.ob_inflight.proofs.flying.step_at.Goals as goal
