@@ -1,6 +1,5 @@
 -- What one act does to the world.
-use Rattle.std.proofs.Common.{◌≡◌, ◌⊎◌, inl, inr, ℕ, ◌+◌, ◌-◌, ◌^◌, ◌<◌, ◌≤◌, min, Bool, true, false, IsTrue, List, [], ◌∷◌, ◌++◌, Some, None, Option, length, length-append, refl, sym, ◌∙◌, ap, subst, arith}
-use Rattle.std.proofs.lemmas.List.{append-nil}
+use Rattle.std.proofs.Common.{◌≡◌, inl, inr, ℕ, ◌+◌, ◌<◌, ◌≤◌, Bool, true, false, List, [], ◌∷◌, ◌++◌, Some, None, Option, length, length-append, refl, sym, ◌∙◌, ap, subst, arith}
 use Rattle.ob_base.specs.Accesses.{makes}
 use Rattle.ob_base.specs.declared.access.Access.{Access}
 use Rattle.ob_base.specs.declared.access.Access.TheVariants.{Make, Read, Write, Discard, Open}
@@ -8,17 +7,16 @@ use Rattle.ob_base.proofs.AccessLemmas.{made, makes_more}
 use Rattle.ob_flat.specs.declared.fault.OpErr.{OpErr}
 use Rattle.ob_flat.specs.declared.fault.OpErr.TheVariants.{Failed, Tampered, Sink, NoMemory}
 use Rattle.ob_flat.specs.Passes.{PassCut, PassCause}
-use Rattle.ob_script.specs.Flights.{made_by, region_after}
-use Rattle.ob_store.specs.Runs.{Began}
+use Rattle.ob_script.specs.Flights.{made_by}
 use Rattle.ob_store.specs.State.{Lie}
-use Rattle.ob_vault.specs.Calls.{Lasts, Went}
+use Rattle.ob_vault.specs.Calls.{Lasts}
 use Rattle.ob_vault.specs.Numbers.{spent}
 use Rattle.ob_vault.specs.State.{Start, World, earlier}
 use Rattle.ob_vault.specs.Tied.{Calm, EndsAt, ReadsIn, Ready}
 use Rattle.ob_inflight.specs.Closing.{RisesBy}
 use Rattle.ob_inflight.specs.Leaving.{own_or_next}
-use Rattle.ob_inflight.specs.Picking.{one_if}
-use Rattle.ob_inflight.specs.Progress.{KeepsRegion, MakesNext, WentOrFailed}
+use Rattle.ob_script.specs.FlightLaws.{one_if}
+use Rattle.ob_inflight.specs.Progress.{KeepsRegion, WentOrFailed}
 
 -- a first part of one access, which was asked, is that access
 one_of : (done rest : List Access) (a : Access) → done ++ rest ≡ a ∷ [] → 1 ≤ length done → done ≡ a ∷ []

@@ -1,6 +1,13 @@
 -- What was emitted behind one turn.
-use Rattle.std.proofs.Common.{◌≡◌, ℕ, zero, suc, ◌+◌, List, [], ◌∷◌, ◌++◌, length, refl, sym, ◌∙◌, ap, subst, arith}
-use Rattle.ob_base.specs.Events.{Event, Leads}
+use Rattle.std.proofs.Common.{◌≡◌, ℕ, ◌+◌, List, [], ◌∷◌, ◌++◌, length, refl, sym, subst, arith}
+use Rattle.std.specs.Prelude.{Err}
+use Rattle.ob_base.specs.Events.{EmitCause, Event, Leads}
+use Rattle.ob_base.specs.declared.emit.EmitErr.{EmitErr}
+use Rattle.ob_base.specs.declared.emit.EmitErr.TheVariants.{Failed, NoMemory}
+use Rattle.ob_flat.specs.Passes.{SinkCause}
+use Rattle.ob_flat.specs.declared.fault.OpErr.{OpErr}
+use Rattle.ob_flat.specs.declared.fault.OpErr.TheVariants as Errs
+use Rattle.ob_inflight.specs.Answers.{error_of}
 use Rattle.ob_verdict.specs.declared.outcome.Outcome.{Outcome}
 use Rattle.ob_inflight.specs.Closing.{Closed, Closes, ClosesAll, Emitted}
 
@@ -28,5 +35,19 @@ module _ {E : Type 0} (grew : E → E → List Event → Type 0) (closed : E →
       let it : Closes grew closed (length ended) one emitted.between d = record { between = c; took = leads emitted.between current emitted.now; closes = closes } in
       closes_more 0 ended one a emitted.between d emitted.took (subst (λ (m : ℕ). Closes grew closed m one emitted.between d) (sym zero_more) it)
 
-  pub emitted_none : (starts : (s : E) → grew s s []) (a : E) → Emitted grew closed [] [] a a
-  emitted_none starts a = record { between = a; took = refl; now = starts a }
+-- the emitter's error is that of a pass
+pub sink_error : (A B : Type 0) (error : EmitErr) (e : OpErr) (a b : ℕ) → e ≡ error_of error → EmitCause {T = A} (Err error) a b → SinkCause {T = B} (Err e) a b
+sink_error A B error e a b is cause = subst (λ (o : OpErr). SinkCause {T = B} (Err o) a b) (sym is) (go error cause)
+  where
+    go : (error : EmitErr) → EmitCause {T = A} (Err error) a b → SinkCause {T = B} (Err (error_of error)) a b
+    go Failed cause = cause
+    go NoMemory cause = cause
+
+pub sink_behind : (A B : Type 0) (error : EmitErr) (e : OpErr) (a b c : ℕ) → e ≡ error_of error → b ≡ a → EmitCause {T = A} (Err error) b c → SinkCause {T = B} (Err e) a c
+sink_behind A B error e a b c is same cause = sink_error A B error e a c is (subst (λ (n : ℕ). EmitCause {T = A} (Err error) n c) same cause)
+
+pub sink_as : (A B : Type 0) (e : OpErr) (a b : ℕ) → SinkCause {T = A} (Err e) a b → SinkCause {T = B} (Err e) a b
+sink_as A B Errs.Failed a b cause = cause
+sink_as A B (Errs.Tampered q x) a b cause = cause
+sink_as A B Errs.Sink a b cause = cause
+sink_as A B Errs.NoMemory a b cause = cause

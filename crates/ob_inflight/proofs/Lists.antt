@@ -1,29 +1,13 @@
 -- Lists of which one is replaced, sums over them, and shares.
-use Rattle.std.proofs.Common.{◌≡◌, ◌≢◌, inl, inr, ℕ, zero, suc, ◌+◌, ◌-◌, ◌*◌, ◌<◌, ◌≤◌, List, [], ◌∷◌, ◌++◌, Some, None, Option, length, take, drop, refl, sym, ◌∙◌, ap, subst, arith, append_assoc, length-append, length-drop}
+use Rattle.std.proofs.Common.{◌≡◌, inl, inr, ℕ, zero, suc, ◌+◌, ◌-◌, ◌*◌, ◌<◌, ◌≤◌, List, [], ◌∷◌, ◌++◌, Some, length, take, drop, refl, sym, ◌∙◌, ap, arith, length-drop}
 use Rattle.std.specs.Prelude.{slice_get, slice_set}
 use Rattle.std.proofs.Math.Seq.{drop-append_seam, drop-append-add, take-append_seam}
-use Rattle.std.proofs.lemmas.Bool.{cases_eq, cases_lt}
-use Rattle.std.proofs.lemmas.List.{take-append-le, take-append-drop, drop-append-le}
-use Rattle.std.proofs.lemmas.Option.{slice_get_within}
+use Rattle.std.proofs.lemmas.Bool.{cases_lt}
+use Rattle.std.proofs.lemmas.List.{take-append-le, drop-append-le}
 use Rattle.ob_vault.specs.Rows.{SameSizes}
 use Rattle.ob_vault.proofs.RowsLemmas.{sizes_join, rows_room, one_more}
 use Rattle.ob_inflight.specs.Kinds.{share_at}
-use Rattle.ob_inflight.specs.Picking.{total}
-
-pub the_same : {A : Type 0} {x y : A} → Some x ≡ Some y → x ≡ y
-the_same e = cc e
-
-pub set_here : {A : Type 0} (xs : List A) (i : ℕ) (x y : A) → slice_get xs i ≡ Some x → slice_get (slice_set xs i y) i ≡ Some y
-set_here [] i x y h = cc
-set_here (z ∷ xs) zero x y h = refl
-set_here (z ∷ xs) (suc i) x y h = set_here xs i x y h
-
-pub set_there : {A : Type 0} (xs : List A) (i j : ℕ) (y : A) → (j ≡ i → ⊥) → slice_get (slice_set xs i y) j ≡ slice_get xs j
-set_there [] i j y off = refl
-set_there (z ∷ xs) zero zero y off = absurd (off refl)
-set_there (z ∷ xs) zero (suc j) y off = refl
-set_there (z ∷ xs) (suc i) zero y off = refl
-set_there (z ∷ xs) (suc i) (suc j) y off = set_there xs i j y (λ e. off (ap suc e))
+use Rattle.ob_script.specs.FlightLaws.{total}
 
 pub length-set_at : {A : Type 0} (xs : List A) (i : ℕ) (y : A) → length (slice_set xs i y) ≡ length xs
 length-set_at [] i y = refl
@@ -36,18 +20,6 @@ get_some (x ∷ xs) zero less = (x, refl)
 get_some (x ∷ xs) (suc i) less = get_some xs i (omega (arith, less))
 
 -- ---- sums
-pub total_set : {F : Type 0} (n : F → ℕ) (fs : List F) (i : ℕ) (f g : F) → slice_get fs i ≡ Some f → total n (slice_set fs i g) + n f ≡ total n fs + n g
-unfolding total
-total_set n [] i f g at = cc
-total_set n (h ∷ fs) zero f g at = let e : n h ≡ n f = ap n (the_same at) in omega (arith, e)
-total_set n (h ∷ fs) (suc i) f g at = omega (arith, total_set n fs i f g at)
-
-pub total_within : {F : Type 0} (n : F → ℕ) (fs : List F) (i : ℕ) (f : F) → slice_get fs i ≡ Some f → n f ≤ total n fs
-unfolding total
-total_within n [] i f at = cc
-total_within n (h ∷ fs) zero f at = let e : n h ≡ n f = ap n (the_same at) in omega (arith, e)
-total_within n (h ∷ fs) (suc i) f at = omega (arith, total_within n fs i f at)
-
 pub total_few : {F : Type 0} (n : F → ℕ) (most : ℕ) (fs : List F) → ((i : ℕ) (f : F) → slice_get fs i ≡ Some f → n f ≤ most) → total n fs ≤ length fs * most
 unfolding total
 total_few n most [] few = omega arith
@@ -56,11 +28,6 @@ total_few n most (f ∷ fs) few =
     let long : length (f ∷ fs) ≡ length fs + 1 = omega arith in
     let is : length (f ∷ fs) * most ≡ length fs * most + most = ap (λ (m : ℕ). m * most) long ∙ more in
     omega (arith, is, few 0 f refl, total_few n most fs (λ i g at. few (suc i) g at))
-
-pub total_none : {F : Type 0} (n : F → ℕ) (fs : List F) → ((i : ℕ) (f : F) → slice_get fs i ≡ Some f → n f ≡ 0) → total n fs ≡ 0
-unfolding total
-total_none n [] none = refl
-total_none n (f ∷ fs) none = omega (arith, none 0 f refl, total_none n fs (λ i g at. none (suc i) g at))
 
 -- ---- shares
 module _ (share place : ℕ) (front own back : List (List ℕ)) (before : length front ≡ place * share) (size : length own ≡ share) where

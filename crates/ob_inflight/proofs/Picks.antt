@@ -1,14 +1,10 @@
 -- Who is picked.
-use Rattle.std.proofs.Common.{◌≡◌, ◌⊎◌, inl, inr, ◌+◌, ◌<◌, ◌≤◌, ◌%◌, ℕ, zero, suc, Bool, true, false, if◌then◌else◌, List, [], ◌∷◌, ◌++◌, Some, None, Option, map, length, drop, refl, sym, ◌∙◌, ap, subst, arith}
-use Rattle.std.specs.Prelude.{◌||◌, ◌&&◌, not, slice_get, slice_index_or}
-use Rattle.std.proofs.lemmas.Option.{slice_get_within, slice_get-get_or}
+use Rattle.std.proofs.Common.{◌≡◌, ◌+◌, ◌<◌, ◌≤◌, ◌%◌, ℕ, zero, suc, Bool, true, false, if◌then◌else◌, List, [], ◌∷◌, ◌++◌, Some, map, length, drop, refl, sym, ◌∙◌, ap, arith}
+use Rattle.std.specs.Prelude.{◌||◌, ◌&&◌, not, slice_get}
+use Rattle.std.proofs.lemmas.Option.{same_Some, slice_get-get_or}
 use Rattle.std.proofs.Math.Nat.{mod-lt}
 use Rattle.ob_script.specs.Flights.{Gate, may_go, place_by, runnable}
 use Rattle.ob_inflight.specs.Picking.{going}
-use Rattle.ob_inflight.proofs.Lists.{the_same}
-
-prints_of : Gate → Bool
-prints_of g = g.prints
 
 -- none of them has ended
 pub runnable_going : (first : Bool) (place : ℕ) (gates : List Gate) → ((i : ℕ) (g : Gate) → slice_get gates i ≡ Some g → g.ended ≡ false)
@@ -67,10 +63,10 @@ going_later first place i b prints o = record {
 pub going_at : (first : Bool) (place : ℕ) (prints : List Bool) (j i : ℕ) → slice_get (going first place prints) j ≡ Some i → IsGoing first place i prints
 unfolding going
 going_at first place [] j i h = cc
-going_at true place (b ∷ prints) zero i h = record { at = 0; is = omega (arith, the_same h); printing = b; get = refl; quiet = λ is. (refl, refl) }
+going_at true place (b ∷ prints) zero i h = record { at = 0; is = omega (arith, same_Some _ _ h); printing = b; get = refl; quiet = λ is. (refl, refl) }
 going_at true place (b ∷ prints) (suc j) i h = going_later true place i b prints (going_at false (place + 1) prints j i h)
 going_at false place (true ∷ prints) j i h = going_later false place i true prints (going_at false (place + 1) prints j i h)
-going_at false place (false ∷ prints) zero i h = record { at = 0; is = omega (arith, the_same h); printing = false; get = refl; quiet = λ is. cc is }
+going_at false place (false ∷ prints) zero i h = record { at = 0; is = omega (arith, same_Some _ _ h); printing = false; get = refl; quiet = λ is. cc is }
 going_at false place (false ∷ prints) (suc j) i h = going_later false place i false prints (going_at false (place + 1) prints j i h)
 
 pub going_some : (place : ℕ) (b : Bool) (prints : List Bool) → 1 ≤ length (going true place (b ∷ prints))

@@ -1,26 +1,25 @@
 -- How all stand behind one turn.
-use Rattle.std.proofs.Common.{◌≡◌, ◌⊎◌, inl, inr, ℕ, zero, suc, ◌+◌, ◌*◌, ◌<◌, ◌≤◌, ◌^◌, Bool, true, false, List, [], ◌∷◌, ◌++◌, Some, None, Option, length, refl, sym, ◌∙◌, ap, subst, arith, length-append}
+use Rattle.std.proofs.Common.{◌≡◌, ◌⊎◌, inl, inr, ℕ, zero, suc, ◌+◌, ◌*◌, ◌<◌, ◌≤◌, true, List, [], ◌∷◌, ◌++◌, Some, None, length, refl, sym, ◌∙◌, ap, subst, arith}
 use Rattle.std.specs.Prelude.{slice_get, slice_set}
 use Rattle.std.proofs.lemmas.Bool.{cases_eq, cases_lt}
-use Rattle.std.proofs.lemmas.Option.{slice_get_within}
+use Rattle.std.proofs.lemmas.Option.{same_Some, slice_get_within}
 use Rattle.ob_base.specs.Events.{Event}
 use Rattle.ob_base.specs.declared.config.Public.{Public}
 use Rattle.ob_flat.specs.Flats.{Accepts}
 use Rattle.ob_script.specs.Flights.{made_by}
-use Rattle.ob_vault.proofs.Runs.{lasts_trans, lasts_wider, seals_join, seals_none}
-use Rattle.ob_vault.proofs.WorldSteps.{lasts_none}
+use Rattle.ob_vault.proofs.Runs.{lasts_trans, lasts_wider, seals_join}
 use Rattle.ob_vault.specs.Calls.{Lasts}
 use Rattle.ob_vault.specs.Rows.{SameSizes}
-use Rattle.ob_vault.specs.State.{World}
-use Rattle.ob_verdict.specs.declared.outcome.Outcome.{Outcome}
 use Rattle.ob_inflight.specs.Aloft.{AllFit, AreFlying, IsMade, KeepCourse, KeepFailed, LeavesRest, booked_by, failed_of, most_of}
-use Rattle.ob_inflight.specs.Closing.{Closed, RisesBy, events_at, outcome_at}
+use Rattle.ob_inflight.specs.Closing.{Closed, events_at, outcome_at}
 use Rattle.ob_inflight.specs.Kinds.{Kind, Moment, share_at}
 use Rattle.ob_inflight.specs.Leaving.{Leaves, own_or_next}
-use Rattle.ob_inflight.specs.Picking.{one_if, total}
+use Rattle.ob_script.specs.FlightLaws.{one_if, total}
 use Rattle.ob_inflight.specs.Progress.{KeepsCourse, Progress, Steps}
-use Rattle.ob_inflight.proofs.Acts.{next_made, region_below, region_new, region_own, region_stays, rises_join, rises_none, spent_more, step_asked, step_calm, step_faults, step_lasts}
-use Rattle.ob_inflight.proofs.Lists.{length-set_at, set_here, set_there, the_same, total_few, total_set}
+use Rattle.ob_inflight.proofs.Acts.{next_made, region_below, region_new, region_own, region_stays, rises_join, spent_more, step_asked, step_calm, step_faults, step_lasts}
+use Rattle.ob_inflight.proofs.Lists.{length-set_at}
+use Rattle.ob_script.proofs.FlightEnds.{total_set}
+use Rattle.ob_script.proofs.ListPlaces.{get_set_same, get_set_other}
 use Rattle.ob_inflight.proofs.Turning.{Laws}
 
 -- ---- events
@@ -67,22 +66,21 @@ module _ {F : Type 0} (fs : List F) (i : ℕ) (f g : F) (at : slice_get fs i ≡
   now_at gs is j h get =
       let got : slice_get (slice_set fs i g) j ≡ Some h = ap (λ (l : List F). slice_get l j) (sym is) ∙ get in
       elim (cases_eq j i) [
-        | inl here ↦ Here here (sym (the_same (sym (set_here fs i f g at) ∙ ap (slice_get (slice_set fs i g)) (sym here) ∙ got)))
-        | inr off ↦ There off (sym (set_there fs i j g off) ∙ got)
+        | inl here ↦ Here here (sym (same_Some _ _ (sym (get_set_same fs i f g at) ∙ ap (slice_get (slice_set fs i g)) (sym here) ∙ got)))
+        | inr off ↦ There off (sym (get_set_other fs i j g off) ∙ got)
       ]
 
   pub get_now : (gs : List F) → gs ≡ slice_set fs i g → slice_get gs i ≡ Some g
-  get_now gs is = ap (λ (l : List F). slice_get l i) is ∙ set_here fs i f g at
+  get_now gs is = ap (λ (l : List F). slice_get l i) is ∙ get_set_same fs i f g at
 
   pub get_then : (gs : List F) → gs ≡ slice_set fs i g → (j : ℕ) (h : F) → (j ≡ i → ⊥) → slice_get fs j ≡ Some h → slice_get gs j ≡ Some h
-  get_then gs is j h off get = ap (λ (l : List F). slice_get l j) is ∙ set_there fs i j g off ∙ get
+  get_then gs is j h off get = ap (λ (l : List F). slice_get l j) is ∙ get_set_other fs i j g off ∙ get
 
 -- ---- a step
 module _ {F : Type 0} (k : Kind F) (laws : Laws k) (p : Public) (share : ℕ) (ended : List Closed) (current later : List Event) (last now : Moment F)
     (stand : AreFlying k p share ended current last) (i : ℕ) (f g : F) (at : slice_get last.flyers i ≡ Some f) (flyers : now.flyers ≡ slice_set last.flyers i g)
     (kept : (j : ℕ) → j < length last.flyers → (j ≡ i → ⊥) → share_at share j now.kept ≡ share_at share j last.kept) (others : ℕ)
     (steps : Steps others (k.progress f) (k.progress g) (k.May f) (k.May g) (k.Needs f) (k.Needs g) last.world now.world) where
-
   lasts : Lasts (own_or_next (k.progress f).region last.world.vault.next) last.world now.world
   lasts = step_lasts steps.access (k.progress f).region last.world now.world (k.progress g).failed steps.went
 
@@ -156,6 +154,7 @@ module _ {F : Type 0} (k : Kind F) (laws : Laws k) (p : Public) (share : ℕ) (e
         omega (arith, sum, is, more, steps.books.most, stand.most);
     several = let e = ap (λ (l : List F). length l) flyers ∙ length-set_at last.flyers i g in omega (arith, e, stand.several);
     shares = count ∙ stand.shares ∙ ap (λ (m : ℕ). m * share) (sym (ap (λ (l : List F). length l) flyers ∙ length-set_at last.flyers i g));
+    narrow = stand.narrow;
   }
 
   -- what has changed since the start
@@ -170,11 +169,11 @@ module _ {F : Type 0} (k : Kind F) (laws : Laws k) (p : Public) (share : ℕ) (e
     made = λ q least less. elim (cases_lt_next q) [
       | inl before ↦ made_before (rest.made q least before)
       | inr after ↦ record {
-          place = i;
-          flyer = g;
-          at = get_now last.flyers i f g at now.flyers flyers;
-          made = region_new last.world.vault.next (k.progress f).region (k.progress g).region steps.access steps.region q after (omega (arith, less, step_next));
-        }
+        place = i;
+        flyer = g;
+        at = get_now last.flyers i f g at now.flyers flyers;
+        made = region_new last.world.vault.next (k.progress f).region (k.progress g).region steps.access steps.region q after (omega (arith, less, step_next));
+      }
     ];
     faults =
         let sum = total_set (λ (h : F). one_if (k.progress h).failed) last.flyers i f g at in
@@ -199,7 +198,7 @@ module _ {F : Type 0} (k : Kind F) (laws : Laws k) (p : Public) (share : ℕ) (e
       made_before : {q : ℕ} → IsMade k q last → IsMade k q now
       made_before {q} was = elim (cases_eq was.place i) [
         | inl here ↦
-            let is : was.flyer ≡ f = the_same (sym was.at ∙ ap (slice_get last.flyers) here ∙ at) in
+            let is : was.flyer ≡ f = same_Some _ _ (sym was.at ∙ ap (slice_get last.flyers) here ∙ at) in
             record {
               place = i;
               flyer = g;
@@ -248,11 +247,11 @@ failed_next {F} k last now i f g at flyers same = record {
   size = ap (λ (l : List F). length l) flyers ∙ length-set_at last.flyers i g;
   each = λ j a b get_a get_b is. elim (now_at last.flyers i f g at now.flyers flyers j b get_b) [
     | Here here it ↦
-        let was : a ≡ f = the_same (sym get_a ∙ ap (slice_get last.flyers) here ∙ at) in
+        let was : a ≡ f = same_Some _ _ (sym get_a ∙ ap (slice_get last.flyers) here ∙ at) in
         let kept = same (ap (λ (x : F). (k.progress x).failed) (sym was) ∙ is) in
         (ap (λ (x : F). (k.progress x).served) it ∙ kept.0 ∙ ap (λ (x : F). (k.progress x).served) (sym was), ap (λ (x : F). (k.progress x).failed) it ∙ kept.1)
     | There off was ↦
-        let it : a ≡ b = the_same (sym get_a ∙ was) in
+        let it : a ≡ b = same_Some _ _ (sym get_a ∙ was) in
         (ap (λ (x : F). (k.progress x).served) (sym it), ap (λ (x : F). (k.progress x).failed) (sym it) ∙ is)
   ];
 }

@@ -1,6 +1,5 @@
 -- What is left by an act that gave up, and when the first changed block was read.
-use Rattle.std.proofs.Common.{◌≡◌, ◌⊎◌, inl, inr, ℕ, ◌+◌, ◌<◌, ◌≤◌, Bool, true, false, List, [], ◌∷◌, ◌++◌, Some, None, Option, length, refl, sym, ◌∙◌, ap, subst, arith, append_assoc}
-use Rattle.std.specs.Prelude.{slice_get, slice_set}
+use Rattle.std.proofs.Common.{◌≡◌, ℕ, ◌+◌, List, ◌++◌, Some, None, Option, refl, sym, ◌∙◌, ap, subst, arith, append_assoc}
 use Rattle.std.proofs.lemmas.Option.{slice_get_within}
 use Rattle.ob_base.specs.Events.{Event}
 use Rattle.ob_base.specs.declared.access.Access.{Access}
@@ -47,7 +46,6 @@ module _ {F : Type 0} (k : Kind F) (words : ℕ → ℕ) (n : ℕ) (p : Public) 
   module _ (done rest : List Access) (asked : v.store.asked ≡ last.world.store.asked ++ done)
       (next : (xs : List Served) → AllMay k.May last.flyers xs
       → accesses_in (turns words (n + 1) (setting_off p start.world.vault.next xs)).log ≡ accesses_in aloft.turned.log ++ (done ++ rest)) where
-
     all_asked : v.store.asked ≡ start.world.store.asked ++ (accesses_in aloft.turned.log ++ done)
     all_asked = asked ∙ ap (λ (l : List Access). l ++ done) aloft.turned.asked ∙ append_assoc start.world.store.asked (accesses_in aloft.turned.log) done
 
@@ -77,8 +75,8 @@ module _ {F : Type 0} (k : Kind F) (words : ℕ → ℕ) (n : ℕ) (p : Public) 
           failed = failed;
           reads = λ xs all.
               let log : start.world.store.asked ++ accesses_in (turns words (n + 1) (setting_off p start.world.vault.next xs)).log ≡ v.store.asked ++ rest =
-                  ap (λ (l : List Access). start.world.store.asked ++ l) (next xs all ∙ sym (append_assoc (accesses_in aloft.turned.log) done rest))
-                  ∙ sym (append_assoc start.world.store.asked (accesses_in aloft.turned.log ++ done) rest)
-                  ∙ ap (λ (l : List Access). l ++ rest) (sym all_asked) in
+              ap (λ (l : List Access). start.world.store.asked ++ l) (next xs all ∙ sym (append_assoc (accesses_in aloft.turned.log) done rest))
+              ∙ sym (append_assoc start.world.store.asked (accesses_in aloft.turned.log ++ done) rest)
+              ∙ ap (λ (l : List Access). l ++ rest) (sym all_asked) in
               subst (ReadsIn lie) (sym log) (reads_more lie v.store.asked rest (reads lie was is));
         }

@@ -1,41 +1,38 @@
 -- One turn of statements in flight.
-use Rattle.std.proofs.Common.{◌≡◌, ◌⊎◌, inl, inr, ℕ, zero, suc, ◌+◌, ◌-◌, ◌*◌, ◌<◌, ◌≤◌, ◌^◌, Bool, true, false, List, [], ◌∷◌, ◌++◌, Some, None, Option, map, length, drop, refl, sym, ◌∙◌, ap, subst, arith, length-append}
-use Rattle.std.specs.Prelude.{Result, Ok, Err, is_some, slice_get, slice_set}
+use Rattle.std.proofs.Common.{◌≡◌, ◌⊎◌, inl, inr, ℕ, zero, suc, ◌+◌, ◌<◌, ◌≤◌, ◌^◌, Bool, true, false, List, [], ◌∷◌, ◌++◌, Some, None, Option, map, length, drop, refl, sym, ◌∙◌, ap, subst, arith, length-append}
+use Rattle.std.specs.Prelude.{Ok, Err, is_some, slice_get, slice_set}
 use Rattle.std.proofs.lemmas.Bool.{cases_eq}
-use Rattle.std.proofs.lemmas.List.{append-nil}
-use Rattle.std.proofs.lemmas.Option.{slice_get_within}
+use Rattle.std.proofs.lemmas.List.{append-nil, length-drop, length-map}
+use Rattle.std.proofs.lemmas.Option.{same_Some, slice_get_within}
 use Rattle.ob_base.specs.Events.{Event}
 use Rattle.ob_base.specs.declared.access.Access.{Access}
 use Rattle.ob_base.specs.declared.config.Public.{Public}
 use Rattle.ob_flat.specs.declared.fault.OpErr.{OpErr}
-use Rattle.ob_script.specs.Flights.{Flight, accesses_in, acted, made_by, place_by, prints, turns}
+use Rattle.ob_script.specs.Flights.{Flight, accesses_in, place_by, prints, turns}
 use Rattle.ob_script.specs.Trace.{Served}
-use Rattle.ob_store.specs.State.{Lie}
-use Rattle.ob_vault.proofs.Runs.{lasts_trans, lasts_wider, seals_join}
-use Rattle.ob_vault.specs.Calls.{Lasts}
-use Rattle.ob_vault.specs.Numbers.{spent}
+use Rattle.ob_vault.proofs.Runs.{lasts_trans, lasts_wider, seals_join, seals_none}
+use Rattle.ob_vault.proofs.WorldSteps.{lasts_none}
 use Rattle.ob_vault.specs.Rows.{SameSizes}
-use Rattle.ob_vault.specs.State.{World}
-use Rattle.ob_vault.specs.Tied.{ReadsIn}
 use Rattle.ob_flat.specs.Flats.{Accepts}
 use Rattle.ob_verdict.specs.declared.outcome.Outcome.{Outcome}
-use Rattle.ob_inflight.specs.Aloft.{AllFit, AllMay, AreFlying, IsAloft, IsBegun, LeavesRest, booked_by, most_of, setting_off}
-use Rattle.ob_inflight.specs.Answers.{EndsBy, error_of}
-use Rattle.ob_inflight.specs.Closing.{Closed, events_at}
-use Rattle.ob_inflight.specs.Flown.{StopsFlight, StopsInClosing, StopsInFinish, StopsInStep}
+use Rattle.ob_inflight.specs.Aloft.{AllFit, AllMay, AreBoarded, AreFlying, IsAloft, IsBegun, LeavesRest, most_of, setting_off}
+use Rattle.ob_inflight.specs.Closing.{Closed, ClosesAll, RisesBy, events_at}
+use Rattle.ob_inflight.specs.Flown.{HasFlown, StopsFlight, StopsInClosing, StopsInFinish}
 use Rattle.ob_inflight.specs.Kinds.{Kind, Moment, Taker, moment, share_at}
 use Rattle.ob_inflight.specs.Leaving.{own_or_next}
-use Rattle.ob_inflight.specs.Parts.{EndsAt, EndsInClosing, EndsInFinish, EndsWhole, HasTurned, MayEnd, MayStep, MayTurn, StepsAt, left_to}
-use Rattle.ob_inflight.specs.Picking.{going, one_if, total}
-use Rattle.ob_inflight.specs.Progress.{KeepsCourse, Progress, Steps, act_of, flying_of}
-use Rattle.ob_inflight.proofs.Acts.{reads_calm, reads_cut, calm_none, step_asked, step_calm, step_lasts, stops_faults}
+use Rattle.ob_inflight.specs.Parts.{EndsAt, EndsInClosing, EndsInFinish, EndsWhole, HasTurned, MayEnd, MayStep, MayTurn, StepsAt, TakesTurn, left_to}
+use Rattle.ob_inflight.specs.Picking.{going}
+use Rattle.ob_script.specs.FlightLaws.{one_if, total}
+use Rattle.ob_inflight.specs.Progress.{KeepsCourse, Progress}
+use Rattle.ob_inflight.proofs.Acts.{reads_calm, reads_cut, calm_none, rises_none, step_asked, step_calm, step_lasts, stops_faults}
 use Rattle.ob_inflight.proofs.Emitting.{emitted_ends, emitted_more}
 use Rattle.ob_inflight.proofs.Ending.{ends_acts, ends_flying, rest_ends, same_total, stand_ends}
-use Rattle.ob_inflight.proofs.Lists.{get_some, length-set_at, the_same, total_few, total_set, total_within}
+use Rattle.ob_inflight.proofs.Lists.{get_some, length-set_at, total_few}
+use Rattle.ob_script.proofs.FlightEnds.{total_none, total_set, total_part}
 use Rattle.ob_inflight.proofs.Picks.{IsGoing, picked_going, going_some}
 use Rattle.ob_inflight.proofs.Standing.{course_next, failed_next, events_here, events_there, fit_next, rest_step, stand_step, step_next}
 use Rattle.ob_inflight.proofs.Stopping.{began_next, begun_next}
-use Rattle.ob_inflight.proofs.Turning.{Laws, asks_none, asks_some, log_on, outcome_open, turn_on, turned_next}
+use Rattle.ob_inflight.proofs.Turning.{Laws, asks_none, asks_some, log_on, outcome_open, turn_on, turned_next, turned_none}
 
 -- ---- who was picked
 get_drop : {A : Type 0} (n : ℕ) (xs : List A) (m : ℕ) → slice_get (drop n xs) m ≡ slice_get xs (n + m)
@@ -45,7 +42,7 @@ get_drop (suc n) (x ∷ xs) m = let e : suc n + m ≡ suc (n + m) = omega arith 
 
 get_map : {A B : Type 0} (f : A → B) (xs : List A) (m : ℕ) (x : A) → slice_get xs m ≡ Some x → slice_get (map f xs) m ≡ Some (f x)
 get_map f [] m x at = cc
-get_map f (y ∷ xs) zero x at = ap (λ z. Some (f z)) (the_same at)
+get_map f (y ∷ xs) zero x at = ap (λ z. Some (f z)) (same_Some _ _ at)
 get_map f (y ∷ xs) (suc m) x at = get_map f xs m x at
 
 pub record IsPicked {F : Type 0} (k : Kind F) (e i : ℕ) (fs : List F) : Type 0 where
@@ -63,7 +60,7 @@ is_picked {F} k word e i fs some less place =
       within = less;
       first = λ f at printing.
           let there : slice_get (drop e fs) o.at ≡ Some f = get_drop e fs o.at ∙ ap (slice_get fs) (sym o.is) ∙ at in
-          let same : o.printing ≡ (k.progress f).prints = the_same (sym o.get ∙ get_map (λ (f : F). (k.progress f).prints) (drop e fs) o.at f there) in
+          let same : o.printing ≡ (k.progress f).prints = same_Some _ _ (sym o.get ∙ get_map (λ (f : F). (k.progress f).prints) (drop e fs) o.at f there) in
           omega (arith, o.is, (o.quiet (same ∙ printing)).0);
     }
   where
@@ -74,24 +71,35 @@ is_picked {F} k word e i fs some less place =
         absurd (cc (sym (get_drop e fs 0 ∙ ap (slice_get fs) e_plus ∙ first.1) ∙ ap (λ (l : List F). slice_get l 0) is))
     more (g ∷ gs) is = going_some e (k.progress g).prints (map (λ (f : F). (k.progress f).prints) gs)
 
+pub picked_by : {F : Type 0} (k : Kind F) (word count e i : ℕ) (fs : List F) → count ≡ e → count < length fs → i < length fs
+    → ((none : ℕ) → i ≡ place_by word none (going true count (map (λ (f : F). (k.progress f).prints) (drop count fs)))) → IsPicked k e i fs
+picked_by k word count e i fs counts some within place = subst (λ (m : ℕ). IsPicked k m i fs) counts (is_picked k word count i fs some within place)
+
+pub picked_within : {F : Type 0} (prints : F → Bool) (word e i : ℕ) (fs : List F) → e < length fs → 1 ≤ length (going true e (map prints (drop e fs)))
+    → ((none : ℕ) → i ≡ place_by word none (going true e (map prints (drop e fs)))) → i < length fs
+picked_within {F} prints word e i fs some one place =
+    let bs : List Bool = map prints (drop e fs) in
+    let o : IsGoing true e i bs = subst (λ (j : ℕ). IsGoing true e j bs) (sym (place 0)) (picked_going word 0 e bs one) in
+    omega (arith, o.is, slice_get_within bs o.at o.printing o.get, length-map (drop e fs) prints, length-drop e fs, some)
+
 pub over_prints : {F : Type 0} (k : Kind F) (laws : Laws k) (f : F) (x : Served) (n : ℕ) → k.May f x → (k.progress f).over ≡ true → (k.progress f).prints ≡ true
 over_prints k laws f x n may over = sym (laws.acts f x n may).prints ∙ ap (prints (k.progress f).region) ((laws.acts f x n may).over over)
 
 module _ {F : Type 0} (k : Kind F) (laws : Laws k) (p : Public) (share : ℕ) (rows : List (List ℕ)) (ended : List Closed) (current : List Event) (last : Moment F)
     (stand : AreFlying k p share ended current last) (fit : AllFit k share rows last) (i : ℕ) (f : F) (at : slice_get last.flyers i ≡ Some f) (after : length ended ≤ i) where
-
   outcome_none : (k.progress f).outcome ≡ None
   outcome_none = stand.outcome i f at ∙ outcome_open ended i after
 
   pub may_step : (k.progress f).over ≡ false → MayStep k share i rows last
   may_step left =
-      let most = total_within (λ (h : F). (k.progress h).most) last.flyers i f at in
+      let most = total_part (λ (h : F). (k.progress h).most) last.flyers i f at in
       let small = total_few (λ (h : F). (k.progress h).booked) (2 ^ 59) last.flyers stand.few in
       record {
         flyer = f;
         at = at;
         several = stand.several;
         shares = stand.shares;
+        narrow = stand.narrow;
         ready = stand.ready;
         few = omega (arith, most, stand.most);
         spare = stand.spare;
@@ -107,6 +115,7 @@ module _ {F : Type 0} (k : Kind F) (laws : Laws k) (p : Public) (share : ℕ) (r
     at = at;
     several = stand.several;
     shares = stand.shares;
+    narrow = stand.narrow;
     over = over;
     going = outcome_none;
     held = record { world = last.world; held = record { events = events_at ended current i; holds = stand.holds i f at } };
@@ -128,7 +137,6 @@ module _ {F E : Type 0} (k : Kind F) (t : Taker E) (laws : Laws k) (words : ℕ 
     (out_start out_old out_new : E) (turned : HasTurned k t words n share count rows_old start last out_start out_old) (i : ℕ)
     (place : (none : ℕ) → i ≡ place_by (words n) none (going true (length turned.ended) (map (λ (f : F). (k.progress f).prints) (drop (length turned.ended) last.flyers))))
     (picked : IsPicked k (length turned.ended) i last.flyers) (same : SameSizes rows_old rows_new) where
-
   abbrev e : ℕ
   e = length turned.ended
 
@@ -206,13 +214,6 @@ module _ {F E : Type 0} (k : Kind F) (t : Taker E) (laws : Laws k) (words : ℕ 
                   ∙ events_there turned.ended turned.current (turned.current ++ more) i away
             ]
 
-    pub step_less : left_to k count now.flyers < left_to k count last.flyers
-    step_less =
-        let sum = total_set (λ (h : F). (k.progress h).most) last.flyers i did.before did.after did.at in
-        let is : most_of k now.flyers ≡ total (λ (h : F). (k.progress h).most) (slice_set last.flyers i did.after) = ap (most_of k) did.flyers in
-        let long = ap (λ (l : List F). length l) did.flyers ∙ length-set_at last.flyers i did.after in
-        omega (arith, sum, is, long, did.steps.books.most)
-
   -- it gave up
   module _ (err : OpErr) {T : Type 0} (did : StepsAt {T = T} k t share i (Err err) rows_new last now out_old out_new) where
     pub step_stops : StopsFlight k t words share err start now out_start out_new
@@ -225,7 +226,7 @@ module _ {F E : Type 0} (k : Kind F) (t : Taker E) (laws : Laws k) (words : ℕ 
         let v = now.world in
         let lasts = stops.cut.lasts in
         let log = λ (xs : List Served) (all : AllMay k.May last.flyers xs). log_on k laws words n turned.public share turned.ended turned.current start last stand turned.aloft.turned i f did.at place (Some stops.access) next xs all
-            ∙ ap (λ (l : List Access). accesses_in turned.aloft.turned.log ++ l) (asks_some stops.access ∙ sym stops.cut.began.split) in
+        ∙ ap (λ (l : List Access). accesses_in turned.aloft.turned.log ++ l) (asks_some stops.access ∙ sym stops.cut.began.split) in
         record {
           public = turned.public;
           turn = n;
@@ -270,7 +271,6 @@ module _ {F E : Type 0} (k : Kind F) (t : Taker E) (laws : Laws k) (words : ℕ 
     (out_start out_old out_new : E) (turned : HasTurned k t words n share count rows start last out_start out_old) (i : ℕ)
     (place : (none : ℕ) → i ≡ place_by (words n) none (going true (length turned.ended) (map (λ (f : F). (k.progress f).prints) (drop (length turned.ended) last.flyers))))
     (within : i < length last.flyers) (first : i ≡ length turned.ended) (f : F) (at : slice_get last.flyers i ≡ Some f) (over : (k.progress f).over ≡ true) where
-
   now : Moment F
   now = moment gs last.kept last.world
 
@@ -291,7 +291,6 @@ module _ {F E : Type 0} (k : Kind F) (t : Taker E) (laws : Laws k) (words : ℕ 
       (λ lie none is. absurd (cc (none, is))) (λ lie was. was) (failed_next k last (moment gs last.kept last.world) i f g at flyers kept) turned.begun
 
   module _ (own : List (List ℕ)) (is_own : own ≡ share_at share i last.kept) (g : F) (flyers : gs ≡ slice_set last.flyers i g) (needs : (q : ℕ) → k.Needs g q → k.Needs f q) (may : (x : Served) → k.May g x → k.May f x) where
-
     pub end_turns : (starts : (s : E) → t.grew s s []) → EndsWhole k t i own f g out_old out_new → HasTurned k t words (n + 1) share (count + 1) rows start (moment gs last.kept last.world) out_start out_new
     end_turns starts whole =
         let stand = turned.aloft.stand in
@@ -329,12 +328,6 @@ module _ {F E : Type 0} (k : Kind F) (t : Taker E) (laws : Laws k) (words : ℕ 
           over = λ all. refl;
           begun = begun_over g flyers (λ is. (ap (λ (q : Progress). q.served) whole.answered, ap (λ (q : Progress). q.failed) whole.answered ∙ is));
         }
-
-    pub end_less : count < length last.flyers → EndsWhole k t i own f g out_old out_new → left_to k (count + 1) gs < left_to k count last.flyers
-    end_less some whole =
-        let most = same_total (λ (h : F). (k.progress h).most) last.flyers gs i f g at flyers (ap (λ (q : Progress). q.most) whole.answered) in
-        let long = ap (λ (l : List F). length l) flyers ∙ length-set_at last.flyers i g in
-        omega (arith, most, long, some)
 
     -- it gave up
     stops_ending : (err : OpErr)
@@ -407,3 +400,151 @@ module _ {F E : Type 0} (k : Kind F) (t : Taker E) (laws : Laws k) (words : ℕ 
             parted = closing.parted;
           })) (λ is. (ap (λ (q : Progress). q.served) closing.answered, ap (λ (q : Progress). q.failed) closing.answered ∙ is))
     ]
+
+-- ---- whatever the turns before were
+module _ {F E : Type 0} (k : Kind F) (t : Taker E) (laws : Laws k) (word share count : ℕ) (rows_old rows_new : List (List ℕ)) (last : Moment F) (out_old out_new : E) (i : ℕ)
+    (place : (none : ℕ) → i ≡ place_by word none (going true count (map (λ (f : F). (k.progress f).prints) (drop count last.flyers)))) (within : i < length last.flyers) (some : count < length last.flyers) where
+  place_then : (words : ℕ → ℕ) (n e : ℕ) → words n ≡ word → count ≡ e → (none : ℕ) → i ≡ place_by (words n) none (going true e (map (λ (f : F). (k.progress f).prints) (drop e last.flyers)))
+  place_then words n e w counts none = place none ∙ (λ j. place_by (sym w j) none (going true (counts j) (map (λ (f : F). (k.progress f).prints) (drop (counts j) last.flyers))))
+
+  picked_then : (words : ℕ → ℕ) (n e : ℕ) → words n ≡ word → count ≡ e → IsPicked k e i last.flyers
+  picked_then words n e w counts = is_picked k (words n) e i last.flyers (omega (arith, counts, some)) within (place_then words n e w counts)
+
+  module _ (now : Moment F) (same : SameSizes rows_old rows_new) where
+    pub takes_step : {T : Type 0} (x : T) → length now.kept ≡ length last.kept → StepsAt k t share i (Ok x) rows_new last now out_old out_new
+        → TakesTurn k t word share count (Ok count) rows_old rows_new last now out_old out_new
+    takes_step x count_kept did words n start out_start w turned =
+        step_turns k t laws words n share count rows_old rows_new start last now out_start out_old out_new turned i (place_then words n (length turned.ended) w turned.counts)
+        (picked_then words n (length turned.ended) w turned.counts) same count_kept x did
+
+    pub takes_stop : {T : Type 0} (e : OpErr) → StepsAt {T = T} k t share i (Err e) rows_new last now out_old out_new
+        → TakesTurn k t word share count (Err e) rows_old rows_new last now out_old out_new
+    takes_stop {T} e did words n start out_start w turned =
+        step_stops k t laws words n share count rows_old rows_new start last now out_start out_old out_new turned i (place_then words n (length turned.ended) w turned.counts)
+        (picked_then words n (length turned.ended) w turned.counts) same e did
+
+  module _ (gs : List F) (f : F) (at : slice_get last.flyers i ≡ Some f) (over : (k.progress f).over ≡ true) where
+    -- it is over, so it is the first that has not ended
+    first_then : (words : ℕ → ℕ) (n : ℕ) (start : Moment F) (out_start : E) → words n ≡ word → (turned : HasTurned k t words n share count rows_old start last out_start out_old) → i ≡ length turned.ended
+    first_then words n start out_start w turned =
+        let picked = picked_then words n (length turned.ended) w turned.counts in
+        over_first k laws turned.public share rows_old turned.ended turned.current last turned.aloft.stand turned.fit i f at picked.after picked over
+
+    same_flyer : (x : F) → slice_get last.flyers i ≡ Some x → x ≡ f
+    same_flyer x get = same_Some _ _ (sym get ∙ at)
+
+    pub takes_end : {T : Type 0} (x : T) → ((s : E) → t.grew s s []) → EndsAt k t i (share_at share i last.kept) (Ok x) last.flyers gs out_old out_new
+        → TakesTurn k t word share count (Ok (count + 1)) rows_old rows_old last (moment gs last.kept last.world) out_old out_new
+    takes_end x starts did words n start out_start w turned =
+        end_turns k t laws words n share count rows_old start last gs out_start out_old out_new turned i (place_then words n (length turned.ended) w turned.counts) within
+        (first_then words n start out_start w turned) did.before did.at (ap (λ (y : F). (k.progress y).over) (same_flyer did.before did.at) ∙ over)
+        (share_at share i last.kept) refl did.after did.flyers did.needs did.may starts did.ends
+
+    pub takes_end_stop : {T : Type 0} (e : OpErr) → EndsAt {T = T} k t i (share_at share i last.kept) (Err e) last.flyers gs out_old out_new
+        → TakesTurn k t word share count (Err e) rows_old rows_old last (moment gs last.kept last.world) out_old out_new
+    takes_end_stop {T} e did words n start out_start w turned =
+        end_stops k t laws words n share count rows_old start last gs out_start out_old out_new turned i (place_then words n (length turned.ended) w turned.counts) within
+        (first_then words n start out_start w turned) did.before did.at (ap (λ (y : F). (k.progress y).over) (same_flyer did.before did.at) ∙ over)
+        (share_at share i last.kept) refl did.after did.flyers did.needs did.may e did.ends
+
+-- less is left to do behind an end
+pub ends_less : {F E T : Type 0} (k : Kind F) (t : Taker E) (count i : ℕ) (own : List (List ℕ)) (x : T) (last gs : List F) (out_old out_new : E) → count < length last
+    → EndsAt k t i own (Ok x) last gs out_old out_new → left_to k (count + 1) gs < left_to k count last
+ends_less {F} k t count i own x last gs out_old out_new some did =
+    let most = same_total (λ (h : F). (k.progress h).most) last gs i did.before did.after did.at did.flyers (ap (λ (q : Progress). q.most) did.ends.answered) in
+    let long = ap (λ (l : List F). length l) did.flyers ∙ length-set_at last i did.after in
+    omega (arith, most, long, some)
+
+pub steps_less : {F E T : Type 0} (k : Kind F) (t : Taker E) (share count i : ℕ) (x : T) (rows : List (List ℕ)) (last now : Moment F) (out_old out_new : E)
+    → StepsAt k t share i (Ok x) rows last now out_old out_new → left_to k count now.flyers < left_to k count last.flyers
+steps_less {F} k t share count i x rows last now out_old out_new did =
+    let sum = total_set (λ (h : F). (k.progress h).most) last.flyers i did.before did.after did.at in
+    let is : most_of k now.flyers ≡ total (λ (h : F). (k.progress h).most) (slice_set last.flyers i did.after) = ap (most_of k) did.flyers in
+    let long = ap (λ (l : List F). length l) did.flyers ∙ length-set_at last.flyers i did.after in
+    omega (arith, sum, is, long, did.steps.books.most)
+
+-- before the first turn
+pub turned_first : {F E : Type 0} (k : Kind F) (t : Taker E) (starts : (s : E) → t.grew s s []) (words : ℕ → ℕ) (share : ℕ) (rows : List (List ℕ)) (start : Moment F) (out : E)
+    → AreBoarded k share rows start → HasTurned k t words 0 share 0 rows start start out out
+turned_first {F} {E} k t starts words share rows start out boarded = record {
+  public = boarded.public;
+  ended = [];
+  current = [];
+  aloft = record {
+    stand = boarded.stand;
+    turned = turned_none k words boarded.public start boarded.unasked boarded.unmade (λ i f at. boarded.stand.outcome i f at) (total_none (λ (f : F). (k.progress f).asked + one_if (is_some (k.progress f).outcome)) start.flyers
+        (λ i f at. let o : one_if (is_some (k.progress f).outcome) ≡ 0 = ap (λ (o : Option Outcome). one_if (is_some o)) (boarded.stand.outcome i f at) in omega (arith, o, boarded.unasked i f at)));
+    rest = record {
+      lasts = lasts_none (λ q. start.world.vault.next ≤ q) start.world boarded.stand.ready;
+      own = λ i f at q own. absurd (cc (own, boarded.unmade i f at));
+      made = λ q least less. absurd (omega (arith, least, less));
+      faults = subst (λ (n : ℕ). RisesBy n start.world.store.faults start.world.store.faults)
+          (sym (total_none (λ (f : F). one_if (k.progress f).failed) start.flyers (λ i f at. ap one_if (boarded.unfailed i f at)))) (rises_none start.world.store.faults);
+      calm = λ calm. calm;
+      seals = λ good accepts. seals_none good start.world;
+    };
+    course = record {
+      size = refl;
+      each = λ i f g at get. let same : f ≡ g = same_Some _ _ (sym at ∙ get) in subst (λ (h : F). KeepsCourse (k.progress f) (k.progress h)) same (record { stmt = refl; flat = refl; refusal = refl; public = refl });
+    };
+  };
+  fit = boarded.fit;
+  counts = refl;
+  within = omega arith;
+  emitted = record { between = out; took = refl; now = starts out };
+  over = λ all. refl;
+  begun = λ none lie is. absurd (cc (none, is));
+}
+
+-- the loop may take one more
+pub may_turn : {F E : Type 0} (k : Kind F) (t : Taker E) (words : ℕ → ℕ) (n share count : ℕ) (rows : List (List ℕ)) (start now : Moment F) (out_old out_new : E)
+    → HasTurned k t words n share count rows start now out_old out_new → count < length now.flyers → MayTurn k share count rows now
+may_turn k t words n share count rows start now out_old out_new turned less = record {
+  public = turned.public;
+  ended = turned.ended;
+  current = turned.current;
+  stand = turned.aloft.stand;
+  fit = turned.fit;
+  counts = turned.counts;
+  some = omega (arith, turned.counts, less);
+}
+
+-- or all have ended
+pub has_flown : {F E : Type 0} (k : Kind F) (t : Taker E) (words left : ℕ → ℕ) (n share count : ℕ) (rows : List (List ℕ)) (start now : Moment F) (out_old out_new : E)
+    → HasTurned k t words n share count rows start now out_old out_new → length now.flyers ≤ count → ((i : ℕ) → left i ≡ words (n + i)) → HasFlown k t words left share start now out_old out_new
+has_flown {F} {E} k t words left n share count rows start now out_old out_new turned done rest =
+    let all : length turned.ended ≡ length now.flyers = omega (arith, turned.counts, turned.within, done) in
+    record {
+      public = turned.public;
+      turn = n;
+      ended = turned.ended;
+      aloft = ended_all turned.current turned.aloft all;
+      all = all;
+      took = subst (λ (s : E). ClosesAll t.grew t.closed 0 turned.ended out_old s) (sym (turned.over all)) turned.emitted.took;
+      rest = rest;
+      begun = turned.begun;
+    }
+  where
+    -- nothing more is emitted for any of them
+    ended_all : (current : List Event) → IsAloft k words n turned.public share turned.ended current start now → length turned.ended ≡ length now.flyers → IsAloft k words n turned.public share turned.ended [] start now
+    ended_all current aloft all = record {
+      stand = record {
+        ready = aloft.stand.ready;
+        holds = λ i f at.
+            subst (λ (l : List Event). k.Holds f (share_at share i now.kept) l now.world)
+            (events_there turned.ended current [] i (λ same. absurd (omega (arith, same, all, slice_get_within now.flyers i f at)))) (aloft.stand.holds i f at);
+        outcome = aloft.stand.outcome;
+        public = aloft.stand.public;
+        apart = aloft.stand.apart;
+        below = aloft.stand.below;
+        spare = aloft.stand.spare;
+        few = aloft.stand.few;
+        most = aloft.stand.most;
+        several = aloft.stand.several;
+        shares = aloft.stand.shares;
+        narrow = aloft.stand.narrow;
+      };
+      turned = aloft.turned;
+      rest = aloft.rest;
+      course = aloft.course;
+    }

@@ -1,5 +1,5 @@
 -- What one turn asks, whatever the statements turn out to be served.
-use Rattle.std.proofs.Common.{◌≡◌, ◌⊎◌, inl, inr, ℕ, zero, suc, ◌+◌, ◌<◌, ◌≤◌, Bool, true, false, List, [], ◌∷◌, ◌++◌, Some, None, Option, map, length, drop, refl, sym, ◌∙◌, ap, subst, arith, append_assoc}
+use Rattle.std.proofs.Common.{◌≡◌, ℕ, zero, suc, ◌+◌, ◌<◌, ◌≤◌, Bool, true, List, [], ◌∷◌, ◌++◌, Some, None, Option, map, length, drop, refl, sym, ◌∙◌, ap, subst, arith, append_assoc}
 use Rattle.std.specs.Prelude.{is_some, slice_get, slice_set}
 use Rattle.std.proofs.lemmas.List.{append-nil, map-append}
 use Rattle.ob_base.specs.Events.{Event}
@@ -13,9 +13,12 @@ use Rattle.ob_inflight.specs.Aloft.{AllMay, AreFlying, Turned, acts_of, flight_i
 use Rattle.ob_inflight.specs.Closing.{Closed, outcome_at}
 use Rattle.ob_inflight.specs.Kinds.{Kind, Moment}
 use Rattle.ob_inflight.specs.Leaving.{Leaves}
-use Rattle.ob_inflight.specs.Picking.{going, one_if, total}
-use Rattle.ob_inflight.specs.Progress.{ActsAs, Progress, act_of, flying_of, numbered}
-use Rattle.ob_inflight.proofs.Lists.{set_here, set_there, the_same, total_set}
+use Rattle.ob_inflight.specs.Picking.{going}
+use Rattle.ob_script.specs.FlightLaws.{one_if, total}
+use Rattle.ob_inflight.specs.Progress.{ActsAs, act_of, flying_of, numbered}
+use Rattle.ob_script.proofs.FlightEnds.{total_set}
+use Rattle.std.proofs.lemmas.Option.{same_Some}
+use Rattle.ob_script.proofs.FlightTurns.{turns_more}
 use Rattle.ob_inflight.proofs.Picks.{runnable_behind}
 
 -- the laws of a kind
@@ -37,7 +40,7 @@ module _ {F : Type 0} (k : Kind F) where
   unfolding AllMay
   may_at [] xs i f all at = cc
   may_at (g ∷ fs) [] i f all at = absurd all
-  may_at (g ∷ fs) (x ∷ xs) zero f all at = record { x = x; get = refl; may = subst (λ (h : F). k.May h x) (the_same at) all.0 }
+  may_at (g ∷ fs) (x ∷ xs) zero f all at = record { x = x; get = refl; may = subst (λ (h : F). k.May h x) (same_Some _ _ at) all.0 }
   may_at (g ∷ fs) (x ∷ xs) (suc i) f all at = let m = may_at fs xs i f all.1 at in record { x = m.x; get = m.get; may = m.may }
 
   pub may_before : (fs : List F) (xs : List Served) (i : ℕ) (f g : F) → slice_get fs i ≡ Some f → ((x : Served) → k.May g x → k.May f x)
@@ -46,7 +49,7 @@ module _ {F : Type 0} (k : Kind F) where
   may_before [] xs i f g at earlier all = all
   may_before (h ∷ fs) [] zero f g at earlier all = absurd all
   may_before (h ∷ fs) [] (suc i) f g at earlier all = absurd all
-  may_before (h ∷ fs) (x ∷ xs) zero f g at earlier all = (subst (λ (y : F). k.May y x) (sym (the_same at)) (earlier x all.0), all.1)
+  may_before (h ∷ fs) (x ∷ xs) zero f g at earlier all = (subst (λ (y : F). k.May y x) (sym (same_Some _ _ at)) (earlier x all.0), all.1)
   may_before (h ∷ fs) (x ∷ xs) (suc i) f g at earlier all = (all.0, may_before fs xs i f g at earlier all.1)
 
   pub may_size : (fs : List F) (xs : List Served) → AllMay k.May fs xs → length xs ≡ length fs
@@ -66,14 +69,14 @@ module _ {F : Type 0} (k : Kind F) where
   unfolding flying_in
   flying_at [] xs i f x at get = cc
   flying_at (g ∷ fs) [] i f x at get = cc
-  flying_at (g ∷ fs) (y ∷ xs) zero f x at get = λ j. Some (flying_of (k.progress (the_same at j)) (the_same get j))
+  flying_at (g ∷ fs) (y ∷ xs) zero f x at get = λ j. Some (flying_of (k.progress (same_Some _ _ at j)) (same_Some _ _ get j))
   flying_at (g ∷ fs) (y ∷ xs) (suc i) f x at get = flying_at fs xs i f x at get
 
   flying_set : (fs : List F) (xs : List Served) (i : ℕ) (g : F) (x : Served) → slice_get xs i ≡ Some x → flying_in k (slice_set fs i g) xs ≡ slice_set (flying_in k fs xs) i (flying_of (k.progress g) x)
   unfolding flying_in
   flying_set [] xs i g x get = refl
   flying_set (f ∷ fs) [] i g x get = cc
-  flying_set (f ∷ fs) (y ∷ xs) zero g x get = λ j. flying_of (k.progress g) (the_same get j) ∷ flying_in k fs xs
+  flying_set (f ∷ fs) (y ∷ xs) zero g x get = λ j. flying_of (k.progress g) (same_Some _ _ get j) ∷ flying_in k fs xs
   flying_set (f ∷ fs) (y ∷ xs) (suc i) g x get = ap (λ (l : List Flying). flying_of (k.progress f) y ∷ l) (flying_set fs xs i g x get)
 
   -- ---- who is picked
@@ -90,7 +93,7 @@ module _ {F : Type 0} (k : Kind F) where
     gate_one f x public may =
         let fl : Flying = flying_of (k.progress f) x in
         let is : prints (k.progress f).region (next_act (numbered next p) fl) ≡ (k.progress f).prints =
-            ap (λ (q : Public). prints (k.progress f).region (next_act (numbered next q) fl)) (sym public) ∙ (laws.acts f x next may).prints in
+        ap (λ (q : Public). prints (k.progress f).region (next_act (numbered next q) fl)) (sym public) ∙ (laws.acts f x next may).prints in
         λ j. record { ended = is_some (k.progress f).outcome; prints = is j }
 
     gates_in : (fs : List F) (xs : List Served) → ((i : ℕ) (f : F) → slice_get fs i ≡ Some f → (k.progress f).public ≡ p) → AllMay k.May fs xs
@@ -102,7 +105,7 @@ module _ {F : Type 0} (k : Kind F) where
 
   gate_at : (fs : List F) (i : ℕ) (g : Gate) → slice_get (map gate fs) i ≡ Some g → (f : F) × (slice_get fs i ≡ Some f) × (g ≡ gate f)
   gate_at [] i g at = cc
-  gate_at (f ∷ fs) zero g at = (f, refl, sym (the_same at))
+  gate_at (f ∷ fs) zero g at = (f, refl, sym (same_Some _ _ at))
   gate_at (f ∷ fs) (suc i) g at = gate_at fs i g at
 
   prints_drop : (n : ℕ) (fs : List F) → map (λ (g : Gate). g.prints) (drop n (map gate fs)) ≡ map (λ (f : F). (k.progress f).prints) (drop n fs)
@@ -134,10 +137,6 @@ turn_at word i s fl act place at is =
     ∙ ap (λ (o : Option Flying). picked_in i o s) at
     ∙ ap (λ (a : Option Access). gone_on i a fl s) is
 
-turns_more : (words : ℕ → ℕ) (n : ℕ) (s : Flight) → turns words (n + 1) s ≡ turn (words n) (turns words n s)
-unfolding turns
-turns_more words n s = let e : n + 1 ≡ suc n = omega arith in ap (λ (m : ℕ). turns words m s) e
-
 -- the accesses of an act
 pub asks_of : Option Access → List Access
 asks_of None = []
@@ -160,7 +159,6 @@ module _ {F : Type 0} (k : Kind F) (laws : Laws k) (words : ℕ → ℕ) (n : �
     (stand : AreFlying k p share ended current last) (turned : Turned k words n p start last) (i : ℕ) (f : F) (at : slice_get last.flyers i ≡ Some f)
     (picked : (none : ℕ) → i ≡ place_by (words n) none (going true (length ended) (map (λ (f : F). (k.progress f).prints) (drop (length ended) last.flyers))))
     (act : Option Access) (next : (x : Served) → k.May f x → act_of (k.progress f) x last.world.vault.next ≡ act) where
-
   places : (xs : List Served) → AllMay k.May last.flyers xs → runnable true 0 (map (gate_of (numbered last.world.vault.next p)) (flying_in k last.flyers xs))
       ≡ going true (length ended) (map (λ (f : F). (k.progress f).prints) (drop (length ended) last.flyers))
   places xs all =
@@ -179,9 +177,9 @@ module _ {F : Type 0} (k : Kind F) (laws : Laws k) (words : ℕ → ℕ) (n : �
       let s : Flight = flight_in k p last.world.vault.next last.flyers xs turned.log in
       let fl : Flying = flying_of (k.progress f) m.x in
       let place : place_by (words n) (length s.flying) (runnable true 0 (gates_of s)) ≡ i =
-          ap (place_by (words n) (length s.flying)) (places xs all) ∙ sym (picked (length s.flying)) in
+      ap (place_by (words n) (length s.flying)) (places xs all) ∙ sym (picked (length s.flying)) in
       let is : next_act s.public fl ≡ act =
-          ap (λ (q : Public). next_act (numbered last.world.vault.next q) fl) (sym (stand.public i f at)) ∙ next m.x m.may in
+      ap (λ (q : Public). next_act (numbered last.world.vault.next q) fl) (sym (stand.public i f at)) ∙ next m.x m.may in
       turns_more words n (setting_off p start.world.vault.next xs)
       ∙ ap (turn (words n)) (turned.turns xs all)
       ∙ turn_at (words n) i s fl act place (flying_at k last.flyers xs i f m.x at m.get) is
@@ -194,7 +192,6 @@ module _ {F : Type 0} (k : Kind F) (laws : Laws k) (words : ℕ → ℕ) (n : �
       (after : (x : Served) → acted act (flying_of (k.progress f) x) ≡ flying_of (k.progress g) x)
       (made : now.world.vault.next ≡ last.world.vault.next + made_by act) (asked : now.world.store.asked ≡ last.world.store.asked ++ asks_of act)
       (acts : (k.progress g).asked + one_if (is_some (k.progress g).outcome) ≡ (k.progress f).asked + one_if (is_some (k.progress f).outcome) + 1) where
-
     all_before : (xs : List Served) → AllMay k.May now.flyers xs → AllMay k.May last.flyers xs
     all_before xs all = may_before k last.flyers xs i f g at may (subst (λ (fs : List F). AllMay k.May fs xs) flyers all)
 
@@ -208,7 +205,7 @@ module _ {F : Type 0} (k : Kind F) (laws : Laws k) (words : ℕ → ℕ) (n : �
           let before = all_before xs all in
           let m = may_at k last.flyers xs i f before at in
           let fly : slice_set (flying_in k last.flyers xs) i (acted act (flying_of (k.progress f) m.x)) ≡ flying_in k now.flyers xs =
-              ap (slice_set (flying_in k last.flyers xs) i) (after m.x) ∙ sym (flying_set k last.flyers xs i g m.x m.get) ∙ ap (λ (fs : List F). flying_in k fs xs) (sym flyers) in
+          ap (slice_set (flying_in k last.flyers xs) i) (after m.x) ∙ sym (flying_set k last.flyers xs i g m.x m.get) ∙ ap (λ (fs : List F). flying_in k fs xs) (sym flyers) in
           turn_on xs before
           ∙ (λ j. record { public = numbered (sym made j) p; flying = fly j; log = turned.log ++ entry_of i act });
       acts =

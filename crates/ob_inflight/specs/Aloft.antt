@@ -5,7 +5,7 @@ use Rattle.ob_base.specs.declared.access.Access.{Access}
 use Rattle.ob_base.specs.declared.config.Public.{Public}
 use Rattle.ob_inflight.specs.Closing.{Closed, RisesBy, events_at, outcome_at}
 use Rattle.ob_inflight.specs.Kinds.{Kind, Moment, share_at}
-use Rattle.ob_inflight.specs.Picking.{one_if, total}
+use Rattle.ob_script.specs.FlightLaws.{one_if, total}
 use Rattle.ob_inflight.specs.Progress.{KeepsCourse, SealsBlocks, flying_of, numbered}
 use Rattle.ob_script.specs.Flights.{Flight, Flying, accesses_in, boarded, turns}
 use Rattle.ob_script.specs.Trace.{Served}
@@ -29,8 +29,13 @@ flying_in k (f ∷ fs) [] = []
 flying_in k (f ∷ fs) (x ∷ xs) = flying_of (k.progress f) x ∷ flying_in k fs xs
 
 -- the flight then, where this is the next region and this was asked
-abbrev pub flight_in : {F : Type 0} → Kind F → Public → (next : ℕ) → List F → List Served → List (ℕ × Access) → Flight
-flight_in k p next fs xs log = record { public = numbered next p; flying = flying_in k fs xs; log = log }
+abbrev pub flight_in : {F : Type 0} → Kind F → Public → (next : ℕ) → List F → List Served
+    → List (ℕ × Access) → Flight
+flight_in k p next fs xs log = record {
+  public = numbered next p;
+  flying = flying_in k fs xs;
+  log = log;
+}
 
 -- and as it begins
 abbrev pub setting_off : Public → (next : ℕ) → List Served → Flight
@@ -51,31 +56,38 @@ failed_of k fs = total (λ f. one_if (k.progress f).failed) fs
 
 -- ---- how they stand
 -- the first ones have ended so, and then these events were emitted for the next one
-pub record AreFlying {F : Type 0} (k : Kind F) (p : Public) (share : ℕ) (ended : List Closed) (current : List Event)
+pub record AreFlying {F : Type 0} (k : Kind F) (p : Public) (share : ℕ) (ended : List Closed)
+    (current : List Event)
     (now : Moment F) : Type 0 where
   pub ready : Ready now.world
   pub holds : (i : ℕ) (f : F) → slice_get now.flyers i ≡ Some f
       → k.Holds f (share_at share i now.kept) (events_at ended current i) now.world
-  pub outcome : (i : ℕ) (f : F) → slice_get now.flyers i ≡ Some f → (k.progress f).outcome ≡ outcome_at ended i
+  pub outcome : (i : ℕ) (f : F) → slice_get now.flyers i ≡ Some f
+      → (k.progress f).outcome ≡ outcome_at ended i
   pub public : (i : ℕ) (f : F) → slice_get now.flyers i ≡ Some f → (k.progress f).public ≡ p
   -- no one needs what another has made
-  pub apart : (i j : ℕ) (f g : F) → slice_get now.flyers i ≡ Some f → slice_get now.flyers j ≡ Some g → (i ≡ j → ⊥)
+  pub apart : (i j : ℕ) (f g : F) → slice_get now.flyers i ≡ Some f
+      → slice_get now.flyers j ≡ Some g → (i ≡ j → ⊥)
       → (q : ℕ) → (k.progress f).region ≡ Some q → k.Needs g q → ⊥
-  pub below : (i : ℕ) (f : F) → slice_get now.flyers i ≡ Some f → (q : ℕ) → (k.progress f).region ≡ Some q
+  pub below : (i : ℕ) (f : F) → slice_get now.flyers i ≡ Some f → (q : ℕ)
+      → (k.progress f).region ≡ Some q
       → q < now.world.vault.next
   pub spare : booked_by k now.flyers ≤ now.world.store.spare
   pub few : (i : ℕ) (f : F) → slice_get now.flyers i ≡ Some f → (k.progress f).booked ≤ 2 ^ 59
   pub most : spent now.world + most_of k now.flyers < 2 ^ 63 + 2 ^ 60
   pub several : length now.flyers ≤ 8
   pub shares : length now.kept ≡ length now.flyers * share
+  pub narrow : share < 2 ^ 32
 
 -- the rows fit those that have not ended
-pub record AllFit {F : Type 0} (k : Kind F) (share : ℕ) (rows : List (List ℕ)) (now : Moment F) : Type 0 where
+pub record AllFit {F : Type 0} (k : Kind F) (share : ℕ) (rows : List (List ℕ)) (now : Moment F)
+    : Type 0 where
   pub each : (i : ℕ) (f : F) → slice_get now.flyers i ≡ Some f → (k.progress f).outcome ≡ None
       → k.Fits f rows (share_at share i now.kept)
 
 -- nothing was asked of any of them, nor emitted
-pub record AreBoarded {F : Type 0} (k : Kind F) (share : ℕ) (rows : List (List ℕ)) (now : Moment F) : Type 0 where
+pub record AreBoarded {F : Type 0} (k : Kind F) (share : ℕ) (rows : List (List ℕ)) (now : Moment F)
+    : Type 0 where
   pub public : Public
   pub stand : AreFlying k public share [] [] now
   pub fit : AllFit k share rows now
@@ -85,7 +97,8 @@ pub record AreBoarded {F : Type 0} (k : Kind F) (share : ℕ) (rows : List (List
 
 -- ---- n turns
 -- whatever the statements turn out to be served, what was asked is what the turns of that ask
-pub record Turned {F : Type 0} (k : Kind F) (words : ℕ → ℕ) (n : ℕ) (p : Public) (start now : Moment F) : Type 0 where
+pub record Turned {F : Type 0} (k : Kind F) (words : ℕ → ℕ) (n : ℕ) (p : Public)
+    (start now : Moment F) : Type 0 where
   pub log : List (ℕ × Access)
   pub asked : now.world.store.asked ≡ start.world.store.asked ++ accesses_in log
   pub may : (xs : List Served) → AllMay k.May now.flyers xs → AllMay k.May start.flyers xs
@@ -104,7 +117,8 @@ pub record IsMade {F : Type 0} (k : Kind F) (q : ℕ) (now : Moment F) : Type 0 
 -- what has changed is in regions that they made, and each fault of the store is one of theirs
 pub record LeavesRest {F : Type 0} (k : Kind F) (p : Public) (start now : Moment F) : Type 0 where
   pub lasts : Lasts (λ q. start.world.vault.next ≤ q) start.world now.world
-  pub own : (i : ℕ) (f : F) → slice_get now.flyers i ≡ Some f → (q : ℕ) → (k.progress f).region ≡ Some q
+  pub own : (i : ℕ) (f : F) → slice_get now.flyers i ≡ Some f → (q : ℕ)
+      → (k.progress f).region ≡ Some q
       → start.world.vault.next ≤ q
   pub made : (q : ℕ) → start.world.vault.next ≤ q → q < now.world.vault.next → IsMade k q now
   pub faults : RisesBy (failed_of k now.flyers) start.world.store.faults now.world.store.faults
@@ -117,7 +131,8 @@ pub record KeepCourse {F : Type 0} (k : Kind F) (start now : Moment F) : Type 0 
   pub each : (i : ℕ) (f g : F) → slice_get start.flyers i ≡ Some f → slice_get now.flyers i ≡ Some g
       → KeepsCourse (k.progress f) (k.progress g)
 
-pub record IsAloft {F : Type 0} (k : Kind F) (words : ℕ → ℕ) (n : ℕ) (p : Public) (share : ℕ) (ended : List Closed)
+pub record IsAloft {F : Type 0} (k : Kind F) (words : ℕ → ℕ) (n : ℕ) (p : Public) (share : ℕ)
+    (ended : List Closed)
     (current : List Event) (start now : Moment F) : Type 0 where
   pub stand : AreFlying k p share ended current now
   pub turned : Turned k words n p start now
@@ -128,12 +143,14 @@ pub record IsAloft {F : Type 0} (k : Kind F) (words : ℕ → ℕ) (n : ℕ) (p 
 pub record KeepFailed {F : Type 0} (k : Kind F) (last now : Moment F) : Type 0 where
   pub size : length now.flyers ≡ length last.flyers
   pub each : (i : ℕ) (f g : F) → slice_get last.flyers i ≡ Some f → slice_get now.flyers i ≡ Some g
-      → (k.progress f).failed ≡ true → ((k.progress g).served ≡ (k.progress f).served) × ((k.progress g).failed ≡ true)
+      → (k.progress f).failed ≡ true → ((k.progress g).served ≡ (k.progress f).served)
+      × ((k.progress g).failed ≡ true)
 
 -- ---- the first block that was read and is not what was written
 -- just before the access that read it they stood as they should, and whatever they turn out to be served, that access is
 -- among those of a turn more
-pub record BeginsIn {F : Type 0} (k : Kind F) (words : ℕ → ℕ) (p : Public) (share : ℕ) (lie : Lie) (start now : Moment F) : Type 0 where
+pub record BeginsIn {F : Type 0} (k : Kind F) (words : ℕ → ℕ) (p : Public) (share : ℕ) (lie : Lie)
+    (start now : Moment F) : Type 0 where
   pub turn : ℕ
   pub last : Moment F
   pub ended : List Closed
@@ -142,8 +159,11 @@ pub record BeginsIn {F : Type 0} (k : Kind F) (words : ℕ → ℕ) (p : Public)
   pub none : last.world.store.lie ≡ None
   pub failed : KeepFailed k last now
   pub reads : (xs : List Served) → AllMay k.May last.flyers xs
-      → ReadsIn lie (start.world.store.asked ++ accesses_in (turns words (turn + 1) (setting_off p start.world.vault.next xs)).log)
+      → ReadsIn lie (start.world.store.asked
+      ++ accesses_in (turns words (turn + 1) (setting_off p start.world.vault.next xs)).log)
 
-abbrev pub IsBegun : {F : Type 0} → Kind F → (words : ℕ → ℕ) → Public → (share : ℕ) → (start now : Moment F) → Type 0
+abbrev pub IsBegun : {F : Type 0} → Kind F → (words : ℕ → ℕ) → Public → (share : ℕ)
+    → (start now : Moment F) → Type 0
 IsBegun k words p share start now =
-    start.world.store.lie ≡ None → (lie : Lie) → now.world.store.lie ≡ Some lie → BeginsIn k words p share lie start now
+    start.world.store.lie ≡ None → (lie : Lie) → now.world.store.lie ≡ Some lie
+    → BeginsIn k words p share lie start now

@@ -1,5 +1,5 @@
 -- What statements in flight emit.
-use Rattle.std.specs.Prelude.{◌≡◌, ◌<◌, ◌^◌, ◌++◌, ⊤, ℕ, Bool, true, false, List, [], Result, IfOk, IfErr}
+use Rattle.std.specs.Prelude.{◌≡◌, ◌<◌, ◌^◌, ◌++◌, ⊤, Bool, true, false, List, [], Result, IfOk, IfErr}
 use Rattle.ob_base.specs.Events.{Event, Leads}
 use Rattle.ob_base.specs.declared.emit.EmitErr.{EmitErr}
 use Rattle.ob_base.specs.declared.emit.EmitErr.TheVariants as EmitErrs
@@ -25,7 +25,8 @@ pub record IsHeldSomewhere (Holds : List Event → World → Type 0) : Type 0 wh
   pub held : IsHeld Holds world
 
 -- how an emitter ends within some events: with them where the emitter itself didn't give up
-abbrev pub EndsBy : {E : Type 0} → (grew cut : E → E → List Event → Type 0) → OpErr → (E → E → List Event → Type 0)
+abbrev pub EndsBy : {E : Type 0} → (grew cut : E → E → List Event → Type 0) → OpErr
+    → (E → E → List Event → Type 0)
 EndsBy grew cut Failed = grew
 EndsBy grew cut (Tampered region place) = grew
 EndsBy grew cut Sink = cut
@@ -33,7 +34,8 @@ EndsBy grew cut NoMemory = cut
 
 -- behind the events before more were emitted, none where nothing is to be
 pub record More {E : Type 0} (grew : E → E → List Event → Type 0) (printing : Bool)
-    (Holds : List Event → World → Type 0) (events : List Event) (w : World) (out_old out_new : E) : Type 0 where
+    (Holds : List Event → World → Type 0) (events : List Event) (w : World) (out_old out_new : E)
+    : Type 0 where
   pub more : List Event
   pub leads : Leads grew grew out_old out_new more
   pub quiet : printing ≡ false → (more ≡ []) × (out_new ≡ out_old)
@@ -41,7 +43,8 @@ pub record More {E : Type 0} (grew : E → E → List Event → Type 0) (printin
 
 -- or a first part of more; the emitter ends within it only where something is to be emitted
 pub record Part {E : Type 0} (grew to : E → E → List Event → Type 0) (printing : Bool)
-    (Halts : (events part : List Event) → Type 0) (events : List Event) (out_old out_new : E) : Type 0 where
+    (Halts : (events part : List Event) → Type 0) (events : List Event) (out_old out_new : E)
+    : Type 0 where
   pub part : List Event
   pub leads : printing ≡ true → Leads grew to out_old out_new part
   pub quiet : printing ≡ false → (part ≡ []) × (out_new ≡ out_old)
@@ -55,7 +58,8 @@ pub record Tells {E T : Type 0} (grew cut : E → E → List Event → Type 0) (
   pub ok : IfOk result (λ _. (events : List Event) → Holds_old events old
       → More grew printing Holds_new events new out_old out_new)
   pub err : IfErr result (λ e. (events : List Event) → Holds_old events old
-      → Part grew (EndsBy grew cut e) printing (λ events part. Halts events part e old new) events out_old out_new)
+      → Part grew (EndsBy grew cut e) printing
+      (λ events part. Halts events part e old new) events out_old out_new)
 
 -- the same error of a pass
 abbrev pub error_of : EmitErr → OpErr
@@ -70,4 +74,5 @@ pub record Finishes {E T : Type 0} (grew cut : E → E → List Event → Type 0
   pub ok : IfOk result (λ _. (events : List Event) (w : World) → Holds_old events w
       → More grew true Holds_new events w out_old out_new)
   pub err : IfErr result (λ e. (events : List Event) (w : World) → Holds_old events w
-      → Part grew cut true (λ events part. Halts events part (error_of e) w w) events out_old out_new)
+      → Part grew cut true
+      (λ events part. Halts events part (error_of e) w w) events out_old out_new)

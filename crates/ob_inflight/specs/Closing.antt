@@ -1,5 +1,5 @@
 -- Answers of several statements, one behind the other.
-use Rattle.std.specs.Prelude.{◌≡◌, ◌+◌, ◌-◌, ◌^◌, ◌≤◌, min, ℕ, zero, suc, List, [], ◌∷◌, Option, Some, None, length, option_map, slice_get}
+use Rattle.std.specs.Prelude.{◌≡◌, ◌+◌, ◌-◌, ◌^◌, ◌≤◌, min, ℕ, zero, suc, List, [], ◌∷◌, Option, option_map, slice_get}
 use Rattle.ob_base.specs.Events.{Event}
 use Rattle.ob_verdict.specs.declared.outcome.Outcome.{Outcome}
 
@@ -9,21 +9,25 @@ pub record Closed : Type 0 where
   pub events : List Event
 
 -- the emitter took the events of one answer, and then how its statement, at this place, was answered
-pub record Closes {E : Type 0} (grew : E → E → List Event → Type 0) (closed : E → E → ℕ → Outcome → Type 0)
+pub record Closes {E : Type 0} (grew : E → E → List Event → Type 0)
+    (closed : E → E → ℕ → Outcome → Type 0)
     (place : ℕ) (one : Closed) (out_old out_new : E) : Type 0 where
   pub between : E
   pub took : grew out_old between one.events
   pub closes : closed between out_new place one.outcome
 
 -- those of each, one behind the other
-abbrev pub ClosesAll : {E : Type 0} → (grew : E → E → List Event → Type 0) → (closed : E → E → ℕ → Outcome → Type 0)
+abbrev pub ClosesAll : {E : Type 0} → (grew : E → E → List Event → Type 0)
+    → (closed : E → E → ℕ → Outcome → Type 0)
     → (place : ℕ) → List Closed → (out_old out_new : E) → Type 0
 ClosesAll grew closed place [] out_old out_new = out_new ≡ out_old
 ClosesAll {E} grew closed place (one ∷ more) out_old out_new =
-    (then : E) × Closes grew closed place one out_old then × ClosesAll grew closed (place + 1) more then out_new
+    (then : E) × Closes grew closed place one out_old then
+    × ClosesAll grew closed (place + 1) more then out_new
 
 -- they were taken, and then these events of the next one
-pub record Emitted {E : Type 0} (grew : E → E → List Event → Type 0) (closed : E → E → ℕ → Outcome → Type 0)
+pub record Emitted {E : Type 0} (grew : E → E → List Event → Type 0)
+    (closed : E → E → ℕ → Outcome → Type 0)
     (ended : List Closed) (current : List Event) (out_old out_new : E) : Type 0 where
   pub between : E
   pub took : ClosesAll grew closed 0 ended out_old between

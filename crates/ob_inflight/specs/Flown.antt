@@ -1,5 +1,5 @@
 -- What a flight does: in the end, and where it stops.
-use Rattle.std.specs.Prelude.{◌≡◌, ◌≤◌, ◌⊎◌, ◌+◌, ◌++◌, ℕ, true, false, List, [], ◌∷◌, Option, Some, None, length, slice_get, slice_set}
+use Rattle.std.specs.Prelude.{◌≡◌, ◌≤◌, ◌⊎◌, ◌+◌, ◌++◌, ℕ, true, false, List, [], Option, Some, None, length, slice_get, slice_set}
 use Rattle.ob_base.specs.Events.{Event}
 use Rattle.ob_base.specs.declared.access.Access.{Access}
 use Rattle.ob_base.specs.declared.config.Public.{Public}
@@ -17,7 +17,8 @@ use Rattle.ob_vault.specs.Calls.{Lasts}
 use Rattle.ob_verdict.specs.declared.outcome.Outcome.{Outcome}
 
 -- all have ended, after n turns, each of which took a word
-pub record HasFlown {F E : Type 0} (k : Kind F) (t : Taker E) (words left : ℕ → ℕ) (share : ℕ) (start now : Moment F)
+pub record HasFlown {F E : Type 0} (k : Kind F) (t : Taker E) (words left : ℕ → ℕ) (share : ℕ)
+    (start now : Moment F)
     (out_old out_new : E) : Type 0 where
   pub public : Public
   pub turn : ℕ
@@ -30,8 +31,10 @@ pub record HasFlown {F E : Type 0} (k : Kind F) (t : Taker E) (words left : ℕ 
 
 -- ---- what gave up, behind some turns
 -- the step of the statement at a place, which is the first that has not ended if it prints
-pub record StopsInStep {F E : Type 0} (k : Kind F) (t : Taker E) (e : OpErr) (ended : List Closed) (current : List Event)
-    (place : ℕ) (act : Option Access) (last now : Moment F) (between out_last out_new : E) : Type 0 where
+pub record StopsInStep {F E : Type 0} (k : Kind F) (t : Taker E) (e : OpErr) (ended : List Closed)
+    (current : List Event)
+    (place : ℕ) (act : Option Access) (last now : Moment F) (between out_last out_new : E)
+    : Type 0 where
   pub before : F
   pub after : F
   pub at : slice_get last.flyers place ≡ Some before
@@ -41,12 +44,14 @@ pub record StopsInStep {F E : Type 0} (k : Kind F) (t : Taker E) (e : OpErr) (en
   pub asks : act ≡ Some stops.access
   pub first : (k.progress before).prints ≡ true → place ≡ length ended
   pub part : List Event
-  pub ends : (k.progress before).prints ≡ true → EndsBy t.grew t.cut e between out_new (current ++ part)
+  pub ends : (k.progress before).prints ≡ true
+      → EndsBy t.grew t.cut e between out_new (current ++ part)
   pub quiet : (k.progress before).prints ≡ false → (part ≡ []) × (out_new ≡ out_last)
   pub halts : k.Halts before (events_at ended current place) part e last.world now.world
 
 -- what was left of the answer of the first that has not ended
-pub record StopsInFinish {F E : Type 0} (k : Kind F) (t : Taker E) (e : OpErr) (ended : List Closed) (current : List Event)
+pub record StopsInFinish {F E : Type 0} (k : Kind F) (t : Taker E) (e : OpErr) (ended : List Closed)
+    (current : List Event)
     (place : ℕ) (act : Option Access) (last now : Moment F) (between out_new : E) : Type 0 where
   pub first : place ≡ length ended
   pub none : act ≡ None
@@ -64,7 +69,8 @@ pub record StopsInFinish {F E : Type 0} (k : Kind F) (t : Taker E) (e : OpErr) (
   pub halts : k.Halts before current part e last.world now.world
 
 -- how it was answered
-pub record StopsInClosing {F E : Type 0} (k : Kind F) (t : Taker E) (share : ℕ) (e : OpErr) (ended : List Closed)
+pub record StopsInClosing {F E : Type 0} (k : Kind F) (t : Taker E) (share : ℕ) (e : OpErr)
+    (ended : List Closed)
     (place : ℕ) (act : Option Access) (last now : Moment F) (between out_new : E) : Type 0 where
   pub first : place ≡ length ended
   pub none : act ≡ None
@@ -85,7 +91,8 @@ pub record StopsInClosing {F E : Type 0} (k : Kind F) (t : Taker E) (share : ℕ
   pub parted : t.parted took out_new place outcome
 
 -- n turns were taken, and an act of the next one gave up; the accesses are the first ones of these turns and that one
-pub record StopsFlight {F E : Type 0} (k : Kind F) (t : Taker E) (words : ℕ → ℕ) (share : ℕ) (e : OpErr)
+pub record StopsFlight {F E : Type 0} (k : Kind F) (t : Taker E) (words : ℕ → ℕ) (share : ℕ)
+    (e : OpErr)
     (start now : Moment F) (out_old out_new : E) : Type 0 where
   pub public : Public
   pub turn : ℕ
@@ -99,12 +106,14 @@ pub record StopsFlight {F E : Type 0} (k : Kind F) (t : Taker E) (words : ℕ �
   pub place : ℕ
   pub act : Option Access
   pub log : (xs : List Served) → AllMay k.May last.flyers xs
-      → (turns words (turn + 1) (setting_off public start.world.vault.next xs)).log ≡ aloft.turned.log ++ entry_of place act
+      → (turns words (turn + 1) (setting_off public start.world.vault.next xs)).log
+      ≡ aloft.turned.log ++ entry_of place act
   pub by : StopsInStep k t e ended current place act last now emitted.between out_last out_new
       ⊎ StopsInFinish k t e ended current place act last now emitted.between out_new
       ⊎ StopsInClosing k t share e ended place act last now emitted.between out_new
   pub began : (xs : List Served) → AllMay k.May last.flyers xs
-      → Began (accesses_in (turns words (turn + 1) (setting_off public start.world.vault.next xs)).log)
+      → Began
+      (accesses_in (turns words (turn + 1) (setting_off public start.world.vault.next xs)).log)
       start.world.store now.world.store
   pub lasts : Lasts (λ q. start.world.vault.next ≤ q) start.world now.world
   pub faults : now.world.store.faults ≡ last.world.store.faults

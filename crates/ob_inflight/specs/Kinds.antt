@@ -18,7 +18,8 @@ pub record Kind (F : Type 0) : Type 1 where
   pub Halts : F → (events part : List Event) → OpErr → (old new : World) → Type 0
 
 abbrev pub kind_of : {F : Type 0} → (F → Progress) → (F → Served → Type 0) → (F → ℕ → Type 0)
-    → (F → (rows kept : List (List ℕ)) → Type 0) → (F → (kept : List (List ℕ)) → List Event → World → Type 0)
+    → (F → (rows kept : List (List ℕ)) → Type 0)
+    → (F → (kept : List (List ℕ)) → List Event → World → Type 0)
     → (F → (events part : List Event) → OpErr → (old new : World) → Type 0) → Kind F
 kind_of progress May Needs Fits Holds Halts = record {
   progress = progress;
@@ -38,7 +39,12 @@ pub record Taker (E : Type 0) : Type 1 where
 
 abbrev pub taker_of : {E : Type 0} → (grew cut : E → E → List Event → Type 0)
     → (closed parted : E → E → ℕ → Outcome → Type 0) → Taker E
-taker_of grew cut closed parted = record { grew = grew; cut = cut; closed = closed; parted = parted }
+taker_of grew cut closed parted = record {
+  grew = grew;
+  cut = cut;
+  closed = closed;
+  parted = parted;
+}
 
 -- statements at a moment: their shares' rows, and the world
 pub record Moment (F : Type 0) : Type 0 where

@@ -80,7 +80,8 @@ pub record ActsAs (p : Progress) (x : Served) (n : ℕ) : Type 0 where
 -- blocks of rows or dummies, of this many slots, are sealed where they lie
 abbrev pub SealsBlocks : (pack : ℕ) → (old new : World) → Type 0
 SealsBlocks pack old new =
-    (good : ℕ → List ℕ → Bool) → ((columns : Columns) (region : ℕ) → Accepts good pack columns region)
+    (good : ℕ → List ℕ → Bool)
+    → ((columns : Columns) (region : ℕ) → Accepts good pack columns region)
     → Seals good old new
 
 -- one access was asked; where the store failed the statement, that was it
@@ -125,7 +126,8 @@ pub record Steps (others : ℕ) (before after : Progress) (May_old May_new : Ser
   pub seals : SealsBlocks before.public.pack old new
 
 -- a step that gave up asked its next access, or none where memory was wanted; what is seen of it is what was seen before
-pub record StopsStep (e : OpErr) (before after : Progress) (May_old : Served → Type 0) (old new : World) : Type 0 where
+pub record StopsStep (e : OpErr) (before after : Progress) (May_old : Served → Type 0)
+    (old new : World) : Type 0 where
   pub access : Access
   pub next : (x : Served) → May_old x → act_of before x old.vault.next ≡ Some access
   pub cut : PassCut e (access ∷ []) (own_or_next before.region old.vault.next) old new

@@ -6,7 +6,8 @@ ghost use Rattle.ob_inflight.specs.Answers.{error_of};
 ghost use Rattle.ob_inflight.specs.Flown.{HasFlown, StopsFlight};
 ghost use Rattle.ob_inflight.specs.Kinds.{kind_of, moment, share_at, taker_of};
 ghost use Rattle.ob_inflight.specs.Parts.{EndsAt, MayEnd, MayStep, MayTurn, StepsAt, TakesTurn, left_to};
-ghost use Rattle.ob_inflight.specs.Picking.{going, total};
+ghost use Rattle.ob_inflight.specs.Picking.{going};
+ghost use Rattle.ob_script.specs.FlightLaws.{total};
 ghost use Rattle.ob_script.specs.Flights.{place_by};
 ghost use Rattle.ob_vault.specs.Places.{at};
 ghost use Rattle.ob_vault.specs.Rows.{SameSizes};
@@ -69,13 +70,13 @@ fn picked<F: Flyer>(flyers: &[F], ended: usize, word: u64) -> usize
     ensures place { (none : ℕ) → result ≡ place_by word none
         (going true ended (map (λ f. (F.progress f).prints) (drop ended flyers.now))) }
 {
-    let open = &flyers[ended..];
+    let (_ended, open) = flyers.split_at(ended);
     let n = count_going(open, true);
     place_going(open, true, ended, (word % n as u64) as usize)
 }
 
 // For how many of their accesses the store has room.
-#[tactic(auto, unfolding(crate::specs::Picking::total))]
+#[tactic(auto, unfolding(ob_script::specs::FlightLaws::total))]
 fn booked_by<F: Flyer>(flyers: &[F]) -> u64
     requires { total (λ f. (F.progress f).booked) flyers.now < 2 ^ 64 }
     ensures { result ≡ total (λ f. (F.progress f).booked) flyers.now }
@@ -100,9 +101,9 @@ fn step_at<S: BlockStore, R: Revisions, F: Flyer, E: FlightOut>(
     place: usize,
     out: &mut E,
 ) -> Result<(), OpErr>
-    requires {
-        MayStep (kind_of F.progress F.May F.Needs F.Fits F.Holds F.Halts) share place rows.old
+    requires may { MayStep (kind_of F.progress F.May F.Needs F.Fits F.Holds F.Halts) share place rows.old
         (moment flyers.old kept.old (at R.state vault.old (S.state store.old))) }
+    requires within { place < length flyers.old }
     ensures rows { SameSizes rows.old rows.new }
     ensures kept { SameSizes kept.old kept.new }
     ensures steps { StepsAt (kind_of F.progress F.May F.Needs F.Fits F.Holds F.Halts)
@@ -135,16 +136,16 @@ fn end_at<F: Flyer, E: FlightOut>(
     place: usize,
     out: &mut E,
 ) -> Result<(), OpErr>
-    requires {
-        MayEnd (kind_of F.progress F.May F.Needs F.Fits F.Holds F.Halts) share place flyers.old
+    requires may { MayEnd (kind_of F.progress F.May F.Needs F.Fits F.Holds F.Halts) share place flyers.old
         kept.now }
+    requires within { place < length flyers.old }
     ensures ends { EndsAt (kind_of F.progress F.May F.Needs F.Fits F.Holds F.Halts)
         (taker_of E.grew E.cut E.closed E.parted) place (share_at share place kept.now) result
         flyers.old flyers.new out.old out.new }
     ensures sink { SinkCause result (E.faults out.old) (E.faults out.new) }
 {
-    let from = place * share;
-    let own = &kept[from..from + share];
+    let (_front, rest) = kept.split_at(place * share);
+    let (own, _back) = rest.split_at(share);
     let outcome = match flyers[place].finish(own, out) {
         Ok(outcome) => outcome,
         Err(e) => return Err(op_error(e)),
@@ -167,8 +168,7 @@ fn fly_turn<S: BlockStore, R: Revisions, F: Flyer, E: FlightOut>(
     word: u64,
     out: &mut E,
 ) -> Result<usize, OpErr>
-    requires {
-        MayTurn (kind_of F.progress F.May F.Needs F.Fits F.Holds F.Halts) share ended rows.old
+    requires { MayTurn (kind_of F.progress F.May F.Needs F.Fits F.Holds F.Halts) share ended rows.old
         (moment flyers.old kept.old (at R.state vault.old (S.state store.old))) }
     ensures rows { SameSizes rows.old rows.new }
     ensures kept { SameSizes kept.old kept.new }
@@ -209,8 +209,7 @@ pub fn fly<S: BlockStore, R: Revisions, F: Flyer, T: Turns, E: FlightOut>(
     turns: &mut T,
     out: &mut E,
 ) -> Result<(), OpErr>
-    requires boarded {
-        AreBoarded (kind_of F.progress F.May F.Needs F.Fits F.Holds F.Halts) share rows.old
+    requires boarded { AreBoarded (kind_of F.progress F.May F.Needs F.Fits F.Holds F.Halts) share rows.old
         (moment flyers.old kept.old (at R.state vault.old (S.state store.old))) }
     ensures rows { SameSizes rows.old rows.new }
     ensures kept { SameSizes kept.old kept.new }
