@@ -1,13 +1,15 @@
 -- The end of a SELECT of totals in flight.
-use Rattle.std.proofs.Common.{◌≡◌, ◌⊎◌, ◌++◌, ◌==◌, ◌||◌, ◌≤◌, ℕ, Bool, true, false, List, [], ◌∷◌, Option, Some, None, Ok, Err, Result, refl, sym, ◌∙◌, ap, subst}
+use Rattle.std.proofs.Common.{◌≡◌, ◌⊎◌, inl, inr, ◌++◌, ◌==◌, ◌||◌, ◌≤◌, ℕ, Bool, true, false, List, [], ◌∷◌, Option, Some, None, Ok, Err, Result, refl, sym, ◌∙◌, ap, subst}
 use Rattle.std.proofs.lemmas.Bool.{eqb-true}
 use Rattle.std.proofs.lemmas.List.{append-nil}
 use Rattle.ob_base.specs.declared.emit.EmitErr.{EmitErr}
+use Rattle.ob_base.specs.declared.emit.EmitErr.TheVariants as EmitErrs
 use Rattle.ob_base.specs.declared.refusal.Refusal.TheVariants.{StoreFault}
 use Rattle.ob_base.specs.Events.{Event, Leads}
 use Rattle.ob_script.specs.Trace.{Served}
 use Rattle.ob_vault.specs.State.{World}
 use Rattle.ob_flat.specs.declared.fault.OpErr.{OpErr}
+use Rattle.ob_flat.specs.declared.fault.OpErr.TheVariants.{Sink, NoMemory}
 use Rattle.ob_flat.specs.Words.{blocks_of}
 use Rattle.ob_verdict.specs.declared.outcome.Outcome.{Outcome}
 use Rattle.ob_verdict.specs.declared.outcome.Outcome.TheVariants.{Refused}
@@ -49,6 +51,7 @@ module _ (r : Reading) (events : List Event) (w : World) (is : IsReading r event
     ready = is.ready;
     boarded = record { script = is.boarded.script; blocks = is.boarded.blocks; within = is.boarded.within; rows = is.boarded.rows; meant = is.boarded.meant; items = is.boarded.items };
     table = is.table;
+    some = is.some;
     going = λ off. absurd (cc (over, off));
     answered = subst (λ (l : List Event). AnswersTotals (places_of r) r.public.now.pack r.flat r.select.now r.failed outcome (l ++ more) w) (sym silent) given;
   }
@@ -60,6 +63,11 @@ module _ (r : Reading) (events : List Event) (w : World) (is : IsReading r event
     emits = refl;
     told = λ whole q. absurd (cc (failed, whole));
   }
+
+-- the emitter alone gave up
+pub of_emitter : (e : EmitErr) → (error_of e ≡ Sink) ⊎ (error_of e ≡ NoMemory)
+of_emitter EmitErrs.Failed = inl refl
+of_emitter EmitErrs.NoMemory = inr refl
 
 -- ---- what was emitted
 module _ {E T : Type 0} (grew cut : E → E → List Event → Type 0) (Holds_old Holds_new : List Event → World → Type 0)

@@ -31,7 +31,7 @@ use Rattle.ob_stages.specs.declared.totals.TotalsFlight.{TotalsFlight}
 use Rattle.ob_stages.specs.Reading.{AnswersTotals, EndsAs, HaltsTotals, IsReading, is_over, places_of}
 use Rattle.ob_stages.specs.Totals.{IsTotalling, aggs_of, row_events}
 use Rattle.ob_stages.specs.Totalling.{labels_at, outcome_at, totalled, totalled_answer}
-use Rattle.ob_stages.proofs.ReadingEnds.{all_read, answered_by, fault_answered, finishes_err, finishes_ok, last_read, reading_ends, silent}
+use Rattle.ob_stages.proofs.ReadingEnds.{all_read, answered_by, fault_answered, finishes_err, finishes_ok, last_read, of_emitter, reading_ends, silent}
 use Rattle.ob_stages.proofs.TotalsLemmas.{aggs_labels, all_events, is_answer, leads_none, one_row, partly_rows, prints_rows}
 
 -- it was answered
@@ -89,13 +89,14 @@ module _ (f : TotalsFlight) (events : List Event) (w : World) (is : IsTotalling 
       };
     })
 
-    pub totals_halts : (e : OpErr) (part : List Event) → Begun part (row_events f) → HaltsTotals r events part e w w
+    pub totals_halts : (e : EmitErr) (part : List Event) → Begun part (row_events f) → HaltsTotals r events part (error_of e) w w
     totals_halts e part begun = record {
       told = λ q.
           let here : SlotsToEnd r.public.now.pack r.flat w w = record { slots = q.slots; is = q.is; nolie = q.nolie } in
           let answer = totalled_answer (places_of r) cs s q.slots in
           subst (λ (l : List Event). Partly labels answer (l ++ part)) (sym (silent r events w is.reading over going))
           (partly_rows labels answer (cells ∷ []) part (row_is here) (subst (λ (l : List Event). Begun part l) events_are begun));
+      honest = λ _. of_emitter e;
       emitter = λ _. (whole, last_read r events w is.reading over going whole);
     }
 
@@ -116,4 +117,4 @@ module _ {E : Type 0} (grew cut : E → E → List Event → Type 0) (faults : E
       → Finishes {T = Outcome} grew cut (IsTotalling f) (IsTotalling f) Halts (Err e) a b
   finishes_halted e whole given =
       let part = given.err in
-      finishes_err grew cut _ _ _ a b e part.0 part.1 (λ events w is. totals_halts f events w is over going whole (error_of e) part.0 part.2)
+      finishes_err grew cut _ _ _ a b e part.0 part.1 (λ events w is. totals_halts f events w is over going whole e part.0 part.2)

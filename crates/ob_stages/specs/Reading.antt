@@ -67,6 +67,7 @@ abbrev pub reading_progress : Reading → Progress
 reading_progress r = record {
   stmt = stmt_of r;
   flat = r.flat;
+  refusal = None;
   public = public_of r;
   served = served_of r;
   asked = r.asked;
@@ -164,6 +165,7 @@ pub record IsReading (r : Reading) (events : List Event) (w : World) : Type 0 wh
   pub ready : Ready w
   pub boarded : IsBoarded r
   pub table : MayScan r.public.now.pack r.flat w
+  pub some : r.failed ≡ true → 1 ≤ r.asked
   pub going : is_over r ≡ false → r.outcome ≡ None
   pub answered : Answered r.outcome r events w
 
@@ -173,4 +175,5 @@ pub record HaltsTotals (r : Reading) (events part : List Event) (e : OpErr) (old
   pub told : (q : SlotsToHalt r.public.now.pack r.flat old new)
       → Partly (labels_at r.flat.schema r.select.now)
       (totalled_answer (places_of r) r.flat.schema r.select.now q.slots) (events ++ part)
+  pub honest : (q : SlotsToEnd r.public.now.pack r.flat old new) → (e ≡ Sink) ⊎ (e ≡ NoMemory)
   pub emitter : (e ≡ Sink) ⊎ (e ≡ NoMemory) → (r.failed ≡ false) × (r.asked ≡ r.blocks)

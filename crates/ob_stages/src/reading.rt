@@ -1,7 +1,7 @@
 ghost use Rattle.std.specs.Prelude.{◌≡◌, ◌≤◌, ◌<◌, ◌+◌, true, Some};
-ghost use Rattle.ob_stages.specs.Reading.{StartsReading, is_over, reads_left};
+ghost use Rattle.ob_stages.specs.Reading.{StartsReading, is_over, reads_left, served_of};
 
-use ob_base::Public;
+use ob_base::{End, Public, Seen};
 use ob_flat::Flat;
 use ob_row::Pred;
 use ob_sql::SelectTotals;
@@ -66,6 +66,24 @@ impl<'a> Reading<'a> {
             0
         } else {
             self.blocks.saturating_sub(self.asked)
+        }
+    }
+
+    /// What is seen of it so far: where the store failed it, that it was cut off there.
+    pub(crate) fn seen(&self) -> Seen
+        ensures { result ≡ (served_of self.now).seen }
+    {
+        let end = if self.failed {
+            End::Cut(u64::from(self.asked))
+        } else {
+            End::Whole
+        };
+        Seen {
+            k: None,
+            plan: None,
+            then: None,
+            leaf: None,
+            end,
         }
     }
 
