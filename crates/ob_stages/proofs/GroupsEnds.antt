@@ -54,7 +54,7 @@ ended_by outcome f = record f { reading = answered_by outcome f.reading }
 pub buffered_few : (pack rows : ℕ) → rows ≤ 65536 → buffered pack rows ≤ 65536
 buffered_few pack rows few = grind (arith, few)
 
-share_few : (rows n : ℕ) → rows ≤ 65536 → rows / n ≤ 65536
+pub share_few : (rows n : ℕ) → rows ≤ 65536 → rows / n ≤ 65536
 share_few rows n few = grind (arith, few)
 
 module _ (f : GroupsFlight) (kept : List (List ℕ)) (events : List Event) (w : World) (is : IsGrouping f kept events w) (over : is_over f.reading ≡ true) (going : f.reading.outcome ≡ None) where
@@ -89,13 +89,13 @@ module _ (f : GroupsFlight) (kept : List (List ℕ)) (events : List Event) (w : 
 
   -- ---- all was read
   module _ (whole : r.failed ≡ false) where
-    fits : AreItems cs f.key items
+    pub fits : AreItems cs f.key items
     fits = items_fit cs s is.keyed.key items f.key is.reading.boarded.items is.keyed.by_key is.keyed.items is.keyed.place
 
-    gathered : AreGathered r.public.now.pack r.flat test f.key items r.asked f.n kept f.buckets w
+    pub gathered : AreGathered r.public.now.pack r.flat test f.key items r.asked f.n kept f.buckets w
     gathered = subst (λ (c : Condition). AreGathered r.public.now.pack r.flat (is_true c) f.key items r.asked f.n kept f.buckets w) is.reading.boarded.meant (is.gathered whole)
 
-    all : r.asked ≡ blocks_of r.public.now.pack r.flat
+    pub all : r.asked ≡ blocks_of r.public.now.pack r.flat
     all = all_read r events w is.reading over going whole
 
     pub has_groups : HasGroups (kind_at cs f.key) (length items) f.n kept
@@ -165,7 +165,7 @@ module _ (f : GroupsFlight) (kept : List (List ℕ)) (events : List Event) (w : 
             (partly_rows labels answer (shown here) part (few_is here).0
             (begun_rows labels (shown here) part (subst (λ (l : List (List ℕ)). Begun part (Head l ∷ row_events (shown here))) labelled (begun here))));
         honest = λ _. of_emitter e;
-      emitter = λ _. (whole, last_read r events w is.reading over going whole);
+        emitter = λ _. (whole, last_read r events w is.reading over going whole);
       }
 
       module _ (given : List (List Shown)) (number : f.n ≡ length given) (told : (q : SlotsToEnd r.public.now.pack r.flat w w) → given ≡ shown q) where
@@ -198,5 +198,5 @@ module _ (f : GroupsFlight) (kept : List (List ℕ)) (events : List Event) (w : 
               subst (λ (l : List Event). Partly labels answer (l ++ group_events)) (sym (silent r events w is.reading over going))
               (partly_rows labels answer given group_events (rows_are here) ([], append-nil group_events ∙ events_are));
           honest = λ _. of_emitter e;
-      emitter = λ _. (whole, last_read r events w is.reading over going whole);
+          emitter = λ _. (whole, last_read r events w is.reading over going whole);
         }

@@ -19,7 +19,8 @@ use Rattle.ob_vault.proofs.Runs.{went_wider}
 use Rattle.ob_flat.specs.declared.fault.OpErr.{OpErr}
 use Rattle.ob_flat.specs.declared.fault.OpErr.TheVariants.{Failed, Tampered, Sink, NoMemory}
 use Rattle.ob_flat.specs.Flats.{Represents}
-use Rattle.ob_flat.specs.Passes.{PassCut}
+use Rattle.ob_flat.specs.declared.flat.Flat.{Flat}
+use Rattle.ob_flat.specs.Passes.{PassCut, SinkCause}
 use Rattle.ob_flat.specs.Words.{TamperedAt, blocks_of}
 use Rattle.ob_flat.proofs.Runs.{pass_wider}
 use Rattle.ob_flat.proofs.Scanning.{may_scan_lasts}
@@ -31,7 +32,7 @@ use Rattle.ob_inflight.specs.Answers.{More, Part, Tells, EndsBy}
 use Rattle.ob_inflight.specs.Leaving.{own_or_next}
 use Rattle.ob_inflight.specs.Progress.{Steps, StopsStep, WentOrFailed, act_of}
 use Rattle.ob_stages.specs.declared.reading.Reading.{Reading}
-use Rattle.ob_stages.specs.Reading.{Answered, EndsLater, HaltsTotals, IsBoarded, IsReading, MayRead, NeedsTable, is_over, places_of, reading_progress, reads_left}
+use Rattle.ob_stages.specs.Reading.{Answered, EndsLater, FitsTable, HaltsTotals, IsBoarded, IsReading, MayRead, NeedsTable, is_fault, is_over, places_of, reading_progress, reads_left}
 use Rattle.ob_stages.specs.ReadingLaws.{next_read, reading_frames, reading_next}
 use Rattle.ob_stages.specs.Totalling.{labels_at, totalled_answer}
 use Rattle.ob_stages.proofs.TotalsLemmas.{leads_none, partly_none}
@@ -227,3 +228,30 @@ module _ {E T : Type 0} (grew cut : E → E → List Event → Type 0) (printing
       halts = halts events was;
     };
   }
+
+-- the rows fit it still
+pub fits_on : (r : Reading) (rows : List (List ℕ)) → FitsTable r rows → FitsTable (read_on r) rows
+fits_on r rows is = record { count = is.count; fit = is.fit }
+
+pub fits_fault : (r : Reading) (rows : List (List ℕ)) → FitsTable r rows → FitsTable (fault_on r) rows
+fits_fault r rows is = record { count = is.count; fit = is.fit }
+
+-- no emitter was called
+pub sink_read : {pack place : ℕ} {flat : Flat} {w : World} (T : Type 0) (e : OpErr) (k : ℕ) → (e ≡ Failed → ⊥) → (e ≡ Failed) ⊎ TamperedAt pack flat place e w → SinkCause {T = T} (Err e) k k
+sink_read T e k off never = elim never [
+  | inl failed ↦ absurd (off failed)
+  | inr there ↦ subst (λ (x : OpErr). SinkCause {T = T} (Err x) k k) (sym there.is) refl
+]
+
+-- ---- the errors
+pub fault_is : (e : OpErr) → is_fault e ≡ true → e ≡ Failed
+fault_is Failed is = refl
+fault_is (Tampered region place) is = absurd (cc is)
+fault_is Sink is = absurd (cc is)
+fault_is NoMemory is = absurd (cc is)
+
+pub not_fault : (e : OpErr) → is_fault e ≡ false → e ≡ Failed → ⊥
+not_fault e off is = cc (off, ap is_fault is)
+
+pub failed_by : {T : Type 0} (result : Result T OpErr) (e : OpErr) → result ≡ Err e → is_fault e ≡ true → result ≡ Err Failed
+failed_by result e is fault = is ∙ ap Err (fault_is e fault)

@@ -6,7 +6,7 @@ ghost use Rattle.ob_stages.specs.Reading.{MayBoard, reading_progress};
 ghost use Rattle.ob_stages.specs.Groups.{StartsGroups};
 
 use crate::listing::items_at;
-use crate::reading::Reading;
+use crate::reading::{Reading, is_fault};
 use ob_base::{ColumnName, Emit, EmitErr, Public, Refusal, Seen};
 use ob_flat::{Flat, OpErr};
 use ob_group::{emit_groups, group_block};
@@ -130,11 +130,14 @@ impl<'a> Flyer for GroupsFlight<'a> {
                 self.reading.read_on();
                 Ok(())
             }
-            Err(OpErr::Failed) => {
-                self.reading.fail();
-                Ok(())
+            Err(e) => {
+                if is_fault(e) {
+                    self.reading.fail();
+                    Ok(())
+                } else {
+                    Err(e)
+                }
             }
-            Err(e) => Err(e),
         }
     }
 

@@ -5,7 +5,7 @@ ghost use Rattle.ob_stages.specs.Reading.{MayBoard, reading_progress};
 ghost use Rattle.ob_stages.specs.Totals.{StartsTotals, row_events};
 
 use crate::listing::aggs_at;
-use crate::reading::Reading;
+use crate::reading::{Reading, is_fault};
 use ob_base::{Emit, EmitErr, Public, Refusal, Seen};
 use ob_flat::{Flat, OpErr};
 use ob_group::{Sums, aggregate_block, emit_totals};
@@ -124,11 +124,14 @@ impl<'a> Flyer for TotalsFlight<'a> {
                 self.reading.read_on();
                 Ok(())
             }
-            Err(OpErr::Failed) => {
-                self.reading.fail();
-                Ok(())
+            Err(e) => {
+                if is_fault(e) {
+                    self.reading.fail();
+                    Ok(())
+                } else {
+                    Err(e)
+                }
             }
-            Err(e) => Err(e),
         }
     }
 
