@@ -62,7 +62,8 @@ use Rattle.ob_tables.specs.Serving.{StopsEmission, Serves, Stopped}
 use Rattle.ob_select.specs.Memory.{HasHalted}
 use Rattle.ob_tables.proofs.BegunLemmas.{begun_plain}
 use Rattle.ob_tables.specs.Telling.{AreHeld, Represents, IsNotTampered, answer_labels, is_refused}
-use Rattle.ob_exec.specs.Totalling.{IsTotalled, MayTotal, Totals, TotalsFit, ends_by, labels_at, totalled_answer}
+use Rattle.ob_exec.specs.Totalling.{MayTotal, Totals, ends_by}
+use Rattle.ob_stages.specs.Totalling.{IsTotalled, TotalsFit, labels_at, totalled_answer}
 use Rattle.ob_tables.proofs.FoundLemmas.{heading_found, shape_found}
 use Rattle.ob_tables.proofs.HeldLemmas.{Beside, held_at}
 use Rattle.ob_tables.proofs.PlainLemmas.{none_room, none_stops, pass_stops, settle_is}
@@ -75,7 +76,7 @@ use Rattle.ob_tables.proofs.ReadLemmas.{cut_after, held_read, read_cut, read_don
 use Rattle.ob_tables.proofs.RunLemmas.{IsAnswered, engine_after, no_access, ran_no_room, only_memory}
 use Rattle.ob_tables.proofs.SealLemmas.{keeps_pass, keeps_rests}
 use Rattle.ob_tables.proofs.ToldLemmas.{cut_seen, early_held, refused_none, started_seen, told_whole, followed_same}
-use Rattle.ob_exec.proofs.TotalsLemmas.{partly_none, totals_fit}
+use Rattle.ob_stages.proofs.TotalsLemmas.{partly_none, totals_fit}
 use Rattle.ob_tables.proofs.EmitLemmas.{lie_none}
 
 -- ---- what it means

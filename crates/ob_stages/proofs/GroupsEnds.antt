@@ -44,7 +44,7 @@ use Rattle.ob_stages.specs.declared.groups.GroupsFlight.{GroupsFlight}
 use Rattle.ob_stages.specs.Reading.{AnswersTotals, EndsAs, HaltsTotals, IsReading, is_over, places_of}
 use Rattle.ob_stages.specs.Groups.{IsGrouping, items_of}
 use Rattle.ob_stages.specs.Totalling.{labels_at, outcome_at, totalled, totalled_answer}
-use Rattle.ob_stages.proofs.ReadingEnds.{all_read, answered_by, fault_answered, finishes_err, finishes_ok, last_read, reading_ends, silent}
+use Rattle.ob_stages.proofs.ReadingEnds.{all_read, answered_by, fault_answered, finishes_err, finishes_ok, last_read, of_emitter, reading_ends, silent}
 use Rattle.ob_stages.proofs.TotalsLemmas.{all_events, are_many, begun_rows, by_count, grouped_as, is_answer, items_fit, items_labels, leads_join, leads_none, not_many, partly_rows, prints_rows}
 
 -- it was answered
@@ -54,7 +54,7 @@ ended_by outcome f = record f { reading = answered_by outcome f.reading }
 pub buffered_few : (pack rows : ℕ) → rows ≤ 65536 → buffered pack rows ≤ 65536
 buffered_few pack rows few = grind (arith, few)
 
-share_few : (rows n : ℕ) → rows ≤ 65536 → rows / n ≤ 65536
+pub share_few : (rows n : ℕ) → rows ≤ 65536 → rows / n ≤ 65536
 share_few rows n few = grind (arith, few)
 
 module _ (f : GroupsFlight) (kept : List (List ℕ)) (events : List Event) (w : World) (is : IsGrouping f kept events w) (over : is_over f.reading ≡ true) (going : f.reading.outcome ≡ None) where
@@ -89,13 +89,13 @@ module _ (f : GroupsFlight) (kept : List (List ℕ)) (events : List Event) (w : 
 
   -- ---- all was read
   module _ (whole : r.failed ≡ false) where
-    fits : AreItems cs f.key items
+    pub fits : AreItems cs f.key items
     fits = items_fit cs s is.keyed.key items f.key is.reading.boarded.items is.keyed.by_key is.keyed.items is.keyed.place
 
-    gathered : AreGathered r.public.now.pack r.flat test f.key items r.asked f.n kept f.buckets w
+    pub gathered : AreGathered r.public.now.pack r.flat test f.key items r.asked f.n kept f.buckets w
     gathered = subst (λ (c : Condition). AreGathered r.public.now.pack r.flat (is_true c) f.key items r.asked f.n kept f.buckets w) is.reading.boarded.meant (is.gathered whole)
 
-    all : r.asked ≡ blocks_of r.public.now.pack r.flat
+    pub all : r.asked ≡ blocks_of r.public.now.pack r.flat
     all = all_read r events w is.reading over going whole
 
     pub has_groups : HasGroups (kind_at cs f.key) (length items) f.n kept
@@ -156,7 +156,7 @@ module _ (f : GroupsFlight) (kept : List (List ℕ)) (events : List Event) (w : 
       labelled : map (G.item_label cs f.key) items ≡ labels
       labelled = items_labels cs s is.keyed.key items f.key is.reading.boarded.items is.keyed.by_key is.keyed.items is.keyed.place
 
-      pub halts_midst : (e : OpErr) (part : List Event) → ((q : SlotsToEnd r.public.now.pack r.flat w w) → Begun part (header cs f.key items ++ row_events (shown q))) → HaltsTotals r events part e w w
+      pub halts_midst : (e : EmitErr) (part : List Event) → ((q : SlotsToEnd r.public.now.pack r.flat w w) → Begun part (header cs f.key items ++ row_events (shown q))) → HaltsTotals r events part (error_of e) w w
       halts_midst e part begun = record {
         told = λ q.
             let here : SlotsToEnd r.public.now.pack r.flat w w = record { slots = q.slots; is = q.is; nolie = q.nolie } in
@@ -164,6 +164,7 @@ module _ (f : GroupsFlight) (kept : List (List ℕ)) (events : List Event) (w : 
             subst (λ (l : List Event). Partly labels answer (l ++ part)) (sym (silent r events w is.reading over going))
             (partly_rows labels answer (shown here) part (few_is here).0
             (begun_rows labels (shown here) part (subst (λ (l : List (List ℕ)). Begun part (Head l ∷ row_events (shown here))) labelled (begun here))));
+        honest = λ _. of_emitter e;
         emitter = λ _. (whole, last_read r events w is.reading over going whole);
       }
 
@@ -189,12 +190,13 @@ module _ (f : GroupsFlight) (kept : List (List ℕ)) (events : List Event) (w : 
           };
         })
 
-        pub halts_number : (e : OpErr) → HaltsTotals r events group_events e w w
+        pub halts_number : (e : EmitErr) → HaltsTotals r events group_events (error_of e) w w
         halts_number e = record {
           told = λ q.
               let here : SlotsToEnd r.public.now.pack r.flat w w = record { slots = q.slots; is = q.is; nolie = q.nolie } in
               let answer = totalled_answer (places_of r) cs s q.slots in
               subst (λ (l : List Event). Partly labels answer (l ++ group_events)) (sym (silent r events w is.reading over going))
               (partly_rows labels answer given group_events (rows_are here) ([], append-nil group_events ∙ events_are));
+          honest = λ _. of_emitter e;
           emitter = λ _. (whole, last_read r events w is.reading over going whole);
         }

@@ -1,4 +1,10 @@
 pub mod TotalsLemmas
+pub mod ReadingStarts
 pub mod ReadingSteps
 pub mod ReadingEnds
+pub mod TotalsSteps
 pub mod TotalsEnds
+pub mod GroupsSteps
+pub mod GroupsEnds
+pub mod GroupsFinish
+pub mod Starts

@@ -10,6 +10,7 @@ use Rattle.ob_base.specs.declared.seen.End.{End}
 use Rattle.ob_base.specs.declared.seen.End.TheVariants.{Whole, Cut}
 use Rattle.ob_base.specs.Accesses.{read_at}
 use Rattle.ob_base.specs.Events.{Event, Leads}
+use Rattle.ob_row.specs.Slots.{Slots}
 use Rattle.ob_script.specs.Trace.{Served}
 use Rattle.ob_vault.specs.State.{World}
 use Rattle.ob_vault.specs.Calls.{Lasts, Went, none}
@@ -17,6 +18,8 @@ use Rattle.ob_vault.specs.Words.{SealsAll}
 use Rattle.ob_vault.proofs.Runs.{went_wider}
 use Rattle.ob_flat.specs.declared.fault.OpErr.{OpErr}
 use Rattle.ob_flat.specs.declared.fault.OpErr.TheVariants.{Failed, Tampered, Sink, NoMemory}
+use Rattle.ob_flat.specs.Flats.{Represents}
+use Rattle.ob_flat.specs.declared.flat.Flat.{Flat}
 use Rattle.ob_flat.specs.Passes.{PassCut, SinkCause}
 use Rattle.ob_flat.specs.Words.{TamperedAt, blocks_of}
 use Rattle.ob_flat.proofs.Runs.{pass_wider}
@@ -29,7 +32,7 @@ use Rattle.ob_inflight.specs.Answers.{More, Part, Tells, EndsBy}
 use Rattle.ob_inflight.specs.Leaving.{own_or_next}
 use Rattle.ob_inflight.specs.Progress.{Steps, StopsStep, WentOrFailed, act_of}
 use Rattle.ob_stages.specs.declared.reading.Reading.{Reading}
-use Rattle.ob_stages.specs.Reading.{Answered, EndsLater, HaltsTotals, IsBoarded, IsReading, MayRead, NeedsTable, is_over, places_of, reading_progress, reads_left}
+use Rattle.ob_stages.specs.Reading.{Answered, EndsLater, FitsTable, HaltsTotals, IsBoarded, IsReading, MayRead, NeedsTable, is_fault, is_over, places_of, reading_progress, reads_left}
 use Rattle.ob_stages.specs.ReadingLaws.{next_read, reading_frames, reading_next}
 use Rattle.ob_stages.specs.Totalling.{labels_at, totalled_answer}
 use Rattle.ob_stages.proofs.TotalsLemmas.{leads_none, partly_none}
@@ -120,7 +123,7 @@ module _ (r : Reading) (left : is_over r ≡ false) where
           may = may_before;
           went = subst (λ (b : Bool). WentOrFailed b (Read r.flat.region r.asked) None old new) (sym unfailed)
               (went_wider none old new (own_or_next None old.vault.next) (λ q s. absurd s) (read_at r.flat.region r.asked) went);
-          course = record { stmt = refl; flat = refl; public = refl };
+          course = record { stmt = refl; flat = refl; refusal = refl; public = refl };
           asked = refl;
           region = record { now = refl; makes = tt };
           unfailed = unfailed;
@@ -139,7 +142,7 @@ module _ (r : Reading) (left : is_over r ≡ false) where
           next = next_is old.vault.next;
           may = may_fault;
           went = pass_wider none old new (own_or_next None old.vault.next) (λ q s. absurd s) Failed (read_at r.flat.region r.asked) cut;
-          course = record { stmt = refl; flat = refl; public = refl };
+          course = record { stmt = refl; flat = refl; refusal = refl; public = refl };
           asked = refl;
           region = record { now = refl; makes = tt };
           unfailed = unfailed;
@@ -157,7 +160,7 @@ module _ (r : Reading) (left : is_over r ≡ false) where
       cut = pass_wider none old new (own_or_next None old.vault.next) (λ q s. absurd s) e (read_at r.flat.region r.asked) cut;
       never = off;
       emits = λ sink. elim never [ inl failed ↦ absurd (off failed) | inr there ↦ absurd (cc (sink, there.is)) ];
-      stays = record { course = record { stmt = refl; flat = refl; public = refl }; served = refl; asked = refl; region = refl; failed = refl; outcome = refl };
+      stays = record { course = record { stmt = refl; flat = refl; refusal = refl; public = refl }; served = refl; asked = refl; region = refl; failed = refl; outcome = refl };
       seals = λ good accepts. seals.seals good;
     }
 
@@ -171,6 +174,7 @@ module _ (r : Reading) (left : is_over r ≡ false) where
       ready = lasts.ready;
       boarded = boarded_on is.boarded;
       table = may_scan_lasts r.public.now.pack r.flat none old new lasts (λ s. s) is.table;
+      some = λ failed. absurd (cc (failed, unfailed));
       going = λ more. is.going left;
       answered = subst (λ (o : Option Outcome). Answered o (read_on r) events new) (sym (is.going left)) silent;
     }
@@ -180,17 +184,20 @@ module _ (r : Reading) (left : is_over r ≡ false) where
       ready = lasts.ready;
       boarded = boarded_fault is.boarded;
       table = may_scan_lasts r.public.now.pack r.flat none old new lasts (λ s. s) is.table;
+      some = λ _. omega arith;
       going = λ more. is.going left;
       answered = subst (λ (o : Option Outcome). Answered o (fault_on r) events new) (sym (is.going left)) silent;
     }
 
     -- nothing was emitted by then
-    pub halts_read : (e : OpErr) → (e ≡ Failed → ⊥) → (e ≡ Failed) ⊎ TamperedAt r.public.now.pack r.flat r.asked e new → HaltsTotals r events [] e old new
-    halts_read e off never = record {
+    pub halts_read : (e : OpErr) → (e ≡ Failed → ⊥) → (e ≡ Failed) ⊎ TamperedAt r.public.now.pack r.flat r.asked e new
+        → ((slots : Slots) → Represents r.public.now.pack r.flat slots old → new.store.lie ≡ None → e ≡ Failed) → HaltsTotals r events [] e old new
+    halts_read e off never told = record {
       told = λ q.
           let labels = labels_at r.flat.schema r.select.now in
           let answer = totalled_answer (places_of r) r.flat.schema r.select.now q.slots in
           subst (λ (l : List Event). Partly labels answer (l ++ [])) (sym silent) (partly_none labels answer);
+      honest = λ q. absurd (off (told q.slots q.is q.nolie));
       emitter = λ either. elim never [
         | inl failed ↦ absurd (off failed)
         | inr there ↦ elim either [ inl sink ↦ absurd (cc (sink, there.is)) | inr memory ↦ absurd (cc (memory, there.is)) ]
@@ -221,3 +228,30 @@ module _ {E T : Type 0} (grew cut : E → E → List Event → Type 0) (printing
       halts = halts events was;
     };
   }
+
+-- the rows fit it still
+pub fits_on : (r : Reading) (rows : List (List ℕ)) → FitsTable r rows → FitsTable (read_on r) rows
+fits_on r rows is = record { count = is.count; fit = is.fit }
+
+pub fits_fault : (r : Reading) (rows : List (List ℕ)) → FitsTable r rows → FitsTable (fault_on r) rows
+fits_fault r rows is = record { count = is.count; fit = is.fit }
+
+-- no emitter was called
+pub sink_read : {pack place : ℕ} {flat : Flat} {w : World} (T : Type 0) (e : OpErr) (k : ℕ) → (e ≡ Failed → ⊥) → (e ≡ Failed) ⊎ TamperedAt pack flat place e w → SinkCause {T = T} (Err e) k k
+sink_read T e k off never = elim never [
+  | inl failed ↦ absurd (off failed)
+  | inr there ↦ subst (λ (x : OpErr). SinkCause {T = T} (Err x) k k) (sym there.is) refl
+]
+
+-- ---- the errors
+pub fault_is : (e : OpErr) → is_fault e ≡ true → e ≡ Failed
+fault_is Failed is = refl
+fault_is (Tampered region place) is = absurd (cc is)
+fault_is Sink is = absurd (cc is)
+fault_is NoMemory is = absurd (cc is)
+
+pub not_fault : (e : OpErr) → is_fault e ≡ false → e ≡ Failed → ⊥
+not_fault e off is = cc (off, ap is_fault is)
+
+pub failed_by : {T : Type 0} (result : Result T OpErr) (e : OpErr) → result ≡ Err e → is_fault e ≡ true → result ≡ Err Failed
+failed_by result e is fault = is ∙ ap Err (fault_is e fault)

@@ -31,7 +31,7 @@ use Rattle.ob_stages.specs.declared.totals.TotalsFlight.{TotalsFlight}
 use Rattle.ob_stages.specs.Reading.{AnswersTotals, EndsAs, HaltsTotals, IsReading, is_over, places_of}
 use Rattle.ob_stages.specs.Totals.{IsTotalling, aggs_of, row_events}
 use Rattle.ob_stages.specs.Totalling.{labels_at, outcome_at, totalled, totalled_answer}
-use Rattle.ob_stages.proofs.ReadingEnds.{all_read, answered_by, fault_answered, finishes_err, finishes_ok, last_read, reading_ends, silent}
+use Rattle.ob_stages.proofs.ReadingEnds.{all_read, answered_by, fault_answered, finishes_err, finishes_ok, last_read, of_emitter, reading_ends, silent}
 use Rattle.ob_stages.proofs.TotalsLemmas.{aggs_labels, all_events, is_answer, leads_none, one_row, partly_rows, prints_rows}
 
 -- it was answered
@@ -89,31 +89,46 @@ module _ (f : TotalsFlight) (events : List Event) (w : World) (is : IsTotalling 
       };
     })
 
-    pub totals_halts : (e : OpErr) (part : List Event) → Begun part (row_events f) → HaltsTotals r events part e w w
+    pub totals_halts : (e : EmitErr) (part : List Event) → Begun part (row_events f) → HaltsTotals r events part (error_of e) w w
     totals_halts e part begun = record {
       told = λ q.
           let here : SlotsToEnd r.public.now.pack r.flat w w = record { slots = q.slots; is = q.is; nolie = q.nolie } in
           let answer = totalled_answer (places_of r) cs s q.slots in
           subst (λ (l : List Event). Partly labels answer (l ++ part)) (sym (silent r events w is.reading over going))
           (partly_rows labels answer (cells ∷ []) part (row_is here) (subst (λ (l : List Event). Begun part l) events_are begun));
+      honest = λ _. of_emitter e;
       emitter = λ _. (whole, last_read r events w is.reading over going whole);
     }
 
 -- ---- its end
+-- behind its answer
+abbrev pub totals_then : TotalsFlight → Reading → TotalsFlight
+totals_then f r = record { reading = r; aggs = f.aggs; sums = f.sums }
+
 module _ {E : Type 0} (grew cut : E → E → List Event → Type 0) (faults : E → ℕ) (f : TotalsFlight) (over : is_over f.reading ≡ true) (going : f.reading.outcome ≡ None) (a b : E) where
   abbrev Halts : List Event → List Event → OpErr → World → World → Type 0
   Halts events part e old new = HaltsTotals f.reading events part e old new
 
-  pub finishes_failed : f.reading.failed ≡ true → b ≡ a → Finishes {T = Outcome} grew cut (IsTotalling f) (IsTotalling (ended_by (Refused StoreFault) f)) Halts (Ok (Refused StoreFault)) a b
-  finishes_failed failed same =
-      finishes_ok grew cut _ _ _ a b (Refused StoreFault) [] (subst (λ (x : E). Leads grew grew a x []) (sym same) (leads_none grew a)) (λ events w is. totals_failed f events w is over going failed)
+  abbrev Done : Outcome → Reading → Type 0
+  Done outcome then = Finishes {T = Outcome} grew cut (IsTotalling f) (IsTotalling (totals_then f then)) Halts (Ok outcome) a b
 
-  pub finishes_whole : f.reading.failed ≡ false → EmitsAll {T = Unit {0}} grew cut faults (row_events f) (Ok tt) a b
-      → Finishes {T = Outcome} grew cut (IsTotalling f) (IsTotalling (ended_by (Rows 1) f)) Halts (Ok (Rows 1)) a b
-  finishes_whole whole given = finishes_ok grew cut _ _ _ a b (Rows 1) (row_events f) given.ok (λ events w is. totals_whole f events w is over going whole)
+  done_as : (outcome o : Outcome) (then : Reading) → outcome ≡ o → then ≡ answered_by o f.reading → Done o (answered_by o f.reading) → Done outcome then
+  done_as outcome o then is on done = subst (λ (x : Outcome). Done x then) (sym is) (subst (λ (r : Reading). Done o r) (sym on) done)
+
+  pub finishes_failed : (outcome : Outcome) (then : Reading) → outcome ≡ Refused StoreFault → then ≡ answered_by (Refused StoreFault) f.reading → f.reading.failed ≡ true → b ≡ a → Done outcome then
+  finishes_failed outcome then is on failed same =
+      done_as outcome (Refused StoreFault) then is on
+      (finishes_ok grew cut (IsTotalling f) (IsTotalling (ended_by (Refused StoreFault) f)) Halts a b (Refused StoreFault) [] (subst (λ (x : E). Leads grew grew a x []) (sym same) (leads_none grew a))
+      (λ events w is. totals_failed f events w is over going failed))
+
+  pub finishes_whole : (outcome : Outcome) (then : Reading) → outcome ≡ Rows 1 → then ≡ answered_by (Rows 1) f.reading → f.reading.failed ≡ false → EmitsAll {T = Unit {0}} grew cut faults (row_events f) (Ok tt) a b
+      → Done outcome then
+  finishes_whole outcome then is on whole given =
+      done_as outcome (Rows 1) then is on
+      (finishes_ok grew cut (IsTotalling f) (IsTotalling (ended_by (Rows 1) f)) Halts a b (Rows 1) (row_events f) given.ok (λ events w is. totals_whole f events w is over going whole))
 
   pub finishes_halted : (e : EmitErr) → f.reading.failed ≡ false → EmitsAll {T = Unit {0}} grew cut faults (row_events f) (Err e) a b
       → Finishes {T = Outcome} grew cut (IsTotalling f) (IsTotalling f) Halts (Err e) a b
   finishes_halted e whole given =
       let part = given.err in
-      finishes_err grew cut _ _ _ a b e part.0 part.1 (λ events w is. totals_halts f events w is over going whole (error_of e) part.0 part.2)
+      finishes_err grew cut (IsTotalling f) (IsTotalling f) Halts a b e part.0 part.1 (λ events w is. totals_halts f events w is over going whole e part.0 part.2)

@@ -3,3 +3,5 @@ pub mod Reading
 pub mod ReadingLaws
 pub mod Refusing
 pub mod Totals
+pub mod Groups
+pub mod Flying

@@ -16,7 +16,7 @@ use Rattle.ob_script.specs.Trace.{Served}
 use Rattle.ob_vault.specs.State.{World}
 use Rattle.ob_vault.specs.Tied.{Ready}
 use Rattle.ob_flat.specs.declared.fault.OpErr.{OpErr}
-use Rattle.ob_flat.specs.declared.fault.OpErr.TheVariants.{Sink, NoMemory}
+use Rattle.ob_flat.specs.declared.fault.OpErr.TheVariants.{Failed, Tampered, Sink, NoMemory}
 use Rattle.ob_flat.specs.declared.flat.Flat.{Flat}
 use Rattle.ob_flat.specs.Emission.{SlotsToEnd, SlotsToHalt}
 use Rattle.ob_flat.specs.Scans.{MayScan}
@@ -67,6 +67,7 @@ abbrev pub reading_progress : Reading → Progress
 reading_progress r = record {
   stmt = stmt_of r;
   flat = r.flat;
+  refusal = None;
   public = public_of r;
   served = served_of r;
   asked = r.asked;
@@ -91,6 +92,13 @@ pub record StartsReading (p : Public) (n : ℕ) (s : SelectTotals) (t : Flat) (c
   pub asked : r.asked ≡ 0
   pub failed : r.failed ≡ false
   pub outcome : r.outcome ≡ None
+
+-- whether an error is the store's fault
+abbrev pub is_fault : OpErr → Bool
+is_fault Failed = true
+is_fault (Tampered region place) = false
+is_fault Sink = false
+is_fault NoMemory = false
 
 -- ---- what it goes by
 -- what is public says that it reads these blocks of this table, whose columns its items and its condition name
@@ -164,6 +172,7 @@ pub record IsReading (r : Reading) (events : List Event) (w : World) : Type 0 wh
   pub ready : Ready w
   pub boarded : IsBoarded r
   pub table : MayScan r.public.now.pack r.flat w
+  pub some : r.failed ≡ true → 1 ≤ r.asked
   pub going : is_over r ≡ false → r.outcome ≡ None
   pub answered : Answered r.outcome r events w
 
@@ -173,4 +182,5 @@ pub record HaltsTotals (r : Reading) (events part : List Event) (e : OpErr) (old
   pub told : (q : SlotsToHalt r.public.now.pack r.flat old new)
       → Partly (labels_at r.flat.schema r.select.now)
       (totalled_answer (places_of r) r.flat.schema r.select.now q.slots) (events ++ part)
+  pub honest : (q : SlotsToEnd r.public.now.pack r.flat old new) → (e ≡ Sink) ⊎ (e ≡ NoMemory)
   pub emitter : (e ≡ Sink) ⊎ (e ≡ NoMemory) → (r.failed ≡ false) × (r.asked ≡ r.blocks)

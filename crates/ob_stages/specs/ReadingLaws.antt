@@ -131,6 +131,7 @@ module _ (r : Reading) (events : List Event) (w v : World) (leaves : Leaves (Nee
     ready = leaves.ready;
     boarded = is.boarded;
     table = may_scan_lasts r.public.now.pack r.flat _ w v leaves (λ no. no refl) is.table;
+    some = is.some;
     going = is.going;
     answered = answered_frames r.outcome is.answered;
   }

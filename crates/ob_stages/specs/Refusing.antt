@@ -27,10 +27,11 @@ abbrev pub refused_served : RefusedFlight → Served
 refused_served f = served_refused f.stmt.now
 
 -- all is asked from the start
-abbrev pub progress_refused : Public → (flown : ℕ) → Stmt → Option Outcome → Progress
-progress_refused p flown stmt outcome = record {
+abbrev pub progress_refused : Public → (flown : ℕ) → Stmt → Refusal → Option Outcome → Progress
+progress_refused p flown stmt why outcome = record {
   stmt = stmt;
   flat = no_table;
+  refusal = Some why;
   public = flight_public flown p;
   served = served_refused stmt;
   asked = 0;
@@ -44,7 +45,7 @@ progress_refused p flown stmt outcome = record {
 }
 
 abbrev pub refused_progress : RefusedFlight → Progress
-refused_progress f = progress_refused f.public.now f.flown f.stmt.now f.outcome
+refused_progress f = progress_refused f.public.now f.flown f.stmt.now f.refusal f.outcome
 
 -- nothing is emitted, and it is answered by its refusal
 pub record IsRefused (f : RefusedFlight) (events : List Event) : Type 0 where
@@ -54,8 +55,7 @@ pub record IsRefused (f : RefusedFlight) (events : List Event) : Type 0 where
 -- how it starts
 pub record StartsRefused (p : Public) (flown : ℕ) (stmt : Stmt) (why : Refusal)
     (f : RefusedFlight) : Type 0 where
-  pub progress : refused_progress f ≡ progress_refused p flown stmt None
-  pub refusal : f.refusal ≡ why
+  pub progress : refused_progress f ≡ progress_refused p flown stmt why None
   pub holds : IsRefused f []
 
 pub refused_acts : (f : RefusedFlight) (x : Served) (n : ℕ) → x ≡ refused_served f → ActsAs (refused_progress f) x n

@@ -1,9 +1,12 @@
 //! A SELECT in flight, of whichever kind.
+ghost use Rattle.std.specs.Prelude.{◌≡◌};
+ghost use Rattle.ob_stages.specs.Flying.{flight_progress};
+
 use crate::groups::GroupsFlight;
 use crate::refused::RefusedFlight;
 use crate::rows::RowsFlight;
 use crate::totals::TotalsFlight;
-use ob_base::{Emit, EmitErr};
+use ob_base::{Emit, EmitErr, Seen};
 use ob_flat::OpErr;
 use ob_inflight::Flyer;
 use ob_room::ClearRow;
@@ -19,6 +22,20 @@ pub enum Flight<'a> {
     Rows(RowsFlight<'a>),
     Totals(TotalsFlight<'a>),
     Groups(GroupsFlight<'a>),
+}
+
+impl<'a> Flight<'a> {
+    /// What is seen of it so far.
+    pub fn seen(&self) -> Seen
+        ensures { result ≡ (flight_progress self.now).served.seen }
+    {
+        match self {
+            Flight::Refused(f) => f.seen(),
+            Flight::Rows(f) => f.seen(),
+            Flight::Totals(f) => f.seen(),
+            Flight::Groups(f) => f.seen(),
+        }
+    }
 }
 
 impl<'a> Flyer for Flight<'a> {

@@ -2,12 +2,12 @@
 ghost use Rattle.std.specs.Prelude.{◌≡◌, ◌≤◌, Some};
 ghost use Rattle.ob_base.specs.Limits.{buffered};
 ghost use Rattle.ob_script.specs.Flights.{flight_public};
-ghost use Rattle.ob_stages.specs.Reading.{MayBoard};
+ghost use Rattle.ob_stages.specs.Reading.{MayBoard, reading_progress};
 ghost use Rattle.ob_stages.specs.Groups.{StartsGroups};
 
 use crate::listing::items_at;
-use crate::reading::Reading;
-use ob_base::{ColumnName, Emit, EmitErr, Public, Refusal};
+use crate::reading::{Reading, is_fault};
+use ob_base::{ColumnName, Emit, EmitErr, Public, Refusal, Seen};
 use ob_flat::{Flat, OpErr};
 use ob_group::{emit_groups, group_block};
 use ob_inflight::Flyer;
@@ -63,6 +63,13 @@ impl<'a> GroupsFlight<'a> {
             n: 0,
         }
     }
+
+    /// What is seen of it so far: where the store failed it, that it was cut off there.
+    pub fn seen(&self) -> Seen
+        ensures { result ≡ (reading_progress self.now.reading).served.seen }
+    {
+        self.reading.seen()
+    }
 }
 
 impl<'a> Flyer for GroupsFlight<'a> {
@@ -103,18 +110,19 @@ impl<'a> Flyer for GroupsFlight<'a> {
         _others: u64,
         _out: &mut E,
     ) -> Result<(), OpErr> {
-        let n = self.reading.select.items.as_slice().len();
+        let reading = &self.reading;
+        let count = reading.select.items.as_slice().len();
         match group_block(
             store,
             vault,
             &mut self.buckets,
             rows,
             kept,
-            &self.reading.flat,
-            &self.reading.pred,
+            &reading.flat,
+            &reading.pred,
             self.key,
-            &self.items[..n],
-            self.reading.asked,
+            &self.items[..count],
+            reading.asked,
             self.n,
         ) {
             Ok(groups) => {
@@ -122,11 +130,14 @@ impl<'a> Flyer for GroupsFlight<'a> {
                 self.reading.read_on();
                 Ok(())
             }
-            Err(OpErr::Failed) => {
-                self.reading.fail();
-                Ok(())
+            Err(e) => {
+                if is_fault(e) {
+                    self.reading.fail();
+                    Ok(())
+                } else {
+                    Err(e)
+                }
             }
-            Err(e) => Err(e),
         }
     }
 

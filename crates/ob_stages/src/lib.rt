@@ -1,7 +1,17 @@
 //! The SELECTs that fly: each kind's stages, a step of which asks one access.
 #![tactic(auto)]
 
+mod flight;
+mod groups;
+mod listing;
 mod reading;
 mod refused;
+mod rows;
+mod totals;
 
+pub use flight::Flight;
+pub use groups::GroupsFlight;
+pub use listing::{aggs_at, items_at};
 pub use refused::RefusedFlight;
+pub use rows::RowsFlight;
+pub use totals::TotalsFlight;

@@ -1,8 +1,8 @@
 ghost use Rattle.std.specs.Prelude.{◌≡◌, ◌≤◌, ◌<◌, ◌+◌, true, Some};
-ghost use Rattle.ob_stages.specs.Reading.{StartsReading, is_over, reads_left};
+ghost use Rattle.ob_stages.specs.Reading.{StartsReading, is_fault, is_over, reads_left, served_of};
 
-use ob_base::Public;
-use ob_flat::Flat;
+use ob_base::{End, Public, Seen};
+use ob_flat::{Flat, OpErr};
 use ob_row::Pred;
 use ob_sql::SelectTotals;
 use ob_verdict::Outcome;
@@ -69,6 +69,24 @@ impl<'a> Reading<'a> {
         }
     }
 
+    /// What is seen of it so far: where the store failed it, that it was cut off there.
+    pub(crate) fn seen(&self) -> Seen
+        ensures { result ≡ (served_of self.now).seen }
+    {
+        let end = if self.failed {
+            End::Cut(u64::from(self.asked))
+        } else {
+            End::Whole
+        };
+        Seen {
+            k: None,
+            plan: None,
+            then: None,
+            leaf: None,
+            end,
+        }
+    }
+
     /// One more block was read.
     pub(crate) fn read_on(&mut self)
         requires { self.old.asked < self.old.blocks }
@@ -93,5 +111,15 @@ impl<'a> Reading<'a> {
     {
         self.outcome = Some(outcome);
         outcome
+    }
+}
+
+/// Whether the store failed.
+pub(crate) fn is_fault(error: OpErr) -> bool
+    ensures { result ≡ is_fault error }
+{
+    match error {
+        OpErr::Failed => true,
+        OpErr::Tampered { .. } | OpErr::Sink | OpErr::NoMemory => false,
     }
 }

@@ -1,7 +1,8 @@
 //! A SELECT in flight that was refused before any access.
-ghost use Rattle.ob_stages.specs.Refusing.{StartsRefused};
+ghost use Rattle.std.specs.Prelude.{◌≡◌};
+ghost use Rattle.ob_stages.specs.Refusing.{StartsRefused, refused_served};
 
-use ob_base::{Emit, EmitErr, Public, Refusal};
+use ob_base::{Emit, EmitErr, End, Public, Refusal, Seen};
 use ob_flat::OpErr;
 use ob_inflight::Flyer;
 use ob_room::ClearRow;
@@ -38,6 +39,19 @@ impl<'a> RefusedFlight<'a> {
             stmt,
             refusal,
             outcome: None,
+        }
+    }
+
+    /// What is seen of it: that it was refused before any access.
+    pub fn seen(&self) -> Seen
+        ensures { result ≡ (refused_served self.now).seen }
+    {
+        Seen {
+            k: None,
+            plan: None,
+            then: None,
+            leaf: None,
+            end: End::Static,
         }
     }
 }

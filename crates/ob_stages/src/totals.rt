@@ -1,12 +1,12 @@
 //! A SELECT of aggregates in flight.
 ghost use Rattle.std.specs.Prelude.{◌≡◌, ◌≤◌, None, length};
 ghost use Rattle.ob_group.specs.Steps.{EmitsAll};
-ghost use Rattle.ob_stages.specs.Reading.{MayBoard};
+ghost use Rattle.ob_stages.specs.Reading.{MayBoard, reading_progress};
 ghost use Rattle.ob_stages.specs.Totals.{StartsTotals, row_events};
 
 use crate::listing::aggs_at;
-use crate::reading::Reading;
-use ob_base::{Emit, EmitErr, Public, Refusal};
+use crate::reading::{Reading, is_fault};
+use ob_base::{Emit, EmitErr, Public, Refusal, Seen};
 use ob_flat::{Flat, OpErr};
 use ob_group::{Sums, aggregate_block, emit_totals};
 use ob_inflight::Flyer;
@@ -61,6 +61,13 @@ impl<'a> TotalsFlight<'a> {
             Err(e) => Err(e),
         }
     }
+
+    /// What is seen of it so far: where the store failed it, that it was cut off there.
+    pub fn seen(&self) -> Seen
+        ensures { result ≡ (reading_progress self.now.reading).served.seen }
+    {
+        self.reading.seen()
+    }
 }
 
 impl<'a> Flyer for TotalsFlight<'a> {
@@ -101,26 +108,30 @@ impl<'a> Flyer for TotalsFlight<'a> {
         _others: u64,
         _out: &mut E,
     ) -> Result<(), OpErr> {
-        let n = self.reading.select.items.as_slice().len();
+        let reading = &self.reading;
+        let n = reading.select.items.as_slice().len();
         match aggregate_block(
             store,
             vault,
             rows,
-            &self.reading.flat,
-            &self.reading.pred,
+            &reading.flat,
+            &reading.pred,
             &self.aggs[..n],
-            self.reading.asked,
+            reading.asked,
             &mut self.sums,
         ) {
             Ok(()) => {
                 self.reading.read_on();
                 Ok(())
             }
-            Err(OpErr::Failed) => {
-                self.reading.fail();
-                Ok(())
+            Err(e) => {
+                if is_fault(e) {
+                    self.reading.fail();
+                    Ok(())
+                } else {
+                    Err(e)
+                }
             }
-            Err(e) => Err(e),
         }
     }
 
