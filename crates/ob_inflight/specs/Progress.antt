@@ -5,7 +5,7 @@ use Rattle.ob_base.specs.declared.config.Public.{Public}
 use Rattle.ob_base.specs.declared.emit.EmitErr.{EmitErr}
 use Rattle.ob_base.specs.Schemas.{Columns}
 use Rattle.ob_flat.specs.declared.fault.OpErr.{OpErr}
-use Rattle.ob_flat.specs.declared.fault.OpErr.TheVariants.{Failed}
+use Rattle.ob_flat.specs.declared.fault.OpErr.TheVariants.{Failed, Sink}
 use Rattle.ob_flat.specs.declared.flat.Flat.{Flat}
 use Rattle.ob_flat.specs.Flats.{Accepts}
 use Rattle.ob_flat.specs.Passes.{PassCut}
@@ -118,6 +118,7 @@ pub record StopsStep (e : OpErr) (before after : Progress) (May_old : Served →
   pub next : (x : Served) → May_old x → act_of before x old.vault.next ≡ Some access
   pub cut : PassCut e (access ∷ []) (own_or_next before.region old.vault.next) old new
   pub never : e ≡ Failed → ⊥
+  pub emits : e ≡ Sink → before.prints ≡ true
   pub stays : StaysAs before after
   pub seals : SealsBlocks before.public.pack old new
 

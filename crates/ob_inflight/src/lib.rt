@@ -9,9 +9,11 @@
 #![tactic(auto)]
 
 mod flyer;
+mod flying;
 mod out;
 mod turns;
 
 pub use flyer::Flyer;
+pub use flying::fly;
 pub use out::FlightOut;
 pub use turns::Turns;
