@@ -1,0 +1,2 @@
+pub mod RowsMeans
+pub mod RowsWay
