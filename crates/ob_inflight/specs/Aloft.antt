@@ -1,5 +1,5 @@
 -- How statements in flight stand after some turns, and what these turns asked.
-use Rattle.std.specs.Prelude.{◌≡◌, ◌<◌, ◌≤◌, ◌+◌, ◌++◌, ◌*◌, ◌^◌, ℕ, false, List, [], ◌∷◌, Some, None, is_some, length, map, slice_get}
+use Rattle.std.specs.Prelude.{◌≡◌, ◌<◌, ◌≤◌, ◌+◌, ◌++◌, ◌*◌, ◌^◌, ℕ, true, false, List, [], ◌∷◌, Some, None, is_some, length, map, slice_get}
 use Rattle.ob_base.specs.Events.{Event}
 use Rattle.ob_base.specs.declared.access.Access.{Access}
 use Rattle.ob_base.specs.declared.config.Public.{Public}
@@ -12,8 +12,7 @@ use Rattle.ob_script.specs.Trace.{Served}
 use Rattle.ob_store.specs.State.{Lie}
 use Rattle.ob_vault.specs.Calls.{Lasts}
 use Rattle.ob_vault.specs.Numbers.{spent}
-use Rattle.ob_vault.specs.State.{World}
-use Rattle.ob_vault.specs.Tied.{Calm, ReadsIn}
+use Rattle.ob_vault.specs.Tied.{Calm, ReadsIn, Ready}
 
 -- ---- a list of statements
 -- each may still turn out to be served so
@@ -54,6 +53,7 @@ failed_of k fs = total (λ f. one_if (k.progress f).failed) fs
 -- the first ones have ended so, and then these events were emitted for the next one
 pub record AreFlying {F : Type 0} (k : Kind F) (p : Public) (share : ℕ) (ended : List Closed) (current : List Event)
     (now : Moment F) : Type 0 where
+  pub ready : Ready now.world
   pub holds : (i : ℕ) (f : F) → slice_get now.flyers i ≡ Some f
       → k.Holds f (share_at share i now.kept) (events_at ended current i) now.world
   pub outcome : (i : ℕ) (f : F) → slice_get now.flyers i ≡ Some f → (k.progress f).outcome ≡ outcome_at ended i
@@ -104,6 +104,8 @@ pub record IsMade {F : Type 0} (k : Kind F) (q : ℕ) (now : Moment F) : Type 0 
 -- what has changed is in regions that they made, and each fault of the store is one of theirs
 pub record LeavesRest {F : Type 0} (k : Kind F) (p : Public) (start now : Moment F) : Type 0 where
   pub lasts : Lasts (λ q. start.world.vault.next ≤ q) start.world now.world
+  pub own : (i : ℕ) (f : F) → slice_get now.flyers i ≡ Some f → (q : ℕ) → (k.progress f).region ≡ Some q
+      → start.world.vault.next ≤ q
   pub made : (q : ℕ) → start.world.vault.next ≤ q → q < now.world.vault.next → IsMade k q now
   pub faults : RisesBy (failed_of k now.flyers) start.world.store.faults now.world.store.faults
   pub calm : Calm start.world → Calm now.world
@@ -122,19 +124,26 @@ pub record IsAloft {F : Type 0} (k : Kind F) (words : ℕ → ℕ) (n : ℕ) (p 
   pub rest : LeavesRest k p start now
   pub course : KeepCourse k start now
 
+-- those that the store failed are seen as they were
+pub record KeepFailed {F : Type 0} (k : Kind F) (last now : Moment F) : Type 0 where
+  pub size : length now.flyers ≡ length last.flyers
+  pub each : (i : ℕ) (f g : F) → slice_get last.flyers i ≡ Some f → slice_get now.flyers i ≡ Some g
+      → (k.progress f).failed ≡ true → ((k.progress g).served ≡ (k.progress f).served) × ((k.progress g).failed ≡ true)
+
 -- ---- the first block that was read and is not what was written
 -- just before the access that read it they stood as they should, and whatever they turn out to be served, that access is
 -- among those of a turn more
-pub record BeginsIn {F : Type 0} (k : Kind F) (words : ℕ → ℕ) (p : Public) (share : ℕ) (lie : Lie) (start : Moment F) : Type 0 where
+pub record BeginsIn {F : Type 0} (k : Kind F) (words : ℕ → ℕ) (p : Public) (share : ℕ) (lie : Lie) (start now : Moment F) : Type 0 where
   pub turn : ℕ
   pub last : Moment F
   pub ended : List Closed
   pub current : List Event
   pub aloft : IsAloft k words turn p share ended current start last
   pub none : last.world.store.lie ≡ None
+  pub failed : KeepFailed k last now
   pub reads : (xs : List Served) → AllMay k.May last.flyers xs
       → ReadsIn lie (start.world.store.asked ++ accesses_in (turns words (turn + 1) (setting_off p start.world.vault.next xs)).log)
 
-abbrev pub IsBegun : {F : Type 0} → Kind F → (words : ℕ → ℕ) → Public → (share : ℕ) → (start : Moment F) → World → Type 0
-IsBegun k words p share start w =
-    start.world.store.lie ≡ None → (lie : Lie) → w.store.lie ≡ Some lie → BeginsIn k words p share lie start
+abbrev pub IsBegun : {F : Type 0} → Kind F → (words : ℕ → ℕ) → Public → (share : ℕ) → (start now : Moment F) → Type 0
+IsBegun k words p share start now =
+    start.world.store.lie ≡ None → (lie : Lie) → now.world.store.lie ≡ Some lie → BeginsIn k words p share lie start now

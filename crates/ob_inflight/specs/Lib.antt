@@ -6,3 +6,4 @@ pub mod Picking
 pub mod Kinds
 pub mod Aloft
 pub mod Flown
+pub mod Parts

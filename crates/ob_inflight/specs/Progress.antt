@@ -1,8 +1,10 @@
 -- How far a statement in flight is, and what a step of it does.
-use Rattle.std.specs.Prelude.{◌≡◌, ◌⊎◌, ◌<◌, ◌≤◌, ◌+◌, ◌^◌, ℕ, Bool, true, false, List, [], ◌∷◌, Option, Some, None, Result, IfOk, OnErr, is_some}
+use Rattle.std.specs.Prelude.{◌≡◌, ◌⊎◌, ◌<◌, ◌≤◌, ◌+◌, ◌^◌, ⊤, ℕ, Bool, true, false, List, [], ◌∷◌, Option, Some, None, Result, IfOk, OnErr, is_some}
 use Rattle.ob_base.specs.declared.access.Access.{Access}
+use Rattle.ob_base.specs.declared.access.Access.TheVariants.{Make, Read, Write, Discard, Open}
 use Rattle.ob_base.specs.declared.config.Public.{Public}
 use Rattle.ob_base.specs.declared.emit.EmitErr.{EmitErr}
+use Rattle.ob_base.specs.declared.refusal.Refusal.{Refusal}
 use Rattle.ob_base.specs.Schemas.{Columns}
 use Rattle.ob_flat.specs.declared.fault.OpErr.{OpErr}
 use Rattle.ob_flat.specs.declared.fault.OpErr.TheVariants.{Failed, Sink}
@@ -19,9 +21,11 @@ use Rattle.ob_inflight.specs.Leaving.{own_or_next}
 
 -- how far a statement is
 pub record Progress : Type 0 where
-  -- the statement, the table that it reads, and what its flight goes by, but for the next region: these stay
+  -- the statement, the table that it reads, why it is refused before any access, and what its flight goes by, but for the
+  -- next region: these stay
   pub stmt : Stmt
   pub flat : Flat
+  pub refusal : Option Refusal
   pub public : Public
   -- what is seen of it so far
   pub served : Served
@@ -44,6 +48,7 @@ pub record Progress : Type 0 where
 pub record KeepsCourse (before after : Progress) : Type 0 where
   pub stmt : after.stmt ≡ before.stmt
   pub flat : after.flat ≡ before.flat
+  pub refusal : after.refusal ≡ before.refusal
   pub public : after.public ≡ before.public
 
 -- and nothing more was seen of it
@@ -84,11 +89,18 @@ WentOrFailed false access own old new = Went (access ∷ []) (own_or_next own ol
 WentOrFailed true access own old new =
     PassCut Failed (access ∷ []) (own_or_next own old.vault.next) old new
 
--- a region that it made stays its own, and one that it makes is the next one
+-- one that is made is the next one, and it has made none before
+abbrev pub MakesNext : Access → (next : ℕ) → (before : Option ℕ) → Type 0
+MakesNext (Make q blocks len) next before = (q ≡ next) × (before ≡ None)
+MakesNext (Read q place) next before = ⊤
+MakesNext (Write q place) next before = ⊤
+MakesNext (Discard q) next before = ⊤
+MakesNext (Open q blocks len) next before = ⊤
+
+-- the region that it made, behind this access
 pub record KeepsRegion (access : Access) (next : ℕ) (before after : Option ℕ) : Type 0 where
   pub now : after ≡ region_after (Some access) before
-  pub own : (q : ℕ) → after ≡ Some q → own_or_next before next q
-  pub stays : (q : ℕ) → before ≡ Some q → after ≡ Some q
+  pub makes : MakesNext access next before
 
 -- the store has room for what it has booked, beside the others, and less is left to ask
 pub record Books (others : ℕ) (before after : Progress) (new : World) : Type 0 where
