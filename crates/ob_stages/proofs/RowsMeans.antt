@@ -22,7 +22,8 @@ use Rattle.ob_row.specs.Slots.{Slots, is_consecutive, is_selected, rows, slot_at
 use Rattle.ob_row.specs.Totals.{printed}
 use Rattle.ob_row.specs.Truth.{is_true}
 use Rattle.ob_select.specs.Selecting.{Selection, answer_events, emitted_unless, places, result_of, selection_seen, shown_rows, shown_where}
-use Rattle.ob_select.proofs.ResultRows.{rows-fitted}
+use Rattle.ob_select.proofs.ResultRows.{length-chosen, rows-fitted}
+use Rattle.ob_verdict.proofs.ResultLemmas.{rows-small_slots}
 use Rattle.ob_small.specs.Keeping.{chosen, fitted}
 use Rattle.ob_small.specs.Selection as Smalls
 use Rattle.ob_small.proofs.Choosing.{filter-small}
@@ -128,3 +129,9 @@ module _ (q : Selection) (small_only : q.public.planner ≡ Forced Small) (slots
   result_shown k same size unpassed =
       let few = subst (λ (n : ℕ). length (small_slots (is_true q.condition) slots) ≤ taken_by q.public.pad n k) size (count_few q.public.pad k same unpassed) in
       ap (map (printed q.cols)) (rows-fitted (taken q k) (small_slots (is_true q.condition) slots) few) ∙ sym shown_meant
+
+  -- as many as are selected
+  pub shown_count : length (shown_rows q slots) ≡ count_of
+  shown_count =
+      ap (λ (l : List (List Shown)). length l) shown_meant ∙ length-map (rows (small_slots (is_true q.condition) slots)) (printed q.cols)
+      ∙ ap (λ (l : List Row). length l) (rows-small_slots (is_true q.condition) slots) ∙ sym (length-chosen (is_true q.condition) 0 slots)

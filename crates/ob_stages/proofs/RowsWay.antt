@@ -7,6 +7,7 @@ use Rattle.ob_base.specs.declared.config.Plan.{Plan}
 use Rattle.ob_base.specs.declared.config.Plan.TheVariants.{Small}
 use Rattle.ob_base.specs.declared.seen.Seen.{Seen}
 use Rattle.ob_base.specs.declared.seen.End.TheVariants.{Whole}
+use Rattle.ob_base.specs.declared.skeleton.Skeleton.{Skeleton}
 use Rattle.ob_base.specs.declared.shown.Shown.{Shown}
 use Rattle.ob_base.specs.Events.{Event, row_events}
 use Rattle.ob_emit.specs.Emitting.{blocks_shown, table_shown}
@@ -37,7 +38,7 @@ none_seen None zero = refl
 none_seen None (suc k) = refl
 none_seen (Some pad) k = refl
 
-module _ (q : Selection) (s : Rattle.ob_base.specs.declared.skeleton.Skeleton.Skeleton) (flown : IsFlown q s) (slots : Slots) where
+module _ (q : Selection) (s : Skeleton) (flown : IsFlown q s) (slots : Slots) where
   second_none : (selection_seen q slots).then ≡ None
   second_none = ap (λ (x : Seen). x.then) (seen_meant q flown.planner slots) ∙ none_seen q.public.pad (length (places q slots))
 
@@ -94,7 +95,7 @@ module _ (g : RowsAt) (w : World) where
   some_rows n is None same = inl (subst (λ (o : Option ℕ). 1 ≤ Rattle.ob_stages.specs.RowsStates.taken_by o g.q.flat.capacity g.k) same is.some)
   some_rows n is (Some pad) same = inr (λ none. cc none)
 
-  module _ (s : Rattle.ob_base.specs.declared.skeleton.Skeleton.Skeleton) (flown : IsFlown g.q s) (slots : Slots) (held : Represents g.q.public.pack g.q.flat slots w) (nolie : w.store.lie ≡ None) where
+  module _ (s : Skeleton) (flown : IsFlown g.q s) (slots : Slots) (held : Represents g.q.public.pack g.q.flat slots w) (nolie : w.store.lie ≡ None) where
     -- behind the count it is that of these slots
     pub count_is : IsCountOf g w (all_selected g) → g.k ≡ length (places g.q slots)
     count_is is = is.told slots held nolie ∙ count_places g.q slots
@@ -133,7 +134,7 @@ begun_if false x q rows rest all is = go (nat_lt 0 x)
           ∙ ap (λ (l : List Event). head_of q ++ l) (sym (map-append _ rows rest) ∙ ap row_events is),
     )
 
-module _ (g : RowsAt) (s : Rattle.ob_base.specs.declared.skeleton.Skeleton.Skeleton) (flown : IsFlown g.q s) (w : World) (slots : Slots) (held : Represents g.q.public.pack g.q.flat slots w) (honest : IsHonest w w) where
+module _ (g : RowsAt) (s : Skeleton) (flown : IsFlown g.q s) (w : World) (slots : Slots) (held : Represents g.q.public.pack g.q.flat slots w) (honest : IsHonest w w) where
   -- the slots of its result
   pub result_held : (x : ℕ) (events : List Event) (is : HasShown g x events w) → Represents g.q.public.pack (result_in g.q g.k is.filled.own) (Smalls.result_slots (small g.q g.k) slots) w
   result_held x events is =

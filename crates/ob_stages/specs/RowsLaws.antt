@@ -105,9 +105,8 @@ module _ (g : RowsAt) (some : ℕ → Type 0) (w v : World) (lasts : Lasts some 
   answers_lasts (Outcomes.Refused r) seen asked events is = refused_lasts r seen asked events is
   answers_lasts _ seen asked events is = absurd is
 
-  ended_lasts : (failed : Bool) (o : Option Outcome) (events : List Event) → EndedAt failed o g events w → EndedAt failed o g events v
-  ended_lasts true None events is = cut_lasts g.seen g.asked events is
-  ended_lasts false None events is = record {
+  pub to_end_lasts : (events : List Event) → IsToEnd g events w → IsToEnd g events v
+  to_end_lasts events is = record {
     seen = is.seen;
     few = is.few;
     rows = is.rows;
@@ -115,6 +114,10 @@ module _ (g : RowsAt) (some : ℕ → Type 0) (w v : World) (lasts : Lasts some 
     count = is.count;
     told = λ slots held honest. is.told slots (represents_before g.q.public.pack g.q.flat some w v lasts off slots held) (honest_back some w v lasts honest);
   }
+
+  ended_lasts : (failed : Bool) (o : Option Outcome) (events : List Event) → EndedAt failed o g events w → EndedAt failed o g events v
+  ended_lasts true None events is = cut_lasts g.seen g.asked events is
+  ended_lasts false None events is = to_end_lasts events is
   ended_lasts true (Some o) events is = answers_lasts o g.seen g.asked events is
   ended_lasts false (Some o) events is = answers_lasts o g.seen g.asked events is
 
@@ -169,7 +172,7 @@ module _ (g : RowsAt) (kept : List (List ℕ)) (events : List Event) (w : World)
       let same : is.own ≡ r = cc (is.region, mine) in
       lives_below w ready r is.own _ same is.unordered.lives.live
 
-  own_below : (stage : Stage) → PlacedAt stage g → HoldsAt stage g kept events w → own_at stage g.region ≡ Some r → r < w.vault.next
+  pub own_below : (stage : Stage) → PlacedAt stage g → HoldsAt stage g kept events w → own_at stage g.region ≡ Some r → r < w.vault.next
   own_below (Count u) at is mine = absurd (cc (at.region, mine))
   own_below Make at is mine = absurd (cc (at.1, mine))
   own_below (Read pass u seen) at is mine = filled_below (pass * kept_blocks g.q) is.3 mine
@@ -209,7 +212,7 @@ module _ (g : RowsAt) where
   none_taken None k seen is = ap (λ (s : Seen). s.then) is
   none_taken (Some pad) k seen is = ap (λ (s : Seen). s.then) is
 
-  served_second : (stage : Stage) → PlacedAt stage g → g.seen.then ≡ None
+  pub served_second : (stage : Stage) → PlacedAt stage g → g.seen.then ≡ None
   served_second (Count u) at = ap (λ (s : Seen). s.then) at.seen
   served_second Make at = none_taken g.q.public.pad g.k g.seen at.0.seen
   served_second (Read pass u seen) at = none_taken g.q.public.pad g.k g.seen at.0.counted.seen

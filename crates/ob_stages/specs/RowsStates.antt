@@ -1,5 +1,5 @@
 -- How far a SELECT of a table's rows in flight is.
-use Rattle.std.specs.Prelude.{◌≡◌, ◌<◌, ◌≤◌, ◌+◌, ◌-◌, ◌*◌, ◌^◌, min, nat_lt, ℕ, Bool, true, false, not, ◌&&◌, List, [], Option, Some, None}
+use Rattle.std.specs.Prelude.{◌≡◌, ◌<◌, ◌≤◌, ◌+◌, ◌-◌, ◌*◌, ◌^◌, min, nat_lt, ℕ, Bool, true, false, not, ◌&&◌, List, [], Option, Some, None, if◌then◌else◌}
 use Rattle.std.specs.Int.{div_ceil}
 use Rattle.ob_base.specs.declared.config.Plan.TheVariants.{Small}
 use Rattle.ob_base.specs.declared.config.Planner.TheVariants.{Forced}
@@ -21,6 +21,7 @@ use Rattle.ob_flat.specs.Words.{blocks_of}
 use Rattle.ob_emit.specs.Emitting.{AreColumns}
 use Rattle.ob_inflight.specs.Progress.{Progress, act_of}
 use Rattle.ob_mean.specs.Verdict.{counted, ended as seen_to}
+use Rattle.ob_row.specs.Condition.{Condition}
 use Rattle.ob_script.specs.Flights.{flight_public}
 use Rattle.ob_script.specs.Trace.{Served}
 use Rattle.ob_select.specs.Selecting.{Selection}
@@ -159,6 +160,7 @@ abbrev pub progress_of : RowsAt → Progress
 progress_of g = record {
   stmt = RowsStmt g.select;
   flat = g.q.flat;
+  refusal = None;
   public = g.q.public;
   served = served_of g;
   asked = g.asked;
@@ -289,10 +291,21 @@ PlacedAt (Emit x) g = HasRegion g (emits_before g.q g.k x) × (x < Small.results
 PlacedAt Discard g = HasRegion g (emits_before g.q g.k (Small.results (small g.q g.k)))
 PlacedAt Over g = HasAsked g
 
+-- no row is emitted before its result is read back
+abbrev pub ShownAt : Stage → (shown : ℕ) → Type 0
+ShownAt (Count u) shown = shown ≡ 0
+ShownAt Make shown = shown ≡ 0
+ShownAt (Read pass u seen) shown = shown ≡ 0
+ShownAt (Write pass x) shown = shown ≡ 0
+ShownAt (Emit x) shown = Unit {0}
+ShownAt Discard shown = Unit {0}
+ShownAt Over shown = Unit {0}
+
 pub record IsPlaced (g : RowsAt) : Type 0 where
   pub several : 1 ≤ g.flown
   pub flown : IsFlown g.q (rows_skeleton g.select)
   pub at : PlacedAt g.stage g
+  pub shown : ShownAt g.stage g.shown
   pub unfailed : is_over g.stage ≡ false → g.failed ≡ false
   pub unended : is_over g.stage ≡ false → g.outcome ≡ None
   pub booked : g.booked ≡ known g.stage g.q.public.pad (table_blocks g.q) (whole_length g.q g.k) - g.asked

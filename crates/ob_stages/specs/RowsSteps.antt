@@ -4,18 +4,11 @@ use Rattle.ob_base.specs.declared.config.Plan.TheVariants.{Small}
 use Rattle.ob_base.specs.declared.seen.End.TheVariants.{Cut}
 use Rattle.ob_base.specs.declared.emit.EmitErr.{EmitErr}
 use Rattle.ob_base.specs.declared.refusal.Refusal.TheVariants.{PadPassed, StoreFault}
-use Rattle.ob_base.specs.Accesses.{read_at}
-use Rattle.ob_base.specs.Events.{Event, Close, EmitCause, IsEmitted, Leads}
-use Rattle.ob_emit.specs.Emitting.{EndsAs, block_shown}
-use Rattle.ob_flat.specs.declared.fault.OpErr.TheVariants.{Failed, Sink, NoMemory}
+use Rattle.ob_base.specs.Events.{Event, Close, EmitCause, Leads}
+use Rattle.ob_emit.specs.Emitting.{EmitsBlock, WalksBlock}
+use Rattle.ob_flat.specs.declared.fault.OpErr.TheVariants.{Sink, NoMemory}
 use Rattle.ob_flat.specs.declared.flat.Flat.{Flat}
-use Rattle.ob_flat.specs.Emission.{SlotsToEnd, SlotsToHalt}
-use Rattle.ob_flat.specs.Flats.{Represents}
-use Rattle.ob_flat.specs.Words.{PassRan, TamperedAt}
 use Rattle.ob_mean.specs.Prints.{Begun}
-use Rattle.ob_row.specs.Slots.{Slots}
-use Rattle.ob_vault.specs.Calls.{none}
-use Rattle.ob_vault.specs.Words.{SealsAll}
 use Rattle.ob_verdict.specs.declared.outcome.Outcome.{Outcome}
 use Rattle.ob_verdict.specs.declared.outcome.Outcome.TheVariants.{Rows, Refused}
 use Rattle.ob_flat.specs.declared.fault.OpErr.{OpErr}
@@ -36,7 +29,7 @@ use Rattle.ob_stages.specs.declared.rows.RowsFlight.{RowsFlight}
 use Rattle.ob_stages.specs.declared.rows.Stage.{Stage}
 use Rattle.ob_stages.specs.declared.rows.Stage.TheVariants.{Count, Make, Read, Write, Emit, Discard, Over}
 use Rattle.ob_stages.specs.RowsStates.{RowsAt, MayServe, passes_pad, progress_of, table_blocks, whole_length}
-use Rattle.ob_stages.specs.RowsHolds.{Halts, Holds, NeedsAt, is_headless, left_of}
+use Rattle.ob_stages.specs.RowsHolds.{Halts, Holds, NeedsAt, head_of, is_headless, left_of}
 
 -- ---- what is asked
 -- how it stands, whatever rows are kept
@@ -51,7 +44,7 @@ pub record StepsAt (g : RowsAt) (stage : Stage) (others : ℕ) (w : World) : Typ
   pub ready : Ready w
   pub few : spent w + (progress_of g).most < 2 ^ 63 + 2 ^ 60
   pub spare : others + g.booked ≤ w.store.spare
-  pub others : others ≤ 2 ^ 62
+  pub beside : others ≤ 2 ^ 62
 
 -- ---- what it becomes
 -- one access more was asked
@@ -117,25 +110,45 @@ pub record LoudStep {E T : Type 0} (grew cut : E → E → List Event → Type 0
   pub tells : Tells grew cut true (Holds g kept) (Holds h kept) (Halts g) result old new out_old out_new
   pub sink : SinkCause result (faults out_old) (faults out_new)
 
--- a block of its result was read, and its rows emitted, behind the header at the first one, or none of a result that is refused
+-- a block of its result was read, and nothing emitted, as it is refused
+pub record WalksInstead {E : Type 0} (pack : ℕ) (fresh : Flat) (place : ℕ) (result : Result ℕ OpErr)
+    (old new : World) (out_old out_new : E) : Type 0 where
+  pub walks : WalksBlock pack fresh place result old new
+  pub none : IfOk result (λ n. n ≡ 0)
+  pub quiet : out_new ≡ out_old
+
+-- or its rows were emitted, behind the header at the first one
+pub record ShowsBehind {E : Type 0} (grew cut : E → E → List Event → Type 0) (faults : E → ℕ) (pack : ℕ)
+    (g : RowsAt) (fresh : Flat) (place : ℕ) (result : Result ℕ OpErr) (old new : World)
+    (out_old out_new : E) : Type 0 where
+  pub mid : E
+  pub begun : Leads grew grew out_old mid (left_of (place == 0) g.q)
+  pub same : faults mid ≡ faults out_old
+  pub block : EmitsBlock grew cut faults pack fresh g.q.cols place g.shown result old new mid out_new
+
+-- or the output ends within that, and nothing was asked
+pub record StopsHead {E : Type 0} (grew cut : E → E → List Event → Type 0) (faults : E → ℕ)
+    (g : RowsAt) (place : ℕ) (result : Result ℕ OpErr) (old new : World)
+    (out_old out_new : E) : Type 0 where
+  pub stops : OnOk result ⊥
+  pub either : IfErr result (λ e. (e ≡ Sink) ⊎ (e ≡ NoMemory))
+  pub same : new ≡ old
+  pub first : place ≡ 0
+  pub leads : Leads grew cut out_old out_new (head_of g.q)
+  pub cause : SinkCause result (faults out_old) (faults out_new)
+
+abbrev pub ShowsBy : {E : Type 0} → (passed : Bool) → (grew cut : E → E → List Event → Type 0) → (faults : E → ℕ)
+    → (pack : ℕ) → RowsAt → Flat → (place : ℕ) → Result ℕ OpErr → (old new : World) → (out_old out_new : E) → Type 0
+ShowsBy true grew cut faults pack g fresh place result old new out_old out_new =
+    WalksInstead pack fresh place result old new out_old out_new
+ShowsBy false grew cut faults pack g fresh place result old new out_old out_new =
+    ShowsBehind grew cut faults pack g fresh place result old new out_old out_new
+    ⊎ StopsHead grew cut faults g place result old new out_old out_new
+
 pub record ShowsBlock {E : Type 0} (grew cut : E → E → List Event → Type 0) (faults : E → ℕ) (pack : ℕ)
     (g : RowsAt) (fresh : Flat) (place : ℕ) (result : Result ℕ OpErr) (old new : World)
     (out_old out_new : E) : Type 0 where
-  pub ran : PassRan (read_at fresh.region place) none result old new
-  pub never : IfErr result (λ e. (e ≡ Failed) ⊎ (e ≡ Sink) ⊎ (e ≡ NoMemory) ⊎ TamperedAt pack fresh place e new)
-  pub seals : SealsAll old new
-  pub most : IfOk result (λ n. (n ≤ (place + 1) * pack) × (n ≤ fresh.capacity))
-  pub walked : passes_pad g ≡ true → (out_new ≡ out_old) × IfOk result (λ n. n ≡ 0)
-      × IfErr result (λ e. (e ≡ Sink → ⊥) × (e ≡ NoMemory → ⊥))
-  pub emitted : passes_pad g ≡ false → IfOk result (λ n. IsEmitted grew (left_of (place == 0) g.q)
-      (λ (s : SlotsToEnd pack fresh old new). block_shown pack fresh g.q.cols place s.slots)
-      g.shown n out_old out_new)
-  pub halted : passes_pad g ≡ false → IfErr result (λ e. EndsAs grew cut e (left_of (place == 0) g.q)
-      (λ (s : SlotsToHalt pack fresh old new). block_shown pack fresh g.q.cols place s.slots)
-      out_old out_new)
-  pub cause : SinkCause result (faults out_old) (faults out_new)
-  pub told : (slots : Slots) → Represents pack fresh slots old → new.store.lie ≡ None
-      → IfErr result (λ e. (e ≡ Failed) ⊎ (e ≡ Sink) ⊎ (e ≡ NoMemory))
+  pub shows : ShowsBy (passes_pad g) grew cut faults pack g fresh place result old new out_old out_new
 
 -- ---- its end
 -- its answer, and what of it is emitted at the end
