@@ -6,3 +6,8 @@ pub mod RowsStands
 pub mod RowsEnds
 pub mod RowsShown
 pub mod RowsLoud
+pub mod RowsQuiet
+pub mod RowsEmits
+pub mod RowsFinish
+pub mod RowsKnown
+pub mod RowsBoards

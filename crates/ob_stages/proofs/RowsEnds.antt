@@ -42,7 +42,7 @@ use Rattle.ob_stages.specs.RowsSteps.{gone_to, gone_wrong}
 use Rattle.ob_stages.proofs.RowsGoing.{HasFailed, IsBehind, asked_few, behind_at, failed_at, failed_cut, forgot_gone, own_all, stepped}
 use Rattle.ob_stages.proofs.RowsMeans.{events_meant, outcome_meant, result_shown, seen_meant, shown_count}
 use Rattle.ob_stages.proofs.RowsPlaces.{all_asked, booked_at, cut_asked, placed_next, results_some}
-use Rattle.ob_stages.proofs.RowsStands.{table_apart}
+use Rattle.ob_stages.proofs.RowsStands.{ended_cut, ended_to, table_apart}
 use Rattle.ob_stages.proofs.RowsWay.{KnowsWay, begun_more, count_is, held_failed, result_held, rows_begun, shape_of, way_of}
 
 -- ---- its regions
@@ -63,8 +63,8 @@ table_off g kept events w is going mine = elim mine [
 ]
 
 -- the access that failed was asked
-asked_cut : (access : Access) (some : ℕ → Type 0) (old new : World) → PassCut Failed (access ∷ []) some old new → new.store.asked ≡ old.store.asked ++ access ∷ []
-asked_cut access some old new cut = go cut.began.done cut.began.rest cut.began.split cut.began.asked (cut.asks tt)
+pub asked_cut : (access : Access) (some : ℕ → Type 0) (old new : World) → PassCut Failed (access ∷ []) some old new → new.store.asked ≡ old.store.asked ++ access ∷ []
+asked_cut access some old new cut = go cut.began.done cut.began.rest cut.began.split cut.began.asked (cut.asks refl)
   where
     go : (done rest : List Access) → done ++ rest ≡ access ∷ [] → new.store.asked ≡ old.store.asked ++ done → length old.store.asked < length new.store.asked → new.store.asked ≡ old.store.asked ++ access ∷ []
     go [] rest split asked more = absurd (omega (arith, more, ap (λ (l : List Access). length l) asked, length-append old.store.asked []))
@@ -148,7 +148,7 @@ module _ (g : RowsAt) (region : Option ℕ) (others : ℕ) (access : Access) (ol
         below = λ r mine. made_below r mine (failed.own r mine) (made r mine);
         gone = λ r mine. forgot_gone mid new region r failed.forgets mine;
       },
-      (λ i. EndedAt true (sym (is.placed.unended failed.going) i) (gone_wrong (record g { region = region })) (events ++ more) new) cut_off,
+      ended_cut (gone_wrong (record g { region = region })) (events ++ more) new refl (is.placed.unended failed.going) cut_off,
     );
   }
 
@@ -260,7 +260,7 @@ module _ (g : RowsAt) (kept : List (List ℕ)) (events : List Event) (old : Worl
       let off : one own g.q.flat.region → ⊥ = λ here. discard_at_.apart (here ∙ (let e : own ≡ discard_at_.own = cc (region, discard_at_.region) in e)) in
       record {
         ready = lasts.ready;
-        placed = placed_next g is.placed (ap is_over same) Over g.region g.k g.shown (g.booked - 1) g.seen (all_asked g is.placed.flown (g.booked - 1) discard_at_.counted) tt
+        placed = placed_next g is.placed (ap is_over same) Over g.region g.k g.shown (g.booked - 1) g.seen (all_asked g is.placed.flown (g.booked - 1) (is.placed.unfailed (ap is_over same)) discard_at_.counted) tt
             (omega (arith, booked_at g is.placed Discard same, discard_at_.counted.asked));
         table = may_scan_lasts g.q.public.pack g.q.flat (one own) old new lasts off is.table;
         at = (
@@ -270,7 +270,7 @@ module _ (g : RowsAt) (kept : List (List ℕ)) (events : List Event) (old : Worl
                 omega (arith, below, lasts.shapes.next);
             gone = λ r mine. let e : own ≡ r = cc (region, mine) in subst (λ (n : ℕ). new.vault.revs.live n ≡ None) e gone;
           },
-          (λ i. EndedAt (sym (is.placed.unfailed (ap is_over same)) i) (sym (is.placed.unended (ap is_over same)) i) (stepped g Over g.region g.k g.shown (g.booked - 1) g.seen) events new)
+          ended_to (stepped g Over g.region g.k g.shown (g.booked - 1) g.seen) events new (is.placed.unfailed (ap is_over same)) (is.placed.unended (ap is_over same))
               (to_end_lasts (stepped g Over g.region g.k g.shown (g.booked - 1) g.seen) (one own) old new lasts off events ends_here),
         );
       }

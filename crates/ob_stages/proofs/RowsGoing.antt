@@ -18,12 +18,12 @@ use Rattle.ob_inflight.specs.Progress.{KeepsRegion, SealsBlocks, Steps, StopsSte
 use Rattle.ob_script.specs.Trace.{Served}
 use Rattle.ob_select.specs.Selecting.{Selection}
 use Rattle.ob_small.specs.Selection as Smalls
-use Rattle.ob_small.proofs.Lengths.{passes_few, product_few, pass_inside}
+use Rattle.ob_small.proofs.Lengths.{passes_few, product_few, product_within, pass_inside}
 use Rattle.ob_store.specs.State.{StoreState}
-use Rattle.ob_vault.specs.Calls.{Lasts, Went, none, one}
+use Rattle.ob_vault.specs.Calls.{Lasts, Went, none, one, Seals}
 use Rattle.ob_vault.specs.State.{World}
 use Rattle.ob_vault.specs.VaultCalls.{Forgets}
-use Rattle.ob_vault.proofs.Runs.{seals_join, went_none, went_wider}
+use Rattle.ob_vault.proofs.Runs.{seals_join, went_none, went_wider, seals_none}
 use Rattle.ob_stages.specs.declared.rows.Stage.{Stage}
 use Rattle.ob_stages.specs.declared.rows.Stage.TheVariants.{Count, Make, Read, Write, Emit, Discard, Over}
 use Rattle.ob_stages.specs.Going.{GoesOn}
@@ -32,6 +32,7 @@ use Rattle.ob_stages.specs.RowsStates.{RowsAt, HasCounted, HasRegion, IsFlown, I
 use Rattle.ob_stages.specs.RowsHolds.{Halts, Holds, NeedsAt, own_at}
 use Rattle.ob_stages.specs.RowsLaws.{goes_whole}
 use Rattle.ob_stages.specs.RowsSteps.{ForgetsOwn, gone_wrong}
+use Rattle.ob_vault.specs.Tied.{Ready}
 
 -- ---- sizes
 pub sized_at : (g : RowsAt) → IsPlaced g → IsSizedAt g
@@ -62,7 +63,7 @@ module _ (q : Selection) (s : Skeleton) (flown : IsFlown q s) (k : ℕ) (most : 
       let blocks = table_blocks q in
       let kept = kept_blocks q in
       let inside = pass_inside (Smalls.results (small q k)) kept pass (kept_some q s flown) below in
-      let first : (pass + 1) * blocks ≤ Smalls.passes (small q k) * blocks = grind arith in
+      let first = product_within (pass + 1) (Smalls.passes (small q k)) blocks (omega (arith, below)) in
       let one : (pass + 1) * blocks ≡ pass * blocks + blocks = grind arith in
       let split : pass * (blocks + kept) ≡ pass * blocks + pass * kept = grind arith in
       omega (arith, first, one, split, inside)
@@ -167,7 +168,7 @@ may_counting g u (Emit v) region k n b x seen goes may = goes_less g.asked x.end
 may_counting g u Discard region k n b x seen goes may = goes_less g.asked x.end may.0
 may_counting g u Over region k n b x seen goes may = subst (λ (s : Seen). GoesOn g.asked s.end) (sym may) goes
 
-see_of : (g : RowsAt) (stage : Stage) → is_behind stage ≡ true → (x : Seen) → MayTake g x → MaySee stage g x
+pub see_of : (g : RowsAt) (stage : Stage) → is_behind stage ≡ true → (x : Seen) → MayTake g x → MaySee stage g x
 see_of g (Count u) behind x may = absurd (cc behind)
 see_of g Make behind x may = may
 see_of g (Read pass u seen) behind x may = may
@@ -235,7 +236,7 @@ module _ (g : RowsAt) (stage : Stage) (k n b : ℕ) (seen : Seen) (others : ℕ)
         unfailed = unfailed;
         outcome = refl;
         books = record {
-          spare = elim is.booked [ inl less ↦ omega (arith, less, is.spare, went.spare) | inr zero ↦ omega (arith, zero, is.some, is.spare, went.spare) ];
+          spare = elim is.booked [ inl less ↦ omega (arith, less, is.spare, went.spare) | inr nothing ↦ omega (arith, nothing, is.some, is.spare, went.spare) ];
           few = is.few;
           most = omega (arith, asked_few g is.placed g.stage is.going is.placed.at);
         };
@@ -245,12 +246,12 @@ module _ (g : RowsAt) (stage : Stage) (k n b : ℕ) (seen : Seen) (others : ℕ)
 
 -- ---- where the store failed
 -- its region was forgotten
-pub forgot : (g : RowsAt) (mid new : World) → Rattle.ob_vault.specs.Tied.Ready mid → (o : Option ℕ) → ForgetsOwn o mid new → Went [] (λ r. o ≡ Some r) mid new
+pub forgot : (g : RowsAt) (mid new : World) → Ready mid → (o : Option ℕ) → ForgetsOwn o mid new → Went [] (λ r. o ≡ Some r) mid new
 forgot g mid new ready None is = subst (λ (w : World). Went [] (λ r. None ≡ Some r) mid w) (sym is) (went_none (λ r. None ≡ Some r) mid ready)
 forgot g mid new ready (Some own) is = went_wider (one own) mid new (λ r. Some own ≡ Some r) (λ r same. ap (λ (n : ℕ). Some n) (sym same)) [] (is.went ready)
 
 pub forgot_seals : (pack : ℕ) (mid new : World) (o : Option ℕ) → ForgetsOwn o mid new → SealsBlocks pack mid new
-forgot_seals pack mid new None is = λ good fine. subst (λ (w : World). Rattle.ob_vault.specs.Calls.Seals good mid w) (sym is) (Rattle.ob_vault.proofs.Runs.seals_none good mid)
+forgot_seals pack mid new None is = λ good fine. subst (λ (w : World). Seals good mid w) (sym is) (seals_none good mid)
 forgot_seals pack mid new (Some own) is = λ good fine. is.seals good
 
 pub forgot_gone : (mid new : World) (o : Option ℕ) (r : ℕ) → ForgetsOwn o mid new → o ≡ Some r → new.vault.revs.live r ≡ None
@@ -263,12 +264,10 @@ module _ (g : RowsAt) (region : Option ℕ) (others : ℕ) (access : Access) (ol
     pub placed : IsPlaced g
     pub going : is_over g.stage ≡ false
     pub next : (x : Served) → MayServe g x → act_of (progress_of g) x old.vault.next ≡ Some access
-    pub some : 1 ≤ g.booked
     pub cut : PassCut Failed (access ∷ []) (own_or_next g.region old.vault.next) old mid
     pub forgets : ForgetsOwn region mid new
     pub store : new.store ≡ mid.store
-    pub spare : others + g.booked ≤ old.store.spare
-    pub left : old.store.spare ≤ mid.store.spare + 1
+    pub spare : others ≤ mid.store.spare
     pub made : KeepsRegion access old.vault.next g.region region
     pub own : (r : ℕ) → region ≡ Some r → own_or_next g.region old.vault.next r
     pub seals : SealsBlocks g.q.public.pack old mid
@@ -323,7 +322,7 @@ module _ (g : RowsAt) (region : Option ℕ) (others : ℕ) (access : Access) (ol
     unfailed = is.placed.unfailed is.going;
     outcome = refl;
     books = record {
-      spare = omega (arith, is.spare, is.some, is.left, ap (λ (s : StoreState). s.spare) is.store);
+      spare = omega (arith, is.spare, ap (λ (s : StoreState). s.spare) is.store);
       few = omega arith;
       most = omega (arith, asked_few g is.placed g.stage is.going is.placed.at);
     };

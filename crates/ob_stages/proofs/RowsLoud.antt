@@ -27,6 +27,8 @@ use Rattle.ob_stages.specs.RowsSteps.{ShowsBehind, StopsHead, WalksInstead}
 use Rattle.ob_stages.proofs.RowsGoing.{behind_at, stepped}
 use Rattle.ob_stages.proofs.RowsShown.{emit_at, emit_held, emit_read, emit_to, events_next, events_passed, held_now, holds_emitted, leads_both, leads_none, part_begun, shape_next, shown}
 use Rattle.ob_stages.proofs.RowsWay.{KnowsWay, begun_more, shape_of, way_of}
+use Rattle.ob_store.proofs.Steps.{none_before}
+use Rattle.ob_flat.specs.Words.{TamperedAt}
 
 -- what an emitter took of a block that gave up, and how its output ends
 record EndsPart {E Source : Type 0} (to : E → E → List Event → Type 0) (grew : E → E → List Event → Type 0) (all : Source → List (List Shown)) (mid out : E) : Type 0 where
@@ -124,7 +126,7 @@ module _ {E : Type 0} (grew cut : E → E → List Event → Type 0) (faults : E
   ]
 
   before_honest : (slots : Slots) → Represents g.q.public.pack g.q.flat slots old → IsHonest old new → Lasts none old new → IsHonest old old
-  before_honest slots held honest lasts = record { tells = honest.tells; nolie = Rattle.ob_store.proofs.Steps.none_before _ _ lasts.later honest.nolie }
+  before_honest slots held honest lasts = record { tells = honest.tells; nolie = none_before _ _ lasts.later honest.nolie }
 
   pub walked_part : (e : OpErr) (events : List Event) → passes_pad g ≡ true → (e ≡ Failed → ⊥) → WalksInstead g.q.public.pack (result_in g.q g.k own) x (Err e) old new out_old out_new → Holds g kept events old
       → Part grew (EndsBy grew cut e) true (λ events part. Halts g events part e old new) events out_old out_new
@@ -139,10 +141,10 @@ module _ {E : Type 0} (grew cut : E → E → List Event → Type 0) (faults : E
             (λ slots held honest. absurd (never (walked.walks.told _ (held_now grew cut faults g kept events x own old same region is slots held (before_honest slots held honest walked.walks.ran.err.lasts)) honest.nolie)));
       }
     where
-      no_sink : (e : OpErr) {place : ℕ} {w : World} → (e ≡ Failed) ⊎ Rattle.ob_flat.specs.Words.TamperedAt g.q.public.pack (result_in g.q g.k own) x e new → e ≡ Sink → ⊥
+      no_sink : (e : OpErr) → (e ≡ Failed) ⊎ TamperedAt g.q.public.pack (result_in g.q g.k own) x e new → e ≡ Sink → ⊥
       no_sink e refused sink = elim refused [ inl failed ↦ absurd (cc (failed, sink)) | inr there ↦ let is = there.is in absurd (cc (is, sink)) ]
 
-      no_memory : (e : OpErr) → (e ≡ Failed) ⊎ Rattle.ob_flat.specs.Words.TamperedAt g.q.public.pack (result_in g.q g.k own) x e new → e ≡ NoMemory → ⊥
+      no_memory : (e : OpErr) → (e ≡ Failed) ⊎ TamperedAt g.q.public.pack (result_in g.q g.k own) x e new → e ≡ NoMemory → ⊥
       no_memory e refused memory = elim refused [ inl failed ↦ absurd (cc (failed, memory)) | inr there ↦ let is = there.is in absurd (cc (is, memory)) ]
 
   pub shown_part : (e : OpErr) (events : List Event) → passes_pad g ≡ false → (e ≡ Failed → ⊥) → ShowsBehind grew cut faults g.q.public.pack g (result_in g.q g.k own) x (Err e) old new out_old out_new → Holds g kept events old
@@ -179,6 +181,7 @@ module _ {E : Type 0} (grew cut : E → E → List Event → Type 0) (faults : E
 
   pub failed_way : (events : List Event) → passes_pad g ≡ false → (shows : ShowsBehind grew cut faults g.q.public.pack g (result_in g.q g.k own) x (Err Failed) old new out_old out_new) → Holds g kept events old
       → (slots : Slots) → Represents g.q.public.pack g.q.flat slots old → IsHonest old old → new.store.lie ≡ None → KnowsWay g (events ++ (left_of (x == 0) g.q ++ row_events shows.block.halted.rows)) slots
+  unfolding begun_part
   failed_way events unpassed shows is slots held was nolie =
       let unfit : IsUnfit new = record { unfit = λ lie told. absurd (cc (told, nolie)) } in
       let ends = begun_part grew (λ (s : SlotsToHalt g.q.public.pack (result_in g.q g.k own) old new). block_shown g.q.public.pack (result_in g.q g.k own) g.q.cols x s.slots) shows.mid out_new shows.block.halted in

@@ -25,11 +25,12 @@ use Rattle.ob_stages.specs.declared.rows.Stage.{Stage}
 use Rattle.ob_stages.specs.declared.rows.Stage.TheVariants.{Count, Make, Read, Write, Emit, Discard, Over}
 use Rattle.ob_stages.specs.Going.{past_cut, past_end}
 use Rattle.ob_stages.specs.RowsActs.{kept_some, left_by, none_left, script_is, script_takes, small_all, takes_seen, with_region}
-use Rattle.ob_stages.specs.RowsStates.{RowsAt, HasAsked, HasCounted, HasRegion, IsCounting, IsFlown, IsPlaced, PlacedAt, ShownAt, Takes, all_passes, before_pass, emits_before, is_over, kept_blocks, known, known_by, part_blocks, progress_of, reads_before, rows_skeleton, seen_taking, served_of, small, table_blocks, taken, taken_by, whole_length, writes_before}
+use Rattle.ob_stages.specs.RowsStates.{RowsAt, HasAsked, HasCounted, HasRegion, IsCounting, IsFlown, IsPlaced, PlacedAt, ShownAt, Takes, all_passes, before_pass, emits_before, end_by, is_over, kept_blocks, known, known_by, part_blocks, progress_of, reads_before, rows_skeleton, seen_taking, served_of, small, table_blocks, taken, taken_by, whole_length, writes_before}
 use Rattle.ob_stages.specs.RowsHolds.{seen_ended}
 use Rattle.ob_stages.specs.RowsSteps.{gone_wrong}
 use Rattle.ob_stages.specs.SmallActs as Acts
 use Rattle.ob_stages.proofs.RowsGoing.{stepped}
+use Rattle.ob_base.specs.Schemas.{width}
 
 -- a test of numbers
 pub less_so : (a b : ℕ) → nat_lt a b ≡ true → a < b
@@ -39,14 +40,11 @@ pub not_less : (a b : ℕ) → nat_lt a b ≡ false → b ≤ a
 not_less a b is = grind (arith, nat_tests)
 
 -- the sizes of a result
-pub table_some : (q : Selection) (s : Skeleton) → IsFlown q s → 1 ≤ table_blocks q
-table_some q s flown = omega (arith, flown.size.least, (div_ceil_times q.flat.capacity q.public.pack (omega (arith, flown.settings.pack_least))).0, none_of (table_blocks q) q.public.pack q.flat.capacity)
-  where
-    none_of : (blocks pack n : ℕ) → blocks ≡ 0 → blocks * pack ≡ 0
-    none_of blocks pack n is = ap (λ (b : ℕ). b * pack) is ∙ omega arith
-
 pub some_blocks : (pack n : ℕ) → 1 ≤ pack → 1 ≤ n → 1 ≤ blocks_for pack n
 some_blocks pack n some enough = grind arith
+
+pub table_some : (q : Selection) (s : Skeleton) → IsFlown q s → 1 ≤ table_blocks q
+table_some q s flown = some_blocks q.public.pack q.flat.capacity flown.settings.pack_least flown.size.least
 
 module _ (q : Selection) (s : Skeleton) (flown : IsFlown q s) (k : ℕ) (some : 1 ≤ taken q k) where
   pub results_some : 1 ≤ Smalls.results (small q k)
@@ -130,6 +128,7 @@ module _ (g : RowsAt) (is : IsPlaced g) (u : ℕ) (same : g.stage ≡ Count u) w
           (omega (arith, all_counted, length-append (count_part g.q.flat.region (table_blocks g.q)) (behind_count g.q.public.pad p seen r t []), length-count_part g.q.flat.region (table_blocks g.q), ap (λ (l : List Access). length l) (empty p r seen is_seen unpadded)));
       counted = λ unfailed. omega (arith, all_counted);
       second = ap (λ (s : Seen). s.then) is_seen;
+      end = ap (λ (s : Seen). s.end) is_seen ∙ sym (ap (λ (f : Bool). end_by f (g.asked + 1)) (is.unfailed (ap is_over same)));
     }
       where
         empty : (p : Rattle.ob_base.specs.declared.config.Public.Public) (r : ℕ) (seen : Seen) → seen ≡ counted 0 None None Whole → g.q.public.pad ≡ None → behind_count g.q.public.pad p seen r (extent_of (region_of g.q)) [] ≡ []
@@ -195,19 +194,20 @@ module _ (q : Selection) (s : Skeleton) (flown : IsFlown q s) (k pass : ℕ) whe
 -- ---- its end
 module _ (g : RowsAt) (flown : IsFlown g.q (rows_skeleton g.select)) where
   -- its result was discarded
-  pub all_asked : (b : ℕ) → HasCounted g (emits_before g.q g.k (Smalls.results (small g.q g.k))) → HasAsked (stepped g Over g.region g.k g.shown b g.seen)
-  all_asked b at = record {
+  pub all_asked : (b : ℕ) → g.failed ≡ false → HasCounted g (emits_before g.q g.k (Smalls.results (small g.q g.k))) → HasAsked (stepped g Over g.region g.k g.shown b g.seen)
+  all_asked b unfailed at = record {
     ended = λ n.
         let r = unwrap_or g.region n in
         let p = with_region g.q r in
         let takes = takes_seen g.q.public.pad g.k g.seen at.seen in
         let rest = left_by g.q.public.pad p g.seen g.k r (region_of g.q) in
-        let long = Acts.length-all g.q.flat.region r (table_blocks g.q) (Smalls.results (small g.q g.k)) (kept_blocks g.q) (g.q.public.pack * Rattle.ob_base.specs.Schemas.width g.q.flat.schema) (kept_some g.q (rows_skeleton g.select) flown) rest
+        let long = Acts.length-all g.q.flat.region r (table_blocks g.q) (Smalls.results (small g.q g.k)) (kept_blocks g.q) (g.q.public.pack * width g.q.flat.schema) (kept_some g.q (rows_skeleton g.select) flown) rest
         (none_left g.q.public.pad p g.seen g.k r (region_of g.q) takes) in
         ap (λ (l : List Access). slice_get l (g.asked + 1)) (script_takes g.q (rows_skeleton g.select) flown (rows_skeleton g.select) g.seen r g.k refl takes)
         ∙ past_end g.seen.end (small_all g.q.public.pad p (region_of g.q) g.k r rest) (g.asked + 1) (whole_end g.q.public.pad g.k g.seen at.seen) (omega (arith, long, at.asked));
-    counted = λ unfailed. omega (arith, at.asked);
+    counted = λ same. omega (arith, at.asked);
     second = none_second g.q.public.pad g.k g.seen at.seen;
+    end = whole_end g.q.public.pad g.k g.seen at.seen ∙ sym (ap (λ (f : Bool). end_by f (g.asked + 1)) unfailed);
   }
     where
       whole_end : (pad : Option ℕ) (k : ℕ) (seen : Seen) → seen ≡ seen_taking pad k → seen.end ≡ Whole
@@ -228,4 +228,5 @@ module _ (g : RowsAt) (flown : IsFlown g.q (rows_skeleton g.select)) where
         ∙ past_cut (Cut (g.asked + 1)) (select_part (with_region g.q r) x r (extent_of (region_of g.q)) []) (g.asked + 1) refl;
     counted = λ unfailed. absurd (cc unfailed);
     second = second;
+    end = refl;
   }

@@ -64,11 +64,11 @@ head_now x q rows none =
 
 -- no row was emitted before the first block
 none_before_first : (pack : ℕ) (fresh : Flat) (cols : List ℕ) (x k : ℕ) (rows : List (List Shown)) (w : World) → HasEmitted pack fresh cols x k rows w → x ≡ 0 → rows ≡ []
-none_before_first pack fresh cols x k rows w is zero = empty rows (omega (arith, is.count, is.most.0, ap (λ (n : ℕ). n * pack) zero))
+none_before_first pack fresh cols x k rows w is first = empty rows (omega (arith, is.count, is.most.0, ap (λ (n : ℕ). n * pack) first))
   where
     empty : (l : List (List Shown)) → length l ≡ 0 → l ≡ []
-    empty [] none = refl
-    empty (r ∷ l) none = absurd (omega (arith, none))
+    empty [] nothing = refl
+    empty (r ∷ l) nothing = absurd (omega (arith, nothing))
 
 -- nothing more was emitted
 pub leads_none : {E : Type 0} (grew : E → E → List Event → Type 0) (a b : E) → b ≡ a → Leads grew grew a b []
@@ -98,7 +98,7 @@ module _ {E : Type 0} (grew cut : E → E → List Event → Type 0) (faults : E
   emit_read = subst (λ (r : ℕ). HasRead g r x shown.rows old) own_is shown.read
 
   first_none : passes_pad g ≡ false → x ≡ 0 → shown.rows ≡ []
-  first_none unpassed zero = none_before_first g.q.public.pack (result_in g.q g.k own) g.q.cols x g.shown shown.rows old (emit_read.emitted unpassed) zero
+  first_none unpassed first = none_before_first g.q.public.pack (result_in g.q g.k own) g.q.cols x g.shown shown.rows old (emit_read.emitted unpassed) first
 
   events_now : passes_pad g ≡ false → events ++ left_of (x == 0) g.q ≡ head_of g.q ++ row_events shown.rows
   events_now unpassed =

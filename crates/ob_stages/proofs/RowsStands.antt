@@ -41,7 +41,8 @@ use Rattle.ob_stages.specs.declared.rows.Stage.{Stage}
 use Rattle.ob_stages.specs.declared.rows.Stage.TheVariants.{Count, Make, Read, Write, Emit, Discard, Over}
 use Rattle.ob_stages.specs.RowsActs.{takes_seen}
 use Rattle.ob_stages.specs.RowsStates.{RowsAt, HasCounted, HasRegion, IsCounting, IsFlown, IsPlaced, PlacedAt, ShownAt, after_read, after_write, before_pass, emits_before, is_over, is_passed, kept_blocks, known, known_by, part_blocks, passes_pad, progress_of, reads_before, result_in, rows_skeleton, seen_taking, small, table_blocks, taken, taken_by, whole_length, writes_before}
-use Rattle.ob_stages.specs.RowsHolds.{Collected, EndedAt, HasFilled, HasRead, HasShown, Holds, HoldsAt, IsCountOf, IsGone, IsToEnd, Picked, all_selected, events_if, head_of, is_headless, is_shown, left_of, meant_outcome, outcome_of, seen_counted, seen_ended}
+use Rattle.ob_verdict.specs.declared.outcome.Outcome.{Outcome}
+use Rattle.ob_stages.specs.RowsHolds.{Collected, EndedAt, HasFilled, HasRead, HasShown, Holds, HoldsAt, IsCountOf, IsCutOff, IsGone, IsToEnd, Picked, all_selected, events_if, head_of, is_headless, is_shown, left_of, meant_outcome, outcome_of, seen_counted, seen_ended}
 use Rattle.ob_stages.specs.RowsLaws.{count_lasts, has_filled_lasts, honest_back}
 use Rattle.ob_stages.specs.RowsSteps.{Clears, counted_to, counted_whole, gone_to}
 use Rattle.ob_stages.proofs.RowsGoing.{stepped}
@@ -53,6 +54,15 @@ use Rattle.ob_stages.proofs.RowsWay.{begun_if, count_is, result_held}
 pub table_apart : (g : RowsAt) (w : World) → Ready w → MayScan g.q.public.pack g.q.flat w → g.q.flat.region ≡ w.vault.next → ⊥
 table_apart g w ready table same =
     lives_apart g.q.flat.region (table_region table.written.order g.q.public.pack g.q.flat.schema g.q.flat.capacity) w ready table.written.lives same
+
+-- one that has its end before it
+pub ended_to : (g : RowsAt) (events : List Event) (w : World) → g.failed ≡ false → g.outcome ≡ None → IsToEnd g events w → EndedAt g.failed g.outcome g events w
+ended_to g events w unfailed unended is =
+    subst (λ (f : Bool). EndedAt f g.outcome g events w) (sym unfailed) (subst (λ (o : Option Outcome). EndedAt false o g events w) (sym unended) is)
+
+pub ended_cut : (g : RowsAt) (events : List Event) (w : World) → g.failed ≡ true → g.outcome ≡ None → IsCutOff g.q g.seen g.asked events w → EndedAt g.failed g.outcome g events w
+ended_cut g events w failed unended is =
+    subst (λ (f : Bool). EndedAt f g.outcome g events w) (sym failed) (subst (λ (o : Option Outcome). EndedAt true o g events w) (sym unended) is)
 
 -- ---- the count
 -- no more are selected than there are slots
@@ -169,7 +179,7 @@ module _ (g : RowsAt) (kept : List (List ℕ)) (events : List Event) (u n : ℕ)
         table = table;
         at = (
           record { below = λ r mine. absurd (cc (at.region, mine)); gone = λ r mine. absurd (cc (at.region, mine)) },
-          (λ i. EndedAt (sym (is.placed.unfailed going) i) (sym (is.placed.unended going) i) (gone_to Over (record g { k = 0; seen = record g.seen { k = Some 0 } })) events new) ends_none,
+          ended_to (gone_to Over (record g { k = 0; seen = record g.seen { k = Some 0 } })) events new (is.placed.unfailed going) (is.placed.unended going) ends_none,
         );
       }
 
@@ -411,6 +421,7 @@ module _ (g : RowsAt) (kept after : List (List ℕ)) (events : List Event) (pass
 
   -- the result is read back
   writes_last : part_blocks g.q g.k pass ≤ x + 1 → Smalls.passes (small g.q g.k) ≤ pass + 1 → Holds (write_to (Emit 0)) after events new
+  unfolding write_filled refilled
   writes_last last end =
       let part = part_last g.q (rows_skeleton g.select) is.placed.flown g.k pass write_at_.1 end in
       let all : x + 1 ≡ part_blocks g.q g.k pass = omega (arith, last, write_at_.2) in

@@ -1,5 +1,5 @@
 -- What is known of a SELECT of rows in flight on its way.
-use Rattle.std.proofs.Common.{◌≡◌, ◌⊎◌, inl, inr, ◌<◌, ◌≤◌, ◌+◌, ◌-◌, ◌*◌, ◌++◌, ℕ, Bool, true, false, not, List, [], ◌∷◌, refl, sym, ◌∙◌, ap, subst, arith, append_assoc}
+use Rattle.std.proofs.Common.{◌≡◌, ◌⊎◌, inl, inr, ◌<◌, ◌≤◌, ◌+◌, ◌-◌, ◌*◌, ◌++◌, ℕ, zero, suc, Bool, true, false, not, List, [], ◌∷◌, refl, sym, ◌∙◌, ap, subst, arith, append_assoc}
 use Rattle.std.specs.Prelude.{Option, Some, None, length, map, nat_le, nat_lt}
 use Rattle.std.proofs.lemmas.Bool.Decides.{nat_tests}
 use Rattle.std.proofs.lemmas.List.{append-nil, map-append}
@@ -28,7 +28,7 @@ use Rattle.ob_vault.specs.State.{World}
 use Rattle.ob_vault.specs.Words.{IsHonest}
 use Rattle.ob_stages.specs.declared.rows.Stage.{Stage}
 use Rattle.ob_stages.specs.declared.rows.Stage.TheVariants.{Count, Make, Read, Write, Emit, Discard, Over}
-use Rattle.ob_stages.specs.RowsStates.{RowsAt, HasCounted, HasRegion, IsFlown, IsPlaced, PlacedAt, all_passes, before_pass, emits_before, is_over, is_passed, kept_blocks, passes_pad, reads_before, result_in, seen_taking, small, table_blocks, taken, writes_before}
+use Rattle.ob_stages.specs.RowsStates.{RowsAt, HasCounted, HasRegion, IsFlown, IsPlaced, PlacedAt, all_passes, before_pass, emits_before, is_over, is_passed, kept_blocks, passes_pad, reads_before, result_in, seen_taking, small, table_blocks, taken, writes_before, taken_by}
 use Rattle.ob_stages.specs.RowsHolds.{HasBegun, HasShown, Holds, HoldsAt, IsCountOf, IsOnWay, all_selected, closing_of, events_if, head_of, is_shown, meant_events, meant_outcome, seen_ended}
 use Rattle.ob_stages.proofs.RowsMeans.{count_places, events_meant, result_shown, seen_meant}
 
@@ -39,7 +39,7 @@ none_seen None (suc k) = refl
 none_seen (Some pad) k = refl
 
 module _ (q : Selection) (s : Skeleton) (flown : IsFlown q s) (slots : Slots) where
-  second_none : (selection_seen q slots).then ≡ None
+  pub second_none : (selection_seen q slots).then ≡ None
   second_none = ap (λ (x : Seen). x.then) (seen_meant q flown.planner slots) ∙ none_seen q.public.pad (length (places q slots))
 
   -- before it has counted
@@ -92,7 +92,7 @@ module _ (g : RowsAt) (w : World) where
   behind_count n is less = omega (arith, is.asked, less)
 
   some_rows : (n : ℕ) → HasCounted g n → (pad : Option ℕ) → g.q.public.pad ≡ pad → 1 ≤ g.k ⊎ (pad ≡ None → ⊥)
-  some_rows n is None same = inl (subst (λ (o : Option ℕ). 1 ≤ Rattle.ob_stages.specs.RowsStates.taken_by o g.q.flat.capacity g.k) same is.some)
+  some_rows n is None same = inl (subst (λ (o : Option ℕ). 1 ≤ taken_by o g.q.flat.capacity g.k) same is.some)
   some_rows n is (Some pad) same = inr (λ none. cc none)
 
   module _ (s : Skeleton) (flown : IsFlown g.q s) (slots : Slots) (held : Represents g.q.public.pack g.q.flat slots w) (nolie : w.store.lie ≡ None) where
@@ -152,6 +152,7 @@ module _ (g : RowsAt) (s : Skeleton) (flown : IsFlown g.q s) (w : World) (slots 
 
     -- they are the first of those that are meant
     pub rows_begun : (passes_pad g ≡ false) → (rest : List (List Shown)) × (is.rows ++ rest ≡ shown_rows g.q slots)
+    unfolding here
     rows_begun unpassed =
         let told = (is.read.emitted unpassed).told here in
         let more = blocks_rest g.q.public.pack (result_in g.q g.k is.filled.own) g.q.cols (Smalls.result_slots (small g.q g.k) slots) w (result_held x events is) x in (

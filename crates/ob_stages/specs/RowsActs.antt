@@ -34,6 +34,8 @@ use Rattle.ob_stages.specs.declared.rows.Stage.TheVariants.{Count, Make, Read, W
 use Rattle.ob_stages.specs.Going.{GoesOn, at_going, past_end}
 use Rattle.ob_stages.specs.RowsStates.{RowsAt, IsFlown, ReadsTable, IsCounting, HasCounted, HasRegion, HasAsked, IsPlaced, MaySee, MayServe, MayRows, PlacedAt, Takes, emits_before, is_over, is_printing, kept_blocks, part_blocks, progress_of, reads_before, rows_at, rows_progress, rows_skeleton, served_of, seen_taking, small, table_blocks, taken_by, whole_length, writes_before}
 use Rattle.ob_stages.specs.SmallActs as Acts
+use Rattle.ob_script.proofs.Eaches.{at_front}
+use Rattle.ob_script.proofs.Places.{at_read}
 
 -- the settings with the region of its result
 abbrev pub with_region : Selection → ℕ → Public
@@ -60,7 +62,7 @@ behind_small (Some pad) p seen r k t forced takes =
     let q = padded_rows pad t.heading.capacity in
     ap (λ (planner : Planner). count_part t.held (blocks_of p (extent_of t)) ++ (result_part p (Some (choose_padded planner p.pack p.buffer t.heading.capacity q)) q r (extent_of t) ++ [])) forced
 
-none_left : (pad : Option ℕ) (p : Public) (seen : Seen) (k r : ℕ) (t : Stored ℕ) → Takes pad k seen → left_by pad p seen k r t ≡ []
+pub none_left : (pad : Option ℕ) (p : Public) (seen : Seen) (k r : ℕ) (t : Stored ℕ) → Takes pad k seen → left_by pad p seen k r t ≡ []
 none_left None p seen k r t takes = ap (λ (o : Option Plan). result_part p o k (r + 1) (extent_of t) ++ []) takes.2
 none_left (Some pad) p seen k r t takes = refl
 
@@ -112,7 +114,7 @@ module _ (g : RowsAt) (flown : IsFlown g.q (rows_skeleton g.select)) (x : Served
       act_is r refl ∙ ap (λ (l : List Access). slice_get l g.asked) (script_is q (rows_skeleton g.select) flown x.skeleton x.seen r same)
       ∙ at_going x.seen.end (select_part p x.seen r (extent_of (region_of q)) []) g.asked (Accesses.Read q.flat.region u) goes
       (ap (slice_get (select_part p x.seen r (extent_of (region_of q)) [])) at.asked
-      ∙ Rattle.ob_script.proofs.Eaches.at_front (count_part q.flat.region (table_blocks q)) (behind_count p.pad p x.seen r (extent_of (region_of q)) []) u (Accesses.Read q.flat.region u) (Rattle.ob_script.proofs.Places.at_read q.flat.region (table_blocks q) u at.below))
+      ∙ at_front (count_part q.flat.region (table_blocks q)) (behind_count p.pad p x.seen r (extent_of (region_of q)) []) u (Accesses.Read q.flat.region u) (at_read q.flat.region (table_blocks q) u at.below))
 
   module _ (goes : GoesOn g.asked x.seen.end) (takes : Takes q.public.pad g.k x.seen) where
     act_of_all : (r : ℕ) (a : Access) → unwrap_or g.region n ≡ r → slice_get (small_all q.public.pad (with_region q r) (region_of q) g.k r (left_by q.public.pad (with_region q r) x.seen g.k r (region_of q))) g.asked ≡ Some a

@@ -259,6 +259,10 @@ pub record Holds (g : RowsAt) (kept : List (List ℕ)) (events : List Event) (w 
 abbrev pub RowsHold : RowsFlight → (kept : List (List ℕ)) → List Event → World → Type 0
 RowsHold f kept events w = Holds (rows_at f) kept events w
 
+-- one of which nothing was asked stands as soon as its table may be read
+abbrev pub BoardsRows : Selection → (Hold : (kept : List (List ℕ)) → List Event → World → Type 0) → Type 0
+BoardsRows q Hold = (w : World) → Ready w → MayScan q.public.pack q.flat w → (kept : List (List ℕ)) → Hold kept [] w
+
 -- ---- where it gave up
 -- what is known of it on its way
 pub record IsOnWay (g : RowsAt) (events : List Event) (slots : Slots) : Type 0 where

@@ -66,6 +66,7 @@ module _ (g : RowsAt) (some : ℕ → Type 0) (w v : World) (lasts : Lasts some 
     has_filled_lasts blocks is = filled_at blocks is (own_same blocks is)
 
     pub has_shown_lasts : (blocks : ℕ) (events : List Event) → HasShown g blocks events w → HasShown g blocks events v
+    unfolding has_filled_lasts filled_at
     has_shown_lasts blocks events is =
         let all = Small.results (small g.q g.k) in
         let mine = is.filled.own in
@@ -151,16 +152,21 @@ module _ (g : RowsAt) (some : ℕ → Type 0) (w v : World) (lasts : Lasts some 
       let own = is.1.filled.own in (count_lasts (all_selected g) is.0, has_shown_lasts own is.1.filled.region (other own is.1.filled.region) (Small.results (small g.q g.k)) events is.1)
   holds_lasts kept events Over other is = (gone_lasts g.region is.0, ended_lasts g.failed g.outcome events is.1)
 
+-- whatever was done to other regions
+pub holds_frames : (g : RowsAt) (kept : List (List ℕ)) (events : List Event) (w v : World) (some : ℕ → Type 0) → Lasts some w v → (some g.q.flat.region → ⊥) → ((own : ℕ) → own_at g.stage g.region ≡ Some own → some own → ⊥)
+    → Holds g kept events w → Holds g kept events v
+holds_frames g kept events w v some lasts off other is = record {
+  ready = lasts.ready;
+  placed = is.placed;
+  table = may_scan_lasts g.q.public.pack g.q.flat some w v lasts off is.table;
+  at = holds_lasts g some w v lasts off kept events g.stage other is.at;
+}
+
 pub rows_frames : (f : RowsFlight) (kept : List (List ℕ)) (events : List Event) (w v : World) → Leaves (RowsNeeds f) w v → RowsHold f kept events w → RowsHold f kept events v
 rows_frames f kept events w v leaves is =
     let g = rows_at f in
     let off : (NeedsAt g g.q.flat.region → ⊥) → ⊥ = λ no. no (inl refl) in
-    record {
-      ready = leaves.ready;
-      placed = is.placed;
-      table = may_scan_lasts g.q.public.pack g.q.flat (λ r. NeedsAt g r → ⊥) w v leaves off is.table;
-      at = holds_lasts g (λ r. NeedsAt g r → ⊥) w v leaves off kept events g.stage (λ own mine no. no (inr mine)) is.at;
-    }
+    holds_frames g kept events w v (λ r. NeedsAt g r → ⊥) leaves off (λ own mine no. no (inr mine)) is
 
 -- ---- its regions were made
 lives_below : (w : World) → Ready w → (r own : ℕ) (shape : Rattle.ob_vault.specs.declared.region.Region.Region) → own ≡ r → w.vault.revs.live own ≡ Some shape → r < w.vault.next
@@ -192,7 +198,7 @@ rows_below f kept events w r is needs = elim needs [
 
 -- ---- what it has seen may be
 module _ (g : RowsAt) where
-  goes_whole : (asked : ℕ) (seen : Seen) (pad : Option ℕ) (k : ℕ) → seen ≡ seen_taking pad k → GoesOn asked seen.end
+  pub goes_whole : (asked : ℕ) (seen : Seen) (pad : Option ℕ) (k : ℕ) → seen ≡ seen_taking pad k → GoesOn asked seen.end
   goes_whole asked seen None k is = subst (λ (s : Seen). GoesOn asked s.end) (sym is) tt
   goes_whole asked seen (Some pad) k is = subst (λ (s : Seen). GoesOn asked s.end) (sym is) tt
 

@@ -250,11 +250,17 @@ pub record HasRegion (g : RowsAt) (done : ℕ) : Type 0 where
   pub region : g.region ≡ Some own
   pub apart : g.q.flat.region ≡ own → ⊥
 
+-- how it ends, all asked
+abbrev pub end_by : (failed : Bool) → (asked : ℕ) → End
+end_by true asked = Cut asked
+end_by false asked = Whole
+
 -- all was asked, the count at least unless the store failed it
 pub record HasAsked (g : RowsAt) : Type 0 where
   pub ended : (n : ℕ) → act_of (progress_of g) (served_of g) n ≡ None
   pub counted : g.failed ≡ false → table_blocks g.q ≤ g.asked
   pub second : g.seen.then ≡ None
+  pub end : g.seen.end ≡ end_by g.failed g.asked
 
 -- ---- from one stage to the next
 abbrev pub after_read : RowsAt → (pass u seen : ℕ) → Stage
