@@ -4,9 +4,13 @@ use Rattle.std.specs.Prelude.{Option, Some, None, Result, Ok, Err, if◌then◌e
 use Rattle.std.proofs.lemmas.List.{append-nil}
 use Rattle.ob_base.specs.declared.access.Access.{Access}
 use Rattle.ob_base.specs.declared.access.Access.TheVariants as Accesses
-use Rattle.ob_base.specs.Events.{Event, Leads, row_events}
+use Rattle.ob_base.specs.declared.emit.EmitErr.{EmitErr}
+use Rattle.ob_base.specs.declared.emit.EmitErr.TheVariants as EmitErrs
+use Rattle.ob_base.specs.Events.{EmitCause, Event, Leads, row_events}
 use Rattle.ob_flat.specs.declared.fault.OpErr.{OpErr}
 use Rattle.ob_flat.specs.declared.fault.OpErr.TheVariants.{Failed, Tampered, Sink, NoMemory}
+use Rattle.ob_flat.specs.declared.flat.Flat.{Flat}
+use Rattle.ob_flat.specs.Emission.{Takes}
 use Rattle.ob_flat.specs.Passes.{PassCause, PassCut, SinkCause, is_of_access}
 use Rattle.ob_inflight.specs.Answers.{EndsBy, More, Part, Tells}
 use Rattle.ob_inflight.specs.Leaving.{own_or_next}
@@ -54,18 +58,18 @@ tells_quiet grew cut g h others kept after (Err e) old new out unprinted is = re
 
 -- ---- causes
 -- the same of another answer
-cause_as : {A B : Type 0} (e : OpErr) (a b : ℕ) → SinkCause {T = A} (Err e) a b → SinkCause {T = B} (Err e) a b
-cause_as Failed a b is = is
-cause_as (Tampered q p) a b is = is
-cause_as Sink a b is = is
-cause_as NoMemory a b is = is
+cause_as : (A B : Type 0) (e : OpErr) (a b : ℕ) → SinkCause {T = A} (Err e) a b → SinkCause {T = B} (Err e) a b
+cause_as A B Failed a b is = is
+cause_as A B (Tampered q p) a b is = is
+cause_as A B Sink a b is = is
+cause_as A B NoMemory a b is = is
 
 -- no emitter was asked
-cause_none : {T : Type 0} (e : OpErr) (a b : ℕ) → (e ≡ Sink → ⊥) → b ≡ a → SinkCause {T = T} (Err e) a b
-cause_none Failed a b never same = same
-cause_none (Tampered q p) a b never same = same
-cause_none Sink a b never same = absurd (never refl)
-cause_none NoMemory a b never same = same
+cause_none : (T : Type 0) (e : OpErr) (a b : ℕ) → (e ≡ Sink → ⊥) → b ≡ a → SinkCause {T = T} (Err e) a b
+cause_none T Failed a b never same = same
+cause_none T (Tampered q p) a b never same = same
+cause_none T Sink a b never same = absurd (never refl)
+cause_none T NoMemory a b never same = same
 
 -- what gave up before any access
 halted_cause : (e : OpErr) (w : World) → (e ≡ Sink) ⊎ (e ≡ NoMemory) → PassCause e w w
@@ -87,6 +91,31 @@ halted_cut e access w ready either = record {
   asks = λ of. no_access e either of;
   cause = halted_cause e w either;
 }
+
+-- the header gave up before any access
+module _ {E T : Type 0} (grew cut : E → E → List Event → Type 0) (faults : E → ℕ) (pack : ℕ) (g : RowsAt) (fresh : Flat) (x : ℕ) (w : World) (out_old out_new : E) (unpassed : passes_pad g ≡ false) (e : EmitErr)
+    (takes : Takes {T = T} grew cut faults (left_of (x == 0) g.q) (Err e) out_old out_new) where
+  pub shows_head : e ≡ EmitErrs.Failed → ShowsBlock grew cut faults pack g fresh x (Err Sink) w w out_old out_new
+  shows_head is = record {
+    shows = subst (λ (b : Bool). ShowsBy b grew cut faults pack g fresh x (Err Sink) w w out_old out_new) (sym unpassed) (inr (record {
+      stops = tt;
+      either = inl refl;
+      same = refl;
+      leads = takes.err;
+      cause = subst (λ (x : EmitErr). EmitCause {T = T} (Err x) (faults out_old) (faults out_new)) is takes.cause;
+    }));
+  }
+
+  pub shows_head_short : e ≡ EmitErrs.NoMemory → ShowsBlock grew cut faults pack g fresh x (Err NoMemory) w w out_old out_new
+  shows_head_short is = record {
+    shows = subst (λ (b : Bool). ShowsBy b grew cut faults pack g fresh x (Err NoMemory) w w out_old out_new) (sym unpassed) (inr (record {
+      stops = tt;
+      either = inr refl;
+      same = refl;
+      leads = takes.err;
+      cause = subst (λ (x : EmitErr). EmitCause {T = T} (Err x) (faults out_old) (faults out_new)) is takes.cause;
+    }));
+  }
 
 -- ---- a block of its result
 module _ {E : Type 0} (grew cut : E → E → List Event → Type 0) (faults : E → ℕ) (g : RowsAt) (x own others : ℕ) (old : World) (steps : StepsAt g (Emit x) others old) (is : IsHeldIn g old) (region : g.region ≡ Some own)
@@ -204,23 +233,23 @@ module _ {E : Type 0} (grew cut : E → E → List Event → Type 0) (faults : E
 
     stops_by : {T : Type 0} (kept : List (List ℕ)) (b : Bool) → passes_pad g ≡ b → ShowsBy b grew cut faults g.q.public.pack g (result_in g.q g.k own) x (Err e) old new out_old out_new
         → LoudStep {T = T} grew cut faults g g others kept (Err e) old new out_old out_new
-    stops_by kept true passed walked = record {
+    stops_by {T} kept true passed walked = record {
       steps = tt;
       stops = emit_stops walked.walks.ran.err (λ good fine. walked.walks.seals.seals good);
       tells = record { ok = tt; err = λ events held. walked_part grew cut faults g kept x own old new out_old out_new steps.at region e events passed never walked held };
-      sink = cause_none e (faults out_old) (faults out_new) (λ sink. refused_counted e walked.walks.never (inl sink)) (ap faults walked.quiet);
+      sink = cause_none T e (faults out_old) (faults out_new) (λ sink. refused_counted e walked.walks.never (inl sink)) (ap faults walked.quiet);
     }
-    stops_by kept false unpassed (inl shows) = record {
+    stops_by {T} kept false unpassed (inl shows) = record {
       steps = tt;
       stops = emit_stops shows.block.ran.err (λ good fine. shows.block.seals.seals good);
       tells = record { ok = tt; err = λ events held. shown_part grew cut faults g kept x own old new out_old out_new steps.at region e events unpassed never shows held };
-      sink = subst (λ (n : ℕ). SinkCause (Err e) n (faults out_new)) shows.same (cause_as e (faults shows.mid) (faults out_new) shows.block.cause);
+      sink = subst (λ (n : ℕ). SinkCause {T = T} (Err e) n (faults out_new)) shows.same (cause_as ℕ T e (faults shows.mid) (faults out_new) shows.block.cause);
     }
-    stops_by kept false unpassed (inr stops) = record {
+    stops_by {T} kept false unpassed (inr stops) = record {
       steps = tt;
       stops = stops_head stops.same stops.either;
       tells = record { ok = tt; err = λ events held. head_part grew cut faults g kept x own old new out_old out_new steps.at region e events unpassed stops held };
-      sink = cause_as e (faults out_old) (faults out_new) stops.cause;
+      sink = cause_as ℕ T e (faults out_old) (faults out_new) stops.cause;
     }
 
     pub loud_stopped : {T : Type 0} (kept : List (List ℕ)) → ShowsBlock grew cut faults g.q.public.pack g (result_in g.q g.k own) x (Err e) old new out_old out_new

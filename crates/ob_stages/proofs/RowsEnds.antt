@@ -26,6 +26,7 @@ use Rattle.ob_inflight.specs.Leaving.{own_or_next}
 use Rattle.ob_mean.specs.Prints.{Begun}
 use Rattle.ob_mean.specs.Verdict.{ended as seen_to}
 use Rattle.ob_row.specs.Slots.{Slots}
+use Rattle.ob_script.specs.Script.{whole_script}
 use Rattle.ob_select.specs.Selecting.{Selection, HoldsSeen, answer_events, places, selection_seen, shown_rows}
 use Rattle.ob_small.specs.Selection as Smalls
 use Rattle.ob_store.specs.State.{StoreState}
@@ -35,13 +36,14 @@ use Rattle.ob_vault.specs.Tied.{IsUnfit, Ready}
 use Rattle.ob_vault.specs.Words.{IsHonest}
 use Rattle.ob_stages.specs.declared.rows.Stage.{Stage}
 use Rattle.ob_stages.specs.declared.rows.Stage.TheVariants.{Count, Make, Read, Write, Emit, Discard, Over}
+use Rattle.ob_stages.specs.RowsActs.{takes_seen}
 use Rattle.ob_stages.specs.RowsStates.{RowsAt, HasCounted, HasRegion, IsPlaced, PlacedAt, emits_before, is_over, is_passed, is_printing, passes_pad, result_in, rows_skeleton, seen_taking, small, table_blocks, taken, taken_by, whole_length}
 use Rattle.ob_stages.specs.RowsHolds.{EndedAt, Halts, HasBegun, HasShown, Holds, HoldsAt, IsCountOf, IsCutOff, IsGone, IsOnWay, IsToEnd, LacksAt, MayBeCut, NeedsAt, all_selected, events_if, head_of, is_headless, is_shown, left_of, meant_events, meant_outcome, own_at, outcome_of, seen_ended}
 use Rattle.ob_stages.specs.RowsLaws.{honest_back, own_below, served_second, to_end_lasts}
 use Rattle.ob_stages.specs.RowsSteps.{gone_to, gone_wrong}
-use Rattle.ob_stages.proofs.RowsGoing.{HasFailed, IsBehind, asked_few, behind_at, failed_at, failed_cut, forgot_gone, own_all, stepped}
+use Rattle.ob_stages.proofs.RowsGoing.{HasFailed, IsBehind, asked_few, behind_at, failed_at, failed_cut, forgot_gone, own_all, stepped, takes_same}
 use Rattle.ob_stages.proofs.RowsMeans.{events_meant, outcome_meant, result_shown, seen_meant, shown_count}
-use Rattle.ob_stages.proofs.RowsPlaces.{all_asked, booked_at, cut_asked, placed_next, results_some}
+use Rattle.ob_stages.proofs.RowsPlaces.{all_asked, booked_at, cut_asked, placed_next, results_some, within_count, within_takes}
 use Rattle.ob_stages.proofs.RowsStands.{ended_cut, ended_to, table_apart}
 use Rattle.ob_stages.proofs.RowsWay.{KnowsWay, begun_more, count_is, held_failed, result_held, rows_begun, shape_of, way_of}
 
@@ -109,6 +111,21 @@ module _ (g : RowsAt) (region : Option ℕ) (others : ℕ) (access : Access) (ol
   cut_seen Discard going at = behind_seen (behind_at g is.placed Discard refl at)
   cut_seen Over going at = absurd (cc going)
 
+  -- no more was asked than it asks
+  within_behind : IsBehind g → g.asked + 1 ≤ length (whole_script g.q.public (rows_skeleton g.select) (gone_wrong g).seen)
+  within_behind b =
+      within_takes g is.placed.flown (gone_wrong g).seen g.k (g.asked + 1)
+      (takes_same g.q.public.pad g.k (gone_wrong g).seen g.seen refl refl refl (takes_seen g.q.public.pad g.k g.seen b.counted.seen)) (omega (arith, b.counted.asked, b.within))
+
+  cut_within : (stage : Stage) → is_over stage ≡ false → PlacedAt stage g → g.asked + 1 ≤ length (whole_script g.q.public (rows_skeleton g.select) (gone_wrong g).seen)
+  cut_within (Count u) going at = within_count g is.placed.flown (gone_wrong g).seen (g.asked + 1) (omega (arith, at.asked, at.below))
+  cut_within Make going at = within_behind (behind_at g is.placed Make refl at)
+  cut_within (Read pass u s) going at = within_behind (behind_at g is.placed (Read pass u s) refl at)
+  cut_within (Write pass x) going at = within_behind (behind_at g is.placed (Write pass x) refl at)
+  cut_within (Emit x) going at = within_behind (behind_at g is.placed (Emit x) refl at)
+  cut_within Discard going at = within_behind (behind_at g is.placed Discard refl at)
+  cut_within Over going at = absurd (cc going)
+
   cut_off : IsCutOff g.q (gone_wrong g).seen (g.asked + 1) (events ++ more) new
   cut_off = record {
     some = omega arith;
@@ -136,7 +153,8 @@ module _ (g : RowsAt) (region : Option ℕ) (others : ℕ) (access : Access) (ol
     placed = record {
       several = is.placed.several;
       flown = is.placed.flown;
-      at = cut_asked g is.placed.flown region (served_second g g.stage is.placed.at);
+      own = is.placed.own;
+      at = cut_asked g is.placed.flown region (served_second g g.stage is.placed.at) (cut_within g.stage failed.going is.placed.at);
       shown = tt;
       unfailed = λ going. absurd (cc going);
       unended = λ going. absurd (cc going);

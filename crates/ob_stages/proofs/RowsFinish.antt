@@ -9,9 +9,10 @@ use Rattle.ob_base.specs.declared.refusal.Refusal.TheVariants.{PadPassed, StoreF
 use Rattle.ob_base.specs.declared.seen.End.TheVariants.{Whole}
 use Rattle.ob_base.specs.declared.seen.Seen.{Seen}
 use Rattle.ob_base.specs.declared.shown.Shown.{Shown}
-use Rattle.ob_base.specs.Events.{Event, Close, row_events}
+use Rattle.ob_base.specs.Events.{Event, Close, EmitCause, Leads, row_events}
 use Rattle.ob_flat.specs.declared.fault.OpErr.{OpErr}
 use Rattle.ob_flat.specs.declared.fault.OpErr.TheVariants.{Sink, NoMemory}
+use Rattle.ob_flat.specs.Emission.{Takes}
 use Rattle.ob_flat.specs.Flats.{Represents}
 use Rattle.ob_inflight.specs.Answers.{Finishes, HasFewRows, More, Part, error_of}
 use Rattle.ob_mean.specs.Prints.{Begun}
@@ -29,6 +30,7 @@ use Rattle.ob_stages.specs.declared.rows.Stage.TheVariants.{Count, Make, Read, W
 use Rattle.ob_stages.specs.RowsStates.{RowsAt, HasAsked, IsPlaced, PlacedAt, is_over, is_passed, is_printing, passes_pad, table_blocks}
 use Rattle.ob_stages.specs.RowsHolds.{AnswersRows, AnswersSo, AsMeant, EndedAt, Halts, Holds, HoldsAt, IsCutOff, IsGone, IsOnWay, IsToEnd, RefusesRows, closing_of, events_if, head_of, is_headless, left_of, meant_events, meant_outcome, outcome_of, seen_ended}
 use Rattle.ob_stages.specs.RowsSteps.{Answers, SaysPart, said, said_of, to_say, to_say_of}
+use Rattle.ob_stages.proofs.RowsShown.{leads_both}
 
 pub over_is : (stage : Stage) → is_over stage ≡ true → stage ≡ Over
 over_is (Count u) over = absurd (cc over)
@@ -151,7 +153,8 @@ module _ (g : RowsAt) (kept : List (List ℕ)) (over : is_over g.stage ≡ true)
       placed = record {
         several = is.placed.several;
         flown = is.placed.flown;
-        at = subst (λ (s : Stage). PlacedAt s (record g { outcome = Some (said_of g) })) (sym stage_is) (record { ended = all_done.ended; counted = all_done.counted; second = all_done.second; end = all_done.end });
+        own = is.placed.own;
+        at = subst (λ (s : Stage). PlacedAt s (record g { outcome = Some (said_of g) })) (sym stage_is) (record { ended = all_done.ended; counted = all_done.counted; second = all_done.second; within = all_done.within; end = all_done.end });
         shown = is.placed.shown;
         unfailed = is.placed.unfailed;
         unended = λ open_. absurd (cc (open_, over));
@@ -219,4 +222,38 @@ module _ (g : RowsAt) (kept : List (List ℕ)) (over : is_over g.stage ≡ true)
       quiet = λ unprinted. absurd (cc unprinted);
       halts = halts_answered events w held answers.err.part answers.err.going answers.err.begun e;
     };
+  }
+
+-- ---- what its end emits
+emit_cause_as : (A B : Type 0) (e : EmitErr) (a b : ℕ) → EmitCause {T = A} (Err e) a b → EmitCause {T = B} (Err e) a b
+emit_cause_as A B EmitErrs.Failed a b is = is
+emit_cause_as A B EmitErrs.NoMemory a b is = is
+
+module _ {E T : Type 0} (grew cut : E → E → List Event → Type 0) (faults : E → ℕ) (g : RowsAt) (out_old : E) (unfailed : g.failed ≡ false) (unpassed : passes_pad g ≡ false) where
+  abbrev head : List Event
+  head = left_of (is_headless g.q.public.pad g.k) g.q
+
+  say_is : to_say_of g ≡ head ++ Close g.shown ∷ []
+  say_is = λ i. to_say (unfailed i) (unpassed i) head g.shown
+
+  -- the header gave up
+  pub answers_head : (e : EmitErr) (out_new : E) → Takes {T = T} grew cut faults (left_of (is_headless g.q.public.pad g.k) g.q) (Err e) out_old out_new → Answers grew cut faults g (Err e) out_old out_new
+  answers_head e out_new takes = record {
+    ok = tt;
+    err = record { going = unfailed; part = head; leads = takes.err; begun = (Close g.shown ∷ [], sym say_is) };
+    sink = emit_cause_as T Outcome e (faults out_old) (faults out_new) takes.cause;
+  }
+
+  -- or the last event
+  pub answers_close : {U : Type 0} (v : T) (e : EmitErr) (n : ℕ) (mid out_new : E) → n ≡ g.shown → Takes {T = T} grew cut faults (left_of (is_headless g.q.public.pad g.k) g.q) (Ok v) out_old mid
+      → Leads grew cut mid out_new (Close n ∷ []) → EmitCause {T = U} (Err e) (faults mid) (faults out_new) → Answers grew cut faults g (Err e) out_old out_new
+  answers_close {U} v e n mid out_new shown takes closes cause = record {
+    ok = tt;
+    err = record {
+      going = unfailed;
+      part = head ++ Close n ∷ [];
+      leads = leads_both grew cut out_old mid out_new head (Close n ∷ []) takes.ok closes;
+      begun = ([], append-nil (head ++ Close n ∷ []) ∙ ap (λ (k : ℕ). head ++ Close k ∷ []) shown ∙ sym say_is);
+    };
+    sink = subst (λ (f : ℕ). EmitCause {T = Outcome} (Err e) f (faults out_new)) takes.cause (emit_cause_as U Outcome e (faults mid) (faults out_new) cause);
   }

@@ -126,6 +126,9 @@ asked_few g is (Emit x) going at = behind_few g is (behind_at g is (Emit x) refl
 asked_few g is Discard going at = behind_few g is (behind_at g is Discard refl at)
 asked_few g is Over going at = absurd (cc going)
 
+pub few_at : (g : RowsAt) → IsPlaced g → (stage : Stage) → g.stage ≡ stage → is_over stage ≡ false → g.asked < 2 ^ 56
+few_at g is stage same going = omega (arith, asked_few g is g.stage (ap is_over same ∙ going) is.at)
+
 -- ---- its regions
 pub own_all : (stage : Stage) (made : Option ℕ) → is_over stage ≡ false → own_at stage made ≡ made
 own_all (Count u) made going = refl
@@ -178,7 +181,7 @@ see_of g Discard behind x may = may
 see_of g Over behind x may = absurd (cc behind)
 
 -- of one that has counted, whose end is another
-takes_same : (pad : Option ℕ) (k : ℕ) (x y : Seen) → x.k ≡ y.k → x.plan ≡ y.plan → x.then ≡ y.then → Takes pad k y → Takes pad k x
+pub takes_same : (pad : Option ℕ) (k : ℕ) (x y : Seen) → x.k ≡ y.k → x.plan ≡ y.plan → x.then ≡ y.then → Takes pad k y → Takes pad k x
 takes_same None k x y count plan second is = (count ∙ is.0, plan ∙ is.1, second ∙ is.2)
 takes_same (Some pad) k x y count plan second is = tt
 

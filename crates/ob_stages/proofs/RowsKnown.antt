@@ -10,6 +10,7 @@ use Rattle.ob_base.specs.Events.{Event}
 use Rattle.ob_flat.specs.Flats.{Represents}
 use Rattle.ob_mean.specs.Verdict.{ended as seen_to}
 use Rattle.ob_row.specs.Slots.{Slots}
+use Rattle.ob_script.specs.Script.{whole_script}
 use Rattle.ob_select.specs.Selecting.{Selection, HoldsSeen, answer_events, places, selection_seen}
 use Rattle.ob_small.specs.Selection as Smalls
 use Rattle.ob_vault.specs.State.{World}
@@ -23,7 +24,9 @@ use Rattle.ob_stages.specs.RowsActs.{takes_seen}
 use Rattle.ob_stages.specs.RowsStates.{RowsAt, HasAsked, HasCounted, IsPlaced, MaySee, MayServe, MayTake, PlacedAt, emits_before, end_by, is_over, reads_before, rows_skeleton, seen_taking, small, table_blocks, taken_by, writes_before}
 use Rattle.ob_stages.specs.RowsHolds.{AnswersRows, EndedAt, Holds, HoldsAt, IsCountOf, IsCutOff, IsGone, IsOnWay, MayBeCut, all_selected, meant_events, seen_ended}
 use Rattle.ob_stages.proofs.RowsFinish.{over_is}
+use Rattle.ob_stages.proofs.RowsGoing.{IsBehind, behind_at}
 use Rattle.ob_stages.proofs.RowsMeans.{seen_meant}
+use Rattle.ob_stages.proofs.RowsPlaces.{within_count, within_takes}
 use Rattle.ob_stages.proofs.RowsWay.{begun_more, count_is, second_none, way_of}
 
 -- on its way
@@ -198,3 +201,19 @@ rows_end g is = at_stage g.stage refl is.at
     at_stage (Emit x) same at = counted_end (emits_before g.q g.k x) at.0.counted (is.unfailed (ap is_over same))
     at_stage Discard same at = counted_end (emits_before g.q g.k (Smalls.results (small g.q g.k))) at.counted (is.unfailed (ap is_over same))
     at_stage Over same at = at.end ∙ by_failed g.failed
+
+-- no more was asked than the statement asks
+pub rows_within : (g : RowsAt) → IsPlaced g → g.asked ≤ length (whole_script g.q.public (rows_skeleton g.select) g.seen)
+rows_within g is = at_stage g.stage is.at
+  where
+    behind : IsBehind g → g.asked ≤ length (whole_script g.q.public (rows_skeleton g.select) g.seen)
+    behind b = within_takes g is.flown g.seen g.k g.asked (takes_seen g.q.public.pad g.k g.seen b.counted.seen) (omega (arith, b.counted.asked, b.within))
+
+    at_stage : (stage : Stage) → PlacedAt stage g → g.asked ≤ length (whole_script g.q.public (rows_skeleton g.select) g.seen)
+    at_stage (Count u) at = within_count g is.flown g.seen g.asked (omega (arith, at.asked, at.below))
+    at_stage Make at = behind (behind_at g is Make refl at)
+    at_stage (Read pass u seen) at = behind (behind_at g is (Read pass u seen) refl at)
+    at_stage (Write pass x) at = behind (behind_at g is (Write pass x) refl at)
+    at_stage (Emit x) at = behind (behind_at g is (Emit x) refl at)
+    at_stage Discard at = behind (behind_at g is Discard refl at)
+    at_stage Over at = at.within

@@ -163,14 +163,13 @@ module _ {E : Type 0} (grew cut : E → E → List Event → Type 0) (faults : E
   pub head_part : (e : OpErr) (events : List Event) → passes_pad g ≡ false → StopsHead grew cut faults g x (Err e) old new out_old out_new → Holds g kept events old
       → Part grew (EndsBy grew cut e) true (λ events part. Halts g events part e old new) events out_old out_new
   head_part e events unpassed stops is = record {
-    part = head_of g.q;
-    leads = λ printing. cut_by grew cut e out_old out_new (head_of g.q) stops.either stops.leads;
+    part = left_of (x == 0) g.q;
+    leads = λ printing. cut_by grew cut e out_old out_new (left_of (x == 0) g.q) stops.either stops.leads;
     quiet = λ unprinted. absurd (cc unprinted);
-    halts = halts_loud events (head_of g.q) e is
+    halts = halts_loud events (left_of (x == 0) g.q) e is
         (λ slots held was unfit.
         let begun = part_begun grew cut faults g kept events x own old same region is new [] slots held was unfit unpassed (λ s. (row_events (block_shown g.q.public.pack (result_in g.q g.k own) g.q.cols x s.slots), refl)) in
-        let left : left_of (x == 0) g.q ++ [] ≡ head_of g.q = append-nil (left_of (x == 0) g.q) ∙ ap (λ (n : ℕ). left_of (n == 0) g.q) stops.first in
-        subst (λ (l : List Event). Begun (events ++ l) (answer_events g.q slots)) left begun)
+        subst (λ (l : List Event). Begun (events ++ l) (answer_events g.q slots)) (append-nil (left_of (x == 0) g.q)) begun)
         (λ slots held honest. stops.either);
   }
 

@@ -16,7 +16,7 @@ use Rattle.ob_base.specs.Plans.{IsPadded}
 use Rattle.ob_inflight.specs.Progress.{act_of}
 use Rattle.ob_mean.specs.Verdict.{counted, ended as seen_to}
 use Rattle.ob_script.specs.Parts.{count_part}
-use Rattle.ob_script.specs.Script.{after_count, behind_count, extent_of, script, select_part, until_end}
+use Rattle.ob_script.specs.Script.{after_count, behind_count, extent_of, script, select_part, until_end, whole_script}
 use Rattle.ob_script.proofs.Lengths.{length-count_part}
 use Rattle.ob_select.specs.Selecting.{Selection, region_of}
 use Rattle.ob_small.specs.Selection as Smalls
@@ -24,7 +24,7 @@ use Rattle.ob_small.proofs.Lengths.{pass_inside}
 use Rattle.ob_stages.specs.declared.rows.Stage.{Stage}
 use Rattle.ob_stages.specs.declared.rows.Stage.TheVariants.{Count, Make, Read, Write, Emit, Discard, Over}
 use Rattle.ob_stages.specs.Going.{past_cut, past_end}
-use Rattle.ob_stages.specs.RowsActs.{kept_some, left_by, none_left, script_is, script_takes, small_all, takes_seen, with_region}
+use Rattle.ob_stages.specs.RowsActs.{kept_some, left_by, none_left, script_is, script_takes, small_all, takes_seen, whole_is, whole_takes, with_region}
 use Rattle.ob_stages.specs.RowsStates.{RowsAt, HasAsked, HasCounted, HasRegion, IsCounting, IsFlown, IsPlaced, PlacedAt, ShownAt, Takes, all_passes, before_pass, emits_before, end_by, is_over, kept_blocks, known, known_by, part_blocks, progress_of, reads_before, rows_skeleton, seen_taking, served_of, small, table_blocks, taken, taken_by, whole_length, writes_before}
 use Rattle.ob_stages.specs.RowsHolds.{seen_ended}
 use Rattle.ob_stages.specs.RowsSteps.{gone_wrong}
@@ -68,11 +68,31 @@ module _ (g : RowsAt) (is : IsPlaced g) (going : is_over g.stage ≡ false) (sta
     shown = shown;
     several = is.several;
     flown = is.flown;
+    own = is.own;
     at = at;
     unfailed = λ open_. is.unfailed going;
     unended = λ open_. is.unended going;
     booked = booked;
   }
+
+-- ---- no more was asked than the statement asks
+module _ (g : RowsAt) (flown : IsFlown g.q (rows_skeleton g.select)) (x : Seen) where
+  pub within_count : (n : ℕ) → n ≤ table_blocks g.q → n ≤ length (whole_script g.q.public (rows_skeleton g.select) x)
+  within_count n few =
+      let r = g.q.public.next_region in
+      let t = extent_of (region_of g.q) in
+      let p = with_region g.q r in
+      omega (arith, few, ap (λ (l : List Access). length l) (whole_is g.q (rows_skeleton g.select) flown (rows_skeleton g.select) x r refl),
+      length-append (count_part g.q.flat.region (table_blocks g.q)) (behind_count p.pad p x r t []), length-count_part g.q.flat.region (table_blocks g.q))
+
+  pub within_takes : (k n : ℕ) → Takes g.q.public.pad k x → n ≤ whole_length g.q k → n ≤ length (whole_script g.q.public (rows_skeleton g.select) x)
+  within_takes k n takes few =
+      let r = g.q.public.next_region in
+      let p = with_region g.q r in
+      let rest = left_by g.q.public.pad p x k r (region_of g.q) in
+      let long = Acts.length-all g.q.flat.region r (table_blocks g.q) (Smalls.results (small g.q k)) (kept_blocks g.q) (g.q.public.pack * width g.q.flat.schema) (kept_some g.q (rows_skeleton g.select) flown) rest
+      (none_left g.q.public.pad p x k r (region_of g.q) takes) in
+      omega (arith, few, long, ap (λ (l : List Access). length l) (whole_takes g.q (rows_skeleton g.select) flown (rows_skeleton g.select) x r k refl takes))
 
 -- ---- the count
 module _ (g : RowsAt) (is : IsPlaced g) (u : ℕ) (same : g.stage ≡ Count u) where
@@ -128,6 +148,7 @@ module _ (g : RowsAt) (is : IsPlaced g) (u : ℕ) (same : g.stage ≡ Count u) w
           (omega (arith, all_counted, length-append (count_part g.q.flat.region (table_blocks g.q)) (behind_count g.q.public.pad p seen r t []), length-count_part g.q.flat.region (table_blocks g.q), ap (λ (l : List Access). length l) (empty p r seen is_seen unpadded)));
       counted = λ unfailed. omega (arith, all_counted);
       second = ap (λ (s : Seen). s.then) is_seen;
+      within = within_count g is.flown seen (g.asked + 1) (omega (arith, all_counted));
       end = ap (λ (s : Seen). s.end) is_seen ∙ sym (ap (λ (f : Bool). end_by f (g.asked + 1)) (is.unfailed (ap is_over same)));
     }
       where
@@ -207,6 +228,7 @@ module _ (g : RowsAt) (flown : IsFlown g.q (rows_skeleton g.select)) where
         ∙ past_end g.seen.end (small_all g.q.public.pad p (region_of g.q) g.k r rest) (g.asked + 1) (whole_end g.q.public.pad g.k g.seen at.seen) (omega (arith, long, at.asked));
     counted = λ same. omega (arith, at.asked);
     second = none_second g.q.public.pad g.k g.seen at.seen;
+    within = within_takes g flown g.seen g.k (g.asked + 1) (takes_seen g.q.public.pad g.k g.seen at.seen) (omega (arith, at.asked));
     end = whole_end g.q.public.pad g.k g.seen at.seen ∙ sym (ap (λ (f : Bool). end_by f (g.asked + 1)) unfailed);
   }
     where
@@ -219,8 +241,8 @@ module _ (g : RowsAt) (flown : IsFlown g.q (rows_skeleton g.select)) where
       none_second (Some pad) k seen is = ap (λ (s : Seen). s.then) is
 
   -- the store failed it
-  pub cut_asked : (region : Option ℕ) → g.seen.then ≡ None → HasAsked (gone_wrong (record g { region = region }))
-  cut_asked region second = record {
+  pub cut_asked : (region : Option ℕ) → g.seen.then ≡ None → g.asked + 1 ≤ length (whole_script g.q.public (rows_skeleton g.select) (gone_wrong g).seen) → HasAsked (gone_wrong (record g { region = region }))
+  cut_asked region second within = record {
     ended = λ n.
         let r = unwrap_or region n in
         let x : Seen = record g.seen { end = Cut (g.asked + 1) } in
@@ -229,4 +251,5 @@ module _ (g : RowsAt) (flown : IsFlown g.q (rows_skeleton g.select)) where
     counted = λ unfailed. absurd (cc unfailed);
     second = second;
     end = refl;
+    within = within;
   }

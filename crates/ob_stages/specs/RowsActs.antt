@@ -71,20 +71,25 @@ module _ (q : Selection) (s : Skeleton) (flown : IsFlown q s) where
   reads = flown.reads
 
   -- what is asked of it
-  pub script_is : (z : Skeleton) (seen : Seen) (r : ℕ) → z ≡ s → script (with_region q r) z seen ≡ until_end seen.end (select_part (with_region q r) seen r (extent_of (region_of q)) [])
-  script_is z seen r same =
+  pub whole_is : (z : Skeleton) (seen : Seen) (r : ℕ) → z ≡ s → whole_script (with_region q r) z seen ≡ select_part (with_region q r) seen r (extent_of (region_of q)) []
+  whole_is z seen r same =
       let p = with_region q r in
       let table = reads.table in
-      ap (until_end seen.end)
-      (ap (λ (y : Skeleton). whole_script p y seen) (same ∙ reads.is)
+      ap (λ (y : Skeleton). whole_script p y seen) (same ∙ reads.is)
       ∙ ap (λ (o : Option (Stored ℕ)). option_map_or (table_script p seen) o []) reads.found
       ∙ ap (λ (h : Shape). by_shape h (flat_script p seen table) (index_part_of p seen.leaf table)) reads.flat
-      ∙ (λ i. select_part p seen r (record { region = reads.region i; slots = reads.slots i; width = width (reads.schema i) }) []))
+      ∙ (λ i. select_part p seen r (record { region = reads.region i; slots = reads.slots i; width = width (reads.schema i) }) [])
+
+  pub script_is : (z : Skeleton) (seen : Seen) (r : ℕ) → z ≡ s → script (with_region q r) z seen ≡ until_end seen.end (select_part (with_region q r) seen r (extent_of (region_of q)) [])
+  script_is z seen r same = ap (until_end seen.end) (whole_is z seen r same)
+
+  pub whole_takes : (z : Skeleton) (seen : Seen) (r k : ℕ) → z ≡ s → Takes q.public.pad k seen
+      → whole_script (with_region q r) z seen ≡ small_all q.public.pad (with_region q r) (region_of q) k r (left_by q.public.pad (with_region q r) seen k r (region_of q))
+  whole_takes z seen r k same takes = whole_is z seen r same ∙ behind_small q.public.pad (with_region q r) seen r k (region_of q) flown.planner takes
 
   pub script_takes : (z : Skeleton) (seen : Seen) (r k : ℕ) → z ≡ s → Takes q.public.pad k seen
       → script (with_region q r) z seen ≡ until_end seen.end (small_all q.public.pad (with_region q r) (region_of q) k r (left_by q.public.pad (with_region q r) seen k r (region_of q)))
-  script_takes z seen r k same takes =
-      script_is z seen r same ∙ ap (until_end seen.end) (behind_small q.public.pad (with_region q r) seen r k (region_of q) flown.planner takes)
+  script_takes z seen r k same takes = ap (until_end seen.end) (whole_takes z seen r k same takes)
 
   pub kept_some : 1 ≤ kept_blocks q
   kept_some = kept (q.public.pack) (q.public.buffer) flown.settings.pack_least flown.settings.blocks

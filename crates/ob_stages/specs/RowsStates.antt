@@ -1,5 +1,5 @@
 -- How far a SELECT of a table's rows in flight is.
-use Rattle.std.specs.Prelude.{◌≡◌, ◌<◌, ◌≤◌, ◌+◌, ◌-◌, ◌*◌, ◌^◌, min, nat_lt, ℕ, Bool, true, false, not, ◌&&◌, List, [], Option, Some, None, if◌then◌else◌}
+use Rattle.std.specs.Prelude.{◌≡◌, ◌<◌, ◌≤◌, ◌+◌, ◌-◌, ◌*◌, ◌^◌, min, nat_lt, ℕ, Bool, true, false, not, ◌&&◌, List, [], Option, Some, None, if◌then◌else◌, length}
 use Rattle.std.specs.Int.{div_ceil}
 use Rattle.ob_base.specs.declared.config.Plan.TheVariants.{Small}
 use Rattle.ob_base.specs.declared.config.Planner.TheVariants.{Forced}
@@ -14,15 +14,17 @@ use Rattle.ob_base.specs.declared.skeleton.Skeleton.TheVariants.{Rows}
 use Rattle.ob_base.specs.declared.skeleton.Source.TheVariants.{Table as OneTable}
 use Rattle.ob_base.specs.Limits.{buffered_blocks}
 use Rattle.ob_base.specs.Plans.{padded_rows}
-use Rattle.ob_base.specs.Stored.{Stored, stored_at, stored_regions}
+use Rattle.ob_base.specs.Stored.{Stored, headings_of, stored_at, stored_regions}
 use Rattle.ob_flat.specs.declared.flat.Flat.{Flat}
 use Rattle.ob_flat.specs.Flats.{IsSized}
 use Rattle.ob_flat.specs.Words.{blocks_of}
 use Rattle.ob_emit.specs.Emitting.{AreColumns}
 use Rattle.ob_inflight.specs.Progress.{Progress, act_of}
+use Rattle.ob_mean.specs.Step.{printed_places, select_columns, select_condition}
 use Rattle.ob_mean.specs.Verdict.{counted, ended as seen_to}
 use Rattle.ob_row.specs.Condition.{Condition}
 use Rattle.ob_script.specs.Flights.{flight_public}
+use Rattle.ob_script.specs.Script.{whole_script}
 use Rattle.ob_script.specs.Trace.{Served}
 use Rattle.ob_select.specs.Selecting.{Selection}
 use Rattle.ob_select.specs.Settings.{AreSettings}
@@ -196,6 +198,11 @@ pub record IsFlown (q : Selection) (s : Skeleton) : Type 0 where
   pub columns : AreColumns q.flat.schema q.cols
   pub reads : ReadsTable q s
 
+-- it selects what the statement says
+pub record IsOf (q : Selection) (select : SelectRows) : Type 0 where
+  pub condition : q.condition ≡ select_condition select (headings_of q.public.tables)
+  pub cols : q.cols ≡ printed_places select (select_columns select (headings_of q.public.tables))
+
 -- what its sizes hang on
 pub record IsSizedAt (g : RowsAt) : Type 0 where
   pub several : 1 ≤ g.flown
@@ -261,6 +268,7 @@ pub record HasAsked (g : RowsAt) : Type 0 where
   pub counted : g.failed ≡ false → table_blocks g.q ≤ g.asked
   pub second : g.seen.then ≡ None
   pub end : g.seen.end ≡ end_by g.failed g.asked
+  pub within : g.asked ≤ length (whole_script g.q.public (rows_skeleton g.select) g.seen)
 
 -- ---- from one stage to the next
 abbrev pub after_read : RowsAt → (pass u seen : ℕ) → Stage
@@ -310,6 +318,7 @@ ShownAt Over shown = Unit {0}
 pub record IsPlaced (g : RowsAt) : Type 0 where
   pub several : 1 ≤ g.flown
   pub flown : IsFlown g.q (rows_skeleton g.select)
+  pub own : IsOf g.q g.select
   pub at : PlacedAt g.stage g
   pub shown : ShownAt g.stage g.shown
   pub unfailed : is_over g.stage ≡ false → g.failed ≡ false

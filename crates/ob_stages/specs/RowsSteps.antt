@@ -13,6 +13,7 @@ use Rattle.ob_verdict.specs.declared.outcome.Outcome.{Outcome}
 use Rattle.ob_verdict.specs.declared.outcome.Outcome.TheVariants.{Rows, Refused}
 use Rattle.ob_flat.specs.declared.fault.OpErr.{OpErr}
 use Rattle.ob_flat.specs.Passes.{SinkCause}
+use Rattle.ob_flat.specs.Slots.{AreSlots}
 use Rattle.ob_inflight.specs.Answers.{IsHeld, Tells}
 use Rattle.ob_inflight.specs.Progress.{Steps, StopsStep}
 use Rattle.ob_vault.specs.Numbers.{spent}
@@ -84,6 +85,14 @@ Clears (Read pass u seen) kept after = (columns : Columns) → Wide (width colum
     → (i : ℕ) → i < length kept → Begins columns None (row_at after i)
 Clears _ kept after = after ≡ kept
 
+-- the kept rows of a block, from x on, a block at a time
+pub record HasPart (columns : Columns) (pack x : ℕ) (kept : List (List ℕ)) : Type 0 where
+  pub some : 1 ≤ pack
+  pub few : length kept ≤ 1048576
+  pub inside : x * pack + pack ≤ length kept
+  pub wide : Wide (width columns) kept
+  pub spells : AreSlots columns kept
+
 -- the store has room for so many accesses beside the others'
 pub record TakesRoom {E : Type 0} (g : RowsAt) (others : ℕ) (result : Result ℕ E) (old new : StoreState) : Type 0 where
   pub rests : ChangesNothing old new
@@ -133,8 +142,7 @@ pub record StopsHead {E : Type 0} (grew cut : E → E → List Event → Type 0)
   pub stops : OnOk result ⊥
   pub either : IfErr result (λ e. (e ≡ Sink) ⊎ (e ≡ NoMemory))
   pub same : new ≡ old
-  pub first : place ≡ 0
-  pub leads : Leads grew cut out_old out_new (head_of g.q)
+  pub leads : Leads grew cut out_old out_new (left_of (place == 0) g.q)
   pub cause : SinkCause result (faults out_old) (faults out_new)
 
 abbrev pub ShowsBy : {E : Type 0} → (passed : Bool) → (grew cut : E → E → List Event → Type 0) → (faults : E → ℕ)

@@ -3,7 +3,7 @@ ghost use Rattle.std.specs.Prelude.{◌≡◌, ◌≤◌, ℕ, List, []};
 ghost use Rattle.ob_flat.specs.Scans.{MayScan};
 ghost use Rattle.ob_vault.specs.State.{World};
 ghost use Rattle.ob_vault.specs.Tied.{Ready};
-ghost use Rattle.ob_stages.specs.RowsStates.{IsFlown, boarded_rows, rows_at, rows_skeleton, selection_by};
+ghost use Rattle.ob_stages.specs.RowsStates.{IsFlown, IsOf, boarded_rows, rows_at, rows_skeleton, selection_by};
 ghost use Rattle.ob_stages.specs.RowsHolds.{BoardsRows, RowsHold};
 
 use crate::rows_emits::answer;
@@ -73,10 +73,11 @@ impl<'a> RowsFlight<'a> {
         requires several { 1 ≤ flown }
         requires flown { IsFlown (selection_by flown public.now flat pred cols.items)
             (rows_skeleton select.now) }
-        ensures is { rows_at result.entry
+        requires own { IsOf (selection_by flown public.now flat pred cols.items) select.now }
+        ensures is { rows_at result
             ≡ boarded_rows (selection_by flown public.now flat pred cols.items) flown select.now }
         ensures holds { BoardsRows (selection_by flown public.now flat pred cols.items)
-            (RowsHold result.entry) }
+            (RowsHold result) }
     {
         let mut flight = RowsFlight {
             public,

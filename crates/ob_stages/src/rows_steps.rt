@@ -1,17 +1,19 @@
 //! The steps of a SELECT of rows in flight that emit nothing.
-ghost use Rattle.std.specs.Prelude.{◌≡◌, ◌≤◌, ◌<◌, ◌+◌, ◌-◌, ◌^◌, ℕ, List};
+ghost use Rattle.std.specs.Prelude.{◌≡◌, ◌≤◌, ◌<◌, ◌+◌, ◌-◌, ◌*◌, ◌^◌, ℕ, List, true, take, drop};
 ghost use Rattle.ob_base.specs.declared.seen.End.TheVariants.{Cut};
 ghost use Rattle.ob_store.specs.State.{StoreState};
 ghost use Rattle.ob_vault.specs.Places.{at};
 ghost use Rattle.ob_vault.specs.Rows.{SameSizes};
+ghost use Rattle.ob_vault.specs.Words.{MayAsk};
 ghost use Rattle.ob_inflight.specs.Answers.{IsHeld};
+ghost use Rattle.ob_small.specs.Steps.{MayWrite, WritesBlock};
 ghost use Rattle.ob_stages.specs.RowsStates.{IsSizedAt, known_by, rows_at, rows_selection, table_blocks, whole_length};
 ghost use Rattle.ob_stages.specs.RowsHolds.{FitRows, FitsBlock, FitsShare, Holds};
-ghost use Rattle.ob_stages.specs.RowsSteps.{Clears, ForgetsOwn, counted_to, IsHeldIn, QuietStep, StepsAt, TakesRoom};
+ghost use Rattle.ob_stages.specs.RowsSteps.{Clears, ForgetsOwn, HasPart, IsHeldIn, QuietStep, StepsAt, TakesRoom, counted_to};
 
 use crate::rows::{RowsFlight, Stage};
 use ob_base::{End, NoMemory, Plan};
-use ob_flat::{OpErr, clear_rows, discard, make_table};
+use ob_flat::{Flat, OpErr, clear_rows, discard, make_table};
 use ob_room::ClearRow;
 use ob_small::{collect_block, write_block};
 use ob_store::BlockStore;
@@ -41,6 +43,27 @@ fn clear_for(stage: Stage, kept: &mut [ClearRow])
         | Stage::Discard
         | Stage::Over => {}
     }
+}
+
+// Writes the rows of the x-th block that is kept to a place of a result.
+fn write_part<S: BlockStore, R: Revisions>(
+    store: &mut S,
+    vault: &mut Vault<R>,
+    kept: &[ClearRow],
+    pack: u32,
+    x: u32,
+    to: &Flat,
+    place: u32,
+) -> Result<(), OpErr>
+    requires asks { MayAsk 1 (at R.state vault.old (S.state store.old)) }
+    requires may { MayWrite pack to.now place (at R.state vault.old (S.state store.old)) }
+    requires part { HasPart to.now.schema pack x kept.now }
+    ensures spent { (S.state store.old).spare ≤ (S.state store.new).spare + 1 }
+    ensures writes { WritesBlock pack to.now place (take pack (drop (x * pack) kept.now)) result
+        (at R.state vault.old (S.state store.old)) (at R.state vault.new (S.state store.new)) }
+{
+    let row = (x * pack) as usize;
+    write_block(store, vault, &kept[row..row + pack as usize], to, place)
 }
 
 impl<'a> RowsFlight<'a> {
@@ -274,10 +297,8 @@ impl<'a> RowsFlight<'a> {
             unreachable!()
         };
         let to = self.result(region);
-        let pack = self.pack() as usize;
-        let row = place as usize * pack;
         let there = pass * self.buffered() + place;
-        match write_block(store, vault, &kept[row..row + pack], &to, there) {
+        match write_part(store, vault, kept, self.pack(), place, &to, there) {
             Ok(()) => {
                 let stage = self.after_write(pass, place);
                 clear_for(stage, kept);
