@@ -7,6 +7,7 @@ pub mod RowsEnds
 pub mod RowsShown
 pub mod RowsLoud
 pub mod RowsQuiet
+pub mod RowsAsks
 pub mod RowsEmits
 pub mod RowsFinish
 pub mod RowsKnown

@@ -1,6 +1,6 @@
 -- Each step of a SELECT of rows in flight that reads its result back.
 use Rattle.std.proofs.Common.{◌≡◌, ◌⊎◌, inl, inr, ◌<◌, ◌≤◌, ◌+◌, ◌-◌, ◌*◌, ◌∷◌, ◌++◌, ◌==◌, ℕ, zero, suc, Bool, true, false, IsTrue, List, [], refl, sym, ◌∙◌, ap, subst, arith}
-use Rattle.std.specs.Prelude.{Option, Some, None, Result, Ok, Err, if◌then◌else◌, length, nat_lt}
+use Rattle.std.specs.Prelude.{Option, Some, None, Result, Ok, Err, OnOk, if◌then◌else◌, length, nat_lt}
 use Rattle.std.proofs.lemmas.List.{append-nil}
 use Rattle.ob_base.specs.declared.access.Access.{Access}
 use Rattle.ob_base.specs.declared.access.Access.TheVariants as Accesses
@@ -25,8 +25,9 @@ use Rattle.ob_stages.specs.declared.rows.Stage.{Stage}
 use Rattle.ob_stages.specs.declared.rows.Stage.TheVariants.{Count, Emit, Discard}
 use Rattle.ob_stages.specs.RowsActs.{act_emit}
 use Rattle.ob_stages.specs.RowsStates.{RowsAt, HasRegion, IsPlaced, MaySee, MayServe, MayTake, PlacedAt, after_emit, emits_before, is_over, is_printing, passes_pad, progress_of, result_in, small}
-use Rattle.ob_stages.specs.RowsHolds.{Halts, HasBegun, Holds, NeedsAt, left_of}
+use Rattle.ob_stages.specs.RowsHolds.{FitRows, Halts, HasBegun, Holds, NeedsAt, left_of}
 use Rattle.ob_stages.specs.RowsSteps.{ForgetsOwn, IsHeldIn, LoudStep, QuietStep, ShowsBehind, ShowsBlock, ShowsBy, StepsAt, StopsHead, WalksInstead, gone_wrong}
+use Rattle.ob_stages.proofs.RowsAsks.{fits_still}
 use Rattle.ob_stages.proofs.RowsEnds.{holds_failed, refused_counted}
 use Rattle.ob_stages.proofs.RowsGoing.{HasFailed, steps_failed, steps_kept, stepped, stops_step}
 use Rattle.ob_stages.proofs.RowsLoud.{failed_leads, failed_shape, failed_way, head_part, shown_more, shown_part, walked_more, walked_part}
@@ -255,3 +256,22 @@ module _ {E : Type 0} (grew cut : E → E → List Event → Type 0) (faults : E
     pub loud_stopped : {T : Type 0} (kept : List (List ℕ)) → ShowsBlock grew cut faults g.q.public.pack g (result_in g.q g.k own) x (Err e) old new out_old out_new
         → LoudStep {T = T} grew cut faults g g others kept (Err e) old new out_old out_new
     loud_stopped kept block = stops_by kept (passes_pad g) refl block.shows
+
+-- ---- what a step does, by its stage
+module _ {T : Type 0} (g h : RowsAt) (others : ℕ) (kept after : List (List ℕ)) (old new : World) where
+  pub quiet_fits : (result : Result T OpErr) (rows own : List (List ℕ)) → QuietStep g h others kept after result old new → FitRows g.q rows own → OnOk result (FitRows h.q rows own)
+  quiet_fits (Ok v) rows own is fit = let course = is.steps.course in fits_still g h rows own course.public course.flat fit
+  quiet_fits (Err e) rows own is fit = tt
+
+  pub quiet_sink : (result : Result T OpErr) (n : ℕ) → is_printing g.stage ≡ false → QuietStep g h others kept after result old new → SinkCause result n n
+  quiet_sink (Ok v) n unprinted is = refl
+  quiet_sink (Err e) n unprinted is = let stops = is.stops in cause_none T e n n (λ sink. absurd (cc (stops.emits sink, unprinted))) refl
+
+module _ {E T : Type 0} (grew cut : E → E → List Event → Type 0) (faults : E → ℕ) (g h : RowsAt) (others : ℕ) (kept : List (List ℕ)) (old new : World) (out_old out_new : E) where
+  pub loud_fits : (result : Result T OpErr) (rows own : List (List ℕ)) → LoudStep grew cut faults g h others kept result old new out_old out_new → FitRows g.q rows own → OnOk result (FitRows h.q rows own)
+  loud_fits (Ok v) rows own is fit = let course = is.steps.course in fits_still g h rows own course.public course.flat fit
+  loud_fits (Err e) rows own is fit = tt
+
+  pub loud_tells : (result : Result T OpErr) → is_printing g.stage ≡ true → LoudStep grew cut faults g h others kept result old new out_old out_new
+      → Tells grew cut (is_printing g.stage) (Holds g kept) (Holds h kept) (Halts g) result old new out_old out_new
+  loud_tells result printed is = subst (λ (b : Bool). Tells grew cut b (Holds g kept) (Holds h kept) (Halts g) result old new out_old out_new) (sym printed) is.tells

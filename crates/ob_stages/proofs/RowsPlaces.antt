@@ -29,7 +29,7 @@ use Rattle.ob_stages.specs.RowsStates.{RowsAt, HasAsked, HasCounted, HasRegion, 
 use Rattle.ob_stages.specs.RowsHolds.{seen_ended}
 use Rattle.ob_stages.specs.RowsSteps.{gone_wrong}
 use Rattle.ob_stages.specs.SmallActs as Acts
-use Rattle.ob_stages.proofs.RowsGoing.{stepped}
+use Rattle.ob_stages.proofs.RowsGoing.{behind_at, is_behind, stepped}
 use Rattle.ob_base.specs.Schemas.{width}
 
 -- a test of numbers
@@ -159,6 +159,12 @@ module _ (g : RowsAt) (is : IsPlaced g) (u : ℕ) (same : g.stage ≡ Count u) w
 module _ (g : RowsAt) (is : IsPlaced g) (stage : Stage) (same : g.stage ≡ stage) where
   pub booked_at : g.booked ≡ known stage g.q.public.pad (table_blocks g.q) (whole_length g.q g.k) - g.asked
   booked_at = is.booked ∙ ap (λ (s : Stage). known s g.q.public.pad (table_blocks g.q) (whole_length g.q g.k) - g.asked) same
+
+-- there is room for one more
+pub booked_some : (g : RowsAt) (stage : Stage) → g.stage ≡ stage → is_behind stage ≡ true → known stage g.q.public.pad (table_blocks g.q) (whole_length g.q g.k) ≡ whole_length g.q g.k → (is : IsPlaced g) → PlacedAt stage g → 1 ≤ g.booked
+booked_some g stage same behind all is at =
+    let how = behind_at g is stage behind at in
+    omega (arith, booked_at g is stage same, all, how.counted.asked, how.within)
 
 -- the same count, once more was asked
 pub counted_on : (g : RowsAt) (done next : ℕ) (stage : Stage) (region : Option ℕ) (n b : ℕ) → HasCounted g done → done + 1 ≡ next → HasCounted (stepped g stage region g.k n b g.seen) next

@@ -49,7 +49,7 @@ use Rattle.ob_stages.specs.RowsLaws.{goes_whole, holds_frames, own_below}
 use Rattle.ob_stages.specs.RowsSteps.{Clears, ForgetsOwn, IsHeldIn, QuietStep, StepsAt, TakesRoom, counted_to, counted_whole, gone_to, gone_wrong}
 use Rattle.ob_stages.proofs.RowsEnds.{asked_cut, halts_quiet, holds_discarded, holds_failed, next_made, refused_counted}
 use Rattle.ob_stages.proofs.RowsGoing.{AlikeSeen, HasFailed, HasStopped, IsBehind, IsNext, asked_few, behind_at, behind_going, failed_at, forgot, is_behind, may_behind, may_counting, own_all, see_of, steps_failed, steps_kept, stepped, stops_step, whole_most}
-use Rattle.ob_stages.proofs.RowsPlaces.{booked_at, booked_counting, counting, counting_some}
+use Rattle.ob_stages.proofs.RowsPlaces.{booked_at, booked_counting, booked_some, counting, counting_some}
 use Rattle.ob_stages.proofs.RowsStands.{holds_counted, holds_made, holds_read, holds_written}
 use Rattle.ob_stages.proofs.RowsWay.{KnowsWay, shape_of, way_of}
 
@@ -112,7 +112,7 @@ module _ (g : RowsAt) (stage : Stage) (same : g.stage ≡ stage) (behind : is_be
   behind_open = ap is_over same ∙ behind_going stage behind
 
   behind_some : 1 ≤ g.booked
-  behind_some = omega (arith, booked_at g is stage same, all, how.counted.asked, how.within)
+  behind_some = booked_some g stage same behind all is at
 
   pub behind_next : (to : Stage) → ((u : ℕ) → to ≡ Count u → ⊥) → (n : ℕ) (new : World) → IsNext g to g.k n (g.booked - 1) g.seen others access old new
   behind_next to off n new = record {
