@@ -8,3 +8,17 @@ pub mod GroupsSteps
 pub mod GroupsEnds
 pub mod GroupsFinish
 pub mod Starts
+pub mod RowsMeans
+pub mod RowsWay
+pub mod RowsGoing
+pub mod RowsPlaces
+pub mod RowsStands
+pub mod RowsEnds
+pub mod RowsShown
+pub mod RowsLoud
+pub mod RowsQuiet
+pub mod RowsAsks
+pub mod RowsEmits
+pub mod RowsFinish
+pub mod RowsKnown
+pub mod RowsBoards

@@ -7,6 +7,9 @@ mod listing;
 mod reading;
 mod refused;
 mod rows;
+mod rows_emits;
+mod rows_sizes;
+mod rows_steps;
 mod totals;
 
 pub use flight::Flight;
