@@ -1,17 +1,15 @@
 -- SELECTs without a join that ask in turns: which may, and what is known of each of them.
-use Rattle.std.specs.Prelude.{◌≡◌, ◌≤◌, ◌*◌, ◌+◌, ◌/◌, ⊤, ℕ, Bool, true, false, IsTrue, min, List, [], ◌∷◌, length, take, Option, None, Some, Result, Ok, Err, IfErr, MatchResult}
+use Rattle.std.specs.Prelude.{◌≡◌, ◌⊎◌, ◌≤◌, ◌*◌, ◌+◌, ◌/◌, ℕ, true, false, IsTrue, min, List, [], ◌∷◌, length, take, Option, None, Some, Ok}
 use Rattle.std.specs.List.{All}
 use Rattle.ob_base.specs.declared.config.Public.{Public}
 use Rattle.ob_base.specs.declared.seen.End.{End}
 use Rattle.ob_base.specs.declared.seen.End.TheVariants.{Static, Whole, AfterCount, Joined, Cut}
 use Rattle.ob_base.specs.declared.seen.Seen.{Seen}
-use Rattle.ob_base.specs.declared.skeleton.Skeleton.{Skeleton}
-use Rattle.ob_base.specs.declared.skeleton.Skeleton.TheVariants.{Rows, Groups}
-use Rattle.ob_base.specs.declared.skeleton.Source.TheVariants.{Table as OneTable}
 use Rattle.ob_inflight.specs.Closing.{Closed}
 use Rattle.ob_mean.specs.Lawful.{Lawful}
 use Rattle.ob_mean.specs.Replay.{cut_at, done_of, is_access}
 use Rattle.ob_mean.specs.Verdict.{Draws, Tables, seen as seen_by, verdict}
+use Rattle.ob_script.specs.FlightLaws.{SelectsFromOne}
 use Rattle.ob_script.specs.Flights.{flight, own}
 use Rattle.ob_script.specs.Trace.{Served}
 use Rattle.ob_sql.specs.Skeleton.{skeleton}
@@ -21,15 +19,9 @@ use Rattle.ob_verdict.specs.declared.outcome.Outcome.{Outcome}
 use Rattle.ob_tables.specs.Running.{RefusedEarly, is_fault, outcome_end}
 
 -- ---- which statements
--- it reads the rows of one table, or totals of them
-abbrev pub reads_table : Skeleton → Bool
-reads_table (Rows (OneTable name) columns) = true
-reads_table (Groups table columns key) = true
-reads_table _ = false
-
--- one that isn't refused before any access reads a flat table
+-- a SELECT without a join; where it isn't refused before any access its table is flat
 pub record Flies (p : Public) (m : ℕ) (stmt : Stmt) : Type 0 where
-  pub reads : reads_table (skeleton stmt) ≡ true
+  pub selects : SelectsFromOne (skeleton stmt)
   pub flat : refusal_now p m stmt ≡ None → is_access p (skeleton stmt) ≡ false
 
 -- as many as may be in flight at once: each has its part of the rows that may be open

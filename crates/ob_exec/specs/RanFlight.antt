@@ -220,7 +220,7 @@ pub record RanFlight {R E T : Type 0} (state : R → RevState)
   -- whatever the store answers, the accesses are those that the words merge
   pub ran : RanInTurns state words (served_as stmts seens) result old s new t
   -- a word was taken for each access and each end
-  pub words : OnOk result ((i : ℕ)
+  pub rest : OnOk result ((i : ℕ)
       → left i ≡ words_from words (turns_of (public_of old) (served_as stmts seens)) i)
   -- the first of them have ended, all where nothing stopped them
   pub ended : List Closed
@@ -242,7 +242,7 @@ pub record RanFlight {R E T : Type 0} (state : R → RevState)
   -- each that the store cut off is one of its faults, and nothing else stops a flight than what stops a statement on a flat
   -- table
   pub cause : FlightCause result (world_of state old s) (world_of state new t)
-  pub faults : RisesBy (cut_off seens) s.faults t.faults
+  pub failures : RisesBy (cut_off seens) s.faults t.faults
   -- nothing comes to lie in clear
   pub seals : KeepsSealed state old s new t
   pub means : FlightMeans state words stmts seens

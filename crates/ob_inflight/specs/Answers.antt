@@ -1,5 +1,5 @@
 -- What statements in flight emit.
-use Rattle.std.specs.Prelude.{◌≡◌, ◌<◌, ◌^◌, ◌+◌, ◌++◌, ⊤, ℕ, Bool, true, false, List, [], ◌∷◌, Result, Ok, Err, IfOk, IfErr, OnErr}
+use Rattle.std.specs.Prelude.{◌≡◌, ◌<◌, ◌^◌, ◌++◌, ⊤, ℕ, Bool, true, false, List, [], Result, IfOk, IfErr}
 use Rattle.ob_base.specs.Events.{Event, Leads}
 use Rattle.ob_base.specs.declared.emit.EmitErr.{EmitErr}
 use Rattle.ob_base.specs.declared.emit.EmitErr.TheVariants as EmitErrs
@@ -19,6 +19,11 @@ pub record IsHeld (Holds : List Event → World → Type 0) (w : World) : Type 0
   pub events : List Event
   pub holds : Holds events w
 
+-- and in some world
+pub record IsHeldSomewhere (Holds : List Event → World → Type 0) : Type 0 where
+  pub world : World
+  pub held : IsHeld Holds world
+
 -- how an emitter ends within some events: with them where the emitter itself didn't give up
 abbrev pub EndsBy : {E : Type 0} → (grew cut : E → E → List Event → Type 0) → OpErr → (E → E → List Event → Type 0)
 EndsBy grew cut Failed = grew
@@ -34,11 +39,11 @@ pub record More {E : Type 0} (grew : E → E → List Event → Type 0) (printin
   pub quiet : printing ≡ false → (more ≡ []) × (out_new ≡ out_old)
   pub holds : Holds (events ++ more) w
 
--- or a first part of more
+-- or a first part of more; the emitter ends within it only where something is to be emitted
 pub record Part {E : Type 0} (grew to : E → E → List Event → Type 0) (printing : Bool)
     (Halts : (events part : List Event) → Type 0) (events : List Event) (out_old out_new : E) : Type 0 where
   pub part : List Event
-  pub leads : Leads grew to out_old out_new part
+  pub leads : printing ≡ true → Leads grew to out_old out_new part
   pub quiet : printing ≡ false → (part ≡ []) × (out_new ≡ out_old)
   pub halts : Halts events part
 

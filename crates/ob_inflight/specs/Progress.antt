@@ -1,15 +1,17 @@
 -- How far a statement in flight is, and what a step of it does.
-use Rattle.std.specs.Prelude.{◌≡◌, ◌⊎◌, ◌<◌, ◌≤◌, ◌+◌, ⊤, ℕ, Bool, true, false, IsTrue, List, [], ◌∷◌, Option, Some, None, Result, Ok, Err, IfOk, OnErr, is_some}
+use Rattle.std.specs.Prelude.{◌≡◌, ◌⊎◌, ◌<◌, ◌≤◌, ◌+◌, ◌^◌, ℕ, Bool, true, false, List, [], ◌∷◌, Option, Some, None, Result, IfOk, OnErr, is_some}
 use Rattle.ob_base.specs.declared.access.Access.{Access}
 use Rattle.ob_base.specs.declared.config.Public.{Public}
 use Rattle.ob_base.specs.declared.emit.EmitErr.{EmitErr}
 use Rattle.ob_base.specs.Schemas.{Columns}
 use Rattle.ob_flat.specs.declared.fault.OpErr.{OpErr}
-use Rattle.ob_flat.specs.declared.fault.OpErr.TheVariants.{Failed}
+use Rattle.ob_flat.specs.declared.fault.OpErr.TheVariants.{Failed, Sink}
+use Rattle.ob_flat.specs.declared.flat.Flat.{Flat}
 use Rattle.ob_flat.specs.Flats.{Accepts}
 use Rattle.ob_flat.specs.Passes.{PassCut}
 use Rattle.ob_script.specs.Trace.{Served}
-use Rattle.ob_script.specs.Flights.{Flying, made_by, next_act, prints, region_after}
+use Rattle.ob_script.specs.Flights.{Flying, next_act, prints, region_after}
+use Rattle.ob_sql.specs.declared.stmt.Stmt.{Stmt}
 use Rattle.ob_vault.specs.Calls.{Seals, Went}
 use Rattle.ob_vault.specs.State.{World}
 use Rattle.ob_verdict.specs.declared.outcome.Outcome.{Outcome}
@@ -17,7 +19,9 @@ use Rattle.ob_inflight.specs.Leaving.{own_or_next}
 
 -- how far a statement is
 pub record Progress : Type 0 where
-  -- what its flight goes by, but for the next region
+  -- the statement, the table that it reads, and what its flight goes by, but for the next region: these stay
+  pub stmt : Stmt
+  pub flat : Flat
   pub public : Public
   -- what is seen of it so far
   pub served : Served
@@ -35,6 +39,21 @@ pub record Progress : Type 0 where
   -- for how many of its accesses the store has room, and how many it asks from here at most
   pub booked : ℕ
   pub most : ℕ
+
+-- it serves the same statement by the same settings
+pub record KeepsCourse (before after : Progress) : Type 0 where
+  pub stmt : after.stmt ≡ before.stmt
+  pub flat : after.flat ≡ before.flat
+  pub public : after.public ≡ before.public
+
+-- and nothing more was seen of it
+pub record StaysAs (before after : Progress) : Type 0 where
+  pub course : KeepsCourse before after
+  pub served : after.served ≡ before.served
+  pub asked : after.asked ≡ before.asked
+  pub region : after.region ≡ before.region
+  pub failed : after.failed ≡ before.failed
+  pub outcome : after.outcome ≡ before.outcome
 
 -- the same settings with this next region
 abbrev pub numbered : ℕ → Public → Public
@@ -65,22 +84,31 @@ WentOrFailed false access own old new = Went (access ∷ []) (own_or_next own ol
 WentOrFailed true access own old new =
     PassCut Failed (access ∷ []) (own_or_next own old.vault.next) old new
 
+-- a region that it made stays its own, and one that it makes is the next one
+pub record KeepsRegion (access : Access) (next : ℕ) (before after : Option ℕ) : Type 0 where
+  pub now : after ≡ region_after (Some access) before
+  pub own : (q : ℕ) → after ≡ Some q → own_or_next before next q
+  pub stays : (q : ℕ) → before ≡ Some q → after ≡ Some q
+
+-- the store has room for what it has booked, beside the others, and less is left to ask
+pub record Books (others : ℕ) (before after : Progress) (new : World) : Type 0 where
+  pub spare : others + after.booked ≤ new.store.spare
+  pub few : after.booked ≤ 2 ^ 59
+  pub most : after.most < before.most
+
 -- a step asks the next access of all that may turn out to be served
 pub record Steps (others : ℕ) (before after : Progress) (May_old May_new : Served → Type 0)
     (Needs_old Needs_new : ℕ → Type 0) (old new : World) : Type 0 where
   pub access : Access
-  pub next : (x : Served) → May_new x → act_of before x old.vault.next ≡ Some access
+  pub next : (x : Served) → May_old x → act_of before x old.vault.next ≡ Some access
   pub may : (x : Served) → May_new x → May_old x
   pub went : WentOrFailed after.failed access before.region old new
-  pub made : new.vault.next ≡ old.vault.next + made_by (Some access)
-  pub public : after.public ≡ before.public
+  pub course : KeepsCourse before after
   pub asked : after.asked ≡ before.asked + 1
-  pub region : after.region ≡ region_after (Some access) before.region
+  pub region : KeepsRegion access old.vault.next before.region after.region
   pub unfailed : before.failed ≡ false
   pub outcome : after.outcome ≡ before.outcome
-  pub spare : others + after.booked ≤ new.store.spare
-  pub few : after.booked ≤ 2 ^ 59
-  pub most : after.most < before.most
+  pub books : Books others before after new
   pub needs : (q : ℕ) → Needs_new q → Needs_old q ⊎ (q ≡ old.vault.next)
   pub seals : SealsBlocks before.public.pack old new
 
@@ -89,13 +117,12 @@ pub record StopsStep (e : OpErr) (before after : Progress) (May_old : Served →
   pub access : Access
   pub next : (x : Served) → May_old x → act_of before x old.vault.next ≡ Some access
   pub cut : PassCut e (access ∷ []) (own_or_next before.region old.vault.next) old new
-  pub answers : e ≡ Failed → ⊥
-  pub served : after.served ≡ before.served
-  pub asked : after.asked ≡ before.asked
-  pub outcome : after.outcome ≡ before.outcome
+  pub never : e ≡ Failed → ⊥
+  pub emits : e ≡ Sink → before.prints ≡ true
+  pub stays : StaysAs before after
   pub seals : SealsBlocks before.public.pack old new
 
 -- one that has ended has its answer, and is else as it was
-pub record StaysPut (result : Result Outcome EmitErr) (before after : Progress) : Type 0 where
+pub record Ends (result : Result Outcome EmitErr) (before after : Progress) : Type 0 where
   pub ok : IfOk result (λ outcome. after ≡ record before { outcome = Some outcome })
   pub err : OnErr result (after ≡ before)

@@ -8,9 +8,9 @@ ghost use Rattle.ob_vault.specs.Places.{at};
 ghost use Rattle.ob_vault.specs.Rows.{SameSizes};
 ghost use Rattle.ob_vault.specs.State.{World};
 ghost use Rattle.ob_vault.specs.Tied.{Ready};
-ghost use Rattle.ob_inflight.specs.Progress.{ActsAs, Progress, StaysPut, Steps, StopsStep};
+ghost use Rattle.ob_inflight.specs.Progress.{ActsAs, Ends, Progress, Steps, StopsStep};
 ghost use Rattle.ob_inflight.specs.Leaving.{Leaves};
-ghost use Rattle.ob_inflight.specs.Answers.{HasFewRows, Finishes, IsHeld, Tells};
+ghost use Rattle.ob_inflight.specs.Answers.{Finishes, HasFewRows, IsHeld, IsHeldSomewhere, Tells};
 
 use ob_base::{Emit, EmitErr};
 use ob_flat::OpErr;
@@ -87,6 +87,7 @@ pub trait Flyer {
             (at R.state vault.old (S.state store.old)) }
         ensures rows { SameSizes rows.old rows.new }
         ensures kept { SameSizes kept.old kept.new }
+        ensures fits { OnOk result (Fits self.new rows.new kept.new) }
         ensures steps { OnOk result (Steps others (progress self.old) (progress self.new)
             (May self.old) (May self.new) (Needs self.old) (Needs self.new)
             (at R.state vault.old (S.state store.old)) (at R.state vault.new (S.state store.new))) }
@@ -100,13 +101,14 @@ pub trait Flyer {
         ensures sink { SinkCause result (E.faults out.old) (E.faults out.new) };
 
     /// Emits what is left of its answer once all was asked, and answers it.
-    fn finish<E: Emit>(&mut self, out: &mut E) -> Result<Outcome, EmitErr>
+    fn finish<E: Emit>(&mut self, kept: &[ClearRow], out: &mut E) -> Result<Outcome, EmitErr>
         requires over { (progress self.old).over ≡ true }
         requires going { (progress self.old).outcome ≡ None }
+        requires holds { IsHeldSomewhere (Holds self.old kept.now) }
         ensures few { IfOk result HasFewRows }
-        ensures stays { StaysPut result (progress self.old) (progress self.new) }
-        ensures finishes { (kept : List (List ℕ)) → Finishes E.grew E.cut (Holds self.old kept)
-            (Holds self.new kept) (Halts self.old) result out.old out.new }
+        ensures ends { Ends result (progress self.old) (progress self.new) }
+        ensures finishes { Finishes E.grew E.cut (Holds self.old kept.now)
+            (Holds self.new kept.now) (Halts self.old) result out.old out.new }
         ensures needs { (q : ℕ) → Needs self.new q → Needs self.old q }
         ensures may { (x : Served) → May self.new x → May self.old x }
         ensures sink { EmitCause result (E.faults out.old) (E.faults out.new) };

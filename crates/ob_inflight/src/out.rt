@@ -22,5 +22,5 @@ pub trait FlightOut: Emit {
         requires few { HasFewRows outcome.now }
         ensures ok { OnOk result (closed self.old self.new place outcome.now) }
         ensures err { OnErr result (parted self.old self.new place outcome.now) }
-        ensures cause { EmitCause result (faults self.old) (faults self.new) };
+        ensures cause { EmitCause result (Self.faults self.old) (Self.faults self.new) };
 }
