@@ -31,3 +31,6 @@ pub mod SavedRuns
 pub mod EmittedRuns
 pub mod FollowedRuns
 pub mod BatchRuns
+pub mod FlightStage
+pub mod FlightLists
+pub mod FlightRuns

@@ -1,5 +1,5 @@
 -- What several SELECTs do that ask in turns, whatever they are answered.
-use Rattle.std.specs.Prelude.{◌≡◌, ◌⊎◌, ◌+◌, ◌-◌, ◌^◌, ◌<◌, ◌≤◌, ◌++◌, min, ℕ, Bool, true, false, List, [], ◌∷◌, Option, None, Some, Result, Ok, Err, IfErr, OnOk, OnErr, MatchResult, count_by, drop, length, slice_get}
+use Rattle.std.specs.Prelude.{◌≡◌, ◌⊎◌, ◌+◌, ◌-◌, ◌^◌, ◌<◌, ◌≤◌, ◌++◌, min, ℕ, Bool, true, false, List, [], ◌∷◌, Option, None, Some, Result, Ok, Err, IfErr, OnOk, OnErr, MatchResult, drop, length, slice_get}
 use Rattle.ob_base.specs.Events.{Event}
 use Rattle.ob_base.specs.declared.access.Access.{Access}
 use Rattle.ob_base.specs.declared.config.Public.{Public}
@@ -9,6 +9,7 @@ use Rattle.ob_mean.specs.Batches.{is_cut}
 use Rattle.ob_mean.specs.Prints.{Begun}
 use Rattle.ob_mean.specs.Replay.{done_of}
 use Rattle.ob_mean.specs.Verdict.{Draws, Tables, verdict}
+use Rattle.ob_script.specs.FlightLaws.{one_if, total}
 use Rattle.ob_script.specs.Flights.{flight_accesses, flight_public, merge, next_flight, turns_of, words_from}
 use Rattle.ob_script.specs.Script.{whole_script}
 use Rattle.ob_script.specs.Trace.{Served}
@@ -66,7 +67,7 @@ FlightCause (Err KeeperFault) old new = ⊥
 
 -- how many of these the store cut off
 abbrev pub cut_off : List Seen → ℕ
-cut_off seens = count_by (λ (seen : Seen). is_cut seen.end) seens
+cut_off seens = total (λ (seen : Seen). one_if (is_cut seen.end)) seens
 
 -- ---- what is asked, and what lasts
 -- the session goes on: of what is public nothing but the next region has changed
