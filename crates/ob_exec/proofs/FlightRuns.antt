@@ -7,6 +7,7 @@ use Rattle.ob_base.specs.declared.access.Access.{Access}
 use Rattle.ob_base.specs.declared.config.Public.{Public}
 use Rattle.ob_base.specs.declared.refusal.Refusal.{Refusal}
 use Rattle.ob_base.specs.declared.seen.Seen.{Seen}
+use Rattle.ob_base.specs.declared.skeleton.Skeleton.{Skeleton}
 use Rattle.ob_flat.specs.declared.flat.Flat.{Flat}
 use Rattle.ob_inflight.specs.Aloft.{AllMay, IsAloft, flight_in, setting_off}
 use Rattle.ob_inflight.specs.Closing.{Closed, events_at, outcome_at}
@@ -16,7 +17,7 @@ use Rattle.ob_mean.specs.Refusals.{tables_of}
 use Rattle.ob_mean.specs.Replay.{is_access}
 use Rattle.ob_mean.specs.Verdict.{Draws, Tables, verdict}
 use Rattle.ob_oram.specs.declared.index.Index.{Index}
-use Rattle.ob_script.specs.FlightLaws.{AllEnded, AllMayFly, MayFly, acts_in}
+use Rattle.ob_script.specs.FlightLaws.{AllEnded, AllMayFly, MayFly, SelectsFromOne, acts_in}
 use Rattle.ob_script.specs.Flights.{AreSteady, Flight, accesses_in, boarding, flight, flight_public, merge, next_flight, own, turns, turns_of}
 use Rattle.ob_script.specs.Trace.{Served}
 use Rattle.ob_script.proofs.FlightEnds.{acts_are_all, acts_within, ended_is_flight, first_of_merge, own_long}
@@ -37,6 +38,7 @@ pub record ServesOne {F : Type 0} (k : Kind F) (m : ℕ) (p : Public) (stmt : St
   pub is : (k.progress f).stmt ≡ stmt
   pub public : (k.progress f).public ≡ p
   pub set : IsSet m (k.progress f)
+  pub selects : SelectsFromOne (skeleton stmt)
 
 -- those that fly as they begin, one for each statement
 pub record Boards {F : Type 0} (k : Kind F) (m : ℕ) (p : Public) (stmts : List Stmt) (start : Moment F) : Type 0 where
@@ -94,7 +96,7 @@ module _ {F : Type 0} (k : Kind F) (m : ℕ) (stage : IsStage k m) (steady_of : 
       let g = get_other now.flyers start.flyers i f (sym aloft.course.size) at in
       let one = boards.each i g.0 stmt g.1 there in
       let same = aloft.course.each i g.0 f g.1 at in
-      record { is = same.stmt ∙ one.is; public = same.public ∙ one.public; set = set_kept m (k.progress g.0) (k.progress f) same one.set }
+      record { is = same.stmt ∙ one.is; public = same.public ∙ one.public; set = set_kept m (k.progress g.0) (k.progress f) same one.set; selects = one.selects }
 
   statement_at : (i : ℕ) (f : F) → slice_get now.flyers i ≡ Some f → (stmt : Stmt) × (slice_get stmts i ≡ Some stmt)
   statement_at i f at = get_other now.flyers stmts i f (sym as_many) at
@@ -108,11 +110,21 @@ module _ {F : Type 0} (k : Kind F) (m : ℕ) (stage : IsStage k m) (steady_of : 
   pub may_now : AllMay k.May now.flyers (map (λ (f : F). (k.progress f).served) now.flyers)
   may_now = all_may k served now.flyers (λ i f at. stage.served f _ _ _ (they_hold i f at))
 
+  -- whatever may turn out to be served of each
+  pub may_fly : (i : ℕ) (f : F) (x : Served) → slice_get now.flyers i ≡ Some f → k.May f x → MayFly x
+  may_fly i f x at may =
+      let stmt = statement_at i f at in
+      let one = they_serve i f stmt.0 at stmt.1 in
+      record {
+        skeleton = subst (λ (y : Skeleton). SelectsFromOne y) (sym (stage.outline f x may ∙ ap skeleton one.is)) one.selects;
+        one_plan = stage.single f x may;
+      }
+
   fly_now : AllMayFly (map (λ (f : F). (k.progress f).served) now.flyers)
   fly_now = record {
     each = λ i x at.
         let one = get_mapped served now.flyers i x at in
-        subst (λ (y : Served). MayFly y) one.2 (stage.may_fly one.0 _ _ _ (they_hold i one.0 one.1));
+        subst (λ (y : Served). MayFly y) one.2 (may_fly i one.0 (served one.0) one.1 (stage.served one.0 _ _ _ (they_hold i one.0 one.1)));
   }
 
   pub steady_now : AreSteady p (map (λ (f : F). (k.progress f).served) now.flyers)
@@ -124,7 +136,7 @@ module _ {F : Type 0} (k : Kind F) (m : ℕ) (stage : IsStage k m) (steady_of : 
   -- these are the statements, and what is seen of them
   pub served_now : map (λ (f : F). (k.progress f).served) now.flyers ≡ served_as stmts (map (λ (f : F). (k.progress f).served.seen) now.flyers)
   served_now = served_same k now.flyers stmts as_many
-      (λ i f stmt at there. stage.outline f _ _ _ (they_hold i f at) ∙ ap skeleton (they_serve i f stmt at there).is)
+      (λ i f stmt at there. stage.outline f (served f) (stage.served f _ _ _ (they_hold i f at)) ∙ ap skeleton (they_serve i f stmt at there).is)
 
   -- it sets off as the flight of these begins, whatever is served in it
   pub sets_now : (xs : List Served) → length xs ≡ length stmts → setting_off q start.world.vault.next xs ≡ boarding p xs

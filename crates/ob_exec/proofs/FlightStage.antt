@@ -4,6 +4,7 @@ use Rattle.std.specs.Prelude.{IsSome, drop, option_map}
 use Rattle.ob_base.specs.Events.{Event}
 use Rattle.ob_base.specs.declared.access.Access.{Access}
 use Rattle.ob_base.specs.declared.config.Public.{Public}
+use Rattle.ob_base.specs.declared.seen.End.TheVariants.{Cut}
 use Rattle.ob_base.specs.declared.seen.Seen.{Seen}
 use Rattle.ob_flat.specs.declared.fault.OpErr.{OpErr}
 use Rattle.ob_flat.specs.declared.fault.OpErr.TheVariants as OpErrs
@@ -16,8 +17,8 @@ use Rattle.ob_mean.specs.Refusals.{tables_of}
 use Rattle.ob_mean.specs.Replay.{count_end, cut_at, is_access}
 use Rattle.ob_mean.specs.Verdict.{Draws, Tables, seen as seen_by, verdict}
 use Rattle.ob_oram.specs.declared.index.Index.{Index}
-use Rattle.ob_script.specs.FlightLaws.{MayFly}
 use Rattle.ob_script.specs.Script.{whole_script}
+use Rattle.ob_script.specs.Trace.{Served}
 use Rattle.ob_select.specs.Memory.{AtEmission, AtResult, is_make}
 use Rattle.ob_sql.specs.Skeleton.{skeleton}
 use Rattle.ob_tables.specs.Engines.{IsFound}
@@ -85,12 +86,13 @@ shown_of true d m tables pr =
 pub record IsStage {F : Type 0} (k : Kind F) (m : ℕ) : Type 0 where
   pub served : (f : F) (kept : List (List ℕ)) (events : List Event) (w : World) → k.Holds f kept events w
       → k.May f (k.progress f).served
-  pub may_fly : (f : F) (kept : List (List ℕ)) (events : List Event) (w : World) → k.Holds f kept events w
-      → MayFly (k.progress f).served
-  pub outline : (f : F) (kept : List (List ℕ)) (events : List Event) (w : World) → k.Holds f kept events w
-      → (k.progress f).served.skeleton ≡ skeleton (k.progress f).stmt
+  -- of what may turn out to be served
+  pub outline : (f : F) (x : Served) → k.May f x → x.skeleton ≡ skeleton (k.progress f).stmt
+  pub single : (f : F) (x : Served) → k.May f x → x.seen.then ≡ None
   pub failed : (f : F) (kept : List (List ℕ)) (events : List Event) (w : World) → k.Holds f kept events w
       → is_cut (k.progress f).served.seen.end ≡ (k.progress f).failed
+  pub cut : (f : F) (kept : List (List ℕ)) (events : List Event) (w : World) → k.Holds f kept events w
+      → (k.progress f).failed ≡ true → (k.progress f).served.seen.end ≡ Cut (k.progress f).asked
   pub gone : (f : F) (kept : List (List ℕ)) (events : List Event) (w : World) → k.Holds f kept events w
       → IsSome (k.progress f).outcome → (q : ℕ) → (k.progress f).region ≡ Some q → w.vault.revs.live q ≡ None
   pub stands : (f : F) (kept : List (List ℕ)) (events : List Event) (w : World) → k.Holds f kept events w

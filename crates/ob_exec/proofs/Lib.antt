@@ -34,3 +34,5 @@ pub mod BatchRuns
 pub mod FlightStage
 pub mod FlightLists
 pub mod FlightRuns
+pub mod FlightFrames
+pub mod FlightBegun
