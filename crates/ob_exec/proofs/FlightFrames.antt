@@ -62,7 +62,7 @@ module _ {R : Type 0} (state : R → RevState) (old : Engine R) (s s1 : StoreSta
       nolie = nolie;
     }
 
-  calm_start : Calm (world_of state old s) → Calm (world_of state old s1)
+  pub calm_start : Calm (world_of state old s) → Calm (world_of state old s1)
   calm_start = (went_rests _ s s1 rests (λ q. old.vault.next ≤ q) agrees.ready).calm
 
   -- ---- behind it

@@ -101,7 +101,7 @@ module _ {F : Type 0} (k : Kind F) (m : ℕ) (stage : IsStage k m) (steady_of : 
   statement_at : (i : ℕ) (f : F) → slice_get now.flyers i ≡ Some f → (stmt : Stmt) × (slice_get stmts i ≡ Some stmt)
   statement_at i f at = get_other now.flyers stmts i f (sym as_many) at
 
-  public_is : q ≡ flight_public (length stmts) p
+  pub public_is : q ≡ flight_public (length stmts) p
   public_is =
       let one = get_first now.flyers (let size = as_many in let some = boards.some in omega (arith, size, some)) in
       let stmt = statement_at 0 one.0 one.1 in

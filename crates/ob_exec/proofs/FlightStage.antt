@@ -1,6 +1,6 @@
 -- What a flight takes from its statements: how each stands, whatever the store answers, and what it means.
 use Rattle.std.proofs.Common.{◌≡◌, ◌⊎◌, ◌+◌, ◌-◌, ◌≤◌, ℕ, Bool, true, false, IsTrue, List, [], ◌∷◌, ◌++◌, length, Option, Some, None}
-use Rattle.std.specs.Prelude.{IsSome, drop, option_map}
+use Rattle.std.specs.Prelude.{drop, is_some, option_map}
 use Rattle.ob_base.specs.Events.{Event}
 use Rattle.ob_base.specs.declared.access.Access.{Access}
 use Rattle.ob_base.specs.declared.config.Public.{Public}
@@ -94,7 +94,7 @@ pub record IsStage {F : Type 0} (k : Kind F) (m : ℕ) : Type 0 where
   pub cut : (f : F) (kept : List (List ℕ)) (events : List Event) (w : World) → k.Holds f kept events w
       → (k.progress f).failed ≡ true → (k.progress f).served.seen.end ≡ Cut (k.progress f).asked
   pub gone : (f : F) (kept : List (List ℕ)) (events : List Event) (w : World) → k.Holds f kept events w
-      → IsSome (k.progress f).outcome → (q : ℕ) → (k.progress f).region ≡ Some q → w.vault.revs.live q ≡ None
+      → is_some (k.progress f).outcome ≡ true → (q : ℕ) → (k.progress f).region ≡ Some q → w.vault.revs.live q ≡ None
   pub stands : (f : F) (kept : List (List ℕ)) (events : List Event) (w : World) → k.Holds f kept events w
       → IsSet m (k.progress f)
       → IsFlown (k.progress f).public m (k.progress f).asked (k.progress f).stmt

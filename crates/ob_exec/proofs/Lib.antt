@@ -36,3 +36,6 @@ pub mod FlightLists
 pub mod FlightRuns
 pub mod FlightFrames
 pub mod FlightBegun
+pub mod FlightEnd
+pub mod FlightMore
+pub mod FlightStops

@@ -4,6 +4,8 @@ use Rattle.ob_base.specs.Events.{Event}
 use Rattle.ob_base.specs.declared.access.Access.{Access}
 use Rattle.ob_base.specs.declared.config.Public.{Public}
 use Rattle.ob_base.specs.declared.seen.Seen.{Seen}
+use Rattle.ob_flat.specs.declared.fault.OpErr.{OpErr}
+use Rattle.ob_flat.specs.declared.fault.OpErr.TheVariants as OpErrs
 use Rattle.ob_inflight.specs.Closing.{Closed, ClosesAll, RisesBy}
 use Rattle.ob_mean.specs.Batches.{is_cut}
 use Rattle.ob_mean.specs.Prints.{Begun}
@@ -54,6 +56,13 @@ abbrev pub in_flight : List Stmt → Public → Public
 in_flight stmts p = flight_public (length stmts) p
 
 -- ---- causes
+-- the stop that an error makes; the store's failure is an answer, and makes none
+abbrev pub halt_of : OpErr → RunStop
+halt_of OpErrs.Failed = StoreFault
+halt_of (OpErrs.Tampered region place) = Tampered region place
+halt_of OpErrs.Sink = SinkFault
+halt_of OpErrs.NoMemory = NoMemory
+
 -- why a flight stops: a session that ends as tampered ends with the read of that place, and a changed block was read only
 -- there, or its tag fits; neither the store's failures nor indexes or a keeper stop it
 abbrev pub FlightCause : {T : Type 0} → Result T RunStop → (old new : World) → Type 0
