@@ -38,6 +38,12 @@ pub get_first : {A : Type 0} (xs : List A) → 1 ≤ length xs → (x : A) × (s
 get_first [] some = absurd (omega (arith, some))
 get_first (x ∷ xs) some = (x, refl)
 
+-- what is within has something there
+pub get_within : {A : Type 0} (xs : List A) (i : ℕ) → i < length xs → (x : A) × (slice_get xs i ≡ Some x)
+get_within [] i within = absurd (omega (arith, within))
+get_within (x ∷ xs) zero within = (x, refl)
+get_within (x ∷ xs) (suc i) within = get_within xs i (omega (arith, within))
+
 from_map : {A B : Type 0} (v : A → B) (o : Option A) (y : B) → option_map v o ≡ Some y → (x : A) × (o ≡ Some x) × (v x ≡ y)
 from_map v None y is = absurd (cc is)
 from_map v (Some x) y is = (x, refl, same_Some (v x) y is)

@@ -58,7 +58,7 @@ table_kept a b same t = record {
       (subst (λ (x : Flat). IsFound t.name t.place x a.public.tables) (sym same.flat) t.found);
 }
 
-set_kept : (m : ℕ) (a b : Progress) → KeepsCourse a b → IsSet m a → IsSet m b
+pub set_kept : (m : ℕ) (a b : Progress) → KeepsCourse a b → IsSet m a → IsSet m b
 set_kept m a b same set = record {
   refusal = same.refusal ∙ set.refusal ∙ sym (λ j. refusal_now (same.public j) m (same.stmt j));
   table = λ none. table_kept a b same (set.table (sym same.refusal ∙ none));
@@ -178,7 +178,7 @@ module _ {F : Type 0} (k : Kind F) (m : ℕ) (stage : IsStage k m) (steady_of : 
   abbrev events : ℕ → List Event
   events i = events_at ended current i
 
-  closed_now : (i : ℕ) (f : F) → slice_get now.flyers i ≡ Some f → closed_of (k.progress f).outcome (events_at ended current i) ≡ slice_get ended i
+  pub closed_now : (i : ℕ) (f : F) → slice_get now.flyers i ≡ Some f → closed_of (k.progress f).outcome (events_at ended current i) ≡ slice_get ended i
   closed_now i f at = ap (λ (o : Option Outcome). closed_of o (events i)) (aloft.stand.outcome i f at) ∙ closed_at ended current i
 
   -- may be seen and answered so

@@ -36,7 +36,7 @@ use Rattle.ob_exec.specs.RanFlight.{asked_by, asked_since, halt_of}
 use Rattle.ob_exec.proofs.FlightEnd.{since_long}
 use Rattle.ob_exec.proofs.FlightLists.{log_first, map_put}
 use Rattle.ob_exec.proofs.FlightRuns.{Boards, as_many, first_now, may_now, merged_now, own_now, served_now, sets_now, steady_now}
-use Rattle.ob_exec.proofs.FlightStage.{IsStage}
+use Rattle.ob_exec.proofs.FlightStage.{IsStage, more_asked}
 
 -- of one entry more
 own_one : (i j : ℕ) (log : List (ℕ × Access)) (a : Access) → (i ≡ j → ⊥) → length (own i (log ++ (j, a) ∷ [])) ≡ length (own i log)
@@ -64,7 +64,7 @@ refused_access (OpErrs.Tampered q x) is = refl
 refused_access OpErrs.Sink is = absurd (cc is)
 refused_access OpErrs.NoMemory is = absurd (cc is)
 
-no_access : (e : OpErr) → (e ≡ OpErrs.Failed → ⊥) → is_refused (halt_of e) ≡ false → is_of_access e ≡ false
+pub no_access : (e : OpErr) → (e ≡ OpErrs.Failed → ⊥) → is_refused (halt_of e) ≡ false → is_of_access e ≡ false
 no_access OpErrs.Failed never is = absurd (never refl)
 no_access (OpErrs.Tampered q x) never is = absurd (cc is)
 no_access OpErrs.Sink never is = refl
@@ -308,4 +308,16 @@ module _ {R E F : Type 0} (state : R → RevState) (grew cut : E → E → List 
   asked_of i f at = elim asked_more [
     | inl none ↦ inl (record { asked = asked_none none i f at; carried = carried_all i none.unrefused ∙ asked_none none i f at })
     | inr one ↦ asked_of_one one i f at
+  ]
+
+  -- of the one that gave up, what was asked since is its own
+  pub asked_place : (f : F) → slice_get st.last.flyers st.place ≡ Some f
+      → asked_by old.public words stmts (map (λ (f : F). (k.progress f).served.seen) st.last.flyers) (asked_since s now.world.store) st.place
+      ≡ (k.progress f).asked + more_asked st.last.world now.world
+  asked_place f at = elim asked_more [
+    | inl none ↦ let n = asked_none none st.place f at in let m = ap length none.asked in omega (arith, n, m)
+    | inr one ↦
+        let n = asked_own one st.place ∙ own_same st.place st.place log one.step.stops.access refl ∙ ap (λ (x : ℕ). x + 1) (own_last st.place f at) in
+        let m = ap length one.asked ∙ length-append st.last.world.store.asked (one.step.stops.access ∷ []) in
+        omega (arith, n, m)
   ]

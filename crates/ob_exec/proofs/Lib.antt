@@ -39,3 +39,5 @@ pub mod FlightBegun
 pub mod FlightEnd
 pub mod FlightMore
 pub mod FlightStops
+pub mod FlightStopped
+pub mod FlightHalted
