@@ -8,7 +8,6 @@ use Rattle.ob_base.specs.declared.config.Public.{Public}
 use Rattle.ob_base.specs.declared.refusal.Refusal.{Refusal}
 use Rattle.ob_base.specs.declared.seen.Seen.{Seen}
 use Rattle.ob_base.specs.declared.skeleton.Skeleton.{Skeleton}
-use Rattle.ob_flat.specs.declared.flat.Flat.{Flat}
 use Rattle.ob_inflight.specs.Aloft.{AllMay, IsAloft, flight_in, setting_off}
 use Rattle.ob_inflight.specs.Closing.{Closed, events_at, outcome_at}
 use Rattle.ob_inflight.specs.Kinds.{Kind, Moment, share_at}
@@ -23,7 +22,8 @@ use Rattle.ob_script.specs.Trace.{Served}
 use Rattle.ob_script.proofs.FlightEnds.{acts_are_all, acts_within, ended_is_flight, first_of_merge, own_long}
 use Rattle.ob_sql.specs.Skeleton.{skeleton}
 use Rattle.ob_sql.specs.declared.stmt.Stmt.{Stmt}
-use Rattle.ob_tables.specs.Engines.{IsFound}
+use Rattle.ob_tables.specs.Engines.{IsAt}
+use Rattle.ob_tables.proofs.TableLemmas.{AreNamed}
 use Rattle.ob_tables.specs.Telling.{Emitted, answer_labels}
 use Rattle.ob_vault.specs.State.{World}
 use Rattle.ob_verdict.specs.Outcomes.{Emits, Partly, refusal_now}
@@ -52,10 +52,13 @@ table_kept : (a b : Progress) → KeepsCourse a b → HasTable a → HasTable b
 table_kept a b same t = record {
   name = t.name;
   place = t.place;
+  table = t.table;
   reads = ap tables_of same.stmt ∙ t.reads;
-  flat = (λ j. is_access (same.public j) (skeleton (same.stmt j))) ∙ t.flat;
-  found = subst (λ (x : Public). IsFound t.name t.place b.flat x.tables) (sym same.public)
-      (subst (λ (x : Flat). IsFound t.name t.place x a.public.tables) (sym same.flat) t.found);
+  plain = (λ j. is_access (same.public j) (skeleton (same.stmt j))) ∙ t.plain;
+  here = subst (λ (x : Public). IsAt t.name t.place t.table x.tables) (sym same.public) (record { get = t.here.get; named = t.here.named });
+  shape = t.shape;
+  is = same.flat ∙ t.is;
+  names = subst (λ (x : Public). AreNamed x.tables) (sym same.public) t.names;
 }
 
 pub set_kept : (m : ℕ) (a b : Progress) → KeepsCourse a b → IsSet m a → IsSet m b

@@ -4,6 +4,8 @@ use Rattle.std.specs.Prelude.{drop, is_some, option_map}
 use Rattle.ob_base.specs.Events.{Event}
 use Rattle.ob_base.specs.declared.access.Access.{Access}
 use Rattle.ob_base.specs.declared.config.Public.{Public}
+use Rattle.ob_base.specs.declared.schema.Shape.TheVariants.{Flat as FlatShape}
+use Rattle.ob_base.specs.declared.schema.Table.{Table}
 use Rattle.ob_base.specs.declared.seen.End.TheVariants.{Cut}
 use Rattle.ob_base.specs.declared.seen.Seen.{Seen}
 use Rattle.ob_flat.specs.declared.fault.OpErr.{OpErr}
@@ -21,7 +23,8 @@ use Rattle.ob_script.specs.Script.{whole_script}
 use Rattle.ob_script.specs.Trace.{Served}
 use Rattle.ob_select.specs.Memory.{AtEmission, AtResult, is_make}
 use Rattle.ob_sql.specs.Skeleton.{skeleton}
-use Rattle.ob_tables.specs.Engines.{IsFound}
+use Rattle.ob_tables.specs.Engines.{IsAt, flat_of}
+use Rattle.ob_tables.proofs.TableLemmas.{AreNamed}
 use Rattle.ob_tables.specs.Telling.{AreHeld, Emitted, answer_labels}
 use Rattle.ob_vault.specs.State.{World}
 use Rattle.ob_vault.specs.Tied.{IsUnfit}
@@ -37,13 +40,17 @@ pub record HoldNow (p : Public) (indexes : List Index) (tables : Tables) (w : Wo
   pub in_place : AreInPlace p.stash tables
   pub nolie : w.store.lie ≡ None
 
--- the table of a statement that isn't refused before any access
+-- the flat table of a statement that isn't refused before any access, found by its name
 pub record HasTable (pr : Progress) : Type 0 where
   pub name : List ℕ
   pub place : ℕ
+  pub table : Table
   pub reads : tables_of pr.stmt ≡ name ∷ []
-  pub flat : is_access pr.public (skeleton pr.stmt) ≡ false
-  pub found : IsFound name place pr.flat pr.public.tables
+  pub plain : is_access pr.public (skeleton pr.stmt) ≡ false
+  pub here : IsAt name place table pr.public.tables
+  pub shape : table.heading.shape ≡ FlatShape
+  pub is : pr.flat ≡ flat_of table
+  pub names : AreNamed pr.public.tables
 
 -- by what it goes: its refusal before any access is that of its meaning, and else it has its table
 pub record IsSet (m : ℕ) (pr : Progress) : Type 0 where

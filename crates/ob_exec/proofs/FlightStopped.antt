@@ -226,7 +226,7 @@ module _ {R E F : Type 0} (state : R → RevState) (grew cut : E → E → List 
   flat_of_set : (f : F) (stmt : Stmt) → ServesOne k m p stmt f → refusal_now p m stmt ≡ None → is_access p (skeleton stmt) ≡ false
   flat_of_set f stmt one none =
       let table = one.set.table (one.set.refusal ∙ (λ j. refusal_now (one.public j) m (one.is j)) ∙ none) in
-      sym (λ j. is_access (one.public j) (skeleton (one.is j))) ∙ table.flat
+      sym (λ j. is_access (one.public j) (skeleton (one.is j))) ∙ table.plain
 
   next_asked : (i : ℕ) (f : F) (stmt : Stmt) (access : Access) (next : ℕ) → slice_get st.last.flyers i ≡ Some f → slice_get stmts i ≡ Some stmt
       → (k.progress f).outcome ≡ None → act_of (k.progress f) (k.progress f).served next ≡ Some access → NextAsked i f stmt

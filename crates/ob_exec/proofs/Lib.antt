@@ -41,3 +41,5 @@ pub mod FlightMore
 pub mod FlightStops
 pub mod FlightStopped
 pub mod FlightHalted
+pub mod StageRefused
+pub mod StageReading
