@@ -20,7 +20,9 @@ use Rattle.ob_script.specs.FlightLaws.{AllEnded, AllMayFly, MayFly, SelectsFromO
 use Rattle.ob_script.specs.Flights.{AreSteady, Flight, accesses_in, boarding, flight, flight_public, merge, next_flight, own, turns, turns_of}
 use Rattle.ob_script.specs.Trace.{Served}
 use Rattle.ob_script.proofs.FlightEnds.{acts_are_all, acts_within, ended_is_flight, first_of_merge, own_long}
+use Rattle.ob_emit.specs.Emitting.{labels_of}
 use Rattle.ob_sql.specs.Skeleton.{skeleton}
+use Rattle.ob_sql.specs.declared.stmt.Stmt.TheVariants.{SelectRows as RowsStmt}
 use Rattle.ob_sql.specs.declared.stmt.Stmt.{Stmt}
 use Rattle.ob_tables.specs.Engines.{IsAt}
 use Rattle.ob_tables.proofs.TableLemmas.{AreNamed}
@@ -30,6 +32,7 @@ use Rattle.ob_verdict.specs.Outcomes.{Emits, Partly, refusal_now}
 use Rattle.ob_verdict.specs.declared.outcome.Outcome.{Outcome}
 use Rattle.ob_exec.specs.InFlight.{IsFlown, IsMeant, served_as}
 use Rattle.ob_exec.specs.RanFlight.{in_flight}
+use Rattle.ob_exec.specs.Sources.{selection}
 use Rattle.ob_exec.proofs.FlightLists.{acts_same, all_may, closed_at, flying_back, flying_get, get_first, get_mapped, get_other, log_first, served_same, sets_off}
 use Rattle.ob_exec.proofs.FlightStage.{HasTable, HoldNow, IsSet, IsStage, closed_of}
 
@@ -59,6 +62,8 @@ table_kept a b same t = record {
   shape = t.shape;
   is = same.flat ∙ t.is;
   names = subst (λ (x : Public). AreNamed x.tables) (sym same.public) t.names;
+  labelled = λ select is.
+      subst (λ (x : Public). labels_of (selection x select).flat.schema (selection x select).cols ≡ answer_labels (RowsStmt select) x) (sym same.public) (t.labelled select (sym same.stmt ∙ is));
 }
 
 pub set_kept : (m : ℕ) (a b : Progress) → KeepsCourse a b → IsSet m a → IsSet m b

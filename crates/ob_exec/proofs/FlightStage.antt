@@ -22,7 +22,10 @@ use Rattle.ob_oram.specs.declared.index.Index.{Index}
 use Rattle.ob_script.specs.Script.{whole_script}
 use Rattle.ob_script.specs.Trace.{Served}
 use Rattle.ob_select.specs.Memory.{AtEmission, AtResult, is_make}
+use Rattle.ob_emit.specs.Emitting.{labels_of}
 use Rattle.ob_sql.specs.Skeleton.{skeleton}
+use Rattle.ob_sql.specs.declared.stmt.SelectRows.{SelectRows}
+use Rattle.ob_sql.specs.declared.stmt.Stmt.TheVariants.{SelectRows as RowsStmt}
 use Rattle.ob_tables.specs.Engines.{IsAt, flat_of}
 use Rattle.ob_tables.proofs.TableLemmas.{AreNamed}
 use Rattle.ob_tables.specs.Telling.{AreHeld, Emitted, answer_labels}
@@ -32,6 +35,7 @@ use Rattle.ob_verdict.specs.Laws.{AreInPlace}
 use Rattle.ob_verdict.specs.Outcomes.{Emits, Partly, refusal_now}
 use Rattle.ob_verdict.specs.declared.outcome.Outcome.{Outcome}
 use Rattle.ob_exec.specs.InFlight.{IsFlown, IsMeant}
+use Rattle.ob_exec.specs.Sources.{selection}
 
 -- a world holds these tables, the store tells, and each block that was read is the one written last
 pub record HoldNow (p : Public) (indexes : List Index) (tables : Tables) (w : World) : Type 0 where
@@ -51,6 +55,9 @@ pub record HasTable (pr : Progress) : Type 0 where
   pub shape : table.heading.shape ≡ FlatShape
   pub is : pr.flat ≡ flat_of table
   pub names : AreNamed pr.public.tables
+  -- the header of its rows is that of its answer
+  pub labelled : (select : SelectRows) → pr.stmt ≡ RowsStmt select
+      → labels_of (selection pr.public select).flat.schema (selection pr.public select).cols ≡ answer_labels (RowsStmt select) pr.public
 
 -- by what it goes: its refusal before any access is that of its meaning, and else it has its table
 pub record IsSet (m : ℕ) (pr : Progress) : Type 0 where

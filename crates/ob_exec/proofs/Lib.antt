@@ -43,3 +43,5 @@ pub mod FlightStopped
 pub mod FlightHalted
 pub mod StageRefused
 pub mod StageReading
+pub mod RowsOfTable
+pub mod StageRows

@@ -80,14 +80,14 @@ totalled_well : (o : Outcome) → IsTotalled o → is_fault o ≡ false
 totalled_well o (inl (k, is)) = ap is_fault is
 totalled_well o (inr is) = ap is_fault is
 
-head_is : (a b : List ℕ) → a ∷ [] ≡ b ∷ [] → a ≡ b
+pub head_is : (a b : List ℕ) → a ∷ [] ≡ b ∷ [] → a ≡ b
 head_is a b is = cc is
 
-of_fault : (b : Bool) (x y : Type 0) → b ≡ true → x → by_fault b x y
+pub of_fault : (b : Bool) (x y : Type 0) → b ≡ true → x → by_fault b x y
 of_fault true x y is one = one
 of_fault false x y is one = absurd (cc is)
 
-not_fault : (b : Bool) (x y : Type 0) → b ≡ false → y → by_fault b x y
+pub not_fault : (b : Bool) (x y : Type 0) → b ≡ false → y → by_fault b x y
 not_fault true x y is one = absurd (cc is)
 not_fault false x y is one = one
 
