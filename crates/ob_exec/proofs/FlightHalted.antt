@@ -14,7 +14,7 @@ use Rattle.ob_flat.specs.declared.fault.OpErr.{OpErr}
 use Rattle.ob_flat.specs.declared.fault.OpErr.TheVariants as OpErrs
 use Rattle.ob_flat.specs.Passes.{SinkCause}
 use Rattle.ob_inflight.specs.Answers.{EndsBy, error_of}
-use Rattle.ob_inflight.specs.Closing.{RisesBy, events_at}
+use Rattle.ob_inflight.specs.Closing.{RisesBy, events_at, outcome_at}
 use Rattle.ob_inflight.specs.Flown as Flown
 use Rattle.ob_inflight.specs.Flown.{StopsInClosing, StopsInFinish, StopsInStep}
 use Rattle.ob_inflight.specs.Kinds.{Kind, Moment, share_at, taker_of}
@@ -50,7 +50,7 @@ use Rattle.ob_exec.specs.RanFlight.{AtEmitter, BeforeMake, BeginsMeant, FlightCa
 use Rattle.ob_exec.proofs.FlightBegun.{begins_meant}
 use Rattle.ob_exec.proofs.FlightEnd.{rises_from}
 use Rattle.ob_exec.proofs.FlightFrames.{calm_start, draws_behind, engine_behind, hold_now, kept_behind, lasts_all, opens_behind, sealed_behind}
-use Rattle.ob_exec.proofs.FlightLists.{cuts_same, events_next, get_other, get_within, map_get, none_past, past_ended}
+use Rattle.ob_exec.proofs.FlightLists.{cuts_same, events_next, get_other, get_within, map_get, none_past, outcome_next, past_ended}
 use Rattle.ob_exec.proofs.FlightRuns.{Boards, ServesOne, emits_now, emitted_now, partly_now, public_is, set_kept}
 use Rattle.ob_exec.proofs.FlightStage.{AsksMake, HoldNow, IsSet, IsStage, LacksHere, more_asked, whole_of}
 use Rattle.ob_exec.proofs.FlightStopped.{calm_none, cause_behind, cause_quiet, drop_asked, each_at, emitter_never, ends_closing, ends_finishing, ends_make, ends_printing, ends_quiet, hold, hold_by, hold_last, lie_last, long, meant_at, memory_is, never_more, not_tampered, prints_or, serve, sink_by, statement}
@@ -211,7 +211,7 @@ module _ {R E F : Type 0} (state : R → RevState) (grew cut : E → E → List 
             (record { events = st.current ++ step.part; ends = subst (λ (x : OpErr). EndsBy grew cut x st.emitted.between out_new (st.current ++ step.part)) wants ends })
             (stage.memory f _ _ step.part st.last.world (at state v t) (hold_at st.place f step.at)
             (subst (λ (x : OpErr). k.Halts f (events_at st.ended st.current st.place) step.part x st.last.world (at state v t)) wants step.halts)
-            (serve_at st.place f there.0 step.at there.1).set));
+            (serve_at st.place f there.0 step.at there.1).set step.going));
       }
 
   -- one that doesn't
@@ -242,7 +242,7 @@ module _ {R E F : Type 0} (state : R → RevState) (grew cut : E → E → List 
             wanted_quiet f there.0 other.0 (shown g.0) (length st.ended) st.emitted.between step.at there.1 quiet
             (stage.memory f _ _ step.part st.last.world (at state v t) (hold_at st.place f step.at)
             (subst (λ (x : OpErr). k.Halts f (events_at st.ended st.current st.place) step.part x st.last.world (at state v t)) wants step.halts)
-            (serve_at st.place f there.0 step.at there.1).set);
+            (serve_at st.place f there.0 step.at there.1).set step.going);
       }
 
   -- what is left of an answer
@@ -270,7 +270,8 @@ module _ {R E F : Type 0} (state : R → RevState) (grew cut : E → E → List 
             (wanted f there.0 st.emitted.between fin.at there.1 (record { events = st.current ++ fin.part; ends = fin.ends })
             (stage.memory f _ _ fin.part st.last.world (at state v t) (hold_at st.place f fin.at)
             (subst (λ (x : OpErr). k.Halts f (events_at st.ended st.current st.place) fin.part x st.last.world (at state v t)) wants halts)
-            (serve_at st.place f there.0 fin.at there.1).set));
+            (serve_at st.place f there.0 fin.at there.1).set
+            (st.aloft.stand.outcome st.place f fin.at ∙ ap (outcome_at st.ended) fin.first ∙ outcome_next st.ended)));
       }
 
   -- how it was answered

@@ -166,6 +166,10 @@ pub events_next : (ended : List Closed) (current : List Event) → events_at end
 events_next [] current = refl
 events_next (one ∷ ended) current = events_next ended current
 
+pub outcome_next : (ended : List Closed) → outcome_at ended (length ended) ≡ None
+outcome_next [] = refl
+outcome_next (one ∷ ended) = outcome_next ended
+
 -- one that has not ended stands behind those that have
 pub past_ended : (ended : List Closed) (i : ℕ) → outcome_at ended i ≡ None → length ended ≤ i
 past_ended [] i none = omega arith

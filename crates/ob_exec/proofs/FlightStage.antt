@@ -155,4 +155,4 @@ pub record IsStage {F : Type 0} (k : Kind F) (m : ℕ) : Type 0 where
       ⊎ (v.store.asked ≡ w.store.asked)
   pub memory : (f : F) (kept : List (List ℕ)) (events part : List Event) (w v : World)
       → k.Holds f kept events w → k.Halts f events part OpErrs.NoMemory w v → IsSet m (k.progress f)
-      → LacksHere (k.progress f) w v
+      → (k.progress f).outcome ≡ None → LacksHere (k.progress f) w v

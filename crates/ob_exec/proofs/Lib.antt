@@ -45,3 +45,5 @@ pub mod StageRefused
 pub mod StageReading
 pub mod RowsOfTable
 pub mod StageRows
+pub mod StageRowsTold
+pub mod StageRowsHalts

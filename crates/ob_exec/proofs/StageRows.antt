@@ -73,15 +73,15 @@ use Rattle.ob_exec.proofs.StageReading.{head_is, not_fault, of_fault}
 
 -- ---- plain facts
 -- a source of one table
-one_table : (source : Source) (name : List ℕ) → source_tables source ≡ name ∷ [] → source ≡ OneTable name
+pub one_table : (source : Source) (name : List ℕ) → source_tables source ≡ name ∷ [] → source ≡ OneTable name
 one_table (OneTable n) name is = ap (λ (x : List ℕ). OneTable x) (head_is n name is)
 one_table (Join a b on equals) name is = absurd (cc is)
 
-answered_selected : (o : Option Refusal) (k : ℕ) → answered_by o k ≡ selected_outcome (selected_as o k)
+pub answered_selected : (o : Option Refusal) (k : ℕ) → answered_by o k ≡ selected_outcome (selected_as o k)
 answered_selected None k = refl
 answered_selected (Some r) k = refl
 
-closing_same : (answer : Selected) → closing_of (selected_outcome answer) ≡ closing answer
+pub closing_same : (answer : Selected) → closing_of (selected_outcome answer) ≡ closing answer
 closing_same (Selecteds.Rows k) = refl
 closing_same (Selecteds.Refused r) = refl
 
@@ -103,14 +103,14 @@ module _ (g : RowsAt) (m : ℕ) (kept : List (List ℕ)) (events : List Event) (
   now : refusal_now p m stmt ≡ None
   now = sym set.refusal
 
-  table : HasTable (progress_of g)
+  abbrev pub table : HasTable (progress_of g)
   table = set.table refl
 
   of_table : select.source ≡ OneTable table.name
   of_table = one_table select.source table.name table.reads
 
   -- its selection is the statement's
-  as_stated : g.q ≡ stated p select table.table.region 0
+  pub as_stated : g.q ≡ stated p select table.table.region 0
   as_stated =
       (λ j. record { public = g.q.public; flat = g.q.flat; condition = g.q.condition; cols = g.q.cols; ending = ending j })
       ∙ stated_is p select g.q.flat g.q.condition g.q.cols 0
@@ -122,7 +122,7 @@ module _ (g : RowsAt) (m : ℕ) (kept : List (List ℕ)) (events : List Event) (
   labels_are : labels_of g.q.flat.schema g.q.cols ≡ answer_labels stmt p
   labels_are = ap (λ (x : Selection). labels_of x.flat.schema x.cols) as_stated ∙ table.labelled select refl
 
-  blocks_are : count_end p (rows_skeleton select) ≡ table_blocks g.q
+  pub blocks_are : count_end p (rows_skeleton select) ≡ table_blocks g.q
   blocks_are =
       count_of_table p table.place table.table table.name select table.names table.here.get table.here.named of_table table.plain
       ∙ sym (ap (λ (x : Selection). counted_after x) as_stated)
@@ -202,7 +202,7 @@ module _ (g : RowsAt) (m : ℕ) (kept : List (List ℕ)) (events : List Event) (
   rows_ends = ends_by g.stage is.placed.at is.placed.unfailed
 
   -- where all was asked
-  over_at : (stage : Stage) → is_over stage ≡ true → HoldsAt stage g kept events w → EndedAt g.failed g.outcome g events w
+  pub over_at : (stage : Stage) → is_over stage ≡ true → HoldsAt stage g kept events w → EndedAt g.failed g.outcome g events w
   over_at (Stages.Count u) over holds = absurd (cc over)
   over_at Stages.Make over holds = absurd (cc over)
   over_at (Stages.Read pass u seen) over holds = absurd (cc over)
@@ -211,33 +211,33 @@ module _ (g : RowsAt) (m : ℕ) (kept : List (List ℕ)) (events : List Event) (
   over_at Stages.Discard over holds = absurd (cc over)
   over_at Stages.Over over holds = holds.1
 
-  over_or : (b : Bool) → is_over g.stage ≡ b → (is_over g.stage ≡ true) ⊎ (is_over g.stage ≡ false)
+  pub over_or : (b : Bool) → is_over g.stage ≡ b → (is_over g.stage ≡ true) ⊎ (is_over g.stage ≡ false)
   over_or true at = inl at
   over_or false at = inr at
 
-  over_failed : g.failed ≡ true → is_over g.stage ≡ true
+  pub over_failed : g.failed ≡ true → is_over g.stage ≡ true
   over_failed failed = elim (over_or (is_over g.stage) refl) [
     | inl over ↦ over
     | inr going ↦ absurd (let whole = is.placed.unfailed going in cc (failed, whole))
   ]
 
-  over_ended : (o : Outcome) → g.outcome ≡ Some o → is_over g.stage ≡ true
+  pub over_ended : (o : Outcome) → g.outcome ≡ Some o → is_over g.stage ≡ true
   over_ended o outcome = elim (over_or (is_over g.stage) refl) [
     | inl over ↦ over
     | inr going ↦ absurd (let none = is.placed.unended going in cc (outcome, none))
   ]
 
-  ended_as : (o : Option Outcome) → is_over g.stage ≡ true → g.outcome ≡ o → EndedAt g.failed o g events w
+  pub ended_as : (o : Option Outcome) → is_over g.stage ≡ true → g.outcome ≡ o → EndedAt g.failed o g events w
   ended_as o over outcome = subst (λ (x : Option Outcome). EndedAt g.failed x g events w) outcome (over_at g.stage over is.at)
 
-  answers : (o : Outcome) → g.outcome ≡ Some o → AnswersRows g.q o g.seen g.asked events w
+  pub answers : (o : Outcome) → g.outcome ≡ Some o → AnswersRows g.q o g.seen g.asked events w
   answers o outcome = answers_by g.failed (ended_as (Some o) (over_ended o outcome) outcome)
     where
       answers_by : (failed : Bool) → EndedAt failed (Some o) g events w → AnswersRows g.q o g.seen g.asked events w
       answers_by true ended = ended
       answers_by false ended = ended
 
-  cut_off : g.failed ≡ true → g.outcome ≡ None → IsCutOff g.q g.seen g.asked events w
+  pub cut_off : g.failed ≡ true → g.outcome ≡ None → IsCutOff g.q g.seen g.asked events w
   cut_off failed outcome = subst (λ (b : Bool). EndedAt b None g events w) failed (ended_as None (over_failed failed) outcome)
 
   -- ---- one that the store failed
@@ -255,7 +255,7 @@ module _ (g : RowsAt) (m : ℕ) (kept : List (List ℕ)) (events : List Event) (
         (subst (λ (x : Seen). g.asked ≤ length (whole_script p (rows_skeleton select) x)) held.is within)))
   ]
 
-  cut_end : IsCutOff g.q g.seen g.asked events w → g.seen.end ≡ Cut g.asked
+  pub cut_end : IsCutOff g.q g.seen g.asked events w → g.seen.end ≡ Cut g.asked
   cut_end cut = elim cut.seen [
     | inl plain ↦ ap (λ (x : Seen). x.end) plain
     | inr held ↦ ap (λ (x : Seen). x.end) held.is
