@@ -46,4 +46,5 @@ pub mod StageReading
 pub mod RowsOfTable
 pub mod StageRows
 pub mod StageRowsTold
+pub mod StageKinds
 pub mod StageRowsHalts

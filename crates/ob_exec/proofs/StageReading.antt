@@ -58,7 +58,7 @@ use Rattle.ob_exec.proofs.TotalsLemmas.{partly_none}
 use Rattle.ob_exec.proofs.TotalsServed.{unfinished_none, verdict_is}
 
 -- ---- how it ends
-cut_now : (failed : Bool) (n : ℕ) → is_cut (end_now failed n) ≡ failed
+pub cut_now : (failed : Bool) (n : ℕ) → is_cut (end_now failed n) ≡ failed
 cut_now true n = refl
 cut_now false n = refl
 

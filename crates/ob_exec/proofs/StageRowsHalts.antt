@@ -29,9 +29,6 @@ use Rattle.ob_exec.proofs.StageRows.{blocks_are}
 module _ (g : RowsAt) (m : ℕ) (kept : List (List ℕ)) (events : List Event) (w : World) (is : Holds g kept events w) (set : IsSet m (progress_of g)) (ending : g.q.ending ≡ 0)
     (condition : g.q.condition ≡ select_condition g.select (headings_of g.q.public.tables)) (cols : g.q.cols ≡ printed_places g.select (select_columns g.select (headings_of g.q.public.tables)))
     (within : g.asked ≤ length (whole_script g.q.public (rows_skeleton g.select) g.seen))
-    (at_make : g.stage ≡ Stages.Make → IsTrue (starts_with_make (drop g.asked (whole_script g.q.public (rows_skeleton g.select) g.seen))))
-    (left : is_printing g.stage ≡ true → g.failed ≡ false → (n : ℕ) → g.asked ≤ n → IsTrue (list_all is_reading (drop n (whole_script g.q.public (rows_skeleton g.select) g.seen))))
-    (open_now : g.outcome ≡ None)
     (part : List Event) (e : OpErr) (v : World) (halts : Halts g events part e w v) where
   emitter_of : (e : OpErr) → is_of_access e ≡ false → (e ≡ OpErrs.Sink) ⊎ (e ≡ OpErrs.NoMemory)
   emitter_of OpErrs.Failed access = absurd (cc access)
@@ -45,6 +42,13 @@ module _ (g : RowsAt) (m : ℕ) (kept : List (List ℕ)) (events : List Event) (
       let same = blocks_are g m kept events w is set ending condition cols within in
       omega (arith, counted, same)
 
+module _ (g : RowsAt) (m : ℕ) (kept : List (List ℕ)) (events : List Event) (w : World) (is : Holds g kept events w) (set : IsSet m (progress_of g)) (ending : g.q.ending ≡ 0)
+    (condition : g.q.condition ≡ select_condition g.select (headings_of g.q.public.tables)) (cols : g.q.cols ≡ printed_places g.select (select_columns g.select (headings_of g.q.public.tables)))
+    (within : g.asked ≤ length (whole_script g.q.public (rows_skeleton g.select) g.seen))
+    (at_make : g.stage ≡ Stages.Make → IsTrue (starts_with_make (drop g.asked (whole_script g.q.public (rows_skeleton g.select) g.seen))))
+    (left : is_printing g.stage ≡ true → g.failed ≡ false → (n : ℕ) → g.asked ≤ n → IsTrue (list_all is_reading (drop n (whole_script g.q.public (rows_skeleton g.select) g.seen))))
+    (open_now : g.outcome ≡ None)
+    (part : List Event) (e : OpErr) (v : World) (halts : Halts g events part e w v) where
   -- it has counted where it makes, or prints
   some_taking : (k : ℕ) → g.seen ≡ seen_taking None k → IsSome g.seen.k
   some_taking k same = subst (λ (x : Seen). IsSome x.k) (sym same) refl
