@@ -1,5 +1,5 @@
 -- The statements of a flight, of whichever kind, stand as a flight asks.
-use Rattle.std.proofs.Common.{◌≡◌, ◌⊎◌, ◌≤◌, ◌+◌, ℕ, Bool, true, false, IsTrue, List, [], length, Option, Some, None, refl, sym, ◌∙◌, ap, subst, inl, inr, absurd, cc, elim, tt, ⊥, ◌∷◌, ◌++◌, suc, zero}
+use Rattle.std.proofs.Common.{◌≡◌, ◌⊎◌, ◌≤◌, ◌+◌, ℕ, Bool, true, false, IsTrue, List, [], length, Option, Some, None, refl, sym, ◌∙◌, ap, subst, inl, inr, ◌∷◌, ◌++◌}
 use Rattle.std.specs.Prelude.{drop, is_some, IfSome}
 use Rattle.std.specs.List.{list_all}
 use Rattle.ob_base.specs.Events.{Event}
@@ -32,7 +32,7 @@ use Rattle.ob_stages.specs.declared.rows.Stage.{Stage}
 use Rattle.ob_stages.specs.declared.rows.Stage.TheVariants as Stages
 use Rattle.ob_vault.specs.State.{World}
 use Rattle.ob_vault.specs.Words.{IsHonest}
-use Rattle.ob_inflight.specs.Closing.{closed_of}
+use Rattle.ob_exec.proofs.FlightStage.{closed_of}
 use Rattle.ob_verdict.specs.Outcomes.{Emits, Partly}
 use Rattle.ob_verdict.specs.declared.outcome.Outcome.{Outcome}
 use Rattle.ob_verdict.specs.declared.outcome.Outcome.TheVariants as AnOutcome
