@@ -1,5 +1,5 @@
 -- The first changed block that a flight reads is one that its statements read by their meaning.
-use Rattle.std.proofs.Common.{◌≡◌, ◌≤◌, ◌+◌, ◌++◌, ℕ, Bool, true, false, List, [], ◌∷◌, map, length, Option, Some, None, refl, sym, ◌∙◌, ap, subst, inl, inr, arith, append_assoc}
+use Rattle.std.proofs.Common.{◌≡◌, ◌+◌, ◌++◌, ℕ, Bool, true, false, List, ◌∷◌, map, length, Some, refl, sym, ◌∙◌, ap, subst, inl, inr, append_assoc}
 use Rattle.std.specs.Prelude.{drop, slice_get, take}
 use Rattle.std.proofs.lemmas.List.{length-map, take-append-drop}
 use Rattle.ob_base.specs.declared.access.Access.{Access}
@@ -8,14 +8,13 @@ use Rattle.ob_base.specs.declared.config.Public.{Public}
 use Rattle.ob_base.specs.declared.seen.End.{End}
 use Rattle.ob_base.specs.declared.seen.End.TheVariants.{Static, Whole, AfterCount, Joined, Cut}
 use Rattle.ob_base.specs.declared.seen.Seen.{Seen}
-use Rattle.ob_inflight.specs.Aloft.{AllMay, BeginsIn, setting_off}
+use Rattle.ob_inflight.specs.Aloft.{AllMay, BeginsIn}
 use Rattle.ob_inflight.specs.Kinds.{Kind, Moment}
-use Rattle.ob_inflight.specs.Progress.{Progress}
 use Rattle.ob_mean.specs.Replay.{cut_at}
 use Rattle.ob_mean.specs.Verdict.{Draws, Tables, seen as seen_by}
 use Rattle.ob_oram.specs.declared.index.Index.{Index}
 use Rattle.ob_script.specs.FlightLaws.{AllMayFly, MayFly}
-use Rattle.ob_script.specs.Flights.{AreSteady, Flight, accesses_in, boarding, merge, turns}
+use Rattle.ob_script.specs.Flights.{AreSteady, Flight, accesses_in, merge, turns}
 use Rattle.ob_script.specs.Trace.{Served}
 use Rattle.ob_script.proofs.FlightEnds.{first_of_merge}
 use Rattle.ob_sql.specs.Skeleton.{skeleton}
@@ -24,7 +23,7 @@ use Rattle.ob_store.specs.State.{Lie}
 use Rattle.ob_vault.specs.Tied.{ReadsIn}
 use Rattle.ob_exec.specs.InFlight.{MeantUntil, served_as}
 use Rattle.ob_exec.specs.RanFlight.{BeginsMeant, in_flight}
-use Rattle.ob_exec.proofs.FlightLists.{all_may, get_mapped, get_other, map_get, seen_same}
+use Rattle.ob_exec.proofs.FlightLists.{all_may, get_mapped, get_other, seen_same}
 use Rattle.ob_exec.proofs.FlightStage.{HoldNow, IsStage, shown_of}
 use Rattle.ob_exec.proofs.FlightRuns.{Boards, as_many, may_fly, sets_now, they_hold, they_serve}
 

@@ -1,38 +1,35 @@
 -- A flight that nothing stopped.
-use Rattle.std.proofs.Common.{◌≡◌, ◌≤◌, ◌<◌, ◌+◌, ◌-◌, ◌++◌, ℕ, Bool, true, false, IsTrue, List, [], ◌∷◌, map, length, Option, Some, None, Result, Ok, refl, sym, ◌∙◌, ap, subst, inl, inr, arith, length-append}
-use Rattle.std.specs.Prelude.{drop, is_some, slice_get, take, IsSome}
+use Rattle.std.proofs.Common.{◌≡◌, ◌≤◌, ◌+◌, ◌++◌, ℕ, Bool, true, false, List, [], map, length, Option, Some, None, Ok, refl, sym, ◌∙◌, ap, subst, arith, length-append}
+use Rattle.std.specs.Prelude.{drop, is_some, slice_get}
 use Rattle.std.proofs.lemmas.List.{length-map}
 use Rattle.ob_base.specs.Events.{Event}
 use Rattle.ob_base.specs.declared.access.Access.{Access}
 use Rattle.ob_base.specs.declared.config.Public.{Public}
 use Rattle.ob_base.specs.declared.seen.Seen.{Seen}
-use Rattle.ob_inflight.specs.Aloft.{IsAloft}
-use Rattle.ob_inflight.specs.Closing.{Closed, RisesBy, outcome_at}
+use Rattle.ob_inflight.specs.Closing.{RisesBy}
 use Rattle.ob_inflight.specs.Flown.{HasFlown}
 use Rattle.ob_inflight.specs.Kinds.{Kind, Moment, taker_of}
 use Rattle.ob_mean.specs.Verdict.{Draws, Tables}
 use Rattle.ob_room.specs.RoomState.{RoomState}
 use Rattle.ob_script.specs.FlightLaws.{AllMayFly}
-use Rattle.ob_script.specs.Flights.{AreSteady, accesses_in, flight, merge, next_flight, own, turns_of, words_from}
+use Rattle.ob_script.specs.Flights.{AreSteady, accesses_in, merge, next_flight, own, turns_of}
 use Rattle.ob_script.specs.Trace.{Served}
 use Rattle.ob_select.specs.Settings.{IsFree}
 use Rattle.ob_sql.specs.declared.stmt.Stmt.{Stmt}
 use Rattle.ob_store.specs.Calls.{ChangesNothing}
-use Rattle.ob_store.specs.State.{Lie, StoreState}
+use Rattle.ob_store.specs.State.{StoreState}
 use Rattle.ob_tables.specs.Agreeing.{Agrees, count_of, world_of}
-use Rattle.ob_tables.specs.Telling.{ReadsTrue, ReadsTrueUntil}
+use Rattle.ob_tables.specs.Telling.{ReadsTrueUntil}
 use Rattle.ob_tables.specs.declared.engine.Engine.{Engine}
-use Rattle.ob_tables.specs.declared.stop.RunStop.{RunStop}
 use Rattle.ob_tables.proofs.EmitLemmas.{unfit_none}
 use Rattle.ob_vault.specs.Calls.{Lasts}
 use Rattle.ob_vault.specs.Places.{at}
-use Rattle.ob_vault.specs.State.{RevState, World}
-use Rattle.ob_vault.specs.Tied.{Calm}
+use Rattle.ob_vault.specs.State.{RevState}
 use Rattle.ob_vault.specs.declared.region.Region.{Region}
 use Rattle.ob_vault.specs.declared.vault.Vault.{Vault}
 use Rattle.ob_verdict.specs.declared.outcome.Outcome.{Outcome}
 use Rattle.ob_exec.specs.InFlight.{IsFlown, IsMeant, own_asked, served_as}
-use Rattle.ob_exec.specs.RanFlight.{BeginsMeant, FlightMeans, RanFlight, RanInTurns, asked_by, asked_since, cut_off, in_flight}
+use Rattle.ob_exec.specs.RanFlight.{FlightMeans, RanFlight, RanInTurns, asked_by, asked_since, cut_off, in_flight}
 use Rattle.ob_exec.proofs.FlightBegun.{begins_meant}
 use Rattle.ob_exec.proofs.FlightFrames.{agrees_behind, calm_start, draws_behind, engine_behind, held_behind, hold_now, kept_behind, lasts_all, opens_behind, sealed_behind}
 use Rattle.ob_exec.proofs.FlightLists.{cuts_same, get_mapped}

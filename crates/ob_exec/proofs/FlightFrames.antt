@@ -1,18 +1,14 @@
 -- The engine behind a flight: its tables are as they were.
 use Rattle.std.proofs.Common.{◌≡◌, ◌≤◌, ◌<◌, ◌+◌, ◌-◌, ◌++◌, ℕ, Bool, true, false, List, length, Some, None, refl, sym, ◌∙◌, ap, subst, arith}
-use Rattle.std.specs.Prelude.{drop}
 use Rattle.ob_base.specs.declared.access.Access.{Access}
-use Rattle.ob_base.specs.declared.config.Public.{Public}
 use Rattle.ob_mean.specs.Verdict.{Draws, Tables}
-use Rattle.ob_oram.specs.declared.index.Index.{Index}
 use Rattle.ob_room.specs.RoomState.{RoomState}
 use Rattle.ob_seal.specs.Draws.{draw_of}
 use Rattle.ob_seal.specs.KeySet.{KeySet}
 use Rattle.ob_select.specs.Opening.{Opens}
-use Rattle.ob_select.specs.Selecting.{AcceptsRows, from}
+use Rattle.ob_select.specs.Selecting.{AcceptsRows}
 use Rattle.ob_select.specs.Settings.{IsFree}
 use Rattle.ob_store.specs.Calls.{ChangesNothing}
-use Rattle.ob_store.specs.Runs.{Later}
 use Rattle.ob_store.specs.State.{StoreState}
 use Rattle.ob_store.proofs.Steps.{later_rests}
 use Rattle.ob_tables.specs.Agreeing.{Agrees, AreDraws, world_of}

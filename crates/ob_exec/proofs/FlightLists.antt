@@ -1,18 +1,17 @@
 -- The statements of a flight, those that fly for them, and what is seen of each.
-use Rattle.std.proofs.Common.{◌≡◌, ◌≤◌, ◌<◌, ◌+◌, ◌-◌, ℕ, zero, suc, Bool, true, false, List, [], ◌∷◌, ◌++◌, map, length, Option, Some, None, refl, sym, ◌∙◌, ap, subst, inl, inr, arith}
+use Rattle.std.proofs.Common.{◌≡◌, ◌≤◌, ◌<◌, ◌+◌, ◌-◌, ℕ, zero, suc, Bool, true, false, List, [], ◌∷◌, ◌++◌, map, length, Option, Some, None, refl, sym, ◌∙◌, ap, inl, inr, arith}
 use Rattle.std.specs.Prelude.{is_some, option_map, slice_get, slice_set, take}
 use Rattle.std.proofs.lemmas.Bool.{cases_lt}
 use Rattle.std.proofs.lemmas.List.{take_all, take_at}
 use Rattle.std.proofs.lemmas.Option.{same_Some, slice_get-map}
 use Rattle.ob_base.specs.Events.{Event}
-use Rattle.ob_base.specs.declared.access.Access.{Access}
 use Rattle.ob_base.specs.declared.config.Public.{Public}
 use Rattle.ob_base.specs.declared.seen.Seen.{Seen}
 use Rattle.ob_inflight.specs.Aloft.{AllMay, acts_of, failed_of, flying_in, setting_off}
 use Rattle.ob_inflight.specs.Closing.{Closed, events_at, outcome_at}
 use Rattle.ob_inflight.specs.Kinds.{Kind}
 use Rattle.ob_inflight.specs.Picking as P
-use Rattle.ob_inflight.specs.Progress.{Progress, flying_of}
+use Rattle.ob_inflight.specs.Progress.{flying_of}
 use Rattle.ob_mean.specs.Batches.{is_cut}
 use Rattle.ob_script.specs.FlightLaws as L
 use Rattle.ob_script.specs.Flights.{AreSteady, Flight, Flying, boarded, boarding, flight, flight_public, turns, turns_of}

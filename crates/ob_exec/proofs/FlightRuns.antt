@@ -1,11 +1,10 @@
 -- What the turns of statements in flight come to: each stands as it should, and what was asked is what the words merge.
-use Rattle.std.proofs.Common.{◌≡◌, ◌⊎◌, ◌≤◌, ◌<◌, ◌+◌, ◌-◌, ℕ, zero, suc, Bool, true, false, List, [], ◌∷◌, ◌++◌, map, length, Option, Some, None, refl, sym, ◌∙◌, ap, subst, inl, inr, arith}
+use Rattle.std.proofs.Common.{◌≡◌, ◌≤◌, ◌<◌, ℕ, zero, suc, true, List, [], ◌∷◌, map, length, Option, Some, refl, sym, ◌∙◌, ap, subst, arith}
 use Rattle.std.specs.Prelude.{is_some, slice_get, take}
 use Rattle.std.proofs.lemmas.List.{length-map}
 use Rattle.ob_base.specs.Events.{Event}
 use Rattle.ob_base.specs.declared.access.Access.{Access}
 use Rattle.ob_base.specs.declared.config.Public.{Public}
-use Rattle.ob_base.specs.declared.refusal.Refusal.{Refusal}
 use Rattle.ob_base.specs.declared.seen.Seen.{Seen}
 use Rattle.ob_base.specs.declared.skeleton.Skeleton.{Skeleton}
 use Rattle.ob_inflight.specs.Aloft.{AllMay, IsAloft, flight_in, setting_off}
@@ -27,7 +26,6 @@ use Rattle.ob_sql.specs.declared.stmt.Stmt.{Stmt}
 use Rattle.ob_tables.specs.Engines.{IsAt}
 use Rattle.ob_tables.proofs.TableLemmas.{AreNamed}
 use Rattle.ob_tables.specs.Telling.{Emitted, answer_labels}
-use Rattle.ob_vault.specs.State.{World}
 use Rattle.ob_verdict.specs.Outcomes.{Emits, Partly, refusal_now}
 use Rattle.ob_verdict.specs.declared.outcome.Outcome.{Outcome}
 use Rattle.ob_exec.specs.InFlight.{IsFlown, IsMeant, served_as}

@@ -1,8 +1,7 @@
 -- A flight that was stopped.
-use Rattle.std.proofs.Common.{◌≡◌, ◌⊎◌, ◌≤◌, ◌<◌, ◌+◌, ◌-◌, ◌++◌, ℕ, zero, suc, Bool, true, false, IsTrue, List, [], ◌∷◌, map, length, Option, Some, None, Result, Err, refl, sym, ◌∙◌, ap, subst, inl, inr, arith, append_assoc, length-append}
+use Rattle.std.proofs.Common.{◌≡◌, ◌⊎◌, ◌≤◌, ◌<◌, ◌++◌, ℕ, Bool, true, false, IsTrue, List, [], ◌∷◌, map, length, Option, Some, None, Err, refl, sym, ◌∙◌, ap, subst, inl, inr, arith, length-append}
 use Rattle.std.specs.Prelude.{IfErr, drop, slice_get, take}
-use Rattle.std.proofs.lemmas.List.{append-nil, length-map}
-use Rattle.std.proofs.lemmas.Option.{slice_get_within}
+use Rattle.std.proofs.lemmas.List.{length-map}
 use Rattle.ob_base.specs.Events.{Event}
 use Rattle.ob_base.specs.declared.access.Access.{Access}
 use Rattle.ob_base.specs.declared.config.Public.{Public}
@@ -14,53 +13,47 @@ use Rattle.ob_base.specs.declared.seen.End.TheVariants.{Whole, Cut}
 use Rattle.ob_base.specs.declared.seen.Seen.{Seen}
 use Rattle.ob_flat.specs.declared.fault.OpErr.{OpErr}
 use Rattle.ob_flat.specs.declared.fault.OpErr.TheVariants as OpErrs
-use Rattle.ob_flat.specs.Passes.{PassCause, SinkCause, is_of_access}
+use Rattle.ob_flat.specs.Passes.{PassCause, SinkCause}
 use Rattle.ob_inflight.specs.Answers.{EndsBy, error_of}
-use Rattle.ob_inflight.specs.Closing.{Closed, ClosesAll, RisesBy, events_at}
+use Rattle.ob_inflight.specs.Closing.{Closed, events_at}
 use Rattle.ob_inflight.specs.Flown as Flown
 use Rattle.ob_inflight.specs.Flown.{StopsInClosing, StopsInFinish, StopsInStep}
 use Rattle.ob_inflight.specs.Kinds.{Kind, Moment, share_at, taker_of}
-use Rattle.ob_inflight.specs.Progress.{KeepsCourse, Progress, act_of}
+use Rattle.ob_inflight.specs.Progress.{act_of}
 use Rattle.ob_mean.specs.Lawful.{Lawful}
-use Rattle.ob_mean.specs.Prints.{Begun}
 use Rattle.ob_mean.specs.Replay.{count_end, cut_at, done_of, is_access}
-use Rattle.ob_mean.specs.Verdict.{Draws, Tables, seen as seen_by, verdict}
+use Rattle.ob_mean.specs.Verdict.{Draws, Tables, seen as seen_by}
 use Rattle.ob_room.specs.RoomState.{RoomState}
 use Rattle.ob_script.specs.FlightLaws.{AllMayFly}
-use Rattle.ob_script.specs.Flights.{AreSteady, IsSteady, accesses_in, flight_public}
-use Rattle.ob_script.specs.Script.{script, whole_script}
+use Rattle.ob_script.specs.Flights.{AreSteady, IsSteady, flight_public}
+use Rattle.ob_script.specs.Script.{script}
 use Rattle.ob_script.specs.Trace.{Served}
-use Rattle.ob_select.specs.Memory.{AtEmission, AtMake, AtResult, HasHalted, ends_with_make, is_make}
+use Rattle.ob_select.specs.Memory.{ends_with_make, is_make}
 use Rattle.ob_select.specs.Settings.{IsFree}
 use Rattle.ob_sql.specs.Skeleton.{skeleton}
 use Rattle.ob_sql.specs.declared.stmt.Stmt.{Stmt}
 use Rattle.ob_store.specs.Calls.{ChangesNothing}
-use Rattle.ob_store.specs.State.{Lie, StoreState}
+use Rattle.ob_store.specs.State.{StoreState}
 use Rattle.ob_tables.specs.Agreeing.{Agrees, count_of, world_of}
 use Rattle.ob_tables.specs.Running.{SinkStops}
-use Rattle.ob_tables.specs.Serving.{StopsEmission}
-use Rattle.ob_tables.specs.Telling.{IsNotTampered, ReadsTrue, ReadsTrueUntil, answer_labels, is_refused}
+use Rattle.ob_tables.specs.Telling.{IsNotTampered, ReadsTrueUntil, is_refused}
 use Rattle.ob_tables.specs.declared.engine.Engine.{Engine}
-use Rattle.ob_tables.specs.declared.stop.RunStop.{RunStop}
 use Rattle.ob_tables.specs.declared.stop.RunStop.TheVariants as Stops
 use Rattle.ob_tables.proofs.EmitLemmas.{unfit_none}
-use Rattle.ob_vault.specs.Calls.{Lasts}
 use Rattle.ob_vault.specs.Places.{at}
 use Rattle.ob_vault.specs.State.{RevState, World}
 use Rattle.ob_vault.specs.Tied.{Calm, IsUnfit}
 use Rattle.ob_vault.specs.declared.vault.Vault.{Vault}
-use Rattle.ob_verdict.specs.Outcomes.{Partly, refusal_now}
+use Rattle.ob_verdict.specs.Outcomes.{refusal_now}
 use Rattle.ob_verdict.specs.declared.outcome.Outcome.{Outcome}
-use Rattle.ob_exec.specs.InFlight.{IsFlown, IsMeant, StandsAs, StandsMeant, own_asked, served_as}
-use Rattle.ob_exec.specs.RanFlight.{AtEmitter, BeforeMake, BeginsMeant, FlightCause, FlightMeans, RanFlight, RanInTurns, StopsClosing, StopsFlight, asked_by, asked_since, cut_off, halt_of, in_flight}
-use Rattle.ob_exec.proofs.FlightBegun.{begins_meant}
-use Rattle.ob_exec.proofs.FlightEnd.{rises_from}
-use Rattle.ob_exec.proofs.FlightFrames.{calm_start, draws_behind, engine_behind, hold_now, kept_behind, lasts_all, opens_behind, sealed_behind}
+use Rattle.ob_exec.specs.InFlight.{IsFlown, IsMeant, StandsAs, StandsMeant}
+use Rattle.ob_exec.specs.RanFlight.{FlightCause, StopsClosing, asked_by, asked_since, halt_of, in_flight}
+use Rattle.ob_exec.proofs.FlightFrames.{calm_start, engine_behind, hold_now}
 use Rattle.ob_exec.proofs.FlightLists.{cuts_same, events_next, get_mapped, get_other, none_past, past_ended}
 use Rattle.ob_exec.proofs.FlightMore.{asks_within, ends_whole, held_more, meant_single, meant_unread, stands_more}
-use Rattle.ob_exec.proofs.FlightRuns.{Boards, ServesOne, as_many, closed_now, emits_now, emitted_now, flown_now, meant_now, partly_now, public_is, set_kept, steady_now, they_hold, they_serve}
-use Rattle.ob_exec.proofs.FlightStage.{AsksMake, HoldNow, IsSet, IsStage, LacksHere, closed_of, more_asked, whole_of}
-use Rattle.ob_exec.proofs.FlightStops.{AskedNoMore, AskedOneMore, asked_first, asked_last, asked_of, no_access, same_seen, same_served, stop_served}
+use Rattle.ob_exec.proofs.FlightRuns.{Boards, ServesOne, as_many, closed_now, flown_now, meant_now, steady_now, they_hold, they_serve}
+use Rattle.ob_exec.proofs.FlightStage.{HoldNow, IsStage, closed_of}
+use Rattle.ob_exec.proofs.FlightStops.{AskedOneMore, asked_of, no_access}
 
 -- ---- plain facts
 -- one that may be seen of a statement that is cut off isn't refused before any access

@@ -1,8 +1,7 @@
 -- A SELECT of the rows of a flat table, by what is public: its slots, and what it asks.
-use Rattle.std.proofs.Common.{◌≡◌, ◌≤◌, ◌+◌, ◌-◌, ◌*◌, ℕ, Bool, false, List, [], ◌∷◌, length, Option, Some, None, refl, sym, ◌∙◌, ap, subst, arith, append-nil}
+use Rattle.std.proofs.Common.{◌≡◌, ◌≤◌, ◌+◌, ◌*◌, ℕ, Bool, false, List, [], length, Option, Some, None, sym, ◌∙◌, ap, subst, arith, append-nil}
 use Rattle.std.specs.Prelude.{nat_le, nat_lt, slice_get}
 use Rattle.std.specs.Option.{option_map_or}
-use Rattle.ob_base.specs.declared.access.Access.{Access}
 use Rattle.ob_base.specs.declared.config.Public.{Public}
 use Rattle.ob_base.specs.declared.schema.Heading.{Heading}
 use Rattle.ob_base.specs.declared.schema.Shape.TheVariants.{Flat as FlatShape}
@@ -13,7 +12,6 @@ use Rattle.ob_base.specs.declared.skeleton.Skeleton.TheVariants.{Rows as RowsSke
 use Rattle.ob_base.specs.declared.skeleton.Source.{Source}
 use Rattle.ob_base.specs.declared.skeleton.Source.TheVariants.{Table as OneTable}
 use Rattle.ob_base.specs.Stored.{Stored, headings_of, heading_at, stored_region}
-use Rattle.ob_flat.specs.declared.flat.Flat.{Flat}
 use Rattle.ob_flat.specs.Flats.{Represents}
 use Rattle.ob_mean.specs.Lawful.{counted_slots}
 use Rattle.ob_mean.specs.Replay.{count_end, cut_at, done_of, ending_len, held_if, is_access, walk_end}
@@ -36,7 +34,7 @@ use Rattle.ob_tables.proofs.FoundLemmas.{heading_found, shape_found}
 use Rattle.ob_tables.proofs.HeldLemmas.{Beside, held_at}
 use Rattle.ob_tables.proofs.TableLemmas.{AreNamed, stored_found}
 use Rattle.ob_vault.specs.State.{World}
-use Rattle.ob_exec.specs.Sources.{HoldsRows, rows_script, rows_skeleton, selection, slots_of, stated}
+use Rattle.ob_exec.specs.Sources.{rows_script, rows_skeleton, selection, slots_of, stated}
 
 module _ (p : Public) (i : ℕ) (t : Table) (name : List ℕ) (select : SelectRows) (names : AreNamed p.tables) (get : slice_get p.tables i ≡ Some t) (named : t.heading.name ≡ name)
     (of_table : select.source ≡ OneTable name) (unkeyed : is_access p (rows_skeleton select) ≡ false) where

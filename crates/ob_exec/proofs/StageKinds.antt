@@ -1,10 +1,8 @@
 -- The statements of a flight, of whichever kind, stand as a flight asks.
-use Rattle.std.proofs.Common.{◌≡◌, ◌⊎◌, ◌≤◌, ◌+◌, ℕ, Bool, true, false, IsTrue, List, [], length, Option, Some, None, refl, sym, ◌∙◌, ap, subst, inl, inr, ◌∷◌, ◌++◌}
+use Rattle.std.proofs.Common.{◌≡◌, ◌≤◌, ℕ, Bool, true, false, IsTrue, List, length, Option, Some, None, refl, sym, ◌∙◌, ap, subst, inl, ◌++◌}
 use Rattle.std.specs.Prelude.{drop, is_some, IfSome}
 use Rattle.std.specs.List.{list_all}
 use Rattle.ob_base.specs.Events.{Event}
-use Rattle.ob_base.specs.declared.config.Public.{Public}
-use Rattle.ob_base.specs.declared.refusal.Refusal.{Refusal}
 use Rattle.ob_base.specs.declared.seen.End.TheVariants.{Cut}
 use Rattle.ob_base.specs.declared.seen.Seen.{Seen}
 use Rattle.ob_flat.specs.Passes.{is_of_access}
@@ -13,7 +11,7 @@ use Rattle.ob_flat.specs.declared.fault.OpErr.{OpErr}
 use Rattle.ob_flat.specs.declared.fault.OpErr.TheVariants as OpErrs
 use Rattle.ob_inflight.specs.Kinds.{Kind, kind_of}
 use Rattle.ob_mean.specs.Batches.{is_cut}
-use Rattle.ob_mean.specs.Verdict.{Draws, Tables, ended, verdict}
+use Rattle.ob_mean.specs.Verdict.{Draws, Tables, verdict}
 use Rattle.ob_oram.specs.declared.index.Index.{Index}
 use Rattle.ob_row.specs.Slots.{Slots}
 use Rattle.ob_script.specs.Script.{whole_script}
@@ -21,13 +19,12 @@ use Rattle.ob_script.specs.Trace.{Served}
 use Rattle.ob_select.specs.Memory.{is_reading, starts_with_make}
 use Rattle.ob_select.specs.Selecting.{HoldsSeen, selection_seen}
 use Rattle.ob_stages.specs.Flying.{FlightFits, FlightHalts, FlightHolds, FlightNeeds, MayFly, flight_progress}
-use Rattle.ob_stages.specs.Reading.{IsReading, MayRead, end_now, reading_progress, EndsLater}
-use Rattle.ob_stages.specs.Refusing.{IsRefused, refused_progress}
+use Rattle.ob_stages.specs.Reading.{end_now, EndsLater}
+use Rattle.ob_stages.specs.Refusing.{refused_progress}
 use Rattle.ob_stages.specs.RowsHolds.{Holds, HoldsAt, IsOnWay}
-use Rattle.ob_stages.specs.RowsStates.{IsPlaced, MayServe, PlacedAt, RowsAt, end_by, is_over, is_printing, progress_of, rows_at}
+use Rattle.ob_stages.specs.RowsStates.{IsPlaced, MayServe, RowsAt, end_by, is_over, is_printing, rows_at}
 use Rattle.ob_stages.specs.declared.flight.Flight.{Flight}
 use Rattle.ob_stages.specs.declared.flight.Flight.TheVariants.{Refused, Rows, Totals, Groups}
-use Rattle.ob_stages.specs.declared.reading.Reading.{Reading}
 use Rattle.ob_stages.specs.declared.rows.Stage.{Stage}
 use Rattle.ob_stages.specs.declared.rows.Stage.TheVariants as Stages
 use Rattle.ob_vault.specs.State.{World}
@@ -45,7 +42,7 @@ use Rattle.ob_exec.specs.Sources.{rows_skeleton}
 use Rattle.ob_exec.proofs.FlightStage.{HoldNow, IsSet, IsStage, shown_of, LacksHere}
 use Rattle.ob_exec.proofs.StageReading.{cut_now, reading_emits, reading_emitted, reading_halted, reading_honest, reading_means, reading_memory, reading_partly, reading_stands, reading_stays, reading_told}
 use Rattle.ob_exec.proofs.StageRefused.{emits_refused, emitted_refused, meant_refused, partly_refused, stands_refused, told_refused}
-use Rattle.ob_exec.proofs.StageRows.{rows_emit, rows_ends, rows_stand}
+use Rattle.ob_exec.proofs.StageRows.{rows_emit, rows_stand}
 use Rattle.ob_exec.proofs.StageRowsHalts.{rows_memory, rows_stay}
 use Rattle.ob_exec.proofs.StageRowsTold.{rows_emitted, rows_halted, rows_honest, rows_mean, rows_partly_now, rows_told}
 

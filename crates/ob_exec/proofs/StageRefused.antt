@@ -1,17 +1,14 @@
 -- A statement in flight that was refused before any access.
-use Rattle.std.proofs.Common.{◌≡◌, ◌⊎◌, ◌≤◌, ◌+◌, ℕ, Bool, true, false, List, [], ◌∷◌, Option, Some, None, Ok, refl, sym, ◌∙◌, ap, subst, inl, inr}
-use Rattle.std.specs.Prelude.{IfSome, IsSome}
+use Rattle.std.proofs.Common.{◌≡◌, ℕ, List, [], Option, Some, None, Ok, refl, sym, ◌∙◌, ap, subst}
+use Rattle.std.specs.Prelude.{IfSome}
 use Rattle.ob_base.specs.Events.{Event}
 use Rattle.ob_base.specs.Refusals.{is_store_fault}
 use Rattle.ob_base.specs.declared.config.Public.{Public}
 use Rattle.ob_base.specs.declared.refusal.Refusal.{Refusal}
 use Rattle.ob_base.specs.declared.seen.End.TheVariants.{Static}
-use Rattle.ob_base.specs.declared.seen.Seen.{Seen}
-use Rattle.ob_inflight.specs.Closing.{Closed}
-use Rattle.ob_mean.specs.Lawful.{Lawful}
-use Rattle.ob_mean.specs.Prints.{Prints, Unfinished}
+use Rattle.ob_mean.specs.Prints.{Prints}
 use Rattle.ob_mean.specs.Step.{accepted_answer, answered}
-use Rattle.ob_mean.specs.Verdict.{Draws, Tables, database, ended, refusal, seen as seen_by, verdict}
+use Rattle.ob_mean.specs.Verdict.{Draws, Tables, database, ended, seen as seen_by, verdict}
 use Rattle.ob_mean.specs.declared.answer.Answer.{Answer}
 use Rattle.ob_mean.specs.declared.answer.Answer.TheVariants as A
 use Rattle.ob_mean.proofs.VerdictLemmas.{refused_early, seen_early}
@@ -23,7 +20,7 @@ use Rattle.ob_tables.proofs.LawfulLemmas.{lawful_refused}
 use Rattle.ob_tables.proofs.RunLemmas.{of_other}
 use Rattle.ob_tables.proofs.ToldLemmas.{early_held, early_is}
 use Rattle.ob_vault.specs.State.{World}
-use Rattle.ob_verdict.specs.Outcomes.{Emits, Partly, by_fault, outcome_of, refusal_now}
+use Rattle.ob_verdict.specs.Outcomes.{Emits, Partly, outcome_of, refusal_now}
 use Rattle.ob_verdict.specs.declared.outcome.Outcome.{Outcome}
 use Rattle.ob_verdict.specs.declared.outcome.Outcome.TheVariants.{Refused}
 use Rattle.ob_exec.specs.InFlight.{IsFlown, IsMeant}

@@ -1,13 +1,11 @@
 -- A SELECT of rows in flight.
-use Rattle.std.proofs.Common.{◌≡◌, ◌⊎◌, ◌≤◌, ◌<◌, ◌+◌, ◌-◌, ◌*◌, ◌^◌, ◌++◌, ℕ, zero, suc, Bool, true, false, IsTrue, List, [], ◌∷◌, length, map, Option, Some, None, Ok, refl, sym, ◌∙◌, ap, subst, inl, inr, arith, append_assoc}
-use Rattle.std.specs.Prelude.{IsSome, drop, nat_lt, slice_get}
+use Rattle.std.proofs.Common.{◌≡◌, ◌⊎◌, ◌≤◌, ◌++◌, ℕ, zero, suc, Bool, true, false, List, [], ◌∷◌, length, Option, Some, None, Ok, refl, sym, ◌∙◌, ap, subst, inl, inr, arith}
+use Rattle.std.specs.Prelude.{IsSome}
 use Rattle.std.proofs.lemmas.List.{append-nil}
 use Rattle.ob_base.specs.Events.{Event, Close, Head, row_events}
-use Rattle.ob_base.specs.Plans.{IsPadded, choose}
-use Rattle.ob_base.specs.Schemas.{Columns}
-use Rattle.ob_base.specs.Stored.{headings, headings_of}
+use Rattle.ob_base.specs.Plans.{choose}
+use Rattle.ob_base.specs.Stored.{headings_of}
 use Rattle.ob_base.specs.declared.access.Access.{Access}
-use Rattle.ob_base.specs.declared.config.Plan.{Plan}
 use Rattle.ob_base.specs.declared.config.Plan.TheVariants.{Small}
 use Rattle.ob_base.specs.declared.config.Planner.{Planner}
 use Rattle.ob_base.specs.declared.config.Planner.TheVariants.{Forced}
@@ -15,61 +13,45 @@ use Rattle.ob_base.specs.declared.config.Public.{Public}
 use Rattle.ob_base.specs.declared.refusal.Refusal.{Refusal}
 use Rattle.ob_base.specs.declared.refusal.Refusal.TheVariants.{PadPassed, StoreFault}
 use Rattle.ob_base.specs.declared.seen.End.{End}
-use Rattle.ob_base.specs.declared.seen.End.TheVariants.{Static, Whole, AfterCount, Joined, Cut}
+use Rattle.ob_base.specs.declared.seen.End.TheVariants.{Static, Whole, Cut}
 use Rattle.ob_base.specs.declared.seen.Seen.{Seen}
 use Rattle.ob_base.specs.declared.shown.Shown.{Shown}
 use Rattle.ob_base.specs.declared.skeleton.Source.{Source}
 use Rattle.ob_base.specs.declared.skeleton.Source.TheVariants.{Table as OneTable, Join}
-use Rattle.ob_emit.specs.Emitting.{header, labels_of}
-use Rattle.ob_flat.specs.Flats.{Represents}
-use Rattle.ob_flat.specs.declared.fault.OpErr.{OpErr}
-use Rattle.ob_flat.specs.declared.fault.OpErr.TheVariants as OpErrs
+use Rattle.ob_emit.specs.Emitting.{labels_of}
 use Rattle.ob_flat.specs.declared.flat.Flat.{Flat}
-use Rattle.ob_flat.specs.Passes.{is_of_access}
-use Rattle.ob_inflight.specs.Closing.{Closed}
 use Rattle.ob_mean.specs.Lawful.{Lawful}
-use Rattle.ob_mean.specs.Prints.{Begun, Prints, Unfinished}
 use Rattle.ob_mean.specs.Refusals.{source_tables}
-use Rattle.ob_mean.specs.Replay.{count_end, cut_at, is_access}
-use Rattle.ob_mean.specs.Step.{printed_places, select_columns, select_condition, source_rows}
-use Rattle.ob_mean.specs.Verdict.{Draws, Tables, accessed, counted, database, ended as seen_to, seen as seen_by, verdict}
-use Rattle.ob_oram.specs.declared.index.Index.{Index}
-use Rattle.ob_row.specs.Bags.{Same}
-use Rattle.ob_row.specs.Slots.{Slots, rows}
+use Rattle.ob_mean.specs.Replay.{count_end}
+use Rattle.ob_mean.specs.Step.{printed_places, select_columns, select_condition}
+use Rattle.ob_mean.specs.Verdict.{counted, ended as seen_to}
+use Rattle.ob_row.specs.Slots.{rows}
 use Rattle.ob_script.specs.Script.{whole_script}
-use Rattle.ob_select.specs.Selecting.{EndsCounted, EndsPadded, EndsSelected, HoldsSeen, IsCountOf, IsPlanOf, MayHold, Selection, answer_events, counted_after, places, selected_as, selection_answer, selection_seen}
+use Rattle.ob_select.specs.Selecting.{IsCountOf, IsPlanOf, Selection, counted_after, selected_as}
 use Rattle.ob_select.specs.declared.selecting.Selected.{Selected}
 use Rattle.ob_select.specs.declared.selecting.Selected.TheVariants as Selecteds
-use Rattle.ob_sql.specs.Skeleton.{skeleton}
 use Rattle.ob_sql.specs.declared.stmt.SelectRows.{SelectRows}
 use Rattle.ob_sql.specs.declared.stmt.Stmt.{Stmt}
 use Rattle.ob_sql.specs.declared.stmt.Stmt.TheVariants.{SelectRows as RowsStmt}
-use Rattle.ob_tables.specs.Engines.{flat_of}
-use Rattle.ob_tables.specs.Running.{RefusedEarly, is_fault, outcome_end}
-use Rattle.ob_tables.specs.Telling.{Emitted, answer_labels}
+use Rattle.ob_tables.specs.Running.{RefusedEarly}
+use Rattle.ob_tables.specs.Telling.{answer_labels}
 use Rattle.ob_tables.proofs.EmitLemmas.{are_rows}
-use Rattle.ob_tables.proofs.HeldLemmas.{held_headings, held_plain}
-use Rattle.ob_tables.proofs.ToldLemmas.{early_held}
 use Rattle.ob_vault.specs.State.{World}
-use Rattle.ob_vault.specs.Tied.{IsUnfit}
-use Rattle.ob_vault.specs.Words.{IsHonest}
 use Rattle.ob_verdict.proofs.LawfulProof.{same_script}
-use Rattle.ob_verdict.specs.Outcomes.{Emits, Partly, outcome_of as outcome_meant, refusal_now}
+use Rattle.ob_verdict.specs.Outcomes.{Emits, refusal_now}
 use Rattle.ob_verdict.specs.declared.outcome.Outcome.{Outcome}
 use Rattle.ob_verdict.specs.declared.outcome.Outcome.TheVariants as O
 use Rattle.ob_stages.specs.declared.rows.Stage.{Stage}
 use Rattle.ob_stages.specs.declared.rows.Stage.TheVariants as Stages
-use Rattle.ob_stages.specs.RowsStates.{HasCounted, IsPlaced, MayServe, PlacedAt, RowsAt, end_by, is_over, is_printing, progress_of, seen_taking, table_blocks, taken_by}
-use Rattle.ob_stages.specs.RowsHolds.{AnswersRows, AnswersSo, AsMeant, EndedAt, Halts, HasBegun, Holds, HoldsAt, IsCutOff, IsCutSeen, IsOnWay, IsToEnd, LacksAt, MayBeCut, RefusesRows, answered_by, closing_of, head_of, is_headless, left_of, meant_events, meant_outcome, outcome_of, seen_counted, seen_ended}
+use Rattle.ob_stages.specs.RowsStates.{HasCounted, PlacedAt, RowsAt, end_by, is_over, progress_of, seen_taking, table_blocks, taken_by}
+use Rattle.ob_stages.specs.RowsHolds.{AnswersRows, EndedAt, Holds, HoldsAt, IsCutOff, IsToEnd, answered_by, closing_of, head_of, seen_ended}
 use Rattle.ob_exec.specs.InFlight as F
-use Rattle.ob_exec.specs.Sources.{ReachesRows, closing, rows_script, rows_skeleton, selected_outcome, selection, slots_of, stated}
-use Rattle.ob_exec.proofs.FlightStage.{HasTable, HoldNow, IsSet, LacksHere, closed_of, more_asked, shown_of, whole_of}
+use Rattle.ob_exec.specs.Sources.{closing, rows_skeleton, selected_outcome, selection, stated}
+use Rattle.ob_exec.proofs.FlightStage.{HasTable, IsSet, closed_of}
 use Rattle.ob_exec.proofs.RowsLawful.{lawful_cut, lawful_ended}
-use Rattle.ob_exec.proofs.RowsMeaning.{rows_outcome, rows_partly, rows_prints, rows_seen, rows_unfinished, rows_unread}
-use Rattle.ob_exec.proofs.RowsOfTable.{capacity_of, count_of_table, cut_of_held, held_of_cut, schema_of, slots_held}
-use Rattle.ob_exec.proofs.RowsSource.{table_same}
+use Rattle.ob_exec.proofs.RowsOfTable.{capacity_of, count_of_table, schema_of}
 use Rattle.ob_exec.proofs.RowsTable.{stated_is}
-use Rattle.ob_exec.proofs.StageReading.{head_is, not_fault, of_fault}
+use Rattle.ob_exec.proofs.StageReading.{head_is}
 
 -- ---- plain facts
 -- a source of one table

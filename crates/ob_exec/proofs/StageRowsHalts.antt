@@ -1,11 +1,9 @@
 -- Where a SELECT of rows in flight gave up.
-use Rattle.std.proofs.Common.{◌≡◌, ◌⊎◌, ◌≤◌, ◌<◌, ◌+◌, ◌-◌, ℕ, zero, suc, Bool, true, false, IsTrue, List, [], ◌∷◌, length, Option, Some, None, refl, sym, ◌∙◌, ap, subst, inl, inr, arith}
+use Rattle.std.proofs.Common.{◌≡◌, ◌⊎◌, ◌≤◌, ◌+◌, ℕ, zero, suc, Bool, true, false, IsTrue, List, length, Option, Some, None, refl, sym, ◌∙◌, ap, subst, inl, inr, arith}
 use Rattle.std.specs.Prelude.{IsSome, drop}
 use Rattle.std.specs.List.{list_all}
 use Rattle.ob_base.specs.Events.{Event}
 use Rattle.ob_base.specs.Stored.{headings_of}
-use Rattle.ob_base.specs.declared.access.Access.{Access}
-use Rattle.ob_base.specs.declared.config.Public.{Public}
 use Rattle.ob_base.specs.declared.seen.Seen.{Seen}
 use Rattle.ob_flat.specs.declared.fault.OpErr.{OpErr}
 use Rattle.ob_flat.specs.declared.fault.OpErr.TheVariants as OpErrs
@@ -13,17 +11,15 @@ use Rattle.ob_flat.specs.Passes.{is_of_access}
 use Rattle.ob_mean.specs.Replay.{count_end}
 use Rattle.ob_mean.specs.Step.{printed_places, select_columns, select_condition}
 use Rattle.ob_script.specs.Script.{whole_script}
-use Rattle.ob_select.specs.Memory.{AtEmission, HasCounted, is_reading, starts_with_make}
-use Rattle.ob_sql.specs.Skeleton.{skeleton}
-use Rattle.ob_sql.specs.declared.stmt.Stmt.TheVariants.{SelectRows as RowsStmt}
+use Rattle.ob_select.specs.Memory.{HasCounted, is_reading, starts_with_make}
 use Rattle.ob_vault.specs.State.{World}
 use Rattle.ob_verdict.specs.declared.outcome.Outcome.{Outcome}
 use Rattle.ob_stages.specs.declared.rows.Stage.{Stage}
 use Rattle.ob_stages.specs.declared.rows.Stage.TheVariants as Stages
-use Rattle.ob_stages.specs.RowsStates.{PlacedAt, RowsAt, is_over, is_printing, progress_of, seen_taking}
-use Rattle.ob_stages.specs.RowsHolds.{EndedAt, Halts, Holds, HoldsAt, IsToEnd, LacksAt, seen_ended}
+use Rattle.ob_stages.specs.RowsStates.{PlacedAt, RowsAt, is_printing, progress_of, seen_taking}
+use Rattle.ob_stages.specs.RowsHolds.{EndedAt, Halts, Holds, HoldsAt, IsToEnd, seen_ended}
 use Rattle.ob_exec.specs.Sources.{rows_skeleton}
-use Rattle.ob_exec.proofs.FlightStage.{AsksMake, IsSet, LacksHere, more_asked, whole_of}
+use Rattle.ob_exec.proofs.FlightStage.{IsSet, LacksHere, more_asked}
 use Rattle.ob_exec.proofs.StageRows.{blocks_are}
 
 module _ (g : RowsAt) (m : ℕ) (kept : List (List ℕ)) (events : List Event) (w : World) (is : Holds g kept events w) (set : IsSet m (progress_of g)) (ending : g.q.ending ≡ 0)

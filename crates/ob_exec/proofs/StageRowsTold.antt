@@ -1,16 +1,12 @@
 -- What a SELECT of rows in flight means for its table.
-use Rattle.std.proofs.Common.{◌≡◌, ◌⊎◌, ◌≤◌, ◌<◌, ◌+◌, ◌-◌, ◌*◌, ◌++◌, ℕ, zero, suc, Bool, true, false, IsTrue, List, [], ◌∷◌, length, map, Option, Some, None, Ok, refl, sym, ◌∙◌, ap, subst, inl, inr, arith, append_assoc}
-use Rattle.std.specs.Prelude.{IsSome, drop, nat_le}
-use Rattle.std.specs.List.{list_all}
+use Rattle.std.proofs.Common.{◌≡◌, ◌≤◌, ◌+◌, ◌*◌, ◌++◌, ℕ, zero, suc, Bool, true, false, List, [], length, Option, Some, None, refl, sym, ◌∙◌, ap, subst, inl, inr, append_assoc}
 use Rattle.std.proofs.lemmas.Bool.{le-leb}
 use Rattle.std.proofs.lemmas.List.{append-nil}
 use Rattle.ob_base.specs.Events.{Event}
 use Rattle.ob_base.specs.Plans.{IsPadded}
 use Rattle.ob_base.specs.Stored.{headings, headings_of}
-use Rattle.ob_base.specs.declared.access.Access.{Access}
 use Rattle.ob_base.specs.declared.config.Public.{Public}
 use Rattle.ob_base.specs.declared.refusal.Refusal.TheVariants.{PadPassed, StoreFault}
-use Rattle.ob_base.specs.declared.refusal.Refusal.{Refusal}
 use Rattle.ob_base.specs.declared.seen.End.{End}
 use Rattle.ob_base.specs.declared.seen.End.TheVariants.{Whole, Cut}
 use Rattle.ob_base.specs.declared.seen.Seen.{Seen}
@@ -21,25 +17,20 @@ use Rattle.ob_flat.specs.Flats.{Represents}
 use Rattle.ob_flat.specs.declared.fault.OpErr.{OpErr}
 use Rattle.ob_flat.specs.declared.fault.OpErr.TheVariants as OpErrs
 use Rattle.ob_flat.specs.declared.flat.Flat.{Flat}
-use Rattle.ob_flat.specs.Passes.{is_of_access}
 use Rattle.ob_mean.specs.Prints.{Begun, Prints, Unfinished}
 use Rattle.ob_mean.specs.Refusals.{early_refusal, limits_of}
-use Rattle.ob_mean.specs.Replay.{count_end, cut_at, held_if}
+use Rattle.ob_mean.specs.Replay.{cut_at, held_if}
 use Rattle.ob_mean.specs.Step.{printed_places, select_columns, select_condition, source_rows}
-use Rattle.ob_mean.specs.Verdict.{Draws, Tables, accessed, database, ended as seen_to, is_late, seen as seen_by, source_slots, verdict}
+use Rattle.ob_mean.specs.Verdict.{Draws, Tables, accessed, database, is_late, seen as seen_by, source_slots, verdict}
 use Rattle.ob_oram.specs.declared.index.Index.{Index}
 use Rattle.ob_row.specs.Bags.{Same}
 use Rattle.ob_row.specs.Slots.{Slots, rows}
 use Rattle.ob_script.specs.Script.{whole_script}
-use Rattle.ob_script.specs.Trace.{Served}
 use Rattle.ob_select.proofs.SelectHeld.{held_empty}
 use Rattle.ob_select.specs.Selecting.{HoldsSeen, Selection, answer_events, selection_answer, selection_seen}
-use Rattle.ob_sql.specs.Skeleton.{skeleton}
 use Rattle.ob_sql.specs.declared.stmt.SelectRows.{SelectRows}
 use Rattle.ob_sql.specs.declared.stmt.Stmt.{Stmt}
 use Rattle.ob_sql.specs.declared.stmt.Stmt.TheVariants.{SelectRows as RowsStmt}
-use Rattle.ob_tables.specs.Engines.{flat_of}
-use Rattle.ob_tables.specs.Running.{is_fault}
 use Rattle.ob_tables.specs.Telling.{Emitted, answer_labels}
 use Rattle.ob_tables.proofs.HeldLemmas.{held_headings, held_plain}
 use Rattle.ob_tables.proofs.ToldLemmas.{early_held}
@@ -51,16 +42,15 @@ use Rattle.ob_verdict.specs.declared.outcome.Outcome.{Outcome}
 use Rattle.ob_verdict.specs.declared.outcome.Outcome.TheVariants as O
 use Rattle.ob_stages.specs.declared.rows.Stage.{Stage}
 use Rattle.ob_stages.specs.declared.rows.Stage.TheVariants as Stages
-use Rattle.ob_stages.specs.RowsStates.{MayServe, PlacedAt, RowsAt, end_by, is_over, is_printing, progress_of, seen_taking, table_blocks}
-use Rattle.ob_stages.specs.RowsHolds.{AnswersRows, AsMeant, EndedAt, Halts, Holds, HoldsAt, IsCutOff, IsOnWay, IsToEnd, LacksAt, MayBeCut, answered_by, closing_of, is_headless, left_of, meant_events, meant_outcome, seen_ended}
+use Rattle.ob_stages.specs.RowsStates.{MayServe, PlacedAt, RowsAt, end_by, is_over, progress_of, seen_taking, table_blocks}
+use Rattle.ob_stages.specs.RowsHolds.{AnswersRows, EndedAt, Halts, Holds, IsCutOff, IsOnWay, IsToEnd, closing_of, is_headless, left_of, meant_events, meant_outcome, seen_ended}
 use Rattle.ob_exec.specs.InFlight as F
 use Rattle.ob_exec.specs.Sources.{closing, rows_skeleton, selected_outcome, selection, slots_of, stated}
-use Rattle.ob_exec.proofs.FlightStage.{HasTable, HoldNow, IsSet, LacksHere, closed_of, more_asked, shown_of, whole_of}
+use Rattle.ob_exec.proofs.FlightStage.{HasTable, HoldNow, IsSet, closed_of, shown_of}
 use Rattle.ob_exec.proofs.RowsMeaning.{rows_outcome, rows_partly, rows_prints, rows_seen, rows_unfinished, rows_unread}
 use Rattle.ob_exec.proofs.RowsOfTable.{cut_of_held, held_of_cut, slots_held}
 use Rattle.ob_exec.proofs.RowsSource.{table_same}
-use Rattle.ob_exec.proofs.StageReading.{not_fault, of_fault}
-use Rattle.ob_exec.proofs.StageRows.{answered_selected, answers, as_stated, closing_same, cut_end, cut_off, ended_as, one_table, over_or, rows_ends, table}
+use Rattle.ob_exec.proofs.StageRows.{answered_selected, answers, as_stated, closing_same, cut_end, cut_off, ended_as, one_table, over_or, rows_ends}
 
 begun_more : (events all more : List Event) → Begun events all → Begun events (all ++ more)
 begun_more events all more begun = (begun.0 ++ more, sym (append_assoc events begun.0 more) ∙ ap (λ (l : List Event). l ++ more) begun.1)

@@ -7,7 +7,7 @@ use Rattle.ob_base.specs.declared.seen.End.TheVariants.{Static, Whole, AfterCoun
 use Rattle.ob_base.specs.declared.seen.Seen.{Seen}
 use Rattle.ob_inflight.specs.Closing.{Closed}
 use Rattle.ob_mean.specs.Lawful.{Lawful}
-use Rattle.ob_mean.specs.Replay.{cut_at, done_of, is_access}
+use Rattle.ob_mean.specs.Replay.{cut_at, is_access}
 use Rattle.ob_mean.specs.Verdict.{Draws, Tables, seen as seen_by, verdict}
 use Rattle.ob_script.specs.FlightLaws.{SelectsFromOne}
 use Rattle.ob_script.specs.Flights.{flight, own}
