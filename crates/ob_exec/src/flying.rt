@@ -161,16 +161,19 @@ fn fly_all<S: BlockStore, R: Revisions, T: Turns, E: FlightOut>(
 ) -> Result<(), OpErr>
     requires agrees { Agrees R.state engine.old (S.state store.old) }
     requires lives { has_ended engine.old ≡ false }
-    requires flight { AreFlight (public_of engine.old) (count_of engine.old (S.state store.old)) stmts.now }
+    requires flight { AreFlight (public_of engine.old)
+        (count_of engine.old (S.state store.old)) stmts.now }
     requires each { length seens.old ≡ length stmts.now }
     ensures ran { MatchResult result
         (λ x. RanFlight R.state E.grew E.cut E.closed E.parted E.faults
         (T.word turns.old) (T.word turns.new) stmts.now seens.new (Ok x)
-        engine.old (S.state store.old) (engine_behind engine.old engine.new.vault engine.new.room false)
+        engine.old (S.state store.old)
+        (engine_behind engine.old engine.new.vault engine.new.room false)
         (S.state store.new) out.old out.new)
         (λ e. RanFlight R.state E.grew E.cut E.closed E.parted E.faults
         (T.word turns.old) (T.word turns.new) stmts.now seens.new (Err (halt_of e))
-        engine.old (S.state store.old) (engine_behind engine.old engine.new.vault engine.new.room true)
+        engine.old (S.state store.old)
+        (engine_behind engine.old engine.new.vault engine.new.room true)
         (S.state store.new) out.old out.new) }
     ensures frame { engine.new
         ≡ record engine.old { vault = engine.new.vault; room = engine.new.room } }
@@ -235,7 +238,8 @@ pub fn run_flight<S: BlockStore, R: Revisions, T: Turns, E: FlightOut>(
 ) -> Result<(), RunStop>
     requires agrees { Agrees R.state engine.old (S.state store.old) }
     requires lives { has_ended engine.old ≡ false }
-    requires flight { AreFlight (public_of engine.old) (count_of engine.old (S.state store.old)) stmts.now }
+    requires flight { AreFlight (public_of engine.old)
+        (count_of engine.old (S.state store.old)) stmts.now }
     requires each { length seens.old ≡ length stmts.now }
     ensures ran { RanFlight R.state E.grew E.cut E.closed E.parted E.faults
         (T.word turns.old) (T.word turns.new) stmts.now seens.new result
