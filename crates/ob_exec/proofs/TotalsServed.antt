@@ -85,7 +85,7 @@ either_none : (b : Bool) (answer : Answer) → answered (option_or (if b then So
 either_none true answer = refl
 either_none false answer = refl
 
-verdict_is : (p : Public) (m : ℕ) (tables : Tables) (s : SelectTotals) (x : Stored Held) → early_refusal (is_late m) (limits_of p) (headings tables) (TotalsStmt s) ≡ None
+pub verdict_is : (p : Public) (m : ℕ) (tables : Tables) (s : SelectTotals) (x : Stored Held) → early_refusal (is_late m) (limits_of p) (headings tables) (TotalsStmt s) ≡ None
     → stored_at s.table tables ≡ Some x → verdict p m tables (TotalsStmt s) ≡ totalled_answer (buffered p.pack p.buffer) x.heading.schema s x.held.slots
 verdict_is p m tables s x early found =
     let places = buffered p.pack p.buffer in
@@ -144,7 +144,7 @@ not_tampered e (inr (inl is)) = subst (λ (x : OpErr). IfErr (answer_of x) IsNot
 not_tampered e (inr (inr is)) = subst (λ (x : OpErr). IfErr (answer_of x) IsNotTampered) (sym is) refl
 
 -- nothing was emitted where the store failed
-unfinished_none : (labels : List (List ℕ)) (answer : Answer) → Unfinished labels answer []
+pub unfinished_none : (labels : List (List ℕ)) (answer : Answer) → Unfinished labels answer []
 unfinished_none labels A.Done = refl
 unfinished_none labels (A.Changed n) = refl
 unfinished_none labels (A.Rows rows) = record { printed = rows; same = Same-refl rows; begun = (_, refl) }
