@@ -1,34 +1,30 @@
 -- The answer of a SELECT with GROUP BY in flight.
-use Rattle.std.proofs.Common.{◌≡◌, ◌⊎◌, inl, inr, ◌++◌, ◌≤◌, ◌<◌, ◌/◌, ℕ, Bool, true, false, if◌then◌else◌, List, [], ◌∷◌, length, map, filter, Option, Some, None, Ok, Err, Result, refl, sym, ◌∙◌, ap, subst, arith, append-nil}
-use Rattle.std.specs.Prelude.{OnOk, OnErr, nat_lt}
+use Rattle.std.proofs.Common.{◌≡◌, inl, inr, ◌++◌, ◌≤◌, ◌<◌, ◌/◌, ℕ, Bool, true, false, if◌then◌else◌, List, [], ◌∷◌, length, map, Some, None, refl, sym, ◌∙◌, ap, subst, arith, append-nil}
+use Rattle.std.specs.Prelude.{nat_lt}
 use Rattle.std.proofs.lemmas.Bool.Decides.{nat_tests}
 use Rattle.std.proofs.lemmas.List.{length-map}
 use Rattle.ob_base.specs.declared.emit.EmitErr.{EmitErr}
 use Rattle.ob_base.specs.declared.refusal.Refusal.TheVariants.{StoreFault, TooManyGroups}
 use Rattle.ob_base.specs.declared.shown.Shown.{Shown}
-use Rattle.ob_base.specs.Events.{Event, Head, Close, row_events, Leads, IsEmitted, IsHalted}
+use Rattle.ob_base.specs.Events.{Event, Head, Close, row_events}
 use Rattle.ob_base.specs.Limits.{buffered}
 use Rattle.ob_base.specs.Schemas.{Columns}
 use Rattle.ob_row.specs.declared.aggregate.Item.{Item}
 use Rattle.ob_row.specs.Condition.{Condition}
 use Rattle.ob_row.specs.Rows.{Row}
-use Rattle.ob_row.specs.Slots.{Slots, rows as rows_in}
 use Rattle.ob_row.specs.Spelling.{kind_at}
 use Rattle.ob_row.specs.Totals.{grouped, group_heads}
 use Rattle.ob_row.specs.Truth.{is_true}
 use Rattle.ob_vault.specs.State.{World}
-use Rattle.ob_flat.specs.declared.fault.OpErr.{OpErr}
 use Rattle.ob_flat.specs.Emission.{SlotsToEnd}
 use Rattle.ob_flat.specs.Words.{blocks_of}
-use Rattle.ob_group.specs.declared.grouping.Grouped.{Grouped}
 use Rattle.ob_group.specs.declared.grouping.Grouped.TheVariants.{Groups, TooMany}
-use Rattle.ob_group.specs.Answers.{answer_of}
 use Rattle.ob_group.specs.Held.{HasGroups}
 use Rattle.ob_group.specs.Labels.{header}
 use Rattle.ob_group.specs.Labels as G
-use Rattle.ob_group.specs.Passes.{AreItems, EmitsGroups}
+use Rattle.ob_group.specs.Passes.{AreItems}
 use Rattle.ob_group.specs.Steps.{AreGathered}
-use Rattle.ob_group.proofs.Gathering.{gathered_answer, gathered_emitted, gathered_halted, gathered_has}
+use Rattle.ob_group.proofs.Gathering.{gathered_answer, gathered_has}
 use Rattle.ob_mean.specs.declared.answer.Answer.{Answer}
 use Rattle.ob_mean.specs.declared.answer.Answer.TheVariants as A
 use Rattle.ob_mean.specs.Conditions.{where_at}
@@ -38,14 +34,14 @@ use Rattle.ob_sql.specs.declared.stmt.SelectTotals.{SelectTotals}
 use Rattle.ob_verdict.specs.declared.outcome.Outcome.{Outcome}
 use Rattle.ob_verdict.specs.declared.outcome.Outcome.TheVariants.{Rows, Refused}
 use Rattle.ob_verdict.specs.Outcomes.{IsAnswer, Partly}
-use Rattle.ob_inflight.specs.Answers.{Finishes, error_of}
+use Rattle.ob_inflight.specs.Answers.{error_of}
 use Rattle.ob_stages.specs.declared.reading.Reading.{Reading}
 use Rattle.ob_stages.specs.declared.groups.GroupsFlight.{GroupsFlight}
-use Rattle.ob_stages.specs.Reading.{AnswersTotals, EndsAs, HaltsTotals, IsReading, is_over, places_of}
+use Rattle.ob_stages.specs.Reading.{AnswersTotals, EndsAs, HaltsTotals, is_over, places_of}
 use Rattle.ob_stages.specs.Groups.{IsGrouping, items_of}
 use Rattle.ob_stages.specs.Totalling.{labels_at, outcome_at, totalled, totalled_answer}
-use Rattle.ob_stages.proofs.ReadingEnds.{all_read, answered_by, fault_answered, finishes_err, finishes_ok, last_read, of_emitter, reading_ends, silent}
-use Rattle.ob_stages.proofs.TotalsLemmas.{all_events, are_many, begun_rows, by_count, grouped_as, is_answer, items_fit, items_labels, leads_join, leads_none, not_many, partly_rows, prints_rows}
+use Rattle.ob_stages.proofs.ReadingEnds.{all_read, answered_by, fault_answered, last_read, of_emitter, reading_ends, silent}
+use Rattle.ob_stages.proofs.TotalsLemmas.{all_events, are_many, begun_rows, by_count, grouped_as, is_answer, items_fit, items_labels, not_many, partly_rows, prints_rows}
 
 -- it was answered
 abbrev pub ended_by : Outcome → GroupsFlight → GroupsFlight

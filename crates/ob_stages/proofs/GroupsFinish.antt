@@ -1,5 +1,5 @@
 -- The end of a SELECT with GROUP BY in flight.
-use Rattle.std.proofs.Common.{◌≡◌, ◌++◌, ◌≤◌, ◌<◌, ◌+◌, ℕ, Bool, true, false, List, [], ◌∷◌, length, filter, Option, Some, None, Ok, Err, Result, refl, sym, ◌∙◌, ap, subst, arith}
+use Rattle.std.proofs.Common.{◌≡◌, ◌++◌, ◌≤◌, ◌<◌, ◌+◌, ℕ, Bool, true, false, List, [], ◌∷◌, length, filter, None, Ok, Err, Result, sym, subst, arith}
 use Rattle.ob_base.specs.declared.emit.EmitErr.{EmitErr}
 use Rattle.ob_base.specs.declared.refusal.Refusal.TheVariants.{StoreFault, TooManyGroups}
 use Rattle.ob_base.specs.Events.{Event, Close, row_events, Leads, IsEmitted, IsHalted}

@@ -1,9 +1,8 @@
 -- A step of a SELECT with GROUP BY in flight.
-use Rattle.std.proofs.Common.{◌≡◌, ◌⊎◌, ◌≤◌, ◌+◌, ℕ, Bool, true, false, List, [], Option, Some, None, Ok, Err, refl, sym, ◌∙◌, ap, subst}
+use Rattle.std.proofs.Common.{◌≡◌, ◌≤◌, ◌+◌, ℕ, false, List, Ok, Err, sym, ◌∙◌, subst}
 use Rattle.std.specs.Prelude.{Result, take, length}
 use Rattle.ob_base.specs.Events.{Event}
 use Rattle.ob_order.specs.Buckets.{BucketsState}
-use Rattle.ob_row.specs.declared.aggregate.Item.{Item}
 use Rattle.ob_row.specs.Spelling.{kind_at}
 use Rattle.ob_row.specs.Truth.{is_true}
 use Rattle.ob_vault.specs.Rows.{SameSizes}
@@ -19,7 +18,7 @@ use Rattle.ob_inflight.specs.Progress.{Steps, StopsStep}
 use Rattle.ob_stages.specs.declared.reading.Reading.{Reading}
 use Rattle.ob_stages.specs.declared.groups.GroupsFlight.{GroupsFlight}
 use Rattle.ob_stages.specs.Reading.{HaltsTotals, MayRead, NeedsTable, is_over, reading_progress, reads_left}
-use Rattle.ob_stages.specs.Groups.{FitsGroups, IsGrouping, IsKeyed, groups_refits, items_of}
+use Rattle.ob_stages.specs.Groups.{FitsGroups, IsGrouping, groups_refits, items_of}
 use Rattle.ob_stages.proofs.ReadingSteps.{below_all, fault_on, faults_on, fits_fault, fits_on, halts_read, read_on, reads_on, steps_fault, steps_read, stops_read, tells_err, tells_ok, unfailed}
 
 -- one more block was read, or the store failed the read

@@ -1,5 +1,5 @@
 -- The end of a SELECT of totals in flight.
-use Rattle.std.proofs.Common.{◌≡◌, ◌⊎◌, inl, inr, ◌++◌, ◌==◌, ◌||◌, ◌≤◌, ℕ, Bool, true, false, List, [], ◌∷◌, Option, Some, None, Ok, Err, Result, refl, sym, ◌∙◌, ap, subst, append_assoc}
+use Rattle.std.proofs.Common.{◌≡◌, ◌⊎◌, inl, inr, ◌++◌, ◌==◌, ◌||◌, ℕ, Bool, true, false, List, [], Option, Some, None, Ok, Err, Result, refl, sym, ◌∙◌, ap, subst, append_assoc}
 use Rattle.std.specs.Prelude.{OnOk, OnErr}
 use Rattle.std.proofs.lemmas.Bool.{eqb-true}
 use Rattle.std.proofs.lemmas.List.{append-nil}
@@ -15,9 +15,9 @@ use Rattle.ob_flat.specs.Words.{blocks_of}
 use Rattle.ob_group.specs.Steps.{EmitsAll}
 use Rattle.ob_verdict.specs.declared.outcome.Outcome.{Outcome}
 use Rattle.ob_verdict.specs.declared.outcome.Outcome.TheVariants.{Refused}
-use Rattle.ob_inflight.specs.Answers.{Finishes, More, Part, error_of}
+use Rattle.ob_inflight.specs.Answers.{Finishes, error_of}
 use Rattle.ob_stages.specs.declared.reading.Reading.{Reading}
-use Rattle.ob_stages.specs.Reading.{Answered, AnswersTotals, EndsAs, IsBoarded, IsReading, MayRead, is_over, places_of}
+use Rattle.ob_stages.specs.Reading.{Answered, AnswersTotals, EndsAs, IsReading, MayRead, is_over, places_of}
 use Rattle.ob_stages.proofs.TotalsLemmas.{leads_join}
 
 -- it was answered

@@ -1,7 +1,6 @@
 -- A SELECT of totals in flight of which nothing was asked.
-use Rattle.std.proofs.Common.{◌≡◌, ◌≤◌, ℕ, true, List, [], Option, Some, None, refl, sym, ◌∙◌, ap, subst, arith}
+use Rattle.std.proofs.Common.{◌≡◌, ◌≤◌, ℕ, [], Option, refl, sym, ◌∙◌, subst, arith}
 use Rattle.ob_base.specs.declared.config.Public.{Public}
-use Rattle.ob_base.specs.Events.{Event}
 use Rattle.ob_base.specs.Limits.{buffered}
 use Rattle.ob_row.specs.Condition.{Condition}
 use Rattle.ob_script.specs.Flights.{flight_public}

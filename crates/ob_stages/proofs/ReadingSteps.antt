@@ -1,15 +1,14 @@
 -- A read of a SELECT of totals in flight: what it asked, and how it stands behind it.
-use Rattle.std.proofs.Common.{◌≡◌, ◌⊎◌, inl, inr, ◌<◌, ◌≤◌, ◌+◌, ◌-◌, ◌++◌, ◌==◌, ◌||◌, ℕ, Bool, true, false, List, [], ◌∷◌, Option, Some, None, Ok, Err, refl, sym, ◌∙◌, ap, subst, arith}
-use Rattle.std.specs.Prelude.{Result, IfErr}
+use Rattle.std.proofs.Common.{◌≡◌, ◌⊎◌, inl, inr, ◌<◌, ◌≤◌, ◌+◌, ◌++◌, ◌==◌, ℕ, Bool, true, false, List, [], Option, Some, None, Ok, Err, refl, sym, ◌∙◌, ap, subst, arith}
+use Rattle.std.specs.Prelude.{Result}
 use Rattle.std.proofs.lemmas.Bool.{eqb-false}
 use Rattle.std.proofs.lemmas.List.{append-nil}
 use Rattle.std.proofs.Math.Arith.{lt_of_le-ne}
-use Rattle.ob_base.specs.declared.access.Access.{Access}
 use Rattle.ob_base.specs.declared.access.Access.TheVariants.{Read}
 use Rattle.ob_base.specs.declared.seen.End.{End}
-use Rattle.ob_base.specs.declared.seen.End.TheVariants.{Whole, Cut}
+use Rattle.ob_base.specs.declared.seen.End.TheVariants.{Cut}
 use Rattle.ob_base.specs.Accesses.{read_at}
-use Rattle.ob_base.specs.Events.{Event, Leads}
+use Rattle.ob_base.specs.Events.{Event}
 use Rattle.ob_row.specs.Slots.{Slots}
 use Rattle.ob_script.specs.Trace.{Served}
 use Rattle.ob_vault.specs.State.{World}
@@ -24,16 +23,15 @@ use Rattle.ob_flat.specs.Passes.{PassCut, SinkCause}
 use Rattle.ob_flat.specs.Words.{TamperedAt, blocks_of}
 use Rattle.ob_flat.proofs.Runs.{pass_wider}
 use Rattle.ob_flat.proofs.Scanning.{may_scan_lasts}
-use Rattle.ob_flat.proofs.Tables.{represents_before}
 use Rattle.ob_mean.proofs.EarlyLemmas.{neither}
 use Rattle.ob_verdict.specs.declared.outcome.Outcome.{Outcome}
 use Rattle.ob_verdict.specs.Outcomes.{Partly}
-use Rattle.ob_inflight.specs.Answers.{More, Part, Tells, EndsBy}
+use Rattle.ob_inflight.specs.Answers.{Tells}
 use Rattle.ob_inflight.specs.Leaving.{own_or_next}
 use Rattle.ob_inflight.specs.Progress.{Steps, StopsStep, WentOrFailed, act_of}
 use Rattle.ob_stages.specs.declared.reading.Reading.{Reading}
 use Rattle.ob_stages.specs.Reading.{Answered, EndsLater, FitsTable, HaltsTotals, IsBoarded, IsReading, MayRead, NeedsTable, is_fault, is_over, places_of, reading_progress, reads_left}
-use Rattle.ob_stages.specs.ReadingLaws.{next_read, reading_frames, reading_next}
+use Rattle.ob_stages.specs.ReadingLaws.{next_read, reading_next}
 use Rattle.ob_stages.specs.Totalling.{labels_at, totalled_answer}
 use Rattle.ob_stages.proofs.TotalsLemmas.{leads_none, partly_none}
 

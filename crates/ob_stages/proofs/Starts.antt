@@ -1,27 +1,22 @@
 -- Totals and groups in flight of which nothing was asked.
-use Rattle.std.proofs.Common.{◌≡◌, ◌≤◌, ℕ, ℤ, true, List, [], map, take, length, Option, Some, None, refl, sym, ◌∙◌, ap, subst, arith}
+use Rattle.std.proofs.Common.{◌≡◌, ◌≤◌, ℕ, List, map, take, length, Some, None, sym, ◌∙◌, ap, subst, arith}
 use Rattle.ob_base.specs.declared.config.Public.{Public}
 use Rattle.ob_base.specs.declared.skeleton.ColumnName.{ColumnName}
 use Rattle.ob_base.specs.Limits.{buffered}
-use Rattle.ob_base.specs.Schemas.{Columns, kind_width}
+use Rattle.ob_base.specs.Schemas.{kind_width}
 use Rattle.ob_order.specs.Buckets.{AreBucketed}
 use Rattle.ob_row.specs.declared.aggregate.Agg.{Agg}
-use Rattle.ob_row.specs.declared.aggregate.Item.{Item}
 use Rattle.ob_row.specs.Condition.{Condition}
 use Rattle.ob_row.specs.Spelling.{kind_at}
 use Rattle.ob_row.specs.Truth.{is_true}
 use Rattle.ob_script.specs.Flights.{flight_public}
-use Rattle.ob_vault.specs.State.{World}
-use Rattle.ob_vault.specs.Tied.{Ready}
 use Rattle.ob_flat.specs.declared.flat.Flat.{Flat}
-use Rattle.ob_flat.specs.Scans.{MayScan}
 use Rattle.ob_group.specs.Running.{AreUpTo, starts}
 use Rattle.ob_group.specs.Steps.{AreGathered, AreSummed}
 use Rattle.ob_group.proofs.Gathering.{gathered_none}
 use Rattle.ob_group.proofs.Summing.{summed_none}
 use Rattle.ob_names.specs.Names.{place_of}
 use Rattle.ob_mean.specs.Step.{item_of}
-use Rattle.ob_sql.specs.declared.stmt.Listed.{Listed}
 use Rattle.ob_sql.specs.declared.stmt.SelectTotals.{SelectTotals}
 use Rattle.ob_stages.specs.declared.groups.GroupsFlight.{GroupsFlight}
 use Rattle.ob_stages.specs.declared.totals.TotalsFlight.{TotalsFlight}

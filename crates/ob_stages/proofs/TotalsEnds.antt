@@ -1,12 +1,10 @@
 -- The answer of a SELECT of aggregates in flight.
-use Rattle.std.proofs.Common.{◌≡◌, ◌⊎◌, inl, ◌++◌, ◌≤◌, ℕ, Bool, true, false, List, [], ◌∷◌, map, filter, Option, Some, None, Ok, Err, Result, refl, sym, ◌∙◌, ap, subst, arith}
-use Rattle.std.specs.Prelude.{take, length}
+use Rattle.std.proofs.Common.{◌≡◌, inl, ◌++◌, ℕ, Bool, true, false, List, [], ◌∷◌, filter, None, Ok, Err, refl, sym, ◌∙◌, ap, subst, arith}
 use Rattle.ob_base.specs.declared.emit.EmitErr.{EmitErr}
 use Rattle.ob_base.specs.declared.refusal.Refusal.TheVariants.{StoreFault}
 use Rattle.ob_base.specs.declared.shown.Shown.{Shown}
 use Rattle.ob_base.specs.Events.{Event, Head, Row as RowEvent, Close, Leads}
 use Rattle.ob_base.specs.Schemas.{Columns}
-use Rattle.ob_row.specs.declared.aggregate.Agg.{Agg}
 use Rattle.ob_row.specs.Condition.{Condition}
 use Rattle.ob_row.specs.Slots.{rows as rows_in}
 use Rattle.ob_row.specs.Totals.{totals}
@@ -21,16 +19,15 @@ use Rattle.ob_mean.specs.declared.answer.Answer.{Answer}
 use Rattle.ob_mean.specs.declared.answer.Answer.TheVariants as A
 use Rattle.ob_mean.specs.Prints.{Prints, Begun}
 use Rattle.ob_sql.specs.declared.stmt.SelectTotals.{SelectTotals}
-use Rattle.ob_sql.specs.declared.stmt.Stmt.TheVariants.{SelectTotals as TotalsStmt}
 use Rattle.ob_verdict.specs.declared.outcome.Outcome.{Outcome}
 use Rattle.ob_verdict.specs.declared.outcome.Outcome.TheVariants.{Rows, Refused}
-use Rattle.ob_verdict.specs.Outcomes.{Emits, IsAnswer, Partly}
+use Rattle.ob_verdict.specs.Outcomes.{IsAnswer, Partly}
 use Rattle.ob_inflight.specs.Answers.{Finishes, error_of}
 use Rattle.ob_stages.specs.declared.reading.Reading.{Reading}
 use Rattle.ob_stages.specs.declared.totals.TotalsFlight.{TotalsFlight}
-use Rattle.ob_stages.specs.Reading.{AnswersTotals, EndsAs, HaltsTotals, IsReading, is_over, places_of}
+use Rattle.ob_stages.specs.Reading.{AnswersTotals, EndsAs, HaltsTotals, is_over, places_of}
 use Rattle.ob_stages.specs.Totals.{IsTotalling, aggs_of, row_events}
-use Rattle.ob_stages.specs.Totalling.{labels_at, outcome_at, totalled, totalled_answer}
+use Rattle.ob_stages.specs.Totalling.{labels_at, outcome_at, totalled_answer}
 use Rattle.ob_stages.proofs.ReadingEnds.{all_read, answered_by, fault_answered, finishes_err, finishes_ok, last_read, of_emitter, reading_ends, silent}
 use Rattle.ob_stages.proofs.TotalsLemmas.{aggs_labels, all_events, is_answer, leads_none, one_row, partly_rows, prints_rows}
 

@@ -1,8 +1,7 @@
 -- A step of a SELECT of aggregates in flight.
-use Rattle.std.proofs.Common.{◌≡◌, ◌⊎◌, ◌≤◌, ◌+◌, ℕ, ℤ, Bool, true, false, List, [], Option, Some, None, Ok, Err, refl, sym, ◌∙◌, ap, subst}
+use Rattle.std.proofs.Common.{◌≡◌, ◌≤◌, ◌+◌, ℕ, ℤ, false, List, Option, Ok, Err, sym, subst}
 use Rattle.std.specs.Prelude.{Result, take, length}
 use Rattle.ob_base.specs.Events.{Event}
-use Rattle.ob_row.specs.declared.aggregate.Agg.{Agg}
 use Rattle.ob_row.specs.Truth.{is_true}
 use Rattle.ob_vault.specs.State.{World}
 use Rattle.ob_flat.specs.declared.fault.OpErr.{OpErr}
@@ -16,7 +15,7 @@ use Rattle.ob_stages.specs.declared.reading.Reading.{Reading}
 use Rattle.ob_stages.specs.declared.totals.TotalsFlight.{TotalsFlight}
 use Rattle.ob_stages.specs.Reading.{HaltsTotals, MayRead, NeedsTable, is_over, reading_progress, reads_left}
 use Rattle.ob_stages.specs.Totals.{IsTotalling, aggs_of}
-use Rattle.ob_stages.proofs.ReadingSteps.{fault_on, faults_on, halts_read, read_on, reads_on, steps_fault, steps_read, stops_read, tells_err, tells_ok, unfailed}
+use Rattle.ob_stages.proofs.ReadingSteps.{fault_on, faults_on, halts_read, read_on, reads_on, steps_fault, steps_read, stops_read, tells_err, tells_ok}
 
 -- one more block was read, or the store failed the read
 abbrev pub totals_on : TotalsFlight → List (Option ℤ) → Reading → TotalsFlight

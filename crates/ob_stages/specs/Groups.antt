@@ -1,6 +1,6 @@
 -- A SELECT with GROUP BY in flight: the groups of what it has read.
-use Rattle.std.specs.Prelude.{◌≡◌, ◌≤◌, ◌<◌, ℕ, false, List, [], Option, Some, None, map, take, length}
-use Rattle.std.proofs.Common.{refl, sym, ◌∙◌, ap, subst, arith}
+use Rattle.std.specs.Prelude.{◌≡◌, ◌<◌, ℕ, false, List, [], Some, map, take, length}
+use Rattle.std.proofs.Common.{refl, ◌∙◌, subst, arith}
 use Rattle.ob_base.specs.declared.config.Public.{Public}
 use Rattle.ob_base.specs.declared.skeleton.ColumnName.{ColumnName}
 use Rattle.ob_base.specs.Events.{Event}

@@ -1,5 +1,5 @@
 -- A SELECT of totals in flight: what it asks next, and that it stands whatever is done to other regions.
-use Rattle.std.proofs.Common.{◌≡◌, ◌⊎◌, inl, inr, ◌<◌, ◌≤◌, ◌+◌, ◌*◌, ◌==◌, ◌||◌, ℕ, zero, suc, Bool, true, false, if◌then◌else◌, List, [], ◌∷◌, Option, Some, None, take, length, refl, sym, ◌∙◌, ap, subst, arith}
+use Rattle.std.proofs.Common.{◌≡◌, inl, inr, ◌<◌, ◌≤◌, ◌*◌, ◌==◌, ◌||◌, ℕ, zero, suc, Bool, true, false, if◌then◌else◌, List, [], ◌∷◌, Option, Some, None, take, length, refl, sym, ◌∙◌, ap, subst, arith}
 use Rattle.std.specs.Prelude.{slice_get}
 use Rattle.std.proofs.lemmas.Bool.{eqb-true, eqb-false}
 use Rattle.std.proofs.lemmas.Option.{slice_get_past}
@@ -7,8 +7,6 @@ use Rattle.std.proofs.Math.Arith.{lt_of_le-ne}
 use Rattle.ob_base.specs.declared.access.Access.{Access}
 use Rattle.ob_base.specs.declared.access.Access.TheVariants.{Read}
 use Rattle.ob_base.specs.declared.seen.End.{End}
-use Rattle.ob_base.specs.declared.seen.End.TheVariants.{Whole, Cut}
-use Rattle.ob_base.specs.declared.seen.Seen.{Seen}
 use Rattle.ob_base.specs.declared.skeleton.Skeleton.{Skeleton}
 use Rattle.ob_base.specs.Events.{Event}
 use Rattle.ob_script.specs.Flights.{prints}
@@ -17,15 +15,12 @@ use Rattle.ob_script.specs.Script.{until_end, whole_script}
 use Rattle.ob_script.specs.Trace.{Served}
 use Rattle.ob_script.proofs.Lengths.{length-count_part}
 use Rattle.ob_script.proofs.Places.{at_read}
-use Rattle.ob_sql.specs.Skeleton.{skeleton}
 use Rattle.ob_store.proofs.Steps.{none_before}
 use Rattle.ob_vault.specs.State.{World}
-use Rattle.ob_vault.specs.Calls.{Lasts}
 use Rattle.ob_vault.specs.Rows.{SameSizes}
 use Rattle.ob_vault.specs.Places.{RowsFit}
 use Rattle.ob_vault.proofs.Runs.{fit_same}
 use Rattle.ob_base.specs.Schemas.{width}
-use Rattle.ob_flat.specs.Emission.{SlotsToEnd}
 use Rattle.ob_flat.specs.Flats.{table_region}
 use Rattle.ob_flat.proofs.Scanning.{may_scan_lasts}
 use Rattle.ob_flat.proofs.Tables.{represents_before}
@@ -33,7 +28,7 @@ use Rattle.ob_verdict.specs.declared.outcome.Outcome.{Outcome}
 use Rattle.ob_inflight.specs.Leaving.{Leaves}
 use Rattle.ob_inflight.specs.Progress.{ActsAs, act_of, numbered}
 use Rattle.ob_stages.specs.declared.reading.Reading.{Reading}
-use Rattle.ob_stages.specs.Reading.{Answered, EndsLater, FitsTable, IsReading, MayRead, NeedsTable, end_now, is_over, public_of, reading_progress, served_of, stmt_of}
+use Rattle.ob_stages.specs.Reading.{Answered, EndsLater, FitsTable, IsReading, MayRead, NeedsTable, end_now, is_over, public_of, reading_progress, served_of}
 
 -- ---- what it has seen by now may be
 ends_now : (failed : Bool) (asked : ℕ) → EndsLater failed asked (end_now failed asked)

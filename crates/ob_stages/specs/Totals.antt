@@ -1,5 +1,5 @@
 -- A SELECT of aggregates in flight: the sums of what it has read.
-use Rattle.std.specs.Prelude.{◌≡◌, ◌≤◌, ℕ, false, List, [], ◌∷◌, ◌++◌, Option, Some, None, map, take, length, refl}
+use Rattle.std.specs.Prelude.{◌≡◌, ℕ, false, List, [], ◌∷◌, ◌++◌, None, map, take, length, refl}
 use Rattle.ob_base.specs.declared.config.Public.{Public}
 use Rattle.ob_base.specs.Events.{Event, Close}
 use Rattle.ob_row.specs.declared.aggregate.Agg.{Agg}
@@ -13,7 +13,6 @@ use Rattle.ob_group.specs.Steps.{AreSummed, totals_events}
 use Rattle.ob_group.proofs.Summing.{summed_lasts}
 use Rattle.ob_sql.specs.declared.stmt.SelectTotals.{SelectTotals}
 use Rattle.ob_inflight.specs.Leaving.{Leaves}
-use Rattle.ob_stages.specs.declared.reading.Reading.{Reading}
 use Rattle.ob_stages.specs.declared.totals.TotalsFlight.{TotalsFlight}
 use Rattle.ob_stages.specs.Reading.{IsReading, NeedsTable, StartsReading}
 use Rattle.ob_stages.specs.ReadingLaws.{reading_frames}

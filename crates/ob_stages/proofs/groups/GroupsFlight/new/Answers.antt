@@ -1,4 +1,4 @@
-use Rattle.std.proofs.Common.{◌≡◌, List, length, map, take, refl, sym, ◌∙◌, ap, subst, arith, append-nil}
+use Rattle.std.proofs.Common.{◌≡◌, List, length, map, take, refl, ◌∙◌, ap, subst, arith, append-nil}
 use Rattle.ob_names.specs.Names.{place_of}
 use Rattle.ob_mean.specs.Step.{item_of}
 use Rattle.ob_sql.specs.declared.stmt.Listed.{Listed}

@@ -1,4 +1,4 @@
-use Rattle.std.proofs.Common.{◌≡◌, List, [], length, take, Ok, Err, sym, subst}
+use Rattle.std.proofs.Common.{List, length, take, Ok, Err, sym, subst}
 use Rattle.ob_row.specs.Spelling.{kind_at}
 use Rattle.ob_group.specs.Held.{HasGroups}
 use Rattle.ob_group.specs.Labels.{header}

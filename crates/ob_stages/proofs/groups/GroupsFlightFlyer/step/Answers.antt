@@ -1,10 +1,9 @@
-use Rattle.std.proofs.Common.{◌≡◌, ℕ, List, length, take, sym, ◌∙◌, subst}
+use Rattle.std.proofs.Common.{ℕ, List, length, take, sym, ◌∙◌, subst}
 use Rattle.ob_row.specs.Spelling.{kind_at}
 use Rattle.ob_vault.specs.Places.{at}
 use Rattle.ob_group.specs.Held.{MayGrow}
 use Rattle.ob_group.specs.Passes.{AreItems}
 use Rattle.ob_sql.specs.declared.stmt.Listed.{Listed}
-use Rattle.ob_stages.specs.declared.reading.Reading.{Reading}
 use Rattle.ob_stages.specs.Groups.{items_of}
 use Rattle.ob_stages.proofs.ReadingSteps.{failed_by, not_fault, sink_read}
 use Rattle.ob_stages.proofs.TotalsLemmas.{items_fit}

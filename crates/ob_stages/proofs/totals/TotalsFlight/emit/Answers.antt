@@ -1,4 +1,4 @@
-use Rattle.std.proofs.Common.{◌≡◌, List, [], ◌∷◌, length, take, Ok, Err, subst}
+use Rattle.std.proofs.Common.{List, [], ◌∷◌, length, take, Ok, Err, subst}
 use Rattle.ob_base.specs.Events.{Close}
 use Rattle.ob_group.specs.Steps.{EmitsAll, totals_events}
 use Rattle.ob_sql.specs.declared.stmt.Listed.{Listed}

@@ -1,4 +1,4 @@
-use Rattle.std.proofs.Common.{◌≡◌, List, length, take, sym, ◌∙◌, subst}
+use Rattle.std.proofs.Common.{List, length, take, sym, ◌∙◌, subst}
 use Rattle.ob_vault.specs.Places.{at}
 use Rattle.ob_group.specs.Passes.{AreAggs}
 use Rattle.ob_sql.specs.declared.stmt.Listed.{Listed}
