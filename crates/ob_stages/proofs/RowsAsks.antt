@@ -1,23 +1,27 @@
 -- What each step of a SELECT of rows in flight asks of what it calls.
-use Rattle.std.proofs.Common.{◌≡◌, ◌⊎◌, ◌<◌, ◌≤◌, ◌+◌, ◌-◌, ◌*◌, ◌^◌, ℕ, Bool, true, false, List, [], refl, sym, ◌∙◌, ap, subst, arith}
-use Rattle.std.specs.Prelude.{Option, Some, None, length}
+use Rattle.std.proofs.Common.{◌≡◌, ◌⊎◌, ◌<◌, ◌≤◌, ◌+◌, ◌-◌, ◌*◌, ◌^◌, ◌∷◌, Fits, w32, ℕ, Bool, true, false, List, [], refl, sym, ◌∙◌, ap, subst, arith}
+use Rattle.std.specs.Prelude.{Option, Some, None, Result, length, take, drop}
 use Rattle.std.proofs.lemmas.Grind.{div_ceil_times}
 use Rattle.ob_base.specs.Events.{Event}
 use Rattle.ob_base.specs.Limits.{buffered_blocks}
+use Rattle.ob_flat.specs.declared.fault.OpErr.{OpErr}
+use Rattle.ob_flat.specs.declared.flat.Flat.{Flat}
 use Rattle.ob_flat.specs.Flats.{FitsRegion, IsSized}
 use Rattle.ob_flat.specs.Scans.{MayScan}
 use Rattle.ob_flat.specs.Words.{HasSpare, blocks_of}
 use Rattle.ob_flat.proofs.Tables.{fits_sized}
 use Rattle.ob_inflight.specs.Answers.{IsHeld}
+use Rattle.ob_row.specs.Truth.{is_true}
 use Rattle.ob_select.specs.Selecting.{Selection}
 use Rattle.ob_small.specs.Selection as Smalls
-use Rattle.ob_small.specs.Steps.{IsUnordered, MayWrite}
+use Rattle.ob_small.specs.Steps.{CollectsBlock, IsUnordered, MayWrite, WritesBlock}
 use Rattle.ob_small.proofs.Lengths.{pass_inside, product_within}
 use Rattle.ob_small.proofs.Steps.{may_write}
 use Rattle.ob_store.specs.Calls.{ChangesNothing}
 use Rattle.ob_store.specs.State.{StoreState}
 use Rattle.ob_vault.specs.Calls.{Went, none}
 use Rattle.ob_vault.specs.Numbers.{spent}
+use Rattle.ob_vault.specs.Rows.{SameSizes}
 use Rattle.ob_vault.specs.State.{VaultState, World}
 use Rattle.ob_vault.specs.Words.{MayAsk}
 use Rattle.ob_vault.proofs.Runs.{went_spent}
@@ -27,7 +31,7 @@ use Rattle.ob_stages.specs.declared.rows.Stage.TheVariants.{Count, Make, Read, W
 use Rattle.ob_stages.specs.RowsActs.{kept_some}
 use Rattle.ob_stages.specs.RowsStates.{RowsAt, HasCounted, HasRegion, IsPlaced, PlacedAt, emits_before, is_over, kept_blocks, part_blocks, passes_pad, reads_before, result_in, rows_skeleton, small, table_blocks, taken, whole_length, writes_before}
 use Rattle.ob_stages.specs.RowsHolds.{Collected, FitRows, FitsBlock, FitsShare, HasFilled, HasRead, HasShown, Holds, HoldsAt, IsCountOf, all_selected}
-use Rattle.ob_stages.specs.RowsSteps.{HasPart, IsHeldIn, StepsAt}
+use Rattle.ob_stages.specs.RowsSteps.{HasPart, IsHeldIn, ShowsBlock, StepsAt}
 use Rattle.ob_stages.proofs.RowsGoing.{few_at, results_most}
 use Rattle.ob_stages.proofs.RowsPlaces.{booked_some, counting, counting_some}
 use Rattle.ob_stages.proofs.RowsStands.{kept_inside}
@@ -52,17 +56,23 @@ module _ (g : RowsAt) (pass u seen others : ℕ) (kept : List (List ℕ)) (old :
   reads_at : HasRegion g (reads_before g.q pass u) × (pass < Smalls.passes (small g.q g.k)) × (u < table_blocks g.q)
   reads_at = let placed = is.holds.placed in subst (λ (s : Stage). PlacedAt s g) steps.at placed.at
 
+  pub read_some : 1 ≤ g.booked
+  read_some = booked_some g (Read pass u seen) steps.at refl refl is.holds.placed reads_at
+
   pub read_spare : HasSpare 1 old
-  read_spare = record { ready = steps.ready; spare = omega (arith, steps.spare, booked_some g (Read pass u seen) steps.at refl refl is.holds.placed reads_at) }
+  read_spare = record { ready = steps.ready; spare = omega (arith, steps.spare, read_some) }
 
   -- the number of the first row that is kept
+  pub read_first : pass * kept_blocks g.q ≤ 16777216
+  read_first =
+      let placed = is.holds.placed in
+      let counted = reads_at.0.counted in
+      omega (arith, pass_inside (Smalls.results (small g.q g.k)) (kept_blocks g.q) pass (kept_some g.q (rows_skeleton g.select) placed.flown) reads_at.1, results_most g.q (rows_skeleton g.select) placed.flown g.k counted.most)
+
   pub read_from : (pass * kept_blocks g.q) * g.q.public.pack ≤ 268435456
   read_from =
       let placed = is.holds.placed in
-      let counted = reads_at.0.counted in
-      let inside = pass_inside (Smalls.results (small g.q g.k)) (kept_blocks g.q) pass (kept_some g.q (rows_skeleton g.select) placed.flown) reads_at.1 in
-      let few = results_most g.q (rows_skeleton g.select) placed.flown g.k counted.most in
-      let product = product_within (pass * kept_blocks g.q) 16777216 g.q.public.pack (omega (arith, inside, few)) in
+      let product = product_within (pass * kept_blocks g.q) 16777216 g.q.public.pack read_first in
       omega (arith, product, placed.flown.settings.pack_most)
 
   module _ (rows : List (List ℕ)) (fit : FitRows g.q rows kept) where
@@ -87,10 +97,13 @@ module _ (g : RowsAt) (pass x own others : ℕ) (kept : List (List ℕ)) (old : 
   writes_held : (is.events ≡ []) × IsCountOf g old (all_selected g) × ((seen : ℕ) × Collected g pass (table_blocks g.q) seen kept old) × HasFilled g (pass * kept_blocks g.q + x) old
   writes_held = let held = is.holds in subst (λ (s : Stage). HoldsAt s g kept is.events old) steps.at held.at
 
+  pub write_some : 1 ≤ g.booked
+  write_some = booked_some g (Write pass x) steps.at refl refl is.holds.placed writes_at
+
   pub write_asks : MayAsk 1 old
   write_asks = record {
     ready = steps.ready;
-    spare = omega (arith, steps.spare, booked_some g (Write pass x) steps.at refl refl is.holds.placed writes_at);
+    spare = omega (arith, steps.spare, write_some);
     few = omega (arith, steps.few, few_at g is.holds.placed (Write pass x) steps.at refl);
   }
 
@@ -185,3 +198,44 @@ pub fits_still : (g h : RowsAt) (rows kept : List (List ℕ)) → h.q.public ≡
 fits_still g h rows kept public flat is =
     subst (λ (q : Selection). FitRows q rows kept) (λ i. record h.q { public = sym public i; flat = sym flat i })
     (let here : FitRows (record h.q { public = g.q.public; flat = g.q.flat }) rows kept = record { block = record { count = is.block.count; fit = is.block.fit }; share = record { space = is.share.space; wide = is.share.wide } } in here)
+
+-- ---- what came of it, in the words of the flight
+-- a number of 32 bits
+pub fits_as : (n m : ℕ) → n ≡ m → m ≤ 268435456 → Fits w32 n
+fits_as n m same few = omega (arith, same, few)
+
+pub collects_none : (g : RowsAt) (u : ℕ) (rows after : List (List ℕ)) (result as : Result ℕ OpErr) (old new : World) → FitsBlock g.q rows → SameSizes [] after → result ≡ as
+    → CollectsBlock (length rows) g.q.flat (is_true g.q.condition) u g.k 0 0 [] after result old new → CollectsBlock g.q.public.pack g.q.flat (is_true g.q.condition) u g.k 0 0 [] [] as old new
+collects_none g u rows after result as old new fit same is block =
+    subst (λ (r : Result ℕ OpErr). CollectsBlock g.q.public.pack g.q.flat (is_true g.q.condition) u g.k 0 0 [] [] r old new) is
+    (subst (λ (l : List (List ℕ)). CollectsBlock g.q.public.pack g.q.flat (is_true g.q.condition) u g.k 0 0 [] l result old new) (none_left after same.count)
+    (subst (λ (n : ℕ). CollectsBlock n g.q.flat (is_true g.q.condition) u g.k 0 0 [] after result old new) fit.count block))
+  where
+    none_left : (l : List (List ℕ)) → length l ≡ 0 → l ≡ []
+    none_left [] none = refl
+    none_left (x ∷ l) none = absurd (omega (arith, none))
+
+pub collects_as : (g : RowsAt) (pass u seen from k : ℕ) (rows kept after : List (List ℕ)) (result as : Result ℕ OpErr) (old new : World) → FitsBlock g.q rows → from ≡ (pass * kept_blocks g.q) * g.q.public.pack → k ≡ taken g.q g.k → result ≡ as
+    → CollectsBlock (length rows) g.q.flat (is_true g.q.condition) u seen from k kept after result old new
+    → CollectsBlock g.q.public.pack g.q.flat (is_true g.q.condition) u seen ((pass * kept_blocks g.q) * g.q.public.pack) (taken g.q g.k) kept after as old new
+collects_as g pass u seen from k rows kept after result as old new fit from_is k_is is block =
+    subst (λ (r : Result ℕ OpErr). CollectsBlock g.q.public.pack g.q.flat (is_true g.q.condition) u seen ((pass * kept_blocks g.q) * g.q.public.pack) (taken g.q g.k) kept after r old new) is
+    (subst (λ (m : ℕ). CollectsBlock g.q.public.pack g.q.flat (is_true g.q.condition) u seen ((pass * kept_blocks g.q) * g.q.public.pack) m kept after result old new) k_is
+    (subst (λ (m : ℕ). CollectsBlock g.q.public.pack g.q.flat (is_true g.q.condition) u seen m k kept after result old new) from_is
+    (subst (λ (n : ℕ). CollectsBlock n g.q.flat (is_true g.q.condition) u seen from k kept after result old new) fit.count block)))
+
+pub writes_as : (g : RowsAt) (pack place x there own : ℕ) (to : Flat) (kept : List (List ℕ)) (result as : Result (Unit {0}) OpErr) (old new : World) → pack ≡ g.q.public.pack → to ≡ result_in g.q g.k own → there ≡ place → result ≡ as
+    → WritesBlock pack to there (take pack (drop (x * pack) kept)) result old new
+    → WritesBlock g.q.public.pack (result_in g.q g.k own) place (take g.q.public.pack (drop (x * g.q.public.pack) kept)) as old new
+writes_as g pack place x there own to kept result as old new pack_is to_is there_is is block =
+    subst (λ (r : Result (Unit {0}) OpErr). WritesBlock g.q.public.pack (result_in g.q g.k own) place (take g.q.public.pack (drop (x * g.q.public.pack) kept)) r old new) is
+    (subst (λ (m : ℕ). WritesBlock g.q.public.pack (result_in g.q g.k own) m (take g.q.public.pack (drop (x * g.q.public.pack) kept)) result old new) there_is
+    (subst (λ (f : Flat). WritesBlock g.q.public.pack f there (take g.q.public.pack (drop (x * g.q.public.pack) kept)) result old new) to_is
+    (subst (λ (n : ℕ). WritesBlock n to there (take n (drop (x * n) kept)) result old new) pack_is block)))
+
+pub shows_as : {E : Type 0} (grew cut : E → E → List Event → Type 0) (faults : E → ℕ) (g : RowsAt) (x own : ℕ) (fresh : Flat) (rows : List (List ℕ)) (result as : Result ℕ OpErr) (old new : World) (out_old out_new : E) → FitsBlock g.q rows
+    → fresh ≡ result_in g.q g.k own → result ≡ as → ShowsBlock grew cut faults (length rows) g fresh x result old new out_old out_new → ShowsBlock grew cut faults g.q.public.pack g (result_in g.q g.k own) x as old new out_old out_new
+shows_as grew cut faults g x own fresh rows result as old new out_old out_new fit fresh_is is block =
+    subst (λ (r : Result ℕ OpErr). ShowsBlock grew cut faults g.q.public.pack g (result_in g.q g.k own) x r old new out_old out_new) is
+    (subst (λ (f : Flat). ShowsBlock grew cut faults g.q.public.pack g f x result old new out_old out_new) fresh_is
+    (subst (λ (n : ℕ). ShowsBlock grew cut faults n g fresh x result old new out_old out_new) fit.count block))

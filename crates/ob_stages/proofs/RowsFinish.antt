@@ -229,31 +229,32 @@ emit_cause_as : (A B : Type 0) (e : EmitErr) (a b : ℕ) → EmitCause {T = A} (
 emit_cause_as A B EmitErrs.Failed a b is = is
 emit_cause_as A B EmitErrs.NoMemory a b is = is
 
-module _ {E T : Type 0} (grew cut : E → E → List Event → Type 0) (faults : E → ℕ) (g : RowsAt) (out_old : E) (unfailed : g.failed ≡ false) (unpassed : passes_pad g ≡ false) where
+module _ (g : RowsAt) where
   abbrev head : List Event
   head = left_of (is_headless g.q.public.pad g.k) g.q
 
-  say_is : to_say_of g ≡ head ++ Close g.shown ∷ []
-  say_is = λ i. to_say (unfailed i) (unpassed i) head g.shown
+  say_is : g.failed ≡ false → passes_pad g ≡ false → to_say_of g ≡ head ++ Close g.shown ∷ []
+  say_is unfailed unpassed = λ i. to_say (unfailed i) (unpassed i) head g.shown
 
+module _ {E : Type 0} (T U : Type 0) (grew cut : E → E → List Event → Type 0) (faults : E → ℕ) (g : RowsAt) (out_old : E) (unfailed : g.failed ≡ false) (unpassed : passes_pad g ≡ false) where
   -- the header gave up
   pub answers_head : (e : EmitErr) (out_new : E) → Takes {T = T} grew cut faults (left_of (is_headless g.q.public.pad g.k) g.q) (Err e) out_old out_new → Answers grew cut faults g (Err e) out_old out_new
   answers_head e out_new takes = record {
     ok = tt;
-    err = record { going = unfailed; part = head; leads = takes.err; begun = (Close g.shown ∷ [], sym say_is) };
+    err = record { going = unfailed; part = head g; leads = takes.err; begun = (Close g.shown ∷ [], sym (say_is g unfailed unpassed)) };
     sink = emit_cause_as T Outcome e (faults out_old) (faults out_new) takes.cause;
   }
 
   -- or the last event
-  pub answers_close : {U : Type 0} (v : T) (e : EmitErr) (n : ℕ) (mid out_new : E) → n ≡ g.shown → Takes {T = T} grew cut faults (left_of (is_headless g.q.public.pad g.k) g.q) (Ok v) out_old mid
-      → Leads grew cut mid out_new (Close n ∷ []) → EmitCause {T = U} (Err e) (faults mid) (faults out_new) → Answers grew cut faults g (Err e) out_old out_new
-  answers_close {U} v e n mid out_new shown takes closes cause = record {
+  pub answers_close : (v : T) (e : EmitErr) (n : ℕ) (mid out_new : E) → n ≡ g.shown → Takes {T = T} grew cut faults (left_of (is_headless g.q.public.pad g.k) g.q) (Ok v) out_old mid → Leads grew cut mid out_new (Close n ∷ [])
+      → EmitCause {T = U} (Err e) (faults mid) (faults out_new) → Answers grew cut faults g (Err e) out_old out_new
+  answers_close v e n mid out_new shown takes closes cause = record {
     ok = tt;
     err = record {
       going = unfailed;
-      part = head ++ Close n ∷ [];
-      leads = leads_both grew cut out_old mid out_new head (Close n ∷ []) takes.ok closes;
-      begun = ([], append-nil (head ++ Close n ∷ []) ∙ ap (λ (k : ℕ). head ++ Close k ∷ []) shown ∙ sym say_is);
+      part = head g ++ Close n ∷ [];
+      leads = leads_both grew cut out_old mid out_new (head g) (Close n ∷ []) takes.ok closes;
+      begun = ([], append-nil (head g ++ Close n ∷ []) ∙ ap (λ (k : ℕ). head g ++ Close k ∷ []) shown ∙ sym (say_is g unfailed unpassed));
     };
     sink = subst (λ (f : ℕ). EmitCause {T = Outcome} (Err e) f (faults out_new)) takes.cause (emit_cause_as U Outcome e (faults mid) (faults out_new) cause);
   }

@@ -1,5 +1,5 @@
 //! What a SELECT of rows in flight emits.
-ghost use Rattle.std.specs.Prelude.{◌≡◌, ◌≤◌, ◌<◌, ◌*◌, ℕ, List, length};
+ghost use Rattle.std.specs.Prelude.{◌≡◌, ◌≤◌, ◌<◌, ◌+◌, ◌*◌, ℕ, List, length};
 ghost use Rattle.ob_vault.specs.Places.{at};
 ghost use Rattle.ob_vault.specs.Rows.{SameSizes};
 ghost use Rattle.ob_flat.specs.Emission.{Takes};
@@ -52,6 +52,7 @@ fn show<S: BlockStore, R: Revisions, E: Emit>(
         (rows_selection flight.now).cols }
     requires shown { (flight.now.shown ≤ place * length rows.old)
         × (flight.now.shown ≤ fresh.now.capacity) }
+    ensures spent { (S.state store.old).spare ≤ (S.state store.new).spare + 1 }
     ensures rows { SameSizes rows.old rows.new }
     ensures shows { ShowsBlock E.grew E.cut E.faults (length rows.old) (rows_at flight.now) fresh.now
         place result (at R.state vault.old (S.state store.old))
