@@ -23,7 +23,7 @@ use Rattle.ob_row.specs.Slots.{Slots}
 use Rattle.ob_script.specs.Parts.{count_part}
 use Rattle.ob_script.specs.Script.{blocks_of, extent_of, flat_script, select_part, source_script, table_script}
 use Rattle.ob_script.proofs.Lengths.{length-count_part}
-use Rattle.ob_select.specs.Selecting.{HoldsSeen, Selection, counted_after, region_of, selection_seen, walked_after}
+use Rattle.ob_select.specs.Selecting.{HoldsSeen, Selection, counted_after, region_of, selection_script, selection_seen, walked_after}
 use Rattle.ob_select.proofs.ResultParts.{some_buffered}
 use Rattle.ob_select.proofs.SelectHeld.{held_empty}
 use Rattle.ob_select.proofs.SelectLength.{select_length}
@@ -63,6 +63,9 @@ module _ (p : Public) (i : ℕ) (t : Table) (name : List ℕ) (select : SelectRo
       ∙ sym (ap (λ (o : Option (Stored ℕ)). option_map_or (table_script (record p { pad = pad }) now) o []) (stored_found name p.tables i t names get named))
       ∙ sym (ap (source_script (record p { pad = pad }) now) of_table)
 
+  pub script_of_table : (now : Seen) → selection_script q now p.next_region ≡ rows_script p select now
+  script_of_table now = script_by p.pad now
+
   pub count_of_table : count_end p (rows_skeleton select) ≡ counted_after q
   count_of_table =
       ap length (sym (script_by None (seen_to Whole))) ∙ ap length (append-nil (count_part t.region (blocks_of p (extent_of (region_of q)))))
@@ -71,7 +74,7 @@ module _ (p : Public) (i : ℕ) (t : Table) (name : List ℕ) (select : SelectRo
   no_ending : ending_len (rows_skeleton select) ≡ 0
   no_ending = ap (λ (source : Source). ending_len (RowsSkeleton source select.list)) of_table
 
-  walk_of_table : 1 ≤ p.pack → 3 * p.pack + 1 ≤ p.buffer → (now : Seen) → walk_end p (rows_skeleton select) now ≡ walked_after q now
+  pub walk_of_table : 1 ≤ p.pack → 3 * p.pack + 1 ≤ p.buffer → (now : Seen) → walk_end p (rows_skeleton select) now ≡ walked_after q now
   walk_of_table some blocks now =
       let enough = some_buffered p.pack p.buffer some blocks in
       let long = ap length (sym (script_by p.pad (record now { then = None }))) ∙ select_length p some enough (record now { then = None }) p.next_region 0 (region_of q) [] in

@@ -66,6 +66,7 @@ use Rattle.ob_oram.specs.declared.index.Index.{Index}
 use Rattle.ob_tables.proofs.FoundLemmas.{heading_found, shape_found}
 use Rattle.ob_tables.proofs.HeldLemmas.{held_at}
 use Rattle.ob_select.proofs.SelectLength.{select_length}
+use Rattle.ob_exec.proofs.RowsOfTable.{capacity_of, count_of_table, schema_of, script_of_table, shape_of, slots_held, walk_of_table}
 use Rattle.ob_exec.proofs.RowsStated.{ends_stated, may_stated}
 use Rattle.ob_tables.proofs.TableLemmas.{flat_kept, region_below, stored_found}
 use Rattle.ob_select.proofs.ResultParts.{some_buffered}
@@ -98,49 +99,26 @@ some_of n q some least = grind arith
 
 module _ {R : Type 0} (state : R → RevState) (old : Engine R) (s s1 : StoreState) (i : ℕ) (t : Table) (name : List ℕ) (select : SelectRows)
     (agrees : Agrees state old s) (get : slice_get old.public.tables i ≡ Some t) (named : t.heading.name ≡ name) (of_table : select.source ≡ OneTable name) (unkeyed : is_access old.public (rows_skeleton select) ≡ false) where
-  -- its table is flat
-  shape : t.heading.shape ≡ FlatShape
-  shape = shape_found name old.public.tables i t agrees.tables.names get named (sym (ap (λ (source : Source). is_access old.public (RowsSkeleton source select.list)) of_table) ∙ unkeyed)
+  -- what is known of its table by what is public
+  schema_is : t.heading.schema ≡ (selection old.public select).flat.schema
+  schema_is = schema_of old.public i t name select agrees.tables.names get named of_table unkeyed
 
-  found : heading_at name (headings_of old.public.tables) ≡ Some t.heading
-  found = heading_found name old.public.tables i t agrees.tables.names get named
-
-  pub schema_is : t.heading.schema ≡ (selection old.public select).flat.schema
-  schema_is =
-      sym (ap (λ (source : Source). source_columns source (headings_of old.public.tables)) of_table ∙ ap (λ (o : Option Heading). option_map_or (λ (h : Heading). h.schema) o []) found)
-
-  pub capacity_is : t.heading.capacity ≡ (selection old.public select).flat.capacity
-  capacity_is = sym (ap (counted_slots old.public) of_table ∙ ap (λ (o : Option Heading). option_map_or (λ (h : Heading). h.capacity) o 0) found)
+  capacity_is : t.heading.capacity ≡ (selection old.public select).flat.capacity
+  capacity_is = capacity_of old.public i t name select agrees.tables.names get named of_table unkeyed
 
   abbrev pub q : Selection
   q = stated old.public select t.region 0
 
-  -- what is asked is what the statement asks
-  script_by : (pad : Option ℕ) (now : Seen) → select_part (record old.public { pad = pad }) now old.vault.next (extent_of (region_of q)) [] ≡ rows_script (record old.public { pad = pad }) select now
-  script_by pad now =
-      (λ j. select_part (record old.public { pad = pad }) now (sym agrees.next j) (extent_of (record { heading = record { name = []; schema = sym schema_is j; capacity = sym capacity_is j; shape = FlatShape }; held = t.region })) [])
-      ∙ sym (shape_is (record old.public { pad = pad }) now.leaf (flat_script (record old.public { pad = pad }) now) (stored_region t) shape)
-      ∙ sym (ap (λ (o : Option (Stored ℕ)). option_map_or (table_script (record old.public { pad = pad }) now) o []) (stored_found name old.public.tables i t agrees.tables.names get named))
-      ∙ sym (ap (source_script (record old.public { pad = pad }) now) of_table)
-
   script_is : (now : Seen) → selection_script q now old.vault.next ≡ rows_script old.public select now
-  script_is now = script_by old.public.pad now
+  script_is now =
+      ap (λ (n : ℕ). selection_script q now n) (sym agrees.next)
+      ∙ script_of_table old.public i t name select agrees.tables.names get named of_table unkeyed now
 
   count_is : count_end old.public (rows_skeleton select) ≡ counted_after q
-  count_is =
-      ap length (sym (script_by None (seen_to Whole))) ∙ ap length (append-nil (count_part t.region (blocks_of old.public (extent_of (region_of q)))))
-      ∙ length-count_part t.region (blocks_of old.public (extent_of (region_of q)))
-
-  no_ending : ending_len (rows_skeleton select) ≡ 0
-  no_ending = ap (λ (source : Source). ending_len (RowsSkeleton source select.list)) of_table
+  count_is = count_of_table old.public i t name select agrees.tables.names get named of_table unkeyed
 
   walk_is : (now : Seen) → walk_end old.public (rows_skeleton select) now ≡ walked_after q now
-  walk_is now =
-      let some = agrees.settings.pack_least in
-      let enough = some_buffered old.public.pack old.public.buffer agrees.settings.pack_least agrees.settings.blocks in
-      let long = ap length (sym (script_is (record now { then = None }))) ∙ select_length old.public some enough (record now { then = None }) old.vault.next 0 (region_of q) [] in
-      let none = no_ending in
-      omega (arith, long, none)
+  walk_is now = walk_of_table old.public i t name select agrees.tables.names get named of_table unkeyed agrees.settings.pack_least agrees.settings.blocks now
 
   pub counts_some : 1 ≤ count_end old.public (rows_skeleton select)
   counts_some =
@@ -161,13 +139,10 @@ module _ {R : Type 0} (state : R → RevState) (old : Engine R) (s s1 : StoreSta
 
     holds_slots : (indexes : List Index) (tables : Tables) → AreHeld old.public.pack indexes old.public.tables tables before → Represents old.public.pack q.flat (slots_of old.public select tables) ready
     holds_slots indexes tables held =
-        let beside = held_at old.public.pack indexes name old.public.tables tables i t before agrees.tables.names held get named shape in
-        let slots_is : beside.table.held.slots ≡ slots_of old.public select tables =
-        sym (ap (λ (source : Source). source_slots old.public source tables) of_table ∙ ap (λ (o : Option (Stored Held)). option_map_or (λ (x : Stored Held). x.held.slots) o []) beside.found) in
         let flat_is : flat_of t ≡ q.flat = λ j. record { schema = schema_is j; capacity = capacity_is j; region = t.region } in
-        subst (λ (slots : Slots). Represents old.public.pack q.flat slots ready) slots_is
-        (subst (λ (flat : Flat). Represents old.public.pack flat beside.table.held.slots ready) flat_is
-        (represents_rests _ s s1 rests old.public.pack (flat_of t) beside.table.held.slots beside.represents))
+        subst (λ (flat : Flat). Represents old.public.pack flat (slots_of old.public select tables) ready) flat_is
+        (represents_rests _ s s1 rests old.public.pack (flat_of t) (slots_of old.public select tables)
+        (slots_held old.public i t name select agrees.tables.names get named of_table unkeyed indexes tables before held))
 
     abbrev to_end : SourceToEnd old.public before after → SelectsToEnd q ready after
     to_end x = record { tells = subst (λ (b : Bool). IsTrue b) (sym rests.tells) x.tells; slots = slots_of old.public select x.tables; is = holds_slots x.indexes x.tables x.held; nolie = x.nolie }
@@ -302,7 +277,7 @@ module _ {R : Type 0} (state : R → RevState) (old : Engine R) (s s1 : StoreSta
           flat = subst (λ (f : Flat). IsFlat old.public.pack f (at state old.vault s1)) flat_is
               (flat_kept (from old.vault.next) old.public.pack (flat_of t) (world_of state old s) (at state old.vault s1) (went_rests _ s s1 rests (from old.vault.next) agrees.ready).lasts
               (λ above. let below = region_below old.public.pack i old.public.tables t _ agrees.ready agrees.tables get in omega (arith, below, above))
-              ((agrees.tables.each i t get).written shape).flat);
+              ((agrees.tables.each i t get).written (shape_of old.public i t name select agrees.tables.names get named of_table unkeyed)).flat);
           size = table_size;
           columns = table_columns;
         }
