@@ -1,28 +1,19 @@
 -- A SELECT of the rows of a table.
-use Rattle.std.proofs.Common.{◌≡◌, inl, ◌≤◌, ◌<◌, ◌+◌, ◌-◌, ℕ, Bool, false, List, [], ◌++◌, length, Option, Some, None, Ok, Err, Result, refl, sym, ◌∙◌, ap, subst, arith, append-nil}
+use Rattle.std.proofs.Common.{◌≡◌, inl, ◌≤◌, ◌<◌, ◌+◌, ◌-◌, ℕ, Bool, false, List, [], ◌++◌, length, Some, None, Ok, Err, Result, refl, sym, ◌∙◌, ap, subst, arith, append-nil}
 use Rattle.std.specs.Prelude.{IsTrue, nat_le, slice_get}
 use Rattle.std.proofs.lemmas.Bool.Decides.{nat_tests}
 use Rattle.std.specs.Int.{div_ceil}
-use Rattle.std.specs.Option.{option_map_or}
-use Rattle.ob_base.specs.declared.schema.Shape.TheVariants.{Flat as FlatShape}
 use Rattle.ob_base.specs.declared.access.Access.{Access}
 use Rattle.ob_base.specs.declared.config.Public.{Public}
-use Rattle.ob_base.specs.declared.schema.Heading.{Heading}
 use Rattle.ob_base.specs.declared.schema.Table.{Table}
 use Rattle.ob_base.specs.declared.seen.Seen.{Seen}
-use Rattle.ob_base.specs.declared.seen.End.TheVariants.{Whole}
 use Rattle.ob_base.specs.declared.shown.Shown.{Shown}
-use Rattle.ob_base.specs.declared.skeleton.Skeleton.TheVariants.{Rows as RowsSkeleton}
-use Rattle.ob_base.specs.declared.skeleton.Source.{Source}
 use Rattle.ob_base.specs.declared.skeleton.Source.TheVariants.{Table as OneTable}
 use Rattle.ob_base.specs.Events.{Event, IsEmitted}
 use Rattle.ob_base.specs.Schemas.{Columns}
-use Rattle.ob_base.specs.Stored.{Stored, headings_of, heading_at, stored_region}
+use Rattle.ob_base.specs.Stored.{headings_of}
 use Rattle.ob_row.specs.Condition.{Condition}
 use Rattle.ob_row.specs.Slots.{Slots}
-use Rattle.ob_script.specs.Parts.{count_part}
-use Rattle.ob_script.specs.Script.{blocks_of, extent_of, flat_script, select_part, source_script, table_script}
-use Rattle.ob_script.proofs.Lengths.{length-count_part}
 use Rattle.ob_store.specs.State.{StoreState}
 use Rattle.ob_vault.specs.Tied.{ReadsIn}
 use Rattle.ob_store.specs.Calls.{ChangesNothing}
@@ -41,16 +32,13 @@ use Rattle.ob_select.proofs.UntilLemmas.{until_from}
 use Rattle.ob_flat.specs.Passes.{PassCut, is_of_access}
 use Rattle.ob_flat.proofs.Resting.{represents_rests}
 use Rattle.ob_flat.proofs.Runs.{pass_after}
-use Rattle.ob_mean.specs.Lawful.{counted_slots}
-use Rattle.ob_names.specs.Names.{source_columns}
 use Rattle.ob_mean.specs.Conditions.{where_at}
 use Rattle.ob_mean.specs.Refusals.{listed, limits_of}
 use Rattle.ob_mean.proofs.EarlyLemmas.{allowed}
-use Rattle.ob_mean.proofs.FlatLemmas.{shape_is}
 use Rattle.ob_verdict.proofs.AcceptedProof.{places_fit}
-use Rattle.ob_mean.specs.Replay.{count_end, done_of, ending_len, held_if, walk_end, is_access}
+use Rattle.ob_mean.specs.Replay.{count_end, done_of, held_if, walk_end, is_access}
 use Rattle.ob_mean.specs.Step.{printed_places}
-use Rattle.ob_mean.specs.Verdict.{Held, Tables, is_late, source_slots, ended as seen_to}
+use Rattle.ob_mean.specs.Verdict.{Tables, is_late}
 use Rattle.ob_sql.specs.declared.stmt.SelectRows.{SelectRows}
 use Rattle.ob_sql.specs.declared.stmt.Stmt.TheVariants.{SelectRows as RowsStmt}
 use Rattle.ob_verdict.specs.Outcomes.{refusal_now}
@@ -59,17 +47,13 @@ use Rattle.ob_select.specs.declared.selecting.Selected.{Selected}
 use Rattle.ob_select.specs.declared.selecting.Selected.TheVariants.{Rows, Refused}
 use Rattle.ob_tables.specs.Agreeing.{Agrees, world_of, count_of}
 use Rattle.ob_tables.specs.Engines.{flat_of}
-use Rattle.ob_select.specs.Selecting.{HoldsSeen, MaySelect, Selection, SelectsFrom, SelectsToEnd, SelectsToHalt, EmitsSelected, answer_events, counted_after, from, padded_after, region_of, selection_seen, selection_script, walked_after}
+use Rattle.ob_select.specs.Selecting.{HoldsSeen, MaySelect, Selection, SelectsFrom, SelectsToEnd, SelectsToHalt, EmitsSelected, answer_events, counted_after, from, padded_after, selection_seen, selection_script, walked_after}
 use Rattle.ob_exec.specs.Sources.{EmitsRows, EndsRows, HaltsRows, HoldsRows, ReadsMeant, SelectsRows, SourceToEnd, SourceToHalt, rows_script, rows_skeleton, selection, slots_of, stated}
 use Rattle.ob_tables.specs.Telling.{AreHeld}
 use Rattle.ob_oram.specs.declared.index.Index.{Index}
-use Rattle.ob_tables.proofs.FoundLemmas.{heading_found, shape_found}
-use Rattle.ob_tables.proofs.HeldLemmas.{held_at}
-use Rattle.ob_select.proofs.SelectLength.{select_length}
 use Rattle.ob_exec.proofs.RowsOfTable.{capacity_of, count_of_table, schema_of, script_of_table, shape_of, slots_held, walk_of_table}
 use Rattle.ob_exec.proofs.RowsStated.{ends_stated, may_stated}
-use Rattle.ob_tables.proofs.TableLemmas.{flat_kept, region_below, stored_found}
-use Rattle.ob_select.proofs.ResultParts.{some_buffered}
+use Rattle.ob_tables.proofs.TableLemmas.{flat_kept, region_below}
 use Rattle.ob_tables.proofs.SourceColumns.{listed_few}
 
 pub not_late : (m : ℕ) → is_late m ≡ false → m < 9223372036854775808

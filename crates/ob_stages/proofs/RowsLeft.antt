@@ -1,18 +1,16 @@
 -- What is left to ask of a SELECT of rows in flight where its result is made, and where it prints.
 use Rattle.std.proofs.Common.{◌≡◌, ◌≤◌, ◌+◌, ◌*◌, ◌∷◌, ◌++◌, ℕ, zero, suc, Bool, true, false, IsTrue, List, [], refl, sym, ◌∙◌, ap, subst, arith, append-nil, append_assoc, length-append}
-use Rattle.std.specs.Prelude.{Option, Some, None, drop, length, slice_get, unwrap_or}
+use Rattle.std.specs.Prelude.{None, drop, length, slice_get, unwrap_or}
 use Rattle.std.specs.Int.{div_ceil}
 use Rattle.std.specs.List.{list_all}
 use Rattle.std.proofs.lemmas.Bool.{and_parts}
 use Rattle.ob_base.specs.declared.access.Access.{Access}
 use Rattle.ob_base.specs.declared.seen.End.{End}
-use Rattle.ob_base.specs.declared.seen.Seen.{Seen}
 use Rattle.ob_base.specs.declared.skeleton.Skeleton.{Skeleton}
 use Rattle.ob_base.specs.Accesses.{make_at}
 use Rattle.ob_base.specs.Lists.{each}
 use Rattle.ob_base.specs.Schemas.{width}
-use Rattle.ob_inflight.specs.Progress.{act_of}
-use Rattle.ob_script.specs.FlightLaws.{MayFly, SelectsFromOne}
+use Rattle.ob_script.specs.FlightLaws.{SelectsFromOne}
 use Rattle.ob_script.specs.Flights.{AreSteadyAccesses, asked_at}
 use Rattle.ob_script.specs.Parts.{count_part, emission_part, small_part, small_pass}
 use Rattle.ob_script.specs.Script.{until_end, whole_script}
@@ -25,7 +23,7 @@ use Rattle.ob_small.specs.Selection as Smalls
 use Rattle.ob_stages.specs.declared.rows.Stage.{Stage}
 use Rattle.ob_stages.specs.declared.rows.Stage.TheVariants.{Count, Make, Read, Write, Emit, Discard, Over}
 use Rattle.ob_stages.specs.RowsActs.{kept_some, left_by, none_left, small_all, takes_seen, whole_takes, with_region}
-use Rattle.ob_stages.specs.RowsStates.{RowsAt, HasAsked, HasCounted, IsPlaced, PlacedAt, Takes, emits_before, end_by, is_printing, kept_blocks, progress_of, rows_skeleton, served_of, small, table_blocks}
+use Rattle.ob_stages.specs.RowsStates.{RowsAt, HasAsked, HasCounted, IsPlaced, PlacedAt, Takes, emits_before, end_by, is_printing, kept_blocks, rows_skeleton, served_of, small, table_blocks}
 
 -- ---- parts of a list
 dropped : (xs ys : List Access) (n : ℕ) → length xs ≡ n → drop n (xs ++ ys) ≡ ys
