@@ -1,6 +1,6 @@
 -- A SELECT of the rows of a table.
 use Rattle.std.proofs.Common.{◌≡◌, inl, ◌≤◌, ◌<◌, ◌+◌, ◌-◌, ℕ, Bool, false, List, [], ◌++◌, length, Some, None, Ok, Err, Result, refl, sym, ◌∙◌, ap, subst, arith, append-nil}
-use Rattle.std.specs.Prelude.{IsTrue, nat_le, slice_get}
+use Rattle.std.specs.Prelude.{IsTrue, slice_get}
 use Rattle.std.proofs.lemmas.Bool.Decides.{nat_tests}
 use Rattle.std.specs.Int.{div_ceil}
 use Rattle.ob_base.specs.declared.access.Access.{Access}
@@ -36,7 +36,7 @@ use Rattle.ob_mean.specs.Conditions.{where_at}
 use Rattle.ob_mean.specs.Refusals.{listed, limits_of}
 use Rattle.ob_mean.proofs.EarlyLemmas.{allowed}
 use Rattle.ob_verdict.proofs.AcceptedProof.{places_fit}
-use Rattle.ob_mean.specs.Replay.{count_end, done_of, held_if, walk_end, is_access}
+use Rattle.ob_mean.specs.Replay.{count_end, walk_end, is_access}
 use Rattle.ob_mean.specs.Step.{printed_places}
 use Rattle.ob_mean.specs.Verdict.{Tables, is_late}
 use Rattle.ob_sql.specs.declared.stmt.SelectRows.{SelectRows}
@@ -51,7 +51,7 @@ use Rattle.ob_select.specs.Selecting.{HoldsSeen, MaySelect, Selection, SelectsFr
 use Rattle.ob_exec.specs.Sources.{EmitsRows, EndsRows, HaltsRows, HoldsRows, ReadsMeant, SelectsRows, SourceToEnd, SourceToHalt, rows_script, rows_skeleton, selection, slots_of, stated}
 use Rattle.ob_tables.specs.Telling.{AreHeld}
 use Rattle.ob_oram.specs.declared.index.Index.{Index}
-use Rattle.ob_exec.proofs.RowsOfTable.{capacity_of, count_of_table, schema_of, script_of_table, shape_of, slots_held, walk_of_table}
+use Rattle.ob_exec.proofs.RowsOfTable.{capacity_of, count_of_table, rows_of_held, schema_of, script_of_table, shape_of, slots_held, walk_of_table}
 use Rattle.ob_exec.proofs.RowsStated.{ends_stated, may_stated}
 use Rattle.ob_tables.proofs.TableLemmas.{flat_kept, region_below}
 use Rattle.ob_tables.proofs.SourceColumns.{listed_few}
@@ -172,11 +172,9 @@ module _ {R : Type 0} (state : R → RevState) (old : Engine R) (s s1 : StoreSta
       }
 
       table_holds : (failed : Bool) (slots : Slots) → HoldsSeen q slots failed (length u.asked - length s1.asked) now → HoldsRows old.public select slots failed (length u.asked - length s.asked) now
-      table_holds failed slots is = record {
-        k = is.k ∙ (λ j. held_if (nat_le (sym count_is j) (done_of failed (length_is j))) (selection_seen q slots).k);
-        plan = is.plan ∙ (λ j. held_if (nat_le (sym count_is j) (done_of failed (length_is j))) (selection_seen q slots).plan);
-        second = is.second ∙ (λ j. held_if (nat_le (sym (walk_is (selection_seen q slots)) j) (done_of failed (length_is j))) (selection_seen q slots).then);
-      }
+      table_holds failed slots is =
+          rows_of_held old.public i t name select agrees.tables.names get named of_table unkeyed agrees.settings.pack_least agrees.settings.blocks slots failed (length u.asked - length s.asked) now
+          (subst (λ (n : ℕ). HoldsSeen q slots failed n now) length_is is)
 
       table_halts : (e : OpErr) → SelectsFrom grew cut faults q (Err e) now ready after out_old out_new → HaltsRows grew cut old.public select e now before after out_old out_new
       table_halts e is = record {
