@@ -18,6 +18,7 @@ pub mod RowsShown
 pub mod RowsLoud
 pub mod RowsQuiet
 pub mod RowsAsks
+pub mod RowsRoom
 pub mod RowsEmits
 pub mod RowsFinish
 pub mod RowsKnown
