@@ -204,7 +204,7 @@ fits_still g h rows kept public flat is =
 pub fits_as : (n m : ℕ) → n ≡ m → m ≤ 268435456 → Fits w32 n
 fits_as n m same few = omega (arith, same, few)
 
-pub collects_none : (g : RowsAt) (u : ℕ) (rows after : List (List ℕ)) (result found : Result ℕ OpErr) (old new : World) → FitsBlock g.q rows → SameSizes [] after → result ≡ as
+pub collects_none : (g : RowsAt) (u : ℕ) (rows after : List (List ℕ)) (result found : Result ℕ OpErr) (old new : World) → FitsBlock g.q rows → SameSizes [] after → result ≡ found
     → CollectsBlock (length rows) g.q.flat (is_true g.q.condition) u g.k 0 0 [] after result old new → CollectsBlock g.q.public.pack g.q.flat (is_true g.q.condition) u g.k 0 0 [] [] found old new
 collects_none g u rows after result found old new fit same is block =
     subst (λ (r : Result ℕ OpErr). CollectsBlock g.q.public.pack g.q.flat (is_true g.q.condition) u g.k 0 0 [] [] r old new) is
@@ -215,7 +215,7 @@ collects_none g u rows after result found old new fit same is block =
     none_left [] none = refl
     none_left (x ∷ l) none = absurd (omega (arith, none))
 
-pub collects_as : (g : RowsAt) (pass u seen from k : ℕ) (rows kept after : List (List ℕ)) (result found : Result ℕ OpErr) (old new : World) → FitsBlock g.q rows → from ≡ (pass * kept_blocks g.q) * g.q.public.pack → k ≡ taken g.q g.k → result ≡ as
+pub collects_as : (g : RowsAt) (pass u seen from k : ℕ) (rows kept after : List (List ℕ)) (result found : Result ℕ OpErr) (old new : World) → FitsBlock g.q rows → from ≡ (pass * kept_blocks g.q) * g.q.public.pack → k ≡ taken g.q g.k → result ≡ found
     → CollectsBlock (length rows) g.q.flat (is_true g.q.condition) u seen from k kept after result old new
     → CollectsBlock g.q.public.pack g.q.flat (is_true g.q.condition) u seen ((pass * kept_blocks g.q) * g.q.public.pack) (taken g.q g.k) kept after found old new
 collects_as g pass u seen from k rows kept after result found old new fit from_is k_is is block =
@@ -224,7 +224,7 @@ collects_as g pass u seen from k rows kept after result found old new fit from_i
     (subst (λ (m : ℕ). CollectsBlock g.q.public.pack g.q.flat (is_true g.q.condition) u seen m k kept after result old new) from_is
     (subst (λ (n : ℕ). CollectsBlock n g.q.flat (is_true g.q.condition) u seen from k kept after result old new) fit.count block)))
 
-pub writes_as : (g : RowsAt) (pack place x there own : ℕ) (to : Flat) (kept : List (List ℕ)) (result found : Result (Unit {0}) OpErr) (old new : World) → pack ≡ g.q.public.pack → to ≡ result_in g.q g.k own → there ≡ place → result ≡ as
+pub writes_as : (g : RowsAt) (pack place x there own : ℕ) (to : Flat) (kept : List (List ℕ)) (result found : Result (Unit {0}) OpErr) (old new : World) → pack ≡ g.q.public.pack → to ≡ result_in g.q g.k own → there ≡ place → result ≡ found
     → WritesBlock pack to there (take pack (drop (x * pack) kept)) result old new
     → WritesBlock g.q.public.pack (result_in g.q g.k own) place (take g.q.public.pack (drop (x * g.q.public.pack) kept)) found old new
 writes_as g pack place x there own to kept result found old new pack_is to_is there_is is block =
