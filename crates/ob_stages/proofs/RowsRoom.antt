@@ -52,9 +52,9 @@ pub room_none : {E : Type 0} (g : RowsAt) (others : ℕ) (e : E) (result : Resul
 room_none {E} g others e result s t is takes = let here : TakesRoom {E = E} g others (Err e) s t = subst (λ (r : Result ℕ E). TakesRoom g others r s t) is takes in here.padded
 
 -- ---- its region, in the words of the flight
-pub makes_as : (g : RowsAt) (pack capacity own : ℕ) (result answer : Result ℕ OpErr) (old new : World) → pack ≡ g.q.public.pack → capacity ≡ taken g.q g.k → result ≡ answer → MakesTable Any pack (table_of g.q.flat.schema capacity own) result old new
-    → MakesTable Any g.q.public.pack (result_in g.q g.k own) answer old new
-makes_as g pack capacity own result answer old new pack_is capacity_is is made =
+pub makes_as : (g : RowsAt) (pack capacity own : ℕ) (result found : Result ℕ OpErr) (old new : World) → pack ≡ g.q.public.pack → capacity ≡ taken g.q g.k → result ≡ found → MakesTable Any pack (table_of g.q.flat.schema capacity own) result old new
+    → MakesTable Any g.q.public.pack (result_in g.q g.k own) found old new
+makes_as g pack capacity own result found old new pack_is capacity_is is made =
     subst (λ (r : Result ℕ OpErr). MakesTable Any g.q.public.pack (result_in g.q g.k own) r old new) is
     (subst (λ (n : ℕ). MakesTable Any g.q.public.pack (table_of g.q.flat.schema n own) result old new) capacity_is
     (subst (λ (n : ℕ). MakesTable Any n (table_of g.q.flat.schema capacity own) result old new) pack_is made))
