@@ -22,4 +22,5 @@ pub mod RowsRoom
 pub mod RowsEmits
 pub mod RowsFinish
 pub mod RowsKnown
+pub mod RowsLeft
 pub mod RowsBoards
