@@ -1,3 +1,4 @@
+pub mod Faults
 pub mod TotalsLemmas
 pub mod ReadingStarts
 pub mod ReadingSteps
