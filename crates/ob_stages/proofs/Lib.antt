@@ -1,4 +1,4 @@
-pub mod Faults
+pub mod FaultLemmas
 pub mod TotalsLemmas
 pub mod ReadingStarts
 pub mod ReadingSteps

@@ -6,7 +6,7 @@ use Rattle.ob_stages.specs.declared.rows.Stage.{Stage}
 use Rattle.ob_stages.specs.declared.rows.Stage.TheVariants.{Emit}
 use Rattle.ob_stages.specs.RowsStates.{rows_at}
 use Rattle.ob_stages.specs.RowsSteps.{LoudStep}
-use Rattle.ob_stages.proofs.Faults.{failed_by, not_fault}
+use Rattle.ob_stages.proofs.FaultLemmas.{failed_by, not_fault}
 use Rattle.ob_stages.proofs.RowsAsks.{shows_as}
 use Rattle.ob_stages.proofs.RowsEmits.{loud_failed, loud_shown, loud_stopped}
 use Rattle.ob_stages.proofs.RowsGoing.{few_at, stepped}
