@@ -1,3 +1,4 @@
+pub mod FaultLemmas
 pub mod TotalsLemmas
 pub mod ReadingStarts
 pub mod ReadingSteps
@@ -18,6 +19,7 @@ pub mod RowsShown
 pub mod RowsLoud
 pub mod RowsQuiet
 pub mod RowsAsks
+pub mod RowsRoom
 pub mod RowsEmits
 pub mod RowsFinish
 pub mod RowsKnown
