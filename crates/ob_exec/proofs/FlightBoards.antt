@@ -249,5 +249,5 @@ module _ {R : Type 0} (state : R → RevState) (old : Engine R) (s s1 : StoreSta
       unfailed = λ i f at. (aboard_at i f at).1.1.1.failed;
     }
 
-  pub may_set_off : booked_by flight_kind flights ≤ s1.spare → MaySetOff old.public.pack (share_of (length stmts) old.public) flights (world_of state old s1)
+  pub may_set_off : booked_by flight_kind flights ≤ s1.spare → MaySetOff flight_kind old.public.pack (share_of (length stmts) old.public) flights (world_of state old s1)
   may_set_off spare = record { boards = λ rows kept block block_wide long wide. boarded rows kept block block_wide long wide spare }
