@@ -1,3 +1,4 @@
+pub mod FaultLemmas
 pub mod TotalsLemmas
 pub mod ReadingStarts
 pub mod ReadingSteps
