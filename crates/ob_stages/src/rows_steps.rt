@@ -11,7 +11,7 @@ ghost use Rattle.ob_stages.specs.RowsStates.{IsSizedAt, known_by, rows_at, rows_
 ghost use Rattle.ob_stages.specs.RowsHolds.{FitRows, FitsBlock, FitsShare, Holds};
 ghost use Rattle.ob_stages.specs.RowsSteps.{Clears, ForgetsOwn, HasPart, IsHeldIn, QuietStep, StepsAt, TakesRoom, counted_to};
 
-use crate::reading::is_fault;
+use crate::faults::is_fault;
 use crate::rows::{RowsFlight, Stage};
 use ob_base::{End, NoMemory, Plan};
 use ob_flat::{Flat, OpErr, clear_rows, discard, make_table};

@@ -5,7 +5,7 @@ use Rattle.ob_stages.specs.declared.rows.RowsFlight.{RowsFlight}
 use Rattle.ob_stages.specs.RowsStates.{RowsAt, rows_at}
 use Rattle.ob_stages.specs.RowsSteps.{QuietStep}
 use Rattle.ob_stages.proofs.RowsAsks.{collects_none}
-use Rattle.ob_stages.proofs.ReadingSteps.{failed_by, not_fault}
+use Rattle.ob_stages.proofs.FaultLemmas.{failed_by, not_fault}
 use Rattle.ob_stages.proofs.RowsQuiet.{quiet_count_failed, quiet_count_stopped, quiet_counted}
 use Rattle.ob_stages.proofs.rows.RowsFlight.count.Goals as goal
 

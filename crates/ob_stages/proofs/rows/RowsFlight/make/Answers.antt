@@ -7,7 +7,7 @@ use Rattle.ob_stages.specs.declared.rows.Stage.TheVariants.{Make, Read}
 use Rattle.ob_stages.specs.RowsStates.{rows_at, rows_selection, taken}
 use Rattle.ob_stages.specs.RowsSteps.{ForgetsOwn, QuietStep, gone_wrong}
 use Rattle.ob_stages.proofs.RowsAsks.{make_few, make_size, make_spare}
-use Rattle.ob_stages.proofs.ReadingSteps.{failed_by, not_fault}
+use Rattle.ob_stages.proofs.FaultLemmas.{failed_by, not_fault}
 use Rattle.ob_stages.proofs.RowsGoing.{few_at, sized_at, stepped}
 use Rattle.ob_stages.proofs.RowsPlaces.{booked_at}
 use Rattle.ob_stages.proofs.RowsQuiet.{quiet_made, quiet_make_failed, quiet_make_stopped, quiet_no_room}

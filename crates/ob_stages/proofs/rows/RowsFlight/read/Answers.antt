@@ -7,7 +7,7 @@ use Rattle.ob_stages.specs.declared.rows.Stage.TheVariants.{Read}
 use Rattle.ob_stages.specs.RowsStates.{kept_blocks, rows_at, rows_selection}
 use Rattle.ob_stages.specs.RowsSteps.{QuietStep, gone_to}
 use Rattle.ob_stages.proofs.RowsAsks.{collects_as, fits_as, read_first, read_from, read_some, read_spare}
-use Rattle.ob_stages.proofs.ReadingSteps.{failed_by, not_fault}
+use Rattle.ob_stages.proofs.FaultLemmas.{failed_by, not_fault}
 use Rattle.ob_stages.proofs.RowsGoing.{few_at}
 use Rattle.ob_stages.proofs.RowsQuiet.{quiet_read, quiet_read_failed, quiet_read_stopped}
 use Rattle.ob_stages.proofs.rows.RowsFlight.read.Goals as goal

@@ -8,7 +8,7 @@ use Rattle.ob_stages.specs.declared.rows.Stage.TheVariants.{Write}
 use Rattle.ob_stages.specs.RowsStates.{kept_blocks, rows_at, rows_selection}
 use Rattle.ob_stages.specs.RowsSteps.{Clears, HasPart, QuietStep, gone_to}
 use Rattle.ob_stages.proofs.RowsAsks.{write_asks, write_part_of, write_some, writes_as}
-use Rattle.ob_stages.proofs.ReadingSteps.{failed_by, not_fault}
+use Rattle.ob_stages.proofs.FaultLemmas.{failed_by, not_fault}
 use Rattle.ob_stages.proofs.RowsGoing.{few_at}
 use Rattle.ob_stages.proofs.RowsQuiet.{quiet_write, quiet_write_failed}
 use Rattle.ob_stages.proofs.rows.RowsFlight.write.Goals as goal
