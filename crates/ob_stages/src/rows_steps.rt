@@ -152,7 +152,16 @@ impl<'a> RowsFlight<'a> {
     {
         let n = self.k;
         let picked = collect_block(
-            store, vault, rows, &mut [], &self.flat, &self.pred, place, n, 0, 0,
+            store,
+            vault,
+            rows,
+            &mut [],
+            &self.flat,
+            &self.pred,
+            place,
+            n,
+            0,
+            0,
         );
         match picked {
             Ok(n) => {
