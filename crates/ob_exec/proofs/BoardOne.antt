@@ -1,7 +1,7 @@
 -- A statement before its flight: by what it goes, and the rows that fit it.
-use Rattle.std.proofs.Common.{◌≡◌, ◌≤◌, ◌<◌, ◌+◌, ◌*◌, ◌/◌, ℕ, Bool, ◌||◌, true, false, List, [], ◌∷◌, length, Option, None, refl, sym, ◌∙◌, ap, subst, arith}
-use Rattle.std.specs.Prelude.{IfSome, nat_lt, slice_get}
-use Rattle.std.proofs.lemmas.Option.{same_Some}
+use Rattle.std.proofs.Common.{◌≡◌, inl, inr, ◌≤◌, ◌<◌, ◌+◌, ◌-◌, ◌*◌, ◌/◌, ◌^◌, min, ℕ, Bool, ◌||◌, true, false, List, [], ◌∷◌, length, Option, None, refl, sym, ◌∙◌, ap, subst, arith}
+use Rattle.std.specs.Prelude.{nat_le, nat_lt, slice_get}
+use Rattle.std.proofs.lemmas.Bool.{cases_lt, le-leb, lt-leb}
 use Rattle.ob_base.specs.declared.config.Plan.TheVariants.{Small}
 use Rattle.ob_base.specs.declared.config.Planner.{Planner}
 use Rattle.ob_base.specs.declared.config.Planner.TheVariants.{Forced}
@@ -19,6 +19,7 @@ use Rattle.ob_flat.specs.declared.flat.Flat.{Flat}
 use Rattle.ob_flat.specs.Flats.{IsSized}
 use Rattle.ob_flat.specs.Words.{FitBlock}
 use Rattle.ob_mean.specs.Refusals.{Limits, breaks_key_rule, first_holding, has_wrong_type, is_out_of_range, is_past_limit, joins_off_key, joins_past, lacks_column, lacks_table, limits_of, listed, needs_key, takes_name}
+use Rattle.ob_mean.specs.Verdict.{is_late}
 use Rattle.ob_reopen.specs.Limits.{IsHeading}
 use Rattle.ob_script.specs.FlightLaws.{SelectsFromOne}
 use Rattle.ob_script.specs.Flights.{flight_public}
@@ -31,6 +32,13 @@ use Rattle.ob_stages.proofs.GroupsEnds.{share_few}
 use Rattle.ob_tables.specs.Engines.{IsFound, flat_of}
 use Rattle.ob_vault.specs.Rows.{Wide, row_at}
 use Rattle.ob_exec.specs.Boarding.{FitShares, MayFlyBy, early_of}
+
+-- a count that stands at the last value of a u64 is late
+pub late_same : (m n : ℕ) → n ≡ min m (2 ^ 64 - 1) → nat_le (2 ^ 63) n ≡ is_late m
+late_same m n count = elim (cases_lt m (2 ^ 63)) [
+  | inl early ↦ lt-leb (2 ^ 63) n (omega (arith, early, count)) ∙ sym (lt-leb (2 ^ 63) m early)
+  | inr late ↦ le-leb (2 ^ 63) n (omega (arith, late, count)) ∙ sym (le-leb (2 ^ 63) m late)
+]
 
 -- ---- its source
 pub from_one : (source : Source) (list : Option _) → SelectsFromOne (RowsSkeleton source list) → (name : List ℕ) × (source ≡ OneTable name)

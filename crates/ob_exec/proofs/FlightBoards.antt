@@ -1,5 +1,5 @@
 -- The statements of a flight may set off: each stands, and goes by what is public.
-use Rattle.std.proofs.Common.{◌≡◌, ◌≤◌, ◌<◌, ◌+◌, ◌*◌, ◌/◌, ◌^◌, ℕ, zero, suc, Bool, true, false, List, [], ◌∷◌, length, Option, Some, None, refl, sym, ◌∙◌, ap, subst, arith}
+use Rattle.std.proofs.Common.{◌≡◌, ◌≤◌, ◌<◌, ◌+◌, ◌-◌, ◌*◌, ◌/◌, ◌^◌, ℕ, zero, suc, Bool, true, false, List, [], ◌∷◌, length, Option, Some, None, refl, sym, ◌∙◌, ap, subst, arith}
 use Rattle.std.specs.Prelude.{nat_le, slice_get}
 use Rattle.std.proofs.lemmas.Bool.Decides.{nat_tests}
 use Rattle.std.proofs.lemmas.Nat.{div-add-mod', le-div}
@@ -59,6 +59,26 @@ use Rattle.ob_exec.proofs.BoardOne.{early_same, from_one, table_sized}
 use Rattle.ob_exec.proofs.FlightLists.{get_other}
 use Rattle.ob_exec.proofs.FlightRuns.{Boards}
 use Rattle.ob_exec.proofs.FlightStage.{HasTable, IsSet}
+
+-- the store is to have room for no more than a count holds
+pub booked_most : (late : Bool) (n : ℕ) (p : Public) (stmts : List Stmt) (flights : List Flight) → AreAboard late n p stmts flights → length stmts ≤ 8 → booked_by flight_kind flights < 2 ^ 64
+booked_most late n p stmts flights aboard few =
+    let sum = total_few (λ (f : Flight). (flight_progress f).booked) (2 ^ 59) flights
+    (λ i f at. let there = get_other flights stmts i f (sym aboard.size) at in (aboard.each i there.0 f there.1 at).few) in
+    let size = aboard.size in
+    omega (arith, sum, size, few)
+
+-- the rows of a block and of each share are rows of the room
+pub rows_fit : (n pack buffer : ℕ) → 1 ≤ n → 1 ≤ pack → 3 * pack + 1 ≤ buffer / n → pack + n * ((buffer / n - 2 * pack) / pack * pack) ≤ buffer
+rows_fit n pack buffer some least enough =
+    let share = (buffer / n - 2 * pack) / pack * pack in
+    let within : share + 2 * pack ≤ buffer / n = let whole = div-add-mod' (buffer / n - 2 * pack) pack in let turned : share ≡ pack * ((buffer / n - 2 * pack) / pack) = grind arith in omega (arith, whole, enough, turned) in
+    let times = product_within (share + 2 * pack) (buffer / n) n within in
+    let all = div-add-mod' buffer n in
+    let one = product_within 1 n pack some in
+    let left : (share + 2 * pack) * n ≡ n * share + 2 * (n * pack) = grind arith in
+    let right : buffer / n * n ≡ n * (buffer / n) = grind arith in
+    omega (arith, times, all, one, left, right)
 
 -- what each of a flight is
 pub flies_in : (p : Public) (m : ℕ) (stmts : List Stmt) → AreFlight p m stmts → (i : ℕ) (stmt : Stmt) → slice_get stmts i ≡ Some stmt → Flies p m stmt

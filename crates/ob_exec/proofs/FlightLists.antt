@@ -1,5 +1,5 @@
 -- The statements of a flight, those that fly for them, and what is seen of each.
-use Rattle.std.proofs.Common.{◌≡◌, ◌≤◌, ◌<◌, ◌+◌, ◌-◌, ℕ, zero, suc, Bool, true, false, List, [], ◌∷◌, ◌++◌, map, length, Option, Some, None, refl, sym, ◌∙◌, ap, inl, inr, arith}
+use Rattle.std.proofs.Common.{◌≡◌, ◌⊎◌, ◌≤◌, ◌<◌, ◌+◌, ◌-◌, ℕ, zero, suc, Bool, true, false, List, [], ◌∷◌, ◌++◌, map, length, Option, Some, None, refl, sym, ◌∙◌, ap, inl, inr, arith}
 use Rattle.std.specs.Prelude.{is_some, option_map, slice_get, slice_set, take}
 use Rattle.std.proofs.lemmas.Bool.{cases_lt}
 use Rattle.std.proofs.lemmas.List.{take_all, take_at}
@@ -52,6 +52,16 @@ get_mapped v xs i y at = from_map v (slice_get xs i) y (sym (slice_get-map v xs 
 
 pub map_get : {A B : Type 0} (v : A → B) (xs : List A) (i : ℕ) (x : A) → slice_get xs i ≡ Some x → slice_get (map v xs) i ≡ Some (v x)
 map_get v xs i x at = slice_get-map v xs i ∙ ap (option_map v) at
+
+-- one more is behind those that there were
+pub get_more : {A : Type 0} (xs : List A) (y : A) (i : ℕ) (z : A) → slice_get (xs ++ y ∷ []) i ≡ Some z → (slice_get xs i ≡ Some z) ⊎ ((i ≡ length xs) × (y ≡ z))
+get_more [] y zero z at = inr (refl, same_Some y z at)
+get_more [] y (suc i) z at = absurd (cc at)
+get_more (x ∷ xs) y zero z at = inl at
+get_more (x ∷ xs) y (suc i) z at = elim (get_more xs y i z at) [
+  | inl old ↦ inl old
+  | inr new ↦ inr (ap suc new.0, new.1)
+]
 
 -- a list in which one is put that maps alike maps alike
 pub map_put : {A B : Type 0} (v : A → B) (xs : List A) (i : ℕ) (x y : A) → slice_get xs i ≡ Some x → v y ≡ v x → map v (slice_set xs i y) ≡ map v xs

@@ -100,29 +100,29 @@ pub emitter_never : (error : EmitErr) → error_of error ≡ OpErrs.Failed → �
 emitter_never EmitErrs.Failed is = cc is
 emitter_never EmitErrs.NoMemory is = cc is
 
-module _ {E : Type 0} (grew cut : E → E → List Event → Type 0) (parted : E → E → ℕ → Outcome → Type 0) (place : ℕ) (between out : E) where
+module _ {E : Type 0} (grew cut : E → E → List Event → Type 0) (parted : E → E → ℕ → Outcome → Type 0) (Ends : Outcome → Type 0) (place : ℕ) (between out : E) where
   -- how the emitter ends, where it printed
-  pub ends_printing : (e : OpErr) (events : List Event) → (e ≡ OpErrs.Failed → ⊥) → EndsBy grew cut e between out events → StopsClosing grew cut parted (halt_of e) place events between out
+  pub ends_printing : (e : OpErr) (events : List Event) → (e ≡ OpErrs.Failed → ⊥) → EndsBy grew cut e between out events → StopsClosing grew cut parted Ends (halt_of e) place events between out
   ends_printing OpErrs.Failed events never ends = absurd (never refl)
   ends_printing (OpErrs.Tampered q x) events never ends = ends
   ends_printing OpErrs.Sink events never ends = inl ends
   ends_printing OpErrs.NoMemory events never ends = inl (inr ends)
 
   -- and where it didn't
-  pub ends_quiet : (e : OpErr) (events : List Event) → (e ≡ OpErrs.Failed → ⊥) → (e ≡ OpErrs.Sink → ⊥) → grew between out events → StopsClosing grew cut parted (halt_of e) place events between out
+  pub ends_quiet : (e : OpErr) (events : List Event) → (e ≡ OpErrs.Failed → ⊥) → (e ≡ OpErrs.Sink → ⊥) → grew between out events → StopsClosing grew cut parted Ends (halt_of e) place events between out
   ends_quiet OpErrs.Failed events never sink ends = absurd (never refl)
   ends_quiet (OpErrs.Tampered q x) events never sink ends = ends
   ends_quiet OpErrs.Sink events never sink ends = absurd (sink refl)
   ends_quiet OpErrs.NoMemory events never sink ends = inl (inl ends)
 
-  pub ends_finishing : (error : EmitErr) (events : List Event) → cut between out events → StopsClosing grew cut parted (halt_of (error_of error)) place events between out
+  pub ends_finishing : (error : EmitErr) (events : List Event) → cut between out events → StopsClosing grew cut parted Ends (halt_of (error_of error)) place events between out
   ends_finishing EmitErrs.Failed events ends = inl ends
   ends_finishing EmitErrs.NoMemory events ends = inl (inr ends)
 
-  pub ends_closing : (error : EmitErr) (events : List Event) (took : E) (outcome : Outcome) → grew between took events → parted took out place outcome
-      → StopsClosing grew cut parted (halt_of (error_of error)) place events between out
-  ends_closing EmitErrs.Failed events took outcome grew parted = inr (record { outcome = outcome; between = took; took = grew; parts = parted })
-  ends_closing EmitErrs.NoMemory events took outcome grew parted = inr (record { outcome = outcome; between = took; took = grew; parts = parted })
+  pub ends_closing : (error : EmitErr) (events : List Event) (took : E) (outcome : Outcome) → Ends outcome → grew between took events → parted took out place outcome
+      → StopsClosing grew cut parted Ends (halt_of (error_of error)) place events between out
+  ends_closing EmitErrs.Failed events took outcome so grew parted = inr (record { outcome = outcome; ends = so; between = took; took = grew; parts = parted })
+  ends_closing EmitErrs.NoMemory events took outcome so grew parted = inr (record { outcome = outcome; ends = so; between = took; took = grew; parts = parted })
 
 pub prints_or : (b : Bool) → (b ≡ true) ⊎ (b ≡ false)
 prints_or true = inl refl

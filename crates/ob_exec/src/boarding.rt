@@ -4,11 +4,11 @@ ghost use Rattle.ob_sql.specs.declared.stmt.Stmt.TheVariants.{SelectRows as Rows
 ghost use Rattle.ob_stages.specs.Flying.{flight_progress};
 ghost use Rattle.ob_exec.specs.Boarding.{AllFlyBy, AreAboard, FliesBy, IsAboard, MayFlyBy, early_of, seen_first, share_of};
 
-use ob_base::{End, NoMemory, Public, Seen};
+use ob_base::{End, NoMemory, Public, Seen, Source};
 use ob_mean::{early_refusal, where_at};
 use ob_order::Buckets;
 use ob_select::printed_places;
-use ob_sql::{SelectRows, SelectTotals, Source, Stmt};
+use ob_sql::{SelectRows, SelectTotals, Stmt};
 use ob_stages::{Flight, GroupsFlight, RefusedFlight, RowsFlight, TotalsFlight};
 use ob_tables::{seen_to_end, table_in};
 use std::alloc::Global;

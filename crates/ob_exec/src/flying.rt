@@ -1,5 +1,6 @@
 //! SELECTs that ask in turns.
-ghost use Rattle.std.specs.Prelude.{◌≡◌, ◌≤◌, ◌+◌, ◌*◌, Err, Ok, false, true, length, max, ℕ, List, OnOk, IfErr, MatchResult};
+ghost use Rattle.std.specs.Prelude.{◌≡◌, ◌≤◌, ◌+◌, ◌*◌, false, length, max, ℕ, List, OnOk, IfErr};
+ghost use Rattle.std.specs.Result.{is_err};
 ghost use Rattle.ob_blocks.specs.Idle.{IsIdle};
 ghost use Rattle.ob_flat.specs.Passes.{SinkCause};
 ghost use Rattle.ob_inflight.specs.Flown.{HasFlown, StopsFlight};
@@ -8,7 +9,7 @@ ghost use Rattle.ob_vault.specs.Places.{at};
 ghost use Rattle.ob_tables.specs.Agreeing.{Agrees, count_of, has_ended, public_of};
 ghost use Rattle.ob_exec.specs.Boarding.{MaySetOff, engine_behind};
 ghost use Rattle.ob_exec.specs.InFlight.{AreFlight};
-ghost use Rattle.ob_exec.specs.RanFlight.{RanFlight, halt_of};
+ghost use Rattle.ob_exec.specs.RanFlight.{RanFlight, halt_of, halted};
 
 use crate::boarding::{board_all, see_all, see_first};
 use ob_base::Seen;
@@ -75,17 +76,11 @@ fn fly_all<S: BlockStore, R: Revisions, T: Turns, E: FlightOut>(
     requires flight { AreFlight (public_of engine.old)
         (count_of engine.old (S.state store.old)) stmts.now }
     requires each { length seens.old ≡ length stmts.now }
-    ensures ran { MatchResult result
-        (λ x. RanFlight R.state E.grew E.cut E.closed E.parted E.faults
-        (T.word turns.old) (T.word turns.new) stmts.now seens.new (Ok x)
+    ensures ran { RanFlight R.state E.grew E.cut E.closed E.parted E.faults
+        (T.word turns.old) (T.word turns.new) stmts.now seens.new (halted result)
         engine.old (S.state store.old)
-        (engine_behind engine.old engine.new.vault engine.new.room false)
-        (S.state store.new) out.old out.new)
-        (λ e. RanFlight R.state E.grew E.cut E.closed E.parted E.faults
-        (T.word turns.old) (T.word turns.new) stmts.now seens.new (Err (halt_of e))
-        engine.old (S.state store.old)
-        (engine_behind engine.old engine.new.vault engine.new.room true)
-        (S.state store.new) out.old out.new) }
+        (engine_behind engine.old engine.new.vault engine.new.room (is_err result))
+        (S.state store.new) out.old out.new }
     ensures frame { engine.new
         ≡ record engine.old { vault = engine.new.vault; room = engine.new.room } }
 {
