@@ -1,5 +1,6 @@
 -- What a SELECT of rows in flight means for its table.
 use Rattle.std.proofs.Common.{◌≡◌, ◌≤◌, ◌+◌, ◌*◌, ◌++◌, ℕ, zero, suc, Bool, true, false, List, [], length, Option, Some, None, refl, sym, ◌∙◌, ap, subst, inl, inr, append_assoc}
+use Rattle.std.specs.Prelude.{if◌then◌else◌}
 use Rattle.std.proofs.lemmas.Bool.{le-leb}
 use Rattle.std.proofs.lemmas.List.{append-nil}
 use Rattle.ob_base.specs.Events.{Event}
@@ -42,15 +43,16 @@ use Rattle.ob_verdict.specs.declared.outcome.Outcome.{Outcome}
 use Rattle.ob_verdict.specs.declared.outcome.Outcome.TheVariants as O
 use Rattle.ob_stages.specs.declared.rows.Stage.{Stage}
 use Rattle.ob_stages.specs.declared.rows.Stage.TheVariants as Stages
-use Rattle.ob_stages.specs.RowsStates.{MayServe, PlacedAt, RowsAt, end_by, is_over, progress_of, seen_taking, table_blocks}
+use Rattle.ob_stages.specs.RowsStates.{MayServe, PlacedAt, RowsAt, is_over, progress_of, seen_taking, table_blocks}
 use Rattle.ob_stages.specs.RowsHolds.{AnswersRows, EndedAt, Halts, Holds, IsCutOff, IsOnWay, IsToEnd, closing_of, is_headless, left_of, meant_events, meant_outcome, seen_ended}
 use Rattle.ob_exec.specs.InFlight as F
 use Rattle.ob_exec.specs.Sources.{closing, rows_skeleton, selected_outcome, selection, slots_of, stated}
 use Rattle.ob_exec.proofs.FlightStage.{HasTable, HoldNow, IsSet, closed_of, shown_of}
 use Rattle.ob_exec.proofs.RowsMeaning.{rows_outcome, rows_partly, rows_prints, rows_seen, rows_unfinished, rows_unread}
+use Rattle.ob_stages.proofs.RowsKnown.{rows_end}
 use Rattle.ob_exec.proofs.RowsOfTable.{cut_of_held, held_of_cut, slots_held}
 use Rattle.ob_exec.proofs.RowsSource.{table_same}
-use Rattle.ob_exec.proofs.StageRows.{answered_selected, answers, as_stated, closing_same, cut_end, cut_off, ended_as, one_table, over_or, rows_ends}
+use Rattle.ob_exec.proofs.StageRows.{answered_selected, answers, as_stated, closing_same, cut_end, cut_off, ended_as, one_table, over_or}
 
 begun_more : (events all more : List Event) → Begun events all → Begun events (all ++ more)
 begun_more events all more begun = (begun.0 ++ more, sym (append_assoc events begun.0 more) ∙ ap (λ (l : List Event). l ++ more) begun.1)
@@ -255,7 +257,7 @@ module _ (g : RowsAt) (m : ℕ) (kept : List (List ℕ)) (events : List Event) (
   ]
 
   whole_end : g.failed ≡ false → g.seen.end ≡ Whole
-  whole_end failed = rows_ends g m kept events w is set ending condition cols within ∙ ap (λ (b : Bool). end_by b g.asked) failed
+  whole_end failed = rows_end g is.placed ∙ ap (λ (b : Bool). if b then Cut g.asked else Whole) failed
 
   -- ---- told
   answer_told : (d : Draws) (o : Outcome) → AnswersRows g.q o g.seen g.asked events w → F.EndsMeant d p m g.asked tables stmt g.seen o

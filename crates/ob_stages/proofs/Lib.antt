@@ -22,6 +22,7 @@ pub mod RowsAsks
 pub mod RowsRoom
 pub mod RowsEmits
 pub mod RowsFinish
+pub mod RefusedEnds
 pub mod RowsKnown
 pub mod RowsLeft
 pub mod RowsBoards

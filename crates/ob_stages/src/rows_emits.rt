@@ -72,7 +72,17 @@ fn show<S: BlockStore, R: Revisions, E: Emit>(
     }
     let mut cells: [Shown; 32] = array::from_fn(|_| Shown::Null);
     let cols = flight.cols.as_slice();
-    emit_block(store, vault, rows, fresh, cols, place, flight.shown, &mut cells, out)
+    emit_block(
+        store,
+        vault,
+        rows,
+        fresh,
+        cols,
+        place,
+        flight.shown,
+        &mut cells,
+        out,
+    )
 }
 
 // Emits what is left of its answer, and answers it.
