@@ -157,7 +157,7 @@ module _ {F : Type 0} (k : Kind F) (laws : Laws k) (p : Public) (share : ℕ) (e
       | Here here is ↦ let e = ap (λ (x : F). (k.progress x).booked) is in omega (arith, e, steps.books.few)
       | There off was ↦ stand.few j h was
     ];
-    most = λ j h get open.
+    most = λ j h get yet.
         let sum = total_set (λ (h : F). (k.progress h).most) last.flyers i f g at in
         let is : most_of k now.flyers ≡ total (λ (h : F). (k.progress h).most) (slice_set last.flyers i g) = ap (most_of k) flyers in
         let more = spent_more steps.access last.world now.world lasts.start (step_asked steps.access (k.progress f).region last.world now.world (k.progress g).failed steps.went) in

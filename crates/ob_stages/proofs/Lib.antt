@@ -21,4 +21,5 @@ pub mod RowsAsks
 pub mod RowsEmits
 pub mod RowsFinish
 pub mod RowsKnown
+pub mod RowsLeft
 pub mod RowsBoards

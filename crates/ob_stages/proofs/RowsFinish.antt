@@ -193,7 +193,7 @@ module _ (g : RowsAt) (kept : List (List ℕ)) (over : is_over g.stage ≡ true)
             };
         honest = λ slots held honest. either e;
         counted = λ by. counted_all;
-        memory = λ memory. record { place = inr (inr (ap is_printing stage_is)) };
+        memory = λ memory. record { place = inr (inr (ap is_printing stage_is, unfailed)) };
       }
         where
           either : (e : EmitErr) → (error_of e ≡ Sink) ⊎ (error_of e ≡ NoMemory)

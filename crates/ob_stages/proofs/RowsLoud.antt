@@ -115,7 +115,7 @@ module _ {E : Type 0} (grew cut : E → E → List Event → Type 0) (faults : E
         };
     honest = honest;
     counted = λ either. counted_by events is;
-    memory = λ memory. record { place = inr (inr emit_prints) };
+    memory = λ memory. record { place = inr (inr (emit_prints, is.placed.unfailed emit_going)) };
   }
 
   -- an error that isn't the store's

@@ -440,7 +440,7 @@ module _ (g : RowsAt) (others : ℕ) (kept : List (List ℕ)) (v : VaultState) (
         emits = λ sink. absurd (cc (memory, sink));
         seals = make_seals new makes.seals.seals;
       }) (one v.next) make_within (pass_after (one v.next) start roomy new e [] (made_by ∷ []) (make_rested (one v.next)) makes.ran.err) make_open (λ slots held honest. inr memory)
-      (λ either. omega (arith, make_there.0.asked)) (λ memory. record { place = inr (inl (steps.at, (made_by, asked ∙ ap (λ (l : List Access). l ++ made_by ∷ []) rests.asked))) }) others kept kept
+      (λ either. omega (arith, make_there.0.asked)) (λ memory. record { place = inr (inl (steps.at, (made_by, refl, asked ∙ ap (λ (l : List Access). l ++ made_by ∷ []) rests.asked))) }) others kept kept
 
   module _ (n : ℕ) (enough : n ≡ whole_length g.q g.k - g.asked) (spare : others + n ≤ t.spare) (new : World) where
     pub quiet_made : {T : Type 0} (value : T) (after : List (List ℕ)) → MakesTable Any g.q.public.pack (result_in g.q g.k v.next) (Ok v.next) roomy new → ((i : ℕ) → i < length after → Begins g.q.flat.schema None (row_at after i))
