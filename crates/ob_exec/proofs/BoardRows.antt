@@ -1,5 +1,5 @@
 -- A SELECT of the rows of a table before its flight.
-use Rattle.std.proofs.Common.{◌≡◌, ◌⊎◌, inl, inr, ◌≤◌, ◌+◌, ◌*◌, ◌^◌, ℕ, Bool, false, List, [], ◌∷◌, ◌++◌, length, Option, Some, None, refl, sym, ◌∙◌, ap, subst, arith, append-nil}
+use Rattle.std.proofs.Common.{◌≡◌, ◌≤◌, ◌+◌, ◌*◌, ◌^◌, ℕ, Bool, false, List, [], ◌∷◌, ◌++◌, length, Option, Some, None, refl, sym, ◌∙◌, ap, subst, arith, append-nil}
 use Rattle.std.specs.Prelude.{slice_get}
 use Rattle.ob_base.specs.declared.config.Public.{Public}
 use Rattle.ob_base.specs.declared.refusal.Refusal.{Refusal}
@@ -23,7 +23,7 @@ use Rattle.ob_script.specs.Flights.{flight_public}
 use Rattle.ob_select.specs.Selecting.{Selection}
 use Rattle.ob_sql.specs.declared.stmt.SelectRows.{SelectRows}
 use Rattle.ob_sql.specs.declared.stmt.Stmt.TheVariants.{SelectRows as RowsStmt}
-use Rattle.ob_stages.specs.RowsHolds.{BoardsRows, FitRows, Holds, NeedsAt, RowsHold}
+use Rattle.ob_stages.specs.RowsHolds.{BoardsRows, FitRows, Holds, RowsHold}
 use Rattle.ob_stages.specs.RowsStates.{IsFlown, IsOf, RowsAt, boarded_rows, known_by, progress_of, rows_at, rows_skeleton, selection_by, table_blocks, whole_length}
 use Rattle.ob_stages.specs.declared.flight.Flight.TheVariants.{Rows}
 use Rattle.ob_stages.specs.declared.rows.RowsFlight.{RowsFlight}
@@ -106,12 +106,6 @@ module _ (late : Bool) (n : ℕ) (p : Public) (by : MayFlyBy n p) (select : Sele
         none_taken None = omega arith
         none_taken (Some pad) = omega arith
 
-    own_none : (r : ℕ) (g : RowsAt) → g ≡ boarded_rows q n select → NeedsAt g r → r ≡ g.q.flat.region
-    own_none r g is needs = elim needs [
-      | inl same ↦ same
-      | inr own ↦ absurd (let none = ap (λ (x : RowsAt). Rattle.ob_stages.specs.RowsHolds.own_at x.stage x.region) is in cc (own, none))
-    ]
-
     share_fits : (rows kept : List (List ℕ)) → FitShares n p rows kept → FitRows q rows kept
     share_fits rows kept fit =
         let wide = sized.wide in
@@ -144,7 +138,6 @@ module _ (late : Bool) (n : ℕ) (p : Public) (by : MayFlyBy n p) (select : Sele
           is = ap (λ (g : RowsAt). g.q.flat) is ∙ found.is;
         };
       };
-      needs = λ r needs. (free, own_none r (rows_at f) is needs);
       fits = λ rows kept fit. subst (λ (g : RowsAt). FitRows g.q rows kept) (sym is) (share_fits rows kept fit);
       holds = λ w rows kept ready fit scan. boards w ready (subst (λ (g : RowsAt). MayScan p.pack g.q.flat w) is (scan free)) kept;
     }

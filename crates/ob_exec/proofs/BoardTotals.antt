@@ -31,7 +31,7 @@ use Rattle.ob_sql.specs.declared.stmt.Stmt.TheVariants.{SelectTotals as TotalsSt
 use Rattle.ob_inflight.specs.Progress.{Progress}
 use Rattle.ob_stages.specs.Flying.{flight_progress}
 use Rattle.ob_stages.specs.Groups.{FitsGroups, StartsGroups}
-use Rattle.ob_stages.specs.Reading.{FitsTable, MayBoard, NeedsTable, StartsReading, is_over, places_of, public_of, reading_progress, reads_left, stmt_of}
+use Rattle.ob_stages.specs.Reading.{FitsTable, MayBoard, StartsReading, is_over, places_of, public_of, reading_progress, reads_left, stmt_of}
 use Rattle.ob_stages.specs.Refusing.{StartsRefused, refused_progress}
 use Rattle.ob_stages.specs.Totalling.{TotalsFit}
 use Rattle.ob_stages.specs.Totals.{StartsTotals}
@@ -125,7 +125,6 @@ module _ (late : Bool) (n : ℕ) (p : Public) (by : MayFlyBy n p) (s : SelectTot
         few = omega (arith, few);
         most = omega (arith, few);
         table = λ none. reads_from condition f.reading is.starts;
-        needs = λ q needs. (free, needs);
         fits = λ rows kept fit. table_fits condition f.reading is.starts rows kept fit;
         holds = λ w rows kept ready fit scan. is.holds w ready (scans condition f.reading is.starts w (scan free));
       }
@@ -155,7 +154,6 @@ module _ (late : Bool) (n : ℕ) (p : Public) (by : MayFlyBy n p) (s : SelectTot
         few = omega (arith, few);
         most = omega (arith, few);
         table = λ none. reads_from condition f.reading is.starts;
-        needs = λ q needs. (free, needs);
         fits = λ rows kept fit. groups_fit condition f is.starts rows kept fit;
         holds = λ w rows kept ready fit scan. is.holds w rows kept ready (scans condition f.reading is.starts w (scan free)) (groups_fit condition f is.starts rows kept fit);
       }
@@ -175,7 +173,6 @@ refused_aboard late n p stmt why early f is = record {
   few = omega arith;
   most = omega arith;
   table = λ none. absurd (cc (none, early));
-  needs = λ q needs. absurd needs;
   fits = λ rows kept fit. tt;
   holds = λ w rows kept ready fit scan. is.holds;
 }

@@ -31,7 +31,8 @@ use Rattle.ob_verdict.specs.declared.outcome.Outcome.{Outcome}
 use Rattle.ob_exec.specs.InFlight.{IsFlown, IsMeant, own_asked, served_as}
 use Rattle.ob_exec.specs.RanFlight.{FlightMeans, RanFlight, RanInTurns, asked_by, asked_since, cut_off, in_flight}
 use Rattle.ob_exec.proofs.FlightBegun.{begins_meant}
-use Rattle.ob_exec.proofs.FlightFrames.{agrees_behind, calm_start, draws_behind, engine_behind, held_behind, hold_now, kept_behind, lasts_all, opens_behind, sealed_behind}
+use Rattle.ob_exec.specs.Boarding.{engine_behind}
+use Rattle.ob_exec.proofs.FlightFrames.{agrees_behind, calm_start, draws_behind, held_behind, hold_now, kept_behind, lasts_all, opens_behind, sealed_behind}
 use Rattle.ob_exec.proofs.FlightLists.{cuts_same, get_mapped}
 use Rattle.ob_exec.proofs.FlightRuns.{Boards, all_merged, as_many, emits_now, emitted_now, first_now, flown_now, meant_now, next_now, own_now, served_now, some_ended, they_hold, turns_now}
 use Rattle.ob_exec.proofs.FlightStage.{HoldNow, IsStage}

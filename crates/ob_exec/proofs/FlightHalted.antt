@@ -47,7 +47,8 @@ use Rattle.ob_exec.specs.InFlight.{served_as}
 use Rattle.ob_exec.specs.RanFlight.{AtEmitter, BeforeMake, BeginsMeant, FlightCause, FlightMeans, RanFlight, RanInTurns, StopsClosing, StopsFlight, asked_by, asked_since, cut_off, halt_of, in_flight}
 use Rattle.ob_exec.proofs.FlightBegun.{begins_meant}
 use Rattle.ob_exec.proofs.FlightEnd.{rises_from}
-use Rattle.ob_exec.proofs.FlightFrames.{calm_start, draws_behind, engine_behind, hold_now, kept_behind, lasts_all, opens_behind, sealed_behind}
+use Rattle.ob_exec.specs.Boarding.{engine_behind}
+use Rattle.ob_exec.proofs.FlightFrames.{calm_start, draws_behind, hold_now, kept_behind, lasts_all, opens_behind, sealed_behind}
 use Rattle.ob_exec.proofs.FlightLists.{cuts_same, events_next, get_other, get_within, map_get, outcome_next, past_ended}
 use Rattle.ob_exec.proofs.FlightRuns.{Boards, ServesOne, emits_now, emitted_now, partly_now, public_is, set_kept}
 use Rattle.ob_exec.proofs.FlightStage.{AsksMake, HoldNow, IsStage, LacksHere, more_asked, whole_of}

@@ -48,7 +48,8 @@ use Rattle.ob_verdict.specs.Outcomes.{refusal_now}
 use Rattle.ob_verdict.specs.declared.outcome.Outcome.{Outcome}
 use Rattle.ob_exec.specs.InFlight.{IsFlown, IsMeant, StandsAs, StandsMeant}
 use Rattle.ob_exec.specs.RanFlight.{FlightCause, StopsClosing, asked_by, asked_since, halt_of, in_flight}
-use Rattle.ob_exec.proofs.FlightFrames.{calm_start, engine_behind, hold_now}
+use Rattle.ob_exec.specs.Boarding.{engine_behind}
+use Rattle.ob_exec.proofs.FlightFrames.{calm_start, hold_now}
 use Rattle.ob_exec.proofs.FlightLists.{cuts_same, events_next, get_mapped, get_other, none_past, past_ended}
 use Rattle.ob_exec.proofs.FlightMore.{asks_within, ends_whole, held_more, meant_single, meant_unread, stands_more}
 use Rattle.ob_exec.proofs.FlightRuns.{Boards, ServesOne, as_many, closed_now, flown_now, meant_now, steady_now, they_hold, they_serve}

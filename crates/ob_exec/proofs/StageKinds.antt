@@ -8,7 +8,6 @@ use Rattle.ob_flat.specs.Passes.{is_of_access}
 use Rattle.ob_flat.specs.Flats.{Represents}
 use Rattle.ob_flat.specs.declared.fault.OpErr.{OpErr}
 use Rattle.ob_flat.specs.declared.fault.OpErr.TheVariants as OpErrs
-use Rattle.ob_inflight.specs.Kinds.{Kind, kind_of}
 use Rattle.ob_mean.specs.Batches.{is_cut}
 use Rattle.ob_mean.specs.Verdict.{Draws, Tables, verdict}
 use Rattle.ob_oram.specs.declared.index.Index.{Index}
@@ -32,6 +31,7 @@ use Rattle.ob_exec.proofs.FlightStage.{closed_of}
 use Rattle.ob_verdict.specs.Outcomes.{Emits, Partly}
 use Rattle.ob_verdict.specs.declared.outcome.Outcome.{Outcome}
 use Rattle.ob_verdict.specs.declared.outcome.Outcome.TheVariants as AnOutcome
+use Rattle.ob_exec.specs.Boarding.{flight_kind}
 use Rattle.ob_exec.specs.InFlight.{IsFlown, IsMeant}
 use Rattle.ob_tables.specs.Telling.{Emitted, answer_labels}
 use Rattle.ob_vault.specs.Tied.{IsUnfit}
@@ -78,9 +78,6 @@ cut_rows false n is = absurd (cc is)
 cut_reading : (failed : Bool) (n : ℕ) → failed ≡ true → end_now failed n ≡ Cut n
 cut_reading true n is = refl
 cut_reading false n is = absurd (cc is)
-
-abbrev pub flight_kind : Kind Flight
-flight_kind = kind_of flight_progress MayFly FlightNeeds FlightFits FlightHolds FlightHalts
 
 module _ (m : ℕ) where
   stage_outline : (f : Flight) (x : Served) → MayFly f x → x.skeleton ≡ skeleton (flight_progress f).stmt

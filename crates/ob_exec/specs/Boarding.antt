@@ -107,8 +107,6 @@ pub record IsAboard (late : Bool) (n : ℕ) (p : Public) (stmt : Stmt) (f : Flig
   pub few : (flight_progress f).booked ≤ 2 ^ 59
   pub most : (flight_progress f).most ≤ 2 ^ 56
   pub table : early_of late p stmt ≡ None → ReadsFrom p stmt (flight_progress f).flat
-  pub needs : (q : ℕ) → FlightNeeds f q
-      → (early_of late p stmt ≡ None) × (q ≡ (flight_progress f).flat.region)
   pub fits : (rows kept : List (List ℕ)) → FitShares n p rows kept → FlightFits f rows kept
   pub holds : (w : World) (rows kept : List (List ℕ)) → Ready w → FitShares n p rows kept
       → (early_of late p stmt ≡ None → MayScan p.pack (flight_progress f).flat w)

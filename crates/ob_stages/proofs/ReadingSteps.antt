@@ -30,7 +30,7 @@ use Rattle.ob_inflight.specs.Answers.{Tells}
 use Rattle.ob_inflight.specs.Leaving.{own_or_next}
 use Rattle.ob_inflight.specs.Progress.{Steps, StopsStep, WentOrFailed, act_of}
 use Rattle.ob_stages.specs.declared.reading.Reading.{Reading}
-use Rattle.ob_stages.specs.Reading.{Answered, EndsLater, FitsTable, HaltsTotals, IsBoarded, IsReading, MayRead, NeedsTable, is_fault, is_over, places_of, reading_progress, reads_left}
+use Rattle.ob_stages.specs.Reading.{Answered, EndsLater, FitsTable, HaltsTotals, IsBoarded, IsReading, MayRead, NeedsTable, is_over, places_of, reading_progress, reads_left}
 use Rattle.ob_stages.specs.ReadingLaws.{next_read, reading_next}
 use Rattle.ob_stages.specs.Totalling.{labels_at, totalled_answer}
 use Rattle.ob_stages.proofs.TotalsLemmas.{leads_none, partly_none}
@@ -240,16 +240,3 @@ sink_read T e k off never = elim never [
   | inl failed ↦ absurd (off failed)
   | inr there ↦ subst (λ (x : OpErr). SinkCause {T = T} (Err x) k k) (sym there.is) refl
 ]
-
--- ---- the errors
-pub fault_is : (e : OpErr) → is_fault e ≡ true → e ≡ Failed
-fault_is Failed is = refl
-fault_is (Tampered region place) is = absurd (cc is)
-fault_is Sink is = absurd (cc is)
-fault_is NoMemory is = absurd (cc is)
-
-pub not_fault : (e : OpErr) → is_fault e ≡ false → e ≡ Failed → ⊥
-not_fault e off is = cc (off, ap is_fault is)
-
-pub failed_by : {T : Type 0} (result : Result T OpErr) (e : OpErr) → result ≡ Err e → is_fault e ≡ true → result ≡ Err Failed
-failed_by result e is fault = is ∙ ap Err (fault_is e fault)

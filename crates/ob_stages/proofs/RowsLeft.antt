@@ -58,8 +58,13 @@ module _ (t g blocks results q width : ℕ) (some : 1 ≤ q) (rest : List Access
 
   filling_long : length filling ≡ blocks + 1 + (div_ceil results q * blocks + results)
   filling_long =
-      omega (arith, length-append (count_part t blocks) (small_part t g blocks results q width), length-count_part t blocks,
-      length-append (make_at g results width) (each (div_ceil results q) (small_pass t g blocks results q)), length-passes t g blocks results q (omega (arith, some)))
+      omega (
+        arith,
+        length-append (count_part t blocks) (small_part t g blocks results q width),
+        length-count_part t blocks,
+        length-append (make_at g results width) (each (div_ceil results q) (small_pass t g blocks results q)),
+        length-passes t g blocks results q (omega (arith, some)),
+      )
 
   filling_is : count_part t blocks ++ ((small_part t g blocks results q width ++ emission_part g results) ++ rest) ≡ filling ++ (emission_part g results ++ rest)
   filling_is =
@@ -123,8 +128,12 @@ module _ (g : RowsAt) (is : IsPlaced g) (at : HasAsked g) (unfailed : g.failed �
 
   all_asked : length (whole_script g.q.public (rows_skeleton g.select) g.seen) ≤ g.asked
   all_asked =
-      omega (arith, none_at (asked_at g.q.public (unwrap_or g.region 0) (served_of g)) g.asked none_past,
-      steady.long (unwrap_or g.region 0) g.q.public.next_region, ap (λ (l : List Access). length l) until_is)
+      omega (
+        arith,
+        none_at (asked_at g.q.public (unwrap_or g.region 0) (served_of g)) g.asked none_past,
+        steady.long (unwrap_or g.region 0) g.q.public.next_region,
+        ap (λ (l : List Access). length l) until_is,
+      )
 
 -- its region is made next
 pub rows_at_make : (g : RowsAt) → IsPlaced g → g.stage ≡ Make → IsTrue (starts_with_make (drop g.asked (whole_script g.q.public (rows_skeleton g.select) g.seen)))

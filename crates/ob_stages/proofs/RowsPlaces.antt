@@ -82,8 +82,13 @@ module _ (g : RowsAt) (flown : IsFlown g.q (rows_skeleton g.select)) (x : Seen) 
       let r = g.q.public.next_region in
       let t = extent_of (region_of g.q) in
       let p = with_region g.q r in
-      omega (arith, few, ap (λ (l : List Access). length l) (whole_is g.q (rows_skeleton g.select) flown (rows_skeleton g.select) x r refl),
-      length-append (count_part g.q.flat.region (table_blocks g.q)) (behind_count p.pad p x r t []), length-count_part g.q.flat.region (table_blocks g.q))
+      omega (
+        arith,
+        few,
+        ap (λ (l : List Access). length l) (whole_is g.q (rows_skeleton g.select) flown (rows_skeleton g.select) x r refl),
+        length-append (count_part g.q.flat.region (table_blocks g.q)) (behind_count p.pad p x r t []),
+        length-count_part g.q.flat.region (table_blocks g.q),
+      )
 
   pub within_takes : (k n : ℕ) → Takes g.q.public.pad k x → n ≤ whole_length g.q k → n ≤ length (whole_script g.q.public (rows_skeleton g.select) x)
   within_takes k n takes few =

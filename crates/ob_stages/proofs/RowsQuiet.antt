@@ -177,8 +177,12 @@ module _ (g : RowsAt) (u others : ℕ) (old : World) (steps : StepsAt g (Count u
 
   booked_few : g.booked ≤ 2 ^ 59
   booked_few =
-      omega (arith, booked_counting g count_placed u steps.at,
-      known_most g.q.public.pad (table_blocks g.q) (whole_length g.q g.k) (omega arith), whole_most g.q (rows_skeleton g.select) count_placed.flown g.k (taken_most g.q.public.pad g.k counted_most))
+      omega (
+        arith,
+        booked_counting g count_placed u steps.at,
+        known_most g.q.public.pad (table_blocks g.q) (whole_length g.q g.k) (omega arith),
+        whole_most g.q (rows_skeleton g.select) count_placed.flown g.k (taken_most g.q.public.pad g.k counted_most),
+      )
     where
       known_most : (pad : Option ℕ) (c all : ℕ) → c ≤ all → known_by pad c all ≤ all
       known_most None c all less = less
@@ -490,6 +494,9 @@ module _ (g : RowsAt) (others : ℕ) (kept : List (List ℕ)) (v : VaultState) (
           seals = make_seals mid makes.seals.seals;
         } in
         quiet_failed g (Some v.next) others made_by start mid new failed
-        (λ r mine next. omega (arith, next,
-        next_made v.next (Smalls.results (small g.q g.k)) (g.q.public.pack * width g.q.flat.schema + 32) (one v.next) start mid steps.ready cut.lasts (asked_cut made_by (one v.next) start mid cut),
-        (forgot g mid new cut.lasts.ready (Some v.next) forgets).lasts.shapes.next)) value kept kept
+        (λ r mine next. omega (
+          arith,
+          next,
+          next_made v.next (Smalls.results (small g.q g.k)) (g.q.public.pack * width g.q.flat.schema + 32) (one v.next) start mid steps.ready cut.lasts (asked_cut made_by (one v.next) start mid cut),
+          (forgot g mid new cut.lasts.ready (Some v.next) forgets).lasts.shapes.next,
+        )) value kept kept

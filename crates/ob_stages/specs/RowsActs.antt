@@ -36,6 +36,7 @@ use Rattle.ob_stages.specs.RowsStates.{RowsAt, IsFlown, ReadsTable, IsCounting, 
 use Rattle.ob_stages.specs.SmallActs as Acts
 use Rattle.ob_script.proofs.Eaches.{at_front}
 use Rattle.ob_script.proofs.Places.{at_read}
+use Rattle.ob_select.proofs.ResultParts.{buffered_some}
 
 -- the settings with the region of its result
 abbrev pub with_region : Selection → ℕ → Public
@@ -92,10 +93,7 @@ module _ (q : Selection) (s : Skeleton) (flown : IsFlown q s) where
   script_takes z seen r k same takes = ap (until_end seen.end) (whole_takes z seen r k same takes)
 
   pub kept_some : 1 ≤ kept_blocks q
-  kept_some = kept (q.public.pack) (q.public.buffer) flown.settings.pack_least flown.settings.blocks
-    where
-      kept : (pack buffer : ℕ) → 1 ≤ pack → 3 * pack + 1 ≤ buffer → 1 ≤ buffered_blocks pack buffer
-      kept pack buffer some enough = grind arith
+  kept_some = buffered_some q.public flown.settings
 
 -- what is seen of one that has counted
 pub takes_seen : (pad : Option ℕ) (k : ℕ) (seen : Seen) → seen ≡ seen_taking pad k → Takes pad k seen

@@ -88,6 +88,15 @@ module _ (t g blocks results q width : ℕ) (some : 1 ≤ q) (rest : List Access
   pub length-all : rest ≡ [] → length all ≡ blocks + 1 + (div_ceil results q * blocks + results) + results + 1
   length-all none =
       let more = ap (λ (l : List Access). length l) none in
-      omega (arith, more, length_passes, length-count_part t blocks, length-count_part g results, length-append (count_part t blocks) behind,
-      length-append (small_part t g blocks results q width ++ emission_part g results) rest, length-append (small_part t g blocks results q width) (emission_part g results),
-      length-append (make_at g results width) passes, length-append (count_part g results) (discard_at g))
+      omega (
+        arith,
+        more,
+        length_passes,
+        length-count_part t blocks,
+        length-count_part g results,
+        length-append (count_part t blocks) behind,
+        length-append (small_part t g blocks results q width ++ emission_part g results) rest,
+        length-append (small_part t g blocks results q width) (emission_part g results),
+        length-append (make_at g results width) passes,
+        length-append (count_part g results) (discard_at g),
+      )
