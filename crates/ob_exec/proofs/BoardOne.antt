@@ -68,7 +68,7 @@ early_same late n p stmt is =
 -- ---- the settings of its flight
 padded_small : (pad : Option ℕ) (planner : Planner) → IsPadded pad planner → IsPadded pad (Forced Small)
 padded_small None planner is = tt
-padded_small (Rattle.std.proofs.Common.Some rows) planner is = (is.0, is.1.0, tt)
+padded_small (Rattle.std.proofs.Common.Some rows) planner is = (is.0, is.1, tt)
 
 pub flight_settings : (n : ℕ) (p : Public) → MayFlyBy n p → AreSettings (flight_public n p)
 flight_settings n p by = record {

@@ -2,6 +2,7 @@
 use Rattle.std.proofs.Common.{◌≡◌, ◌≤◌, ◌<◌, ◌+◌, ◌*◌, ◌/◌, ◌^◌, ℕ, zero, suc, Bool, true, false, List, [], ◌∷◌, length, Option, Some, None, refl, sym, ◌∙◌, ap, subst, arith}
 use Rattle.std.specs.Prelude.{nat_le, slice_get}
 use Rattle.std.proofs.lemmas.Bool.Decides.{nat_tests}
+use Rattle.std.proofs.lemmas.Nat.{div-add-mod', le-div}
 use Rattle.std.proofs.lemmas.Option.{get_or_from_slice_get, slice_get_within}
 use Rattle.ob_base.specs.Events.{Event}
 use Rattle.ob_base.specs.declared.config.Public.{Public}
@@ -20,7 +21,7 @@ use Rattle.ob_inflight.specs.Closing.{events_at, outcome_at}
 use Rattle.ob_inflight.specs.Kinds.{moment, share_at}
 use Rattle.ob_inflight.specs.Progress.{Progress}
 use Rattle.ob_inflight.proofs.Lists.{total_few}
-use Rattle.ob_join.proofs.Windows.{part_long, part_wide}
+use Rattle.ob_join.proofs.Windows.{part_long, part_wide, product_within}
 use Rattle.ob_mean.specs.Refusals.{limits_of, tables_of}
 use Rattle.ob_mean.specs.Replay.{is_access}
 use Rattle.ob_mean.specs.Verdict.{is_late}
@@ -65,7 +66,12 @@ flies_in p m stmts flown i stmt at = subst (λ (x : Stmt). Flies p m x) (get_or_
 
 -- no more than this fly, and each has its share
 most_shared : (n pack buffer : ℕ) → 1 ≤ n → n ≤ buffer / (3 * pack + 1) → 3 * pack + 1 ≤ buffer / n
-most_shared n pack buffer some few = grind (arith, few)
+most_shared n pack buffer some few =
+    let least : 1 ≤ 3 * pack + 1 = omega arith in
+    let times = product_within n (buffer / (3 * pack + 1)) (3 * pack + 1) few in
+    let whole = div-add-mod' buffer (3 * pack + 1) in
+    let turned : (3 * pack + 1) * n ≡ n * (3 * pack + 1) = grind arith in
+    le-div (3 * pack + 1) buffer n some (omega (arith, times, whole, turned))
 
 pub may_fly_by : {R : Type 0} (state : R → RevState) (old : Engine R) (s : StoreState) (stmts : List Stmt) → Agrees state old s → AreFlight old.public (count_of old s) stmts → MayFlyBy (length stmts) old.public
 may_fly_by state old s stmts agrees flown =
@@ -243,5 +249,5 @@ module _ {R : Type 0} (state : R → RevState) (old : Engine R) (s s1 : StoreSta
       unfailed = λ i f at. (aboard_at i f at).1.1.1.failed;
     }
 
-  pub may_set_off : booked_by flight_kind flights ≤ s1.spare → MaySetOff old.public.pack (share_of (length stmts) old.public) flights (world_of state old s1)
+  pub may_set_off : booked_by flight_kind flights ≤ s1.spare → MaySetOff flight_kind old.public.pack (share_of (length stmts) old.public) flights (world_of state old s1)
   may_set_off spare = record { boards = λ rows kept block block_wide long wide. boarded rows kept block block_wide long wide spare }

@@ -10,7 +10,6 @@ use Rattle.ob_base.specs.declared.seen.Seen.{Seen}
 use Rattle.ob_inflight.specs.Aloft.{AllMay, acts_of, failed_of, flying_in, setting_off}
 use Rattle.ob_inflight.specs.Closing.{Closed, events_at, outcome_at}
 use Rattle.ob_inflight.specs.Kinds.{Kind}
-use Rattle.ob_inflight.specs.Picking as P
 use Rattle.ob_inflight.specs.Progress.{flying_of}
 use Rattle.ob_mean.specs.Batches.{is_cut}
 use Rattle.ob_script.specs.FlightLaws as L
@@ -108,28 +107,19 @@ module _ {F : Type 0} (k : Kind F) where
 
   -- as many acts
   pub acts_same : (v : F → Served) (fs : List F) → L.acts_in (flying_in k fs (map v fs)) ≡ acts_of k fs
-  unfolding flying_in L.total P.total
+  unfolding flying_in L.total
   acts_same v [] = refl
-  acts_same v (f ∷ fs) = let rest = acts_same v fs in let one = ones (is_some (k.progress f).outcome) in omega (arith, rest, one)
-    where
-      ones : (b : Bool) → L.one_if b ≡ P.one_if b
-      ones true = refl
-      ones false = refl
+  acts_same v (f ∷ fs) = let rest = acts_same v fs in omega (arith, rest)
 
   -- as many of them were cut off as the store failed
   pub cuts_same : (fs : List F) → ((i : ℕ) (f : F) → slice_get fs i ≡ Some f → is_cut (k.progress f).served.seen.end ≡ (k.progress f).failed)
       → failed_of k fs ≡ cut_off (map (λ (f : F). (k.progress f).served.seen) fs)
-  unfolding P.total L.total
+  unfolding L.total
   cuts_same [] each = refl
   cuts_same (f ∷ fs) each =
       let rest = cuts_same fs (λ i g at. each (suc i) g at) in
-      let one = ap P.one_if (sym (each 0 f refl)) in
-      let same = ones (is_cut (k.progress f).served.seen.end) in
-      omega (arith, rest, one, same)
-    where
-      ones : (b : Bool) → L.one_if b ≡ P.one_if b
-      ones true = refl
-      ones false = refl
+      let one = ap L.one_if (sym (each 0 f refl)) in
+      omega (arith, rest, one)
 
   -- what is served, by what is seen
   pub served_same : (fs : List F) (stmts : List Stmt) → length fs ≡ length stmts

@@ -1,6 +1,6 @@
 -- Want of memory before a flight: nothing was asked.
 use Rattle.std.proofs.Common.{◌≡◌, inl, inr, ◌≤◌, ◌<◌, ◌+◌, ◌-◌, ◌^◌, min, ℕ, zero, suc, Bool, ◌||◌, true, false, List, [], ◌∷◌, ◌++◌, map, length, take, Option, Some, None, Err, refl, sym, ◌∙◌, ap, subst, arith, append-nil}
-use Rattle.std.specs.Prelude.{bytes_eq, drop, nat_le, nat_lt, not, slice_get}
+use Rattle.std.specs.Prelude.{bytes_eq, drop, is_some, nat_le, nat_lt, not, slice_get}
 use Rattle.std.specs.List.{All, list_any}
 use Rattle.std.proofs.lemmas.List.{length-map}
 use Rattle.std.proofs.lemmas.Option.{same_Some}
@@ -13,6 +13,7 @@ use Rattle.ob_base.specs.declared.refusal.Refusal.{Refusal}
 use Rattle.ob_base.specs.declared.schema.Table.{Table}
 use Rattle.ob_base.specs.declared.seen.End.TheVariants.{Static, Whole, Cut}
 use Rattle.ob_base.specs.declared.seen.Seen.{Seen}
+use Rattle.ob_base.specs.declared.skeleton.Skeleton.{Skeleton}
 use Rattle.ob_base.specs.declared.skeleton.Source.{Source}
 use Rattle.ob_base.specs.declared.skeleton.Source.TheVariants.{Table as OneTable}
 use Rattle.ob_base.specs.Stored.{has_table, headings_of}
@@ -51,6 +52,7 @@ use Rattle.ob_tables.proofs.ToldLemmas.{started_seen}
 use Rattle.ob_vault.specs.State.{RevState, World}
 use Rattle.ob_vault.proofs.WordLemmas.{went_rests}
 use Rattle.ob_verdict.specs.Outcomes.{refusal_now}
+use Rattle.ob_verdict.specs.declared.outcome.Outcome.{Outcome}
 use Rattle.ob_exec.specs.Boarding.{engine_behind, seen_first, seen_if}
 use Rattle.ob_exec.specs.InFlight.{AreFlight, Flies, IsFlown, IsMeant, own_asked, served_as}
 use Rattle.ob_exec.specs.RanFlight.{FlightMeans, RanFlight, RanInTurns, StopsFlight, asked_by, asked_since, cut_off, in_flight}
@@ -71,10 +73,10 @@ named_in name [] has = absurd (cc has)
 named_in name (t ∷ ts) has = head (bytes_eq t.heading.name name) refl (named_in name ts)
   where
     head : (b : Bool) → bytes_eq t.heading.name name ≡ b → (has_table name (headings_of ts) ≡ true → (i : ℕ) × ((u : Table) × IsAt name i u ts)) → (i : ℕ) × ((u : Table) × IsAt name i u (t ∷ ts))
-    head true hit rest = (0, t, record { get = refl; named = named t.heading.name name hit })
+    head true hit rest = (0, (t, record { get = refl; named = named t.heading.name name hit }))
     head false miss rest =
         let there = rest (sym (ap (λ (b : Bool). b || has_table name (headings_of ts)) miss) ∙ has) in
-        (suc there.0, there.1.0, record { get = there.1.1.get; named = there.1.1.named })
+        (suc there.0, (there.1.0, record { get = there.1.1.get; named = there.1.1.named }))
 
 -- ---- what is seen in the end shows nothing before anything is asked
 shows_alone : (n : ℕ) (p : Public) (plan : Plan) (places : List ℕ) → plan ≡ Small → ((seen_with (flight_public n p) plan places).then ≡ None) × ((seen_with (flight_public n p) plan places).leaf ≡ None)
@@ -89,7 +91,7 @@ shown_alone n p None slots (i ∷ is) = shows_alone n p _ (i ∷ is) refl
 shown_alone n p (Some pad) slots places = (refl, refl)
 
 -- nothing of it is held after no access
-held_nothing : (p : Public) (s : _) (x : Seen) → x.then ≡ None → x.leaf ≡ None → (1 ≤ count_end p s) → ended Whole ≡ record (cut_at false 0 p s x) { end = Whole }
+held_nothing : (p : Public) (s : Skeleton) (x : Seen) → x.then ≡ None → x.leaf ≡ None → (1 ≤ count_end p s) → ended Whole ≡ record (cut_at false 0 p s x) { end = Whole }
 held_nothing p s x second leaf counts = λ i. record {
   k = held_none x.k (count_end p s) 0 (omega (arith, counts)) i;
   plan = held_none x.plan (count_end p s) 0 (omega (arith, counts)) i;
@@ -98,7 +100,7 @@ held_nothing p s x second leaf counts = λ i. record {
   end = Whole;
 }
 
-held_plain : (p : Public) (s : _) → ended Whole ≡ record (cut_at false 0 p s (ended Whole)) { end = Whole }
+held_plain : (p : Public) (s : Skeleton) → ended Whole ≡ record (cut_at false 0 p s (ended Whole)) { end = Whole }
 held_plain p s = λ i. record {
   k = held_empty (nat_le (count_end p s) 0) None refl i;
   plan = held_empty (nat_le (count_end p s) 0) None refl i;
@@ -117,7 +119,7 @@ module _ (m n : ℕ) (p : Public) (stmt : Stmt) (flies : Flies p m stmt) where
 
   stands_going : refusal_now p m stmt ≡ None → Lawful q m stmt (ended (Cut 0))
   stands_going free = record {
-    static = (λ is. absurd (cc is), λ some. absurd (subst (λ (o : Option Refusal). Rattle.std.specs.Prelude.IsSome o) (same ∙ free) some));
+    static = (λ is. absurd (cc is), λ some. absurd (let none : is_some (refusal_now q m stmt) ≡ false = ap is_some (same ∙ free) in cc (some, none)));
     holds = tt;
     leaf = λ keyed. absurd (let plain = flies.flat free in cc (keyed, plain));
     cut = omega arith;
@@ -140,7 +142,7 @@ drop_all : (xs : List Access) → drop (length xs) xs ≡ []
 drop_all [] = refl
 drop_all (x ∷ xs) = drop_all xs
 
-module _ {R E : Type 0} (state : R → RevState) (grew cut : E → E → List Event → Type 0) (closed parted : E → E → ℕ → _ → Type 0) (faults : E → ℕ) (starts : (s : E) → grew s s [])
+module _ {R E : Type 0} (state : R → RevState) (grew cut : E → E → List Event → Type 0) (closed parted : E → E → ℕ → Outcome → Type 0) (faults : E → ℕ) (starts : (s : E) → grew s s [])
     (old : Engine R) (s s1 : StoreState) (agrees : Agrees state old s) (rests : ChangesNothing s s1) (stmts : List Stmt) (flown : AreFlight old.public (count_of old s) stmts) (words left : ℕ → ℕ) (out : E) where
   abbrev m : ℕ
   m = count_of old s

@@ -14,7 +14,7 @@ use Rattle.ob_oram.specs.declared.index.Index.{Index}
 use Rattle.ob_row.specs.Slots.{Slots}
 use Rattle.ob_script.specs.Trace.{Served}
 use Rattle.ob_select.specs.Selecting.{HoldsSeen, selection_seen}
-use Rattle.ob_stages.specs.Flying.{FlightFits, FlightHalts, FlightHolds, FlightNeeds, MayFly, flight_progress, flight_served}
+use Rattle.ob_stages.specs.Flying.{FlightHalts, FlightHolds, MayFly, flight_progress, flight_served}
 use Rattle.ob_stages.specs.Reading.{end_now}
 use Rattle.ob_stages.specs.Refusing.{refused_progress}
 use Rattle.ob_stages.specs.RowsHolds.{Holds, HoldsAt}

@@ -119,8 +119,9 @@ pub record AreAboard (late : Bool) (n : ℕ) (p : Public) (stmts : List Stmt) (f
   pub each : (i : ℕ) (stmt : Stmt) (f : Flight) → slice_get stmts i ≡ Some stmt
       → slice_get flights i ≡ Some f → IsAboard late n p stmt f
 
--- they may set off with rows of so many
-pub record MaySetOff (pack share : ℕ) (flights : List Flight) (w : World) : Type 0 where
+-- statements of a kind may set off with rows that are as wide as any, so many of a block and so many of each share
+pub record MaySetOff {F : Type 0} (k : Kind F) (pack share : ℕ) (flyers : List F) (w : World)
+    : Type 0 where
   pub boards : (rows kept : List (List ℕ)) → length rows ≡ pack → Wide 1024 rows
-      → length kept ≡ length flights * share → Wide 1024 kept
-      → AreBoarded flight_kind share rows (moment flights kept w)
+      → length kept ≡ length flyers * share → Wide 1024 kept
+      → AreBoarded k share rows (moment flyers kept w)

@@ -5,8 +5,8 @@ ghost use Rattle.ob_stages.specs.Flying.{flight_progress};
 ghost use Rattle.ob_exec.specs.Boarding.{AllFlyBy, AreAboard, FliesBy, IsAboard, MayFlyBy, early_of, seen_first, share_of};
 
 use ob_base::{End, NoMemory, Public, Seen};
-use ob_group::Buckets;
 use ob_mean::{early_refusal, where_at};
+use ob_order::Buckets;
 use ob_select::printed_places;
 use ob_sql::{SelectRows, SelectTotals, Source, Stmt};
 use ob_stages::{Flight, GroupsFlight, RefusedFlight, RowsFlight, TotalsFlight};

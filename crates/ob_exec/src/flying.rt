@@ -3,55 +3,60 @@ ghost use Rattle.std.specs.Prelude.{◌≡◌, ◌≤◌, ◌+◌, ◌*◌, Err,
 ghost use Rattle.ob_blocks.specs.Idle.{IsIdle};
 ghost use Rattle.ob_flat.specs.Passes.{SinkCause};
 ghost use Rattle.ob_inflight.specs.Flown.{HasFlown, StopsFlight};
-ghost use Rattle.ob_inflight.specs.Kinds.{moment, taker_of};
+ghost use Rattle.ob_inflight.specs.Kinds.{kind_of, moment, taker_of};
 ghost use Rattle.ob_vault.specs.Places.{at};
 ghost use Rattle.ob_tables.specs.Agreeing.{Agrees, count_of, has_ended, public_of};
-ghost use Rattle.ob_exec.specs.Boarding.{MaySetOff, engine_behind, flight_kind};
+ghost use Rattle.ob_exec.specs.Boarding.{MaySetOff, engine_behind};
 ghost use Rattle.ob_exec.specs.InFlight.{AreFlight};
 ghost use Rattle.ob_exec.specs.RanFlight.{RanFlight, halt_of};
 
 use crate::boarding::{board_all, see_all, see_first};
 use ob_base::Seen;
 use ob_flat::OpErr;
-use ob_inflight::{FlightOut, Turns, booked_by, fly};
+use ob_inflight::{FlightOut, Flyer, Turns, booked_by, fly};
 use ob_room::Room;
 use ob_sql::Stmt;
-use ob_stages::Flight;
 use ob_store::BlockStore;
 use ob_tables::{Engine, LATE, RunStop};
 use ob_vault::{Revisions, Vault};
 
-// They fly, each with so many rows of the room beside those of a block, which they share; then all rows are free again.
-fn fly_boarded<S: BlockStore, R: Revisions, T: Turns, E: FlightOut>(
+// Statements fly, each with so many rows of the room beside those of a block, which they share; then all rows are free
+// again.
+fn fly_in_room<S: BlockStore, R: Revisions, F: Flyer, T: Turns, E: FlightOut>(
     store: &mut S,
     vault: &mut Vault<R>,
     room: &mut Room,
-    flights: &mut [Flight],
+    flyers: &mut [F],
     share: u32,
     turns: &mut T,
     out: &mut E,
 ) -> Result<(), OpErr>
     requires room { IsIdle 1024 room.old }
-    requires rows { room.old.pack + length flights.old * share ≤ room.old.rows }
-    requires boarded { MaySetOff room.old.pack share flights.old
-        (at R.state vault.old (S.state store.old)) }
+    requires few { length flyers.old ≤ 8 }
+    requires most { room.old.rows ≤ 65536 }
+    requires rows { room.old.pack + length flyers.old * share ≤ room.old.rows }
+    requires boarded { MaySetOff (kind_of F.progress F.May F.Needs F.Fits F.Holds F.Halts)
+        room.old.pack share flyers.old (at R.state vault.old (S.state store.old)) }
+    ensures size { length flyers.new ≡ length flyers.old }
     ensures room { room.new ≡ record room.old {
-      high = max room.old.high (room.old.pack + length flights.old * share);
+      high = max room.old.high (room.old.pack + length flyers.old * share);
     } }
-    ensures flown { OnOk result ((shares kept : List (List ℕ)) × HasFlown flight_kind
+    ensures flown { OnOk result ((shares kept : List (List ℕ)) × HasFlown
+        (kind_of F.progress F.May F.Needs F.Fits F.Holds F.Halts)
         (taker_of E.grew E.cut E.closed E.parted) (T.word turns.old) (T.word turns.new) share
-        (moment flights.old shares (at R.state vault.old (S.state store.old)))
-        (moment flights.new kept (at R.state vault.new (S.state store.new))) out.old out.new) }
-    ensures stopped { IfErr result (λ e. (shares kept : List (List ℕ)) × StopsFlight flight_kind
+        (moment flyers.old shares (at R.state vault.old (S.state store.old)))
+        (moment flyers.new kept (at R.state vault.new (S.state store.new))) out.old out.new) }
+    ensures stopped { IfErr result (λ e. (shares kept : List (List ℕ)) × StopsFlight
+        (kind_of F.progress F.May F.Needs F.Fits F.Holds F.Halts)
         (taker_of E.grew E.cut E.closed E.parted) (T.word turns.old) share e
-        (moment flights.old shares (at R.state vault.old (S.state store.old)))
-        (moment flights.new kept (at R.state vault.new (S.state store.new))) out.old out.new) }
+        (moment flyers.old shares (at R.state vault.old (S.state store.old)))
+        (moment flyers.new kept (at R.state vault.new (S.state store.new))) out.old out.new) }
     ensures sink { SinkCause result (E.faults out.old) (E.faults out.new) }
 {
     let pack = room.pack();
-    let open = room.open(pack + flights.len() as u32 * share);
+    let open = room.open(pack + flyers.len() as u32 * share);
     let (rows, kept) = open.split_at_mut(pack as usize);
-    let flown = fly(store, vault, rows, kept, share as usize, flights, turns, out);
+    let flown = fly(store, vault, rows, kept, share as usize, flyers, turns, out);
     room.clear_shelf();
     flown
 }
@@ -94,7 +99,7 @@ fn fly_all<S: BlockStore, R: Revisions, T: Turns, E: FlightOut>(
     if store.room(booked_by(&flights)).is_err() {
         return Err(OpErr::NoMemory);
     }
-    let flown = fly_boarded(
+    let flown = fly_in_room(
         store,
         &mut engine.vault,
         &mut engine.room,
