@@ -1,5 +1,5 @@
 -- Whether an error is the store's fault.
-use Rattle.std.proofs.Common.{◌≡◌, Bool, true, false, refl, ◌∙◌, ap}
+use Rattle.std.proofs.Common.{◌≡◌, true, false, refl, ◌∙◌, ap}
 use Rattle.std.specs.Prelude.{Result, Err}
 use Rattle.ob_flat.specs.declared.fault.OpErr.{OpErr}
 use Rattle.ob_flat.specs.declared.fault.OpErr.TheVariants.{Failed, Tampered, Sink, NoMemory}

@@ -1,5 +1,5 @@
 -- The end of a SELECT in flight that was refused before any access.
-use Rattle.std.proofs.Common.{◌≡◌, ℕ, List, [], refl, sym, ◌∙◌, subst}
+use Rattle.std.proofs.Common.{ℕ, List, [], refl, ◌∙◌}
 use Rattle.std.specs.Prelude.{Some, Ok}
 use Rattle.std.proofs.lemmas.List.{append-nil}
 use Rattle.ob_base.specs.Events.{Event}

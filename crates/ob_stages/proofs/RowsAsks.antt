@@ -1,12 +1,11 @@
 -- What each step of a SELECT of rows in flight asks of what it calls.
-use Rattle.std.proofs.Common.{◌≡◌, ◌⊎◌, ◌<◌, ◌≤◌, ◌+◌, ◌-◌, ◌*◌, ◌^◌, ◌∷◌, Fits, w32, ℕ, Bool, true, false, List, [], refl, sym, ◌∙◌, ap, subst, arith}
-use Rattle.std.specs.Prelude.{Option, Some, None, Result, length, take, drop}
-use Rattle.std.proofs.lemmas.Grind.{div_ceil_times}
+use Rattle.std.proofs.Common.{◌≡◌, ◌<◌, ◌≤◌, ◌+◌, ◌-◌, ◌*◌, ◌^◌, ◌∷◌, Fits, w32, ℕ, Bool, true, false, List, [], refl, sym, subst, arith}
+use Rattle.std.specs.Prelude.{Some, None, Result, length, take, drop}
 use Rattle.ob_base.specs.Events.{Event}
 use Rattle.ob_base.specs.Limits.{buffered_blocks}
 use Rattle.ob_flat.specs.declared.fault.OpErr.{OpErr}
 use Rattle.ob_flat.specs.declared.flat.Flat.{Flat}
-use Rattle.ob_flat.specs.Flats.{FitsRegion, IsSized}
+use Rattle.ob_flat.specs.Flats.{FitsRegion}
 use Rattle.ob_flat.specs.Scans.{MayScan}
 use Rattle.ob_flat.specs.Words.{HasSpare, blocks_of}
 use Rattle.ob_flat.proofs.Tables.{fits_sized}
@@ -27,9 +26,9 @@ use Rattle.ob_vault.specs.Words.{MayAsk}
 use Rattle.ob_vault.proofs.Runs.{went_spent}
 use Rattle.ob_vault.proofs.WordLemmas.{ready_rests, went_rests}
 use Rattle.ob_stages.specs.declared.rows.Stage.{Stage}
-use Rattle.ob_stages.specs.declared.rows.Stage.TheVariants.{Count, Make, Read, Write, Emit, Discard}
+use Rattle.ob_stages.specs.declared.rows.Stage.TheVariants.{Count, Make, Read, Write, Emit}
 use Rattle.ob_stages.specs.RowsActs.{kept_some}
-use Rattle.ob_stages.specs.RowsStates.{RowsAt, HasCounted, HasRegion, IsPlaced, PlacedAt, emits_before, is_over, kept_blocks, part_blocks, passes_pad, reads_before, result_in, rows_skeleton, small, table_blocks, taken, whole_length, writes_before}
+use Rattle.ob_stages.specs.RowsStates.{RowsAt, HasCounted, HasRegion, PlacedAt, emits_before, kept_blocks, part_blocks, passes_pad, reads_before, result_in, rows_skeleton, small, table_blocks, taken, whole_length, writes_before}
 use Rattle.ob_stages.specs.RowsHolds.{Collected, FitRows, FitsBlock, FitsShare, HasFilled, HasRead, HasShown, Holds, HoldsAt, IsCountOf, all_selected}
 use Rattle.ob_stages.specs.RowsSteps.{HasPart, IsHeldIn, ShowsBlock, StepsAt}
 use Rattle.ob_stages.proofs.RowsGoing.{few_at, results_most}

@@ -1,5 +1,5 @@
 -- How a SELECT of rows in flight stands, over the present world.
-use Rattle.std.specs.Prelude.{◌≡◌, ◌⊎◌, ◌<◌, ◌≤◌, ◌+◌, ◌*◌, ℕ, zero, suc, Bool, true, false, not, ◌&&◌, nat_lt, IsTrue, List, [], ◌∷◌, ◌++◌, length, Option, Some, None, IsSome, Result}
+use Rattle.std.specs.Prelude.{◌≡◌, ◌⊎◌, ◌<◌, ◌≤◌, ◌+◌, ◌*◌, ℕ, zero, suc, Bool, true, false, not, nat_lt, IsTrue, List, [], ◌∷◌, ◌++◌, length, Option, Some, None, IsSome}
 use Rattle.ob_base.specs.declared.access.Access.{Access}
 use Rattle.ob_base.specs.declared.config.Plan.TheVariants.{Small as SmallPlan}
 use Rattle.ob_base.specs.declared.refusal.Refusal.TheVariants.{PadPassed, StoreFault}
@@ -20,7 +20,7 @@ use Rattle.ob_mean.specs.Verdict.{counted, ended as seen_to, rows_refusal}
 use Rattle.ob_row.specs.Slots.{Slots}
 use Rattle.ob_row.specs.Truth.{is_true}
 use Rattle.ob_select.specs.Memory.{is_make}
-use Rattle.ob_select.specs.Selecting.{Selection, HoldsSeen, MayHold, Reaches, answer_events, places, selection_seen}
+use Rattle.ob_select.specs.Selecting.{Selection, HoldsSeen, answer_events, places, selection_seen}
 use Rattle.ob_small.specs.Keeping.{chosen}
 use Rattle.ob_small.specs.Selection as Small
 use Rattle.ob_small.specs.Steps.{HasCollected, IsFilledTo, IsUnordered}

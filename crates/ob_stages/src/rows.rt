@@ -1,8 +1,5 @@
 //! A SELECT of a table's rows in flight.
-ghost use Rattle.std.specs.Prelude.{◌≡◌, ◌≤◌, ℕ, List, []};
-ghost use Rattle.ob_flat.specs.Scans.{MayScan};
-ghost use Rattle.ob_vault.specs.State.{World};
-ghost use Rattle.ob_vault.specs.Tied.{Ready};
+ghost use Rattle.std.specs.Prelude.{◌≡◌, ◌≤◌};
 ghost use Rattle.ob_stages.specs.RowsStates.{IsFlown, IsOf, boarded_rows, rows_at, rows_progress, rows_skeleton, selection_by};
 ghost use Rattle.ob_stages.specs.RowsHolds.{BoardsRows, RowsHold};
 

@@ -1,5 +1,4 @@
-use Rattle.std.proofs.Common.{◌-◌, ℕ, List, Ok, Err, sym, ◌∙◌, ap, subst, refl}
-use Rattle.ob_flat.specs.declared.fault.OpErr.{OpErr}
+use Rattle.std.proofs.Common.{◌-◌, Ok, Err, sym, ◌∙◌, subst, refl}
 use Rattle.ob_vault.specs.Places.{at}
 use Rattle.ob_stages.specs.declared.rows.RowsFlight.{RowsFlight}
 use Rattle.ob_stages.specs.declared.rows.Stage.{Stage}

@@ -1,10 +1,9 @@
-use Rattle.std.proofs.Common.{◌≡◌, ◌-◌, ◌<◌, ◌≤◌, ℕ, List, Some, Ok, Err, sym, ◌∙◌, ap, subst, refl, arith}
-use Rattle.ob_flat.specs.declared.fault.OpErr.{OpErr}
+use Rattle.std.proofs.Common.{◌-◌, ◌≤◌, ℕ, Some, Ok, Err, sym, ◌∙◌, subst, refl, arith}
 use Rattle.ob_flat.specs.Flats.{FitsRegion}
 use Rattle.ob_vault.specs.Places.{at}
 use Rattle.ob_stages.specs.declared.rows.RowsFlight.{RowsFlight}
 use Rattle.ob_stages.specs.declared.rows.Stage.TheVariants.{Make, Read}
-use Rattle.ob_stages.specs.RowsStates.{rows_at, rows_selection, taken}
+use Rattle.ob_stages.specs.RowsStates.{rows_at}
 use Rattle.ob_stages.specs.RowsSteps.{ForgetsOwn, QuietStep, gone_wrong}
 use Rattle.ob_stages.proofs.RowsAsks.{make_few, make_size, make_spare}
 use Rattle.ob_stages.proofs.FaultLemmas.{failed_by, not_fault}

@@ -1,5 +1,4 @@
-use Rattle.std.proofs.Common.{◌≡◌, ◌+◌, ◌*◌, ℕ, List, Ok, Err, sym, ◌∙◌, ap, subst, refl}
-use Rattle.ob_flat.specs.declared.fault.OpErr.{OpErr}
+use Rattle.std.proofs.Common.{◌+◌, ◌*◌, ℕ, Ok, sym, ◌∙◌, ap, subst, refl}
 use Rattle.ob_flat.specs.declared.flat.Flat.{Flat}
 use Rattle.ob_vault.specs.Places.{at}
 use Rattle.ob_stages.specs.declared.rows.RowsFlight.{RowsFlight}
@@ -8,7 +7,7 @@ use Rattle.ob_stages.specs.declared.rows.Stage.TheVariants.{Write}
 use Rattle.ob_stages.specs.RowsStates.{kept_blocks, rows_at, rows_selection}
 use Rattle.ob_stages.specs.RowsSteps.{Clears, HasPart, QuietStep, gone_to}
 use Rattle.ob_stages.proofs.RowsAsks.{write_asks, write_part_of, write_some, writes_as}
-use Rattle.ob_stages.proofs.FaultLemmas.{failed_by, not_fault}
+use Rattle.ob_stages.proofs.FaultLemmas.{failed_by}
 use Rattle.ob_stages.proofs.RowsGoing.{few_at}
 use Rattle.ob_stages.proofs.RowsQuiet.{quiet_write, quiet_write_failed}
 use Rattle.ob_stages.proofs.rows.RowsFlight.write.Goals as goal

@@ -2,7 +2,7 @@ use Rattle.std.proofs.Common.{ℕ, List, ap, refl}
 use Rattle.ob_vault.specs.Places.{at}
 use Rattle.ob_vault.specs.Rows.{SameSizes}
 use Rattle.ob_stages.specs.RowsLaws.{fit_again}
-use Rattle.ob_stages.specs.RowsStates.{is_over, is_printing, rows_at}
+use Rattle.ob_stages.specs.RowsStates.{is_printing, rows_at}
 use Rattle.ob_stages.proofs.RowsEmits.{loud_fits, loud_tells, quiet_fits, quiet_sink, tells_quiet}
 use Rattle.ob_stages.proofs.rows.RowsFlightFlyer.step.Goals as goal
 
