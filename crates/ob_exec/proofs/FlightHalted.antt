@@ -48,7 +48,7 @@ use Rattle.ob_exec.specs.RanFlight.{AtEmitter, BeforeMake, BeginsMeant, EndsSo, 
 use Rattle.ob_exec.proofs.FlightBegun.{begins_meant}
 use Rattle.ob_exec.proofs.FlightEnd.{rises_from}
 use Rattle.ob_exec.specs.Boarding.{engine_behind}
-use Rattle.ob_exec.proofs.FlightFrames.{calm_start, draws_behind, hold_now, kept_behind, lasts_all, opens_behind, sealed_behind}
+use Rattle.ob_exec.proofs.FlightFrames.{apart_behind, calm_start, draws_behind, hold_now, lasts_all, opens_behind, sealed_behind}
 use Rattle.ob_exec.proofs.FlightLists.{cuts_same, events_next, get_other, get_within, map_get, outcome_next, past_ended}
 use Rattle.ob_exec.proofs.FlightRuns.{Boards, ServesOne, emits_now, emitted_now, partly_now, public_is, set_kept}
 use Rattle.ob_exec.proofs.FlightStage.{AsksMake, HoldNow, IsSet, IsStage, LacksHere, closed_of, more_asked, whole_of}
@@ -422,7 +422,7 @@ module _ {R E F : Type 0} (state : R → RevState) (grew cut : E → E → List 
     drawn = draws_behind state old s s1 agrees rests v room t free st.lasts true;
     room = free;
     opened = opens_behind state old s s1 agrees rests v room t free st.lasts (drop (length s.asked) t.asked) kept some;
-    kept = kept_behind state old s s1 agrees rests v room t free st.lasts;
+    untouched = apart_behind state old s s1 agrees rests v room t free st.lasts;
     goes_on = refl;
   }
 

@@ -49,6 +49,7 @@ use Rattle.ob_tables.proofs.RunLemmas.{opens_none}
 use Rattle.ob_tables.proofs.SealLemmas.{keeps_rests}
 use Rattle.ob_tables.proofs.TableLemmas.{named}
 use Rattle.ob_tables.proofs.ToldLemmas.{started_seen}
+use Rattle.ob_vault.specs.Calls.{Apart}
 use Rattle.ob_vault.specs.State.{RevState, World}
 use Rattle.ob_vault.proofs.WordLemmas.{went_rests}
 use Rattle.ob_verdict.specs.Outcomes.{refusal_now}
@@ -240,7 +241,7 @@ module _ {R E : Type 0} (state : R → RevState) (grew cut : E → E → List Ev
     drawn = λ d of. record { draw = of.draw; next = of.next };
     room = agrees.room;
     opened = subst (λ (l : List Access). Rattle.ob_select.specs.Opening.Opens l old.room.high old.room.high) (sym none_asked) (opens_none old.room.high);
-    kept = λ q below. (went_rests _ s s1 rests (λ r. old.vault.next ≤ r) agrees.ready).lasts.apart.rests q (let next = agrees.next in λ above. omega (arith, next, below, above));
+    untouched = subst (λ (n : ℕ). Apart (λ q. n ≤ q) (world_of state old s) (world_of state old s1)) (sym agrees.next) (went_rests _ s s1 rests (λ r. old.vault.next ≤ r) agrees.ready).lasts.apart;
     goes_on = refl;
   }
 

@@ -1,5 +1,5 @@
 -- What several SELECTs do that ask in turns, whatever they are answered.
-use Rattle.std.specs.Prelude.{◌≡◌, ◌⊎◌, ◌-◌, ◌<◌, ◌++◌, ℕ, true, false, List, Option, None, Some, Result, Ok, Err, IfErr, OnOk, MatchResult, drop, length, slice_get}
+use Rattle.std.specs.Prelude.{◌≡◌, ◌⊎◌, ◌-◌, ◌≤◌, ◌++◌, ℕ, true, false, List, Option, None, Some, Result, Ok, Err, IfErr, OnOk, MatchResult, drop, length, slice_get}
 use Rattle.ob_base.specs.Events.{Event}
 use Rattle.ob_base.specs.declared.access.Access.{Access}
 use Rattle.ob_base.specs.declared.config.Public.{Public}
@@ -21,7 +21,7 @@ use Rattle.ob_sql.specs.Skeleton.{skeleton}
 use Rattle.ob_sql.specs.declared.stmt.Stmt.{Stmt}
 use Rattle.ob_store.specs.Runs.{Later}
 use Rattle.ob_store.specs.State.{Lie, StoreState}
-use Rattle.ob_vault.specs.Calls.{EndsRead}
+use Rattle.ob_vault.specs.Calls.{Apart, EndsRead}
 use Rattle.ob_vault.specs.State.{RevState, World}
 use Rattle.ob_vault.specs.Tied.{Calm, EndsAt, ReadsIn}
 use Rattle.ob_verdict.specs.Outcomes.{Emits, Partly}
@@ -108,8 +108,8 @@ pub record RanInTurns {R T : Type 0} (state : R → RevState) (words : ℕ → �
   -- all rows of the room are free again, and one at least was open where a block was read or written
   pub room : IsFree (public_of old) new.room
   pub opened : Opens (drop (length s.asked) t.asked) (high_of old) (high_of new)
-  -- nothing has changed of the regions that there were
-  pub kept : (q : ℕ) → q < (public_of old).next_region → t.kept q ≡ s.kept q
+  -- nothing has changed of the regions that there were, in the store and in the vault: no table is changed
+  pub untouched : Apart (λ q. (public_of old).next_region ≤ q) (world_of state old s) (world_of state new t)
   pub goes_on : MatchResult result
       (λ x. FliesOn state (next_flight (public_of old) flown words) new t)
       (λ stop. has_ended new ≡ true)
