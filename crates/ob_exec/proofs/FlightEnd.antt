@@ -192,6 +192,7 @@ module _ {R E F : Type 0} (state : R → RevState) (grew cut : E → E → List 
         emits_now k m stage steady_of old.public stmts words share start boards h.turn h.public h.ended [] now h.aloft i f.0 stmt one f.1 there is;
     answered = h.took;
     stopped = tt;
+    turn = tt;
     sink = quiet;
     cause = λ calm. h.aloft.rest.calm (calm_start state old s s1 agrees rests calm);
     failures = rises_from (cut_off seens) s.faults s1.faults t.faults rests.faults

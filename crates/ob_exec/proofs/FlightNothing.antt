@@ -57,6 +57,7 @@ use Rattle.ob_verdict.specs.declared.outcome.Outcome.{Outcome}
 use Rattle.ob_exec.specs.Boarding.{engine_behind, seen_first, seen_if}
 use Rattle.ob_exec.specs.InFlight.{AreFlight, Flies, IsFlown, IsMeant, own_asked, served_as}
 use Rattle.ob_exec.specs.RanFlight.{FlightMeans, RanFlight, RanInTurns, StopsFlight, asked_by, asked_since, cut_off, in_flight}
+use Rattle.ob_exec.proofs.FlightTurned.{stops_unturned}
 use Rattle.ob_exec.proofs.BoardOne.{early_same, from_one, table_sized}
 use Rattle.ob_exec.proofs.FlightBoards.{flies_in}
 use Rattle.ob_exec.proofs.FlightFrames.{calm_start}
@@ -273,6 +274,7 @@ module _ {R E : Type 0} (state : R → RevState) (grew cut : E → E → List Ev
     emits = λ i stmt one there is. absurd (cc is);
     answered = tt;
     stopped = stops_first;
+    turn = stops_unturned p (served_as stmts seens) words (asked_since s s1) none_since;
     sink = refl;
     cause = calm_start state old s s1 agrees rests;
     failures =
