@@ -1,6 +1,6 @@
 -- A statement before its flight: by what it goes, and the rows that fit it.
 use Rattle.std.proofs.Common.{◌≡◌, inl, inr, ◌≤◌, ◌<◌, ◌+◌, ◌-◌, ◌*◌, ◌/◌, ◌^◌, min, ℕ, Bool, ◌||◌, true, false, List, [], ◌∷◌, length, Option, None, refl, sym, ◌∙◌, ap, subst, arith}
-use Rattle.std.specs.Prelude.{nat_le, nat_lt, slice_get}
+use Rattle.std.specs.Prelude.{nat_le, nat_lt}
 use Rattle.std.proofs.lemmas.Bool.{cases_lt, le-leb, lt-leb}
 use Rattle.ob_base.specs.declared.config.Plan.TheVariants.{Small}
 use Rattle.ob_base.specs.declared.config.Planner.{Planner}
@@ -8,7 +8,6 @@ use Rattle.ob_base.specs.declared.config.Planner.TheVariants.{Forced}
 use Rattle.ob_base.specs.declared.config.Public.{Public}
 use Rattle.ob_base.specs.declared.refusal.Refusal.TheVariants.{NoTable, NameTaken, NoColumn, WrongType, ValueRange, Limit, KeyRule, JoinKey, NeedsKey}
 use Rattle.ob_base.specs.declared.schema.Heading.{Heading}
-use Rattle.ob_base.specs.declared.schema.Table.{Table}
 use Rattle.ob_base.specs.declared.skeleton.Skeleton.TheVariants.{Rows as RowsSkeleton}
 use Rattle.ob_base.specs.declared.skeleton.Source.{Source}
 use Rattle.ob_base.specs.declared.skeleton.Source.TheVariants.{Table as OneTable, Join}
@@ -25,12 +24,11 @@ use Rattle.ob_script.specs.FlightLaws.{SelectsFromOne}
 use Rattle.ob_script.specs.Flights.{flight_public}
 use Rattle.ob_select.specs.Settings.{AreSettings}
 use Rattle.ob_sql.specs.Skeleton.{skeleton}
-use Rattle.ob_sql.specs.declared.stmt.SelectRows.{SelectRows}
 use Rattle.ob_sql.specs.declared.stmt.Stmt.{Stmt}
 use Rattle.ob_sql.specs.declared.stmt.Stmt.TheVariants.{Create, Insert, Update, Delete, Drop as DropTable, SelectRows as RowsStmt, SelectTotals as TotalsStmt}
 use Rattle.ob_stages.proofs.GroupsEnds.{share_few}
-use Rattle.ob_tables.specs.Engines.{IsFound, flat_of}
-use Rattle.ob_vault.specs.Rows.{Wide, row_at}
+use Rattle.ob_tables.specs.Engines.{IsFound}
+use Rattle.ob_vault.specs.Rows.{Wide}
 use Rattle.ob_exec.specs.Boarding.{FitShares, MayFlyBy, early_of}
 
 -- a count that stands at the last value of a u64 is late

@@ -1,10 +1,7 @@
 -- A SELECT of the rows of a table before its flight.
-use Rattle.std.proofs.Common.{◌≡◌, ◌≤◌, ◌+◌, ◌*◌, ◌^◌, ℕ, Bool, false, List, [], ◌∷◌, ◌++◌, length, Option, Some, None, refl, sym, ◌∙◌, ap, subst, arith, append-nil}
-use Rattle.std.specs.Prelude.{slice_get}
+use Rattle.std.proofs.Common.{◌≡◌, ◌≤◌, ◌^◌, ℕ, Bool, false, List, [], ◌++◌, length, Option, Some, None, refl, sym, ◌∙◌, ap, subst, arith, append-nil}
 use Rattle.ob_base.specs.declared.config.Public.{Public}
-use Rattle.ob_base.specs.declared.refusal.Refusal.{Refusal}
 use Rattle.ob_base.specs.declared.schema.Shape.TheVariants.{Flat as FlatShape}
-use Rattle.ob_base.specs.declared.seen.Seen.{Seen}
 use Rattle.ob_base.specs.declared.skeleton.Skeleton.TheVariants.{Rows as RowsSkeleton}
 use Rattle.ob_base.specs.declared.skeleton.Source.{Source}
 use Rattle.ob_base.specs.declared.skeleton.Source.TheVariants.{Table as OneTable}
@@ -19,20 +16,17 @@ use Rattle.ob_mean.specs.Refusals.{limits_of, listed, source_tables}
 use Rattle.ob_mean.specs.Replay.{is_access}
 use Rattle.ob_mean.specs.Step.{printed_places, select_columns}
 use Rattle.ob_row.specs.Condition.{Condition}
-use Rattle.ob_script.specs.Flights.{flight_public}
 use Rattle.ob_select.specs.Selecting.{Selection}
 use Rattle.ob_sql.specs.declared.stmt.SelectRows.{SelectRows}
 use Rattle.ob_sql.specs.declared.stmt.Stmt.TheVariants.{SelectRows as RowsStmt}
-use Rattle.ob_stages.specs.RowsHolds.{BoardsRows, FitRows, Holds, RowsHold}
+use Rattle.ob_stages.specs.RowsHolds.{BoardsRows, FitRows, RowsHold}
 use Rattle.ob_stages.specs.RowsStates.{IsFlown, IsOf, RowsAt, boarded_rows, known_by, progress_of, rows_at, rows_skeleton, selection_by, table_blocks, whole_length}
 use Rattle.ob_stages.specs.declared.flight.Flight.TheVariants.{Rows}
 use Rattle.ob_stages.specs.declared.rows.RowsFlight.{RowsFlight}
-use Rattle.ob_stages.proofs.RowsGoing.{blocks_most, whole_most}
-use Rattle.ob_tables.specs.Engines.{IsFound, flat_of}
+use Rattle.ob_stages.proofs.RowsGoing.{whole_most}
+use Rattle.ob_tables.specs.Engines.{IsFound}
 use Rattle.ob_tables.proofs.SourceColumns.{listed_few}
 use Rattle.ob_tables.proofs.TableLemmas.{stored_found}
-use Rattle.ob_vault.specs.State.{World}
-use Rattle.ob_vault.specs.Tied.{Ready}
 use Rattle.ob_verdict.proofs.AcceptedProof.{places_fit}
 use Rattle.ob_exec.specs.Boarding.{FitShares, IsAboard, MayFlyBy, early_of, seen_if}
 use Rattle.ob_exec.proofs.BoardOne.{block_fit, flat_sized, flight_settings, wide_less}

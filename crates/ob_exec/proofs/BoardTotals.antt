@@ -1,15 +1,12 @@
 -- A SELECT of totals before its flight, and a statement that is refused before any access.
-use Rattle.std.proofs.Common.{◌≡◌, ◌≤◌, ◌-◌, ◌*◌, ◌+◌, ◌^◌, ℕ, Bool, true, false, List, [], ◌∷◌, ◌++◌, length, Option, Some, None, refl, sym, ◌∙◌, ap, subst, arith, append-nil}
-use Rattle.std.specs.Prelude.{slice_get}
+use Rattle.std.proofs.Common.{◌≡◌, ◌≤◌, ◌-◌, ◌^◌, ℕ, Bool, List, [], ◌++◌, Option, Some, None, refl, sym, ◌∙◌, ap, subst, arith, append-nil}
 use Rattle.std.specs.Option.{option_map_or}
-use Rattle.ob_base.specs.declared.access.Access.{Access}
 use Rattle.ob_base.specs.declared.config.Public.{Public}
 use Rattle.ob_base.specs.declared.refusal.Refusal.{Refusal}
 use Rattle.ob_base.specs.declared.schema.Heading.{Heading}
 use Rattle.ob_base.specs.declared.schema.Shape.TheVariants.{Flat as FlatShape}
-use Rattle.ob_base.specs.declared.seen.Seen.{Seen}
-use Rattle.ob_base.specs.Limits.{buffered, buffered_blocks}
-use Rattle.ob_base.specs.Schemas.{Columns, width}
+use Rattle.ob_base.specs.Limits.{buffered}
+use Rattle.ob_base.specs.Schemas.{Columns}
 use Rattle.ob_base.specs.Stored.{Stored, headings_of}
 use Rattle.ob_flat.specs.Flats.{IsSized}
 use Rattle.ob_flat.specs.Scans.{MayScan}
@@ -23,16 +20,14 @@ use Rattle.ob_mean.proofs.EarlyLemmas.{allowed}
 use Rattle.ob_row.specs.Condition.{Condition}
 use Rattle.ob_script.specs.Flights.{flight_public}
 use Rattle.ob_script.specs.Parts.{count_part}
-use Rattle.ob_script.specs.Script.{blocks_of as script_blocks, extent_of, whole_script}
-use Rattle.ob_sql.specs.Skeleton.{skeleton}
+use Rattle.ob_script.specs.Script.{blocks_of as script_blocks, extent_of}
 use Rattle.ob_sql.specs.declared.stmt.SelectTotals.{SelectTotals}
 use Rattle.ob_sql.specs.declared.stmt.Stmt.{Stmt}
 use Rattle.ob_sql.specs.declared.stmt.Stmt.TheVariants.{SelectTotals as TotalsStmt}
 use Rattle.ob_inflight.specs.Progress.{Progress}
-use Rattle.ob_stages.specs.Flying.{flight_progress}
 use Rattle.ob_stages.specs.Groups.{FitsGroups, StartsGroups}
-use Rattle.ob_stages.specs.Reading.{FitsTable, MayBoard, StartsReading, is_over, places_of, public_of, reading_progress, reads_left, stmt_of}
-use Rattle.ob_stages.specs.Refusing.{StartsRefused, refused_progress}
+use Rattle.ob_stages.specs.Reading.{FitsTable, MayBoard, StartsReading, reading_progress, reads_left}
+use Rattle.ob_stages.specs.Refusing.{StartsRefused}
 use Rattle.ob_stages.specs.Totalling.{TotalsFit}
 use Rattle.ob_stages.specs.Totals.{StartsTotals}
 use Rattle.ob_stages.specs.declared.flight.Flight.TheVariants.{Refused, Totals, Groups}
@@ -42,11 +37,10 @@ use Rattle.ob_stages.specs.declared.refused.RefusedFlight.{RefusedFlight}
 use Rattle.ob_stages.specs.declared.totals.TotalsFlight.{TotalsFlight}
 use Rattle.ob_stages.proofs.ReadingStarts.{starts_places}
 use Rattle.ob_stages.proofs.TotalsLemmas.{totals_fit}
-use Rattle.ob_tables.specs.Engines.{IsFound, flat_of}
+use Rattle.ob_tables.specs.Engines.{IsFound}
 use Rattle.ob_tables.proofs.FoundLemmas.{heading_found, shape_found}
 use Rattle.ob_tables.proofs.TableLemmas.{stored_found}
 use Rattle.ob_vault.specs.State.{World}
-use Rattle.ob_vault.specs.Tied.{Ready}
 use Rattle.ob_exec.specs.Boarding.{FitShares, IsAboard, MayFlyBy, ReadsFrom, early_of, seen_if, share_of}
 use Rattle.ob_exec.proofs.BoardOne.{block_fit, flat_sized, wide_less}
 

@@ -1,14 +1,11 @@
 -- The statements of a flight may set off: each stands, and goes by what is public.
-use Rattle.std.proofs.Common.{◌≡◌, ◌≤◌, ◌<◌, ◌+◌, ◌-◌, ◌*◌, ◌/◌, ◌^◌, ℕ, zero, suc, Bool, true, false, List, [], ◌∷◌, length, Option, Some, None, refl, sym, ◌∙◌, ap, subst, arith}
-use Rattle.std.specs.Prelude.{nat_le, slice_get}
+use Rattle.std.proofs.Common.{◌≡◌, ◌≤◌, ◌<◌, ◌+◌, ◌-◌, ◌*◌, ◌/◌, ◌^◌, ℕ, zero, suc, Bool, false, List, [], length, Some, None, refl, sym, ◌∙◌, ap, subst, arith}
+use Rattle.std.specs.Prelude.{slice_get}
 use Rattle.std.proofs.lemmas.Bool.Decides.{nat_tests}
 use Rattle.std.proofs.lemmas.Nat.{div-add-mod', le-div}
 use Rattle.std.proofs.lemmas.Option.{get_or_from_slice_get, slice_get_within}
 use Rattle.ob_base.specs.Events.{Event}
 use Rattle.ob_base.specs.declared.config.Public.{Public}
-use Rattle.ob_base.specs.declared.refusal.Refusal.{Refusal}
-use Rattle.ob_base.specs.declared.schema.Shape.TheVariants.{Flat as FlatShape}
-use Rattle.ob_base.specs.declared.schema.Table.{Table}
 use Rattle.ob_base.specs.declared.skeleton.Skeleton.TheVariants.{Rows as RowsSkeleton}
 use Rattle.ob_base.specs.declared.skeleton.Source.{Source}
 use Rattle.ob_emit.specs.Emitting.{labels_of}
@@ -19,7 +16,6 @@ use Rattle.ob_flat.proofs.Tables.{fits_sized, written_flat}
 use Rattle.ob_inflight.specs.Aloft.{AreBoarded, booked_by, most_of}
 use Rattle.ob_inflight.specs.Closing.{events_at, outcome_at}
 use Rattle.ob_inflight.specs.Kinds.{moment, share_at}
-use Rattle.ob_inflight.specs.Progress.{Progress}
 use Rattle.ob_inflight.proofs.Lists.{total_few}
 use Rattle.ob_join.proofs.Windows.{part_long, part_wide, product_within}
 use Rattle.ob_mean.specs.Refusals.{limits_of, tables_of}
@@ -32,7 +28,7 @@ use Rattle.ob_sql.specs.Skeleton.{skeleton}
 use Rattle.ob_sql.specs.declared.stmt.SelectRows.{SelectRows}
 use Rattle.ob_sql.specs.declared.stmt.Stmt.{Stmt}
 use Rattle.ob_sql.specs.declared.stmt.Stmt.TheVariants.{Create, Insert, Update, Delete, Drop as DropTable, SelectRows as RowsStmt, SelectTotals as TotalsStmt}
-use Rattle.ob_stages.specs.Flying.{FlightFits, FlightHolds, flight_progress}
+use Rattle.ob_stages.specs.Flying.{FlightHolds, flight_progress}
 use Rattle.ob_stages.specs.declared.flight.Flight.{Flight}
 use Rattle.ob_stages.proofs.GroupsEnds.{buffered_few, share_few}
 use Rattle.ob_store.specs.Calls.{ChangesNothing}
@@ -44,14 +40,12 @@ use Rattle.ob_tables.specs.declared.engine.Engine.{Engine}
 use Rattle.ob_tables.proofs.SourceColumns.{labelled_is}
 use Rattle.ob_tables.proofs.TableLemmas.{AreNamed, flat_kept}
 use Rattle.ob_vault.specs.Calls.{none}
-use Rattle.ob_vault.specs.Numbers.{spent}
 use Rattle.ob_vault.specs.Rows.{Wide}
 use Rattle.ob_vault.specs.State.{RevState, World}
-use Rattle.ob_vault.specs.Tied.{Ready}
 use Rattle.ob_vault.proofs.RowsLemmas.{rows_room}
 use Rattle.ob_vault.proofs.WordLemmas.{ready_rests, went_rests}
 use Rattle.ob_verdict.specs.Outcomes.{refusal_now}
-use Rattle.ob_exec.specs.Boarding.{AllFlyBy, AreAboard, FitShares, FliesBy, IsAboard, MayFlyBy, MaySetOff, ReadsFrom, early_of, flight_kind, share_of}
+use Rattle.ob_exec.specs.Boarding.{AllFlyBy, AreAboard, FitShares, IsAboard, MayFlyBy, MaySetOff, early_of, flight_kind, share_of}
 use Rattle.ob_exec.specs.InFlight.{AreFlight, Flies}
 use Rattle.ob_exec.specs.RanFlight.{in_flight}
 use Rattle.ob_exec.specs.Sources.{selection}

@@ -1,5 +1,5 @@
 -- What SELECTs in flight do, from how they set off and what their turns came to.
-use Rattle.std.proofs.Common.{◌≡◌, ◌≤◌, ◌+◌, ◌*◌, ℕ, max, Bool, true, false, List, [], map, length, Result, Ok, Err, refl, sym, ◌∙◌, ap, subst, arith}
+use Rattle.std.proofs.Common.{◌≡◌, ◌≤◌, ◌+◌, ℕ, max, true, false, List, map, length, Result, Ok, Err, ap, arith}
 use Rattle.std.specs.Prelude.{IfErr, OnOk}
 use Rattle.std.specs.Result.{is_err}
 use Rattle.ob_base.specs.Events.{Event}

@@ -1,5 +1,5 @@
 -- Want of memory before a flight: nothing was asked.
-use Rattle.std.proofs.Common.{◌≡◌, inl, inr, ◌≤◌, ◌<◌, ◌+◌, ◌-◌, ◌^◌, min, ℕ, zero, suc, Bool, ◌||◌, true, false, List, [], ◌∷◌, ◌++◌, map, length, take, Option, Some, None, Err, refl, sym, ◌∙◌, ap, subst, arith, append-nil}
+use Rattle.std.proofs.Common.{◌≡◌, inl, ◌≤◌, ℕ, suc, Bool, ◌||◌, true, false, List, [], ◌∷◌, ◌++◌, map, length, take, Option, Some, None, Err, refl, sym, ◌∙◌, ap, subst, arith, append-nil}
 use Rattle.std.specs.Prelude.{bytes_eq, drop, is_some, nat_le, nat_lt, not, slice_get}
 use Rattle.std.specs.List.{All, list_any}
 use Rattle.std.proofs.lemmas.List.{length-map}
@@ -11,23 +11,19 @@ use Rattle.ob_base.specs.declared.config.Plan.TheVariants.{Small, Large, Continu
 use Rattle.ob_base.specs.declared.config.Public.{Public}
 use Rattle.ob_base.specs.declared.refusal.Refusal.{Refusal}
 use Rattle.ob_base.specs.declared.schema.Table.{Table}
-use Rattle.ob_base.specs.declared.seen.End.TheVariants.{Static, Whole, Cut}
+use Rattle.ob_base.specs.declared.seen.End.TheVariants.{Whole, Cut}
 use Rattle.ob_base.specs.declared.seen.Seen.{Seen}
 use Rattle.ob_base.specs.declared.skeleton.Skeleton.{Skeleton}
 use Rattle.ob_base.specs.declared.skeleton.Source.{Source}
-use Rattle.ob_base.specs.declared.skeleton.Source.TheVariants.{Table as OneTable}
 use Rattle.ob_base.specs.Stored.{has_table, headings_of}
-use Rattle.ob_inflight.specs.Closing.{Closed, RisesBy}
 use Rattle.ob_mean.specs.Batches.{is_cut}
 use Rattle.ob_mean.specs.Lawful.{Lawful}
 use Rattle.ob_mean.specs.Refusals.{limits_of, source_tables}
-use Rattle.ob_mean.specs.Replay.{count_end, cut_at, held_if, is_access, walk_end}
-use Rattle.ob_mean.specs.Verdict.{Draws, Tables, ended, is_late, seen as seen_by, seen_by as seen_padded, seen_started, seen_with, verdict}
+use Rattle.ob_mean.specs.Replay.{count_end, cut_at, is_access, walk_end}
+use Rattle.ob_mean.specs.Verdict.{Draws, Tables, ended, is_late, seen_by as seen_padded, seen_started, seen_with}
 use Rattle.ob_mean.proofs.EarlyLemmas.{allowed}
 use Rattle.ob_script.specs.FlightLaws.{SelectsFromOne, one_if, total}
-use Rattle.ob_script.specs.Flights.{flight_public, merge, own, flight}
-use Rattle.ob_script.specs.Trace.{Served}
-use Rattle.ob_select.specs.Memory.{AtMake}
+use Rattle.ob_script.specs.Flights.{flight_public, merge}
 use Rattle.ob_select.proofs.SelectHeld.{held_empty}
 use Rattle.ob_sql.specs.Skeleton.{skeleton}
 use Rattle.ob_sql.specs.declared.stmt.SelectRows.{SelectRows}
@@ -37,7 +33,7 @@ use Rattle.ob_stages.proofs.TotalsLemmas.{partly_none}
 use Rattle.ob_store.specs.Calls.{ChangesNothing}
 use Rattle.ob_store.specs.State.{StoreState}
 use Rattle.ob_store.proofs.Steps.{later_rests}
-use Rattle.ob_tables.specs.Agreeing.{Agrees, AreDraws, count_of, world_of}
+use Rattle.ob_tables.specs.Agreeing.{Agrees, count_of, world_of}
 use Rattle.ob_tables.specs.Engines.{IsAt}
 use Rattle.ob_tables.specs.Telling.{ReadsTrueUntil}
 use Rattle.ob_tables.specs.declared.engine.Engine.{Engine}
@@ -50,24 +46,24 @@ use Rattle.ob_tables.proofs.SealLemmas.{keeps_rests}
 use Rattle.ob_tables.proofs.TableLemmas.{named}
 use Rattle.ob_tables.proofs.ToldLemmas.{started_seen}
 use Rattle.ob_vault.specs.Calls.{Apart}
-use Rattle.ob_vault.specs.State.{RevState, World}
+use Rattle.ob_vault.specs.State.{RevState}
 use Rattle.ob_vault.proofs.WordLemmas.{went_rests}
 use Rattle.ob_verdict.specs.Outcomes.{refusal_now}
 use Rattle.ob_verdict.specs.declared.outcome.Outcome.{Outcome}
 use Rattle.ob_exec.specs.Boarding.{engine_behind, seen_first, seen_if}
-use Rattle.ob_exec.specs.InFlight.{AreFlight, Flies, IsFlown, IsMeant, own_asked, served_as}
-use Rattle.ob_exec.specs.RanFlight.{FlightMeans, RanFlight, RanInTurns, StopsFlight, asked_by, asked_since, cut_off, in_flight}
+use Rattle.ob_exec.specs.InFlight.{AreFlight, Flies, IsFlown, IsMeant, served_as}
+use Rattle.ob_exec.specs.RanFlight.{RanFlight, RanInTurns, StopsFlight, asked_by, asked_since, cut_off, in_flight}
 use Rattle.ob_exec.proofs.FlightTurned.{stops_unturned}
-use Rattle.ob_exec.proofs.BoardOne.{early_same, from_one, table_sized}
+use Rattle.ob_exec.proofs.BoardOne.{early_same, from_one}
 use Rattle.ob_exec.proofs.FlightBoards.{flies_in}
 use Rattle.ob_exec.proofs.FlightFrames.{calm_start}
-use Rattle.ob_exec.proofs.FlightLists.{get_first, get_mapped, map_get}
+use Rattle.ob_exec.proofs.FlightLists.{get_first, map_get}
 use Rattle.ob_exec.proofs.FlightStage.{HoldNow}
 use Rattle.ob_exec.proofs.RowsOfTable.{capacity_of, count_of_table}
 use Rattle.ob_exec.proofs.RowsSeconded.{held_none}
 use Rattle.ob_exec.proofs.RowsTable.{some_of}
 use Rattle.ob_exec.proofs.StageRefused.{meant_refused}
-use Rattle.ob_exec.specs.Sources.{rows_skeleton, selection}
+use Rattle.ob_exec.specs.Sources.{rows_skeleton}
 
 -- ---- the table of a name
 pub named_in : (name : List ℕ) (ts : List Table) → has_table name (headings_of ts) ≡ true → (i : ℕ) × ((t : Table) × IsAt name i t ts)

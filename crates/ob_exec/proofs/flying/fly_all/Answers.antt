@@ -1,14 +1,13 @@
-use Rattle.std.proofs.Common.{◌≡◌, ◌≤◌, ◌<◌, ◌+◌, ◌-◌, ◌*◌, ◌/◌, ◌^◌, ℕ, Bool, true, List, length, map, Err, sym, ◌∙◌, ap, subst, arith}
+use Rattle.std.proofs.Common.{◌≡◌, ◌≤◌, ◌+◌, ◌-◌, ◌*◌, ◌/◌, ◌^◌, ℕ, Bool, true, List, length, map, Err, sym, ◌∙◌, ap, subst, arith}
 use Rattle.std.specs.Prelude.{nat_le}
 use Rattle.std.proofs.lemmas.List.{take_at}
 use Rattle.ob_base.specs.declared.seen.Seen.{Seen}
-use Rattle.ob_mean.specs.Verdict.{is_late}
 use Rattle.ob_stages.specs.Flying.{flight_progress}
 use Rattle.ob_stages.specs.declared.flight.Flight.{Flight}
 use Rattle.ob_tables.specs.Agreeing.{count_of, world_of}
 use Rattle.ob_tables.specs.declared.stop.RunStop.TheVariants as Stops
 use Rattle.ob_tables.proofs.RunLemmas.{at_ok, rests_refl}
-use Rattle.ob_exec.specs.Boarding.{AllFlyBy, AreAboard, MaySetOff, engine_behind, flight_kind, seen_first, share_of}
+use Rattle.ob_exec.specs.Boarding.{AllFlyBy, AreAboard, MaySetOff, engine_behind, flight_kind, seen_first}
 use Rattle.ob_exec.specs.RanFlight.{RanFlight, halted}
 use Rattle.ob_exec.proofs.BoardOne.{late_same}
 use Rattle.ob_exec.proofs.FlightBoards.{all_fly_by, booked_most, may_fly_by, may_set_off, rows_fit}

@@ -1,6 +1,5 @@
-use Rattle.std.proofs.Common.{◌≡◌, ◌≤◌, ◌+◌, ◌*◌, ℕ, List, ◌++◌, length, max, sym, ◌∙◌, ap, subst, arith}
+use Rattle.std.proofs.Common.{◌+◌, ◌*◌, ℕ, List, ◌++◌, length, max, sym, ◌∙◌, ap, subst, arith}
 use Rattle.ob_flat.proofs.Rooms.{opened_closed, opened_wide}
-use Rattle.ob_room.specs.RoomState.{RoomState}
 use Rattle.ob_vault.proofs.RowsLemmas.{sizes_join}
 use Rattle.ob_vault.specs.Rows.{SameSizes}
 use Rattle.ob_exec.proofs.flying.fly_in_room.Goals as goal
