@@ -9,6 +9,7 @@ use Rattle.ob_base.specs.declared.config.Public.{Public}
 use Rattle.ob_base.specs.declared.emit.EmitErr.{EmitErr}
 use Rattle.ob_base.specs.declared.emit.EmitErr.TheVariants as EmitErrs
 use Rattle.ob_base.specs.declared.seen.Seen.{Seen}
+use Rattle.ob_base.specs.declared.skeleton.Skeleton.{Skeleton}
 use Rattle.ob_flat.specs.Flats.{Accepts}
 use Rattle.ob_flat.specs.declared.fault.OpErr.{OpErr}
 use Rattle.ob_flat.specs.declared.fault.OpErr.TheVariants as OpErrs
@@ -24,7 +25,7 @@ use Rattle.ob_mean.specs.Verdict.{Tables, verdict}
 use Rattle.ob_room.specs.RoomState.{RoomState}
 use Rattle.ob_script.specs.FlightLaws.{AllMayFly}
 use Rattle.ob_script.specs.Flights.{AreSteady, accesses_in}
-use Rattle.ob_script.specs.Script.{whole_script}
+use Rattle.ob_script.specs.Script.{script, whole_script}
 use Rattle.ob_script.specs.Trace.{Served}
 use Rattle.ob_select.specs.Memory.{AtEmission, AtMake, AtResult, HasHalted, ends_with_make}
 use Rattle.ob_select.specs.Settings.{IsFree}
@@ -50,7 +51,7 @@ use Rattle.ob_exec.proofs.FlightEnd.{rises_from}
 use Rattle.ob_exec.specs.Boarding.{engine_behind}
 use Rattle.ob_exec.proofs.FlightFrames.{apart_behind, calm_start, draws_behind, hold_now, lasts_all, opens_behind, sealed_behind}
 use Rattle.ob_exec.proofs.FlightLists.{cuts_same, events_next, get_other, get_within, map_get, outcome_next, past_ended}
-use Rattle.ob_exec.proofs.FlightRuns.{Boards, ServesOne, emits_now, emitted_now, partly_now, public_is, set_kept}
+use Rattle.ob_exec.proofs.FlightRuns.{Boards, ServesOne, all_now, emits_now, emitted_now, partly_now, public_is, set_kept}
 use Rattle.ob_exec.proofs.FlightStage.{AsksMake, HoldNow, IsSet, IsStage, LacksHere, closed_of, more_asked, whole_of}
 use Rattle.ob_exec.proofs.FlightStopped.{calm_none, cause_behind, cause_quiet, drop_asked, each_at, emitter_never, ends_closing, ends_finishing, ends_make, ends_printing, ends_quiet, hold, hold_by, hold_last, long, meant_at, memory_is, not_tampered, prints_or, serve, sink_by, statement}
 use Rattle.ob_exec.proofs.FlightStops.{asked_first, asked_last, asked_place, same_seen, stops_turn}
@@ -301,6 +302,11 @@ module _ {R E F : Type 0} (state : R → RevState) (grew cut : E → E → List 
             (subst (λ (x : Public). EndsAs x m (k.progress f).asked stmt (shown f) clo.outcome) one.public
             (subst (λ (x : Stmt). EndsAs (k.progress f).public m (k.progress f).asked x (shown f) clo.outcome) one.is
             (subst (λ (x : Progress). IsFlown x.public m x.asked x.stmt x.served.seen (closed_of x.outcome clo.events)) answered (stage.stands clo.after _ _ _ clo.holds set))));
+        whole =
+            sym long
+            ∙ all_now k m stage steady_of old.public stmts words share start boards st.turn st.public st.ended st.current st.last st.aloft st.place f clo.at 0
+            (stage.over f _ _ _ (hold_at st.place f clo.at) clo.over 0)
+            ∙ ap (λ (sk : Skeleton). length (script p sk (shown f))) (stage.outline f (k.progress f).served (stage.served f _ _ _ (hold_at st.place f clo.at)) ∙ ap skeleton one.is);
         emits =
             subst (λ (x : Public). Emits stmt (answer_labels stmt x) clo.outcome clo.events) after.public
             (subst (λ (x : Stmt). Emits x (answer_labels x (k.progress clo.after).public) clo.outcome clo.events) after.is (stage.emits clo.after _ _ _ clo.holds set clo.outcome some));

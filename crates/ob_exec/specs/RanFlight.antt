@@ -12,7 +12,7 @@ use Rattle.ob_mean.specs.Replay.{done_of}
 use Rattle.ob_mean.specs.Verdict.{Draws, Tables, verdict}
 use Rattle.ob_script.specs.FlightLaws.{one_if, total}
 use Rattle.ob_script.specs.Flights.{Flying, boarding, flight_accesses, flight_public, merge, next_flight, turns, turns_of, words_from}
-use Rattle.ob_script.specs.Script.{whole_script}
+use Rattle.ob_script.specs.Script.{script, whole_script}
 use Rattle.ob_script.specs.Trace.{Served}
 use Rattle.ob_select.specs.Memory.{AtEmission, AtMake, AtResult, HasHalted}
 use Rattle.ob_select.specs.Opening.{Opens}
@@ -116,11 +116,12 @@ pub record RanInTurns {R T : Type 0} (state : R → RevState) (words : ℕ → �
 
 -- ---- what is emitted
 -- one ended so, as it does where nothing stops it: of it these events were taken and this was seen, behind n accesses of its
--- own
+-- own, which are all that it asks
 pub record EndsSo {R : Type 0} (state : R → RevState) (stmts : List Stmt) (stmt : Stmt)
     (seen : Seen) (n : ℕ) (events : List Event) (old : Engine R) (s : StoreState)
     (new : Engine R) (t : StoreState) (outcome : Outcome) : Type 0 where
   pub ends : EndsAs (in_flight stmts (public_of old)) (count_of old s) n stmt seen outcome
+  pub whole : n ≡ length (script (in_flight stmts (public_of old)) (skeleton stmt) seen)
   pub emits : Emits stmt (answer_labels stmt (public_of old)) outcome events
   pub told : (tables : Tables) (d : Draws) → ReadsTrueUntil state old s new t tables
       → EndsMeant d (in_flight stmts (public_of old)) (count_of old s) n tables stmt seen outcome
