@@ -1,7 +1,7 @@
 -- Want of memory before a flight: nothing was asked.
 use Rattle.std.proofs.Common.{◌≡◌, inl, ◌≤◌, ℕ, suc, Bool, ◌||◌, true, false, List, [], ◌∷◌, ◌++◌, map, length, take, Option, Some, None, Err, refl, sym, ◌∙◌, ap, subst, arith, append-nil}
 use Rattle.std.specs.Prelude.{bytes_eq, drop, is_some, nat_le, nat_lt, not, slice_get}
-use Rattle.std.specs.List.{All, list_any}
+use Rattle.std.specs.List.{list_any}
 use Rattle.std.proofs.lemmas.List.{length-map}
 use Rattle.std.proofs.lemmas.Option.{same_Some}
 use Rattle.ob_base.specs.Events.{Event}
