@@ -182,11 +182,11 @@ module _ {F : Type 0} (k : Kind F) (m : ℕ) (stage : IsStage k m) (steady_of : 
       let here = unwrap_or (k.progress f).region next in
       let public : (k.progress f).public ≡ q = (they_serve i f stmt.0 at stmt.1).public ∙ ap (λ (x : ℕ). flight_public x p) (sym now_long) in
       let most : length (asked_at q here (served f)) ≤ (k.progress f).asked =
-          past_none (asked_at q here (served f)) (k.progress f).asked (ap (λ (x : Public). slice_get (asked_at x here (served f)) (k.progress f).asked) (sym public) ∙ none) in
+      past_none (asked_at q here (served f)) (k.progress f).asked (ap (λ (x : Public). slice_get (asked_at x here (served f)) (k.progress f).asked) (sym public) ∙ none) in
       let long = ahead.steady.long here p.next_region in
       let longer = ahead.steady.long (turns words n (boarding p by_now)).public.next_region p.next_region in
       let same : length (asked_at q p.next_region (served f)) ≡ length (script (in_flight stmts p) (served f).skeleton (served f).seen) =
-          ap (λ (x : ℕ). length (script (flight_public x p) (served f).skeleton (served f).seen)) now_long in
+      ap (λ (x : ℕ). length (script (flight_public x p) (served f).skeleton (served f).seen)) now_long in
       omega (arith, ahead.within, most, long, longer, same)
 
   -- what was asked are the first of the accesses that are merged
