@@ -48,12 +48,12 @@ use Rattle.ob_exec.specs.RanFlight.{AtEmitter, BeforeMake, BeginsMeant, EndsSo, 
 use Rattle.ob_exec.proofs.FlightBegun.{begins_meant}
 use Rattle.ob_exec.proofs.FlightEnd.{rises_from}
 use Rattle.ob_exec.specs.Boarding.{engine_behind}
-use Rattle.ob_exec.proofs.FlightFrames.{calm_start, draws_behind, hold_now, kept_behind, lasts_all, opens_behind, sealed_behind}
+use Rattle.ob_exec.proofs.FlightFrames.{apart_behind, calm_start, draws_behind, hold_now, lasts_all, opens_behind, sealed_behind}
 use Rattle.ob_exec.proofs.FlightLists.{cuts_same, events_next, get_other, get_within, map_get, outcome_next, past_ended}
 use Rattle.ob_exec.proofs.FlightRuns.{Boards, ServesOne, emits_now, emitted_now, partly_now, public_is, set_kept}
 use Rattle.ob_exec.proofs.FlightStage.{AsksMake, HoldNow, IsSet, IsStage, LacksHere, closed_of, more_asked, whole_of}
 use Rattle.ob_exec.proofs.FlightStopped.{calm_none, cause_behind, cause_quiet, drop_asked, each_at, emitter_never, ends_closing, ends_finishing, ends_make, ends_printing, ends_quiet, hold, hold_by, hold_last, long, meant_at, memory_is, not_tampered, prints_or, serve, sink_by, statement}
-use Rattle.ob_exec.proofs.FlightStops.{asked_first, asked_last, asked_place, same_seen}
+use Rattle.ob_exec.proofs.FlightStops.{asked_first, asked_last, asked_place, same_seen, stops_turn}
 
 module _ {R E F : Type 0} (state : R → RevState) (grew cut : E → E → List Event → Type 0) (closed parted : E → E → ℕ → Outcome → Type 0) (faults : E → ℕ)
     (k : Kind F) (old : Engine R) (s s1 : StoreState) (agrees : Agrees state old s) (rests : ChangesNothing s s1)
@@ -436,7 +436,7 @@ module _ {R E F : Type 0} (state : R → RevState) (grew cut : E → E → List 
     drawn = draws_behind state old s s1 agrees rests v room t free st.lasts true;
     room = free;
     opened = opens_behind state old s s1 agrees rests v room t free st.lasts (drop (length s.asked) t.asked) kept some;
-    kept = kept_behind state old s s1 agrees rests v room t free st.lasts;
+    untouched = apart_behind state old s s1 agrees rests v room t free st.lasts;
     goes_on = refl;
   }
 
@@ -474,6 +474,7 @@ module _ {R E F : Type 0} (state : R → RevState) (grew cut : E → E → List 
             emits_now k m stage steady_of old.public stmts words share start boards st.turn st.public st.ended st.current st.last st.aloft i f.0 stmt one f.1 there is;
         answered = tt;
         stopped = halted;
+        turn = stops_turn state grew cut closed parted k old s s1 rests stage steady_of stmts words share e flyers shares now boards out_old out_new st;
         sink = sink_by T e (faults out_old) (faults out_new) never_failed sink;
         cause = caused T;
         failures =

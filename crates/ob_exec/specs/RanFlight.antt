@@ -1,5 +1,5 @@
 -- What several SELECTs do that ask in turns, whatever they are answered.
-use Rattle.std.specs.Prelude.{◌≡◌, ◌⊎◌, ◌-◌, ◌<◌, ◌++◌, ℕ, true, false, List, Option, None, Some, Result, Ok, Err, IfErr, OnOk, MatchResult, drop, length, slice_get}
+use Rattle.std.specs.Prelude.{◌≡◌, ◌⊎◌, ◌+◌, ◌-◌, ◌≤◌, ◌++◌, ℕ, true, false, List, Option, None, Some, Result, Ok, Err, IfErr, OnOk, MatchResult, drop, length, nat_lt, slice_get}
 use Rattle.ob_base.specs.Events.{Event}
 use Rattle.ob_base.specs.declared.access.Access.{Access}
 use Rattle.ob_base.specs.declared.config.Public.{Public}
@@ -11,7 +11,7 @@ use Rattle.ob_mean.specs.Batches.{is_cut}
 use Rattle.ob_mean.specs.Replay.{done_of}
 use Rattle.ob_mean.specs.Verdict.{Draws, Tables, verdict}
 use Rattle.ob_script.specs.FlightLaws.{one_if, total}
-use Rattle.ob_script.specs.Flights.{flight_accesses, flight_public, merge, next_flight, turns_of, words_from}
+use Rattle.ob_script.specs.Flights.{Flying, boarding, flight_accesses, flight_public, merge, next_flight, turns, turns_of, words_from}
 use Rattle.ob_script.specs.Script.{whole_script}
 use Rattle.ob_script.specs.Trace.{Served}
 use Rattle.ob_select.specs.Memory.{AtEmission, AtMake, AtResult, HasHalted}
@@ -21,7 +21,7 @@ use Rattle.ob_sql.specs.Skeleton.{skeleton}
 use Rattle.ob_sql.specs.declared.stmt.Stmt.{Stmt}
 use Rattle.ob_store.specs.Runs.{Later}
 use Rattle.ob_store.specs.State.{Lie, StoreState}
-use Rattle.ob_vault.specs.Calls.{EndsRead}
+use Rattle.ob_vault.specs.Calls.{Apart, EndsRead}
 use Rattle.ob_vault.specs.State.{RevState, World}
 use Rattle.ob_vault.specs.Tied.{Calm, EndsAt, ReadsIn}
 use Rattle.ob_verdict.specs.Outcomes.{Emits, Partly}
@@ -108,8 +108,8 @@ pub record RanInTurns {R T : Type 0} (state : R → RevState) (words : ℕ → �
   -- all rows of the room are free again, and one at least was open where a block was read or written
   pub room : IsFree (public_of old) new.room
   pub opened : Opens (drop (length s.asked) t.asked) (high_of old) (high_of new)
-  -- nothing has changed of the regions that there were
-  pub kept : (q : ℕ) → q < (public_of old).next_region → t.kept q ≡ s.kept q
+  -- nothing has changed of the regions that there were, in the store and in the vault: no table is changed
+  pub untouched : Apart (λ q. (public_of old).next_region ≤ q) (world_of state old s) (world_of state new t)
   pub goes_on : MatchResult result
       (λ x. FliesOn state (next_flight (public_of old) flown words) new t)
       (λ stop. has_ended new ≡ true)
@@ -202,6 +202,17 @@ pub record StopsFlight {R E : Type 0} (state : R → RevState)
       (in_flight stmts (public_of old)) stmt seen (length ended) (asked (length ended)) events
       between out_new
 
+-- it comes in the turn behind so many: in those the first so many statements have ended and no other, and these accesses were
+-- asked in them, with that of this turn if it asked one
+pub record StopsInTurn (p : Public) (flown : List Served) (words : ℕ → ℕ) (k count : ℕ) : Type 0
+    where
+  pub turn : ℕ
+  pub least : length (turns words turn (boarding p flown)).log ≤ k
+  pub most : k ≤ length (turns words (turn + 1) (boarding p flown)).log
+  pub ended : (i : ℕ) (f : Flying)
+      → slice_get (turns words turn (boarding p flown)).flying i ≡ Some f
+      → f.ended ≡ nat_lt i count
+
 -- ---- what is meant
 -- a changed block is one that the words merge of these statements' accesses by their meaning, of those that the store cut
 -- off maybe of what they asked until then
@@ -270,6 +281,8 @@ pub record RanFlight {R E T : Type 0} (state : R → RevState)
   pub stopped : IfErr result (λ stop. StopsFlight state grew cut closed parted stmts seens
       (asked_by (public_of old) words stmts seens (asked_since s t)) ended stop
       old s new t out_old out_new)
+  pub turn : IfErr result (λ stop. StopsInTurn (public_of old) (served_as stmts seens) words
+      (asked_since s t) (length ended))
   pub sink : MatchResult result (λ x. faults out_new ≡ faults out_old)
       (λ stop. SinkStops (Err stop) (faults out_old) (faults out_new))
   -- each that the store cut off is one of its faults, and nothing else stops a flight than what stops a statement on a flat
