@@ -62,15 +62,15 @@ early_same late n p stmt is =
     let hs = headings_of p.tables in
     let past = pasts_same (limits_of (flight_public n p)) (limits_of p) hs stmt is in
     λ i. first_holding (
-      (lacks_table hs stmt, NoTable) ∷
-      (takes_name hs stmt, NameTaken) ∷
-      (lacks_column hs stmt, NoColumn) ∷
-      (has_wrong_type hs stmt, WrongType) ∷
-      (is_out_of_range hs stmt, ValueRange) ∷
-      (past i || late, Limit) ∷
-      (breaks_key_rule hs stmt, KeyRule) ∷
-      (joins_off_key hs stmt, JoinKey) ∷
-      (needs_key hs stmt, NeedsKey) ∷ [])
+    (lacks_table hs stmt, NoTable) ∷
+    (takes_name hs stmt, NameTaken) ∷
+    (lacks_column hs stmt, NoColumn) ∷
+    (has_wrong_type hs stmt, WrongType) ∷
+    (is_out_of_range hs stmt, ValueRange) ∷
+    (past i || late, Limit) ∷
+    (breaks_key_rule hs stmt, KeyRule) ∷
+    (joins_off_key hs stmt, JoinKey) ∷
+    (needs_key hs stmt, NeedsKey) ∷ [])
 
 -- ---- the settings of its flight
 padded_small : (pad : Option ℕ) (planner : Planner) → IsPadded pad planner → IsPadded pad (Forced Small)

@@ -100,9 +100,9 @@ module _ {R E F : Type 0} (state : R → RevState) (grew cut : E → E → List 
       let within = Rattle.std.proofs.lemmas.Option.slice_get_within fs made.place made.flyer made.at in
       let all = h.all in
       let over : is_some (k.progress made.flyer).outcome ≡ true =
-          ap is_some (h.aloft.stand.outcome made.place made.flyer made.at) ∙ some_ended h.ended made.place (omega (arith, within, all)) in
+      ap is_some (h.aloft.stand.outcome made.place made.flyer made.at) ∙ some_ended h.ended made.place (omega (arith, within, all)) in
       let none = stage.gone made.flyer _ _ _ (they_hold k m stage steady_of old.public stmts words share start boards h.turn h.public h.ended [] now h.aloft made.place made.flyer made.at)
-          over r made.made in
+      over r made.made in
       cc (lives, none))
 
   told_now : (ended : Bool) (tables : Tables) → ReadsTrueUntil state old s (engine_behind old v room ended) t tables → HoldNow old.public old.indexes.items tables (at state v t)

@@ -162,8 +162,8 @@ module _ {R E F : Type 0} (state : R → RevState) (grew cut : E → E → List 
       let n : (k.progress f).asked + more_asked st.last.world (at state v t) ≡ asked st.place = sym (place_asked f here) in
       inr (inr (inl (
         subst (λ (x : ℕ). AtEmission p stmt (shown f) (drop x (whole_script p (skeleton stmt) (shown f)))) n
-        (subst (λ (x : Public). AtEmission x stmt (shown f) (drop ((k.progress f).asked + more_asked st.last.world (at state v t)) (whole_script x (skeleton stmt) (shown f)))) one.public
-        (subst (λ (x : Stmt). AtEmission (k.progress f).public x (shown f) (drop ((k.progress f).asked + more_asked st.last.world (at state v t)) (whole_script (k.progress f).public (skeleton x) (shown f)))) one.is emission)),
+            (subst (λ (x : Public). AtEmission x stmt (shown f) (drop ((k.progress f).asked + more_asked st.last.world (at state v t)) (whole_script x (skeleton stmt) (shown f)))) one.public
+            (subst (λ (x : Stmt). AtEmission (k.progress f).public x (shown f) (drop ((k.progress f).asked + more_asked st.last.world (at state v t)) (whole_script (k.progress f).public (skeleton x) (shown f)))) one.is emission)),
         halts,
       )))
 
@@ -262,8 +262,8 @@ module _ {R E F : Type 0} (state : R → RevState) (grew cut : E → E → List 
       let f = fin.before in
       let there = statement_of st.place f fin.at in
       let halts : k.Halts f (events_at st.ended st.current st.place) fin.part e st.last.world (at state v t) =
-          subst (λ (es : List Event). k.Halts f es fin.part e st.last.world (at state v t))
-          (sym (ap (events_at st.ended st.current) fin.first ∙ events_next st.ended st.current)) fin.halts in
+      subst (λ (es : List Event). k.Halts f es fin.part e st.last.world (at state v t))
+      (sym (ap (events_at st.ended st.current) fin.first ∙ events_next st.ended st.current)) fin.halts in
       record {
         between = st.emitted.between;
         took = st.emitted.took;
@@ -479,8 +479,8 @@ module _ {R E F : Type 0} (state : R → RevState) (grew cut : E → E → List 
         cause = caused T;
         failures =
             let rises : RisesBy (cut_off seens) s1.faults st.last.world.store.faults =
-                subst (λ (n : ℕ). RisesBy n s1.faults st.last.world.store.faults) (cuts_same k st.last.flyers (λ i f at. stage.failed f _ _ _ (hold_at i f at)))
-                (record { least = st.aloft.rest.faults.least; none = st.aloft.rest.faults.none }) in
+            subst (λ (n : ℕ). RisesBy n s1.faults st.last.world.store.faults) (cuts_same k st.last.flyers (λ i f at. stage.failed f _ _ _ (hold_at i f at)))
+            (record { least = st.aloft.rest.faults.least; none = st.aloft.rest.faults.none }) in
             rises_from (cut_off seens) s.faults s1.faults t.faults rests.faults (subst (λ (x : ℕ). RisesBy (cut_off seens) s1.faults x) (sym st.faults) rises);
         seals = sealed_behind state old s s1 agrees rests v room t free st.lasts true
             (λ good accepts. st.seals good (λ columns region. subst (λ (n : ℕ). Accepts good n columns region)

@@ -191,7 +191,7 @@ module _ (p : Public) (flown : List Served) (words : ℕ → ℕ) (steady : AreS
         let sum : more + n ≡ turns_of p flown = omega (arith, before) in
         let grown = grows_turns words (boarding p flown) n more in
         let whole : (flight p flown words).log ≡ (turns words n (boarding p flown)).log ++ grown.rest =
-            ap (λ (m : ℕ). (turns words m (boarding p flown)).log) (sym sum) ∙ grown.log in
+        ap (λ (m : ℕ). (turns words m (boarding p flown)).log) (sym sum) ∙ grown.log in
         sym (ap (take (length (turns words n (boarding p flown)).log)) whole
         ∙ take_at (turns words n (boarding p flown)).log grown.rest (length (turns words n (boarding p flown)).log) refl)
     | inr past ↦

@@ -229,10 +229,10 @@ module _ {R E F : Type 0} (state : R → RevState) (grew cut : E → E → List 
       let may = stage.served f _ _ _ (hold i f at) in
       let none = none_ended i f at going in
       let within : (k.progress f).asked < length (script p (skeleton stmt) (k.progress f).served.seen) =
-          subst (λ (sk : _). (k.progress f).asked < length (script p sk (k.progress f).served.seen)) (stage.outline f _ may ∙ ap skeleton one.is)
-          (asks_within p (k.progress f) (k.progress f).served next access (steady_at i f at) one.public act) in
+      subst (λ (sk : _). (k.progress f).asked < length (script p sk (k.progress f).served.seen)) (stage.outline f _ may ∙ ap skeleton one.is)
+      (asks_within p (k.progress f) (k.progress f).served next access (steady_at i f at) one.public act) in
       let standing : StandsAs p m (k.progress f).asked stmt (shown f) (shown f).end =
-          subst (λ (o : Option Closed). IsFlown p m (k.progress f).asked stmt (shown f) o) none (flown i f stmt at there) in
+      subst (λ (o : Option Closed). IsFlown p m (k.progress f).asked stmt (shown f) o) none (flown i f stmt at there) in
       let whole = ends_whole p m stmt (shown f) (k.progress f).asked (shown f).end refl within standing in
       let started = unrefused p m stmt (shown f) (k.progress f).asked (subst (λ (end : End). StandsAs p m (k.progress f).asked stmt (shown f) end) whole standing) in
       record {
@@ -321,17 +321,17 @@ module _ {R E F : Type 0} (state : R → RevState) (grew cut : E → E → List 
             let next = stepped_next i f.0 stmt f.1 there one in
             let meaning = seen_by d p m tables stmt in
             let here : shown f.0 ≡ record (cut_at false (k.progress f.0).asked p (skeleton stmt) meaning) { end = Whole } =
-                subst (λ (end : End). StandsMeant d p m (k.progress f.0).asked (k.progress f.0).asked tables stmt (shown f.0) end) next.whole
-                (subst (λ (o : Option Closed). IsMeant d p m (k.progress f.0).asked (k.progress f.0).asked tables stmt (shown f.0) o) next.none was) in
+            subst (λ (end : End). StandsMeant d p m (k.progress f.0).asked (k.progress f.0).asked tables stmt (shown f.0) end) next.whole
+            (subst (λ (o : Option Closed). IsMeant d p m (k.progress f.0).asked (k.progress f.0).asked tables stmt (shown f.0) o) next.none was) in
             let then_too : shown f.0 ≡ record (cut_at false (carried i) p (skeleton stmt) meaning) { end = Whole } =
-                elim one.carried [
-                  | inl (refused, same) ↦ here ∙ ap (λ (n : ℕ). record (cut_at false n p (skeleton stmt) meaning) { end = Whole }) (sym same)
-                  | inr (not, more) ↦
-                      here ∙ held_more (k.progress f.0).asked p (skeleton stmt) meaning (counted i f.0 stmt there one not)
-                      (meant_single (length stmts) old.public m stmt next.started next.flat tables d old.indexes.items st.last.world held.held)
-                      (meant_unread (length stmts) old.public m stmt next.started next.flat tables d old.indexes.items st.last.world held.held)
-                      ∙ ap (λ (n : ℕ). record (cut_at false n p (skeleton stmt) meaning) { end = Whole }) (sym more)
-                ] in
+            elim one.carried [
+              | inl (refused, same) ↦ here ∙ ap (λ (n : ℕ). record (cut_at false n p (skeleton stmt) meaning) { end = Whole }) (sym same)
+              | inr (not, more) ↦
+                  here ∙ held_more (k.progress f.0).asked p (skeleton stmt) meaning (counted i f.0 stmt there one not)
+                  (meant_single (length stmts) old.public m stmt next.started next.flat tables d old.indexes.items st.last.world held.held)
+                  (meant_unread (length stmts) old.public m stmt next.started next.flat tables d old.indexes.items st.last.world held.held)
+                  ∙ ap (λ (n : ℕ). record (cut_at false n p (skeleton stmt) meaning) { end = Whole }) (sym more)
+            ] in
             subst (λ (o : Option Closed). IsMeant d p m (asked i) (carried i) tables stmt (shown f.0) o) (sym next.none)
             (subst (λ (end : End). StandsMeant d p m (asked i) (carried i) tables stmt (shown f.0) end) (sym next.whole) then_too)
       ])

@@ -246,13 +246,17 @@ module _ (g : RowsAt) (m : ℕ) (kept : List (List ℕ)) (events : List Event) (
   way_now failed outcome = elim (over_or g m kept events w is set ending condition cols within (is_over g.stage) refl) [
     | inl over ↦
         let end = to_end None failed outcome over in
-        let told = end.told slots represents honest in
-        (record {
-          held = end_holds over failed told.1;
-          begun = (left_of (is_headless g.q.public.pad g.k) g.q ++ closing_of (meant_outcome g.q slots),
+        let told = end.told slots represents honest in (
+          record {
+            held = end_holds over failed told.1;
+            begun = (
+              left_of (is_headless g.q.public.pad g.k) g.q ++ closing_of (meant_outcome g.q slots),
               sym (append_assoc events (left_of (is_headless g.q.public.pad g.k) g.q) (closing_of (meant_outcome g.q slots)))
-              ∙ ap (λ (es : List Event). es ++ closing_of (meant_outcome g.q slots)) told.2);
-        }, ap (λ (x : Seen). x.leaf) end.seen ∙ leaf_ended g.q.public.pad g.k)
+                  ∙ ap (λ (es : List Event). es ++ closing_of (meant_outcome g.q slots)) told.2,
+            );
+          },
+          ap (λ (x : Seen). x.leaf) end.seen ∙ leaf_ended g.q.public.pad g.k,
+        )
     | inr going ↦ (way going slots represents honest, leaf_going g.stage going is.placed.at)
   ]
 

@@ -88,9 +88,7 @@ fn board_rows<'a>(
         return Err(NoMemory);
     };
     let cols = printed_places(select, flat.schema.as_slice(), &[]);
-    Ok(Flight::Rows(RowsFlight::new(
-        public, flown, select, flat, pred, cols,
-    )))
+    Ok(Flight::Rows(RowsFlight::new(public, flown, select, flat, pred, cols)))
 }
 
 // A SELECT of totals. The buckets of one with groups have a place for each row of its share.
@@ -113,9 +111,7 @@ fn board_totals<'a>(
         return Err(NoMemory);
     };
     match &select.group {
-        None => Ok(Flight::Totals(TotalsFlight::new(
-            public, flown, select, flat, pred,
-        ))),
+        None => Ok(Flight::Totals(TotalsFlight::new(public, flown, select, flat, pred))),
         Some(key) => match Buckets::new(alloc, share) {
             Ok(buckets) => Ok(Flight::Groups(GroupsFlight::new(
                 public, flown, select, flat, pred, key, buckets,
@@ -140,9 +136,7 @@ fn board<'a>(
     ensures { IfOk result (λ f. IsAboard late flown public.now stmt.now f) }
 {
     if let Some(refusal) = early_refusal(late, public, stmt) {
-        return Ok(Flight::Refused(RefusedFlight::new(
-            public, flown, stmt, refusal,
-        )));
+        return Ok(Flight::Refused(RefusedFlight::new(public, flown, stmt, refusal)));
     }
     match stmt {
         Stmt::SelectRows(select) => board_rows(alloc, late, public, flown, select),

@@ -109,7 +109,7 @@ returns-clause-ran g c =
     let share = (buffer / n - 2 * c.from-pack.result) / c.from-pack.result * c.from-pack.result in
     let aboard = subst (λ (b : Bool). AreAboard b n old.public stmts flights) (late_same (count_of old s) c.spent-late.result c.spent-late.ensures)
     (subst (λ (fs : List Flight). AreAboard (nat_le (2 ^ 63) c.spent-late.result) n old.public stmts fs) (sym c.deref_mut.ensures.value) c.in-Ok.ensures) in
-    let seens : c.see_all.new.seens ≡ map (λ (f : Flight). (flight_progress f).served.seen) fs = 
+    let seens : c.see_all.new.seens ≡ map (λ (f : Flight). (flight_progress f).served.seen) fs =
     c.see_all.ensures ∙ ap (map (λ (f : Flight). (flight_progress f).served.seen)) (c.deref-2.ensures.value ∙ take_at fs _ c.in-Ok.flights.len (c.fly_in_room-flown.ensures.size ∙ c.deref_mut.ensures.len)) in
     let v = c.fly_in_room-flown.new.vault in
     let room = c.fly_in_room-flown.new.room in
