@@ -134,7 +134,7 @@ uncut (Some why) = refl
 none_cut : (late : Bool) (p : Public) (stmts : List Stmt) → cut_off (map (seen_first late p) stmts) ≡ 0
 unfolding total
 none_cut late p [] = refl
-none_cut late p (stmt ∷ stmts) = let one = uncut (Rattle.ob_exec.specs.Boarding.early_of late p stmt) in let rest = none_cut late p stmts in omega (arith, one, rest)
+none_cut late p (stmt ∷ stmts) = let one = uncut (Rattle.ob_exec.specs.InFlight.early_of late p stmt) in let rest = none_cut late p stmts in omega (arith, one, rest)
 
 drop_all : (xs : List Access) → drop (length xs) xs ≡ []
 drop_all [] = refl

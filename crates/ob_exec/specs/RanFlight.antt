@@ -152,25 +152,27 @@ StopsClosing grew cut parted Ends stop place events out_old out_new =
     StopsEmission grew cut stop out_old out_new events
 
 -- ---- want of memory
--- just before a result that isn't padded is made for one of the statements, behind so many accesses of its own
+-- just before a result that isn't padded is made for one of the statements that hasn't ended, behind so many accesses of its
+-- own
 pub record BeforeMake (p : Public) (stmts : List Stmt) (seens : List Seen) (asked : ℕ → ℕ)
-    : Type 0 where
+    (ended : List Closed) : Type 0 where
   pub place : ℕ
   pub stmt : Stmt
   pub seen : Seen
   pub get : slice_get stmts place ≡ Some stmt
   pub shown : slice_get seens place ≡ Some seen
+  pub going : slice_get ended place ≡ None
   pub makes : AtResult p stmt seen (drop (asked place) (whole_script p (skeleton stmt) seen))
 
 -- the emitter's output ends within the events of the one at a place, behind n accesses of its own, or within how it was
 -- answered, as it does only where the emitter gave up
-abbrev pub AtEmitter : {E : Type 0} → (cut : E → E → List Event → Type 0)
-    → (parted : E → E → ℕ → Outcome → Type 0) → Public → Stmt → Seen → (place n : ℕ)
-    → (out_old out_new : E) → Type 0
-AtEmitter {E} cut parted p stmt seen place n out_old out_new =
+abbrev pub AtEmitter : {E : Type 0} → (grew cut : E → E → List Event → Type 0)
+    → (parted : E → E → ℕ → Outcome → Type 0) → (Ends : Outcome → Type 0) → Public → Stmt → Seen
+    → (place n : ℕ) → List Event → (out_old out_new : E) → Type 0
+AtEmitter grew cut parted Ends p stmt seen place n events out_old out_new =
     (AtEmission p stmt seen (drop n (whole_script p (skeleton stmt) seen))
     × HasHalted cut out_old out_new)
-    ⊎ ((between : E) × (outcome : Outcome) × parted between out_new place outcome)
+    ⊎ IsParted grew parted Ends place events out_old out_new
 
 -- ---- a stop
 -- these answers were taken whole, and of the next one what was emitted by then
@@ -195,9 +197,11 @@ pub record StopsFlight {R E : Type 0} (state : R → RevState)
   -- want of memory tells nothing of rows: it comes before the first access, at a make, just before that of a result that
   -- isn't padded, or from the emitter
   pub memory : stop ≡ NoMemory → AtMake (drop (length s.asked) t.asked)
-      ⊎ BeforeMake (in_flight stmts (public_of old)) stmts seens asked
-      ⊎ AtEmitter cut parted (in_flight stmts (public_of old)) stmt seen (length ended)
-      (asked (length ended)) between out_new
+      ⊎ BeforeMake (in_flight stmts (public_of old)) stmts seens asked ended
+      ⊎ AtEmitter grew cut parted
+      (EndsSo state stmts stmt seen (asked (length ended)) events old s new t)
+      (in_flight stmts (public_of old)) stmt seen (length ended) (asked (length ended)) events
+      between out_new
 
 -- it comes in the turn behind so many: in those the first so many statements have ended and no other, and these accesses were
 -- asked in them, with that of this turn if it asked one
