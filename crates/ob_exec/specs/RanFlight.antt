@@ -205,14 +205,14 @@ pub record StopsFlight {R E : Type 0} (state : R → RevState)
 
 -- it comes in the turn behind so many: in those the first so many statements have ended and no other, and these accesses were
 -- asked in them, with that of this turn if it asked one
-pub record StopsInTurn (p : Public) (flown : List Served) (words : ℕ → ℕ) (k count : ℕ) : Type 0
-  where
-    pub turn : ℕ
-    pub least : length (turns words turn (boarding p flown)).log ≤ k
-    pub most : k ≤ length (turns words (turn + 1) (boarding p flown)).log
-    pub ended : (i : ℕ) (f : Flying)
-        → slice_get (turns words turn (boarding p flown)).flying i ≡ Some f
-        → f.ended ≡ nat_lt i count
+pub record StopsInTurn (p : Public) (flown : List Served) (words : ℕ → ℕ) (k count : ℕ)
+    : Type 0 where
+  pub turn : ℕ
+  pub least : length (turns words turn (boarding p flown)).log ≤ k
+  pub most : k ≤ length (turns words (turn + 1) (boarding p flown)).log
+  pub ended : (i : ℕ) (f : Flying)
+      → slice_get (turns words turn (boarding p flown)).flying i ≡ Some f
+      → f.ended ≡ nat_lt i count
 
 -- ---- what is meant
 -- a changed block is one that the words merge of these statements' accesses by their meaning, of those that the store cut

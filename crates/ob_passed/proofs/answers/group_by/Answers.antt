@@ -1,7 +1,7 @@
 use Rattle.ob_flat.proofs.Resting.{flat_rests}
 use Rattle.ob_passed.proofs.Passes.{idle_groups, may_read, table_idle}
 use Rattle.ob_passed.proofs.Sizes.{read_asks}
-use Rattle.ob_passed.proofs.answers.grouped.Goals as goal
+use Rattle.ob_passed.proofs.answers.group_by.Goals as goal
 
 pub group-answer-requires-clause-spare : goal.group-answer-requires-clause-spare
 group-answer-requires-clause-spare g c =
