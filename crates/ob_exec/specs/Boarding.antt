@@ -6,20 +6,16 @@ use Rattle.ob_base.specs.declared.schema.Table.{Table}
 use Rattle.ob_base.specs.declared.seen.End.TheVariants.{Static, Whole}
 use Rattle.ob_base.specs.declared.seen.Seen.{Seen}
 use Rattle.ob_base.specs.Limits.{buffered_blocks}
-use Rattle.ob_base.specs.Stored.{headings_of}
 use Rattle.ob_flat.specs.Scans.{MayScan}
 use Rattle.ob_flat.specs.declared.flat.Flat.{Flat}
 use Rattle.ob_inflight.specs.Aloft.{AreBoarded}
 use Rattle.ob_inflight.specs.Kinds.{Kind, kind_of, moment}
-use Rattle.ob_mean.specs.Refusals.{early_refusal, limits_of, tables_of}
-use Rattle.ob_mean.specs.Replay.{is_access}
+use Rattle.ob_mean.specs.Refusals.{tables_of}
 use Rattle.ob_mean.specs.Verdict.{ended}
 use Rattle.ob_reopen.specs.Limits.{IsHeading}
 use Rattle.ob_room.specs.RoomState.{RoomState}
-use Rattle.ob_script.specs.FlightLaws.{SelectsFromOne}
 use Rattle.ob_script.specs.Flights.{flight_public}
 use Rattle.ob_select.specs.Settings.{AreSettings}
-use Rattle.ob_sql.specs.Skeleton.{skeleton}
 use Rattle.ob_sql.specs.declared.stmt.Stmt.{Stmt}
 use Rattle.ob_stages.specs.Flying.{FlightFits, FlightHalts, FlightHolds, FlightNeeds, MayFly, flight_progress}
 use Rattle.ob_stages.specs.declared.flight.Flight.{Flight}

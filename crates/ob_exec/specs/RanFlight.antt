@@ -62,7 +62,7 @@ halt_of (OpErrs.Tampered region place) = Tampered region place
 halt_of OpErrs.Sink = SinkFault
 halt_of OpErrs.NoMemory = NoMemory
 
--- and it is no answer
+-- how a flight comes out, by how its turns did
 abbrev pub halted : {T : Type 0} → Result T OpErr → Result T RunStop
 halted (Ok x) = Ok x
 halted (Err e) = Err (halt_of e)
@@ -109,7 +109,8 @@ pub record RanInTurns {R T : Type 0} (state : R → RevState) (words : ℕ → �
   pub room : IsFree (public_of old) new.room
   pub opened : Opens (drop (length s.asked) t.asked) (high_of old) (high_of new)
   -- nothing has changed of the regions that there were, in the store and in the vault: no table is changed
-  pub untouched : Apart (λ q. (public_of old).next_region ≤ q) (world_of state old s) (world_of state new t)
+  pub untouched : Apart (λ q. (public_of old).next_region ≤ q) (world_of state old s)
+      (world_of state new t)
   pub goes_on : MatchResult result
       (λ x. FliesOn state (next_flight (public_of old) flown words) new t)
       (λ stop. has_ended new ≡ true)
