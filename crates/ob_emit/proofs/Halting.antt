@@ -1,5 +1,5 @@
 -- Passes that halt where the emitter did.
-use Rattle.std.proofs.Common.{◌≡◌, ◌⊎◌, ◌<◌, ◌++◌, inl, inr, [], List, ℕ, false, Result, Ok, Err, MatchResult, IfErr, refl, sym, ◌∙◌, subst, append_assoc}
+use Rattle.std.proofs.Common.{◌≡◌, ◌⊎◌, ◌++◌, inl, inr, [], List, ℕ, false, Result, Ok, Err, MatchResult, IfErr, refl, sym, ◌∙◌, ap, subst, append_assoc}
 use Rattle.std.proofs.lemmas.List.{append-nil}
 use Rattle.ob_base.specs.declared.access.Access.{Access}
 use Rattle.ob_base.specs.Accesses.{read_at}
@@ -16,8 +16,7 @@ use Rattle.ob_flat.specs.declared.flat.Flat.{Flat}
 use Rattle.ob_flat.specs.declared.fault.OpErr.{OpErr}
 use Rattle.ob_flat.specs.declared.fault.OpErr.TheVariants.{Failed, Tampered, Sink, NoMemory}
 use Rattle.ob_flat.specs.Passes.{PassCause, PassCut, SinkCause, is_of_access}
-use Rattle.ob_flat.specs.Words.{TamperedAt, TamperedIn, blocks_of}
-use Rattle.ob_flat.proofs.WordLemmas.{tampered_in}
+use Rattle.ob_flat.specs.Words.{TamperedAt}
 use Rattle.ob_flat.proofs.Runs.{pass_malformed}
 use Rattle.ob_emit.specs.declared.slots.Halt.{Halt}
 use Rattle.ob_emit.specs.declared.slots.Halt.TheVariants as Halts
@@ -38,12 +37,11 @@ sink_halted T U q p (Halts.Emit EmitErrs.Failed) old mid new same cause = subst 
 sink_halted T U q p (Halts.Emit EmitErrs.NoMemory) old mid new same cause = cause ∙ same
 
 -- each error of a halt
-pub halt_never : (halt : Halt) (pack : ℕ) (flat : Flat) (p : ℕ) (w : World) → p < blocks_of pack flat
-    → (halt ≡ Halts.Malformed → TamperedAt pack flat p (Tampered flat.region p) w)
-    → (halt_error halt flat.region p ≡ Failed) ⊎ (halt_error halt flat.region p ≡ Sink) ⊎ (halt_error halt flat.region p ≡ NoMemory) ⊎ TamperedIn pack flat (halt_error halt flat.region p) w
-halt_never Halts.Malformed pack flat p w below bad = inr (inr (inr (tampered_in below (bad refl))))
-halt_never (Halts.Emit EmitErrs.Failed) pack flat p w below bad = inr (inl refl)
-halt_never (Halts.Emit EmitErrs.NoMemory) pack flat p w below bad = inr (inr (inl refl))
+pub halt_never : (halt : Halt) (pack : ℕ) (flat : Flat) (p : ℕ) (w : World) → (halt ≡ Halts.Malformed → TamperedAt pack flat p (Tampered flat.region p) w)
+    → (halt_error halt flat.region p ≡ Failed) ⊎ (halt_error halt flat.region p ≡ Sink) ⊎ (halt_error halt flat.region p ≡ NoMemory) ⊎ TamperedAt pack flat p (halt_error halt flat.region p) w
+halt_never Halts.Malformed pack flat p w bad = inr (inr (inr (bad refl)))
+halt_never (Halts.Emit EmitErrs.Failed) pack flat p w bad = inr (inl refl)
+halt_never (Halts.Emit EmitErrs.NoMemory) pack flat p w bad = inr (inr (inl refl))
 
 pub halt_told : (halt : Halt) (q p : ℕ) → (halt ≡ Halts.Malformed → ⊥) → (halt_error halt q p ≡ Failed) ⊎ (halt_error halt q p ≡ Sink) ⊎ (halt_error halt q p ≡ NoMemory)
 halt_told Halts.Malformed q p well = absurd (well refl)
@@ -69,6 +67,11 @@ emitted_under grew head shown k n a b c first second same = record {
   told = second.told;
 }
 
+-- of other sources that have the same rows
+pub emitted_of : {E A B : Type 0} (grew : E → E → List Event → Type 0) (head : List Event) (sa : A → List (List Shown)) (sb : B → List (List Shown)) (from to : ℕ) (a b : E)
+    → IsEmitted grew head sa from to a b → ((x : B) → (y : A) × (sa y ≡ sb x)) → IsEmitted grew head sb from to a b
+emitted_of grew head sa sb from to a b is same = record { rows = is.rows; count = is.count; leads = is.leads; told = λ x. let y = same x in is.told y.0 ∙ y.1 }
+
 module _ {E : Type 0} (grew cut : E → E → List Event → Type 0) where
   -- rows were emitted, and then those behind them halted
   pub halts_join : {A B C : Type 0} (halt : Halt) (sa : A → List (List Shown)) (sb : B → List (List Shown)) (all : C → List (List Shown)) (from mid : ℕ) (a b c : E)
@@ -84,10 +87,44 @@ module _ {E : Type 0} (grew cut : E → E → List Event → Type 0) where
   ends_as (Halts.Emit EmitErrs.Failed) q p shown a b is = is
   ends_as (Halts.Emit EmitErrs.NoMemory) q p shown a b is = is
 
-  pub ends_join : {A B C : Type 0} (halt : Halt) (q p : ℕ) (sa : A → List (List Shown)) (sb : B → List (List Shown)) (all : C → List (List Shown)) (from mid : ℕ) (a b c : E)
-      → IsEmitted grew [] sa from mid a b → HaltsAs grew cut halt sb b c
-      → ((x : C) → (y : A) × (z : B) × (behind : List (List Shown)) × ((sa y ++ sb z) ++ behind ≡ all x)) → EndsAs grew cut (halt_error halt q p) [] all a c
-  ends_join halt q p sa sb all from mid a b c first second parts = ends_as halt q p all a c (halts_join halt sa sb all from mid a b c first second parts)
+  halted_after : {A B C : Type 0} (head : List Event) (sa : A → List (List Shown)) (sb : B → List (List Shown)) (all : C → List (List Shown)) (from mid : ℕ) (a b c : E)
+      → IsEmitted grew head sa from mid a b → IsHalted grew cut (λ s. row_events (sb s)) b c
+      → ((x : C) → (y : A) × (z : B) × (behind : List (List Shown)) × ((sa y ++ sb z) ++ behind ≡ all x)) → IsHalted grew cut (λ s. head ++ row_events (all s)) a c
+  halted_after head sa sb all from mid a b c first second parts =
+      halted_join grew cut head sa (λ s. row_events (sb s)) (λ s. head ++ row_events (all s)) from mid a b c first second
+      (λ x.
+      let t = parts x in (
+        t.0,
+        t.1,
+        row_events t.2,
+        append_assoc head (row_events (sa t.0)) (row_events (sb t.1) ++ row_events t.2) ∙ ap (λ (l : List Event). head ++ l) (events_more (sa t.0) (sb t.1) t.2 (all x) t.3),
+      ))
+
+  -- rows were emitted behind a header, and then a pass over those behind them gave up
+  pub ends_after : {A B C : Type 0} (e : OpErr) (head : List Event) (sa : A → List (List Shown)) (sb : B → List (List Shown)) (all : C → List (List Shown)) (from mid : ℕ) (a b c : E)
+      → IsEmitted grew head sa from mid a b → EndsAs grew cut e [] sb b c
+      → ((x : C) → (y : A) × (z : B) × (behind : List (List Shown)) × ((sa y ++ sb z) ++ behind ≡ all x)) → EndsAs grew cut e head all a c
+  ends_after Failed head sa sb all from mid a b c first second parts = begun_join grew head sa sb all from mid a b c first second parts
+  ends_after (Tampered q p) head sa sb all from mid a b c first second parts = begun_join grew head sa sb all from mid a b c first second parts
+  ends_after Sink head sa sb all from mid a b c first second parts = halted_after head sa sb all from mid a b c first second parts
+  ends_after NoMemory head sa sb all from mid a b c first second parts = halted_after head sa sb all from mid a b c first second parts
+
+  -- of other sources that have the same rows
+  pub ends_of : {A B : Type 0} (e : OpErr) (head : List Event) (sa : A → List (List Shown)) (sb : B → List (List Shown)) (a b : E) → EndsAs grew cut e head sa a b → ((x : B) → (y : A) × (sa y ≡ sb x))
+      → EndsAs grew cut e head sb a b
+  ends_of {A} {B} e head sa sb a b is same = go e is
+    where
+      begun : IsBegun grew head sa a b → IsBegun grew head sb a b
+      begun is = record { rows = is.rows; leads = is.leads; told = λ x. let y = same x in let r = is.told y.0 in (r.0, r.1 ∙ y.1) }
+
+      halted : IsHalted grew cut (λ s. head ++ row_events (sa s)) a b → IsHalted grew cut (λ s. head ++ row_events (sb s)) a b
+      halted is = record { events = is.events; ends = is.ends; told = λ x. let y = same x in let r = is.told y.0 in (r.0, r.1 ∙ ap (λ (l : List (List Shown)). head ++ row_events l) y.1) }
+
+      go : (e : OpErr) → EndsAs grew cut e head sa a b → EndsAs grew cut e head sb a b
+      go Failed is = begun is
+      go (Tampered q p) is = begun is
+      go Sink is = halted is
+      go NoMemory is = halted is
 
   -- behind its header
   pub ends_under : {A : Type 0} (e : OpErr) (head : List Event) (shown : A → List (List Shown)) (a b c : E) → Leads grew grew a b head → EndsAs grew cut e [] shown b c → EndsAs grew cut e head shown a c
@@ -97,8 +134,8 @@ module _ {E : Type 0} (grew cut : E → E → List Event → Type 0) where
   ends_under NoMemory head shown a b c leads is = halted_under grew cut head (λ s. row_events (shown s)) a b c leads is
 
 -- a block was not read
-pub ends_read : {E A : Type 0} {pack : ℕ} {flat : Flat} {w : World} {a b : E} (grew cut : E → E → List Event → Type 0) (head : List Event) (shown : A → List (List Shown)) (e : OpErr)
-    → (e ≡ Failed) ⊎ TamperedIn pack flat e w → IsBegun grew head shown a b → EndsAs grew cut e head shown a b
+pub ends_read : {E A : Type 0} {pack place : ℕ} {flat : Flat} {w : World} {a b : E} (grew cut : E → E → List Event → Type 0) (head : List Event) (shown : A → List (List Shown)) (e : OpErr)
+    → (e ≡ Failed) ⊎ TamperedAt pack flat place e w → IsBegun grew head shown a b → EndsAs grew cut e head shown a b
 ends_read grew cut head shown Failed either begun = begun
 ends_read grew cut head shown (Tampered q p) either begun = begun
 ends_read grew cut head shown Sink either begun = elim either [ inl failed ↦ absurd (cc failed) | inr there ↦ absurd (cc there.is) ]

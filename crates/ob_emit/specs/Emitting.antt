@@ -1,10 +1,11 @@
 -- What is emitted of a table, and how.
-use Rattle.std.specs.Prelude.{◌≡◌, ◌⊎◌, ◌<◌, ◌≤◌, ℕ, ◌+◌, Bool, IsTrue, false, not, List, [], ◌∷◌, ◌++◌, map, nat_lt, bytes_eq, Option, Some, None, slice_get, if◌then◌else◌, Result, Ok, Err, OnOk, IfOk, IfErr, length}
+use Rattle.std.specs.Prelude.{◌≡◌, ◌⊎◌, ◌<◌, ◌≤◌, ℕ, ◌+◌, ◌*◌, Bool, IsTrue, false, not, List, [], ◌∷◌, ◌++◌, map, nat_lt, bytes_eq, Option, Some, None, slice_get, if◌then◌else◌, Result, Ok, Err, OnOk, IfOk, IfErr, length, take}
 use Rattle.std.specs.List.{All, list_any}
 use Rattle.std.specs.Option.{option_map_or}
 use Rattle.ob_base.specs.declared.schema.Column.{Column}
 use Rattle.ob_base.specs.declared.shown.Shown.{Shown}
 use Rattle.ob_base.specs.declared.emit.EmitErr.TheVariants as EmitErrs
+use Rattle.ob_base.specs.Accesses.{read_at}
 use Rattle.ob_base.specs.Counts.{Rises}
 use Rattle.ob_base.specs.Events.{Event, Head, row_events, IsEmitted, IsBegun, IsHalted}
 use Rattle.ob_base.specs.Labels.{column_label}
@@ -13,6 +14,7 @@ use Rattle.ob_row.specs.Rows.{Row}
 use Rattle.ob_row.specs.Slots.{Slots, rows}
 use Rattle.ob_row.specs.Totals.{printed}
 use Rattle.ob_row.specs.Spelling.{Begins}
+use Rattle.ob_blocks.specs.Blocks.{block_at}
 use Rattle.ob_script.specs.Parts.{count_part}
 use Rattle.ob_vault.specs.State.{World}
 use Rattle.ob_vault.specs.Calls.{none}
@@ -21,9 +23,10 @@ use Rattle.ob_flat.specs.declared.flat.Flat.{Flat}
 use Rattle.ob_flat.specs.declared.fault.OpErr.{OpErr}
 use Rattle.ob_flat.specs.declared.fault.OpErr.TheVariants.{Failed, Tampered, Sink, NoMemory}
 use Rattle.ob_flat.specs.Slots.{AreSlots}
-use Rattle.ob_flat.specs.Flats.{IsWritten, Represents}
+use Rattle.ob_flat.specs.Flats.{IsWritten, Represents, whole_blocks}
 use Rattle.ob_flat.specs.Passes.{SinkCause}
-use Rattle.ob_flat.specs.Words.{PassRan, TamperedIn, blocks_of}
+use Rattle.ob_flat.specs.Scans.{MayScan}
+use Rattle.ob_flat.specs.Words.{PassRan, TamperedAt, TamperedIn, blocks_of}
 use Rattle.ob_flat.specs.Emission.{SlotsToEnd, SlotsToHalt}
 use Rattle.ob_emit.specs.declared.slots.Halt.{Halt}
 use Rattle.ob_emit.specs.declared.slots.Halt.TheVariants as Halts
@@ -37,6 +40,16 @@ slot_shown capacity cols i (Some row) = if nat_lt i capacity then printed cols r
 abbrev pub slots_shown : ℕ → List ℕ → ℕ → Slots → List (List Shown)
 slots_shown capacity cols i [] = []
 slots_shown capacity cols i (slot ∷ slots) = slot_shown capacity cols i slot ++ slots_shown capacity cols (i + 1) slots
+
+-- those of a table's block at a place
+abbrev pub block_shown : (pack : ℕ) → Flat → List ℕ → (place : ℕ) → Slots → List (List Shown)
+block_shown pack flat cols place slots = slots_shown flat.capacity cols (place * pack)
+    (block_at pack (whole_blocks pack flat.capacity slots) place)
+
+-- those of its first blocks, so many
+abbrev pub blocks_shown : (pack : ℕ) → Flat → List ℕ → (done : ℕ) → Slots → List (List Shown)
+blocks_shown pack flat cols done slots = slots_shown flat.capacity cols 0
+    (take (done * pack) (whole_blocks pack flat.capacity slots))
 
 -- all rows of a table
 abbrev pub table_shown : List ℕ → Slots → List (List Shown)
@@ -129,6 +142,34 @@ pub record EmitsRows {E : Type 0} (grew cut : E → E → List Event → Type 0)
   pub malformed : IfErr result (λ halt. halt ≡ Halts.Malformed → AreSlots flat.schema rows → ⊥)
   pub cause : HaltCause result (faults out_old) (faults out_new)
 
+-- one block of a table was read, and its rows emitted, behind as many as were seen
+pub record EmitsBlock {E : Type 0} (grew cut : E → E → List Event → Type 0) (faults : E → ℕ)
+    (pack : ℕ) (flat : Flat) (cols : List ℕ) (place seen : ℕ)
+    (result : Result ℕ OpErr) (old new : World) (out_old out_new : E) : Type 0 where
+  pub ran : PassRan (read_at flat.region place) none result old new
+  pub never : IfErr result (λ e. (e ≡ Failed) ⊎ (e ≡ Sink) ⊎ (e ≡ NoMemory)
+      ⊎ TamperedAt pack flat place e new)
+  pub seals : SealsAll old new
+  pub most : IfOk result (λ k. (k ≤ (place + 1) * pack) × (k ≤ flat.capacity))
+  pub emitted : IfOk result (λ k. IsEmitted grew []
+      (λ (s : SlotsToEnd pack flat old new). block_shown pack flat cols place s.slots)
+      seen k out_old out_new)
+  pub halted : IfErr result (λ e. EndsAs grew cut e []
+      (λ (s : SlotsToHalt pack flat old new). block_shown pack flat cols place s.slots)
+      out_old out_new)
+  pub cause : SinkCause result (faults out_old) (faults out_new)
+  pub told : (slots : Slots) → Represents pack flat slots old → new.store.lie ≡ None
+      → IfErr result (λ e. (e ≡ Failed) ⊎ (e ≡ Sink) ⊎ (e ≡ NoMemory))
+
+-- the first `done` blocks were read, whatever was asked of other regions between the reads, and their k
+-- rows emitted: these are shown, of the slots that the table has now
+pub record HasEmitted (pack : ℕ) (flat : Flat) (cols : List ℕ) (done k : ℕ)
+    (shown : List (List Shown)) (w : World) : Type 0 where
+  pub table : MayScan pack flat w
+  pub most : (k ≤ done * pack) × (k ≤ flat.capacity)
+  pub count : k ≡ length shown
+  pub told : (s : SlotsToEnd pack flat w w) → shown ≡ blocks_shown pack flat cols done s.slots
+
 -- each block of a table was read, in order, and its rows emitted behind this header
 pub record Emits {E : Type 0} (grew cut : E → E → List Event → Type 0) (faults : E → ℕ)
     (pack : ℕ) (flat : Flat) (cols : List ℕ) (head : List Event)
@@ -146,6 +187,15 @@ pub record Emits {E : Type 0} (grew cut : E → E → List Event → Type 0) (fa
   pub cause : SinkCause result (faults out_old) (faults out_new)
   pub told : (slots : Slots) → Represents pack flat slots old → new.store.lie ≡ None
       → IfErr result (λ e. (e ≡ Failed) ⊎ (e ≡ Sink) ⊎ (e ≡ NoMemory))
+
+-- one block was read, and nothing emitted
+pub record WalksBlock {T : Type 0} (pack : ℕ) (flat : Flat) (place : ℕ)
+    (result : Result T OpErr) (old new : World) : Type 0 where
+  pub ran : PassRan (read_at flat.region place) none result old new
+  pub never : IfErr result (λ e. (e ≡ Failed) ⊎ TamperedAt pack flat place e new)
+  pub seals : SealsAll old new
+  pub told : (slots : Slots) → Represents pack flat slots old → new.store.lie ≡ None
+      → IfErr result (λ e. e ≡ Failed)
 
 -- each was read, and nothing emitted
 pub record Walks {T : Type 0} (pack : ℕ) (flat : Flat)

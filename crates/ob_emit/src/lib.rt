@@ -9,5 +9,6 @@ mod slots;
 mod walking;
 
 pub use emission::emit_all;
+pub use emitting::emit_block;
 pub use head::emit_head;
-pub use walking::walk;
+pub use walking::{walk, walk_block};

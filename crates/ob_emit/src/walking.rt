@@ -1,4 +1,4 @@
-ghost use Rattle.std.specs.Prelude.{◌≡◌, max, length};
+ghost use Rattle.std.specs.Prelude.{◌≡◌, ◌≤◌, ◌<◌, ◌+◌, max, length};
 ghost use Rattle.ob_base.specs.Schemas.{width};
 ghost use Rattle.ob_vault.specs.Places.{at};
 ghost use Rattle.ob_vault.specs.Rows.{SameSizes};
@@ -6,9 +6,9 @@ ghost use Rattle.ob_blocks.specs.Idle.{IsIdle};
 ghost use Rattle.ob_flat.specs.Flats.{FitsRegion, IsWritten};
 ghost use Rattle.ob_flat.specs.Words.{HasSpare, FitBlock, blocks_of};
 ghost use Rattle.ob_flat.specs.Scans.{MayScan};
-ghost use Rattle.ob_emit.specs.Emitting.{Walks};
+ghost use Rattle.ob_emit.specs.Emitting.{WalksBlock, Walks};
 
-use ob_flat::{Flat, OpErr, Visit, scan_blocks};
+use ob_flat::{Flat, OpErr, Visit, scan_block, scan_blocks};
 use ob_room::{ClearRow, Room};
 use ob_row::{Malformed, read};
 use ob_store::BlockStore;
@@ -29,6 +29,29 @@ impl Visit for Look {
         read(&flat.schema, row)?;
         Ok(())
     }
+}
+
+/// Makes the read of an emission of one block, into these rows, of which there are as many as a block has,
+/// and emits nothing. `Failed` where the store failed, and `Tampered` where the block is not what was
+/// written there last, or has a malformed row. It takes no memory.
+pub fn walk_block<S: BlockStore, R: Revisions>(
+    store: &mut S,
+    vault: &mut Vault<R>,
+    rows: &mut [ClearRow],
+    flat: &Flat,
+    place: u32,
+) -> Result<(), OpErr>
+    requires spare { HasSpare 1 (at R.state vault.old (S.state store.old)) }
+    requires table { MayScan (length rows.old) flat.now
+        (at R.state vault.old (S.state store.old)) }
+    requires within { place < blocks_of (length rows.old) flat.now }
+    requires fit { FitBlock flat.now.schema rows.old }
+    ensures rows { SameSizes rows.old rows.new }
+    ensures spent { (S.state store.old).spare ≤ (S.state store.new).spare + 1 }
+    ensures walks { WalksBlock (length rows.old) flat.now place result
+        (at R.state vault.old (S.state store.old)) (at R.state vault.new (S.state store.new)) }
+{
+    scan_block(store, vault, rows, flat, place, &mut Look)
 }
 
 fn walk_blocks<S: BlockStore, R: Revisions>(

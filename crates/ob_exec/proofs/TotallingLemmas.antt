@@ -1,7 +1,6 @@
 -- What a pass found of a table's totals, and what was emitted of it.
-use Rattle.std.proofs.Common.{◌≡◌, ◌⊎◌, inl, inr, ◌≤◌, ◌<◌, ℕ, Bool, false, if◌then◌else◌, List, [], ◌∷◌, ◌++◌, length, map, filter, Option, Some, None, Result, Ok, Err, refl, sym, ◌∙◌, ap, subst, arith, append-nil}
-use Rattle.std.specs.Prelude.{IfSome, filter_map, not, nat_lt}
-use Rattle.std.specs.List.{list_any, flat_map}
+use Rattle.std.proofs.Common.{◌≡◌, ◌⊎◌, inl, inr, ◌≤◌, ℕ, Bool, false, if◌then◌else◌, List, [], ◌∷◌, ◌++◌, length, map, filter, Some, None, Result, Ok, Err, refl, sym, ◌∙◌, ap, subst, arith, append-nil}
+use Rattle.std.specs.Prelude.{nat_lt}
 use Rattle.std.proofs.lemmas.Bool.Decides.{nat_tests}
 use Rattle.std.proofs.lemmas.List.{length-map}
 use Rattle.ob_base.specs.declared.access.Access.{Access}
@@ -35,24 +34,23 @@ use Rattle.ob_flat.specs.Words.{TamperedIn, blocks_of}
 use Rattle.ob_group.specs.declared.grouping.Grouped.{Grouped}
 use Rattle.ob_group.specs.declared.grouping.Grouped.TheVariants.{Groups, TooMany}
 use Rattle.ob_group.specs.Labels as G
-use Rattle.ob_group.specs.Passes.{AreAggs, AreItems, Aggregates, GroupsRows}
-use Rattle.ob_group.specs.Running.{AreWithin}
-use Rattle.ob_group.specs.Grouping.{aggs_of}
+use Rattle.ob_group.specs.Passes.{Aggregates, GroupsRows}
+use Rattle.ob_group.specs.Steps.{EmitsAll}
 use Rattle.ob_sql.specs.declared.stmt.SelectTotals.{SelectTotals}
 use Rattle.ob_mean.specs.declared.answer.Answer.{Answer}
 use Rattle.ob_mean.specs.declared.answer.Answer.TheVariants as A
-use Rattle.ob_names.specs.Kinds.{plain_columns}
 use Rattle.ob_names.specs.Names.{place_of}
 use Rattle.ob_mean.specs.Conditions.{where_at}
 use Rattle.ob_mean.specs.Prints.{Prints, Begun}
-use Rattle.ob_mean.specs.Refusals.{is_group}
-use Rattle.ob_mean.specs.Step.{agg_of, answered, item_of}
+use Rattle.ob_mean.specs.Step.{answered, item_of}
 use Rattle.ob_verdict.specs.declared.outcome.Outcome.{Outcome}
 use Rattle.ob_verdict.specs.declared.outcome.Outcome.TheVariants.{Rows, Refused}
-use Rattle.ob_exec.specs.Totalling.{Gives, HaltsTotals, Totals, TotalsFit, agg_at, totalled_answer, ends_by, labels_at, outcome_at}
+use Rattle.ob_exec.specs.Totalling.{HaltsTotals, Totals, ends_by}
+use Rattle.ob_stages.specs.Totalling.{TotalsFit, agg_at, labels_at, outcome_at, totalled_answer}
 use Rattle.ob_tables.specs.Stops.{error_of}
 use Rattle.ob_tables.proofs.EmitLemmas.{unfit_none}
-use Rattle.ob_exec.proofs.TotalsLemmas.{all_events, answer_grouped, answer_plain, are_many, begun_rows, group_labels, grouped_as, is_answer, items_within, leads_join, leads_none, not_many, partly_none, partly_rows, plain_aggs, plain_labels, prints_rows}
+use Rattle.ob_stages.proofs.TotalsLemmas.{all_events, are_many, begun_rows, grouped_as, is_answer, items_labels, leads_join, leads_none, not_many, partly_none, partly_rows, prints_rows}
+use Rattle.ob_stages.proofs.TotalsLemmas as S
 
 -- ---- the emitter's failures
 -- after all was asked
@@ -133,23 +131,8 @@ module _ {E : Type 0} (grew cut : E → E → List Event → Type 0) (faults : E
 
   -- ---- an answer of one row
   module _ (aggs : List Agg) (ungrouped : q.group ≡ None) (aggs_are : aggs ≡ map (agg_at cs) q.items) where
-    plain : list_any (λ name. not (is_group cs None name)) (flat_map plain_columns q.items) ≡ false
-    plain = subst (λ (group : Option ColumnName). list_any (λ name. not (is_group cs group name)) (flat_map plain_columns q.items) ≡ false) ungrouped fit.own
-
-    aggs_is : aggs ≡ filter_map (agg_of cs) q.items
-    aggs_is = aggs_are ∙ plain_aggs cs q.items plain
-
-    pub aggs_fit : AreAggs cs aggs
-    aggs_fit =
-        let size : length aggs ≡ length q.items = ap length aggs_are ∙ length-map q.items (agg_at cs) in
-        let few = fit.few in
-        record { few = omega (arith, size, few); within = subst (AreWithin (length cs)) (sym aggs_is) fit.within }
-
-    pub aggs_labels : map (G.agg_label cs) aggs ≡ labels_at cs q
-    aggs_labels = ap (map (G.agg_label cs)) aggs_are ∙ plain_labels cs q.items plain
-
     one_row : (slots : Slots) → totalled_answer places cs q slots ≡ A.Rows (totals aggs (chosen slots) ∷ [])
-    one_row slots = answer_plain places cs q slots ungrouped ∙ (λ i. A.Rows (totals (sym aggs_is i) (filter (is_true (sym meant i)) (rows slots)) ∷ []))
+    one_row slots = S.one_row cs q aggs fit ungrouped aggs_are places slots ∙ (λ i. A.Rows (totals aggs (filter (is_true (sym meant i)) (rows slots)) ∷ []))
 
     row_is : (slots : Slots) (accs : List Shown) → accs ≡ totals aggs (chosen slots) → totalled_answer places cs q slots ≡ A.Rows (accs ∷ [])
     row_is slots accs is = one_row slots ∙ ap (λ (r : List Shown). A.Rows (r ∷ [])) (sym is)
@@ -177,7 +160,7 @@ module _ {E : Type 0} (grew cut : E → E → List Event → Type 0) (faults : E
 
     -- the emitter failed
     pub totals_row_cut : (accs : List Shown) (labels : List (List ℕ)) (e : EmitErr) (a b : E) → labels ≡ labels_at cs q → Aggregates pack flat (is_true condition) aggs (Ok accs) old new
-        → Gives {T = Unit {0}} grew cut faults (Head labels ∷ RowEvent accs ∷ Close 1 ∷ []) (Err e) a b → Totals grew cut faults places pack flat q (Err (error_of e)) old new a b
+        → EmitsAll {T = Unit {0}} grew cut faults (Head labels ∷ RowEvent accs ∷ Close 1 ∷ []) (Err e) a b → Totals grew cut faults places pack flat q (Err (error_of e)) old new a b
     totals_row_cut accs labels e a b labels_are all given =
         let part = given.err in
         record {
@@ -218,22 +201,8 @@ module _ {E : Type 0} (grew cut : E → E → List Event → Type 0) (faults : E
 
   -- ---- a row for each group
   module _ (key : ColumnName) (items : List Item) (place : ℕ) (by_key : q.group ≡ Some key) (items_are : items ≡ map (item_of cs) q.items) (place_is : place ≡ place_of key cs) where
-    own : list_any (λ name. not (is_group cs (Some key) name)) (flat_map plain_columns q.items) ≡ false
-    own = subst (λ (group : Option ColumnName). list_any (λ name. not (is_group cs group name)) (flat_map plain_columns q.items) ≡ false) by_key fit.own
-
-    pub items_fit : AreItems cs place items
-    items_fit =
-        let size : length items ≡ length q.items = ap length items_are ∙ length-map q.items (item_of cs) in
-        let few = fit.few in
-        let within = subst (λ (group : Option ColumnName). IfSome group (λ k. place_of k cs < length cs)) by_key fit.key in
-        record {
-          key = omega (arith, place_is, within);
-          few = omega (arith, size, few);
-          within = subst (λ (xs : List Item). AreWithin (length cs) (aggs_of xs)) (sym items_are) (items_within cs (length cs) q.items fit.within);
-        }
-
-    items_labels : map (G.item_label cs place) items ≡ labels_at cs q
-    items_labels = (λ i. map (G.item_label cs (place_is i)) (items_are i)) ∙ group_labels cs key q.items own
+    labelled : map (G.item_label cs place) items ≡ labels_at cs q
+    labelled = items_labels cs q key items place fit by_key items_are place_is
 
     abbrev group_rows : Slots → List (List Shown)
     group_rows slots = grouped place items (chosen slots)
@@ -246,10 +215,10 @@ module _ {E : Type 0} (grew cut : E → E → List Event → Type 0) (faults : E
 
     by_count : (slots : Slots) → totalled_answer places cs q slots ≡ answered (if nat_lt places (count slots) then Some TooManyGroups else None) (A.Rows (group_rows slots))
     by_count slots =
-        answer_grouped places cs q slots key by_key
+        S.by_count cs q key items place fit by_key items_are place_is places slots
         ∙ (λ i.
         let found = filter (is_true (sym meant i)) (rows slots) in
-        answered (if nat_lt places (length (group_heads (sym place_is i) found)) then Some TooManyGroups else None) (A.Rows (grouped (sym place_is i) (sym items_are i) found)))
+        answered (if nat_lt places (length (group_heads place found)) then Some TooManyGroups else None) (A.Rows (grouped place items found)))
 
     abbrev Grouping : Result Grouped OpErr → E → E → Type 0
     Grouping result a b = GroupsRows grew cut faults places pack flat (is_true condition) place items result old new a b
@@ -299,7 +268,7 @@ module _ {E : Type 0} (grew cut : E → E → List Event → Type 0) (faults : E
             whole = inl (n, refl);
             emitted = record {
               events = all_events (labels_at cs q) given;
-              leads = subst (Leads grew grew a c) (λ i. Head (items_labels i) ∷ (row_events given ++ Close (n_is i) ∷ []))
+              leads = subst (Leads grew grew a c) (λ i. Head (labelled i) ∷ (row_events given ++ Close (n_is i) ∷ []))
                   (leads_join grew grew a b c (Head (map (G.item_label cs place) items) ∷ row_events given) (Close n ∷ []) all.emitted.leads last);
               emits = is_answer (labels_at cs q) given n n_is (omega (arith, most, some));
               told = λ s. subst (λ (x : Answer). Prints (labels_at cs q) x (all_events (labels_at cs q) given)) (sym (rows_are s)) (prints_rows (labels_at cs q) given);
@@ -323,7 +292,7 @@ module _ {E : Type 0} (grew cut : E → E → List Event → Type 0) (faults : E
         emitted = tt;
         halted = halts_given e (record {
           events = all_events (labels_at cs q) given;
-          ends = subst (Leads grew cut a c) (λ i. Head (items_labels i) ∷ (row_events given ++ Close (n_is i) ∷ []))
+          ends = subst (Leads grew cut a c) (λ i. Head (labelled i) ∷ (row_events given ++ Close (n_is i) ∷ []))
               (leads_join grew cut a b c (Head (map (G.item_label cs place) items) ∷ row_events given) (Close n ∷ []) all.emitted.leads last);
           told = λ s.
               partly_rows (labels_at cs q) (totalled_answer places cs q s.slots) given _
@@ -353,7 +322,7 @@ module _ {E : Type 0} (grew cut : E → E → List Event → Type 0) (faults : E
                 let shown = group_rows s.slots in
                 partly_rows (labels_at cs q) (totalled_answer places cs q s.slots) shown given.events
                 (by_count s.slots ∙ ap (λ (b : Bool). answered (if b then Some TooManyGroups else None) (A.Rows shown)) (few_groups (count s.slots) (few is s.slots s.is nolie)))
-                (begun_rows (labels_at cs q) shown given.events (part.0, part.1 ∙ (λ i. Head (items_labels i) ∷ row_events shown)));
+                (begun_rows (labels_at cs q) shown given.events (part.0, part.1 ∙ (λ i. Head (labelled i) ∷ row_events shown)));
           }
 
       pub totals_gave_up : Totals grew cut faults places pack flat q (Err e) old new a b

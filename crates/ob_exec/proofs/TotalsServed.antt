@@ -62,7 +62,8 @@ use Rattle.ob_tables.specs.Serving.{StopsEmission, Serves, Stopped}
 use Rattle.ob_select.specs.Memory.{HasHalted}
 use Rattle.ob_tables.proofs.BegunLemmas.{begun_plain}
 use Rattle.ob_tables.specs.Telling.{AreHeld, Represents, IsNotTampered, answer_labels, is_refused}
-use Rattle.ob_exec.specs.Totalling.{IsTotalled, MayTotal, Totals, TotalsFit, ends_by, labels_at, totalled_answer}
+use Rattle.ob_exec.specs.Totalling.{MayTotal, Totals, ends_by}
+use Rattle.ob_stages.specs.Totalling.{IsTotalled, TotalsFit, labels_at, totalled_answer}
 use Rattle.ob_tables.proofs.FoundLemmas.{heading_found, shape_found}
 use Rattle.ob_tables.proofs.HeldLemmas.{Beside, held_at}
 use Rattle.ob_tables.proofs.PlainLemmas.{none_room, none_stops, pass_stops, settle_is}
@@ -75,7 +76,7 @@ use Rattle.ob_tables.proofs.ReadLemmas.{cut_after, held_read, read_cut, read_don
 use Rattle.ob_tables.proofs.RunLemmas.{IsAnswered, engine_after, no_access, ran_no_room, only_memory}
 use Rattle.ob_tables.proofs.SealLemmas.{keeps_pass, keeps_rests}
 use Rattle.ob_tables.proofs.ToldLemmas.{cut_seen, early_held, refused_none, started_seen, told_whole, followed_same}
-use Rattle.ob_exec.proofs.TotalsLemmas.{partly_none, totals_fit}
+use Rattle.ob_stages.proofs.TotalsLemmas.{partly_none, totals_fit}
 use Rattle.ob_tables.proofs.EmitLemmas.{lie_none}
 
 -- ---- what it means
@@ -84,7 +85,7 @@ either_none : (b : Bool) (answer : Answer) → answered (option_or (if b then So
 either_none true answer = refl
 either_none false answer = refl
 
-verdict_is : (p : Public) (m : ℕ) (tables : Tables) (s : SelectTotals) (x : Stored Held) → early_refusal (is_late m) (limits_of p) (headings tables) (TotalsStmt s) ≡ None
+pub verdict_is : (p : Public) (m : ℕ) (tables : Tables) (s : SelectTotals) (x : Stored Held) → early_refusal (is_late m) (limits_of p) (headings tables) (TotalsStmt s) ≡ None
     → stored_at s.table tables ≡ Some x → verdict p m tables (TotalsStmt s) ≡ totalled_answer (buffered p.pack p.buffer) x.heading.schema s x.held.slots
 verdict_is p m tables s x early found =
     let places = buffered p.pack p.buffer in
@@ -143,7 +144,7 @@ not_tampered e (inr (inl is)) = subst (λ (x : OpErr). IfErr (answer_of x) IsNot
 not_tampered e (inr (inr is)) = subst (λ (x : OpErr). IfErr (answer_of x) IsNotTampered) (sym is) refl
 
 -- nothing was emitted where the store failed
-unfinished_none : (labels : List (List ℕ)) (answer : Answer) → Unfinished labels answer []
+pub unfinished_none : (labels : List (List ℕ)) (answer : Answer) → Unfinished labels answer []
 unfinished_none labels A.Done = refl
 unfinished_none labels (A.Changed n) = refl
 unfinished_none labels (A.Rows rows) = record { printed = rows; same = Same-refl rows; begun = (_, refl) }

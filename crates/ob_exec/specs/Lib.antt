@@ -4,3 +4,6 @@ pub mod Saving
 pub mod Ran
 pub mod Behind
 pub mod RanBatch
+pub mod InFlight
+pub mod RanFlight
+pub mod Boarding

@@ -4,19 +4,19 @@ ghost use Rattle.ob_base.specs.Events.{Head, Row, Close};
 ghost use Rattle.ob_base.specs.Limits.{buffered};
 ghost use Rattle.ob_vault.specs.Places.{at};
 ghost use Rattle.ob_group.specs.Labels.{agg_label};
-ghost use Rattle.ob_mean.specs.Step.{item_of};
+ghost use Rattle.ob_group.specs.Steps.{EmitsAll};
 ghost use Rattle.ob_select.specs.Selecting.{UsesRoom};
-ghost use Rattle.ob_exec.specs.Totalling.{agg_at, Gives, MayTotal, Totals};
+ghost use Rattle.ob_exec.specs.Totalling.{MayTotal, Totals};
 
-use ob_base::{Column, ColumnName, Emit, EmitErr, Label, NoMemory, Refusal, Schema, Shown};
+use ob_base::{ColumnName, Emit, EmitErr, Label, NoMemory, Refusal, Schema, Shown};
 use ob_flat::{Flat, OpErr};
 use ob_group::{Grouped, agg_label, aggregate, group};
-use ob_mean::{agg_of, item_of};
 use ob_names::place_of;
 use ob_order::Buckets;
 use ob_room::Room;
-use ob_row::{Agg, Item, Pred};
-use ob_sql::{Listed, SelectTotals};
+use ob_row::{Agg, Pred};
+use ob_sql::SelectTotals;
+use ob_stages::{aggs_at, items_at};
 use ob_store::BlockStore;
 use ob_tables::error_of;
 use ob_vault::{Revisions, Vault};
@@ -24,50 +24,9 @@ use ob_verdict::Outcome;
 use std::alloc::Global;
 use std::array;
 
-// ---- what is totalled
-
-// The aggregate of an item; beside other aggregates alone no plain column stands.
-fn agg_at(item: &Listed, columns: &[Column]) -> Agg
-    requires { length columns.now ≤ 32 }
-    ensures { result ≡ agg_at columns.now item.now }
-{
-    match agg_of(item, columns, &[]) {
-        Some(agg) => agg,
-        None => Agg::CountAll,
-    }
-}
-
-// Those of the items, in the first places of an array that holds those of any answer.
-fn aggs_at(items: &[Listed], columns: &[Column]) -> [Agg; 32]
-    requires few { length items.now ≤ 32 }
-    requires columns { length columns.now ≤ 32 }
-    ensures size { length result ≡ 32 }
-    ensures value { take (length items.now) result ≡ map (agg_at columns.now) items.now }
-{
-    let mut aggs = [Agg::CountAll; 32];
-    for i in 0..items.len() {
-        aggs[i] = agg_at(&items[i], columns);
-    }
-    aggs
-}
-
-// The items of a group's row, likewise.
-fn items_at(items: &[Listed], columns: &[Column]) -> [Item; 32]
-    requires few { length items.now ≤ 32 }
-    requires columns { length columns.now ≤ 32 }
-    ensures size { length result ≡ 32 }
-    ensures value { take (length items.now) result ≡ map (item_of columns.now) items.now }
-{
-    let mut parts = [Item::Key; 32];
-    for i in 0..items.len() {
-        parts[i] = item_of(&items[i], columns, &[]);
-    }
-    parts
-}
-
 // ---- what is emitted
 
-// The labels of aggregates, likewise.
+// The labels of aggregates, in the first places of an array that holds those of any answer.
 fn labels_of(schema: &Schema, aggs: &[Agg]) -> [Label; 32]
     requires few { length aggs.now ≤ 32 }
     ensures size { length result ≡ 32 }
@@ -82,8 +41,8 @@ fn labels_of(schema: &Schema, aggs: &[Agg]) -> [Label; 32]
 
 // An answer of one row: its header, the row, and its number.
 fn emit_row<E: Emit>(out: &mut E, labels: &[Label], cells: &[Shown]) -> Result<(), EmitErr>
-    ensures { Gives E.grew E.cut E.faults (Head labels.now ∷ Row cells.now ∷ Close 1 ∷ []) result
-        out.old out.new }
+    ensures { EmitsAll E.grew E.cut E.faults (Head labels.now ∷ Row cells.now ∷ Close 1 ∷ [])
+        result out.old out.new }
 {
     match out.head(labels) {
         Ok(()) => match out.row(cells) {

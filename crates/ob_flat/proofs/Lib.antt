@@ -9,3 +9,4 @@ pub mod Loops
 pub mod Opened
 pub mod Halves
 pub mod WordLemmas
+pub mod Scanning

@@ -72,6 +72,19 @@ module _ (pack : ℕ) (flat : Flat) (some : ℕ → Type 0) (a b : World) (lasts
   pub represents_lasts : (slots : Slots) → Represents pack flat slots a → Represents pack flat slots b
   represents_lasts slots is = record { size = is.size; fits = is.fits; holds = λ p below. holds_lasts some a b lasts flat.region p _ off (is.holds p below) }
 
+  -- and those that it has now it had before
+  pub represents_before : (slots : Slots) → Represents pack flat slots b → Represents pack flat slots a
+  represents_before slots is = record {
+    size = is.size;
+    fits = is.fits;
+    holds = λ p below.
+        let here = (is.holds p below).last in
+        let last = lasts.apart.last flat.region p off in
+        let number = lasts.apart.number flat.region p off in
+        let keys = lasts.keys in
+        record { last = cc (here, last, number, keys) };
+  }
+
   pub rows_lasts : HoldsRows pack flat a → HoldsRows pack flat b
   rows_lasts is = record { each = λ p below. let here = is.each p below in record { slots = here.slots; size = here.size; fits = here.fits; holds = holds_lasts some a b lasts flat.region p _ off here.holds } }
 

@@ -50,6 +50,7 @@ pub fn make_table<S: BlockStore, R: Revisions>(
     requires few { spent (at R.state vault.old (S.state store.old)) < 2 ^ 63 + 2 ^ 60 }
     requires size { FitsRegion pack schema.now capacity }
     requires pack { (1 ≤ pack) × (pack ≤ 16) }
+    ensures spent { (S.state store.old).spare ≤ (S.state store.new).spare + 1 }
     ensures makes { MakesTable order pack (table_of schema.now capacity vault.old.next)
         result (at R.state vault.old (S.state store.old))
         (at R.state vault.new (S.state store.new)) }

@@ -23,6 +23,6 @@ pub use creating::{create, create_blocks, fill_blocks, make_table};
 pub use fault::OpErr;
 pub use flat::{Flat, discard};
 pub use rework::{Rework, rework_block};
-pub use scan::scan_blocks;
+pub use scan::{scan_block, scan_blocks};
 pub use swap::swap_blocks;
 pub use visit::Visit;

@@ -1,5 +1,5 @@
 -- A table has no more groups than slots, so that no more rows are opened for them.
-use Rattle.std.proofs.Common.{◌≡◌, ◌⊎◌, inl, inr, ◌≤◌, ◌<◌, ◌+◌, ◌*◌, ◌-◌, ◌++◌, ℕ, min, max, Bool, true, false, cond, if◌then◌else◌, List, [], ◌∷◌, length, replicate, take, drop, Option, Some, None, Result, Ok, Err, refl, sym, ◌∙◌, ap, subst, arith}
+use Rattle.std.proofs.Common.{◌≡◌, ◌⊎◌, inl, inr, ◌≤◌, ◌<◌, ◌+◌, ◌*◌, ◌-◌, ◌++◌, ℕ, min, max, Bool, true, false, cond, if◌then◌else◌, List, [], ◌∷◌, length, replicate, take, drop, Some, None, Result, Ok, Err, sym, ◌∙◌, ap, subst, arith}
 use Rattle.std.specs.Bool.{⊤}
 use Rattle.std.specs.Int.{div_ceil}
 use Rattle.std.specs.Prelude.{filter, not, nat_lt, MatchResult, IfOk, IfErr}
@@ -11,7 +11,6 @@ use Rattle.std.proofs.lemmas.Bool.{cases_lt}
 use Rattle.ob_base.specs.Events.{Event}
 use Rattle.ob_base.specs.Limits.{buffered, buffered_blocks}
 use Rattle.ob_base.specs.Lists.{distinct}
-use Rattle.ob_base.specs.Numbers.{blocks_for}
 use Rattle.ob_room.specs.RoomState.{RoomState, clear}
 use Rattle.ob_room.specs.Shelf.{AreWide, IsSound, cleared}
 use Rattle.ob_room.specs.LendingOpen.{opened_with}

@@ -1,4 +1,4 @@
-pub mod Sums
+pub mod Grown
 pub mod Seen
 pub mod Bounds
 pub mod Heads
@@ -12,3 +12,5 @@ pub mod Putting
 pub mod SlotLemmas
 pub mod Rows
 pub mod Answering
+pub mod Gathering
+pub mod Summing

@@ -1,5 +1,5 @@
 -- The rows of groups that were emitted.
-use Rattle.std.proofs.Common.{◌≡◌, ◌<◌, ◌+◌, ℕ, List, [], ◌∷◌, ◌++◌, length, take, drop, slice_index_or, Result, Ok, Err, OnOk, OnErr, refl, sym, ◌∙◌, ap, subst, arith}
+use Rattle.std.proofs.Common.{◌≡◌, ◌<◌, ◌+◌, ℕ, List, [], ◌∷◌, ◌++◌, length, take, drop, slice_index_or, Result, Ok, Err, OnOk, OnErr, refl, sym, ◌∙◌, ap, subst, arith, append_assoc}
 use Rattle.std.proofs.lemmas.List.{append-nil, map-append, take_more, take-append-drop}
 use Rattle.ob_base.specs.declared.shown.Shown.{Shown}
 use Rattle.ob_base.specs.declared.emit.EmitErr.{EmitErr}
@@ -10,6 +10,7 @@ use Rattle.ob_row.specs.declared.aggregate.Item.{Item}
 use Rattle.ob_group.specs.Grouping.{Group, group_shown, groups_shown}
 use Rattle.ob_group.specs.Held.{no_group}
 use Rattle.ob_group.specs.Passes.{EmitsGroups}
+use Rattle.ob_group.specs.Steps.{EmitsAll}
 
 module _ (items : List Item) (gs : List Group) (i : ℕ) where
   -- one more, and those that are left
@@ -45,3 +46,21 @@ headed {T = T} {grew = grew} {cut = cut} {faults = faults} {items = items} {a = 
       (0, s, [], ap (λ (l : List Event). l ++ (events ++ [])) (append-nil head) ∙ ap (λ (l : List Event). head ++ l) (append-nil events)));
   cause = subst (λ (k : ℕ). EmitCause {T = T} (Err e) k (faults c)) same is.cause;
 }
+
+-- one row behind its header, or the header alone
+module _ {E T : Type 0} (grew cut : E → E → List Event → Type 0) (faults : E → ℕ) (head : List Event) (cells : List Shown) where
+  pub row_emitted : (a b c : E) → Leads grew grew a b head → faults b ≡ faults a → (r : Result T EmitErr) → OnOk r (Leads grew grew b c (Row cells ∷ [])) → OnErr r (Leads grew cut b c (Row cells ∷ []))
+      → EmitCause r (faults b) (faults c) → EmitsAll grew cut faults (head ++ Row cells ∷ []) r a c
+  row_emitted a b c leads same (Ok x) ok err cause = record {
+    ok = λ s events is. subst (grew s c) (append_assoc events head (Row cells ∷ [])) (ok s (events ++ head) (leads s events is));
+    err = tt;
+    cause = cause ∙ same;
+  }
+  row_emitted a b c leads same (Err e) ok err cause = record {
+    ok = tt;
+    err = (head ++ Row cells ∷ [], λ s events is. subst (cut s c) (append_assoc events head (Row cells ∷ [])) (err s (events ++ head) (leads s events is)), ([], append-nil (head ++ Row cells ∷ [])));
+    cause = subst (λ (k : ℕ). EmitCause {T = T} (Err e) k (faults c)) same cause;
+  }
+
+  pub row_headless : (a b : E) (e : EmitErr) → Leads grew cut a b head → EmitCause {T = T} (Err e) (faults a) (faults b) → EmitsAll {T = T} grew cut faults (head ++ Row cells ∷ []) (Err e) a b
+  row_headless a b e ends cause = record { ok = tt; err = (head, ends, (Row cells ∷ [], refl)); cause = cause }

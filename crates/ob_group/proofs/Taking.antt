@@ -17,7 +17,7 @@ use Rattle.ob_row.proofs.PlaceLemmas.{is_false}
 use Rattle.ob_group.specs.Running.{Sums, start, starts, grown, grown_all}
 use Rattle.ob_group.specs.Grouping.{Group, agg_of, aggs_of, group_with, group_by, put_row, groups_with, groups_of, item_cell, item_cells, groups_shown}
 use Rattle.ob_group.proofs.Heads.{agree-sym, agree-trans, neither, distinct-once, is_old, more, heads-more, none_before}
-use Rattle.ob_group.proofs.Sums.{grown_by, total_is, first_grown}
+use Rattle.ob_group.proofs.Grown.{grown_by, total_is, first_grown}
 
 -- each row has a cell at the key's place
 abbrev pub AreKeyed : ℕ → List Row → Type 0

@@ -5,3 +5,4 @@ pub mod IsAccs
 pub mod Labels
 pub mod Answers
 pub mod Passes
+pub mod Steps

@@ -1,11 +1,12 @@
 -- Aggregates of the rows so far.
-use Rattle.std.specs.Prelude.{◌≤◌, ◌<◌, ◌*◌, ◌^◌, ℕ, ℤ, pos, nat_abs, ◌+ℤ◌, List, [], ◌∷◌, map, ⊤, Bool, Option, Some, None, IfSome, if◌then◌else◌}
+use Rattle.std.specs.Prelude.{◌≤◌, ◌<◌, ◌*◌, ◌^◌, ℕ, ℤ, pos, nat_abs, ◌+ℤ◌, List, [], ◌∷◌, map, fold, take, length, ⊤, Bool, Option, Some, None, IfSome, if◌then◌else◌}
 use Rattle.std.specs.Int.{int_min, int_max}
 use Rattle.ob_base.specs.declared.shown.Shown.{Shown}
 use Rattle.ob_base.specs.declared.shown.Shown.TheVariants.{Int as ShownInt, Null}
 use Rattle.ob_row.specs.declared.aggregate.Agg.{Agg}
 use Rattle.ob_row.specs.declared.aggregate.Agg.TheVariants.{CountAll, Count, Sum, Min, Max}
 use Rattle.ob_row.specs.Rows.{Row, cell_at}
+use Rattle.ob_row.specs.Slots.{Slots}
 use Rattle.ob_row.specs.Totals.{int_of}
 
 -- the totals of some aggregates
@@ -71,10 +72,21 @@ abbrev pub seen_slot : (Row → Bool) → List Agg → List (Option ℤ) → Opt
 seen_slot p aggs totals None = totals
 seen_slot p aggs totals (Some row) = if p row then grown_all aggs row totals else totals
 
+-- with those of these slots
+abbrev pub sums_with : (Row → Bool) → List Agg → Sums → Slots → Sums
+sums_with p aggs sums slots = fold (seen_slot p aggs) sums slots
+
+abbrev pub sums_of : (Row → Bool) → List Agg → Slots → Sums
+sums_of p aggs slots = sums_with p aggs (starts aggs) slots
+
 -- a total as it is printed
 abbrev pub total_shown : Option ℤ → Shown
 total_shown None = Null
 total_shown (Some x) = ShownInt x
+
+-- and those of these aggregates, which are the first
+abbrev pub sums_shown : List Agg → Sums → List Shown
+sums_shown aggs sums = map total_shown (take (length aggs) sums)
 
 -- totals of at most n rows
 abbrev pub AreUpTo : ℕ → List (Option ℤ) → Type 0

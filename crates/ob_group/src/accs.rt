@@ -39,12 +39,10 @@ pub(crate) fn total_shown(total: Option<i128>) -> Shown
 }
 
 impl Accs {
-    // So many cells: those of the totals, as they are printed, where there are as many.
-    pub(crate) fn of_totals(totals: &[Option<i128>], n: usize) -> Accs
-        requires few { length totals.now ≤ 32 }
-        requires most { n ≤ 32 }
-        ensures size { length result ≡ n }
-        ensures value { length totals.now ≡ n → result ≡ map total_shown totals.now }
+    // The cells of these totals, as they are printed.
+    pub(crate) fn of_totals(totals: &[Option<i128>]) -> Accs
+        requires { length totals.now ≤ 32 }
+        ensures { result ≡ map total_shown totals.now }
     {
         let mut cells: [Shown; 32] = array::from_fn(|_| Shown::Null);
         for i in 0..totals.len() {
@@ -52,7 +50,7 @@ impl Accs {
         }
         Accs {
             cells,
-            count: n as u8,
+            count: totals.len() as u8,
         }
     }
 

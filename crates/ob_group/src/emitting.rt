@@ -3,12 +3,15 @@ ghost use Rattle.ob_row.specs.Spelling.{kind_at};
 ghost use Rattle.ob_group.specs.Held.{IsGroup, HasGroups};
 ghost use Rattle.ob_group.specs.Labels.{header};
 ghost use Rattle.ob_group.specs.Passes.{EmitsGroup, EmitsGroups};
+ghost use Rattle.ob_group.specs.Running.{sums_shown};
+ghost use Rattle.ob_group.specs.Steps.{EmitsAll, totals_events};
 
+use crate::aggregation::Sums;
 use crate::groups::show_group;
-use crate::head::emit_head;
+use crate::head::{agg_labels, emit_head};
 use ob_base::{Emit, EmitErr, Kind, Schema, Shown};
 use ob_room::ClearRow;
-use ob_row::{Item, kind_at};
+use ob_row::{Agg, Item, kind_at};
 use std::array;
 
 // Emits the row of a group, whose cells it makes in the first of these.
@@ -31,7 +34,7 @@ fn emit_group<E: Emit>(
 }
 
 // Emits the rows of these n groups, in order.
-pub(crate) fn emit_groups<E: Emit>(
+fn emit_rows<E: Emit>(
     out: &mut E,
     kind: Kind,
     items: &[Item],
@@ -54,8 +57,9 @@ pub(crate) fn emit_groups<E: Emit>(
     Ok(())
 }
 
-// Emits the header of a grouped answer, and the rows of these n groups.
-pub(crate) fn emit_answer<E: Emit>(
+/// Emits a grouped answer, once all blocks were read: its header, and a row for each of the `n` groups, in
+/// order. Where the emitter fails, or has no memory, what was emitted by then is a first part of it.
+pub fn emit_groups<E: Emit>(
     out: &mut E,
     schema: &Schema,
     key: u8,
@@ -71,7 +75,28 @@ pub(crate) fn emit_answer<E: Emit>(
         groups.now (header schema.now key items.now) result out.old out.new }
 {
     match emit_head(schema, key, items, out) {
-        Ok(()) => emit_groups(out, kind_at(schema, key), items, groups, n),
+        Ok(()) => emit_rows(out, kind_at(schema, key), items, groups, n),
+        Err(e) => Err(e),
+    }
+}
+
+/// Emits an answer of totals, once all blocks were read: its header, and a row with a cell for each
+/// aggregate. Where the emitter fails, or has no memory, what was emitted by then is a first part of it.
+pub fn emit_totals<E: Emit>(
+    out: &mut E,
+    schema: &Schema,
+    aggs: &[Agg],
+    sums: &Sums,
+) -> Result<(), EmitErr>
+    requires few { length aggs.now ≤ 32 }
+    ensures cells { length (sums_shown aggs.now sums.now) ≡ length aggs.now }
+    ensures emits { EmitsAll E.grew E.cut E.faults (totals_events schema.now aggs.now sums.now)
+        result out.old out.new }
+{
+    let labels = agg_labels(schema, aggs);
+    let cells = sums.cells(aggs.len());
+    match out.head(&labels[..aggs.len()]) {
+        Ok(()) => out.row(cells.as_slice()),
         Err(e) => Err(e),
     }
 }

@@ -9,7 +9,7 @@ ghost use Rattle.ob_flat.specs.Flats.{IsSized, IsFlat};
 ghost use Rattle.ob_flat.specs.Words.{HasSpare, IsTable, FitBlock, blocks_of};
 ghost use Rattle.ob_group.specs.Passes.{AreItems, AreGroupRows, GroupsRows, open_rows};
 
-use crate::emitting::emit_answer;
+use crate::emitting::emit_groups;
 use crate::reading::group_blocks;
 use ob_base::{Emit, EmitErr};
 use ob_flat::{Flat, OpErr};
@@ -59,7 +59,7 @@ fn group_table<S: BlockStore, R: Revisions, E: Emit>(
             if n > groups.len() {
                 Ok(Grouped::TooMany)
             } else {
-                match emit_answer(out, &flat.schema, key, items, groups, n) {
+                match emit_groups(out, &flat.schema, key, items, groups, n) {
                     Ok(()) => Ok(Grouped::Groups(n as u64)),
                     Err(EmitErr::Failed) => Err(OpErr::Sink),
                     Err(EmitErr::NoMemory) => Err(OpErr::NoMemory),

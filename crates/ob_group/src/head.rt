@@ -77,6 +77,19 @@ fn labels_of(schema: &Schema, key: u8, items: &[Item]) -> [Label; 32]
     labels
 }
 
+// The labels of aggregates, likewise.
+pub(crate) fn agg_labels(schema: &Schema, aggs: &[Agg]) -> [Label; 32]
+    requires few { length aggs.now ≤ 32 }
+    ensures size { length result ≡ 32 }
+    ensures value { take (length aggs.now) result ≡ map (agg_label schema.now) aggs.now }
+{
+    let mut labels: [Label; 32] = array::from_fn(|_| Label::from_bytes(b""));
+    for i in 0..aggs.len() {
+        labels[i] = agg_label(schema, &aggs[i]);
+    }
+    labels
+}
+
 // Emits the header of a grouped answer.
 pub(crate) fn emit_head<E: Emit>(
     schema: &Schema,

@@ -14,6 +14,8 @@ mod reading;
 mod totals;
 
 pub use accs::Accs;
-pub use aggregation::aggregate;
+pub use aggregation::{Sums, aggregate, aggregate_block};
+pub use emitting::{emit_groups, emit_totals};
 pub use grouping::{Grouped, group};
 pub use head::agg_label;
+pub use reading::group_block;

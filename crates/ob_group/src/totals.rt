@@ -1,12 +1,11 @@
 //! Totals of the rows so far.
-ghost use Rattle.std.specs.Prelude.{◌≡◌, ◌≤◌, ◌<◌, ◌+◌, ◌*◌, ◌^◌, ℕ, nat_abs, length, Some, IfSome};
+ghost use Rattle.std.specs.Prelude.{◌≡◌, ◌≤◌, ◌<◌, ◌+◌, ◌*◌, ◌^◌, ℕ, nat_abs, length, take, Some, IfSome};
 ghost use Rattle.ob_base.specs.Schemas.{width};
 ghost use Rattle.ob_row.specs.Rows.{Row, cell_at};
 ghost use Rattle.ob_row.specs.Spelling.{Begins};
 ghost use Rattle.ob_row.specs.Totals.{int_of};
 ghost use Rattle.ob_group.specs.Running.{IsWithin, AreWithin, AreUpTo, together, start, starts, part, joined, grown_all};
 
-use arrayvec::ArrayVec;
 use ob_base::Schema;
 use ob_room::ClearRow;
 use ob_row::{Agg, Value, value_of};
@@ -65,23 +64,25 @@ pub(crate) fn part(agg: Agg, schema: &Schema, row: &ClearRow) -> Option<i64>
     }
 }
 
-// Adds the row to the totals of these aggregates.
+// Adds the row to the totals of these aggregates, which are the first ones.
 pub(crate) fn add_row(schema: &Schema, row: &ClearRow, aggs: &[Agg], totals: &mut [Option<i128>])
     requires wide { width schema.now ≤ length row.now }
     requires within { AreWithin (length schema.now) aggs.now }
     requires real { (cells : Row) × Begins schema.now (Some cells) row.now }
-    requires size { length totals.old ≡ length aggs.now }
     requires few { AreUpTo 2147483648 totals.old }
     ensures few { (n : ℕ) → AreUpTo n totals.old → AreUpTo (n + 1) totals.new }
     ensures told { (cells : Row) → Begins schema.now (Some cells) row.now
         → totals.new ≡ grown_all aggs.now cells totals.old }
 {
-    match (aggs.split_first(), totals.split_first_mut()) {
-        (Some((agg, aggs)), Some((total, totals))) => {
-            *total = joined(*agg, *total, part(*agg, schema, row));
-            add_row(schema, row, aggs, totals);
-        }
-        _ => {}
+    match aggs.split_first() {
+        Some((agg, aggs)) => match totals.split_first_mut() {
+            Some((total, totals)) => {
+                *total = joined(*agg, *total, part(*agg, schema, row));
+                add_row(schema, row, aggs, totals);
+            }
+            None => {}
+        },
+        None => {}
     }
 }
 
@@ -95,14 +96,16 @@ pub(crate) fn start(agg: Agg) -> Option<i128>
     }
 }
 
-// The totals of no rows.
-pub(crate) fn starts(aggs: &[Agg]) -> ArrayVec<Option<i128>, 32>
+// The totals of no rows, in the first places of an array that holds those of any answer.
+pub(crate) fn starts(aggs: &[Agg]) -> [Option<i128>; 32]
     requires { length aggs.now ≤ 32 }
-    ensures { result.items ≡ starts aggs.now }
+    ensures size { length result ≡ 32 }
+    ensures few { AreUpTo 0 result }
+    ensures value { take (length aggs.now) result ≡ starts aggs.now }
 {
-    let mut totals = ArrayVec::new();
-    for agg in aggs {
-        totals.push(start(*agg));
+    let mut totals: [Option<i128>; 32] = [None; 32];
+    for i in 0..aggs.len() {
+        totals[i] = start(aggs[i]);
     }
     totals
 }

@@ -12,3 +12,11 @@ pub mod Makes
 pub mod SavedParts
 pub mod Shortest
 pub mod Unasked
+pub mod ListPlaces
+pub mod Steady
+pub mod FlightTurns
+pub mod FlightLemmas
+pub mod FlightEnds
+pub mod FlightAlike
+pub mod FlightCounts
+pub mod FlightRows

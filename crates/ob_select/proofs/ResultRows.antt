@@ -71,7 +71,7 @@ rows-none zero = refl
 rows-none (suc n) = rows-none n
 
 -- empty slots hold no rows
-rows-fitted : (n : ℕ) (slots : Slots) → length slots ≤ n → rows (fitted n slots) ≡ rows slots
+pub rows-fitted : (n : ℕ) (slots : Slots) → length slots ≤ n → rows (fitted n slots) ≡ rows slots
 rows-fitted n slots fits =
     ap (λ (l : Slots). rows (l ++ none_of (n - length l))) (take_all n slots fits)
     ∙ rows-append slots (none_of (n - length slots)) ∙ ap (λ (l : List Row). rows slots ++ l) (rows-none (n - length slots)) ∙ append-nil (rows slots)

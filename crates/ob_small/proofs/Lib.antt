@@ -4,3 +4,4 @@ pub mod Windows
 pub mod Lengths
 pub mod Places
 pub mod Selected
+pub mod Steps

@@ -63,13 +63,17 @@ module _ (P : ℕ → World → Type 0) (first : ℕ) (a : World) where
   pub extends_none : Extends P first 0 a a
   extends_none = record { each = λ p below old. old (omega (arith, below)) }
 
-  pub extends_more : (x : ℕ) (b c : World) → Extends P first x a b → ((p : ℕ) → p < first + x → P p b → P p c) → P (first + x) c → Extends P first (x + 1) a c
-  extends_more x b c before stays here = record {
-    each = λ p below old. elim (cases_lt p (first + x)) [
-      | inl less ↦ stays p less (before.each p less old)
-      | inr most ↦ let is : first + x ≡ p = omega (arith, most, below) in subst (λ (n : ℕ). P n c) is here
+  -- one place more, and more behind those
+  pub extends_one : (b : World) → ((p : ℕ) → p < first → P p a → P p b) → P first b → Extends P first 1 a b
+  extends_one b stays here = record {
+    each = λ p below old. elim (cases_lt p first) [
+      | inl less ↦ stays p less (old less)
+      | inr most ↦ let is : first ≡ p = omega (arith, most, below) in subst (λ (n : ℕ). P n b) is here
     ];
   }
+
+  pub extends_join : (n m : ℕ) (b c : World) → Extends P first n a b → Extends P (first + n) m b c → Extends P first (n + m) a c
+  extends_join n m b c before next = record { each = λ p below old. next.each p (omega (arith, below)) (λ less. before.each p less old) }
 
   pub extends_at : {n m : ℕ} {b : World} → n ≡ m → Extends P first n a b → Extends P first m a b
   extends_at {b = b} same is = subst (λ (k : ℕ). Extends P first k a b) same is

@@ -8,7 +8,6 @@ use Rattle.std.specs.List.{All}
 use Rattle.ob_base.specs.Numbers.{blocks_for}
 use Rattle.ob_base.specs.Schemas.{Columns}
 use Rattle.ob_vault.specs.Rows.{row_at, Wide}
-use Rattle.ob_vault.specs.Places.{RowsFit}
 use Rattle.ob_vault.specs.State.{World}
 use Rattle.ob_vault.specs.Tied.{Holds}
 use Rattle.ob_row.specs.Rows.{Row}
@@ -49,33 +48,38 @@ index first x r z = grind arith
 pub part_long : (r x : ℕ) (rows : List (List ℕ)) → x * r + r ≤ length rows → length (take r (drop (x * r) rows)) ≡ r
 part_long r x rows fits = omega (arith, length-take r (drop (x * r) rows), length-drop (x * r) rows)
 
--- its rows fit a block
-pub part_fit : (r x w : ℕ) (rows : List (List ℕ)) → 1 ≤ r → x * r + r ≤ length rows → Wide w rows → RowsFit (take r (drop (x * r) rows)) (r * w)
-part_fit r x w rows some inside wide =
-    let long = part_long r x rows inside in
-    record {
-      each = w;
-      whole = ap (λ (n : ℕ). n * w) long;
-      some = omega (arith, long, some);
-      wide = record { wide = λ z below. subst (λ (row : List ℕ). w ≤ length row) (sym (block-element r x z rows [] (omega (arith, below, long)))) (wide.wide (x * r + z) (omega (arith, below, long, inside))) };
-    }
+-- where so many are written `m`
+pub part_size : (r x m : ℕ) (rows : List (List ℕ)) → m ≡ r → x * r + r ≤ length rows → (P : ℕ → Type 0) → P r → P (length (take m (drop (x * r) rows)))
+part_size r x m rows same inside P is = subst P (sym (ap (λ (n : ℕ). length (take n (drop (x * r) rows))) same ∙ part_long r x rows inside)) is
 
--- it spells a block of the result
-pub kept_block : (columns : Columns) (r k results first x : ℕ) (slots : Slots) (rows : List (List ℕ)) → k ≤ results * r → x * r + r ≤ length rows → first + x < results
-    → AreKept columns slots (first * r) k rows → Spelt columns (block_at r (up_to (results * r) (fitted k slots)) (first + x)) (take r (drop (x * r) rows))
-kept_block columns r k results first x slots rows fits inside within keeps =
+-- its rows are as wide
+pub part_wide : (r x w : ℕ) (rows : List (List ℕ)) → x * r + r ≤ length rows → Wide w rows → Wide w (take r (drop (x * r) rows))
+part_wide r x w rows inside wide =
+    let long = part_long r x rows inside in
+    record { wide = λ z below. subst (λ (row : List ℕ). w ≤ length row) (sym (block-element r x z rows [] (omega (arith, below, long)))) (wide.wide (x * r + z) (omega (arith, below, long, inside))) }
+
+-- a block of the rows that are kept from block `first` on has those from block first + x on
+pub keeps_part : (columns : Columns) (r k first x : ℕ) (slots : Slots) (rows : List (List ℕ)) → x * r + r ≤ length rows → AreKept columns slots (first * r) k rows
+    → AreKept columns slots ((first + x) * r) k (take r (drop (x * r) rows))
+keeps_part columns r k first x slots rows inside keeps = record {
+  each = λ z below.
+      let less : z < r = omega (arith, below, part_long r x rows inside) in
+      subst (Begins columns (slice_index_or (take k slots) ((first + x) * r + z) None)) (sym (block-element r x z rows [] less))
+      (subst (λ (j : ℕ). Begins columns (slice_index_or (take k slots) j None) (row_at rows (x * r + z))) (index first x r z) (keeps.each (x * r + z) (omega (arith, less, inside))));
+}
+
+-- the rows that are kept for a block of the result spell it
+pub kept_block : (columns : Columns) (r k results place : ℕ) (slots : Slots) (rows : List (List ℕ)) → k ≤ results * r → length rows ≡ r → place < results
+    → AreKept columns slots (place * r) k rows → Spelt columns (block_at r (up_to (results * r) (fitted k slots)) place) rows
+kept_block columns r k results place slots rows fits long within keeps =
     let all = up_to (results * r) (fitted k slots) in
     let size : length all ≡ results * r = length-up_to (results * r) (fitted k slots) (omega (arith, length-fitted k slots)) in
-    let long = part_long r x rows inside in
     record {
-      count = length-block r all (first + x) results within size ∙ sym long;
+      count = length-block r all place results within size ∙ sym long;
       each = λ z below.
-          let less : z < r = omega (arith, below, long) in
-          let is : slice_index_or (block_at r all (first + x)) z None ≡ slice_index_or (take k slots) (first * r + (x * r + z)) None =
-          block-element r (first + x) z all None less ∙ at-up_to (results * r) ((first + x) * r + z) (fitted k slots) ∙ at-up_to k ((first + x) * r + z) (take k slots)
-          ∙ ap (λ (j : ℕ). slice_index_or (take k slots) j None) (sym (index first x r z)) in
-          subst (λ (s : Option Row). Begins columns s (row_at (take r (drop (x * r) rows)) z)) (sym is)
-          (subst (Begins columns (slice_index_or (take k slots) (first * r + (x * r + z)) None)) (sym (block-element r x z rows [] less)) (keeps.each (x * r + z) (omega (arith, less, inside))));
+          let is : slice_index_or (block_at r all place) z None ≡ slice_index_or (take k slots) (place * r + z) None =
+          block-element r place z all None (omega (arith, below, long)) ∙ at-up_to (results * r) (place * r + z) (fitted k slots) ∙ at-up_to k (place * r + z) (take k slots) in
+          subst (λ (s : Option Row). Begins columns s (row_at rows z)) (sym is) (keeps.each z below);
     }
 
 -- and some slots where these aren't told

@@ -8,4 +8,6 @@ mod keeping;
 mod selecting;
 mod writing;
 
+pub use collecting::collect_block;
 pub use selecting::{select, select_padded};
+pub use writing::write_block;

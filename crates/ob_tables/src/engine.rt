@@ -193,6 +193,17 @@ impl<R: Revisions> Engine<R> {
         answer
     }
 
+    /// Ends a flight of SELECTs. The next region is public, and a stop ends the session.
+    pub fn end_flight(&mut self, stopped: bool)
+        ensures { self.new ≡ record self.old {
+          public = record self.old.public { next_region = self.old.vault.next };
+          ended = stopped;
+        } }
+    {
+        self.public.next_region = self.vault.next_region();
+        self.ended = stopped;
+    }
+
     // A statement whose access of an index gave up, of which this was seen until then.
     pub(crate) fn stop_access(&mut self, seen: Seen, error: OramErr) -> RunStop
         ensures answer { result ≡ stop_of error }

@@ -34,3 +34,4 @@ pub use laws::names_are_apart;
 pub use ob_reopen::{CloseErr, Closing, Listed, OpenErr};
 pub use ob_verdict::Outcome;
 pub use stop::{RunStop, error_of};
+pub use tables::table_in;

@@ -43,17 +43,24 @@ pub(crate) fn flat_at(tables: &[Table], i: usize) -> Flat
     }
 }
 
+/// The place of the table of this name among these, and the table as the passes take it.
+pub fn table_in(tables: &[Table], name: &Name) -> (usize, Flat)
+    requires { has_table name.now (headings_of tables.now) ≡ true }
+    ensures { IsFound name.now result.0 result.1 tables.now }
+{
+    let Some(i) = find_table(tables, name) else {
+        unreachable!()
+    };
+    (i, flat_at(tables, i))
+}
+
 impl<R: Revisions> Engine<R> {
     /// The place of the table of this name, which there is, and the table as the passes take it.
     pub fn table_at(&self, name: &Name) -> (usize, Flat)
         requires { has_table name.now (headings_of (public_of self.now).tables) ≡ true }
         ensures { IsFound name.now result.0 result.1 (public_of self.now).tables }
     {
-        let tables = self.public.tables.as_slice();
-        let Some(i) = find_table(tables, name) else {
-            unreachable!()
-        };
-        (i, flat_at(tables, i))
+        table_in(self.public.tables.as_slice(), name)
     }
 
     /// Has the store keep room for so many accesses of each block of a table, and two more.

@@ -90,6 +90,7 @@ impl<R: Revisions> Vault<R> {
         requires few { spent (at R.state self.old (S.state store.old)) < 2 ^ 63 + 2 ^ 60 }
         requires blocks { (1 ≤ blocks) × (blocks ≤ 134217728) }
         requires width { (1 ≤ width) × (width ≤ 16384) }
+        ensures spent { (S.state store.old).spare ≤ (S.state store.new).spare + 1 }
         ensures makes { MakesRegion blocks width order result
             (at R.state self.old (S.state store.old)) (at R.state self.new (S.state store.new)) }
     {
@@ -177,6 +178,7 @@ impl<R: Revisions> Vault<R> {
         requires spare { 1 ≤ (S.state store.old).spare }
         requires place { MayGet region place rows.old (at R.state self.old (S.state store.old)) }
         ensures rows { SameSizes rows.old rows.new }
+        ensures spent { (S.state store.old).spare ≤ (S.state store.new).spare + 1 }
         ensures gets { Gets region place rows.old rows.new result
             (at R.state self.old (S.state store.old)) (at R.state self.new (S.state store.new)) }
     {
@@ -212,6 +214,7 @@ impl<R: Revisions> Vault<R> {
         requires spare { 1 ≤ (S.state store.old).spare }
         requires few { spent (at R.state self.old (S.state store.old)) < 2 ^ 63 + 2 ^ 60 }
         requires place { MayPut region place rows.now (at R.state self.old (S.state store.old)) }
+        ensures spent { (S.state store.old).spare ≤ (S.state store.new).spare + 1 }
         ensures puts { Puts region place rows.now result
             (at R.state self.old (S.state store.old)) (at R.state self.new (S.state store.new)) }
     {

@@ -5,20 +5,17 @@ use Rattle.ob_flat.specs.declared.fault.OpErr.{OpErr}
 use Rattle.ob_names.specs.Names.{place_of}
 use Rattle.ob_mean.specs.Step.{item_of}
 use Rattle.ob_exec.specs.Totalling.{Totals}
-use Rattle.ob_exec.proofs.TotallingLemmas.{buffered_few, items_fit, totals_gave_up, totals_groups, totals_groups_cut, totals_many}
+use Rattle.ob_stages.proofs.TotalsLemmas.{items_fit}
+use Rattle.ob_exec.proofs.TotallingLemmas.{buffered_few, totals_gave_up, totals_groups, totals_groups_cut, totals_many}
 use Rattle.ob_exec.proofs.totalling.answer_groups.Goals as goal
 
 pub group-requires-clause-items : goal.group-requires-clause-items
 group-requires-clause-items g c =
-    let emit = g.E.Emit in
     let may = c.requires.may in
-    let room = c.args.room.now in
-    let was = at g.R.Revisions.state c.args.vault.now (g.S.BlockStore.state c.args.store.now) in
     let items = take (length c.as_slice-listed.result.now) c.items_at-items.result in
     let items_are = c.items_at-items.ensures.value ∙ (λ i. map (item_of (c.as_slice-columns.ensures.value i)) (c.as_slice-listed.ensures i)) in
     let place_is = c.place_of-place.ensures.value ∙ ap (place_of c.args.key.now) (append-nil c.as_slice-columns.result.now ∙ c.as_slice-columns.ensures.value) in
-    items_fit emit.grew emit.cut emit.faults (buffered room.pack room.rows) room.pack c.args.flat.now c.args.select.now c.args.pred.now was was may.items may.meant
-    c.args.key.now items c.place_of-place.result c.requires.grouped items_are place_is
+    items_fit c.args.flat.now.schema c.args.select.now c.args.key.now items c.place_of-place.result may.items c.requires.grouped items_are place_is
 
 pub returns-in-Ok-clause-totals : goal.returns-in-Ok-clause-totals
 returns-in-Ok-clause-totals g c =

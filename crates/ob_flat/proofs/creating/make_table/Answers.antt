@@ -10,6 +10,7 @@ returns-in_err-region g c =
     let p = err_from_is_err_and c.from_residual.result c.from_residual.ensures.1 in
     let made = rw c.region_of_table-shape.ensures at c.in_err-region.ensures.makes in
     rw (p.1, p.2) (record {
+      spent = c.make.ensures.spent;
       makes = record {
         ran = record { ok = tt; err = pass_of _ _ _ _ _ made.err };
         never = elim made.never [ inl failed ↦ inl (ap pass_error failed) | inr none ↦ inr (ap pass_error none) ];
@@ -27,6 +28,7 @@ pub returns : goal.returns
 returns g c =
     let made = rw c.region_of_table-shape.ensures at c.in_ok-region.ensures.makes in
     record {
+      spent = c.make.ensures.spent;
       makes = record {
         ran = record { ok = made.ok; err = tt };
         never = tt;

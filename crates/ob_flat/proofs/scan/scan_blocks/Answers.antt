@@ -1,20 +1,18 @@
-use Rattle.std.proofs.Common.{◌≡◌, ◌+◌, ◌*◌, ◌<◌, ◌≤◌, ℕ, inl, inr, length, sym, ◌∙◌, ap, subst, arith}
+use Rattle.std.proofs.Common.{◌≡◌, ◌*◌, ◌<◌, ℕ, inl, inr, length, sym, subst}
 use Rattle.std.proofs.lemmas.Result.{err_from_is_err_and}
 use Rattle.ob_base.specs.Accesses.{read_at}
 use Rattle.ob_base.specs.Schemas.{width}
 use Rattle.ob_vault.specs.Calls.{none}
-use Rattle.ob_vault.proofs.Runs.{went_each, lives_went, written_went, none_went, fit_same, fit_trans, may_get, seals_none, went_none}
-use Rattle.ob_blocks.specs.Blocks.{block_at, scanned}
-use Rattle.ob_blocks.proofs.Blocks.{scanned-block, scanned-all}
-use Rattle.ob_flat.specs.Flats.{table_region, whole_blocks}
-use Rattle.ob_flat.specs.Passes.{pass_error}
+use Rattle.ob_vault.specs.Places.{at, RowsFit}
+use Rattle.ob_vault.proofs.Runs.{went_each, fit_same, fit_trans, seals_none, went_none}
+use Rattle.ob_flat.specs.Scans.{MayScan}
 use Rattle.ob_flat.specs.Words.{blocks_of}
-use Rattle.ob_flat.proofs.Rows.{wide_fit, wide_same}
 use Rattle.ob_flat.proofs.Rooms.{same_rows}
-use Rattle.ob_flat.proofs.Loops.{below_all, at_end, nearer, pack_fits, index_w32, zero_times, spare_more, went_all, scan_start}
-use Rattle.ob_flat.proofs.Runs.{pass_of, pass_each, pass_malformed}
-use Rattle.ob_flat.proofs.Tables.{reads, index_in, represents_lasts, block_long, got, whole_size}
-use Rattle.ob_flat.proofs.WordLemmas.{sealed_after, tampered_in, get_refused, rows_malformed}
+use Rattle.ob_flat.proofs.Loops.{below_all, at_end, nearer, pack_fits, spare_more, went_all}
+use Rattle.ob_flat.proofs.Runs.{pass_each}
+use Rattle.ob_flat.proofs.Scanning.{scanned_none, scanned_next, scanned_whole}
+use Rattle.ob_flat.proofs.Tables.{reads, represents_lasts}
+use Rattle.ob_flat.proofs.WordLemmas.{sealed_after, tampered_in}
 use Rattle.ob_flat.proofs.scan.scan_blocks.Goals as goal
 
 pub overflow_cast-pack : goal.overflow_cast-pack
@@ -28,122 +26,60 @@ loop-u-init g c = record {
   went = went_none none _ c.requires.spare.ready;
   seals = record { seals = λ good. seals_none good _ };
   same = same_rows c.args.rows.now;
-  suits = subst (g.V.Visit.Suits c.args.flat.now c.args.visit.now) (zero_times (length c.args.rows.now)) c.requires.suits;
-  told = λ slots is nolie. scan_start (g.V.Visit.after c.args.flat.now) c.args.visit.now (whole_blocks (length c.args.rows.now) c.args.flat.now.capacity slots) (length c.args.rows.now);
+  scan = scanned_none (length c.args.rows.now) c.args.flat.now (g.V.Visit.after c.args.flat.now) (g.V.Visit.Suits c.args.flat.now) c.args.visit.now _ c.requires.table c.requires.suits;
 }
 
-pub get-requires-clause-ready : goal.get-requires-clause-ready
-get-requires-clause-ready g c = c.loop-u.invariant.went.lasts.ready
-
-pub get-requires-clause-spare : goal.get-requires-clause-spare
-get-requires-clause-spare g c = spare_more c.requires.spare.spare c.loop-u.invariant.went.spare (reads c.args.flat.now.region c.loop-u.u) (below_all c.loop-u-test.true c.div_ceil-blocks.ensures)
-
-pub get-requires-clause-place : goal.get-requires-clause-place
-get-requires-clause-place g c =
-    let is = c.requires.table.written in
+pub scan_block-requires : goal.scan_block-requires
+scan_block-requires g c =
+    let flat = c.args.flat.now in
+    let pack = length c.args.rows.now in
     let u = c.loop-u.u in
-    let below = below_all c.loop-u-test.true c.div_ceil-blocks.ensures in
-    let went = c.loop-u.invariant.went in
-    may_get _ u (table_region is.order (length c.args.rows.now) c.args.flat.now.schema c.args.flat.now.capacity) _ _ (lives_went _ _ _ _ _ _ went (λ s. s) is.lives) below
-    (fit_same _ _ _ c.loop-u.invariant.same c.requires.fit) (written_went _ _ _ _ _ u went (λ s. s) (is.written u below))
+    let before = c.loop-u.invariant in
+    let count = sym before.same.count in
+    let now = at g.R.Revisions.state c.loop-u.vault (g.S.BlockStore.state c.loop-u.store) in
+    let below : u < blocks_of pack flat = below_all c.loop-u-test.true c.div_ceil-blocks.ensures in
+    record {
+      spare = record { ready = before.went.lasts.ready; spare = spare_more c.requires.spare.spare before.went.spare (reads flat.region u) below };
+      table = subst (λ (n : ℕ). MayScan n flat now) count before.scan.table;
+      within = subst (λ (n : ℕ). u < blocks_of n flat) count below;
+      fit = subst (λ (n : ℕ). RowsFit c.loop-u.rows (n * width flat.schema)) count (fit_same _ _ _ before.same c.requires.fit);
+      suits = subst (λ (n : ℕ). g.V.Visit.Suits flat c.loop-u.visit (u * n)) count before.scan.suits;
+    }
 
-pub returns-in_err-get-clause-rows : goal.returns-in_err-get-clause-rows
-returns-in_err-get-clause-rows g c = fit_trans _ _ _ c.loop-u.invariant.same c.get.ensures.rows
+pub returns-in_err-scan_block-clause-rows : goal.returns-in_err-scan_block-clause-rows
+returns-in_err-scan_block-clause-rows g c = fit_trans _ _ _ c.loop-u.invariant.same c.scan_block.ensures.rows
 
-pub returns-in_err-get-clause-scans : goal.returns-in_err-get-clause-scans
-returns-in_err-get-clause-scans g c =
+pub returns-in_err-scan_block-clause-scans : goal.returns-in_err-scan_block-clause-scans
+returns-in_err-scan_block-clause-scans g c =
     let p = err_from_is_err_and c.from_residual.result c.from_residual.ensures.1 in
-    let table = c.requires.table in
     let pack = length c.args.rows.now in
     let flat = c.args.flat.now in
     let u = c.loop-u.u in
     let below : u < blocks_of pack flat = below_all c.loop-u-test.true c.div_ceil-blocks.ensures in
     let before = c.loop-u.invariant in
-    let read = c.in_err-get.ensures.gets in
+    let block = rw before.same.count at c.in_err-scan_block.ensures.scans in
     rw (p.1, p.2) (record {
-      ran = record { ok = tt; err = pass_each none (read_at flat.region) _ _ _ _ (blocks_of pack flat) u below before.went (pass_of _ _ _ _ _ read.err) };
-      never = elim (get_refused pack flat u _ read.err read.never) [ inl failed ↦ inl failed | inr there ↦ inr (tampered_in below there) ];
-      seals = sealed_after before.went.lasts before.seals c.get.ensures.gets.seals;
+      ran = record { ok = tt; err = pass_each none (read_at flat.region) _ _ _ _ (blocks_of pack flat) u below before.went block.ran.err };
+      never = elim block.never [ inl failed ↦ inl failed | inr there ↦ inr (tampered_in below there) ];
+      seals = sealed_after before.went.lasts before.seals block.seals.seals;
       suits = tt;
-      told = λ slots is nolie.
-          let now = represents_lasts pack flat none _ _ before.went.lasts (λ s. s) slots is in
-          ap pass_error (read.told _ (table_region table.written.order pack flat.schema flat.capacity) (lives_went _ _ _ _ _ _ before.went (λ s. s) table.written.lives) (block_long pack flat slots _ is table.some u below) (now.holds u below) nolie);
+      told = λ slots is nolie. block.told slots (represents_lasts pack flat none _ _ before.went.lasts (λ s. s) slots is) nolie;
     })
-
-pub overflow_mul-u : goal.overflow_mul-u
-overflow_mul-u g c =
-    let table = c.requires.table in
-    let pack = length c.args.rows.now in
-    index_w32 c.loop-u.u pack (index_in pack (blocks_of pack c.args.flat.now) c.loop-u.u table.most table.size.blocks (below_all c.loop-u-test.true c.div_ceil-blocks.ensures))
-
-pub visit_rows-requires : goal.visit_rows-requires
-visit_rows-requires g c =
-    let table = c.requires.table in
-    let pack = length c.args.rows.now in
-    let same = fit_trans _ _ _ c.loop-u.invariant.same c.get.ensures.rows in
-    record {
-      wide = wide_same _ _ _ same (wide_fit (width c.args.flat.now.schema) c.args.rows.now c.requires.fit);
-      index = subst (λ (n : ℕ). c.loop-u.u * pack + n ≤ 2147483648) (sym same.count)
-          (index_in pack (blocks_of pack c.args.flat.now) c.loop-u.u table.most table.size.blocks (below_all c.loop-u-test.true c.div_ceil-blocks.ensures));
-      suits = c.loop-u.invariant.suits;
-    }
-
-pub returns-in-Err-clause-rows : goal.returns-in-Err-clause-rows
-returns-in-Err-clause-rows g c = fit_trans _ _ _ c.loop-u.invariant.same c.get.ensures.rows
-
-pub returns-in-Err-clause-scans : goal.returns-in-Err-clause-scans
-returns-in-Err-clause-scans g c =
-    let table = c.requires.table in
-    let pack = length c.args.rows.now in
-    let flat = c.args.flat.now in
-    let u = c.loop-u.u in
-    let below : u < blocks_of pack flat = below_all c.loop-u-test.true c.div_ceil-blocks.ensures in
-    let before = c.loop-u.invariant in
-    let read = c.in_ok-get.ensures.gets in
-    let same = fit_trans _ _ _ before.same c.get.ensures.rows in
-    let wide = wide_same (width flat.schema) _ _ same (wide_fit (width flat.schema) c.args.rows.now c.requires.fit) in
-    let shape = table_region table.written.order pack flat.schema flat.capacity in
-    let lives = lives_went _ _ _ _ flat.region shape before.went (λ s. s) table.written.lives in
-    record {
-      ran = record { ok = tt; err = pass_each none (read_at flat.region) _ _ _ _ (blocks_of pack flat) u below before.went (pass_malformed _ _ _ flat.region u read.ok) };
-      never = inr (tampered_in below (rows_malformed (length c.loop-u.rows) c.get.new.rows table.some before.same.count same.count wide (read.opened shape lives) c.in-Err.ensures.told));
-      seals = sealed_after before.went.lasts before.seals c.get.ensures.gets.seals;
-      suits = tt;
-      told = λ slots is nolie.
-          let now = represents_lasts pack flat none _ _ before.went.lasts (λ s. s) slots is in
-          let bytes = read.told _ shape lives (block_long pack flat slots _ is table.some u below) (now.holds u below) nolie in
-          absurd (c.in-Err.ensures.told _ (got pack flat slots _ is table.some u (length c.loop-u.rows) c.get.new.rows below before.same.count same.count wide bytes));
-    }
 
 pub loop-u-preserved : goal.loop-u-preserved
 loop-u-preserved g c =
-    let table = c.requires.table in
     let pack = length c.args.rows.now in
     let flat = c.args.flat.now in
     let u = c.loop-u.u in
     let below : u < blocks_of pack flat = below_all c.loop-u-test.true c.div_ceil-blocks.ensures in
     let before = c.loop-u.invariant in
-    let read = c.in_ok-get.ensures.gets in
-    let same = fit_trans _ _ _ before.same c.get.ensures.rows in
+    let block = rw before.same.count at c.in_ok-scan_block.ensures.scans in
     record {
-      went = went_each none (read_at flat.region) _ _ _ u before.went read.ok;
-      seals = sealed_after before.went.lasts before.seals c.get.ensures.gets.seals;
-      same = same;
-      suits = subst (g.V.Visit.Suits flat c.visit_rows.new.visit) (more u pack (length c.get.new.rows) same.count) c.in-Ok.ensures.suits;
-      told = λ slots is nolie.
-          let now = represents_lasts pack flat none _ _ before.went.lasts (λ s. s) slots is in
-          let bytes = read.told _ (table_region table.written.order pack flat.schema flat.capacity) (lives_went _ _ _ _ _ _ before.went (λ s. s) table.written.lives) (block_long pack flat slots _ is table.some u below) (now.holds u below) nolie in
-          let wide = wide_same (width flat.schema) _ _ same (wide_fit (width flat.schema) c.args.rows.now c.requires.fit) in
-          let spelt = got pack flat slots _ is table.some u (length c.loop-u.rows) c.get.new.rows below before.same.count same.count wide bytes in
-          let was = before.told slots is (none_went _ _ _ _ read.ok nolie) in
-          let block = block_at pack (whole_blocks pack flat.capacity slots) u in
-          c.in-Ok.ensures.told block spelt
-          ∙ ap (λ s. scanned (g.V.Visit.after flat) (u * pack) s block) was
-          ∙ sym (scanned-block (g.V.Visit.after flat) pack (blocks_of pack flat) u c.args.visit.now (whole_blocks pack flat.capacity slots) below (whole_size pack flat slots _ is table.some));
+      went = went_each none (read_at flat.region) _ _ _ u before.went block.ran.ok;
+      seals = sealed_after before.went.lasts before.seals block.seals.seals;
+      same = fit_trans _ _ _ before.same c.scan_block.ensures.rows;
+      scan = scanned_next pack flat (g.V.Visit.after flat) (g.V.Visit.Suits flat) c.args.visit.now u c.loop-u.visit _ _ c.scan_block.new.visit below block before.scan;
     }
-  where
-    more : (u pack n : ℕ) → n ≡ pack → u * pack + n ≡ (u + 1) * pack
-    more u pack n same = ap (λ (k : ℕ). u * pack + k) same ∙ grind arith
 
 pub loop-u-smaller : goal.loop-u-smaller
 loop-u-smaller g c = nearer c.loop-u.u c.div_ceil-blocks.result c.loop-u-test.true
@@ -161,8 +97,8 @@ returns-clause-scans g c =
       ran = record { ok = went_all (read_at flat.region) last all.went; err = tt };
       never = tt;
       seals = all.seals;
-      suits = subst (λ (n : ℕ). g.V.Visit.Suits flat c.loop-u.visit (n * pack)) last all.suits;
+      suits = subst (λ (n : ℕ). g.V.Visit.Suits flat c.loop-u.visit (n * pack)) last all.scan.suits;
       told = λ slots is nolie.
-          all.told slots is nolie
-          ∙ scanned-all (g.V.Visit.after flat) pack (blocks_of pack flat) c.loop-u.u c.args.visit.now (whole_blocks pack flat.capacity slots) last (whole_size pack flat slots _ is c.requires.table.some);
+          scanned_whole pack flat (g.V.Visit.after flat) (g.V.Visit.Suits flat) c.args.visit.now c.loop-u.u c.loop-u.visit _ last all.scan slots
+          (represents_lasts pack flat none _ _ all.went.lasts (λ s. s) slots is) nolie;
     }

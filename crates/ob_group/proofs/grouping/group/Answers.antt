@@ -1,5 +1,4 @@
-use Rattle.std.proofs.Common.{◌≡◌, ◌≤◌, ◌<◌, ◌*◌, ℕ, ◌+◌, max, min, sym, ◌∙◌, ap, arith}
-use Rattle.ob_base.specs.Limits.{buffered_blocks}
+use Rattle.std.proofs.Common.{◌*◌, ◌+◌, max, sym, ◌∙◌, arith}
 use Rattle.ob_base.specs.Schemas.{width}
 use Rattle.ob_row.specs.Truth.{is_true}
 use Rattle.ob_vault.specs.Places.{at}

@@ -5,8 +5,8 @@ use Rattle.ob_group.specs.Grouping.{groups_of}
 use Rattle.ob_group.proofs.Answering.{seen_shown, seen_number, too_many, so_many, gave_up, unasked, not_sink}
 use Rattle.ob_group.proofs.grouping.group_table.Goals as goal
 
-pub emit_answer-requires-clause-held : goal.emit_answer-requires-clause-held
-emit_answer-requires-clause-held g c = record { groups = groups_of (is_true c.args.pred.now) c.args.key c.args.items.now c.in-Ok.ensures.gathers.held.seen; are = c.in-Ok.ensures.gathers.held.are }
+pub emit_groups-requires-clause-held : goal.emit_groups-requires-clause-held
+emit_groups-requires-clause-held g c = record { groups = groups_of (is_true c.args.pred.now) c.args.key c.args.items.now c.in-Ok.ensures.gathers.held.seen; are = c.in-Ok.ensures.gathers.held.are }
 
 pub returns-then-n-groups-clause-rows : goal.returns-then-n-groups-clause-rows
 returns-then-n-groups-clause-rows g c = c.group_blocks.ensures.rows
@@ -37,14 +37,14 @@ returns-then-n-groups-clause-answers g c =
           too_many (length c.args.groups.now) _ (omega (arith, many, number, c.group_blocks.ensures.groups.count));
     }
 
-pub returns-in-Ok-emit_answer-clause-rows : goal.returns-in-Ok-emit_answer-clause-rows
-returns-in-Ok-emit_answer-clause-rows g c = c.group_blocks.ensures.rows
+pub returns-in-Ok-emit_groups-clause-rows : goal.returns-in-Ok-emit_groups-clause-rows
+returns-in-Ok-emit_groups-clause-rows g c = c.group_blocks.ensures.rows
 
-pub returns-in-Ok-emit_answer-clause-groups : goal.returns-in-Ok-emit_answer-clause-groups
-returns-in-Ok-emit_answer-clause-groups g c = c.group_blocks.ensures.groups
+pub returns-in-Ok-emit_groups-clause-groups : goal.returns-in-Ok-emit_groups-clause-groups
+returns-in-Ok-emit_groups-clause-groups g c = c.group_blocks.ensures.groups
 
-pub returns-in-Ok-emit_answer-clause-answers : goal.returns-in-Ok-emit_answer-clause-answers
-returns-in-Ok-emit_answer-clause-answers g c =
+pub returns-in-Ok-emit_groups-clause-answers : goal.returns-in-Ok-emit_groups-clause-answers
+returns-in-Ok-emit_groups-clause-answers g c =
     let flat = c.args.flat.now in
     let p = is_true c.args.pred.now in
     let key = c.args.key in
@@ -52,7 +52,7 @@ returns-in-Ok-emit_answer-clause-answers g c =
     let all = c.in-Ok.ensures.gathers in
     let held = all.held in
     let size = held.are.all (omega arith) in
-    let answer = c.in-Ok-emit_answer.ensures in
+    let answer = c.in-Ok-emit_groups.ensures in
     let e = answer.emitted in
     record {
       ran = record { ok = all.ran.ok; err = tt };

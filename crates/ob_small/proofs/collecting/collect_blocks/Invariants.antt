@@ -1,4 +1,4 @@
-use Rattle.std.proofs.Common.{◌≡◌, ◌≤◌, ◌*◌, ℕ, None, take, length}
+use Rattle.std.proofs.Common.{ℕ, length}
 use Rattle.ob_base.specs.Lists.{each}
 use Rattle.ob_base.specs.Accesses.{read_at}
 use Rattle.ob_vault.specs.declared.region.Region.{Region}
@@ -7,28 +7,19 @@ use Rattle.ob_vault.specs.Calls.{Went, none}
 use Rattle.ob_vault.specs.Rows.{SameSizes}
 use Rattle.ob_vault.specs.Places.{at}
 use Rattle.ob_vault.specs.Words.{SealsAll}
-use Rattle.ob_row.specs.Slots.{Slots}
 use Rattle.ob_row.specs.Truth.{is_true}
-use Rattle.ob_flat.specs.Slots.{AreSlots}
-use Rattle.ob_flat.specs.Flats.{Represents, whole_blocks}
-use Rattle.ob_small.specs.Keeping.{chosen, AreKept}
+use Rattle.ob_small.specs.Steps.{HasCollected}
 use Rattle.ob_small.proofs.collecting.collect_blocks.Given as goal
 
 abbrev pub invariant-loop-u : goal.invariant-loop-u
 invariant-loop-u g l =
     let old = at g.R.Revisions.state l.initial.vault (g.S.BlockStore.state l.initial.store) in
     let now = at g.R.Revisions.state l.vault (g.S.BlockStore.state l.store) in
-    let pack = length l.initial.rows in
-    let p = is_true l.pred in
     record {
       went : Went (each l.u (read_at l.flat.region)) none old now;
       seals : SealsAll old now;
       same : SameSizes l.initial.rows l.rows;
       kept : SameSizes l.initial.kept l.kept;
       turns : (q x : ℕ) (shape : Region) → OnTurn q shape x old → OnTurn q shape x now;
-      few : l.seen ≤ l.u * pack;
-      spells : AreSlots l.flat.schema l.kept;
-      told : (slots : Slots) → Represents pack l.flat slots old → now.store.lie ≡ None
-          → (l.seen ≡ length (chosen p (take (l.u * pack) (whole_blocks pack l.flat.capacity slots))))
-          × AreKept l.flat.schema (chosen p (take (l.u * pack) (whole_blocks pack l.flat.capacity slots))) l.from l.k l.kept;
+      collected : HasCollected (length l.initial.rows) l.flat (is_true l.pred) l.u l.seen l.from l.k l.kept now;
     }

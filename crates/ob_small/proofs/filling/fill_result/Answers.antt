@@ -1,7 +1,6 @@
 use Rattle.std.proofs.Common.{◌≡◌, ◌≤◌, ◌+◌, ◌-◌, ◌*◌, ◌<◌, min, ℕ, inl, Fits, w32, length, sym, ◌∙◌, ap, subst, arith}
 use Rattle.std.proofs.lemmas.Result.{err_from_is_err_and}
 use Rattle.std.specs.Int.{div_ceil}
-use Rattle.std.specs.List.{All}
 use Rattle.ob_base.specs.Lists.{each}
 use Rattle.ob_base.specs.Numbers.{blocks_for}
 use Rattle.ob_base.specs.Schemas.{Columns, width}
@@ -10,25 +9,23 @@ use Rattle.ob_vault.specs.Calls.{none, one}
 use Rattle.ob_vault.specs.Places.{at}
 use Rattle.ob_vault.specs.Rows.{Wide}
 use Rattle.ob_vault.proofs.RowsLemmas.{rows_room}
-use Rattle.ob_vault.proofs.Runs.{went_none, seals_none, went_wider, went_each, went_join, written_went, holds_went, tells_went, fit_same, fit_trans}
-use Rattle.ob_vault.proofs.WordLemmas.{asks_after, honest_before, honest_after}
-use Rattle.ob_row.specs.Slots.{Slots, small_slots}
+use Rattle.ob_vault.proofs.Runs.{went_none, seals_none, went_wider, went_each, went_join, tells_went, fit_same, fit_trans}
+use Rattle.ob_vault.proofs.WordLemmas.{asks_after}
 use Rattle.ob_flat.specs.declared.flat.Flat.{Flat}
-use Rattle.ob_flat.specs.Slots.{FitsSlot, AreSlots}
-use Rattle.ob_flat.specs.Flats.{IsSized, IsFlat, HoldsRows, Represents}
+use Rattle.ob_flat.specs.Slots.{AreSlots}
+use Rattle.ob_flat.specs.Flats.{IsSized, IsFlat}
 use Rattle.ob_flat.specs.Words.{IsTable}
 use Rattle.ob_flat.proofs.Loops.{nearer, pack_fits, went_all}
 use Rattle.ob_flat.proofs.Rooms.{same_rows}
 use Rattle.ob_flat.proofs.Rows.{wide_same}
 use Rattle.ob_flat.proofs.Runs.{pass_each, pass_more, pass_after, pass_wider}
-use Rattle.ob_flat.proofs.Tables.{reads, blocks_few, blocks_end, flat_lasts, represents_lasts, block_lasts}
+use Rattle.ob_flat.proofs.Tables.{reads, blocks_few, blocks_end, flat_lasts, represents_lasts, represents_before}
 use Rattle.ob_flat.proofs.WordLemmas.{seals_any, seals_after}
-use Rattle.ob_small.specs.Keeping.{chosen, fitted, AreKept}
-use Rattle.ob_small.specs.Selection.{select_of, blocks, results, passes, table, pass_script}
-use Rattle.ob_small.proofs.Choosing.{filter-small}
+use Rattle.ob_small.specs.Keeping.{chosen, AreKept}
+use Rattle.ob_small.specs.Selection.{select_of, blocks, results, passes, pass_script}
 use Rattle.ob_small.proofs.Lengths.{spent, passes_reach, pass_inside, product_within, pass_next}
 use Rattle.ob_small.proofs.Places.{next_at, next_first, next_read, next_last}
-use Rattle.ob_small.proofs.Windows.{represents_fitted}
+use Rattle.ob_small.proofs.Steps.{filled_at, filled_none, filled_lasts, filled_more, filled_rows, filled_whole}
 use Rattle.ob_small.proofs.filling.fill_result.Goals as goal
 
 -- a pass that there is
@@ -42,9 +39,6 @@ taken results q j n k same is = is ∙ ap (λ (m : ℕ). min q (m - j * q)) same
 -- before the first pass
 at_first : (q results : ℕ) → min (0 * q) results ≡ 0
 at_first q results = omega arith
-
-no_place : (P : Type 0) (p q results : ℕ) → p < min (0 * q) results → P
-no_place P p q results less = absurd (omega (arith, less, at_first q results))
 
 -- all passes
 whole : (results q j n end : ℕ) → n ≡ results → end ≡ div_ceil n q → end ≤ j → j ≤ end → j ≡ div_ceil results q
@@ -92,18 +86,17 @@ overflow_mul-first-in-loop-j g c =
 
 pub loop-j-init : goal.loop-j-init
 loop-j-init g c =
+    let pack = length c.args.rows.now in
     let to = c.args.to.now in
-    let q = c.args.buffered in
-    let r = blocks_for (length c.args.rows.now) to.capacity in
+    let s = select_of pack c.args.buffered c.args.flat.now c.args.pred.now to.capacity in
+    let none = at_first c.args.buffered (results s) in
     record {
       went = went_none (one to.region) _ c.requires.asks.ready;
       seals = seals_any (λ good. seals_none good _);
       rows = same_rows c.args.rows.now;
       kept = same_rows c.args.kept.now;
-      next = next_first (length c.args.rows.now) to (min (0 * q) r) _ (at_first q r) c.requires.new.made;
-      written = λ p less. no_place _ p q r less;
-      blocks = λ tells p less. no_place _ p q r less;
-      told = λ honest slots is p less. no_place _ p q r less;
+      next = next_first pack to (min (0 * c.args.buffered) (results s)) _ none c.requires.new.made;
+      filled = filled_at s to (sym none) (filled_none s to _);
     }
 
 pub collect_blocks-requires : goal.collect_blocks-requires
@@ -246,7 +239,9 @@ loop-j-preserved g c =
     let writes = rw n_is at c.in_ok-write_blocks.ensures.writes in
     let sealed = rw schema at writes.seals in
     let went = read.ran.ok in
+    let first : min (j * q) (results s) ≡ j * q = omega (arith, inside) in
     let next : j * q + min q (results s - j * q) ≡ min ((j + 1) * q) (results s) = omega (arith, inside, pass_next j q) in
+    let filled = filled_at s to first (filled_lasts s to _ none _ _ went.lasts (λ r. r) (λ r. r) before.filled) in
     record {
       went = went_each (one to.region) (pass_script s to.region) _ _ _ j before.went
           (went_join (one to.region) _ _ _ (count_part flat.region (blocks s)) (each (min q (results s - j * q)) (write_from to.region (j * q))) (went_wider none _ _ (one to.region) (λ r x. absurd x) _ went) writes.ran.ok);
@@ -254,17 +249,10 @@ loop-j-preserved g c =
       rows = fit_trans _ _ _ before.rows c.collect_blocks.ensures.rows;
       kept = fit_trans _ _ _ before.kept c.collect_blocks.ensures.kept;
       next = next_at pack to next writes.next;
-      written = λ x less. writes.written.each x (omega (arith, next, less)) (λ old. written_went none _ _ _ to.region x went (λ r. r) (before.written x (omega (arith, old, inside))));
-      blocks = λ tells x less.
-          (writes.rows (tells_went _ _ _ _ went (tells_went _ _ _ _ before.went tells))).each x (omega (arith, next, less))
-          (λ old. block_lasts pack to.schema none _ _ to.region x went.lasts (λ r. r) (before.blocks tells x (omega (arith, old, inside))));
-      told = λ honest slots is x less.
-          let there = honest_before writes.ran.ok.lasts honest in
-          let began = honest_before went.lasts there in
-          let now = represents_lasts pack flat (one to.region) _ _ before.went.lasts c.requires.new.apart slots is in
-          let keeps = subst (λ (z : Columns). AreKept z (chosen s.p slots) (j * q * pack) to.capacity c.collect_blocks.new.kept) (sym schema) (read.told slots now there.nolie) in
-          let tells = (honest_after went (honest_after before.went honest)).tells in
-          (writes.told tells (chosen s.p slots) keeps).each x (omega (arith, next, less)) (λ old. holds_went none _ _ _ to.region x _ went (λ r. r) (before.told began slots is x (omega (arith, old, inside))));
+      filled = filled_at s to next (filled_more s to (j * q) (min q (results s - j * q)) _ _ writes.ran.ok.lasts c.requires.new.apart writes.written writes.rows (λ honest slots held.
+          let was = represents_before pack flat none _ _ went.lasts (λ r. r) slots held in
+          let keeps = subst (λ (z : Columns). AreKept z (chosen s.p slots) (j * q * pack) to.capacity c.collect_blocks.new.kept) (sym schema) (read.told slots was honest.nolie) in
+          writes.told honest.tells (chosen s.p slots) keeps) filled);
     }
 
 pub loop-j-smaller : goal.loop-j-smaller
@@ -279,26 +267,23 @@ returns-clause-kept g c = c.loop-j.invariant.kept
 pub returns-clause-fills : goal.returns-clause-fills
 returns-clause-fills g c =
     let pack = length c.args.rows.now in
+    let flat = c.args.flat.now in
     let to = c.args.to.now in
-    let s = select_of pack c.args.buffered c.args.flat.now c.args.pred.now to.capacity in
+    let s = select_of pack c.args.buffered flat c.args.pred.now to.capacity in
     let q = s.buffered in
     let j = c.loop-j.j in
     let done = c.loop-j.invariant in
     let new = at g.R.Revisions.state c.loop-j.vault (g.S.BlockStore.state c.loop-j.store) in
     let same = c.requires.new.same in
-    let schema = ap (λ (f : Flat). f.schema) same in
     let last = whole (results s) q j _ _ c.div_ceil-results.ensures c.div_ceil-j-end.ensures c.loop-j-test.false c.loop-j.auto.j-end in
     let all = all_done (results s) q j c.requires.buffers.some last in
-    let rows : HoldsRows pack to new → HoldsRows pack (table s to.region) new = λ is. subst (λ (f : Flat). HoldsRows pack f new) same is in
     record {
       ran = record { ok = went_all (pass_script s to.region) last done.went; err = tt };
       never = tt;
       seals = done.seals;
-      filled = subst (λ (f : Flat). IsFlat pack f new) same (next_last pack to (min (j * q) (results s)) _ all done.next done.written);
-      rows = λ tells. rows (record { each = λ x below. done.blocks tells x (omega (arith, below, all)) });
+      filled = subst (λ (f : Flat). IsFlat pack f new) same (next_last pack to (min (j * q) (results s)) _ all done.next done.filled.written);
+      rows = λ tells. filled_rows s to _ _ all same done.filled (tells_went _ _ _ _ done.went tells);
       told = λ honest slots is.
-          let fits = subst (λ (z : Columns). All (FitsSlot z) slots) (sym schema) is.fits in
-          let here : Represents pack to (fitted to.capacity (chosen s.p slots)) new = represents_fitted pack to s.p slots _ fits (λ x below. done.told honest slots is x (omega (arith, below, all))) in
-          subst (λ (f : Flat). Represents pack f (fitted s.k (small_slots s.p slots)) new) same
-          (subst (λ (l : Slots). Represents pack to (fitted to.capacity l) new) (filter-small s.p slots) here);
+          filled_whole s to _ _ all same done.filled (record { tells = tells_went _ _ _ _ done.went honest.tells; nolie = honest.nolie }) slots
+          (represents_lasts pack flat (one to.region) _ _ done.went.lasts c.requires.new.apart slots is);
     }

@@ -1,15 +1,11 @@
-use Rattle.std.proofs.Common.{◌<◌, ◌*◌, min, ℕ, IsTrue, length}
+use Rattle.std.proofs.Common.{◌*◌, min, length}
 use Rattle.ob_base.specs.Lists.{each}
-use Rattle.ob_vault.specs.Tied.{Written}
 use Rattle.ob_vault.specs.Calls.{Went, one}
 use Rattle.ob_vault.specs.Rows.{SameSizes}
 use Rattle.ob_vault.specs.Places.{at}
-use Rattle.ob_vault.specs.Words.{IsHonest}
-use Rattle.ob_row.specs.Slots.{Slots}
-use Rattle.ob_flat.specs.Flats.{HoldsBlock, Represents}
 use Rattle.ob_flat.specs.Words.{SealsTable}
-use Rattle.ob_small.specs.Keeping.{chosen}
-use Rattle.ob_small.specs.Selection.{IsNext, HoldsChosen, select_of, results, pass_script}
+use Rattle.ob_small.specs.Selection.{IsNext, select_of, results, pass_script}
+use Rattle.ob_small.specs.Steps.{IsFilledTo}
 use Rattle.ob_small.proofs.filling.fill_result.Given as goal
 
 abbrev pub invariant-loop-j : goal.invariant-loop-j
@@ -26,7 +22,5 @@ invariant-loop-j g l =
       rows : SameSizes l.initial.rows l.rows;
       kept : SameSizes l.initial.kept l.kept;
       next : IsNext pack to done now;
-      written : (p : ℕ) → p < done → Written to.region p now;
-      blocks : IsTrue old.store.tells → (p : ℕ) → p < done → HoldsBlock pack to.schema to.region p now;
-      told : IsHonest old now → (slots : Slots) → Represents pack l.flat slots old → (p : ℕ) → p < done → HoldsChosen pack to (chosen s.p slots) p now;
+      filled : IsFilledTo s to done now;
     }

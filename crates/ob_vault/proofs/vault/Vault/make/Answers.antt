@@ -18,6 +18,7 @@ returns-else-is_err g c =
     let shape : Region = record { blocks = c.args.blocks; width = c.args.width; order = c.args.order } in
     let lasts = lasts_make _ _ _ _ shape c.requires.ready c.requires.width begins c.make.ensures.asks c.in-Ok.ensures.ok in
     record {
+      spent = c.make.ensures.asks.spare;
       makes = record {
         ok = went_call _ _ _ _ lasts c.make.ensures.asks c.in-Ok.ensures.cause c.make.ensures.lie;
         err = tt;
@@ -36,6 +37,7 @@ returns-then-is_err g c =
     let same = at_err c.begin.result _ (sym c.if-is_err.true ∙ c.is_err.ensures.value) c.begin.ensures.err in
     let lasts = lasts_unmade _ _ _ _ _ _ c.requires.ready same c.make.ensures.asks c.in-Ok.ensures.ok.others in
     record {
+      spent = c.make.ensures.asks.spare;
       makes = record {
         ok = tt;
         err = cut_call_none _ _ _ _ lasts c.make.ensures.asks c.in-Ok.ensures.cause c.make.ensures.lie;
@@ -53,6 +55,7 @@ pub returns-in-Err-Failed : goal.returns-in-Err-Failed
 returns-in-Err-Failed g c =
     let lasts = lasts_unmade _ _ _ _ _ _ c.requires.ready refl c.make.ensures.asks (only_keeps _ _ _ c.in-Err-Failed.ensures.err) in
     record {
+      spent = c.make.ensures.asks.spare;
       makes = record {
         ok = tt;
         err = cut_call _ _ _ _ lasts c.make.ensures.asks (rw c.in-Err-Failed.field-0-is at c.in-Err-Failed.ensures.cause) c.make.ensures.lie;
@@ -71,6 +74,7 @@ returns-in-Err-NoMemory g c =
     let lasts = lasts_unmade _ _ _ _ _ _ c.requires.ready refl c.make.ensures.asks (only_keeps _ _ _ c.in-Err-NoMemory.ensures.err) in
     let faults = rw c.in-Err-NoMemory.field-0-is at c.in-Err-NoMemory.ensures.cause in
     record {
+      spent = c.make.ensures.asks.spare;
       makes = record {
         ok = tt;
         err = cut_call_none _ _ _ _ lasts c.make.ensures.asks faults c.make.ensures.lie;

@@ -42,6 +42,7 @@ returns-in-Ok g c =
     let lasts = lasts_write _ _ _ _ _ _ _ c.requires.ready lives c.requires.place.own in_turn wrote write.asks write.only in
     let shut = block_of c.args.self.now.keys (at_of c.args.region c.args.place (c.args.self.now.count + 1)) (length c.args.rows.now) c.args.rows.now _ c.shape-shape.result c.shut.ensures in
     record {
+      spent = c.write.ensures.asks.spare;
       puts = record {
         ok = went_call _ _ _ _ lasts write.asks c.in-Ok.ensures.cause write.lie;
         err = tt;
@@ -67,6 +68,7 @@ returns-in-Err g c =
     let lasts = lasts_write _ _ _ _ _ _ _ c.requires.ready lives c.requires.place.own in_turn wrote write.asks write.only in
     let shut = block_of c.args.self.now.keys (at_of c.args.region c.args.place (c.args.self.now.count + 1)) (length c.args.rows.now) c.args.rows.now _ c.shape-shape.result c.shut.ensures in
     record {
+      spent = c.write.ensures.asks.spare;
       puts = record {
         ok = tt;
         err = cut_call _ _ _ _ lasts write.asks c.in-Err.ensures.cause write.lie;

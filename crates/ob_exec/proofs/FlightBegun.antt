@@ -1,0 +1,123 @@
+-- The first changed block that a flight reads is one that its statements read by their meaning.
+use Rattle.std.proofs.Common.{◌≡◌, ◌+◌, ◌++◌, ℕ, Bool, true, false, List, ◌∷◌, map, length, Some, refl, sym, ◌∙◌, ap, subst, inl, inr, append_assoc}
+use Rattle.std.specs.Prelude.{drop, slice_get, take}
+use Rattle.std.proofs.lemmas.List.{length-map, take-append-drop}
+use Rattle.ob_base.specs.declared.access.Access.{Access}
+use Rattle.ob_base.specs.declared.access.Access.TheVariants.{Read}
+use Rattle.ob_base.specs.declared.config.Public.{Public}
+use Rattle.ob_base.specs.declared.seen.End.{End}
+use Rattle.ob_base.specs.declared.seen.End.TheVariants.{Static, Whole, AfterCount, Joined, Cut}
+use Rattle.ob_base.specs.declared.seen.Seen.{Seen}
+use Rattle.ob_inflight.specs.Aloft.{AllMay, BeginsIn}
+use Rattle.ob_inflight.specs.Kinds.{Kind, Moment}
+use Rattle.ob_mean.specs.Replay.{cut_at}
+use Rattle.ob_mean.specs.Verdict.{Draws, Tables, seen as seen_by}
+use Rattle.ob_oram.specs.declared.index.Index.{Index}
+use Rattle.ob_script.specs.FlightLaws.{AllMayFly, MayFly}
+use Rattle.ob_script.specs.Flights.{AreSteady, Flight, accesses_in, merge, turns}
+use Rattle.ob_script.specs.Trace.{Served}
+use Rattle.ob_script.proofs.FlightEnds.{first_of_merge}
+use Rattle.ob_sql.specs.Skeleton.{skeleton}
+use Rattle.ob_sql.specs.declared.stmt.Stmt.{Stmt}
+use Rattle.ob_store.specs.State.{Lie}
+use Rattle.ob_vault.specs.Tied.{ReadsIn}
+use Rattle.ob_exec.specs.InFlight.{MeantUntil, served_as}
+use Rattle.ob_exec.specs.RanFlight.{BeginsMeant, in_flight}
+use Rattle.ob_exec.proofs.FlightLists.{all_may, get_mapped, get_other, seen_same}
+use Rattle.ob_exec.proofs.FlightStage.{HoldNow, IsStage, shown_of}
+use Rattle.ob_exec.proofs.FlightRuns.{Boards, as_many, may_fly, sets_now, they_hold, they_serve}
+
+-- what is read within the first of some accesses is read within all
+reads_first : (lie : Lie) (asked all : List Access) (n : ℕ) → ReadsIn lie (asked ++ take n all) → ReadsIn lie (asked ++ all)
+reads_first lie asked all n reads = record {
+  rest = reads.rest ++ drop n all;
+  is = sym (append_assoc lie.before (Read lie.region lie.place ∷ reads.rest) (drop n all))
+      ∙ ap (λ (l : List Access). l ++ drop n all) reads.is ∙ append_assoc asked (take n all) (drop n all)
+      ∙ ap (λ (l : List Access). asked ++ l) (take-append-drop n all);
+}
+
+-- what its meaning shows may be meant, however it ended
+meant_whole : (d : Draws) (p : Public) (m : ℕ) (tables : Tables) (stmt : Stmt) (end : End) (shown : Seen) → shown ≡ seen_by d p m tables stmt → MeantUntil d p m tables stmt end shown
+meant_whole d p m tables stmt Static shown is = is
+meant_whole d p m tables stmt Whole shown is = is
+meant_whole d p m tables stmt AfterCount shown is = is
+meant_whole d p m tables stmt Joined shown is = is
+meant_whole d p m tables stmt (Cut n) shown is = inl is
+
+module _ {F : Type 0} (k : Kind F) (m : ℕ) (stage : IsStage k m) (steady_of : (p : Public) (flown : List Served) → AllMayFly flown → AreSteady p flown)
+    (p : Public) (stmts : List Stmt) (words : ℕ → ℕ) (share : ℕ) (start now : Moment F) (boards : Boards k m p stmts start)
+    (q : Public) (lie : Lie) (b : BeginsIn k words q share lie start now)
+    (indexes : List Index) (tables : Tables) (d : Draws) (held : HoldNow p indexes tables b.last.world) where
+  -- what each shows by its meaning, or did until the store failed it
+  abbrev shows : F → Seen
+  shows f = shown_of (k.progress f).failed d m tables (k.progress f)
+
+  abbrev meant_served : F → Served
+  meant_served f = record { skeleton = skeleton (k.progress f).stmt; seen = shown_of (k.progress f).failed d m tables (k.progress f) }
+
+  abbrev meant : List Seen
+  meant = map shows b.last.flyers
+
+  long : length b.last.flyers ≡ length stmts
+  long = as_many k m stage steady_of p stmts words share start boards b.turn q b.ended b.current b.last b.aloft
+
+  same : map meant_served b.last.flyers ≡ served_as stmts (map (λ (f : F). shown_of (k.progress f).failed d m tables (k.progress f)) b.last.flyers)
+  same = seen_same k shows b.last.flyers stmts long (λ i f stmt at there. (they_serve k m stage steady_of p stmts words share start boards b.turn q b.ended b.current b.last b.aloft i f stmt at there).is)
+
+  may_mean : (i : ℕ) (f : F) → slice_get b.last.flyers i ≡ Some f → k.May f (meant_served f)
+  may_mean i f at =
+      let stmt = get_other b.last.flyers stmts i f (sym long) at in
+      let one = they_serve k m stage steady_of p stmts words share start boards b.turn q b.ended b.current b.last b.aloft i f stmt.0 at stmt.1 in
+      stage.means f _ _ _ (they_hold k m stage steady_of p stmts words share start boards b.turn q b.ended b.current b.last b.aloft i f at) one.set indexes tables d
+      (subst (λ (x : Public). HoldNow x indexes tables b.last.world) (sym one.public) (record { tells = held.tells; held = held.held; in_place = held.in_place; nolie = held.nolie }))
+
+  all_mean : AllMay k.May b.last.flyers (map (λ (f : F). record { skeleton = skeleton (k.progress f).stmt; seen = shown_of (k.progress f).failed d m tables (k.progress f) }) b.last.flyers)
+  all_mean = all_may k meant_served b.last.flyers may_mean
+
+  all_fly : AllMayFly (map (λ (f : F). record { skeleton = skeleton (k.progress f).stmt; seen = shown_of (k.progress f).failed d m tables (k.progress f) }) b.last.flyers)
+  all_fly = record {
+    each = λ i x at.
+        let one = get_mapped meant_served b.last.flyers i x at in
+        subst (λ (y : Served). MayFly y) one.2
+        (may_fly k m stage steady_of p stmts words share start boards b.turn q b.ended b.current b.last b.aloft i one.0 (meant_served one.0) one.1 (may_mean i one.0 one.1));
+  }
+
+  reads : ReadsIn lie (start.world.store.asked ++ merge p (map (λ (f : F). record { skeleton = skeleton (k.progress f).stmt; seen = shown_of (k.progress f).failed d m tables (k.progress f) }) b.last.flyers) words)
+  reads =
+      let flown = map meant_served b.last.flyers in
+      let sets = sets_now k m stage steady_of p stmts words share start boards b.turn q b.ended b.current b.last b.aloft flown (length-map b.last.flyers meant_served ∙ long) in
+      reads_first lie start.world.store.asked (merge p flown words) _
+      (subst (λ (l : List Access). ReadsIn lie (start.world.store.asked ++ l))
+      (ap (λ (r : Flight). accesses_in (turns words (b.turn + 1) r).log) sets ∙ first_of_merge p flown words (steady_of p flown all_fly) (b.turn + 1))
+      (b.reads flown all_mean))
+
+  -- what the store had failed by then stays so
+  meant_by : (failed : Bool) (f g : F) (stmt : Stmt) → (k.progress f).failed ≡ failed → (k.progress f).stmt ≡ stmt → (k.progress f).public ≡ in_flight stmts p
+      → ((k.progress f).failed ≡ true → (k.progress g).served ≡ (k.progress f).served)
+      → ((k.progress f).failed ≡ true → (k.progress f).served.seen.end ≡ Cut (k.progress f).asked)
+      → MeantUntil d (in_flight stmts p) m tables stmt (k.progress g).served.seen.end (shown_of (k.progress f).failed d m tables (k.progress f))
+  meant_by false f g stmt is serves public stays cut =
+      meant_whole d (in_flight stmts p) m tables stmt (k.progress g).served.seen.end _
+      (ap (λ (x : Bool). shown_of x d m tables (k.progress f)) is ∙ (λ j. seen_by d (public j) m tables (serves j)))
+  meant_by true f g stmt is serves public stays cut =
+      let ends : (k.progress g).served.seen.end ≡ Cut (k.progress f).asked = ap (λ (x : Served). x.seen.end) (stays is) ∙ cut is in
+      subst (λ (x : End). MeantUntil d (in_flight stmts p) m tables stmt x (shown_of (k.progress f).failed d m tables (k.progress f))) (sym ends)
+      (inr (ap (λ (x : Bool). shown_of x d m tables (k.progress f)) is
+      ∙ (λ j. cut_at true (k.progress f).asked (public j) (skeleton (serves j)) (seen_by d (public j) m tables (serves j)))))
+
+  pub begins_meant : (asked : List Access) → start.world.store.asked ≡ asked
+      → BeginsMeant p m d tables stmts (map (λ (f : F). (k.progress f).served.seen) now.flyers) words asked lie
+  begins_meant asked is = record {
+    meant = map (λ (f : F). shown_of (k.progress f).failed d m tables (k.progress f)) b.last.flyers;
+    long = length-map b.last.flyers shows ∙ long;
+    each = λ i stmt seen shown there at is.
+        let g = get_mapped (λ (f : F). (k.progress f).served.seen) now.flyers i seen at in
+        let f = get_mapped shows b.last.flyers i shown is in
+        let one = they_serve k m stage steady_of p stmts words share start boards b.turn q b.ended b.current b.last b.aloft i f.0 stmt f.1 there in
+        subst (λ (x : Seen). MeantUntil d (in_flight stmts p) m tables stmt seen.end x) f.2
+        (subst (λ (x : Seen). MeantUntil d (in_flight stmts p) m tables stmt x.end (shows f.0)) g.2
+        (meant_by (k.progress f.0).failed f.0 g.0 stmt refl one.is one.public (λ failed. (b.failed.each i f.0 g.0 f.1 g.1 failed).0)
+        (stage.cut f.0 _ _ _ (they_hold k m stage steady_of p stmts words share start boards b.turn q b.ended b.current b.last b.aloft i f.0 f.1))));
+    reads = subst (λ (l : List Access). ReadsIn lie (l ++ merge p (served_as stmts (map (λ (f : F). shown_of (k.progress f).failed d m tables (k.progress f)) b.last.flyers)) words)) is
+        (subst (λ (flown : List Served). ReadsIn lie (start.world.store.asked ++ merge p flown words)) same reads);
+  }

@@ -1,0 +1,358 @@
+-- Whose the accesses are that were asked until a flight was stopped.
+use Rattle.std.proofs.Common.{◌≡◌, ◌⊎◌, ◌<◌, ◌+◌, ◌-◌, ◌++◌, ℕ, Bool, true, false, IsTrue, List, [], ◌∷◌, map, length, Option, Some, refl, sym, ◌∙◌, ap, subst, inl, inr, arith, append_assoc, length-append}
+use Rattle.std.specs.Prelude.{is_some, nat_lt, slice_get, take}
+use Rattle.std.proofs.lemmas.Bool.{cases_eq}
+use Rattle.std.proofs.lemmas.List.{append-nil, length-map, map-append}
+use Rattle.ob_base.specs.Events.{Event}
+use Rattle.ob_base.specs.declared.access.Access.{Access}
+use Rattle.ob_base.specs.declared.config.Public.{Public}
+use Rattle.ob_base.specs.declared.emit.EmitErr.{EmitErr}
+use Rattle.ob_base.specs.declared.emit.EmitErr.TheVariants as EmitErrs
+use Rattle.ob_flat.specs.declared.fault.OpErr.{OpErr}
+use Rattle.ob_flat.specs.declared.fault.OpErr.TheVariants as OpErrs
+use Rattle.ob_flat.specs.Passes.{is_of_access}
+use Rattle.ob_inflight.specs.Aloft.{flight_in, setting_off}
+use Rattle.ob_inflight.specs.Answers.{error_of}
+use Rattle.ob_inflight.specs.Flown.{StopsInStep}
+use Rattle.ob_inflight.specs.Flown as Flown
+use Rattle.ob_inflight.specs.Kinds.{Kind, Moment, taker_of}
+use Rattle.ob_mean.specs.Replay.{done_of}
+use Rattle.ob_script.specs.FlightLaws.{AllMayFly}
+use Rattle.ob_script.specs.Flights.{AreSteady, Flight, Flying, accesses_in, boarding, entry_of, flight, merge, own, turns}
+use Rattle.ob_script.specs.Trace.{Served}
+use Rattle.ob_script.proofs.FlightEnds.{first_of_merge}
+use Rattle.ob_script.proofs.FlightLemmas.{own_append, own_entry, own_other}
+use Rattle.ob_sql.specs.declared.stmt.Stmt.{Stmt}
+use Rattle.ob_store.specs.Calls.{ChangesNothing}
+use Rattle.ob_store.specs.State.{StoreState}
+use Rattle.ob_tables.specs.Agreeing.{count_of, world_of}
+use Rattle.ob_tables.specs.Telling.{is_refused}
+use Rattle.ob_tables.specs.declared.engine.Engine.{Engine}
+use Rattle.ob_vault.specs.State.{RevState, World}
+use Rattle.ob_verdict.specs.declared.outcome.Outcome.{Outcome}
+use Rattle.ob_exec.specs.InFlight.{own_asked, served_as}
+use Rattle.ob_exec.specs.RanFlight.{StopsInTurn, asked_by, asked_since, halt_of}
+use Rattle.ob_exec.proofs.FlightEnd.{since_long}
+use Rattle.ob_exec.proofs.FlightLists.{flying_back, log_first, map_put}
+use Rattle.ob_exec.proofs.FlightRuns.{Boards, as_many, first_now, may_now, merged_now, own_now, served_now, sets_now, steady_now, turned_now}
+use Rattle.ob_exec.proofs.FlightTurned.{ended_below}
+use Rattle.ob_exec.proofs.FlightStage.{IsStage, more_asked}
+
+-- of one entry more
+own_one : (i j : ℕ) (log : List (ℕ × Access)) (a : Access) → (i ≡ j → ⊥) → length (own i (log ++ (j, a) ∷ [])) ≡ length (own i log)
+own_one i j log a off = ap length (own_append i log ((j, a) ∷ []) ∙ ap (λ (l : List Access). own i log ++ l) (own_other i j a off) ∙ append-nil (own i log))
+
+own_same : (i j : ℕ) (log : List (ℕ × Access)) (a : Access) → i ≡ j → length (own i (log ++ (j, a) ∷ [])) ≡ length (own i log) + 1
+own_same i j log a same =
+    ap (λ (x : ℕ). length (own i (log ++ (x, a) ∷ []))) (sym same)
+    ∙ ap length (own_append i log ((i, a) ∷ []) ∙ ap (λ (l : List Access). own i log ++ l) (own_entry i a)) ∙ length-append (own i log) (a ∷ [])
+
+-- a part of one access is nothing, or that one
+none_or_one : (done rest : List Access) (a : Access) → done ++ rest ≡ a ∷ [] → (done ≡ []) ⊎ (done ≡ a ∷ [])
+none_or_one [] rest a split = inl refl
+none_or_one (x ∷ []) rest a split = inr (let same : x ≡ a = cc split in ap (λ (y : Access). y ∷ []) same)
+none_or_one (x ∷ y ∷ ys) rest a split = absurd (cc split)
+
+-- a give-up of the emitter is no error of an access
+emitter_quiet : (error : EmitErr) → is_refused (halt_of (error_of error)) ≡ false
+emitter_quiet EmitErrs.Failed = refl
+emitter_quiet EmitErrs.NoMemory = refl
+
+refused_access : (e : OpErr) → is_refused (halt_of e) ≡ true → IsTrue (is_of_access e)
+refused_access OpErrs.Failed is = absurd (cc is)
+refused_access (OpErrs.Tampered q x) is = refl
+refused_access OpErrs.Sink is = absurd (cc is)
+refused_access OpErrs.NoMemory is = absurd (cc is)
+
+pub no_access : (e : OpErr) → (e ≡ OpErrs.Failed → ⊥) → is_refused (halt_of e) ≡ false → is_of_access e ≡ false
+no_access OpErrs.Failed never is = absurd (never refl)
+no_access (OpErrs.Tampered q x) never is = absurd (cc is)
+no_access OpErrs.Sink never is = refl
+no_access OpErrs.NoMemory never is = refl
+
+module _ {R E F : Type 0} (state : R → RevState) (grew cut : E → E → List Event → Type 0)
+    (closed parted : E → E → ℕ → Outcome → Type 0)
+    (k : Kind F) (old : Engine R) (s s1 : StoreState) (rests : ChangesNothing s s1)
+    (stage : IsStage k (count_of old s)) (steady_of : (p : Public) (flown : List Served) → AllMayFly flown → AreSteady p flown)
+    (stmts : List Stmt) (words : ℕ → ℕ) (share : ℕ) (e : OpErr) (flyers : List F) (shares : List (List ℕ)) (now : Moment F)
+    (boards : Boards k (count_of old s) old.public stmts (record { flyers = flyers; kept = shares; world = world_of state old s1 }))
+    (out_old out_new : E)
+    (st : Flown.StopsFlight k (taker_of grew cut closed parted) words share e (record { flyers = flyers; kept = shares; world = world_of state old s1 }) now out_old out_new) where
+  abbrev start : Moment F
+  start = record { flyers = flyers; kept = shares; world = world_of state old s1 }
+
+  abbrev t : StoreState
+  t = now.world.store
+
+  abbrev last : Moment F
+  last = st.last
+
+  abbrev log : List (ℕ × Access)
+  log = st.aloft.turned.log
+
+  abbrev by_last : List Served
+  by_last = map (λ (f : F). (k.progress f).served) st.last.flyers
+
+  -- its step gave up
+  abbrev pub Stepped : Type 0
+  Stepped = StopsInStep k (taker_of grew cut closed parted) e st.ended st.current st.place st.act st.last now st.emitted.between st.out_last out_new
+
+  -- ---- what is seen
+  pub same_served : map (λ (f : F). (k.progress f).served) now.flyers ≡ map (λ (f : F). (k.progress f).served) st.last.flyers
+  same_served = elim st.by [
+    | inl step ↦ ap (map (λ (f : F). (k.progress f).served)) step.flyers ∙ map_put (λ (f : F). (k.progress f).served) last.flyers st.place step.before step.after step.at step.stops.stays.served
+    | inr (inl fin) ↦ ap (map (λ (f : F). (k.progress f).served)) fin.flyers ∙ map_put (λ (f : F). (k.progress f).served) last.flyers st.place fin.before fin.after fin.at (ap (λ (x : _). x.served) fin.same)
+    | inr (inr clo) ↦ ap (map (λ (f : F). (k.progress f).served)) clo.flyers ∙ map_put (λ (f : F). (k.progress f).served) last.flyers st.place clo.before clo.after clo.at (ap (λ (x : _). x.served) clo.answered)
+  ]
+
+  pub same_seen : map (λ (f : F). (k.progress f).served.seen) now.flyers ≡ map (λ (f : F). (k.progress f).served.seen) st.last.flyers
+  same_seen = elim st.by [
+    | inl step ↦ ap (map (λ (f : F). (k.progress f).served.seen)) step.flyers ∙ map_put (λ (f : F). (k.progress f).served.seen) last.flyers st.place step.before step.after step.at (ap (λ (x : Served). x.seen) step.stops.stays.served)
+    | inr (inl fin) ↦ ap (map (λ (f : F). (k.progress f).served.seen)) fin.flyers ∙ map_put (λ (f : F). (k.progress f).served.seen) last.flyers st.place fin.before fin.after fin.at (ap (λ (x : _). x.served.seen) fin.same)
+    | inr (inr clo) ↦ ap (map (λ (f : F). (k.progress f).served.seen)) clo.flyers ∙ map_put (λ (f : F). (k.progress f).served.seen) last.flyers st.place clo.before clo.after clo.at (ap (λ (x : _). x.served.seen) clo.answered)
+  ]
+
+  pub stop_served : served_as stmts (map (λ (f : F). (k.progress f).served.seen) st.last.flyers) ≡ map (λ (f : F). (k.progress f).served) st.last.flyers
+  stop_served = sym (served_now k (count_of old s) stage steady_of old.public stmts words share start boards st.turn st.public st.ended st.current st.last st.aloft)
+
+  -- ---- what was asked
+  pub asked_last : st.last.world.store.asked ≡ s.asked ++ accesses_in st.aloft.turned.log
+  asked_last = st.aloft.turned.asked ∙ ap (λ (l : List Access). l ++ accesses_in log) rests.asked
+
+  -- nothing but what was by then, or one access more, which wasn't carried out where it was refused
+  pub record AsksOne : Type 0 where
+    pub step : Stepped
+    pub asked : now.world.store.asked ≡ st.last.world.store.asked ++ step.stops.access ∷ []
+
+  pub record AsksNone : Type 0 where
+    pub asked : now.world.store.asked ≡ st.last.world.store.asked
+    pub unrefused : is_refused (halt_of e) ≡ false
+
+  unrefused_by : (b : Bool) → is_refused (halt_of e) ≡ b → (b ≡ true → ⊥) → is_refused (halt_of e) ≡ false
+  unrefused_by true is never = absurd (never refl)
+  unrefused_by false is never = is
+
+  by_step : (step : Stepped) (done rest : List Access) → (IsTrue (is_of_access e) → length st.last.world.store.asked < length now.world.store.asked)
+      → now.world.store.asked ≡ st.last.world.store.asked ++ done → (done ≡ []) ⊎ (done ≡ step.stops.access ∷ []) → AsksNone ⊎ AsksOne
+  by_step step done rest asks asked (inl none) =
+      let same : now.world.store.asked ≡ st.last.world.store.asked = asked ∙ ap (λ (l : List Access). st.last.world.store.asked ++ l) none ∙ append-nil st.last.world.store.asked in
+      inl (record {
+        asked = same;
+        unrefused = unrefused_by (is_refused (halt_of e)) refl
+            (λ refused. let more = asks (refused_access e refused) in let n = ap length same in omega (arith, more, n));
+      })
+  by_step step done rest asks asked (inr one) = inr (record { step = step; asked = asked ∙ ap (λ (l : List Access). st.last.world.store.asked ++ l) one })
+
+  pub asked_more : AsksNone ⊎ AsksOne
+  asked_more = elim st.by [
+    | inl step ↦
+        let began = step.stops.cut.began in
+        by_step step began.done began.rest step.stops.cut.asks began.asked (none_or_one began.done began.rest step.stops.access began.split)
+    | inr (inl fin) ↦ inl (record { asked = ap (λ (w : World). w.store.asked) fin.world; unrefused = ap (λ (x : OpErr). is_refused (halt_of x)) fin.is ∙ emitter_quiet fin.error })
+    | inr (inr clo) ↦ inl (record { asked = ap (λ (w : World). w.store.asked) clo.world; unrefused = ap (λ (x : OpErr). is_refused (halt_of x)) clo.is ∙ emitter_quiet clo.error })
+  ]
+
+  -- ---- the log
+  log_long : length (accesses_in log) ≡ length log
+  log_long = length-map log (λ (e : ℕ × Access). e.1)
+
+  steady : AreSteady old.public (map (λ (f : F). (k.progress f).served) st.last.flyers)
+  steady = steady_now k (count_of old s) stage steady_of old.public stmts words share start boards st.turn st.public st.ended st.current st.last st.aloft
+
+  -- as many of the whole flight's log are those of the turns by then
+  pub take_last : take (length st.aloft.turned.log) (flight old.public (map (λ (f : F). (k.progress f).served) st.last.flyers) words).log ≡ st.aloft.turned.log
+  take_last = sym (first_now k (count_of old s) stage steady_of old.public stmts words share start boards st.turn st.public st.ended st.current st.last st.aloft)
+
+  sets : setting_off st.public start.world.vault.next (map (λ (f : F). (k.progress f).served) st.last.flyers) ≡ boarding old.public (map (λ (f : F). (k.progress f).served) st.last.flyers)
+  sets = sets_now k (count_of old s) stage steady_of old.public stmts words share start boards st.turn st.public st.ended st.current st.last st.aloft by_last
+      (length-map last.flyers (λ (f : F). (k.progress f).served) ∙ as_many k (count_of old s) stage steady_of old.public stmts words share start boards st.turn st.public st.ended st.current st.last st.aloft)
+
+  log_more : (turns words (st.turn + 1) (boarding old.public (map (λ (f : F). (k.progress f).served) st.last.flyers))).log ≡ st.aloft.turned.log ++ entry_of st.place st.act
+  log_more =
+      ap (λ (r : Flight). (turns words (st.turn + 1) r).log) (sym sets)
+      ∙ st.log by_last (may_now k (count_of old s) stage steady_of old.public stmts words share start boards st.turn st.public st.ended st.current st.last st.aloft)
+
+  -- with one access more
+  take_one : (a : Access) → st.act ≡ Some a → take (length log + 1) (flight old.public by_last words).log ≡ log ++ (st.place, a) ∷ []
+  take_one a is =
+      let here : (turns words (st.turn + 1) (boarding old.public by_last)).log ≡ log ++ (st.place, a) ∷ [] = log_more ∙ ap (λ (o : Option Access). log ++ entry_of st.place o) is in
+      let n : length (turns words (st.turn + 1) (boarding old.public by_last)).log ≡ length log + 1 = ap length here ∙ length-append log ((st.place, a) ∷ []) in
+      ap (λ (x : ℕ). take x (flight old.public by_last words).log) (sym n) ∙ sym (log_first old.public by_last words steady (st.turn + 1)) ∙ here
+
+  merged_one : (a : Access) → st.act ≡ Some a → accesses_in log ++ a ∷ [] ≡ take (length log + 1) (merge old.public by_last words)
+  merged_one a is =
+      let here : (turns words (st.turn + 1) (boarding old.public by_last)).log ≡ log ++ (st.place, a) ∷ [] = log_more ∙ ap (λ (o : Option Access). log ++ entry_of st.place o) is in
+      let n : length (turns words (st.turn + 1) (boarding old.public by_last)).log ≡ length log + 1 = ap length here ∙ length-append log ((st.place, a) ∷ []) in
+      sym (map-append (λ (e : ℕ × Access). e.1) log ((st.place, a) ∷ [])) ∙ ap accesses_in (sym here)
+      ∙ first_of_merge old.public by_last words steady (st.turn + 1) ∙ ap (λ (x : ℕ). take x (merge old.public by_last words)) n
+
+  -- ---- how many
+  many_none : AsksNone → asked_since s now.world.store ≡ length st.aloft.turned.log
+  many_none none = since_long s t (accesses_in log) (none.asked ∙ asked_last) ∙ log_long
+
+  asked_one : (one : AsksOne) → now.world.store.asked ≡ s.asked ++ (accesses_in st.aloft.turned.log ++ one.step.stops.access ∷ [])
+  asked_one one = one.asked ∙ ap (λ (l : List Access). l ++ one.step.stops.access ∷ []) asked_last ∙ append_assoc s.asked (accesses_in log) (one.step.stops.access ∷ [])
+
+  many_one : AsksOne → asked_since s now.world.store ≡ length st.aloft.turned.log + 1
+  many_one one =
+      let n = since_long s t (accesses_in log ++ one.step.stops.access ∷ []) (asked_one one) in
+      let m = length-append (accesses_in log) (one.step.stops.access ∷ []) in
+      let l = log_long in
+      omega (arith, n, m, l)
+
+  -- they are the first that are merged
+  first_to : (n : ℕ) (l : List Access) → asked_since s now.world.store ≡ n → l ≡ take n (merge old.public by_last words)
+      → l ≡ take (asked_since s now.world.store) (merge old.public (served_as stmts (map (λ (f : F). (k.progress f).served.seen) st.last.flyers)) words)
+  first_to n l same is =
+      is ∙ ap (λ (x : ℕ). take x (merge old.public by_last words)) (sym same)
+      ∙ ap (λ (flown : List Served). take (asked_since s now.world.store) (merge old.public flown words)) (sym stop_served)
+
+  pub asked_first : now.world.store.asked ≡ s.asked ++ take (asked_since s now.world.store) (merge old.public (served_as stmts (map (λ (f : F). (k.progress f).served.seen) st.last.flyers)) words)
+  asked_first = elim asked_more [
+    | inl none ↦
+        none.asked ∙ asked_last
+        ∙ ap (λ (l : List Access). s.asked ++ l)
+        (first_to (length log) (accesses_in log) (many_none none)
+        (merged_now k (count_of old s) stage steady_of old.public stmts words share start boards st.turn st.public st.ended st.current st.last st.aloft))
+    | inr one ↦
+        asked_one one
+        ∙ ap (λ (l : List Access). s.asked ++ l)
+        (first_to (length log + 1) (accesses_in log ++ one.step.stops.access ∷ []) (many_one one) (merged_one one.step.stops.access one.step.asks))
+  ]
+
+  -- ---- by each
+  own_of : (i n : ℕ) (l : List (ℕ × Access)) → take n (flight old.public by_last words).log ≡ l
+      → own_asked old.public (served_as stmts (map (λ (f : F). (k.progress f).served.seen) st.last.flyers)) words n i ≡ length (own i l)
+  own_of i n l is = ap (λ (flown : List Served). own_asked old.public flown words n i) stop_served ∙ ap (λ (x : List (ℕ × Access)). length (own i x)) is
+
+  own_last : (i : ℕ) (f : F) → slice_get st.last.flyers i ≡ Some f → length (own i log) ≡ (k.progress f).asked
+  own_last i f at = own_now k (count_of old s) stage steady_of old.public stmts words share start boards st.turn st.public st.ended st.current st.last st.aloft i f at
+
+  -- how many accesses of its own one has asked, and how many of them were carried out
+  abbrev asked : ℕ → ℕ
+  asked i = asked_by old.public words stmts (map (λ (f : F). (k.progress f).served.seen) st.last.flyers) (asked_since s now.world.store) i
+
+  abbrev carried : ℕ → ℕ
+  carried i = asked_by old.public words stmts (map (λ (f : F). (k.progress f).served.seen) st.last.flyers) (done_of (is_refused (halt_of e)) (asked_since s now.world.store)) i
+
+  -- as many as by then; or it is the one whose step gave up behind an access more, which was carried out or not
+  pub record AskedNoMore (i : ℕ) (f : F) : Type 0 where
+    pub asked : asked_by old.public words stmts (map (λ (f : F). (k.progress f).served.seen) st.last.flyers) (asked_since s now.world.store) i ≡ (k.progress f).asked
+    pub carried : asked_by old.public words stmts (map (λ (f : F). (k.progress f).served.seen) st.last.flyers) (done_of (is_refused (halt_of e)) (asked_since s now.world.store)) i ≡ (k.progress f).asked
+
+  pub record AskedOneMore (i : ℕ) (f : F) : Type 0 where
+    pub one : AsksOne
+    pub same : f ≡ one.step.before
+    pub at : slice_get st.last.flyers st.place ≡ Some f
+    pub place : i ≡ st.place
+    pub asked : asked_by old.public words stmts (map (λ (f : F). (k.progress f).served.seen) st.last.flyers) (asked_since s now.world.store) i ≡ (k.progress f).asked + 1
+    pub carried : ((is_refused (halt_of e) ≡ true)
+        × (asked_by old.public words stmts (map (λ (f : F). (k.progress f).served.seen) st.last.flyers) (done_of (is_refused (halt_of e)) (asked_since s now.world.store)) i ≡ (k.progress f).asked))
+        ⊎ ((is_refused (halt_of e) ≡ false)
+        × (asked_by old.public words stmts (map (λ (f : F). (k.progress f).served.seen) st.last.flyers) (done_of (is_refused (halt_of e)) (asked_since s now.world.store)) i ≡ (k.progress f).asked + 1))
+
+  -- where the last was refused, the others were carried out
+  carried_refused : (one : AsksOne) (i : ℕ) (f : F) → slice_get st.last.flyers i ≡ Some f → is_refused (halt_of e) ≡ true → carried i ≡ (k.progress f).asked
+  carried_refused one i f at refused =
+      let less : asked_since s now.world.store - 1 ≡ length log = let n = many_one one in omega (arith, n) in
+      ap (λ (b : Bool). asked_by old.public words stmts (map (λ (f : F). (k.progress f).served.seen) st.last.flyers) (done_of b (asked_since s now.world.store)) i) refused
+      ∙ ap (λ (n : ℕ). asked_by old.public words stmts (map (λ (f : F). (k.progress f).served.seen) st.last.flyers) n i) less
+      ∙ own_of i (length log) log take_last ∙ own_last i f at
+
+  carried_all : (i : ℕ) → is_refused (halt_of e) ≡ false → carried i ≡ asked i
+  carried_all i unrefused = ap (λ (b : Bool). asked_by old.public words stmts (map (λ (f : F). (k.progress f).served.seen) st.last.flyers) (done_of b (asked_since s now.world.store)) i) unrefused
+
+  asked_none : (none : AsksNone) (i : ℕ) (f : F) → slice_get st.last.flyers i ≡ Some f → asked i ≡ (k.progress f).asked
+  asked_none none i f at =
+      ap (λ (n : ℕ). asked_by old.public words stmts (map (λ (f : F). (k.progress f).served.seen) st.last.flyers) n i) (many_none none)
+      ∙ own_of i (length log) log take_last ∙ own_last i f at
+
+  asked_own : (one : AsksOne) (i : ℕ) → asked i ≡ length (own i (log ++ (st.place, one.step.stops.access) ∷ []))
+  asked_own one i =
+      ap (λ (n : ℕ). asked_by old.public words stmts (map (λ (f : F). (k.progress f).served.seen) st.last.flyers) n i) (many_one one)
+      ∙ own_of i (length log + 1) (log ++ (st.place, one.step.stops.access) ∷ []) (take_one one.step.stops.access one.step.asks)
+
+  refused_or : (b : Bool) → is_refused (halt_of e) ≡ b → (is_refused (halt_of e) ≡ true) ⊎ (is_refused (halt_of e) ≡ false)
+  refused_or true is = inl is
+  refused_or false is = inr is
+
+  asked_of_one : (one : AsksOne) (i : ℕ) (f : F) → slice_get st.last.flyers i ≡ Some f → AskedNoMore i f ⊎ AskedOneMore i f
+  asked_of_one one i f at = elim (cases_eq i st.place) [
+    | inl here ↦
+        let there : slice_get st.last.flyers st.place ≡ Some f = ap (slice_get st.last.flyers) (sym here) ∙ at in
+        let same : f ≡ one.step.before = let two = one.step.at in cc (there, two) in
+        let n : asked i ≡ (k.progress f).asked + 1 = asked_own one i ∙ own_same i st.place log one.step.stops.access here ∙ ap (λ (x : ℕ). x + 1) (own_last i f at) in
+        inr (record {
+          one = one;
+          same = same;
+          at = there;
+          place = here;
+          asked = n;
+          carried = elim (refused_or (is_refused (halt_of e)) refl) [
+            | inl refused ↦ inl (refused, carried_refused one i f at refused)
+            | inr not ↦ inr (not, carried_all i not ∙ n)
+          ];
+        })
+    | inr off ↦
+        let n : asked i ≡ (k.progress f).asked = asked_own one i ∙ own_one i st.place log one.step.stops.access off ∙ own_last i f at in
+        inl (record {
+          asked = n;
+          carried = elim (refused_or (is_refused (halt_of e)) refl) [
+            | inl refused ↦ carried_refused one i f at refused
+            | inr not ↦ carried_all i not ∙ n
+          ];
+        })
+  ]
+
+  pub asked_of : (i : ℕ) (f : F) → slice_get st.last.flyers i ≡ Some f → AskedNoMore i f ⊎ AskedOneMore i f
+  asked_of i f at = elim asked_more [
+    | inl none ↦ inl (record { asked = asked_none none i f at; carried = carried_all i none.unrefused ∙ asked_none none i f at })
+    | inr one ↦ asked_of_one one i f at
+  ]
+
+  -- of the one that gave up, what was asked since is its own
+  pub asked_place : (f : F) → slice_get st.last.flyers st.place ≡ Some f
+      → asked_by old.public words stmts (map (λ (f : F). (k.progress f).served.seen) st.last.flyers) (asked_since s now.world.store) st.place
+      ≡ (k.progress f).asked + more_asked st.last.world now.world
+  asked_place f at = elim asked_more [
+    | inl none ↦ let n = asked_none none st.place f at in let m = ap length none.asked in omega (arith, n, m)
+    | inr one ↦
+        let n = asked_own one st.place ∙ own_same st.place st.place log one.step.stops.access refl ∙ ap (λ (x : ℕ). x + 1) (own_last st.place f at) in
+        let m = ap length one.asked ∙ length-append st.last.world.store.asked (one.step.stops.access ∷ []) in
+        omega (arith, n, m)
+  ]
+
+  -- ---- in which turn it stopped
+  turned : turns words st.turn (boarding old.public (map (λ (f : F). (k.progress f).served) st.last.flyers))
+      ≡ flight_in k st.public st.last.world.vault.next st.last.flyers (map (λ (f : F). (k.progress f).served) st.last.flyers) st.aloft.turned.log
+  turned = turned_now k (count_of old s) stage steady_of old.public stmts words share start boards st.turn st.public st.ended st.current st.last st.aloft
+
+  ended_last : (i : ℕ) (x : Flying) → slice_get (turns words st.turn (boarding old.public (map (λ (f : F). (k.progress f).served) st.last.flyers))).flying i ≡ Some x → x.ended ≡ nat_lt i (length st.ended)
+  ended_last i x at =
+      let back = flying_back k (λ (f : F). (k.progress f).served) st.last.flyers i x (ap (λ (r : Flight). slice_get r.flying i) (sym turned) ∙ at) in
+      ap (λ (y : Flying). y.ended) (sym back.2) ∙ ap is_some (st.aloft.stand.outcome i back.0 back.1) ∙ ended_below st.ended i
+
+  -- by then these were asked, and one more at most
+  long_now : length (turns words st.turn (boarding old.public (map (λ (f : F). (k.progress f).served) st.last.flyers))).log ≡ length st.aloft.turned.log
+  long_now = ap (λ (r : Flight). length r.log) turned
+
+  long_next : length (turns words (st.turn + 1) (boarding old.public (map (λ (f : F). (k.progress f).served) st.last.flyers))).log ≡ length st.aloft.turned.log + length (entry_of st.place st.act)
+  long_next = ap length log_more ∙ length-append st.aloft.turned.log (entry_of st.place st.act)
+
+  pub stops_turn : StopsInTurn old.public (served_as stmts (map (λ (f : F). (k.progress f).served.seen) st.last.flyers)) words (asked_since s now.world.store) (length st.ended)
+  stops_turn =
+      subst (λ (flown : List Served). StopsInTurn old.public flown words (asked_since s now.world.store) (length st.ended)) (sym stop_served)
+      (elim asked_more [
+        | inl none ↦ record {
+          turn = st.turn;
+          least = let n = many_none none in let a = long_now in omega (arith, n, a);
+          most = let n = many_none none in let b = long_next in omega (arith, n, b);
+          ended = ended_last;
+        }
+        | inr one ↦ record {
+          turn = st.turn;
+          least = let n = many_one one in let a = long_now in omega (arith, n, a);
+          most = let n = many_one one in let b = long_next in let act = ap (λ (o : Option Access). length (entry_of st.place o)) one.step.asks in omega (arith, n, b, act);
+          ended = ended_last;
+        }
+      ])

@@ -1,0 +1,9 @@
+pub mod Lists
+pub mod Picks
+pub mod Acts
+pub mod Turning
+pub mod Standing
+pub mod Emitting
+pub mod Ending
+pub mod Stopping
+pub mod Turn

@@ -1,0 +1,15 @@
+pub mod Faults
+pub mod Totalling
+pub mod Reading
+pub mod ReadingLaws
+pub mod Refusing
+pub mod Totals
+pub mod Groups
+pub mod Flying
+pub mod Going
+pub mod SmallActs
+pub mod RowsStates
+pub mod RowsActs
+pub mod RowsHolds
+pub mod RowsLaws
+pub mod RowsSteps
