@@ -1,0 +1,4 @@
+//! SELECTs in flight over a store in memory.
+#![tactic(auto)]
+
+mod flights;
