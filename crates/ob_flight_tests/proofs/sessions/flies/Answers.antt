@@ -1,6 +1,5 @@
 use Rattle.std.proofs.Common.{◌≡◌, Bool, true, false, List, refl, sym, ◌∙◌, ap, subst}
 use Rattle.std.specs.Prelude.{not}
-use Rattle.ob_base.specs.declared.config.Public.{Public}
 use Rattle.ob_base.specs.declared.schema.Table.{Table}
 use Rattle.ob_base.specs.declared.skeleton.Skeleton.TheVariants.{Rows}
 use Rattle.ob_base.specs.declared.skeleton.Source.{Source}
@@ -10,15 +9,15 @@ use Rattle.ob_mean.specs.Replay.{is_access}
 use Rattle.ob_script.specs.FlightLaws.{SelectsFromOne}
 use Rattle.ob_sql.specs.Skeleton.{skeleton}
 use Rattle.ob_sql.specs.declared.stmt.Stmt.{Stmt}
-use Rattle.ob_flight_tests.proofs.flights.flies.Goals as goal
+use Rattle.ob_flight_tests.proofs.sessions.flies.Goals as goal
 
 is_false : (b : Bool) → not b ≡ true → b ≡ false
 is_false true is = absurd (cc is)
 is_false false is = refl
 
 pub returns-in-Table : goal.returns-in-Table
-returns-in-Table g c = λ plain late.
-    let p = c.args.engine.now.public in
+returns-in-Table c plain = λ late.
+    let p = c.args.public.now in
     let list = c.in-SelectRows.select.list in
     record {
       selects =
@@ -27,6 +26,6 @@ returns-in-Table g c = λ plain late.
       flat = λ free.
           ap (λ (s : Stmt). is_access p (skeleton s)) c.in-SelectRows.is
           ∙ ap (λ (source : Source). is_access p (Rows source list)) c.in-Table.is
-          ∙ ap (λ (ts : List Table). is_index (headings_of ts) c.in-Table.name) (sym (c.as_slice.ensures ∙ ap (λ (q : Public). q.tables) c.public.ensures))
+          ∙ ap (λ (ts : List Table). is_index (headings_of ts) c.in-Table.name) (sym c.as_slice.ensures)
           ∙ sym c.is_index.ensures ∙ is_false c.is_index.result plain;
     }

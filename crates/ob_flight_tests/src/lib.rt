@@ -1,4 +1,0 @@
-//! SELECTs in flight over a store in memory.
-#![tactic(auto)]
-
-mod flights;
