@@ -10,7 +10,6 @@ use ob_base::{Config, NoMemory, Planner};
 use ob_meddle::{Meddle, MeddledStore, parse_changes};
 use ob_seal::Keys;
 use ob_sql::Stmt;
-use ob_store::BlockStore;
 use ob_tables::Engine;
 use ob_vault::{Revisions, VecRevs};
 use std::alloc::{AllocError, Global};

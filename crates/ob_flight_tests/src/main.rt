@@ -2,12 +2,12 @@
 //! comes of it.
 //!
 //! Blank lines, and lines that begin with `#`, are printed as they stand. Any other line is
-//! `WORD BUFFER CHANGES SELECT ..; / SELECT ..;`: the first of the words that say whose turn it is, 0 or 1, which take turns;
-//! how many rows may be open; what others change in the store, or `-`; and the statements, which fly over a table of its own,
-//! `t` of four rows.
+//! `WORD BUFFER CHANGES SELECT ..; / SELECT ..;`: the first of the words by which turns are taken, which are 0 and 1 by
+//! turns; how many rows may be open; what others change in the store, or `-`; and the statements, which fly over a table
+//! of its own, `t` of four rows.
 //!
 //! Below it stand the answers, with the place of each statement, the stop if there was one, what is seen of each
-//! statement, and the accesses of the flight with the number of all.
+//! statement, and the number of all accesses with those of the flight; or why none fly.
 #![tactic(auto)]
 
 mod answers;

@@ -1,5 +1,5 @@
 //! A table, and a flight over it.
-ghost use Rattle.std.specs.Prelude.{◌≡◌, ◌≤◌, ◌<◌, Bool, true, length, OnOk};
+ghost use Rattle.std.specs.Prelude.{◌≡◌, ◌≤◌, Bool, true, length, OnOk};
 ghost use Rattle.std.specs.List.{All};
 ghost use Rattle.ob_exec.specs.InFlight.{FliesBy, flight_most};
 ghost use Rattle.ob_flight_tests.specs.Sessions.{IsSession};
