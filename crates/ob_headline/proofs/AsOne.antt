@@ -30,7 +30,7 @@ use Rattle.ob_headline.specs.KeptRuns.{AnswerAsOne, GoOn, OneRun, first_of, all_
 use Rattle.ob_headline.specs.Settings.{IsTaken, settings_of}
 use Rattle.ob_headline.specs.Usage.{is_kept, is_traced, kept_usage}
 use Rattle.ob_headline.specs.Words.{Answer, Outside, any_refused, keys_in}
-use Rattle.ob_headline.specs.Meaning.{AnswersFrom}
+use Rattle.ob_headline.proofs.ServedAlone.{AnswersAlone}
 use Rattle.ob_headline.specs.declared.ending.Ending.{Ending}
 use Rattle.ob_headline.specs.declared.ending.Ending.TheVariants.{Usage, BadKey, Ran}
 use Rattle.ob_headline.specs.declared.ending.KeptEnding.{KeptEnding}
@@ -197,18 +197,18 @@ module _ (words : List Text) (secret : List ℕ) (f : Ending) (one : OneRun word
   abbrev Leaves : (used : Bool) → Broken → Type 0
   Leaves used broken = MatchBool used ⊤ (Rests (keys_of run.secret) tables.closing one.new.store.kept (by_name (after_all s run.session.story.spelt broken).tables))
 
-  answered : (used : Bool) → is_used_up tables.closing ≡ used → (broken : Broken) × AnswersFrom (Ran (Ok closed.0)) s run.session.story.spelt broken run.session.story.answers all run.session.story.part × Leaves used broken
+  answered : (used : Bool) → is_used_up tables.closing ≡ used → (broken : Broken) × AnswersAlone (Ran (Ok closed.0)) s run.session.story.spelt broken run.session.story.answers all run.session.story.part × Leaves used broken
   answered true is =
-      let meant = begins.from (λ (u : Session). (broken : Broken) × AnswersFrom run.session.ending (drawing (keys_in run.session.taken) u) run.session.story.spelt broken run.session.story.answers all run.session.story.part) (run.session.answers.meant (record { tells = tells_opened; unfit = λ lie told. absurd (cc (told, honest_served)) })) in
-      let here = subst (λ (k : KeySet). AnswersFrom run.session.ending (drawing k (session_at run.base begins.tables)) run.session.story.spelt meant.0 run.session.story.answers all run.session.story.part) keys_are meant.1 in
-      (meant.0, subst (λ (e : Ending). AnswersFrom e s run.session.story.spelt meant.0 run.session.story.answers all run.session.story.part) closed.1 here, tt)
+      let meant = begins.from (λ (u : Session). (broken : Broken) × AnswersAlone run.session.ending (drawing (keys_in run.session.taken) u) run.session.story.spelt broken run.session.story.answers all run.session.story.part) (run.session.answers.meant (record { tells = tells_opened; unfit = λ lie told. absurd (cc (told, honest_served)) })) in
+      let here = subst (λ (k : KeySet). AnswersAlone run.session.ending (drawing k (session_at run.base begins.tables)) run.session.story.spelt meant.0 run.session.story.answers all run.session.story.part) keys_are meant.1 in
+      (meant.0, subst (λ (e : Ending). AnswersAlone e s run.session.story.spelt meant.0 run.session.story.answers all run.session.story.part) closed.1 here, tt)
   answered false is =
       let made = closed_well tables.closes.result _ one.run.ending _ _ run.in_use one.keeper1 refused tables.closes.ends well in
       let from_it =
-      begins.from (λ (u : Session). (broken : Broken) × AnswersFrom (Ran (Ok closed.0)) (drawing (keys_of run.secret) u) run.session.story.spelt broken run.session.story.answers all run.session.story.part
+      begins.from (λ (u : Session). (broken : Broken) × AnswersAlone (Ran (Ok closed.0)) (drawing (keys_of run.secret) u) run.session.story.spelt broken run.session.story.answers all run.session.story.part
       × Rests (keys_of run.secret) tables.closing one.new.store.kept (by_name (after_all (drawing (keys_of run.secret) u) run.session.story.spelt broken).tables)) (tables.rests (record { tells = tells_opened; no_lie = honest }) is made.0 made.1) in (
         from_it.0,
-        subst (λ (x : List ℕ). AnswersFrom (Ran (Ok closed.0)) (drawing (keys_of x) (session_at run.base begins.tables)) run.session.story.spelt from_it.0 run.session.story.answers all run.session.story.part) keyed from_it.1,
+        subst (λ (x : List ℕ). AnswersAlone (Ran (Ok closed.0)) (drawing (keys_of x) (session_at run.base begins.tables)) run.session.story.spelt from_it.0 run.session.story.answers all run.session.story.part) keyed from_it.1,
         subst (λ (x : List ℕ). Rests (keys_of run.secret) tables.closing one.new.store.kept (by_name (after_all (drawing (keys_of x) (session_at run.base begins.tables)) run.session.story.spelt from_it.0).tables)) keyed from_it.2,
       )
 
@@ -241,7 +241,7 @@ module _ (words : List Text) (secret : List ℕ) (f : Ending) (one : OneRun word
   }
 
   -- how its texts were served
-  told : (broken : Broken) × AnswersFrom (Ran (Ok closed.0)) s run.session.story.spelt broken run.session.story.answers all run.session.story.part × Leaves (is_used_up tables.closing) broken
+  told : (broken : Broken) × AnswersAlone (Ran (Ok closed.0)) s run.session.story.spelt broken run.session.story.answers all run.session.story.part × Leaves (is_used_up tables.closing) broken
   told = answered (is_used_up tables.closing) refl
 
   abbrev hows_here : Broken
@@ -270,7 +270,7 @@ module _ (words : List Text) (secret : List ℕ) (f : Ending) (one : OneRun word
 record InOne (words : List Text) (f : Ending) (runs : List (OneRun words)) (t : Session) : Type 0 where
   hows : Broken
   alone : t.public.batch ≡ None → AreAlone hows
-  answered : (after_all t (all_spelt runs) hows).asked < 2 ^ 63 → AnswersFrom f t (all_spelt runs) hows (all_answers runs) (all_seen runs) []
+  answered : (after_all t (all_spelt runs) hows).asked < 2 ^ 63 → AnswersAlone f t (all_spelt runs) hows (all_answers runs) (all_seen runs) []
 
 -- a run, and those behind it: its texts spell these statements, which were answered and seen so
 record FirstOf (words : List Text) (f : Ending) (t : Session) (spelt : List Spelt) (answers : List Answer) (seen : List Served) (Later : Session → Type 0) : Type 0 where
@@ -292,7 +292,7 @@ module _ (words : List Text) (f : Ending) (runs : List (OneRun words)) (t : Sess
   abbrev Joined : Type 0
   Joined =
       (hows : Broken) × (t.public.batch ≡ None → AreAlone hows)
-      × ((after_all t (spelt ++ all_spelt runs) hows).asked < 2 ^ 63 → AnswersFrom f t (spelt ++ all_spelt runs) hows (answers ++ all_answers runs) (seen ++ all_seen runs) [])
+      × ((after_all t (spelt ++ all_spelt runs) hows).asked < 2 ^ 63 → AnswersAlone f t (spelt ++ all_spelt runs) hows (answers ++ all_answers runs) (seen ++ all_seen runs) [])
 
   go_on : (b : Bool) → nat_lt (after_all t spelt here).asked (2 ^ 63) ≡ b → Joined
   go_on true is =
@@ -315,7 +315,7 @@ module _ (words : List Text) (f : Ending) (runs : List (OneRun words)) (t : Sess
   first_and_more = go_on (nat_lt (after_all t spelt here).asked (2 ^ 63)) refl
 
 all_as_one : (words : List Text) (keeps : is_kept words ≡ true) (secret : List ℕ) (f : Ending) (runs : List (OneRun words)) (held : Option Mark) (kept : ℕ → Option KeptRegion) (t : Session) → GoOn secret held kept runs → Waits words secret held kept t → InOne words f runs t
-unfolding AnswersFrom
+unfolding AnswersAlone
 all_as_one words keeps secret f [] held kept t goes waits = record { hows = []; alone = λ batchless. tt; answered = λ few. (refl, refl) }
 all_as_one words keeps secret f (one ∷ runs) held kept t goes waits =
     let good = goes.2 in
@@ -342,9 +342,9 @@ all_as_one words keeps secret f (one ∷ runs) held kept t goes waits =
       alone = joined.1;
       answered =
           subst (λ (r : RunKept (settings_of kept_usage words) (IsTaken kept_usage words) (is_traced kept_usage words) one.old one.new one.keeper0 one.keeper1 one.run.ending one.run.answers one.report).
-          (after_all t (spelt_in r ++ all_spelt runs) joined.0).asked < 2 ^ 63 → AnswersFrom f t (spelt_in r ++ all_spelt runs) joined.0 (one.run.answers ++ all_answers runs) (seen_in r ++ all_seen runs) []) (sym found.1)
+          (after_all t (spelt_in r ++ all_spelt runs) joined.0).asked < 2 ^ 63 → AnswersAlone f t (spelt_in r ++ all_spelt runs) joined.0 (one.run.answers ++ all_answers runs) (seen_in r ++ all_seen runs) []) (sym found.1)
           (subst (λ (a : List Answer). (after_all t (run.session.story.spelt ++ all_spelt runs) joined.0).asked < 2 ^ 63
-          → AnswersFrom f t (run.session.story.spelt ++ all_spelt runs) joined.0 (a ++ all_answers runs) ((run.session.story.seen ++ run.session.story.last) ++ all_seen runs) []) (sym run.answered) joined.2);
+          → AnswersAlone f t (run.session.story.spelt ++ all_spelt runs) joined.0 (a ++ all_answers runs) ((run.session.story.seen ++ run.session.story.last) ++ all_seen runs) []) (sym run.answered) joined.2);
     }
 
 -- no tables are public before the first statement

@@ -16,9 +16,11 @@ use Rattle.ob_base.specs.declared.schema.Shape.TheVariants.{Flat, Indexed}
 use Rattle.ob_base.specs.declared.seen.Seen.{Seen}
 use Rattle.ob_headline.proofs.AlikeSessions.{SessionsAlike, TablesAlike, after_alike, answers_alike, grows, parted_alike, settled_alike}
 use Rattle.ob_headline.proofs.BatchLemmas.{sound_now}
-use Rattle.ob_headline.specs.Accesses.{AreSeen, Says}
+use Rattle.ob_headline.proofs.ServedAlone.{SeenAlone}
+use Rattle.ob_headline.specs.Accesses.{Says}
 use Rattle.ob_headline.specs.Batches.{Joins, is_failed}
-use Rattle.ob_headline.specs.Meaning.{AnswersFrom, AnswersIn, AnswersMeant}
+use Rattle.ob_headline.proofs.ServedAlone.{AnswersAlone}
+use Rattle.ob_headline.specs.Meaning.{AnswersIn, AnswersMeant}
 use Rattle.ob_headline.specs.SavedHeadline.{answered_by, left_by, taken_by}
 use Rattle.ob_headline.specs.SavedRuns.{AnsweredInOne, Effect, effects_of, has_failed, texts_of, unanswered}
 use Rattle.ob_headline.specs.Statements.{statements}
@@ -228,7 +230,7 @@ module _ (Leaves : Public → Stmt → Seen → Type 0) (g : Option Gathering) (
     (alike : SessionsAlike s t)
     (lawful : (x.skeleton ≡ skeleton stmt) × Lawful s.public s.asked stmt x.seen
     × (Says (refusal_now s.public s.asked stmt) s.public stmt one × (IsTrue (is_failed g x.seen.end) ↔ (one.outcome ≡ Refused StoreFault)) × (one.plan ≡ x.seen.plan) × Joins s.public s.asked g stmt x.seen)
-    × AreSeen Leaves (next s.public x.skeleton x.seen) (s.asked + length (script s.public x.skeleton x.seen)) (gathering_after s.public s.asked g stmt x.seen.end) spelt answers seen)
+    × SeenAlone Leaves (next s.public x.skeleton x.seen) (s.asked + length (script s.public x.skeleton x.seen)) (gathering_after s.public s.asked g stmt x.seen.end) spelt answers seen)
     (few : s.asked + length (trace s.public (x ∷ seen)) < 2 ^ 63) where
   abbrev behind : List Effect
   behind = effects_of more spelt answers
@@ -238,14 +240,14 @@ module _ (Leaves : Public → Stmt → Seen → Type 0) (g : Option Gathering) (
   all failed = if failed then behind else record { text = Ok stmt; answer = Some one } ∷ behind
 
   abbrev Told : How → Type 0
-  Told how = (is_full_now s stmt ≡ false) × IsCutOff how s stmt × AnswersIn how s stmt one × (x.seen ≡ seen_or_cut how s stmt) × AnswersFrom ending (after how s stmt) spelt (rest_of broken) answers seen part
+  Told how = (is_full_now s stmt ≡ false) × IsCutOff how s stmt × AnswersIn how s stmt one × (x.seen ≡ seen_or_cut how s stmt) × AnswersAlone ending (after how s stmt) spelt (rest_of broken) answers seen part
 
   -- what is gathered behind it
   abbrev gathered : How → Option Gathering
   gathered how = gathering_after s.public s.asked g stmt (seen_or_cut how s stmt).end
 
   abbrev Follows : Type 0
-  Follows = (h : Option Gathering) (u v : Session) → SessionsAlike u v → AnswersFrom ending u spelt (rest_of broken) answers seen part → AreSeen Leaves u.public u.asked h spelt answers seen → u.asked + length (trace u.public seen) < 2 ^ 63
+  Follows = (h : Option Gathering) (u v : Session) → SessionsAlike u v → AnswersAlone ending u spelt (rest_of broken) answers seen part → SeenAlone Leaves u.public u.asked h spelt answers seen → u.asked + length (trace u.public seen) < 2 ^ 63
       → (after_all v (texts_of behind) []).asked < 2 ^ 63 → Took v (left_by more u spelt answers (rest_of broken)) behind
 
   -- the accesses behind it
@@ -255,10 +257,10 @@ module _ (Leaves : Public → Stmt → Seen → Type 0) (g : Option Gathering) (
       let whole : s.asked + length (script s.public x.skeleton x.seen ++ trace (next s.public x.skeleton x.seen) seen) < 2 ^ 63 = few in
       omega (arith, whole, long)
 
-  seen_at : (how : How) → x.seen ≡ seen_or_cut how s stmt → AreSeen Leaves (after how s stmt).public (after how s stmt).asked (gathered how) spelt answers seen
+  seen_at : (how : How) → x.seen ≡ seen_or_cut how s stmt → SeenAlone Leaves (after how s stmt).public (after how s stmt).asked (gathered how) spelt answers seen
   seen_at how is =
       let entry : x ≡ served how s stmt = λ i. record { skeleton = lawful.0 i; seen = is i } in
-      subst (λ (y : Served). AreSeen Leaves (next s.public y.skeleton y.seen) (s.asked + length (script s.public y.skeleton y.seen)) (gathering_after s.public s.asked g stmt y.seen.end) spelt answers seen) entry lawful.3
+      subst (λ (y : Served). SeenAlone Leaves (next s.public y.skeleton y.seen) (s.asked + length (script s.public y.skeleton y.seen)) (gathering_after s.public s.asked g stmt y.seen.end) spelt answers seen) entry lawful.3
 
   few_at : (how : How) → x.seen ≡ seen_or_cut how s stmt → (after how s stmt).asked + length (trace (after how s stmt).public seen) < 2 ^ 63
   few_at how is =
@@ -311,9 +313,9 @@ module _ (Leaves : Public → Stmt → Seen → Type 0) (g : Option Gathering) (
   step_on CutWith is told follows few_too = took_none CutWith is told.2.outcome (cut_with_alike s t stmt alike) told follows few_too
 
 pub effects_on : (Leaves : Public → Stmt → Seen → Type 0) (g : Option Gathering) (ending : Ending) (more : Option (List Stmt)) (spelt : List Spelt) (s t : Session) (broken : Broken) (answers : List Answer) (seen : List Served) (part : List ℕ)
-    → SessionsAlike s t → AnswersFrom ending s spelt broken answers seen part → AreSeen Leaves s.public s.asked g spelt answers seen → s.asked + length (trace s.public seen) < 2 ^ 63
+    → SessionsAlike s t → AnswersAlone ending s spelt broken answers seen part → SeenAlone Leaves s.public s.asked g spelt answers seen → s.asked + length (trace s.public seen) < 2 ^ 63
     → (after_all t (texts_of (effects_of more spelt answers)) []).asked < 2 ^ 63 → Took t (left_by more s spelt answers broken) (effects_of more spelt answers)
-unfolding AnswersFrom AreSeen effects_of AnsweredInOne
+unfolding AnswersAlone SeenAlone effects_of AnsweredInOne
 effects_on Leaves g ending more [] s t broken [] seen part alike told lawful few few_too = one_more s t alike (omega (arith, few)) more [] broken few_too
 effects_on Leaves g ending more [] s t broken (one ∷ answers) seen part alike told lawful few few_too = absurd (cc told.0)
 effects_on Leaves g ending more (x ∷ spelt) s t broken [] seen part alike told lawful few few_too = one_more s t alike (omega (arith, few)) more (x ∷ spelt) broken few_too

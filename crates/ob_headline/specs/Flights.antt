@@ -13,7 +13,7 @@ use Rattle.ob_headline.specs.Story.{Story}
 use Rattle.ob_headline.specs.declared.flight.FlightSettings.{FlightSettings}
 use Rattle.ob_mean.specs.Replay.{Session, Spelt, has_index}
 use Rattle.ob_script.specs.FlightLaws.{SelectsFromOne}
-use Rattle.ob_script.specs.Flights.{Alone, Entry, Flight, Flying, Together, boarding, drawn, flight, flight_accesses, flight_public, next_flight, own, served_in, trace_in, turns, turns_of, words_from}
+use Rattle.ob_script.specs.Flights.{Alone, Entry, Flight, Flying, Together, all_alone, boarding, drawn, flight, flight_accesses, flight_public, next_flight, own, served_in, trace_in, turns, turns_of, words_from}
 use Rattle.ob_script.specs.Script.{script}
 use Rattle.ob_script.specs.Trace.{Served, next}
 use Rattle.ob_sql.specs.Skeleton.{skeleton}
@@ -97,15 +97,15 @@ abbrev pub trace_of : Base → List Entry → List Access
 trace_of base entries = trace_in (words_of base) 0 base.public entries
 
 -- what is public behind them
-unfoldable pub public_behind : (words : ℕ → ℕ) → (t : ℕ) → Public → List Entry → Public
-public_behind words t p [] = p
-public_behind words t p (Alone x ∷ entries) =
-    public_behind words t (next p x.skeleton x.seen) entries
-public_behind words t p (Together flown left ∷ entries) =
-    public_behind words (t + turns_of p flown) (next_flight p flown (words_from words t)) entries
+unfoldable pub after_entries : (words : ℕ → ℕ) → (t : ℕ) → Public → List Entry → Public
+after_entries words t p [] = p
+after_entries words t p (Alone x ∷ entries) =
+    after_entries words t (next p x.skeleton x.seen) entries
+after_entries words t p (Together flown left ∷ entries) =
+    after_entries words (t + turns_of p flown) (next_flight p flown (words_from words t)) entries
 
-abbrev pub public_of : Base → List Entry → Public
-public_of base entries = public_behind (words_of base) 0 base.public entries
+abbrev pub public_after : Base → List Entry → Public
+public_after base entries = after_entries (words_of base) 0 base.public entries
 
 -- ---- by what each statement goes
 -- where a flight was left: how many accesses it had asked by then, how many of these were the statement's own, and how many
@@ -203,6 +203,10 @@ pub record Entered (base : Base) (story : Story) : Type 0 where
 -- the session of the model from which a statement is answered: these tables and these draws, by what its seat says
 abbrev pub at_seat : Seat → Session → Session
 at_seat v s = record s { public = v.public; asked = v.asked }
+
+-- by what statements go that are served from there, each alone
+abbrev pub seats_alone : Session → List Served → List Seat
+seats_alone s seen = seats (drawn 0) 0 s.public s.asked (all_alone seen)
 
 -- so before the next statement, if there is one
 abbrev pub at_next : List Seat → Session → Session

@@ -12,8 +12,8 @@ use Rattle.ob_headline.specs.Keeping.{BeganKept, Closes, NotBegun, closing_behin
 use Rattle.ob_headline.specs.KeyLine.{first_line, has_lf, secret_of}
 use Rattle.ob_headline.specs.Tracing.{traced}
 use Rattle.ob_headline.specs.Words.{Answer, IsHonest, Outside, SinksRose, keys_in, outside_of}
-use Rattle.ob_headline.specs.Flights.{public_of, seats_of}
-use Rattle.ob_headline.specs.Meaning.{AnswersFrom, session_behind}
+use Rattle.ob_headline.specs.Flights.{public_after, seats_of}
+use Rattle.ob_headline.specs.Meaning.{AnswersFrom, session_after}
 use Rattle.ob_headline.specs.Sealing.{PassesRows, SealsEach, SealsOwn}
 use Rattle.ob_headline.specs.declared.ending.Ending.{Ending}
 use Rattle.ob_headline.specs.declared.ending.Ending.TheVariants.{Usage, BadKey, Ran}
@@ -101,7 +101,7 @@ pub record ClosesTables (base : Base) (keys : KeySet) (tracing refused : Bool) (
     (begun served new : StoreState) (traced0 traced1 : Option (List ℕ)) (fault0 fault1 : ℕ)
     (keeper0 keeper1 : KeeperState) (ending : KeptEnding) : Type 0 where
   pub closing : Closing
-  pub is : closing ≡ closing_behind (public_of base story.entries) base.start served.asked
+  pub is : closing ≡ closing_behind (public_after base story.entries) base.start served.asked
   pub closes : Closes closing (region_opened base.opened) tracing (Plain (Ran (Ok refused))) ending
       served new traced0 traced1 fault0 fault1 keeper0 keeper1
   pub later : Later served new
@@ -111,7 +111,7 @@ pub record ClosesTables (base : Base) (keys : KeySet) (tracing refused : Bool) (
       → closes.result ≡ Ok mark → FromEach base (λ s. (broken : Broken)
       × AnswersFrom (Ran (Ok refused)) (seats_of base story.entries) (drawing keys s) story.spelt
       broken story.answers (story.seen ++ story.last) story.part
-      × Rests keys closing new.kept (by_name (session_behind (seats_of base story.entries)
+      × Rests keys closing new.kept (by_name (session_after (seats_of base story.entries)
       (drawing keys s) story.spelt broken).tables))
   -- and no block of a live region lies in clear, of the closing neither
   pub sealed : SealsOwn (PassesBoth base.public.pack) base keys begun new

@@ -7,6 +7,7 @@ use Rattle.ob_base.specs.declared.mark.Mark.{Mark}
 use Rattle.ob_base.specs.declared.mark.Mark.TheVariants.{InUse}
 use Rattle.ob_base.specs.declared.refusal.Stop.{Stop}
 use Rattle.ob_reopen.specs.Closed.{is_used_up}
+use Rattle.ob_headline.specs.Flights.{public_after}
 use Rattle.ob_headline.specs.Keeping.{closing_behind}
 use Rattle.ob_headline.specs.KeptHeadline.{KeptHeadline, RunKept}
 use Rattle.ob_headline.specs.Settings.{IsTaken, settings_of}
@@ -19,7 +20,6 @@ use Rattle.ob_headline.specs.declared.ending.Report.{Report}
 use Rattle.ob_reopen.specs.Closings.{mark_of}
 use Rattle.ob_reopen.specs.Keepers.{KeeperState}
 use Rattle.ob_reopen.specs.declared.closing.Closing.{Closing}
-use Rattle.ob_script.specs.Trace.{after_all as all_public}
 
 -- what `keep_top` promises of a run with `--keep` that reads its input
 abbrev pub KeptRun : List Text → (old new : Outside) → (keeper0 keeper1 : KeeperState) → Report
@@ -50,5 +50,5 @@ HeldAfter {keeper1 = keeper1} (inl run) held = keeper1.held ≡ Some held
 HeldAfter {keeper1 = keeper1} {ending = ending} (inr (inl run)) held =
     (keeper1.held ≡ Some held) ⊎ ((ending ≡ KeeperFault) × (keeper1.held ≡ Some InUse))
 HeldAfter {keeper1 = keeper1} {ending = ending} (inr (inr run)) held =
-    HeldBehind ending (closing_behind (all_public run.base.public run.session.story.seen)
+    HeldBehind ending (closing_behind (public_after run.base run.session.story.entries)
     run.base.start run.served.store.asked) keeper1.held

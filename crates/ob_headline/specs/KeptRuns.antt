@@ -7,6 +7,7 @@ use Rattle.ob_base.specs.declared.config.Config.{Config}
 use Rattle.ob_base.specs.declared.mark.Mark.{Mark}
 use Rattle.ob_headline.specs.Bases.{drawing, start}
 use Rattle.ob_headline.specs.Failures.{failures}
+use Rattle.ob_headline.specs.Flights.{seats_alone}
 use Rattle.ob_headline.specs.KeptHeadline.{RunKept}
 use Rattle.ob_headline.specs.KeptMarks.{KeptRun}
 use Rattle.ob_headline.specs.Reruns.{EndsWell}
@@ -112,7 +113,8 @@ pub record AnswerAsOne {words : List Text} (secret : List ℕ) (runs : List (One
   pub hows : Broken
   pub alone : (first_of words secret).public.batch ≡ None → hows ≡ []
   pub answered : (after_all (first_of words secret) (all_spelt runs) hows).asked < 2 ^ 63
-      → AnswersFrom (Ran (Ok (any_refused (all_answers runs)))) (first_of words secret)
+      → AnswersFrom (Ran (Ok (any_refused (all_answers runs))))
+      (seats_alone (first_of words secret) (all_seen runs)) (first_of words secret)
       (all_spelt runs) hows (all_answers runs) (all_seen runs) []
 
 -- ---- numbers over runs

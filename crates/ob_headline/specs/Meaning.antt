@@ -192,10 +192,10 @@ AnswersFrom ending (v ∷ seats) s (Ok stmt ∷ spelt) broken (one ∷ more) (x 
     more seen part
 
 -- the session behind these texts: these tables and these draws, by what the next statement goes by
-unfoldable pub session_behind : List Seat → Session → List Spelt → Broken → Session
-session_behind seats s [] broken = at_next seats s
-session_behind seats s (Err at ∷ spelt) broken = session_behind seats s spelt (rest_of broken)
-session_behind [] s (Ok stmt ∷ spelt) broken = s
-session_behind (v ∷ seats) s (Ok stmt ∷ spelt) broken =
+unfoldable pub session_after : List Seat → Session → List Spelt → Broken → Session
+session_after seats s [] broken = at_next seats s
+session_after seats s (Err at ∷ spelt) broken = session_after seats s spelt (rest_of broken)
+session_after [] s (Ok stmt ∷ spelt) broken = s
+session_after (v ∷ seats) s (Ok stmt ∷ spelt) broken =
     if is_full_now (at_seat v s) stmt then at_seat v s
-    else session_behind seats (after (head_of broken) (at_seat v s) stmt) spelt (rest_of broken)
+    else session_after seats (after (head_of broken) (at_seat v s) stmt) spelt (rest_of broken)

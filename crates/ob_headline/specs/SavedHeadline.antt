@@ -12,7 +12,7 @@ use Rattle.ob_headline.specs.Keeping.{kept_status}
 use Rattle.ob_headline.specs.KeptHeadline.{Unkeyed, Unserved, begun_at}
 use Rattle.ob_headline.specs.KeyLine.{first_line, secret_of}
 use Rattle.ob_headline.specs.Flights.{Seat, seats_of}
-use Rattle.ob_headline.specs.Meaning.{AnswersFrom, session_behind}
+use Rattle.ob_headline.specs.Meaning.{AnswersFrom, session_after}
 use Rattle.ob_headline.specs.Saving.{BeganSaved, NotBegunSaved, RestsAlike}
 use Rattle.ob_headline.specs.Statements.{SpellFirst, statements}
 use Rattle.ob_headline.specs.Story.{Story}
@@ -46,7 +46,7 @@ UnbegunSaved settings Takes tracing old new keeper0 keeper1 ending answers repor
 -- the session of the model behind the texts that were answered
 abbrev pub answered_by : List Seat → Session → List Spelt → List Answer → Broken → Session
 answered_by seats s spelt answers broken =
-    session_behind seats s (take (length answers) spelt) (take (length answers) broken)
+    session_after seats s (take (length answers) spelt) (take (length answers) broken)
 
 -- the statements behind them that took effect: none, or the next one, and these
 abbrev pub taken_by : (more : Option (List Stmt)) → List Spelt → List Answer → List Stmt
