@@ -2,9 +2,11 @@
 use Rattle.std.specs.Prelude.{if◌then◌else◌}
 use Rattle.std.proofs.Common.{◌≡◌, ◌+◌, ◌≤◌, ◌++◌, inl, inr, ℕ, Bool, true, false, Ok, Err, List, [], ◌∷◌, length, Option, Some, None, refl, sym, ◌∙◌, ap, subst, append-nil, arith}
 use Rattle.std.specs.Io.KnownBytes.{Appends, Consumes, IsAtEnd}
+use Rattle.ob_base.specs.declared.access.Access.{Access}
 use Rattle.ob_base.specs.declared.config.Public.{Public}
 use Rattle.ob_base.specs.declared.seen.Seen.{Seen}
 use Rattle.ob_base.specs.declared.refusal.Stop.TheVariants.{Tampered, SourceFault, SinkFault, NoMemory, InputLimit, StoreFault, StashFull, KeeperFault}
+use Rattle.ob_headline.proofs.AloneRuns.{meant_alone, run_alone}
 use Rattle.ob_headline.proofs.BatchLemmas.{IsUncut, how_is}
 use Rattle.ob_headline.proofs.RerunLemmas.{answered_all, failure_is}
 use Rattle.ob_headline.proofs.ServedAlone.{SeenAlone}
@@ -13,6 +15,7 @@ use Rattle.ob_headline.specs.Bases.{FromEach, HoldsFrom, Opened, drawing, sessio
 use Rattle.ob_headline.specs.Batches.{gathered_now}
 use Rattle.ob_headline.specs.Endings.{last_line, status_of}
 use Rattle.ob_headline.specs.Failures.{FailsBeside, failures, outcome_failures}
+use Rattle.ob_headline.specs.Flights.{FliesNone}
 use Rattle.ob_headline.specs.FullStash.{ReadsFullStash}
 use Rattle.ob_headline.specs.KeyLine.{after_line}
 use Rattle.ob_headline.specs.Plainly.{AnsweredPlainly, IsUnhindered, RunsPlainly}
@@ -74,7 +77,7 @@ answers_plainly Leaves ending g s (Ok stmt ∷ spelt) broken (one ∷ more) (x �
     )
 
 -- ---- it comes to its end
-module _ (one : SomeRun) (input : List ℕ) (free : IsUnhindered one input) where
+module _ (one : SomeRun) (input : List ℕ) (flies : FliesNone one.base) (free : IsUnhindered one input) where
   abbrev Ends : Type 0
   Ends = (refused : Bool) × (one.run.ending ≡ Ran (Ok refused))
 
@@ -121,7 +124,7 @@ module _ (one : SomeRun) (input : List ℕ) (free : IsUnhindered one input) wher
   Seen_at p m = SeenAlone (StopsWithin one.run.ending (FailsBeside one.run.story.seen one.old.store.faults one.new.store.faults) (ReadsFullStash (keys_by one) one.base.start one.new.store)) p m None one.run.story.spelt one.run.story.answers (seen_by one)
 
   lawful_at : (s : Session) → (s.public ≡ one.base.public) → (s.asked ≡ one.base.count) → Seen_at s.public s.asked
-  lawful_at s public asked = subst (λ (p : Public). Seen_at p s.asked) (sym public) (subst (λ (m : ℕ). Seen_at one.base.public m) (sym asked) one.run.accesses.lawful)
+  lawful_at s public asked = subst (λ (p : Public). Seen_at p s.asked) (sym public) (subst (λ (m : ℕ). Seen_at one.base.public m) (sym asked) (run_alone one flies).lawful)
 
   plainly : (s : Session) (refused : Bool) → (s.public ≡ one.base.public) → (s.asked ≡ one.base.count) → one.run.ending ≡ Ran (Ok refused) → (broken : Broken)
       → AnswersAlone one.run.ending s one.run.story.spelt broken one.run.story.answers (seen_by one) one.run.story.part → RunsPlainly one input s
@@ -139,9 +142,10 @@ module _ (one : SomeRun) (input : List ℕ) (free : IsUnhindered one input) wher
         texts = (λ i. texts_in (sym why.2.whole i) (after_line (sym whole i))) ∙ one.run.bytes.texts ∙ ap (λ (l : List (List ℕ)). one.run.story.served ++ l) why.2.all.no_more ∙ append-nil one.run.story.served;
         answered = meant.0;
         seen = meant.1;
-        asked = one.run.accesses.asked ∙ ap (λ (xs : List Entry). one.base.before ++ trace one.base.public xs) meant.1;
+        asked = (run_alone one flies).asked ∙ ap (λ (xs : List Entry). one.base.before ++ trace one.base.public xs) meant.1;
         printed = subst (λ (l : List ℕ). Appends one.old.written one.new.written l) line (took free.sinks one.run.output.grew);
-        traced = subst (λ (xs : List Entry). Appends one.old.traced one.new.traced (traced one.tracing (trace one.base.public xs))) meant.1 (took free.sinks one.run.output.traced_all);
+        traced = subst (λ (xs : List Entry). Appends one.old.traced one.new.traced (traced one.tracing (trace one.base.public xs))) meant.1
+            (subst (λ (l : List Access). Appends one.old.traced one.new.traced (traced one.tracing l)) (run_alone one flies).traced (took free.sinks one.run.output.traced_all));
         status = says refused is ∙ ap (λ (b : Bool). if b then 1 else 0) why.1;
       }
 
@@ -155,7 +159,8 @@ module _ (one : SomeRun) (input : List ℕ) (free : IsUnhindered one input) wher
   Done s = Completes one.run.ending
 
   pub runs_plainly : FromEach one.base (λ s. RunsPlainly one input (s_of s))
-  runs_plainly = go one.base.opened (one.run.status.completes free.takes input free.left free.limits free.source free.sinks) (one.run.answers.meant undeceived) where
+  runs_plainly = go one.base.opened (one.run.status.completes free.takes input free.left free.limits free.source free.sinks) 
+      (meant_alone one.base flies (keys_by one) one.run.ending one.run.story one.old.store one.new.store one.run.accesses (one.run.answers.meant undeceived)) where
     at : (s : Session) → (s.public ≡ one.base.public) → (s.asked ≡ one.base.count) → Done s → Meant s → RunsPlainly one input (s_of s)
     at s public asked done all = let end = ends one.run.ending refl done in plainly (s_of s) end.0 public asked end.1 all.0 all.1
 
