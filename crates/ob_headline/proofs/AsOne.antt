@@ -27,7 +27,7 @@ use Rattle.ob_headline.specs.Keeping.{BeginsFrom, EndsWith, closing_named, kept_
 use Rattle.ob_headline.specs.KeptHeadline.{ClosesTables, EndsBehind, EndsUnkeyed, IsClosed, RunKept, SessionKept, begun_at}
 use Rattle.ob_headline.specs.KeptMarks.{HeldAfter, mark_made}
 use Rattle.ob_headline.specs.KeptRuns.{AnswerAsOne, GoOn, OneRun, first_of, all_answers, all_seen, all_spelt, count_in, secret_in, seen_in, spelt_in}
-use Rattle.ob_headline.specs.Settings.{IsTaken, settings_of}
+use Rattle.ob_headline.specs.Settings.{IsTaken, flight_of, settings_of}
 use Rattle.ob_headline.specs.Usage.{is_kept, is_traced, kept_usage}
 use Rattle.ob_headline.specs.Words.{Answer, Outside, any_refused, keys_in}
 use Rattle.ob_headline.proofs.ServedAlone.{AnswersAlone}
@@ -51,6 +51,7 @@ use Rattle.ob_verdict.proofs.PlainSettings.{plain}
 use Rattle.ob_verdict.proofs.AlikeTables.{alike_chained, alike_turned}
 use Rattle.ob_verdict.specs.Alike.{AreAlike}
 use Rattle.ob_headline.specs.Story.{Story}
+use Rattle.ob_headline.specs.declared.flight.FlightSettings.{FlightSettings}
 
 -- ---- a run that came to its end
 -- by its status
@@ -84,9 +85,9 @@ unkeyed_stops (Ran (Ok other)) taken kept refused is ends well = absurd ends
 unkeyed_stops (Ran (Err stop)) taken kept refused is ends well = cc (is, well)
 
 -- a session went on
-has_session : {settings : Option Config} {Takes : Type 0} {tracing : Bool} {old new : Outside} {k0 k1 : KeeperState} {ending : KeptEnding} {answers : List Answer} {report : Report}
-    (ran : RunKept settings Takes tracing old new k0 k1 ending answers report) (refused : Bool) → ending ≡ Plain (Ran (Ok refused))
-    → (run : SessionKept settings Takes tracing old new k0 k1 ending answers report) × (ran ≡ inr (inr run))
+has_session : {settings : Option Config} {flight : Option FlightSettings} {Takes : Type 0} {tracing : Bool} {old new : Outside} {k0 k1 : KeeperState} {ending : KeptEnding} {answers : List Answer} {report : Report}
+    (ran : RunKept settings flight Takes tracing old new k0 k1 ending answers report) (refused : Bool) → ending ≡ Plain (Ran (Ok refused))
+    → (run : SessionKept settings flight Takes tracing old new k0 k1 ending answers report) × (ran ≡ inr (inr run))
 has_session (inl run) refused well = absurd (unkeyed_stops run.headline.ending run.headline.taken _ refused run.is run.ends well)
 has_session (inr (inl run)) refused well = absurd (begun_stops run.config (keys_of run.secret) _ _ _ _ _ _ _ refused run.begun well)
 has_session (inr (inr run)) refused well = (run, refl)
@@ -147,7 +148,7 @@ tells_on (Saved region blocks number pack salt) config keys base old new begins 
 tells_on (Closed region blocks number pack) config keys base old new begins tells = subst (λ (b : Bool). IsTrue b) (sym begins.1.tells) tells
 
 -- ---- one run, and those behind it
-module _ (words : List Text) (secret : List ℕ) (f : Ending) (one : OneRun words) (run : SessionKept (settings_of kept_usage words) (IsTaken kept_usage words) (is_traced kept_usage words) one.old one.new one.keeper0 one.keeper1 one.run.ending one.run.answers one.report)
+module _ (words : List Text) (secret : List ℕ) (f : Ending) (one : OneRun words) (run : SessionKept (settings_of kept_usage words) (flight_of kept_usage words) (IsTaken kept_usage words) (is_traced kept_usage words) one.old one.new one.keeper0 one.keeper1 one.run.ending one.run.answers one.report)
     (came : one.run.ran ≡ inr (inr run)) (refused : Bool) (well : one.run.ending ≡ Plain (Ran (Ok refused))) (kept : is_kept words ≡ true) (keyed : run.secret ≡ secret) (none : failures one.run.answers ≡ 0) (tells : IsTrue one.old.store.tells)
     (honest : one.new.store.lie ≡ None) (soon : run.base.count + length (trace run.base.public (run.session.story.seen ++ run.session.story.last)) < 2 ^ 63)
     (held : Option Mark) (same_mark : one.keeper0.held ≡ held) (t : Session) (waits : Waits words secret held one.old.store.kept t) where
@@ -216,7 +217,7 @@ module _ (words : List Text) (secret : List ℕ) (f : Ending) (one : OneRun word
   held_behind : one.keeper1.held ≡ Some (mark_made tables.closing)
   held_behind =
       let after : HeldAfter one.run.ran waits.mark = marks_held words one.old one.new one.keeper0 one.keeper1 one.report one.run waits.mark (same_mark ∙ waits.is) in
-      let behind = subst (λ (r : RunKept (settings_of kept_usage words) (IsTaken kept_usage words) (is_traced kept_usage words) one.old one.new one.keeper0 one.keeper1 one.run.ending one.run.answers one.report). HeldAfter r waits.mark) came after in
+      let behind = subst (λ (r : RunKept (settings_of kept_usage words) (flight_of kept_usage words) (IsTaken kept_usage words) (is_traced kept_usage words) one.old one.new one.keeper0 one.keeper1 one.run.ending one.run.answers one.report). HeldAfter r waits.mark) came after in
       behind.whole refused well ∙ ap (λ (c : Closing). Some (mark_made c)) (sym tables.is)
 
   waits_made : (used : Bool) (ts : Tables) → is_used_up tables.closing ≡ used → ((used ≡ false) → WaitsAt secret (mark_of tables.closing) one.new.store.kept ts) → WaitsAt secret (mark_made tables.closing) one.new.store.kept ts
@@ -322,8 +323,8 @@ all_as_one words keeps secret f (one ∷ runs) held kept t goes waits =
     let ended = well_ended one.run.ending (subst (λ (n : ℕ). n ≤ 1) one.run.status good.well.ended) in
     let found = has_session one.run.ran ended.0 ended.1 in
     let run = found.0 in
-    let keyed : run.secret ≡ secret = cc (subst (λ (r : RunKept (settings_of kept_usage words) (IsTaken kept_usage words) (is_traced kept_usage words) one.old one.new one.keeper0 one.keeper1 one.run.ending one.run.answers one.report). secret_in r ≡ Some secret) found.1 good.keyed) in
-    let soon = subst (λ (r : RunKept (settings_of kept_usage words) (IsTaken kept_usage words) (is_traced kept_usage words) one.old one.new one.keeper0 one.keeper1 one.run.ending one.run.answers one.report). count_in r < 2 ^ 63) found.1 good.early in
+    let keyed : run.secret ≡ secret = cc (subst (λ (r : RunKept (settings_of kept_usage words) (flight_of kept_usage words) (IsTaken kept_usage words) (is_traced kept_usage words) one.old one.new one.keeper0 one.keeper1 one.run.ending one.run.answers one.report). secret_in r ≡ Some secret) found.1 good.keyed) in
+    let soon = subst (λ (r : RunKept (settings_of kept_usage words) (flight_of kept_usage words) (IsTaken kept_usage words) (is_traced kept_usage words) one.old one.new one.keeper0 one.keeper1 one.run.ending one.run.answers one.report). count_in r < 2 ^ 63) found.1 good.early in
     let here = subst (λ (k : ℕ → Option KeptRegion). Waits words secret held k t) (sym (λ i q. goes.1 q i)) waits in
     let first : FirstOf words f t run.session.story.spelt run.session.story.answers (run.session.story.seen ++ run.session.story.last) (λ u. Waits words secret one.keeper1.held one.new.store.kept u) = record {
       broken = (told words secret f one run found.1 ended.0 ended.1 keeps keyed good.well.none good.tells good.honest soon held goes.0 t here).0;
@@ -341,7 +342,7 @@ all_as_one words keeps secret f (one ∷ runs) held kept t goes waits =
       hows = joined.0;
       alone = joined.1;
       answered =
-          subst (λ (r : RunKept (settings_of kept_usage words) (IsTaken kept_usage words) (is_traced kept_usage words) one.old one.new one.keeper0 one.keeper1 one.run.ending one.run.answers one.report).
+          subst (λ (r : RunKept (settings_of kept_usage words) (flight_of kept_usage words) (IsTaken kept_usage words) (is_traced kept_usage words) one.old one.new one.keeper0 one.keeper1 one.run.ending one.run.answers one.report).
           (after_all t (spelt_in r ++ all_spelt runs) joined.0).asked < 2 ^ 63 → AnswersAlone f t (spelt_in r ++ all_spelt runs) joined.0 (one.run.answers ++ all_answers runs) (seen_in r ++ all_seen runs) []) (sym found.1)
           (subst (λ (a : List Answer). (after_all t (run.session.story.spelt ++ all_spelt runs) joined.0).asked < 2 ^ 63
           → AnswersAlone f t (run.session.story.spelt ++ all_spelt runs) joined.0 (a ++ all_answers runs) ((run.session.story.seen ++ run.session.story.last) ++ all_seen runs) []) (sym run.answered) joined.2);

@@ -28,6 +28,7 @@ use Rattle.ob_seal.specs.KeySet.{KeySet}
 use Rattle.ob_seal.specs.Sealed.{keys_of}
 use Rattle.ob_store.specs.State.{StoreState}
 use Rattle.ob_headline.specs.Story.{Story}
+use Rattle.ob_headline.specs.declared.flight.FlightSettings.{FlightSettings}
 
 -- ---- no statement was served
 kept_held : (config : Config) (keys : KeySet) (ending : KeptEnding) (s t : StoreState) (f0 f1 : ℕ) (k0 k1 : KeeperState) (held : Mark) → k0.held ≡ Some held → NotBegun config keys ending s t f0 f1 k0 k1
@@ -93,8 +94,8 @@ behind_held (Ran (Ok refused)) base keys tracing story begun served new run repo
     subst (λ (c : Closing). HeldBehind ending c k1.held) behind.tables.is (closed_held behind.tables.closing _ closes.result refused ending _ _ _ _ k0 k1 used closes.writes closes.ends)
 
 -- ---- the run
-pub held_after : {settings : Option Config} {Takes : Type 0} {tracing : Bool} {old new : Outside} {k0 k1 : KeeperState} {ending : KeptEnding} {answers : List Answer} {report : Report}
-    (run : Unkeyed settings Takes tracing old new k0 k1 ending answers report ⊎ (Unbegun settings Takes tracing old new k0 k1 ending answers report ⊎ SessionKept settings Takes tracing old new k0 k1 ending answers report))
+pub held_after : {settings : Option Config} {flight : Option FlightSettings} {Takes : Type 0} {tracing : Bool} {old new : Outside} {k0 k1 : KeeperState} {ending : KeptEnding} {answers : List Answer} {report : Report}
+    (run : Unkeyed settings flight Takes tracing old new k0 k1 ending answers report ⊎ (Unbegun settings Takes tracing old new k0 k1 ending answers report ⊎ SessionKept settings flight Takes tracing old new k0 k1 ending answers report))
     (held : Mark) → k0.held ≡ Some held → HeldAfter run held
 held_after (inl run) held is = ap (λ (k : KeeperState). k.held) run.kept ∙ is
 held_after (inr (inl run)) held is = kept_held run.config (keys_of run.secret) _ _ _ _ _ _ _ held is run.begun

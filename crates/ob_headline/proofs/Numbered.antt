@@ -29,6 +29,7 @@ use Rattle.ob_seal.specs.KeySet.{KeySet}
 use Rattle.ob_seal.specs.Sealed.{keys_of}
 use Rattle.ob_store.specs.State.{StoreState}
 use Rattle.ob_headline.specs.Story.{Story}
+use Rattle.ob_headline.specs.declared.flight.FlightSettings.{FlightSettings}
 
 -- ---- how many writes a closing takes
 writes_append : (xs ys : List Access) → writes (xs ++ ys) ≡ writes xs + writes ys
@@ -105,8 +106,8 @@ reaches_made closing n few =
     elim (is_used_up closing) as (λ b. Reaches (if b then InUse else mark_of closing) n)
     [ true ↦ tt | false ↦ few ]
 
-one_goes_on : {settings : Option Config} {Takes : Type 0} {tracing : Bool} {old new : Outside} {k0 k1 : KeeperState} {ending : KeptEnding} {answers : List Answer} {report : Report}
-    (ran : RunKept settings Takes tracing old new k0 k1 ending answers report) (mark : Mark) (n : ℕ) → k0.held ≡ Some mark → Reaches mark n
+one_goes_on : {settings : Option Config} {flight : Option FlightSettings} {Takes : Type 0} {tracing : Bool} {old new : Outside} {k0 k1 : KeeperState} {ending : KeptEnding} {answers : List Answer} {report : Report}
+    (ran : RunKept settings flight Takes tracing old new k0 k1 ending answers report) (mark : Mark) (n : ℕ) → k0.held ≡ Some mark → Reaches mark n
     → GoesOnFrom n ran × (left : Mark) × (k1.held ≡ Some left) × Reaches left (numbered_in n ran)
 one_goes_on (inl run) mark n is reaches = (tt, mark, held_after (inl run) mark is, reaches)
 one_goes_on (inr (inl run)) mark n is reaches =

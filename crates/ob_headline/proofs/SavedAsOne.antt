@@ -19,7 +19,7 @@ use Rattle.ob_headline.specs.Keeping.{closing_named}
 use Rattle.ob_headline.specs.SavedHeadline.{LeavesMark, MayTake, RestsBehind, RunSaved, SessionSaved, left_by}
 use Rattle.ob_headline.specs.SavedRuns.{AnswerInOne, AnsweredInOne, Effect, GoOnSaved, MayHaveAll, MayHaveMore, OneSaved, Outlasts, TakesEffect, all_effects, effects_of, held_by, kept_by, saved_count, saved_effects, saved_secret, session_behind, texts_of}
 use Rattle.ob_headline.specs.Saving.{BeginsSaved, ReopensSaved, RestsAlike, RestsAt, begun_mark}
-use Rattle.ob_headline.specs.Settings.{IsTakenSaved, saved_settings_of}
+use Rattle.ob_headline.specs.Settings.{IsTakenSaved, flight_of, saved_settings_of}
 use Rattle.ob_headline.specs.Usage.{is_saved, is_traced, saved_usage}
 use Rattle.ob_headline.specs.Words.{Answer}
 use Rattle.ob_mean.proofs.ReplayLemmas.{after_room}
@@ -137,7 +137,7 @@ leaves_none words secret held mark old new k1 t waits is tells honest outlasts =
   );
 }
 
-module _ (words : List Text) (secret : List ℕ) (one : OneSaved words) (run : SessionSaved (saved_settings_of words) (IsTakenSaved words) (is_traced saved_usage words) one.old one.new one.keeper0 one.keeper1 one.run.ending one.run.answers one.report) (saves : is_saved words ≡ true)
+module _ (words : List Text) (secret : List ℕ) (one : OneSaved words) (run : SessionSaved (saved_settings_of words) (flight_of saved_usage words) (IsTakenSaved words) (is_traced saved_usage words) one.old one.new one.keeper0 one.keeper1 one.run.ending one.run.answers one.report) (saves : is_saved words ≡ true)
     (keyed : run.secret ≡ secret) (tells : IsTrue one.old.store.tells) (honest : one.new.store.lie ≡ None) (soon : run.base.count + length (trace run.base.public (run.session.story.seen ++ run.session.story.last)) < 2 ^ 63)
     (held : Mark) (same_mark : one.keeper0.held ≡ Some held) (t : Session) (waits : Waits words secret (Some held) one.old.store.kept t) where
   honest_opened : run.opened.lie ≡ None
@@ -200,7 +200,7 @@ module _ (words : List Text) (secret : List ℕ) (one : OneSaved words) (run : S
 
 -- whichever it is
 leaves_by : (words : List Text) (secret : List ℕ) (one : OneSaved words) → is_saved words ≡ true → IsTrue one.old.store.tells → one.new.store.lie ≡ None → (held : Mark) → one.keeper0.held ≡ Some held → (t : Session) → Waits words secret (Some held) one.old.store.kept t
-    → (ran : RunSaved (saved_settings_of words) (IsTakenSaved words) (is_traced saved_usage words) one.old one.new one.keeper0 one.keeper1 one.run.ending one.run.answers one.report) → ((other : List ℕ) → saved_secret ran ≡ Some other → other ≡ secret) → saved_count ran < 2 ^ 63
+    → (ran : RunSaved (saved_settings_of words) (flight_of saved_usage words) (IsTakenSaved words) (is_traced saved_usage words) one.old one.new one.keeper0 one.keeper1 one.run.ending one.run.answers one.report) → ((other : List ℕ) → saved_secret ran ≡ Some other → other ≡ secret) → saved_count ran < 2 ^ 63
     → Leaves words secret one.keeper1.held one.new.store.kept t (MayHaveMore ran) (λ more. saved_effects more ran)
 leaves_by words secret one saves tells honest held is t waits (inl run) keyed soon =
     let left = leaves_held (inl run) held is in

@@ -45,6 +45,7 @@ use Rattle.ob_seal.specs.declared.Salted.{Salted}
 use Rattle.ob_seal.specs.declared.pairs.Pair.{Pair}
 use Rattle.ob_store.specs.State.{StoreState}
 use Rattle.ob_vault.specs.State.{Start}
+use Rattle.ob_headline.specs.declared.flight.FlightSettings.{FlightSettings}
 
 -- ---- what a run begins with
 reopened_begun : (closed : Option (List ℕ)) (closing : Closing) (config : Config) (secret salt : List ℕ) (keys : KeySet) (base : Base) (old new : StoreState) → ReopensSaved closed closing config secret salt keys base old new → IsBegun base
@@ -121,7 +122,7 @@ writes_own base seen asked begun silent flat own is i q x wrote =
     ]
 
 -- ---- one run
-module _ {settings : Option Config} {Takes : Type 0} {tracing : Bool} {old new : Outside} {k0 k1 : KeeperState} {ending : KeptEnding} {answers : List Answer} {report : Report} (run : SessionSaved settings Takes tracing old new k0 k1 ending answers report) where
+module _ {settings : Option Config} {flight : Option FlightSettings} {Takes : Type 0} {tracing : Bool} {old new : Outside} {k0 k1 : KeeperState} {ending : KeptEnding} {answers : List Answer} {report : Report} (run : SessionSaved settings flight Takes tracing old new k0 k1 ending answers report) where
   begun : IsBegun run.base
   begun = begun_saved run.began.mark run.config run.secret run.salt run.keys run.base old.store run.opened run.began.begins
 
@@ -148,8 +149,8 @@ one_number start asked k l q r x y first second same = elim (cases_lt k l) [
   ]
 ]
 
-seals_once : {settings : Option Config} {Takes : Type 0} {tracing : Bool} {old new : Outside} {k0 k1 : KeeperState} {ending : KeptEnding} {answers : List Answer} {report : Report}
-    (ran : RunSaved settings Takes tracing old new k0 k1 ending answers report) (k l : ℕ) (salt : Option (List ℕ)) (number : ℕ) → Seals ran k salt number → Seals ran l salt number → k ≡ l
+seals_once : {settings : Option Config} {flight : Option FlightSettings} {Takes : Type 0} {tracing : Bool} {old new : Outside} {k0 k1 : KeeperState} {ending : KeptEnding} {answers : List Answer} {report : Report}
+    (ran : RunSaved settings flight Takes tracing old new k0 k1 ending answers report) (k l : ℕ) (salt : Option (List ℕ)) (number : ℕ) → Seals ran k salt number → Seals ran l salt number → k ≡ l
 seals_once (inl run) k l salt number first second = absurd first
 seals_once (inr (inl run)) k l salt number first second = absurd first
 seals_once {new = new} (inr (inr run)) k l salt number first second =
@@ -161,8 +162,8 @@ record HasSalt (own salt : Option (List ℕ)) : Type 0 where
   is : own ≡ Some bytes
   same : salt ≡ Some bytes
 
-seals_salt : {settings : Option Config} {Takes : Type 0} {tracing : Bool} {old new : Outside} {k0 k1 : KeeperState} {ending : KeptEnding} {answers : List Answer} {report : Report}
-    (ran : RunSaved settings Takes tracing old new k0 k1 ending answers report) (k : ℕ) (salt : Option (List ℕ)) (number : ℕ) → Seals ran k salt number → HasSalt (saved_salt ran) salt
+seals_salt : {settings : Option Config} {flight : Option FlightSettings} {Takes : Type 0} {tracing : Bool} {old new : Outside} {k0 k1 : KeeperState} {ending : KeptEnding} {answers : List Answer} {report : Report}
+    (ran : RunSaved settings flight Takes tracing old new k0 k1 ending answers report) (k : ℕ) (salt : Option (List ℕ)) (number : ℕ) → Seals ran k salt number → HasSalt (saved_salt ran) salt
 seals_salt (inl run) k salt number seals = absurd seals
 seals_salt (inr (inl run)) k salt number seals = absurd seals
 seals_salt (inr (inr run)) k salt number seals =
@@ -172,7 +173,7 @@ seals_salt (inr (inr run)) k salt number seals =
 pub seals_alone : (words : List Text) (old new : Outside) (k0 k1 : KeeperState) (report : Report) (run : SavedRun words old new k0 k1 report) → SealsAlone run.ran
 seals_alone words old new k0 k1 report run = go run.ran
   where
-    go : {settings : Option Config} {Takes : Type 0} {tracing : Bool} {a b : Outside} {x y : KeeperState} {ending : KeptEnding} {answers : List Answer} {r : Report} (ran : RunSaved settings Takes tracing a b x y ending answers r) → SealsAlone ran
+    go : {settings : Option Config} {flight : Option FlightSettings} {Takes : Type 0} {tracing : Bool} {a b : Outside} {x y : KeeperState} {ending : KeptEnding} {answers : List Answer} {r : Report} (ran : RunSaved settings flight Takes tracing a b x y ending answers r) → SealsAlone ran
     go (inl unkeyed) = tt
     go (inr (inl unbegun)) = tt
     go (inr (inr session)) = writes_alone session

@@ -6,7 +6,7 @@ use Rattle.ob_base.specs.declared.mark.Mark.{Mark}
 use Rattle.ob_base.specs.declared.refusal.Stop.TheVariants.{Tampered, SourceFault, SinkFault, NoMemory, InputLimit, StoreFault, StashFull, KeeperFault}
 use Rattle.ob_reopen.specs.Closed.{is_used_up}
 use Rattle.ob_reopen.specs.Resting.{AcceptsClosings, Rests, by_name}
-use Rattle.ob_headline.specs.Bases.{Base, FromEach, drawing, fresh}
+use Rattle.ob_headline.specs.Bases.{Base, FromEach, drawing, flying, fresh}
 use Rattle.ob_headline.specs.Headline.{Headline}
 use Rattle.ob_headline.specs.Keeping.{BeganKept, Closes, NotBegun, closing_behind, kept_line, kept_status, region_opened}
 use Rattle.ob_headline.specs.KeyLine.{first_line, has_lf, secret_of}
@@ -20,6 +20,7 @@ use Rattle.ob_headline.specs.declared.ending.Ending.TheVariants.{Usage, BadKey, 
 use Rattle.ob_headline.specs.declared.ending.KeptEnding.{KeptEnding}
 use Rattle.ob_headline.specs.declared.ending.KeptEnding.TheVariants.{Plain}
 use Rattle.ob_headline.specs.declared.ending.Report.{Report}
+use Rattle.ob_headline.specs.declared.flight.FlightSettings.{FlightSettings}
 use Rattle.ob_mean.specs.Replay.{Broken}
 use Rattle.ob_print.specs.Cuts.{Outputs}
 use Rattle.ob_reopen.specs.Keepers.{KeeperState}
@@ -48,10 +49,10 @@ EndsUnkeyed (Ran (Err StashFull)) taken = ⊥
 EndsUnkeyed (Ran (Err KeeperFault)) taken = ⊥
 
 -- the run ended as one does whose tables aren't kept, and neither the keeper nor the store was asked for anything
-pub record Unkeyed (settings : Option Config) (Takes : Type 0) (tracing : Bool) (old new : Outside)
-    (keeper0 keeper1 : KeeperState) (ending : KeptEnding) (answers : List Answer) (report : Report)
-    : Type 0 where
-  pub headline : Headline (fresh settings) keys_in Takes tracing old new report
+pub record Unkeyed (settings : Option Config) (flight : Option FlightSettings) (Takes : Type 0)
+    (tracing : Bool) (old new : Outside) (keeper0 keeper1 : KeeperState) (ending : KeptEnding)
+    (answers : List Answer) (report : Report) : Type 0 where
+  pub headline : Headline (flying flight (fresh settings)) keys_in Takes tracing old new report
   pub ends : EndsUnkeyed headline.ending headline.taken
   pub is : ending ≡ Plain headline.ending
   pub unanswered : answers ≡ []
@@ -160,9 +161,9 @@ EndsBehind BadKey base keys tracing story begun served new run report keeper0
 
 -- the keeper held a mark from which the run could begin; it holds that the store is in use; a session went on from the
 -- tables that were opened, if any were, and was closed where it came to its end
-pub record SessionKept (settings : Option Config) (Takes : Type 0) (tracing : Bool)
-    (old new : Outside) (keeper0 keeper1 : KeeperState) (ending : KeptEnding)
-    (answers : List Answer) (report : Report) : Type 0 where
+pub record SessionKept (settings : Option Config) (flight : Option FlightSettings)
+    (Takes : Type 0) (tracing : Bool) (old new : Outside) (keeper0 keeper1 : KeeperState)
+    (ending : KeptEnding) (answers : List Answer) (report : Report) : Type 0 where
   pub takes : Takes
   pub config : Config
   pub set : settings ≡ Some config
@@ -175,7 +176,8 @@ pub record SessionKept (settings : Option Config) (Takes : Type 0) (tracing : Bo
       keeper0 in_use
   pub served : Outside
   pub run : Report
-  pub session : Headline base keys_in Takes tracing (begun_at old opened traced) served run
+  pub session : Headline (flying flight base) keys_in Takes tracing (begun_at old opened traced)
+      served run
   pub keyed : secret_of (first_line session.taken) ≡ Some secret
   pub answered : answers ≡ session.story.answers
   pub high : report.high ≡ run.high
@@ -183,17 +185,19 @@ pub record SessionKept (settings : Option Config) (Takes : Type 0) (tracing : Bo
       (begun_at old opened traced) served new run report in_use keeper1 ending
 
 -- one of the three
-abbrev pub RunKept : Option Config → (Takes : Type 0) → (tracing : Bool) → (old new : Outside)
-    → (keeper0 keeper1 : KeeperState) → KeptEnding → List Answer → Report → Type 0
-RunKept settings Takes tracing old new keeper0 keeper1 ending answers report =
-    Unkeyed settings Takes tracing old new keeper0 keeper1 ending answers report
+abbrev pub RunKept : Option Config → Option FlightSettings → (Takes : Type 0) → (tracing : Bool)
+    → (old new : Outside) → (keeper0 keeper1 : KeeperState) → KeptEnding → List Answer → Report
+    → Type 0
+RunKept settings flight Takes tracing old new keeper0 keeper1 ending answers report =
+    Unkeyed settings flight Takes tracing old new keeper0 keeper1 ending answers report
     ⊎ (Unbegun settings Takes tracing old new keeper0 keeper1 ending answers report
-    ⊎ SessionKept settings Takes tracing old new keeper0 keeper1 ending answers report)
+    ⊎ SessionKept settings flight Takes tracing old new keeper0 keeper1 ending answers report)
 
--- of words that the program takes, or doesn't, and of the settings that they spell
-pub record KeptHeadline (settings : Option Config) (Takes : Type 0) (tracing : Bool)
-    (old new : Outside) (keeper0 keeper1 : KeeperState) (report : Report) : Type 0 where
+-- of words that the program takes, or doesn't, of the settings that they spell, and of how SELECTs fly then, if they do
+pub record KeptHeadline (settings : Option Config) (flight : Option FlightSettings)
+    (Takes : Type 0) (tracing : Bool) (old new : Outside) (keeper0 keeper1 : KeeperState)
+    (report : Report) : Type 0 where
   pub ending : KeptEnding
   pub status : report.status ≡ kept_status ending
   pub answers : List Answer
-  pub ran : RunKept settings Takes tracing old new keeper0 keeper1 ending answers report
+  pub ran : RunKept settings flight Takes tracing old new keeper0 keeper1 ending answers report

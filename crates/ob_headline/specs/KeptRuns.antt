@@ -18,6 +18,7 @@ use Rattle.ob_headline.specs.Meaning.{AnswersFrom}
 use Rattle.ob_headline.specs.declared.ending.Ending.TheVariants.{Ran}
 use Rattle.ob_headline.specs.declared.ending.KeptEnding.{KeptEnding}
 use Rattle.ob_headline.specs.declared.ending.Report.{Report}
+use Rattle.ob_headline.specs.declared.flight.FlightSettings.{FlightSettings}
 use Rattle.ob_mean.specs.Replay.{Broken, Session, Spelt, after_all}
 use Rattle.ob_reopen.specs.Keepers.{KeeperState}
 use Rattle.ob_script.specs.Trace.{Served, trace}
@@ -35,37 +36,37 @@ pub record OneRun (words : List Text) : Type 0 where
 
 -- ---- what a run is, by how far it came
 -- its secret, where it was taken
-abbrev pub secret_in : {settings : Option Config} {Takes : Type 0} {tracing : Bool}
-    {old new : Outside} {keeper0 keeper1 : KeeperState} {ending : KeptEnding}
-    {answers : List Answer} {report : Report}
-    → RunKept settings Takes tracing old new keeper0 keeper1 ending answers report → Option (List ℕ)
+abbrev pub secret_in : {settings : Option Config} {flight : Option FlightSettings}
+    {Takes : Type 0} {tracing : Bool} {old new : Outside} {keeper0 keeper1 : KeeperState}
+    {ending : KeptEnding} {answers : List Answer} {report : Report}
+    → RunKept settings flight Takes tracing old new keeper0 keeper1 ending answers report → Option (List ℕ)
 secret_in (inl run) = None
 secret_in (inr (inl run)) = Some run.secret
 secret_in (inr (inr run)) = Some run.secret
 
 -- what its texts spell
-abbrev pub spelt_in : {settings : Option Config} {Takes : Type 0} {tracing : Bool}
-    {old new : Outside} {keeper0 keeper1 : KeeperState} {ending : KeptEnding}
-    {answers : List Answer} {report : Report}
-    → RunKept settings Takes tracing old new keeper0 keeper1 ending answers report → List Spelt
+abbrev pub spelt_in : {settings : Option Config} {flight : Option FlightSettings}
+    {Takes : Type 0} {tracing : Bool} {old new : Outside} {keeper0 keeper1 : KeeperState}
+    {ending : KeptEnding} {answers : List Answer} {report : Report}
+    → RunKept settings flight Takes tracing old new keeper0 keeper1 ending answers report → List Spelt
 spelt_in (inl run) = []
 spelt_in (inr (inl run)) = []
 spelt_in (inr (inr run)) = run.session.story.spelt
 
 -- what is seen of its statements
-abbrev pub seen_in : {settings : Option Config} {Takes : Type 0} {tracing : Bool}
-    {old new : Outside} {keeper0 keeper1 : KeeperState} {ending : KeptEnding}
-    {answers : List Answer} {report : Report}
-    → RunKept settings Takes tracing old new keeper0 keeper1 ending answers report → List Served
+abbrev pub seen_in : {settings : Option Config} {flight : Option FlightSettings}
+    {Takes : Type 0} {tracing : Bool} {old new : Outside} {keeper0 keeper1 : KeeperState}
+    {ending : KeptEnding} {answers : List Answer} {report : Report}
+    → RunKept settings flight Takes tracing old new keeper0 keeper1 ending answers report → List Served
 seen_in (inl run) = []
 seen_in (inr (inl run)) = []
 seen_in (inr (inr run)) = run.session.story.seen ++ run.session.story.last
 
 -- how many accesses its statements came to, counted on from where its numbers are
-abbrev pub count_in : {settings : Option Config} {Takes : Type 0} {tracing : Bool}
-    {old new : Outside} {keeper0 keeper1 : KeeperState} {ending : KeptEnding}
-    {answers : List Answer} {report : Report}
-    → RunKept settings Takes tracing old new keeper0 keeper1 ending answers report → ℕ
+abbrev pub count_in : {settings : Option Config} {flight : Option FlightSettings}
+    {Takes : Type 0} {tracing : Bool} {old new : Outside} {keeper0 keeper1 : KeeperState}
+    {ending : KeptEnding} {answers : List Answer} {report : Report}
+    → RunKept settings flight Takes tracing old new keeper0 keeper1 ending answers report → ℕ
 count_in (inl run) = 0
 count_in (inr (inl run)) = 0
 count_in (inr (inr run)) =
@@ -130,19 +131,19 @@ AreChained held (run ∷ runs) =
     (run.one.keeper0.held ≡ held) × AreChained run.one.keeper1.held runs
 
 -- the numbers that its writes go on from are no less than n
-abbrev pub GoesOnFrom : {settings : Option Config} {Takes : Type 0} {tracing : Bool}
-    {old new : Outside} {keeper0 keeper1 : KeeperState} {ending : KeptEnding}
-    {answers : List Answer} {report : Report} → (n : ℕ)
-    → RunKept settings Takes tracing old new keeper0 keeper1 ending answers report → Type 0
+abbrev pub GoesOnFrom : {settings : Option Config} {flight : Option FlightSettings}
+    {Takes : Type 0} {tracing : Bool} {old new : Outside} {keeper0 keeper1 : KeeperState}
+    {ending : KeptEnding} {answers : List Answer} {report : Report} → (n : ℕ)
+    → RunKept settings flight Takes tracing old new keeper0 keeper1 ending answers report → Type 0
 GoesOnFrom n (inl run) = ⊤
 GoesOnFrom n (inr (inl run)) = ⊤
 GoesOnFrom n (inr (inr run)) = n ≤ run.base.start.writes
 
 -- the greatest number that it wrote under, or n where it wrote nothing
-abbrev pub numbered_in : {settings : Option Config} {Takes : Type 0} {tracing : Bool}
-    {old new : Outside} {keeper0 keeper1 : KeeperState} {ending : KeptEnding}
-    {answers : List Answer} {report : Report} → (n : ℕ)
-    → RunKept settings Takes tracing old new keeper0 keeper1 ending answers report → ℕ
+abbrev pub numbered_in : {settings : Option Config} {flight : Option FlightSettings}
+    {Takes : Type 0} {tracing : Bool} {old new : Outside} {keeper0 keeper1 : KeeperState}
+    {ending : KeptEnding} {answers : List Answer} {report : Report} → (n : ℕ)
+    → RunKept settings flight Takes tracing old new keeper0 keeper1 ending answers report → ℕ
 numbered_in n (inl run) = n
 numbered_in n (inr (inl run)) = n
 numbered_in {new = new} n (inr (inr run)) = run.base.start.writes + writes new.store.asked

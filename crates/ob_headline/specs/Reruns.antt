@@ -7,11 +7,11 @@ use Rattle.ob_base.specs.declared.seen.End.{End}
 use Rattle.ob_base.specs.declared.seen.End.TheVariants.{Static, Whole, Joined}
 use Rattle.ob_base.specs.declared.seen.Seen.{Seen}
 use Rattle.ob_verdict.specs.Outcomes.{refusal_now}
-use Rattle.ob_headline.specs.Bases.{Base, fresh}
+use Rattle.ob_headline.specs.Bases.{Base, flying, fresh}
 use Rattle.ob_headline.specs.Failures.{failures}
 use Rattle.ob_headline.specs.Flights.{FliesNone, Seat, seats_of}
 use Rattle.ob_headline.specs.Headline.{Headline}
-use Rattle.ob_headline.specs.Settings.{IsTaken, IsTakenSaved, MeddleParses, settings_of}
+use Rattle.ob_headline.specs.Settings.{IsTaken, IsTakenSaved, MeddleParses, flight_of, settings_of}
 use Rattle.ob_headline.specs.Usage.{is_traced, usage}
 use Rattle.ob_headline.specs.Words.{Begins, Outside, keys_in}
 use Rattle.ob_headline.specs.declared.ending.Report.{Report}
@@ -27,8 +27,8 @@ use Rattle.ob_sql.specs.declared.stmt.Stmt.{Stmt}
 -- what `shell_top` promises of a run that reads its input
 abbrev pub ShellRun : List Text → (old new : Outside) → Report → Type 0
 ShellRun words old new report =
-    Headline (fresh (settings_of usage words)) keys_in (IsTaken usage words)
-    (is_traced usage words) old new report
+    Headline (flying (flight_of usage words) (fresh (settings_of usage words))) keys_in
+    (IsTaken usage words) (is_traced usage words) old new report
 
 -- ---- one run, by the words of any program, from any base and by any keys
 -- a program with these words, the one over whose store others do what the words say, and the one that may save its tables
@@ -58,7 +58,7 @@ pub record SomeRun : Type 0 where
 abbrev pub shell_run : {words : List Text} {old new : Outside} {report : Report}
     → ShellRun words old new report → SomeRun
 shell_run {words} {old} {new} {report} run = record {
-  base = fresh (settings_of usage words);
+  base = flying (flight_of usage words) (fresh (settings_of usage words));
   keys = keys_in;
   program = of_words usage;
   words = words;

@@ -5,7 +5,7 @@ use Rattle.ob_base.specs.Counts.{Rises}
 use Rattle.ob_base.specs.declared.config.Config.{Config}
 use Rattle.ob_base.specs.declared.mark.Mark.{Mark}
 use Rattle.ob_base.specs.declared.refusal.Stop.TheVariants.{KeeperFault, SinkFault}
-use Rattle.ob_headline.specs.Bases.{Base, FromEach, drawing}
+use Rattle.ob_headline.specs.Bases.{Base, FromEach, drawing, flying}
 use Rattle.ob_headline.specs.Batches.{AllInsert}
 use Rattle.ob_headline.specs.Headline.{Headline}
 use Rattle.ob_headline.specs.Keeping.{kept_status}
@@ -22,6 +22,7 @@ use Rattle.ob_headline.specs.declared.ending.Ending.TheVariants.{Ran}
 use Rattle.ob_headline.specs.declared.ending.KeptEnding.{KeptEnding}
 use Rattle.ob_headline.specs.declared.ending.KeptEnding.TheVariants.{Plain}
 use Rattle.ob_headline.specs.declared.ending.Report.{Report}
+use Rattle.ob_headline.specs.declared.flight.FlightSettings.{FlightSettings}
 use Rattle.ob_mean.specs.Batches.{batch_most, settle_all}
 use Rattle.ob_mean.specs.Replay.{Broken, Session, Spelt}
 use Rattle.ob_mean.specs.Verdict.{Tables}
@@ -130,9 +131,9 @@ CountsKeeper _ old new = new.faults ≡ old.faults
 -- ---- a session
 -- the keeper gave a mark from which the run could begin, and a salt; a session went on from the tables that were opened, if
 -- any were, under keys of the secret and of the salts, and nothing comes behind it
-pub record SessionSaved (settings : Option Config) (Takes : Type 0) (tracing : Bool)
-    (old new : Outside) (keeper0 keeper1 : KeeperState) (ending : KeptEnding)
-    (answers : List Answer) (report : Report) : Type 0 where
+pub record SessionSaved (settings : Option Config) (flight : Option FlightSettings)
+    (Takes : Type 0) (tracing : Bool) (old new : Outside) (keeper0 keeper1 : KeeperState)
+    (ending : KeptEnding) (answers : List Answer) (report : Report) : Type 0 where
   pub takes : Takes
   pub config : Config
   pub set : settings ≡ Some config
@@ -145,7 +146,8 @@ pub record SessionSaved (settings : Option Config) (Takes : Type 0) (tracing : B
   pub begun : KeeperState
   pub began : BeganSaved config secret salt keys tracing base old.store opened old.traced traced
       keeper0 begun
-  pub session : Headline base (λ taken. keys) Takes tracing (begun_at old opened traced) new report
+  pub session : Headline (flying flight base) (λ taken. keys) Takes tracing
+      (begun_at old opened traced) new report
   pub keyed : secret_of (first_line session.taken) ≡ Some secret
   pub is : ending ≡ Plain session.ending
   pub answered : answers ≡ session.story.answers
@@ -156,17 +158,19 @@ pub record SessionSaved (settings : Option Config) (Takes : Type 0) (tracing : B
       begun keeper1
 
 -- one of the three
-abbrev pub RunSaved : Option Config → (Takes : Type 0) → (tracing : Bool) → (old new : Outside)
-    → (keeper0 keeper1 : KeeperState) → KeptEnding → List Answer → Report → Type 0
-RunSaved settings Takes tracing old new keeper0 keeper1 ending answers report =
-    Unkeyed settings Takes tracing old new keeper0 keeper1 ending answers report
+abbrev pub RunSaved : Option Config → Option FlightSettings → (Takes : Type 0) → (tracing : Bool)
+    → (old new : Outside) → (keeper0 keeper1 : KeeperState) → KeptEnding → List Answer → Report
+    → Type 0
+RunSaved settings flight Takes tracing old new keeper0 keeper1 ending answers report =
+    Unkeyed settings flight Takes tracing old new keeper0 keeper1 ending answers report
     ⊎ (UnbegunSaved settings Takes tracing old new keeper0 keeper1 ending answers report
-    ⊎ SessionSaved settings Takes tracing old new keeper0 keeper1 ending answers report)
+    ⊎ SessionSaved settings flight Takes tracing old new keeper0 keeper1 ending answers report)
 
--- of words that the program takes, or doesn't, and of the settings that they spell
-pub record SavedHeadline (settings : Option Config) (Takes : Type 0) (tracing : Bool)
-    (old new : Outside) (keeper0 keeper1 : KeeperState) (report : Report) : Type 0 where
+-- of words that the program takes, or doesn't, of the settings that they spell, and of how SELECTs fly then, if they do
+pub record SavedHeadline (settings : Option Config) (flight : Option FlightSettings)
+    (Takes : Type 0) (tracing : Bool) (old new : Outside) (keeper0 keeper1 : KeeperState)
+    (report : Report) : Type 0 where
   pub ending : KeptEnding
   pub status : report.status ≡ kept_status ending
   pub answers : List Answer
-  pub ran : RunSaved settings Takes tracing old new keeper0 keeper1 ending answers report
+  pub ran : RunSaved settings flight Takes tracing old new keeper0 keeper1 ending answers report

@@ -6,7 +6,7 @@ ghost use Rattle.ob_base.specs.declared.config.Public.{Public};
 ghost use Rattle.ob_base.specs.declared.mark.Mark.{Mark};
 ghost use Rattle.ob_base.specs.declared.mark.Mark.TheVariants.{Fresh};
 ghost use Rattle.ob_base.specs.declared.seen.Seen.{Seen};
-ghost use Rattle.ob_headline.specs.Bases.{Base, FromEach, drawing, fresh};
+ghost use Rattle.ob_headline.specs.Bases.{Base, FromEach, drawing, flying, fresh};
 ghost use Rattle.ob_headline.specs.Batches.{Joins};
 ghost use Rattle.ob_headline.specs.Headline.{Headline};
 ghost use Rattle.ob_headline.specs.Keeping.{BeginsFrom};
@@ -29,6 +29,7 @@ ghost use Rattle.ob_headline.specs.Texts.{is_over, rest_of, texts_of};
 ghost use Rattle.ob_headline.specs.Usage.{is_kept, is_saved};
 ghost use Rattle.ob_headline.specs.Words.{Outside};
 ghost use Rattle.ob_headline.specs.declared.ending.Report.{Report};
+ghost use Rattle.ob_headline.specs.declared.flight.FlightSettings.{FlightSettings};
 ghost use Rattle.ob_mean.specs.Batches.{Gathering, is_cut};
 ghost use Rattle.ob_mean.specs.Lawful.{Lawful};
 ghost use Rattle.ob_reopen.specs.Keepers.{KeeperState};
@@ -194,7 +195,8 @@ pub fn blocks_are_sealed_alone()
         → (k : ℕ) → between.asked ≡ asked_behind one k → ShowsBehind one k between }
 {}
 
-/// What the statements of a run go on from is as the laws of blocks ask: no tables, or those of a closing that was opened.
+/// What the statements of a run go on from is as the laws of blocks ask: no tables, or those of a closing that was opened,
+/// and however SELECTs fly.
 pub fn runs_begin_behind_earlier_ones()
     ensures fresh { (settings : Option Config) → IsBegun (fresh settings) }
     ensures kept { (mark : Mark) (config : Config) (keys : KeySet) (base : Base)
@@ -202,6 +204,8 @@ pub fn runs_begin_behind_earlier_ones()
     ensures saved { (mark : Mark) (config : Config) (secret salt : List ℕ) (keys : KeySet)
         (base : Base) (old new : StoreState)
         → BeginsSaved mark config secret salt keys base old new → IsBegun base }
+    ensures flown { (flight : Option FlightSettings) (base : Base) → IsBegun base
+        → IsBegun (flying flight base) }
 {}
 
 /// So it is once a run with `--keep` ended, over a store that tells: of the blocks of its statements and of its closing.
