@@ -3,7 +3,7 @@ use Rattle.std.specs.Prelude.{max}
 use Rattle.std.proofs.Common.{◌≡◌, ◌+◌, ◌≤◌, ◌++◌, ℕ, Bool, List, [], length, Option, None, refl, sym, ◌∙◌, ap, subst, arith}
 use Rattle.ob_base.specs.declared.access.Access.{Access}
 use Rattle.ob_headline.proofs.BaseLemmas.{from_each}
-use Rattle.ob_headline.proofs.ServedAlone.{AnswersAlone, AreOf, SeenAlone, answers_alone, entered_alone, seen_alone, seen_of, traced_alone}
+use Rattle.ob_headline.proofs.ServedAlone.{AnswersAlone, AreOf, SeenAlone, as_alone, entered_alone, seen_alone, seen_of, traced_alone}
 use Rattle.ob_headline.specs.Accesses.{Accesses, AreSeen, StopsWithin}
 use Rattle.ob_headline.specs.Bases.{Base, FromEach, drawing, session_at}
 use Rattle.ob_headline.specs.Failures.{FailsBeside}
@@ -58,7 +58,7 @@ module _ (base : Base) (one : FliesNone base) (keys : KeySet) (ending : Ending) 
       (λ s. (broken : Broken) × AnswersAlone ending (drawing keys s) story.spelt broken story.answers all story.part)
       (λ tables meant. (
         meant.0,
-        answers_alone (words_of base) 0 ending (drawing keys (session_at base tables)) story.spelt meant.0 story.answers all story.part are_of
+        as_alone (words_of base) 0 ending (drawing keys (session_at base tables)) story.spelt meant.0 story.answers all story.part are_of
         (subst (λ (es : List Entry). AnswersFrom ending (seats_of base es) (drawing keys (session_at base tables)) story.spelt meant.0 story.answers all story.part) entries meant.1),
       ))
 

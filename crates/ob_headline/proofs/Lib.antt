@@ -9,6 +9,7 @@ pub mod TextLemmas
 pub mod ServedAlone
 pub mod AloneRuns
 pub mod TakenLemmas
+pub mod FlightWrites
 pub mod PromptLemmas
 pub mod BaseLemmas
 pub mod PieceLemmas

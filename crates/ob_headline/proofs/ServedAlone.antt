@@ -83,14 +83,14 @@ seen_alone Leaves words t p m g (Ok stmt ∷ spelt) (one ∷ answers) (x ∷ see
 
 -- they are these statements
 unfoldable pub AreOf : List Spelt → List Served → Type 0
-AreOf [] seen = ⊤
+AreOf [] seen = seen ≡ []
 AreOf (Err at ∷ spelt) seen = AreOf spelt seen
 AreOf (Ok stmt ∷ spelt) [] = ⊥
 AreOf (Ok stmt ∷ spelt) (x ∷ seen) = (x.skeleton ≡ skeleton stmt) × AreOf spelt seen
 
 pub seen_of : (Leaves : Public → Stmt → Seen → Type 0) (p : Public) (m : ℕ) (g : Option Gathering) (spelt : List Spelt) (answers : List Answer) (seen : List Served) → SeenAlone Leaves p m g spelt answers seen → AreOf spelt seen
 unfolding SeenAlone AreOf
-seen_of Leaves p m g [] answers seen are = tt
+seen_of Leaves p m g [] answers seen are = are
 seen_of Leaves p m g (Err at ∷ spelt) [] seen are = seen_of Leaves p m None spelt [] seen are
 seen_of Leaves p m g (Err at ∷ spelt) (one ∷ answers) seen are = seen_of Leaves p m None spelt answers seen are.1
 seen_of Leaves p m g (Ok stmt ∷ spelt) [] [] are = absurd are
@@ -99,6 +99,13 @@ seen_of Leaves p m g (Ok stmt ∷ spelt) [] (x ∷ seen) are =
     (are.0, seen_of Leaves (next p x.skeleton x.seen) (m + length (script p x.skeleton x.seen)) (gathering_after p m g stmt x.seen.end) spelt [] seen are.3)
 seen_of Leaves p m g (Ok stmt ∷ spelt) (one ∷ answers) (x ∷ seen) are =
     (are.0, seen_of Leaves (next p x.skeleton x.seen) (m + length (script p x.skeleton x.seen)) (gathering_after p m g stmt x.seen.end) spelt answers seen are.3)
+
+pub of_both : (xs ys : List Spelt) (here there : List Served) → AreOf xs here → AreOf ys there → AreOf (xs ++ ys) (here ++ there)
+unfolding AreOf
+of_both [] ys here there one two = subst (λ (l : List Served). AreOf ys (l ++ there)) (sym one) two
+of_both (Err at ∷ xs) ys here there one two = of_both xs ys here there one two
+of_both (Ok stmt ∷ xs) ys [] there one two = absurd one
+of_both (Ok stmt ∷ xs) ys (a ∷ here) there one two = (one.0, of_both xs ys here there one.1 two)
 
 -- ---- the first of some
 no_take : {A : Type 0} (n : ℕ) → ◌≡◌ {A = List A} (take n []) []
@@ -156,28 +163,28 @@ module _ (words : ℕ → ℕ) (t : ℕ) where
   is_served : (s : Session) (stmt : Stmt) (how : How) (x : Served) → x.skeleton ≡ skeleton stmt → x.seen ≡ seen_or_cut how s stmt → x ≡ served how s stmt
   is_served s stmt how x sk here = λ i. record { skeleton = sk i; seen = here i }
 
-  pub answers_alone : (ending : Ending) (s : Session) (spelt : List Spelt) (broken : Broken) (answers : List Answer) (seen : List Served) (part : List ℕ)
+  pub as_alone : (ending : Ending) (s : Session) (spelt : List Spelt) (broken : Broken) (answers : List Answer) (seen : List Served) (part : List ℕ)
       → AreOf spelt seen → Goes ending s seen spelt broken answers seen part → AnswersAlone ending s spelt broken answers seen part
   unfolding AreOf AnswersFrom AnswersAlone seats
-  answers_alone ending s [] broken answers seen part of all = all
-  answers_alone ending s (x ∷ spelt) broken [] seen part of all = begins_alone ending s x spelt seen part all
-  answers_alone ending s (Err at ∷ spelt) broken (one ∷ more) seen part of all = (all.0, answers_alone ending s spelt (rest_of broken) more seen part of all.1)
-  answers_alone ending s (Ok stmt ∷ spelt) broken (one ∷ more) [] part of all = absurd all
-  answers_alone ending s (Ok stmt ∷ spelt) broken (one ∷ more) (x ∷ seen) part of all =
+  as_alone ending s [] broken answers seen part of all = all
+  as_alone ending s (x ∷ spelt) broken [] seen part of all = begins_alone ending s x spelt seen part all
+  as_alone ending s (Err at ∷ spelt) broken (one ∷ more) seen part of all = (all.0, as_alone ending s spelt (rest_of broken) more seen part of all.1)
+  as_alone ending s (Ok stmt ∷ spelt) broken (one ∷ more) [] part of all = absurd all
+  as_alone ending s (Ok stmt ∷ spelt) broken (one ∷ more) (x ∷ seen) part of all =
       let how = head_of broken in
       let rest = subst (λ (y : Served). AnswersFrom ending (seats_then s y seen) (after how s stmt) spelt (rest_of broken) more seen part) (is_served s stmt how x of.0 all.3) all.4 in
-      (all.0, all.1, all.2, all.3, answers_alone ending (after how s stmt) spelt (rest_of broken) more seen part of.1 rest)
+      (all.0, all.1, all.2, all.3, as_alone ending (after how s stmt) spelt (rest_of broken) more seen part of.1 rest)
 
-  pub alone_answers : (ending : Ending) (s : Session) (spelt : List Spelt) (broken : Broken) (answers : List Answer) (seen : List Served) (part : List ℕ)
+  pub from_alone : (ending : Ending) (s : Session) (spelt : List Spelt) (broken : Broken) (answers : List Answer) (seen : List Served) (part : List ℕ)
       → AreOf spelt seen → AnswersAlone ending s spelt broken answers seen part → Goes ending s seen spelt broken answers seen part
   unfolding AreOf AnswersFrom AnswersAlone seats
-  alone_answers ending s [] broken answers seen part of all = all
-  alone_answers ending s (x ∷ spelt) broken [] seen part of all = alone_begins ending s x spelt seen part all
-  alone_answers ending s (Err at ∷ spelt) broken (one ∷ more) seen part of all = (all.0, alone_answers ending s spelt (rest_of broken) more seen part of all.1)
-  alone_answers ending s (Ok stmt ∷ spelt) broken (one ∷ more) [] part of all = absurd all
-  alone_answers ending s (Ok stmt ∷ spelt) broken (one ∷ more) (x ∷ seen) part of all =
+  from_alone ending s [] broken answers seen part of all = all
+  from_alone ending s (x ∷ spelt) broken [] seen part of all = alone_begins ending s x spelt seen part all
+  from_alone ending s (Err at ∷ spelt) broken (one ∷ more) seen part of all = (all.0, from_alone ending s spelt (rest_of broken) more seen part of all.1)
+  from_alone ending s (Ok stmt ∷ spelt) broken (one ∷ more) [] part of all = absurd all
+  from_alone ending s (Ok stmt ∷ spelt) broken (one ∷ more) (x ∷ seen) part of all =
       let how = head_of broken in
-      let rest = alone_answers ending (after how s stmt) spelt (rest_of broken) more seen part of.1 all.4 in
+      let rest = from_alone ending (after how s stmt) spelt (rest_of broken) more seen part of.1 all.4 in
       (all.0, all.1, all.2, all.3, subst (λ (y : Served). AnswersFrom ending (seats_then s y seen) (after how s stmt) spelt (rest_of broken) more seen part) (sym (is_served s stmt how x of.0 all.3)) rest)
 
   -- the session behind as many texts as were answered

@@ -181,8 +181,8 @@ pub record SessionKept (settings : Option Config) (flight : Option FlightSetting
   pub keyed : secret_of (first_line session.taken) ≡ Some secret
   pub answered : answers ≡ session.story.answers
   pub high : report.high ≡ run.high
-  pub behind : EndsBehind session.ending base (keys_of secret) tracing session.story
-      (begun_at old opened traced) served new run report in_use keeper1 ending
+  pub behind : EndsBehind session.ending (flying flight base) (keys_of secret) tracing
+      session.story (begun_at old opened traced) served new run report in_use keeper1 ending
 
 -- one of the three
 abbrev pub RunKept : Option Config → Option FlightSettings → (Takes : Type 0) → (tracing : Bool)

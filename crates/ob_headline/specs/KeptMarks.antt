@@ -7,6 +7,7 @@ use Rattle.ob_base.specs.declared.mark.Mark.{Mark}
 use Rattle.ob_base.specs.declared.mark.Mark.TheVariants.{InUse}
 use Rattle.ob_base.specs.declared.refusal.Stop.{Stop}
 use Rattle.ob_reopen.specs.Closed.{is_used_up}
+use Rattle.ob_headline.specs.Bases.{flying}
 use Rattle.ob_headline.specs.Flights.{public_after}
 use Rattle.ob_headline.specs.Keeping.{closing_behind}
 use Rattle.ob_headline.specs.KeptHeadline.{KeptHeadline, RunKept}
@@ -50,6 +51,7 @@ abbrev pub HeldAfter : {settings : Option Config} {flight : Option FlightSetting
 HeldAfter {keeper1 = keeper1} (inl run) held = keeper1.held ≡ Some held
 HeldAfter {keeper1 = keeper1} {ending = ending} (inr (inl run)) held =
     (keeper1.held ≡ Some held) ⊎ ((ending ≡ KeeperFault) × (keeper1.held ≡ Some InUse))
-HeldAfter {keeper1 = keeper1} {ending = ending} (inr (inr run)) held =
-    HeldBehind ending (closing_behind (public_after run.base run.session.story.entries)
+HeldAfter {flight = flight} {keeper1 = keeper1} {ending = ending} (inr (inr run)) held =
+    HeldBehind ending
+    (closing_behind (public_after (flying flight run.base) run.session.story.entries)
     run.base.start run.served.store.asked) keeper1.held

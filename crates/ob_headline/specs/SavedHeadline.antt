@@ -154,8 +154,8 @@ pub record SessionSaved (settings : Option Config) (flight : Option FlightSettin
   pub keeper : CountsKeeper session.ending begun keeper1
   -- of a keeper that told what it held from the first on
   pub leaves : (held : Mark) → keeper0.held ≡ Some held
-      → LeavesSaved secret salt base keys session.ending session.story opened new.store
-      begun keeper1
+      → LeavesSaved secret salt (flying flight base) keys session.ending session.story opened
+      new.store begun keeper1
 
 -- one of the three
 abbrev pub RunSaved : Option Config → Option FlightSettings → (Takes : Type 0) → (tracing : Bool)

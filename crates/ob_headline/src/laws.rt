@@ -21,12 +21,12 @@ ghost use Rattle.ob_headline.specs.Reruns.{keys_by, plainly, seats_by, seen_by, 
 ghost use Rattle.ob_headline.specs.SavedRuns.{AnswerInOne, AnySaved, GoOnSaved, HaveOwnSalts, LeavesHeld, OneSaved};
 ghost use Rattle.ob_headline.specs.SavedRuns.{SavedRun, Seals, SealsAlone};
 ghost use Rattle.ob_headline.specs.Saving.{BeginsSaved};
-ghost use Rattle.ob_headline.specs.Settings.{IsTaken, IsTakenSaved, MeddleParses};
+ghost use Rattle.ob_headline.specs.Settings.{IsTaken, IsTakenSaved, MeddleParses, flight_of};
 ghost use Rattle.ob_headline.specs.Shown.{AskedTheSame, IsBegun, IsBetween, OfIndex, ShowNumbersAlike, ShowsBehind};
 ghost use Rattle.ob_headline.specs.Shown.{ShowsBetween, ShowsKept, ShowsSealed, WriteOwn, Wrote, asked_behind};
 ghost use Rattle.ob_headline.specs.Shown.{public_behind};
 ghost use Rattle.ob_headline.specs.Texts.{is_over, rest_of, texts_of};
-ghost use Rattle.ob_headline.specs.Usage.{is_kept, is_saved};
+ghost use Rattle.ob_headline.specs.Usage.{is_kept, is_saved, kept_usage, saved_usage};
 ghost use Rattle.ob_headline.specs.Words.{Outside};
 ghost use Rattle.ob_headline.specs.declared.ending.Report.{Report};
 ghost use Rattle.ob_headline.specs.declared.flight.FlightSettings.{FlightSettings};
@@ -142,7 +142,7 @@ pub fn marks_are_held()
 /// failed at no statement: together they answer as one run does over all their texts, in which the same INSERTs are served
 /// together. Only that so many accesses were asked that a statement is refused for it may come at another place.
 pub fn runs_answer_as_one()
-    ensures { (words : List Text) → is_kept words ≡ true
+    ensures { (words : List Text) → is_kept words ≡ true → flight_of kept_usage words ≡ None
         → (secret : List ℕ) (kept : ℕ → Option KeptRegion) (runs : List (OneRun words))
         → GoOn secret (Some Fresh) kept runs → AnswerAsOne secret runs }
 {}
@@ -238,7 +238,7 @@ pub fn saved_marks_are_held()
 /// and what rests then is what that run leaves. Only that so many accesses were asked that a statement is refused for it may
 /// come at another place.
 pub fn saved_runs_answer_as_one()
-    ensures { (words : List Text) → is_saved words ≡ true
+    ensures { (words : List Text) → is_saved words ≡ true → flight_of saved_usage words ≡ None
         → (secret : List ℕ) (kept : ℕ → Option KeptRegion) (runs : List (OneSaved words))
         → GoOnSaved secret (Some Fresh) kept runs → AnswerInOne secret (Some Fresh) kept runs }
 {}
