@@ -1,6 +1,6 @@
 -- Where none of a run's statements fly, what it goes by follows from what is public before the first one, one after the other:
 -- what is asked, seen and answered then is said of statements that are each served alone.
-use Rattle.std.specs.Prelude.{◌↔◌, ◌-◌, take, ⊤, ⊥, if◌then◌else◌}
+use Rattle.std.specs.Prelude.{◌↔◌, ◌-◌, take, ⊤, if◌then◌else◌}
 use Rattle.std.proofs.Common.{◌≡◌, ◌⊎◌, ◌+◌, ◌<◌, ◌≤◌, ◌++◌, inl, inr, ℕ, zero, suc, IsTrue, Bool, true, false, List, [], ◌∷◌, length, Option, Some, None, Ok, Err, refl, sym, ◌∙◌, ap, subst, arith}
 use Rattle.ob_base.specs.declared.access.Access.{Access}
 use Rattle.ob_base.specs.declared.config.Public.{Public}

@@ -1,5 +1,5 @@
 -- What the model answers.
-use Rattle.std.specs.Prelude.{ℕ, ◌≡◌, ◌≤◌, ◌⊎◌, ⊤, ⊥, true, false, if◌then◌else◌, Option, Some, List, [], ◌∷◌, ◌++◌, length, None, Ok, Err}
+use Rattle.std.specs.Prelude.{ℕ, ◌≡◌, ◌≤◌, ◌⊎◌, ⊤, true, false, if◌then◌else◌, Option, Some, List, [], ◌∷◌, ◌++◌, length, None, Ok, Err}
 use Rattle.std.specs.Option.{option_map_or}
 use Rattle.ob_base.specs.Events.{Event}
 use Rattle.ob_base.specs.Stored.{headings, headings_of}
