@@ -102,4 +102,5 @@ module _ (w0 w1 : Option (List ℕ)) (Lost : Type 0) (all : List Answer) (bytes 
   ]
 
   pub taken_answers : TakenSo w0 w1 Lost all bytes
+  unfolding printed
   taken_answers = go [] all out.grown out.prefix.lost (record { parts = refl; grown = refl; rest = out.prefix.whole })

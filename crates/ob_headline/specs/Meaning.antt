@@ -1,6 +1,5 @@
 -- What the model answers.
 use Rattle.std.specs.Prelude.{ℕ, ◌≡◌, ◌≤◌, ◌⊎◌, ⊤, true, false, if◌then◌else◌, Option, Some, List, [], ◌∷◌, ◌++◌, length, None, Ok, Err}
-use Rattle.std.specs.Option.{option_map_or}
 use Rattle.ob_base.specs.Events.{Event}
 use Rattle.ob_base.specs.Stored.{headings, headings_of}
 use Rattle.ob_base.specs.declared.refusal.Refusal.TheVariants.{StoreFault}
@@ -143,6 +142,10 @@ pub record EmitsAll (ending : Ending) (s : Session) (stmt : Stmt) (here : Seen)
   pub answers : AnswersIn how s stmt answer
   pub printed : PrintsTo ending part answer.bytes
 
+abbrev pub StandsThere : Option Stand → Ending → Session → Stmt → Seen → Type 0
+StandsThere None ending s stmt here = ⊥
+StandsThere (Some stand) ending s stmt here = StandsIn ending stand s stmt here
+
 -- of those behind it in its flight nothing was printed
 unfoldable pub StandBehind : Ending → List Seat → Session → List Spelt → List Served → Type 0
 StandBehind ending seats s [] seen = ⊤
@@ -150,7 +153,7 @@ StandBehind ending seats s (Err at ∷ spelt) seen = ⊥
 StandBehind ending [] s (Ok stmt ∷ spelt) seen = ⊥
 StandBehind ending (v ∷ seats) s (Ok stmt ∷ spelt) [] = ⊥
 StandBehind ending (v ∷ seats) s (Ok stmt ∷ spelt) (x ∷ seen) =
-    option_map_or (λ (stand : Stand). StandsIn ending stand (at_seat v s) stmt x.seen) v.left ⊥
+    StandsThere v.left ending (at_seat v s) stmt x.seen
     × StandBehind ending seats s spelt seen
 
 -- ---- the first that was begun
