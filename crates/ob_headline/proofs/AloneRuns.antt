@@ -2,6 +2,8 @@
 use Rattle.std.specs.Prelude.{max}
 use Rattle.std.proofs.Common.{◌≡◌, ◌+◌, ◌≤◌, ◌++◌, ℕ, Bool, List, [], length, Option, None, refl, sym, ◌∙◌, ap, subst, arith}
 use Rattle.ob_base.specs.declared.access.Access.{Access}
+use Rattle.ob_base.specs.declared.config.Public.{Public}
+use Rattle.ob_base.specs.declared.seen.Seen.{Seen}
 use Rattle.ob_headline.proofs.BaseLemmas.{from_each}
 use Rattle.ob_headline.proofs.ServedAlone.{AnswersAlone, AreOf, SeenAlone, as_alone, entered_alone, seen_alone, seen_of, traced_alone}
 use Rattle.ob_headline.specs.Accesses.{Accesses, AreSeen, StopsWithin}
@@ -21,6 +23,7 @@ use Rattle.ob_mean.specs.Verdict.{Tables}
 use Rattle.ob_script.specs.Flights.{Entry, all_alone}
 use Rattle.ob_script.specs.Trace.{Served, trace}
 use Rattle.ob_seal.specs.KeySet.{KeySet}
+use Rattle.ob_sql.specs.declared.stmt.Stmt.{Stmt}
 use Rattle.ob_store.specs.State.{StoreState}
 
 -- what is seen of its statements, and what they asked
@@ -38,10 +41,13 @@ module _ (base : Base) (one : FliesNone base) (keys : KeySet) (ending : Ending) 
   entries : story.entries ≡ all_alone all
   entries = entered_alone base story one accesses.entered
 
+  abbrev Leaves : Public → Stmt → Seen → Type 0
+  Leaves = StopsWithin ending (FailsBeside story.seen old.faults new.faults) (ReadsFullStash keys base.start new)
+
   pub accesses_alone : RanAlone base keys ending story old new
   accesses_alone = record {
-    lawful = seen_alone _ (words_of base) 0 base.public base.count None story.spelt story.answers all
-        (subst (λ (es : List Entry). AreSeen _ (seats_of base es) None story.spelt story.answers all) entries accesses.lawful);
+    lawful = seen_alone Leaves (words_of base) 0 base.public base.count None story.spelt story.answers all
+        (subst (λ (es : List Entry). AreSeen Leaves (seats_of base es) None story.spelt story.answers all) entries accesses.lawful);
     asked = accesses.asked ∙ ap (λ (l : List Access). base.before ++ l) (traced_alone base story one accesses.entered);
     traced = traced_alone base story one accesses.entered;
     entries = entries;
@@ -49,7 +55,7 @@ module _ (base : Base) (one : FliesNone base) (keys : KeySet) (ending : Ending) 
   }
 
   pub are_of : AreOf story.spelt all
-  are_of = seen_of _ base.public base.count None story.spelt story.answers all accesses_alone.lawful
+  are_of = seen_of Leaves base.public base.count None story.spelt story.answers all accesses_alone.lawful
 
   pub meant_alone : FromEach base (λ s. (broken : Broken) × AnswersFrom ending (seats_of base story.entries) (drawing keys s) story.spelt broken story.answers all story.part)
       → FromEach base (λ s. (broken : Broken) × AnswersAlone ending (drawing keys s) story.spelt broken story.answers all story.part)

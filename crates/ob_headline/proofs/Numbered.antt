@@ -10,7 +10,7 @@ use Rattle.ob_base.specs.declared.mark.Mark.{Mark}
 use Rattle.ob_base.specs.declared.mark.Mark.TheVariants.{Fresh, InUse, Closed, Begun, Saved}
 use Rattle.ob_reopen.specs.Closed.{IsClosedAs, StaysInUse, is_used_up}
 use Rattle.ob_headline.proofs.MarkLemmas.{held_after}
-use Rattle.ob_headline.specs.Bases.{Base}
+use Rattle.ob_headline.specs.Bases.{Base, flying}
 use Rattle.ob_headline.specs.Flights.{public_after}
 use Rattle.ob_headline.specs.Keeping.{BeginsFrom, Writes, closing_behind, last_script}
 use Rattle.ob_headline.specs.KeptHeadline.{EndsBehind, RunKept}
@@ -115,11 +115,11 @@ one_goes_on (inr (inl run)) mark n is reaches =
       | inl same ↦ (tt, mark, same, reaches)
       | inr used ↦ (tt, InUse, used.1, tt)
     ]
-one_goes_on {tracing = tracing} {old = old} {new = new} {k1 = k1} {ending = ending} {report = report} (inr (inr run)) mark n is reaches =
+one_goes_on {flight = flight} {tracing = tracing} {old = old} {new = new} {k1 = k1} {ending = ending} {report = report} (inr (inr run)) mark n is reaches =
     let read : run.began.mark ≡ mark = run.began.gives.told mark is in
     let from = goes_on run.began.mark run.config (keys_of run.secret) run.base old.store run.opened n run.began.begins (subst (λ (m : Mark). Reaches m n) (sym read) reaches) in
-    let most = most_behind run.session.ending run.base (keys_of run.secret) tracing run.session.story _ run.served new run.run report run.in_use k1 ending run.behind in
-    let closing = closing_behind (public_after run.base run.session.story.entries) run.base.start run.served.store.asked in
+    let most = most_behind run.session.ending (flying flight run.base) (keys_of run.secret) tracing run.session.story _ run.served new run.run report run.in_use k1 ending run.behind in
+    let closing = closing_behind (public_after (flying flight run.base) run.session.story.entries) run.base.start run.served.store.asked in
     elim (held_after (inr (inr run)) mark is).most [
       | inl used ↦ (from, InUse, used, tt)
       | inr made ↦ (from, mark_made closing, made, reaches_made closing (run.base.start.writes + writes new.store.asked) (omega (arith, most)))
