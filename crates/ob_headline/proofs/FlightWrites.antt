@@ -3,6 +3,7 @@ use Rattle.std.specs.Prelude.{⊤, unwrap_or, slice_get, slice_set, take, map, o
 use Rattle.std.specs.List.{All}
 use Rattle.std.proofs.Common.{◌≡◌, ◌⊎◌, ◌+◌, ◌-◌, ◌≤◌, ◌<◌, ◌++◌, inl, inr, Ok, Err, ℕ, zero, suc, Bool, true, false, List, [], ◌∷◌, length, Option, Some, None, refl, sym, ◌∙◌, ap, subst, arith}
 use Rattle.std.proofs.lemmas.Bool.{cases_eq, cases_lt}
+use Rattle.std.proofs.lemmas.List.Elements.{All-head, All-tail}
 use Rattle.ob_base.specs.declared.access.Access.{Access}
 use Rattle.ob_base.specs.declared.access.Access.TheVariants.{Make, Read, Write, Discard, Open}
 use Rattle.ob_base.specs.declared.config.Plan.{Plan}
@@ -147,7 +148,9 @@ AllMayFly (x ∷ xs) = MayFly x × AllMayFly xs
 fits_boarded : (from : ℕ) (flown : List Served) → AllMayFly flown → (i : ℕ) (f : Flying) → slice_get (map boarded flown) i ≡ Some f → Fits from f
 unfolding AllMayFly
 fits_boarded from [] may i f at = absurd (cc at)
-fits_boarded from (x ∷ flown) may zero f at = subst (λ (h : Flying). Fits from h) (cc at) (record { may = may.0; above = λ g none. absurd (cc none) })
+fits_boarded from (x ∷ flown) may zero f at =
+    let same : boarded x ≡ f = cc at in
+    subst (λ (h : Flying). Fits from h) same (record { may = may.0; above = λ g none. absurd (cc none) })
 fits_boarded from (x ∷ flown) may (suc i) f at = fits_boarded from flown may.1 i f at
 
 module _ (p : Public) (flown : List Served) (words : ℕ → ℕ) (may : AllMayFly flown) where
@@ -281,8 +284,8 @@ module _ (p : Public) (m : ℕ) (all : List Served) (words : ℕ → ℕ) (left 
   unfolding AreOrderedBy AllMayFly seats_aloft
   split_ordered i [] behind rest selects are = (tt, are)
   split_ordered i (x ∷ flown) behind rest selects are =
-      let more = split_ordered (i + 1) flown behind rest selects.1 are.1 in
-      ((record { skeleton = selects.0; one_plan = are.0.1 refl }, more.0), more.1)
+      let more = split_ordered (i + 1) flown behind rest (All-tail (λ (y : Served). SelectsFromOne y.skeleton) x flown selects) are.1 in
+      ((record { skeleton = All-head (λ (y : Served). SelectsFromOne y.skeleton) x flown selects; one_plan = are.0.1 refl }, more.0), more.1)
 
 entries_ordered : (most answered : ℕ) (words : ℕ → ℕ) (t : ℕ) (p : Public) (m : ℕ) (entries : List Entry) → AreEntries most answered entries → AreOrderedBy (seats words t p m entries) (served_by entries) → AreOrdered entries
 unfolding AreEntries AreOrdered AreOrderedBy seats served_by

@@ -110,8 +110,8 @@ one_goes_on : {settings : Option Config} {flight : Option FlightSettings} {Takes
     (ran : RunKept settings flight Takes tracing old new k0 k1 ending answers report) (mark : Mark) (n : ℕ) → k0.held ≡ Some mark → Reaches mark n
     → GoesOnFrom n ran × (left : Mark) × (k1.held ≡ Some left) × Reaches left (numbered_in n ran)
 one_goes_on (inl run) mark n is reaches = (tt, mark, held_after (inl run) mark is, reaches)
-one_goes_on (inr (inl run)) mark n is reaches =
-    elim (held_after (inr (inl run)) mark is) [
+one_goes_on {flight = flight} (inr (inl run)) mark n is reaches =
+    elim (held_after {flight = flight} (inr (inl run)) mark is) [
       | inl same ↦ (tt, mark, same, reaches)
       | inr used ↦ (tt, InUse, used.1, tt)
     ]
