@@ -10,6 +10,7 @@ pub mod ServedAlone
 pub mod AloneRuns
 pub mod TakenLemmas
 pub mod FlightWrites
+pub mod SameAlone
 pub mod PromptLemmas
 pub mod BaseLemmas
 pub mod PieceLemmas
