@@ -11,6 +11,7 @@ pub mod AloneRuns
 pub mod TakenLemmas
 pub mod FlightWrites
 pub mod SameAlone
+pub mod OneByOneLemmas
 pub mod PromptLemmas
 pub mod BaseLemmas
 pub mod PieceLemmas

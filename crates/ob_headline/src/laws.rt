@@ -13,6 +13,7 @@ ghost use Rattle.ob_headline.specs.Keeping.{BeginsFrom};
 ghost use Rattle.ob_headline.specs.Leaves.{ReadsDraws};
 ghost use Rattle.ob_headline.specs.KeptMarks.{HeldAfter, KeptRun};
 ghost use Rattle.ob_headline.specs.KeptRuns.{AnswerAsOne, AnyRun, AreChained, GoOn, NumberOn, OneRun};
+ghost use Rattle.ob_headline.specs.OneByOne.{OneByOne};
 ghost use Rattle.ob_headline.specs.Pieces.{BeginsWith};
 ghost use Rattle.ob_headline.specs.Plainly.{IsUnhindered, RunsPlainly};
 ghost use Rattle.ob_headline.specs.Reruns.{Alike, AlikeSoFar, AsksAsShown, AsksByKinds, EndsWell, GoOnFromOne, IsPlain};
@@ -86,6 +87,13 @@ pub fn one_asks_a_first_part()
 pub fn leaves_are_draws()
     ensures { (one : SomeRun)
         → ReadsDraws (draw_of (keys_by one)) (seats_by one) (seen_by one) }
+{}
+
+/// A run of which no statement flies, as none does without `--flight`, serves them one by one: one text at most was begun, what
+/// they ask follows from what is public and what is seen of each, one after the other, and without batches each text was
+/// answered before more was read.
+pub fn unflown_runs_go_one_by_one()
+    ensures { (one : SomeRun) → ServesAlone one → OneByOne one }
 {}
 
 /// Over a store that tells what it holds, gave what was written and failed at no statement, a run whose words are taken, of
