@@ -1,6 +1,5 @@
 -- What is promised of a run of which no statement flies, in terms of statements that are each served alone.
-use Rattle.std.specs.Prelude.{max}
-use Rattle.std.proofs.Common.{◌≡◌, ◌+◌, ◌≤◌, ◌++◌, ℕ, Bool, List, [], length, Option, None, refl, sym, ◌∙◌, ap, subst, arith}
+use Rattle.std.proofs.Common.{◌≡◌, ◌+◌, ◌≤◌, ◌++◌, ℕ, Bool, List, length, None, ◌∙◌, ap, subst, arith}
 use Rattle.ob_base.specs.declared.access.Access.{Access}
 use Rattle.ob_base.specs.declared.config.Public.{Public}
 use Rattle.ob_base.specs.declared.seen.Seen.{Seen}
@@ -9,7 +8,7 @@ use Rattle.ob_headline.proofs.ServedAlone.{AnswersAlone, AreOf, SeenAlone, as_al
 use Rattle.ob_headline.specs.Accesses.{Accesses, AreSeen, StopsWithin}
 use Rattle.ob_headline.specs.Bases.{Base, FromEach, drawing, session_at}
 use Rattle.ob_headline.specs.Failures.{FailsBeside}
-use Rattle.ob_headline.specs.Flights.{FliesNone, most_of, seats_of, trace_of, words_of}
+use Rattle.ob_headline.specs.Flights.{FliesNone, seats_of, trace_of, words_of}
 use Rattle.ob_headline.specs.FullStash.{ReadsFullStash}
 use Rattle.ob_headline.specs.Headline.{Headline}
 use Rattle.ob_headline.specs.Meaning.{AnswersFrom}
@@ -18,8 +17,7 @@ use Rattle.ob_headline.specs.Story.{Story}
 use Rattle.ob_headline.specs.Words.{Outside}
 use Rattle.ob_headline.specs.declared.ending.Ending.{Ending}
 use Rattle.ob_headline.specs.declared.ending.Report.{Report}
-use Rattle.ob_mean.specs.Replay.{Broken, Session}
-use Rattle.ob_mean.specs.Verdict.{Tables}
+use Rattle.ob_mean.specs.Replay.{Broken}
 use Rattle.ob_script.specs.Flights.{Entry, all_alone}
 use Rattle.ob_script.specs.Trace.{Served, trace}
 use Rattle.ob_seal.specs.KeySet.{KeySet}
@@ -65,7 +63,7 @@ module _ (base : Base) (one : FliesNone base) (keys : KeySet) (ending : Ending) 
       (λ tables meant. (
         meant.0,
         as_alone (words_of base) 0 ending (drawing keys (session_at base tables)) story.spelt meant.0 story.answers all story.part are_of
-        (subst (λ (es : List Entry). AnswersFrom ending (seats_of base es) (drawing keys (session_at base tables)) story.spelt meant.0 story.answers all story.part) entries meant.1),
+            (subst (λ (es : List Entry). AnswersFrom ending (seats_of base es) (drawing keys (session_at base tables)) story.spelt meant.0 story.answers all story.part) entries meant.1),
       ))
 
 -- the same of a headline, and of a run

@@ -1,7 +1,7 @@
 -- Statements in flight write to regions that they make, or to those of an index, whatever the turns.
 use Rattle.std.specs.Prelude.{⊤, unwrap_or, slice_get, slice_set, take, map, option_map}
 use Rattle.std.specs.List.{All}
-use Rattle.std.proofs.Common.{◌≡◌, ◌⊎◌, ◌+◌, ◌-◌, ◌≤◌, ◌<◌, ◌++◌, inl, inr, Ok, Err, ℕ, zero, suc, Bool, true, false, List, [], ◌∷◌, length, Option, Some, None, refl, sym, ◌∙◌, ap, subst, arith}
+use Rattle.std.proofs.Common.{◌≡◌, ◌⊎◌, ◌+◌, ◌-◌, ◌≤◌, ◌++◌, inl, inr, Ok, Err, ℕ, zero, suc, Bool, true, false, List, [], ◌∷◌, length, Option, Some, None, refl, sym, ◌∙◌, ap, subst, arith}
 use Rattle.std.proofs.lemmas.Bool.{cases_eq, cases_lt}
 use Rattle.std.proofs.lemmas.List.Elements.{All-head, All-tail}
 use Rattle.ob_base.specs.declared.access.Access.{Access}
@@ -31,7 +31,7 @@ use Rattle.ob_script.proofs.Eaches.{get_back, get_front}
 use Rattle.ob_script.proofs.ListPlaces.{get_set_other, get_set_same}
 use Rattle.ob_script.proofs.Steady.{steady_of}
 use Rattle.ob_script.specs.FlightLaws.{MayFly, SelectsFromOne}
-use Rattle.ob_script.specs.Flights.{Alone, Entry, Flight, Flying, Together, accesses_in, acted, asked_at, boarded, boarding, entry_of, flight, flight_accesses, flight_public, gates_of, gone_on, made_by, merge, next_act, next_flight, picked, place_by, region_after, runnable, served_in, trace_in, turn, turns, turns_of, until_stop, words_from}
+use Rattle.ob_script.specs.Flights.{Alone, Entry, Flight, Flying, Together, accesses_in, acted, boarded, boarding, entry_of, flight, flight_accesses, gates_of, gone_on, merge, next_act, next_flight, picked, place_by, region_after, runnable, trace_in, turn, turns, turns_of, words_from}
 use Rattle.ob_script.specs.Script.{script}
 use Rattle.ob_script.specs.Trace.{Served, next}
 use Rattle.ob_seal.specs.KeySet.{KeySet}

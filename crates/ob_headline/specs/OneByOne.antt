@@ -1,5 +1,5 @@
 -- Of a run of which no statement flies: they are served one by one.
-use Rattle.std.specs.Prelude.{ℕ, ◌≡◌, ◌≤◌, ◌+◌, ◌++◌, false, length, [], None}
+use Rattle.std.specs.Prelude.{◌≡◌, ◌≤◌, ◌+◌, ◌++◌, false, length, [], None}
 use Rattle.ob_headline.specs.Bases.{drawing, public_with, session_at, start}
 use Rattle.ob_headline.specs.Batches.{meant_seen}
 use Rattle.ob_headline.specs.Disturbed.{meant_trace}
