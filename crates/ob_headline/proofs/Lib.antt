@@ -12,6 +12,7 @@ pub mod TakenLemmas
 pub mod FlightWrites
 pub mod SameAlone
 pub mod OneByOneLemmas
+pub mod FlightFront
 pub mod PromptLemmas
 pub mod BaseLemmas
 pub mod PieceLemmas

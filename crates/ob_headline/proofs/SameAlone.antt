@@ -125,7 +125,7 @@ inserts_none p (K.Update table columns) flies = absurd (cc flies)
 inserts_none p (K.Delete table) flies = absurd (cc flies)
 inserts_none p (K.Drop table) flies = absurd (cc flies)
 
-flier_alone : (p : Public) (m : ℕ) (g : Option Gathering) (stmt : Stmt) → may_fly p (skeleton stmt) ≡ true → GoesAlone p m g stmt
+pub flier_alone : (p : Public) (m : ℕ) (g : Option Gathering) (stmt : Stmt) → may_fly p (skeleton stmt) ≡ true → GoesAlone p m g stmt
 flier_alone p m g stmt flies = record {
   apart = goes_none p g (skeleton stmt) flies;
   begins =
