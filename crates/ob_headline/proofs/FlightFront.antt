@@ -96,7 +96,7 @@ failed_apart g Joined apart = absurd (cc apart)
 failed_apart g (Cut n) apart = refl
 
 -- one that flies joins no batch, and begins none
-none_behind : (p : Public) (m : ℕ) (g : Option Gathering) (stmt : Stmt) (end : End) → may_fly p (skeleton stmt) ≡ true → gathering_after p m g stmt end ≡ None
+pub none_behind : (p : Public) (m : ℕ) (g : Option Gathering) (stmt : Stmt) (end : End) → may_fly p (skeleton stmt) ≡ true → gathering_after p m g stmt end ≡ None
 none_behind p m g stmt end flies =
     let alone = flier_alone p m g stmt flies in
     λ i. if alone.apart i then option_map and_one g else if alone.begins i then begun_by (skeleton stmt) end else None

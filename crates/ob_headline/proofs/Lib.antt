@@ -13,6 +13,7 @@ pub mod FlightWrites
 pub mod SameAlone
 pub mod OneByOneLemmas
 pub mod FlightFront
+pub mod FlightSeats
 pub mod PromptLemmas
 pub mod BaseLemmas
 pub mod PieceLemmas
