@@ -14,6 +14,7 @@ pub mod SameAlone
 pub mod OneByOneLemmas
 pub mod FlightFront
 pub mod FlightSeats
+pub mod UntilLemmas
 mod FlownExamples
 pub mod PromptLemmas
 pub mod BaseLemmas
