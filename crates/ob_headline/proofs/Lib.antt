@@ -15,6 +15,7 @@ pub mod OneByOneLemmas
 pub mod FlightFront
 pub mod FlightSeats
 pub mod UntilLemmas
+pub mod FlightLeft
 mod FlownExamples
 pub mod PromptLemmas
 pub mod BaseLemmas
