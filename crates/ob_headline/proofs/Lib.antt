@@ -16,6 +16,7 @@ pub mod FlightFront
 pub mod FlightSeats
 pub mod UntilLemmas
 pub mod FlightLeft
+pub mod SameEntries
 mod FlownExamples
 pub mod PromptLemmas
 pub mod BaseLemmas

@@ -66,7 +66,7 @@ unfoldable pub served_by : List Entry → List Served
 served_by [] = []
 served_by (e ∷ entries) = served_in e ++ served_by entries
 
--- of n statements, the entries all of whose are among them
+-- the entries that have none but the first n statements
 unfoldable pub whole_of : (n : ℕ) → List Entry → List Entry
 whole_of n [] = []
 whole_of n (e ∷ entries) =

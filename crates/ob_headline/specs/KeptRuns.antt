@@ -39,7 +39,8 @@ pub record OneRun (words : List Text) : Type 0 where
 abbrev pub secret_in : {settings : Option Config} {flight : Option FlightSettings}
     {Takes : Type 0} {tracing : Bool} {old new : Outside} {keeper0 keeper1 : KeeperState}
     {ending : KeptEnding} {answers : List Answer} {report : Report}
-    → RunKept settings flight Takes tracing old new keeper0 keeper1 ending answers report → Option (List ℕ)
+    → RunKept settings flight Takes tracing old new keeper0 keeper1 ending answers report
+    → Option (List ℕ)
 secret_in (inl run) = None
 secret_in (inr (inl run)) = Some run.secret
 secret_in (inr (inr run)) = Some run.secret
@@ -48,7 +49,8 @@ secret_in (inr (inr run)) = Some run.secret
 abbrev pub spelt_in : {settings : Option Config} {flight : Option FlightSettings}
     {Takes : Type 0} {tracing : Bool} {old new : Outside} {keeper0 keeper1 : KeeperState}
     {ending : KeptEnding} {answers : List Answer} {report : Report}
-    → RunKept settings flight Takes tracing old new keeper0 keeper1 ending answers report → List Spelt
+    → RunKept settings flight Takes tracing old new keeper0 keeper1 ending answers report
+    → List Spelt
 spelt_in (inl run) = []
 spelt_in (inr (inl run)) = []
 spelt_in (inr (inr run)) = run.session.story.spelt
@@ -57,7 +59,8 @@ spelt_in (inr (inr run)) = run.session.story.spelt
 abbrev pub seen_in : {settings : Option Config} {flight : Option FlightSettings}
     {Takes : Type 0} {tracing : Bool} {old new : Outside} {keeper0 keeper1 : KeeperState}
     {ending : KeptEnding} {answers : List Answer} {report : Report}
-    → RunKept settings flight Takes tracing old new keeper0 keeper1 ending answers report → List Served
+    → RunKept settings flight Takes tracing old new keeper0 keeper1 ending answers report
+    → List Served
 seen_in (inl run) = []
 seen_in (inr (inl run)) = []
 seen_in (inr (inr run)) = run.session.story.seen ++ run.session.story.last

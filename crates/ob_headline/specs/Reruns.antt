@@ -1,5 +1,5 @@
 -- What runs ask, and when two of them ask the same.
-use Rattle.std.specs.Prelude.{ℕ, ◌≡◌, ◌≤◌, ◌+◌, ◌⊎◌, ◌&&◌, ◌||◌, ⊤, Bool, true, false, not, if◌then◌else◌, List, [], ◌∷◌, ◌++◌, length, IsSome, IsTrue, Option, None, Ok, Err, is_some}
+use Rattle.std.specs.Prelude.{ℕ, ◌≡◌, ◌≤◌, ◌+◌, ◌⊎◌, ◌&&◌, ◌||◌, ⊤, Bool, true, false, not, if◌then◌else◌, List, [], ◌∷◌, ◌++◌, length, map, IsSome, IsTrue, Option, None, Ok, Err, is_some}
 use Rattle.clap.specs.Words.{App, Text}
 use Rattle.ob_base.specs.declared.access.Access.{Access}
 use Rattle.ob_base.specs.declared.config.Public.{Public}
@@ -114,6 +114,17 @@ pub record GoOnFromOne (a b : SomeRun) : Type 0 where
   pub public : a.base.public ≡ b.base.public
   pub count : a.base.count ≡ b.base.count
   pub before : a.base.before ≡ b.base.before
+
+-- before which of the statements a text came that spells none
+abbrev pub breaks_in : List Spelt → List Bool
+breaks_in spelt = map (λ (t : Turn). t.apart) (turns true false spelt)
+
+-- two runs whose SELECTs fly alike, if they do, and of whose statements the same is seen, of which the same ones come right
+-- behind a text that is none
+pub record ShowTheSame (a b : SomeRun) : Type 0 where
+  pub flight : a.base.flight ≡ b.base.flight
+  pub breaks : breaks_in a.run.story.spelt ≡ breaks_in b.run.story.spelt
+  pub seen : seen_by a ≡ seen_by b
 
 -- a run that came to its end, and of which no text was answered that the store failed
 pub record EndsWell (status : ℕ) (failures : ℕ) : Type 0 where

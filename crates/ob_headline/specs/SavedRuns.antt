@@ -162,7 +162,8 @@ saved_salt (inr (inr run)) = Some run.salt
 abbrev pub saved_effects : {settings : Option Config} {flight : Option FlightSettings}
     {Takes : Type 0} {tracing : Bool} {old new : Outside} {keeper0 keeper1 : KeeperState}
     {ending : KeptEnding} {answers : List Answer} {report : Report} → (more : Option (List Stmt))
-    → RunSaved settings flight Takes tracing old new keeper0 keeper1 ending answers report → List Effect
+    → RunSaved settings flight Takes tracing old new keeper0 keeper1 ending answers report
+    → List Effect
 saved_effects more (inl run) = []
 saved_effects more (inr (inl run)) = []
 saved_effects more (inr (inr run)) =

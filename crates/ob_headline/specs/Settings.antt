@@ -176,7 +176,8 @@ start_of (Some text) = wide text
 
 -- `M,X`: at most so many, from 2 to 8, and a start, both in decimal, without a sign and without leading zeros
 abbrev pub flight_spelt : Text → Option FlightSettings
-flight_spelt text = flight_from (at_least 2 (number 8 (front comma text))) (start_of (rest comma text))
+flight_spelt text =
+    flight_from (at_least 2 (number 8 (front comma text))) (start_of (rest comma text))
 
 -- none fly where no value is given; none at all where it has another form
 abbrev pub flight_in : Option Text → Option (Option FlightSettings)
@@ -188,7 +189,8 @@ flight_by app words = flight_in (value_of app words (codes "flight"))
 
 -- how they fly that these words spell, if they do
 abbrev pub flight_of : App → List Text → Option FlightSettings
-flight_of app words = option_and_then (λ (flight : Option FlightSettings). flight) (flight_by app words)
+flight_of app words =
+    option_and_then (λ (flight : Option FlightSettings). flight) (flight_by app words)
 
 -- no INSERTs are served together where SELECTs fly, and no plan is forced but Small
 abbrev pub may_fly : (flight : Option FlightSettings) → (batch : Option ℕ) → Planner → Bool

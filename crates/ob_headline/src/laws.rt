@@ -1,5 +1,5 @@
 //! What follows of whole runs, and how bytes are cut into texts.
-ghost use Rattle.std.specs.Prelude.{◌≡◌, ◌<◌, Bool, List, [], ℕ, IsSome, IsTrue, None, Option, Some, false, true, length, slice_get};
+ghost use Rattle.std.specs.Prelude.{◌≡◌, ◌<◌, ◌≤◌, Bool, List, [], ℕ, IsSome, IsTrue, None, Option, Some, false, true, length, slice_get};
 ghost use Rattle.clap.specs.Words.{App, Text};
 ghost use Rattle.ob_base.specs.declared.config.Config.{Config};
 ghost use Rattle.ob_base.specs.declared.config.Public.{Public};
@@ -17,7 +17,7 @@ ghost use Rattle.ob_headline.specs.OneByOne.{OneByOne};
 ghost use Rattle.ob_headline.specs.Pieces.{BeginsWith};
 ghost use Rattle.ob_headline.specs.Plainly.{IsUnhindered, RunsPlainly};
 ghost use Rattle.ob_headline.specs.Reruns.{Alike, AlikeSoFar, AsksAsShown, AsksByKinds, EndsWell, GoOnFromOne, IsPlain};
-ghost use Rattle.ob_headline.specs.Reruns.{OneBegins, ServesAlone, ShowAlike, SomeRun, any_counted, asked_by, failures_of};
+ghost use Rattle.ob_headline.specs.Reruns.{OneBegins, ServesAlone, ShowAlike, ShowTheSame, SomeRun, any_counted, asked_by, failures_of};
 ghost use Rattle.ob_headline.specs.Reruns.{keys_by, plainly, seats_by, seen_by, turns_of};
 ghost use Rattle.ob_headline.specs.SavedRuns.{AnswerInOne, AnySaved, GoOnSaved, HaveOwnSalts, LeavesHeld, OneSaved};
 ghost use Rattle.ob_headline.specs.SavedRuns.{SavedRun, Seals, SealsAlone};
@@ -87,6 +87,14 @@ pub fn one_asks_a_first_part()
 pub fn leaves_are_draws()
     ensures { (one : SomeRun)
         → ReadsDraws (draw_of (keys_by one)) (seats_by one) (seen_by one) }
+{}
+
+/// Two runs that go on from the same, over any stores, that came to their end, ask the same where the same is seen of their
+/// statements, also where SELECTs fly, alike in both: which ones fly together follows from what is seen and from which come
+/// right behind a text that is none.
+pub fn flown_runs_ask_the_same()
+    ensures { (a b : SomeRun) → GoOnFromOne a b → a.report.status ≤ 1 → b.report.status ≤ 1
+        → ShowTheSame a b → asked_by a ≡ asked_by b }
 {}
 
 /// A run of which no statement flies, as none does without `--flight`, serves them one by one: one text at most was begun, what
