@@ -242,11 +242,11 @@ def by_key(session, part):
 
 
 def no_table(session, part):
-    return refused("SELECT * FROM x;", "E02 no such table")
+    return refused("SELECT * FROM x;", "E02 no table")
 
 
 def no_column(session, part):
-    return refused("SELECT COUNT(*) FROM t WHERE z = 1;", "E04 no such column")
+    return refused("SELECT COUNT(*) FROM t WHERE z = 1;", "E04 no column")
 
 
 FLIGHTS = [
