@@ -24,16 +24,8 @@ use Rattle.ob_vault.specs.Tied.{Calm}
 use Rattle.ob_vault.specs.declared.vault.Vault.{Vault}
 use Rattle.ob_vault.proofs.Runs.{lasts_trans, seals_join}
 use Rattle.ob_vault.proofs.WordLemmas.{seals_rests, went_rests}
+use Rattle.ob_exec.specs.Boarding.{engine_behind}
 use Rattle.ob_exec.proofs.FlightStage.{HoldNow}
-
--- the engine then, which may have ended
-abbrev pub engine_behind : {R : Type 0} → Engine R → Vault R → RoomState → Bool → Engine R
-engine_behind old v room ended = record old {
-  vault = v;
-  room = room;
-  public = record old.public { next_region = v.next };
-  ended = ended;
-}
 
 module _ {R : Type 0} (state : R → RevState) (old : Engine R) (s s1 : StoreState) (agrees : Agrees state old s) (rests : ChangesNothing s s1) where
   -- ---- at each moment of it

@@ -33,7 +33,7 @@ use Rattle.ob_sql.specs.declared.stmt.Stmt.{Stmt}
 use Rattle.ob_store.specs.Calls.{ChangesNothing}
 use Rattle.ob_store.specs.State.{StoreState}
 use Rattle.ob_tables.specs.Agreeing.{Agrees, count_of, world_of}
-use Rattle.ob_tables.specs.Telling.{ReadsTrue, ReadsTrueUntil, answer_labels, is_refused}
+use Rattle.ob_tables.specs.Telling.{Emitted, ReadsTrue, ReadsTrueUntil, answer_labels, is_refused}
 use Rattle.ob_tables.specs.declared.engine.Engine.{Engine}
 use Rattle.ob_store.proofs.Steps.{none_before}
 use Rattle.ob_vault.specs.Calls.{Lasts}
@@ -41,16 +41,17 @@ use Rattle.ob_vault.specs.Places.{at}
 use Rattle.ob_vault.specs.State.{RevState, World}
 use Rattle.ob_vault.specs.Tied.{Calm}
 use Rattle.ob_vault.specs.declared.vault.Vault.{Vault}
-use Rattle.ob_verdict.specs.Outcomes.{Partly}
+use Rattle.ob_verdict.specs.Outcomes.{Emits, Partly}
 use Rattle.ob_verdict.specs.declared.outcome.Outcome.{Outcome}
-use Rattle.ob_exec.specs.InFlight.{served_as}
-use Rattle.ob_exec.specs.RanFlight.{AtEmitter, BeforeMake, BeginsMeant, FlightCause, FlightMeans, RanFlight, RanInTurns, StopsClosing, StopsFlight, asked_by, asked_since, cut_off, halt_of, in_flight}
+use Rattle.ob_exec.specs.InFlight.{EndsAs, EndsMeant, IsFlown, IsMeant, served_as}
+use Rattle.ob_exec.specs.RanFlight.{AtEmitter, BeforeMake, BeginsMeant, EndsSo, FlightCause, FlightMeans, RanFlight, RanInTurns, StopsClosing, StopsFlight, asked_by, asked_since, cut_off, halt_of, in_flight}
 use Rattle.ob_exec.proofs.FlightBegun.{begins_meant}
 use Rattle.ob_exec.proofs.FlightEnd.{rises_from}
-use Rattle.ob_exec.proofs.FlightFrames.{calm_start, draws_behind, engine_behind, hold_now, kept_behind, lasts_all, opens_behind, sealed_behind}
+use Rattle.ob_exec.specs.Boarding.{engine_behind}
+use Rattle.ob_exec.proofs.FlightFrames.{calm_start, draws_behind, hold_now, kept_behind, lasts_all, opens_behind, sealed_behind}
 use Rattle.ob_exec.proofs.FlightLists.{cuts_same, events_next, get_other, get_within, map_get, outcome_next, past_ended}
 use Rattle.ob_exec.proofs.FlightRuns.{Boards, ServesOne, emits_now, emitted_now, partly_now, public_is, set_kept}
-use Rattle.ob_exec.proofs.FlightStage.{AsksMake, HoldNow, IsStage, LacksHere, more_asked, whole_of}
+use Rattle.ob_exec.proofs.FlightStage.{AsksMake, HoldNow, IsSet, IsStage, LacksHere, closed_of, more_asked, whole_of}
 use Rattle.ob_exec.proofs.FlightStopped.{calm_none, cause_behind, cause_quiet, drop_asked, each_at, emitter_never, ends_closing, ends_finishing, ends_make, ends_printing, ends_quiet, hold, hold_by, hold_last, long, meant_at, memory_is, not_tampered, prints_or, serve, sink_by, statement}
 use Rattle.ob_exec.proofs.FlightStops.{asked_first, asked_last, asked_place, same_seen}
 
@@ -109,6 +110,10 @@ module _ {R E F : Type 0} (state : R → RevState) (grew cut : E → E → List 
 
   -- ---- want of memory
   -- at a make, or before a result's, or the emitter's
+  -- one is seen and answered so where the stop comes
+  abbrev So : Stmt → Seen → List Event → Outcome → Type 0
+  So stmt seen events = EndsSo state stmts stmt seen (asked_by old.public words stmts (map (λ (f : F). (k.progress f).served.seen) st.last.flyers) (asked_since s t) (length st.ended)) events old s (engine_behind old v room true) t
+
   abbrev Wanted : (place : ℕ) (stmt : Stmt) (seen : Seen) → (between : E) → Type 0
   Wanted place stmt seen between =
       AtMake (drop (length s.asked) t.asked) ⊎ BeforeMake p stmts seens asked ⊎ AtEmitter cut parted p stmt seen place (asked place) between out_new
@@ -149,8 +154,8 @@ module _ {R E F : Type 0} (state : R → RevState) (grew cut : E → E → List 
       let n : (k.progress f).asked + more_asked st.last.world (at state v t) ≡ asked st.place = sym (place_asked f here) in
       inr (inr (inl (
         subst (λ (x : ℕ). AtEmission p stmt (shown f) (drop x (whole_script p (skeleton stmt) (shown f)))) n
-        (subst (λ (x : Public). AtEmission x stmt (shown f) (drop ((k.progress f).asked + more_asked st.last.world (at state v t)) (whole_script x (skeleton stmt) (shown f)))) one.public
-        (subst (λ (x : Stmt). AtEmission (k.progress f).public x (shown f) (drop ((k.progress f).asked + more_asked st.last.world (at state v t)) (whole_script (k.progress f).public (skeleton x) (shown f)))) one.is emission)),
+            (subst (λ (x : Public). AtEmission x stmt (shown f) (drop ((k.progress f).asked + more_asked st.last.world (at state v t)) (whole_script x (skeleton stmt) (shown f)))) one.public
+            (subst (λ (x : Stmt). AtEmission (k.progress f).public x (shown f) (drop ((k.progress f).asked + more_asked st.last.world (at state v t)) (whole_script (k.progress f).public (skeleton x) (shown f)))) one.is emission)),
         halts,
       )))
 
@@ -200,7 +205,7 @@ module _ {R E F : Type 0} (state : R → RevState) (grew cut : E → E → List 
         next = ap (slice_get stmts) (sym first) ∙ there.1;
         shown = ap (slice_get seens) (sym first) ∙ map_get (λ (f : F). (k.progress f).served.seen) st.last.flyers st.place f step.at;
         events = st.current ++ step.part;
-        ends = ends_printing grew cut parted (length st.ended) st.emitted.between out_new e (st.current ++ step.part) step.stops.never ends;
+        ends = ends_printing grew cut parted (So there.0 (shown f) (st.current ++ step.part)) (length st.ended) st.emitted.between out_new e (st.current ++ step.part) step.stops.never ends;
         told = partly_halted f there.0 step.part step.at there.1 first step.halts;
         memory = λ none.
             let wants = memory_is e none in
@@ -229,7 +234,7 @@ module _ {R E F : Type 0} (state : R → RevState) (grew cut : E → E → List 
         next = other.1;
         shown = map_get (λ (f : F). (k.progress f).served.seen) st.last.flyers (length st.ended) g.0 g.1;
         events = st.current;
-        ends = ends_quiet grew cut parted (length st.ended) st.emitted.between out_new e st.current step.stops.never
+        ends = ends_quiet grew cut parted (So other.0 (shown g.0) st.current) (length st.ended) st.emitted.between out_new e st.current step.stops.never
             (λ sink. let prints = step.stops.emits sink in cc (quiet, prints))
             (subst (λ (x : E). grew st.emitted.between x st.current) (sym same) st.emitted.now);
         told = λ tables reads.
@@ -249,8 +254,8 @@ module _ {R E F : Type 0} (state : R → RevState) (grew cut : E → E → List 
       let f = fin.before in
       let there = statement_of st.place f fin.at in
       let halts : k.Halts f (events_at st.ended st.current st.place) fin.part e st.last.world (at state v t) =
-          subst (λ (es : List Event). k.Halts f es fin.part e st.last.world (at state v t))
-          (sym (ap (events_at st.ended st.current) fin.first ∙ events_next st.ended st.current)) fin.halts in
+      subst (λ (es : List Event). k.Halts f es fin.part e st.last.world (at state v t))
+      (sym (ap (events_at st.ended st.current) fin.first ∙ events_next st.ended st.current)) fin.halts in
       record {
         between = st.emitted.between;
         took = st.emitted.took;
@@ -259,8 +264,8 @@ module _ {R E F : Type 0} (state : R → RevState) (grew cut : E → E → List 
         next = ap (slice_get stmts) (sym fin.first) ∙ there.1;
         shown = ap (slice_get seens) (sym fin.first) ∙ map_get (λ (f : F). (k.progress f).served.seen) st.last.flyers st.place f fin.at;
         events = st.current ++ fin.part;
-        ends = subst (λ (x : OpErr). StopsClosing grew cut parted (halt_of x) (length st.ended) (st.current ++ fin.part) st.emitted.between out_new) (sym fin.is)
-            (ends_finishing grew cut parted (length st.ended) st.emitted.between out_new fin.error (st.current ++ fin.part) fin.ends);
+        ends = subst (λ (x : OpErr). StopsClosing grew cut parted (So there.0 (shown f) (st.current ++ fin.part)) (halt_of x) (length st.ended) (st.current ++ fin.part) st.emitted.between out_new) (sym fin.is)
+            (ends_finishing grew cut parted (So there.0 (shown f) (st.current ++ fin.part)) (length st.ended) st.emitted.between out_new fin.error (st.current ++ fin.part) fin.ends);
         told = partly_halted f there.0 fin.part fin.at there.1 fin.first halts;
         memory = λ none.
             let wants = memory_is e none in
@@ -270,6 +275,47 @@ module _ {R E F : Type 0} (state : R → RevState) (grew cut : E → E → List 
             (subst (λ (x : OpErr). k.Halts f (events_at st.ended st.current st.place) fin.part x st.last.world (at state v t)) wants halts)
             (serve_at st.place f there.0 fin.at there.1).set
             (st.aloft.stand.outcome st.place f fin.at ∙ ap (outcome_at st.ended) fin.first ∙ outcome_next st.ended)));
+      }
+
+  -- it is seen and answered as one that nothing stopped
+  closing_so : (clo : StopsInClosing k (taker_of grew cut closed parted) share e st.ended st.place st.act st.last now st.emitted.between out_new) (stmt : Stmt) → slice_get stmts st.place ≡ Some stmt
+      → So stmt (shown clo.before) clo.events clo.outcome
+  closing_so clo stmt there =
+      let f = clo.before in
+      let one = serve_at st.place f stmt clo.at there in
+      let answered = clo.answered in
+      let course : KeepsCourse (k.progress f) (k.progress clo.after) = record {
+        stmt = ap (λ (x : Progress). x.stmt) answered;
+        flat = ap (λ (x : Progress). x.flat) answered;
+        refusal = ap (λ (x : Progress). x.refusal) answered;
+        public = ap (λ (x : Progress). x.public) answered;
+      } in
+      let set : IsSet m (k.progress clo.after) = set_kept m (k.progress f) (k.progress clo.after) course one.set in
+      let after : ServesOne k m p stmt clo.after = record { is = course.stmt ∙ one.is; public = course.public ∙ one.public; set = set; selects = one.selects } in
+      let some : (k.progress clo.after).outcome ≡ Some clo.outcome = ap (λ (x : Progress). x.outcome) answered in
+      let long : (k.progress f).asked ≡ asked (length st.ended) =
+      (let all = place_asked f clo.at in let none = ap (λ (x : World). length x.store.asked) clo.world in omega (arith, all, none)) ∙ ap asked clo.first in
+      record {
+        ends =
+            subst (λ (n : ℕ). EndsAs p m n stmt (shown f) clo.outcome) long
+            (subst (λ (x : Public). EndsAs x m (k.progress f).asked stmt (shown f) clo.outcome) one.public
+            (subst (λ (x : Stmt). EndsAs (k.progress f).public m (k.progress f).asked x (shown f) clo.outcome) one.is
+            (subst (λ (x : Progress). IsFlown x.public m x.asked x.stmt x.served.seen (closed_of x.outcome clo.events)) answered (stage.stands clo.after _ _ _ clo.holds set))));
+        emits =
+            subst (λ (x : Public). Emits stmt (answer_labels stmt x) clo.outcome clo.events) after.public
+            (subst (λ (x : Stmt). Emits x (answer_labels x (k.progress clo.after).public) clo.outcome clo.events) after.is (stage.emits clo.after _ _ _ clo.holds set clo.outcome some));
+        told = λ tables d reads.
+            let here : HoldNow old.public old.indexes.items tables (at state v t) = subst (λ (w : World). HoldNow old.public old.indexes.items tables w) (sym clo.world) (held tables reads) in
+            subst (λ (n : ℕ). EndsMeant d p m n tables stmt (shown f) clo.outcome) long
+            (subst (λ (x : Public). EndsMeant d x m (k.progress f).asked tables stmt (shown f) clo.outcome) one.public
+            (subst (λ (x : Stmt). EndsMeant d (k.progress f).public m (k.progress f).asked tables x (shown f) clo.outcome) one.is
+            (subst (λ (x : Progress). IsMeant d x.public m x.asked x.asked tables x.stmt x.served.seen (closed_of x.outcome clo.events)) answered
+            (stage.told clo.after _ _ _ clo.holds set old.indexes.items tables d (held_by clo.after stmt tables (at state v t) after here)))));
+        emitted = λ tables reads.
+            let here : HoldNow old.public old.indexes.items tables (at state v t) = subst (λ (w : World). HoldNow old.public old.indexes.items tables w) (sym clo.world) (held tables reads) in
+            subst (λ (x : Public). Emitted stmt x m tables clo.outcome clo.events) after.public
+            (subst (λ (x : Stmt). Emitted x (k.progress clo.after).public m tables clo.outcome clo.events) after.is
+            (stage.emitted clo.after _ _ _ clo.holds set old.indexes.items tables (held_by clo.after stmt tables (at state v t) after here) clo.outcome some));
       }
 
   -- how it was answered
@@ -294,8 +340,8 @@ module _ {R E F : Type 0} (state : R → RevState) (grew cut : E → E → List 
         next = ap (slice_get stmts) (sym clo.first) ∙ there.1;
         shown = ap (slice_get seens) (sym clo.first) ∙ map_get (λ (f : F). (k.progress f).served.seen) st.last.flyers st.place f clo.at;
         events = clo.events;
-        ends = subst (λ (x : OpErr). StopsClosing grew cut parted (halt_of x) (length st.ended) clo.events st.emitted.between out_new) (sym clo.is)
-            (ends_closing grew cut parted (length st.ended) st.emitted.between out_new clo.error clo.events clo.took clo.outcome clo.grew
+        ends = subst (λ (x : OpErr). StopsClosing grew cut parted (So there.0 (shown f) clo.events) (halt_of x) (length st.ended) clo.events st.emitted.between out_new) (sym clo.is)
+            (ends_closing grew cut parted (So there.0 (shown f) clo.events) (length st.ended) st.emitted.between out_new clo.error clo.events clo.took clo.outcome (closing_so clo there.0 there.1) clo.grew
             (subst (λ (n : ℕ). parted clo.took out_new n clo.outcome) clo.first clo.parted));
         told = λ tables reads.
             let here : HoldNow old.public old.indexes.items tables (at state v t) = subst (λ (w : World). HoldNow old.public old.indexes.items tables w) (sym clo.world) (held tables reads) in
@@ -418,8 +464,8 @@ module _ {R E F : Type 0} (state : R → RevState) (grew cut : E → E → List 
         cause = caused T;
         failures =
             let rises : RisesBy (cut_off seens) s1.faults st.last.world.store.faults =
-                subst (λ (n : ℕ). RisesBy n s1.faults st.last.world.store.faults) (cuts_same k st.last.flyers (λ i f at. stage.failed f _ _ _ (hold_at i f at)))
-                (record { least = st.aloft.rest.faults.least; none = st.aloft.rest.faults.none }) in
+            subst (λ (n : ℕ). RisesBy n s1.faults st.last.world.store.faults) (cuts_same k st.last.flyers (λ i f at. stage.failed f _ _ _ (hold_at i f at)))
+            (record { least = st.aloft.rest.faults.least; none = st.aloft.rest.faults.none }) in
             rises_from (cut_off seens) s.faults s1.faults t.faults rests.faults (subst (λ (x : ℕ). RisesBy (cut_off seens) s1.faults x) (sym st.faults) rises);
         seals = sealed_behind state old s s1 agrees rests v room t free st.lasts true
             (λ good accepts. st.seals good (λ columns region. subst (λ (n : ℕ). Accepts good n columns region)

@@ -48,3 +48,9 @@ pub mod StageRows
 pub mod StageRowsTold
 pub mod StageKinds
 pub mod StageRowsHalts
+pub mod BoardOne
+pub mod BoardRows
+pub mod BoardTotals
+pub mod FlightBoards
+pub mod FlightNothing
+pub mod FlightFlown

@@ -33,7 +33,7 @@ use Rattle.ob_tables.specs.Telling.{Emitted, IsNotTampered, KeepsSealed, ReadsTr
 use Rattle.ob_tables.specs.declared.engine.Engine.{Engine}
 use Rattle.ob_tables.specs.declared.stop.RunStop.{RunStop}
 use Rattle.ob_tables.specs.declared.stop.RunStop.TheVariants.{KeeperFault, NoMemory, SinkFault, StashFull, StoreFault, Tampered}
-use Rattle.ob_exec.specs.InFlight.{IsFlown, IsMeant, MeantUntil, own_asked, served_as}
+use Rattle.ob_exec.specs.InFlight.{EndsAs, EndsMeant, IsFlown, IsMeant, MeantUntil, own_asked, served_as}
 
 -- ---- the flight
 -- so many accesses were asked from the first state to the second
@@ -61,6 +61,11 @@ halt_of OpErrs.Failed = StoreFault
 halt_of (OpErrs.Tampered region place) = Tampered region place
 halt_of OpErrs.Sink = SinkFault
 halt_of OpErrs.NoMemory = NoMemory
+
+-- and it is no answer
+abbrev pub halted : {T : Type 0} → Result T OpErr → Result T RunStop
+halted (Ok x) = Ok x
+halted (Err e) = Err (halt_of e)
 
 -- why a flight stops: a session that ends as tampered ends with the read of that place, and a changed block was read only
 -- there, or its tag fits; neither the store's failures nor indexes or a keeper stop it
@@ -110,26 +115,39 @@ pub record RanInTurns {R T : Type 0} (state : R → RevState) (words : ℕ → �
       (λ stop. has_ended new ≡ true)
 
 -- ---- what is emitted
+-- one ended so, as it does where nothing stops it: of it these events were taken and this was seen, behind n accesses of its
+-- own
+pub record EndsSo {R : Type 0} (state : R → RevState) (stmts : List Stmt) (stmt : Stmt)
+    (seen : Seen) (n : ℕ) (events : List Event) (old : Engine R) (s : StoreState)
+    (new : Engine R) (t : StoreState) (outcome : Outcome) : Type 0 where
+  pub ends : EndsAs (in_flight stmts (public_of old)) (count_of old s) n stmt seen outcome
+  pub emits : Emits stmt (answer_labels stmt (public_of old)) outcome events
+  pub told : (tables : Tables) (d : Draws) → ReadsTrueUntil state old s new t tables
+      → EndsMeant d (in_flight stmts (public_of old)) (count_of old s) n tables stmt seen outcome
+  pub emitted : (tables : Tables) → ReadsTrueUntil state old s new t tables
+      → Emitted stmt (in_flight stmts (public_of old)) (count_of old s) tables outcome events
+
 -- an answer's events were taken, and the output ends within how it was answered
 pub record IsParted {E : Type 0} (grew : E → E → List Event → Type 0)
-    (parted : E → E → ℕ → Outcome → Type 0) (place : ℕ) (events : List Event) (out_old out_new : E)
-    : Type 0 where
+    (parted : E → E → ℕ → Outcome → Type 0) (Ends : Outcome → Type 0) (place : ℕ)
+    (events : List Event) (out_old out_new : E) : Type 0 where
   pub outcome : Outcome
+  pub ends : Ends outcome
   pub between : E
   pub took : grew out_old between events
   pub parts : parted between out_new place outcome
 
 -- a stop comes while the answer at this place is emitted, or behind it, where the emitter gave up
 abbrev pub StopsClosing : {E : Type 0} → (grew cut : E → E → List Event → Type 0)
-    → (parted : E → E → ℕ → Outcome → Type 0) → RunStop → (place : ℕ) → List Event
-    → (out_old out_new : E) → Type 0
-StopsClosing grew cut parted SinkFault place events out_old out_new =
+    → (parted : E → E → ℕ → Outcome → Type 0) → (Ends : Outcome → Type 0) → RunStop → (place : ℕ)
+    → List Event → (out_old out_new : E) → Type 0
+StopsClosing grew cut parted Ends SinkFault place events out_old out_new =
     StopsEmission grew cut SinkFault out_old out_new events
-    ⊎ IsParted grew parted place events out_old out_new
-StopsClosing grew cut parted NoMemory place events out_old out_new =
+    ⊎ IsParted grew parted Ends place events out_old out_new
+StopsClosing grew cut parted Ends NoMemory place events out_old out_new =
     StopsEmission grew cut NoMemory out_old out_new events
-    ⊎ IsParted grew parted place events out_old out_new
-StopsClosing grew cut parted stop place events out_old out_new =
+    ⊎ IsParted grew parted Ends place events out_old out_new
+StopsClosing grew cut parted Ends stop place events out_old out_new =
     StopsEmission grew cut stop out_old out_new events
 
 -- ---- want of memory
@@ -167,7 +185,9 @@ pub record StopsFlight {R E : Type 0} (state : R → RevState)
   pub next : slice_get stmts (length ended) ≡ Some stmt
   pub shown : slice_get seens (length ended) ≡ Some seen
   pub events : List Event
-  pub ends : StopsClosing grew cut parted stop (length ended) events between out_new
+  pub ends : StopsClosing grew cut parted
+      (EndsSo state stmts stmt seen (asked (length ended)) events old s new t)
+      stop (length ended) events between out_new
   pub told : (tables : Tables) → ReadsTrueUntil state old s new t tables
       → Partly (answer_labels stmt (public_of old))
       (verdict (in_flight stmts (public_of old)) (count_of old s) tables stmt) events
