@@ -6,6 +6,15 @@ pub mod SettingLemmas
 pub mod AsOne
 pub mod Numbered
 pub mod TextLemmas
+pub mod ServedAlone
+pub mod AloneRuns
+pub mod TakenLemmas
+pub mod FlightWrites
+pub mod SameAlone
+pub mod OneByOneLemmas
+pub mod FlightFront
+pub mod FlightSeats
+mod FlownExamples
 pub mod PromptLemmas
 pub mod BaseLemmas
 pub mod PieceLemmas

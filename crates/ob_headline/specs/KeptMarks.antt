@@ -7,6 +7,8 @@ use Rattle.ob_base.specs.declared.mark.Mark.{Mark}
 use Rattle.ob_base.specs.declared.mark.Mark.TheVariants.{InUse}
 use Rattle.ob_base.specs.declared.refusal.Stop.{Stop}
 use Rattle.ob_reopen.specs.Closed.{is_used_up}
+use Rattle.ob_headline.specs.Bases.{flying}
+use Rattle.ob_headline.specs.Flights.{public_after}
 use Rattle.ob_headline.specs.Keeping.{closing_behind}
 use Rattle.ob_headline.specs.KeptHeadline.{KeptHeadline, RunKept}
 use Rattle.ob_headline.specs.Settings.{IsTaken, flight_of, settings_of}
@@ -20,7 +22,6 @@ use Rattle.ob_headline.specs.declared.flight.FlightSettings.{FlightSettings}
 use Rattle.ob_reopen.specs.Closings.{mark_of}
 use Rattle.ob_reopen.specs.Keepers.{KeeperState}
 use Rattle.ob_reopen.specs.declared.closing.Closing.{Closing}
-use Rattle.ob_script.specs.Trace.{after_all as all_public}
 
 -- what `keep_top` promises of a run with `--keep` that reads its input
 abbrev pub KeptRun : List Text → (old new : Outside) → (keeper0 keeper1 : KeeperState) → Report
@@ -50,6 +51,7 @@ abbrev pub HeldAfter : {settings : Option Config} {flight : Option FlightSetting
 HeldAfter {keeper1 = keeper1} (inl run) held = keeper1.held ≡ Some held
 HeldAfter {keeper1 = keeper1} {ending = ending} (inr (inl run)) held =
     (keeper1.held ≡ Some held) ⊎ ((ending ≡ KeeperFault) × (keeper1.held ≡ Some InUse))
-HeldAfter {keeper1 = keeper1} {ending = ending} (inr (inr run)) held =
-    HeldBehind ending (closing_behind (all_public run.base.public run.session.story.seen)
+HeldAfter {flight = flight} {keeper1 = keeper1} {ending = ending} (inr (inr run)) held =
+    HeldBehind ending
+    (closing_behind (public_after (flying flight run.base) run.session.story.entries)
     run.base.start run.served.store.asked) keeper1.held

@@ -5,8 +5,9 @@ use Rattle.clap.specs.Words.{Text}
 use Rattle.ob_base.specs.Accesses.{writes}
 use Rattle.ob_base.specs.declared.config.Config.{Config}
 use Rattle.ob_base.specs.declared.mark.Mark.{Mark}
-use Rattle.ob_headline.specs.Bases.{drawing, start}
+use Rattle.ob_headline.specs.Bases.{drawing, flying, start}
 use Rattle.ob_headline.specs.Failures.{failures}
+use Rattle.ob_headline.specs.Flights.{seats_alone, trace_of}
 use Rattle.ob_headline.specs.KeptHeadline.{RunKept}
 use Rattle.ob_headline.specs.KeptMarks.{KeptRun}
 use Rattle.ob_headline.specs.Reruns.{EndsWell}
@@ -20,7 +21,7 @@ use Rattle.ob_headline.specs.declared.ending.Report.{Report}
 use Rattle.ob_headline.specs.declared.flight.FlightSettings.{FlightSettings}
 use Rattle.ob_mean.specs.Replay.{Broken, Session, Spelt, after_all}
 use Rattle.ob_reopen.specs.Keepers.{KeeperState}
-use Rattle.ob_script.specs.Trace.{Served, trace}
+use Rattle.ob_script.specs.Trace.{Served}
 use Rattle.ob_seal.specs.Sealed.{keys_of}
 use Rattle.ob_store.specs.State.{KeptRegion}
 
@@ -68,8 +69,8 @@ abbrev pub count_in : {settings : Option Config} {flight : Option FlightSettings
     → RunKept settings flight Takes tracing old new keeper0 keeper1 ending answers report → ℕ
 count_in (inl run) = 0
 count_in (inr (inl run)) = 0
-count_in (inr (inr run)) =
-    run.base.count + length (trace run.base.public (run.session.story.seen ++ run.session.story.last))
+count_in {flight = flight} (inr (inr run)) =
+    run.base.count + length (trace_of (flying flight run.base) run.session.story.entries)
 
 -- ---- runs that answer as one
 -- it has this secret and came to its end, the store tells what it holds, gave what was written and failed at no statement,
@@ -113,7 +114,8 @@ pub record AnswerAsOne {words : List Text} (secret : List ℕ) (runs : List (One
   pub hows : Broken
   pub alone : (first_of words secret).public.batch ≡ None → hows ≡ []
   pub answered : (after_all (first_of words secret) (all_spelt runs) hows).asked < 2 ^ 63
-      → AnswersFrom (Ran (Ok (any_refused (all_answers runs)))) (first_of words secret)
+      → AnswersFrom (Ran (Ok (any_refused (all_answers runs))))
+      (seats_alone (first_of words secret) (all_seen runs)) (first_of words secret)
       (all_spelt runs) hows (all_answers runs) (all_seen runs) []
 
 -- ---- numbers over runs

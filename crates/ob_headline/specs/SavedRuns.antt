@@ -7,6 +7,7 @@ use Rattle.ob_base.specs.declared.access.Access.{Access}
 use Rattle.ob_base.specs.declared.config.Config.{Config}
 use Rattle.ob_base.specs.declared.mark.Mark.{Mark}
 use Rattle.ob_headline.specs.Bases.{Base, flying, start}
+use Rattle.ob_headline.specs.Flights.{trace_of}
 use Rattle.ob_headline.specs.KeptHeadline.{PassesBoth, begun_at}
 use Rattle.ob_headline.specs.Meaning.{AnswersMeant}
 use Rattle.ob_headline.specs.Reruns.{SomeRun, of_saving}
@@ -23,7 +24,6 @@ use Rattle.ob_mean.specs.Batches.{batch_most}
 use Rattle.ob_mean.specs.Replay.{Alone, Session, Spelt, after, after_all, is_full_now}
 use Rattle.ob_mean.specs.Verdict.{Tables}
 use Rattle.ob_reopen.specs.Keepers.{KeeperState}
-use Rattle.ob_script.specs.Trace.{trace}
 use Rattle.ob_seal.specs.KeySet.{KeySet, pair_of}
 use Rattle.ob_sql.specs.declared.stmt.Stmt.{Stmt}
 use Rattle.ob_store.specs.State.{KeptRegion, StoreState}
@@ -71,7 +71,8 @@ abbrev pub MayLeave : {settings : Option Config} {flight : Option FlightSettings
     → (held mark : Mark) → Type 0
 MayLeave (inl run) held mark = mark ≡ held
 MayLeave (inr (inl run)) held mark = (mark ≡ held) ⊎ (mark ≡ begun_mark held)
-MayLeave (inr (inr run)) held mark = (mark ≡ begun_mark held) ⊎ SavesAs run.salt run.base mark
+MayLeave {flight = flight} (inr (inr run)) held mark =
+    (mark ≡ begun_mark held) ⊎ SavesAs run.salt (flying flight run.base) mark
 
 -- and what rested for it under the secret, if none was served, rests
 pub record Outlasts (secret : List ℕ) (held mark : Mark) (old new : StoreState) : Type 0 where
@@ -185,8 +186,8 @@ abbrev pub saved_count : {settings : Option Config} {flight : Option FlightSetti
     → RunSaved settings flight Takes tracing old new keeper0 keeper1 ending answers report → ℕ
 saved_count (inl run) = 0
 saved_count (inr (inl run)) = 0
-saved_count (inr (inr run)) = run.base.count
-    + length (trace run.base.public (run.session.story.seen ++ run.session.story.last))
+saved_count {flight = flight} (inr (inr run)) = run.base.count
+    + length (trace_of (flying flight run.base) run.session.story.entries)
 
 -- ---- runs that answer as one
 -- its secret is this one, if it took one, the store tells what it holds and gave what was written, and no statement came so
