@@ -6,7 +6,7 @@ into it. It needs python3 alone, and takes a second.
 import pathlib
 import random
 
-from generated import Run, digits, up
+from generated import Run, up
 from generated import case as without_input
 from padded import lines_of
 
@@ -349,6 +349,14 @@ class Session:
         """How many accesses filled the tables."""
         return sum(len(step.asked) for step in self.steps[: self.filled])
 
+    def typed(self):
+        return [f"> {text}" for step in self.steps for text in step.texts]
+
+
+def changed(at, stopped):
+    """The change before this access by which a run stops so."""
+    return f"{at}:flip:{stopped.split(' ', 2)[2].replace(' ', '.')}.0"
+
 
 def accesses(asked):
     return [f"@ {line}" for line in lines_of(asked) if line]
@@ -517,9 +525,8 @@ def stopped_sinks():
         ("its line", "writes", answered + 5, session.said()),
         ("its trace", "traces", sum(len(it) + 1 for it in asked) - 2, session.said()[:-1]),
     ]:
-        words = f"case a block is changed, and the sink is full within {name}", f"words {session.shape} --meddle {at}:flip:{session.stopped[11:].replace(' ', '.')}.0", f"{sink} hold {size}"
-        typed = [f"> {text}" for step in session.steps for text in step.texts]
-        said = [f"< {line}" for line in (lines or session.said()[:-1])]
+        words = f"case a block is changed, and the sink is full within {name}", f"words {session.shape} --meddle {changed(at, session.stopped)}", f"{sink} hold {size}"
+        typed, said = session.typed(), [f"< {line}" for line in (lines or session.said()[:-1])]
         if sink == "traces":
             told = [*accesses(asked), f"traced {size}"]
         else:
@@ -550,7 +557,7 @@ def readings():
         probe = Session(3, 1, 12).serve([two, totals])
         at = len(probe.run.asked) - 2
         session = Session(3, 1, 12).serve([two, totals], stops=at)
-        change = f"--meddle {at}:flip:{session.stopped[11:].replace(' ', '.')}.0"
+        change = f"--meddle {changed(at, session.stopped)}"
         cases.append(spelt(f"a block is changed before {what}", session, change, lines, rest))
     session = Session(3, 1, 12).serve([two, totals])
     held = sum(len(line) + 1 for line in session.said()) - 4
@@ -652,7 +659,7 @@ def lasting():
         ]),
         case("a block is changed in a flight of tables that are saved", "--save", [
             (0, [create, row], ["= created", "= inserted"], saved, [], 0, mark),
-            (9, flight, [*[line for line, _ in ran.printed], ran.stopped], opened + cut, [f"changes {len(opened) + 4}:flip:{ran.stopped[11:].replace(' ', '.')}.0"], 4, mark),
+            (9, flight, [*[line for line, _ in ran.printed], ran.stopped], opened + cut, [f"changes {changed(len(opened) + 4, ran.stopped)}"], 4, mark),
         ]),
     ]
     kept = ["M 1 1 49", "W 1 0", "M 2 1 49", "R 1 0", "R 1 0", "W 2 0", "D 1"]
@@ -667,7 +674,7 @@ def lasting():
         ]),
         case("a block is changed in a flight of tables that are kept", "--keep", [
             fill,
-            (9, flight, [*[line for line, _ in ran.printed], ran.stopped], reopened + cut, [f"changes {len(reopened) + 2}:flip:{ran.stopped[11:].replace(' ', '.')}.0"], 4, "in use"),
+            (9, flight, [*[line for line, _ in ran.printed], ran.stopped], reopened + cut, [f"changes {changed(len(reopened) + 2, ran.stopped)}"], 4, "in use"),
         ]),
     ]
     return cases
@@ -732,7 +739,6 @@ def drawn(number):
 
 
 FLIGHTS = [
-    # the SELECTs of rows, side by side, whose first word is odd
     ("two of rows", 2, 8, ("t",), [two, others]),
     ("two counts", 2, 8, ("t",), [totals, totals]),
     ("rows and none", 2, 8, ("t",), [two, none]),
@@ -790,7 +796,7 @@ def disturbed():
         stops = stop and next(n for n, it in enumerate(probe.run.asked, 1) if n >= before + stop and it[0] == "R")
         session = make().serve(items, fails=fails, stops=stops)
         change = "--meddle " + ",".join(f"{n}:fail" for n in fails)
-        change += f",{stops}:flip:{session.stopped[11:].replace(' ', '.')}.0" if stops else ""
+        change += f",{changed(stops, session.stopped)}" if stops else ""
         cases.append(spelt(f"accesses {', '.join(map(str, fails))} fail" + (f", and {stops} reads a changed block" if stops else ""), session, change))
     return cases
 
