@@ -787,8 +787,22 @@ def disturbed():
                 _, region, place = access.split()
                 session = make().serve(items, stops=at)
                 cases.append(spelt(f"{name}, block {place} of region {region} is changed before access {at}", session, f"--meddle {at}:flip:{region}.{place}.0"))
+    # a block of the table, and of each result, gets what it held before its last write, and what another holds
+    make = lambda: Session(2, 11, 8)
+    whole = make().serve([two, others])
+    read = {it.split()[1]: n for n, it in enumerate(whole.run.asked, 1) if n > whole.before() and it[0] == "R"}
+    for region, at in read.items():
+        place = int(whole.run.asked[at - 1].split()[2])
+        for what, change in (("put back", f"old:{region}.{place}"), ("exchanged", f"copy:{region}.{place - 1}:{region}.{place}")):
+            session = make().serve([two, others], stops=at)
+            cases.append(spelt(f"block {place} of region {region} is {what} before access {at}", session, f"--meddle {at}:{change}"))
     # two of them fail, or one of them and then a block is changed
-    for most, buffer, items, fails, stop in [(2, 8, [two, others], (3, 9), None), (3, 12, [two, totals, others], (1, 2, 3), None), (3, 12, [two, totals, others], (4,), 9)]:
+    for most, buffer, items, fails, stop in [
+        (2, 8, [two, others], (3, 9), None),
+        (3, 12, [two, totals, others], (1, 2, 3), None),
+        (3, 12, [two, totals, others], (4,), 9),
+        (2, 8, [two, others, totals, all_rows, none, two], (5, 20), None),
+    ]:
         make = lambda: Session(most, 4, buffer)
         before = make().before()
         fails = tuple(before + n for n in fails)
