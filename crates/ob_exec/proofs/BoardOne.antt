@@ -29,7 +29,8 @@ use Rattle.ob_sql.specs.declared.stmt.Stmt.TheVariants.{Create, Insert, Update, 
 use Rattle.ob_stages.proofs.GroupsEnds.{share_few}
 use Rattle.ob_tables.specs.Engines.{IsFound}
 use Rattle.ob_vault.specs.Rows.{Wide}
-use Rattle.ob_exec.specs.Boarding.{FitShares, MayFlyBy, early_of}
+use Rattle.ob_exec.specs.Boarding.{FitShares, MayFlyBy}
+use Rattle.ob_exec.specs.InFlight.{early_of}
 
 -- a count that stands at the last value of a u64 is late
 pub late_same : (m n : ℕ) → n ≡ min m (2 ^ 64 - 1) → nat_le (2 ^ 63) n ≡ is_late m

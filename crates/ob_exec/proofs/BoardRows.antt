@@ -28,7 +28,8 @@ use Rattle.ob_tables.specs.Engines.{IsFound}
 use Rattle.ob_tables.proofs.SourceColumns.{listed_few}
 use Rattle.ob_tables.proofs.TableLemmas.{stored_found}
 use Rattle.ob_verdict.proofs.AcceptedProof.{places_fit}
-use Rattle.ob_exec.specs.Boarding.{FitShares, IsAboard, MayFlyBy, early_of, seen_if}
+use Rattle.ob_exec.specs.Boarding.{FitShares, IsAboard, MayFlyBy, seen_if}
+use Rattle.ob_exec.specs.InFlight.{early_of}
 use Rattle.ob_exec.proofs.BoardOne.{block_fit, flat_sized, flight_settings, wide_less}
 use Rattle.ob_exec.proofs.RowsOfTable.{schema_of, shape_of}
 

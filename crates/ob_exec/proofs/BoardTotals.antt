@@ -41,7 +41,8 @@ use Rattle.ob_tables.specs.Engines.{IsFound}
 use Rattle.ob_tables.proofs.FoundLemmas.{heading_found, shape_found}
 use Rattle.ob_tables.proofs.TableLemmas.{stored_found}
 use Rattle.ob_vault.specs.State.{World}
-use Rattle.ob_exec.specs.Boarding.{FitShares, IsAboard, MayFlyBy, ReadsFrom, early_of, seen_if, share_of}
+use Rattle.ob_exec.specs.Boarding.{FitShares, IsAboard, MayFlyBy, ReadsFrom, seen_if, share_of}
+use Rattle.ob_exec.specs.InFlight.{early_of}
 use Rattle.ob_exec.proofs.BoardOne.{block_fit, flat_sized, wide_less}
 
 module _ (late : Bool) (n : ℕ) (p : Public) (by : MayFlyBy n p) (s : SelectTotals) (free : early_of late p (TotalsStmt s) ≡ None) (place : ℕ) (flat : Flat) (found : IsFound s.table place flat p.tables) where

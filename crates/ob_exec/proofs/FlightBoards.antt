@@ -45,8 +45,8 @@ use Rattle.ob_vault.specs.State.{RevState, World}
 use Rattle.ob_vault.proofs.RowsLemmas.{rows_room}
 use Rattle.ob_vault.proofs.WordLemmas.{ready_rests, went_rests}
 use Rattle.ob_verdict.specs.Outcomes.{refusal_now}
-use Rattle.ob_exec.specs.Boarding.{AllFlyBy, AreAboard, FitShares, IsAboard, MayFlyBy, MaySetOff, early_of, flight_kind, share_of}
-use Rattle.ob_exec.specs.InFlight.{AreFlight, Flies}
+use Rattle.ob_exec.specs.Boarding.{AreAboard, FitShares, IsAboard, MayFlyBy, MaySetOff, flight_kind, share_of}
+use Rattle.ob_exec.specs.InFlight.{AreFlight, early_of, Flies}
 use Rattle.ob_exec.specs.RanFlight.{in_flight}
 use Rattle.ob_exec.specs.Sources.{selection}
 use Rattle.ob_exec.proofs.BoardOne.{early_same, from_one, table_sized}
@@ -99,9 +99,6 @@ may_fly_by state old s stmts agrees flown =
       headings = λ i t at. (agrees.tables.each i t at).heading;
       names = agrees.tables.names;
     }
-
-pub all_fly_by : (p : Public) (m : ℕ) (stmts : List Stmt) → AreFlight p m stmts → AllFlyBy (is_late m) p stmts
-all_fly_by p m stmts flown = record { each = λ i stmt at. let one = flies_in p m stmts flown i stmt at in record { selects = one.selects; flat = one.flat } }
 
 -- an access of an index follows from the tables alone
 plain_same : (n : ℕ) (p : Public) (stmt : Stmt) → SelectsFromOne (skeleton stmt) → is_access (flight_public n p) (skeleton stmt) ≡ is_access p (skeleton stmt)

@@ -175,6 +175,12 @@ past_ended [] i none = omega arith
 past_ended (one ∷ ended) zero none = absurd (cc none)
 past_ended (one ∷ ended) (suc i) none = let e = past_ended ended i none in omega (arith, e)
 
+-- nothing stands behind a list's end
+pub past_none : {A : Type 0} (xs : List A) (i : ℕ) → slice_get xs i ≡ None → length xs ≤ i
+past_none [] i none = omega arith
+past_none (x ∷ xs) zero none = absurd (cc none)
+past_none (x ∷ xs) (suc i) none = let e = past_none xs i none in omega (arith, e)
+
 -- and what stands behind them has not ended
 pub none_past : (ended : List Closed) (i : ℕ) → length ended ≤ i → slice_get ended i ≡ None
 none_past [] i past = refl

@@ -1,7 +1,7 @@
 -- Want of memory before a flight: nothing was asked.
 use Rattle.std.proofs.Common.{◌≡◌, inl, ◌≤◌, ℕ, suc, Bool, ◌||◌, true, false, List, [], ◌∷◌, ◌++◌, map, length, take, Option, Some, None, Err, refl, sym, ◌∙◌, ap, subst, arith, append-nil}
 use Rattle.std.specs.Prelude.{bytes_eq, drop, is_some, nat_le, nat_lt, not, slice_get}
-use Rattle.std.specs.List.{All, list_any}
+use Rattle.std.specs.List.{list_any}
 use Rattle.std.proofs.lemmas.List.{length-map}
 use Rattle.std.proofs.lemmas.Option.{same_Some}
 use Rattle.ob_base.specs.Events.{Event}
@@ -45,6 +45,7 @@ use Rattle.ob_tables.proofs.RunLemmas.{opens_none}
 use Rattle.ob_tables.proofs.SealLemmas.{keeps_rests}
 use Rattle.ob_tables.proofs.TableLemmas.{named}
 use Rattle.ob_tables.proofs.ToldLemmas.{started_seen}
+use Rattle.ob_vault.specs.Calls.{Apart}
 use Rattle.ob_vault.specs.State.{RevState}
 use Rattle.ob_vault.proofs.WordLemmas.{went_rests}
 use Rattle.ob_verdict.specs.Outcomes.{refusal_now}
@@ -52,6 +53,7 @@ use Rattle.ob_verdict.specs.declared.outcome.Outcome.{Outcome}
 use Rattle.ob_exec.specs.Boarding.{engine_behind, seen_first, seen_if}
 use Rattle.ob_exec.specs.InFlight.{AreFlight, Flies, IsFlown, IsMeant, served_as}
 use Rattle.ob_exec.specs.RanFlight.{RanFlight, RanInTurns, StopsFlight, asked_by, asked_since, cut_off, in_flight}
+use Rattle.ob_exec.proofs.FlightTurned.{stops_unturned}
 use Rattle.ob_exec.proofs.BoardOne.{early_same, from_one}
 use Rattle.ob_exec.proofs.FlightBoards.{flies_in}
 use Rattle.ob_exec.proofs.FlightFrames.{calm_start}
@@ -132,7 +134,7 @@ uncut (Some why) = refl
 none_cut : (late : Bool) (p : Public) (stmts : List Stmt) → cut_off (map (seen_first late p) stmts) ≡ 0
 unfolding total
 none_cut late p [] = refl
-none_cut late p (stmt ∷ stmts) = let one = uncut (Rattle.ob_exec.specs.Boarding.early_of late p stmt) in let rest = none_cut late p stmts in omega (arith, one, rest)
+none_cut late p (stmt ∷ stmts) = let one = uncut (Rattle.ob_exec.specs.InFlight.early_of late p stmt) in let rest = none_cut late p stmts in omega (arith, one, rest)
 
 drop_all : (xs : List Access) → drop (length xs) xs ≡ []
 drop_all [] = refl
@@ -236,7 +238,7 @@ module _ {R E : Type 0} (state : R → RevState) (grew cut : E → E → List Ev
     drawn = λ d of. record { draw = of.draw; next = of.next };
     room = agrees.room;
     opened = subst (λ (l : List Access). Rattle.ob_select.specs.Opening.Opens l old.room.high old.room.high) (sym none_asked) (opens_none old.room.high);
-    kept = λ q below. (went_rests _ s s1 rests (λ r. old.vault.next ≤ r) agrees.ready).lasts.apart.rests q (let next = agrees.next in λ above. omega (arith, next, below, above));
+    untouched = subst (λ (n : ℕ). Apart (λ q. n ≤ q) (world_of state old s) (world_of state old s1)) (sym agrees.next) (went_rests _ s s1 rests (λ r. old.vault.next ≤ r) agrees.ready).lasts.apart;
     goes_on = refl;
   }
 
@@ -268,6 +270,7 @@ module _ {R E : Type 0} (state : R → RevState) (grew cut : E → E → List Ev
     emits = λ i stmt one there is. absurd (cc is);
     answered = tt;
     stopped = stops_first;
+    turn = stops_unturned p (served_as stmts seens) words (asked_since s s1) none_since;
     sink = refl;
     cause = calm_start state old s s1 agrees rests;
     failures =

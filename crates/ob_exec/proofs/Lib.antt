@@ -38,6 +38,7 @@ pub mod FlightFrames
 pub mod FlightBegun
 pub mod FlightEnd
 pub mod FlightMore
+pub mod FlightTurned
 pub mod FlightStops
 pub mod FlightStopped
 pub mod FlightHalted

@@ -14,7 +14,7 @@ use Rattle.ob_oram.specs.declared.index.Index.{Index}
 use Rattle.ob_row.specs.Slots.{Slots}
 use Rattle.ob_script.specs.Trace.{Served}
 use Rattle.ob_select.specs.Selecting.{HoldsSeen, selection_seen}
-use Rattle.ob_stages.specs.Flying.{FlightHalts, FlightHolds, MayFly, flight_progress, flight_served}
+use Rattle.ob_stages.specs.Flying.{FlightHalts, FlightHolds, MayFly, flight_acts, flight_progress, flight_served}
 use Rattle.ob_stages.specs.Reading.{end_now}
 use Rattle.ob_stages.specs.Refusing.{refused_progress}
 use Rattle.ob_stages.specs.RowsHolds.{Holds, HoldsAt}
@@ -177,6 +177,7 @@ module _ (m : ℕ) where
     single = stage_single;
     failed = stage_cut;
     cut = stage_ends;
+    over = λ f kept events w is over n. (flight_acts f (flight_progress f).served n (flight_served f kept events w is)).over over;
     gone = stage_gone;
     stands = stage_stands;
     emits = stage_emits;

@@ -6,20 +6,16 @@ use Rattle.ob_base.specs.declared.schema.Table.{Table}
 use Rattle.ob_base.specs.declared.seen.End.TheVariants.{Static, Whole}
 use Rattle.ob_base.specs.declared.seen.Seen.{Seen}
 use Rattle.ob_base.specs.Limits.{buffered_blocks}
-use Rattle.ob_base.specs.Stored.{headings_of}
 use Rattle.ob_flat.specs.Scans.{MayScan}
 use Rattle.ob_flat.specs.declared.flat.Flat.{Flat}
 use Rattle.ob_inflight.specs.Aloft.{AreBoarded}
 use Rattle.ob_inflight.specs.Kinds.{Kind, kind_of, moment}
-use Rattle.ob_mean.specs.Refusals.{early_refusal, limits_of, tables_of}
-use Rattle.ob_mean.specs.Replay.{is_access}
+use Rattle.ob_mean.specs.Refusals.{tables_of}
 use Rattle.ob_mean.specs.Verdict.{ended}
 use Rattle.ob_reopen.specs.Limits.{IsHeading}
 use Rattle.ob_room.specs.RoomState.{RoomState}
-use Rattle.ob_script.specs.FlightLaws.{SelectsFromOne}
 use Rattle.ob_script.specs.Flights.{flight_public}
 use Rattle.ob_select.specs.Settings.{AreSettings}
-use Rattle.ob_sql.specs.Skeleton.{skeleton}
 use Rattle.ob_sql.specs.declared.stmt.Stmt.{Stmt}
 use Rattle.ob_stages.specs.Flying.{FlightFits, FlightHalts, FlightHolds, FlightNeeds, MayFly, flight_progress}
 use Rattle.ob_stages.specs.declared.flight.Flight.{Flight}
@@ -29,6 +25,7 @@ use Rattle.ob_vault.specs.Rows.{Wide}
 use Rattle.ob_vault.specs.State.{World}
 use Rattle.ob_vault.specs.Tied.{Ready}
 use Rattle.ob_vault.specs.declared.vault.Vault.{Vault}
+use Rattle.ob_exec.specs.InFlight.{early_of}
 
 -- what they are in flight
 abbrev pub flight_kind : Kind Flight
@@ -44,11 +41,7 @@ engine_behind old v room ended = record old {
 }
 
 -- ---- what is seen of one by then
--- why it is refused before any access, if it is
-abbrev pub early_of : (late : Bool) → Public → Stmt → Option Refusal
-early_of late p stmt = early_refusal late (limits_of p) (headings_of p.tables) stmt
-
--- that it is, or nothing
+-- that it is refused before any access, or nothing
 abbrev pub seen_if : Option Refusal → Seen
 seen_if None = ended Whole
 seen_if (Some refusal) = ended Static
@@ -66,14 +59,6 @@ pub record MayFlyBy (n : ℕ) (p : Public) : Type 0 where
   pub headings : (i : ℕ) (t : Table) → slice_get p.tables i ≡ Some t → IsHeading t.heading
   pub names : (i j : ℕ) (t u : Table) → slice_get p.tables i ≡ Some t
       → slice_get p.tables j ≡ Some u → t.heading.name ≡ u.heading.name → i ≡ j
-
--- a SELECT without a join; where it isn't refused before any access its table is flat
-pub record FliesBy (late : Bool) (p : Public) (stmt : Stmt) : Type 0 where
-  pub selects : SelectsFromOne (skeleton stmt)
-  pub flat : early_of late p stmt ≡ None → is_access p (skeleton stmt) ≡ false
-
-pub record AllFlyBy (late : Bool) (p : Public) (stmts : List Stmt) : Type 0 where
-  pub each : (i : ℕ) (stmt : Stmt) → slice_get stmts i ≡ Some stmt → FliesBy late p stmt
 
 -- so many rows has each of them beside those of a block, which they share
 abbrev pub share_of : (n : ℕ) → Public → ℕ

@@ -1,8 +1,10 @@
 //! The statements of a flight, before it.
 ghost use Rattle.std.specs.Prelude.{◌≡◌, ◌≤◌, ◌+◌, ◌*◌, length, map, IfOk, None};
+ghost use Rattle.std.specs.List.{All};
 ghost use Rattle.ob_sql.specs.declared.stmt.Stmt.TheVariants.{SelectRows as RowsStmt, SelectTotals as TotalsStmt};
 ghost use Rattle.ob_stages.specs.Flying.{flight_progress};
-ghost use Rattle.ob_exec.specs.Boarding.{AllFlyBy, AreAboard, FliesBy, IsAboard, MayFlyBy, early_of, seen_first, share_of};
+ghost use Rattle.ob_exec.specs.Boarding.{AreAboard, IsAboard, MayFlyBy, seen_first, share_of};
+ghost use Rattle.ob_exec.specs.InFlight.{FliesBy, early_of};
 
 use ob_base::{End, NoMemory, Public, Seen, Source};
 use ob_mean::{early_refusal, where_at};
@@ -157,7 +159,7 @@ pub(crate) fn board_all<'a>(
 ) -> Result<Vec<Flight<'a>>, NoMemory>
     requires settings { MayFlyBy (length stmts.now) public.now }
     requires share { share ≡ share_of (length stmts.now) public.now }
-    requires fly { AllFlyBy late public.now stmts.now }
+    requires fly { All (FliesBy late public.now) stmts.now }
     ensures { IfOk result (λ flights.
         AreAboard late (length stmts.now) public.now stmts.now flights.items) }
 {

@@ -4,8 +4,13 @@ use Rattle.std.proofs.lemmas.Option.{get_or_from_slice_get}
 use Rattle.ob_sql.specs.declared.stmt.Stmt.{Stmt}
 use Rattle.ob_stages.specs.declared.flight.Flight.{Flight}
 use Rattle.ob_exec.specs.Boarding.{IsAboard}
+use Rattle.ob_exec.specs.InFlight.{FliesBy}
 use Rattle.ob_exec.proofs.FlightLists.{get_more}
 use Rattle.ob_exec.proofs.boarding.board_all.Goals as goal
+
+pub board-requires-clause-flies : goal.board-requires-clause-flies
+board-requires-clause-flies c =
+    subst (λ (stmt : Stmt). FliesBy c.args.late c.args.public.now stmt) (sym c.stmt-item.is) (c.requires.fly c.loop-stmt.stmt-index c.stmt-item.result c.loop-stmt-test.true)
 
 pub loop-stmt-preserved : goal.loop-stmt-preserved
 loop-stmt-preserved c =

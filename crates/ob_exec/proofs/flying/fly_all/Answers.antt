@@ -1,4 +1,5 @@
 use Rattle.std.proofs.Common.{◌≡◌, ◌≤◌, ◌+◌, ◌-◌, ◌*◌, ◌/◌, ◌^◌, ℕ, Bool, true, List, length, map, Err, sym, ◌∙◌, ap, subst, arith}
+use Rattle.std.specs.List.{All}
 use Rattle.std.specs.Prelude.{nat_le}
 use Rattle.std.proofs.lemmas.List.{take_at}
 use Rattle.ob_base.specs.declared.seen.Seen.{Seen}
@@ -7,10 +8,11 @@ use Rattle.ob_stages.specs.declared.flight.Flight.{Flight}
 use Rattle.ob_tables.specs.Agreeing.{count_of, world_of}
 use Rattle.ob_tables.specs.declared.stop.RunStop.TheVariants as Stops
 use Rattle.ob_tables.proofs.RunLemmas.{at_ok, rests_refl}
-use Rattle.ob_exec.specs.Boarding.{AllFlyBy, AreAboard, MaySetOff, engine_behind, flight_kind, seen_first}
+use Rattle.ob_exec.specs.Boarding.{AreAboard, MaySetOff, engine_behind, flight_kind, seen_first}
+use Rattle.ob_exec.specs.InFlight.{FliesBy}
 use Rattle.ob_exec.specs.RanFlight.{RanFlight, halted}
 use Rattle.ob_exec.proofs.BoardOne.{late_same}
-use Rattle.ob_exec.proofs.FlightBoards.{all_fly_by, booked_most, may_fly_by, may_set_off, rows_fit}
+use Rattle.ob_exec.proofs.FlightBoards.{booked_most, may_fly_by, may_set_off, rows_fit}
 use Rattle.ob_exec.proofs.FlightFlown.{flies_by}
 use Rattle.ob_exec.proofs.FlightNothing.{flight_unasked}
 use Rattle.ob_exec.proofs.flying.fly_all.Goals as goal
@@ -26,7 +28,7 @@ board_all-requires-clause-settings g c = may_fly_by g.R.Revisions.state c.args.e
 pub board_all-requires-clause-fly : goal.board_all-requires-clause-fly
 board_all-requires-clause-fly g c =
     let m = count_of c.args.engine.now (g.S.BlockStore.state c.args.store.now) in
-    subst (λ (late : Bool). AllFlyBy late c.args.engine.now.public c.args.stmts.now) (sym (late_same m c.spent-late.result c.spent-late.ensures)) (all_fly_by c.args.engine.now.public m c.args.stmts.now c.requires.flight)
+    subst (λ (late : Bool). All (FliesBy late c.args.engine.now.public) c.args.stmts.now) (sym (late_same m c.spent-late.result c.spent-late.ensures)) c.requires.flight.each
 
 pub returns-in_default-clause-ran : goal.returns-in_default-clause-ran
 returns-in_default-clause-ran g c =
