@@ -1,23 +1,22 @@
 -- Statements that fly, before others: what is seen of them and how they are answered, from what is so of each.
 use Rattle.std.specs.Prelude.{◌&&◌, ◌↔◌, if◌then◌else◌, map, slice_get, ⊤}
 use Rattle.std.specs.Option.{option_map}
-use Rattle.std.proofs.Common.{◌≡◌, ◌⊎◌, ◌+◌, ◌≤◌, ◌++◌, inl, inr, ℕ, zero, suc, Bool, true, false, IsTrue, List, [], ◌∷◌, length, Option, Some, None, Ok, Err, refl, sym, ◌∙◌, ap, subst, arith}
+use Rattle.std.proofs.Common.{◌≡◌, ◌⊎◌, ◌+◌, ◌++◌, ℕ, suc, Bool, true, false, IsTrue, List, [], ◌∷◌, length, Option, Some, None, Ok, Err, refl, sym, ◌∙◌, ap, subst, arith}
 use Rattle.ob_base.specs.declared.config.Public.{Public}
 use Rattle.ob_base.specs.declared.refusal.Refusal.TheVariants.{StoreFault}
 use Rattle.ob_base.specs.declared.seen.End.{End}
 use Rattle.ob_base.specs.declared.seen.End.TheVariants.{Static, Whole, AfterCount, Joined, Cut}
 use Rattle.ob_base.specs.declared.seen.Seen.{Seen}
-use Rattle.ob_headline.proofs.SameAlone.{GoesAlone, flier_alone}
+use Rattle.ob_headline.proofs.SameAlone.{flier_alone}
 use Rattle.ob_headline.specs.Accesses.{AreSeen, IsLeft, Says, StandsAs}
 use Rattle.ob_headline.specs.Batches.{Joins, is_failed}
 use Rattle.ob_headline.specs.Flights.{Seat, Stand, at_seat, may_fly}
 use Rattle.ob_headline.specs.Meaning.{AnswersFrom, AnswersIn, BeginsAnswer, BeginsAt, EmitsAll, EmitsPart, StandBehind, StandsIn, StandsThere}
-use Rattle.ob_headline.specs.Words.{Answer, refused_at}
+use Rattle.ob_headline.specs.Words.{Answer}
 use Rattle.ob_headline.specs.declared.ending.Ending.{Ending}
 use Rattle.ob_mean.specs.Batches.{Gathering, and_one, begun_by, gathering_after, is_cut, is_joined, is_unrefused}
 use Rattle.ob_mean.specs.Lawful.{Lawful}
 use Rattle.ob_mean.specs.Replay.{Broken, How, IsCutOff, Session, Spelt, after, head_of, is_full_now, rest_of, seen_or_cut}
-use Rattle.ob_mean.specs.Verdict.{Draws, Tables}
 use Rattle.ob_script.specs.Trace.{Served}
 use Rattle.ob_sql.specs.Skeleton.{skeleton}
 use Rattle.ob_sql.specs.declared.stmt.Stmt.{Stmt}
@@ -43,9 +42,10 @@ pub all_answered_by : (P : Seat → Stmt → Answer → Served → Type 0) (vs :
     → AllAnswered P vs stmts answers flown
 unfolding AllAnswered
 all_answered_by P [] [] [] [] a b c each = tt
-all_answered_by P (v ∷ vs) (stmt ∷ stmts) (one ∷ answers) (x ∷ flown) a b c each =
-    (each 0 v stmt one x refl refl refl refl,
-    all_answered_by P vs stmts answers flown (omega (arith, a)) (omega (arith, b)) (omega (arith, c)) (λ i w t o y p q r s. each (suc i) w t o y p q r s))
+all_answered_by P (v ∷ vs) (stmt ∷ stmts) (one ∷ answers) (x ∷ flown) a b c each = (
+  each 0 v stmt one x refl refl refl refl,
+  all_answered_by P vs stmts answers flown (omega (arith, a)) (omega (arith, b)) (omega (arith, c)) (λ i w t o y p q r s. each (suc i) w t o y p q r s),
+)
 all_answered_by P [] (stmt ∷ stmts) answers flown a b c each = absurd (omega (arith, a))
 all_answered_by P [] [] (one ∷ answers) flown a b c each = absurd (omega (arith, b))
 all_answered_by P [] [] [] (x ∷ flown) a b c each = absurd (omega (arith, c))
@@ -197,7 +197,7 @@ module _ (ending : Ending) where
         subst (λ (w : Session). (is_full_now w stmt ≡ false) × IsCutOff (head_of broken) w stmt × AnswersIn (head_of broken) w stmt one × (x.seen ≡ seen_or_cut (head_of broken) w stmt)
         × AnswersFrom ending seats (after (head_of broken) w stmt) spelt (rest_of broken) more seen part) (same_at v) told
 
-  abbrev Tells : List Seat → Session → List Spelt → List Answer → List Served → (part : List ℕ) → Type 0
+  abbrev pub Tells : List Seat → Session → List Spelt → List Answer → List Served → (part : List ℕ) → Type 0
   Tells seats s spelt answers seen part = (broken : Broken) × AnswersFrom ending seats s spelt broken answers seen part
 
   pub front_answers : (vs seats : List Seat) (s : Session) (stmts : List Stmt) (spelt : List Spelt) (answers more : List Answer) (flown seen : List Served) (part : List ℕ) → AllAnswered (FlownMeant s) vs stmts answers flown
@@ -208,8 +208,13 @@ module _ (ending : Ending) where
       let first = each.0 in
       let later = front_answers vs seats s stmts spelt answers more flown seen part each.1 rest in (
         first.how ∷ later.0,
-        (first.room, first.cuts, first.answers, first.seen,
-        answers_by s (after first.how (at_seat v s) stmt) (sym first.tables) (sym first.draws) (vs ++ seats) (map Ok stmts ++ spelt) later.0 (answers ++ more) (flown ++ seen) part later.1),
+        (
+          first.room,
+          first.cuts,
+          first.answers,
+          first.seen,
+          answers_by s (after first.how (at_seat v s) stmt) (sym first.tables) (sym first.draws) (vs ++ seats) (map Ok stmts ++ spelt) later.0 (answers ++ more) (flown ++ seen) part later.1,
+        ),
       )
   front_answers [] seats s [] spelt [] more (x ∷ flown) seen part each rest = absurd each
   front_answers [] seats s [] spelt (one ∷ answers) more flown seen part each rest = absurd each

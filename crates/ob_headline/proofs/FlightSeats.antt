@@ -1,8 +1,7 @@
 -- By what the statements of a flight go, which ones are gathered for it, and what is meant of them within some accesses.
-use Rattle.std.specs.Prelude.{◌&&◌, ◌<◌, if◌then◌else◌, map, nat_lt, slice_get, ⊤}
+use Rattle.std.specs.Prelude.{◌&&◌, ◌<◌, if◌then◌else◌, map, nat_lt, slice_get}
 use Rattle.std.specs.List.{All}
-use Rattle.std.specs.Option.{option_map}
-use Rattle.std.proofs.Common.{◌≡◌, ◌+◌, ◌≤◌, ◌++◌, inl, inr, ℕ, zero, suc, Bool, true, false, List, [], ◌∷◌, length, Option, Some, None, Ok, Err, refl, sym, ◌∙◌, ap, subst, arith}
+use Rattle.std.proofs.Common.{◌≡◌, ◌+◌, ◌≤◌, ◌++◌, ℕ, zero, suc, Bool, true, false, List, [], ◌∷◌, length, Option, Some, None, Ok, Err, refl, sym, ◌∙◌, ap, subst, arith}
 use Rattle.std.proofs.lemmas.Bool.Decides.{nat_tests}
 use Rattle.std.proofs.lemmas.List.Elements.{All-head, All-tail}
 use Rattle.ob_base.specs.declared.config.Public.{Public}
@@ -16,7 +15,7 @@ use Rattle.ob_headline.specs.Disturbed.{MeantUntil}
 use Rattle.ob_headline.specs.Flights.{AreGathered, Seat, at_seat, gathered_then, may_fly, place_now, seat_aloft, seats_aloft}
 use Rattle.ob_headline.specs.Leaves.{AreDrawn, IsDrawn}
 use Rattle.ob_headline.specs.Meaning.{AnswersMeant}
-use Rattle.ob_headline.specs.Words.{Answer, refused_at}
+use Rattle.ob_headline.specs.Words.{Answer}
 use Rattle.ob_mean.specs.Batches.{Gathering, is_unrefused}
 use Rattle.ob_mean.specs.Lawful.{height_at}
 use Rattle.ob_mean.specs.Replay.{How, Session, Spelt, after, how_now, is_full_now, seen_now, seen_or_cut}
@@ -83,9 +82,10 @@ module _ (p : Public) (m : ℕ) (flown : List Served) (words : ℕ → ℕ) (lef
       let more = All-tail (λ (w : Stmt). may_fly (flight_public (length flown) p) (skeleton w) ≡ true) stmt stmts fly in
       let all : i + length (stmt ∷ stmts) ≡ (i + 1) + length stmts = omega arith in
       let later =
-      gathered_next most (i + 1) stmts seats spelt more (omega (arith, few, all)) (subst (λ (g : ℕ). AreGathered most g seats spelt) all rest) in
-      (sym (place_next most i (skeleton stmt) flies (omega (arith, few, all))),
-      subst (λ (g : ℕ). AreGathered most g (seats_aloft p m flown words left (i + 1) (length stmts) ++ seats) (map Ok stmts ++ spelt)) (sym (then_next i (skeleton stmt) flies)) later)
+      gathered_next most (i + 1) stmts seats spelt more (omega (arith, few, all)) (subst (λ (g : ℕ). AreGathered most g seats spelt) all rest) in (
+        sym (place_next most i (skeleton stmt) flies (omega (arith, few, all))),
+        subst (λ (g : ℕ). AreGathered most g (seats_aloft p m flown words left (i + 1) (length stmts) ++ seats) (map Ok stmts ++ spelt)) (sym (then_next i (skeleton stmt) flies)) later,
+      )
 
   -- where the first of them isn't gathered with those before it
   pub gathered_front : (most g : ℕ) (stmt : Stmt) (stmts : List Stmt) (seats : List Seat) (spelt : List Spelt) → All (λ (w : Stmt). may_fly (flight_public (length flown) p) (skeleton w) ≡ true) (stmt ∷ stmts)
@@ -96,9 +96,10 @@ module _ (p : Public) (m : ℕ) (flown : List Served) (words : ℕ → ℕ) (lef
       let flies = All-head (λ (w : Stmt). may_fly (flight_public (length flown) p) (skeleton w) ≡ true) stmt stmts fly in
       let more = All-tail (λ (w : Stmt). may_fly (flight_public (length flown) p) (skeleton w) ≡ true) stmt stmts fly in
       let all : length (stmt ∷ stmts) ≡ (0 + 1) + length stmts = omega arith in
-      let later = gathered_next most (0 + 1) stmts seats spelt more (omega (arith, few, all)) (subst (λ (k : ℕ). AreGathered most k seats spelt) all rest) in
-      (sym first,
-      subst (λ (k : ℕ). AreGathered most k (seats_aloft p m flown words left (0 + 1) (length stmts) ++ seats) (map Ok stmts ++ spelt)) (sym (then_next 0 (skeleton stmt) flies)) later)
+      let later = gathered_next most (0 + 1) stmts seats spelt more (omega (arith, few, all)) (subst (λ (k : ℕ). AreGathered most k seats spelt) all rest) in (
+        sym first,
+        subst (λ (k : ℕ). AreGathered most k (seats_aloft p m flown words left (0 + 1) (length stmts) ++ seats) (map Ok stmts ++ spelt)) (sym (then_next 0 (skeleton stmt) flies)) later,
+      )
 
 -- ---- they read no leaf of an index
 pub front_drawn : (draw : ℕ → ℕ) (vs seats : List Seat) (flown seen : List Served) (numbers : List ℕ) → length flown ≡ length vs → All (λ (x : Served). x.seen.leaf ≡ None) flown
@@ -146,10 +147,13 @@ module _ (n : ℕ) where
       let none : gathered_now g w stmt ≡ None = none_behind w.public w.asked g stmt (seen_or_cut (how_now g w stmt) w stmt).end first.flies in
       let later = front_until vs seats None s stmts spelt answers more flown seen each.1 (subst (λ (h : Option Gathering). MeantUntil n h seats s spelt more seen) (sym (none_then stmts)) rest) in
       let there =
-      until_by s (after Hows.Alone w stmt) (sym first.tables) (sym first.draws) None (vs ++ seats) (map Ok stmts ++ spelt) (answers ++ more) (flown ++ seen) later in
-      (first.room few, first.answers few, first.seen few ∙ ap (λ (h : How). seen_or_cut h w stmt) (sym how),
-      subst (λ (h : Option Gathering). MeantUntil n h (vs ++ seats) (after_now g w stmt) (map Ok stmts ++ spelt) (answers ++ more) (flown ++ seen)) (sym none)
-      (subst (λ (h : How). MeantUntil n None (vs ++ seats) (after h w stmt) (map Ok stmts ++ spelt) (answers ++ more) (flown ++ seen)) (sym how) there))
+      until_by s (after Hows.Alone w stmt) (sym first.tables) (sym first.draws) None (vs ++ seats) (map Ok stmts ++ spelt) (answers ++ more) (flown ++ seen) later in (
+        first.room few,
+        first.answers few,
+        first.seen few ∙ ap (λ (h : How). seen_or_cut h w stmt) (sym how),
+        subst (λ (h : Option Gathering). MeantUntil n h (vs ++ seats) (after_now g w stmt) (map Ok stmts ++ spelt) (answers ++ more) (flown ++ seen)) (sym none)
+            (subst (λ (h : How). MeantUntil n None (vs ++ seats) (after h w stmt) (map Ok stmts ++ spelt) (answers ++ more) (flown ++ seen)) (sym how) there),
+      )
     where
       none_then : (stmts : List Stmt) → gathered_behind stmts None ≡ None
       none_then [] = refl

@@ -1,14 +1,13 @@
 -- How texts are gathered to fly: worked examples.
-use Rattle.std.specs.Prelude.{codes, ⊤}
-use Rattle.std.proofs.Common.{◌≡◌, List, [], ◌∷◌, Some, None, Ok, Err, refl}
+use Rattle.std.specs.Prelude.{codes}
+use Rattle.std.proofs.Common.{◌≡◌, [], ◌∷◌, Some, None, Ok, Err, refl}
 use Rattle.ob_base.specs.declared.seen.End.TheVariants.{Static}
 use Rattle.ob_headline.specs.Bases.{start}
 use Rattle.ob_headline.specs.Disturbed.{first_course, meant_entries}
 use Rattle.ob_headline.specs.Flights.{most_in, whole_of}
 use Rattle.ob_mean.proofs.VerdictLemmas.{count_all}
-use Rattle.ob_mean.specs.Replay.{Spelt}
 use Rattle.ob_mean.specs.Verdict.{ended}
-use Rattle.ob_script.specs.Flights.{Alone, Entry, Together, drawn}
+use Rattle.ob_script.specs.Flights.{Alone, Together, drawn}
 use Rattle.ob_script.specs.Trace.{Served}
 use Rattle.ob_sql.specs.Skeleton.{skeleton}
 use Rattle.ob_sql.specs.declared.stmt.Stmt.{Stmt}

@@ -14,6 +14,8 @@ pub mod SameAlone
 pub mod OneByOneLemmas
 pub mod FlightFront
 pub mod FlightSeats
+pub mod UntilLemmas
+pub mod FlightLeft
 mod FlownExamples
 pub mod PromptLemmas
 pub mod BaseLemmas
