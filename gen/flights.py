@@ -757,7 +757,6 @@ FLIGHTS = [
     ("seven by threes", 3, 64, ("t",), [two, others, totals, none, by_value, all_rows, two]),
     ("three flights", 2, 8, ("t",), [two, others, totals, all_rows, none, two]),
     ("as many as rows may be open for", 8, 13, ("t",), [two, totals, others, none]),
-    ("no rows that may be open for two", 8, 7, ("t",), [two, others]),
     ("one alone", 2, 8, ("t",), [two]),
 ]
 PADDED = [
@@ -826,6 +825,8 @@ def main():
             cases.append(flown(f"{name}, by the words from {start}", most, start, buffer, items, pad=pad))
         cases.append(flown(f"{name}, two rows a block", most, 5, buffer * 2, items, pack=2, pad=pad))
     cases.append(flown("sixteen rows a block", 8, 3, 400, [two, none, totals, all_rows, by_key, others, first, by_value], pack=16))
+    cases.append(flown("no rows that may be open for two", 8, 0, 7, [two, others]))
+    cases.append(flown("no rows that may be open for two, two rows a block", 8, 0, 13, [two, others], pack=2))
     for plan in ("auto", "small", "cheapest"):
         cases.append(flown(f"two, by --plan {plan}", 2, 0, 8, [two, all_rows], words=f"--plan {plan}"))
     cases += [*between(), *readings(), *sinks(), *pieces(), *stopped_sinks(), *lasting(), *generated(), *disturbed()]
