@@ -31,7 +31,8 @@ use Rattle.ob_verdict.specs.declared.outcome.Outcome.{Outcome}
 use Rattle.ob_exec.specs.InFlight.{IsFlown, IsMeant, own_asked, served_as}
 use Rattle.ob_exec.specs.RanFlight.{FlightMeans, RanFlight, RanInTurns, asked_by, asked_since, cut_off, in_flight}
 use Rattle.ob_exec.proofs.FlightBegun.{begins_meant}
-use Rattle.ob_exec.proofs.FlightFrames.{agrees_behind, calm_start, draws_behind, engine_behind, held_behind, hold_now, kept_behind, lasts_all, opens_behind, sealed_behind}
+use Rattle.ob_exec.specs.Boarding.{engine_behind}
+use Rattle.ob_exec.proofs.FlightFrames.{agrees_behind, apart_behind, calm_start, draws_behind, held_behind, hold_now, lasts_all, opens_behind, sealed_behind}
 use Rattle.ob_exec.proofs.FlightLists.{cuts_same, get_mapped}
 use Rattle.ob_exec.proofs.FlightRuns.{Boards, all_merged, as_many, emits_now, emitted_now, first_now, flown_now, meant_now, next_now, own_now, served_now, some_ended, they_hold, turns_now}
 use Rattle.ob_exec.proofs.FlightStage.{HoldNow, IsStage}
@@ -99,9 +100,9 @@ module _ {R E F : Type 0} (state : R → RevState) (grew cut : E → E → List 
       let within = Rattle.std.proofs.lemmas.Option.slice_get_within fs made.place made.flyer made.at in
       let all = h.all in
       let over : is_some (k.progress made.flyer).outcome ≡ true =
-          ap is_some (h.aloft.stand.outcome made.place made.flyer made.at) ∙ some_ended h.ended made.place (omega (arith, within, all)) in
+      ap is_some (h.aloft.stand.outcome made.place made.flyer made.at) ∙ some_ended h.ended made.place (omega (arith, within, all)) in
       let none = stage.gone made.flyer _ _ _ (they_hold k m stage steady_of old.public stmts words share start boards h.turn h.public h.ended [] now h.aloft made.place made.flyer made.at)
-          over r made.made in
+      over r made.made in
       cc (lives, none))
 
   told_now : (ended : Bool) (tables : Tables) → ReadsTrueUntil state old s (engine_behind old v room ended) t tables → HoldNow old.public old.indexes.items tables (at state v t)
@@ -152,7 +153,7 @@ module _ {R E F : Type 0} (state : R → RevState) (grew cut : E → E → List 
     drawn = draws_behind state old s s1 agrees rests v room t free since false;
     room = free;
     opened = opens_behind state old s s1 agrees rests v room t free since (drop (length s.asked) t.asked) kept some;
-    kept = kept_behind state old s s1 agrees rests v room t free since;
+    untouched = apart_behind state old s s1 agrees rests v room t free since;
     goes_on = record {
       agrees = agrees_behind state old s s1 agrees rests v room t free since false gone;
       public = sym (next_now k m stage steady_of old.public stmts words share start boards h.turn h.public h.ended [] now h.aloft h.all)
@@ -191,6 +192,7 @@ module _ {R E F : Type 0} (state : R → RevState) (grew cut : E → E → List 
         emits_now k m stage steady_of old.public stmts words share start boards h.turn h.public h.ended [] now h.aloft i f.0 stmt one f.1 there is;
     answered = h.took;
     stopped = tt;
+    turn = tt;
     sink = quiet;
     cause = λ calm. h.aloft.rest.calm (calm_start state old s s1 agrees rests calm);
     failures = rises_from (cut_off seens) s.faults s1.faults t.faults rests.faults

@@ -1,5 +1,5 @@
 -- The engine behind a flight: its tables are as they were.
-use Rattle.std.proofs.Common.{◌≡◌, ◌≤◌, ◌<◌, ◌+◌, ◌-◌, ◌++◌, ℕ, Bool, true, false, List, length, Some, None, refl, sym, ◌∙◌, ap, subst, arith}
+use Rattle.std.proofs.Common.{◌≡◌, ◌≤◌, ◌-◌, ℕ, Bool, List, None, refl, sym, ◌∙◌, ap, subst, arith}
 use Rattle.ob_base.specs.declared.access.Access.{Access}
 use Rattle.ob_mean.specs.Verdict.{Draws, Tables}
 use Rattle.ob_room.specs.RoomState.{RoomState}
@@ -17,23 +17,15 @@ use Rattle.ob_tables.specs.Telling.{AreHeld, KeepsSealed, Represents}
 use Rattle.ob_tables.specs.declared.engine.Engine.{Engine}
 use Rattle.ob_tables.proofs.HeldLemmas.{held_kept}
 use Rattle.ob_tables.proofs.TableLemmas.{beside_below, region_below, tables_kept}
-use Rattle.ob_vault.specs.Calls.{Lasts, Seals}
+use Rattle.ob_vault.specs.Calls.{Apart, Lasts, Seals}
 use Rattle.ob_vault.specs.Places.{at}
 use Rattle.ob_vault.specs.State.{RevState, World}
 use Rattle.ob_vault.specs.Tied.{Calm}
 use Rattle.ob_vault.specs.declared.vault.Vault.{Vault}
 use Rattle.ob_vault.proofs.Runs.{lasts_trans, seals_join}
 use Rattle.ob_vault.proofs.WordLemmas.{seals_rests, went_rests}
+use Rattle.ob_exec.specs.Boarding.{engine_behind}
 use Rattle.ob_exec.proofs.FlightStage.{HoldNow}
-
--- the engine then, which may have ended
-abbrev pub engine_behind : {R : Type 0} → Engine R → Vault R → RoomState → Bool → Engine R
-engine_behind old v room ended = record old {
-  vault = v;
-  room = room;
-  public = record old.public { next_region = v.next };
-  ended = ended;
-}
 
 module _ {R : Type 0} (state : R → RevState) (old : Engine R) (s s1 : StoreState) (agrees : Agrees state old s) (rests : ChangesNothing s s1) where
   -- ---- at each moment of it
@@ -95,8 +87,8 @@ module _ {R : Type 0} (state : R → RevState) (old : Engine R) (s s1 : StoreSta
     pub held_behind : (ended : Bool) (tables : Tables) → Represents state old s tables → Represents state (engine_behind old v room ended) t tables
     held_behind ended tables is = record { held = held_at (at state v t) since tables is.held; in_place = is.in_place }
 
-    pub kept_behind : (q : ℕ) → q < old.public.next_region → t.kept q ≡ s.kept q
-    kept_behind q below = let next = agrees.next in lasts.apart.rests q (λ above. omega (arith, next, below, above))
+    pub apart_behind : Apart (λ q. old.public.next_region ≤ q) (world_of state old s) (at state v t)
+    apart_behind = subst (λ (n : ℕ). Apart (λ q. n ≤ q) (world_of state old s) (at state v t)) (sym agrees.next) lasts.apart
 
     pub sealed_behind : (ended : Bool) → ((good : ℕ → List ℕ → Bool) → AcceptsRows good old.public.pack → Seals good (world_of state old s1) (at state v t)) → KeepsSealed state old s (engine_behind old v room ended) t
     sealed_behind ended seals good accepts single = seals_join good _ _ _ (later_rests s s1 rests) (seals_rests _ s s1 rests good) (seals good accepts)

@@ -1,6 +1,6 @@
 -- What was emitted until a flight was stopped, and where it wanted memory.
-use Rattle.std.proofs.Common.{◌≡◌, ◌⊎◌, ◌≤◌, ◌+◌, ◌++◌, ℕ, true, false, IsTrue, List, [], ◌∷◌, map, length, Some, None, Err, refl, sym, ◌∙◌, ap, subst, inl, inr, arith, append_assoc}
-use Rattle.std.specs.Prelude.{drop, slice_get}
+use Rattle.std.proofs.Common.{◌≡◌, ◌⊎◌, ◌≤◌, ◌+◌, ◌++◌, ℕ, true, false, IsTrue, List, [], ◌∷◌, map, length, Option, Some, None, Err, refl, sym, ◌∙◌, ap, subst, inl, inr, arith, append_assoc}
+use Rattle.std.specs.Prelude.{drop, option_map, slice_get}
 use Rattle.std.proofs.lemmas.List.{length-map}
 use Rattle.std.proofs.lemmas.Option.{slice_get_within}
 use Rattle.ob_base.specs.Events.{Event}
@@ -9,12 +9,13 @@ use Rattle.ob_base.specs.declared.config.Public.{Public}
 use Rattle.ob_base.specs.declared.emit.EmitErr.{EmitErr}
 use Rattle.ob_base.specs.declared.emit.EmitErr.TheVariants as EmitErrs
 use Rattle.ob_base.specs.declared.seen.Seen.{Seen}
+use Rattle.ob_base.specs.declared.skeleton.Skeleton.{Skeleton}
 use Rattle.ob_flat.specs.Flats.{Accepts}
 use Rattle.ob_flat.specs.declared.fault.OpErr.{OpErr}
 use Rattle.ob_flat.specs.declared.fault.OpErr.TheVariants as OpErrs
 use Rattle.ob_flat.specs.Passes.{SinkCause}
 use Rattle.ob_inflight.specs.Answers.{EndsBy, error_of}
-use Rattle.ob_inflight.specs.Closing.{RisesBy, events_at, outcome_at}
+use Rattle.ob_inflight.specs.Closing.{Closed, RisesBy, events_at, outcome_at}
 use Rattle.ob_inflight.specs.Flown as Flown
 use Rattle.ob_inflight.specs.Flown.{StopsInClosing, StopsInFinish, StopsInStep}
 use Rattle.ob_inflight.specs.Kinds.{Kind, Moment, share_at, taker_of}
@@ -24,7 +25,7 @@ use Rattle.ob_mean.specs.Verdict.{Tables, verdict}
 use Rattle.ob_room.specs.RoomState.{RoomState}
 use Rattle.ob_script.specs.FlightLaws.{AllMayFly}
 use Rattle.ob_script.specs.Flights.{AreSteady, accesses_in}
-use Rattle.ob_script.specs.Script.{whole_script}
+use Rattle.ob_script.specs.Script.{script, whole_script}
 use Rattle.ob_script.specs.Trace.{Served}
 use Rattle.ob_select.specs.Memory.{AtEmission, AtMake, AtResult, HasHalted, ends_with_make}
 use Rattle.ob_select.specs.Settings.{IsFree}
@@ -33,7 +34,7 @@ use Rattle.ob_sql.specs.declared.stmt.Stmt.{Stmt}
 use Rattle.ob_store.specs.Calls.{ChangesNothing}
 use Rattle.ob_store.specs.State.{StoreState}
 use Rattle.ob_tables.specs.Agreeing.{Agrees, count_of, world_of}
-use Rattle.ob_tables.specs.Telling.{ReadsTrue, ReadsTrueUntil, answer_labels, is_refused}
+use Rattle.ob_tables.specs.Telling.{Emitted, ReadsTrue, ReadsTrueUntil, answer_labels, is_refused}
 use Rattle.ob_tables.specs.declared.engine.Engine.{Engine}
 use Rattle.ob_store.proofs.Steps.{none_before}
 use Rattle.ob_vault.specs.Calls.{Lasts}
@@ -41,18 +42,19 @@ use Rattle.ob_vault.specs.Places.{at}
 use Rattle.ob_vault.specs.State.{RevState, World}
 use Rattle.ob_vault.specs.Tied.{Calm}
 use Rattle.ob_vault.specs.declared.vault.Vault.{Vault}
-use Rattle.ob_verdict.specs.Outcomes.{Partly}
+use Rattle.ob_verdict.specs.Outcomes.{Emits, Partly}
 use Rattle.ob_verdict.specs.declared.outcome.Outcome.{Outcome}
-use Rattle.ob_exec.specs.InFlight.{served_as}
-use Rattle.ob_exec.specs.RanFlight.{AtEmitter, BeforeMake, BeginsMeant, FlightCause, FlightMeans, RanFlight, RanInTurns, StopsClosing, StopsFlight, asked_by, asked_since, cut_off, halt_of, in_flight}
+use Rattle.ob_exec.specs.InFlight.{EndsAs, EndsMeant, IsFlown, IsMeant, served_as}
+use Rattle.ob_exec.specs.RanFlight.{AtEmitter, BeforeMake, BeginsMeant, EndsSo, FlightCause, FlightMeans, RanFlight, RanInTurns, StopsClosing, StopsFlight, asked_by, asked_since, cut_off, halt_of, in_flight}
 use Rattle.ob_exec.proofs.FlightBegun.{begins_meant}
 use Rattle.ob_exec.proofs.FlightEnd.{rises_from}
-use Rattle.ob_exec.proofs.FlightFrames.{calm_start, draws_behind, engine_behind, hold_now, kept_behind, lasts_all, opens_behind, sealed_behind}
+use Rattle.ob_exec.specs.Boarding.{engine_behind}
+use Rattle.ob_exec.proofs.FlightFrames.{apart_behind, calm_start, draws_behind, hold_now, lasts_all, opens_behind, sealed_behind}
 use Rattle.ob_exec.proofs.FlightLists.{cuts_same, events_next, get_other, get_within, map_get, outcome_next, past_ended}
-use Rattle.ob_exec.proofs.FlightRuns.{Boards, ServesOne, emits_now, emitted_now, partly_now, public_is, set_kept}
-use Rattle.ob_exec.proofs.FlightStage.{AsksMake, HoldNow, IsStage, LacksHere, more_asked, whole_of}
+use Rattle.ob_exec.proofs.FlightRuns.{Boards, ServesOne, all_now, emits_now, emitted_now, partly_now, public_is, set_kept}
+use Rattle.ob_exec.proofs.FlightStage.{AsksMake, HoldNow, IsSet, IsStage, LacksHere, closed_of, more_asked, whole_of}
 use Rattle.ob_exec.proofs.FlightStopped.{calm_none, cause_behind, cause_quiet, drop_asked, each_at, emitter_never, ends_closing, ends_finishing, ends_make, ends_printing, ends_quiet, hold, hold_by, hold_last, long, meant_at, memory_is, not_tampered, prints_or, serve, sink_by, statement}
-use Rattle.ob_exec.proofs.FlightStops.{asked_first, asked_last, asked_place, same_seen}
+use Rattle.ob_exec.proofs.FlightStops.{asked_first, asked_last, asked_place, same_seen, stops_turn}
 
 module _ {R E F : Type 0} (state : R → RevState) (grew cut : E → E → List Event → Type 0) (closed parted : E → E → ℕ → Outcome → Type 0) (faults : E → ℕ)
     (k : Kind F) (old : Engine R) (s s1 : StoreState) (agrees : Agrees state old s) (rests : ChangesNothing s s1)
@@ -108,10 +110,14 @@ module _ {R E F : Type 0} (state : R → RevState) (grew cut : E → E → List 
   place_asked = asked_place state grew cut closed parted k old s s1 rests stage steady_of stmts words share e flyers shares now boards out_old out_new st
 
   -- ---- want of memory
+  -- one is seen and answered so where the stop comes
+  abbrev So : Stmt → Seen → List Event → Outcome → Type 0
+  So stmt seen events = EndsSo state stmts stmt seen (asked_by old.public words stmts (map (λ (f : F). (k.progress f).served.seen) st.last.flyers) (asked_since s t) (length st.ended)) events old s (engine_behind old v room true) t
+
   -- at a make, or before a result's, or the emitter's
-  abbrev Wanted : (place : ℕ) (stmt : Stmt) (seen : Seen) → (between : E) → Type 0
-  Wanted place stmt seen between =
-      AtMake (drop (length s.asked) t.asked) ⊎ BeforeMake p stmts seens asked ⊎ AtEmitter cut parted p stmt seen place (asked place) between out_new
+  abbrev Wanted : (place : ℕ) (stmt : Stmt) (seen : Seen) (events : List Event) → (between : E) → Type 0
+  Wanted place stmt seen events between =
+      AtMake (drop (length s.asked) t.asked) ⊎ BeforeMake p stmts seens asked st.ended ⊎ AtEmitter grew cut parted (So stmt seen events) p stmt seen place (asked place) events between out_new
 
   since_asked : (a : Access) → t.asked ≡ st.last.world.store.asked ++ a ∷ [] → drop (length s.asked) t.asked ≡ accesses_in st.aloft.turned.log ++ a ∷ []
   since_asked a is =
@@ -123,9 +129,16 @@ module _ {R E F : Type 0} (state : R → RevState) (grew cut : E → E → List 
   at_make make =
       inr (subst (λ (l : List Access). IsTrue (ends_with_make l)) (sym (since_asked make.access make.asked)) (ends_make (accesses_in st.aloft.turned.log) make.access make.make))
 
-  before_make : (f : F) (stmt : Stmt) → slice_get st.last.flyers st.place ≡ Some f → slice_get stmts st.place ≡ Some stmt → t.asked ≡ st.last.world.store.asked
-      → AtResult (k.progress f).public (k.progress f).stmt (shown f) (drop (k.progress f).asked (whole_of (k.progress f))) → BeforeMake p stmts seens asked
-  before_make f stmt at there same result =
+  not_ended : (f : F) → slice_get st.last.flyers st.place ≡ Some f → (k.progress f).outcome ≡ None → slice_get st.ended st.place ≡ None
+  not_ended f at going = none_mapped (slice_get st.ended st.place) (sym (st.aloft.stand.outcome st.place f at) ∙ going)
+    where
+      none_mapped : (o : Option Closed) → option_map (λ (one : Closed). one.outcome) o ≡ None → o ≡ None
+      none_mapped None is = refl
+      none_mapped (Some one) is = absurd (cc is)
+
+  before_make : (f : F) (stmt : Stmt) → slice_get st.last.flyers st.place ≡ Some f → slice_get stmts st.place ≡ Some stmt → (k.progress f).outcome ≡ None → t.asked ≡ st.last.world.store.asked
+      → AtResult (k.progress f).public (k.progress f).stmt (shown f) (drop (k.progress f).asked (whole_of (k.progress f))) → BeforeMake p stmts seens asked st.ended
+  before_make f stmt at there going same result =
       let one = serve_at st.place f stmt at there in
       let n : (k.progress f).asked ≡ asked st.place = let a = place_asked f at in let b = ap length same in omega (arith, a, b) in
       record {
@@ -134,32 +147,33 @@ module _ {R E F : Type 0} (state : R → RevState) (grew cut : E → E → List 
         seen = shown f;
         get = there;
         shown = map_get (λ (f : F). (k.progress f).served.seen) st.last.flyers st.place f at;
+        going = not_ended f at going;
         makes = subst (λ (x : ℕ). AtResult p stmt (shown f) (drop x (whole_script p (skeleton stmt) (shown f)))) n
             (subst (λ (x : Public). AtResult x stmt (shown f) (drop (k.progress f).asked (whole_script x (skeleton stmt) (shown f)))) one.public
             (subst (λ (x : Stmt). AtResult (k.progress f).public x (shown f) (drop (k.progress f).asked (whole_script (k.progress f).public (skeleton x) (shown f)))) one.is result));
       }
 
   -- the one that gave up prints, and it is the emitter's
-  wanted : (f : F) (stmt : Stmt) (between : E) → slice_get st.last.flyers st.place ≡ Some f → slice_get stmts st.place ≡ Some stmt
-      → HasHalted cut between out_new → LacksHere (k.progress f) st.last.world (at state v t) → Wanted st.place stmt (shown f) between
-  wanted f stmt between at there halts (inl make) = inl (at_make make)
-  wanted f stmt between at there halts (inr (inl (same, result))) = inr (inl (before_make f stmt at there same result))
-  wanted f stmt between here there halts (inr (inr (prints, emission))) =
+  wanted : (f : F) (stmt : Stmt) (events : List Event) (between : E) → slice_get st.last.flyers st.place ≡ Some f → slice_get stmts st.place ≡ Some stmt → (k.progress f).outcome ≡ None
+      → HasHalted cut between out_new → LacksHere (k.progress f) st.last.world (at state v t) → Wanted st.place stmt (shown f) events between
+  wanted f stmt events between at there going halts (inl make) = inl (at_make make)
+  wanted f stmt events between at there going halts (inr (inl (same, result))) = inr (inl (before_make f stmt at there going same result))
+  wanted f stmt events between here there going halts (inr (inr (prints, emission))) =
       let one = serve_at st.place f stmt here there in
       let n : (k.progress f).asked + more_asked st.last.world (at state v t) ≡ asked st.place = sym (place_asked f here) in
       inr (inr (inl (
         subst (λ (x : ℕ). AtEmission p stmt (shown f) (drop x (whole_script p (skeleton stmt) (shown f)))) n
-        (subst (λ (x : Public). AtEmission x stmt (shown f) (drop ((k.progress f).asked + more_asked st.last.world (at state v t)) (whole_script x (skeleton stmt) (shown f)))) one.public
-        (subst (λ (x : Stmt). AtEmission (k.progress f).public x (shown f) (drop ((k.progress f).asked + more_asked st.last.world (at state v t)) (whole_script (k.progress f).public (skeleton x) (shown f)))) one.is emission)),
+            (subst (λ (x : Public). AtEmission x stmt (shown f) (drop ((k.progress f).asked + more_asked st.last.world (at state v t)) (whole_script x (skeleton stmt) (shown f)))) one.public
+            (subst (λ (x : Stmt). AtEmission (k.progress f).public x (shown f) (drop ((k.progress f).asked + more_asked st.last.world (at state v t)) (whole_script (k.progress f).public (skeleton x) (shown f)))) one.is emission)),
         halts,
       )))
 
   -- it doesn't print
-  wanted_quiet : (f : F) (stmt other : Stmt) (seen : Seen) (place : ℕ) (between : E) → slice_get st.last.flyers st.place ≡ Some f → slice_get stmts st.place ≡ Some stmt
-      → (k.progress f).prints ≡ false → LacksHere (k.progress f) st.last.world (at state v t) → Wanted place other seen between
-  wanted_quiet f stmt other seen place between at there quiet (inl make) = inl (at_make make)
-  wanted_quiet f stmt other seen place between at there quiet (inr (inl (same, result))) = inr (inl (before_make f stmt at there same result))
-  wanted_quiet f stmt other seen place between at there quiet (inr (inr (prints, emission))) = absurd (cc (quiet, prints))
+  wanted_quiet : (f : F) (stmt other : Stmt) (seen : Seen) (place : ℕ) (events : List Event) (between : E) → slice_get st.last.flyers st.place ≡ Some f → slice_get stmts st.place ≡ Some stmt
+      → (k.progress f).outcome ≡ None → (k.progress f).prints ≡ false → LacksHere (k.progress f) st.last.world (at state v t) → Wanted place other seen events between
+  wanted_quiet f stmt other seen place events between at there going quiet (inl make) = inl (at_make make)
+  wanted_quiet f stmt other seen place events between at there going quiet (inr (inl (same, result))) = inr (inl (before_make f stmt at there going same result))
+  wanted_quiet f stmt other seen place events between at there going quiet (inr (inr (prints, emission))) = absurd (cc (quiet, prints))
 
   -- ---- what was emitted
   -- the first that has not ended
@@ -200,12 +214,12 @@ module _ {R E F : Type 0} (state : R → RevState) (grew cut : E → E → List 
         next = ap (slice_get stmts) (sym first) ∙ there.1;
         shown = ap (slice_get seens) (sym first) ∙ map_get (λ (f : F). (k.progress f).served.seen) st.last.flyers st.place f step.at;
         events = st.current ++ step.part;
-        ends = ends_printing grew cut parted (length st.ended) st.emitted.between out_new e (st.current ++ step.part) step.stops.never ends;
+        ends = ends_printing grew cut parted (So there.0 (shown f) (st.current ++ step.part)) (length st.ended) st.emitted.between out_new e (st.current ++ step.part) step.stops.never ends;
         told = partly_halted f there.0 step.part step.at there.1 first step.halts;
         memory = λ none.
             let wants = memory_is e none in
-            subst (λ (n : ℕ). Wanted n there.0 (shown f) st.emitted.between) first
-            (wanted f there.0 st.emitted.between step.at there.1
+            subst (λ (n : ℕ). Wanted n there.0 (shown f) (st.current ++ step.part) st.emitted.between) first
+            (wanted f there.0 (st.current ++ step.part) st.emitted.between step.at there.1 step.going
             (record { events = st.current ++ step.part; ends = subst (λ (x : OpErr). EndsBy grew cut x st.emitted.between out_new (st.current ++ step.part)) wants ends })
             (stage.memory f _ _ step.part st.last.world (at state v t) (hold_at st.place f step.at)
             (subst (λ (x : OpErr). k.Halts f (events_at st.ended st.current st.place) step.part x st.last.world (at state v t)) wants step.halts)
@@ -229,7 +243,7 @@ module _ {R E F : Type 0} (state : R → RevState) (grew cut : E → E → List 
         next = other.1;
         shown = map_get (λ (f : F). (k.progress f).served.seen) st.last.flyers (length st.ended) g.0 g.1;
         events = st.current;
-        ends = ends_quiet grew cut parted (length st.ended) st.emitted.between out_new e st.current step.stops.never
+        ends = ends_quiet grew cut parted (So other.0 (shown g.0) st.current) (length st.ended) st.emitted.between out_new e st.current step.stops.never
             (λ sink. let prints = step.stops.emits sink in cc (quiet, prints))
             (subst (λ (x : E). grew st.emitted.between x st.current) (sym same) st.emitted.now);
         told = λ tables reads.
@@ -237,7 +251,7 @@ module _ {R E F : Type 0} (state : R → RevState) (grew cut : E → E → List 
             (partly_now k m stage steady_of old.public stmts words share start boards st.turn st.public st.ended st.current st.last st.aloft old.indexes.items tables (held tables reads) (length st.ended) g.0 other.0 g.1 other.1);
         memory = λ none.
             let wants = memory_is e none in
-            wanted_quiet f there.0 other.0 (shown g.0) (length st.ended) st.emitted.between step.at there.1 quiet
+            wanted_quiet f there.0 other.0 (shown g.0) (length st.ended) st.current st.emitted.between step.at there.1 step.going quiet
             (stage.memory f _ _ step.part st.last.world (at state v t) (hold_at st.place f step.at)
             (subst (λ (x : OpErr). k.Halts f (events_at st.ended st.current st.place) step.part x st.last.world (at state v t)) wants step.halts)
             (serve_at st.place f there.0 step.at there.1).set step.going);
@@ -249,8 +263,8 @@ module _ {R E F : Type 0} (state : R → RevState) (grew cut : E → E → List 
       let f = fin.before in
       let there = statement_of st.place f fin.at in
       let halts : k.Halts f (events_at st.ended st.current st.place) fin.part e st.last.world (at state v t) =
-          subst (λ (es : List Event). k.Halts f es fin.part e st.last.world (at state v t))
-          (sym (ap (events_at st.ended st.current) fin.first ∙ events_next st.ended st.current)) fin.halts in
+      subst (λ (es : List Event). k.Halts f es fin.part e st.last.world (at state v t))
+      (sym (ap (events_at st.ended st.current) fin.first ∙ events_next st.ended st.current)) fin.halts in
       record {
         between = st.emitted.between;
         took = st.emitted.took;
@@ -259,17 +273,63 @@ module _ {R E F : Type 0} (state : R → RevState) (grew cut : E → E → List 
         next = ap (slice_get stmts) (sym fin.first) ∙ there.1;
         shown = ap (slice_get seens) (sym fin.first) ∙ map_get (λ (f : F). (k.progress f).served.seen) st.last.flyers st.place f fin.at;
         events = st.current ++ fin.part;
-        ends = subst (λ (x : OpErr). StopsClosing grew cut parted (halt_of x) (length st.ended) (st.current ++ fin.part) st.emitted.between out_new) (sym fin.is)
-            (ends_finishing grew cut parted (length st.ended) st.emitted.between out_new fin.error (st.current ++ fin.part) fin.ends);
+        ends = subst (λ (x : OpErr). StopsClosing grew cut parted (So there.0 (shown f) (st.current ++ fin.part)) (halt_of x) (length st.ended) (st.current ++ fin.part) st.emitted.between out_new) (sym fin.is)
+            (ends_finishing grew cut parted (So there.0 (shown f) (st.current ++ fin.part)) (length st.ended) st.emitted.between out_new fin.error (st.current ++ fin.part) fin.ends);
         told = partly_halted f there.0 fin.part fin.at there.1 fin.first halts;
         memory = λ none.
             let wants = memory_is e none in
-            subst (λ (n : ℕ). Wanted n there.0 (shown f) st.emitted.between) fin.first
-            (wanted f there.0 st.emitted.between fin.at there.1 (record { events = st.current ++ fin.part; ends = fin.ends })
+            subst (λ (n : ℕ). Wanted n there.0 (shown f) (st.current ++ fin.part) st.emitted.between) fin.first
+            (wanted f there.0 (st.current ++ fin.part) st.emitted.between fin.at there.1 (st.aloft.stand.outcome st.place f fin.at ∙ ap (outcome_at st.ended) fin.first ∙ outcome_next st.ended) (record { events = st.current ++ fin.part; ends = fin.ends })
             (stage.memory f _ _ fin.part st.last.world (at state v t) (hold_at st.place f fin.at)
             (subst (λ (x : OpErr). k.Halts f (events_at st.ended st.current st.place) fin.part x st.last.world (at state v t)) wants halts)
             (serve_at st.place f there.0 fin.at there.1).set
             (st.aloft.stand.outcome st.place f fin.at ∙ ap (outcome_at st.ended) fin.first ∙ outcome_next st.ended)));
+      }
+
+  -- it is seen and answered as one that nothing stopped
+  closing_so : (clo : StopsInClosing k (taker_of grew cut closed parted) share e st.ended st.place st.act st.last now st.emitted.between out_new) (stmt : Stmt) → slice_get stmts st.place ≡ Some stmt
+      → So stmt (shown clo.before) clo.events clo.outcome
+  closing_so clo stmt there =
+      let f = clo.before in
+      let one = serve_at st.place f stmt clo.at there in
+      let answered = clo.answered in
+      let course : KeepsCourse (k.progress f) (k.progress clo.after) = record {
+        stmt = ap (λ (x : Progress). x.stmt) answered;
+        flat = ap (λ (x : Progress). x.flat) answered;
+        refusal = ap (λ (x : Progress). x.refusal) answered;
+        public = ap (λ (x : Progress). x.public) answered;
+      } in
+      let set : IsSet m (k.progress clo.after) = set_kept m (k.progress f) (k.progress clo.after) course one.set in
+      let after : ServesOne k m p stmt clo.after = record { is = course.stmt ∙ one.is; public = course.public ∙ one.public; set = set; selects = one.selects } in
+      let some : (k.progress clo.after).outcome ≡ Some clo.outcome = ap (λ (x : Progress). x.outcome) answered in
+      let long : (k.progress f).asked ≡ asked (length st.ended) =
+      (let all = place_asked f clo.at in let none = ap (λ (x : World). length x.store.asked) clo.world in omega (arith, all, none)) ∙ ap asked clo.first in
+      record {
+        ends =
+            subst (λ (n : ℕ). EndsAs p m n stmt (shown f) clo.outcome) long
+            (subst (λ (x : Public). EndsAs x m (k.progress f).asked stmt (shown f) clo.outcome) one.public
+            (subst (λ (x : Stmt). EndsAs (k.progress f).public m (k.progress f).asked x (shown f) clo.outcome) one.is
+            (subst (λ (x : Progress). IsFlown x.public m x.asked x.stmt x.served.seen (closed_of x.outcome clo.events)) answered (stage.stands clo.after _ _ _ clo.holds set))));
+        whole =
+            sym long
+            ∙ all_now k m stage steady_of old.public stmts words share start boards st.turn st.public st.ended st.current st.last st.aloft st.place f clo.at 0
+            (stage.over f _ _ _ (hold_at st.place f clo.at) clo.over 0)
+            ∙ ap (λ (sk : Skeleton). length (script p sk (shown f))) (stage.outline f (k.progress f).served (stage.served f _ _ _ (hold_at st.place f clo.at)) ∙ ap skeleton one.is);
+        emits =
+            subst (λ (x : Public). Emits stmt (answer_labels stmt x) clo.outcome clo.events) after.public
+            (subst (λ (x : Stmt). Emits x (answer_labels x (k.progress clo.after).public) clo.outcome clo.events) after.is (stage.emits clo.after _ _ _ clo.holds set clo.outcome some));
+        told = λ tables d reads.
+            let here : HoldNow old.public old.indexes.items tables (at state v t) = subst (λ (w : World). HoldNow old.public old.indexes.items tables w) (sym clo.world) (held tables reads) in
+            subst (λ (n : ℕ). EndsMeant d p m n tables stmt (shown f) clo.outcome) long
+            (subst (λ (x : Public). EndsMeant d x m (k.progress f).asked tables stmt (shown f) clo.outcome) one.public
+            (subst (λ (x : Stmt). EndsMeant d (k.progress f).public m (k.progress f).asked tables x (shown f) clo.outcome) one.is
+            (subst (λ (x : Progress). IsMeant d x.public m x.asked x.asked tables x.stmt x.served.seen (closed_of x.outcome clo.events)) answered
+            (stage.told clo.after _ _ _ clo.holds set old.indexes.items tables d (held_by clo.after stmt tables (at state v t) after here)))));
+        emitted = λ tables reads.
+            let here : HoldNow old.public old.indexes.items tables (at state v t) = subst (λ (w : World). HoldNow old.public old.indexes.items tables w) (sym clo.world) (held tables reads) in
+            subst (λ (x : Public). Emitted stmt x m tables clo.outcome clo.events) after.public
+            (subst (λ (x : Stmt). Emitted x (k.progress clo.after).public m tables clo.outcome clo.events) after.is
+            (stage.emitted clo.after _ _ _ clo.holds set old.indexes.items tables (held_by clo.after stmt tables (at state v t) after here) clo.outcome some));
       }
 
   -- how it was answered
@@ -294,15 +354,21 @@ module _ {R E F : Type 0} (state : R → RevState) (grew cut : E → E → List 
         next = ap (slice_get stmts) (sym clo.first) ∙ there.1;
         shown = ap (slice_get seens) (sym clo.first) ∙ map_get (λ (f : F). (k.progress f).served.seen) st.last.flyers st.place f clo.at;
         events = clo.events;
-        ends = subst (λ (x : OpErr). StopsClosing grew cut parted (halt_of x) (length st.ended) clo.events st.emitted.between out_new) (sym clo.is)
-            (ends_closing grew cut parted (length st.ended) st.emitted.between out_new clo.error clo.events clo.took clo.outcome clo.grew
+        ends = subst (λ (x : OpErr). StopsClosing grew cut parted (So there.0 (shown f) clo.events) (halt_of x) (length st.ended) clo.events st.emitted.between out_new) (sym clo.is)
+            (ends_closing grew cut parted (So there.0 (shown f) clo.events) (length st.ended) st.emitted.between out_new clo.error clo.events clo.took clo.outcome (closing_so clo there.0 there.1) clo.grew
             (subst (λ (n : ℕ). parted clo.took out_new n clo.outcome) clo.first clo.parted));
         told = λ tables reads.
             let here : HoldNow old.public old.indexes.items tables (at state v t) = subst (λ (w : World). HoldNow old.public old.indexes.items tables w) (sym clo.world) (held tables reads) in
             subst (λ (x : Public). Partly (answer_labels there.0 x) (verdict x m tables there.0) clo.events) after.public
             (subst (λ (x : Stmt). Partly (answer_labels x (k.progress clo.after).public) (verdict (k.progress clo.after).public m tables x) clo.events) after.is
             (stage.partly clo.after _ _ _ clo.holds after.set old.indexes.items tables (held_by clo.after there.0 tables (at state v t) after here)));
-        memory = λ none. inr (inr (inr (clo.took, clo.outcome, subst (λ (n : ℕ). parted clo.took out_new n clo.outcome) clo.first clo.parted)));
+        memory = λ none. inr (inr (inr (record {
+          outcome = clo.outcome;
+          ends = closing_so clo there.0 there.1;
+          between = clo.took;
+          took = clo.grew;
+          parts = subst (λ (n : ℕ). parted clo.took out_new n clo.outcome) clo.first clo.parted;
+        })));
       }
 
   halted : Halted
@@ -376,7 +442,7 @@ module _ {R E F : Type 0} (state : R → RevState) (grew cut : E → E → List 
     drawn = draws_behind state old s s1 agrees rests v room t free st.lasts true;
     room = free;
     opened = opens_behind state old s s1 agrees rests v room t free st.lasts (drop (length s.asked) t.asked) kept some;
-    kept = kept_behind state old s s1 agrees rests v room t free st.lasts;
+    untouched = apart_behind state old s s1 agrees rests v room t free st.lasts;
     goes_on = refl;
   }
 
@@ -414,12 +480,13 @@ module _ {R E F : Type 0} (state : R → RevState) (grew cut : E → E → List 
             emits_now k m stage steady_of old.public stmts words share start boards st.turn st.public st.ended st.current st.last st.aloft i f.0 stmt one f.1 there is;
         answered = tt;
         stopped = halted;
+        turn = stops_turn state grew cut closed parted k old s s1 rests stage steady_of stmts words share e flyers shares now boards out_old out_new st;
         sink = sink_by T e (faults out_old) (faults out_new) never_failed sink;
         cause = caused T;
         failures =
             let rises : RisesBy (cut_off seens) s1.faults st.last.world.store.faults =
-                subst (λ (n : ℕ). RisesBy n s1.faults st.last.world.store.faults) (cuts_same k st.last.flyers (λ i f at. stage.failed f _ _ _ (hold_at i f at)))
-                (record { least = st.aloft.rest.faults.least; none = st.aloft.rest.faults.none }) in
+            subst (λ (n : ℕ). RisesBy n s1.faults st.last.world.store.faults) (cuts_same k st.last.flyers (λ i f at. stage.failed f _ _ _ (hold_at i f at)))
+            (record { least = st.aloft.rest.faults.least; none = st.aloft.rest.faults.none }) in
             rises_from (cut_off seens) s.faults s1.faults t.faults rests.faults (subst (λ (x : ℕ). RisesBy (cut_off seens) s1.faults x) (sym st.faults) rises);
         seals = sealed_behind state old s s1 agrees rests v room t free st.lasts true
             (λ good accepts. st.seals good (λ columns region. subst (λ (n : ℕ). Accepts good n columns region)

@@ -1,6 +1,6 @@
 -- The statements of a flight, those that fly for them, and what is seen of each.
-use Rattle.std.proofs.Common.{◌≡◌, ◌≤◌, ◌<◌, ◌+◌, ◌-◌, ℕ, zero, suc, Bool, true, false, List, [], ◌∷◌, ◌++◌, map, length, Option, Some, None, refl, sym, ◌∙◌, ap, inl, inr, arith}
-use Rattle.std.specs.Prelude.{is_some, option_map, slice_get, slice_set, take}
+use Rattle.std.proofs.Common.{◌≡◌, ◌⊎◌, ◌≤◌, ◌<◌, ◌+◌, ◌-◌, ℕ, zero, suc, List, [], ◌∷◌, ◌++◌, map, length, Option, Some, None, refl, sym, ◌∙◌, ap, inl, inr, arith}
+use Rattle.std.specs.Prelude.{option_map, slice_get, slice_set, take}
 use Rattle.std.proofs.lemmas.Bool.{cases_lt}
 use Rattle.std.proofs.lemmas.List.{take_all, take_at}
 use Rattle.std.proofs.lemmas.Option.{same_Some, slice_get-map}
@@ -10,7 +10,6 @@ use Rattle.ob_base.specs.declared.seen.Seen.{Seen}
 use Rattle.ob_inflight.specs.Aloft.{AllMay, acts_of, failed_of, flying_in, setting_off}
 use Rattle.ob_inflight.specs.Closing.{Closed, events_at, outcome_at}
 use Rattle.ob_inflight.specs.Kinds.{Kind}
-use Rattle.ob_inflight.specs.Picking as P
 use Rattle.ob_inflight.specs.Progress.{flying_of}
 use Rattle.ob_mean.specs.Batches.{is_cut}
 use Rattle.ob_script.specs.FlightLaws as L
@@ -53,6 +52,16 @@ get_mapped v xs i y at = from_map v (slice_get xs i) y (sym (slice_get-map v xs 
 
 pub map_get : {A B : Type 0} (v : A → B) (xs : List A) (i : ℕ) (x : A) → slice_get xs i ≡ Some x → slice_get (map v xs) i ≡ Some (v x)
 map_get v xs i x at = slice_get-map v xs i ∙ ap (option_map v) at
+
+-- one more is behind those that there were
+pub get_more : {A : Type 0} (xs : List A) (y : A) (i : ℕ) (z : A) → slice_get (xs ++ y ∷ []) i ≡ Some z → (slice_get xs i ≡ Some z) ⊎ ((i ≡ length xs) × (y ≡ z))
+get_more [] y zero z at = inr (refl, same_Some y z at)
+get_more [] y (suc i) z at = absurd (cc at)
+get_more (x ∷ xs) y zero z at = inl at
+get_more (x ∷ xs) y (suc i) z at = elim (get_more xs y i z at) [
+  | inl old ↦ inl old
+  | inr new ↦ inr (ap suc new.0, new.1)
+]
 
 -- a list in which one is put that maps alike maps alike
 pub map_put : {A B : Type 0} (v : A → B) (xs : List A) (i : ℕ) (x y : A) → slice_get xs i ≡ Some x → v y ≡ v x → map v (slice_set xs i y) ≡ map v xs
@@ -108,28 +117,19 @@ module _ {F : Type 0} (k : Kind F) where
 
   -- as many acts
   pub acts_same : (v : F → Served) (fs : List F) → L.acts_in (flying_in k fs (map v fs)) ≡ acts_of k fs
-  unfolding flying_in L.total P.total
+  unfolding flying_in L.total
   acts_same v [] = refl
-  acts_same v (f ∷ fs) = let rest = acts_same v fs in let one = ones (is_some (k.progress f).outcome) in omega (arith, rest, one)
-    where
-      ones : (b : Bool) → L.one_if b ≡ P.one_if b
-      ones true = refl
-      ones false = refl
+  acts_same v (f ∷ fs) = let rest = acts_same v fs in omega (arith, rest)
 
   -- as many of them were cut off as the store failed
   pub cuts_same : (fs : List F) → ((i : ℕ) (f : F) → slice_get fs i ≡ Some f → is_cut (k.progress f).served.seen.end ≡ (k.progress f).failed)
       → failed_of k fs ≡ cut_off (map (λ (f : F). (k.progress f).served.seen) fs)
-  unfolding P.total L.total
+  unfolding L.total
   cuts_same [] each = refl
   cuts_same (f ∷ fs) each =
       let rest = cuts_same fs (λ i g at. each (suc i) g at) in
-      let one = ap P.one_if (sym (each 0 f refl)) in
-      let same = ones (is_cut (k.progress f).served.seen.end) in
-      omega (arith, rest, one, same)
-    where
-      ones : (b : Bool) → L.one_if b ≡ P.one_if b
-      ones true = refl
-      ones false = refl
+      let one = ap L.one_if (sym (each 0 f refl)) in
+      omega (arith, rest, one)
 
   -- what is served, by what is seen
   pub served_same : (fs : List F) (stmts : List Stmt) → length fs ≡ length stmts
@@ -175,6 +175,12 @@ past_ended [] i none = omega arith
 past_ended (one ∷ ended) zero none = absurd (cc none)
 past_ended (one ∷ ended) (suc i) none = let e = past_ended ended i none in omega (arith, e)
 
+-- nothing stands behind a list's end
+pub past_none : {A : Type 0} (xs : List A) (i : ℕ) → slice_get xs i ≡ None → length xs ≤ i
+past_none [] i none = omega arith
+past_none (x ∷ xs) zero none = absurd (cc none)
+past_none (x ∷ xs) (suc i) none = let e = past_none xs i none in omega (arith, e)
+
 -- and what stands behind them has not ended
 pub none_past : (ended : List Closed) (i : ℕ) → length ended ≤ i → slice_get ended i ≡ None
 none_past [] i past = refl
@@ -191,7 +197,7 @@ module _ (p : Public) (flown : List Served) (words : ℕ → ℕ) (steady : AreS
         let sum : more + n ≡ turns_of p flown = omega (arith, before) in
         let grown = grows_turns words (boarding p flown) n more in
         let whole : (flight p flown words).log ≡ (turns words n (boarding p flown)).log ++ grown.rest =
-            ap (λ (m : ℕ). (turns words m (boarding p flown)).log) (sym sum) ∙ grown.log in
+        ap (λ (m : ℕ). (turns words m (boarding p flown)).log) (sym sum) ∙ grown.log in
         sym (ap (take (length (turns words n (boarding p flown)).log)) whole
         ∙ take_at (turns words n (boarding p flown)).log grown.rest (length (turns words n (boarding p flown)).log) refl)
     | inr past ↦

@@ -1,6 +1,6 @@
 -- What the turns of statements in flight come to: each stands as it should, and what was asked is what the words merge.
-use Rattle.std.proofs.Common.{◌≡◌, ◌≤◌, ◌<◌, ℕ, zero, suc, true, List, [], ◌∷◌, map, length, Option, Some, refl, sym, ◌∙◌, ap, subst, arith}
-use Rattle.std.specs.Prelude.{is_some, slice_get, take}
+use Rattle.std.proofs.Common.{◌≡◌, ◌≤◌, ◌<◌, ℕ, zero, suc, true, List, [], ◌∷◌, map, length, Option, Some, None, refl, sym, ◌∙◌, ap, subst, arith}
+use Rattle.std.specs.Prelude.{is_some, slice_get, take, unwrap_or}
 use Rattle.std.proofs.lemmas.List.{length-map}
 use Rattle.ob_base.specs.Events.{Event}
 use Rattle.ob_base.specs.declared.access.Access.{Access}
@@ -10,14 +10,16 @@ use Rattle.ob_base.specs.declared.skeleton.Skeleton.{Skeleton}
 use Rattle.ob_inflight.specs.Aloft.{AllMay, IsAloft, flight_in, setting_off}
 use Rattle.ob_inflight.specs.Closing.{Closed, events_at, outcome_at}
 use Rattle.ob_inflight.specs.Kinds.{Kind, Moment, share_at}
-use Rattle.ob_inflight.specs.Progress.{KeepsCourse, Progress, flying_of}
+use Rattle.ob_inflight.specs.Progress.{KeepsCourse, Progress, act_of, flying_of}
 use Rattle.ob_mean.specs.Refusals.{tables_of}
 use Rattle.ob_mean.specs.Replay.{is_access}
 use Rattle.ob_mean.specs.Verdict.{Draws, Tables, verdict}
 use Rattle.ob_oram.specs.declared.index.Index.{Index}
 use Rattle.ob_script.specs.FlightLaws.{AllEnded, AllMayFly, MayFly, SelectsFromOne, acts_in}
-use Rattle.ob_script.specs.Flights.{AreSteady, Flight, accesses_in, boarding, flight, flight_public, merge, next_flight, own, turns, turns_of}
+use Rattle.ob_script.specs.Flights.{AreSteady, Flight, accesses_in, asked_at, boarding, flight, flight_public, merge, next_flight, own, turns, turns_of}
+use Rattle.ob_script.specs.Script.{script}
 use Rattle.ob_script.specs.Trace.{Served}
+use Rattle.ob_script.proofs.FlightLemmas.{flown_in_order}
 use Rattle.ob_script.proofs.FlightEnds.{acts_are_all, acts_within, ended_is_flight, first_of_merge, own_long}
 use Rattle.ob_emit.specs.Emitting.{labels_of}
 use Rattle.ob_sql.specs.Skeleton.{skeleton}
@@ -31,7 +33,7 @@ use Rattle.ob_verdict.specs.declared.outcome.Outcome.{Outcome}
 use Rattle.ob_exec.specs.InFlight.{IsFlown, IsMeant, served_as}
 use Rattle.ob_exec.specs.RanFlight.{in_flight}
 use Rattle.ob_exec.specs.Sources.{selection}
-use Rattle.ob_exec.proofs.FlightLists.{acts_same, all_may, closed_at, flying_back, flying_get, get_first, get_mapped, get_other, log_first, served_same, sets_off}
+use Rattle.ob_exec.proofs.FlightLists.{acts_same, all_may, closed_at, flying_back, flying_get, get_first, get_mapped, get_other, log_first, past_none, served_same, sets_off}
 use Rattle.ob_exec.proofs.FlightStage.{HasTable, HoldNow, IsSet, IsStage, closed_of}
 
 -- it serves this statement by these settings
@@ -168,6 +170,24 @@ module _ {F : Type 0} (k : Kind F) (m : ℕ) (stage : IsStage k m) (steady_of : 
       ap (λ (l : List (ℕ × Access)). length (own i l)) (sym log_now)
       ∙ own_long p by_now words steady_now n i (flying_of (k.progress f) (served f))
       (ap (λ (s : Flight). slice_get s.flying i) turned_now ∙ flying_get k served now.flyers i f at)
+
+  -- one that has nothing left to ask has asked all that it asks
+  pub all_now : (i : ℕ) (f : F) → slice_get now.flyers i ≡ Some f → (next : ℕ) → act_of (k.progress f) (k.progress f).served next ≡ None
+      → (k.progress f).asked ≡ length (script (in_flight stmts p) (k.progress f).served.skeleton (k.progress f).served.seen)
+  all_now i f at next none =
+      let ahead = (flown_in_order p by_now words n steady_now).each i (flying_of (k.progress f) (served f))
+      (ap (λ (s : Flight). slice_get s.flying i) turned_now ∙ flying_get k served now.flyers i f at) in
+      let stmt = statement_at i f at in
+      let q = flight_public (length by_now) p in
+      let here = unwrap_or (k.progress f).region next in
+      let public : (k.progress f).public ≡ q = (they_serve i f stmt.0 at stmt.1).public ∙ ap (λ (x : ℕ). flight_public x p) (sym now_long) in
+      let most : length (asked_at q here (served f)) ≤ (k.progress f).asked =
+      past_none (asked_at q here (served f)) (k.progress f).asked (ap (λ (x : Public). slice_get (asked_at x here (served f)) (k.progress f).asked) (sym public) ∙ none) in
+      let long = ahead.steady.long here p.next_region in
+      let longer = ahead.steady.long (turns words n (boarding p by_now)).public.next_region p.next_region in
+      let same : length (asked_at q p.next_region (served f)) ≡ length (script (in_flight stmts p) (served f).skeleton (served f).seen) =
+      ap (λ (x : ℕ). length (script (flight_public x p) (served f).skeleton (served f).seen)) now_long in
+      omega (arith, ahead.within, most, long, longer, same)
 
   -- what was asked are the first of the accesses that are merged
   pub first_now : aloft.turned.log ≡ take (length aloft.turned.log) (flight p (map (λ (f : F). (k.progress f).served) now.flyers) words).log

@@ -13,7 +13,7 @@ use Rattle.ob_flat.specs.declared.fault.OpErr.TheVariants as OpErrs
 use Rattle.ob_flat.specs.Passes.{is_of_access}
 use Rattle.ob_inflight.specs.Closing.{Closed}
 use Rattle.ob_inflight.specs.Kinds.{Kind}
-use Rattle.ob_inflight.specs.Progress.{Progress}
+use Rattle.ob_inflight.specs.Progress.{Progress, act_of}
 use Rattle.ob_mean.specs.Batches.{is_cut}
 use Rattle.ob_mean.specs.Refusals.{tables_of}
 use Rattle.ob_mean.specs.Replay.{count_end, cut_at, is_access}
@@ -107,6 +107,9 @@ pub record IsStage {F : Type 0} (k : Kind F) (m : ℕ) : Type 0 where
       → is_cut (k.progress f).served.seen.end ≡ (k.progress f).failed
   pub cut : (f : F) (kept : List (List ℕ)) (events : List Event) (w : World) → k.Holds f kept events w
       → (k.progress f).failed ≡ true → (k.progress f).served.seen.end ≡ Cut (k.progress f).asked
+  -- where it is over nothing is left to ask
+  pub over : (f : F) (kept : List (List ℕ)) (events : List Event) (w : World) → k.Holds f kept events w
+      → (k.progress f).over ≡ true → (n : ℕ) → act_of (k.progress f) (k.progress f).served n ≡ None
   pub gone : (f : F) (kept : List (List ℕ)) (events : List Event) (w : World) → k.Holds f kept events w
       → is_some (k.progress f).outcome ≡ true → (q : ℕ) → (k.progress f).region ≡ Some q → w.vault.revs.live q ≡ None
   pub stands : (f : F) (kept : List (List ℕ)) (events : List Event) (w : World) → k.Holds f kept events w

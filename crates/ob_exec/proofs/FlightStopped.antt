@@ -48,7 +48,8 @@ use Rattle.ob_verdict.specs.Outcomes.{refusal_now}
 use Rattle.ob_verdict.specs.declared.outcome.Outcome.{Outcome}
 use Rattle.ob_exec.specs.InFlight.{IsFlown, IsMeant, StandsAs, StandsMeant}
 use Rattle.ob_exec.specs.RanFlight.{FlightCause, StopsClosing, asked_by, asked_since, halt_of, in_flight}
-use Rattle.ob_exec.proofs.FlightFrames.{calm_start, engine_behind, hold_now}
+use Rattle.ob_exec.specs.Boarding.{engine_behind}
+use Rattle.ob_exec.proofs.FlightFrames.{calm_start, hold_now}
 use Rattle.ob_exec.proofs.FlightLists.{cuts_same, events_next, get_mapped, get_other, none_past, past_ended}
 use Rattle.ob_exec.proofs.FlightMore.{asks_within, ends_whole, held_more, meant_single, meant_unread, stands_more}
 use Rattle.ob_exec.proofs.FlightRuns.{Boards, ServesOne, as_many, closed_now, flown_now, meant_now, steady_now, they_hold, they_serve}
@@ -99,29 +100,29 @@ pub emitter_never : (error : EmitErr) → error_of error ≡ OpErrs.Failed → �
 emitter_never EmitErrs.Failed is = cc is
 emitter_never EmitErrs.NoMemory is = cc is
 
-module _ {E : Type 0} (grew cut : E → E → List Event → Type 0) (parted : E → E → ℕ → Outcome → Type 0) (place : ℕ) (between out : E) where
+module _ {E : Type 0} (grew cut : E → E → List Event → Type 0) (parted : E → E → ℕ → Outcome → Type 0) (Ends : Outcome → Type 0) (place : ℕ) (between out : E) where
   -- how the emitter ends, where it printed
-  pub ends_printing : (e : OpErr) (events : List Event) → (e ≡ OpErrs.Failed → ⊥) → EndsBy grew cut e between out events → StopsClosing grew cut parted (halt_of e) place events between out
+  pub ends_printing : (e : OpErr) (events : List Event) → (e ≡ OpErrs.Failed → ⊥) → EndsBy grew cut e between out events → StopsClosing grew cut parted Ends (halt_of e) place events between out
   ends_printing OpErrs.Failed events never ends = absurd (never refl)
   ends_printing (OpErrs.Tampered q x) events never ends = ends
   ends_printing OpErrs.Sink events never ends = inl ends
   ends_printing OpErrs.NoMemory events never ends = inl (inr ends)
 
   -- and where it didn't
-  pub ends_quiet : (e : OpErr) (events : List Event) → (e ≡ OpErrs.Failed → ⊥) → (e ≡ OpErrs.Sink → ⊥) → grew between out events → StopsClosing grew cut parted (halt_of e) place events between out
+  pub ends_quiet : (e : OpErr) (events : List Event) → (e ≡ OpErrs.Failed → ⊥) → (e ≡ OpErrs.Sink → ⊥) → grew between out events → StopsClosing grew cut parted Ends (halt_of e) place events between out
   ends_quiet OpErrs.Failed events never sink ends = absurd (never refl)
   ends_quiet (OpErrs.Tampered q x) events never sink ends = ends
   ends_quiet OpErrs.Sink events never sink ends = absurd (sink refl)
   ends_quiet OpErrs.NoMemory events never sink ends = inl (inl ends)
 
-  pub ends_finishing : (error : EmitErr) (events : List Event) → cut between out events → StopsClosing grew cut parted (halt_of (error_of error)) place events between out
+  pub ends_finishing : (error : EmitErr) (events : List Event) → cut between out events → StopsClosing grew cut parted Ends (halt_of (error_of error)) place events between out
   ends_finishing EmitErrs.Failed events ends = inl ends
   ends_finishing EmitErrs.NoMemory events ends = inl (inr ends)
 
-  pub ends_closing : (error : EmitErr) (events : List Event) (took : E) (outcome : Outcome) → grew between took events → parted took out place outcome
-      → StopsClosing grew cut parted (halt_of (error_of error)) place events between out
-  ends_closing EmitErrs.Failed events took outcome grew parted = inr (record { outcome = outcome; between = took; took = grew; parts = parted })
-  ends_closing EmitErrs.NoMemory events took outcome grew parted = inr (record { outcome = outcome; between = took; took = grew; parts = parted })
+  pub ends_closing : (error : EmitErr) (events : List Event) (took : E) (outcome : Outcome) → Ends outcome → grew between took events → parted took out place outcome
+      → StopsClosing grew cut parted Ends (halt_of (error_of error)) place events between out
+  ends_closing EmitErrs.Failed events took outcome so grew parted = inr (record { outcome = outcome; ends = so; between = took; took = grew; parts = parted })
+  ends_closing EmitErrs.NoMemory events took outcome so grew parted = inr (record { outcome = outcome; ends = so; between = took; took = grew; parts = parted })
 
 pub prints_or : (b : Bool) → (b ≡ true) ⊎ (b ≡ false)
 prints_or true = inl refl
@@ -228,10 +229,10 @@ module _ {R E F : Type 0} (state : R → RevState) (grew cut : E → E → List 
       let may = stage.served f _ _ _ (hold i f at) in
       let none = none_ended i f at going in
       let within : (k.progress f).asked < length (script p (skeleton stmt) (k.progress f).served.seen) =
-          subst (λ (sk : _). (k.progress f).asked < length (script p sk (k.progress f).served.seen)) (stage.outline f _ may ∙ ap skeleton one.is)
-          (asks_within p (k.progress f) (k.progress f).served next access (steady_at i f at) one.public act) in
+      subst (λ (sk : _). (k.progress f).asked < length (script p sk (k.progress f).served.seen)) (stage.outline f _ may ∙ ap skeleton one.is)
+      (asks_within p (k.progress f) (k.progress f).served next access (steady_at i f at) one.public act) in
       let standing : StandsAs p m (k.progress f).asked stmt (shown f) (shown f).end =
-          subst (λ (o : Option Closed). IsFlown p m (k.progress f).asked stmt (shown f) o) none (flown i f stmt at there) in
+      subst (λ (o : Option Closed). IsFlown p m (k.progress f).asked stmt (shown f) o) none (flown i f stmt at there) in
       let whole = ends_whole p m stmt (shown f) (k.progress f).asked (shown f).end refl within standing in
       let started = unrefused p m stmt (shown f) (k.progress f).asked (subst (λ (end : End). StandsAs p m (k.progress f).asked stmt (shown f) end) whole standing) in
       record {
@@ -320,17 +321,17 @@ module _ {R E F : Type 0} (state : R → RevState) (grew cut : E → E → List 
             let next = stepped_next i f.0 stmt f.1 there one in
             let meaning = seen_by d p m tables stmt in
             let here : shown f.0 ≡ record (cut_at false (k.progress f.0).asked p (skeleton stmt) meaning) { end = Whole } =
-                subst (λ (end : End). StandsMeant d p m (k.progress f.0).asked (k.progress f.0).asked tables stmt (shown f.0) end) next.whole
-                (subst (λ (o : Option Closed). IsMeant d p m (k.progress f.0).asked (k.progress f.0).asked tables stmt (shown f.0) o) next.none was) in
+            subst (λ (end : End). StandsMeant d p m (k.progress f.0).asked (k.progress f.0).asked tables stmt (shown f.0) end) next.whole
+            (subst (λ (o : Option Closed). IsMeant d p m (k.progress f.0).asked (k.progress f.0).asked tables stmt (shown f.0) o) next.none was) in
             let then_too : shown f.0 ≡ record (cut_at false (carried i) p (skeleton stmt) meaning) { end = Whole } =
-                elim one.carried [
-                  | inl (refused, same) ↦ here ∙ ap (λ (n : ℕ). record (cut_at false n p (skeleton stmt) meaning) { end = Whole }) (sym same)
-                  | inr (not, more) ↦
-                      here ∙ held_more (k.progress f.0).asked p (skeleton stmt) meaning (counted i f.0 stmt there one not)
-                      (meant_single (length stmts) old.public m stmt next.started next.flat tables d old.indexes.items st.last.world held.held)
-                      (meant_unread (length stmts) old.public m stmt next.started next.flat tables d old.indexes.items st.last.world held.held)
-                      ∙ ap (λ (n : ℕ). record (cut_at false n p (skeleton stmt) meaning) { end = Whole }) (sym more)
-                ] in
+            elim one.carried [
+              | inl (refused, same) ↦ here ∙ ap (λ (n : ℕ). record (cut_at false n p (skeleton stmt) meaning) { end = Whole }) (sym same)
+              | inr (not, more) ↦
+                  here ∙ held_more (k.progress f.0).asked p (skeleton stmt) meaning (counted i f.0 stmt there one not)
+                  (meant_single (length stmts) old.public m stmt next.started next.flat tables d old.indexes.items st.last.world held.held)
+                  (meant_unread (length stmts) old.public m stmt next.started next.flat tables d old.indexes.items st.last.world held.held)
+                  ∙ ap (λ (n : ℕ). record (cut_at false n p (skeleton stmt) meaning) { end = Whole }) (sym more)
+            ] in
             subst (λ (o : Option Closed). IsMeant d p m (asked i) (carried i) tables stmt (shown f.0) o) (sym next.none)
             (subst (λ (end : End). StandsMeant d p m (asked i) (carried i) tables stmt (shown f.0) end) (sym next.whole) then_too)
       ])

@@ -1,6 +1,6 @@
 -- Whose the accesses are that were asked until a flight was stopped.
-use Rattle.std.proofs.Common.{◌≡◌, ◌⊎◌, ◌<◌, ◌+◌, ◌-◌, ◌++◌, ℕ, Bool, true, false, IsTrue, List, [], ◌∷◌, map, length, Option, Some, refl, sym, ◌∙◌, ap, inl, inr, arith, append_assoc, length-append}
-use Rattle.std.specs.Prelude.{slice_get, take}
+use Rattle.std.proofs.Common.{◌≡◌, ◌⊎◌, ◌<◌, ◌+◌, ◌-◌, ◌++◌, ℕ, Bool, true, false, IsTrue, List, [], ◌∷◌, map, length, Option, Some, refl, sym, ◌∙◌, ap, subst, inl, inr, arith, append_assoc, length-append}
+use Rattle.std.specs.Prelude.{is_some, nat_lt, slice_get, take}
 use Rattle.std.proofs.lemmas.Bool.{cases_eq}
 use Rattle.std.proofs.lemmas.List.{append-nil, length-map, map-append}
 use Rattle.ob_base.specs.Events.{Event}
@@ -11,14 +11,14 @@ use Rattle.ob_base.specs.declared.emit.EmitErr.TheVariants as EmitErrs
 use Rattle.ob_flat.specs.declared.fault.OpErr.{OpErr}
 use Rattle.ob_flat.specs.declared.fault.OpErr.TheVariants as OpErrs
 use Rattle.ob_flat.specs.Passes.{is_of_access}
-use Rattle.ob_inflight.specs.Aloft.{setting_off}
+use Rattle.ob_inflight.specs.Aloft.{flight_in, setting_off}
 use Rattle.ob_inflight.specs.Answers.{error_of}
-use Rattle.ob_inflight.specs.Flown.{StopsInClosing, StopsInFinish, StopsInStep}
+use Rattle.ob_inflight.specs.Flown.{StopsInStep}
 use Rattle.ob_inflight.specs.Flown as Flown
 use Rattle.ob_inflight.specs.Kinds.{Kind, Moment, taker_of}
 use Rattle.ob_mean.specs.Replay.{done_of}
 use Rattle.ob_script.specs.FlightLaws.{AllMayFly}
-use Rattle.ob_script.specs.Flights.{AreSteady, Flight, accesses_in, boarding, entry_of, flight, merge, own, turns}
+use Rattle.ob_script.specs.Flights.{AreSteady, Flight, Flying, accesses_in, boarding, entry_of, flight, merge, own, turns}
 use Rattle.ob_script.specs.Trace.{Served}
 use Rattle.ob_script.proofs.FlightEnds.{first_of_merge}
 use Rattle.ob_script.proofs.FlightLemmas.{own_append, own_entry, own_other}
@@ -31,10 +31,11 @@ use Rattle.ob_tables.specs.declared.engine.Engine.{Engine}
 use Rattle.ob_vault.specs.State.{RevState, World}
 use Rattle.ob_verdict.specs.declared.outcome.Outcome.{Outcome}
 use Rattle.ob_exec.specs.InFlight.{own_asked, served_as}
-use Rattle.ob_exec.specs.RanFlight.{asked_by, asked_since, halt_of}
+use Rattle.ob_exec.specs.RanFlight.{StopsInTurn, asked_by, asked_since, halt_of}
 use Rattle.ob_exec.proofs.FlightEnd.{since_long}
-use Rattle.ob_exec.proofs.FlightLists.{log_first, map_put}
-use Rattle.ob_exec.proofs.FlightRuns.{Boards, as_many, first_now, may_now, merged_now, own_now, served_now, sets_now, steady_now}
+use Rattle.ob_exec.proofs.FlightLists.{flying_back, log_first, map_put}
+use Rattle.ob_exec.proofs.FlightRuns.{Boards, as_many, first_now, may_now, merged_now, own_now, served_now, sets_now, steady_now, turned_now}
+use Rattle.ob_exec.proofs.FlightTurned.{ended_below}
 use Rattle.ob_exec.proofs.FlightStage.{IsStage, more_asked}
 
 -- of one entry more
@@ -320,3 +321,38 @@ module _ {R E F : Type 0} (state : R → RevState) (grew cut : E → E → List 
         let m = ap length one.asked ∙ length-append st.last.world.store.asked (one.step.stops.access ∷ []) in
         omega (arith, n, m)
   ]
+
+  -- ---- in which turn it stopped
+  turned : turns words st.turn (boarding old.public (map (λ (f : F). (k.progress f).served) st.last.flyers))
+      ≡ flight_in k st.public st.last.world.vault.next st.last.flyers (map (λ (f : F). (k.progress f).served) st.last.flyers) st.aloft.turned.log
+  turned = turned_now k (count_of old s) stage steady_of old.public stmts words share start boards st.turn st.public st.ended st.current st.last st.aloft
+
+  ended_last : (i : ℕ) (x : Flying) → slice_get (turns words st.turn (boarding old.public (map (λ (f : F). (k.progress f).served) st.last.flyers))).flying i ≡ Some x → x.ended ≡ nat_lt i (length st.ended)
+  ended_last i x at =
+      let back = flying_back k (λ (f : F). (k.progress f).served) st.last.flyers i x (ap (λ (r : Flight). slice_get r.flying i) (sym turned) ∙ at) in
+      ap (λ (y : Flying). y.ended) (sym back.2) ∙ ap is_some (st.aloft.stand.outcome i back.0 back.1) ∙ ended_below st.ended i
+
+  -- by then these were asked, and one more at most
+  long_now : length (turns words st.turn (boarding old.public (map (λ (f : F). (k.progress f).served) st.last.flyers))).log ≡ length st.aloft.turned.log
+  long_now = ap (λ (r : Flight). length r.log) turned
+
+  long_next : length (turns words (st.turn + 1) (boarding old.public (map (λ (f : F). (k.progress f).served) st.last.flyers))).log ≡ length st.aloft.turned.log + length (entry_of st.place st.act)
+  long_next = ap length log_more ∙ length-append st.aloft.turned.log (entry_of st.place st.act)
+
+  pub stops_turn : StopsInTurn old.public (served_as stmts (map (λ (f : F). (k.progress f).served.seen) st.last.flyers)) words (asked_since s now.world.store) (length st.ended)
+  stops_turn =
+      subst (λ (flown : List Served). StopsInTurn old.public flown words (asked_since s now.world.store) (length st.ended)) (sym stop_served)
+      (elim asked_more [
+        | inl none ↦ record {
+          turn = st.turn;
+          least = let n = many_none none in let a = long_now in omega (arith, n, a);
+          most = let n = many_none none in let b = long_next in omega (arith, n, b);
+          ended = ended_last;
+        }
+        | inr one ↦ record {
+          turn = st.turn;
+          least = let n = many_one one in let a = long_now in omega (arith, n, a);
+          most = let n = many_one one in let b = long_next in let act = ap (λ (o : Option Access). length (entry_of st.place o)) one.step.asks in omega (arith, n, b, act);
+          ended = ended_last;
+        }
+      ])

@@ -38,6 +38,7 @@ pub mod FlightFrames
 pub mod FlightBegun
 pub mod FlightEnd
 pub mod FlightMore
+pub mod FlightTurned
 pub mod FlightStops
 pub mod FlightStopped
 pub mod FlightHalted
@@ -48,3 +49,9 @@ pub mod StageRows
 pub mod StageRowsTold
 pub mod StageKinds
 pub mod StageRowsHalts
+pub mod BoardOne
+pub mod BoardRows
+pub mod BoardTotals
+pub mod FlightBoards
+pub mod FlightNothing
+pub mod FlightFlown

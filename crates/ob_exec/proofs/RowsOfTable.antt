@@ -23,7 +23,7 @@ use Rattle.ob_row.specs.Slots.{Slots}
 use Rattle.ob_script.specs.Parts.{count_part}
 use Rattle.ob_script.specs.Script.{blocks_of, extent_of, flat_script, select_part, source_script, table_script}
 use Rattle.ob_script.proofs.Lengths.{length-count_part}
-use Rattle.ob_select.specs.Selecting.{HoldsSeen, Selection, counted_after, region_of, selection_seen, walked_after}
+use Rattle.ob_select.specs.Selecting.{HoldsSeen, Selection, counted_after, region_of, selection_script, selection_seen, walked_after}
 use Rattle.ob_select.proofs.ResultParts.{some_buffered}
 use Rattle.ob_select.proofs.SelectHeld.{held_empty}
 use Rattle.ob_select.proofs.SelectLength.{select_length}
@@ -34,7 +34,14 @@ use Rattle.ob_tables.proofs.FoundLemmas.{heading_found, shape_found}
 use Rattle.ob_tables.proofs.HeldLemmas.{Beside, held_at}
 use Rattle.ob_tables.proofs.TableLemmas.{AreNamed, stored_found}
 use Rattle.ob_vault.specs.State.{World}
-use Rattle.ob_exec.specs.Sources.{rows_script, rows_skeleton, selection, slots_of, stated}
+use Rattle.ob_exec.specs.Sources.{HoldsRows, rows_script, rows_skeleton, selection, slots_of, stated}
+
+-- what is held of the rows of any source after n accesses is what its meaning shows by then
+pub cut_of_rows : (p : Public) (select : SelectRows) (slots : Slots) (meant : Seen) → meant ≡ selection_seen (selection p select) slots → (selection_seen (selection p select) slots).leaf ≡ None → (failed : Bool) (n : ℕ) (now : Seen)
+    → HoldsRows p select slots failed n now → now.leaf ≡ None → record now { end = Cut n } ≡ cut_at failed n p (rows_skeleton select) meant
+cut_of_rows p select slots meant meant_is unread failed n now holds leaf =
+    let none = leaf ∙ held_empty (nat_lt p.stash n) (selection_seen (selection p select) slots).leaf unread in
+    (λ j. record { k = holds.k j; plan = holds.plan j; then = holds.second j; leaf = none j; end = Cut n }) ∙ ap (cut_at failed n p (rows_skeleton select)) (sym meant_is)
 
 module _ (p : Public) (i : ℕ) (t : Table) (name : List ℕ) (select : SelectRows) (names : AreNamed p.tables) (get : slice_get p.tables i ≡ Some t) (named : t.heading.name ≡ name)
     (of_table : select.source ≡ OneTable name) (unkeyed : is_access p (rows_skeleton select) ≡ false) where
@@ -63,6 +70,9 @@ module _ (p : Public) (i : ℕ) (t : Table) (name : List ℕ) (select : SelectRo
       ∙ sym (ap (λ (o : Option (Stored ℕ)). option_map_or (table_script (record p { pad = pad }) now) o []) (stored_found name p.tables i t names get named))
       ∙ sym (ap (source_script (record p { pad = pad }) now) of_table)
 
+  pub script_of_table : (now : Seen) → selection_script q now p.next_region ≡ rows_script p select now
+  script_of_table now = script_by p.pad now
+
   pub count_of_table : count_end p (rows_skeleton select) ≡ counted_after q
   count_of_table =
       ap length (sym (script_by None (seen_to Whole))) ∙ ap length (append-nil (count_part t.region (blocks_of p (extent_of (region_of q)))))
@@ -71,7 +81,7 @@ module _ (p : Public) (i : ℕ) (t : Table) (name : List ℕ) (select : SelectRo
   no_ending : ending_len (rows_skeleton select) ≡ 0
   no_ending = ap (λ (source : Source). ending_len (RowsSkeleton source select.list)) of_table
 
-  walk_of_table : 1 ≤ p.pack → 3 * p.pack + 1 ≤ p.buffer → (now : Seen) → walk_end p (rows_skeleton select) now ≡ walked_after q now
+  pub walk_of_table : 1 ≤ p.pack → 3 * p.pack + 1 ≤ p.buffer → (now : Seen) → walk_end p (rows_skeleton select) now ≡ walked_after q now
   walk_of_table some blocks now =
       let enough = some_buffered p.pack p.buffer some blocks in
       let long = ap length (sym (script_by p.pad (record now { then = None }))) ∙ select_length p some enough (record now { then = None }) p.next_region 0 (region_of q) [] in
@@ -90,17 +100,18 @@ module _ (p : Public) (i : ℕ) (t : Table) (name : List ℕ) (select : SelectRo
       subst (λ (slots : Slots). Represents p.pack (flat_of t) slots w) slots_is beside.represents
 
   -- what is held of it after n accesses is what its meaning shows by then
+  module _ (some : 1 ≤ p.pack) (blocks : 3 * p.pack + 1 ≤ p.buffer) (slots : Slots) where
+    pub rows_of_held : (failed : Bool) (n : ℕ) (now : Seen) → HoldsSeen q slots failed n now → HoldsRows p select slots failed n now
+    rows_of_held failed n now holds = record {
+      k = holds.k ∙ (λ j. held_if (nat_le (sym count_of_table j) (done_of failed n)) (selection_seen q slots).k);
+      plan = holds.plan ∙ (λ j. held_if (nat_le (sym count_of_table j) (done_of failed n)) (selection_seen q slots).plan);
+      second = holds.second
+          ∙ (λ j. held_if (nat_le (sym (walk_of_table some blocks (selection_seen q slots)) j) (done_of failed n)) (selection_seen q slots).then);
+    }
+
   module _ (some : 1 ≤ p.pack) (blocks : 3 * p.pack + 1 ≤ p.buffer) (slots : Slots) (meant : Seen) (meant_is : meant ≡ selection_seen q slots) (meant_unread : meant.leaf ≡ None) where
     pub cut_of_held : (failed : Bool) (n : ℕ) (now : Seen) → HoldsSeen q slots failed n now → now.leaf ≡ None → record now { end = Cut n } ≡ cut_at failed n p (rows_skeleton select) meant
-    cut_of_held failed n now holds leaf =
-        (λ j. record {
-          k = (holds.k ∙ (λ i. held_if (nat_le (sym count_of_table i) (done_of failed n)) (sym meant_is i).k)) j;
-          plan = (holds.plan ∙ (λ i. held_if (nat_le (sym count_of_table i) (done_of failed n)) (sym meant_is i).plan)) j;
-          then = (holds.second ∙ (λ i. held_if (nat_le (sym (walk_of_table some blocks (selection_seen q slots)) i) (done_of failed n)) (selection_seen q slots).then)
-              ∙ (λ i. held_if (nat_le (walk_end p (rows_skeleton select) (sym meant_is i)) (done_of failed n)) (sym meant_is i).then)) j;
-          leaf = (leaf ∙ held_empty (nat_lt p.stash n) meant.leaf meant_unread) j;
-          end = Cut n;
-        })
+    cut_of_held failed n now holds leaf = cut_of_rows p select slots meant meant_is (ap (λ (x : Seen). x.leaf) (sym meant_is) ∙ meant_unread) failed n now (rows_of_held some blocks slots failed n now holds) leaf
 
     -- and the other way
     pub held_of_cut : (failed : Bool) (n : ℕ) → HoldsSeen q slots failed n (cut_at failed n p (rows_skeleton select) meant)

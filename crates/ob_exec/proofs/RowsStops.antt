@@ -1,6 +1,6 @@
 -- A SELECT of rows that was stopped, or that the store cut off.
 use Rattle.std.proofs.Common.{◌≡◌, ◌⊎◌, inl, inr, ◌≤◌, ◌-◌, if◌then◌else◌, ℕ, Bool, true, false, List, [], ◌∷◌, ◌++◌, length, Option, Some, None, Err, Result, refl, sym, ◌∙◌, ap, subst, arith, length-append}
-use Rattle.std.specs.Prelude.{IfOk, IfErr, nat_lt}
+use Rattle.std.specs.Prelude.{IfOk, IfErr}
 use Rattle.ob_base.specs.declared.config.Public.{Public}
 use Rattle.ob_tables.specs.declared.stop.RunStop.{RunStop}
 use Rattle.ob_tables.specs.declared.stop.RunStop.TheVariants as Stops
@@ -55,7 +55,7 @@ use Rattle.ob_mean.specs.Replay.{is_access}
 use Rattle.ob_sql.specs.Skeleton.{skeleton}
 use Rattle.ob_exec.proofs.RowsLawful.{lawful_cut}
 use Rattle.ob_exec.proofs.RowsMeaning.{rows_partly, rows_seen, rows_unfinished, rows_unread}
-use Rattle.ob_select.proofs.SelectHeld.{held_empty}
+use Rattle.ob_exec.proofs.RowsOfTable.{cut_of_rows}
 use Rattle.ob_exec.proofs.RowsRun.{rows_after, rows_cut}
 use Rattle.ob_tables.specs.Engines.{others_of}
 use Rattle.ob_tables.proofs.TableLemmas.{beside_below, region_below}
@@ -195,10 +195,10 @@ module _ {R : Type 0} (state : R → RevState) (old : Engine R) (s : StoreState)
         → record now { end = Cut n } ≡ cut_at failed (length t.asked - length s.asked) old.public (rows_skeleton select) (seen d old.public (count_of old s) tables (RowsStmt select))
     seen_cut d failed now n count leaf holds =
         let none = rows_unread old.public (count_of old s) select tables headed stands.in_place flat early agrees.settings.pack_least agrees.settings.blocks agrees.settings.padded source.labelled rows_of in
-        let unread = leaf ∙ held_empty (nat_lt old.public.stash (length t.asked - length s.asked)) (selection_seen (selection old.public select) (slots_of old.public select tables)).leaf none in
-        (λ i. record { k = holds.k i; plan = holds.plan i; then = holds.second i; leaf = unread i; end = Cut (count i) })
-        ∙ ap (cut_at failed (length t.asked - length s.asked) old.public (rows_skeleton select))
-        (sym (rows_seen old.public (count_of old s) select tables headed stands.in_place flat early agrees.settings.pack_least agrees.settings.blocks agrees.settings.padded source.labelled rows_of d))
+        ap (λ (k : ℕ). record now { end = Cut k }) count
+        ∙ cut_of_rows old.public select (slots_of old.public select tables) (seen d old.public (count_of old s) tables (RowsStmt select))
+        (rows_seen old.public (count_of old s) select tables headed stands.in_place flat early agrees.settings.pack_least agrees.settings.blocks agrees.settings.padded source.labelled rows_of d)
+        none failed (length t.asked - length s.asked) now holds leaf
 
   pub rows_begun : ReadsMeant old.public select before after → (tables : Tables) (d : Draws) → AreDraws old d → ReadsTrue state old s s tables → (lie : Lie) → t.lie ≡ Some lie
       → ReadsIn lie (s.asked ++ meant_script d old.public (count_of old s) tables (RowsStmt select))

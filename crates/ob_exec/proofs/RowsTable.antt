@@ -1,28 +1,19 @@
 -- A SELECT of the rows of a table.
-use Rattle.std.proofs.Common.{◌≡◌, inl, ◌≤◌, ◌<◌, ◌+◌, ◌-◌, ℕ, Bool, false, List, [], ◌++◌, length, Option, Some, None, Ok, Err, Result, refl, sym, ◌∙◌, ap, subst, arith, append-nil}
-use Rattle.std.specs.Prelude.{IsTrue, nat_le, slice_get}
+use Rattle.std.proofs.Common.{◌≡◌, inl, ◌≤◌, ◌<◌, ◌+◌, ◌-◌, ℕ, Bool, false, List, [], ◌++◌, length, Some, None, Ok, Err, Result, refl, sym, ◌∙◌, ap, subst, arith, append-nil}
+use Rattle.std.specs.Prelude.{IsTrue, slice_get}
 use Rattle.std.proofs.lemmas.Bool.Decides.{nat_tests}
 use Rattle.std.specs.Int.{div_ceil}
-use Rattle.std.specs.Option.{option_map_or}
-use Rattle.ob_base.specs.declared.schema.Shape.TheVariants.{Flat as FlatShape}
 use Rattle.ob_base.specs.declared.access.Access.{Access}
 use Rattle.ob_base.specs.declared.config.Public.{Public}
-use Rattle.ob_base.specs.declared.schema.Heading.{Heading}
 use Rattle.ob_base.specs.declared.schema.Table.{Table}
 use Rattle.ob_base.specs.declared.seen.Seen.{Seen}
-use Rattle.ob_base.specs.declared.seen.End.TheVariants.{Whole}
 use Rattle.ob_base.specs.declared.shown.Shown.{Shown}
-use Rattle.ob_base.specs.declared.skeleton.Skeleton.TheVariants.{Rows as RowsSkeleton}
-use Rattle.ob_base.specs.declared.skeleton.Source.{Source}
 use Rattle.ob_base.specs.declared.skeleton.Source.TheVariants.{Table as OneTable}
 use Rattle.ob_base.specs.Events.{Event, IsEmitted}
 use Rattle.ob_base.specs.Schemas.{Columns}
-use Rattle.ob_base.specs.Stored.{Stored, headings_of, heading_at, stored_region}
+use Rattle.ob_base.specs.Stored.{headings_of}
 use Rattle.ob_row.specs.Condition.{Condition}
 use Rattle.ob_row.specs.Slots.{Slots}
-use Rattle.ob_script.specs.Parts.{count_part}
-use Rattle.ob_script.specs.Script.{blocks_of, extent_of, flat_script, select_part, source_script, table_script}
-use Rattle.ob_script.proofs.Lengths.{length-count_part}
 use Rattle.ob_store.specs.State.{StoreState}
 use Rattle.ob_vault.specs.Tied.{ReadsIn}
 use Rattle.ob_store.specs.Calls.{ChangesNothing}
@@ -41,16 +32,13 @@ use Rattle.ob_select.proofs.UntilLemmas.{until_from}
 use Rattle.ob_flat.specs.Passes.{PassCut, is_of_access}
 use Rattle.ob_flat.proofs.Resting.{represents_rests}
 use Rattle.ob_flat.proofs.Runs.{pass_after}
-use Rattle.ob_mean.specs.Lawful.{counted_slots}
-use Rattle.ob_names.specs.Names.{source_columns}
 use Rattle.ob_mean.specs.Conditions.{where_at}
 use Rattle.ob_mean.specs.Refusals.{listed, limits_of}
 use Rattle.ob_mean.proofs.EarlyLemmas.{allowed}
-use Rattle.ob_mean.proofs.FlatLemmas.{shape_is}
 use Rattle.ob_verdict.proofs.AcceptedProof.{places_fit}
-use Rattle.ob_mean.specs.Replay.{count_end, done_of, ending_len, held_if, walk_end, is_access}
+use Rattle.ob_mean.specs.Replay.{count_end, walk_end, is_access}
 use Rattle.ob_mean.specs.Step.{printed_places}
-use Rattle.ob_mean.specs.Verdict.{Held, Tables, is_late, source_slots, ended as seen_to}
+use Rattle.ob_mean.specs.Verdict.{Tables, is_late}
 use Rattle.ob_sql.specs.declared.stmt.SelectRows.{SelectRows}
 use Rattle.ob_sql.specs.declared.stmt.Stmt.TheVariants.{SelectRows as RowsStmt}
 use Rattle.ob_verdict.specs.Outcomes.{refusal_now}
@@ -59,16 +47,13 @@ use Rattle.ob_select.specs.declared.selecting.Selected.{Selected}
 use Rattle.ob_select.specs.declared.selecting.Selected.TheVariants.{Rows, Refused}
 use Rattle.ob_tables.specs.Agreeing.{Agrees, world_of, count_of}
 use Rattle.ob_tables.specs.Engines.{flat_of}
-use Rattle.ob_select.specs.Selecting.{HoldsSeen, MaySelect, Selection, SelectsFrom, SelectsToEnd, SelectsToHalt, EmitsSelected, answer_events, counted_after, from, padded_after, region_of, selection_seen, selection_script, walked_after}
+use Rattle.ob_select.specs.Selecting.{HoldsSeen, MaySelect, Selection, SelectsFrom, SelectsToEnd, SelectsToHalt, EmitsSelected, answer_events, counted_after, from, padded_after, selection_seen, selection_script, walked_after}
 use Rattle.ob_exec.specs.Sources.{EmitsRows, EndsRows, HaltsRows, HoldsRows, ReadsMeant, SelectsRows, SourceToEnd, SourceToHalt, rows_script, rows_skeleton, selection, slots_of, stated}
 use Rattle.ob_tables.specs.Telling.{AreHeld}
 use Rattle.ob_oram.specs.declared.index.Index.{Index}
-use Rattle.ob_tables.proofs.FoundLemmas.{heading_found, shape_found}
-use Rattle.ob_tables.proofs.HeldLemmas.{held_at}
-use Rattle.ob_select.proofs.SelectLength.{select_length}
+use Rattle.ob_exec.proofs.RowsOfTable.{capacity_of, count_of_table, rows_of_held, schema_of, script_of_table, shape_of, slots_held, walk_of_table}
 use Rattle.ob_exec.proofs.RowsStated.{ends_stated, may_stated}
-use Rattle.ob_tables.proofs.TableLemmas.{flat_kept, region_below, stored_found}
-use Rattle.ob_select.proofs.ResultParts.{some_buffered}
+use Rattle.ob_tables.proofs.TableLemmas.{flat_kept, region_below}
 use Rattle.ob_tables.proofs.SourceColumns.{listed_few}
 
 pub not_late : (m : ℕ) → is_late m ≡ false → m < 9223372036854775808
@@ -98,49 +83,26 @@ some_of n q some least = grind arith
 
 module _ {R : Type 0} (state : R → RevState) (old : Engine R) (s s1 : StoreState) (i : ℕ) (t : Table) (name : List ℕ) (select : SelectRows)
     (agrees : Agrees state old s) (get : slice_get old.public.tables i ≡ Some t) (named : t.heading.name ≡ name) (of_table : select.source ≡ OneTable name) (unkeyed : is_access old.public (rows_skeleton select) ≡ false) where
-  -- its table is flat
-  shape : t.heading.shape ≡ FlatShape
-  shape = shape_found name old.public.tables i t agrees.tables.names get named (sym (ap (λ (source : Source). is_access old.public (RowsSkeleton source select.list)) of_table) ∙ unkeyed)
+  -- what is known of its table by what is public
+  schema_is : t.heading.schema ≡ (selection old.public select).flat.schema
+  schema_is = schema_of old.public i t name select agrees.tables.names get named of_table unkeyed
 
-  found : heading_at name (headings_of old.public.tables) ≡ Some t.heading
-  found = heading_found name old.public.tables i t agrees.tables.names get named
-
-  pub schema_is : t.heading.schema ≡ (selection old.public select).flat.schema
-  schema_is =
-      sym (ap (λ (source : Source). source_columns source (headings_of old.public.tables)) of_table ∙ ap (λ (o : Option Heading). option_map_or (λ (h : Heading). h.schema) o []) found)
-
-  pub capacity_is : t.heading.capacity ≡ (selection old.public select).flat.capacity
-  capacity_is = sym (ap (counted_slots old.public) of_table ∙ ap (λ (o : Option Heading). option_map_or (λ (h : Heading). h.capacity) o 0) found)
+  capacity_is : t.heading.capacity ≡ (selection old.public select).flat.capacity
+  capacity_is = capacity_of old.public i t name select agrees.tables.names get named of_table unkeyed
 
   abbrev pub q : Selection
   q = stated old.public select t.region 0
 
-  -- what is asked is what the statement asks
-  script_by : (pad : Option ℕ) (now : Seen) → select_part (record old.public { pad = pad }) now old.vault.next (extent_of (region_of q)) [] ≡ rows_script (record old.public { pad = pad }) select now
-  script_by pad now =
-      (λ j. select_part (record old.public { pad = pad }) now (sym agrees.next j) (extent_of (record { heading = record { name = []; schema = sym schema_is j; capacity = sym capacity_is j; shape = FlatShape }; held = t.region })) [])
-      ∙ sym (shape_is (record old.public { pad = pad }) now.leaf (flat_script (record old.public { pad = pad }) now) (stored_region t) shape)
-      ∙ sym (ap (λ (o : Option (Stored ℕ)). option_map_or (table_script (record old.public { pad = pad }) now) o []) (stored_found name old.public.tables i t agrees.tables.names get named))
-      ∙ sym (ap (source_script (record old.public { pad = pad }) now) of_table)
-
   script_is : (now : Seen) → selection_script q now old.vault.next ≡ rows_script old.public select now
-  script_is now = script_by old.public.pad now
+  script_is now =
+      ap (λ (n : ℕ). selection_script q now n) (sym agrees.next)
+      ∙ script_of_table old.public i t name select agrees.tables.names get named of_table unkeyed now
 
   count_is : count_end old.public (rows_skeleton select) ≡ counted_after q
-  count_is =
-      ap length (sym (script_by None (seen_to Whole))) ∙ ap length (append-nil (count_part t.region (blocks_of old.public (extent_of (region_of q)))))
-      ∙ length-count_part t.region (blocks_of old.public (extent_of (region_of q)))
-
-  no_ending : ending_len (rows_skeleton select) ≡ 0
-  no_ending = ap (λ (source : Source). ending_len (RowsSkeleton source select.list)) of_table
+  count_is = count_of_table old.public i t name select agrees.tables.names get named of_table unkeyed
 
   walk_is : (now : Seen) → walk_end old.public (rows_skeleton select) now ≡ walked_after q now
-  walk_is now =
-      let some = agrees.settings.pack_least in
-      let enough = some_buffered old.public.pack old.public.buffer agrees.settings.pack_least agrees.settings.blocks in
-      let long = ap length (sym (script_is (record now { then = None }))) ∙ select_length old.public some enough (record now { then = None }) old.vault.next 0 (region_of q) [] in
-      let none = no_ending in
-      omega (arith, long, none)
+  walk_is now = walk_of_table old.public i t name select agrees.tables.names get named of_table unkeyed agrees.settings.pack_least agrees.settings.blocks now
 
   pub counts_some : 1 ≤ count_end old.public (rows_skeleton select)
   counts_some =
@@ -161,13 +123,10 @@ module _ {R : Type 0} (state : R → RevState) (old : Engine R) (s s1 : StoreSta
 
     holds_slots : (indexes : List Index) (tables : Tables) → AreHeld old.public.pack indexes old.public.tables tables before → Represents old.public.pack q.flat (slots_of old.public select tables) ready
     holds_slots indexes tables held =
-        let beside = held_at old.public.pack indexes name old.public.tables tables i t before agrees.tables.names held get named shape in
-        let slots_is : beside.table.held.slots ≡ slots_of old.public select tables =
-        sym (ap (λ (source : Source). source_slots old.public source tables) of_table ∙ ap (λ (o : Option (Stored Held)). option_map_or (λ (x : Stored Held). x.held.slots) o []) beside.found) in
         let flat_is : flat_of t ≡ q.flat = λ j. record { schema = schema_is j; capacity = capacity_is j; region = t.region } in
-        subst (λ (slots : Slots). Represents old.public.pack q.flat slots ready) slots_is
-        (subst (λ (flat : Flat). Represents old.public.pack flat beside.table.held.slots ready) flat_is
-        (represents_rests _ s s1 rests old.public.pack (flat_of t) beside.table.held.slots beside.represents))
+        subst (λ (flat : Flat). Represents old.public.pack flat (slots_of old.public select tables) ready) flat_is
+        (represents_rests _ s s1 rests old.public.pack (flat_of t) (slots_of old.public select tables)
+        (slots_held old.public i t name select agrees.tables.names get named of_table unkeyed indexes tables before held))
 
     abbrev to_end : SourceToEnd old.public before after → SelectsToEnd q ready after
     to_end x = record { tells = subst (λ (b : Bool). IsTrue b) (sym rests.tells) x.tells; slots = slots_of old.public select x.tables; is = holds_slots x.indexes x.tables x.held; nolie = x.nolie }
@@ -213,11 +172,9 @@ module _ {R : Type 0} (state : R → RevState) (old : Engine R) (s s1 : StoreSta
       }
 
       table_holds : (failed : Bool) (slots : Slots) → HoldsSeen q slots failed (length u.asked - length s1.asked) now → HoldsRows old.public select slots failed (length u.asked - length s.asked) now
-      table_holds failed slots is = record {
-        k = is.k ∙ (λ j. held_if (nat_le (sym count_is j) (done_of failed (length_is j))) (selection_seen q slots).k);
-        plan = is.plan ∙ (λ j. held_if (nat_le (sym count_is j) (done_of failed (length_is j))) (selection_seen q slots).plan);
-        second = is.second ∙ (λ j. held_if (nat_le (sym (walk_is (selection_seen q slots)) j) (done_of failed (length_is j))) (selection_seen q slots).then);
-      }
+      table_holds failed slots is =
+          rows_of_held old.public i t name select agrees.tables.names get named of_table unkeyed agrees.settings.pack_least agrees.settings.blocks slots failed (length u.asked - length s.asked) now
+          (subst (λ (n : ℕ). HoldsSeen q slots failed n now) length_is is)
 
       table_halts : (e : OpErr) → SelectsFrom grew cut faults q (Err e) now ready after out_old out_new → HaltsRows grew cut old.public select e now before after out_old out_new
       table_halts e is = record {
@@ -302,7 +259,7 @@ module _ {R : Type 0} (state : R → RevState) (old : Engine R) (s s1 : StoreSta
           flat = subst (λ (f : Flat). IsFlat old.public.pack f (at state old.vault s1)) flat_is
               (flat_kept (from old.vault.next) old.public.pack (flat_of t) (world_of state old s) (at state old.vault s1) (went_rests _ s s1 rests (from old.vault.next) agrees.ready).lasts
               (λ above. let below = region_below old.public.pack i old.public.tables t _ agrees.ready agrees.tables get in omega (arith, below, above))
-              ((agrees.tables.each i t get).written shape).flat);
+              ((agrees.tables.each i t get).written (shape_of old.public i t name select agrees.tables.names get named of_table unkeyed)).flat);
           size = table_size;
           columns = table_columns;
         }

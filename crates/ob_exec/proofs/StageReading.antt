@@ -47,7 +47,7 @@ use Rattle.ob_stages.specs.Reading.{Answered, EndsAs, EndsLater, HaltsTotals, Is
 use Rattle.ob_stages.specs.Totalling.{IsTotalled, labels_at, totalled_answer}
 use Rattle.ob_exec.specs.InFlight as F
 use Rattle.ob_exec.proofs.FlightStage.{HasTable, HoldNow, IsSet, LacksHere, closed_of, more_asked, shown_of, whole_of}
-use Rattle.ob_exec.proofs.TotalsLemmas.{partly_none}
+use Rattle.ob_stages.proofs.TotalsLemmas.{partly_none}
 use Rattle.ob_exec.proofs.TotalsServed.{unfinished_none, verdict_is}
 
 -- ---- how it ends

@@ -25,7 +25,7 @@ use Rattle.ob_verdict.specs.declared.outcome.Outcome.{Outcome}
 use Rattle.ob_verdict.specs.declared.outcome.Outcome.TheVariants.{Refused}
 use Rattle.ob_exec.specs.InFlight.{IsFlown, IsMeant}
 use Rattle.ob_exec.proofs.FlightStage.{HoldNow, closed_of}
-use Rattle.ob_exec.proofs.TotalsLemmas.{partly_none}
+use Rattle.ob_stages.proofs.TotalsLemmas.{partly_none}
 
 module _ (p : Public) (m : ℕ) (stmt : Stmt) (r : Refusal) (now : refusal_now p m stmt ≡ Some r) where
   -- it may be seen so, whether it has ended or not

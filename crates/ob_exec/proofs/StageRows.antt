@@ -1,7 +1,6 @@
 -- A SELECT of rows in flight.
 use Rattle.std.proofs.Common.{◌≡◌, ◌⊎◌, ◌≤◌, ◌++◌, ℕ, zero, suc, Bool, true, false, List, [], ◌∷◌, length, Option, Some, None, Ok, refl, sym, ◌∙◌, ap, subst, inl, inr, arith}
-use Rattle.std.specs.Prelude.{IsSome}
-use Rattle.std.proofs.lemmas.List.{append-nil}
+use Rattle.std.specs.Prelude.{IsSome, if◌then◌else◌}
 use Rattle.ob_base.specs.Events.{Event, Close, Head, row_events}
 use Rattle.ob_base.specs.Plans.{choose}
 use Rattle.ob_base.specs.Stored.{headings_of}
@@ -43,12 +42,13 @@ use Rattle.ob_verdict.specs.declared.outcome.Outcome.{Outcome}
 use Rattle.ob_verdict.specs.declared.outcome.Outcome.TheVariants as O
 use Rattle.ob_stages.specs.declared.rows.Stage.{Stage}
 use Rattle.ob_stages.specs.declared.rows.Stage.TheVariants as Stages
-use Rattle.ob_stages.specs.RowsStates.{HasCounted, PlacedAt, RowsAt, end_by, is_over, progress_of, seen_taking, table_blocks, taken_by}
+use Rattle.ob_stages.specs.RowsStates.{HasCounted, PlacedAt, RowsAt, is_over, progress_of, seen_taking, table_blocks, taken_by}
 use Rattle.ob_stages.specs.RowsHolds.{AnswersRows, EndedAt, Holds, HoldsAt, IsCutOff, IsToEnd, answered_by, closing_of, head_of, seen_ended}
 use Rattle.ob_exec.specs.InFlight as F
 use Rattle.ob_exec.specs.Sources.{closing, rows_skeleton, selected_outcome, selection, stated}
 use Rattle.ob_exec.proofs.FlightStage.{HasTable, IsSet, closed_of}
 use Rattle.ob_exec.proofs.RowsLawful.{lawful_cut, lawful_ended}
+use Rattle.ob_stages.proofs.RowsKnown.{rows_end}
 use Rattle.ob_exec.proofs.RowsOfTable.{capacity_of, count_of_table, schema_of}
 use Rattle.ob_exec.proofs.RowsTable.{stated_is}
 use Rattle.ob_exec.proofs.StageReading.{head_is}
@@ -166,23 +166,6 @@ module _ (g : RowsAt) (m : ℕ) (kept : List (List ℕ)) (events : List Event) (
       let end : IsToEnd g events w = subst (λ (b : Bool). EndedAt b None g events w) failed (subst (λ (o : Option Outcome). EndedAt g.failed o g events w) outcome holds.1) in
       ended_lawful p.pad g.k refl end.few.0 (at.counted failed) end.seen
 
-  -- how it ends
-  whole_taking : (pad : Option ℕ) (k : ℕ) → (seen_taking pad k).end ≡ Whole
-  whole_taking None k = refl
-  whole_taking (Some pad) k = refl
-
-  ends_by : (stage : Stage) → PlacedAt stage g → (is_over stage ≡ false → g.failed ≡ false) → g.seen.end ≡ end_by g.failed g.asked
-  ends_by (Stages.Count u) at unfailed = ap (λ (x : Seen). x.end) at.seen ∙ ap (λ (b : Bool). end_by b g.asked) (sym (unfailed refl))
-  ends_by Stages.Make at unfailed = ap (λ (x : Seen). x.end) at.0.seen ∙ whole_taking p.pad g.k ∙ ap (λ (b : Bool). end_by b g.asked) (sym (unfailed refl))
-  ends_by (Stages.Read pass u seen) at unfailed = ap (λ (x : Seen). x.end) at.0.counted.seen ∙ whole_taking p.pad g.k ∙ ap (λ (b : Bool). end_by b g.asked) (sym (unfailed refl))
-  ends_by (Stages.Write pass x) at unfailed = ap (λ (x : Seen). x.end) at.0.counted.seen ∙ whole_taking p.pad g.k ∙ ap (λ (b : Bool). end_by b g.asked) (sym (unfailed refl))
-  ends_by (Stages.Emit x) at unfailed = ap (λ (x : Seen). x.end) at.0.counted.seen ∙ whole_taking p.pad g.k ∙ ap (λ (b : Bool). end_by b g.asked) (sym (unfailed refl))
-  ends_by Stages.Discard at unfailed = ap (λ (x : Seen). x.end) at.counted.seen ∙ whole_taking p.pad g.k ∙ ap (λ (b : Bool). end_by b g.asked) (sym (unfailed refl))
-  ends_by Stages.Over at unfailed = at.end
-
-  pub rows_ends : g.seen.end ≡ end_by g.failed g.asked
-  rows_ends = ends_by g.stage is.placed.at is.placed.unfailed
-
   -- where all was asked
   pub over_at : (stage : Stage) → is_over stage ≡ true → HoldsAt stage g kept events w → EndedAt g.failed g.outcome g events w
   over_at (Stages.Count u) over holds = absurd (cc over)
@@ -299,7 +282,7 @@ module _ (g : RowsAt) (m : ℕ) (kept : List (List ℕ)) (events : List Event) (
   stands_by : (failed : Bool) (o : Option Outcome) → g.failed ≡ failed → g.outcome ≡ o → F.IsFlown p m g.asked stmt g.seen (closed_of o events)
   stands_by failed (Some o) fails outcome = answer_stands o (answers o outcome)
   stands_by false None fails outcome =
-      let end : g.seen.end ≡ Whole = rows_ends ∙ ap (λ (b : Bool). end_by b g.asked) fails in
+      let end : g.seen.end ≡ Whole = rows_end g is.placed ∙ ap (λ (b : Bool). if b then Cut g.asked else Whole) fails in
       subst (λ (x : End). F.StandsAs p m g.asked stmt g.seen x) (sym end) (going_lawful g.stage is.placed.at is.at fails outcome)
   stands_by true None fails outcome =
       let cut = cut_off fails outcome in

@@ -1,5 +1,6 @@
 -- What a SELECT of rows in flight means for its table.
 use Rattle.std.proofs.Common.{◌≡◌, ◌≤◌, ◌+◌, ◌*◌, ◌++◌, ℕ, zero, suc, Bool, true, false, List, [], length, Option, Some, None, refl, sym, ◌∙◌, ap, subst, inl, inr, append_assoc}
+use Rattle.std.specs.Prelude.{if◌then◌else◌}
 use Rattle.std.proofs.lemmas.Bool.{le-leb}
 use Rattle.std.proofs.lemmas.List.{append-nil}
 use Rattle.ob_base.specs.Events.{Event}
@@ -42,15 +43,16 @@ use Rattle.ob_verdict.specs.declared.outcome.Outcome.{Outcome}
 use Rattle.ob_verdict.specs.declared.outcome.Outcome.TheVariants as O
 use Rattle.ob_stages.specs.declared.rows.Stage.{Stage}
 use Rattle.ob_stages.specs.declared.rows.Stage.TheVariants as Stages
-use Rattle.ob_stages.specs.RowsStates.{MayServe, PlacedAt, RowsAt, end_by, is_over, progress_of, seen_taking, table_blocks}
+use Rattle.ob_stages.specs.RowsStates.{MayServe, PlacedAt, RowsAt, is_over, progress_of, seen_taking, table_blocks}
 use Rattle.ob_stages.specs.RowsHolds.{AnswersRows, EndedAt, Halts, Holds, IsCutOff, IsOnWay, IsToEnd, closing_of, is_headless, left_of, meant_events, meant_outcome, seen_ended}
 use Rattle.ob_exec.specs.InFlight as F
 use Rattle.ob_exec.specs.Sources.{closing, rows_skeleton, selected_outcome, selection, slots_of, stated}
 use Rattle.ob_exec.proofs.FlightStage.{HasTable, HoldNow, IsSet, closed_of, shown_of}
 use Rattle.ob_exec.proofs.RowsMeaning.{rows_outcome, rows_partly, rows_prints, rows_seen, rows_unfinished, rows_unread}
+use Rattle.ob_stages.proofs.RowsKnown.{rows_end}
 use Rattle.ob_exec.proofs.RowsOfTable.{cut_of_held, held_of_cut, slots_held}
 use Rattle.ob_exec.proofs.RowsSource.{table_same}
-use Rattle.ob_exec.proofs.StageRows.{answered_selected, answers, as_stated, closing_same, cut_end, cut_off, ended_as, one_table, over_or, rows_ends}
+use Rattle.ob_exec.proofs.StageRows.{answered_selected, answers, as_stated, closing_same, cut_end, cut_off, ended_as, one_table, over_or}
 
 begun_more : (events all more : List Event) → Begun events all → Begun events (all ++ more)
 begun_more events all more begun = (begun.0 ++ more, sym (append_assoc events begun.0 more) ∙ ap (λ (l : List Event). l ++ more) begun.1)
@@ -244,18 +246,22 @@ module _ (g : RowsAt) (m : ℕ) (kept : List (List ℕ)) (events : List Event) (
   way_now failed outcome = elim (over_or g m kept events w is set ending condition cols within (is_over g.stage) refl) [
     | inl over ↦
         let end = to_end None failed outcome over in
-        let told = end.told slots represents honest in
-        (record {
-          held = end_holds over failed told.1;
-          begun = (left_of (is_headless g.q.public.pad g.k) g.q ++ closing_of (meant_outcome g.q slots),
+        let told = end.told slots represents honest in (
+          record {
+            held = end_holds over failed told.1;
+            begun = (
+              left_of (is_headless g.q.public.pad g.k) g.q ++ closing_of (meant_outcome g.q slots),
               sym (append_assoc events (left_of (is_headless g.q.public.pad g.k) g.q) (closing_of (meant_outcome g.q slots)))
-              ∙ ap (λ (es : List Event). es ++ closing_of (meant_outcome g.q slots)) told.2);
-        }, ap (λ (x : Seen). x.leaf) end.seen ∙ leaf_ended g.q.public.pad g.k)
+                  ∙ ap (λ (es : List Event). es ++ closing_of (meant_outcome g.q slots)) told.2,
+            );
+          },
+          ap (λ (x : Seen). x.leaf) end.seen ∙ leaf_ended g.q.public.pad g.k,
+        )
     | inr going ↦ (way going slots represents honest, leaf_going g.stage going is.placed.at)
   ]
 
   whole_end : g.failed ≡ false → g.seen.end ≡ Whole
-  whole_end failed = rows_ends g m kept events w is set ending condition cols within ∙ ap (λ (b : Bool). end_by b g.asked) failed
+  whole_end failed = rows_end g is.placed ∙ ap (λ (b : Bool). if b then Cut g.asked else Whole) failed
 
   -- ---- told
   answer_told : (d : Draws) (o : Outcome) → AnswersRows g.q o g.seen g.asked events w → F.EndsMeant d p m g.asked tables stmt g.seen o

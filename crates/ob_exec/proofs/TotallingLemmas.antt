@@ -1,7 +1,6 @@
 -- What a pass found of a table's totals, and what was emitted of it.
-use Rattle.std.proofs.Common.{◌≡◌, ◌⊎◌, inl, inr, ◌≤◌, ◌<◌, ℕ, Bool, false, if◌then◌else◌, List, [], ◌∷◌, ◌++◌, length, map, filter, Option, Some, None, Result, Ok, Err, refl, sym, ◌∙◌, ap, subst, arith, append-nil}
-use Rattle.std.specs.Prelude.{IfSome, filter_map, not, nat_lt}
-use Rattle.std.specs.List.{list_any, flat_map}
+use Rattle.std.proofs.Common.{◌≡◌, ◌⊎◌, inl, inr, ◌≤◌, ℕ, Bool, false, if◌then◌else◌, List, [], ◌∷◌, ◌++◌, length, map, filter, Some, None, Result, Ok, Err, refl, sym, ◌∙◌, ap, subst, arith, append-nil}
+use Rattle.std.specs.Prelude.{nat_lt}
 use Rattle.std.proofs.lemmas.Bool.Decides.{nat_tests}
 use Rattle.std.proofs.lemmas.List.{length-map}
 use Rattle.ob_base.specs.declared.access.Access.{Access}
@@ -35,25 +34,22 @@ use Rattle.ob_flat.specs.Words.{TamperedIn, blocks_of}
 use Rattle.ob_group.specs.declared.grouping.Grouped.{Grouped}
 use Rattle.ob_group.specs.declared.grouping.Grouped.TheVariants.{Groups, TooMany}
 use Rattle.ob_group.specs.Labels as G
-use Rattle.ob_group.specs.Passes.{AreAggs, AreItems, Aggregates, GroupsRows}
-use Rattle.ob_group.specs.Running.{AreWithin}
-use Rattle.ob_group.specs.Grouping.{aggs_of}
+use Rattle.ob_group.specs.Passes.{Aggregates, GroupsRows}
+use Rattle.ob_group.specs.Steps.{EmitsAll}
 use Rattle.ob_sql.specs.declared.stmt.SelectTotals.{SelectTotals}
 use Rattle.ob_mean.specs.declared.answer.Answer.{Answer}
 use Rattle.ob_mean.specs.declared.answer.Answer.TheVariants as A
-use Rattle.ob_names.specs.Kinds.{plain_columns}
 use Rattle.ob_names.specs.Names.{place_of}
 use Rattle.ob_mean.specs.Conditions.{where_at}
 use Rattle.ob_mean.specs.Prints.{Prints, Begun}
-use Rattle.ob_mean.specs.Refusals.{is_group}
-use Rattle.ob_mean.specs.Step.{agg_of, answered, item_of}
+use Rattle.ob_mean.specs.Step.{answered, item_of}
 use Rattle.ob_verdict.specs.declared.outcome.Outcome.{Outcome}
 use Rattle.ob_verdict.specs.declared.outcome.Outcome.TheVariants.{Rows, Refused}
-use Rattle.ob_exec.specs.Totalling.{Gives, HaltsTotals, Totals, ends_by}
+use Rattle.ob_exec.specs.Totalling.{HaltsTotals, Totals, ends_by}
 use Rattle.ob_stages.specs.Totalling.{TotalsFit, agg_at, labels_at, outcome_at, totalled_answer}
 use Rattle.ob_tables.specs.Stops.{error_of}
 use Rattle.ob_tables.proofs.EmitLemmas.{unfit_none}
-use Rattle.ob_stages.proofs.TotalsLemmas.{aggs_labels, all_events, are_many, begun_rows, grouped_as, is_answer, items_labels, leads_join, leads_none, not_many, partly_none, partly_rows, prints_rows}
+use Rattle.ob_stages.proofs.TotalsLemmas.{all_events, are_many, begun_rows, grouped_as, is_answer, items_labels, leads_join, leads_none, not_many, partly_none, partly_rows, prints_rows}
 use Rattle.ob_stages.proofs.TotalsLemmas as S
 
 -- ---- the emitter's failures
@@ -164,7 +160,7 @@ module _ {E : Type 0} (grew cut : E → E → List Event → Type 0) (faults : E
 
     -- the emitter failed
     pub totals_row_cut : (accs : List Shown) (labels : List (List ℕ)) (e : EmitErr) (a b : E) → labels ≡ labels_at cs q → Aggregates pack flat (is_true condition) aggs (Ok accs) old new
-        → Gives {T = Unit {0}} grew cut faults (Head labels ∷ RowEvent accs ∷ Close 1 ∷ []) (Err e) a b → Totals grew cut faults places pack flat q (Err (error_of e)) old new a b
+        → EmitsAll {T = Unit {0}} grew cut faults (Head labels ∷ RowEvent accs ∷ Close 1 ∷ []) (Err e) a b → Totals grew cut faults places pack flat q (Err (error_of e)) old new a b
     totals_row_cut accs labels e a b labels_are all given =
         let part = given.err in
         record {

@@ -1,14 +1,17 @@
 -- SELECTs without a join that ask in turns: which may, and what is known of each of them.
-use Rattle.std.specs.Prelude.{◌≡◌, ◌⊎◌, ◌≤◌, ◌*◌, ◌+◌, ◌/◌, ℕ, true, false, IsTrue, min, List, [], ◌∷◌, length, take, Option, None, Some, Ok}
+use Rattle.std.specs.Prelude.{◌≡◌, ◌⊎◌, ◌≤◌, ◌*◌, ◌+◌, ◌/◌, ℕ, Bool, true, false, IsTrue, min, List, [], ◌∷◌, length, take, Option, None, Some, Ok}
 use Rattle.std.specs.List.{All}
 use Rattle.ob_base.specs.declared.config.Public.{Public}
+use Rattle.ob_base.specs.declared.refusal.Refusal.{Refusal}
 use Rattle.ob_base.specs.declared.seen.End.{End}
 use Rattle.ob_base.specs.declared.seen.End.TheVariants.{Static, Whole, AfterCount, Joined, Cut}
 use Rattle.ob_base.specs.declared.seen.Seen.{Seen}
+use Rattle.ob_base.specs.Stored.{headings_of}
 use Rattle.ob_inflight.specs.Closing.{Closed}
 use Rattle.ob_mean.specs.Lawful.{Lawful}
+use Rattle.ob_mean.specs.Refusals.{early_refusal, limits_of}
 use Rattle.ob_mean.specs.Replay.{cut_at, is_access}
-use Rattle.ob_mean.specs.Verdict.{Draws, Tables, seen as seen_by, verdict}
+use Rattle.ob_mean.specs.Verdict.{Draws, Tables, is_late, seen as seen_by, verdict}
 use Rattle.ob_script.specs.FlightLaws.{SelectsFromOne}
 use Rattle.ob_script.specs.Flights.{flight, own}
 use Rattle.ob_script.specs.Trace.{Served}
@@ -19,10 +22,17 @@ use Rattle.ob_verdict.specs.declared.outcome.Outcome.{Outcome}
 use Rattle.ob_tables.specs.Running.{RefusedEarly, is_fault, outcome_end}
 
 -- ---- which statements
+-- why one is refused before any access, if it is
+abbrev pub early_of : (late : Bool) → Public → Stmt → Option Refusal
+early_of late p stmt = early_refusal late (limits_of p) (headings_of p.tables) stmt
+
 -- a SELECT without a join; where it isn't refused before any access its table is flat
-pub record Flies (p : Public) (m : ℕ) (stmt : Stmt) : Type 0 where
+pub record FliesBy (late : Bool) (p : Public) (stmt : Stmt) : Type 0 where
   pub selects : SelectsFromOne (skeleton stmt)
-  pub flat : refusal_now p m stmt ≡ None → is_access p (skeleton stmt) ≡ false
+  pub flat : early_of late p stmt ≡ None → is_access p (skeleton stmt) ≡ false
+
+abbrev pub Flies : Public → (m : ℕ) → Stmt → Type 0
+Flies p m stmt = FliesBy (is_late m) p stmt
 
 -- as many as may be in flight at once: each has its part of the rows that may be open
 abbrev pub flight_most : Public → ℕ

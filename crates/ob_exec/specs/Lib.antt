@@ -6,3 +6,4 @@ pub mod Behind
 pub mod RanBatch
 pub mod InFlight
 pub mod RanFlight
+pub mod Boarding

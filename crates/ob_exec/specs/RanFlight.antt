@@ -1,5 +1,5 @@
 -- What several SELECTs do that ask in turns, whatever they are answered.
-use Rattle.std.specs.Prelude.{◌≡◌, ◌⊎◌, ◌-◌, ◌<◌, ◌++◌, ℕ, true, false, List, Option, None, Some, Result, Ok, Err, IfErr, OnOk, MatchResult, drop, length, slice_get}
+use Rattle.std.specs.Prelude.{◌≡◌, ◌⊎◌, ◌+◌, ◌-◌, ◌≤◌, ◌++◌, ℕ, true, false, List, Option, None, Some, Result, Ok, Err, IfErr, OnOk, MatchResult, drop, length, nat_lt, slice_get}
 use Rattle.ob_base.specs.Events.{Event}
 use Rattle.ob_base.specs.declared.access.Access.{Access}
 use Rattle.ob_base.specs.declared.config.Public.{Public}
@@ -11,8 +11,8 @@ use Rattle.ob_mean.specs.Batches.{is_cut}
 use Rattle.ob_mean.specs.Replay.{done_of}
 use Rattle.ob_mean.specs.Verdict.{Draws, Tables, verdict}
 use Rattle.ob_script.specs.FlightLaws.{one_if, total}
-use Rattle.ob_script.specs.Flights.{flight_accesses, flight_public, merge, next_flight, turns_of, words_from}
-use Rattle.ob_script.specs.Script.{whole_script}
+use Rattle.ob_script.specs.Flights.{Flying, boarding, flight_accesses, flight_public, merge, next_flight, turns, turns_of, words_from}
+use Rattle.ob_script.specs.Script.{script, whole_script}
 use Rattle.ob_script.specs.Trace.{Served}
 use Rattle.ob_select.specs.Memory.{AtEmission, AtMake, AtResult, HasHalted}
 use Rattle.ob_select.specs.Opening.{Opens}
@@ -21,7 +21,7 @@ use Rattle.ob_sql.specs.Skeleton.{skeleton}
 use Rattle.ob_sql.specs.declared.stmt.Stmt.{Stmt}
 use Rattle.ob_store.specs.Runs.{Later}
 use Rattle.ob_store.specs.State.{Lie, StoreState}
-use Rattle.ob_vault.specs.Calls.{EndsRead}
+use Rattle.ob_vault.specs.Calls.{Apart, EndsRead}
 use Rattle.ob_vault.specs.State.{RevState, World}
 use Rattle.ob_vault.specs.Tied.{Calm, EndsAt, ReadsIn}
 use Rattle.ob_verdict.specs.Outcomes.{Emits, Partly}
@@ -33,7 +33,7 @@ use Rattle.ob_tables.specs.Telling.{Emitted, IsNotTampered, KeepsSealed, ReadsTr
 use Rattle.ob_tables.specs.declared.engine.Engine.{Engine}
 use Rattle.ob_tables.specs.declared.stop.RunStop.{RunStop}
 use Rattle.ob_tables.specs.declared.stop.RunStop.TheVariants.{KeeperFault, NoMemory, SinkFault, StashFull, StoreFault, Tampered}
-use Rattle.ob_exec.specs.InFlight.{IsFlown, IsMeant, MeantUntil, own_asked, served_as}
+use Rattle.ob_exec.specs.InFlight.{EndsAs, EndsMeant, IsFlown, IsMeant, MeantUntil, own_asked, served_as}
 
 -- ---- the flight
 -- so many accesses were asked from the first state to the second
@@ -61,6 +61,11 @@ halt_of OpErrs.Failed = StoreFault
 halt_of (OpErrs.Tampered region place) = Tampered region place
 halt_of OpErrs.Sink = SinkFault
 halt_of OpErrs.NoMemory = NoMemory
+
+-- how a flight comes out, by how its turns did
+abbrev pub halted : {T : Type 0} → Result T OpErr → Result T RunStop
+halted (Ok x) = Ok x
+halted (Err e) = Err (halt_of e)
 
 -- why a flight stops: a session that ends as tampered ends with the read of that place, and a changed block was read only
 -- there, or its tag fits; neither the store's failures nor indexes or a keeper stop it
@@ -103,55 +108,72 @@ pub record RanInTurns {R T : Type 0} (state : R → RevState) (words : ℕ → �
   -- all rows of the room are free again, and one at least was open where a block was read or written
   pub room : IsFree (public_of old) new.room
   pub opened : Opens (drop (length s.asked) t.asked) (high_of old) (high_of new)
-  -- nothing has changed of the regions that there were
-  pub kept : (q : ℕ) → q < (public_of old).next_region → t.kept q ≡ s.kept q
+  -- nothing has changed of the regions that there were, in the store and in the vault: no table is changed
+  pub untouched : Apart (λ q. (public_of old).next_region ≤ q) (world_of state old s)
+      (world_of state new t)
   pub goes_on : MatchResult result
       (λ x. FliesOn state (next_flight (public_of old) flown words) new t)
       (λ stop. has_ended new ≡ true)
 
 -- ---- what is emitted
+-- one ended so, as it does where nothing stops it: of it these events were taken and this was seen, behind n accesses of its
+-- own, which are all that it asks
+pub record EndsSo {R : Type 0} (state : R → RevState) (stmts : List Stmt) (stmt : Stmt)
+    (seen : Seen) (n : ℕ) (events : List Event) (old : Engine R) (s : StoreState)
+    (new : Engine R) (t : StoreState) (outcome : Outcome) : Type 0 where
+  pub ends : EndsAs (in_flight stmts (public_of old)) (count_of old s) n stmt seen outcome
+  pub whole : n ≡ length (script (in_flight stmts (public_of old)) (skeleton stmt) seen)
+  pub emits : Emits stmt (answer_labels stmt (public_of old)) outcome events
+  pub told : (tables : Tables) (d : Draws) → ReadsTrueUntil state old s new t tables
+      → EndsMeant d (in_flight stmts (public_of old)) (count_of old s) n tables stmt seen outcome
+  pub emitted : (tables : Tables) → ReadsTrueUntil state old s new t tables
+      → Emitted stmt (in_flight stmts (public_of old)) (count_of old s) tables outcome events
+
 -- an answer's events were taken, and the output ends within how it was answered
 pub record IsParted {E : Type 0} (grew : E → E → List Event → Type 0)
-    (parted : E → E → ℕ → Outcome → Type 0) (place : ℕ) (events : List Event) (out_old out_new : E)
-    : Type 0 where
+    (parted : E → E → ℕ → Outcome → Type 0) (Ends : Outcome → Type 0) (place : ℕ)
+    (events : List Event) (out_old out_new : E) : Type 0 where
   pub outcome : Outcome
+  pub ends : Ends outcome
   pub between : E
   pub took : grew out_old between events
   pub parts : parted between out_new place outcome
 
 -- a stop comes while the answer at this place is emitted, or behind it, where the emitter gave up
 abbrev pub StopsClosing : {E : Type 0} → (grew cut : E → E → List Event → Type 0)
-    → (parted : E → E → ℕ → Outcome → Type 0) → RunStop → (place : ℕ) → List Event
-    → (out_old out_new : E) → Type 0
-StopsClosing grew cut parted SinkFault place events out_old out_new =
+    → (parted : E → E → ℕ → Outcome → Type 0) → (Ends : Outcome → Type 0) → RunStop → (place : ℕ)
+    → List Event → (out_old out_new : E) → Type 0
+StopsClosing grew cut parted Ends SinkFault place events out_old out_new =
     StopsEmission grew cut SinkFault out_old out_new events
-    ⊎ IsParted grew parted place events out_old out_new
-StopsClosing grew cut parted NoMemory place events out_old out_new =
+    ⊎ IsParted grew parted Ends place events out_old out_new
+StopsClosing grew cut parted Ends NoMemory place events out_old out_new =
     StopsEmission grew cut NoMemory out_old out_new events
-    ⊎ IsParted grew parted place events out_old out_new
-StopsClosing grew cut parted stop place events out_old out_new =
+    ⊎ IsParted grew parted Ends place events out_old out_new
+StopsClosing grew cut parted Ends stop place events out_old out_new =
     StopsEmission grew cut stop out_old out_new events
 
 -- ---- want of memory
--- just before a result that isn't padded is made for one of the statements, behind so many accesses of its own
+-- just before a result that isn't padded is made for one of the statements that hasn't ended, behind so many accesses of its
+-- own
 pub record BeforeMake (p : Public) (stmts : List Stmt) (seens : List Seen) (asked : ℕ → ℕ)
-    : Type 0 where
+    (ended : List Closed) : Type 0 where
   pub place : ℕ
   pub stmt : Stmt
   pub seen : Seen
   pub get : slice_get stmts place ≡ Some stmt
   pub shown : slice_get seens place ≡ Some seen
+  pub going : slice_get ended place ≡ None
   pub makes : AtResult p stmt seen (drop (asked place) (whole_script p (skeleton stmt) seen))
 
 -- the emitter's output ends within the events of the one at a place, behind n accesses of its own, or within how it was
 -- answered, as it does only where the emitter gave up
-abbrev pub AtEmitter : {E : Type 0} → (cut : E → E → List Event → Type 0)
-    → (parted : E → E → ℕ → Outcome → Type 0) → Public → Stmt → Seen → (place n : ℕ)
-    → (out_old out_new : E) → Type 0
-AtEmitter {E} cut parted p stmt seen place n out_old out_new =
+abbrev pub AtEmitter : {E : Type 0} → (grew cut : E → E → List Event → Type 0)
+    → (parted : E → E → ℕ → Outcome → Type 0) → (Ends : Outcome → Type 0) → Public → Stmt → Seen
+    → (place n : ℕ) → List Event → (out_old out_new : E) → Type 0
+AtEmitter grew cut parted Ends p stmt seen place n events out_old out_new =
     (AtEmission p stmt seen (drop n (whole_script p (skeleton stmt) seen))
     × HasHalted cut out_old out_new)
-    ⊎ ((between : E) × (outcome : Outcome) × parted between out_new place outcome)
+    ⊎ IsParted grew parted Ends place events out_old out_new
 
 -- ---- a stop
 -- these answers were taken whole, and of the next one what was emitted by then
@@ -167,16 +189,31 @@ pub record StopsFlight {R E : Type 0} (state : R → RevState)
   pub next : slice_get stmts (length ended) ≡ Some stmt
   pub shown : slice_get seens (length ended) ≡ Some seen
   pub events : List Event
-  pub ends : StopsClosing grew cut parted stop (length ended) events between out_new
+  pub ends : StopsClosing grew cut parted
+      (EndsSo state stmts stmt seen (asked (length ended)) events old s new t)
+      stop (length ended) events between out_new
   pub told : (tables : Tables) → ReadsTrueUntil state old s new t tables
       → Partly (answer_labels stmt (public_of old))
       (verdict (in_flight stmts (public_of old)) (count_of old s) tables stmt) events
   -- want of memory tells nothing of rows: it comes before the first access, at a make, just before that of a result that
   -- isn't padded, or from the emitter
   pub memory : stop ≡ NoMemory → AtMake (drop (length s.asked) t.asked)
-      ⊎ BeforeMake (in_flight stmts (public_of old)) stmts seens asked
-      ⊎ AtEmitter cut parted (in_flight stmts (public_of old)) stmt seen (length ended)
-      (asked (length ended)) between out_new
+      ⊎ BeforeMake (in_flight stmts (public_of old)) stmts seens asked ended
+      ⊎ AtEmitter grew cut parted
+      (EndsSo state stmts stmt seen (asked (length ended)) events old s new t)
+      (in_flight stmts (public_of old)) stmt seen (length ended) (asked (length ended)) events
+      between out_new
+
+-- it comes in the turn behind so many: in those the first so many statements have ended and no other, and these accesses were
+-- asked in them, with that of this turn if it asked one
+pub record StopsInTurn (p : Public) (flown : List Served) (words : ℕ → ℕ) (k count : ℕ)
+    : Type 0 where
+  pub turn : ℕ
+  pub least : length (turns words turn (boarding p flown)).log ≤ k
+  pub most : k ≤ length (turns words (turn + 1) (boarding p flown)).log
+  pub ended : (i : ℕ) (f : Flying)
+      → slice_get (turns words turn (boarding p flown)).flying i ≡ Some f
+      → f.ended ≡ nat_lt i count
 
 -- ---- what is meant
 -- a changed block is one that the words merge of these statements' accesses by their meaning, of those that the store cut
@@ -246,6 +283,8 @@ pub record RanFlight {R E T : Type 0} (state : R → RevState)
   pub stopped : IfErr result (λ stop. StopsFlight state grew cut closed parted stmts seens
       (asked_by (public_of old) words stmts seens (asked_since s t)) ended stop
       old s new t out_old out_new)
+  pub turn : IfErr result (λ stop. StopsInTurn (public_of old) (served_as stmts seens) words
+      (asked_since s t) (length ended))
   pub sink : MatchResult result (λ x. faults out_new ≡ faults out_old)
       (λ stop. SinkStops (Err stop) (faults out_old) (faults out_new))
   -- each that the store cut off is one of its faults, and nothing else stops a flight than what stops a statement on a flat

@@ -1,7 +1,6 @@
 -- A SELECT of totals of one table, by its slots: what is asked, and what is emitted.
-use Rattle.std.specs.Prelude.{◌≡◌, ◌⊎◌, ◌≤◌, ℕ, List, Result, Err, OnOk, OnErr, IfOk, IfErr, MatchResult}
-use Rattle.ob_base.specs.declared.emit.EmitErr.{EmitErr}
-use Rattle.ob_base.specs.Events.{Event, EmitCause, Leads}
+use Rattle.std.specs.Prelude.{◌≡◌, ◌⊎◌, ◌≤◌, ℕ, List, Result, Err, IfOk, IfErr, MatchResult}
+use Rattle.ob_base.specs.Events.{Event, Leads}
 use Rattle.ob_room.specs.RoomState.{RoomState}
 use Rattle.ob_blocks.specs.Idle.{IsIdle}
 use Rattle.ob_row.specs.Condition.{Condition}
@@ -19,7 +18,7 @@ use Rattle.ob_flat.specs.Words.{HasSpare, PassRan, blocks_of}
 use Rattle.ob_sql.specs.declared.stmt.SelectTotals.{SelectTotals}
 use Rattle.ob_sql.specs.declared.stmt.Stmt.TheVariants.{SelectTotals as TotalsStmt}
 use Rattle.ob_mean.specs.Conditions.{where_at}
-use Rattle.ob_mean.specs.Prints.{Begun, Prints}
+use Rattle.ob_mean.specs.Prints.{Prints}
 use Rattle.ob_verdict.specs.declared.outcome.Outcome.{Outcome}
 use Rattle.ob_verdict.specs.Outcomes.{Emits, Partly}
 use Rattle.ob_stages.specs.Totalling.{IsTotalled, TotalsFit, labels_at, outcome_at, totalled_answer}
@@ -38,14 +37,6 @@ pub record MayTotal (flat : Flat) (condition : Condition) (s : SelectTotals)
   pub items : TotalsFit flat.schema s
 
 -- ---- what is done
--- the events were taken, or the output ends within a first part of them
-pub record Gives {E T : Type 0} (grew cut : E → E → List Event → Type 0) (faults : E → ℕ)
-    (events : List Event) (result : Result T EmitErr) (out_old out_new : E) : Type 0 where
-  pub ok : OnOk result (Leads grew grew out_old out_new events)
-  pub err : OnErr result
-      ((part : List Event) × Leads grew cut out_old out_new part × Begun part events)
-  pub cause : EmitCause result (faults out_old) (faults out_new)
-
 -- an answer was emitted, that of the slots
 pub record EmitsTotals {E : Type 0} (grew : E → E → List Event → Type 0)
     (places pack : ℕ) (flat : Flat) (s : SelectTotals) (outcome : Outcome)

@@ -4,8 +4,9 @@ ghost use Rattle.ob_base.specs.Events.{Head, Row, Close};
 ghost use Rattle.ob_base.specs.Limits.{buffered};
 ghost use Rattle.ob_vault.specs.Places.{at};
 ghost use Rattle.ob_group.specs.Labels.{agg_label};
+ghost use Rattle.ob_group.specs.Steps.{EmitsAll};
 ghost use Rattle.ob_select.specs.Selecting.{UsesRoom};
-ghost use Rattle.ob_exec.specs.Totalling.{Gives, MayTotal, Totals};
+ghost use Rattle.ob_exec.specs.Totalling.{MayTotal, Totals};
 
 use ob_base::{ColumnName, Emit, EmitErr, Label, NoMemory, Refusal, Schema, Shown};
 use ob_flat::{Flat, OpErr};
@@ -40,8 +41,8 @@ fn labels_of(schema: &Schema, aggs: &[Agg]) -> [Label; 32]
 
 // An answer of one row: its header, the row, and its number.
 fn emit_row<E: Emit>(out: &mut E, labels: &[Label], cells: &[Shown]) -> Result<(), EmitErr>
-    ensures { Gives E.grew E.cut E.faults (Head labels.now ∷ Row cells.now ∷ Close 1 ∷ []) result
-        out.old out.new }
+    ensures { EmitsAll E.grew E.cut E.faults (Head labels.now ∷ Row cells.now ∷ Close 1 ∷ [])
+        result out.old out.new }
 {
     match out.head(labels) {
         Ok(()) => match out.row(cells) {

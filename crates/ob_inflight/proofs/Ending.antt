@@ -78,10 +78,13 @@ module _ {F : Type 0} (k : Kind F) (p : Public) (share : ℕ) (ended : List Clos
           | Here here is ↦ let e = ap (λ (x : F). (k.progress x).booked) is ∙ ap (λ (q : Progress). q.booked) answered in omega (arith, e, stand.few i f at)
           | There off was ↦ stand.few j h was
         ];
-        most =
+        most = λ j h get yet.
             let e = same_total (λ (h : F). (k.progress h).most) last.flyers now.flyers i f g at flyers (ap (λ (q : Progress). q.most) answered) in
             let s = ap spent world in
-            omega (arith, e, s, stand.most);
+            elim (now_at last.flyers i f g at now.flyers flyers j h get) [
+              | Here here is ↦ omega (arith, e, s, stand.most i f at (sym (ap (λ (q : Progress). q.over) answered) ∙ sym (ap (λ (x : F). (k.progress x).over) is) ∙ yet))
+              | There off was ↦ omega (arith, e, s, stand.most j h was yet)
+            ];
         several = let e = ap (λ (l : List F). length l) flyers ∙ length-set_at last.flyers i g in omega (arith, e, stand.several);
         shares = ap (λ (l : List (List ℕ)). length l) kept ∙ stand.shares ∙ ap (λ (m : ℕ). m * share) (sym (ap (λ (l : List F). length l) flyers ∙ length-set_at last.flyers i g));
         narrow = stand.narrow;

@@ -1,5 +1,5 @@
 -- How all stand behind one turn.
-use Rattle.std.proofs.Common.{◌≡◌, ◌⊎◌, inl, inr, ℕ, zero, suc, ◌+◌, ◌*◌, ◌<◌, ◌≤◌, true, List, [], ◌∷◌, ◌++◌, Some, None, length, refl, sym, ◌∙◌, ap, subst, arith}
+use Rattle.std.proofs.Common.{◌≡◌, ◌⊎◌, inl, inr, ℕ, zero, suc, ◌+◌, ◌*◌, ◌<◌, ◌≤◌, Bool, true, false, List, [], ◌∷◌, ◌++◌, Some, None, length, refl, sym, ◌∙◌, ap, subst, arith}
 use Rattle.std.specs.Prelude.{slice_get, slice_set}
 use Rattle.std.proofs.lemmas.Bool.{cases_eq, cases_lt}
 use Rattle.std.proofs.lemmas.Option.{same_Some, slice_get_within}
@@ -95,6 +95,16 @@ module _ {F : Type 0} (k : Kind F) (laws : Laws k) (p : Public) (share : ℕ) (e
         | inr next ↦ absurd (omega (arith, next, laws.below h (share_at share j last.kept) (events_at ended current j) last.world q (stand.holds j h get) need))
       ]) lasts
 
+  -- it was yet to ask
+  left : (k.progress f).over ≡ false
+  left =
+      let may = laws.served f (share_at share i last.kept) (events_at ended current i) last.world (stand.holds i f at) in
+      is_left (k.progress f).over (λ over. let none = (laws.acts f (k.progress f).served last.world.vault.next may).over over in let some = steps.next (k.progress f).served may in cc (none, some))
+    where
+      is_left : (b : Bool) → (b ≡ true → ⊥) → b ≡ false
+      is_left true never = absurd (never refl)
+      is_left false never = refl
+
   pub stand_step : others + (k.progress f).booked ≡ booked_by k last.flyers → length now.kept ≡ length last.kept
       → ((j : ℕ) → (j ≡ i → ⊥) → events_at ended later j ≡ events_at ended current j) → k.Holds g (share_at share i now.kept) (events_at ended later i) now.world
       → AreFlying k p share ended later now
@@ -147,11 +157,11 @@ module _ {F : Type 0} (k : Kind F) (laws : Laws k) (p : Public) (share : ℕ) (e
       | Here here is ↦ let e = ap (λ (x : F). (k.progress x).booked) is in omega (arith, e, steps.books.few)
       | There off was ↦ stand.few j h was
     ];
-    most =
+    most = λ j h get yet.
         let sum = total_set (λ (h : F). (k.progress h).most) last.flyers i f g at in
         let is : most_of k now.flyers ≡ total (λ (h : F). (k.progress h).most) (slice_set last.flyers i g) = ap (most_of k) flyers in
         let more = spent_more steps.access last.world now.world lasts.start (step_asked steps.access (k.progress f).region last.world now.world (k.progress g).failed steps.went) in
-        omega (arith, sum, is, more, steps.books.most, stand.most);
+        omega (arith, sum, is, more, steps.books.most, stand.most i f at left);
     several = let e = ap (λ (l : List F). length l) flyers ∙ length-set_at last.flyers i g in omega (arith, e, stand.several);
     shares = count ∙ stand.shares ∙ ap (λ (m : ℕ). m * share) (sym (ap (λ (l : List F). length l) flyers ∙ length-set_at last.flyers i g));
     narrow = stand.narrow;

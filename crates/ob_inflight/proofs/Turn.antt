@@ -101,7 +101,7 @@ module _ {F : Type 0} (k : Kind F) (laws : Laws k) (p : Public) (share : ℕ) (r
         shares = stand.shares;
         narrow = stand.narrow;
         ready = stand.ready;
-        few = omega (arith, most, stand.most);
+        few = omega (arith, most, stand.most i f at left);
         spare = stand.spare;
         small = omega (arith, small, stand.several);
         left = left;

@@ -74,7 +74,9 @@ pub record AreFlying {F : Type 0} (k : Kind F) (p : Public) (share : ℕ) (ended
       → q < now.world.vault.next
   pub spare : booked_by k now.flyers ≤ now.world.store.spare
   pub few : (i : ℕ) (f : F) → slice_get now.flyers i ≡ Some f → (k.progress f).booked ≤ 2 ^ 59
-  pub most : spent now.world + most_of k now.flyers < 2 ^ 63 + 2 ^ 60
+  -- where one of them is yet to ask
+  pub most : (i : ℕ) (f : F) → slice_get now.flyers i ≡ Some f → (k.progress f).over ≡ false
+      → spent now.world + most_of k now.flyers < 2 ^ 63 + 2 ^ 60
   pub several : length now.flyers ≤ 8
   pub shares : length now.kept ≡ length now.flyers * share
   pub narrow : share < 2 ^ 32

@@ -75,9 +75,9 @@ fn picked<F: Flyer>(flyers: &[F], ended: usize, word: u64) -> usize
     place_going(open, true, ended, (word % n as u64) as usize)
 }
 
-// For how many of their accesses the store has room.
+/// For how many of their accesses the store is to have room.
 #[tactic(auto, unfolding(ob_script::specs::FlightLaws::total))]
-fn booked_by<F: Flyer>(flyers: &[F]) -> u64
+pub fn booked_by<F: Flyer>(flyers: &[F]) -> u64
     requires { total (λ f. (F.progress f).booked) flyers.now < 2 ^ 64 }
     ensures { result ≡ total (λ f. (F.progress f).booked) flyers.now }
 {

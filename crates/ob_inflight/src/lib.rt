@@ -14,6 +14,6 @@ mod out;
 mod turns;
 
 pub use flyer::Flyer;
-pub use flying::fly;
+pub use flying::{booked_by, fly};
 pub use out::FlightOut;
 pub use turns::Turns;

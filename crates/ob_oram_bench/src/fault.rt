@@ -1,5 +1,6 @@
 use ob_flat::OpErr;
 use ob_oram::OramErr;
+use std::alloc::AllocError;
 use std::io;
 use thiserror::Error;
 
@@ -23,5 +24,11 @@ pub(crate) enum Fault {
 impl From<io::Error> for Fault {
     fn from(_: io::Error) -> Fault {
         Fault::Io
+    }
+}
+
+impl From<AllocError> for Fault {
+    fn from(_: AllocError) -> Fault {
+        Fault::NoMemory
     }
 }

@@ -1,6 +1,10 @@
-//! Accesses of an index in a store in memory: what `bench/oram.sh` times and counts.
+//! Accesses of an index in a store in memory: lines with what comes of them, and what `bench/oram.sh` times and counts.
 //!
-//! It reads lines. A line has a letter, how many keys the index has, the bytes of a row, the slots of the stash, how
+//! It reads lines. Blank lines, and lines that begin with `#`, are printed as they stand. A line that begins with `s` is
+//! an index with steps on it, and is printed with what comes of each; one that begins with `place` is a buffer whose
+//! rows get their places.
+//!
+//! Any other line has a letter, how many keys the index has, the bytes of a row, the slots of the stash, how
 //! many accesses there are, and a seed of the draws, and each line has an index of its own. When that is made, `ready` is
 //! printed, and the next line is waited for, whatever it says: then the accesses are done, and a number is printed, so
 //! that whoever reads that can tell what they alone took.
@@ -11,18 +15,28 @@
 //! and ends the program with status 1.
 #![tactic(auto)]
 
+ghost use Rattle.std.specs.Prelude.{◌≡◌, [], IfOk};
+ghost use Rattle.ob_vault.specs.Places.{at};
+ghost use Rattle.ob_oram_bench.specs.Sessions.{IsSession};
+
 mod fault;
+mod lines;
+mod places;
 mod rows;
 mod runs;
 mod sessions;
+mod shown;
+mod steps;
 
 use crate::fault::Fault;
+use crate::lines::put_session;
+use crate::places::put_places;
 use crate::runs::{beside_map, full_load, turns};
-use crate::sessions::made;
+use crate::sessions::new_index;
+use ob_oram::Index;
 use ob_room::Room;
-use ob_seal::Keys;
-use ob_store::MemStore;
-use ob_vault::{BaseRevs, Vault};
+use ob_store::{BlockStore, MemStore};
+use ob_vault::{BaseRevs, Revisions, Vault};
 use rand_chacha::ChaCha20Rng;
 use rand_core::{Rng, SeedableRng};
 use std::alloc::Global;
@@ -49,8 +63,8 @@ struct Case {
     seed: u8,
 }
 
-// The next number of a line.
-fn number(words: &mut SplitAsciiWhitespace<'_>) -> Option<u32> {
+/// The next number of a line.
+pub(crate) fn number(words: &mut SplitAsciiWhitespace<'_>) -> Option<u32> {
     words.next()?.parse::<u32>().ok()
 }
 
@@ -96,31 +110,81 @@ fn wait<H: Input + Print + AllocGlobal>(host: &H) -> io::Result<()> {
     Ok(())
 }
 
-// The number that a line is answered.
-fn answer<H: Input + Print + AllocGlobal>(host: &H, case: Case) -> Result<u64, Fault> {
-    let alloc = host.alloc();
-    let mut rng = ChaCha20Rng::from_seed([case.seed; 32]);
-    let draws = draws_of(alloc, &mut rng, case.keys)?;
-    let mut store = MemStore::new(alloc);
-    let mut vault: Vault<BaseRevs> = Vault::new(alloc, Keys::derive(&[5; 32]));
-    let mut room = match Room::new(alloc, 2048, 265, 1) {
-        Ok(room) => room,
-        Err(_) => return Err(Fault::NoMemory),
-    };
-    let index = made(
-        alloc,
-        &mut store,
-        &mut vault,
-        &mut room,
-        case.bytes,
-        case.slots,
-        draws.as_slice(),
-    )?;
+// Waits until the index is known to be made, and does the accesses.
+fn do_accesses<H: Input + Print + AllocGlobal, S: BlockStore, R: Revisions>(
+    host: &H,
+    store: &mut S,
+    vault: &mut Vault<R>,
+    room: &mut Room,
+    index: &mut Index,
+    rng: &mut ChaCha20Rng,
+    case: Case,
+) -> Result<u64, Fault>
+    requires { IsSession room.old index.old (at R.state vault.old (S.state store.old)) }
+{
     wait(host)?;
     match case.run {
-        Run::Turns => turns(&mut store, vault, room, index, &mut rng, case.count),
-        Run::BesideMap => beside_map(alloc, &mut store, vault, room, index, &mut rng, case.count),
-        Run::FullLoad => full_load(&mut store, vault, room, index, &mut rng, case.count),
+        Run::Turns => turns(store, vault, room, index, rng, case.count),
+        Run::BesideMap => beside_map(host.alloc(), store, vault, room, index, rng, case.count),
+        Run::FullLoad => full_load(store, vault, room, index, rng, case.count),
+    }
+}
+
+// An index with drawn leaves.
+fn drawn_index(
+    alloc: Global,
+    store: &mut MemStore,
+    rng: &mut ChaCha20Rng,
+    case: Case,
+) -> Result<(Vault<BaseRevs>, Room, Index), Fault>
+    requires { (⟦<MemStore as BlockStore>⟧.state store.old).asked ≡ [] }
+    ensures { IfOk result (λ new. IsSession new.1 new.2
+        (at ⟦<BaseRevs as Revisions>⟧.state new.0 (⟦<MemStore as BlockStore>⟧.state store.new))) }
+{
+    let draws = draws_of(alloc, rng, case.keys)?;
+    new_index(alloc, store, case.bytes, case.slots, draws.as_slice())
+}
+
+// The number that a line is answered.
+fn answer<H: Input + Print + AllocGlobal>(host: &H, case: Case) -> Result<u64, Fault> {
+    let mut rng = ChaCha20Rng::from_seed([case.seed; 32]);
+    let mut store = MemStore::new(host.alloc());
+    match drawn_index(host.alloc(), &mut store, &mut rng, case) {
+        Ok((mut vault, mut room, mut index)) => do_accesses(
+            host, &mut store, &mut vault, &mut room, &mut index, &mut rng, case,
+        ),
+        Err(fault) => Err(fault),
+    }
+}
+
+// Does what a line says, and writes what comes of it.
+fn put_line(alloc: Global, out: &mut String, line: &str) -> Result<(), Fault> {
+    if line.is_empty() || line.starts_with('#') {
+        Ok(out.push_str(line)?)
+    } else if line.starts_with("s ") {
+        put_session(alloc, out, line)
+    } else if line.starts_with("place ") {
+        put_places(alloc, out, line)
+    } else {
+        Err(Fault::Usage)
+    }
+}
+
+// Prints a line, and what comes of it.
+fn print_line<H: Print + AllocGlobal>(host: &H, line: &str) -> Result<(), Fault> {
+    let mut out = String::new(host.alloc());
+    put_line(host.alloc(), &mut out, line)?;
+    Ok(println!(host; "{out}")?)
+}
+
+// Answers a line.
+fn answer_line<H: Input + Print + AllocGlobal>(host: &H, line: &str) -> Result<(), Fault> {
+    match case_of(line) {
+        Some(case) => {
+            let n = answer(host, case)?;
+            Ok(println!(host; "{n}")?)
+        }
+        None => print_line(host, line),
     }
 }
 
@@ -131,13 +195,8 @@ fn answer_all<H: Input + Print + AllocGlobal>(host: &H) -> Result<(), Fault> {
         if host.read_line(&mut line)? == 0 {
             break;
         }
-        match case_of(line.as_str()) {
-            Some(case) => {
-                let n = answer(host, case)?;
-                println!(host; "{n}")?;
-            }
-            None => return Err(Fault::Usage),
-        }
+        let line = line.as_str();
+        answer_line(host, line.strip_suffix('\n').unwrap_or(line))?;
     }
     Ok(())
 }

@@ -15,27 +15,32 @@ use rand_core::Rng;
 use std::alloc::Global;
 use std::collections::BTreeMap;
 
+// The next word that is drawn.
+fn word(rng: &mut ChaCha20Rng) -> u32 {
+    rng.next_u32()
+}
+
 // A number below this one that is drawn, or 0 where there is none.
 fn drawn_below(rng: &mut ChaCha20Rng, n: u32) -> u32 {
-    rng.next_u32().checked_rem(n).unwrap_or(0)
+    word(rng).checked_rem(n).unwrap_or(0)
 }
 
 /// Puts in rows and looks for them by turns, each at a key that is drawn. Answers how many accesses there were.
 pub(crate) fn turns<S: BlockStore, R: Revisions>(
     store: &mut S,
-    mut vault: Vault<R>,
-    mut room: Room,
-    mut index: Index,
+    vault: &mut Vault<R>,
+    room: &mut Room,
+    index: &mut Index,
     rng: &mut ChaCha20Rng,
     count: u32,
 ) -> Result<u64, Fault>
-    requires { IsSession room index (at R.state vault (S.state store.old)) }
+    requires { IsSession room.old index.old (at R.state vault.old (S.state store.old)) }
 {
     for i in 0..count {
         let key = i64::from(drawn_below(rng, index.capacity));
         let what = if i % 2 == 0 { Ask::Insert(0) } else { Ask::Get };
         let draw = rng.next_u64();
-        match ask_key(store, &mut vault, &mut room, &mut index, key, what, draw) {
+        match ask_key(store, vault, room, index, key, what, draw) {
             Ok(_) => {}
             Err(fault) => return Err(fault),
         }
@@ -77,8 +82,8 @@ fn after(what: Ask, was: Option<u8>) -> Option<u8> {
 }
 
 fn drawn(rng: &mut ChaCha20Rng) -> Ask {
-    let value = (rng.next_u32() % 26) as u8;
-    match rng.next_u32() % 4 {
+    let value = (word(rng) % 26) as u8;
+    match word(rng) % 4 {
         0 => Ask::Get,
         1 => Ask::Insert(value),
         2 => Ask::Change(value),
@@ -116,20 +121,20 @@ fn map_agrees(
 pub(crate) fn beside_map<S: BlockStore, R: Revisions>(
     alloc: Global,
     store: &mut S,
-    mut vault: Vault<R>,
-    mut room: Room,
-    mut index: Index,
+    vault: &mut Vault<R>,
+    room: &mut Room,
+    index: &mut Index,
     rng: &mut ChaCha20Rng,
     count: u32,
 ) -> Result<u64, Fault>
-    requires { IsSession room index (at R.state vault (S.state store.old)) }
+    requires { IsSession room.old index.old (at R.state vault.old (S.state store.old)) }
 {
     let mut map: BTreeMap<i64, u8> = BTreeMap::new(alloc);
     for _ in 0..count {
         let key = i64::from(drawn_below(rng, index.capacity.saturating_add(2))) - 1;
         let what = drawn(rng);
         let draw = rng.next_u64();
-        let got = match ask_key(store, &mut vault, &mut room, &mut index, key, what, draw) {
+        let got = match ask_key(store, vault, room, index, key, what, draw) {
             Ok(got) => got,
             Err(fault) => return Err(fault),
         };
@@ -142,28 +147,33 @@ pub(crate) fn beside_map<S: BlockStore, R: Revisions>(
     Ok(u64::from(count))
 }
 
+// What is asked at a turn: a row is put in at each key, and then keys that are drawn are looked for.
+fn loading(rng: &mut ChaCha20Rng, capacity: u32, i: u64) -> (i64, Ask) {
+    if i < u64::from(capacity) {
+        (i as i64, Ask::Insert(0))
+    } else {
+        (i64::from(drawn_below(rng, capacity)), Ask::Get)
+    }
+}
+
 /// Puts in a row at each key, and then looks for so many keys that are drawn. Answers how many accesses were done
 /// before one found the stash full, or all.
 pub(crate) fn full_load<S: BlockStore, R: Revisions>(
     store: &mut S,
-    mut vault: Vault<R>,
-    mut room: Room,
-    mut index: Index,
+    vault: &mut Vault<R>,
+    room: &mut Room,
+    index: &mut Index,
     rng: &mut ChaCha20Rng,
     count: u32,
 ) -> Result<u64, Fault>
-    requires { IsSession room index (at R.state vault (S.state store.old)) }
+    requires { IsSession room.old index.old (at R.state vault.old (S.state store.old)) }
 {
-    let keys = u64::from(index.capacity);
-    let total = keys + u64::from(count);
+    let capacity = index.capacity;
+    let total = u64::from(capacity).saturating_add(u64::from(count));
     for i in 0..total {
-        let (key, what) = if i < keys {
-            (i as i64, Ask::Insert(0))
-        } else {
-            (i64::from(drawn_below(rng, index.capacity)), Ask::Get)
-        };
+        let (key, what) = loading(rng, capacity, i);
         let draw = rng.next_u64();
-        match ask_key(store, &mut vault, &mut room, &mut index, key, what, draw) {
+        match ask_key(store, vault, room, index, key, what, draw) {
             Ok(_) => {}
             Err(Fault::Access(OramErr::StashFull)) => return Ok(i),
             Err(fault) => return Err(fault),

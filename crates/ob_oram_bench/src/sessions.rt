@@ -1,5 +1,5 @@
 //! An index in a store, with the vault and the room for its accesses.
-ghost use Rattle.std.specs.Prelude.{◌≤◌, ◌<◌, ◌^◌, length, OnOk, IfOk};
+ghost use Rattle.std.specs.Prelude.{◌≡◌, ◌≤◌, ◌<◌, ◌^◌, [], length, OnOk, IfOk};
 ghost use Rattle.ob_store.specs.Calls.{ChangesNothing};
 ghost use Rattle.ob_vault.specs.Words.{StartsAnew};
 ghost use Rattle.ob_vault.specs.Places.{at};
@@ -12,8 +12,9 @@ use crate::rows::{schema_of, text_of};
 use ob_oram::{Got, Index, Op, access, create};
 use ob_room::Room;
 use ob_row::Cell;
+use ob_seal::Keys;
 use ob_store::BlockStore;
-use ob_vault::{Revisions, Vault};
+use ob_vault::{BaseRevs, Revisions, Vault};
 use std::alloc::Global;
 
 /// What is asked of a key. A row that is put in has a text by its number.
@@ -25,8 +26,8 @@ pub(crate) enum Ask {
     Remove,
 }
 
-// Makes room for so many accesses.
-fn make_room<S: BlockStore>(store: &mut S, n: u64) -> Result<(), Fault>
+/// Makes room for so many accesses.
+pub(crate) fn make_room<S: BlockStore>(store: &mut S, n: u64) -> Result<(), Fault>
     ensures rests { ChangesNothing (S.state store.old) (S.state store.new) }
     ensures spare { OnOk result (n ≤ (S.state store.new).spare) }
     ensures few { OnOk result (length (S.state store.new).asked < 2 ^ 59) }
@@ -37,9 +38,9 @@ fn make_room<S: BlockStore>(store: &mut S, n: u64) -> Result<(), Fault>
     Ok(())
 }
 
-/// An index with no row of so many bytes, which has a key for each of these draws: at most 65,536. The stash has at
-/// most 1,024 slots.
-pub(crate) fn made<S: BlockStore, R: Revisions>(
+// An index with no row of so many bytes, which has a key for each of these draws: at most 65,536. The stash has at most
+// 1,024 slots.
+fn made<S: BlockStore, R: Revisions>(
     alloc: Global,
     store: &mut S,
     vault: &mut Vault<R>,
@@ -66,6 +67,27 @@ pub(crate) fn made<S: BlockStore, R: Revisions>(
         Ok(index) => Ok(index),
         Err(e) => Err(Fault::Create(e)),
     }
+}
+
+/// The same in a store of which nothing was asked, with a vault and a room for its accesses.
+pub(crate) fn new_index<S: BlockStore>(
+    alloc: Global,
+    store: &mut S,
+    bytes: u32,
+    slots: u32,
+    draws: &[u64],
+) -> Result<(Vault<BaseRevs>, Room, Index), Fault>
+    requires none { (S.state store.old).asked ≡ [] }
+    ensures session { IfOk result (λ new. IsSession new.1 new.2
+        (at ⟦<BaseRevs as Revisions>⟧.state new.0 (S.state store.new))) }
+{
+    let mut vault: Vault<BaseRevs> = Vault::new(alloc, Keys::derive(&[5; 32]));
+    let mut room = match Room::new(alloc, 2048, 265, 1) {
+        Ok(room) => room,
+        Err(_) => return Err(Fault::NoMemory),
+    };
+    let index = made(alloc, store, &mut vault, &mut room, bytes, slots, draws)?;
+    Ok((vault, room, index))
 }
 
 // One access, for which the store gets room.

@@ -6,6 +6,15 @@ use ob_seal::{At, Keys, unseal};
 use ob_store::BlockStore;
 use ob_test_stores::{Block, KeepingStore};
 
+// The letter of an access, its region, and what else it has.
+fn push_words(out: &mut String, letter: &str, region: u64, numbers: &[u32]) -> Result<(), Stop> {
+    write!(out, "{letter} {region}")?;
+    for number in numbers {
+        write!(out, " {number}")?;
+    }
+    Ok(())
+}
+
 // An access as a trace spells it.
 fn push_access(out: &mut String, access: Access) -> Result<(), Stop> {
     match access {
@@ -13,15 +22,15 @@ fn push_access(out: &mut String, access: Access) -> Result<(), Stop> {
             region,
             blocks,
             len,
-        } => Ok(write!(out, "M {region} {blocks} {len}")?),
-        Access::Read { region, place } => Ok(write!(out, "R {region} {place}")?),
-        Access::Write { region, place } => Ok(write!(out, "W {region} {place}")?),
-        Access::Discard { region } => Ok(write!(out, "D {region}")?),
+        } => push_words(out, "M", region, &[blocks, len]),
+        Access::Read { region, place } => push_words(out, "R", region, &[place]),
+        Access::Write { region, place } => push_words(out, "W", region, &[place]),
+        Access::Discard { region } => push_words(out, "D", region, &[]),
         Access::Open {
             region,
             blocks,
             len,
-        } => Ok(write!(out, "O {region} {blocks} {len}")?),
+        } => push_words(out, "O", region, &[blocks, len]),
     }
 }
 

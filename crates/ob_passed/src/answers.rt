@@ -1,6 +1,8 @@
 //! The passes that answer rows and totals.
-ghost use Rattle.std.specs.Prelude.{OnOk};
+ghost use Rattle.std.specs.Prelude.{◌<◌, ◌≤◌, OnOk, length};
 ghost use Rattle.ob_vault.specs.Places.{at};
+ghost use Rattle.ob_group.specs.Grouping.{aggs_of};
+ghost use Rattle.ob_group.specs.Running.{AreWithin};
 ghost use Rattle.ob_passed.specs.Tables.{Emitted, HasTable, IsAtRest, MayEmit};
 
 use crate::emitter::{Calls, Shower, push_cells};
@@ -8,12 +10,13 @@ use crate::items::{aggregates_of, columns_of, items_of};
 use crate::room::make_room;
 use crate::stop::Stop;
 use crate::words::{Words, place_of};
+use ob_base::Shown;
 use ob_emit::{emit_all, walk};
 use ob_flat::{Flat, OpErr, discard};
 use ob_group::{Grouped, aggregate, group};
 use ob_order::Buckets;
 use ob_room::Room;
-use ob_row::Pred;
+use ob_row::{Item, Pred};
 use ob_store::BlockStore;
 use ob_vault::{Revisions, Vault};
 use std::alloc::Global;
@@ -83,6 +86,11 @@ pub(crate) fn walked<S: BlockStore, R: Revisions>(
     Ok(out.push_str("walked")?)
 }
 
+fn say_totals(out: &mut String, totals: &[Shown]) -> Result<(), Stop> {
+    push_cells(out, totals)?;
+    Ok(write!(out, "({})", totals.len())?)
+}
+
 /// The aggregates that words spell, of the rows that make a condition true.
 pub(crate) fn aggregated<S: BlockStore, R: Revisions>(
     alloc: Global,
@@ -100,8 +108,49 @@ pub(crate) fn aggregated<S: BlockStore, R: Revisions>(
     let aggregates = aggregates_of(alloc, &flat.schema, words)?;
     make_room(store)?;
     let totals = aggregate(store, vault, room, flat, pred, aggregates.as_slice())?;
-    push_cells(out, totals.as_slice())?;
-    Ok(write!(out, "({})", totals.as_slice().len())?)
+    say_totals(out, totals.as_slice())
+}
+
+// The groups by a column, each with these items.
+fn group_by<S: BlockStore, R: Revisions>(
+    alloc: Global,
+    out: &mut String,
+    store: &mut S,
+    vault: &mut Vault<R>,
+    room: &mut Room,
+    flat: &Flat,
+    pred: &Pred,
+    key: u8,
+    items: &[Item],
+    calls: Calls,
+) -> Result<(), Stop>
+    requires rest { IsAtRest room.old (at R.state vault.old (S.state store.old)) }
+    requires table { HasTable room.old.pack flat.now (at R.state vault.old (S.state store.old)) }
+    requires key { key < length flat.now.schema }
+    requires few { length items.now ≤ 32 }
+    requires within { AreWithin (length flat.now.schema) (aggs_of items.now) }
+{
+    let Ok(mut buckets) = Buckets::new(alloc, room.rows()) else {
+        return Err(Stop::Memory);
+    };
+    make_room(store)?;
+    let mut shower = Shower::new(alloc, calls);
+    let answer = group(
+        store,
+        vault,
+        room,
+        &mut buckets,
+        flat,
+        pred,
+        key,
+        items,
+        &mut shower,
+    );
+    match answer {
+        Ok(Grouped::Groups(groups)) => say_taken(out, shower, Ok(groups)),
+        Ok(Grouped::TooMany) => Ok(out.push_str("too many groups")?),
+        Err(error) => say_taken(out, shower, Err(error)),
+    }
 }
 
 /// The groups by a column, of which the words spell the aggregates behind its name, of such rows.
@@ -125,25 +174,16 @@ pub(crate) fn grouped<S: BlockStore, R: Revisions>(
     };
     let aggregates = aggregates_of(alloc, &flat.schema, words)?;
     let items = items_of(alloc, &flat.schema, aggregates.as_slice())?;
-    let Ok(mut buckets) = Buckets::new(alloc, room.rows()) else {
-        return Err(Stop::Memory);
-    };
-    make_room(store)?;
-    let mut shower = Shower::new(alloc, calls);
-    let answer = group(
+    group_by(
+        alloc,
+        out,
         store,
         vault,
         room,
-        &mut buckets,
         flat,
         pred,
         key,
         items.as_slice(),
-        &mut shower,
-    );
-    match answer {
-        Ok(Grouped::Groups(groups)) => say_taken(out, shower, Ok(groups)),
-        Ok(Grouped::TooMany) => Ok(out.push_str("too many groups")?),
-        Err(error) => say_taken(out, shower, Err(error)),
-    }
+        calls,
+    )
 }

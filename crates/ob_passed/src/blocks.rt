@@ -1,5 +1,7 @@
 //! A block of lines, and what comes of it.
+ghost use Rattle.std.specs.Prelude.{◌≤◌};
 ghost use Rattle.ob_vault.specs.Places.{at};
+ghost use Rattle.ob_blocks.specs.Idle.{IsIdle};
 ghost use Rattle.ob_passed.specs.Tables.{HasTable, IsAtRest};
 
 use crate::accesses::shown;
@@ -143,7 +145,52 @@ fn session<S: BlockStore, R: Revisions>(
     )
 }
 
-// Runs a block over a store of its own.
+// What lines show of a store.
+fn show_all(out: &mut String, store: &KeepingStore, shows: &[String]) -> Result<(), Stop> {
+    for line in shows {
+        write!(out, "\n{line} -> ")?;
+        shown(out, store, line.as_str())?;
+    }
+    Ok(())
+}
+
+// Does what the lines of a block say, and shows what was asked of the store.
+fn serve<R: Revisions>(
+    alloc: Global,
+    out: &mut String,
+    store: &mut KeepingStore,
+    vault: &mut Vault<R>,
+    room: &mut Room,
+    lines: &[String],
+    calls: Calls,
+) -> Result<(), Stop>
+    requires { IsAtRest room.old
+        (at R.state vault.old (⟦<KeepingStore as BlockStore>⟧.state store.old)) }
+{
+    let (lines, shows) = shown_last(lines);
+    if let Err(stop) = session(alloc, out, store, vault, room, lines, calls) {
+        write!(out, "{stop}")?;
+    }
+    show_all(out, store, shows)
+}
+
+// The same over a store of its own.
+fn run_over<R: Revisions>(
+    alloc: Global,
+    out: &mut String,
+    room: &mut Room,
+    lines: &[String],
+    calls: Calls,
+) -> Result<(), Stop>
+    requires idle { IsIdle 1024 room.old }
+    requires pack { (1 ≤ room.old.pack) × (room.old.pack ≤ 16) }
+{
+    let mut store = KeepingStore::new(alloc, MemStore::new(alloc));
+    let mut vault: Vault<R> = Vault::new(alloc, Keys::derive(&[0; 32]));
+    serve(alloc, out, &mut store, &mut vault, room, lines, calls)
+}
+
+// Runs a block.
 fn run<R: Revisions>(alloc: Global, out: &mut String, lines: &[String]) -> Result<(), Stop> {
     let Some((line, lines)) = lines.split_first() else {
         return Err(Stop::Unread);
@@ -155,47 +202,51 @@ fn run<R: Revisions>(alloc: Global, out: &mut String, lines: &[String]) -> Resul
         return Err(Stop::Unread);
     };
     let calls = calls_of(&mut words);
-    let mut store = KeepingStore::new(alloc, MemStore::new(alloc));
-    let mut vault: Vault<R> = Vault::new(alloc, Keys::derive(&[0; 32]));
-    let (lines, shows) = shown_last(lines);
-    if let Err(stop) = session(alloc, out, &mut store, &mut vault, &mut room, lines, calls) {
+    run_over::<R>(alloc, out, &mut room, lines, calls)
+}
+
+// Writes why a block was given up, if it was, and ends its last line.
+fn put_end(out: &mut String, end: Result<(), Stop>) -> Result<(), AllocError> {
+    if let Err(stop) = end {
         write!(out, "{stop}")?;
     }
-    for line in shows {
-        write!(out, "\n{line} -> ")?;
-        shown(out, &store, line.as_str())?;
-    }
-    Ok(())
+    out.push_str("\n")
 }
 
 // What comes of a block, over one kind of revisions.
 fn outcome<R: Revisions>(alloc: Global, lines: &[String]) -> Result<String, AllocError> {
     let mut out = String::new(alloc);
-    if let Err(stop) = run::<R>(alloc, &mut out, lines) {
-        write!(out, "{stop}")?;
+    let result = run::<R>(alloc, &mut out, lines);
+    put_end(&mut out, result)?;
+    Ok(out)
+}
+
+// What comes of a block of rows.
+fn found(alloc: Global, lines: &[String]) -> Result<String, AllocError> {
+    let mut out = String::new(alloc);
+    let result = find_rows(alloc, &mut out, lines);
+    put_end(&mut out, result)?;
+    Ok(out)
+}
+
+// What comes of a block over both kinds of revisions, once where they are the same.
+fn joined_outcomes(alloc: Global, bases: &str, numbers: &str) -> Result<String, AllocError> {
+    let mut out = String::from_str(alloc, bases)?;
+    if bases != numbers {
+        write!(out, "Over a number for each block:\n{numbers}")?;
     }
-    out.push_str("\n")?;
     Ok(out)
 }
 
 /// A block with what comes of each of its lines.
 pub(crate) fn answer(alloc: Global, lines: &[String]) -> Result<String, AllocError> {
-    let mut out = String::new(alloc);
     let Some((line, _)) = lines.split_first() else {
-        return Ok(out);
+        return Ok(String::new(alloc));
     };
     if head(line.as_str()) == "rows" {
-        if let Err(stop) = find_rows(alloc, &mut out, lines) {
-            write!(out, "{stop}")?;
-        }
-        out.push_str("\n")?;
-        return Ok(out);
+        return found(alloc, lines);
     }
     let bases = outcome::<BaseRevs>(alloc, lines)?;
     let numbers = outcome::<VecRevs>(alloc, lines)?;
-    out.push_str(bases.as_str())?;
-    if bases.as_str() != numbers.as_str() {
-        write!(out, "Over a number for each block:\n{numbers}")?;
-    }
-    Ok(out)
+    joined_outcomes(alloc, bases.as_str(), numbers.as_str())
 }

@@ -39,13 +39,8 @@ pub(crate) fn columns_of(alloc: Global, schema: &Schema, words: Words<'_>) -> Re
     }
 }
 
-// The aggregate that a word spells.
-fn aggregate_of(schema: &Schema, word: &str) -> Option<Agg> {
-    let (name, column) = word.strip_suffix(')')?.split_once('(')?;
-    if column == "*" {
-        return Some(Agg::CountAll);
-    }
-    let place = place_of(schema, column)?;
+// The aggregate of this name over a column.
+fn aggregate_over(name: &str, place: u8) -> Option<Agg> {
     match name {
         "COUNT" => Some(Agg::Count(place)),
         "SUM" => Some(Agg::Sum(place)),
@@ -53,6 +48,15 @@ fn aggregate_of(schema: &Schema, word: &str) -> Option<Agg> {
         "MAX" => Some(Agg::Max(place)),
         _ => None,
     }
+}
+
+// The aggregate that a word spells.
+fn aggregate_of(schema: &Schema, word: &str) -> Option<Agg> {
+    let (name, column) = word.strip_suffix(')')?.split_once('(')?;
+    if column == "*" {
+        return Some(Agg::CountAll);
+    }
+    aggregate_over(name, place_of(schema, column)?)
 }
 
 // Whether it is one over a column.

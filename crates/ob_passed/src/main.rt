@@ -43,19 +43,25 @@ mod words;
 
 use crate::blocks::answer;
 use std::alloc::AllocError;
-use std::io;
+use std::io::{self, Print};
+
+// Prints what comes of a block.
+fn print_block<H: Print + AllocGlobal>(host: &H, block: &[String]) -> io::Result<()> {
+    let answer = answer(host.alloc(), block)?;
+    print!(host; "{answer}")
+}
 
 fn main(rt: HostRuntime) -> io::Result<()> {
     let mut block = Vec::new(rt.alloc());
     for line in rt.lines(rt.alloc()) {
         let line = line?;
         if line.is_empty() || line.starts_with('#') {
-            print!(rt; "{}", answer(rt.alloc(), &block)?)?;
+            print_block(&rt, &block)?;
             println!(rt; "{line}")?;
             block.clear();
         } else if block.push(line).is_err() {
             return Err(AllocError.into());
         }
     }
-    print!(rt; "{}", answer(rt.alloc(), &block)?)
+    print_block(&rt, &block)
 }

@@ -79,6 +79,40 @@ fn found(alloc: Global, rows: &[ClearRow], line: &str) -> Result<Option<u32>, St
     Ok(order.find(rows, 1, &field))
 }
 
+// Writes behind each line the place of the row that it finds.
+fn find_all(
+    alloc: Global,
+    out: &mut String,
+    rows: &[ClearRow],
+    lines: &[String],
+) -> Result<(), Stop>
+    requires { length rows.now ≤ 16 }
+{
+    for line in lines {
+        write!(out, "\n{line} -> ")?;
+        match found(alloc, rows, line.as_str())? {
+            Some(place) => write!(out, "{place}")?,
+            None => out.push_str("none")?,
+        }
+    }
+    Ok(())
+}
+
+// The same, of these rows.
+fn find_given(
+    alloc: Global,
+    out: &mut String,
+    given: &[Marked],
+    lines: &[String],
+) -> Result<(), Stop> {
+    let Ok(mut room) = Room::new(alloc, 16, 3, 1) else {
+        return Err(Stop::Memory);
+    };
+    let rows = room.open(given.len().min(16) as u32);
+    spell_all(rows, given);
+    find_all(alloc, out, rows, lines)
+}
+
 /// Writes behind each line but the first, which spells the rows, the place of the row that it finds.
 pub(crate) fn find_rows(alloc: Global, out: &mut String, lines: &[String]) -> Result<(), Stop> {
     let Some((line, lines)) = lines.split_first() else {
@@ -88,17 +122,5 @@ pub(crate) fn find_rows(alloc: Global, out: &mut String, lines: &[String]) -> Re
     let mut words = line.split_ascii_whitespace();
     let _head = words.next();
     let given = rows_of(alloc, words)?;
-    let Ok(mut room) = Room::new(alloc, 16, 3, 1) else {
-        return Err(Stop::Memory);
-    };
-    let rows = room.open(given.len().min(16) as u32);
-    spell_all(rows, given.as_slice());
-    for line in lines {
-        write!(out, "\n{line} -> ")?;
-        match found(alloc, rows, line.as_str())? {
-            Some(place) => write!(out, "{place}")?,
-            None => out.push_str("none")?,
-        }
-    }
-    Ok(())
+    find_given(alloc, out, given.as_slice(), lines)
 }

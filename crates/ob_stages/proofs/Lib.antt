@@ -1,3 +1,4 @@
+pub mod FaultLemmas
 pub mod TotalsLemmas
 pub mod ReadingStarts
 pub mod ReadingSteps
@@ -18,7 +19,10 @@ pub mod RowsShown
 pub mod RowsLoud
 pub mod RowsQuiet
 pub mod RowsAsks
+pub mod RowsRoom
 pub mod RowsEmits
 pub mod RowsFinish
+pub mod RefusedEnds
 pub mod RowsKnown
+pub mod RowsLeft
 pub mod RowsBoards

@@ -1,6 +1,5 @@
 -- A read of a SELECT of totals in flight: what it asked, and how it stands behind it.
 use Rattle.std.proofs.Common.{◌≡◌, ◌⊎◌, inl, inr, ◌<◌, ◌≤◌, ◌+◌, ◌++◌, ◌==◌, ℕ, Bool, true, false, List, [], Option, Some, None, Ok, Err, refl, sym, ◌∙◌, ap, subst, arith}
-use Rattle.std.specs.Prelude.{Result}
 use Rattle.std.proofs.lemmas.Bool.{eqb-false}
 use Rattle.std.proofs.lemmas.List.{append-nil}
 use Rattle.std.proofs.Math.Arith.{lt_of_le-ne}
@@ -16,7 +15,7 @@ use Rattle.ob_vault.specs.Calls.{Lasts, Went, none}
 use Rattle.ob_vault.specs.Words.{SealsAll}
 use Rattle.ob_vault.proofs.Runs.{went_wider}
 use Rattle.ob_flat.specs.declared.fault.OpErr.{OpErr}
-use Rattle.ob_flat.specs.declared.fault.OpErr.TheVariants.{Failed, Tampered, Sink, NoMemory}
+use Rattle.ob_flat.specs.declared.fault.OpErr.TheVariants.{Failed}
 use Rattle.ob_flat.specs.Flats.{Represents}
 use Rattle.ob_flat.specs.declared.flat.Flat.{Flat}
 use Rattle.ob_flat.specs.Passes.{PassCut, SinkCause}
@@ -30,7 +29,7 @@ use Rattle.ob_inflight.specs.Answers.{Tells}
 use Rattle.ob_inflight.specs.Leaving.{own_or_next}
 use Rattle.ob_inflight.specs.Progress.{Steps, StopsStep, WentOrFailed, act_of}
 use Rattle.ob_stages.specs.declared.reading.Reading.{Reading}
-use Rattle.ob_stages.specs.Reading.{Answered, EndsLater, FitsTable, HaltsTotals, IsBoarded, IsReading, MayRead, NeedsTable, is_fault, is_over, places_of, reading_progress, reads_left}
+use Rattle.ob_stages.specs.Reading.{Answered, EndsLater, FitsTable, HaltsTotals, IsBoarded, IsReading, MayRead, NeedsTable, is_over, places_of, reading_progress, reads_left}
 use Rattle.ob_stages.specs.ReadingLaws.{next_read, reading_next}
 use Rattle.ob_stages.specs.Totalling.{labels_at, totalled_answer}
 use Rattle.ob_stages.proofs.TotalsLemmas.{leads_none, partly_none}
@@ -240,16 +239,3 @@ sink_read T e k off never = elim never [
   | inl failed ↦ absurd (off failed)
   | inr there ↦ subst (λ (x : OpErr). SinkCause {T = T} (Err x) k k) (sym there.is) refl
 ]
-
--- ---- the errors
-pub fault_is : (e : OpErr) → is_fault e ≡ true → e ≡ Failed
-fault_is Failed is = refl
-fault_is (Tampered region place) is = absurd (cc is)
-fault_is Sink is = absurd (cc is)
-fault_is NoMemory is = absurd (cc is)
-
-pub not_fault : (e : OpErr) → is_fault e ≡ false → e ≡ Failed → ⊥
-not_fault e off is = cc (off, ap is_fault is)
-
-pub failed_by : {T : Type 0} (result : Result T OpErr) (e : OpErr) → result ≡ Err e → is_fault e ≡ true → result ≡ Err Failed
-failed_by result e is fault = is ∙ ap Err (fault_is e fault)

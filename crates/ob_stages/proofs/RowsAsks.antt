@@ -1,12 +1,11 @@
 -- What each step of a SELECT of rows in flight asks of what it calls.
-use Rattle.std.proofs.Common.{◌≡◌, ◌⊎◌, ◌<◌, ◌≤◌, ◌+◌, ◌-◌, ◌*◌, ◌^◌, ◌∷◌, Fits, w32, ℕ, Bool, true, false, List, [], refl, sym, ◌∙◌, ap, subst, arith}
-use Rattle.std.specs.Prelude.{Option, Some, None, Result, length, take, drop}
-use Rattle.std.proofs.lemmas.Grind.{div_ceil_times}
+use Rattle.std.proofs.Common.{◌≡◌, ◌<◌, ◌≤◌, ◌+◌, ◌-◌, ◌*◌, ◌^◌, ◌∷◌, Fits, w32, ℕ, Bool, true, false, List, [], refl, sym, subst, arith}
+use Rattle.std.specs.Prelude.{Some, None, Result, length, take, drop}
 use Rattle.ob_base.specs.Events.{Event}
 use Rattle.ob_base.specs.Limits.{buffered_blocks}
 use Rattle.ob_flat.specs.declared.fault.OpErr.{OpErr}
 use Rattle.ob_flat.specs.declared.flat.Flat.{Flat}
-use Rattle.ob_flat.specs.Flats.{FitsRegion, IsSized}
+use Rattle.ob_flat.specs.Flats.{FitsRegion}
 use Rattle.ob_flat.specs.Scans.{MayScan}
 use Rattle.ob_flat.specs.Words.{HasSpare, blocks_of}
 use Rattle.ob_flat.proofs.Tables.{fits_sized}
@@ -27,9 +26,9 @@ use Rattle.ob_vault.specs.Words.{MayAsk}
 use Rattle.ob_vault.proofs.Runs.{went_spent}
 use Rattle.ob_vault.proofs.WordLemmas.{ready_rests, went_rests}
 use Rattle.ob_stages.specs.declared.rows.Stage.{Stage}
-use Rattle.ob_stages.specs.declared.rows.Stage.TheVariants.{Count, Make, Read, Write, Emit, Discard}
+use Rattle.ob_stages.specs.declared.rows.Stage.TheVariants.{Count, Make, Read, Write, Emit}
 use Rattle.ob_stages.specs.RowsActs.{kept_some}
-use Rattle.ob_stages.specs.RowsStates.{RowsAt, HasCounted, HasRegion, IsPlaced, PlacedAt, emits_before, is_over, kept_blocks, part_blocks, passes_pad, reads_before, result_in, rows_skeleton, small, table_blocks, taken, whole_length, writes_before}
+use Rattle.ob_stages.specs.RowsStates.{RowsAt, HasCounted, HasRegion, PlacedAt, emits_before, kept_blocks, part_blocks, passes_pad, reads_before, result_in, rows_skeleton, small, table_blocks, taken, whole_length, writes_before}
 use Rattle.ob_stages.specs.RowsHolds.{Collected, FitRows, FitsBlock, FitsShare, HasFilled, HasRead, HasShown, Holds, HoldsAt, IsCountOf, all_selected}
 use Rattle.ob_stages.specs.RowsSteps.{HasPart, IsHeldIn, ShowsBlock, StepsAt}
 use Rattle.ob_stages.proofs.RowsGoing.{few_at, results_most}
@@ -204,9 +203,9 @@ fits_still g h rows kept public flat is =
 pub fits_as : (n m : ℕ) → n ≡ m → m ≤ 268435456 → Fits w32 n
 fits_as n m same few = omega (arith, same, few)
 
-pub collects_none : (g : RowsAt) (u : ℕ) (rows after : List (List ℕ)) (result as : Result ℕ OpErr) (old new : World) → FitsBlock g.q rows → SameSizes [] after → result ≡ as
-    → CollectsBlock (length rows) g.q.flat (is_true g.q.condition) u g.k 0 0 [] after result old new → CollectsBlock g.q.public.pack g.q.flat (is_true g.q.condition) u g.k 0 0 [] [] as old new
-collects_none g u rows after result as old new fit same is block =
+pub collects_none : (g : RowsAt) (u : ℕ) (rows after : List (List ℕ)) (result found : Result ℕ OpErr) (old new : World) → FitsBlock g.q rows → SameSizes [] after → result ≡ found
+    → CollectsBlock (length rows) g.q.flat (is_true g.q.condition) u g.k 0 0 [] after result old new → CollectsBlock g.q.public.pack g.q.flat (is_true g.q.condition) u g.k 0 0 [] [] found old new
+collects_none g u rows after result found old new fit same is block =
     subst (λ (r : Result ℕ OpErr). CollectsBlock g.q.public.pack g.q.flat (is_true g.q.condition) u g.k 0 0 [] [] r old new) is
     (subst (λ (l : List (List ℕ)). CollectsBlock g.q.public.pack g.q.flat (is_true g.q.condition) u g.k 0 0 [] l result old new) (none_left after same.count)
     (subst (λ (n : ℕ). CollectsBlock n g.q.flat (is_true g.q.condition) u g.k 0 0 [] after result old new) fit.count block))
@@ -215,27 +214,27 @@ collects_none g u rows after result as old new fit same is block =
     none_left [] none = refl
     none_left (x ∷ l) none = absurd (omega (arith, none))
 
-pub collects_as : (g : RowsAt) (pass u seen from k : ℕ) (rows kept after : List (List ℕ)) (result as : Result ℕ OpErr) (old new : World) → FitsBlock g.q rows → from ≡ (pass * kept_blocks g.q) * g.q.public.pack → k ≡ taken g.q g.k → result ≡ as
+pub collects_as : (g : RowsAt) (pass u seen from k : ℕ) (rows kept after : List (List ℕ)) (result found : Result ℕ OpErr) (old new : World) → FitsBlock g.q rows → from ≡ (pass * kept_blocks g.q) * g.q.public.pack → k ≡ taken g.q g.k → result ≡ found
     → CollectsBlock (length rows) g.q.flat (is_true g.q.condition) u seen from k kept after result old new
-    → CollectsBlock g.q.public.pack g.q.flat (is_true g.q.condition) u seen ((pass * kept_blocks g.q) * g.q.public.pack) (taken g.q g.k) kept after as old new
-collects_as g pass u seen from k rows kept after result as old new fit from_is k_is is block =
+    → CollectsBlock g.q.public.pack g.q.flat (is_true g.q.condition) u seen ((pass * kept_blocks g.q) * g.q.public.pack) (taken g.q g.k) kept after found old new
+collects_as g pass u seen from k rows kept after result found old new fit from_is k_is is block =
     subst (λ (r : Result ℕ OpErr). CollectsBlock g.q.public.pack g.q.flat (is_true g.q.condition) u seen ((pass * kept_blocks g.q) * g.q.public.pack) (taken g.q g.k) kept after r old new) is
     (subst (λ (m : ℕ). CollectsBlock g.q.public.pack g.q.flat (is_true g.q.condition) u seen ((pass * kept_blocks g.q) * g.q.public.pack) m kept after result old new) k_is
     (subst (λ (m : ℕ). CollectsBlock g.q.public.pack g.q.flat (is_true g.q.condition) u seen m k kept after result old new) from_is
     (subst (λ (n : ℕ). CollectsBlock n g.q.flat (is_true g.q.condition) u seen from k kept after result old new) fit.count block)))
 
-pub writes_as : (g : RowsAt) (pack place x there own : ℕ) (to : Flat) (kept : List (List ℕ)) (result as : Result (Unit {0}) OpErr) (old new : World) → pack ≡ g.q.public.pack → to ≡ result_in g.q g.k own → there ≡ place → result ≡ as
+pub writes_as : (g : RowsAt) (pack place x there own : ℕ) (to : Flat) (kept : List (List ℕ)) (result found : Result (Unit {0}) OpErr) (old new : World) → pack ≡ g.q.public.pack → to ≡ result_in g.q g.k own → there ≡ place → result ≡ found
     → WritesBlock pack to there (take pack (drop (x * pack) kept)) result old new
-    → WritesBlock g.q.public.pack (result_in g.q g.k own) place (take g.q.public.pack (drop (x * g.q.public.pack) kept)) as old new
-writes_as g pack place x there own to kept result as old new pack_is to_is there_is is block =
+    → WritesBlock g.q.public.pack (result_in g.q g.k own) place (take g.q.public.pack (drop (x * g.q.public.pack) kept)) found old new
+writes_as g pack place x there own to kept result found old new pack_is to_is there_is is block =
     subst (λ (r : Result (Unit {0}) OpErr). WritesBlock g.q.public.pack (result_in g.q g.k own) place (take g.q.public.pack (drop (x * g.q.public.pack) kept)) r old new) is
     (subst (λ (m : ℕ). WritesBlock g.q.public.pack (result_in g.q g.k own) m (take g.q.public.pack (drop (x * g.q.public.pack) kept)) result old new) there_is
     (subst (λ (f : Flat). WritesBlock g.q.public.pack f there (take g.q.public.pack (drop (x * g.q.public.pack) kept)) result old new) to_is
     (subst (λ (n : ℕ). WritesBlock n to there (take n (drop (x * n) kept)) result old new) pack_is block)))
 
-pub shows_as : {E : Type 0} (grew cut : E → E → List Event → Type 0) (faults : E → ℕ) (g : RowsAt) (x own : ℕ) (fresh : Flat) (rows : List (List ℕ)) (result as : Result ℕ OpErr) (old new : World) (out_old out_new : E) → FitsBlock g.q rows
-    → fresh ≡ result_in g.q g.k own → result ≡ as → ShowsBlock grew cut faults (length rows) g fresh x result old new out_old out_new → ShowsBlock grew cut faults g.q.public.pack g (result_in g.q g.k own) x as old new out_old out_new
-shows_as grew cut faults g x own fresh rows result as old new out_old out_new fit fresh_is is block =
+pub shows_as : {E : Type 0} (grew cut : E → E → List Event → Type 0) (faults : E → ℕ) (g : RowsAt) (x own : ℕ) (fresh : Flat) (rows : List (List ℕ)) (result found : Result ℕ OpErr) (old new : World) (out_old out_new : E) → FitsBlock g.q rows
+    → fresh ≡ result_in g.q g.k own → result ≡ found → ShowsBlock grew cut faults (length rows) g fresh x result old new out_old out_new → ShowsBlock grew cut faults g.q.public.pack g (result_in g.q g.k own) x found old new out_old out_new
+shows_as grew cut faults g x own fresh rows result found old new out_old out_new fit fresh_is is block =
     subst (λ (r : Result ℕ OpErr). ShowsBlock grew cut faults g.q.public.pack g (result_in g.q g.k own) x r old new out_old out_new) is
     (subst (λ (f : Flat). ShowsBlock grew cut faults g.q.public.pack g f x result old new out_old out_new) fresh_is
     (subst (λ (n : ℕ). ShowsBlock grew cut faults n g fresh x result old new out_old out_new) fit.count block))

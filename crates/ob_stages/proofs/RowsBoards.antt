@@ -1,12 +1,9 @@
 -- A SELECT of rows in flight of which nothing was asked yet.
-use Rattle.std.proofs.Common.{◌≡◌, ◌<◌, ◌≤◌, ℕ, List, [], refl, arith}
-use Rattle.ob_flat.specs.Scans.{MayScan}
+use Rattle.std.proofs.Common.{◌<◌, ◌≤◌, ℕ, [], refl, arith}
 use Rattle.ob_row.specs.Truth.{is_true}
 use Rattle.ob_select.specs.Selecting.{Selection}
 use Rattle.ob_small.proofs.Steps.{collected_none}
 use Rattle.ob_sql.specs.declared.stmt.SelectRows.{SelectRows}
-use Rattle.ob_vault.specs.State.{World}
-use Rattle.ob_vault.specs.Tied.{Ready}
 use Rattle.ob_stages.specs.RowsStates.{IsFlown, IsOf, IsPlaced, boarded_rows, rows_skeleton}
 use Rattle.ob_stages.specs.RowsHolds.{BoardsRows, Holds}
 use Rattle.ob_stages.proofs.RowsPlaces.{table_some}

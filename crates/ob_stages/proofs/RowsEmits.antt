@@ -1,19 +1,18 @@
 -- Each step of a SELECT of rows in flight that reads its result back.
-use Rattle.std.proofs.Common.{◌≡◌, ◌⊎◌, inl, inr, ◌<◌, ◌≤◌, ◌+◌, ◌-◌, ◌*◌, ◌∷◌, ◌++◌, ◌==◌, ℕ, zero, suc, Bool, true, false, IsTrue, List, [], refl, sym, ◌∙◌, ap, subst, arith}
-use Rattle.std.specs.Prelude.{Option, Some, None, Result, Ok, Err, OnOk, if◌then◌else◌, length, nat_lt}
+use Rattle.std.proofs.Common.{◌≡◌, ◌⊎◌, inl, inr, ◌<◌, ◌≤◌, ◌+◌, ◌-◌, ◌∷◌, ◌++◌, ◌==◌, ℕ, Bool, true, false, IsTrue, List, [], refl, sym, ◌∙◌, ap, subst}
+use Rattle.std.specs.Prelude.{Some, Result, Ok, Err, OnOk, if◌then◌else◌, nat_lt}
 use Rattle.std.proofs.lemmas.List.{append-nil}
 use Rattle.ob_base.specs.declared.access.Access.{Access}
 use Rattle.ob_base.specs.declared.access.Access.TheVariants as Accesses
 use Rattle.ob_base.specs.declared.emit.EmitErr.{EmitErr}
 use Rattle.ob_base.specs.declared.emit.EmitErr.TheVariants as EmitErrs
-use Rattle.ob_base.specs.Events.{EmitCause, Event, Leads, row_events}
+use Rattle.ob_base.specs.Events.{EmitCause, Event, row_events}
 use Rattle.ob_flat.specs.declared.fault.OpErr.{OpErr}
 use Rattle.ob_flat.specs.declared.fault.OpErr.TheVariants.{Failed, Tampered, Sink, NoMemory}
 use Rattle.ob_flat.specs.declared.flat.Flat.{Flat}
 use Rattle.ob_flat.specs.Emission.{Takes}
 use Rattle.ob_flat.specs.Passes.{PassCause, PassCut, SinkCause, is_of_access}
-use Rattle.ob_inflight.specs.Answers.{EndsBy, More, Part, Tells}
-use Rattle.ob_inflight.specs.Leaving.{own_or_next}
+use Rattle.ob_inflight.specs.Answers.{Tells}
 use Rattle.ob_inflight.specs.Progress.{SealsBlocks, Steps, StopsStep, act_of}
 use Rattle.ob_script.specs.Trace.{Served}
 use Rattle.ob_small.specs.Selection as Smalls
@@ -24,9 +23,9 @@ use Rattle.ob_vault.proofs.Runs.{seals_none, went_none}
 use Rattle.ob_stages.specs.declared.rows.Stage.{Stage}
 use Rattle.ob_stages.specs.declared.rows.Stage.TheVariants.{Count, Emit, Discard}
 use Rattle.ob_stages.specs.RowsActs.{act_emit}
-use Rattle.ob_stages.specs.RowsStates.{RowsAt, HasRegion, IsPlaced, MaySee, MayServe, MayTake, PlacedAt, after_emit, emits_before, is_over, is_printing, passes_pad, progress_of, result_in, small}
+use Rattle.ob_stages.specs.RowsStates.{RowsAt, HasRegion, IsPlaced, MaySee, MayServe, MayTake, PlacedAt, after_emit, emits_before, is_printing, passes_pad, progress_of, result_in, small}
 use Rattle.ob_stages.specs.RowsHolds.{FitRows, Halts, HasBegun, Holds, NeedsAt, left_of}
-use Rattle.ob_stages.specs.RowsSteps.{ForgetsOwn, IsHeldIn, LoudStep, QuietStep, ShowsBehind, ShowsBlock, ShowsBy, StepsAt, StopsHead, WalksInstead, gone_wrong}
+use Rattle.ob_stages.specs.RowsSteps.{ForgetsOwn, IsHeldIn, LoudStep, QuietStep, ShowsBlock, ShowsBy, StepsAt, gone_wrong}
 use Rattle.ob_stages.proofs.RowsAsks.{fits_still}
 use Rattle.ob_stages.proofs.RowsEnds.{holds_failed, refused_counted}
 use Rattle.ob_stages.proofs.RowsGoing.{HasFailed, steps_failed, steps_kept, stepped, stops_step}

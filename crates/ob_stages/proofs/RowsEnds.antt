@@ -1,51 +1,48 @@
 -- A SELECT of rows in flight that the store failed, that gave up, or that has asked all.
-use Rattle.std.proofs.Common.{◌≡◌, ◌⊎◌, inl, inr, ◌<◌, ◌≤◌, ◌+◌, ◌-◌, ◌*◌, ◌^◌, ◌∷◌, ◌++◌, ℕ, zero, suc, Bool, true, false, not, IsTrue, List, [], refl, sym, ◌∙◌, ap, subst, arith, length-append}
-use Rattle.std.specs.Prelude.{Option, Some, None, Ok, Err, IfErr, length, nat_lt}
+use Rattle.std.proofs.Common.{◌≡◌, ◌⊎◌, inl, inr, ◌<◌, ◌≤◌, ◌+◌, ◌-◌, ◌∷◌, ◌++◌, ℕ, zero, suc, Bool, true, false, not, List, [], refl, sym, ◌∙◌, ap, subst, arith, length-append}
+use Rattle.std.specs.Prelude.{Option, Some, None, length, nat_lt}
 use Rattle.std.proofs.lemmas.Bool.Decides.{nat_tests}
 use Rattle.std.proofs.lemmas.List.{append-nil}
 use Rattle.ob_base.specs.declared.access.Access.{Access}
 use Rattle.ob_base.specs.declared.access.Access.TheVariants as Accesses
-use Rattle.ob_base.specs.declared.seen.End.TheVariants.{Whole, Cut}
+use Rattle.ob_base.specs.declared.seen.End.TheVariants.{Cut}
 use Rattle.ob_base.specs.declared.seen.Seen.{Seen}
 use Rattle.ob_base.specs.declared.shown.Shown.{Shown}
 use Rattle.ob_base.specs.Accesses.{makes}
-use Rattle.ob_base.specs.Events.{Event, row_events}
+use Rattle.ob_base.specs.Events.{Event}
 use Rattle.ob_base.proofs.AccessLemmas.{makes-append}
-use Rattle.ob_emit.specs.Emitting.{table_shown}
 use Rattle.ob_emit.proofs.BlocksEmitted.{emitted_whole}
 use Rattle.ob_flat.specs.declared.fault.OpErr.{OpErr}
-use Rattle.ob_flat.specs.declared.fault.OpErr.TheVariants.{Failed, Tampered, Sink, NoMemory}
+use Rattle.ob_flat.specs.declared.fault.OpErr.TheVariants.{Failed, Sink, NoMemory}
 use Rattle.ob_flat.specs.declared.flat.Flat.{Flat}
 use Rattle.ob_flat.specs.Flats.{Represents}
 use Rattle.ob_flat.specs.Passes.{PassCut}
-use Rattle.ob_flat.specs.Scans.{MayScan}
 use Rattle.ob_flat.specs.Words.{TamperedAt}
 use Rattle.ob_flat.proofs.Scanning.{may_scan_lasts}
 use Rattle.ob_flat.proofs.Tables.{represents_before}
 use Rattle.ob_inflight.specs.Leaving.{own_or_next}
 use Rattle.ob_mean.specs.Prints.{Begun}
-use Rattle.ob_mean.specs.Verdict.{ended as seen_to}
 use Rattle.ob_row.specs.Slots.{Slots}
 use Rattle.ob_script.specs.Script.{whole_script}
-use Rattle.ob_select.specs.Selecting.{Selection, HoldsSeen, answer_events, places, selection_seen, shown_rows}
+use Rattle.ob_select.specs.Selecting.{answer_events, places, shown_rows}
 use Rattle.ob_small.specs.Selection as Smalls
 use Rattle.ob_store.specs.State.{StoreState}
-use Rattle.ob_vault.specs.Calls.{Lasts, Went, none, one}
+use Rattle.ob_vault.specs.Calls.{Lasts, one}
 use Rattle.ob_vault.specs.State.{Start, World}
-use Rattle.ob_vault.specs.Tied.{IsUnfit, Ready}
+use Rattle.ob_vault.specs.Tied.{Ready}
 use Rattle.ob_vault.specs.Words.{IsHonest}
 use Rattle.ob_stages.specs.declared.rows.Stage.{Stage}
 use Rattle.ob_stages.specs.declared.rows.Stage.TheVariants.{Count, Make, Read, Write, Emit, Discard, Over}
 use Rattle.ob_stages.specs.RowsActs.{takes_seen}
-use Rattle.ob_stages.specs.RowsStates.{RowsAt, HasCounted, HasRegion, IsPlaced, PlacedAt, emits_before, is_over, is_passed, is_printing, passes_pad, result_in, rows_skeleton, seen_taking, small, table_blocks, taken, taken_by, whole_length}
-use Rattle.ob_stages.specs.RowsHolds.{EndedAt, Halts, HasBegun, HasShown, Holds, HoldsAt, IsCountOf, IsCutOff, IsGone, IsOnWay, IsToEnd, LacksAt, MayBeCut, NeedsAt, all_selected, events_if, head_of, is_headless, is_shown, left_of, meant_events, meant_outcome, own_at, outcome_of, seen_ended}
+use Rattle.ob_stages.specs.RowsStates.{RowsAt, HasRegion, PlacedAt, emits_before, is_over, is_passed, passes_pad, result_in, rows_skeleton, seen_taking, small, table_blocks, taken_by}
+use Rattle.ob_stages.specs.RowsHolds.{Halts, HasBegun, HasShown, Holds, HoldsAt, IsCountOf, IsCutOff, IsToEnd, LacksAt, MayBeCut, all_selected, events_if, is_headless, is_shown, left_of, meant_events, outcome_of, seen_ended}
 use Rattle.ob_stages.specs.RowsLaws.{honest_back, own_below, served_second, to_end_lasts}
-use Rattle.ob_stages.specs.RowsSteps.{gone_to, gone_wrong}
-use Rattle.ob_stages.proofs.RowsGoing.{HasFailed, IsBehind, asked_few, behind_at, failed_at, failed_cut, forgot_gone, own_all, stepped, takes_same}
+use Rattle.ob_stages.specs.RowsSteps.{gone_wrong}
+use Rattle.ob_stages.proofs.RowsGoing.{HasFailed, IsBehind, behind_at, failed_at, failed_cut, forgot_gone, own_all, stepped, takes_same}
 use Rattle.ob_stages.proofs.RowsMeans.{events_meant, outcome_meant, result_shown, seen_meant, shown_count}
 use Rattle.ob_stages.proofs.RowsPlaces.{all_asked, booked_at, cut_asked, placed_next, results_some, within_count, within_takes}
 use Rattle.ob_stages.proofs.RowsStands.{ended_cut, ended_to, table_apart}
-use Rattle.ob_stages.proofs.RowsWay.{KnowsWay, begun_more, count_is, held_failed, result_held, rows_begun, shape_of, way_of}
+use Rattle.ob_stages.proofs.RowsWay.{KnowsWay, begun_more, count_is, held_failed, result_held, way_of}
 
 -- ---- its regions
 -- that of its table is none that an act may change

@@ -1,35 +1,31 @@
 -- The end of a SELECT of rows in flight.
-use Rattle.std.proofs.Common.{◌≡◌, ◌⊎◌, inl, inr, ◌<◌, ◌≤◌, ◌^◌, ◌∷◌, ◌++◌, ℕ, zero, suc, Bool, true, false, not, List, [], refl, sym, ◌∙◌, ap, subst, arith, append_assoc}
-use Rattle.std.specs.Prelude.{Option, Some, None, IsSome, Result, Ok, Err, length, nat_lt}
+use Rattle.std.proofs.Common.{◌≡◌, ◌⊎◌, inl, inr, ◌≤◌, ◌∷◌, ◌++◌, ℕ, zero, suc, Bool, true, false, not, List, [], refl, sym, ◌∙◌, ap, subst, arith, append_assoc}
+use Rattle.std.specs.Prelude.{Option, Some, None, IsSome, Ok, Err}
 use Rattle.std.proofs.lemmas.List.{append-nil}
 use Rattle.ob_base.specs.declared.config.Plan.TheVariants.{Small}
 use Rattle.ob_base.specs.declared.emit.EmitErr.{EmitErr}
 use Rattle.ob_base.specs.declared.emit.EmitErr.TheVariants as EmitErrs
-use Rattle.ob_base.specs.declared.refusal.Refusal.TheVariants.{PadPassed, StoreFault}
+use Rattle.ob_base.specs.declared.refusal.Refusal.TheVariants.{PadPassed}
 use Rattle.ob_base.specs.declared.seen.End.TheVariants.{Whole}
-use Rattle.ob_base.specs.declared.seen.Seen.{Seen}
-use Rattle.ob_base.specs.declared.shown.Shown.{Shown}
-use Rattle.ob_base.specs.Events.{Event, Close, EmitCause, Leads, row_events}
-use Rattle.ob_flat.specs.declared.fault.OpErr.{OpErr}
+use Rattle.ob_base.specs.Events.{Event, Close, EmitCause, Leads}
 use Rattle.ob_flat.specs.declared.fault.OpErr.TheVariants.{Sink, NoMemory}
 use Rattle.ob_flat.specs.Emission.{Takes}
 use Rattle.ob_flat.specs.Flats.{Represents}
-use Rattle.ob_inflight.specs.Answers.{Finishes, HasFewRows, More, Part, error_of}
+use Rattle.ob_inflight.specs.Answers.{Finishes, HasFewRows, error_of}
 use Rattle.ob_mean.specs.Prints.{Begun}
-use Rattle.ob_mean.specs.Verdict.{counted, ended as seen_to}
+use Rattle.ob_mean.specs.Verdict.{ended as seen_to}
 use Rattle.ob_row.specs.Slots.{Slots}
-use Rattle.ob_select.specs.Selecting.{Selection, HoldsSeen, answer_events, selection_seen}
+use Rattle.ob_select.specs.Selecting.{Selection, HoldsSeen, selection_seen}
 use Rattle.ob_select.proofs.SelectHeld.{counted_held, nothing_held}
 use Rattle.ob_vault.specs.State.{World}
-use Rattle.ob_vault.specs.Tied.{IsUnfit}
 use Rattle.ob_vault.specs.Words.{IsHonest}
 use Rattle.ob_verdict.specs.declared.outcome.Outcome.{Outcome}
 use Rattle.ob_verdict.specs.declared.outcome.Outcome.TheVariants.{Rows, Refused}
 use Rattle.ob_stages.specs.declared.rows.Stage.{Stage}
 use Rattle.ob_stages.specs.declared.rows.Stage.TheVariants.{Count, Make, Read, Write, Emit, Discard, Over}
-use Rattle.ob_stages.specs.RowsStates.{RowsAt, HasAsked, IsPlaced, PlacedAt, is_over, is_passed, is_printing, passes_pad, table_blocks}
-use Rattle.ob_stages.specs.RowsHolds.{AnswersRows, AnswersSo, AsMeant, EndedAt, Halts, Holds, HoldsAt, IsCutOff, IsGone, IsOnWay, IsToEnd, RefusesRows, closing_of, events_if, head_of, is_headless, left_of, meant_events, meant_outcome, outcome_of, seen_ended}
-use Rattle.ob_stages.specs.RowsSteps.{Answers, SaysPart, said, said_of, to_say, to_say_of}
+use Rattle.ob_stages.specs.RowsStates.{RowsAt, HasAsked, PlacedAt, is_over, is_passed, is_printing, passes_pad, table_blocks}
+use Rattle.ob_stages.specs.RowsHolds.{AnswersRows, EndedAt, Halts, Holds, HoldsAt, IsCutOff, IsGone, IsToEnd, closing_of, events_if, is_headless, left_of, meant_events, meant_outcome, outcome_of, seen_ended}
+use Rattle.ob_stages.specs.RowsSteps.{Answers, said, said_of, to_say, to_say_of}
 use Rattle.ob_stages.proofs.RowsShown.{leads_both}
 
 pub over_is : (stage : Stage) → is_over stage ≡ true → stage ≡ Over
@@ -193,7 +189,7 @@ module _ (g : RowsAt) (kept : List (List ℕ)) (over : is_over g.stage ≡ true)
             };
         honest = λ slots held honest. either e;
         counted = λ by. counted_all;
-        memory = λ memory. record { place = inr (inr (ap is_printing stage_is)) };
+        memory = λ memory. record { place = inr (inr (ap is_printing stage_is, unfailed)) };
       }
         where
           either : (e : EmitErr) → (error_of e ≡ Sink) ⊎ (error_of e ≡ NoMemory)

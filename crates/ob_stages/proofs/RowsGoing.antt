@@ -1,7 +1,6 @@
 -- A step of a SELECT of rows in flight: what it asks, and what may turn out to be served behind it.
-use Rattle.std.proofs.Common.{◌≡◌, ◌⊎◌, inl, inr, ◌<◌, ◌≤◌, ◌+◌, ◌-◌, ◌*◌, ◌^◌, ◌∷◌, ◌++◌, ℕ, zero, suc, Bool, true, false, IsTrue, List, [], refl, sym, ◌∙◌, ap, subst, arith}
-use Rattle.std.specs.Prelude.{Option, Some, None, length, min, Result, Ok, Err}
-use Rattle.std.specs.Int.{div_ceil}
+use Rattle.std.proofs.Common.{◌≡◌, ◌⊎◌, inl, inr, ◌<◌, ◌≤◌, ◌+◌, ◌*◌, ◌^◌, ◌∷◌, ℕ, Bool, true, false, [], refl, sym, ◌∙◌, ap, subst, arith}
+use Rattle.std.specs.Prelude.{Option, Some, None}
 use Rattle.ob_base.specs.declared.access.Access.{Access}
 use Rattle.ob_base.specs.declared.seen.End.{End}
 use Rattle.ob_base.specs.declared.seen.End.TheVariants.{Static, Whole, AfterCount, Joined, Cut}
@@ -9,7 +8,7 @@ use Rattle.ob_base.specs.declared.seen.Seen.{Seen}
 use Rattle.ob_base.specs.declared.skeleton.Skeleton.{Skeleton}
 use Rattle.ob_base.specs.Numbers.{blocks_for}
 use Rattle.ob_flat.specs.declared.fault.OpErr.{OpErr}
-use Rattle.ob_flat.specs.declared.fault.OpErr.TheVariants.{Failed, Tampered, Sink, NoMemory}
+use Rattle.ob_flat.specs.declared.fault.OpErr.TheVariants.{Failed, Sink}
 use Rattle.ob_flat.specs.Passes.{PassCut}
 use Rattle.ob_flat.proofs.Runs.{pass_then, pass_wider}
 use Rattle.ob_flat.proofs.Tables.{blocks_few}
@@ -20,17 +19,15 @@ use Rattle.ob_select.specs.Selecting.{Selection}
 use Rattle.ob_small.specs.Selection as Smalls
 use Rattle.ob_small.proofs.Lengths.{passes_few, product_few, product_within, pass_inside}
 use Rattle.ob_store.specs.State.{StoreState}
-use Rattle.ob_vault.specs.Calls.{Lasts, Went, none, one, Seals}
+use Rattle.ob_vault.specs.Calls.{Went, one, Seals}
 use Rattle.ob_vault.specs.State.{World}
-use Rattle.ob_vault.specs.VaultCalls.{Forgets}
 use Rattle.ob_vault.proofs.Runs.{seals_join, went_none, went_wider, seals_none}
 use Rattle.ob_stages.specs.declared.rows.Stage.{Stage}
 use Rattle.ob_stages.specs.declared.rows.Stage.TheVariants.{Count, Make, Read, Write, Emit, Discard, Over}
 use Rattle.ob_stages.specs.Going.{GoesOn}
 use Rattle.ob_stages.specs.RowsActs.{kept_some, takes_seen}
-use Rattle.ob_stages.specs.RowsStates.{RowsAt, HasCounted, HasRegion, IsFlown, IsPlaced, IsSizedAt, MaySee, MayServe, MayTake, PlacedAt, Takes, all_passes, before_pass, emits_before, is_over, is_printing, kept_blocks, known, known_by, limit, part_blocks, progress_of, reads_before, seen_taking, served_of, small, table_blocks, taken, taken_by, whole_length, writes_before}
-use Rattle.ob_stages.specs.RowsHolds.{Halts, Holds, NeedsAt, own_at}
-use Rattle.ob_stages.specs.RowsLaws.{goes_whole}
+use Rattle.ob_stages.specs.RowsStates.{RowsAt, HasCounted, IsFlown, IsPlaced, IsSizedAt, MaySee, MayServe, MayTake, PlacedAt, Takes, all_passes, before_pass, emits_before, is_over, is_printing, kept_blocks, part_blocks, progress_of, reads_before, served_of, small, table_blocks, taken, whole_length, writes_before}
+use Rattle.ob_stages.specs.RowsHolds.{NeedsAt, own_at}
 use Rattle.ob_stages.specs.RowsSteps.{ForgetsOwn, gone_wrong}
 use Rattle.ob_vault.specs.Tied.{Ready}
 

@@ -1,17 +1,15 @@
 -- What a flight reads of a SELECT of rows: what is known of it on its way, and that what it means may turn out to be served.
-use Rattle.std.proofs.Common.{◌≡◌, ◌⊎◌, inl, inr, ◌≤◌, ℕ, zero, suc, Bool, true, false, List, refl, sym, ◌∙◌, ap, subst, arith}
+use Rattle.std.proofs.Common.{◌≡◌, inl, inr, ◌≤◌, ℕ, zero, suc, Bool, true, false, List, refl, sym, ◌∙◌, ap, subst, arith}
 use Rattle.std.specs.Prelude.{Option, Some, None, if◌then◌else◌, length}
 use Rattle.ob_base.specs.declared.refusal.Refusal.{Refusal}
 use Rattle.ob_base.specs.declared.refusal.Refusal.TheVariants as Refusals
-use Rattle.ob_base.specs.declared.seen.End.{End}
 use Rattle.ob_base.specs.declared.seen.End.TheVariants.{Whole, Cut}
 use Rattle.ob_base.specs.declared.seen.Seen.{Seen}
 use Rattle.ob_base.specs.Events.{Event}
 use Rattle.ob_flat.specs.Flats.{Represents}
-use Rattle.ob_mean.specs.Verdict.{ended as seen_to}
 use Rattle.ob_row.specs.Slots.{Slots}
 use Rattle.ob_script.specs.Script.{whole_script}
-use Rattle.ob_select.specs.Selecting.{Selection, HoldsSeen, answer_events, places, selection_seen}
+use Rattle.ob_select.specs.Selecting.{HoldsSeen, answer_events, places, selection_seen}
 use Rattle.ob_small.specs.Selection as Smalls
 use Rattle.ob_vault.specs.State.{World}
 use Rattle.ob_vault.specs.Words.{IsHonest}
@@ -22,7 +20,7 @@ use Rattle.ob_stages.specs.declared.rows.Stage.TheVariants.{Count, Make, Read, W
 use Rattle.ob_stages.specs.Going.{GoesOn}
 use Rattle.ob_stages.specs.RowsActs.{takes_seen}
 use Rattle.ob_stages.specs.RowsStates.{RowsAt, HasAsked, HasCounted, IsPlaced, MaySee, MayServe, MayTake, PlacedAt, emits_before, end_by, is_over, reads_before, rows_skeleton, seen_taking, small, table_blocks, taken_by, writes_before}
-use Rattle.ob_stages.specs.RowsHolds.{AnswersRows, EndedAt, Holds, HoldsAt, IsCountOf, IsCutOff, IsGone, IsOnWay, MayBeCut, all_selected, meant_events, seen_ended}
+use Rattle.ob_stages.specs.RowsHolds.{AnswersRows, EndedAt, Holds, HoldsAt, IsCountOf, IsCutOff, IsGone, IsOnWay, MayBeCut, all_selected, seen_ended}
 use Rattle.ob_stages.proofs.RowsFinish.{over_is}
 use Rattle.ob_stages.proofs.RowsGoing.{IsBehind, behind_at}
 use Rattle.ob_stages.proofs.RowsMeans.{seen_meant}

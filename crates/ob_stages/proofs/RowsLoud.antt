@@ -1,10 +1,10 @@
 -- A step of a SELECT of rows in flight that emits rows.
-use Rattle.std.proofs.Common.{◌≡◌, ◌⊎◌, inl, inr, ◌<◌, ◌≤◌, ◌+◌, ◌-◌, ◌*◌, ◌==◌, ◌∷◌, ◌++◌, ℕ, zero, suc, Bool, true, false, not, List, [], refl, sym, ◌∙◌, ap, subst, arith, append_assoc}
-use Rattle.std.specs.Prelude.{Option, Some, None, Result, Ok, Err, OnOk, IfOk, IfErr, length}
+use Rattle.std.proofs.Common.{◌≡◌, ◌⊎◌, inl, inr, ◌<◌, ◌≤◌, ◌-◌, ◌==◌, ◌++◌, ℕ, true, false, List, [], refl, sym, ◌∙◌, ap, subst, arith}
+use Rattle.std.specs.Prelude.{Some, None, Ok, Err}
 use Rattle.std.proofs.lemmas.List.{append-nil, map-append}
 use Rattle.ob_base.specs.declared.shown.Shown.{Shown}
-use Rattle.ob_base.specs.Events.{Event, IsBegun, IsHalted, Leads, row_events}
-use Rattle.ob_emit.specs.Emitting.{EmitsBlock, EndsAs, WalksBlock, block_shown}
+use Rattle.ob_base.specs.Events.{Event, IsBegun, Leads, row_events}
+use Rattle.ob_emit.specs.Emitting.{EndsAs, block_shown}
 use Rattle.ob_emit.proofs.BlocksEmitted.{emitted_next}
 use Rattle.ob_flat.specs.declared.fault.OpErr.{OpErr}
 use Rattle.ob_flat.specs.declared.fault.OpErr.TheVariants.{Failed, Tampered, Sink, NoMemory}
@@ -13,20 +13,19 @@ use Rattle.ob_flat.specs.Flats.{Represents}
 use Rattle.ob_inflight.specs.Answers.{EndsBy, More, Part}
 use Rattle.ob_mean.specs.Prints.{Begun}
 use Rattle.ob_row.specs.Slots.{Slots}
-use Rattle.ob_select.specs.Selecting.{answer_events, shown_rows}
+use Rattle.ob_select.specs.Selecting.{answer_events}
 use Rattle.ob_small.specs.Selection as Smalls
 use Rattle.ob_vault.specs.Calls.{Lasts, none}
 use Rattle.ob_vault.specs.State.{World}
 use Rattle.ob_vault.specs.Tied.{IsUnfit}
 use Rattle.ob_vault.specs.Words.{IsHonest}
-use Rattle.ob_stages.specs.declared.rows.Stage.{Stage}
 use Rattle.ob_stages.specs.declared.rows.Stage.TheVariants.{Emit}
-use Rattle.ob_stages.specs.RowsStates.{RowsAt, after_emit, is_over, is_passed, is_printing, passes_pad, result_in, rows_skeleton, small, table_blocks}
-use Rattle.ob_stages.specs.RowsHolds.{Halts, HasBegun, Holds, IsOnWay, LacksAt, closing_of, events_if, head_of, is_shown, left_of, meant_events, meant_outcome}
+use Rattle.ob_stages.specs.RowsStates.{RowsAt, after_emit, is_over, is_printing, passes_pad, result_in, small, table_blocks}
+use Rattle.ob_stages.specs.RowsHolds.{Halts, HasBegun, Holds, left_of}
 use Rattle.ob_stages.specs.RowsSteps.{ShowsBehind, StopsHead, WalksInstead}
 use Rattle.ob_stages.proofs.RowsGoing.{behind_at, stepped}
-use Rattle.ob_stages.proofs.RowsShown.{emit_at, emit_held, emit_read, emit_to, events_next, events_passed, held_now, holds_emitted, leads_both, leads_none, part_begun, shape_next, shown}
-use Rattle.ob_stages.proofs.RowsWay.{KnowsWay, begun_more, shape_of, way_of}
+use Rattle.ob_stages.proofs.RowsShown.{emit_at, emit_read, events_next, events_passed, held_now, holds_emitted, leads_both, leads_none, part_begun, shape_next, shown}
+use Rattle.ob_stages.proofs.RowsWay.{KnowsWay, begun_more, way_of}
 use Rattle.ob_store.proofs.Steps.{none_before}
 use Rattle.ob_flat.specs.Words.{TamperedAt}
 
@@ -115,7 +114,7 @@ module _ {E : Type 0} (grew cut : E → E → List Event → Type 0) (faults : E
         };
     honest = honest;
     counted = λ either. counted_by events is;
-    memory = λ memory. record { place = inr (inr emit_prints) };
+    memory = λ memory. record { place = inr (inr (emit_prints, is.placed.unfailed emit_going)) };
   }
 
   -- an error that isn't the store's

@@ -1,5 +1,5 @@
 -- What a SELECT of rows in flight means, whose plan is always Small.
-use Rattle.std.proofs.Common.{◌≡◌, ◌<◌, ◌≤◌, ◌+◌, ◌-◌, ◌++◌, ℕ, zero, suc, Bool, true, false, not, List, [], ◌∷◌, refl, sym, ◌∙◌, ap, subst, arith}
+use Rattle.std.proofs.Common.{◌≡◌, ◌≤◌, ◌++◌, ℕ, suc, Bool, true, false, not, List, [], ◌∷◌, refl, sym, ◌∙◌, ap, subst, arith}
 use Rattle.std.specs.Prelude.{Option, Some, None, length, map, nat_lt, if◌then◌else◌}
 use Rattle.std.proofs.lemmas.List.{length-map}
 use Rattle.std.proofs.lemmas.Bool.Decides.{nat_tests}
@@ -12,7 +12,7 @@ use Rattle.ob_base.specs.declared.config.Public.{Public}
 use Rattle.ob_base.specs.declared.refusal.Refusal.{Refusal}
 use Rattle.ob_base.specs.declared.refusal.Refusal.TheVariants.{PadPassed}
 use Rattle.ob_base.specs.declared.shown.Shown.{Shown}
-use Rattle.ob_base.specs.Events.{Event, row_events}
+use Rattle.ob_base.specs.Events.{row_events}
 use Rattle.ob_base.specs.Plans.{choose, choose_padded, padded_rows}
 use Rattle.ob_emit.specs.Emitting.{table_shown}
 use Rattle.ob_mean.specs.Verdict.{bucket_size, forced_refusal, plan_for, refusal_by, rows_refusal, seen_by, seen_with}
@@ -24,13 +24,12 @@ use Rattle.ob_row.specs.Truth.{is_true}
 use Rattle.ob_select.specs.Selecting.{Selection, answer_events, emitted_unless, places, result_of, selection_seen, shown_rows, shown_where}
 use Rattle.ob_select.proofs.ResultRows.{length-chosen, rows-fitted}
 use Rattle.ob_verdict.proofs.ResultLemmas.{rows-small_slots}
-use Rattle.ob_small.specs.Keeping.{chosen, fitted}
+use Rattle.ob_small.specs.Keeping.{chosen}
 use Rattle.ob_small.specs.Selection as Smalls
 use Rattle.ob_small.proofs.Choosing.{filter-small}
 use Rattle.ob_verdict.specs.Laws.{last_plan, result_plan}
-use Rattle.ob_verdict.specs.declared.outcome.Outcome.{Outcome}
 use Rattle.ob_stages.specs.RowsStates.{is_passed, small, taken, taken_by}
-use Rattle.ob_stages.specs.RowsHolds.{answered_by, closing_of, events_if, head_of, meant_events, meant_outcome, outcome_of, seen_counted, seen_ended}
+use Rattle.ob_stages.specs.RowsHolds.{answered_by, events_if, head_of, meant_outcome, outcome_of, seen_ended}
 
 -- no more places than elements
 places_few : {A : Type 0} (test : A → Bool) (n : ℕ) (xs : List A) → length (places_from n test xs) ≤ length xs

@@ -1,32 +1,26 @@
 -- Where a SELECT of rows in flight is behind each step.
-use Rattle.std.proofs.Common.{◌≡◌, ◌⊎◌, inl, inr, ◌<◌, ◌≤◌, ◌+◌, ◌-◌, ◌*◌, ◌^◌, ◌∷◌, ◌++◌, ℕ, zero, suc, Bool, true, false, IsTrue, List, [], refl, sym, ◌∙◌, ap, subst, arith, length-append}
-use Rattle.std.specs.Prelude.{Option, Some, None, length, min, nat_lt, slice_get, unwrap_or}
+use Rattle.std.proofs.Common.{◌≡◌, ◌<◌, ◌≤◌, ◌+◌, ◌-◌, ◌*◌, ℕ, Bool, true, false, List, [], refl, sym, ◌∙◌, ap, subst, arith, length-append}
+use Rattle.std.specs.Prelude.{Option, Some, None, length, nat_lt, slice_get, unwrap_or}
 use Rattle.std.proofs.lemmas.Bool.Decides.{nat_tests}
 use Rattle.std.proofs.lemmas.Grind.{div_ceil_times}
 use Rattle.ob_base.specs.declared.access.Access.{Access}
-use Rattle.ob_base.specs.declared.config.Plan.{Plan}
-use Rattle.ob_base.specs.declared.config.Plan.TheVariants.{Small}
-use Rattle.ob_base.specs.declared.config.Planner.{Planner}
-use Rattle.ob_base.specs.declared.seen.End.{End}
 use Rattle.ob_base.specs.declared.seen.End.TheVariants.{Whole, Cut}
 use Rattle.ob_base.specs.declared.seen.Seen.{Seen}
 use Rattle.ob_base.specs.declared.skeleton.Skeleton.{Skeleton}
 use Rattle.ob_base.specs.Numbers.{blocks_for}
 use Rattle.ob_base.specs.Plans.{IsPadded}
-use Rattle.ob_inflight.specs.Progress.{act_of}
-use Rattle.ob_mean.specs.Verdict.{counted, ended as seen_to}
+use Rattle.ob_mean.specs.Verdict.{counted}
 use Rattle.ob_script.specs.Parts.{count_part}
-use Rattle.ob_script.specs.Script.{after_count, behind_count, extent_of, script, select_part, until_end, whole_script}
+use Rattle.ob_script.specs.Script.{behind_count, extent_of, select_part, whole_script}
 use Rattle.ob_script.proofs.Lengths.{length-count_part}
 use Rattle.ob_select.specs.Selecting.{Selection, region_of}
 use Rattle.ob_small.specs.Selection as Smalls
 use Rattle.ob_small.proofs.Lengths.{pass_inside}
 use Rattle.ob_stages.specs.declared.rows.Stage.{Stage}
-use Rattle.ob_stages.specs.declared.rows.Stage.TheVariants.{Count, Make, Read, Write, Emit, Discard, Over}
+use Rattle.ob_stages.specs.declared.rows.Stage.TheVariants.{Count, Make, Over}
 use Rattle.ob_stages.specs.Going.{past_cut, past_end}
 use Rattle.ob_stages.specs.RowsActs.{kept_some, left_by, none_left, script_is, script_takes, small_all, takes_seen, whole_is, whole_takes, with_region}
-use Rattle.ob_stages.specs.RowsStates.{RowsAt, HasAsked, HasCounted, HasRegion, IsCounting, IsFlown, IsPlaced, PlacedAt, ShownAt, Takes, all_passes, before_pass, emits_before, end_by, is_over, kept_blocks, known, known_by, part_blocks, progress_of, reads_before, rows_skeleton, seen_taking, served_of, small, table_blocks, taken, taken_by, whole_length, writes_before}
-use Rattle.ob_stages.specs.RowsHolds.{seen_ended}
+use Rattle.ob_stages.specs.RowsStates.{RowsAt, HasAsked, HasCounted, HasRegion, IsCounting, IsFlown, IsPlaced, PlacedAt, ShownAt, Takes, emits_before, end_by, is_over, kept_blocks, known, known_by, part_blocks, reads_before, rows_skeleton, seen_taking, small, table_blocks, taken, taken_by, whole_length, writes_before}
 use Rattle.ob_stages.specs.RowsSteps.{gone_wrong}
 use Rattle.ob_stages.specs.SmallActs as Acts
 use Rattle.ob_stages.proofs.RowsGoing.{behind_at, is_behind, stepped}
@@ -82,8 +76,13 @@ module _ (g : RowsAt) (flown : IsFlown g.q (rows_skeleton g.select)) (x : Seen) 
       let r = g.q.public.next_region in
       let t = extent_of (region_of g.q) in
       let p = with_region g.q r in
-      omega (arith, few, ap (λ (l : List Access). length l) (whole_is g.q (rows_skeleton g.select) flown (rows_skeleton g.select) x r refl),
-      length-append (count_part g.q.flat.region (table_blocks g.q)) (behind_count p.pad p x r t []), length-count_part g.q.flat.region (table_blocks g.q))
+      omega (
+        arith,
+        few,
+        ap (λ (l : List Access). length l) (whole_is g.q (rows_skeleton g.select) flown (rows_skeleton g.select) x r refl),
+        length-append (count_part g.q.flat.region (table_blocks g.q)) (behind_count p.pad p x r t []),
+        length-count_part g.q.flat.region (table_blocks g.q),
+      )
 
   pub within_takes : (k n : ℕ) → Takes g.q.public.pad k x → n ≤ whole_length g.q k → n ≤ length (whole_script g.q.public (rows_skeleton g.select) x)
   within_takes k n takes few =

@@ -6,13 +6,11 @@ use Rattle.std.proofs.lemmas.List.{append-nil}
 use Rattle.ob_base.specs.declared.access.Access.{Access}
 use Rattle.ob_base.specs.declared.access.Access.TheVariants as Accesses
 use Rattle.ob_base.specs.declared.config.Plan.TheVariants.{Small}
-use Rattle.ob_base.specs.declared.seen.End.TheVariants.{Whole}
 use Rattle.ob_base.specs.declared.seen.Seen.{Seen}
-use Rattle.ob_base.specs.Accesses.{discard_at, make_at, read_at, write_at}
 use Rattle.ob_base.specs.Events.{Event}
 use Rattle.ob_base.specs.Schemas.{width}
 use Rattle.ob_flat.specs.declared.fault.OpErr.{OpErr}
-use Rattle.ob_flat.specs.declared.fault.OpErr.TheVariants.{Failed, Tampered, Sink, NoMemory}
+use Rattle.ob_flat.specs.declared.fault.OpErr.TheVariants.{Failed, Sink, NoMemory}
 use Rattle.ob_flat.specs.Creates.{MakesTable}
 use Rattle.ob_flat.specs.Discards.{Discards}
 use Rattle.ob_flat.specs.Flats.{Represents}
@@ -20,7 +18,7 @@ use Rattle.ob_flat.specs.Passes.{PassCut}
 use Rattle.ob_flat.proofs.Runs.{pass_after, pass_wider}
 use Rattle.ob_inflight.specs.Answers.{IsHeld}
 use Rattle.ob_inflight.specs.Leaving.{own_or_next}
-use Rattle.ob_inflight.specs.Progress.{KeepsRegion, SealsBlocks, Steps, StopsStep, WentOrFailed, act_of}
+use Rattle.ob_inflight.specs.Progress.{KeepsRegion, SealsBlocks, Steps, WentOrFailed, act_of}
 use Rattle.ob_row.specs.Slots.{Slots}
 use Rattle.ob_row.specs.Spelling.{Begins}
 use Rattle.ob_row.specs.Truth.{is_true}
@@ -29,26 +27,24 @@ use Rattle.ob_small.specs.Selection as Smalls
 use Rattle.ob_small.proofs.Lengths.{product_within}
 use Rattle.ob_small.specs.Steps.{CollectsBlock, WritesBlock}
 use Rattle.ob_store.specs.Calls.{ChangesNothing}
-use Rattle.ob_store.specs.Runs.{Did}
 use Rattle.ob_store.specs.State.{StoreState}
 use Rattle.ob_vault.specs.declared.region.Order.TheVariants.{Any}
-use Rattle.ob_vault.specs.Calls.{Lasts, Seals, Went, none, one}
-use Rattle.ob_vault.specs.Rows.{Wide, row_at}
+use Rattle.ob_vault.specs.Calls.{Seals, Went, none, one}
+use Rattle.ob_vault.specs.Rows.{row_at}
 use Rattle.ob_vault.specs.State.{VaultState, World}
-use Rattle.ob_vault.specs.Tied.{Ready}
 use Rattle.ob_vault.specs.Words.{IsHonest}
 use Rattle.ob_vault.proofs.Runs.{seals_join, went_join, went_wider}
 use Rattle.ob_vault.proofs.WordLemmas.{seals_rests, went_rests}
 use Rattle.ob_stages.specs.declared.rows.Stage.{Stage}
 use Rattle.ob_stages.specs.declared.rows.Stage.TheVariants.{Count, Make, Read, Write, Emit, Discard, Over}
 use Rattle.ob_stages.specs.Going.{GoesOn}
-use Rattle.ob_stages.specs.RowsActs.{act_count, act_discard, act_make, act_read, act_write, takes_seen}
+use Rattle.ob_stages.specs.RowsActs.{act_count, act_discard, act_make, act_read, act_write}
 use Rattle.ob_stages.specs.RowsStates.{RowsAt, HasCounted, HasRegion, IsCounting, IsPlaced, MaySee, MayServe, MayTake, PlacedAt, after_read, after_write, emits_before, is_over, is_printing, kept_blocks, known, known_by, part_blocks, progress_of, reads_before, result_in, rows_skeleton, small, table_blocks, taken, taken_by, whole_length, writes_before}
-use Rattle.ob_stages.specs.RowsHolds.{FitsShare, Halts, HasBegun, Holds, HoldsAt, LacksAt, NeedsAt, own_at}
+use Rattle.ob_stages.specs.RowsHolds.{FitsShare, HasBegun, Holds, LacksAt, NeedsAt}
 use Rattle.ob_stages.specs.RowsLaws.{goes_whole, holds_frames, own_below}
-use Rattle.ob_stages.specs.RowsSteps.{Clears, ForgetsOwn, IsHeldIn, QuietStep, StepsAt, TakesRoom, counted_to, counted_whole, gone_to, gone_wrong}
+use Rattle.ob_stages.specs.RowsSteps.{Clears, ForgetsOwn, IsHeldIn, QuietStep, StepsAt, counted_to, counted_whole, gone_to, gone_wrong}
 use Rattle.ob_stages.proofs.RowsEnds.{asked_cut, halts_quiet, holds_discarded, holds_failed, next_made, refused_counted}
-use Rattle.ob_stages.proofs.RowsGoing.{AlikeSeen, HasFailed, HasStopped, IsBehind, IsNext, asked_few, behind_at, behind_going, failed_at, forgot, is_behind, may_behind, may_counting, own_all, see_of, steps_failed, steps_kept, stepped, stops_step, whole_most}
+use Rattle.ob_stages.proofs.RowsGoing.{HasFailed, HasStopped, IsBehind, IsNext, asked_few, behind_at, behind_going, failed_at, forgot, is_behind, may_behind, may_counting, own_all, see_of, steps_failed, steps_kept, stepped, stops_step, whole_most}
 use Rattle.ob_stages.proofs.RowsPlaces.{booked_at, booked_counting, booked_some, counting, counting_some}
 use Rattle.ob_stages.proofs.RowsStands.{holds_counted, holds_made, holds_read, holds_written}
 use Rattle.ob_stages.proofs.RowsWay.{KnowsWay, shape_of, way_of}
@@ -177,8 +173,12 @@ module _ (g : RowsAt) (u others : ℕ) (old : World) (steps : StepsAt g (Count u
 
   booked_few : g.booked ≤ 2 ^ 59
   booked_few =
-      omega (arith, booked_counting g count_placed u steps.at,
-      known_most g.q.public.pad (table_blocks g.q) (whole_length g.q g.k) (omega arith), whole_most g.q (rows_skeleton g.select) count_placed.flown g.k (taken_most g.q.public.pad g.k counted_most))
+      omega (
+        arith,
+        booked_counting g count_placed u steps.at,
+        known_most g.q.public.pad (table_blocks g.q) (whole_length g.q g.k) (omega arith),
+        whole_most g.q (rows_skeleton g.select) count_placed.flown g.k (taken_most g.q.public.pad g.k counted_most),
+      )
     where
       known_most : (pad : Option ℕ) (c all : ℕ) → c ≤ all → known_by pad c all ≤ all
       known_most None c all less = less
@@ -440,7 +440,7 @@ module _ (g : RowsAt) (others : ℕ) (kept : List (List ℕ)) (v : VaultState) (
         emits = λ sink. absurd (cc (memory, sink));
         seals = make_seals new makes.seals.seals;
       }) (one v.next) make_within (pass_after (one v.next) start roomy new e [] (made_by ∷ []) (make_rested (one v.next)) makes.ran.err) make_open (λ slots held honest. inr memory)
-      (λ either. omega (arith, make_there.0.asked)) (λ memory. record { place = inr (inl (steps.at, (made_by, asked ∙ ap (λ (l : List Access). l ++ made_by ∷ []) rests.asked))) }) others kept kept
+      (λ either. omega (arith, make_there.0.asked)) (λ memory. record { place = inr (inl (steps.at, (made_by, refl, asked ∙ ap (λ (l : List Access). l ++ made_by ∷ []) rests.asked))) }) others kept kept
 
   module _ (n : ℕ) (enough : n ≡ whole_length g.q g.k - g.asked) (spare : others + n ≤ t.spare) (new : World) where
     pub quiet_made : {T : Type 0} (value : T) (after : List (List ℕ)) → MakesTable Any g.q.public.pack (result_in g.q g.k v.next) (Ok v.next) roomy new → ((i : ℕ) → i < length after → Begins g.q.flat.schema None (row_at after i))
@@ -490,6 +490,9 @@ module _ (g : RowsAt) (others : ℕ) (kept : List (List ℕ)) (v : VaultState) (
           seals = make_seals mid makes.seals.seals;
         } in
         quiet_failed g (Some v.next) others made_by start mid new failed
-        (λ r mine next. omega (arith, next,
-        next_made v.next (Smalls.results (small g.q g.k)) (g.q.public.pack * width g.q.flat.schema + 32) (one v.next) start mid steps.ready cut.lasts (asked_cut made_by (one v.next) start mid cut),
-        (forgot g mid new cut.lasts.ready (Some v.next) forgets).lasts.shapes.next)) value kept kept
+        (λ r mine next. omega (
+          arith,
+          next,
+          next_made v.next (Smalls.results (small g.q g.k)) (g.q.public.pack * width g.q.flat.schema + 32) (one v.next) start mid steps.ready cut.lasts (asked_cut made_by (one v.next) start mid cut),
+          (forgot g mid new cut.lasts.ready (Some v.next) forgets).lasts.shapes.next,
+        )) value kept kept

@@ -1,44 +1,34 @@
 -- A block of the result of a SELECT of rows in flight that is read back, and its rows emitted.
-use Rattle.std.proofs.Common.{◌≡◌, ◌⊎◌, inl, inr, ◌<◌, ◌≤◌, ◌+◌, ◌-◌, ◌*◌, ◌==◌, ◌∷◌, ◌++◌, ℕ, zero, suc, Bool, true, false, not, List, [], refl, sym, ◌∙◌, ap, subst, arith, append_assoc}
-use Rattle.std.specs.Prelude.{Option, Some, None, Result, Ok, Err, IfOk, IfErr, length, nat_lt, if◌then◌else◌}
+use Rattle.std.proofs.Common.{◌≡◌, inr, ◌<◌, ◌≤◌, ◌+◌, ◌-◌, ◌*◌, ◌==◌, ◌∷◌, ◌++◌, ℕ, zero, suc, Bool, true, false, not, List, [], refl, sym, ◌∙◌, ap, subst, arith, append_assoc}
+use Rattle.std.specs.Prelude.{Some, length, nat_lt, if◌then◌else◌}
 use Rattle.std.proofs.lemmas.Bool.Decides.{nat_tests}
 use Rattle.std.proofs.lemmas.List.{append-nil, map-append}
-use Rattle.ob_base.specs.declared.access.Access.{Access}
 use Rattle.ob_base.specs.declared.shown.Shown.{Shown}
-use Rattle.ob_base.specs.Accesses.{read_at}
-use Rattle.ob_base.specs.Events.{Event, IsBegun, IsEmitted, IsHalted, Leads, row_events}
-use Rattle.ob_emit.specs.Emitting.{EmitsBlock, EndsAs, HasEmitted, block_shown, blocks_shown, table_shown}
-use Rattle.ob_emit.proofs.BlocksEmitted.{emitted_next, emitted_part}
-use Rattle.ob_flat.specs.declared.fault.OpErr.{OpErr}
-use Rattle.ob_flat.specs.declared.fault.OpErr.TheVariants.{Failed, Tampered, Sink, NoMemory}
+use Rattle.ob_base.specs.Events.{Event, Leads, row_events}
+use Rattle.ob_emit.specs.Emitting.{HasEmitted, block_shown, table_shown}
+use Rattle.ob_emit.proofs.BlocksEmitted.{emitted_part}
 use Rattle.ob_flat.specs.declared.flat.Flat.{Flat}
-use Rattle.ob_flat.specs.Emission.{SlotsToEnd, SlotsToHalt}
+use Rattle.ob_flat.specs.Emission.{SlotsToHalt}
 use Rattle.ob_flat.specs.Flats.{Represents}
-use Rattle.ob_flat.specs.Scans.{MayScan}
 use Rattle.ob_flat.proofs.Scanning.{may_scan_lasts}
-use Rattle.ob_flat.proofs.Tables.{represents_before}
-use Rattle.ob_inflight.specs.Answers.{EndsBy, More, Part}
 use Rattle.ob_mean.specs.Prints.{Begun}
 use Rattle.ob_row.specs.Slots.{Slots}
-use Rattle.ob_select.specs.Selecting.{Selection, answer_events, places, shown_rows}
+use Rattle.ob_select.specs.Selecting.{Selection, answer_events, shown_rows}
 use Rattle.ob_small.specs.Selection as Smalls
-use Rattle.ob_store.proofs.Steps.{none_before}
 use Rattle.ob_vault.specs.Calls.{Lasts, none}
 use Rattle.ob_vault.specs.State.{World}
 use Rattle.ob_vault.specs.Tied.{IsUnfit}
 use Rattle.ob_vault.specs.Words.{IsHonest}
 use Rattle.ob_stages.specs.declared.rows.Stage.{Stage}
-use Rattle.ob_stages.specs.declared.rows.Stage.TheVariants.{Count, Make, Read, Write, Emit, Discard, Over}
-use Rattle.ob_stages.specs.RowsStates.{RowsAt, HasCounted, HasRegion, IsFlown, IsPlaced, PlacedAt, after_emit, emits_before, is_over, is_passed, is_printing, passes_pad, result_in, rows_skeleton, small, table_blocks, taken}
-use Rattle.ob_stages.specs.RowsHolds.{Halts, HasBegun, HasFilled, HasRead, HasShown, Holds, HoldsAt, IsCountOf, IsOnWay, LacksAt, all_selected, events_if, head_of, is_shown, left_of, meant_events}
+use Rattle.ob_stages.specs.declared.rows.Stage.TheVariants.{Emit, Discard}
+use Rattle.ob_stages.specs.RowsStates.{RowsAt, HasRegion, PlacedAt, after_emit, emits_before, is_over, is_passed, passes_pad, result_in, rows_skeleton, small}
+use Rattle.ob_stages.specs.RowsHolds.{HasBegun, HasFilled, HasRead, HasShown, Holds, HoldsAt, IsCountOf, all_selected, events_if, head_of, is_shown, left_of}
 use Rattle.ob_stages.specs.RowsLaws.{count_lasts, has_filled_lasts}
-use Rattle.ob_stages.specs.RowsSteps.{ShowsBlock}
-use Rattle.ob_stages.proofs.RowsEnds.{refused_counted}
-use Rattle.ob_stages.proofs.RowsGoing.{IsBehind, behind_at, stepped}
+use Rattle.ob_stages.proofs.RowsGoing.{stepped}
 use Rattle.ob_stages.proofs.RowsMeans.{events_meant, result_shown}
 use Rattle.ob_stages.proofs.RowsPlaces.{less_so, not_less, placed_next, region_on}
 use Rattle.ob_stages.proofs.RowsStands.{booked_next, recount, refilled}
-use Rattle.ob_stages.proofs.RowsWay.{KnowsWay, begun_if, begun_more, count_is, result_held, shape_of, way_of}
+use Rattle.ob_stages.proofs.RowsWay.{count_is, result_held}
 
 -- ---- events
 -- the header before the first block

@@ -1,54 +1,47 @@
 -- How a SELECT of rows in flight stands behind each step.
-use Rattle.std.proofs.Common.{◌≡◌, ◌⊎◌, inl, inr, ◌<◌, ◌≤◌, ◌+◌, ◌-◌, ◌*◌, ◌^◌, ◌∷◌, ◌++◌, ℕ, zero, suc, Bool, true, false, not, IsTrue, List, [], refl, sym, ◌∙◌, ap, subst, arith}
-use Rattle.std.specs.Prelude.{Option, Some, None, Ok, Err, length, min, nat_lt, take, drop, if◌then◌else◌}
+use Rattle.std.proofs.Common.{◌≡◌, ◌<◌, ◌≤◌, ◌+◌, ◌-◌, ◌*◌, ◌∷◌, ◌++◌, ℕ, zero, suc, Bool, true, false, not, List, [], refl, sym, ◌∙◌, ap, subst, arith}
+use Rattle.std.specs.Prelude.{Option, Some, None, Ok, length, min, nat_lt, take, drop, if◌then◌else◌}
 use Rattle.std.proofs.lemmas.List.{append-nil}
 use Rattle.std.proofs.lemmas.List.Filters.{length-filter_both}
-use Rattle.ob_base.specs.declared.access.Access.{Access}
-use Rattle.ob_base.specs.declared.config.Plan.{Plan}
 use Rattle.ob_base.specs.declared.config.Plan.TheVariants.{Small}
-use Rattle.ob_base.specs.declared.seen.End.TheVariants.{Whole, Cut}
+use Rattle.ob_base.specs.declared.seen.End.TheVariants.{Whole}
 use Rattle.ob_base.specs.declared.seen.Seen.{Seen}
 use Rattle.ob_base.specs.declared.shown.Shown.{Shown}
-use Rattle.ob_base.specs.Events.{Event, row_events}
-use Rattle.ob_base.specs.Schemas.{Columns, width}
+use Rattle.ob_base.specs.Events.{Event}
+use Rattle.ob_base.specs.Schemas.{width}
 use Rattle.ob_emit.specs.Emitting.{HasEmitted}
 use Rattle.ob_emit.proofs.BlocksEmitted.{emitted_begins}
-use Rattle.ob_flat.specs.declared.flat.Flat.{Flat}
-use Rattle.ob_flat.specs.Creates.{MakesTable, table_of}
+use Rattle.ob_flat.specs.Creates.{MakesTable}
 use Rattle.ob_flat.specs.Flats.{IsSized, Represents, table_region}
 use Rattle.ob_flat.specs.Scans.{MayScan}
 use Rattle.ob_flat.proofs.Scanning.{may_scan_lasts}
-use Rattle.ob_flat.proofs.Tables.{fits_sized, represents_before, written_flat}
-use Rattle.ob_mean.specs.Verdict.{counted, ended as seen_to}
+use Rattle.ob_flat.proofs.Tables.{fits_sized, written_flat}
+use Rattle.ob_mean.specs.Verdict.{counted}
 use Rattle.ob_row.specs.Slots.{Slots, is_selected}
 use Rattle.ob_row.specs.Spelling.{Begins}
 use Rattle.ob_row.specs.Truth.{is_true}
-use Rattle.ob_select.specs.Selecting.{Selection, answer_events, places, selection_seen, shown_rows}
+use Rattle.ob_select.specs.Selecting.{Selection, places, shown_rows}
 use Rattle.ob_small.specs.Keeping.{chosen}
 use Rattle.ob_small.specs.Selection as Smalls
 use Rattle.ob_small.proofs.Lengths.{product_within}
-use Rattle.ob_small.specs.Steps.{CollectsBlock, HasCollected, IsFilledTo, IsUnordered, WritesBlock}
-use Rattle.ob_small.proofs.Steps.{collected_lasts, collected_next, collected_none, collected_whole, filled_at, filled_flat, filled_next, filled_none, unordered_lasts, unordered_made, unordered_put}
-use Rattle.ob_store.proofs.Steps.{none_before}
+use Rattle.ob_small.specs.Steps.{CollectsBlock, IsFilledTo, IsUnordered, WritesBlock}
+use Rattle.ob_small.proofs.Steps.{collected_lasts, collected_next, collected_none, collected_whole, filled_at, filled_flat, filled_next, filled_none, unordered_made, unordered_put}
 use Rattle.ob_vault.specs.declared.region.Order.TheVariants.{Any}
-use Rattle.ob_vault.specs.Calls.{Lasts, Went, none, one}
+use Rattle.ob_vault.specs.Calls.{Lasts, none, one}
 use Rattle.ob_vault.specs.Rows.{Wide, row_at}
 use Rattle.ob_vault.specs.State.{World}
 use Rattle.ob_vault.specs.Tied.{Ready}
-use Rattle.ob_vault.specs.Words.{IsHonest}
 use Rattle.ob_vault.proofs.Runs.{lives_apart}
 use Rattle.ob_stages.specs.declared.rows.Stage.{Stage}
-use Rattle.ob_stages.specs.declared.rows.Stage.TheVariants.{Count, Make, Read, Write, Emit, Discard, Over}
-use Rattle.ob_stages.specs.RowsActs.{takes_seen}
-use Rattle.ob_stages.specs.RowsStates.{RowsAt, HasCounted, HasRegion, IsCounting, IsFlown, IsPlaced, PlacedAt, ShownAt, after_read, after_write, before_pass, emits_before, is_over, is_passed, kept_blocks, known, known_by, part_blocks, passes_pad, progress_of, reads_before, result_in, rows_skeleton, seen_taking, small, table_blocks, taken, taken_by, whole_length, writes_before}
+use Rattle.ob_stages.specs.declared.rows.Stage.TheVariants.{Count, Make, Read, Write, Emit, Over}
+use Rattle.ob_stages.specs.RowsStates.{RowsAt, HasCounted, HasRegion, IsCounting, IsFlown, IsPlaced, PlacedAt, ShownAt, after_read, after_write, emits_before, is_over, is_passed, kept_blocks, known, known_by, part_blocks, passes_pad, reads_before, result_in, rows_skeleton, seen_taking, small, table_blocks, taken, whole_length, writes_before}
 use Rattle.ob_verdict.specs.declared.outcome.Outcome.{Outcome}
-use Rattle.ob_stages.specs.RowsHolds.{Collected, EndedAt, HasFilled, HasRead, HasShown, Holds, HoldsAt, IsCountOf, IsCutOff, IsGone, IsToEnd, Picked, all_selected, events_if, head_of, is_headless, is_shown, left_of, meant_outcome, outcome_of, seen_counted, seen_ended}
-use Rattle.ob_stages.specs.RowsLaws.{count_lasts, has_filled_lasts, honest_back}
+use Rattle.ob_stages.specs.RowsHolds.{Collected, EndedAt, HasFilled, Holds, HoldsAt, IsCountOf, IsCutOff, IsToEnd, Picked, all_selected, events_if, head_of, is_headless, is_shown, left_of, outcome_of, seen_ended}
+use Rattle.ob_stages.specs.RowsLaws.{count_lasts, has_filled_lasts}
 use Rattle.ob_stages.specs.RowsSteps.{Clears, counted_to, counted_whole, gone_to}
 use Rattle.ob_stages.proofs.RowsGoing.{stepped}
-use Rattle.ob_stages.proofs.RowsMeans.{count_places, events_meant, outcome_meant, result_shown, seen_meant, shown_count}
-use Rattle.ob_stages.proofs.RowsPlaces.{all_asked, booked_at, booked_counting, counted_on, counting, counting_booked, counting_next, fill_last, less_so, made_next, none_next, not_less, part_full, part_last, part_some, pass_next, passes_some, placed_next, read_last, read_next, region_on, results_some, table_some, write_next}
-use Rattle.ob_stages.proofs.RowsWay.{begun_if, count_is, result_held}
+use Rattle.ob_stages.proofs.RowsMeans.{count_places, events_meant, outcome_meant, seen_meant, shown_count}
+use Rattle.ob_stages.proofs.RowsPlaces.{booked_at, booked_counting, counted_on, counting, counting_booked, counting_next, fill_last, less_so, made_next, none_next, not_less, part_full, part_last, part_some, pass_next, passes_some, placed_next, read_last, read_next, region_on, results_some, table_some, write_next}
 
 -- what is a region apart from the next
 pub table_apart : (g : RowsAt) (w : World) → Ready w → MayScan g.q.public.pack g.q.flat w → g.q.flat.region ≡ w.vault.next → ⊥

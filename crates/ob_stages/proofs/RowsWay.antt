@@ -1,8 +1,8 @@
 -- What is known of a SELECT of rows in flight on its way.
-use Rattle.std.proofs.Common.{◌≡◌, ◌⊎◌, inl, inr, ◌<◌, ◌≤◌, ◌+◌, ◌-◌, ◌*◌, ◌++◌, ℕ, zero, suc, Bool, true, false, not, List, [], ◌∷◌, refl, sym, ◌∙◌, ap, subst, arith, append_assoc}
-use Rattle.std.specs.Prelude.{Option, Some, None, length, map, nat_le, nat_lt}
+use Rattle.std.proofs.Common.{◌≡◌, ◌⊎◌, inl, inr, ◌<◌, ◌≤◌, ◌+◌, ◌-◌, ◌++◌, ℕ, zero, suc, Bool, true, false, not, List, [], refl, sym, ◌∙◌, ap, subst, arith, append_assoc}
+use Rattle.std.specs.Prelude.{Option, Some, None, length, nat_le, nat_lt}
 use Rattle.std.proofs.lemmas.Bool.Decides.{nat_tests}
-use Rattle.std.proofs.lemmas.List.{append-nil, map-append}
+use Rattle.std.proofs.lemmas.List.{map-append}
 use Rattle.ob_base.specs.declared.config.Plan.{Plan}
 use Rattle.ob_base.specs.declared.config.Plan.TheVariants.{Small}
 use Rattle.ob_base.specs.declared.seen.Seen.{Seen}
@@ -10,16 +10,14 @@ use Rattle.ob_base.specs.declared.seen.End.TheVariants.{Whole}
 use Rattle.ob_base.specs.declared.skeleton.Skeleton.{Skeleton}
 use Rattle.ob_base.specs.declared.shown.Shown.{Shown}
 use Rattle.ob_base.specs.Events.{Event, row_events}
-use Rattle.ob_emit.specs.Emitting.{blocks_shown, table_shown}
 use Rattle.ob_emit.proofs.BlocksEmitted.{blocks_rest}
 use Rattle.ob_flat.specs.declared.flat.Flat.{Flat}
 use Rattle.ob_flat.specs.Flats.{Represents}
 use Rattle.ob_flat.specs.Emission.{SlotsToEnd}
 use Rattle.ob_mean.specs.Prints.{Begun}
-use Rattle.ob_mean.specs.Replay.{done_of, held_if}
-use Rattle.ob_mean.specs.Verdict.{counted, ended as seen_to}
+use Rattle.ob_mean.specs.Replay.{held_if}
+use Rattle.ob_mean.specs.Verdict.{ended as seen_to}
 use Rattle.ob_row.specs.Slots.{Slots}
-use Rattle.ob_row.specs.Truth.{is_true}
 use Rattle.ob_select.specs.Selecting.{Selection, HoldsSeen, answer_events, counted_after, places, selection_seen, shown_rows, walked_after}
 use Rattle.ob_select.proofs.SelectHeld.{counted_held, held_empty, nothing_held}
 use Rattle.ob_small.specs.Selection as Smalls
@@ -28,8 +26,8 @@ use Rattle.ob_vault.specs.State.{World}
 use Rattle.ob_vault.specs.Words.{IsHonest}
 use Rattle.ob_stages.specs.declared.rows.Stage.{Stage}
 use Rattle.ob_stages.specs.declared.rows.Stage.TheVariants.{Count, Make, Read, Write, Emit, Discard, Over}
-use Rattle.ob_stages.specs.RowsStates.{RowsAt, HasCounted, HasRegion, IsFlown, IsPlaced, PlacedAt, all_passes, before_pass, emits_before, is_over, is_passed, kept_blocks, passes_pad, reads_before, result_in, seen_taking, small, table_blocks, taken, writes_before, taken_by}
-use Rattle.ob_stages.specs.RowsHolds.{HasBegun, HasShown, Holds, HoldsAt, IsCountOf, IsOnWay, all_selected, closing_of, events_if, head_of, is_shown, meant_events, meant_outcome, seen_ended}
+use Rattle.ob_stages.specs.RowsStates.{RowsAt, HasCounted, IsFlown, PlacedAt, emits_before, is_over, is_passed, passes_pad, reads_before, result_in, seen_taking, small, table_blocks, writes_before, taken_by}
+use Rattle.ob_stages.specs.RowsHolds.{HasBegun, HasShown, Holds, HoldsAt, IsCountOf, all_selected, events_if, head_of, is_shown, seen_ended}
 use Rattle.ob_stages.proofs.RowsMeans.{count_places, events_meant, result_shown, seen_meant}
 
 -- ---- what is held of what is seen

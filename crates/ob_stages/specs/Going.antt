@@ -1,5 +1,5 @@
 -- One that goes on: what is seen of it may yet turn out to end so.
-use Rattle.std.specs.Prelude.{◌≡◌, ◌<◌, ◌≤◌, ℕ, zero, suc, List, [], ◌∷◌, length, take, Option, Some, None, slice_get, refl}
+use Rattle.std.specs.Prelude.{◌≡◌, ◌<◌, ◌≤◌, ℕ, zero, suc, List, [], ◌∷◌, length, take, Some, None, slice_get, refl}
 use Rattle.std.proofs.Common.{◌∙◌, ap, arith}
 use Rattle.std.proofs.lemmas.List.{length-take}
 use Rattle.std.proofs.lemmas.Option.{slice_get_past}
@@ -39,4 +39,3 @@ past_end end all i whole most = ap (λ (e : End). slice_get (until_end e all) i)
 pub past_cut : (end : End) (all : List Access) (i : ℕ) → end ≡ Cut i → slice_get (until_end end all) i ≡ None
 past_cut end all i cut =
     ap (λ (e : End). slice_get (until_end e all) i) cut ∙ slice_get_past (take i all) i (omega (arith, length-take i all))
-

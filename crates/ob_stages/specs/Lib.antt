@@ -1,3 +1,4 @@
+pub mod Faults
 pub mod Totalling
 pub mod Reading
 pub mod ReadingLaws

@@ -16,7 +16,7 @@ use Rattle.ob_script.specs.Trace.{Served}
 use Rattle.ob_vault.specs.State.{World}
 use Rattle.ob_vault.specs.Tied.{Ready}
 use Rattle.ob_flat.specs.declared.fault.OpErr.{OpErr}
-use Rattle.ob_flat.specs.declared.fault.OpErr.TheVariants.{Failed, Tampered, Sink, NoMemory}
+use Rattle.ob_flat.specs.declared.fault.OpErr.TheVariants.{Sink, NoMemory}
 use Rattle.ob_flat.specs.declared.flat.Flat.{Flat}
 use Rattle.ob_flat.specs.Emission.{SlotsToEnd, SlotsToHalt}
 use Rattle.ob_flat.specs.Scans.{MayScan}
@@ -92,13 +92,6 @@ pub record StartsReading (p : Public) (n : ℕ) (s : SelectTotals) (t : Flat) (c
   pub asked : r.asked ≡ 0
   pub failed : r.failed ≡ false
   pub outcome : r.outcome ≡ None
-
--- whether an error is the store's fault
-abbrev pub is_fault : OpErr → Bool
-is_fault Failed = true
-is_fault (Tampered region place) = false
-is_fault Sink = false
-is_fault NoMemory = false
 
 -- ---- what it goes by
 -- what is public says that it reads these blocks of this table, whose columns its items and its condition name

@@ -1,8 +1,7 @@
 -- The next act of a SELECT of rows in flight, whatever turns out to be seen of it.
-use Rattle.std.proofs.Common.{◌≡◌, ◌<◌, ◌≤◌, ◌+◌, ◌-◌, ◌*◌, ◌==◌, ℕ, Bool, true, false, List, [], ◌∷◌, ◌++◌, length, refl, sym, ◌∙◌, ap, subst, arith}
+use Rattle.std.proofs.Common.{◌≡◌, ◌<◌, ◌≤◌, ◌+◌, ◌*◌, ◌==◌, ℕ, Bool, true, false, List, [], ◌++◌, refl, sym, ◌∙◌, ap}
 use Rattle.std.specs.Prelude.{Option, Some, None, slice_get, unwrap_or}
 use Rattle.std.specs.Option.{option_map_or}
-use Rattle.std.specs.Int.{div_ceil}
 use Rattle.std.proofs.lemmas.Bool.{eq-eqb, eqb-true}
 use Rattle.ob_base.specs.declared.access.Access.{Access}
 use Rattle.ob_base.specs.declared.access.Access.TheVariants as Accesses
@@ -26,16 +25,16 @@ use Rattle.ob_script.specs.Parts.{count_part, emission_part, small_part}
 use Rattle.ob_script.specs.Script.{after_count, behind_count, blocks_of, extent_of, flat_script, index_part_of, result_part, rows_width, script, select_part, table_script, until_end, whole_script}
 use Rattle.ob_script.specs.Trace.{Served}
 use Rattle.ob_select.specs.Selecting.{Selection, region_of}
-use Rattle.ob_select.specs.Settings.{AreSettings}
 use Rattle.ob_small.specs.Selection as Smalls
 use Rattle.ob_stages.specs.declared.rows.RowsFlight.{RowsFlight}
 use Rattle.ob_stages.specs.declared.rows.Stage.{Stage}
 use Rattle.ob_stages.specs.declared.rows.Stage.TheVariants.{Count, Make, Read, Write, Emit, Discard, Over}
-use Rattle.ob_stages.specs.Going.{GoesOn, at_going, past_end}
-use Rattle.ob_stages.specs.RowsStates.{RowsAt, IsFlown, ReadsTable, IsCounting, HasCounted, HasRegion, HasAsked, IsPlaced, MaySee, MayServe, MayRows, PlacedAt, Takes, emits_before, is_over, is_printing, kept_blocks, part_blocks, progress_of, reads_before, rows_at, rows_progress, rows_skeleton, served_of, seen_taking, small, table_blocks, taken_by, whole_length, writes_before}
+use Rattle.ob_stages.specs.Going.{GoesOn, at_going}
+use Rattle.ob_stages.specs.RowsStates.{RowsAt, IsFlown, ReadsTable, IsCounting, HasCounted, HasAsked, MaySee, MayServe, MayRows, PlacedAt, Takes, emits_before, is_over, is_printing, kept_blocks, part_blocks, progress_of, reads_before, rows_at, rows_progress, rows_skeleton, seen_taking, small, table_blocks, taken_by, writes_before}
 use Rattle.ob_stages.specs.SmallActs as Acts
 use Rattle.ob_script.proofs.Eaches.{at_front}
 use Rattle.ob_script.proofs.Places.{at_read}
+use Rattle.ob_select.proofs.ResultParts.{buffered_some}
 
 -- the settings with the region of its result
 abbrev pub with_region : Selection → ℕ → Public
@@ -92,10 +91,7 @@ module _ (q : Selection) (s : Skeleton) (flown : IsFlown q s) where
   script_takes z seen r k same takes = ap (until_end seen.end) (whole_takes z seen r k same takes)
 
   pub kept_some : 1 ≤ kept_blocks q
-  kept_some = kept (q.public.pack) (q.public.buffer) flown.settings.pack_least flown.settings.blocks
-    where
-      kept : (pack buffer : ℕ) → 1 ≤ pack → 3 * pack + 1 ≤ buffer → 1 ≤ buffered_blocks pack buffer
-      kept pack buffer some enough = grind arith
+  kept_some = buffered_some q.public flown.settings
 
 -- what is seen of one that has counted
 pub takes_seen : (pad : Option ℕ) (k : ℕ) (seen : Seen) → seen ≡ seen_taking pad k → Takes pad k seen

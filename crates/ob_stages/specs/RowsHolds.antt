@@ -1,5 +1,5 @@
 -- How a SELECT of rows in flight stands, over the present world.
-use Rattle.std.specs.Prelude.{◌≡◌, ◌⊎◌, ◌<◌, ◌≤◌, ◌+◌, ◌*◌, ℕ, zero, suc, Bool, true, false, not, ◌&&◌, nat_lt, IsTrue, List, [], ◌∷◌, ◌++◌, length, Option, Some, None, IsSome, Result}
+use Rattle.std.specs.Prelude.{◌≡◌, ◌⊎◌, ◌<◌, ◌≤◌, ◌+◌, ◌*◌, ℕ, zero, suc, Bool, true, false, not, nat_lt, IsTrue, List, [], ◌∷◌, ◌++◌, length, Option, Some, None, IsSome}
 use Rattle.ob_base.specs.declared.access.Access.{Access}
 use Rattle.ob_base.specs.declared.config.Plan.TheVariants.{Small as SmallPlan}
 use Rattle.ob_base.specs.declared.refusal.Refusal.TheVariants.{PadPassed, StoreFault}
@@ -19,7 +19,8 @@ use Rattle.ob_mean.specs.Prints.{Begun}
 use Rattle.ob_mean.specs.Verdict.{counted, ended as seen_to, rows_refusal}
 use Rattle.ob_row.specs.Slots.{Slots}
 use Rattle.ob_row.specs.Truth.{is_true}
-use Rattle.ob_select.specs.Selecting.{Selection, HoldsSeen, MayHold, Reaches, answer_events, places, selection_seen}
+use Rattle.ob_select.specs.Memory.{is_make}
+use Rattle.ob_select.specs.Selecting.{Selection, HoldsSeen, answer_events, places, selection_seen}
 use Rattle.ob_small.specs.Keeping.{chosen}
 use Rattle.ob_small.specs.Selection as Small
 use Rattle.ob_small.specs.Steps.{HasCollected, IsFilledTo, IsUnordered}
@@ -272,8 +273,8 @@ pub record IsOnWay (g : RowsAt) (events : List Event) (slots : Slots) : Type 0 w
 -- memory was wanted at the make of its result, or just before it where room was to be taken for that; or the emitter wanted it
 pub record LacksAt (g : RowsAt) (old new : World) : Type 0 where
   pub place : ((g.stage ≡ Make) × (g.q.public.pad ≡ None) × (new.store.asked ≡ old.store.asked))
-      ⊎ ((g.stage ≡ Make) × ((access : Access) × (new.store.asked ≡ old.store.asked ++ access ∷ [])))
-      ⊎ (is_printing g.stage ≡ true)
+      ⊎ ((g.stage ≡ Make) × ((access : Access) × IsTrue (is_make access) × (new.store.asked ≡ old.store.asked ++ access ∷ [])))
+      ⊎ ((is_printing g.stage ≡ true) × (g.failed ≡ false))
 
 pub record Halts (g : RowsAt) (events part : List Event) (e : OpErr) (old new : World) : Type 0 where
   pub told : (slots : Slots) → Represents g.q.public.pack g.q.flat slots old → IsHonest old old → IsUnfit new

@@ -1,20 +1,18 @@
 -- What lasts of a SELECT of rows in flight, whatever is done to other regions.
-use Rattle.std.proofs.Common.{◌≡◌, ◌⊎◌, inl, inr, ◌<◌, ◌≤◌, ◌+◌, ◌*◌, ◌∷◌, ◌++◌, ℕ, Bool, true, false, not, IsTrue, List, [], refl, sym, ◌∙◌, ap, subst, arith}
+use Rattle.std.proofs.Common.{◌≡◌, inl, inr, ◌<◌, ◌+◌, ◌*◌, ℕ, Bool, true, false, IsTrue, List, [], refl, sym, ◌∙◌, ap, subst, arith}
 use Rattle.std.specs.Prelude.{Option, Some, None, length}
 use Rattle.ob_base.specs.declared.refusal.Refusal.{Refusal}
 use Rattle.ob_base.specs.declared.refusal.Refusal.TheVariants as Refusals
-use Rattle.ob_base.specs.declared.seen.End.{End}
 use Rattle.ob_base.specs.declared.seen.Seen.{Seen}
 use Rattle.ob_base.specs.Events.{Event}
 use Rattle.ob_emit.proofs.BlocksEmitted.{emitted_lasts}
-use Rattle.ob_flat.specs.Flats.{Represents, table_region}
+use Rattle.ob_flat.specs.Flats.{table_region}
 use Rattle.ob_flat.proofs.Rows.{wide_same}
 use Rattle.ob_flat.proofs.Scanning.{may_scan_lasts}
 use Rattle.ob_flat.proofs.Tables.{represents_before}
 use Rattle.ob_inflight.specs.Leaving.{Leaves}
 use Rattle.ob_row.specs.Slots.{Slots}
 use Rattle.ob_row.specs.Truth.{is_true}
-use Rattle.ob_script.specs.Trace.{Served}
 use Rattle.ob_base.specs.Schemas.{width}
 use Rattle.ob_select.specs.Selecting.{Selection}
 use Rattle.ob_small.specs.Selection as Small
@@ -34,8 +32,8 @@ use Rattle.ob_stages.specs.declared.rows.Stage.{Stage}
 use Rattle.ob_stages.specs.declared.rows.Stage.TheVariants.{Count, Make, Read, Write, Emit, Discard, Over}
 use Rattle.ob_stages.specs.Going.{GoesOn}
 use Rattle.ob_stages.specs.RowsActs.{takes_seen}
-use Rattle.ob_stages.specs.RowsStates.{RowsAt, HasCounted, IsPlaced, MaySee, MayServe, MayRows, MayTake, PlacedAt, kept_blocks, passes_pad, result_in, rows_at, rows_progress, seen_taking, served_of, small, table_blocks, taken}
-use Rattle.ob_stages.specs.RowsHolds.{AnswersRows, AsMeant, EndedAt, FitRows, HasFilled, HasRead, HasShown, Holds, HoldsAt, IsCountOf, IsCutOff, IsGone, IsToEnd, NeedsAt, RowsFits, RowsHold, RowsNeeds, all_selected, own_at}
+use Rattle.ob_stages.specs.RowsStates.{RowsAt, HasCounted, MaySee, MayRows, MayTake, PlacedAt, kept_blocks, result_in, rows_at, rows_progress, seen_taking, small, table_blocks, taken}
+use Rattle.ob_stages.specs.RowsHolds.{AnswersRows, AsMeant, EndedAt, FitRows, HasFilled, HasShown, Holds, HoldsAt, IsCountOf, IsCutOff, IsGone, IsToEnd, NeedsAt, RowsFits, RowsHold, RowsNeeds, all_selected, own_at}
 
 -- ---- frames
 -- an honest world was honest before

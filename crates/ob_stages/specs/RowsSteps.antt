@@ -1,5 +1,5 @@
 -- What a step of a SELECT of rows in flight asks, and what it does.
-use Rattle.std.specs.Prelude.{◌≡◌, ◌⊎◌, ◌<◌, ◌≤◌, ◌+◌, ◌-◌, ◌^◌, min, nat_lt, if◌then◌else◌, ℕ, zero, suc, Bool, true, false, List, [], ◌∷◌, ◌++◌, ◌*◌, ◌==◌, Option, Some, None, Result, Ok, Err, OnOk, OnErr, IfOk, IfErr}
+use Rattle.std.specs.Prelude.{◌≡◌, ◌⊎◌, ◌<◌, ◌≤◌, ◌+◌, ◌-◌, ◌^◌, min, nat_lt, if◌then◌else◌, ℕ, zero, suc, Bool, true, false, List, [], ◌∷◌, ◌++◌, ◌*◌, ◌==◌, Option, Some, None, Result, OnOk, OnErr, IfOk, IfErr}
 use Rattle.ob_base.specs.declared.config.Plan.TheVariants.{Small}
 use Rattle.ob_base.specs.declared.seen.End.TheVariants.{Cut}
 use Rattle.ob_base.specs.declared.emit.EmitErr.{EmitErr}
@@ -14,7 +14,7 @@ use Rattle.ob_verdict.specs.declared.outcome.Outcome.TheVariants.{Rows, Refused}
 use Rattle.ob_flat.specs.declared.fault.OpErr.{OpErr}
 use Rattle.ob_flat.specs.Passes.{SinkCause}
 use Rattle.ob_flat.specs.Slots.{AreSlots}
-use Rattle.ob_inflight.specs.Answers.{IsHeld, Tells}
+use Rattle.ob_inflight.specs.Answers.{Tells}
 use Rattle.ob_inflight.specs.Progress.{Steps, StopsStep}
 use Rattle.ob_vault.specs.Numbers.{spent}
 use Rattle.ob_vault.specs.State.{World}
@@ -26,11 +26,10 @@ use Rattle.ob_base.specs.Schemas.{Columns, width}
 use Rattle.std.specs.Prelude.{length}
 use Rattle.ob_store.specs.State.{StoreState}
 use Rattle.ob_store.specs.Calls.{ChangesNothing}
-use Rattle.ob_stages.specs.declared.rows.RowsFlight.{RowsFlight}
 use Rattle.ob_stages.specs.declared.rows.Stage.{Stage}
-use Rattle.ob_stages.specs.declared.rows.Stage.TheVariants.{Count, Make, Read, Write, Emit, Discard, Over}
+use Rattle.ob_stages.specs.declared.rows.Stage.TheVariants.{Count, Make, Read, Over}
 use Rattle.ob_stages.specs.RowsStates.{RowsAt, MayServe, passes_pad, progress_of, table_blocks, whole_length}
-use Rattle.ob_stages.specs.RowsHolds.{Halts, Holds, NeedsAt, head_of, is_headless, left_of}
+use Rattle.ob_stages.specs.RowsHolds.{Halts, Holds, NeedsAt, is_headless, left_of}
 
 -- ---- what is asked
 -- how it stands, whatever rows are kept

@@ -1,7 +1,7 @@
 -- What stands at each place of the accesses of a Small selection: the count, the make of its region, its passes, the reads of
 -- the result and its discard.
-use Rattle.std.proofs.Common.{◌≡◌, ◌<◌, ◌≤◌, ◌+◌, ◌-◌, ◌*◌, ℕ, zero, suc, min, List, [], ◌∷◌, ◌++◌, length, take, refl, sym, ◌∙◌, ap, subst, arith, length-append}
-use Rattle.std.specs.Prelude.{Option, Some, None, slice_get}
+use Rattle.std.proofs.Common.{◌≡◌, ◌<◌, ◌≤◌, ◌+◌, ◌-◌, ◌*◌, ℕ, min, List, [], ◌++◌, length, refl, sym, ◌∙◌, ap, arith, length-append}
+use Rattle.std.specs.Prelude.{Some, slice_get}
 use Rattle.std.specs.Int.{div_ceil}
 use Rattle.ob_base.specs.declared.access.Access.{Access}
 use Rattle.ob_base.specs.declared.access.Access.TheVariants.{Make, Read, Write, Discard}
@@ -9,7 +9,7 @@ use Rattle.ob_base.specs.Accesses.{discard_at, make_at}
 use Rattle.ob_base.specs.Lists.{each}
 use Rattle.ob_script.specs.Parts.{count_part, emission_part, small_part, small_pass, write_from}
 use Rattle.ob_script.proofs.Eaches.{at_back, at_each, at_front}
-use Rattle.ob_script.proofs.Lengths.{length-count_part, length-ones, length-passes, small_shares}
+use Rattle.ob_script.proofs.Lengths.{length-count_part, length-passes, small_shares}
 use Rattle.ob_script.proofs.Places.{at_ones, at_read}
 use Rattle.ob_small.proofs.Lengths.{pass_inside}
 
@@ -88,6 +88,15 @@ module _ (t g blocks results q width : ℕ) (some : 1 ≤ q) (rest : List Access
   pub length-all : rest ≡ [] → length all ≡ blocks + 1 + (div_ceil results q * blocks + results) + results + 1
   length-all none =
       let more = ap (λ (l : List Access). length l) none in
-      omega (arith, more, length_passes, length-count_part t blocks, length-count_part g results, length-append (count_part t blocks) behind,
-      length-append (small_part t g blocks results q width ++ emission_part g results) rest, length-append (small_part t g blocks results q width) (emission_part g results),
-      length-append (make_at g results width) passes, length-append (count_part g results) (discard_at g))
+      omega (
+        arith,
+        more,
+        length_passes,
+        length-count_part t blocks,
+        length-count_part g results,
+        length-append (count_part t blocks) behind,
+        length-append (small_part t g blocks results q width ++ emission_part g results) rest,
+        length-append (small_part t g blocks results q width) (emission_part g results),
+        length-append (make_at g results width) passes,
+        length-append (count_part g results) (discard_at g),
+      )

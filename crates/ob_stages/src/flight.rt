@@ -55,7 +55,7 @@ impl<'a> Flyer for Flight<'a> {
 
     fn is_over(&self) -> bool {
         match self {
-            Flight::Refused(f) => f.is_over(),
+            Flight::Refused(_) => true,
             Flight::Rows(f) => f.is_over(),
             Flight::Totals(f) => f.is_over(),
             Flight::Groups(f) => f.is_over(),
@@ -64,7 +64,7 @@ impl<'a> Flyer for Flight<'a> {
 
     fn prints(&self) -> bool {
         match self {
-            Flight::Refused(f) => f.prints(),
+            Flight::Refused(_) => true,
             Flight::Rows(f) => f.prints(),
             Flight::Totals(f) => f.prints(),
             Flight::Groups(f) => f.prints(),
@@ -73,7 +73,7 @@ impl<'a> Flyer for Flight<'a> {
 
     fn booked(&self) -> u64 {
         match self {
-            Flight::Refused(f) => f.booked(),
+            Flight::Refused(_) => 0,
             Flight::Rows(f) => f.booked(),
             Flight::Totals(f) => f.booked(),
             Flight::Groups(f) => f.booked(),
@@ -90,7 +90,7 @@ impl<'a> Flyer for Flight<'a> {
         out: &mut E,
     ) -> Result<(), OpErr> {
         match self {
-            Flight::Refused(f) => f.step(store, vault, rows, kept, others, out),
+            Flight::Refused(_) => unreachable!(),
             Flight::Rows(f) => f.step(store, vault, rows, kept, others, out),
             Flight::Totals(f) => f.step(store, vault, rows, kept, others, out),
             Flight::Groups(f) => f.step(store, vault, rows, kept, others, out),
@@ -99,7 +99,7 @@ impl<'a> Flyer for Flight<'a> {
 
     fn finish<E: Emit>(&mut self, kept: &[ClearRow], out: &mut E) -> Result<Outcome, EmitErr> {
         match self {
-            Flight::Refused(f) => f.finish(kept, out),
+            Flight::Refused(f) => Ok(f.finish()),
             Flight::Rows(f) => f.finish(kept, out),
             Flight::Totals(f) => f.finish(kept, out),
             Flight::Groups(f) => f.finish(kept, out),

@@ -5,8 +5,9 @@ ghost use Rattle.ob_script.specs.Flights.{flight_public};
 ghost use Rattle.ob_stages.specs.Reading.{MayBoard, reading_progress};
 ghost use Rattle.ob_stages.specs.Groups.{StartsGroups};
 
+use crate::faults::is_fault;
 use crate::listing::items_at;
-use crate::reading::{Reading, is_fault};
+use crate::reading::Reading;
 use ob_base::{ColumnName, Emit, EmitErr, Public, Refusal, Seen};
 use ob_flat::{Flat, OpErr};
 use ob_group::{emit_groups, group_block};

@@ -1,6 +1,7 @@
 //! The SELECTs that fly: each kind's stages, a step of which asks one access.
 #![tactic(auto)]
 
+mod faults;
 mod flight;
 mod groups;
 mod listing;

@@ -1,8 +1,8 @@
 ghost use Rattle.std.specs.Prelude.{◌≡◌, ◌≤◌, ◌<◌, ◌+◌, true, Some};
-ghost use Rattle.ob_stages.specs.Reading.{StartsReading, is_fault, is_over, reads_left, served_of};
+ghost use Rattle.ob_stages.specs.Reading.{StartsReading, is_over, reads_left, served_of};
 
 use ob_base::{End, Public, Seen};
-use ob_flat::{Flat, OpErr};
+use ob_flat::Flat;
 use ob_row::Pred;
 use ob_sql::SelectTotals;
 use ob_verdict::Outcome;
@@ -111,15 +111,5 @@ impl<'a> Reading<'a> {
     {
         self.outcome = Some(outcome);
         outcome
-    }
-}
-
-/// Whether the store failed.
-pub(crate) fn is_fault(error: OpErr) -> bool
-    ensures { result ≡ is_fault error }
-{
-    match error {
-        OpErr::Failed => true,
-        OpErr::Tampered { .. } | OpErr::Sink | OpErr::NoMemory => false,
     }
 }

@@ -1,14 +1,10 @@
 //! A SELECT in flight that was refused before any access.
-ghost use Rattle.std.specs.Prelude.{◌≡◌};
+ghost use Rattle.std.specs.Prelude.{◌≡◌, Some};
+ghost use Rattle.ob_verdict.specs.declared.outcome.Outcome.TheVariants.{Refused};
 ghost use Rattle.ob_stages.specs.Refusing.{StartsRefused, refused_served};
 
-use ob_base::{Emit, EmitErr, End, Public, Refusal, Seen};
-use ob_flat::OpErr;
-use ob_inflight::Flyer;
-use ob_room::ClearRow;
+use ob_base::{End, Public, Refusal, Seen};
 use ob_sql::Stmt;
-use ob_store::BlockStore;
-use ob_vault::{Revisions, Vault};
 use ob_verdict::Outcome;
 
 /// A SELECT in flight that was refused before any access: it asks nothing.
@@ -54,62 +50,16 @@ impl<'a> RefusedFlight<'a> {
             end: End::Static,
         }
     }
-}
 
-impl<'a> Flyer for RefusedFlight<'a> {
-    ghost use Rattle.std.specs.Prelude.{◌≡◌, ⊤};
-    ghost use Rattle.std.proofs.Common.{refl};
-    ghost use Rattle.ob_stages.specs.Refusing.{IsRefused, refused_acts, refused_progress, refused_served};
-
-    ghost progress = { refused_progress };
-
-    ghost May = { λ f x. x ≡ refused_served f };
-
-    ghost Needs = { λ f q. ⊥ };
-
-    ghost Fits = { λ f rows kept. ⊤ };
-
-    ghost Holds = { λ f kept events w. IsRefused f events };
-
-    ghost Halts = { λ f events part e old new. ⊥ };
-
-    fn is_over(&self) -> bool {
-        true
-    }
-
-    fn prints(&self) -> bool {
-        true
-    }
-
-    fn booked(&self) -> u64 {
-        0
-    }
-
-    fn step<S: BlockStore, R: Revisions, E: Emit>(
-        &mut self,
-        _store: &mut S,
-        _vault: &mut Vault<R>,
-        _rows: &mut [ClearRow],
-        _kept: &mut [ClearRow],
-        _others: u64,
-        _out: &mut E,
-    ) -> Result<(), OpErr> {
-        unreachable!()
-    }
-
-    fn finish<E: Emit>(&mut self, _kept: &[ClearRow], _out: &mut E) -> Result<Outcome, EmitErr> {
+    /// Answers it with its refusal: nothing is emitted.
+    pub(crate) fn finish(&mut self) -> Outcome
+        ensures answer { result ≡ Refused self.old.refusal }
+        ensures ends { self.new ≡ record self.old {
+          outcome = Some (Refused self.old.refusal);
+        } }
+    {
         let outcome = Outcome::Refused(self.refusal);
         self.outcome = Some(outcome);
-        Ok(outcome)
+        outcome
     }
-
-    ghost served = { λ f kept events w is. refl };
-
-    ghost acts = { λ f x n may. refused_acts f x n may };
-
-    ghost frames = { λ f kept events w v leaves is. is };
-
-    ghost below = { λ f kept events w q is need. absurd need };
-
-    ghost refits = { λ f rows kept more own same as_many fits. fits };
 }

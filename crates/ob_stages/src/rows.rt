@@ -1,9 +1,6 @@
 //! A SELECT of a table's rows in flight.
-ghost use Rattle.std.specs.Prelude.{◌≡◌, ◌≤◌, ℕ, List, []};
-ghost use Rattle.ob_flat.specs.Scans.{MayScan};
-ghost use Rattle.ob_vault.specs.State.{World};
-ghost use Rattle.ob_vault.specs.Tied.{Ready};
-ghost use Rattle.ob_stages.specs.RowsStates.{IsFlown, IsOf, boarded_rows, rows_at, rows_skeleton, selection_by};
+ghost use Rattle.std.specs.Prelude.{◌≡◌, ◌≤◌};
+ghost use Rattle.ob_stages.specs.RowsStates.{IsFlown, IsOf, boarded_rows, rows_at, rows_progress, rows_skeleton, selection_by};
 ghost use Rattle.ob_stages.specs.RowsHolds.{BoardsRows, RowsHold};
 
 use crate::rows_emits::answer;
@@ -104,6 +101,13 @@ impl<'a> RowsFlight<'a> {
         };
         flight.booked = flight.known();
         flight
+    }
+
+    /// What is seen of it so far: where the store failed it, that it was cut off there.
+    pub fn seen(&self) -> Seen
+        ensures { result ≡ (rows_progress self.now).served.seen }
+    {
+        self.seen
     }
 }
 

@@ -10,6 +10,7 @@ ghost use Rattle.ob_stages.specs.RowsStates.{rows_at, rows_selection};
 ghost use Rattle.ob_stages.specs.RowsHolds.{FitsBlock, is_headless, left_of};
 ghost use Rattle.ob_stages.specs.RowsSteps.{Answers, IsHeldIn, LoudStep, ShowsBlock, StepsAt};
 
+use crate::faults::is_fault;
 use crate::rows::{RowsFlight, Stage};
 use ob_base::{Emit, EmitErr, Refusal, Shown};
 use ob_emit::{emit_block, emit_head, walk_block};
@@ -71,7 +72,17 @@ fn show<S: BlockStore, R: Revisions, E: Emit>(
     }
     let mut cells: [Shown; 32] = array::from_fn(|_| Shown::Null);
     let cols = flight.cols.as_slice();
-    emit_block(store, vault, rows, fresh, cols, place, flight.shown, &mut cells, out)
+    emit_block(
+        store,
+        vault,
+        rows,
+        fresh,
+        cols,
+        place,
+        flight.shown,
+        &mut cells,
+        out,
+    )
 }
 
 // Emits what is left of its answer, and answers it.
@@ -134,11 +145,14 @@ impl<'a> RowsFlight<'a> {
                 self.go(stage);
                 Ok(())
             }
-            Err(OpErr::Failed) => {
-                self.fail(vault);
-                Ok(())
+            Err(error) => {
+                if is_fault(error) {
+                    self.fail(vault);
+                    Ok(())
+                } else {
+                    Err(error)
+                }
             }
-            Err(error) => Err(error),
         }
     }
 }

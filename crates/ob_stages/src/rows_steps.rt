@@ -11,6 +11,7 @@ ghost use Rattle.ob_stages.specs.RowsStates.{IsSizedAt, known_by, rows_at, rows_
 ghost use Rattle.ob_stages.specs.RowsHolds.{FitRows, FitsBlock, FitsShare, Holds};
 ghost use Rattle.ob_stages.specs.RowsSteps.{Clears, ForgetsOwn, HasPart, IsHeldIn, QuietStep, StepsAt, TakesRoom, counted_to};
 
+use crate::faults::is_fault;
 use crate::rows::{RowsFlight, Stage};
 use ob_base::{End, NoMemory, Plan};
 use ob_flat::{Flat, OpErr, clear_rows, discard, make_table};
@@ -151,18 +152,30 @@ impl<'a> RowsFlight<'a> {
     {
         let n = self.k;
         let picked = collect_block(
-            store, vault, rows, &mut [], &self.flat, &self.pred, place, n, 0, 0,
+            store,
+            vault,
+            rows,
+            &mut [],
+            &self.flat,
+            &self.pred,
+            place,
+            n,
+            0,
+            0,
         );
         match picked {
             Ok(n) => {
                 self.counted(place, n);
                 Ok(())
             }
-            Err(OpErr::Failed) => {
-                self.fail(vault);
-                Ok(())
+            Err(error) => {
+                if is_fault(error) {
+                    self.fail(vault);
+                    Ok(())
+                } else {
+                    Err(error)
+                }
             }
-            Err(error) => Err(error),
         }
     }
 
@@ -222,12 +235,15 @@ impl<'a> RowsFlight<'a> {
                 });
                 Ok(())
             }
-            Err(OpErr::Failed) => {
-                self.region = Some(region);
-                self.fail(vault);
-                Ok(())
+            Err(error) => {
+                if is_fault(error) {
+                    self.region = Some(region);
+                    self.fail(vault);
+                    Ok(())
+                } else {
+                    Err(error)
+                }
             }
-            Err(error) => Err(error),
         }
     }
 
@@ -265,11 +281,14 @@ impl<'a> RowsFlight<'a> {
                 self.go(stage);
                 Ok(())
             }
-            Err(OpErr::Failed) => {
-                self.fail(vault);
-                Ok(())
+            Err(error) => {
+                if is_fault(error) {
+                    self.fail(vault);
+                    Ok(())
+                } else {
+                    Err(error)
+                }
             }
-            Err(error) => Err(error),
         }
     }
 
@@ -305,11 +324,14 @@ impl<'a> RowsFlight<'a> {
                 self.go(stage);
                 Ok(())
             }
-            Err(OpErr::Failed) => {
-                self.fail(vault);
-                Ok(())
+            Err(error) => {
+                if is_fault(error) {
+                    self.fail(vault);
+                    Ok(())
+                } else {
+                    Err(error)
+                }
             }
-            Err(error) => Err(error),
         }
     }
 

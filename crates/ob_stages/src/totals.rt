@@ -4,8 +4,9 @@ ghost use Rattle.ob_group.specs.Steps.{EmitsAll};
 ghost use Rattle.ob_stages.specs.Reading.{MayBoard, reading_progress};
 ghost use Rattle.ob_stages.specs.Totals.{StartsTotals, row_events};
 
+use crate::faults::is_fault;
 use crate::listing::aggs_at;
-use crate::reading::{Reading, is_fault};
+use crate::reading::Reading;
 use ob_base::{Emit, EmitErr, Public, Refusal, Seen};
 use ob_flat::{Flat, OpErr};
 use ob_group::{Sums, aggregate_block, emit_totals};

@@ -35,6 +35,20 @@ pub fn access_of(text: &str) -> Option<Access> {
     }
 }
 
+// Writes the letter of an access, its region, and what else it has.
+fn put_words(
+    out: &mut String,
+    letter: &str,
+    region: u64,
+    numbers: &[u32],
+) -> Result<(), AllocError> {
+    write!(out, "{letter} {region}")?;
+    for number in numbers {
+        write!(out, " {number}")?;
+    }
+    Ok(())
+}
+
 /// Writes an access, as the trace does.
 pub fn put_access(out: &mut String, access: Access) -> Result<(), AllocError> {
     match access {
@@ -42,15 +56,15 @@ pub fn put_access(out: &mut String, access: Access) -> Result<(), AllocError> {
             region,
             blocks,
             len,
-        } => write!(out, "M {region} {blocks} {len}"),
+        } => put_words(out, "M", region, &[blocks, len]),
         Access::Open {
             region,
             blocks,
             len,
-        } => write!(out, "O {region} {blocks} {len}"),
-        Access::Read { region, place } => write!(out, "R {region} {place}"),
-        Access::Write { region, place } => write!(out, "W {region} {place}"),
-        Access::Discard { region } => write!(out, "D {region}"),
+        } => put_words(out, "O", region, &[blocks, len]),
+        Access::Read { region, place } => put_words(out, "R", region, &[place]),
+        Access::Write { region, place } => put_words(out, "W", region, &[place]),
+        Access::Discard { region } => put_words(out, "D", region, &[]),
     }
 }
 
@@ -80,33 +94,44 @@ fn put_log(out: &mut String, log: &Log) -> Result<(), AllocError> {
     put_access(out, log.nth(count - 2))
 }
 
+// Lists the accesses that a text spells.
+fn list_all(log: &mut Log, text: &str) -> Result<(), AllocError> {
+    for word in text.split(", ") {
+        if let Some(access) = access_of(word) {
+            list(log, access)?;
+        }
+    }
+    Ok(())
+}
+
 /// Writes what a list of the accesses is that a text spells.
 pub fn listed(alloc: Global, out: &mut String, text: &str) -> Result<(), AllocError> {
     let mut log = Log::new(alloc);
-    for word in text.split(", ") {
-        if let Some(access) = access_of(word) {
-            list(&mut log, access)?;
-        }
-    }
+    list_all(&mut log, text)?;
     put_log(out, &log)
 }
 
-/// Likewise of those of an INSERT into a table of so many slots: region 1 is read, and then written to region 2.
-pub fn inserted(alloc: Global, out: &mut String, slots: u32) -> Result<(), AllocError> {
-    let mut log = Log::new(alloc);
+// Lists the accesses of an INSERT into a table of so many slots: region 1 is read, and then written to region 2.
+fn list_insert(log: &mut Log, slots: u32) -> Result<(), AllocError> {
     let made = Access::Make {
         region: 2,
         blocks: slots,
         len: 49,
     };
-    list(&mut log, made)?;
+    list(log, made)?;
     for place in 0..slots {
-        list(&mut log, Access::Read { region: 1, place })?;
+        list(log, Access::Read { region: 1, place })?;
     }
     for place in 0..slots {
-        list(&mut log, Access::Read { region: 1, place })?;
-        list(&mut log, Access::Write { region: 2, place })?;
+        list(log, Access::Read { region: 1, place })?;
+        list(log, Access::Write { region: 2, place })?;
     }
-    list(&mut log, Access::Discard { region: 1 })?;
+    list(log, Access::Discard { region: 1 })
+}
+
+/// Likewise of those of an INSERT.
+pub fn inserted(alloc: Global, out: &mut String, slots: u32) -> Result<(), AllocError> {
+    let mut log = Log::new(alloc);
+    list_insert(&mut log, slots)?;
     put_log(out, &log)
 }

@@ -37,23 +37,29 @@ fn read(alloc: Global, out: &mut String, reader: &str, text: &str) -> Result<(),
     }
 }
 
-// What a line is answered.
-fn answer(alloc: Global, line: &str) -> Result<String, AllocError> {
-    let mut out = String::from_str(alloc, line)?;
+// Writes a line, and what it is answered.
+fn put_answer(alloc: Global, out: &mut String, line: &str) -> Result<(), AllocError> {
+    out.push_str(line)?;
     if line.is_empty() || line.starts_with('#') {
-        return Ok(out);
+        return Ok(());
     }
     let (reader, text) = parted(line);
     out.push_str(" ->")?;
     match reader {
-        "memory" => runs::in_memory(MemStore::new(alloc), text, 8, &mut out)?,
-        "meddled" => runs::meddled(alloc, text, false, &mut out)?,
-        "early" => runs::meddled(alloc, text, true, &mut out)?,
+        "memory" => runs::in_memory(MemStore::new(alloc), text, 8, out),
+        "meddled" => runs::meddled(alloc, text, false, out),
+        "early" => runs::meddled(alloc, text, true, out),
         _ => {
             out.push_str(" ")?;
-            read(alloc, &mut out, reader, text)?;
+            read(alloc, out, reader, text)
         }
     }
+}
+
+// What a line is answered.
+fn answer(alloc: Global, line: &str) -> Result<String, AllocError> {
+    let mut out = String::new(alloc);
+    put_answer(alloc, &mut out, line)?;
     Ok(out)
 }
 

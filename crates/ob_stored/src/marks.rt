@@ -13,25 +13,31 @@ fn line_of(alloc: Global, mark: &Mark) -> Result<Vec<u8>, AllocError> {
     }
 }
 
-/// Writes the mark that a line spells, and whether that mark is spelt otherwise.
-pub fn read(alloc: Global, out: &mut String, text: &str) -> Result<(), AllocError> {
-    let line = spelled_by(alloc, text)?;
-    let Some(mark) = mark_of(line.as_slice()) else {
-        return out.push_str("none");
-    };
+// Writes where a closing lies, and what else is known of it.
+fn put_closing(
+    out: &mut String,
+    region: u64,
+    blocks: u32,
+    number: u64,
+    pack: u32,
+) -> Result<(), AllocError> {
+    write!(
+        out,
+        "region {region}, blocks {blocks}, number {number}, pack {pack}"
+    )
+}
+
+fn put_mark(out: &mut String, mark: &Mark) -> Result<(), AllocError> {
     match mark {
-        Mark::Fresh => out.push_str("fresh")?,
-        Mark::InUse => out.push_str("in use")?,
+        Mark::Fresh => out.push_str("fresh"),
+        Mark::InUse => out.push_str("in use"),
         Mark::Closed {
             region,
             blocks,
             number,
             pack,
-        } => write!(
-            out,
-            "region {region}, blocks {blocks}, number {number}, pack {pack}"
-        )?,
-        Mark::Begun => out.push_str("begun")?,
+        } => put_closing(out, *region, *blocks, *number, u32::from(*pack)),
+        Mark::Begun => out.push_str("begun"),
         Mark::Saved {
             region,
             blocks,
@@ -39,17 +45,29 @@ pub fn read(alloc: Global, out: &mut String, text: &str) -> Result<(), AllocErro
             pack,
             salt,
         } => {
-            write!(
-                out,
-                "region {region}, blocks {blocks}, number {number}, pack {pack}, salt "
-            )?;
-            put(out, &salt)?;
+            put_closing(out, *region, *blocks, *number, u32::from(*pack))?;
+            out.push_str(", salt ")?;
+            put(out, salt)
         }
     }
-    if line_of(alloc, &mark)?.as_slice() != line.as_slice() {
+}
+
+// Writes the mark that a line spells, and whether that mark is spelt otherwise.
+fn put_spelt(alloc: Global, out: &mut String, line: &[u8]) -> Result<(), AllocError> {
+    let Some(mark) = mark_of(line) else {
+        return out.push_str("none");
+    };
+    put_mark(out, &mark)?;
+    if line_of(alloc, &mark)?.as_slice() != line {
         out.push_str(", and spelt otherwise")?;
     }
     Ok(())
+}
+
+/// Writes the mark that a text spells, and whether that mark is spelt otherwise.
+pub fn read(alloc: Global, out: &mut String, text: &str) -> Result<(), AllocError> {
+    let line = spelled_by(alloc, text)?;
+    put_spelt(alloc, out, line.as_slice())
 }
 
 /// Writes how many bytes the line of a fresh mark has.

@@ -45,6 +45,17 @@ fn any(alloc: Global) -> Result<Pred, AllocError> {
     Pred::or(alloc, both, Pred::all())
 }
 
+// Writes a cell.
+fn put_value(out: &mut String, cell: &Cell) -> Result<(), AllocError> {
+    match cell {
+        Cell::Int(value) => write!(out, ", {value}"),
+        Cell::Text(text) => match str::from_utf8(text.as_bytes()) {
+            Ok(text) => write!(out, ", <{text}>"),
+            Err(_) => out.push_str(", no text"),
+        },
+    }
+}
+
 // Writes a cell of a row.
 fn put_cell(out: &mut String, schema: &Schema, row: &ClearRow, i: u8) -> Result<(), AllocError>
     requires wide { width schema.now ≤ length row.now }
@@ -54,11 +65,37 @@ fn put_cell(out: &mut String, schema: &Schema, row: &ClearRow, i: u8) -> Result<
     }
     match decode(schema, row, i) {
         Err(_) => out.push_str(", malformed"),
-        Ok(Cell::Int(value)) => write!(out, ", {value}"),
-        Ok(Cell::Text(text)) => match str::from_utf8(text.as_bytes()) {
-            Ok(text) => write!(out, ", <{text}>"),
-            Err(_) => out.push_str(", no text"),
-        },
+        Ok(cell) => put_value(out, &cell),
+    }
+}
+
+// Writes whether the bytes are a row.
+fn put_kind(out: &mut String, schema: &Schema, row: &ClearRow) -> Result<(), AllocError>
+    requires wide { width schema.now ≤ length row.now }
+{
+    if is_dummy(row) {
+        out.push_str(", zeros")?;
+    }
+    match read_row(schema, row) {
+        Ok(true) => out.push_str(", a row"),
+        Ok(false) => out.push_str(", no row"),
+        Err(_) => out.push_str(", no row and no dummy"),
+    }
+}
+
+// Writes whether a condition selects the row.
+fn put_selected(
+    out: &mut String,
+    pred: &Pred,
+    schema: &Schema,
+    row: &ClearRow,
+) -> Result<(), AllocError>
+    requires wide { width schema.now ≤ length row.now }
+{
+    match holds(pred, schema, row) {
+        Ok(true) => out.push_str(", selected"),
+        Ok(false) => out.push_str(", not selected"),
+        Err(_) => out.push_str(", malformed"),
     }
 }
 
@@ -74,21 +111,10 @@ fn put_row(
     if row.bytes().len() < width as usize {
         return out.push_str(", too short");
     }
-    if is_dummy(row) {
-        out.push_str(", zeros")?;
-    }
-    match read_row(schema, row) {
-        Ok(true) => out.push_str(", a row")?,
-        Ok(false) => out.push_str(", no row")?,
-        Err(_) => out.push_str(", no row and no dummy")?,
-    }
+    put_kind(out, schema, row)?;
     put_cell(out, schema, row, 0)?;
     put_cell(out, schema, row, 1)?;
-    match holds(&any(alloc)?, schema, row) {
-        Ok(true) => out.push_str(", selected"),
-        Ok(false) => out.push_str(", not selected"),
-        Err(_) => out.push_str(", malformed"),
-    }
+    put_selected(out, &any(alloc)?, schema, row)
 }
 
 // Writes these bytes into a row.

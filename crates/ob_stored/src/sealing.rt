@@ -32,12 +32,19 @@ const EARLIER: [Salted; 3] = [
     },
 ];
 
+// Copies the bytes, as far as there is room.
+fn copy_bytes(key: &mut [u8], bytes: &[u8]) {
+    for i in 0..key.len() {
+        if i < bytes.len() {
+            key[i] = bytes[i];
+        }
+    }
+}
+
 // The bytes, with zeros behind them up to 32.
 fn key_of(bytes: &[u8]) -> [u8; 32] {
     let mut key = [0; 32];
-    for i in 0..32 {
-        key[i] = *bytes.get(i).unwrap_or(&0);
-    }
+    copy_bytes(&mut key, bytes);
     key
 }
 

@@ -4,8 +4,9 @@ use Rattle.ob_base.specs.Events.{Head, Row, Close, Leads}
 use Rattle.ob_base.specs.Limits.{buffered}
 use Rattle.ob_vault.specs.Places.{at}
 use Rattle.ob_flat.specs.declared.fault.OpErr.{OpErr}
+use Rattle.ob_group.specs.Steps.{EmitsAll}
 use Rattle.ob_stages.specs.Totalling.{agg_at}
-use Rattle.ob_exec.specs.Totalling.{Gives, Totals}
+use Rattle.ob_exec.specs.Totalling.{Totals}
 use Rattle.ob_stages.proofs.TotalsLemmas.{aggs_fit, aggs_labels}
 use Rattle.ob_exec.proofs.TotallingLemmas.{totals_none, totals_row, totals_row_cut}
 use Rattle.ob_exec.proofs.totalling.answer_aggregates.Goals as goal
@@ -49,7 +50,7 @@ returns-in-Err-emit_row-clause-totals g c =
     let labels = take (length aggs) c.labels_of-labels.result in
     let error = c.in-Err-emit_row.error in
     let given =
-    subst (λ (cells : List Shown). Gives {T = Unit {0}} emit.grew emit.cut emit.faults (Head labels ∷ Row cells ∷ Close 1 ∷ []) (Err error) c.args.out.now c.emit_row.new.out) c.as_slice-in-Ok.ensures
+    subst (λ (cells : List Shown). EmitsAll {T = Unit {0}} emit.grew emit.cut emit.faults (Head labels ∷ Row cells ∷ Close 1 ∷ []) (Err error) c.args.out.now c.emit_row.new.out) c.as_slice-in-Ok.ensures
     c.in-Err-emit_row.ensures in
     subst (λ (e : OpErr). Totals emit.grew emit.cut emit.faults (buffered room.pack room.rows) room.pack c.args.flat.now c.args.select.now (Err e) was now c.args.out.now c.emit_row.new.out) (sym c.error_of.ensures)
     (totals_row_cut emit.grew emit.cut emit.faults (buffered room.pack room.rows) room.pack c.args.flat.now c.args.select.now c.args.pred.now was now may.items may.meant aggs c.requires.ungrouped aggs_are

@@ -28,20 +28,20 @@ module _ (f of after : Flight) (same : f ≡ of) (result : Result (Unit {0}) OpE
 pub returns-in-Rows-clause-steps : goal.returns-in-Rows-clause-steps
 returns-in-Rows-clause-steps g c =
     let old = at g.R.Revisions.state c.args.vault.now (g.S.BlockStore.state c.args.store.now) in
-    let new = at g.R.Revisions.state c.step-in-Rows.new.vault (g.S.BlockStore.state c.step-in-Rows.new.store) in
-    steps_as c.args.self.now (Rows c.in-Rows.f) (Rows c.step-in-Rows.new.self) c.in-Rows.is c.step-in-Rows.result old new c.args.others c.step-in-Rows.ensures.steps
+    let new = at g.R.Revisions.state c.step.new.vault (g.S.BlockStore.state c.step.new.store) in
+    steps_as c.args.self.now (Rows c.in-Rows.f) (Rows c.step.new.self) c.in-Rows.is c.step.result old new c.args.others c.step.ensures.steps
 
 pub returns-in-Rows-clause-stops : goal.returns-in-Rows-clause-stops
 returns-in-Rows-clause-stops g c =
     let old = at g.R.Revisions.state c.args.vault.now (g.S.BlockStore.state c.args.store.now) in
-    let new = at g.R.Revisions.state c.step-in-Rows.new.vault (g.S.BlockStore.state c.step-in-Rows.new.store) in
-    stops_as c.args.self.now (Rows c.in-Rows.f) (Rows c.step-in-Rows.new.self) c.in-Rows.is c.step-in-Rows.result old new c.step-in-Rows.ensures.stops
+    let new = at g.R.Revisions.state c.step.new.vault (g.S.BlockStore.state c.step.new.store) in
+    stops_as c.args.self.now (Rows c.in-Rows.f) (Rows c.step.new.self) c.in-Rows.is c.step.result old new c.step.ensures.stops
 
 pub returns-in-Rows-clause-tells : goal.returns-in-Rows-clause-tells
 returns-in-Rows-clause-tells g c =
     let old = at g.R.Revisions.state c.args.vault.now (g.S.BlockStore.state c.args.store.now) in
-    let new = at g.R.Revisions.state c.step-in-Rows.new.vault (g.S.BlockStore.state c.step-in-Rows.new.store) in
-    tells_as c.args.self.now (Rows c.in-Rows.f) (Rows c.step-in-Rows.new.self) c.in-Rows.is c.step-in-Rows.result old new g.E.Emit.grew g.E.Emit.cut c.args.kept.now c.step-in-Rows.new.kept c.args.out.now c.step-in-Rows.new.out c.step-in-Rows.ensures.tells
+    let new = at g.R.Revisions.state c.step.new.vault (g.S.BlockStore.state c.step.new.store) in
+    tells_as c.args.self.now (Rows c.in-Rows.f) (Rows c.step.new.self) c.in-Rows.is c.step.result old new g.E.Emit.grew g.E.Emit.cut c.args.kept.now c.step.new.kept c.args.out.now c.step.new.out c.step.ensures.tells
 
 pub returns-in-Totals-clause-steps : goal.returns-in-Totals-clause-steps
 returns-in-Totals-clause-steps g c =

@@ -5,7 +5,8 @@ use Rattle.ob_group.specs.Held.{MayGrow}
 use Rattle.ob_group.specs.Passes.{AreItems}
 use Rattle.ob_sql.specs.declared.stmt.Listed.{Listed}
 use Rattle.ob_stages.specs.Groups.{items_of}
-use Rattle.ob_stages.proofs.ReadingSteps.{failed_by, not_fault, sink_read}
+use Rattle.ob_stages.proofs.FaultLemmas.{failed_by, not_fault}
+use Rattle.ob_stages.proofs.ReadingSteps.{sink_read}
 use Rattle.ob_stages.proofs.TotalsLemmas.{items_fit}
 use Rattle.ob_stages.proofs.GroupsSteps.{grows, groups_fault_steps, groups_fault_tell, groups_fits_fault, groups_fits_on, groups_steps, groups_stop_tell, groups_stops, groups_tell}
 use Rattle.ob_stages.proofs.groups.GroupsFlightFlyer.step.Goals as goal

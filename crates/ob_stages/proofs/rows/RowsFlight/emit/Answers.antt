@@ -1,11 +1,11 @@
-use Rattle.std.proofs.Common.{◌-◌, ℕ, List, Ok, Err, sym, ◌∙◌, ap, subst, refl}
-use Rattle.ob_flat.specs.declared.fault.OpErr.{OpErr}
+use Rattle.std.proofs.Common.{◌-◌, Ok, Err, sym, ◌∙◌, subst, refl}
 use Rattle.ob_vault.specs.Places.{at}
 use Rattle.ob_stages.specs.declared.rows.RowsFlight.{RowsFlight}
 use Rattle.ob_stages.specs.declared.rows.Stage.{Stage}
 use Rattle.ob_stages.specs.declared.rows.Stage.TheVariants.{Emit}
 use Rattle.ob_stages.specs.RowsStates.{rows_at}
 use Rattle.ob_stages.specs.RowsSteps.{LoudStep}
+use Rattle.ob_stages.proofs.FaultLemmas.{failed_by, not_fault}
 use Rattle.ob_stages.proofs.RowsAsks.{shows_as}
 use Rattle.ob_stages.proofs.RowsEmits.{loud_failed, loud_shown, loud_stopped}
 use Rattle.ob_stages.proofs.RowsGoing.{few_at, stepped}
@@ -30,21 +30,21 @@ returns-in-Ok-clause-loud g c = λ kept.
     (sym c.after_emit-stage.ensures)
     (loud_shown g.E.Emit.grew g.E.Emit.cut g.E.Emit.faults flight c.args.place c.in-Some.region c.args.others old c.requires.steps c.requires.held c.in-Some.is c.args.out.now c.show.new.out c.in-Ok.shown new tt kept block))
 
-pub returns-in-Err-Failed-clause-loud : goal.returns-in-Err-Failed-clause-loud
-returns-in-Err-Failed-clause-loud g c = λ kept.
+pub returns-then-is_fault-clause-loud : goal.returns-then-is_fault-clause-loud
+returns-then-is_fault-clause-loud g c = λ kept.
     let flight = rows_at c.args.self.now in
     let old = at g.R.Revisions.state c.args.vault.now (g.S.BlockStore.state c.args.store.now) in
     let mid = at g.R.Revisions.state c.show.new.vault (g.S.BlockStore.state c.show.new.store) in
     let new = at g.R.Revisions.state c.fail.new.vault (g.S.BlockStore.state c.show.new.store) in
     let block =
     shows_as g.E.Emit.grew g.E.Emit.cut g.E.Emit.faults flight c.args.place c.in-Some.region c.result-fresh.result c.args.rows.now c.show.result _ old mid c.args.out.now c.show.new.out c.requires.fit c.result-fresh.ensures
-    (c.in-Err-Failed.is ∙ ap (λ (e : OpErr). Err e) c.in-Err-Failed.field-0-is) c.show.ensures.shows in
+    (failed_by c.show.result c.in-Err.error c.in-Err.is (sym c.is_fault.ensures ∙ c.if-is_fault.true)) c.show.ensures.shows in
     subst (λ (h : RowsFlight). LoudStep {T = Unit {0}} g.E.Emit.grew g.E.Emit.cut g.E.Emit.faults flight (rows_at h) c.args.others kept (Ok tt) old new c.args.out.now c.show.new.out) (sym c.fail.ensures.is)
     (loud_failed g.E.Emit.grew g.E.Emit.cut g.E.Emit.faults flight c.args.place c.in-Some.region c.args.others old c.requires.steps c.requires.held c.in-Some.is c.args.out.now c.show.new.out mid new c.show.ensures.spent
     (c.fail.ensures.forgets (g.S.BlockStore.state c.show.new.store)) refl tt kept block)
 
-pub returns-in-Err : goal.returns-in-Err
-returns-in-Err g c =
+pub returns-else-is_fault : goal.returns-else-is_fault
+returns-else-is_fault g c =
     let flight = rows_at c.args.self.now in
     let old = at g.R.Revisions.state c.args.vault.now (g.S.BlockStore.state c.args.store.now) in
     let new = at g.R.Revisions.state c.show.new.vault (g.S.BlockStore.state c.show.new.store) in
@@ -54,5 +54,5 @@ returns-in-Err g c =
     record {
       rows = c.show.ensures.rows;
       loud = λ kept.
-          loud_stopped g.E.Emit.grew g.E.Emit.cut g.E.Emit.faults flight c.args.place c.in-Some.region c.args.others old c.requires.steps c.requires.held c.in-Some.is c.args.out.now c.show.new.out c.in-Err.error new c.in-Err.error-is kept block;
+          loud_stopped g.E.Emit.grew g.E.Emit.cut g.E.Emit.faults flight c.args.place c.in-Some.region c.args.others old c.requires.steps c.requires.held c.in-Some.is c.args.out.now c.show.new.out c.in-Err.error new (not_fault c.in-Err.error (sym c.is_fault.ensures ∙ c.if-is_fault.false)) kept block;
     }

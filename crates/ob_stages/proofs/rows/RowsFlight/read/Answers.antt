@@ -1,5 +1,4 @@
-use Rattle.std.proofs.Common.{◌≡◌, ◌*◌, ℕ, List, Ok, Err, sym, ◌∙◌, ap, subst, refl, arith}
-use Rattle.ob_flat.specs.declared.fault.OpErr.{OpErr}
+use Rattle.std.proofs.Common.{◌*◌, ℕ, Ok, Err, sym, ◌∙◌, ap, subst, refl, arith}
 use Rattle.ob_vault.specs.Places.{at}
 use Rattle.ob_stages.specs.declared.rows.RowsFlight.{RowsFlight}
 use Rattle.ob_stages.specs.declared.rows.Stage.{Stage}
@@ -7,6 +6,7 @@ use Rattle.ob_stages.specs.declared.rows.Stage.TheVariants.{Read}
 use Rattle.ob_stages.specs.RowsStates.{kept_blocks, rows_at, rows_selection}
 use Rattle.ob_stages.specs.RowsSteps.{QuietStep, gone_to}
 use Rattle.ob_stages.proofs.RowsAsks.{collects_as, fits_as, read_first, read_from, read_some, read_spare}
+use Rattle.ob_stages.proofs.FaultLemmas.{failed_by, not_fault}
 use Rattle.ob_stages.proofs.RowsGoing.{few_at}
 use Rattle.ob_stages.proofs.RowsQuiet.{quiet_read, quiet_read_failed, quiet_read_stopped}
 use Rattle.ob_stages.proofs.rows.RowsFlight.read.Goals as goal
@@ -49,8 +49,8 @@ returns-in-Ok-clause-quiet g c =
     (subst (λ (s : Stage). QuietStep {T = Unit {0}} flight (gone_to s flight) c.args.others c.args.kept.now after (Ok tt) old new) (sym c.after_read-stage.ensures)
     (quiet_read flight c.args.pass c.args.place c.args.seen c.args.others c.args.kept.now old c.requires.steps c.requires.held tt c.in-Ok.n after new block))
 
-pub returns-in-Err-Failed-clause-quiet : goal.returns-in-Err-Failed-clause-quiet
-returns-in-Err-Failed-clause-quiet g c =
+pub returns-then-is_fault-clause-quiet : goal.returns-then-is_fault-clause-quiet
+returns-then-is_fault-clause-quiet g c =
     let flight = rows_at c.args.self.now in
     let old = at g.R.Revisions.state c.args.vault.now (g.S.BlockStore.state c.args.store.now) in
     let mid = at g.R.Revisions.state c.collect_block-picked.new.vault (g.S.BlockStore.state c.collect_block-picked.new.store) in
@@ -59,13 +59,13 @@ returns-in-Err-Failed-clause-quiet g c =
     let after = c.collect_block-picked.new.kept in
     let block =
     collects_as flight c.args.pass c.args.place c.args.seen _ _ c.args.rows.now c.args.kept.now after c.collect_block-picked.result _ old mid c.requires.fit.block (λ i. c.args.pass * c.buffered.ensures.value i * c.pack.ensures i)
-    c.taken-k.ensures (c.in-Err-Failed.is ∙ ap (λ (e : OpErr). Err e) c.in-Err-Failed.field-0-is) did.collects in
+    c.taken-k.ensures (failed_by c.collect_block-picked.result c.in-Err.error c.in-Err.is (sym c.is_fault.ensures ∙ c.if-is_fault.true)) did.collects in
     subst (λ (h : RowsFlight). QuietStep {T = Unit {0}} flight (rows_at h) c.args.others c.args.kept.now after (Ok tt) old new) (sym c.fail.ensures.is)
     (quiet_read_failed flight c.args.pass c.args.place c.args.seen c.args.others c.args.kept.now old c.requires.steps c.requires.held tt after mid new block did.spent
     (c.fail.ensures.forgets (g.S.BlockStore.state c.collect_block-picked.new.store)) refl)
 
-pub returns-in-Err : goal.returns-in-Err
-returns-in-Err g c =
+pub returns-else-is_fault : goal.returns-else-is_fault
+returns-else-is_fault g c =
     let flight = rows_at c.args.self.now in
     let old = at g.R.Revisions.state c.args.vault.now (g.S.BlockStore.state c.args.store.now) in
     let new = at g.R.Revisions.state c.collect_block-picked.new.vault (g.S.BlockStore.state c.collect_block-picked.new.store) in
@@ -77,5 +77,5 @@ returns-in-Err g c =
     record {
       rows = did.rows;
       kept = did.kept;
-      quiet = quiet_read_stopped flight c.args.pass c.args.place c.args.seen c.args.others c.args.kept.now old c.requires.steps c.requires.held c.in-Err.error after new c.in-Err.error-is block;
+      quiet = quiet_read_stopped flight c.args.pass c.args.place c.args.seen c.args.others c.args.kept.now old c.requires.steps c.requires.held c.in-Err.error after new (not_fault c.in-Err.error (sym c.is_fault.ensures ∙ c.if-is_fault.false)) block;
     }

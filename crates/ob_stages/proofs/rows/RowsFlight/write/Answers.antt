@@ -1,5 +1,4 @@
-use Rattle.std.proofs.Common.{◌≡◌, ◌+◌, ◌*◌, ℕ, List, Ok, Err, sym, ◌∙◌, ap, subst, refl}
-use Rattle.ob_flat.specs.declared.fault.OpErr.{OpErr}
+use Rattle.std.proofs.Common.{◌+◌, ◌*◌, ℕ, Ok, sym, ◌∙◌, ap, subst, refl}
 use Rattle.ob_flat.specs.declared.flat.Flat.{Flat}
 use Rattle.ob_vault.specs.Places.{at}
 use Rattle.ob_stages.specs.declared.rows.RowsFlight.{RowsFlight}
@@ -8,6 +7,7 @@ use Rattle.ob_stages.specs.declared.rows.Stage.TheVariants.{Write}
 use Rattle.ob_stages.specs.RowsStates.{kept_blocks, rows_at, rows_selection}
 use Rattle.ob_stages.specs.RowsSteps.{Clears, HasPart, QuietStep, gone_to}
 use Rattle.ob_stages.proofs.RowsAsks.{write_asks, write_part_of, write_some, writes_as}
+use Rattle.ob_stages.proofs.FaultLemmas.{failed_by}
 use Rattle.ob_stages.proofs.RowsGoing.{few_at}
 use Rattle.ob_stages.proofs.RowsQuiet.{quiet_write, quiet_write_failed}
 use Rattle.ob_stages.proofs.rows.RowsFlight.write.Goals as goal
@@ -46,8 +46,8 @@ returns-in-Ok-clause-quiet g c =
     (quiet_write flight c.args.pass c.args.place c.in-Some.region c.args.others c.args.kept.now old c.requires.steps c.requires.held c.in-Some.is tt after new c.requires.fit c.clear_for.ensures.size.count
     (subst (λ (s : Stage). Clears s c.args.kept.now after) c.after_write-stage.ensures c.clear_for.ensures.clears) block))
 
-pub returns-in-Err-Failed-clause-quiet : goal.returns-in-Err-Failed-clause-quiet
-returns-in-Err-Failed-clause-quiet g c =
+pub returns-then-is_fault-clause-quiet : goal.returns-then-is_fault-clause-quiet
+returns-then-is_fault-clause-quiet g c =
     let flight = rows_at c.args.self.now in
     let q = rows_selection c.args.self.now in
     let old = at g.R.Revisions.state c.args.vault.now (g.S.BlockStore.state c.args.store.now) in
@@ -55,7 +55,7 @@ returns-in-Err-Failed-clause-quiet g c =
     let new = at g.R.Revisions.state c.fail.new.vault (g.S.BlockStore.state c.write_part.new.store) in
     let block =
     writes_as flight c.pack.result (c.args.pass * kept_blocks q + c.args.place) c.args.place (c.args.pass * c.buffered.result + c.args.place) c.in-Some.region c.result-to.result c.args.kept.now c.write_part.result _ old mid
-    c.pack.ensures c.result-to.ensures (ap (λ (n : ℕ). c.args.pass * n + c.args.place) c.buffered.ensures.value) (c.in-Err-Failed.is ∙ ap (λ (e : OpErr). Err e) c.in-Err-Failed.field-0-is) c.write_part.ensures.writes in
+    c.pack.ensures c.result-to.ensures (ap (λ (n : ℕ). c.args.pass * n + c.args.place) c.buffered.ensures.value) (failed_by c.write_part.result c.in-Err.error c.in-Err.is (sym c.is_fault.ensures ∙ c.if-is_fault.true)) c.write_part.ensures.writes in
     subst (λ (h : RowsFlight). QuietStep {T = Unit {0}} flight (rows_at h) c.args.others c.args.kept.now c.args.kept.now (Ok tt) old new) (sym c.fail.ensures.is)
     (quiet_write_failed flight c.args.pass c.args.place c.in-Some.region c.args.others c.args.kept.now old c.requires.steps c.requires.held c.in-Some.is tt c.args.kept.now mid new block c.write_part.ensures.spent
     (c.fail.ensures.forgets (g.S.BlockStore.state c.write_part.new.store)) refl)

@@ -6,7 +6,8 @@ use Rattle.ob_stages.specs.declared.reading.Reading.{Reading}
 use Rattle.ob_stages.specs.Reading.{FitsTable}
 use Rattle.ob_stages.specs.ReadingLaws.{table_refits}
 use Rattle.ob_stages.specs.Totals.{aggs_of}
-use Rattle.ob_stages.proofs.ReadingSteps.{failed_by, fits_fault, fits_on, not_fault, sink_read}
+use Rattle.ob_stages.proofs.FaultLemmas.{failed_by, not_fault}
+use Rattle.ob_stages.proofs.ReadingSteps.{fits_fault, fits_on, sink_read}
 use Rattle.ob_stages.proofs.TotalsLemmas.{aggs_fit}
 use Rattle.ob_stages.proofs.TotalsSteps.{totals_fault_steps, totals_fault_tell, totals_steps, totals_stop_tell, totals_stops, totals_tell}
 use Rattle.ob_stages.proofs.totals.TotalsFlightFlyer.step.Goals as goal

@@ -1,5 +1,0 @@
-use Rattle.ob_vault.proofs.WordLemmas.{starts_anew}
-use Rattle.ob_oram_bench.proofs.answer.Goals as goal
-
-pub made-requires-clause-ready : goal.made-requires-clause-ready
-made-requires-clause-ready g c = starts_anew (c.new-vault.ensures.ready _ c.new-store.ensures.asked) c.new-vault.ensures.started

@@ -1,8 +1,0 @@
-use Rattle.std.proofs.Common.{arith}
-use Rattle.ob_oram_tests.proofs.Rested.{starts_rests}
-use Rattle.ob_oram_tests.proofs.asks.serve.Goals as goal
-
-pub access-requires-clause-starts : goal.access-requires-clause-starts
-access-requires-clause-starts g c =
-    let is = c.requires.session.stands.stored.shaped in
-    starts_rests _ _ _ c.make_room.ensures.rests c.requires.session.ready _ (omega (arith, is.few, is.height.least 24, c.make_room.ensures.spare)) c.make_room.ensures.few

@@ -1,5 +1,0 @@
-use Rattle.ob_vault.proofs.WordLemmas.{starts_anew}
-use Rattle.ob_oram_tests.proofs.sessions.new_index.Goals as goal
-
-pub made-index-requires-clause-ready : goal.made-index-requires-clause-ready
-made-index-requires-clause-ready g c = starts_anew (c.new-vault.ensures.ready _ c.requires.none) c.new-vault.ensures.started
