@@ -1,7 +1,7 @@
 -- Statements in flight write to regions that they make, or to those of an index, whatever the turns.
-use Rattle.std.specs.Prelude.{⊤, unwrap_or, slice_get, slice_set, take, map, option_map}
+use Rattle.std.specs.Prelude.{⊤, unwrap_or, slice_get, slice_set, take, drop, map, option_map}
 use Rattle.std.specs.List.{All}
-use Rattle.std.proofs.Common.{◌≡◌, ◌⊎◌, ◌+◌, ◌-◌, ◌≤◌, ◌++◌, inl, inr, Ok, Err, ℕ, zero, suc, Bool, true, false, List, [], ◌∷◌, length, Option, Some, None, refl, sym, ◌∙◌, ap, subst, arith}
+use Rattle.std.proofs.Common.{◌≡◌, ◌⊎◌, ◌+◌, ◌-◌, ◌≤◌, ◌<◌, ◌++◌, inl, inr, Ok, Err, ℕ, zero, suc, Bool, true, false, List, [], ◌∷◌, length, Option, Some, None, refl, sym, ◌∙◌, ap, subst, append_assoc, arith}
 use Rattle.std.proofs.lemmas.Bool.{cases_eq, cases_lt}
 use Rattle.std.proofs.lemmas.List.Elements.{All-head, All-tail}
 use Rattle.ob_base.specs.declared.access.Access.{Access}
@@ -18,7 +18,7 @@ use Rattle.ob_headline.proofs.IndexWrites.{next_index}
 use Rattle.ob_headline.proofs.OwnLemmas.{InOrder, in_order, ordered_own}
 use Rattle.ob_headline.specs.Accesses.{Accesses, AreSeen, IsLeft, StandsAs}
 use Rattle.ob_headline.specs.Bases.{Base}
-use Rattle.ob_headline.specs.Flights.{AreEntries, IsEntry, Seat, Stand, most_of, seats, seats_aloft, seats_of, served_by, trace_of, words_of}
+use Rattle.ob_headline.specs.Flights.{AreEntries, IsEntry, Seat, after_entries, Stand, most_of, seats, seats_aloft, seats_of, served_by, trace_of, words_of}
 use Rattle.ob_headline.specs.Shown.{OfIndex, WritesOwn, Wrote}
 use Rattle.ob_headline.specs.Story.{Story}
 use Rattle.ob_headline.specs.Words.{Answer}
@@ -302,12 +302,59 @@ entries_ordered most answered words t p m (Together flown left ∷ entries) are 
     select_of None is = is.0.select
     select_of (Some asked) is = is.0.select
 
+pub run_ordered : (base : Base) (keys : KeySet) (ending : Ending) (story : Story) (old new : StoreState) → Accesses base keys ending story old new → AreOrdered story.entries
+run_ordered base keys ending story old new accesses =
+    let seen = seen_ordered _ (seats_of base story.entries) None story.spelt story.answers (story.seen ++ story.last) accesses.lawful in
+    entries_ordered (most_of base) (length story.seen) (words_of base) 0 base.public base.count story.entries accesses.entered.entries
+    (subst (λ (xs : List Served). AreOrderedBy (seats_of base story.entries) xs) (sym accesses.entered.served) seen)
+
 -- all that a run writes is in regions from the next one on, or in those of an index that there is
 pub run_writes : (base : Base) (keys : KeySet) (ending : Ending) (story : Story) (old new : StoreState) → Accesses base keys ending story old new → (i q x : ℕ) → slice_get (trace_of base story.entries) i ≡ Some (Write q x)
     → (base.public.next_region ≤ q) ⊎ OfIndex base.public.tables q
-run_writes base keys ending story old new accesses =
-    let seen = seen_ordered _ (seats_of base story.entries) None story.spelt story.answers (story.seen ++ story.last) accesses.lawful in
-    let ordered =
-    entries_ordered (most_of base) (length story.seen) (words_of base) 0 base.public base.count story.entries accesses.entered.entries
-    (subst (λ (xs : List Served). AreOrderedBy (seats_of base story.entries) xs) (sym accesses.entered.served) seen) in
-    entries_from (words_of base) 0 base.public story.entries ordered
+run_writes base keys ending story old new accesses = entries_from (words_of base) 0 base.public story.entries (run_ordered base keys ending story old new accesses)
+
+-- ---- behind some of them
+turns_behind : (words : ℕ → ℕ) (t : ℕ) (p : Public) → List Entry → ℕ
+turns_behind words t p [] = t
+turns_behind words t p (Alone x ∷ entries) = turns_behind words t (next p x.skeleton x.seen) entries
+turns_behind words t p (Together flown left ∷ entries) = turns_behind words (t + turns_of p flown) (next_flight p flown (words_from words t)) entries
+
+trace_split : (words : ℕ → ℕ) (k t : ℕ) (p : Public) (entries : List Entry)
+    → trace_in words t p entries ≡ trace_in words t p (take k entries) ++ trace_in words (turns_behind words t p (take k entries)) (after_entries words t p (take k entries)) (drop k entries)
+unfolding trace_in turns_behind after_entries
+trace_split words zero t p entries = refl
+trace_split words (suc k) t p [] = refl
+trace_split words (suc k) t p (Alone x ∷ entries) =
+    let here = script p x.skeleton x.seen in
+    let q = next p x.skeleton x.seen in
+    ap (λ (l : List Access). here ++ l) (trace_split words k t q entries) ∙ sym (append_assoc here _ _)
+trace_split words (suc k) t p (Together flown left ∷ entries) =
+    let here = flight_accesses p flown left (words_from words t) in
+    let q = next_flight p flown (words_from words t) in
+    ap (λ (l : List Access). here ++ l) (trace_split words k (t + turns_of p flown) q entries) ∙ sym (append_assoc here _ _)
+
+ordered_rest : (k : ℕ) (entries : List Entry) → AreOrdered entries → AreOrdered (drop k entries)
+unfolding AreOrdered
+ordered_rest zero entries ordered = ordered
+ordered_rest (suc k) [] ordered = ordered
+ordered_rest (suc k) (Alone x ∷ entries) ordered = ordered_rest k entries ordered.1
+ordered_rest (suc k) (Together flown left ∷ entries) ordered = ordered_rest k entries ordered.1
+
+-- so a write to a region that the first k of them made, or that was made before, and that is no index's, is one of theirs, or
+-- came before
+pub written_by : (words : ℕ → ℕ) (k t : ℕ) (p : Public) (entries : List Entry) → AreOrdered entries → (before : List Access) (i q x : ℕ) → slice_get (before ++ trace_in words t p entries) i ≡ Some (Write q x)
+    → q < (after_entries words t p (take k entries)).next_region → (OfIndex (after_entries words t p (take k entries)).tables q → ⊥) → i < length (before ++ trace_in words t p (take k entries))
+written_by words k t p entries ordered before i q x is made off =
+    let behind : Public = after_entries words t p (take k entries) in
+    let u : ℕ = turns_behind words t p (take k entries) in
+    let first = before ++ trace_in words t p (take k entries) in
+    let rest = trace_in words u behind (drop k entries) in
+    let split : before ++ trace_in words t p entries ≡ first ++ rest = ap (λ (l : List Access). before ++ l) (trace_split words k t p entries) ∙ sym (append_assoc before (trace_in words t p (take k entries)) rest) in
+    let there : slice_get (first ++ rest) i ≡ Some (Write q x) = ap (λ (l : List Access). slice_get l i) (sym split) ∙ is in
+    elim (cases_lt i (length first)) [
+      | inl less ↦ less
+      | inr past ↦ elim (entries_from words u behind (drop k entries) (ordered_rest k entries ordered) (i - length first) q x (sym (get_back first rest i past) ∙ there)) [
+        | inl later ↦ absurd (omega (arith, made, later))
+        | inr of ↦ absurd (off of)
+      ]
+    ]

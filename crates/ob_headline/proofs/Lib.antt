@@ -33,7 +33,6 @@ pub mod PlainLemmas
 pub mod IndexWrites
 pub mod OwnLemmas
 pub mod AloneLemmas
-pub mod BetweenLemmas
 pub mod LeftLemmas
 pub mod BegunLemmas
 pub mod StopLemmas

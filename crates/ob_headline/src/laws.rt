@@ -188,12 +188,13 @@ pub fn asks_by_kinds()
         (run : Headline base keys (IsTakenSaved words) tracing old new report) → AsksByKinds run }
 {}
 
-/// Each statement of a run of which none flies, and that accesses no index, writes to the regions that it makes, and to no
-/// other, and one that accesses an index to regions of an index, whatever the store does and however the run ends: behind a
-/// statement nothing is written to a region that was made by then and is no index's.
+/// Where none flies, each statement of a run that accesses no index writes to the regions that it makes, and to no other,
+/// and one that accesses an index to regions of an index. In any run, behind a statement, or behind the flight that it was
+/// in, nothing is written to a region that was made by then and is no index's. So it is whatever the store does and however
+/// the run ends.
 pub fn statements_write_their_own()
     ensures own { (one : SomeRun) → ServesAlone one → WriteOwn one.base.public (seen_by one) }
-    ensures behind { (one : SomeRun) → ServesAlone one → (k i region place : ℕ)
+    ensures behind { (one : SomeRun) (k i region place : ℕ)
         → region < (public_behind one k).next_region
         → (OfIndex (public_behind one k).tables region → ⊥) → Wrote (asked_by one) i region place
         → i < length (asked_behind one k) }
@@ -202,14 +203,14 @@ pub fn statements_write_their_own()
 /// Over a store that tells what it holds, however a run ends, each block that lies in a live region that the run made is
 /// sealed for its place, under a number that is that of a write to it, and of no other write, of this run or of an earlier
 /// one. So it is at the end; behind any of the accesses, if the region is live to the end, where the place isn't written
-/// again; and so, behind each statement, where none flies, of all blocks of the regions that were made by then, are no
-/// index's, and are live to the end.
+/// again; and so, behind each statement, or behind the flight that it was in, of all blocks of the regions that were made
+/// by then, are no index's, and are live to the end.
 pub fn blocks_are_sealed_alone()
     ensures ends { (one : SomeRun) → IsBegun one.base → ShowsSealed one }
     ensures between { (one : SomeRun) → IsBegun one.base → IsTrue one.old.store.tells
         → (between : StoreState) → IsBetween one between → ShowsBetween one between }
     ensures behind { (one : SomeRun) → IsBegun one.base → IsTrue one.old.store.tells
-        → (between : StoreState) → IsBetween one between → ServesAlone one
+        → (between : StoreState) → IsBetween one between
         → (k : ℕ) → between.asked ≡ asked_behind one k → ShowsBehind one k between }
 {}
 
