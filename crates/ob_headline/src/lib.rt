@@ -2,10 +2,12 @@
 #![tactic(auto)]
 
 mod ending;
+mod flight;
 mod laws;
 mod seed;
 
 pub use ending::{Ending, KeptEnding, Report};
+pub use flight::FlightSettings;
 pub use laws::{
     asks_as_shown, asks_by_kinds, blocks_are_numbered_alike, blocks_are_sealed_alone,
     kept_blocks_are_sealed_alone, leaves_are_draws, marks_are_held, numbers_go_on,
