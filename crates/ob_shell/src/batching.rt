@@ -1,4 +1,4 @@
-//! INSERTs that wait to be served together.
+//! Statements that wait to be served together.
 ghost use Rattle.std.specs.Prelude.{◌≡◌, ◌≢◌, ◌≤◌, ◌∷◌, [], drop, length, take, IsErr, OnErr, OnOk};
 ghost use Rattle.std.specs.Io.KnownBytes.{Appends};
 ghost use Rattle.ob_headline.specs.Tracing.{traced};
@@ -14,15 +14,18 @@ ghost use Rattle.ob_sql.specs.Skeleton.{skeleton};
 ghost use Rattle.ob_tables.specs.Agreeing.{count_of, public_of};
 ghost use Rattle.ob_tables.specs.Batch.{AreBatch};
 
-use crate::session::{Answered, SINK_FAILED, Session, TextHalted, closing_line, tally_with};
+use crate::flying::{may_fly, most_flown, serve_flight};
+use crate::session::{Answered, SINK_FAILED, Session, TextHalted, answer_traced, tally_with};
 use crate::trace::{let_go_from, trace_from};
-use ob_base::Failed;
-use ob_exec::{Behind, Engine, Outcome, RunStop, run_batch};
+use ob_base::{Failed, Public};
+use ob_exec::{Behind, Engine, Outcome, RunStop, batch_most, run_batch};
 use ob_gen::{Digester, Tally};
+use ob_headline::FlightSettings;
 use ob_io::Sink;
 use ob_print::{Pieces, write_all};
 use ob_sql::Stmt;
 use ob_store::BlockStore;
+use ob_turns::{DrawnTurns, closing_line};
 use ob_vault::Revisions;
 use std::alloc::Global;
 
@@ -39,13 +42,27 @@ fn are_alike(first: &Stmt, stmt: &Stmt) -> bool
     }
 }
 
-/// Whether a statement goes into the batch of these, of which the first began it, where it may have one more.
-pub(crate) fn goes_along(batch: &[Stmt], stmt: &Stmt) -> bool
-    ensures { result ≡ goes_along batch.now stmt.now }
+/// Whether a statement goes along with these, of which the first was the first that waited, where one more may: an INSERT
+/// into its table, or a SELECT that may be in flight where it is one.
+pub(crate) fn goes_along(public: &Public, batch: &[Stmt], stmt: &Stmt) -> bool
+    ensures { result ≡ goes_along public.now batch.now stmt.now }
 {
     match batch.first() {
-        Some(first) => are_alike(first, stmt),
+        Some(first) => match first {
+            Stmt::Insert { .. } => are_alike(first, stmt),
+            _ => may_fly(public, stmt),
+        },
         None => false,
+    }
+}
+
+/// As many as are served together, at most, where this one is among them.
+pub(crate) fn gather_most(flight: Option<FlightSettings>, public: &Public, stmt: &Stmt) -> u64
+    ensures { result ≡ gather_most flight public.now (skeleton stmt.now) }
+{
+    match stmt {
+        Stmt::Insert { .. } => batch_most(public),
+        _ => most_flown(flight, public),
     }
 }
 
@@ -196,6 +213,32 @@ fn serve_batch<R: Revisions, S: BlockStore, B: Behind<S>, K: Sink, T: Sink, D: D
     }
 }
 
+// Serves SELECTs: one by itself, or several in flight. Tells what was counted then.
+fn serve_selects<R: Revisions, S: BlockStore, B: Behind<S>, K: Sink, T: Sink, D: Digester>(
+    alloc: Global,
+    tracing: bool,
+    tally: Tally,
+    turns: &mut DrawnTurns,
+    stmts: &[Stmt],
+    engine: &mut Engine<R>,
+    store: &mut S,
+    behind: &mut B,
+    out: &mut K,
+    trace: &mut T,
+    digest: &mut D,
+) -> Result<Tally, TextHalted>
+{
+    if stmts.len() >= 2 {
+        return serve_flight(
+            alloc, tracing, tally, turns, stmts, engine, store, out, trace, digest,
+        );
+    }
+    let stmt = &stmts[0];
+    answer_traced(
+        alloc, tracing, tally, engine, store, behind, stmt, out, trace, digest,
+    )
+}
+
 /// Serves those that wait, if there are any.
 pub(crate) fn flush<R: Revisions, S: BlockStore, B: Behind<S>, K: Sink, T: Sink, D: Digester>(
     alloc: Global,
@@ -232,19 +275,35 @@ pub(crate) fn flush<R: Revisions, S: BlockStore, B: Behind<S>, K: Sink, T: Sink,
     let Some((first, rest)) = session.batch.as_slice().split_first() else {
         return Ok(());
     };
-    match serve_batch(
-        alloc,
-        tracing,
-        session.tally,
-        first,
-        rest,
-        engine,
-        store,
-        behind,
-        out,
-        trace,
-        digest,
-    ) {
+    let served = match first {
+        Stmt::Insert { .. } => serve_batch(
+            alloc,
+            tracing,
+            session.tally,
+            first,
+            rest,
+            engine,
+            store,
+            behind,
+            out,
+            trace,
+            digest,
+        ),
+        _ => serve_selects(
+            alloc,
+            tracing,
+            session.tally,
+            &mut session.turns,
+            session.batch.as_slice(),
+            engine,
+            store,
+            behind,
+            out,
+            trace,
+            digest,
+        ),
+    };
+    match served {
         Ok(tally) => {
             session.tally = tally;
             session.batch.clear();

@@ -29,7 +29,7 @@ use crate::trace::trace_from;
 use ob_base::{Config, Mark, Stop};
 use ob_exec::{CloseErr, Engine, OpenErr, Unsaved};
 use ob_gen::{Digester, Discard, Generated, Tally, TraceDigest, Undigested};
-use ob_headline::{Ending, KeptEnding, Report, Seed};
+use ob_headline::{Ending, FlightSettings, KeptEnding, Report, Seed};
 use ob_io::{Sink, Source};
 use ob_print::{Line, write_all};
 use ob_reopen::Keeper;
@@ -248,6 +248,7 @@ fn close_run<R: Revisions, T: Sink, D: Digester, S: BlockStore, K: Keeper>(
 fn serve_run<R: Revisions, I: Source, O: Sink, T: Sink, D: Digester, S: BlockStore, K: Keeper>(
     alloc: Global,
     tracing: bool,
+    flight: Option<FlightSettings>,
     engine: Engine<R>,
     feed: &mut Feed,
     input: &mut I,
@@ -281,6 +282,7 @@ fn serve_run<R: Revisions, I: Source, O: Sink, T: Sink, D: Digester, S: BlockSto
     match serve(
         alloc,
         tracing,
+        flight,
         feed,
         input,
         &mut engine,
@@ -348,7 +350,7 @@ pub(crate) fn run_kept<I: Source, O: Sink, T: Sink, D: Digester, S: Lasting, K: 
             ) {
                 Err(ended) => ended,
                 Ok(engine) => serve_run(
-                    alloc, tracing, engine, &mut feed, input, out, trace, digest, store, keeper,
+                    alloc, tracing, words.flight, engine, &mut feed, input, out, trace, digest, store, keeper,
                 ),
             }
         }

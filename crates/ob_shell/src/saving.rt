@@ -33,7 +33,7 @@ use crate::trace::trace_from;
 use ob_base::{Config, Failed, Mark, NoMemory, Stop};
 use ob_exec::{Engine, SavedBy};
 use ob_gen::{Digester, Discard, Generated, Tally, TraceDigest, Undigested};
-use ob_headline::{Ending, KeptEnding, Report, Seed};
+use ob_headline::{Ending, FlightSettings, KeptEnding, Report, Seed};
 use ob_io::{Sink, Source};
 use ob_reopen::{Keeper, Salts};
 use ob_seal::Keys;
@@ -218,6 +218,7 @@ fn start_saving<R: Revisions, T: Sink, D: Digester, S: Saving, K: Salts>(
 fn serve_saving<R: Revisions, I: Source, O: Sink, T: Sink, D: Digester, S: Saving, K: Keeper>(
     alloc: Global,
     tracing: bool,
+    flight: Option<FlightSettings>,
     engine: Engine<R>,
     feed: &mut Feed,
     input: &mut I,
@@ -253,6 +254,7 @@ fn serve_saving<R: Revisions, I: Source, O: Sink, T: Sink, D: Digester, S: Savin
     let served = serve(
         alloc,
         tracing,
+        flight,
         feed,
         input,
         &mut engine,
@@ -312,6 +314,7 @@ fn run_saved<I: Source, O: Sink, T: Sink, D: Digester, S: Saving, K: Salts>(
                 Ok(engine) => serve_saving(
                     alloc,
                     words.trace,
+                    words.flight,
                     engine,
                     &mut feed,
                     input,

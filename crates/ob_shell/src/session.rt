@@ -17,18 +17,21 @@ ghost use Rattle.ob_shell.specs.Waiting.{AreGathered, GoesAlong, IsFree};
 ghost use Rattle.ob_sql.specs.Skeleton.{skeleton};
 ghost use Rattle.ob_tables.specs.Agreeing.{count_of, public_of};
 
-use crate::batching::{flush, goes_along};
+use crate::batching::{flush, gather_most, goes_along};
 use crate::feed::{Feed, Halt};
+use crate::flying::{begins_flight, turns_of};
 use crate::pending::{Grown, Pending, PushStop};
 use crate::trace::{let_go_from, trace_from};
 use ob_base::{Failed, Plan, Refusal, Stop};
-use ob_exec::{Behind, Engine, Outcome, RunStop, batch_most, begins_batch, run};
+use ob_exec::{Behind, Engine, Outcome, RunStop, begins_batch, run};
 use ob_gen::{Digester, Tally};
+use ob_headline::FlightSettings;
 use ob_io::{Sink, Source};
 use ob_parse::{ParseErr, parse};
-use ob_print::{Line, Pieces, Printer, RecordLine, refusal_line, write_all};
+use ob_print::{Pieces, Printer, RecordLine, write_all};
 use ob_sql::Stmt;
 use ob_store::BlockStore;
+use ob_turns::{DrawnTurns, closing_line};
 use ob_vault::Revisions;
 use std::alloc::Global;
 
@@ -74,13 +77,14 @@ pub enum Break {
     Unread(Stop),
 }
 
-/// What a session knows beside the state of its engine: the text that is read, the INSERTs that wait to be served together,
-/// and what was counted.
+/// What a session knows beside the state of its engine: the text that is read, the statements that wait to be served
+/// together, what was counted, and the words of the flights to come.
 #[derive(Drop)]
 pub struct Session {
     pub pending: Pending,
     pub batch: Vec<Stmt>,
     pub tally: Tally,
+    pub turns: DrawnTurns,
 }
 
 /// How a text was answered, and the plan that was seen of it.
@@ -104,37 +108,12 @@ pub(crate) fn tally_with(tally: Tally, answered: Answered) -> Tally
     tally
 }
 
-pub(crate) fn closing_line(outcome: Outcome) -> Line
-    ensures { result ≡ Closing.closing_line outcome }
-{
-    match outcome {
-        Outcome::Created => Line::new(b"= created\n"),
-        Outcome::Inserted => Line::new(b"= inserted\n"),
-        Outcome::Changed(n) => counted_line(n, b"updated\n"),
-        Outcome::Deleted(n) => counted_line(n, b"deleted\n"),
-        Outcome::Dropped => Line::new(b"= dropped\n"),
-        Outcome::Rows(_) => Line::new(b""),
-        Outcome::Refused(refusal) => refusal_line(refusal),
-    }
-}
-
-fn counted_line(n: u64, what: &[u8]) -> Line
-    requires { length what.now ≤ 16 }
-    ensures { result ≡ codes "= " ++ (decimal n ++ (codes " " ++ what.now)) }
-{
-    let mut line = Line::new(b"= ");
-    line.push_number(n, b" ");
-    line.push(what);
-    line
-}
-
 // Runs one statement, whose text this is, and prints its header and rows, of which none waits afterwards. Where the sink
 // fails behind a stop, the stop remains.
 fn run_stmt<R: Revisions, S: BlockStore, B: Behind<S>, K: Sink>(
     engine: &mut Engine<R>,
     store: &mut S,
     behind: &mut B,
-    text: &[u8],
     stmt: &Stmt,
     printer: &mut Printer<'_, K>,
 ) -> Result<Answered, TextHalted>
@@ -185,7 +164,6 @@ fn run_text<R: Revisions, S: BlockStore, B: Behind<S>, K: Sink>(
     engine: &mut Engine<R>,
     store: &mut S,
     behind: &mut B,
-    text: &[u8],
     stmt: &Stmt,
     out: &mut K,
 ) -> Result<Answered, TextHalted>
@@ -214,7 +192,7 @@ fn run_text<R: Revisions, S: BlockStore, B: Behind<S>, K: Sink>(
         out: Pieces::new(out),
         line: &mut line,
     };
-    run_stmt(engine, store, behind, text, stmt, &mut printer)
+    run_stmt(engine, store, behind, stmt, &mut printer)
 }
 
 // Answers a statement whole, with its closing line, and counts it.
@@ -224,7 +202,6 @@ fn answer<R: Revisions, S: BlockStore, B: Behind<S>, K: Sink>(
     engine: &mut Engine<R>,
     store: &mut S,
     behind: &mut B,
-    text: &[u8],
     stmt: &Stmt,
     out: &mut K,
 ) -> Result<Tally, TextHalted>
@@ -248,7 +225,7 @@ fn answer<R: Revisions, S: BlockStore, B: Behind<S>, K: Sink>(
     ensures listed { (S.state store.new).let_go ≡ (S.state store.old).let_go }
     ensures same { B.name behind.new ≡ B.name behind.old }
 {
-    match run_text(alloc, engine, store, behind, text, stmt, out) {
+    match run_text(alloc, engine, store, behind, stmt, out) {
         Err(halted) => Err(halted),
         Ok(answered) => match write_all(out, closing_line(answered.outcome).as_bytes()) {
             Ok(()) => Ok(tally_with(tally, answered)),
@@ -259,14 +236,13 @@ fn answer<R: Revisions, S: BlockStore, B: Behind<S>, K: Sink>(
 
 // Answers a statement whole, and then traces what it asked, of which the store lets go. After a sink's fault nothing more is
 // written.
-fn answer_traced<R: Revisions, S: BlockStore, B: Behind<S>, K: Sink, T: Sink, D: Digester>(
+pub(crate) fn answer_traced<R: Revisions, S: BlockStore, B: Behind<S>, K: Sink, T: Sink, D: Digester>(
     alloc: Global,
     tracing: bool,
     tally: Tally,
     engine: &mut Engine<R>,
     store: &mut S,
     behind: &mut B,
-    text: &[u8],
     stmt: &Stmt,
     out: &mut K,
     trace: &mut T,
@@ -298,7 +274,7 @@ fn answer_traced<R: Revisions, S: BlockStore, B: Behind<S>, K: Sink, T: Sink, D:
     ensures took { OnOk result (D.took digest.new (S.state store.new).asked) }
 {
     let mark = store.count();
-    match answer(alloc, tally, engine, store, behind, text, stmt, out) {
+    match answer(alloc, tally, engine, store, behind, stmt, out) {
         Ok(counted) => match trace_from(tracing, store, mark, trace, digest) {
             Ok(()) => {
                 let_go_from(store, mark);
@@ -318,6 +294,7 @@ fn answer_traced<R: Revisions, S: BlockStore, B: Behind<S>, K: Sink, T: Sink, D:
 fn gather<R: Revisions, S: BlockStore, B: Behind<S>, K: Sink, T: Sink, D: Digester>(
     alloc: Global,
     tracing: bool,
+    flight: Option<FlightSettings>,
     session: &mut Session,
     stmt: Stmt,
     engine: &mut Engine<R>,
@@ -347,10 +324,11 @@ fn gather<R: Revisions, S: BlockStore, B: Behind<S>, K: Sink, T: Sink, D: Digest
     ensures same { B.name behind.new ≡ B.name behind.old }
     ensures took { UnlessServed result (D.took digest.new (S.state store.new).asked) }
 {
+    let most = gather_most(flight, engine.public(), &stmt);
     if session.batch.push(stmt).is_err() {
         return Err(Break::Unread(Stop::NoMemory));
     }
-    if (session.batch.len() as u64) < batch_most(engine.public()) {
+    if (session.batch.len() as u64) < most {
         return Ok(());
     }
     match flush(
@@ -365,6 +343,7 @@ fn gather<R: Revisions, S: BlockStore, B: Behind<S>, K: Sink, T: Sink, D: Digest
 fn begin<R: Revisions, S: BlockStore, B: Behind<S>, K: Sink, T: Sink, D: Digester>(
     alloc: Global,
     tracing: bool,
+    flight: Option<FlightSettings>,
     session: &mut Session,
     stmt: Stmt,
     engine: &mut Engine<R>,
@@ -393,9 +372,9 @@ fn begin<R: Revisions, S: BlockStore, B: Behind<S>, K: Sink, T: Sink, D: Digeste
     ensures same { B.name behind.new ≡ B.name behind.old }
     ensures took { UnlessServed result (D.took digest.new (S.state store.new).asked) }
 {
-    if begins_batch(engine, store, &stmt) {
+    if begins_batch(engine, store, &stmt) || begins_flight(flight, engine.public(), &stmt) {
         return gather(
-            alloc, tracing, session, stmt, engine, store, behind, out, trace, digest,
+            alloc, tracing, flight, session, stmt, engine, store, behind, out, trace, digest,
         );
     }
     let answered = answer_traced(
@@ -405,7 +384,6 @@ fn begin<R: Revisions, S: BlockStore, B: Behind<S>, K: Sink, T: Sink, D: Digeste
         engine,
         store,
         behind,
-        session.pending.text(),
         &stmt,
         out,
         trace,
@@ -424,6 +402,7 @@ fn begin<R: Revisions, S: BlockStore, B: Behind<S>, K: Sink, T: Sink, D: Digeste
 fn take_stmt<R: Revisions, S: BlockStore, B: Behind<S>, K: Sink, T: Sink, D: Digester>(
     alloc: Global,
     tracing: bool,
+    flight: Option<FlightSettings>,
     session: &mut Session,
     stmt: Stmt,
     engine: &mut Engine<R>,
@@ -453,16 +432,16 @@ fn take_stmt<R: Revisions, S: BlockStore, B: Behind<S>, K: Sink, T: Sink, D: Dig
     ensures same { B.name behind.new ≡ B.name behind.old }
     ensures took { UnlessServed result (D.took digest.new (S.state store.new).asked) }
 {
-    if goes_along(session.batch.as_slice(), &stmt) {
+    if goes_along(engine.public(), session.batch.as_slice(), &stmt) {
         return gather(
-            alloc, tracing, session, stmt, engine, store, behind, out, trace, digest,
+            alloc, tracing, flight, session, stmt, engine, store, behind, out, trace, digest,
         );
     }
     match flush(
         alloc, tracing, session, engine, store, behind, out, trace, digest,
     ) {
         Ok(()) => begin(
-            alloc, tracing, session, stmt, engine, store, behind, out, trace, digest,
+            alloc, tracing, flight, session, stmt, engine, store, behind, out, trace, digest,
         ),
         Err(halted) => Err(Break::Served(halted)),
     }
@@ -472,6 +451,7 @@ fn take_stmt<R: Revisions, S: BlockStore, B: Behind<S>, K: Sink, T: Sink, D: Dig
 fn take_misspelt<R: Revisions, S: BlockStore, B: Behind<S>, K: Sink, T: Sink, D: Digester>(
     alloc: Global,
     tracing: bool,
+    flight: Option<FlightSettings>,
     session: &mut Session,
     at: u32,
     engine: &mut Engine<R>,
@@ -523,6 +503,7 @@ fn take_misspelt<R: Revisions, S: BlockStore, B: Behind<S>, K: Sink, T: Sink, D:
 fn take_text<R: Revisions, S: BlockStore, B: Behind<S>, K: Sink, T: Sink, D: Digester>(
     alloc: Global,
     tracing: bool,
+    flight: Option<FlightSettings>,
     session: &mut Session,
     engine: &mut Engine<R>,
     store: &mut S,
@@ -553,12 +534,12 @@ fn take_text<R: Revisions, S: BlockStore, B: Behind<S>, K: Sink, T: Sink, D: Dig
 {
     match parse(alloc, session.pending.text()) {
         Ok(stmt) => take_stmt(
-            alloc, tracing, session, stmt, engine, store, behind, out, trace, digest,
+            alloc, tracing, flight, session, stmt, engine, store, behind, out, trace, digest,
         ),
         Err(error) => match error {
             ParseErr::Syntax(at) => {
                 let taken = take_misspelt(
-                    alloc, tracing, session, at, engine, store, behind, out, trace, digest,
+                    alloc, tracing, flight, session, at, engine, store, behind, out, trace, digest,
                 );
                 match taken {
                     Ok(()) => Ok(()),
@@ -574,6 +555,7 @@ fn take_text<R: Revisions, S: BlockStore, B: Behind<S>, K: Sink, T: Sink, D: Dig
 fn turn<R: Revisions, S: BlockStore, B: Behind<S>, K: Sink, T: Sink, D: Digester>(
     alloc: Global,
     tracing: bool,
+    flight: Option<FlightSettings>,
     session: &mut Session,
     b: u8,
     engine: &mut Engine<R>,
@@ -609,7 +591,7 @@ fn turn<R: Revisions, S: BlockStore, B: Behind<S>, K: Sink, T: Sink, D: Digester
         Ok(Grown::More) => Ok(()),
         Ok(Grown::Whole) => {
             match take_text(
-                alloc, tracing, session, engine, store, behind, out, trace, digest,
+                alloc, tracing, flight, session, engine, store, behind, out, trace, digest,
             ) {
                 Ok(()) => {
                     session.pending.clear();
@@ -627,6 +609,7 @@ fn turn<R: Revisions, S: BlockStore, B: Behind<S>, K: Sink, T: Sink, D: Digester
 fn finish<R: Revisions, S: BlockStore, B: Behind<S>, K: Sink, T: Sink, D: Digester>(
     alloc: Global,
     tracing: bool,
+    flight: Option<FlightSettings>,
     session: &mut Session,
     engine: &mut Engine<R>,
     store: &mut S,
@@ -658,7 +641,7 @@ fn finish<R: Revisions, S: BlockStore, B: Behind<S>, K: Sink, T: Sink, D: Digest
         return Ok(());
     }
     take_text(
-        alloc, tracing, session, engine, store, behind, out, trace, digest,
+        alloc, tracing, flight, session, engine, store, behind, out, trace, digest,
     )
 }
 
@@ -666,6 +649,7 @@ fn finish<R: Revisions, S: BlockStore, B: Behind<S>, K: Sink, T: Sink, D: Digest
 fn read_texts<I: Source, R: Revisions, S: BlockStore, B: Behind<S>, K: Sink, T: Sink, D: Digester>(
     alloc: Global,
     tracing: bool,
+    flight: Option<FlightSettings>,
     session: &mut Session,
     feed: &mut Feed,
     input: &mut I,
@@ -712,12 +696,12 @@ fn read_texts<I: Source, R: Revisions, S: BlockStore, B: Behind<S>, K: Sink, T: 
             Err(Halt::InputLimit) => return Err(Break::Unread(Stop::InputLimit)),
             Ok(None) => {
                 return finish(
-                    alloc, tracing, session, engine, store, behind, out, trace, digest,
+                    alloc, tracing, flight, session, engine, store, behind, out, trace, digest,
                 );
             }
             Ok(Some(b)) => {
                 let turned = turn(
-                    alloc, tracing, session, b, engine, store, behind, out, trace, digest,
+                    alloc, tracing, flight, session, b, engine, store, behind, out, trace, digest,
                 );
                 if let Err(broken) = turned {
                     return Err(broken);
@@ -732,6 +716,7 @@ fn read_texts<I: Source, R: Revisions, S: BlockStore, B: Behind<S>, K: Sink, T: 
 pub fn serve<I: Source, R: Revisions, S: BlockStore, B: Behind<S>, K: Sink, T: Sink, D: Digester>(
     alloc: Global,
     tracing: bool,
+    flight: Option<FlightSettings>,
     feed: &mut Feed,
     input: &mut I,
     engine: &mut Engine<R>,
@@ -770,9 +755,10 @@ pub fn serve<I: Source, R: Revisions, S: BlockStore, B: Behind<S>, K: Sink, T: S
         pending: Pending::new(alloc),
         batch: Vec::new(alloc),
         tally: Tally::new(),
+        turns: turns_of(flight),
     };
     let read = read_texts(
-        alloc, tracing, &mut here, feed, input, engine, store, behind, out, trace, digest,
+        alloc, tracing, flight, &mut here, feed, input, engine, store, behind, out, trace, digest,
     );
     match read {
         Ok(()) => match flush(

@@ -163,6 +163,7 @@ fn serve_with<I: Source, O: Sink, T: Sink, D: Digester, S: BlockStore>(
             let ran = serve(
                 alloc,
                 words.trace,
+                words.flight,
                 feed,
                 input,
                 &mut engine,

@@ -3,30 +3,12 @@ ghost use Rattle.std.specs.Prelude.{◌≡◌};
 ghost use Rattle.ob_script.specs.Flights;
 
 use ob_inflight::Turns;
-use std::marker::Model;
 
 /// The words that follow a number: those of a linear congruential sequence modulo 2^64, without their low bits. They go on
 /// from flight to flight.
 #[derive(Clone, Copy, Debug, PartialEq, Eq)]
 pub struct DrawnTurns {
-    last: u64,
-}
-
-impl Model for DrawnTurns {
-    ghost use Rattle.std.specs.Prelude.{ℕ};
-
-    ghost Value = { ℕ };
-
-    ghost view = { λ turns. turns.last };
-}
-
-impl DrawnTurns {
-    /// The words behind this number.
-    pub fn new(start: u64) -> DrawnTurns
-        ensures { result ≡ start }
-    {
-        DrawnTurns { last: start }
-    }
+    pub last: u64,
 }
 
 // The number that follows in the sequence.
@@ -38,7 +20,7 @@ fn next_draw(x: u64) -> u64
 }
 
 impl Turns for DrawnTurns {
-    ghost word = { λ turns t. Flights.drawn turns t };
+    ghost word = { λ turns t. Flights.drawn turns.last t };
 
     fn next(&mut self) -> u64 {
         self.last = next_draw(self.last);
