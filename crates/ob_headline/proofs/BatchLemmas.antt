@@ -10,7 +10,7 @@ use Rattle.ob_base.specs.declared.refusal.Refusal.TheVariants.{StoreFault}
 use Rattle.ob_base.specs.declared.seen.End.{End}
 use Rattle.ob_base.specs.declared.seen.End.TheVariants.{Static, Whole, AfterCount, Joined, Cut}
 use Rattle.ob_base.specs.declared.seen.Seen.{Seen}
-use Rattle.ob_headline.specs.Accesses.{AreSeen}
+use Rattle.ob_headline.proofs.ServedAlone.{SeenAlone}
 use Rattle.ob_headline.specs.Batches.{Joins, is_failed}
 use Rattle.ob_headline.specs.Failures.{cut_off, failures, outcome_failures, refusal_failures}
 use Rattle.ob_headline.specs.Statements.{statements}
@@ -140,9 +140,9 @@ failure_of true o same = ap outcome_failures (same.0 refl)
 failure_of false o same = outcome_sound o (λ is. let cut = same.1 is in cc cut)
 
 -- as many as were cut off
-pub failures_cut : (Leaves : Public → Stmt → Seen → Type 0) (spelt : List Spelt) (answers : List Answer) (p : Public) (m : ℕ) (seen last : List Entry) → p.batch ≡ None → AreSeen Leaves p m None spelt answers (seen ++ last)
+pub failures_cut : (Leaves : Public → Stmt → Seen → Type 0) (spelt : List Spelt) (answers : List Answer) (p : Public) (m : ℕ) (seen last : List Entry) → p.batch ≡ None → SeenAlone Leaves p m None spelt answers (seen ++ last)
     → length answers ≤ length spelt → length seen ≡ length (statements (take (length answers) spelt)) → failures answers ≡ cut_off seen
-unfolding AreSeen failures cut_off statements
+unfolding SeenAlone failures cut_off statements
 failures_cut Leaves spelt [] p m [] last none lawful few each = refl
 failures_cut Leaves spelt [] p m (x ∷ seen) last none lawful few each = absurd (omega (arith, each))
 failures_cut Leaves [] (one ∷ answers) p m seen last none lawful few each = absurd (omega (arith, few))
@@ -154,6 +154,6 @@ failures_cut Leaves (Ok stmt ∷ spelt) (one ∷ answers) p m [] last none lawfu
 failures_cut Leaves (Ok stmt ∷ spelt) (one ∷ answers) p m (x ∷ seen) last none lawful few each =
     let same : IsTrue (is_cut x.seen.end) ↔ (one.outcome ≡ Refused StoreFault) = subst (λ (b : Bool). IsTrue b ↔ (one.outcome ≡ Refused StoreFault)) (failed_alone x.seen.end) lawful.2.1 in
     let first = failure_of (is_cut x.seen.end) one.outcome same in
-    let behind = subst (λ (g : Option Gathering). AreSeen Leaves (next p x.skeleton x.seen) (m + length (script p x.skeleton x.seen)) g spelt answers (seen ++ last)) (none_gathered p m stmt x.seen.end none) lawful.3 in
+    let behind = subst (λ (g : Option Gathering). SeenAlone Leaves (next p x.skeleton x.seen) (m + length (script p x.skeleton x.seen)) g spelt answers (seen ++ last)) (none_gathered p m stmt x.seen.end none) lawful.3 in
     let rest = failures_cut Leaves spelt answers (next p x.skeleton x.seen) (m + length (script p x.skeleton x.seen)) seen last none behind (omega (arith, few)) (omega (arith, each)) in
     omega (arith, first, rest)

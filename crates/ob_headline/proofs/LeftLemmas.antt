@@ -11,6 +11,8 @@ use Rattle.ob_base.specs.declared.access.Access.TheVariants.{Write}
 use Rattle.ob_base.specs.declared.config.Public.{Public}
 use Rattle.ob_headline.proofs.AloneLemmas.{At, alone, no_later, position_of}
 use Rattle.ob_headline.proofs.BetweenLemmas.{written_by}
+use Rattle.ob_headline.specs.Flights.{FliesNone}
+use Rattle.ob_headline.proofs.AloneRuns.{run_alone}
 use Rattle.ob_headline.proofs.OwnLemmas.{runs_write_own}
 use Rattle.ob_headline.specs.Bases.{Base}
 use Rattle.ob_headline.specs.Reruns.{SomeRun, asked_by, keys_by, seen_by}
@@ -75,9 +77,9 @@ pub shows_sealed : (one : SomeRun) → IsBegun one.base → ShowsSealed one
 shows_sealed one begun tells = shows_all (PassesHere one.base) (keys_by one) one.base.start one.old.store one.new.store begun.fresh (one.run.sealing.sealed tells)
 
 -- a write to a region that was made by then, and is no index's, came by then
-pub written_behind : (one : SomeRun) (k i region place : ℕ) → region < (public_behind one k).next_region → (OfIndex (public_behind one k).tables region → ⊥) → Wrote (asked_by one) i region place → i < length (asked_behind one k)
-written_behind one k i region place made off wrote =
-    written_by k one.base.public (seen_by one) (runs_write_own one) one.base.before i region place (ap (λ (l : List Access). slice_get l i) (sym one.run.accesses.asked) ∙ wrote.is) made off
+pub written_behind : (one : SomeRun) → FliesNone one.base → (k i region place : ℕ) → region < (public_behind one k).next_region → (OfIndex (public_behind one k).tables region → ⊥) → Wrote (asked_by one) i region place → i < length (asked_behind one k)
+written_behind one flies k i region place made off wrote =
+    written_by k one.base.public (seen_by one) (runs_write_own one flies) one.base.before i region place (ap (λ (l : List Access). slice_get l i) (sym (run_alone one flies).asked) ∙ wrote.is) made off
 
 module _ (one : SomeRun) (begun : IsBegun one.base) (tells : IsTrue one.old.store.tells) (between : StoreState) (is : IsBetween one between) where
   pub shows_between : ShowsBetween one between
@@ -88,10 +90,10 @@ module _ (one : SomeRun) (begun : IsBegun one.base) (tells : IsTrue one.old.stor
         (left at_end.position at_end.wrote);
   }
 
-  pub shows_behind : (k : ℕ) → between.asked ≡ asked_behind one k → ShowsBehind one k between
-  shows_behind k asked = record {
+  pub shows_behind : FliesNone one.base → (k : ℕ) → between.asked ≡ asked_behind one k → ShowsBehind one k between
+  shows_behind flies k asked = record {
     each = λ region place block mine made off lives last.
-        shows_between.each region place block mine lives last (λ i wrote. omega (arith, written_behind one k i region place made off wrote, ap length asked));
+        shows_between.each region place block mine lives last (λ i wrote. omega (arith, written_behind one flies k i region place made off wrote, ap length asked));
   }
 
 -- ---- two runs

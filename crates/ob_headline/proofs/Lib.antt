@@ -6,6 +6,10 @@ pub mod SettingLemmas
 pub mod AsOne
 pub mod Numbered
 pub mod TextLemmas
+pub mod ServedAlone
+pub mod AloneRuns
+pub mod TakenLemmas
+pub mod FlightWrites
 pub mod PromptLemmas
 pub mod BaseLemmas
 pub mod PieceLemmas

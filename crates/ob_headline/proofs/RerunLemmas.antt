@@ -27,7 +27,9 @@ use Rattle.ob_headline.specs.Reruns.{Alike, EndsWell, GoOnFromOne, IsPlain, Show
 use Rattle.ob_headline.specs.Settings.{limit_of}
 use Rattle.ob_headline.specs.Words.{Answer, Outside}
 use Rattle.ob_headline.specs.Statements.{SpellFirst}
-use Rattle.ob_headline.specs.Accesses.{AreSeen}
+use Rattle.ob_headline.proofs.ServedAlone.{SeenAlone}
+use Rattle.ob_headline.specs.Flights.{FliesNone}
+use Rattle.ob_headline.proofs.AloneRuns.{run_alone}
 use Rattle.ob_headline.specs.Status.{Because}
 use Rattle.ob_headline.specs.declared.ending.Ending.{Ending}
 use Rattle.ob_headline.specs.declared.ending.Ending.TheVariants.{Usage, BadKey, Ran}
@@ -244,12 +246,12 @@ gathers_on batched p m g t sk here gathers is =
     (none.0, ap (λ (h : Option Gathering). gathering_after p m h t.stmt here.end) (none_if t.apart g none.1) ∙ none_gathered p m t.stmt here.end none.0)
 
 all_uncut : (Leaves : Public → Stmt → Seen → Type 0) (spelt : List Spelt) (answers : List Answer) (batched apart : Bool) (p : Public) (m : ℕ) (g : Option Gathering) (seen : List Entry) → GathersIf batched p g
-    → AreSeen Leaves p m (gathered_if apart g) spelt answers seen → length answers ≡ length spelt → failures answers ≡ 0 → AreUncut p m g (turns batched apart spelt) seen
-unfolding AreSeen failures turns AreUncut
+    → SeenAlone Leaves p m (gathered_if apart g) spelt answers seen → length answers ≡ length spelt → failures answers ≡ 0 → AreUncut p m g (turns batched apart spelt) seen
+unfolding SeenAlone failures turns AreUncut
 all_uncut Leaves [] answers batched apart p m g seen gathers lawful each none = lawful
 all_uncut Leaves (x ∷ spelt) [] batched apart p m g seen gathers lawful each none = absurd (omega (arith, each))
 all_uncut Leaves (Err at ∷ spelt) (one ∷ answers) batched apart p m g seen gathers lawful each none =
-    all_uncut Leaves spelt answers batched batched p m g seen gathers (subst (λ (h : Option Gathering). AreSeen Leaves p m h spelt answers seen) (none_before batched p g gathers) lawful.1) (omega (arith, each)) (omega (arith, none))
+    all_uncut Leaves spelt answers batched batched p m g seen gathers (subst (λ (h : Option Gathering). SeenAlone Leaves p m h spelt answers seen) (none_before batched p g gathers) lawful.1) (omega (arith, each)) (omega (arith, none))
 all_uncut Leaves (Ok stmt ∷ spelt) (one ∷ answers) batched apart p m g [] gathers lawful each none = absurd lawful
 all_uncut Leaves (Ok stmt ∷ spelt) (one ∷ answers) batched apart p m g (x ∷ seen) gathers lawful each none = (
   lawful.0,
@@ -297,11 +299,11 @@ answered_all {base} {Takes = Takes} {old = old} {new = new} {report = report} a 
     subst (λ (ts : List (List ℕ)). length a.story.spelt ≤ length ts) (ap (λ (ts : List (List ℕ)). a.story.served ++ ts) none ∙ append-nil a.story.served) (spell_few (a.story.served ++ a.story.more) a.story.spelt a.statements.spells) in
     omega (arith, most, a.statements.reached, a.statements.each)
 
-module _ (one : SomeRun) (well : EndsWell one.report.status (failures_of one)) where
+module _ (one : SomeRun) (alone : FliesNone one.base) (well : EndsWell one.report.status (failures_of one)) where
   pub run_uncut : AreUncut one.base.public one.base.count None (turns_of one) (seen_by one)
   run_uncut =
       all_uncut _ one.run.story.spelt one.run.story.answers (is_some one.base.public.batch) false one.base.public one.base.count None (seen_by one) (gathers_none one.base.public)
-      one.run.accesses.lawful (answered_all one.run well.ended) well.none
+      (run_alone one alone).lawful (answered_all one.run well.ended) well.none
 
 -- ---- none is a SELECT of rows, or results are padded
 neither : (a b : Bool) → (a || b) ≡ false → (a ≡ false) × (b ≡ false)
@@ -346,7 +348,7 @@ shows p m g (a ∷ ps) (x ∷ xs) (b ∷ qs) (y ∷ ys) one two none alike =
           (subst (λ (e : Entry). Alike (next p e.skeleton e.seen) (m + length (script p e.skeleton e.seen)) (gathered_then p m g a e.seen.end) ps qs) (sym first) alike.4),
     )
 
-module _ (a b : SomeRun) (same : GoOnFromOne a b) (well : EndsWell a.report.status (failures_of a)) (well_too : EndsWell b.report.status (failures_of b)) where
+module _ (a b : SomeRun) (alone : FliesNone a.base) (alone_too : FliesNone b.base) (same : GoOnFromOne a b) (well : EndsWell a.report.status (failures_of a)) (well_too : EndsWell b.report.status (failures_of b)) where
   abbrev p : Public
   p = a.base.public
 
@@ -356,15 +358,15 @@ module _ (a b : SomeRun) (same : GoOnFromOne a b) (well : EndsWell a.report.stat
   there : AreUncut p m None (turns_of b) (seen_by b)
   there =
       subst (λ (r : Public). AreUncut r m None (turns_of b) (seen_by b)) (sym same.public)
-      (subst (λ (n : ℕ). AreUncut b.base.public n None (turns_of b) (seen_by b)) (sym same.count) (run_uncut b well_too))
+      (subst (λ (n : ℕ). AreUncut b.base.public n None (turns_of b) (seen_by b)) (sym same.count) (run_uncut b alone_too well_too))
 
   pub show_the_same : ShowAlike p m (turns_of a) (seen_by a) (turns_of b) (seen_by b) → (seen_by a ≡ seen_by b) × (asked_by a ≡ asked_by b)
   show_the_same alike =
-      let seen = same_seen p m None (turns_of a) (seen_by a) (turns_of b) (seen_by b) (run_uncut a well) there alike in
-      (seen, a.run.accesses.asked ∙ (λ i. same.before i ++ trace (same.public i) (seen i)) ∙ sym b.run.accesses.asked)
+      let seen = same_seen p m None (turns_of a) (seen_by a) (turns_of b) (seen_by b) (run_uncut a alone well) there alike in
+      (seen, (run_alone a alone).asked ∙ (λ i. same.before i ++ trace (same.public i) (seen i)) ∙ sym (run_alone b alone_too).asked)
 
   asks_alike : AreUncounted p (turns_of a) → Alike p m None (turns_of a) (turns_of b) → asked_by a ≡ asked_by b
-  asks_alike none alike = (show_the_same (shows p m None (turns_of a) (seen_by a) (turns_of b) (seen_by b) (run_uncut a well) there none alike)).1
+  asks_alike none alike = (show_the_same (shows p m None (turns_of a) (seen_by a) (turns_of b) (seen_by b) (run_uncut a alone well) there none alike)).1
 
   pub ask_the_same : any_counted (turns_of a) ≡ false → Alike p m None (turns_of a) (turns_of b) → asked_by a ≡ asked_by b
   ask_the_same none = asks_alike (inl none)

@@ -12,7 +12,9 @@ use Rattle.ob_headline.specs.Batches.{Joins}
 use Rattle.ob_headline.specs.Failures.{failures}
 use Rattle.ob_headline.specs.Reruns.{AlikeSoFar, AsksAsShown, GoOnFromOne, OneBegins, SomeRun, Turn, asked_by, failures_of, gathered_at, gathered_then, plainly_at, seen_by, shown, shown_as, shows_more, turns, turns_of}
 use Rattle.ob_headline.specs.Words.{Answer, Begins}
-use Rattle.ob_headline.specs.Accesses.{AreSeen}
+use Rattle.ob_headline.proofs.ServedAlone.{SeenAlone}
+use Rattle.ob_headline.specs.Flights.{FliesNone}
+use Rattle.ob_headline.proofs.AloneRuns.{few_spelt, run_alone}
 use Rattle.ob_mean.specs.Batches.{Gathering, is_cut}
 use Rattle.ob_mean.specs.Lawful.{Lawful}
 use Rattle.ob_mean.specs.Replay.{Spelt}
@@ -57,13 +59,13 @@ module _ (p : Public) (m : ℕ) (g : Option Gathering) (t : Turn) (here : Seen) 
 
 -- ---- all statements
 begins_shown : (Leaves : Public → Stmt → Seen → Type 0) (spelt : List Spelt) (answers : List Answer) (batched apart : Bool) (p : Public) (m : ℕ) (g : Option Gathering) (seen : List Entry) → GathersIf batched p g
-    → AreSeen Leaves p m (gathered_if apart g) spelt answers seen → length spelt ≤ length answers + 1 → failures answers ≡ 0 → Begins (trace p seen) (trace p (shown p m g (turns batched apart spelt) seen))
-unfolding AreSeen failures turns shown
+    → SeenAlone Leaves p m (gathered_if apart g) spelt answers seen → length spelt ≤ length answers + 1 → failures answers ≡ 0 → Begins (trace p seen) (trace p (shown p m g (turns batched apart spelt) seen))
+unfolding SeenAlone failures turns shown
 begins_shown Leaves [] answers batched apart p m g seen gathers lawful few none = subst (λ (xs : List Entry). Begins (trace p xs) []) (sym lawful) (begins_all [])
 begins_shown Leaves (Err at ∷ spelt) [] batched apart p m g seen gathers lawful few none =
-    begins_shown Leaves spelt [] batched batched p m g seen gathers (subst (λ (h : Option Gathering). AreSeen Leaves p m h spelt [] seen) (none_before batched p g gathers) lawful) (omega (arith, few)) none
+    begins_shown Leaves spelt [] batched batched p m g seen gathers (subst (λ (h : Option Gathering). SeenAlone Leaves p m h spelt [] seen) (none_before batched p g gathers) lawful) (omega (arith, few)) none
 begins_shown Leaves (Err at ∷ spelt) (one ∷ answers) batched apart p m g seen gathers lawful few none =
-    begins_shown Leaves spelt answers batched batched p m g seen gathers (subst (λ (h : Option Gathering). AreSeen Leaves p m h spelt answers seen) (none_before batched p g gathers) lawful.1)
+    begins_shown Leaves spelt answers batched batched p m g seen gathers (subst (λ (h : Option Gathering). SeenAlone Leaves p m h spelt answers seen) (none_before batched p g gathers) lawful.1)
     (omega (arith, few)) (omega (arith, none))
 begins_shown Leaves (Ok stmt ∷ spelt) [] batched apart p m g [] gathers lawful few none = absurd lawful
 begins_shown Leaves (Ok stmt ∷ spelt) (one ∷ answers) batched apart p m g [] gathers lawful few none = absurd lawful
@@ -84,12 +86,12 @@ begins_shown Leaves (Ok stmt ∷ spelt) (one ∷ answers) batched apart p m g (x
     (begins_more (script p x.skeleton x.seen) _ _ rest)
 
 -- ---- a run, and two
-pub asks_shown : (one : SomeRun) → failures_of one ≡ 0 → AsksAsShown one
-asks_shown one none =
+pub asks_shown : (one : SomeRun) → FliesNone one.base → failures_of one ≡ 0 → AsksAsShown one
+asks_shown one alone none =
     let p : Public = one.base.public in
-    let few : length one.run.story.spelt ≤ length one.run.story.answers + 1 = omega (arith, one.run.statements.begun, one.run.statements.each) in
-    let begins = begins_shown _ one.run.story.spelt one.run.story.answers (is_some p.batch) false p one.base.count None (seen_by one) (gathers_none p) one.run.accesses.lawful few none in
-    subst (λ (l : List Access). Begins l (one.base.before ++ trace p (shown p one.base.count None (turns_of one) (seen_by one)))) (sym one.run.accesses.asked)
+    let few : length one.run.story.spelt ≤ length one.run.story.answers + 1 = few_spelt alone one.run in
+    let begins = begins_shown _ one.run.story.spelt one.run.story.answers (is_some p.batch) false p one.base.count None (seen_by one) (gathers_none p) (run_alone one alone).lawful few none in
+    subst (λ (l : List Access). Begins l (one.base.before ++ trace p (shown p one.base.count None (turns_of one) (seen_by one)))) (sym (run_alone one alone).asked)
     (begins_more one.base.before _ _ begins)
 
 shown_alike : (p : Public) (m : ℕ) (g h : Option Gathering) (ps : List Turn) (xs : List Entry) (qs : List Turn) (ys : List Entry) → AlikeSoFar p m g h ps xs qs ys → OneBegins (trace p (shown p m g ps xs)) (trace p (shown p m h qs ys))
@@ -112,15 +114,15 @@ shown_alike p m g h (a ∷ ps) (x ∷ xs) (b ∷ qs) (y ∷ ys) alike =
           (begins_more (script p one.skeleton one.seen) _ _ begins))
     ]
 
-pub asks_first_part : (a b : SomeRun) → GoOnFromOne a b → failures_of a ≡ 0 → failures_of b ≡ 0
+pub asks_first_part : (a b : SomeRun) → FliesNone a.base → FliesNone b.base → GoOnFromOne a b → failures_of a ≡ 0 → failures_of b ≡ 0
     → AlikeSoFar a.base.public a.base.count None None (turns_of a) (seen_by a) (turns_of b) (seen_by b) → OneBegins (asked_by a) (asked_by b)
-asks_first_part a b same none none_too alike =
+asks_first_part a b alone alone_too same none none_too alike =
     let p : Public = a.base.public in
     let here : List Access = trace p (shown p a.base.count None (turns_of a) (seen_by a)) in
     let there : List Access = trace p (shown p a.base.count None (turns_of b) (seen_by b)) in
-    let one : Begins (asked_by a) (a.base.before ++ here) = asks_shown a none in
+    let one : Begins (asked_by a) (a.base.before ++ here) = asks_shown a alone none in
     let two : Begins (asked_by b) (a.base.before ++ there) =
-    subst (λ (l : List Access). Begins (asked_by b) l) (λ i. sym same.before i ++ trace (sym same.public i) (shown (sym same.public i) (sym same.count i) None (turns_of b) (seen_by b))) (asks_shown b none_too) in
+    subst (λ (l : List Access). Begins (asked_by b) l) (λ i. sym same.before i ++ trace (sym same.public i) (shown (sym same.public i) (sym same.count i) None (turns_of b) (seen_by b))) (asks_shown b alone_too none_too) in
     elim (shown_alike p a.base.count None None (turns_of a) (seen_by a) (turns_of b) (seen_by b) alike) [
       | inl begins ↦ both_begin (asked_by a) (asked_by b) (a.base.before ++ there) (begins_through _ _ _ one (begins_more a.base.before _ _ begins)) two
       | inr begins ↦ both_begin (asked_by a) (asked_by b) (a.base.before ++ here) one (begins_through _ _ _ two (begins_more a.base.before _ _ begins))

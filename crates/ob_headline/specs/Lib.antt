@@ -19,6 +19,7 @@ pub mod Closing
 pub mod Disturbed
 pub mod Endings
 pub mod Failures
+pub mod Flights
 pub mod FullStash
 pub mod KeyLine
 pub mod Settings

@@ -7,8 +7,10 @@ use Rattle.ob_headline.specs.Words.{Begins, before_read}
 
 -- The last read gave so many bytes, at most 4,096, and each text that was whole before it was answered, even where the run
 -- stopped within a text; who had left one for later could have been stopped there. Where up to so many INSERTs are served
--- together, some may wait that were whole before it.
-pub record Prompt (most : ℕ) (taken : List ℕ) (served : List (List ℕ)) (gave : ℕ) : Type 0 where
+-- together, or so many SELECTs fly, some may wait that were whole before it.
+pub record Prompt (most flown : ℕ) (taken : List ℕ) (served : List (List ℕ)) (gave : ℕ)
+    : Type 0 where
   pub few : min gave (length taken) ≤ 4096
-  pub prompt : most ≡ 1 → Begins (texts_in false (after_line (before_read gave taken))) served
-  pub waits : AnsweredBut most (texts_in false (after_line (before_read gave taken))) served
+  pub prompt : most ≡ 1 → flown ≡ 1
+      → Begins (texts_in false (after_line (before_read gave taken))) served
+  pub waits : AnsweredBut most flown (texts_in false (after_line (before_read gave taken))) served

@@ -7,10 +7,11 @@ use Rattle.ob_base.specs.declared.seen.End.{End}
 use Rattle.ob_base.specs.declared.seen.End.TheVariants.{Static, Whole, Joined}
 use Rattle.ob_base.specs.declared.seen.Seen.{Seen}
 use Rattle.ob_verdict.specs.Outcomes.{refusal_now}
-use Rattle.ob_headline.specs.Bases.{Base, fresh}
+use Rattle.ob_headline.specs.Bases.{Base, flying, fresh}
 use Rattle.ob_headline.specs.Failures.{failures}
+use Rattle.ob_headline.specs.Flights.{FliesNone, Seat, seats_of}
 use Rattle.ob_headline.specs.Headline.{Headline}
-use Rattle.ob_headline.specs.Settings.{IsTaken, IsTakenSaved, MeddleParses, settings_of}
+use Rattle.ob_headline.specs.Settings.{IsTaken, IsTakenSaved, MeddleParses, flight_of, settings_of}
 use Rattle.ob_headline.specs.Usage.{is_traced, usage}
 use Rattle.ob_headline.specs.Words.{Begins, Outside, keys_in}
 use Rattle.ob_headline.specs.declared.ending.Report.{Report}
@@ -26,8 +27,8 @@ use Rattle.ob_sql.specs.declared.stmt.Stmt.{Stmt}
 -- what `shell_top` promises of a run that reads its input
 abbrev pub ShellRun : List Text → (old new : Outside) → Report → Type 0
 ShellRun words old new report =
-    Headline (fresh (settings_of usage words)) keys_in (IsTaken usage words)
-    (is_traced usage words) old new report
+    Headline (flying (flight_of usage words) (fresh (settings_of usage words))) keys_in
+    (IsTaken usage words) (is_traced usage words) old new report
 
 -- ---- one run, by the words of any program, from any base and by any keys
 -- a program with these words, the one over whose store others do what the words say, and the one that may save its tables
@@ -57,7 +58,7 @@ pub record SomeRun : Type 0 where
 abbrev pub shell_run : {words : List Text} {old new : Outside} {report : Report}
     → ShellRun words old new report → SomeRun
 shell_run {words} {old} {new} {report} run = record {
-  base = fresh (settings_of usage words);
+  base = flying (flight_of usage words) (fresh (settings_of usage words));
   keys = keys_in;
   program = of_words usage;
   words = words;
@@ -90,6 +91,10 @@ turns_of one = turns_in one.base.public one.run.story.spelt
 abbrev pub seen_by : SomeRun → List Served
 seen_by one = one.run.story.seen ++ one.run.story.last
 
+-- by what each of its statements goes
+abbrev pub seats_by : SomeRun → List Seat
+seats_by one = seats_of one.base one.run.story.entries
+
 abbrev pub asked_by : SomeRun → List Access
 asked_by one = one.new.store.asked
 
@@ -99,6 +104,10 @@ keys_by one = one.keys one.run.taken
 
 abbrev pub failures_of : SomeRun → ℕ
 failures_of one = failures one.run.story.answers
+
+-- none of its statements flies
+abbrev pub ServesAlone : SomeRun → Type 0
+ServesAlone one = FliesNone one.base
 
 -- two runs go on from the same: what is public, and how much was asked
 pub record GoOnFromOne (a b : SomeRun) : Type 0 where
@@ -241,14 +250,14 @@ abbrev pub AsksAsShown : SomeRun → Type 0
 AsksAsShown one = Begins (asked_by one) (one.base.before ++ trace one.base.public
     (shown one.base.public one.base.count None (turns_of one) (seen_by one)))
 
--- if no text of a run was answered that the store failed, and each of its statements accesses no index, and is no SELECT of
--- rows or has its result padded, what it asks is a first part of one list, however it ends: behind what it begins with, of the
+-- if none of a run's statements flies, no text was answered that the store failed, and each accesses no index, and is no SELECT
+-- of rows or has its result padded, what it asks is a first part of one list, however it ends: behind what it begins with, of the
 -- accesses that follow from the skeletons of its statements, and from which are refused before any access and which are apart
 abbrev pub AsksByKinds : {base : Base} {keys : List ℕ → KeySet} {Takes : Type 0}
     {tracing : Bool} {old new : Outside} {report : Report}
     → Headline base keys Takes tracing old new report → Type 0
 AsksByKinds {base = base} {new = new} run =
-    failures run.story.answers ≡ 0
+    FliesNone base → failures run.story.answers ≡ 0
     → ArePlain base.public base.count None (turns_in base.public run.story.spelt)
     → Begins new.store.asked (base.before ++ trace base.public
     (shown_plainly base.public base.count None (turns_in base.public run.story.spelt)))

@@ -18,6 +18,7 @@ use Rattle.ob_headline.specs.Words.{Answer, Begins, Outside}
 use Rattle.ob_headline.specs.Sealing.{PassesHere}
 use Rattle.ob_headline.specs.declared.ending.KeptEnding.{KeptEnding}
 use Rattle.ob_headline.specs.declared.ending.Report.{Report}
+use Rattle.ob_headline.specs.declared.flight.FlightSettings.{FlightSettings}
 use Rattle.ob_mean.specs.Replay.{is_access}
 use Rattle.ob_reopen.specs.Keepers.{KeeperState}
 use Rattle.ob_script.specs.Script.{script}
@@ -157,10 +158,10 @@ pub record ShowsBehind (one : SomeRun) (k : ℕ) (between : StoreState) : Type 0
 
 -- ---- a run with `--keep`
 -- once it ended, each block of a live region that its statements or its closing made is shown
-abbrev pub ShowsKept : {settings : Option Config} {Takes : Type 0} {tracing : Bool}
-    {old new : Outside} {keeper0 keeper1 : KeeperState} {ending : KeptEnding}
-    {answers : List Answer} {report : Report}
-    → RunKept settings Takes tracing old new keeper0 keeper1 ending answers report → Type 0
+abbrev pub ShowsKept : {settings : Option Config} {flight : Option FlightSettings}
+    {Takes : Type 0} {tracing : Bool} {old new : Outside} {keeper0 keeper1 : KeeperState}
+    {ending : KeptEnding} {answers : List Answer} {report : Report}
+    → RunKept settings flight Takes tracing old new keeper0 keeper1 ending answers report → Type 0
 ShowsKept (inl run) = ⊤
 ShowsKept (inr (inl run)) = ⊤
 ShowsKept {new = new} (inr (inr run)) = IsTrue run.opened.tells

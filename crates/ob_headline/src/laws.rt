@@ -6,7 +6,7 @@ ghost use Rattle.ob_base.specs.declared.config.Public.{Public};
 ghost use Rattle.ob_base.specs.declared.mark.Mark.{Mark};
 ghost use Rattle.ob_base.specs.declared.mark.Mark.TheVariants.{Fresh};
 ghost use Rattle.ob_base.specs.declared.seen.Seen.{Seen};
-ghost use Rattle.ob_headline.specs.Bases.{Base, FromEach, drawing, fresh};
+ghost use Rattle.ob_headline.specs.Bases.{Base, FromEach, drawing, flying, fresh};
 ghost use Rattle.ob_headline.specs.Batches.{Joins};
 ghost use Rattle.ob_headline.specs.Headline.{Headline};
 ghost use Rattle.ob_headline.specs.Keeping.{BeginsFrom};
@@ -16,19 +16,20 @@ ghost use Rattle.ob_headline.specs.KeptRuns.{AnswerAsOne, AnyRun, AreChained, Go
 ghost use Rattle.ob_headline.specs.Pieces.{BeginsWith};
 ghost use Rattle.ob_headline.specs.Plainly.{IsUnhindered, RunsPlainly};
 ghost use Rattle.ob_headline.specs.Reruns.{Alike, AlikeSoFar, AsksAsShown, AsksByKinds, EndsWell, GoOnFromOne, IsPlain};
-ghost use Rattle.ob_headline.specs.Reruns.{OneBegins, ShowAlike, SomeRun, any_counted, asked_by, failures_of, keys_by, plainly};
-ghost use Rattle.ob_headline.specs.Reruns.{seen_by, turns_of};
+ghost use Rattle.ob_headline.specs.Reruns.{OneBegins, ServesAlone, ShowAlike, SomeRun, any_counted, asked_by, failures_of};
+ghost use Rattle.ob_headline.specs.Reruns.{keys_by, plainly, seats_by, seen_by, turns_of};
 ghost use Rattle.ob_headline.specs.SavedRuns.{AnswerInOne, AnySaved, GoOnSaved, HaveOwnSalts, LeavesHeld, OneSaved};
 ghost use Rattle.ob_headline.specs.SavedRuns.{SavedRun, Seals, SealsAlone};
 ghost use Rattle.ob_headline.specs.Saving.{BeginsSaved};
-ghost use Rattle.ob_headline.specs.Settings.{IsTaken, IsTakenSaved, MeddleParses};
+ghost use Rattle.ob_headline.specs.Settings.{IsTaken, IsTakenSaved, MeddleParses, flight_of};
 ghost use Rattle.ob_headline.specs.Shown.{AskedTheSame, IsBegun, IsBetween, OfIndex, ShowNumbersAlike, ShowsBehind};
 ghost use Rattle.ob_headline.specs.Shown.{ShowsBetween, ShowsKept, ShowsSealed, WriteOwn, Wrote, asked_behind};
 ghost use Rattle.ob_headline.specs.Shown.{public_behind};
 ghost use Rattle.ob_headline.specs.Texts.{is_over, rest_of, texts_of};
-ghost use Rattle.ob_headline.specs.Usage.{is_kept, is_saved};
+ghost use Rattle.ob_headline.specs.Usage.{is_kept, is_saved, kept_usage, saved_usage};
 ghost use Rattle.ob_headline.specs.Words.{Outside};
 ghost use Rattle.ob_headline.specs.declared.ending.Report.{Report};
+ghost use Rattle.ob_headline.specs.declared.flight.FlightSettings.{FlightSettings};
 ghost use Rattle.ob_mean.specs.Batches.{Gathering, is_cut};
 ghost use Rattle.ob_mean.specs.Lawful.{Lawful};
 ghost use Rattle.ob_reopen.specs.Keepers.{KeeperState};
@@ -66,13 +67,14 @@ pub fn shows_its_refusal_alone()
 /// the words of any program, from no tables or from those of an earlier run. Where INSERTs are served together, it follows,
 /// too, from which statements come right behind a text that is none, and so go into no batch with those before.
 pub fn asks_as_shown()
-    ensures { (one : SomeRun) → failures_of one ≡ 0 → AsksAsShown one }
+    ensures { (one : SomeRun) → ServesAlone one → failures_of one ≡ 0 → AsksAsShown one }
 {}
 
 /// So of two such runs that go on from the same, whose statements show the same as far as both go, one asks a first part of
 /// what the other asks, over any stores, however they end, and whatever their literals and their rows.
 pub fn one_asks_a_first_part()
-    ensures { (a b : SomeRun) → GoOnFromOne a b → failures_of a ≡ 0 → failures_of b ≡ 0
+    ensures { (a b : SomeRun) → ServesAlone a → ServesAlone b → GoOnFromOne a b
+        → failures_of a ≡ 0 → failures_of b ≡ 0
         → AlikeSoFar a.base.public a.base.count None None (turns_of a) (seen_by a) (turns_of b)
         (seen_by b)
         → OneBegins (asked_by a) (asked_by b) }
@@ -82,7 +84,7 @@ pub fn one_asks_a_first_part()
 /// the secret, and no draw is read twice, whatever the statements, their values and their rows.
 pub fn leaves_are_draws()
     ensures { (one : SomeRun)
-        → ReadsDraws (draw_of (keys_by one)) one.base.public (seen_by one) }
+        → ReadsDraws (draw_of (keys_by one)) (seats_by one) (seen_by one) }
 {}
 
 /// Over a store that tells what it holds, gave what was written and failed at no statement, a run whose words are taken,
@@ -90,7 +92,7 @@ pub fn leaves_are_draws()
 /// for want of memory: each text of its input is answered as SQL answers it over plain tables, from none or from those that
 /// rested, it printed these answers, asked and traced what they ask by their meaning, and has their status.
 pub fn unhindered_runs_are_plain()
-    ensures { (one : SomeRun) (input : List ℕ) → IsUnhindered one input
+    ensures { (one : SomeRun) (input : List ℕ) → ServesAlone one → IsUnhindered one input
         → FromEach one.base (λ s. RunsPlainly one input (drawing (keys_by one) s)) }
 {}
 
@@ -99,7 +101,7 @@ pub fn unhindered_runs_are_plain()
 /// none accesses an index, their skeletons are the same, the same ones are refused before any access, and, where INSERTs are
 /// served together, the same ones come right behind a text that is none.
 pub fn reruns_ask_the_same()
-    ensures { (a b : SomeRun) → GoOnFromOne a b
+    ensures { (a b : SomeRun) → ServesAlone a → ServesAlone b → GoOnFromOne a b
         → EndsWell a.report.status (failures_of a) → EndsWell b.report.status (failures_of b)
         → any_counted (turns_of a) ≡ false
         → Alike a.base.public a.base.count None (turns_of a) (turns_of b)
@@ -110,7 +112,7 @@ pub fn reruns_ask_the_same()
 /// are selected: if none of their statements accesses an index, their skeletons are the same, the same ones are refused
 /// before any access, and, where INSERTs are served together, the same ones come right behind a text that is none.
 pub fn padded_reruns_ask_the_same()
-    ensures { (a b : SomeRun) → GoOnFromOne a b
+    ensures { (a b : SomeRun) → ServesAlone a → ServesAlone b → GoOnFromOne a b
         → EndsWell a.report.status (failures_of a) → EndsWell b.report.status (failures_of b)
         → IsSome a.base.public.pad
         → Alike a.base.public a.base.count None (turns_of a) (turns_of b)
@@ -120,7 +122,7 @@ pub fn padded_reruns_ask_the_same()
 /// The same over the whole language, where the same is seen of each statement that accesses an index, and of each SELECT of
 /// rows that isn't padded: then of all statements the same is seen, and the runs ask the same.
 pub fn reruns_show_the_same()
-    ensures { (a b : SomeRun) → GoOnFromOne a b
+    ensures { (a b : SomeRun) → ServesAlone a → ServesAlone b → GoOnFromOne a b
         → EndsWell a.report.status (failures_of a) → EndsWell b.report.status (failures_of b)
         → ShowAlike a.base.public a.base.count (turns_of a) (seen_by a) (turns_of b) (seen_by b)
         → (seen_by a ≡ seen_by b) × (asked_by a ≡ asked_by b) }
@@ -140,7 +142,7 @@ pub fn marks_are_held()
 /// failed at no statement: together they answer as one run does over all their texts, in which the same INSERTs are served
 /// together. Only that so many accesses were asked that a statement is refused for it may come at another place.
 pub fn runs_answer_as_one()
-    ensures { (words : List Text) → is_kept words ≡ true
+    ensures { (words : List Text) → is_kept words ≡ true → flight_of kept_usage words ≡ None
         → (secret : List ℕ) (kept : ℕ → Option KeptRegion) (runs : List (OneRun words))
         → GoOn secret (Some Fresh) kept runs → AnswerAsOne secret runs }
 {}
@@ -172,8 +174,8 @@ pub fn asks_by_kinds()
 /// accesses an index to regions of an index, whatever the store does and however the run ends: behind a statement nothing is
 /// written to a region that was made by then and is no index's.
 pub fn statements_write_their_own()
-    ensures own { (one : SomeRun) → WriteOwn one.base.public (seen_by one) }
-    ensures behind { (one : SomeRun) (k i region place : ℕ)
+    ensures own { (one : SomeRun) → ServesAlone one → WriteOwn one.base.public (seen_by one) }
+    ensures behind { (one : SomeRun) → ServesAlone one → (k i region place : ℕ)
         → region < (public_behind one k).next_region
         → (OfIndex (public_behind one k).tables region → ⊥) → Wrote (asked_by one) i region place
         → i < length (asked_behind one k) }
@@ -189,11 +191,12 @@ pub fn blocks_are_sealed_alone()
     ensures between { (one : SomeRun) → IsBegun one.base → IsTrue one.old.store.tells
         → (between : StoreState) → IsBetween one between → ShowsBetween one between }
     ensures behind { (one : SomeRun) → IsBegun one.base → IsTrue one.old.store.tells
-        → (between : StoreState) → IsBetween one between
+        → (between : StoreState) → IsBetween one between → ServesAlone one
         → (k : ℕ) → between.asked ≡ asked_behind one k → ShowsBehind one k between }
 {}
 
-/// What the statements of a run go on from is as the laws of blocks ask: no tables, or those of a closing that was opened.
+/// What the statements of a run go on from is as the laws of blocks ask: no tables, or those of a closing that was opened,
+/// and however SELECTs fly.
 pub fn runs_begin_behind_earlier_ones()
     ensures fresh { (settings : Option Config) → IsBegun (fresh settings) }
     ensures kept { (mark : Mark) (config : Config) (keys : KeySet) (base : Base)
@@ -201,6 +204,8 @@ pub fn runs_begin_behind_earlier_ones()
     ensures saved { (mark : Mark) (config : Config) (secret salt : List ℕ) (keys : KeySet)
         (base : Base) (old new : StoreState)
         → BeginsSaved mark config secret salt keys base old new → IsBegun base }
+    ensures flown { (flight : Option FlightSettings) (base : Base) → IsBegun base
+        → IsBegun (flying flight base) }
 {}
 
 /// So it is once a run with `--keep` ended, over a store that tells: of the blocks of its statements and of its closing.
@@ -233,7 +238,7 @@ pub fn saved_marks_are_held()
 /// and what rests then is what that run leaves. Only that so many accesses were asked that a statement is refused for it may
 /// come at another place.
 pub fn saved_runs_answer_as_one()
-    ensures { (words : List Text) → is_saved words ≡ true
+    ensures { (words : List Text) → is_saved words ≡ true → flight_of saved_usage words ≡ None
         → (secret : List ℕ) (kept : ℕ → Option KeptRegion) (runs : List (OneSaved words))
         → GoOnSaved secret (Some Fresh) kept runs → AnswerInOne secret (Some Fresh) kept runs }
 {}
