@@ -35,7 +35,7 @@ use Rattle.ob_shell.specs.Feeding.{Fetch}
 use Rattle.ob_shell.specs.Generating.{SummedUp}
 use Rattle.ob_shell.specs.Running.{OutFailed, ServesAlone, Silenced, StopCause}
 use Rattle.ob_shell.specs.Standing.{StandsOn}
-use Rattle.ob_shell.specs.Steps.{IsReady, machine_of, told_nothing}
+use Rattle.ob_shell.specs.Steps.{IsReady, machine_of, no_flights, told_nothing}
 use Rattle.ob_shell.specs.Tallies.{has_refused}
 use Rattle.ob_shell.specs.Top.{EndingCause, RanAfter, RunShown, sink_of}
 use Rattle.ob_shell.specs.Traces.{Traced}
@@ -49,7 +49,7 @@ use Rattle.ob_headline.specs.Prompt.{Prompt}
 pub record Engages {R : Type 0} (state : R → RevState) (base : Base) (config : Config)
     (keys : KeySet) (e : Engine R) (s : StoreState) : Type 0 where
   pub stands : StandsOn state base config keys e s
-  pub ready : IsReady state ⊥ (machine_of e s told_nothing)
+  pub ready : IsReady state ⊥ (machine_of e s told_nothing no_flights)
   pub few : count_of e s < 2 ^ 63 + 2 ^ 59
   pub from : opened_from e ≡ region_opened base.opened
   pub high : high_of e ≤ 1
@@ -135,7 +135,7 @@ pub record StopsRun {R : Type 0} (state : R → RevState) (base : Base) (key : L
       feed0 feed1 left0 left1 gave written0 written1 begun new ended.high
       (OutFailed ended.quiet old_faults.out new_faults.out) (Err stop)
   pub traced_all : Traced tracing begun.asked new.asked traced0 traced1 (ended.quiet ≡ true)
-  pub cause : StopCause {T = Bool} (ServesAlone base.public) old_faults new_faults (Err stop)
+  pub cause : StopCause {T = Bool} (ServesAlone base.flight base.public) old_faults new_faults (Err stop)
   pub silent : Silenced ended.quiet old_faults new_faults
   pub ending : ended.ending ≡ Plain (Ran (Err stop))
   pub kept : keeper1 ≡ keeper0
@@ -259,7 +259,7 @@ pub record RanStopped (config : Config) (tracing : Bool) (ended : KeptEnded) (ol
   pub keyed : secret_of (first_line shown.taken) ≡ Some begun.secret
   pub traced_all : Traced tracing begun.opened.asked new.store.asked begun.traced new.traced
       (ended.quiet ≡ true)
-  pub cause : EndingCause (ServesAlone begun.base.public) (Ran (Err stop))
+  pub cause : EndingCause (ServesAlone begun.base.flight begun.base.public) (Ran (Err stop))
       old.faults new.faults
   pub silent : Silenced ended.quiet old.faults new.faults
   pub ending : ended.ending ≡ Plain (Ran (Err stop))

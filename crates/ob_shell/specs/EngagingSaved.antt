@@ -31,7 +31,7 @@ use Rattle.ob_shell.specs.Feeding.{Fetch}
 use Rattle.ob_shell.specs.Leaving.{BeginsToSave}
 use Rattle.ob_shell.specs.Running.{OutFailed, ServesAlone, Silenced, StopCause}
 use Rattle.ob_shell.specs.Standing.{StandsOn}
-use Rattle.ob_shell.specs.Steps.{IsReady, machine_of}
+use Rattle.ob_shell.specs.Steps.{IsReady, machine_of, no_flights}
 use Rattle.ob_shell.specs.Tallies.{flagged}
 use Rattle.ob_shell.specs.Top.{EndingCause, RanAfter, RunShown, sink_of}
 use Rattle.ob_shell.specs.Traces.{Traced}
@@ -85,7 +85,7 @@ EngineBy state (Saved region blocks number pack closed) config secret salt e s t
 pub record EngagesSaved {R : Type 0} (state : R → RevState) (base : Base) (config : Config)
     (keys : KeySet) (e : Engine R) (s : StoreState) (keeper : KeeperState) : Type 0 where
   pub stands : StandsOn state base config keys e s
-  pub ready : IsReady state ⊤ (machine_of e s keeper)
+  pub ready : IsReady state ⊤ (machine_of e s keeper no_flights)
   pub high : high_of e ≤ 1
 
 -- that of the mark that was read, under keys of a salt that was drawn; and where the keeper told the mark that it held, its
@@ -104,7 +104,7 @@ pub record HasSaved {R : Type 0} (state : R → RevState) (config : Config) (sec
   pub begins : BeginsSaved mark config secret salt keys base old new
   pub engages : EngagesSaved state base config keys e new keeper1
   pub saves : (held : Mark) → keeper0.held ≡ Some held
-      → BeginsToSave state secret salt base keys (machine_of e new keeper1)
+      → BeginsToSave state secret salt base keys (machine_of e new keeper1 no_flights)
 
 -- an engine was found, or how the run ended: whatever becomes of the trace
 pub record FindsSaved {R : Type 0} (state : R → RevState) (config : Config) (secret : List ℕ)
@@ -126,7 +126,7 @@ pub record StartsSaved {R : Type 0} (state : R → RevState) (config : Config) (
       keeper0 keeper1
   pub engages : EngagesSaved state base config keys e new keeper1
   pub saves : (held : Mark) → keeper0.held ≡ Some held
-      → BeginsToSave state secret salt base keys (machine_of e new keeper1)
+      → BeginsToSave state secret salt base keys (machine_of e new keeper1 no_flights)
   pub faults : fault1 ≡ fault0
 
 -- it didn't begin
@@ -153,7 +153,7 @@ pub record ServesSaved {R : Type 0} (state : R → RevState) (base : Base) (keys
       feed0 feed1 left0 left1 gave written0 written1 begun new ended.high
       (OutFailed ended.quiet old_faults.out new_faults.out) result
   pub traced_all : Traced tracing begun.asked new.asked traced0 traced1 (ended.quiet ≡ true)
-  pub cause : StopCause (ServesAlone base.public) old_faults new_faults result
+  pub cause : StopCause (ServesAlone base.flight base.public) old_faults new_faults result
   pub silent : Silenced ended.quiet old_faults new_faults
   pub ending : ended.ending ≡ Plain (Ran (flagged result))
   pub counted : IfOk result (λ tally. ended.tally ≡ tally)
@@ -198,7 +198,7 @@ pub record RanSession (config : Config) (tracing : Bool) (ended : KeptEnded) (ol
   pub keyed : secret_of (first_line shown.taken) ≡ Some secret
   pub traced_all : Traced tracing opened.asked new.store.asked traced new.traced
       (ended.quiet ≡ true)
-  pub cause : EndingCause (ServesAlone base.public) (Ran result) old.faults new.faults
+  pub cause : EndingCause (ServesAlone base.flight base.public) (Ran result) old.faults new.faults
   pub silent : Silenced ended.quiet old.faults new.faults
   pub ending : ended.ending ≡ Plain (Ran result)
   pub keeper : CountsKeeper (Ran result) begun keeper1

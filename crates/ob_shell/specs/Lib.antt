@@ -1,3 +1,4 @@
+pub mod Aloft
 pub mod Feeding
 pub mod Engaging
 pub mod KeptSummary

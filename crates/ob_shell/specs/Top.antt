@@ -214,7 +214,7 @@ pub record Reported (tally : Tally) (tr : TraceSink) (Takes : Type 0) (base : Ba
       ⊎ Rises old.out new.out
   pub silent : new.trace ≢ old.trace
       → Outputs written0 written1 (Unit {0}) (printed shown.story.answers ++ shown.story.part)
-  pub cause : StatusCause (ServesAlone base.public) ending old new
+  pub cause : StatusCause (ServesAlone base.flight base.public) ending old new
   pub completes : Takes → (input : List ℕ) → left0 ≡ Some input
       → KeepsLimits (limit_of base.settings) input
       → ¬ Rises old.source new.source → ¬ SinksRose old new

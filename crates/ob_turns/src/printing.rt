@@ -1,8 +1,10 @@
 //! The answers of statements in flight.
-ghost use Rattle.std.specs.Prelude.{◌≡◌, ◌++◌, [], ◌∷◌};
-ghost use Rattle.ob_headline.specs.Closing;
+ghost use Rattle.std.specs.Prelude.{◌≡◌};
+ghost use Rattle.ob_base.specs.Counts.{Rises};
+ghost use Rattle.ob_headline.specs.Closing.{closing_line};
 ghost use Rattle.ob_print.specs.Rows.{Printed, PrintedCut};
 ghost use Rattle.ob_print.specs.Sent.{Sends};
+ghost use Rattle.ob_turns.specs.Kept.{IsKept};
 
 use crate::closing::closing_line;
 use ob_base::{Emit, EmitErr, Failed, Label, Shown};
@@ -11,7 +13,17 @@ use ob_io::Sink;
 use ob_print::Printer;
 use ob_verdict::Outcome;
 
-/// Prints answers one behind the other, each with the line that ends it, and keeps how each statement was answered.
+// Notes how the statement at a place was answered, where there is room for it.
+fn keep(outcomes: &mut [Outcome], place: u32, outcome: Outcome)
+    ensures { IsKept place outcome outcomes.old outcomes.new }
+{
+    if (place as usize) < outcomes.len() {
+        outcomes[place as usize] = outcome;
+    }
+}
+
+/// Prints answers one behind the other, each with the line that ends it, and keeps how the statement at each place was
+/// answered, where there is room for it.
 #[derive(Drop)]
 pub struct FlightPrinter<'a, K: Sink> {
     pub printer: Printer<'a, K>,
@@ -45,15 +57,13 @@ impl<'a, K: Sink> Emit for FlightPrinter<'a, K> {
 
 impl<'a, K: Sink> FlightOut for FlightPrinter<'a, K> {
     // its line came behind what waited for the sink
-    ghost closed = { λ s t place outcome. Sends (K.written s.printer.out.out.now) (K.written t.printer.out.out.now) s.printer.out.waiting.items t.printer.out.waiting.items ⊥ (Closing.closing_line outcome) × (t.printer.out.out.ghost_name ≡ s.printer.out.out.ghost_name) × (t.outcomes.items ≡ s.outcomes.items ++ outcome ∷ []) };
+    ghost closed = { λ s t place outcome. Sends (K.written s.printer.out.out.now) (K.written t.printer.out.out.now) s.printer.out.waiting.items t.printer.out.waiting.items ⊥ (closing_line outcome) × (t.printer.out.out.ghost_name ≡ s.printer.out.out.ghost_name) × IsKept place outcome s.outcomes.items t.outcomes.items };
 
-    // a first part of it did
-    ghost parted = { λ s t place outcome. Sends (K.written s.printer.out.out.now) (K.written t.printer.out.out.now) s.printer.out.waiting.items t.printer.out.waiting.items (Unit {0}) (Closing.closing_line outcome) × (t.printer.out.out.ghost_name ≡ s.printer.out.out.ghost_name) };
+    // a first part of it did, and the sink failed
+    ghost parted = { λ s t place outcome. Sends (K.written s.printer.out.out.now) (K.written t.printer.out.out.now) s.printer.out.waiting.items t.printer.out.waiting.items (Unit {0}) (closing_line outcome) × (t.printer.out.out.ghost_name ≡ s.printer.out.out.ghost_name) × Rises (K.faults s.printer.out.out.now) (K.faults t.printer.out.out.now) };
 
-    fn ended(&mut self, _place: u32, outcome: &Outcome) -> Result<(), EmitErr> {
-        if self.outcomes.push(*outcome).is_err() {
-            return Err(EmitErr::NoMemory);
-        }
+    fn ended(&mut self, place: u32, outcome: &Outcome) -> Result<(), EmitErr> {
+        keep(self.outcomes.as_mut_slice(), place, *outcome);
         match self.printer.out.write_all(closing_line(*outcome).as_bytes()) {
             Ok(()) => Ok(()),
             Err(Failed) => Err(EmitErr::Failed),
