@@ -1,3 +1,4 @@
+pub mod Flying
 pub mod Aloft
 pub mod Feeding
 pub mod Engaging

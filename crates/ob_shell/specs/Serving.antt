@@ -69,15 +69,14 @@ pub record TakesTexts {R T : Type 0} (state : R → RevState) (Saves : Type 0) (
   pub cause : StopCause (Unit {0}) old new (stop_of (halted_of result))
   pub quiet : Silenced (is_quiet (halted_of result)) old new
 
--- a batch was served: each of its texts was answered, and nothing else goes into it; or a stop came
+-- these were served that waited: each of their texts was answered, and nothing else goes along with them; or a stop came
 abbrev pub ServesBatch : {R : Type 0} (state : R → RevState) (Saves : Type 0) (tracing : Bool)
-    (first : Stmt) (rest : List Stmt) (tally : Tally)
+    (stmts : List Stmt) (tally : Tally)
     (written0 written1 traced0 traced1 : Option (List ℕ)) (old new : Faults)
     (m0 m1 : Machine R) → Result Tally TextHalted → Type 0
-ServesBatch state Saves tracing first rest tally w0 w1 t0 t1 old new m0 m1 result =
-    TakesTexts state Saves tracing
-    (ComesFree m0.flights.settings (public_of m0.engine) (first ∷ rest))
-    (IsClosed m1.flights.settings (public_of m1.engine) (first ∷ rest)) (first ∷ rest) [] [] tally
+ServesBatch state Saves tracing stmts tally w0 w1 t0 t1 old new m0 m1 result =
+    TakesTexts state Saves tracing (ComesFree m0.flights.settings (public_of m0.engine) stmts)
+    (IsClosed m1.flights.settings (public_of m1.engine) stmts) stmts [] [] tally
     (counted_by tally result) w0 w1 t0 t1 old new m0 m1 result
 
 -- the same where a stop may leave what comes next unread, for one of these causes: then no text came behind those that waited

@@ -1,15 +1,21 @@
 //! Statements that wait to be served together.
-ghost use Rattle.std.specs.Prelude.{◌≡◌, ◌≢◌, ◌≤◌, ◌∷◌, [], drop, length, take, IsErr, OnErr, OnOk};
+ghost use Rattle.std.specs.Prelude.{◌≡◌, ◌≢◌, ◌≤◌, ◌∷◌, [], drop, length, max, take, true, Option, IsErr, OnErr, OnOk};
+ghost use Rattle.std.specs.List.{All};
 ghost use Rattle.std.specs.Io.KnownBytes.{Appends};
+ghost use Rattle.ob_exec.specs.InFlight.{flight_most};
+ghost use Rattle.ob_headline.specs.Flights;
 ghost use Rattle.ob_headline.specs.Tracing.{traced};
 ghost use Rattle.ob_headline.specs.Words.{faults_of, printed};
 ghost use Rattle.ob_io.specs.Causes.{HasCause};
 ghost use Rattle.ob_print.specs.Cuts.{Outputs};
+ghost use Rattle.ob_headline.specs.declared.flight.FlightSettings.{FlightSettings};
+ghost use Rattle.ob_shell.specs.Flying.{flights_of};
 ghost use Rattle.ob_shell.specs.Lines.{BatchCut, SinksCause, line_answers};
 ghost use Rattle.ob_shell.specs.Serving.{ServesBatch, TakesTexts};
-ghost use Rattle.ob_shell.specs.Steps.{IsReady, machine_of};
+ghost use Rattle.ob_shell.specs.Steps.{Flights as FlightsToCome, IsReady, machine_of, no_flights};
 ghost use Rattle.ob_shell.specs.Tallies.{tally_after};
-ghost use Rattle.ob_shell.specs.Waiting.{AreBatched, ComesFree, IsClosed, are_alike, goes_along};
+ghost use Rattle.ob_shell.specs.Waiting;
+ghost use Rattle.ob_shell.specs.Waiting.{AreBatched, AreFlown, ComesFree, IsClosed};
 ghost use Rattle.ob_sql.specs.Skeleton.{skeleton};
 ghost use Rattle.ob_tables.specs.Agreeing.{count_of, public_of};
 ghost use Rattle.ob_tables.specs.Batch.{AreBatch};
@@ -31,7 +37,7 @@ use std::alloc::Global;
 
 // Whether both insert into one table.
 fn are_alike(first: &Stmt, stmt: &Stmt) -> bool
-    ensures { result ≡ are_alike (skeleton first.now) (skeleton stmt.now) }
+    ensures { result ≡ Waiting.are_alike (skeleton first.now) (skeleton stmt.now) }
 {
     let Stmt::Insert { table, .. } = first else {
         return false;
@@ -45,7 +51,7 @@ fn are_alike(first: &Stmt, stmt: &Stmt) -> bool
 /// Whether a statement goes along with these, of which the first was the first that waited, where one more may: an INSERT
 /// into its table, or a SELECT that may be in flight where it is one.
 pub(crate) fn goes_along(public: &Public, batch: &[Stmt], stmt: &Stmt) -> bool
-    ensures { result ≡ goes_along public.now batch.now stmt.now }
+    ensures { result ≡ Waiting.goes_along public.now batch.now stmt.now }
 {
     match batch.first() {
         Some(first) => match first {
@@ -58,7 +64,7 @@ pub(crate) fn goes_along(public: &Public, batch: &[Stmt], stmt: &Stmt) -> bool
 
 /// As many as are served together, at most, where this one is among them.
 pub(crate) fn gather_most(flight: Option<FlightSettings>, public: &Public, stmt: &Stmt) -> u64
-    ensures { result ≡ gather_most flight public.now (skeleton stmt.now) }
+    ensures { result ≡ Waiting.gather_most flight public.now (skeleton stmt.now) }
 {
     match stmt {
         Stmt::Insert { .. } => batch_most(public),
@@ -167,14 +173,15 @@ fn serve_batch<R: Revisions, S: BlockStore, B: Behind<S>, K: Sink, T: Sink, D: D
     requires batch { AreBatch (public_of engine.old) (count_of engine.old (S.state store.old))
         first.now rest.now }
     requires ready { IsReady R.state (B.Saves behind.old)
-        (machine_of engine.old (S.state store.old) (B.state behind.old)) }
+        (machine_of engine.old (S.state store.old) (B.state behind.old) no_flights) }
     requires took { D.took digest.old (S.state store.old).asked }
-    ensures serves { ServesBatch R.state (B.Saves behind.new) tracing first.now rest.now tally
+    ensures serves { (flights : FlightsToCome) → ServesBatch R.state (B.Saves behind.new) tracing
+        (first.now ∷ rest.now) tally
         (K.written out.old) (K.written out.new) (T.written trace.old) (T.written trace.new)
         (faults_of 0 (K.faults out.old) (T.faults trace.old))
         (faults_of 0 (K.faults out.new) (T.faults trace.new))
-        (machine_of engine.old (S.state store.old) (B.state behind.old))
-        (machine_of engine.new (S.state store.new) (B.state behind.new)) result }
+        (machine_of engine.old (S.state store.old) (B.state behind.old) flights)
+        (machine_of engine.new (S.state store.new) (B.state behind.new) flights) result }
     ensures same { B.name behind.new ≡ B.name behind.old }
     ensures took { OnOk result (D.took digest.new (S.state store.new).asked) }
 {
@@ -227,6 +234,24 @@ fn serve_selects<R: Revisions, S: BlockStore, B: Behind<S>, K: Sink, T: Sink, D:
     trace: &mut T,
     digest: &mut D,
 ) -> Result<Tally, TextHalted>
+    requires some { stmts.now ≢ [] }
+    requires fly { All (λ stmt. Flights.may_fly (public_of engine.old) (skeleton stmt) ≡ true) stmts.now }
+    requires few { length stmts.now ≤ max 1 (flight_most (public_of engine.old)) }
+    requires ready { IsReady R.state (B.Saves behind.old)
+        (machine_of engine.old (S.state store.old) (B.state behind.old) no_flights) }
+    requires took { D.took digest.old (S.state store.old).asked }
+    ensures serves { (settings : Option FlightSettings)
+        → AreFlown settings (public_of engine.old) stmts.now
+        → ServesBatch R.state (B.Saves behind.new) tracing stmts.now tally
+        (K.written out.old) (K.written out.new) (T.written trace.old) (T.written trace.new)
+        (faults_of 0 (K.faults out.old) (T.faults trace.old))
+        (faults_of 0 (K.faults out.new) (T.faults trace.new))
+        (machine_of engine.old (S.state store.old) (B.state behind.old)
+        (flights_of settings turns.old.last))
+        (machine_of engine.new (S.state store.new) (B.state behind.new)
+        (flights_of settings turns.new.last)) result }
+    ensures same { B.name behind.new ≡ B.name behind.old }
+    ensures took { OnOk result (D.took digest.new (S.state store.new).asked) }
 {
     if stmts.len() >= 2 {
         return serve_flight(
@@ -251,24 +276,27 @@ pub(crate) fn flush<R: Revisions, S: BlockStore, B: Behind<S>, K: Sink, T: Sink,
     trace: &mut T,
     digest: &mut D,
 ) -> Result<(), TextHalted>
-    requires waits { AreBatched (public_of engine.old)
+    requires waits { AreBatched session.old.flight (public_of engine.old)
         (count_of engine.old (S.state store.old)) session.old.batch.items }
     requires ready { IsReady R.state (B.Saves behind.old)
-        (machine_of engine.old (S.state store.old) (B.state behind.old)) }
+        (machine_of engine.old (S.state store.old) (B.state behind.old)
+        (flights_of session.old.flight session.old.turns.last)) }
     requires took { D.took digest.old (S.state store.old).asked }
     ensures pending { session.new.pending ≡ session.old.pending }
     ensures none { OnOk result (session.new.batch.items ≡ []) }
     ensures idle { OnErr result (session.old.batch.items ≢ []) }
     ensures takes { TakesTexts R.state (B.Saves behind.new) tracing
-        (ComesFree (public_of engine.old) session.old.batch.items)
-        (IsClosed (public_of engine.new) session.old.batch.items)
+        (ComesFree session.old.flight (public_of engine.old) session.old.batch.items)
+        (IsClosed session.new.flight (public_of engine.new) session.old.batch.items)
         session.old.batch.items session.new.batch.items []
         session.old.tally session.new.tally (K.written out.old) (K.written out.new)
         (T.written trace.old) (T.written trace.new)
         (faults_of 0 (K.faults out.old) (T.faults trace.old))
         (faults_of 0 (K.faults out.new) (T.faults trace.new))
-        (machine_of engine.old (S.state store.old) (B.state behind.old))
-        (machine_of engine.new (S.state store.new) (B.state behind.new)) result }
+        (machine_of engine.old (S.state store.old) (B.state behind.old)
+        (flights_of session.old.flight session.old.turns.last))
+        (machine_of engine.new (S.state store.new) (B.state behind.new)
+        (flights_of session.new.flight session.new.turns.last)) result }
     ensures same { B.name behind.new ≡ B.name behind.old }
     ensures took { OnOk result (D.took digest.new (S.state store.new).asked) }
 {

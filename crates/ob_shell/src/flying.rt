@@ -1,4 +1,16 @@
 //! SELECTs that wait to be served in flight.
+ghost use Rattle.std.specs.Prelude.{◌≡◌, [], length, OnErr, OnOk, false};
+ghost use Rattle.ob_exec.specs.InFlight.{AreFlight};
+ghost use Rattle.ob_headline.specs.Flights;
+ghost use Rattle.ob_headline.specs.Words.{faults_of};
+ghost use Rattle.ob_script.specs.Flights.{drawn};
+ghost use Rattle.ob_shell.specs.Flying.{PrintsFlight, RunsFlight, start_of};
+ghost use Rattle.ob_shell.specs.Running.{IsQuiet, halted_of};
+ghost use Rattle.ob_shell.specs.Tallies.{tally_seen};
+ghost use Rattle.ob_shell.specs.Traces.{Traced, TracedAll};
+ghost use Rattle.ob_shell.specs.Waiting;
+ghost use Rattle.ob_sql.specs.Skeleton.{skeleton};
+ghost use Rattle.ob_tables.specs.Agreeing.{Agrees, count_of, has_ended, public_of};
 use crate::session::{Answered, SINK_FAILED, TextHalted, tally_with};
 use crate::trace::{let_go_from, trace_from};
 use ob_base::{End, Failed, Public, Seen, Source};
@@ -17,19 +29,20 @@ use std::alloc::Global;
 
 /// How many SELECTs are in flight at once, at most: one where none are to fly.
 pub(crate) fn most_flown(flight: Option<FlightSettings>, public: &Public) -> u64
+    ensures { result ≡ Flights.most_flown flight public.now }
 {
     match flight {
         None => 1,
         Some(flight) => {
             let parts = public.buffer / (3 * u32::from(public.pack) + 1);
-            u64::from(flight.most.min(8).min(parts).max(1))
+            u64::from(flight.most.min(8.min(parts)).max(1))
         }
     }
 }
 
 /// The words of the flights to come.
 pub(crate) fn turns_of(flight: Option<FlightSettings>) -> DrawnTurns
-    ensures { result.last ≡ option_map_or (λ f. f.start) flight 0 }
+    ensures { result.last ≡ start_of flight }
 {
     match flight {
         None => DrawnTurns { last: 0 },
@@ -39,6 +52,7 @@ pub(crate) fn turns_of(flight: Option<FlightSettings>) -> DrawnTurns
 
 /// Whether a statement may be in flight: a SELECT without a join, of a table that is no index.
 pub(crate) fn may_fly(public: &Public, stmt: &Stmt) -> bool
+    ensures { result ≡ Flights.may_fly public.now (skeleton stmt.now) }
 {
     match stmt {
         Stmt::SelectRows(select) => match &select.source {
@@ -56,19 +70,25 @@ pub(crate) fn may_fly(public: &Public, stmt: &Stmt) -> bool
 
 /// Whether a statement before which none waits is to wait for others to fly with it.
 pub(crate) fn begins_flight(flight: Option<FlightSettings>, public: &Public, stmt: &Stmt) -> bool
+    ensures { result ≡ Waiting.begins_flight flight public.now (skeleton stmt.now) }
 {
     most_flown(flight, public) >= 2 && may_fly(public, stmt)
 }
 
 // With the answers of all of these, of each of which this was seen.
 fn tally_flown(tally: Tally, outcomes: &[Outcome], seens: &[Seen]) -> Tally
+    ensures { result ≡ tally_seen tally outcomes.now seens.now }
 {
-    let mut tally = tally;
-    for (outcome, seen) in outcomes.iter().zip(seens) {
-        let (outcome, plan) = (*outcome, seen.plan);
-        tally = tally_with(tally, Answered { outcome, plan });
+    match outcomes.split_first() {
+        None => tally,
+        Some((outcome, more)) => match seens.split_first() {
+            None => tally,
+            Some((seen, later)) => {
+                let (outcome, plan) = (*outcome, seen.plan);
+                tally_flown(tally_with(tally, Answered { outcome, plan }), more, later)
+            }
+        },
     }
-    tally
 }
 
 // Has statements fly, and prints their answers, of which none waits afterwards. Where the sink fails behind a stop, the stop
@@ -81,6 +101,21 @@ fn fly_stmts<R: Revisions, S: BlockStore, K: Sink>(
     printer: &mut FlightPrinter<'_, K>,
     seens: &mut [Seen],
 ) -> Result<(), TextHalted>
+    requires agrees { Agrees R.state engine.old (S.state store.old) }
+    requires lives { has_ended engine.old ≡ false }
+    requires flight { AreFlight (public_of engine.old)
+        (count_of engine.old (S.state store.old)) stmts.now }
+    requires each { length seens.old ≡ length stmts.now }
+    requires kept { length printer.old.outcomes.items ≡ length stmts.now }
+    requires none { printer.old.printer.out.waiting.items ≡ [] }
+    ensures same_sink { printer.new.printer.out.out.ghost_name
+        ≡ printer.old.printer.out.out.ghost_name }
+    ensures prints { PrintsFlight R.state (drawn turns.old.last) (drawn turns.new.last) stmts.now
+        seens.new printer.new.outcomes.items
+        (K.written printer.old.printer.out.out.now) (K.written printer.new.printer.out.out.now)
+        (faults_of 0 (K.faults printer.old.printer.out.out.now) 0)
+        (faults_of 0 (K.faults printer.new.printer.out.out.now) 0)
+        engine.old (S.state store.old) engine.new (S.state store.new) result }
 {
     match run_flight(engine, store, stmts, turns, printer, seens) {
         Ok(()) => match printer.printer.out.flush() {
@@ -107,8 +142,22 @@ fn answer_flight<R: Revisions, S: BlockStore, K: Sink>(
     store: &mut S,
     out: &mut K,
 ) -> Result<Tally, TextHalted>
+    requires agrees { Agrees R.state engine.old (S.state store.old) }
+    requires lives { has_ended engine.old ≡ false }
+    requires flight { AreFlight (public_of engine.old)
+        (count_of engine.old (S.state store.old)) stmts.now }
+    ensures runs { RunsFlight R.state (drawn turns.old.last) (drawn turns.new.last) stmts.now tally
+        (K.written out.old) (K.written out.new)
+        (faults_of 0 (K.faults out.old) 0) (faults_of 0 (K.faults out.new) 0)
+        engine.old (S.state store.old) engine.new (S.state store.new) result }
 {
     let Ok(mut seens) = Vec::from_elem(alloc, seen_to_end(End::Whole), stmts.len()) else {
+        return Err(TextHalted {
+            stop: RunStop::NoMemory,
+            quiet: false,
+        });
+    };
+    let Ok(outcomes) = Vec::from_elem(alloc, Outcome::Inserted, stmts.len()) else {
         return Err(TextHalted {
             stop: RunStop::NoMemory,
             quiet: false,
@@ -120,7 +169,7 @@ fn answer_flight<R: Revisions, S: BlockStore, K: Sink>(
             out: Pieces::new(out),
             line: &mut line,
         },
-        outcomes: Vec::new(alloc),
+        outcomes,
     };
     match fly_stmts(
         engine,
@@ -153,6 +202,22 @@ pub(crate) fn serve_flight<R: Revisions, S: BlockStore, K: Sink, T: Sink, D: Dig
     trace: &mut T,
     digest: &mut D,
 ) -> Result<Tally, TextHalted>
+    requires agrees { Agrees R.state engine.old (S.state store.old) }
+    requires lives { has_ended engine.old ≡ false }
+    requires flight { AreFlight (public_of engine.old)
+        (count_of engine.old (S.state store.old)) stmts.now }
+    requires took { D.took digest.old (S.state store.old).asked }
+    ensures runs { RunsFlight R.state (drawn turns.old.last) (drawn turns.new.last) stmts.now tally
+        (K.written out.old) (K.written out.new)
+        (faults_of 0 (K.faults out.old) (T.faults trace.old))
+        (faults_of 0 (K.faults out.new) (T.faults trace.new))
+        engine.old (S.state store.old) engine.new (S.state store.new) result }
+    ensures traced { OnOk result (TracedAll tracing (S.state store.old).asked
+        (S.state store.new).asked (T.written trace.old) (T.written trace.new)) }
+    ensures traced_stop { OnErr result (Traced tracing (S.state store.old).asked
+        (S.state store.new).asked (T.written trace.old) (T.written trace.new)
+        (IsQuiet (halted_of result))) }
+    ensures took { OnOk result (D.took digest.new (S.state store.new).asked) }
 {
     let mark = store.count();
     match answer_flight(alloc, tally, turns, stmts, engine, store, out) {

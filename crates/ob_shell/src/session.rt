@@ -1,16 +1,16 @@
 //! The texts of an input, each served as soon as it has come, or together with INSERTs behind it.
-ghost use Rattle.std.specs.Prelude.{◌≡◌, ◌<◌, ◌≤◌, ◌++◌, List, [], ◌∷◌, true, false, Ok, Err, length, OnOk, OnErr, codes, decimal};
+ghost use Rattle.std.specs.Prelude.{◌≡◌, ◌<◌, ◌≤◌, ◌++◌, List, [], ◌∷◌, true, false, Ok, Err, length, OnOk, OnErr};
 ghost use Rattle.ob_base.specs.declared.access.Access.{Access};
 ghost use Rattle.ob_gen.specs.Tally.{empty_tally};
-ghost use Rattle.ob_headline.specs.Closing;
 ghost use Rattle.ob_headline.specs.Texts.{text_max, rest_after, tail_text, texts_at};
 ghost use Rattle.ob_headline.specs.Words.{faults_of};
 ghost use Rattle.ob_headline.specs.Statements.{Spells};
-ghost use Rattle.ob_mean.specs.Batches.{begins_batch, goes_into};
+ghost use Rattle.ob_mean.specs.Batches.{begins_batch};
 ghost use Rattle.ob_shell.specs.Feeding.{IsFedBy};
 ghost use Rattle.ob_shell.specs.Running.{IsQuiet, OutFailed, ServesAlone, SessionRan, Silenced, StopCause, halted_of, is_quiet, stop_of};
-ghost use Rattle.ob_shell.specs.Serving.{IsNotTaken, ReadsTexts, ServesTexts, StandsReady, TakesMore, TakesTexts, UnlessServed, WantsRoom, broken_of};
-ghost use Rattle.ob_shell.specs.Steps.{machine_of, IsReady, HasBody, AnswersAll};
+ghost use Rattle.ob_shell.specs.Flying.{flights_at, flights_of};
+ghost use Rattle.ob_shell.specs.Serving.{IsNotTaken, ReadsTexts, ServesStmt, StandsReady, TakesMore, TakesTexts, UnlessServed, WantsRoom, broken_of};
+ghost use Rattle.ob_shell.specs.Steps.{AnswersText, Flights, HasBody, IsApartFrom, IsReady, machine_of, no_flights};
 ghost use Rattle.ob_shell.specs.Tallies;
 ghost use Rattle.ob_shell.specs.Traces.{TracedAll, Traced};
 ghost use Rattle.ob_shell.specs.Waiting.{AreGathered, GoesAlong, IsFree};
@@ -78,12 +78,13 @@ pub enum Break {
 }
 
 /// What a session knows beside the state of its engine: the text that is read, the statements that wait to be served
-/// together, what was counted, and the words of the flights to come.
+/// together, what was counted, how SELECTs fly, if they do, and the words of the flights to come.
 #[derive(Drop)]
 pub struct Session {
     pub pending: Pending,
     pub batch: Vec<Stmt>,
     pub tally: Tally,
+    pub flight: Option<FlightSettings>,
     pub turns: DrawnTurns,
 }
 
@@ -117,23 +118,22 @@ fn run_stmt<R: Revisions, S: BlockStore, B: Behind<S>, K: Sink>(
     stmt: &Stmt,
     printer: &mut Printer<'_, K>,
 ) -> Result<Answered, TextHalted>
-    requires spells { Spells text.now (Ok stmt.now) }
     requires alone { begins_batch (public_of engine.old) (count_of engine.old (S.state store.old))
         stmt.now ≡ false }
     requires ready { IsReady R.state (B.Saves behind.old)
-        (machine_of engine.old (S.state store.old) (B.state behind.old)) }
+        (machine_of engine.old (S.state store.old) (B.state behind.old) no_flights) }
     requires none { printer.old.out.waiting.items ≡ [] }
     ensures same_sink { printer.new.out.out.ghost_name ≡ printer.old.out.out.ghost_name }
-    ensures serves { ServesTexts R.state (B.Saves behind.new)
-        (λ gathered. goes_into (public_of engine.old) gathered (skeleton stmt.now) ≡ false)
-        (text.now ∷ [])
-        (λ a. HasBody R.state (K.written printer.old.out.out.now)
-        (K.written printer.new.out.out.now) text.now a.outcome a.plan)
+    ensures serves { (flights : Flights) → ServesStmt R.state (B.Saves behind.new)
+        (λ gathered. IsApartFrom flights.settings (public_of engine.old) gathered
+        (skeleton stmt.now)) stmt.now
+        (λ text a. HasBody R.state (K.written printer.old.out.out.now)
+        (K.written printer.new.out.out.now) text a.outcome a.plan)
         (K.written printer.old.out.out.now) (K.written printer.new.out.out.now)
         (faults_of 0 (K.faults printer.old.out.out.now) 0)
         (faults_of 0 (K.faults printer.new.out.out.now) 0)
-        (machine_of engine.old (S.state store.old) (B.state behind.old))
-        (machine_of engine.new (S.state store.new) (B.state behind.new))
+        (machine_of engine.old (S.state store.old) (B.state behind.old) flights)
+        (machine_of engine.new (S.state store.new) (B.state behind.new) flights)
         result }
     ensures asked { (seen : List Access) × ((S.state store.new).asked
         ≡ (S.state store.old).asked ++ seen) }
@@ -167,20 +167,19 @@ fn run_text<R: Revisions, S: BlockStore, B: Behind<S>, K: Sink>(
     stmt: &Stmt,
     out: &mut K,
 ) -> Result<Answered, TextHalted>
-    requires spells { Spells text.now (Ok stmt.now) }
     requires alone { begins_batch (public_of engine.old) (count_of engine.old (S.state store.old))
         stmt.now ≡ false }
     requires ready { IsReady R.state (B.Saves behind.old)
-        (machine_of engine.old (S.state store.old) (B.state behind.old)) }
-    ensures serves { ServesTexts R.state (B.Saves behind.new)
-        (λ gathered. goes_into (public_of engine.old) gathered (skeleton stmt.now) ≡ false)
-        (text.now ∷ [])
-        (λ a. HasBody R.state
-        (K.written out.old) (K.written out.new) text.now a.outcome a.plan)
+        (machine_of engine.old (S.state store.old) (B.state behind.old) no_flights) }
+    ensures serves { (flights : Flights) → ServesStmt R.state (B.Saves behind.new)
+        (λ gathered. IsApartFrom flights.settings (public_of engine.old) gathered
+        (skeleton stmt.now)) stmt.now
+        (λ text a. HasBody R.state (K.written out.old) (K.written out.new) text a.outcome a.plan)
         (K.written out.old) (K.written out.new)
-        (faults_of 0 (K.faults out.old) 0) (faults_of 0 (K.faults out.new) 0)
-        (machine_of engine.old (S.state store.old) (B.state behind.old))
-        (machine_of engine.new (S.state store.new) (B.state behind.new))
+        (faults_of 0 (K.faults out.old) 0)
+        (faults_of 0 (K.faults out.new) 0)
+        (machine_of engine.old (S.state store.old) (B.state behind.old) flights)
+        (machine_of engine.new (S.state store.new) (B.state behind.new) flights)
         result }
     ensures asked { (seen : List Access) × ((S.state store.new).asked
         ≡ (S.state store.old).asked ++ seen) }
@@ -205,20 +204,19 @@ fn answer<R: Revisions, S: BlockStore, B: Behind<S>, K: Sink>(
     stmt: &Stmt,
     out: &mut K,
 ) -> Result<Tally, TextHalted>
-    requires spells { Spells text.now (Ok stmt.now) }
     requires alone { begins_batch (public_of engine.old) (count_of engine.old (S.state store.old))
         stmt.now ≡ false }
     requires ready { IsReady R.state (B.Saves behind.old)
-        (machine_of engine.old (S.state store.old) (B.state behind.old)) }
-    ensures serves { ServesTexts R.state (B.Saves behind.new)
-        (λ gathered. goes_into (public_of engine.old) gathered (skeleton stmt.now) ≡ false)
-        (text.now ∷ [])
-        (λ counted. AnswersAll R.state
-        (K.written out.old) (K.written out.new) (text.now ∷ []) tally counted)
+        (machine_of engine.old (S.state store.old) (B.state behind.old) no_flights) }
+    ensures serves { (flights : Flights) → ServesStmt R.state (B.Saves behind.new)
+        (λ gathered. IsApartFrom flights.settings (public_of engine.old) gathered
+        (skeleton stmt.now)) stmt.now
+        (AnswersText R.state (K.written out.old) (K.written out.new) tally)
         (K.written out.old) (K.written out.new)
-        (faults_of 0 (K.faults out.old) 0) (faults_of 0 (K.faults out.new) 0)
-        (machine_of engine.old (S.state store.old) (B.state behind.old))
-        (machine_of engine.new (S.state store.new) (B.state behind.new))
+        (faults_of 0 (K.faults out.old) 0)
+        (faults_of 0 (K.faults out.new) 0)
+        (machine_of engine.old (S.state store.old) (B.state behind.old) flights)
+        (machine_of engine.new (S.state store.new) (B.state behind.new) flights)
         result }
     ensures asked { (seen : List Access) × ((S.state store.new).asked
         ≡ (S.state store.old).asked ++ seen) }
@@ -248,22 +246,20 @@ pub(crate) fn answer_traced<R: Revisions, S: BlockStore, B: Behind<S>, K: Sink, 
     trace: &mut T,
     digest: &mut D,
 ) -> Result<Tally, TextHalted>
-    requires spells { Spells text.now (Ok stmt.now) }
     requires alone { begins_batch (public_of engine.old) (count_of engine.old (S.state store.old))
         stmt.now ≡ false }
     requires ready { IsReady R.state (B.Saves behind.old)
-        (machine_of engine.old (S.state store.old) (B.state behind.old)) }
+        (machine_of engine.old (S.state store.old) (B.state behind.old) no_flights) }
     requires took { D.took digest.old (S.state store.old).asked }
-    ensures serves { ServesTexts R.state (B.Saves behind.new)
-        (λ gathered. goes_into (public_of engine.old) gathered (skeleton stmt.now) ≡ false)
-        (text.now ∷ [])
-        (λ counted. AnswersAll R.state
-        (K.written out.old) (K.written out.new) (text.now ∷ []) tally counted)
+    ensures serves { (flights : Flights) → ServesStmt R.state (B.Saves behind.new)
+        (λ gathered. IsApartFrom flights.settings (public_of engine.old) gathered
+        (skeleton stmt.now)) stmt.now
+        (AnswersText R.state (K.written out.old) (K.written out.new) tally)
         (K.written out.old) (K.written out.new)
         (faults_of 0 (K.faults out.old) (T.faults trace.old))
         (faults_of 0 (K.faults out.new) (T.faults trace.new))
-        (machine_of engine.old (S.state store.old) (B.state behind.old))
-        (machine_of engine.new (S.state store.new) (B.state behind.new))
+        (machine_of engine.old (S.state store.old) (B.state behind.old) flights)
+        (machine_of engine.new (S.state store.new) (B.state behind.new) flights)
         result }
     ensures traced { OnOk result (TracedAll tracing (S.state store.old).asked
         (S.state store.new).asked (T.written trace.old) (T.written trace.new)) }
@@ -290,11 +286,10 @@ pub(crate) fn answer_traced<R: Revisions, S: BlockStore, B: Behind<S>, K: Sink, 
     }
 }
 
-// Gives one more INSERT to those that wait, and serves them once they are as many as a batch may have.
+// Gives one more statement to those that wait, and serves them once they are as many as are served together.
 fn gather<R: Revisions, S: BlockStore, B: Behind<S>, K: Sink, T: Sink, D: Digester>(
     alloc: Global,
     tracing: bool,
-    flight: Option<FlightSettings>,
     session: &mut Session,
     stmt: Stmt,
     engine: &mut Engine<R>,
@@ -305,26 +300,29 @@ fn gather<R: Revisions, S: BlockStore, B: Behind<S>, K: Sink, T: Sink, D: Digest
     digest: &mut D,
 ) -> Result<(), Break>
     requires spells { Spells session.old.pending (Ok stmt) }
-    requires goes { GoesAlong (public_of engine.old) (count_of engine.old (S.state store.old))
+    requires goes { GoesAlong session.old.flight (public_of engine.old) (count_of engine.old (S.state store.old))
         session.old.batch.items stmt }
     requires ready { IsReady R.state (B.Saves behind.old)
-        (machine_of engine.old (S.state store.old) (B.state behind.old)) }
+        (machine_of engine.old (S.state store.old) (B.state behind.old)
+        (flights_of session.old.flight session.old.turns.last)) }
     requires took { D.took digest.old (S.state store.old).asked }
     ensures pending { session.new.pending ≡ session.old.pending }
     ensures takes { TakesMore R.state (B.Saves behind.new) tracing
-        (IsFree (public_of engine.old) (session.old.batch.items ++ stmt ∷ []))
-        (λ old new. IsFree (public_of engine.new) session.new.batch.items new)
+        (IsFree session.old.flight (public_of engine.old) (session.old.batch.items ++ stmt ∷ []))
+        (λ old new. IsFree session.new.flight (public_of engine.new) session.new.batch.items new)
         session.old.batch.items session.new.batch.items (session.old.pending ∷ []) WantsRoom
         session.old.tally session.new.tally (K.written out.old) (K.written out.new)
         (T.written trace.old) (T.written trace.new)
         (faults_of 0 (K.faults out.old) (T.faults trace.old))
         (faults_of 0 (K.faults out.new) (T.faults trace.new))
-        (machine_of engine.old (S.state store.old) (B.state behind.old))
-        (machine_of engine.new (S.state store.new) (B.state behind.new)) result }
+        (machine_of engine.old (S.state store.old) (B.state behind.old)
+        (flights_of session.old.flight session.old.turns.last))
+        (machine_of engine.new (S.state store.new) (B.state behind.new)
+        (flights_of session.new.flight session.new.turns.last)) result }
     ensures same { B.name behind.new ≡ B.name behind.old }
     ensures took { UnlessServed result (D.took digest.new (S.state store.new).asked) }
 {
-    let most = gather_most(flight, engine.public(), &stmt);
+    let most = gather_most(session.flight, engine.public(), &stmt);
     if session.batch.push(stmt).is_err() {
         return Err(Break::Unread(Stop::NoMemory));
     }
@@ -343,7 +341,6 @@ fn gather<R: Revisions, S: BlockStore, B: Behind<S>, K: Sink, T: Sink, D: Digest
 fn begin<R: Revisions, S: BlockStore, B: Behind<S>, K: Sink, T: Sink, D: Digester>(
     alloc: Global,
     tracing: bool,
-    flight: Option<FlightSettings>,
     session: &mut Session,
     stmt: Stmt,
     engine: &mut Engine<R>,
@@ -356,25 +353,28 @@ fn begin<R: Revisions, S: BlockStore, B: Behind<S>, K: Sink, T: Sink, D: Digeste
     requires spells { Spells session.old.pending (Ok stmt) }
     requires none { session.old.batch.items ≡ [] }
     requires ready { IsReady R.state (B.Saves behind.old)
-        (machine_of engine.old (S.state store.old) (B.state behind.old)) }
+        (machine_of engine.old (S.state store.old) (B.state behind.old)
+        (flights_of session.old.flight session.old.turns.last)) }
     requires took { D.took digest.old (S.state store.old).asked }
     ensures pending { session.new.pending ≡ session.old.pending }
     ensures takes { TakesMore R.state (B.Saves behind.new) tracing
-        (IsFree (public_of engine.old) (stmt ∷ []))
-        (λ old new. IsFree (public_of engine.new) session.new.batch.items new)
+        (IsFree session.old.flight (public_of engine.old) (stmt ∷ []))
+        (λ old new. IsFree session.new.flight (public_of engine.new) session.new.batch.items new)
         [] session.new.batch.items (session.old.pending ∷ []) WantsRoom
         session.old.tally session.new.tally (K.written out.old) (K.written out.new)
         (T.written trace.old) (T.written trace.new)
         (faults_of 0 (K.faults out.old) (T.faults trace.old))
         (faults_of 0 (K.faults out.new) (T.faults trace.new))
-        (machine_of engine.old (S.state store.old) (B.state behind.old))
-        (machine_of engine.new (S.state store.new) (B.state behind.new)) result }
+        (machine_of engine.old (S.state store.old) (B.state behind.old)
+        (flights_of session.old.flight session.old.turns.last))
+        (machine_of engine.new (S.state store.new) (B.state behind.new)
+        (flights_of session.new.flight session.new.turns.last)) result }
     ensures same { B.name behind.new ≡ B.name behind.old }
     ensures took { UnlessServed result (D.took digest.new (S.state store.new).asked) }
 {
-    if begins_batch(engine, store, &stmt) || begins_flight(flight, engine.public(), &stmt) {
+    if begins_batch(engine, store, &stmt) || begins_flight(session.flight, engine.public(), &stmt) {
         return gather(
-            alloc, tracing, flight, session, stmt, engine, store, behind, out, trace, digest,
+            alloc, tracing, session, stmt, engine, store, behind, out, trace, digest,
         );
     }
     let answered = answer_traced(
@@ -402,7 +402,6 @@ fn begin<R: Revisions, S: BlockStore, B: Behind<S>, K: Sink, T: Sink, D: Digeste
 fn take_stmt<R: Revisions, S: BlockStore, B: Behind<S>, K: Sink, T: Sink, D: Digester>(
     alloc: Global,
     tracing: bool,
-    flight: Option<FlightSettings>,
     session: &mut Session,
     stmt: Stmt,
     engine: &mut Engine<R>,
@@ -413,35 +412,38 @@ fn take_stmt<R: Revisions, S: BlockStore, B: Behind<S>, K: Sink, T: Sink, D: Dig
     digest: &mut D,
 ) -> Result<(), Break>
     requires spells { Spells session.old.pending (Ok stmt) }
-    requires waits { AreGathered (public_of engine.old) (count_of engine.old (S.state store.old))
+    requires waits { AreGathered session.old.flight (public_of engine.old) (count_of engine.old (S.state store.old))
         session.old.batch.items }
     requires ready { IsReady R.state (B.Saves behind.old)
-        (machine_of engine.old (S.state store.old) (B.state behind.old)) }
+        (machine_of engine.old (S.state store.old) (B.state behind.old)
+        (flights_of session.old.flight session.old.turns.last)) }
     requires took { D.took digest.old (S.state store.old).asked }
     ensures pending { session.new.pending ≡ session.old.pending }
     ensures takes { TakesMore R.state (B.Saves behind.new) tracing
-        (IsFree (public_of engine.old) session.old.batch.items)
-        (λ old new. IsFree (public_of engine.new) session.new.batch.items new)
+        (IsFree session.old.flight (public_of engine.old) session.old.batch.items)
+        (λ old new. IsFree session.new.flight (public_of engine.new) session.new.batch.items new)
         session.old.batch.items session.new.batch.items (session.old.pending ∷ []) WantsRoom
         session.old.tally session.new.tally (K.written out.old) (K.written out.new)
         (T.written trace.old) (T.written trace.new)
         (faults_of 0 (K.faults out.old) (T.faults trace.old))
         (faults_of 0 (K.faults out.new) (T.faults trace.new))
-        (machine_of engine.old (S.state store.old) (B.state behind.old))
-        (machine_of engine.new (S.state store.new) (B.state behind.new)) result }
+        (machine_of engine.old (S.state store.old) (B.state behind.old)
+        (flights_of session.old.flight session.old.turns.last))
+        (machine_of engine.new (S.state store.new) (B.state behind.new)
+        (flights_of session.new.flight session.new.turns.last)) result }
     ensures same { B.name behind.new ≡ B.name behind.old }
     ensures took { UnlessServed result (D.took digest.new (S.state store.new).asked) }
 {
     if goes_along(engine.public(), session.batch.as_slice(), &stmt) {
         return gather(
-            alloc, tracing, flight, session, stmt, engine, store, behind, out, trace, digest,
+            alloc, tracing, session, stmt, engine, store, behind, out, trace, digest,
         );
     }
     match flush(
         alloc, tracing, session, engine, store, behind, out, trace, digest,
     ) {
         Ok(()) => begin(
-            alloc, tracing, flight, session, stmt, engine, store, behind, out, trace, digest,
+            alloc, tracing, session, stmt, engine, store, behind, out, trace, digest,
         ),
         Err(halted) => Err(Break::Served(halted)),
     }
@@ -451,7 +453,6 @@ fn take_stmt<R: Revisions, S: BlockStore, B: Behind<S>, K: Sink, T: Sink, D: Dig
 fn take_misspelt<R: Revisions, S: BlockStore, B: Behind<S>, K: Sink, T: Sink, D: Digester>(
     alloc: Global,
     tracing: bool,
-    flight: Option<FlightSettings>,
     session: &mut Session,
     at: u32,
     engine: &mut Engine<R>,
@@ -462,22 +463,25 @@ fn take_misspelt<R: Revisions, S: BlockStore, B: Behind<S>, K: Sink, T: Sink, D:
     digest: &mut D,
 ) -> Result<(), TextHalted>
     requires spells { Spells session.old.pending (Err at) }
-    requires waits { AreGathered (public_of engine.old) (count_of engine.old (S.state store.old))
+    requires waits { AreGathered session.old.flight (public_of engine.old) (count_of engine.old (S.state store.old))
         session.old.batch.items }
     requires ready { IsReady R.state (B.Saves behind.old)
-        (machine_of engine.old (S.state store.old) (B.state behind.old)) }
+        (machine_of engine.old (S.state store.old) (B.state behind.old)
+        (flights_of session.old.flight session.old.turns.last)) }
     requires took { D.took digest.old (S.state store.old).asked }
     ensures pending { session.new.pending ≡ session.old.pending }
     ensures takes { TakesTexts R.state (B.Saves behind.new) tracing
-        (IsFree (public_of engine.old) session.old.batch.items)
-        (λ old new. IsFree (public_of engine.new) session.new.batch.items new)
+        (IsFree session.old.flight (public_of engine.old) session.old.batch.items)
+        (λ old new. IsFree session.new.flight (public_of engine.new) session.new.batch.items new)
         session.old.batch.items session.new.batch.items (session.old.pending ∷ [])
         session.old.tally session.new.tally (K.written out.old) (K.written out.new)
         (T.written trace.old) (T.written trace.new)
         (faults_of 0 (K.faults out.old) (T.faults trace.old))
         (faults_of 0 (K.faults out.new) (T.faults trace.new))
-        (machine_of engine.old (S.state store.old) (B.state behind.old))
-        (machine_of engine.new (S.state store.new) (B.state behind.new)) result }
+        (machine_of engine.old (S.state store.old) (B.state behind.old)
+        (flights_of session.old.flight session.old.turns.last))
+        (machine_of engine.new (S.state store.new) (B.state behind.new)
+        (flights_of session.new.flight session.new.turns.last)) result }
     ensures same { B.name behind.new ≡ B.name behind.old }
     ensures took { OnOk result (D.took digest.new (S.state store.new).asked) }
 {
@@ -503,7 +507,6 @@ fn take_misspelt<R: Revisions, S: BlockStore, B: Behind<S>, K: Sink, T: Sink, D:
 fn take_text<R: Revisions, S: BlockStore, B: Behind<S>, K: Sink, T: Sink, D: Digester>(
     alloc: Global,
     tracing: bool,
-    flight: Option<FlightSettings>,
     session: &mut Session,
     engine: &mut Engine<R>,
     store: &mut S,
@@ -513,33 +516,36 @@ fn take_text<R: Revisions, S: BlockStore, B: Behind<S>, K: Sink, T: Sink, D: Dig
     digest: &mut D,
 ) -> Result<(), Break>
     requires short { length session.old.pending ≤ text_max }
-    requires waits { AreGathered (public_of engine.old) (count_of engine.old (S.state store.old))
+    requires waits { AreGathered session.old.flight (public_of engine.old) (count_of engine.old (S.state store.old))
         session.old.batch.items }
     requires ready { IsReady R.state (B.Saves behind.old)
-        (machine_of engine.old (S.state store.old) (B.state behind.old)) }
+        (machine_of engine.old (S.state store.old) (B.state behind.old)
+        (flights_of session.old.flight session.old.turns.last)) }
     requires took { D.took digest.old (S.state store.old).asked }
     ensures pending { session.new.pending ≡ session.old.pending }
     ensures takes { TakesMore R.state (B.Saves behind.new) tracing
-        (IsFree (public_of engine.old) session.old.batch.items)
-        (λ old new. IsFree (public_of engine.new) session.new.batch.items new)
+        (IsFree session.old.flight (public_of engine.old) session.old.batch.items)
+        (λ old new. IsFree session.new.flight (public_of engine.new) session.new.batch.items new)
         session.old.batch.items session.new.batch.items (session.old.pending ∷ []) WantsRoom
         session.old.tally session.new.tally (K.written out.old) (K.written out.new)
         (T.written trace.old) (T.written trace.new)
         (faults_of 0 (K.faults out.old) (T.faults trace.old))
         (faults_of 0 (K.faults out.new) (T.faults trace.new))
-        (machine_of engine.old (S.state store.old) (B.state behind.old))
-        (machine_of engine.new (S.state store.new) (B.state behind.new)) result }
+        (machine_of engine.old (S.state store.old) (B.state behind.old)
+        (flights_of session.old.flight session.old.turns.last))
+        (machine_of engine.new (S.state store.new) (B.state behind.new)
+        (flights_of session.new.flight session.new.turns.last)) result }
     ensures same { B.name behind.new ≡ B.name behind.old }
     ensures took { UnlessServed result (D.took digest.new (S.state store.new).asked) }
 {
     match parse(alloc, session.pending.text()) {
         Ok(stmt) => take_stmt(
-            alloc, tracing, flight, session, stmt, engine, store, behind, out, trace, digest,
+            alloc, tracing, session, stmt, engine, store, behind, out, trace, digest,
         ),
         Err(error) => match error {
             ParseErr::Syntax(at) => {
                 let taken = take_misspelt(
-                    alloc, tracing, flight, session, at, engine, store, behind, out, trace, digest,
+                    alloc, tracing, session, at, engine, store, behind, out, trace, digest,
                 );
                 match taken {
                     Ok(()) => Ok(()),
@@ -555,7 +561,6 @@ fn take_text<R: Revisions, S: BlockStore, B: Behind<S>, K: Sink, T: Sink, D: Dig
 fn turn<R: Revisions, S: BlockStore, B: Behind<S>, K: Sink, T: Sink, D: Digester>(
     alloc: Global,
     tracing: bool,
-    flight: Option<FlightSettings>,
     session: &mut Session,
     b: u8,
     engine: &mut Engine<R>,
@@ -566,24 +571,27 @@ fn turn<R: Revisions, S: BlockStore, B: Behind<S>, K: Sink, T: Sink, D: Digester
     digest: &mut D,
 ) -> Result<(), Break>
     requires short { length session.old.pending < text_max }
-    requires waits { AreGathered (public_of engine.old) (count_of engine.old (S.state store.old))
+    requires waits { AreGathered session.old.flight (public_of engine.old) (count_of engine.old (S.state store.old))
         session.old.batch.items }
     requires ready { IsReady R.state (B.Saves behind.old)
-        (machine_of engine.old (S.state store.old) (B.state behind.old)) }
+        (machine_of engine.old (S.state store.old) (B.state behind.old)
+        (flights_of session.old.flight session.old.turns.last)) }
     requires took { D.took digest.old (S.state store.old).asked }
     ensures pending { OnOk result ((session.new.pending ≡ rest_after session.old.pending b)
         × (length session.new.pending < text_max)) }
     ensures takes { TakesMore R.state (B.Saves behind.new) tracing
-        (IsFree (public_of engine.old) session.old.batch.items)
-        (λ old new. IsFree (public_of engine.new) session.new.batch.items new)
+        (IsFree session.old.flight (public_of engine.old) session.old.batch.items)
+        (λ old new. IsFree session.new.flight (public_of engine.new) session.new.batch.items new)
         session.old.batch.items session.new.batch.items (texts_at session.old.pending b)
         (IsNotTaken session.old.pending b)
         session.old.tally session.new.tally (K.written out.old) (K.written out.new)
         (T.written trace.old) (T.written trace.new)
         (faults_of 0 (K.faults out.old) (T.faults trace.old))
         (faults_of 0 (K.faults out.new) (T.faults trace.new))
-        (machine_of engine.old (S.state store.old) (B.state behind.old))
-        (machine_of engine.new (S.state store.new) (B.state behind.new)) result }
+        (machine_of engine.old (S.state store.old) (B.state behind.old)
+        (flights_of session.old.flight session.old.turns.last))
+        (machine_of engine.new (S.state store.new) (B.state behind.new)
+        (flights_of session.new.flight session.new.turns.last)) result }
     ensures same { B.name behind.new ≡ B.name behind.old }
     ensures took { UnlessServed result (D.took digest.new (S.state store.new).asked) }
 {
@@ -591,7 +599,7 @@ fn turn<R: Revisions, S: BlockStore, B: Behind<S>, K: Sink, T: Sink, D: Digester
         Ok(Grown::More) => Ok(()),
         Ok(Grown::Whole) => {
             match take_text(
-                alloc, tracing, flight, session, engine, store, behind, out, trace, digest,
+                alloc, tracing, session, engine, store, behind, out, trace, digest,
             ) {
                 Ok(()) => {
                     session.pending.clear();
@@ -609,7 +617,6 @@ fn turn<R: Revisions, S: BlockStore, B: Behind<S>, K: Sink, T: Sink, D: Digester
 fn finish<R: Revisions, S: BlockStore, B: Behind<S>, K: Sink, T: Sink, D: Digester>(
     alloc: Global,
     tracing: bool,
-    flight: Option<FlightSettings>,
     session: &mut Session,
     engine: &mut Engine<R>,
     store: &mut S,
@@ -619,21 +626,24 @@ fn finish<R: Revisions, S: BlockStore, B: Behind<S>, K: Sink, T: Sink, D: Digest
     digest: &mut D,
 ) -> Result<(), Break>
     requires short { length session.old.pending ≤ text_max }
-    requires waits { AreGathered (public_of engine.old) (count_of engine.old (S.state store.old))
+    requires waits { AreGathered session.old.flight (public_of engine.old) (count_of engine.old (S.state store.old))
         session.old.batch.items }
     requires ready { IsReady R.state (B.Saves behind.old)
-        (machine_of engine.old (S.state store.old) (B.state behind.old)) }
+        (machine_of engine.old (S.state store.old) (B.state behind.old)
+        (flights_of session.old.flight session.old.turns.last)) }
     requires took { D.took digest.old (S.state store.old).asked }
     ensures takes { TakesMore R.state (B.Saves behind.new) tracing
-        (IsFree (public_of engine.old) session.old.batch.items)
-        (λ old new. IsFree (public_of engine.new) session.new.batch.items new)
+        (IsFree session.old.flight (public_of engine.old) session.old.batch.items)
+        (λ old new. IsFree session.new.flight (public_of engine.new) session.new.batch.items new)
         session.old.batch.items session.new.batch.items (tail_text session.old.pending) WantsRoom
         session.old.tally session.new.tally (K.written out.old) (K.written out.new)
         (T.written trace.old) (T.written trace.new)
         (faults_of 0 (K.faults out.old) (T.faults trace.old))
         (faults_of 0 (K.faults out.new) (T.faults trace.new))
-        (machine_of engine.old (S.state store.old) (B.state behind.old))
-        (machine_of engine.new (S.state store.new) (B.state behind.new)) result }
+        (machine_of engine.old (S.state store.old) (B.state behind.old)
+        (flights_of session.old.flight session.old.turns.last))
+        (machine_of engine.new (S.state store.new) (B.state behind.new)
+        (flights_of session.new.flight session.new.turns.last)) result }
     ensures same { B.name behind.new ≡ B.name behind.old }
     ensures took { UnlessServed result (D.took digest.new (S.state store.new).asked) }
 {
@@ -641,7 +651,7 @@ fn finish<R: Revisions, S: BlockStore, B: Behind<S>, K: Sink, T: Sink, D: Digest
         return Ok(());
     }
     take_text(
-        alloc, tracing, flight, session, engine, store, behind, out, trace, digest,
+        alloc, tracing, session, engine, store, behind, out, trace, digest,
     )
 }
 
@@ -649,7 +659,6 @@ fn finish<R: Revisions, S: BlockStore, B: Behind<S>, K: Sink, T: Sink, D: Digest
 fn read_texts<I: Source, R: Revisions, S: BlockStore, B: Behind<S>, K: Sink, T: Sink, D: Digester>(
     alloc: Global,
     tracing: bool,
-    flight: Option<FlightSettings>,
     session: &mut Session,
     feed: &mut Feed,
     input: &mut I,
@@ -664,24 +673,28 @@ fn read_texts<I: Source, R: Revisions, S: BlockStore, B: Behind<S>, K: Sink, T: 
     requires fresh { session.old.pending ≡ [] }
     requires uncounted { session.old.tally ≡ empty_tally }
     requires ready { IsReady R.state (B.Saves behind.old)
-        (machine_of engine.old (S.state store.old) (B.state behind.old)) }
+        (machine_of engine.old (S.state store.old) (B.state behind.old)
+        (flights_of session.old.flight session.old.turns.last)) }
     requires fed_by { IsFedBy feed.old (I.gave input.old) }
     requires took { D.took digest.old (S.state store.old).asked }
     ensures reads { ReadsTexts R.state tracing feed.old feed.new
         (I.left input.old) (I.left input.new) (I.gave input.new)
         (K.written out.old) (K.written out.new) (T.written trace.old) (T.written trace.new)
         session.new.batch.items session.new.tally
-        (machine_of engine.old (S.state store.old) (B.state behind.old))
-        (machine_of engine.new (S.state store.new) (B.state behind.new))
+        (machine_of engine.old (S.state store.old) (B.state behind.old)
+        (flights_of session.old.flight session.old.turns.last))
+        (machine_of engine.new (S.state store.new) (B.state behind.new)
+        (flights_of session.new.flight session.new.turns.last))
         (K.faults out.old) (K.faults out.new) result }
     ensures stands { UnlessServed result (StandsReady R.state (B.Saves behind.new)
         (D.took digest.new (S.state store.new).asked) session.new.batch.items
-        (machine_of engine.new (S.state store.new) (B.state behind.new))) }
+        (machine_of engine.new (S.state store.new) (B.state behind.new)
+        (flights_of session.new.flight session.new.turns.last))) }
     ensures within { feed.new.taken ≤ feed.new.limit }
     ensures fed_by { IsFedBy feed.new (I.gave input.new) }
     ensures traced { Traced tracing (S.state store.old).asked (S.state store.new).asked
         (T.written trace.old) (T.written trace.new) (IsQuiet (broken_of result)) }
-    ensures cause { StopCause (ServesAlone (public_of engine.old))
+    ensures cause { StopCause (ServesAlone session.old.flight (public_of engine.old))
         (faults_of (I.faults input.old) (K.faults out.old) (T.faults trace.old))
         (faults_of (I.faults input.new) (K.faults out.new) (T.faults trace.new))
         (stop_of (broken_of result)) }
@@ -696,12 +709,12 @@ fn read_texts<I: Source, R: Revisions, S: BlockStore, B: Behind<S>, K: Sink, T: 
             Err(Halt::InputLimit) => return Err(Break::Unread(Stop::InputLimit)),
             Ok(None) => {
                 return finish(
-                    alloc, tracing, flight, session, engine, store, behind, out, trace, digest,
+                    alloc, tracing, session, engine, store, behind, out, trace, digest,
                 );
             }
             Ok(Some(b)) => {
                 let turned = turn(
-                    alloc, tracing, flight, session, b, engine, store, behind, out, trace, digest,
+                    alloc, tracing, session, b, engine, store, behind, out, trace, digest,
                 );
                 if let Err(broken) = turned {
                     return Err(broken);
@@ -727,22 +740,23 @@ pub fn serve<I: Source, R: Revisions, S: BlockStore, B: Behind<S>, K: Sink, T: S
     digest: &mut D,
 ) -> Result<Tally, Halted>
     requires ready { IsReady R.state (B.Saves behind.old)
-        (machine_of engine.old (S.state store.old) (B.state behind.old)) }
+        (machine_of engine.old (S.state store.old) (B.state behind.old) no_flights) }
     requires fed_by { IsFedBy feed.old (I.gave input.old) }
     requires took { D.took digest.old (S.state store.old).asked }
     ensures ready { OnOk result (IsReady R.state (B.Saves behind.new)
-        (machine_of engine.new (S.state store.new) (B.state behind.new))) }
-    ensures ran { SessionRan R.state tracing feed.old feed.new
+        (machine_of engine.new (S.state store.new) (B.state behind.new) no_flights)) }
+    ensures ran { (left : Flights) × SessionRan R.state tracing feed.old feed.new
         (I.left input.old) (I.left input.new) (I.gave input.new)
         (K.written out.old) (K.written out.new) (T.written trace.old) (T.written trace.new)
-        (machine_of engine.old (S.state store.old) (B.state behind.old))
-        (machine_of engine.new (S.state store.new) (B.state behind.new))
+        (machine_of engine.old (S.state store.old) (B.state behind.old)
+        (flights_at flight))
+        (machine_of engine.new (S.state store.new) (B.state behind.new) left)
         (OutFailed (is_quiet result) (K.faults out.old) (K.faults out.new)) (stop_of result) }
     ensures within { feed.new.taken ≤ feed.new.limit }
     ensures fed_by { IsFedBy feed.new (I.gave input.new) }
     ensures traced { Traced tracing (S.state store.old).asked (S.state store.new).asked
         (T.written trace.old) (T.written trace.new) (IsQuiet result) }
-    ensures cause { StopCause (ServesAlone (public_of engine.old))
+    ensures cause { StopCause (ServesAlone flight (public_of engine.old))
         (faults_of (I.faults input.old) (K.faults out.old) (T.faults trace.old))
         (faults_of (I.faults input.new) (K.faults out.new) (T.faults trace.new)) (stop_of result) }
     ensures quiet { Silenced (is_quiet result)
@@ -755,10 +769,11 @@ pub fn serve<I: Source, R: Revisions, S: BlockStore, B: Behind<S>, K: Sink, T: S
         pending: Pending::new(alloc),
         batch: Vec::new(alloc),
         tally: Tally::new(),
+        flight,
         turns: turns_of(flight),
     };
     let read = read_texts(
-        alloc, tracing, flight, &mut here, feed, input, engine, store, behind, out, trace, digest,
+        alloc, tracing, &mut here, feed, input, engine, store, behind, out, trace, digest,
     );
     match read {
         Ok(()) => match flush(
