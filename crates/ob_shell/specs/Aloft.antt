@@ -1,25 +1,29 @@
 -- SELECTs that fly together, and what is printed of them.
-use Rattle.std.specs.Prelude.{ℕ, ◌≡◌, ◌⊎◌, List, [], ◌∷◌, ◌++◌, drop, length, map, slice_get, Option, Some, Result, Ok, Err, OnOk}
+use Rattle.std.specs.Prelude.{ℕ, ◌≡◌, ◌<◌, ◌⊎◌, List, [], ◌∷◌, ◌++◌, drop, length, map, slice_get, Option, Some, Result, Ok, Err, OnOk}
 use Rattle.std.specs.Io.KnownBytes.{Appends}
 use Rattle.ob_base.specs.Events.{Event}
 use Rattle.ob_base.specs.declared.config.Public.{Public}
 use Rattle.ob_base.specs.declared.seen.Seen.{Seen}
 use Rattle.ob_inflight.specs.Closing.{Closed, RisesBy}
 use Rattle.ob_exec.specs.InFlight.{IsFlown, served_as}
-use Rattle.ob_exec.specs.RanFlight.{BeforeMake, FlightCause, FlightMeans, RanInTurns, asked_by, asked_since, carried_out, cut_off, in_flight}
+use Rattle.ob_exec.specs.RanFlight.{BeforeMake, FlightCause, FlightMeans, FliesOn, asked_by, asked_since, carried_out, cut_off, in_flight, stopped_after}
 use Rattle.ob_headline.specs.Closing.{closing_line}
 use Rattle.ob_headline.specs.Meaning.{PrintsUntil}
 use Rattle.ob_headline.specs.Words.{Answer, printed}
-use Rattle.ob_mean.specs.Verdict.{Tables, verdict}
+use Rattle.ob_mean.specs.Verdict.{Draws, Tables, verdict}
 use Rattle.ob_print.specs.Cuts.{Outputs}
 use Rattle.ob_print.specs.Rows.{events_text}
-use Rattle.ob_script.specs.Flights.{turns_of, words_from}
+use Rattle.ob_script.specs.Flights.{flight_accesses, next_flight, turns_of, words_from}
 use Rattle.ob_script.specs.Script.{whole_script}
+use Rattle.ob_script.specs.Trace.{Served}
 use Rattle.ob_select.specs.Memory.{AtEmission, AtMake}
+use Rattle.ob_select.specs.Opening.{Opens}
+use Rattle.ob_select.specs.Settings.{IsFree}
 use Rattle.ob_sql.specs.Skeleton.{skeleton}
 use Rattle.ob_sql.specs.declared.stmt.Stmt.{Stmt}
+use Rattle.ob_store.specs.Runs.{Since}
 use Rattle.ob_store.specs.State.{StoreState}
-use Rattle.ob_tables.specs.Agreeing.{count_of, public_of, world_of}
+use Rattle.ob_tables.specs.Agreeing.{AreDraws, count_of, engine_keys, engine_start, high_of, indexes_of, opened_from, public_of, replaced_of, world_of}
 use Rattle.ob_tables.specs.Stops.{session_stop}
 use Rattle.ob_tables.specs.Telling.{KeepsSealed, ReadsTrueUntil, answer_labels}
 use Rattle.ob_tables.specs.declared.engine.Engine.{Engine}
@@ -44,21 +48,36 @@ answers_of [] seens = []
 answers_of (one ∷ ended) [] = []
 answers_of (one ∷ ended) (seen ∷ seens) = answer_of one seen ∷ answers_of ended seens
 
-abbrev pub outcomes_of : List Closed → List Outcome
-outcomes_of ended = map (λ (one : Closed). one.outcome) ended
-
 -- ---- what an engine did
 -- how many accesses of its own the statement at a place asked
 abbrev pub asked_own : Public → (words : ℕ → ℕ) → List Stmt → List Seen → (s t : StoreState)
     → (place : ℕ) → ℕ
 asked_own p words stmts seens s t place = asked_by p words stmts seens (asked_since s t) place
 
+-- the engine and its store behind them, whatever the store answers, also where its list let go of their accesses
+pub record RanTogether {R T : Type 0} (state : R → RevState) (words : ℕ → ℕ)
+    (flown : List Served) (result : Result T RunStop) (old : Engine R) (s : StoreState)
+    (new : Engine R) (t : StoreState) : Type 0 where
+  pub asked : t.asked ≡ s.asked ++ flight_accesses (public_of old) flown
+      (stopped_after result (asked_since s t)) words
+  pub later : Since s t
+  pub keys : engine_keys new ≡ engine_keys old
+  pub start : engine_start new ≡ engine_start old
+  pub from_closing : opened_from new ≡ opened_from old
+  pub replaced : replaced_of new ≡ replaced_of old
+  pub indexes : indexes_of new ≡ indexes_of old
+  pub drawn : (d : Draws) → AreDraws old d → AreDraws new d
+  pub room : IsFree (public_of old) new.room
+  pub opened : Opens (drop (length s.asked) t.asked) (high_of old) (high_of new)
+  pub kept : (q : ℕ) → q < (public_of old).next_region → t.kept q ≡ s.kept q
+  pub goes_on : OnOk result (FliesOn state (next_flight (public_of old) flown words) new t)
+
 -- it had these statements fly, whatever they were answered: this was seen of each, and the first of them have ended
 pub record RanAloft {R T : Type 0} (state : R → RevState) (words left : ℕ → ℕ)
     (stmts : List Stmt) (seens : List Seen) (ended : List Closed) (result : Result T RunStop)
     (old : Engine R) (s : StoreState) (new : Engine R) (t : StoreState) : Type 0 where
   pub long : length seens ≡ length stmts
-  pub ran : RanInTurns state words (served_as stmts seens) result old s new t
+  pub ran : RanTogether state words (served_as stmts seens) result old s new t
   pub rest : OnOk result ((i : ℕ)
       → left i ≡ words_from words (turns_of (public_of old) (served_as stmts seens)) i)
   pub all : OnOk result (length ended ≡ length stmts)

@@ -7,7 +7,7 @@ use Rattle.ob_gen.specs.declared.tally.Tally.{Tally}
 use Rattle.ob_headline.specs.Words.{Answer, Faults, printed}
 use Rattle.ob_headline.specs.declared.flight.FlightSettings.{FlightSettings}
 use Rattle.ob_script.specs.Flights.{drawn}
-use Rattle.ob_shell.specs.Aloft.{AnswersFlight, CutsFlight, FlewWhole, outcomes_of}
+use Rattle.ob_shell.specs.Aloft.{AnswersFlight, CutsFlight, FlewWhole}
 use Rattle.ob_shell.specs.Running.{OutFailed, Silenced, StopCause, halted_of, is_quiet, stop_of}
 use Rattle.ob_shell.specs.Steps.{Flights}
 use Rattle.ob_shell.specs.Tallies.{tally_after}
@@ -17,6 +17,7 @@ use Rattle.ob_store.specs.State.{StoreState}
 use Rattle.ob_tables.specs.declared.engine.Engine.{Engine}
 use Rattle.ob_tables.specs.declared.stop.RunStop.{RunStop}
 use Rattle.ob_tables.specs.declared.stop.RunStop.TheVariants.{NoMemory}
+use Rattle.ob_turns.specs.Kept.{outcomes_of}
 use Rattle.ob_vault.specs.State.{RevState}
 use Rattle.ob_verdict.specs.declared.outcome.Outcome.{Outcome}
 
