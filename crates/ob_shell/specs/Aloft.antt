@@ -97,8 +97,13 @@ pub record RanAloft {R T : Type 0} (state : R → RevState) (words left : ℕ �
       ended result old s new t
 
 -- ---- a stop
+-- the output ends within a closing line
+abbrev pub ClosesWithin : List Event → (part : List ℕ) → Type 0
+ClosesWithin events part =
+    (outcome : Outcome) × (part ≡ events_text events ++ closing_line outcome)
+
 -- of the one that comes next a first part of its header and rows was emitted until then; or it was answered, and the output
--- ends within its closing line, where a sink failed
+-- ends within its closing line
 pub record EmitsUntil {R : Type 0} (state : R → RevState) (stmts : List Stmt) (stmt : Stmt)
     (stop : RunStop) (part : List ℕ) (old : Engine R) (s : StoreState) (new : Engine R)
     (t : StoreState) : Type 0 where
@@ -106,18 +111,18 @@ pub record EmitsUntil {R : Type 0} (state : R → RevState) (stmts : List Stmt) 
   pub told : (tables : Tables) → ReadsTrueUntil state old s new t tables
       → Partly (answer_labels stmt (public_of old))
       (verdict (in_flight stmts (public_of old)) (count_of old s) tables stmt) events
-  pub text : (part ≡ events_text events) ⊎ ((stop ≡ SinkFault) × (outcome : Outcome)
-      × (part ≡ events_text events ++ closing_line outcome))
+  pub text : (part ≡ events_text events) ⊎ ClosesWithin events part
 
 -- memory is wanting before the first access, where a region is made, just before a result is made that isn't padded, or where
--- the next one's rows are emitted
+-- the next one's rows are emitted, or its closing line
 abbrev pub WantsTogether : Public → (words : ℕ → ℕ) → List Stmt → List Seen → (place : ℕ)
-    → Stmt → Seen → (s t : StoreState) → Type 0
-WantsTogether p words stmts seens place stmt seen s t =
+    → Stmt → Seen → (part : List ℕ) → (s t : StoreState) → Type 0
+WantsTogether p words stmts seens place stmt seen part s t =
     AtMake (drop (length s.asked) t.asked)
     ⊎ (BeforeMake (in_flight stmts p) stmts seens (asked_own p words stmts seens s t)
-    ⊎ AtEmission (in_flight stmts p) stmt seen (drop (asked_own p words stmts seens s t place)
-    (whole_script (in_flight stmts p) (skeleton stmt) seen)))
+    ⊎ (AtEmission (in_flight stmts p) stmt seen (drop (asked_own p words stmts seens s t place)
+    (whole_script (in_flight stmts p) (skeleton stmt) seen))
+    ⊎ ((events : List Event) × ClosesWithin events part)))
 
 -- they flew until then: the answers of those that have ended were printed, and a first part of the next one
 pub record FlewUntil {R : Type 0} (state : R → RevState) (words left : ℕ → ℕ)
@@ -132,7 +137,7 @@ pub record FlewUntil {R : Type 0} (state : R → RevState) (words left : ℕ →
   pub part : List ℕ
   pub emits : EmitsUntil state stmts stmt stop part old s new t
   pub memory : stop ≡ NoMemory
-      → WantsTogether (public_of old) words stmts seens (length ended) stmt seen s t
+      → WantsTogether (public_of old) words stmts seens (length ended) stmt seen part s t
   pub printed : PrintsUntil (session_stop stop) bytes (printed (answers_of ended seens) ++ part)
 
 -- they flew to their end, with these answers

@@ -76,6 +76,7 @@ pub(crate) fn begins_flight(flight: Option<FlightSettings>, public: &Public, stm
 }
 
 // With the answers of all of these, of each of which this was seen.
+#[tactic(auto, unfolding(crate::specs::Tallies::tally_seen))]
 fn tally_flown(tally: Tally, outcomes: &[Outcome], seens: &[Seen]) -> Tally
     ensures { result ≡ tally_seen tally outcomes.now seens.now }
 {

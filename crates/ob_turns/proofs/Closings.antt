@@ -1,8 +1,7 @@
 -- What is printed of statements that have ended, and how they were answered.
 use Rattle.std.proofs.Common.{◌≡◌, ◌<◌, ◌≤◌, ◌+◌, ℕ, zero, suc, List, [], ◌∷◌, ◌++◌, length, take, Option, refl, sym, ap, ◌∙◌, subst, arith, append-nil, append_assoc}
-use Rattle.std.specs.Prelude.{slice_set, Result, Ok, Err, OnOk}
-use Rattle.ob_base.specs.Events.{EmitCause, Event}
-use Rattle.ob_base.specs.declared.emit.EmitErr.{EmitErr}
+use Rattle.std.specs.Prelude.{slice_set}
+use Rattle.ob_base.specs.Events.{Event}
 use Rattle.ob_headline.specs.Closing.{closing_line}
 use Rattle.ob_inflight.specs.Closing.{Closed, ClosesAll}
 use Rattle.ob_print.proofs.SentLemmas.{Sends-then}
@@ -11,19 +10,14 @@ use Rattle.ob_print.specs.Sent.{Sends, sends_none}
 use Rattle.ob_turns.specs.Kept.{IsKept, closed_text, outcomes_of}
 use Rattle.ob_verdict.specs.declared.outcome.Outcome.{Outcome}
 
--- a call that didn't fail, by which the count of faults stays
-pub on_ok_kept : {T P Q : Type 0} (r : Result T EmitErr) (old new : ℕ) → EmitCause r old new → (new ≡ old → P → Q) → OnOk r P → OnOk r Q
-on_ok_kept (Ok x) old new kept by p = by kept p
-on_ok_kept (Err e) old new cause by p = tt
-
 take_set : {A : Type 0} (xs : List A) (i : ℕ) (y : A) → i < length xs → take (suc i) (slice_set xs i y) ≡ take i xs ++ y ∷ []
 take_set [] i y below = absurd (omega (arith, below))
 take_set (x ∷ xs) zero y below = refl
 take_set (x ∷ xs) (suc i) y below = ap (λ (l : List _). x ∷ l) (take_set xs i y (omega (arith, below)))
 
-module _ {E : Type 0} (grew : E → E → List Event → Type 0) (closed : E → E → ℕ → Outcome → Type 0) (written : E → Option (List ℕ)) (waiting : E → List ℕ) (outcomes : E → List Outcome) (faults : E → ℕ)
-    (took : (a b : E) (events : List Event) → grew a b events → Sends (written a) (written b) (waiting a) (waiting b) ⊥ (events_text events) × (outcomes b ≡ outcomes a) × (faults b ≡ faults a))
-    (ends : (a b : E) (place : ℕ) (outcome : Outcome) → closed a b place outcome → Sends (written a) (written b) (waiting a) (waiting b) ⊥ (closing_line outcome) × IsKept place outcome (outcomes a) (outcomes b) × (faults b ≡ faults a)) where
+module _ {E : Type 0} (grew : E → E → List Event → Type 0) (closed : E → E → ℕ → Outcome → Type 0) (written : E → Option (List ℕ)) (waiting : E → List ℕ) (outcomes : E → List Outcome)
+    (took : (a b : E) (events : List Event) → grew a b events → Sends (written a) (written b) (waiting a) (waiting b) ⊥ (events_text events) × (outcomes b ≡ outcomes a))
+    (ends : (a b : E) (place : ℕ) (outcome : Outcome) → closed a b place outcome → Sends (written a) (written b) (waiting a) (waiting b) ⊥ (closing_line outcome) × IsKept place outcome (outcomes a) (outcomes b)) where
   -- their answers came behind what waited for the sink
   pub closes_sent : (place : ℕ) (ended : List Closed) (a b : E) → ClosesAll grew closed place ended a b → Sends (written a) (written b) (waiting a) (waiting b) ⊥ (closed_text ended)
   closes_sent place [] a b same = subst (λ (e : E). Sends (written a) (written e) (waiting a) (waiting e) ⊥ []) (sym same) (sends_none (written a) (waiting a))
@@ -31,12 +25,6 @@ module _ {E : Type 0} (grew : E → E → List Event → Type 0) (closed : E →
       Sends-then (events_text one.events ++ closing_line one.outcome) (closed_text more)
       (Sends-then (events_text one.events) (closing_line one.outcome) (took a all.1.between one.events all.1.took).0 (ends all.1.between all.0 place one.outcome all.1.closes).0)
       (closes_sent (place + 1) more all.0 b all.2)
-
-  -- no call failed
-  pub closes_calm : (place : ℕ) (ended : List Closed) (a b : E) → ClosesAll grew closed place ended a b → faults b ≡ faults a
-  closes_calm place [] a b same = ap faults same
-  closes_calm place (one ∷ more) a b all =
-      closes_calm (place + 1) more all.0 b all.2 ∙ (ends all.1.between all.0 place one.outcome all.1.closes).2 ∙ (took a all.1.between one.events all.1.took).2
 
   -- and their outcomes are kept
   pub closes_kept : (place : ℕ) (ended : List Closed) (a b : E) → ClosesAll grew closed place ended a b → place + length ended ≤ length (outcomes a)

@@ -1,6 +1,5 @@
 //! The answers of statements in flight.
 ghost use Rattle.std.specs.Prelude.{◌≡◌};
-ghost use Rattle.ob_base.specs.Counts.{Rises};
 ghost use Rattle.ob_headline.specs.Closing.{closing_line};
 ghost use Rattle.ob_print.specs.Rows.{Printed, PrintedCut};
 ghost use Rattle.ob_print.specs.Sent.{Sends};
@@ -31,7 +30,7 @@ pub struct FlightPrinter<'a, K: Sink> {
 }
 
 impl<'a, K: Sink> Emit for FlightPrinter<'a, K> {
-    ghost grew = { λ s t events. Printed (K.written s.printer.out.out.now) (K.written t.printer.out.out.now) s.printer.out.waiting.items t.printer.out.waiting.items events × (t.printer.out.out.ghost_name ≡ s.printer.out.out.ghost_name) × (t.outcomes.items ≡ s.outcomes.items) × (K.faults t.printer.out.out.now ≡ K.faults s.printer.out.out.now) };
+    ghost grew = { λ s t events. Printed (K.written s.printer.out.out.now) (K.written t.printer.out.out.now) s.printer.out.waiting.items t.printer.out.waiting.items events × (t.printer.out.out.ghost_name ≡ s.printer.out.out.ghost_name) × (t.outcomes.items ≡ s.outcomes.items) };
 
     ghost cut = { λ s t events. PrintedCut (K.written s.printer.out.out.now) (K.written t.printer.out.out.now) s.printer.out.waiting.items t.printer.out.waiting.items events × (t.printer.out.out.ghost_name ≡ s.printer.out.out.ghost_name) };
 
@@ -52,15 +51,15 @@ impl<'a, K: Sink> Emit for FlightPrinter<'a, K> {
     ghost use Rattle.std.specs.Prelude.{refl};
     ghost use Rattle.ob_print.specs.Rows.{printed_none};
 
-    ghost starts = { λ s. (printed_none (K.written s.printer.out.out.now) s.printer.out.waiting.items, refl, refl, refl) };
+    ghost starts = { λ s. (printed_none (K.written s.printer.out.out.now) s.printer.out.waiting.items, refl, refl) };
 }
 
 impl<'a, K: Sink> FlightOut for FlightPrinter<'a, K> {
     // its line came behind what waited for the sink
-    ghost closed = { λ s t place outcome. Sends (K.written s.printer.out.out.now) (K.written t.printer.out.out.now) s.printer.out.waiting.items t.printer.out.waiting.items ⊥ (closing_line outcome) × (t.printer.out.out.ghost_name ≡ s.printer.out.out.ghost_name) × IsKept place outcome s.outcomes.items t.outcomes.items × (K.faults t.printer.out.out.now ≡ K.faults s.printer.out.out.now) };
+    ghost closed = { λ s t place outcome. Sends (K.written s.printer.out.out.now) (K.written t.printer.out.out.now) s.printer.out.waiting.items t.printer.out.waiting.items ⊥ (closing_line outcome) × (t.printer.out.out.ghost_name ≡ s.printer.out.out.ghost_name) × IsKept place outcome s.outcomes.items t.outcomes.items };
 
-    // a first part of it did, and the sink failed
-    ghost parted = { λ s t place outcome. Sends (K.written s.printer.out.out.now) (K.written t.printer.out.out.now) s.printer.out.waiting.items t.printer.out.waiting.items (Unit {0}) (closing_line outcome) × (t.printer.out.out.ghost_name ≡ s.printer.out.out.ghost_name) × Rises (K.faults s.printer.out.out.now) (K.faults t.printer.out.out.now) };
+    // a first part of it did
+    ghost parted = { λ s t place outcome. Sends (K.written s.printer.out.out.now) (K.written t.printer.out.out.now) s.printer.out.waiting.items t.printer.out.waiting.items (Unit {0}) (closing_line outcome) × (t.printer.out.out.ghost_name ≡ s.printer.out.out.ghost_name) };
 
     fn ended(&mut self, place: u32, outcome: &Outcome) -> Result<(), EmitErr> {
         keep(self.outcomes.as_mut_slice(), place, *outcome);
