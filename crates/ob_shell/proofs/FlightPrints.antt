@@ -1,6 +1,6 @@
 -- What a sink took of the answers of statements in flight.
 use Rattle.std.specs.Prelude.{IsErr, OnOk}
-use Rattle.std.proofs.Common.{◌≡◌, ◌⊎◌, ℕ, List, [], ◌++◌, length, Option, Ok, Err, Result, inl, inr, refl, sym, ap, ◌∙◌, subst, arith, append-nil, true, false}
+use Rattle.std.proofs.Common.{◌≡◌, ◌⊎◌, ℕ, Bool, List, [], ◌++◌, length, Option, Ok, Err, Result, inl, inr, refl, sym, ap, ◌∙◌, subst, arith, append-nil, true, false}
 use Rattle.std.proofs.Math.Seq.{take_all}
 use Rattle.std.specs.Io.KnownBytes.{Appends}
 use Rattle.ob_base.specs.Events.{Event}
@@ -16,7 +16,8 @@ use Rattle.ob_print.specs.Rows.{events_text}
 use Rattle.ob_print.specs.Sent.{Sends}
 use Rattle.ob_shell.proofs.AloftLemmas.{MayCut, SentUntil, few_ended, few_until, flew_whole, printed_ended, ran_aloft, sent_until}
 use Rattle.ob_shell.specs.Aloft.{AnswersFlight, CutsFlight, FlewUntil, FlewWhole, answers_of}
-use Rattle.ob_shell.specs.Flying.{PrintsWhole}
+use Rattle.ob_gen.specs.declared.tally.Tally.{Tally}
+use Rattle.ob_shell.specs.Flying.{CountsFlight, PrintsWhole, RestsFlight}
 use Rattle.ob_sql.specs.declared.stmt.Stmt.{Stmt}
 use Rattle.ob_store.specs.State.{StoreState}
 use Rattle.ob_tables.specs.Stops.{session_stop}
@@ -132,3 +133,21 @@ module _ {R E : Type 0} {state : R → RevState} {grew cut : E → E → List Ev
               cut = Outputs-whole _ _ _ _ short.appends;
             }
       ]
+
+-- ---- behind the answers
+-- a sink of the trace failed, and theirs took all
+pub cuts_behind : {R : Type 0} {state : R → RevState} {words left : ℕ → ℕ} {stmts : List Stmt} {tally counted : Tally} {w0 w1 : Option (List ℕ)} {Lost : Type 0} {old new : Engine R} {s t : StoreState} → CountsFlight state words left stmts tally counted w0 w1 old s new t
+    → CutsFlight state words left stmts Runs.SinkFault w0 w1 Lost old s new t
+cuts_behind counts = record {
+  seens = counts.answered.seens;
+  bytes = printed counts.answers;
+  flew = inr (refl, counts.answers, refl, counts.answered.flew);
+  cut = Outputs-whole _ _ _ _ counts.answered.appends;
+}
+
+-- nothing was lost of what was printed
+pub cuts_unlost : {R : Type 0} {state : R → RevState} {words left : ℕ → ℕ} {stmts : List Stmt} {stop : RunStop} {w0 w1 : Option (List ℕ)} {quiet : Bool} {P G : Type 0} {old new : Engine R} {s t : StoreState} → quiet ≡ false
+    → RestsFlight words left stop w0 w1 old s new t ⊎ CutsFlight state words left stmts stop w0 w1 ((quiet ≡ true) × P) old s new t
+    → RestsFlight words left stop w0 w1 old s new t ⊎ CutsFlight state words left stmts stop w0 w1 G old s new t
+cuts_unlost not (inl rests) = inl rests
+cuts_unlost not (inr cuts) = inr (record { seens = cuts.seens; bytes = cuts.bytes; flew = cuts.flew; cut = Outputs-by (λ lost. absurd (cc (not, lost.0))) cuts.cut })

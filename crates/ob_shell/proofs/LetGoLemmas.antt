@@ -62,7 +62,7 @@ module _ (v : VaultState) (t : StoreState) (room : ℕ) where
     laps = is.laps;
   }
 
-  calm_now : Calm was → Calm now
+  pub calm_now : Calm was → Calm now
   calm_now calm = record { calm = calm.calm; within = calm.within }
 
   sealed_now : (good : ℕ → List ℕ → Bool) (scope : Scope) → AllSealed good scope was → AllSealed good scope now
@@ -72,7 +72,7 @@ module _ (v : VaultState) (t : StoreState) (room : ℕ) where
         record { number = one.number; rows = one.rows; is = one.is; went = one.went; newest = one.newest; fine = one.fine };
   }
 
-  seals_now : (good : ℕ → List ℕ → Bool) (old : World) → Seals good old was → Seals good old now
+  pub seals_now : (good : ℕ → List ℕ → Bool) (old : World) → Seals good old was → Seals good old now
   seals_now good old seals = record { seals = λ scope few tells all. sealed_now good scope (seals.seals scope few tells all) }
 
   -- ---- of tables
@@ -171,7 +171,7 @@ module _ {R : Type 0} (state : R → RevState) (e : Engine R) (t : StoreState) (
     saved = is.saved;
   }
 
-  represents_left : (tables : Tables) → Represents state e t tables → Represents state e left tables
+  pub represents_left : (tables : Tables) → Represents state e t tables → Represents state e left tables
   represents_left tables is = record { held = held_now (world_of state e t).vault t room _ _ _ _ is.held; in_place = is.in_place }
 
 steady_left : (room : ℕ) (t : StoreState) → IsSteady t → IsSteady (without_list room t)
@@ -180,7 +180,7 @@ steady_left room t is = record {
   lied = is.lied;
 }
 
-since_left : (room : ℕ) (s t : StoreState) → Since s t → Since s (without_list room t)
+pub since_left : (room : ℕ) (s t : StoreState) → Since s t → Since s (without_list room t)
 since_left room s t is = record {
   faults = is.faults;
   tells = is.tells;

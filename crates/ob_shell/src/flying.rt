@@ -1,5 +1,6 @@
 //! SELECTs that wait to be served in flight.
-ghost use Rattle.std.specs.Prelude.{◌≡◌, [], length, OnErr, OnOk, false};
+ghost use Rattle.std.specs.Prelude.{◌≡◌, ◌++◌, [], length, List, OnErr, OnOk, false};
+ghost use Rattle.ob_base.specs.declared.access.Access.{Access};
 ghost use Rattle.ob_exec.specs.InFlight.{AreFlight};
 ghost use Rattle.ob_headline.specs.Flights;
 ghost use Rattle.ob_headline.specs.Words.{faults_of};
@@ -117,6 +118,9 @@ fn fly_stmts<R: Revisions, S: BlockStore, K: Sink>(
         (faults_of 0 (K.faults printer.old.printer.out.out.now) 0)
         (faults_of 0 (K.faults printer.new.printer.out.out.now) 0)
         engine.old (S.state store.old) engine.new (S.state store.new) result }
+    ensures asked { (seen : List Access) × ((S.state store.new).asked
+        ≡ (S.state store.old).asked ++ seen) }
+    ensures listed { (S.state store.new).let_go ≡ (S.state store.old).let_go }
 {
     match run_flight(engine, store, stmts, turns, printer, seens) {
         Ok(()) => match printer.printer.out.flush() {
@@ -151,6 +155,9 @@ fn answer_flight<R: Revisions, S: BlockStore, K: Sink>(
         (K.written out.old) (K.written out.new)
         (faults_of 0 (K.faults out.old) 0) (faults_of 0 (K.faults out.new) 0)
         engine.old (S.state store.old) engine.new (S.state store.new) result }
+    ensures asked { (seen : List Access) × ((S.state store.new).asked
+        ≡ (S.state store.old).asked ++ seen) }
+    ensures listed { (S.state store.new).let_go ≡ (S.state store.old).let_go }
 {
     let Ok(mut seens) = Vec::from_elem(alloc, seen_to_end(End::Whole), stmts.len()) else {
         return Err(TextHalted {
