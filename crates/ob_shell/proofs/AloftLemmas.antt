@@ -6,7 +6,7 @@ use Rattle.ob_base.specs.Events.{Event}
 use Rattle.ob_base.specs.declared.config.Public.{Public}
 use Rattle.ob_base.specs.declared.seen.Seen.{Seen}
 use Rattle.ob_exec.specs.InFlight.{served_as}
-use Rattle.ob_exec.specs.RanFlight.{AtEmitter, FliesOn, IsParted, RanFlight, RanInTurns, StopsFlight, asked_by, asked_since, in_flight}
+use Rattle.ob_exec.specs.RanFlight.{EndsSo, FliesOn, IsParted, RanFlight, RanInTurns, StopsFlight, asked_by, asked_since}
 use Rattle.ob_headline.specs.Closing.{closing_line}
 use Rattle.ob_headline.specs.Words.{Answer, printed}
 use Rattle.ob_inflight.specs.Closing.{Closed, ClosesAll}
@@ -104,10 +104,14 @@ module _ {R E : Type 0} (state : R → RevState) (grew cut : E → E → List Ev
   few_until stop ran = let below = within_get seens (length ran.ended) ran.stopped.seen ran.stopped.shown in omega (arith, below)
 
   -- ---- a stop
+  -- how many accesses of its own the one at a place asked
+  abbrev own : ℕ → ℕ
+  own place = asked_by (public_of old) words stmts seens (asked_since s t) place
+
   -- the text that was emitted by then, and how the output ends within it
   pub record SentUntil (written : E → Option (List ℕ)) (waiting : E → List ℕ) (stop : RunStop) (ran : Called {T = Unit {0}} (Err stop)) : Type 0 where
     pub part : List ℕ
-    pub emits : EmitsUntil state stmts ran.stopped.stmt stop part old s new t
+    pub emits : EmitsUntil state stmts ran.stopped.stmt ran.stopped.seen (own (length ran.ended)) part old s new t
     pub memory : stop ≡ Runs.NoMemory → WantsTogether (public_of old) words stmts seens (length ran.ended) ran.stopped.stmt ran.stopped.seen part s t
     pub sent : Sends (written out_old) (written out_new) (waiting out_old) (waiting out_new) ⊥ (closed_text ran.ended ++ part)
         ⊎ (MayCut stop × Sends (written out_old) (written out_new) (waiting out_old) (waiting out_new) (Unit {0}) (closed_text ran.ended ++ part))
@@ -145,12 +149,12 @@ module _ {R E : Type 0} (state : R → RevState) (grew cut : E → E → List Ev
         sent = inr (may, Sends-then (closed_text ran.ended) (events_text at.events) (sent_ended stop ran) (halves at.between out_new at.events short));
       }
 
-      cut_closing : MayCut stop → IsParted grew parted (length ran.ended) at.events at.between out_new → SentUntil written waiting stop ran
+      cut_closing : MayCut stop → IsParted grew parted (EndsSo state stmts at.stmt at.seen (own (length ran.ended)) at.events old s new t) (length ran.ended) at.events at.between out_new → SentUntil written waiting stop ran
       cut_closing may short =
           let line = closing_line short.outcome in
           record {
             part = events_text at.events ++ line;
-            emits = record { events = at.events; told = at.told; text = inr (short.outcome, refl) };
+            emits = record { events = at.events; told = at.told; text = inr (short.outcome, short.ends, refl) };
             memory = λ is. inr (inr (inr (at.events, short.outcome, refl)));
             sent = inr (
               may,

@@ -353,11 +353,11 @@ module _ {R : Type 0} (state : R → RevState) where
     pub flat : IsFlat (public_of m.engine)
 
   steps_few : (m0 m2 : Machine R) (texts : List (List ℕ)) (answers : List Answer) → Steps state m0 m2 texts answers → Agrees state m0.engine m0.store → IsKept m0 → asked_of m0 < 2 ^ 63 + 2 ^ 59 → Closable m2
-  unfolding Steps
-  steps_few m0 m2 [] answers steps agrees kept few =
-      subst (λ (m : Machine R). Closable m) (sym steps.0) (record { few = few; flat = tables_flat (agrees.kept kept) agrees.tables })
-  steps_few m0 m2 (text ∷ texts) answers steps agrees kept few =
-      steps_few steps.0 m2 texts steps.2 steps.5 (step_ready m0 steps.0 text steps.1 steps.4 agrees) (step_kept m0 steps.0 text steps.1 steps.4 kept) (step_few m0 steps.0 text steps.1 steps.4 agrees kept few)
+  steps_few m0 m2 texts answers at_rest agrees kept few = record { few = few; flat = tables_flat (agrees.kept kept) agrees.tables }
+  steps_few m0 m2 texts answers (one_more {m1 = m1} {text = text} {one = one} {texts = more} {answers = given} step rest) agrees kept few = steps_few m1 m2 more given rest (step_ready m0 m1 text one step agrees) (step_kept m0 m1 text one step kept) (step_few m0 m1 text one step agrees kept few)
+  steps_few m0 m2 texts answers (more_together {m1 = m1} {texts = more} {answers = given} step rest) agrees kept few =
+      let on = step.flew.ran.ran.goes_on in
+      steps_few m1 m2 more given rest on.agrees (ap (λ (p : Public). p.keep) on.public ∙ kept) (flight_few m0 m1 step.flew.seens step.may step.flew agrees kept few)
 
 -- so does a session that came to its end
 pub session_few : {R : Type 0} (state : R → RevState) {Lost : Type 0} {on : Bool} {f0 f1 : Fetch} {l0 l1 : Option (List ℕ)} {gave : ℕ} {w0 w1 t0 t1 : Option (List ℕ)} (m0 m2 : Machine R) (tally : Tally)

@@ -18,7 +18,7 @@ use Rattle.ob_path.specs.States.{State}
 use Rattle.ob_row.specs.Rows.{Row}
 use Rattle.ob_row.specs.Slots.{Slots}
 use Rattle.ob_reopen.specs.Keepers.{KeeperState}
-use Rattle.ob_shell.specs.Steps.{AnswersAll, Does, IsReady, Machine, Owes, Step, Steps, statements_of}
+use Rattle.ob_shell.specs.Steps.{AnswersText, Does, IsReady, Machine, Owes, Step, statements_of}
 use Rattle.ob_shell.specs.Traces.{LetsGoFrom}
 use Rattle.ob_sql.specs.Skeleton.{skeleton}
 use Rattle.ob_sql.specs.declared.stmt.Stmt.{Stmt}
@@ -296,6 +296,7 @@ module _ {R : Type 0} (state : R → RevState) (m0 m1 : Machine R) (room : ℕ) 
   does_left stmt outcome does = record {
     free = does.free;
     alone = does.alone;
+    flights = does.flights;
     along = does.along;
     agrees = does.agrees;
     ran = ran_left state room stmt (statements_of m1.owed) outcome m0.engine m0.store m1.engine m1.store does.ran;
@@ -334,16 +335,10 @@ module _ {R : Type 0} (state : R → RevState) (m0 m1 : Machine R) (room : ℕ) 
     }
   ]
 
-  steps_left : (text : List ℕ) (answers : List Answer) → length m0.store.asked < length m1.store.asked → Steps state m0 m1 (text ∷ []) answers → Steps state m0 behind (text ∷ []) answers
-  unfolding Steps
-  steps_left text answers asks steps =
-      let only : Step state m0 m1 text steps.1 = subst (λ (m : Machine R). Step state m0 m text steps.1) (sym steps.5.0) steps.4 in
-      (behind, steps.1, steps.2, steps.3, step_left text steps.1 asks only, (refl, steps.5.1))
-
-  pub answers_left : {w0 w1 : Option (List ℕ)} {text : List ℕ} {r0 r1 : Tally} → length m0.store.asked < length m1.store.asked → AnswersAll state w0 w1 (text ∷ []) r0 r1 m0 m1 → AnswersAll state w0 w1 (text ∷ []) r0 r1 m0 behind
+  pub answers_left : {w0 w1 : Option (List ℕ)} {text : List ℕ} {r0 r1 : Tally} → length m0.store.asked < length m1.store.asked → AnswersText state w0 w1 r0 text r1 m0 m1 → AnswersText state w0 w1 r0 text r1 m0 behind
   answers_left {text = text} asks all = record {
-    answers = all.answers;
-    steps = steps_left text all.answers asks all.steps;
+    answer = all.answer;
+    step = step_left text all.answer asks all.step;
     appends = all.appends;
     counted = all.counted;
   }
@@ -361,8 +356,8 @@ module _ {R : Type 0} (state : R → RevState) (m0 m1 : Machine R) (t : StoreSta
   ready_from {Saves} (inl (none, same)) ready = subst (λ (u : StoreState). IsReady state Saves (record m1 { store = u })) (sym same) ready
   ready_from {Saves} (inr (more, room, is)) ready = subst (λ (u : StoreState). IsReady state Saves (record m1 { store = u })) (sym is) (ready_left state m0 m1 room ready)
 
-  pub answers_from : {w0 w1 : Option (List ℕ)} {text : List ℕ} {r0 r1 : Tally} → from ≡ length m0.store.asked → LetsGoFrom from m1.store t → AnswersAll state w0 w1 (text ∷ []) r0 r1 m0 m1
-      → AnswersAll state w0 w1 (text ∷ []) r0 r1 m0 (record m1 { store = t })
-  answers_from {w0} {w1} {text} {r0} {r1} at (inl (none, same)) all = subst (λ (u : StoreState). AnswersAll state w0 w1 (text ∷ []) r0 r1 m0 (record m1 { store = u })) (sym same) all
+  pub answers_from : {w0 w1 : Option (List ℕ)} {text : List ℕ} {r0 r1 : Tally} → from ≡ length m0.store.asked → LetsGoFrom from m1.store t → AnswersText state w0 w1 r0 text r1 m0 m1
+      → AnswersText state w0 w1 r0 text r1 m0 (record m1 { store = t })
+  answers_from {w0} {w1} {text} {r0} {r1} at (inl (none, same)) all = subst (λ (u : StoreState). AnswersText state w0 w1 r0 text r1 m0 (record m1 { store = u })) (sym same) all
   answers_from {w0} {w1} {text} {r0} {r1} at (inr (more, room, is)) all =
-      subst (λ (u : StoreState). AnswersAll state w0 w1 (text ∷ []) r0 r1 m0 (record m1 { store = u })) (sym is) (answers_left state m0 m1 room (omega (arith, at, more)) all)
+      subst (λ (u : StoreState). AnswersText state w0 w1 r0 text r1 m0 (record m1 { store = u })) (sym is) (answers_left state m0 m1 room (omega (arith, at, more)) all)

@@ -43,6 +43,9 @@ pub mod CloseLemmas
 pub mod FirstPartLemmas
 pub mod LaterLemmas
 pub mod LetGoLemmas
+pub mod LetGoFlights
+pub mod AloftLemmas
+pub mod FlightPrints
 pub mod DisturbLemmas
 pub mod MeddleLemmas
 pub mod LeavePath

@@ -6,7 +6,7 @@ use Rattle.ob_base.specs.declared.config.Public.{Public}
 use Rattle.ob_base.specs.declared.seen.Seen.{Seen}
 use Rattle.ob_inflight.specs.Closing.{Closed, RisesBy}
 use Rattle.ob_exec.specs.InFlight.{IsFlown, served_as}
-use Rattle.ob_exec.specs.RanFlight.{BeforeMake, FlightCause, FlightMeans, FliesOn, asked_by, asked_since, carried_out, cut_off, in_flight, stopped_after}
+use Rattle.ob_exec.specs.RanFlight.{BeforeMake, FlightCause, EndsSo, FlightMeans, FliesOn, asked_by, asked_since, carried_out, cut_off, in_flight, stopped_after}
 use Rattle.ob_headline.specs.Closing.{closing_line}
 use Rattle.ob_headline.specs.Meaning.{PrintsUntil}
 use Rattle.ob_headline.specs.Words.{Answer, printed}
@@ -98,20 +98,21 @@ pub record RanAloft {R T : Type 0} (state : R → RevState) (words left : ℕ �
 
 -- ---- a stop
 -- the output ends within a closing line
-abbrev pub ClosesWithin : List Event → (part : List ℕ) → Type 0
-ClosesWithin events part =
-    (outcome : Outcome) × (part ≡ events_text events ++ closing_line outcome)
+abbrev pub ClosesWithin : List Event → (part : List ℕ) → Outcome → Type 0
+ClosesWithin events part outcome = part ≡ events_text events ++ closing_line outcome
 
--- of the one that comes next a first part of its header and rows was emitted until then; or it was answered, and the output
--- ends within its closing line
+-- of the one that comes next, of which n accesses were asked, a first part of its header and rows was emitted until then; or it
+-- was answered, and the output ends within its closing line
 pub record EmitsUntil {R : Type 0} (state : R → RevState) (stmts : List Stmt) (stmt : Stmt)
-    (stop : RunStop) (part : List ℕ) (old : Engine R) (s : StoreState) (new : Engine R)
+    (seen : Seen) (n : ℕ) (part : List ℕ) (old : Engine R) (s : StoreState) (new : Engine R)
     (t : StoreState) : Type 0 where
   pub events : List Event
   pub told : (tables : Tables) → ReadsTrueUntil state old s new t tables
       → Partly (answer_labels stmt (public_of old))
       (verdict (in_flight stmts (public_of old)) (count_of old s) tables stmt) events
-  pub text : (part ≡ events_text events) ⊎ ClosesWithin events part
+  pub text : (part ≡ events_text events) ⊎ ((outcome : Outcome)
+      × EndsSo state stmts stmt seen n events old s new t outcome
+      × ClosesWithin events part outcome)
 
 -- memory is wanting before the first access, where a region is made, just before a result is made that isn't padded, or where
 -- the next one's rows are emitted, or its closing line
@@ -122,7 +123,7 @@ WantsTogether p words stmts seens place stmt seen part s t =
     ⊎ (BeforeMake (in_flight stmts p) stmts seens (asked_own p words stmts seens s t)
     ⊎ (AtEmission (in_flight stmts p) stmt seen (drop (asked_own p words stmts seens s t place)
     (whole_script (in_flight stmts p) (skeleton stmt) seen))
-    ⊎ ((events : List Event) × ClosesWithin events part)))
+    ⊎ ((events : List Event) × (outcome : Outcome) × ClosesWithin events part outcome)))
 
 -- they flew until then: the answers of those that have ended were printed, and a first part of the next one
 pub record FlewUntil {R : Type 0} (state : R → RevState) (words left : ℕ → ℕ)
@@ -135,7 +136,8 @@ pub record FlewUntil {R : Type 0} (state : R → RevState) (words left : ℕ →
   pub next : slice_get stmts (length ended) ≡ Some stmt
   pub shown : slice_get seens (length ended) ≡ Some seen
   pub part : List ℕ
-  pub emits : EmitsUntil state stmts stmt stop part old s new t
+  pub emits : EmitsUntil state stmts stmt seen
+      (asked_own (public_of old) words stmts seens s t (length ended)) part old s new t
   pub memory : stop ≡ NoMemory
       → WantsTogether (public_of old) words stmts seens (length ended) stmt seen part s t
   pub printed : PrintsUntil (session_stop stop) bytes (printed (answers_of ended seens) ++ part)

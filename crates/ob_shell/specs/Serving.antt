@@ -76,8 +76,8 @@ abbrev pub ServesBatch : {R : Type 0} (state : R → RevState) (Saves : Type 0) 
     (m0 m1 : Machine R) → Result Tally TextHalted → Type 0
 ServesBatch state Saves tracing stmts tally w0 w1 t0 t1 old new m0 m1 result =
     TakesTexts state Saves tracing (ComesFree m0.flights.settings (public_of m0.engine) stmts)
-    (IsClosed m1.flights.settings (public_of m1.engine) stmts) stmts [] [] tally
-    (counted_by tally result) w0 w1 t0 t1 old new m0 m1 result
+    (IsClosed m1.flights.settings (public_of m0.engine) (public_of m1.engine) stmts) stmts [] []
+    tally (counted_by tally result) w0 w1 t0 t1 old new m0 m1 result
 
 -- the same where a stop may leave what comes next unread, for one of these causes: then no text came behind those that waited
 abbrev pub TakesMore : {R T : Type 0} (state : R → RevState) (Saves : Type 0) (tracing : Bool)

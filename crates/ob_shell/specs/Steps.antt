@@ -369,11 +369,11 @@ pub record StepTogether {R : Type 0} (state : R → RevState) (m0 m1 : Machine R
 -- these texts were answered, in order, each by itself, or several together
 pub data Steps {R : Type 0} (state : R → RevState)
     : Machine R → Machine R → List (List ℕ) → List Answer → Type 0 where
-  ended : {m : Machine R} → Steps state m m [] []
-  next : {m0 m1 m2 : Machine R} {text : List ℕ} {one : Answer} {texts : List (List ℕ)}
+  at_rest : {m : Machine R} → Steps state m m [] []
+  one_more : {m0 m1 m2 : Machine R} {text : List ℕ} {one : Answer} {texts : List (List ℕ)}
       {answers : List Answer} → Step state m0 m1 text one → Steps state m1 m2 texts answers
       → Steps state m0 m2 (text ∷ texts) (one ∷ answers)
-  together : {m0 m1 m2 : Machine R} {flown texts : List (List ℕ)} {given answers : List Answer}
+  more_together : {m0 m1 m2 : Machine R} {flown texts : List (List ℕ)} {given answers : List Answer}
       → StepTogether state m0 m1 flown given → Steps state m1 m2 texts answers
       → Steps state m0 m2 (flown ++ texts) (given ++ answers)
 

@@ -101,11 +101,12 @@ pub record IsApart (settings : Option FlightSettings) (p : Public) (first : Stmt
       ⊎ (most_flown settings p ≤ length rest + 1))
 
 -- nor into what is gathered, once they were served; where none waited that is as it was
-abbrev pub IsClosed : Option FlightSettings → Public → List Stmt → (old new : Gathered) → Type 0
-IsClosed settings p [] old new = new ≡ old
-IsClosed settings p (first ∷ rest) old new =
+abbrev pub IsClosed : Option FlightSettings → (p q : Public) → List Stmt → (old new : Gathered)
+    → Type 0
+IsClosed settings p q [] old new = new ≡ old
+IsClosed settings p q (first ∷ rest) old new =
     (outline : Skeleton) → IsApart settings p first rest outline
-    → IsApartFrom settings p new outline
+    → IsApartFrom settings q new outline
 
 -- the first of these texts were answered, which were counted, a sink took their answers, and the others wait, and spell these
 -- statements; this is so of what is gathered then

@@ -1,1 +1,2 @@
 pub mod Closings
+mod Draws
