@@ -1,6 +1,6 @@
 -- What statements in flight did, and what was printed of them.
 use Rattle.std.specs.Prelude.{MatchResult, OnOk, slice_get}
-use Rattle.std.proofs.Common.{◌≡◌, ◌⊎◌, ◌<◌, ◌≤◌, ℕ, zero, suc, List, [], ◌∷◌, ◌++◌, length, map, Option, Some, None, Result, Ok, Err, inl, inr, refl, sym, ap, ◌∙◌, subst, arith, append_assoc, append-nil}
+use Rattle.std.proofs.Common.{◌≡◌, ◌⊎◌, ◌+◌, ◌<◌, ◌≤◌, ℕ, zero, suc, List, [], ◌∷◌, ◌++◌, length, map, Option, Some, None, Result, Ok, Err, inl, inr, refl, sym, ap, ◌∙◌, subst, arith, append_assoc, append-nil}
 use Rattle.ob_base.specs.Counts.{Rises}
 use Rattle.ob_base.specs.Events.{Event}
 use Rattle.ob_base.specs.declared.config.Public.{Public}
@@ -14,7 +14,7 @@ use Rattle.ob_print.proofs.SentLemmas.{Sends-then}
 use Rattle.ob_print.specs.Rows.{events_text}
 use Rattle.ob_print.specs.Sent.{Sends}
 use Rattle.ob_shell.specs.Aloft.{EmitsUntil, FlewUntil, FlewWhole, RanAloft, RanTogether, WantsTogether, answers_of}
-use Rattle.ob_shell.specs.Tallies.{tally_after, tally_seen}
+use Rattle.ob_shell.specs.Tallies.{tally_after, tally_seen, tally_with}
 use Rattle.ob_gen.specs.declared.tally.Tally.{Tally}
 use Rattle.ob_sql.specs.declared.stmt.Stmt.{Stmt}
 use Rattle.ob_store.proofs.Steps.{since_later}
@@ -37,11 +37,11 @@ printed_ended (one ∷ ended) [] few = absurd (omega (arith, few))
 printed_ended (one ∷ ended) (seen ∷ seens) few = ap (λ (l : List ℕ). (events_text one.events ++ closing_line one.outcome) ++ l) (printed_ended ended seens (omega (arith, few)))
 
 -- and what is counted
-pub counted_ended : (t : Tally) (ended : List Closed) (seens : List Seen) → tally_after t (answers_of ended seens) ≡ tally_seen t (outcomes_of ended) seens
+pub counted_ended : (ended : List Closed) (seens : List Seen) (t : Tally) → tally_after t (answers_of ended seens) ≡ tally_seen t (outcomes_of ended) seens
 unfolding tally_after tally_seen
-counted_ended t [] seens = refl
-counted_ended t (one ∷ ended) [] = refl
-counted_ended t (one ∷ ended) (seen ∷ seens) = counted_ended _ ended seens
+counted_ended [] seens t = refl
+counted_ended (one ∷ ended) [] t = refl
+counted_ended (one ∷ ended) (seen ∷ seens) t = counted_ended ended seens (tally_with t one.outcome seen.plan)
 
 -- a place at which there is something
 pub within_get : {A : Type 0} (xs : List A) (i : ℕ) (x : A) → slice_get xs i ≡ Some x → i < length xs
@@ -53,10 +53,23 @@ within_get (y ∷ xs) (suc i) x is = let rest = within_get xs i x is in omega (a
 abbrev pub MayCut : RunStop → Type 0
 MayCut stop = (stop ≡ Runs.SinkFault) ⊎ (stop ≡ Runs.NoMemory)
 
+-- ---- which sink it is
+-- what an emitter of their answers has that stays
+pub record Names {E N : Type 0} (grew cut : E → E → List Event → Type 0) (closed parted : E → E → ℕ → Outcome → Type 0) (name : E → N) : Type 0 where
+  pub took : (a b : E) (events : List Event) → grew a b events → name b ≡ name a
+  pub ends : (a b : E) (place : ℕ) (outcome : Outcome) → closed a b place outcome → name b ≡ name a
+  pub halves : (a b : E) (events : List Event) → cut a b events → name b ≡ name a
+  pub parts : (a b : E) (place : ℕ) (outcome : Outcome) → parted a b place outcome → name b ≡ name a
+
+closes_named : {E N : Type 0} {grew cut : E → E → List Event → Type 0} {closed parted : E → E → ℕ → Outcome → Type 0} {name : E → N} → Names grew cut closed parted name → (place : ℕ) (ended : List Closed) (a b : E) → ClosesAll grew closed place ended a b → name b ≡ name a
+closes_named {name = name} names place [] a b same = ap name same
+closes_named names place (one ∷ more) a b all =
+    closes_named names (place + 1) more all.0 b all.2 ∙ names.ends all.1.between all.0 place one.outcome all.1.closes ∙ names.took a all.1.between one.events all.1.took
+
 -- ---- what the engine did
-on_ok_of : {T P Q : Type 0} (r : Result T RunStop) → MatchResult r (λ x. P) (λ stop. Q) → OnOk r P
-on_ok_of (Ok x) p = p
-on_ok_of (Err stop) p = tt
+on_ok_of : {T : Type 0} (P Q : Type 0) (r : Result T RunStop) → MatchResult r (λ x. P) (λ stop. Q) → OnOk r P
+on_ok_of P Q (Ok x) p = p
+on_ok_of P Q (Err stop) p = tt
 
 module _ {R E : Type 0} (state : R → RevState) (grew cut : E → E → List Event → Type 0) (closed parted : E → E → ℕ → Outcome → Type 0) (faults : E → ℕ) (words left : ℕ → ℕ) (stmts : List Stmt) (seens : List Seen)
     (old : Engine R) (s : StoreState) (new : Engine R) (t : StoreState) (out_old out_new : E) where
@@ -76,7 +89,7 @@ module _ {R E : Type 0} (state : R → RevState) (grew cut : E → E → List Ev
     room = ran.room;
     opened = ran.opened;
     kept = ran.kept;
-    goes_on = on_ok_of result ran.goes_on;
+    goes_on = on_ok_of _ _ result ran.goes_on;
   }
 
   pub ran_aloft : {T : Type 0} (result : Result T RunStop) (ran : Called result) → RanAloft state words left stmts seens ran.ended result old s new t
@@ -95,6 +108,27 @@ module _ {R E : Type 0} (state : R → RevState) (grew cut : E → E → List Ev
 
   pub flew_whole : (ran : Called {T = Unit {0}} (Ok tt)) → FlewWhole state words left stmts seens (answers_of ran.ended seens) old s new t
   flew_whole ran = record { ended = ran.ended; ran = ran_aloft (Ok tt) ran; answered = refl }
+
+  pub named_whole : {N : Type 0} (name : E → N) → (ran : Called {T = Unit {0}} (Ok tt)) → Names grew cut closed parted name → name out_new ≡ name out_old
+  named_whole name ran names = closes_named names 0 ran.ended out_old out_new ran.answered
+
+  pub named_until : {N : Type 0} (name : E → N) (stop : RunStop) → (ran : Called {T = Unit {0}} (Err stop)) → Names grew cut closed parted name → name out_new ≡ name out_old
+  named_until name stop ran names = go stop ran ∙ closes_named names 0 ran.ended out_old ran.stopped.between ran.stopped.took
+    where
+      go : (run : RunStop) (is : Called {T = Unit {0}} (Err run)) → name out_new ≡ name is.stopped.between
+      go (Runs.Tampered q x) is = names.took is.stopped.between out_new is.stopped.events is.stopped.ends
+      go Runs.StoreFault is = absurd is.cause
+      go Runs.StashFull is = absurd is.cause
+      go Runs.KeeperFault is = absurd is.cause
+      go Runs.SinkFault is = elim is.stopped.ends [
+        | inl short ↦ names.halves is.stopped.between out_new is.stopped.events short
+        | inr closing ↦ names.parts closing.between out_new (length is.ended) closing.outcome closing.parts ∙ names.took is.stopped.between closing.between is.stopped.events closing.took
+      ]
+      go Runs.NoMemory is = elim is.stopped.ends [
+        | inl (inl grown) ↦ names.took is.stopped.between out_new is.stopped.events grown
+        | inl (inr short) ↦ names.halves is.stopped.between out_new is.stopped.events short
+        | inr closing ↦ names.parts closing.between out_new (length is.ended) closing.outcome closing.parts ∙ names.took is.stopped.between closing.between is.stopped.events closing.took
+      ]
 
   -- no more have ended than were seen
   pub few_ended : (ran : Called {T = Unit {0}} (Ok tt)) → length ran.ended ≤ length seens
@@ -130,7 +164,7 @@ module _ {R E : Type 0} (state : R → RevState) (grew cut : E → E → List Ev
       abbrev at : StopsFlight state grew cut closed parted stmts seens (asked_by (public_of old) words stmts seens (asked_since s t)) ran.ended stop old s new t out_old out_new
       at = ran.stopped
 
-      Wants : (part : List ℕ) → Type 0
+      abbrev Wants : (part : List ℕ) → Type 0
       Wants part = stop ≡ Runs.NoMemory → WantsTogether (public_of old) words stmts seens (length ran.ended) at.stmt at.seen part s t
 
       took_events : grew at.between out_new at.events → Wants (events_text at.events) → SentUntil written waiting stop ran

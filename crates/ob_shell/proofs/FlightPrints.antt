@@ -1,6 +1,6 @@
 -- What a sink took of the answers of statements in flight.
 use Rattle.std.specs.Prelude.{IsErr, OnOk}
-use Rattle.std.proofs.Common.{◌≡◌, ◌⊎◌, ℕ, Bool, List, [], ◌++◌, length, Option, Ok, Err, Result, inl, inr, refl, sym, ap, ◌∙◌, subst, arith, append-nil, true, false}
+use Rattle.std.proofs.Common.{◌≡◌, ◌⊎◌, ◌+◌, ℕ, Bool, List, [], ◌++◌, length, Option, Ok, Err, Result, inl, inr, refl, sym, ap, ◌∙◌, subst, arith, append-nil, true, false}
 use Rattle.std.proofs.Math.Seq.{take_all}
 use Rattle.std.specs.Io.KnownBytes.{Appends}
 use Rattle.ob_base.specs.Events.{Event}
@@ -14,10 +14,11 @@ use Rattle.ob_print.proofs.SentLemmas.{Sends-by, Sends-cut, flushed, flushed_cut
 use Rattle.ob_print.specs.Cuts.{Outputs}
 use Rattle.ob_print.specs.Rows.{events_text}
 use Rattle.ob_print.specs.Sent.{Sends}
-use Rattle.ob_shell.proofs.AloftLemmas.{MayCut, SentUntil, few_ended, few_until, flew_whole, printed_ended, ran_aloft, sent_until}
+use Rattle.ob_shell.proofs.AloftLemmas.{MayCut, SentUntil, counted_ended, few_ended, few_until, flew_whole, printed_ended, ran_aloft, sent_until}
 use Rattle.ob_shell.specs.Aloft.{AnswersFlight, CutsFlight, FlewUntil, FlewWhole, answers_of}
 use Rattle.ob_gen.specs.declared.tally.Tally.{Tally}
 use Rattle.ob_shell.specs.Flying.{CountsFlight, PrintsWhole, RestsFlight}
+use Rattle.ob_shell.specs.Tallies.{tally_after, tally_seen}
 use Rattle.ob_sql.specs.declared.stmt.Stmt.{Stmt}
 use Rattle.ob_store.specs.State.{StoreState}
 use Rattle.ob_tables.specs.Stops.{session_stop}
@@ -38,18 +39,18 @@ prints_all Runs.StoreFault text = refl
 prints_all Runs.StashFull text = refl
 prints_all Runs.KeeperFault text = refl
 
+-- what is known of an emitter of their answers
+pub record Knows {E : Type 0} (grew cut : E → E → List Event → Type 0) (closed parted : E → E → ℕ → Outcome → Type 0) (written : E → Option (List ℕ)) (waiting : E → List ℕ) (outcomes : E → List Outcome) : Type 0 where
+  pub took : (a b : E) (events : List Event) → grew a b events → Sends (written a) (written b) (waiting a) (waiting b) ⊥ (events_text events) × (outcomes b ≡ outcomes a)
+  pub ends : (a b : E) (place : ℕ) (outcome : Outcome) → closed a b place outcome → Sends (written a) (written b) (waiting a) (waiting b) ⊥ (closing_line outcome) × IsKept place outcome (outcomes a) (outcomes b)
+  pub halves : (a b : E) (events : List Event) → cut a b events → Sends (written a) (written b) (waiting a) (waiting b) (Unit {0}) (events_text events)
+  pub parts : (a b : E) (place : ℕ) (outcome : Outcome) → parted a b place outcome → Sends (written a) (written b) (waiting a) (waiting b) (Unit {0}) (closing_line outcome)
+
 module _ {R E : Type 0} {state : R → RevState} {grew cut : E → E → List Event → Type 0} {closed parted : E → E → ℕ → Outcome → Type 0} {faults : E → ℕ} {words left : ℕ → ℕ} {stmts : List Stmt} {seens : List Seen}
     {old : Engine R} {s : StoreState} {new : Engine R} {t : StoreState} {out_old out_new : E} where
-  -- what is known of an emitter of their answers
-  pub record Knows (written : E → Option (List ℕ)) (waiting : E → List ℕ) (outcomes : E → List Outcome) : Type 0 where
-    pub took : (a b : E) (events : List Event) → grew a b events → Sends (written a) (written b) (waiting a) (waiting b) ⊥ (events_text events) × (outcomes b ≡ outcomes a)
-    pub ends : (a b : E) (place : ℕ) (outcome : Outcome) → closed a b place outcome → Sends (written a) (written b) (waiting a) (waiting b) ⊥ (closing_line outcome) × IsKept place outcome (outcomes a) (outcomes b)
-    pub halves : (a b : E) (events : List Event) → cut a b events → Sends (written a) (written b) (waiting a) (waiting b) (Unit {0}) (events_text events)
-    pub parts : (a b : E) (place : ℕ) (outcome : Outcome) → parted a b place outcome → Sends (written a) (written b) (waiting a) (waiting b) (Unit {0}) (closing_line outcome)
-
   module _ (written : E → Option (List ℕ)) (waiting : E → List ℕ) (outcomes : E → List Outcome) (none : waiting out_old ≡ []) where
     -- they were answered
-    module _ (ran : RanFlight {T = Unit {0}} state grew cut closed parted faults words left stmts seens (Ok tt) old s new t out_old out_new) (knows : Knows written waiting outcomes) where
+    module _ (ran : RanFlight {T = Unit {0}} state grew cut closed parted faults words left stmts seens (Ok tt) old s new t out_old out_new) (knows : Knows grew cut closed parted written waiting outcomes) where
       sent_all : Sends (written out_old) (written out_new) (waiting out_old) (waiting out_new) ⊥ (printed (answers_of ran.ended seens))
       sent_all =
           subst (λ (l : List ℕ). Sends (written out_old) (written out_new) (waiting out_old) (waiting out_new) ⊥ l)
@@ -65,7 +66,7 @@ module _ {R E : Type 0} {state : R → RevState} {grew cut : E → E → List Ev
           record {
             answers = answers_of ran.ended seens;
             flew = flew_whole state grew cut closed parted faults words left stmts seens old s new t out_old out_new ran;
-            counted = sym (take_all (length ran.ended) (outcomes out_new) (omega (arith, all, long, size))) ∙ kept.1;
+            counted = sym (take_all (0 + length ran.ended) (outcomes out_new) (omega (arith, all, long, size))) ∙ kept.1;
             appends = flushed_whole (printed (answers_of ran.ended seens)) none sent_all flush fine;
           }
 
@@ -79,11 +80,11 @@ module _ {R E : Type 0} {state : R → RevState} {grew cut : E → E → List Ev
       }
 
     -- they were stopped
-    module _ (stop : RunStop) (ran : RanFlight {T = Unit {0}} state grew cut closed parted faults words left stmts seens (Err stop) old s new t out_old out_new) (knows : Knows written waiting outcomes) where
-      sent : SentUntil state grew cut closed parted faults words left stmts seens old s new t out_old out_new written waiting stop ran
+    module _ (stop : RunStop) (ran : RanFlight {T = Unit {0}} state grew cut closed parted faults words left stmts seens (Err stop) old s new t out_old out_new) (knows : Knows grew cut closed parted written waiting outcomes) where
+      abbrev sent : SentUntil state grew cut closed parted faults words left stmts seens old s new t out_old out_new written waiting stop ran
       sent = sent_until state grew cut closed parted faults words left stmts seens old s new t out_old out_new written waiting outcomes knows.took knows.ends knows.halves knows.parts stop ran
 
-      text : List ℕ
+      abbrev text : List ℕ
       text = closed_text ran.ended ++ sent.part
 
       same : text ≡ printed (answers_of ran.ended seens) ++ sent.part
@@ -135,6 +136,15 @@ module _ {R E : Type 0} {state : R → RevState} {grew cut : E → E → List Ev
       ]
 
 -- ---- behind the answers
+-- they were counted
+pub counts_whole : {R : Type 0} {state : R → RevState} {words left : ℕ → ℕ} {stmts : List Stmt} {seens : List Seen} {outcomes : List Outcome} {w0 w1 : Option (List ℕ)} {old new : Engine R} {s t : StoreState} (tally counted : Tally) (outs : List Outcome)
+    → PrintsWhole state words left stmts seens outcomes w0 w1 old s new t → counted ≡ tally_seen tally outs seens → outs ≡ outcomes → CountsFlight state words left stmts tally counted w0 w1 old s new t
+counts_whole {seens = seens} tally counted outs whole is same = record {
+  answers = whole.answers;
+  answered = record { seens = seens; flew = whole.flew; appends = whole.appends };
+  counted = is ∙ ap (λ (l : List Outcome). tally_seen tally l seens) (same ∙ whole.counted) ∙ sym (counted_ended whole.flew.ended seens tally) ∙ ap (tally_after tally) (sym whole.flew.answered);
+}
+
 -- a sink of the trace failed, and theirs took all
 pub cuts_behind : {R : Type 0} {state : R → RevState} {words left : ℕ → ℕ} {stmts : List Stmt} {tally counted : Tally} {w0 w1 : Option (List ℕ)} {Lost : Type 0} {old new : Engine R} {s t : StoreState} → CountsFlight state words left stmts tally counted w0 w1 old s new t
     → CutsFlight state words left stmts Runs.SinkFault w0 w1 Lost old s new t

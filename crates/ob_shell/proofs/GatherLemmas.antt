@@ -1,5 +1,5 @@
 -- One more statement that waits, and those that are as many as are served together then.
-use Rattle.std.specs.Prelude.{IsSome, OnOk, bytes_eq, if◌then◌else◌, is_ok, is_some, nat_le}
+use Rattle.std.specs.Prelude.{IsSome, OnOk, bytes_eq, if◌then◌else◌, is_ok, nat_le}
 use Rattle.std.specs.List.{All}
 use Rattle.std.specs.Option.{option_map_or}
 use Rattle.std.specs.Result.{is_err}
@@ -71,9 +71,13 @@ batch_push p m first rest stmt waits same = record {
 fly_first : (settings : Option FlightSettings) (p : Public) (stmt : Stmt) → begins_flight settings p (skeleton stmt) ≡ true → All (Fly p) (stmt ∷ [])
 fly_first settings p stmt goes = All-cons (Fly p) stmt [] (begins_flying settings p (skeleton stmt) goes) (All-nil (Fly p))
 
+map_some : {A : Type 0} (o : Option (List ℕ)) (x d : A) → IsSome o → option_map_or (λ (table : List ℕ). x) o d ≡ x
+map_some (Some table) x d some = refl
+map_some None x d some = absurd (cc some)
+
 -- as many are served together as an INSERT begins, or a SELECT
 gather_insert : (settings : Option FlightSettings) (p : Public) (outline : Skeleton) → IsSome (inserts_into outline) → gather_most settings p outline ≡ batch_most p
-gather_insert settings p outline some = ap (λ (b : Bool). if b then batch_most p else most_flown settings p) some
+gather_insert settings p outline some = map_some (inserts_into outline) (batch_most p) (most_flown settings p) some
 
 pub no_insert : (p : Public) (outline : Skeleton) → may_fly p outline ≡ true → inserts_into outline ≡ None
 no_insert p (Rows source columns) may = refl
@@ -85,7 +89,7 @@ no_insert p (DeleteSkeleton table) may = refl
 no_insert p (DropSkeleton table) may = refl
 
 gather_select : (settings : Option FlightSettings) (p : Public) (outline : Skeleton) → may_fly p outline ≡ true → gather_most settings p outline ≡ most_flown settings p
-gather_select settings p outline may = ap (λ (o : Option (List ℕ)). if is_some o then batch_most p else most_flown settings p) (no_insert p outline may)
+gather_select settings p outline may = ap (λ (o : Option (List ℕ)). option_map_or (λ (table : List ℕ). batch_most p) o (most_flown settings p)) (no_insert p outline may)
 
 -- one more may come to them
 pub batch_more : (settings : Option FlightSettings) (p : Public) (m : ℕ) (batch : List Stmt) (stmt : Stmt) → GoesAlong settings p m batch stmt → AreBatched settings p m (batch ++ stmt ∷ [])
@@ -128,10 +132,10 @@ some_name None some = absurd (cc some)
 
 -- by what goes along with the first
 along_insert : (p : Public) (first stmt : Stmt) (rest : List Stmt) → IsSome (inserts_into (skeleton first)) → goes_along p (first ∷ rest) stmt ≡ are_alike (skeleton first) (skeleton stmt)
-along_insert p first stmt rest some = ap (λ (b : Bool). if b then are_alike (skeleton first) (skeleton stmt) else may_fly p (skeleton stmt)) some
+along_insert p first stmt rest some = map_some (inserts_into (skeleton first)) (are_alike (skeleton first) (skeleton stmt)) (may_fly p (skeleton stmt)) some
 
 along_select : (p : Public) (first stmt : Stmt) (rest : List Stmt) → may_fly p (skeleton first) ≡ true → goes_along p (first ∷ rest) stmt ≡ may_fly p (skeleton stmt)
-along_select p first stmt rest may = ap (λ (o : Option (List ℕ)). if is_some o then are_alike (skeleton first) (skeleton stmt) else may_fly p (skeleton stmt)) (no_insert p (skeleton first) may)
+along_select p first stmt rest may = ap (λ (o : Option (List ℕ)). option_map_or (λ (table : List ℕ). are_alike (skeleton first) (skeleton stmt)) o (may_fly p (skeleton stmt))) (no_insert p (skeleton first) may)
 
 first_flies : (p : Public) (first : Stmt) (rest : List Stmt) → All (Fly p) (first ∷ rest) → Fly p first
 first_flies p first rest all = All-head (Fly p) first rest all
@@ -149,7 +153,7 @@ free_more settings p [] stmt g goes free = absurd (cc goes)
 free_more settings p (first ∷ rest) stmt g goes free = free
 
 -- or doesn't, and comes free behind them, once they were served
-not_flying : (p : Public) (outline : Skeleton) → IsSome (inserts_into outline) → may_fly p outline ≡ false
+pub not_flying : (p : Public) (outline : Skeleton) → IsSome (inserts_into outline) → may_fly p outline ≡ false
 not_flying p (Rows source columns) some = absurd (cc some)
 not_flying p (Groups table columns key) some = absurd (cc some)
 not_flying p (CreateSkeleton table columns n shape) some = refl

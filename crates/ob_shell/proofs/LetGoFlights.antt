@@ -76,4 +76,4 @@ module _ {R : Type 0} (state : R → RevState) (words left : ℕ → ℕ) (stmts
 
   pub counts_from : (from : ℕ) (u : StoreState) (tally counted : Tally) (w0 w1 : Option (List ℕ)) → LetsGoFrom from t u → CountsFlight state words left stmts tally counted w0 w1 old s new t → CountsFlight state words left stmts tally counted w0 w1 old s new u
   counts_from from u tally counted w0 w1 (inl (none, same)) is = subst (λ (v : StoreState). CountsFlight state words left stmts tally counted w0 w1 old s new v) (sym same) is
-  counts_from from u tally counted w0 w1 (inr (more, room, as)) is = subst (λ (v : StoreState). CountsFlight state words left stmts tally counted w0 w1 old s new v) (sym as) (counts_left room tally counted w0 w1 is)
+  counts_from from u tally counted w0 w1 (inr (more, room, left_is)) is = subst (λ (v : StoreState). CountsFlight state words left stmts tally counted w0 w1 old s new v) (sym left_is) (counts_left room tally counted w0 w1 is)

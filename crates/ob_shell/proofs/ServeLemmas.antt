@@ -5,7 +5,15 @@ use Rattle.std.proofs.Common.{ℕ, List, [], ◌∷◌, ◌++◌, ◌≡◌, ◌
 use Rattle.std.specs.Io.KnownBytes.{Appends}
 use Rattle.std.specs.Result.{is_err}
 use Rattle.ob_base.specs.Events.{Event}
+use Rattle.ob_base.specs.declared.config.Public.{Public}
 use Rattle.ob_base.specs.declared.refusal.Refusal.TheVariants.{Syntax}
+use Rattle.ob_base.specs.declared.seen.End.{End}
+use Rattle.ob_base.specs.declared.seen.End.TheVariants.{AfterCount, Cut, Joined, Static, Whole}
+use Rattle.ob_base.specs.declared.seen.Seen.{Seen}
+use Rattle.ob_base.specs.declared.skeleton.Skeleton.{Skeleton}
+use Rattle.ob_base.specs.declared.skeleton.Skeleton.TheVariants.{Create as CreateSkeleton, Delete as DeleteSkeleton, Drop as DropSkeleton, Groups, Insert as InsertSkeleton, Rows, Update as UpdateSkeleton}
+use Rattle.ob_script.specs.Tables.{tables_then}
+use Rattle.ob_script.specs.Trace.{next}
 use Rattle.ob_tables.specs.Agreeing.{Agrees, AreDraws, public_of, seen_of}
 use Rattle.ob_tables.specs.Running.{SinkStops, is_fault}
 use Rattle.ob_tables.specs.Serving.{StopsEmission}
@@ -26,7 +34,7 @@ use Rattle.ob_print.specs.Rows.{events_text}
 use Rattle.ob_shell.proofs.CountLemmas.{rises_earlier, rises_later}
 use Rattle.ob_shell.specs.Running.{OutFailed, Silenced, StopCause}
 use Rattle.ob_mean.proofs.BatchLemmas.{most_some}
-use Rattle.ob_headline.specs.Flights.{gathered_then}
+use Rattle.ob_headline.specs.Flights.{gathered_then, may_fly}
 use Rattle.ob_mean.specs.Batches.{and_one, begins_batch, begun_by}
 use Rattle.ob_mean.specs.Verdict.{Draws, Tables}
 use Rattle.ob_shell.specs.Lines.{line_answer}
@@ -213,3 +221,24 @@ pub flush_loses : {T E : Type 0} (stop : RunStop) (r : Result T E) (quiet : Bool
 flush_loses stop (Ok x) quiet out0 out1 out2 not cause is flushed failed = absurd (cc failed)
 flush_loses stop (Err e) quiet out0 out1 out2 not cause is flushed failed =
     let same = stop_keeps stop out0 out1 not cause in (is, rises_earlier out0 out1 out2 (omega (arith, same)) flushed.failed)
+
+-- a SELECT leaves the tables
+pub select_tables : (p : Public) (outline : Skeleton) (seen : Seen) {q : Public} → may_fly p outline ≡ true → q ≡ next p outline seen → q.tables ≡ p.tables
+select_tables p outline seen flies is = ap (λ (x : Public). x.tables) is ∙ go outline flies seen.end
+  where
+    go : (s : Skeleton) → may_fly p s ≡ true → (end : End) → tables_then p s end ≡ p.tables
+    go (Rows source columns) may Static = refl
+    go (Rows source columns) may Whole = refl
+    go (Rows source columns) may AfterCount = refl
+    go (Rows source columns) may Joined = refl
+    go (Rows source columns) may (Cut n) = refl
+    go (Groups table columns key) may Static = refl
+    go (Groups table columns key) may Whole = refl
+    go (Groups table columns key) may AfterCount = refl
+    go (Groups table columns key) may Joined = refl
+    go (Groups table columns key) may (Cut n) = refl
+    go (CreateSkeleton table columns n shape) may end = absurd (cc may)
+    go (InsertSkeleton table columns) may end = absurd (cc may)
+    go (UpdateSkeleton table columns) may end = absurd (cc may)
+    go (DeleteSkeleton table) may end = absurd (cc may)
+    go (DropSkeleton table) may end = absurd (cc may)

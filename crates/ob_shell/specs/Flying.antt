@@ -1,5 +1,5 @@
 -- What becomes of statements that fly.
-use Rattle.std.specs.Prelude.{ℕ, ◌≡◌, ◌⊎◌, List, [], Option, Result, Ok, Err, IfErr, IfOk, OnOk}
+use Rattle.std.specs.Prelude.{ℕ, ◌≡◌, ◌⊎◌, List, [], Option, Result, IfErr, IfOk}
 use Rattle.std.specs.Io.KnownBytes.{Appends}
 use Rattle.std.specs.Option.{option_map_or}
 use Rattle.ob_base.specs.declared.seen.Seen.{Seen}
@@ -43,34 +43,23 @@ pub record PrintsWhole {R : Type 0} (state : R → RevState) (words left : ℕ �
   pub counted : outcomes ≡ outcomes_of flew.ended
   pub appends : Appends written0 written1 (printed answers)
 
-pub record PrintsFlight {R T : Type 0} (state : R → RevState) (words left : ℕ → ℕ)
-    (stmts : List Stmt) (seens : List Seen) (outcomes : List Outcome)
-    (written0 written1 : Option (List ℕ)) (old new : Faults) (e0 : Engine R) (s0 : StoreState)
-    (e1 : Engine R) (s1 : StoreState) (result : Result T TextHalted) : Type 0 where
-  pub done : OnOk result
-      (PrintsWhole state words left stmts seens outcomes written0 written1 e0 s0 e1 s1)
-  pub stopped : IfErr result (λ halted. CutsFlight state words left stmts halted.stop
-      written0 written1 (OutFailed halted.quiet old.out new.out) e0 s0 e1 s1)
-  pub cause : StopCause (Unit {0}) old new (stop_of (halted_of result))
-  pub quiet : Silenced (is_quiet (halted_of result)) old new
-
 -- memory was wanting before anything was done
 pub record RestsFlight {R : Type 0} (words left : ℕ → ℕ) (stop : RunStop)
     (written0 written1 : Option (List ℕ)) (old : Engine R) (s : StoreState) (new : Engine R)
     (t : StoreState) : Type 0 where
   pub engine : new ≡ old
   pub store : t ≡ s
-  pub words : left ≡ words
+  pub undrawn : left ≡ words
   pub memory : stop ≡ NoMemory
   pub none : Appends written0 written1 []
 
 -- the answers were counted
 pub record CountsFlight {R : Type 0} (state : R → RevState) (words left : ℕ → ℕ)
-    (stmts : List Stmt) (tally counted : Tally) (written0 written1 : Option (List ℕ))
+    (stmts : List Stmt) (tally0 tally1 : Tally) (written0 written1 : Option (List ℕ))
     (old : Engine R) (s : StoreState) (new : Engine R) (t : StoreState) : Type 0 where
   pub answers : List Answer
   pub answered : AnswersFlight state words left stmts answers written0 written1 old s new t
-  pub counted : counted ≡ tally_after tally answers
+  pub counted : tally1 ≡ tally_after tally0 answers
 
 pub record RunsFlight {R : Type 0} (state : R → RevState) (words left : ℕ → ℕ)
     (stmts : List Stmt) (tally : Tally) (written0 written1 : Option (List ℕ))

@@ -7,6 +7,8 @@ use Rattle.ob_gen.specs.Tally.{empty_tally}
 use Rattle.ob_gen.specs.declared.tally.Tally.{Tally}
 use Rattle.ob_headline.specs.Texts.{is_over, rest_after, texts_at, texts_in}
 use Rattle.ob_headline.specs.Words.{Begins, Faults, before_read}
+use Rattle.ob_headline.specs.Flights.{may_fly, most_flown}
+use Rattle.ob_headline.specs.declared.flight.FlightSettings.{FlightSettings}
 use Rattle.ob_headline.specs.Statements.{Spells}
 use Rattle.ob_shell.specs.Feeding.{Fetch}
 use Rattle.ob_shell.specs.Running.{EndsBy, IsQuiet, OutFailed, SessionRan, Silenced, StopCause, halted_of, is_quiet, session_halted, stop_of}
@@ -30,6 +32,12 @@ pub record ServesStmt {R T : Type 0} (state : R → RevState) (Saves : Type 0)
     (written0 written1 : Option (List ℕ)) (old new : Faults) (m0 m1 : Machine R)
     (result : Result T TextHalted) : Type 0 where
   pub ready : OnOk result (IsReady state Saves m1)
+  -- as many may fly together behind it as before it, and a SELECT leaves the tables
+  pub most : (settings : Option FlightSettings)
+      → OnOk result (most_flown settings (public_of m1.engine)
+      ≡ most_flown settings (public_of m0.engine))
+  pub tables : may_fly (public_of m0.engine) (skeleton stmt) ≡ true
+      → OnOk result ((public_of m1.engine).tables ≡ (public_of m0.engine).tables)
   pub done : IfOk result (λ x. (gathered : Gathered) (text : List ℕ) → May gathered
       → Spells text (Ok stmt) → Done text x (standing m0 [] gathered)
       (standing m1 [] (gathered_by (public_of m0.engine) (skeleton stmt))))

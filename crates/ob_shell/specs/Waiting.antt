@@ -1,5 +1,5 @@
 -- Statements that wait to be served together, and what is served before them.
-use Rattle.std.specs.Prelude.{ℕ, ◌≡◌, ◌<◌, ◌≤◌, ◌+◌, ◌⊎◌, ◌&&◌, ⊤, Bool, true, false, if◌then◌else◌, nat_le, is_some, List, [], ◌∷◌, ◌++◌, bytes_eq, length, Option, None}
+use Rattle.std.specs.Prelude.{ℕ, ◌≡◌, ◌<◌, ◌≤◌, ◌+◌, ◌⊎◌, ◌&&◌, ⊤, Bool, true, false, nat_le, List, [], ◌∷◌, ◌++◌, bytes_eq, length, Option, None}
 use Rattle.std.specs.List.{All}
 use Rattle.std.specs.Option.{option_map_or}
 use Rattle.std.specs.Io.KnownBytes.{Appends}
@@ -43,13 +43,13 @@ are_alike a b =
 abbrev pub goes_along : Public → List Stmt → Stmt → Bool
 goes_along p [] stmt = false
 goes_along p (first ∷ rest) stmt =
-    if is_some (inserts_into (skeleton first)) then are_alike (skeleton first) (skeleton stmt)
-    else may_fly p (skeleton stmt)
+    option_map_or (λ table. are_alike (skeleton first) (skeleton stmt))
+    (inserts_into (skeleton first)) (may_fly p (skeleton stmt))
 
 -- as many are served together at most as this one begins
 abbrev pub gather_most : Option FlightSettings → Public → Skeleton → ℕ
 gather_most settings p outline =
-    if is_some (inserts_into outline) then batch_most p else most_flown settings p
+    option_map_or (λ table. batch_most p) (inserts_into outline) (most_flown settings p)
 
 -- it waits for others to fly with it
 abbrev pub begins_flight : Option FlightSettings → Public → Skeleton → Bool

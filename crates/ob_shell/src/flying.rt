@@ -5,7 +5,7 @@ ghost use Rattle.ob_exec.specs.InFlight.{AreFlight};
 ghost use Rattle.ob_headline.specs.Flights;
 ghost use Rattle.ob_headline.specs.Words.{faults_of};
 ghost use Rattle.ob_script.specs.Flights.{drawn};
-ghost use Rattle.ob_shell.specs.Flying.{PrintsFlight, RunsFlight, start_of};
+ghost use Rattle.ob_shell.specs.Flying.{RunsFlight, start_of};
 ghost use Rattle.ob_shell.specs.Running.{IsQuiet, halted_of};
 ghost use Rattle.ob_shell.specs.Tallies.{tally_seen};
 ghost use Rattle.ob_shell.specs.Traces.{Traced, TracedAll};
@@ -93,16 +93,17 @@ fn tally_flown(tally: Tally, outcomes: &[Outcome], seens: &[Seen]) -> Tally
     }
 }
 
-// Has statements fly, and prints their answers, of which none waits afterwards. Where the sink fails behind a stop, the stop
-// remains.
+// Has statements fly, prints their answers, of which none waits afterwards, and counts them. Where the sink fails behind a
+// stop, the stop remains.
 fn fly_stmts<R: Revisions, S: BlockStore, K: Sink>(
+    tally: Tally,
     engine: &mut Engine<R>,
     store: &mut S,
     stmts: &[Stmt],
     turns: &mut DrawnTurns,
     printer: &mut FlightPrinter<'_, K>,
     seens: &mut [Seen],
-) -> Result<(), TextHalted>
+) -> Result<Tally, TextHalted>
     requires agrees { Agrees R.state engine.old (S.state store.old) }
     requires lives { has_ended engine.old ≡ false }
     requires flight { AreFlight (public_of engine.old)
@@ -112,8 +113,7 @@ fn fly_stmts<R: Revisions, S: BlockStore, K: Sink>(
     requires none { printer.old.printer.out.waiting.items ≡ [] }
     ensures same_sink { printer.new.printer.out.out.ghost_name
         ≡ printer.old.printer.out.out.ghost_name }
-    ensures prints { PrintsFlight R.state (drawn turns.old.last) (drawn turns.new.last) stmts.now
-        seens.new printer.new.outcomes.items
+    ensures runs { RunsFlight R.state (drawn turns.old.last) (drawn turns.new.last) stmts.now tally
         (K.written printer.old.printer.out.out.now) (K.written printer.new.printer.out.out.now)
         (faults_of 0 (K.faults printer.old.printer.out.out.now) 0)
         (faults_of 0 (K.faults printer.new.printer.out.out.now) 0)
@@ -124,7 +124,7 @@ fn fly_stmts<R: Revisions, S: BlockStore, K: Sink>(
 {
     match run_flight(engine, store, stmts, turns, printer, seens) {
         Ok(()) => match printer.printer.out.flush() {
-            Ok(()) => Ok(()),
+            Ok(()) => Ok(tally_flown(tally, printer.outcomes.as_slice(), seens)),
             Err(Failed) => Err(SINK_FAILED),
         },
         Err(stop) => match stop {
@@ -179,21 +179,15 @@ fn answer_flight<R: Revisions, S: BlockStore, K: Sink>(
         },
         outcomes,
     };
-    match fly_stmts(
+    fly_stmts(
+        tally,
         engine,
         store,
         stmts,
         turns,
         &mut printer,
         seens.as_mut_slice(),
-    ) {
-        Ok(()) => Ok(tally_flown(
-            tally,
-            printer.outcomes.as_slice(),
-            seens.as_slice(),
-        )),
-        Err(halted) => Err(halted),
-    }
+    )
 }
 
 /// Has statements fly: answers them all, and then traces what they asked, of which the store lets go. After a sink's fault
