@@ -28,7 +28,7 @@ module _ {R : Type 0} (state : R → RevState) where
   pub record IsWith (m0 m1 : Machine R) (stmt : Stmt) (outcome : Outcome) : Type 0 where
     pub same : StaysAs m0 m1
     pub along : GoTogether (public_of m0.engine) stmt m1.owed
-    pub owed : TakesOwed (has_failed m0.gathered) (record { stmt = stmt; outcome = outcome }) m0.owed m1.owed
+    pub owed : TakesOwed (has_failed m0.gathered.batch) (record { stmt = stmt; outcome = outcome }) m0.owed m1.owed
 
   -- a statement was stopped, and with it the session
   pub record IsStopped (ending : Ending) (m0 m2 : Machine R) (stmt : Stmt) : Type 0 where

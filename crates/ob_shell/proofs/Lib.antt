@@ -46,6 +46,7 @@ pub mod LetGoLemmas
 pub mod LetGoFlights
 pub mod AloftLemmas
 pub mod FlightPrints
+pub mod FlightTakes
 pub mod DisturbLemmas
 pub mod MeddleLemmas
 pub mod LeavePath

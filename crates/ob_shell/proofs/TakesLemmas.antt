@@ -174,7 +174,7 @@ place_zero most p outline = go (may_fly p outline && nat_lt 0 most)
     go true = refl
     go false = refl
 
-place_past : (most n : ℕ) (p : Public) (outline : Skeleton) → most ≤ n → place_now most p n outline ≡ 0
+pub place_past : (most n : ℕ) (p : Public) (outline : Skeleton) → most ≤ n → place_now most p n outline ≡ 0
 place_past most n p outline past = go (may_fly p outline) (nat_lt n most) refl
   where
     go : (a b : Bool) → nat_lt n most ≡ b → (if (a && b) then n else 0) ≡ 0
@@ -182,7 +182,7 @@ place_past most n p outline past = go (may_fly p outline) (nat_lt n most) refl
     go true false is = refl
     go false b is = refl
 
-place_other : (most n : ℕ) (p : Public) (outline : Skeleton) → may_fly p outline ≡ false → place_now most p n outline ≡ 0
+pub place_other : (most n : ℕ) (p : Public) (outline : Skeleton) → may_fly p outline ≡ false → place_now most p n outline ≡ 0
 place_other most n p outline other = ap (λ (b : Bool). if (b && nat_lt n most) then n else 0) other
 
 -- it begins no flight: then any other comes free behind it
@@ -201,7 +201,7 @@ pub none_free : (settings : Option FlightSettings) (p : Public) → IsFree setti
 none_free settings p = λ outline. record { batch = refl; flown = place_zero (most_flown settings p) p outline }
 
 -- it might have flown: then any comes free behind it that doesn't go along with it
-same_fly : (p q : Public) (outline : Skeleton) → q.tables ≡ p.tables → may_fly q outline ≡ may_fly p outline
+pub same_fly : (p q : Public) (outline : Skeleton) → q.tables ≡ p.tables → may_fly q outline ≡ may_fly p outline
 same_fly p q (Rows (OneTable table) columns) same = ap (λ (t : List Table). not (is_index (headings_of t) table)) same
 same_fly p q (Rows (Join left right on equals) columns) same = refl
 same_fly p q (Groups table columns key) same = ap (λ (t : List Table). not (is_index (headings_of t) table)) same

@@ -234,12 +234,12 @@ module _ {R : Type 0} (state : R → RevState) where
   -- a statement was begun
   early_one : (m0 m2 : Machine R) (tables : Tables) (stmt : Stmt) (result : Result Outcome RunStop) (n : ℕ) (seen : List Entry) → (d : Draws) → AreDraws m0.engine d → Does state m0 m2 stmt result → IsTrue m0.store.tells → IsSteady m0.store
       → Represents state m0.engine m0.store tables → IsBefore m0.store.disturbed n → length m0.store.asked ≤ n
-      → EarlyFrom n m0.gathered (session_of m0 d tables) m0.store.asked m2.store.asked (Ok stmt ∷ []) [] seen
+      → EarlyFrom n m0.gathered.batch (session_of m0 d tables) m0.store.asked m2.store.asked (Ok stmt ∷ []) [] seen
   unfolding MeantUntil
   early_one m0 m2 tables stmt result n seen d drawn does tells steady held before few =
       let cross = crosses state m0 m2 d drawn tables stmt result does tells steady held n before few in
       let s = session_of m0 d tables in
-      let same : trace s.public (met_all m0.gathered s (Ok stmt ∷ [])) ≡ met_script s stmt = meets_alone m0.gathered s stmt does.alone in
+      let same : trace s.public (met_all m0.gathered.batch s (Ok stmt ∷ [])) ≡ met_script s stmt = meets_alone m0.gathered.batch s stmt does.alone.batch in
       record {
         meant = tt;
         begins = subst (λ (l : List Access). Begins (take n m2.store.asked) (m0.store.asked ++ l)) (sym same) cross.begins;
@@ -260,7 +260,7 @@ module _ {R : Type 0} (state : R → RevState) where
     pub in_access : ends_within ending ≡ true → length last ≡ 1
     pub each_seen : length seen ≡ length (statements (take (length texts) spelt))
     pub lawful : (most old : ℕ) → (FailsBeside seen m0.store.faults m2.store.faults → RisesBy most old m2.store.faults) → (d : Draws) → AreDraws m0.engine d → Given d (indexes_of m0.engine)
-        → AreSeen (StopsWithin ending (RisesBy most old m2.store.faults) (Full m2)) (public_of m0.engine) (asked_of m0) m0.gathered spelt answers (seen ++ last)
+        → AreSeen (StopsWithin ending (RisesBy most old m2.store.faults) (Full m2)) (public_of m0.engine) (asked_of m0) m0.gathered.batch spelt answers (seen ++ last)
     pub passed : m1.store.asked ≡ m0.store.asked ++ trace (public_of m0.engine) seen
     pub asked : m2.store.asked ≡ m0.store.asked ++ trace (public_of m0.engine) (seen ++ last)
     pub keys : m2.engine.vault.keys ≡ m0.engine.vault.keys
@@ -277,8 +277,8 @@ module _ {R : Type 0} (state : R → RevState) where
         × (EndsWhole ending → Represents state m2.engine m2.store (after_all (session_of m0 d tables) spelt broken).tables)
         × Path state ending m0 m2 d tables spelt answers broken
     pub untampered : (d : Draws) → AreDraws m0.engine d → IsTrue m0.store.tells → (tables : Tables) → Holds state m0 d tables → m2.store.lie ≡ None → EndsUntampered ending
-    pub early : (d : Draws) → AreDraws m0.engine d → IsTrue m0.store.tells → IsSteady m0.store → (tables : Tables) → Holds state m0 d tables → has_failed m0.gathered ≡ false → (n : ℕ) → IsBefore m0.store.disturbed n → length m0.store.asked ≤ n
-        → EarlyFrom n m0.gathered (session_of m0 d tables) m0.store.asked m2.store.asked spelt answers (seen ++ last)
+    pub early : (d : Draws) → AreDraws m0.engine d → IsTrue m0.store.tells → IsSteady m0.store → (tables : Tables) → Holds state m0 d tables → has_failed m0.gathered.batch ≡ false → (n : ℕ) → IsBefore m0.store.disturbed n → length m0.store.asked ≤ n
+        → EarlyFrom n m0.gathered.batch (session_of m0 d tables) m0.store.asked m2.store.asked spelt answers (seen ++ last)
     pub along : Along state ending m0 m2 spelt answers (seen ++ last)
 
   -- ---- behind the texts that were answered
@@ -323,7 +323,7 @@ module _ {R : Type 0} (state : R → RevState) where
         lie = λ lie is. ap (λ (m : Machine R). m.store.lie) same ∙ is;
         meant = λ d drawn tells calm unfit tables held. ([], (refl, rests.none), (λ whole. subst (λ (m : Machine R). Represents state m.engine m.store tables) (sym same) (free_holds state m0 d tables rests.free held)), (record { same = same; free = rests.free }, refl));
         untampered = λ d drawn tells tables held honest. fine;
-        early = λ d drawn tells steady tables held sound n before few. early_none n m0.gathered (session_of m0 d tables) m0.store.asked m2.store.asked [] (ap (λ (m : Machine R). m.store.asked) same) few;
+        early = λ d drawn tells steady tables held sound n before few. early_none n m0.gathered.batch (session_of m0 d tables) m0.store.asked m2.store.asked [] (ap (λ (m : Machine R). m.store.asked) same) few;
       }
 
   -- a stop that comes within a statement alone comes where it may
@@ -436,7 +436,7 @@ module _ {R : Type 0} (state : R → RevState) where
               (λ ends. stops_where run (public_of m0.engine) sk cut.does.ran.stops),
               (λ is. full_stash m0 m2 cut.stmt run cut.does d drawn g (only_stash run (cc is))),
             ),
-            alone_joins (public_of m0.engine) (asked_of m0) m0.gathered cut.stmt here (Err run) _ cut.does.alone cut.does.ran.ends,
+            alone_joins (public_of m0.engine) (asked_of m0) m0.gathered.batch cut.stmt here (Err run) _ cut.does.alone.batch cut.does.ran.ends,
           ),
           refl,
         );
@@ -550,7 +550,7 @@ module _ {R : Type 0} (state : R → RevState) where
               (λ ends. absurd (sink_ends run fault ends)),
               (λ is. absurd (not_full run fault is)),
             ),
-            alone_joins (public_of m0.engine) (asked_of m0) m0.gathered did.stmt here (Ok one.outcome) _ did.does.alone did.does.ran.ends,
+            alone_joins (public_of m0.engine) (asked_of m0) m0.gathered.batch did.stmt here (Ok one.outcome) _ did.does.alone.batch did.does.ran.ends,
           ),
           refl,
         );
@@ -611,7 +611,7 @@ module _ {R : Type 0} (state : R → RevState) where
       record { same = same; free = bad.free; owed = bad.owed },
     );
     untampered = λ d drawn tells tables held honest. fine;
-    early = λ d drawn tells steady tables held sound n before few. early_still n m0.gathered (session_of m0 d tables) m0.store.asked m2.store.asked (Err bad.at) [] (ap (λ (m : Machine R). m.store.asked) same) few;
+    early = λ d drawn tells steady tables held sound n before few. early_still n m0.gathered.batch (session_of m0 d tables) m0.store.asked m2.store.asked (Err bad.at) [] (ap (λ (m : Machine R). m.store.asked) same) few;
   }
 
   -- one that was carried out with the INSERT before it was answered, and a sink failed
@@ -665,7 +665,7 @@ module _ {R : Type 0} (state : R → RevState) where
               inr (record { ends = ap (λ (r : RunStop). Ran (Err (session_stop r))) fault; outcome = one.outcome; done = inr (record { same = same; along = with.along; owed = with.owed }) }),
             );
         untampered = λ d drawn tells tables held honest. stop_untampered run (sink_untampered run fault);
-        early = λ d drawn tells steady tables held sound n before few. early_still n m0.gathered (session_of m0 d tables) m0.store.asked m2.store.asked (Ok with.stmt) _ (ap (λ (m : Machine R). m.store.asked) same) few;
+        early = λ d drawn tells steady tables held sound n before few. early_still n m0.gathered.batch (session_of m0 d tables) m0.store.asked m2.store.asked (Ok with.stmt) _ (ap (λ (m : Machine R). m.store.asked) same) few;
       }
 
   walked_done_so : (m1 m2 : Machine R) (text : List ℕ) (more : List (List ℕ)) (run : RunStop) (part : List ℕ) (done : Finished state m1 m2 text run part) → Follow (text ∷ more) m2.owed → Walked (Ran (Err (session_stop run))) m1 m1 m2 [] (text ∷ more) [] part

@@ -32,7 +32,7 @@ use Rattle.ob_shell.proofs.LeavePath.{Along, Path}
 use Rattle.ob_shell.proofs.ReplayLemmas.{counts_on, draws_after, free_holds, holds_free, stands_after}
 use Rattle.ob_shell.proofs.WalkLemmas.{EarlyFrom, Full, Walked, alone_joins, answered_by, early_answered, end_cut, failed_by, none_saved, or_first, or_rest, reads_true, refused_is, same_by, says, world}
 use Rattle.ob_shell.proofs.WithLemmas.{batched, failed_with, means_with, meant_with, next_with, room_with, script_with, seen_with, uncut_with, with_failed, with_joins, with_lawful, with_plan, with_says}
-use Rattle.ob_shell.specs.Steps.{Holds, Machine, Misspelt, ServedStatement, ServedWith, StaysAs, Steps, asked_of, has_failed, session_of, standing}
+use Rattle.ob_shell.specs.Steps.{Gathered, Holds, Machine, Misspelt, ServedStatement, ServedWith, StaysAs, Steps, asked_of, has_failed, session_of, standing}
 use Rattle.ob_sql.specs.Skeleton.{skeleton}
 use Rattle.ob_sql.specs.declared.stmt.Stmt.{Stmt}
 use Rattle.ob_store.specs.Calls.{IsBefore, IsSteady}
@@ -98,9 +98,9 @@ module _ {R : Type 0} (state : R → RevState) where
         meant = λ d drawn tells calm unfit tables held. let from = rest.meant d drawn tells calm unfit tables (on d tables held) in (Alone ∷ from.0, (is, from.1), from.2, (m1, record { same = same; free = bad.free; owed = bad.owed }, path_again ending m0 m1 m2 d tables rest.spelt answers from.0 same from.3));
         untampered = λ d drawn tells tables held honest. rest.untampered d drawn tells tables (on d tables held) honest;
         early = λ d drawn tells steady tables held sound n before few.
-            early_answered state n m0.gathered (session_of m0 d tables) m0.store.asked m2.store.asked bad.at rest.spelt one answers (rest.seen ++ rest.last) is
+            early_answered state n m0.gathered.batch (session_of m0 d tables) m0.store.asked m2.store.asked bad.at rest.spelt one answers (rest.seen ++ rest.last) is
             (subst (λ (o : Option Gathering). EarlyFrom state n o (session_of m0 d tables) m0.store.asked m2.store.asked rest.spelt answers (rest.seen ++ rest.last)) bad.gathered
-            (rest.early d drawn tells steady tables (on d tables held) (ap has_failed bad.gathered) n before few));
+            (rest.early d drawn tells steady tables (on d tables held) (ap (λ (x : Gathered). has_failed x.batch) bad.gathered) n before few));
       }
 
   -- no lie was told before
@@ -132,9 +132,9 @@ module _ {R : Type 0} (state : R → RevState) where
   early_served : (m0 m1 m2 : Machine R) (tables : Tables) (text : List ℕ) (one : Answer) (did : ServedStatement state m0 m1 text one) (n : ℕ) (spelt : List Spelt) (answers : List Answer) (seen : List Entry)
       → (d : Draws) → AreDraws m0.engine d → IsTrue m0.store.tells → IsSteady m0.store → Represents state m0.engine m0.store tables → IsBefore m0.store.disturbed n → length m0.store.asked ≤ n
       → (asked : List Access) → m2.store.asked ≡ m1.store.asked ++ asked
-      → ((later : Draws) → AreDraws m1.engine later → (after_it : Tables) → Holds state m1 later after_it → has_failed m1.gathered ≡ false → length m1.store.asked ≤ n
-      → EarlyFrom state n m1.gathered (session_of m1 later after_it) m1.store.asked m2.store.asked spelt answers seen)
-      → EarlyFrom state n m0.gathered (session_of m0 d tables) m0.store.asked m2.store.asked (Ok did.stmt ∷ spelt) (one ∷ answers) (record { skeleton = skeleton did.stmt; seen = seen_of m1.engine } ∷ seen)
+      → ((later : Draws) → AreDraws m1.engine later → (after_it : Tables) → Holds state m1 later after_it → has_failed m1.gathered.batch ≡ false → length m1.store.asked ≤ n
+      → EarlyFrom state n m1.gathered.batch (session_of m1 later after_it) m1.store.asked m2.store.asked spelt answers seen)
+      → EarlyFrom state n m0.gathered.batch (session_of m0 d tables) m0.store.asked m2.store.asked (Ok did.stmt ∷ spelt) (one ∷ answers) (record { skeleton = skeleton did.stmt; seen = seen_of m1.engine } ∷ seen)
   unfolding MeantUntil
   early_served m0 m1 m2 tables text one did n spelt answers seen d drawn tells steady held before few asked grew rest =
       let s = session_of m0 d tables in
@@ -143,9 +143,9 @@ module _ {R : Type 0} (state : R → RevState) where
       let later = did.does.ran.later in
       let asked_is : length m1.store.asked ≡ length m0.store.asked + length (script p sk (seen_of m1.engine)) = ap length did.does.ran.asked ∙ length-append m0.store.asked (script p sk (seen_of m1.engine)) in
       let cross = crosses state m0 m1 d drawn tables did.stmt (Ok one.outcome) did.does tells steady held n before few in
-      let g = m0.gathered in
-      let alone : how_now g s did.stmt ≡ Alone = how_alone g s did.stmt spelt did.does.alone in
-      let first = meets_first g s did.stmt spelt did.does.alone in
+      let g = m0.gathered.batch in
+      let alone : how_now g s did.stmt ≡ Alone = how_alone g s did.stmt spelt did.does.alone.batch in
+      let first = meets_first g s did.stmt spelt did.does.alone.batch in
       let split : m0.store.asked ++ trace p (met_all g s (Ok did.stmt ∷ spelt)) ≡ (m0.store.asked ++ met_script s did.stmt) ++ first.tail =
       ap (λ (l : List Access). m0.store.asked ++ l) first.asks ∙ sym (append_assoc m0.store.asked (met_script s did.stmt) first.tail) in
       elim (few_or_more (length m1.store.asked) n) [
@@ -158,13 +158,13 @@ module _ {R : Type 0} (state : R → RevState) where
             let behind = after Alone s did.stmt in
             let held_there : Holds state m1 behind.draws behind.tables = subst (λ (o : How). Holds state m1 (after o s did.stmt).draws (after o s did.stmt).tables) whole by.held in
             let stands : behind ≡ session_of m1 behind.draws behind.tables = stands_after state m0 m1 d tables text one did Alone seen_is in
-            let gathers : m1.gathered ≡ gathered_by Alone g s did.stmt = did.gathered ∙ ap (λ (x : Seen). gathering_after p s.asked g did.stmt x.end) seen_is in
+            let gathers : m1.gathered.batch ≡ gathered_by Alone g s did.stmt = ap (λ (x : Gathered). x.batch) did.gathered ∙ ap (λ (x : Seen). gathering_after p s.asked g did.stmt x.end) seen_is in
             let own : is_fault one.outcome ≡ false = unfaulted m0 m1 text one did quiet.faults in
-            let sound : has_failed m1.gathered ≡ false = ap has_failed did.gathered ∙ sound_after p s.asked g did.stmt (seen_of m1.engine).end did.does.alone (ap is_cut did.does.ran.ends ∙ end_cut one.outcome _ ∙ own) in
+            let sound : has_failed m1.gathered.batch ≡ false = ap (λ (x : Gathered). has_failed x.batch) did.gathered ∙ sound_after p s.asked g did.stmt (seen_of m1.engine).end did.does.alone.batch (ap is_cut did.does.ran.ends ∙ end_cut one.outcome _ ∙ own) in
             let there = rest behind.draws (draws_after state m0 m1 d tables text one did Alone seen_is drawn) behind.tables held_there sound within in
             let there_so : EarlyFrom state n (gathered_by Alone g s did.stmt) behind m1.store.asked m2.store.asked spelt answers seen =
             subst (λ (o : Option Gathering). EarlyFrom state n o behind m1.store.asked m2.store.asked spelt answers seen) gathers
-            (subst (λ (x : Session). EarlyFrom state n m1.gathered x m1.store.asked m2.store.asked spelt answers seen) (sym stands) there) in
+            (subst (λ (x : Session). EarlyFrom state n m1.gathered.batch x m1.store.asked m2.store.asked spelt answers seen) (sym stands) there) in
             let all : trace p (met_all g s (Ok did.stmt ∷ spelt)) ≡ script p sk (seen_now s did.stmt) ++ trace behind.public (met_all (gathered_by Alone g s did.stmt) behind spelt) = ap (trace p) (met_room g s did.stmt spelt Alone alone by.room) in
             let joined : m1.store.asked ++ trace behind.public (met_all (gathered_by Alone g s did.stmt) behind spelt) ≡ m0.store.asked ++ trace p (met_all g s (Ok did.stmt ∷ spelt)) =
             ap (λ (l : List Access). l ++ trace behind.public (met_all (gathered_by Alone g s did.stmt) behind spelt)) (did.does.ran.asked ∙ ap (λ (x : Seen). m0.store.asked ++ script p sk x) seen_is)
@@ -233,13 +233,13 @@ module _ {R : Type 0} (state : R → RevState) where
           (
             says (refusal_now p (asked_of m0) did.stmt) p did.stmt one here did.events did.does.early did.emits did.printed (ap is_cut did.does.ran.ends ∙ end_cut one.outcome _)
                 did.planned,
-            failed_by m0.gathered one.outcome here.end _ did.does.ran.ends,
+            failed_by m0.gathered.batch one.outcome here.end _ did.does.ran.ends,
             did.planned,
-            alone_joins p (asked_of m0) m0.gathered did.stmt here (Ok one.outcome) _ did.does.alone did.does.ran.ends,
+            alone_joins p (asked_of m0) m0.gathered.batch did.stmt here (Ok one.outcome) _ did.does.alone.batch did.does.ran.ends,
           ),
           subst (λ (o : Option Gathering). AreSeen (StopsWithin ending (RisesBy most old m2.store.faults) (Full state m2)) (next p sk here) (asked_of m0 + length (script p sk here)) o rest.spelt answers all) did.gathered
-              (subst (λ (q : Public). AreSeen (StopsWithin ending (RisesBy most old m2.store.faults) (Full state m2)) q (asked_of m0 + length (script p sk here)) m1.gathered rest.spelt answers all) public_is
-              (subst (λ (n : ℕ). AreSeen (StopsWithin ending (RisesBy most old m2.store.faults) (Full state m2)) (public_of m1.engine) n m1.gathered rest.spelt answers all) asked_is
+              (subst (λ (q : Public). AreSeen (StopsWithin ending (RisesBy most old m2.store.faults) (Full state m2)) q (asked_of m0 + length (script p sk here)) m1.gathered.batch rest.spelt answers all) public_is
+              (subst (λ (n : ℕ). AreSeen (StopsWithin ending (RisesBy most old m2.store.faults) (Full state m2)) (public_of m1.engine) n m1.gathered.batch rest.spelt answers all) asked_is
               (rest.lawful most old (λ beside. fails (beside_more (record { skeleton = sk; seen = here }) rest.seen m0.store.faults m1.store.faults m2.store.faults rises beside))
               (behind d (draws_taken p sk here.end)) (did.does.ran.goes_on.drawn d drawn) (given_after state m0 m1 did.stmt (Ok one.outcome) did.does d drawn g did.does.ran.goes_on.lives)))),
         );
@@ -308,21 +308,21 @@ module _ {R : Type 0} (state : R → RevState) where
   -- ---- one that was carried out with the INSERT before it
   -- what holds before the first disturbance
   early_with : (m0 m1 m2 : Machine R) (text : List ℕ) (one : Answer) (with : ServedWith m0 m1 text one) (same : StaysAs m0 m1) (d : Draws) (tables : Tables) (held : Holds state m0 d tables) (n : ℕ) (spelt : List Spelt) (answers : List Answer) (seen : List Entry)
-      → has_failed m0.gathered ≡ false
-      → EarlyFrom state n m1.gathered (session_of m0 d (after (means_with state m0 m1 text one with same d tables held).how (session_of m0 d tables) with.stmt).tables) m0.store.asked m2.store.asked spelt answers seen
-      → EarlyFrom state n m0.gathered (session_of m0 d tables) m0.store.asked m2.store.asked (Ok with.stmt ∷ spelt) (one ∷ answers) (record { skeleton = skeleton with.stmt; seen = seen_with state m0 m1 text one with } ∷ seen)
+      → has_failed m0.gathered.batch ≡ false
+      → EarlyFrom state n m1.gathered.batch (session_of m0 d (after (means_with state m0 m1 text one with same d tables held).how (session_of m0 d tables) with.stmt).tables) m0.store.asked m2.store.asked spelt answers seen
+      → EarlyFrom state n m0.gathered.batch (session_of m0 d tables) m0.store.asked m2.store.asked (Ok with.stmt ∷ spelt) (one ∷ answers) (record { skeleton = skeleton with.stmt; seen = seen_with state m0 m1 text one with } ∷ seen)
   unfolding MeantUntil
   early_with m0 m1 m2 text one with same d tables held n spelt answers seen sound rest =
       let by = means_with state m0 m1 text one with same d tables held in
-      let g = m0.gathered in
+      let g = m0.gathered.batch in
       let s = session_of m0 d tables in
       let p = public_of m0.engine in
       let sk = skeleton with.stmt in
       let how_is : by.how ≡ how_now g s with.stmt = by.plain sound in
-      let gathers : m1.gathered ≡ gathered_by by.how g s with.stmt = with.gathered ∙ ap (λ (x : Seen). gathering_after p s.asked g with.stmt x.end) by.seen in
+      let gathers : m1.gathered.batch ≡ gathered_by by.how g s with.stmt = ap (λ (x : Gathered). x.batch) with.gathered ∙ ap (λ (x : Seen). gathering_after p s.asked g with.stmt x.end) by.seen in
       let there : EarlyFrom state n (gathered_by by.how g s with.stmt) (after by.how s with.stmt) m0.store.asked m2.store.asked spelt answers seen =
       subst (λ (o : Option Gathering). EarlyFrom state n o (after by.how s with.stmt) m0.store.asked m2.store.asked spelt answers seen) gathers
-      (subst (λ (x : Session). EarlyFrom state n m1.gathered x m0.store.asked m2.store.asked spelt answers seen) (sym by.stands) rest) in
+      (subst (λ (x : Session). EarlyFrom state n m1.gathered.batch x m0.store.asked m2.store.asked spelt answers seen) (sym by.stands) rest) in
       let none : script p sk (seen_or_cut by.how s with.stmt) ≡ [] = ap (script p sk) (sym by.seen) ∙ script_with state m0 m1 text one with in
       let all : trace p (met_all g s (Ok with.stmt ∷ spelt)) ≡ trace (after by.how s with.stmt).public (met_all (gathered_by by.how g s with.stmt) (after by.how s with.stmt) spelt) =
       ap (trace p) (met_room g s with.stmt spelt by.how (sym how_is) (room_with state m0 m1 text one with same d tables held))
@@ -394,8 +394,8 @@ module _ {R : Type 0} (state : R → RevState) where
           with_lawful state m0 m1 text one with,
           (with_says state m0 m1 text one with, with_failed state m0 m1 text one with, with_plan state m0 m1 text one with, with_joins state m0 m1 text one with),
           subst (λ (o : Option Gathering). AreSeen (StopsWithin ending (RisesBy most old m2.store.faults) (Full state m2)) (next p sk here) (asked_of m0 + length (script p sk here)) o rest.spelt answers all) with.gathered
-              (subst (λ (q : Public). AreSeen (StopsWithin ending (RisesBy most old m2.store.faults) (Full state m2)) q (asked_of m0 + length (script p sk here)) m1.gathered rest.spelt answers all) (sym still)
-              (subst (λ (n : ℕ). AreSeen (StopsWithin ending (RisesBy most old m2.store.faults) (Full state m2)) p n m1.gathered rest.spelt answers all) (sym count)
+              (subst (λ (q : Public). AreSeen (StopsWithin ending (RisesBy most old m2.store.faults) (Full state m2)) q (asked_of m0 + length (script p sk here)) m1.gathered.batch rest.spelt answers all) (sym still)
+              (subst (λ (n : ℕ). AreSeen (StopsWithin ending (RisesBy most old m2.store.faults) (Full state m2)) p n m1.gathered.batch rest.spelt answers all) (sym count)
               (rest.lawful most old (λ beside. fails (beside_more x rest.seen m0.store.faults m0.store.faults m2.store.faults (uncut_rises (is_cut here.end) m0.store.faults m0.store.faults off refl) beside)) d drawn g))),
         );
         passed = rest.passed ∙ ap (λ (l : List Access). m0.store.asked ++ l) (sym (traces rest.seen));

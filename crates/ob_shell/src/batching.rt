@@ -21,7 +21,7 @@ ghost use Rattle.ob_tables.specs.Agreeing.{count_of, public_of};
 ghost use Rattle.ob_tables.specs.Batch.{AreBatch};
 
 use crate::flying::{may_fly, most_flown, serve_flight};
-use crate::session::{Answered, SINK_FAILED, Session, TextHalted, answer_traced, tally_with};
+use crate::session::{Answered, Manner, SINK_FAILED, Session, TextHalted, answer_traced, tally_with};
 use crate::trace::{let_go_from, trace_from};
 use ob_base::{Failed, Public};
 use ob_exec::{Behind, Engine, Outcome, RunStop, batch_most, run_batch};
@@ -267,7 +267,7 @@ fn serve_selects<R: Revisions, S: BlockStore, B: Behind<S>, K: Sink, T: Sink, D:
 /// Serves those that wait, if there are any.
 pub(crate) fn flush<R: Revisions, S: BlockStore, B: Behind<S>, K: Sink, T: Sink, D: Digester>(
     alloc: Global,
-    tracing: bool,
+    manner: Manner,
     session: &mut Session,
     engine: &mut Engine<R>,
     store: &mut S,
@@ -276,27 +276,27 @@ pub(crate) fn flush<R: Revisions, S: BlockStore, B: Behind<S>, K: Sink, T: Sink,
     trace: &mut T,
     digest: &mut D,
 ) -> Result<(), TextHalted>
-    requires waits { AreBatched session.old.flight (public_of engine.old)
+    requires waits { AreBatched manner.flight (public_of engine.old)
         (count_of engine.old (S.state store.old)) session.old.batch.items }
     requires ready { IsReady R.state (B.Saves behind.old)
         (machine_of engine.old (S.state store.old) (B.state behind.old)
-        (flights_of session.old.flight session.old.turns.last)) }
+        (flights_of manner.flight session.old.turns.last)) }
     requires took { D.took digest.old (S.state store.old).asked }
     ensures pending { session.new.pending ≡ session.old.pending }
     ensures none { OnOk result (session.new.batch.items ≡ []) }
     ensures idle { OnErr result (session.old.batch.items ≢ []) }
-    ensures takes { TakesTexts R.state (B.Saves behind.new) tracing
-        (ComesFree session.old.flight (public_of engine.old) session.old.batch.items)
-        (IsClosed session.new.flight (public_of engine.old) (public_of engine.new) session.old.batch.items)
+    ensures takes { TakesTexts R.state (B.Saves behind.new) manner.tracing
+        (ComesFree manner.flight (public_of engine.old) session.old.batch.items)
+        (IsClosed manner.flight (public_of engine.old) (public_of engine.new) session.old.batch.items)
         session.old.batch.items session.new.batch.items []
         session.old.tally session.new.tally (K.written out.old) (K.written out.new)
         (T.written trace.old) (T.written trace.new)
         (faults_of 0 (K.faults out.old) (T.faults trace.old))
         (faults_of 0 (K.faults out.new) (T.faults trace.new))
         (machine_of engine.old (S.state store.old) (B.state behind.old)
-        (flights_of session.old.flight session.old.turns.last))
+        (flights_of manner.flight session.old.turns.last))
         (machine_of engine.new (S.state store.new) (B.state behind.new)
-        (flights_of session.new.flight session.new.turns.last)) result }
+        (flights_of manner.flight session.new.turns.last)) result }
     ensures same { B.name behind.new ≡ B.name behind.old }
     ensures took { OnOk result (D.took digest.new (S.state store.new).asked) }
 {
@@ -306,7 +306,7 @@ pub(crate) fn flush<R: Revisions, S: BlockStore, B: Behind<S>, K: Sink, T: Sink,
     let served = match first {
         Stmt::Insert { .. } => serve_batch(
             alloc,
-            tracing,
+            manner.tracing,
             session.tally,
             first,
             rest,
@@ -319,7 +319,7 @@ pub(crate) fn flush<R: Revisions, S: BlockStore, B: Behind<S>, K: Sink, T: Sink,
         ),
         _ => serve_selects(
             alloc,
-            tracing,
+            manner.tracing,
             session.tally,
             &mut session.turns,
             session.batch.as_slice(),

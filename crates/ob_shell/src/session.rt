@@ -77,14 +77,20 @@ pub enum Break {
     Unread(Stop),
 }
 
+/// How texts are served: whether their accesses are traced, and how SELECTs fly, if they do.
+#[derive(Clone, Copy, Debug, PartialEq, Eq)]
+pub struct Manner {
+    pub tracing: bool,
+    pub flight: Option<FlightSettings>,
+}
+
 /// What a session knows beside the state of its engine: the text that is read, the statements that wait to be served
-/// together, what was counted, how SELECTs fly, if they do, and the words of the flights to come.
+/// together, what was counted, and the words of the flights to come.
 #[derive(Drop)]
 pub struct Session {
     pub pending: Pending,
     pub batch: Vec<Stmt>,
     pub tally: Tally,
-    pub flight: Option<FlightSettings>,
     pub turns: DrawnTurns,
 }
 
@@ -289,7 +295,7 @@ pub(crate) fn answer_traced<R: Revisions, S: BlockStore, B: Behind<S>, K: Sink, 
 // Gives one more statement to those that wait, and serves them once they are as many as are served together.
 fn gather<R: Revisions, S: BlockStore, B: Behind<S>, K: Sink, T: Sink, D: Digester>(
     alloc: Global,
-    tracing: bool,
+    manner: Manner,
     session: &mut Session,
     stmt: Stmt,
     engine: &mut Engine<R>,
@@ -300,29 +306,29 @@ fn gather<R: Revisions, S: BlockStore, B: Behind<S>, K: Sink, T: Sink, D: Digest
     digest: &mut D,
 ) -> Result<(), Break>
     requires spells { Spells session.old.pending (Ok stmt) }
-    requires goes { GoesAlong session.old.flight (public_of engine.old) (count_of engine.old (S.state store.old))
+    requires goes { GoesAlong manner.flight (public_of engine.old) (count_of engine.old (S.state store.old))
         session.old.batch.items stmt }
     requires ready { IsReady R.state (B.Saves behind.old)
         (machine_of engine.old (S.state store.old) (B.state behind.old)
-        (flights_of session.old.flight session.old.turns.last)) }
+        (flights_of manner.flight session.old.turns.last)) }
     requires took { D.took digest.old (S.state store.old).asked }
     ensures pending { session.new.pending ≡ session.old.pending }
-    ensures takes { TakesMore R.state (B.Saves behind.new) tracing
-        (IsFree session.old.flight (public_of engine.old) (session.old.batch.items ++ stmt ∷ []))
-        (λ old new. IsFree session.new.flight (public_of engine.new) session.new.batch.items new)
+    ensures takes { TakesMore R.state (B.Saves behind.new) manner.tracing
+        (IsFree manner.flight (public_of engine.old) (session.old.batch.items ++ stmt ∷ []))
+        (λ old new. IsFree manner.flight (public_of engine.new) session.new.batch.items new)
         session.old.batch.items session.new.batch.items (session.old.pending ∷ []) WantsRoom
         session.old.tally session.new.tally (K.written out.old) (K.written out.new)
         (T.written trace.old) (T.written trace.new)
         (faults_of 0 (K.faults out.old) (T.faults trace.old))
         (faults_of 0 (K.faults out.new) (T.faults trace.new))
         (machine_of engine.old (S.state store.old) (B.state behind.old)
-        (flights_of session.old.flight session.old.turns.last))
+        (flights_of manner.flight session.old.turns.last))
         (machine_of engine.new (S.state store.new) (B.state behind.new)
-        (flights_of session.new.flight session.new.turns.last)) result }
+        (flights_of manner.flight session.new.turns.last)) result }
     ensures same { B.name behind.new ≡ B.name behind.old }
     ensures took { UnlessServed result (D.took digest.new (S.state store.new).asked) }
 {
-    let most = gather_most(session.flight, engine.public(), &stmt);
+    let most = gather_most(manner.flight, engine.public(), &stmt);
     if session.batch.push(stmt).is_err() {
         return Err(Break::Unread(Stop::NoMemory));
     }
@@ -330,7 +336,7 @@ fn gather<R: Revisions, S: BlockStore, B: Behind<S>, K: Sink, T: Sink, D: Digest
         return Ok(());
     }
     match flush(
-        alloc, tracing, session, engine, store, behind, out, trace, digest,
+        alloc, manner, session, engine, store, behind, out, trace, digest,
     ) {
         Ok(()) => Ok(()),
         Err(halted) => Err(Break::Served(halted)),
@@ -340,7 +346,7 @@ fn gather<R: Revisions, S: BlockStore, B: Behind<S>, K: Sink, T: Sink, D: Digest
 // Serves a statement before which none waits, or lets it wait for the next ones.
 fn begin<R: Revisions, S: BlockStore, B: Behind<S>, K: Sink, T: Sink, D: Digester>(
     alloc: Global,
-    tracing: bool,
+    manner: Manner,
     session: &mut Session,
     stmt: Stmt,
     engine: &mut Engine<R>,
@@ -354,32 +360,32 @@ fn begin<R: Revisions, S: BlockStore, B: Behind<S>, K: Sink, T: Sink, D: Digeste
     requires none { session.old.batch.items ≡ [] }
     requires ready { IsReady R.state (B.Saves behind.old)
         (machine_of engine.old (S.state store.old) (B.state behind.old)
-        (flights_of session.old.flight session.old.turns.last)) }
+        (flights_of manner.flight session.old.turns.last)) }
     requires took { D.took digest.old (S.state store.old).asked }
     ensures pending { session.new.pending ≡ session.old.pending }
-    ensures takes { TakesMore R.state (B.Saves behind.new) tracing
-        (IsFree session.old.flight (public_of engine.old) (stmt ∷ []))
-        (λ old new. IsFree session.new.flight (public_of engine.new) session.new.batch.items new)
+    ensures takes { TakesMore R.state (B.Saves behind.new) manner.tracing
+        (IsFree manner.flight (public_of engine.old) (stmt ∷ []))
+        (λ old new. IsFree manner.flight (public_of engine.new) session.new.batch.items new)
         [] session.new.batch.items (session.old.pending ∷ []) WantsRoom
         session.old.tally session.new.tally (K.written out.old) (K.written out.new)
         (T.written trace.old) (T.written trace.new)
         (faults_of 0 (K.faults out.old) (T.faults trace.old))
         (faults_of 0 (K.faults out.new) (T.faults trace.new))
         (machine_of engine.old (S.state store.old) (B.state behind.old)
-        (flights_of session.old.flight session.old.turns.last))
+        (flights_of manner.flight session.old.turns.last))
         (machine_of engine.new (S.state store.new) (B.state behind.new)
-        (flights_of session.new.flight session.new.turns.last)) result }
+        (flights_of manner.flight session.new.turns.last)) result }
     ensures same { B.name behind.new ≡ B.name behind.old }
     ensures took { UnlessServed result (D.took digest.new (S.state store.new).asked) }
 {
-    if begins_batch(engine, store, &stmt) || begins_flight(session.flight, engine.public(), &stmt) {
+    if begins_batch(engine, store, &stmt) || begins_flight(manner.flight, engine.public(), &stmt) {
         return gather(
-            alloc, tracing, session, stmt, engine, store, behind, out, trace, digest,
+            alloc, manner, session, stmt, engine, store, behind, out, trace, digest,
         );
     }
     let answered = answer_traced(
         alloc,
-        tracing,
+        manner.tracing,
         session.tally,
         engine,
         store,
@@ -401,7 +407,7 @@ fn begin<R: Revisions, S: BlockStore, B: Behind<S>, K: Sink, T: Sink, D: Digeste
 // Takes a statement: it goes into the batch of those that wait, or they are served before it.
 fn take_stmt<R: Revisions, S: BlockStore, B: Behind<S>, K: Sink, T: Sink, D: Digester>(
     alloc: Global,
-    tracing: bool,
+    manner: Manner,
     session: &mut Session,
     stmt: Stmt,
     engine: &mut Engine<R>,
@@ -412,38 +418,38 @@ fn take_stmt<R: Revisions, S: BlockStore, B: Behind<S>, K: Sink, T: Sink, D: Dig
     digest: &mut D,
 ) -> Result<(), Break>
     requires spells { Spells session.old.pending (Ok stmt) }
-    requires waits { AreGathered session.old.flight (public_of engine.old) (count_of engine.old (S.state store.old))
+    requires waits { AreGathered manner.flight (public_of engine.old) (count_of engine.old (S.state store.old))
         session.old.batch.items }
     requires ready { IsReady R.state (B.Saves behind.old)
         (machine_of engine.old (S.state store.old) (B.state behind.old)
-        (flights_of session.old.flight session.old.turns.last)) }
+        (flights_of manner.flight session.old.turns.last)) }
     requires took { D.took digest.old (S.state store.old).asked }
     ensures pending { session.new.pending ≡ session.old.pending }
-    ensures takes { TakesMore R.state (B.Saves behind.new) tracing
-        (IsFree session.old.flight (public_of engine.old) session.old.batch.items)
-        (λ old new. IsFree session.new.flight (public_of engine.new) session.new.batch.items new)
+    ensures takes { TakesMore R.state (B.Saves behind.new) manner.tracing
+        (IsFree manner.flight (public_of engine.old) session.old.batch.items)
+        (λ old new. IsFree manner.flight (public_of engine.new) session.new.batch.items new)
         session.old.batch.items session.new.batch.items (session.old.pending ∷ []) WantsRoom
         session.old.tally session.new.tally (K.written out.old) (K.written out.new)
         (T.written trace.old) (T.written trace.new)
         (faults_of 0 (K.faults out.old) (T.faults trace.old))
         (faults_of 0 (K.faults out.new) (T.faults trace.new))
         (machine_of engine.old (S.state store.old) (B.state behind.old)
-        (flights_of session.old.flight session.old.turns.last))
+        (flights_of manner.flight session.old.turns.last))
         (machine_of engine.new (S.state store.new) (B.state behind.new)
-        (flights_of session.new.flight session.new.turns.last)) result }
+        (flights_of manner.flight session.new.turns.last)) result }
     ensures same { B.name behind.new ≡ B.name behind.old }
     ensures took { UnlessServed result (D.took digest.new (S.state store.new).asked) }
 {
     if goes_along(engine.public(), session.batch.as_slice(), &stmt) {
         return gather(
-            alloc, tracing, session, stmt, engine, store, behind, out, trace, digest,
+            alloc, manner, session, stmt, engine, store, behind, out, trace, digest,
         );
     }
     match flush(
-        alloc, tracing, session, engine, store, behind, out, trace, digest,
+        alloc, manner, session, engine, store, behind, out, trace, digest,
     ) {
         Ok(()) => begin(
-            alloc, tracing, session, stmt, engine, store, behind, out, trace, digest,
+            alloc, manner, session, stmt, engine, store, behind, out, trace, digest,
         ),
         Err(halted) => Err(Break::Served(halted)),
     }
@@ -452,7 +458,7 @@ fn take_stmt<R: Revisions, S: BlockStore, B: Behind<S>, K: Sink, T: Sink, D: Dig
 // Answers a text that is no statement, behind those that wait.
 fn take_misspelt<R: Revisions, S: BlockStore, B: Behind<S>, K: Sink, T: Sink, D: Digester>(
     alloc: Global,
-    tracing: bool,
+    manner: Manner,
     session: &mut Session,
     at: u32,
     engine: &mut Engine<R>,
@@ -463,30 +469,30 @@ fn take_misspelt<R: Revisions, S: BlockStore, B: Behind<S>, K: Sink, T: Sink, D:
     digest: &mut D,
 ) -> Result<(), TextHalted>
     requires spells { Spells session.old.pending (Err at) }
-    requires waits { AreGathered session.old.flight (public_of engine.old) (count_of engine.old (S.state store.old))
+    requires waits { AreGathered manner.flight (public_of engine.old) (count_of engine.old (S.state store.old))
         session.old.batch.items }
     requires ready { IsReady R.state (B.Saves behind.old)
         (machine_of engine.old (S.state store.old) (B.state behind.old)
-        (flights_of session.old.flight session.old.turns.last)) }
+        (flights_of manner.flight session.old.turns.last)) }
     requires took { D.took digest.old (S.state store.old).asked }
     ensures pending { session.new.pending ≡ session.old.pending }
-    ensures takes { TakesTexts R.state (B.Saves behind.new) tracing
-        (IsFree session.old.flight (public_of engine.old) session.old.batch.items)
-        (λ old new. IsFree session.new.flight (public_of engine.new) session.new.batch.items new)
+    ensures takes { TakesTexts R.state (B.Saves behind.new) manner.tracing
+        (IsFree manner.flight (public_of engine.old) session.old.batch.items)
+        (λ old new. IsFree manner.flight (public_of engine.new) session.new.batch.items new)
         session.old.batch.items session.new.batch.items (session.old.pending ∷ [])
         session.old.tally session.new.tally (K.written out.old) (K.written out.new)
         (T.written trace.old) (T.written trace.new)
         (faults_of 0 (K.faults out.old) (T.faults trace.old))
         (faults_of 0 (K.faults out.new) (T.faults trace.new))
         (machine_of engine.old (S.state store.old) (B.state behind.old)
-        (flights_of session.old.flight session.old.turns.last))
+        (flights_of manner.flight session.old.turns.last))
         (machine_of engine.new (S.state store.new) (B.state behind.new)
-        (flights_of session.new.flight session.new.turns.last)) result }
+        (flights_of manner.flight session.new.turns.last)) result }
     ensures same { B.name behind.new ≡ B.name behind.old }
     ensures took { OnOk result (D.took digest.new (S.state store.new).asked) }
 {
     if let Err(halted) = flush(
-        alloc, tracing, session, engine, store, behind, out, trace, digest,
+        alloc, manner, session, engine, store, behind, out, trace, digest,
     ) {
         return Err(halted);
     }
@@ -506,7 +512,7 @@ fn take_misspelt<R: Revisions, S: BlockStore, B: Behind<S>, K: Sink, T: Sink, D:
 // Takes a text that is whole, which stays where it was read.
 fn take_text<R: Revisions, S: BlockStore, B: Behind<S>, K: Sink, T: Sink, D: Digester>(
     alloc: Global,
-    tracing: bool,
+    manner: Manner,
     session: &mut Session,
     engine: &mut Engine<R>,
     store: &mut S,
@@ -516,36 +522,36 @@ fn take_text<R: Revisions, S: BlockStore, B: Behind<S>, K: Sink, T: Sink, D: Dig
     digest: &mut D,
 ) -> Result<(), Break>
     requires short { length session.old.pending ≤ text_max }
-    requires waits { AreGathered session.old.flight (public_of engine.old) (count_of engine.old (S.state store.old))
+    requires waits { AreGathered manner.flight (public_of engine.old) (count_of engine.old (S.state store.old))
         session.old.batch.items }
     requires ready { IsReady R.state (B.Saves behind.old)
         (machine_of engine.old (S.state store.old) (B.state behind.old)
-        (flights_of session.old.flight session.old.turns.last)) }
+        (flights_of manner.flight session.old.turns.last)) }
     requires took { D.took digest.old (S.state store.old).asked }
     ensures pending { session.new.pending ≡ session.old.pending }
-    ensures takes { TakesMore R.state (B.Saves behind.new) tracing
-        (IsFree session.old.flight (public_of engine.old) session.old.batch.items)
-        (λ old new. IsFree session.new.flight (public_of engine.new) session.new.batch.items new)
+    ensures takes { TakesMore R.state (B.Saves behind.new) manner.tracing
+        (IsFree manner.flight (public_of engine.old) session.old.batch.items)
+        (λ old new. IsFree manner.flight (public_of engine.new) session.new.batch.items new)
         session.old.batch.items session.new.batch.items (session.old.pending ∷ []) WantsRoom
         session.old.tally session.new.tally (K.written out.old) (K.written out.new)
         (T.written trace.old) (T.written trace.new)
         (faults_of 0 (K.faults out.old) (T.faults trace.old))
         (faults_of 0 (K.faults out.new) (T.faults trace.new))
         (machine_of engine.old (S.state store.old) (B.state behind.old)
-        (flights_of session.old.flight session.old.turns.last))
+        (flights_of manner.flight session.old.turns.last))
         (machine_of engine.new (S.state store.new) (B.state behind.new)
-        (flights_of session.new.flight session.new.turns.last)) result }
+        (flights_of manner.flight session.new.turns.last)) result }
     ensures same { B.name behind.new ≡ B.name behind.old }
     ensures took { UnlessServed result (D.took digest.new (S.state store.new).asked) }
 {
     match parse(alloc, session.pending.text()) {
         Ok(stmt) => take_stmt(
-            alloc, tracing, session, stmt, engine, store, behind, out, trace, digest,
+            alloc, manner, session, stmt, engine, store, behind, out, trace, digest,
         ),
         Err(error) => match error {
             ParseErr::Syntax(at) => {
                 let taken = take_misspelt(
-                    alloc, tracing, session, at, engine, store, behind, out, trace, digest,
+                    alloc, manner, session, at, engine, store, behind, out, trace, digest,
                 );
                 match taken {
                     Ok(()) => Ok(()),
@@ -560,7 +566,7 @@ fn take_text<R: Revisions, S: BlockStore, B: Behind<S>, K: Sink, T: Sink, D: Dig
 // Takes one byte, and the text that it ends.
 fn turn<R: Revisions, S: BlockStore, B: Behind<S>, K: Sink, T: Sink, D: Digester>(
     alloc: Global,
-    tracing: bool,
+    manner: Manner,
     session: &mut Session,
     b: u8,
     engine: &mut Engine<R>,
@@ -571,17 +577,17 @@ fn turn<R: Revisions, S: BlockStore, B: Behind<S>, K: Sink, T: Sink, D: Digester
     digest: &mut D,
 ) -> Result<(), Break>
     requires short { length session.old.pending < text_max }
-    requires waits { AreGathered session.old.flight (public_of engine.old) (count_of engine.old (S.state store.old))
+    requires waits { AreGathered manner.flight (public_of engine.old) (count_of engine.old (S.state store.old))
         session.old.batch.items }
     requires ready { IsReady R.state (B.Saves behind.old)
         (machine_of engine.old (S.state store.old) (B.state behind.old)
-        (flights_of session.old.flight session.old.turns.last)) }
+        (flights_of manner.flight session.old.turns.last)) }
     requires took { D.took digest.old (S.state store.old).asked }
     ensures pending { OnOk result ((session.new.pending ≡ rest_after session.old.pending b)
         × (length session.new.pending < text_max)) }
-    ensures takes { TakesMore R.state (B.Saves behind.new) tracing
-        (IsFree session.old.flight (public_of engine.old) session.old.batch.items)
-        (λ old new. IsFree session.new.flight (public_of engine.new) session.new.batch.items new)
+    ensures takes { TakesMore R.state (B.Saves behind.new) manner.tracing
+        (IsFree manner.flight (public_of engine.old) session.old.batch.items)
+        (λ old new. IsFree manner.flight (public_of engine.new) session.new.batch.items new)
         session.old.batch.items session.new.batch.items (texts_at session.old.pending b)
         (IsNotTaken session.old.pending b)
         session.old.tally session.new.tally (K.written out.old) (K.written out.new)
@@ -589,9 +595,9 @@ fn turn<R: Revisions, S: BlockStore, B: Behind<S>, K: Sink, T: Sink, D: Digester
         (faults_of 0 (K.faults out.old) (T.faults trace.old))
         (faults_of 0 (K.faults out.new) (T.faults trace.new))
         (machine_of engine.old (S.state store.old) (B.state behind.old)
-        (flights_of session.old.flight session.old.turns.last))
+        (flights_of manner.flight session.old.turns.last))
         (machine_of engine.new (S.state store.new) (B.state behind.new)
-        (flights_of session.new.flight session.new.turns.last)) result }
+        (flights_of manner.flight session.new.turns.last)) result }
     ensures same { B.name behind.new ≡ B.name behind.old }
     ensures took { UnlessServed result (D.took digest.new (S.state store.new).asked) }
 {
@@ -599,7 +605,7 @@ fn turn<R: Revisions, S: BlockStore, B: Behind<S>, K: Sink, T: Sink, D: Digester
         Ok(Grown::More) => Ok(()),
         Ok(Grown::Whole) => {
             match take_text(
-                alloc, tracing, session, engine, store, behind, out, trace, digest,
+                alloc, manner, session, engine, store, behind, out, trace, digest,
             ) {
                 Ok(()) => {
                     session.pending.clear();
@@ -616,7 +622,7 @@ fn turn<R: Revisions, S: BlockStore, B: Behind<S>, K: Sink, T: Sink, D: Digester
 // Takes what has come of a text with no end, once no more comes.
 fn finish<R: Revisions, S: BlockStore, B: Behind<S>, K: Sink, T: Sink, D: Digester>(
     alloc: Global,
-    tracing: bool,
+    manner: Manner,
     session: &mut Session,
     engine: &mut Engine<R>,
     store: &mut S,
@@ -626,24 +632,24 @@ fn finish<R: Revisions, S: BlockStore, B: Behind<S>, K: Sink, T: Sink, D: Digest
     digest: &mut D,
 ) -> Result<(), Break>
     requires short { length session.old.pending ≤ text_max }
-    requires waits { AreGathered session.old.flight (public_of engine.old) (count_of engine.old (S.state store.old))
+    requires waits { AreGathered manner.flight (public_of engine.old) (count_of engine.old (S.state store.old))
         session.old.batch.items }
     requires ready { IsReady R.state (B.Saves behind.old)
         (machine_of engine.old (S.state store.old) (B.state behind.old)
-        (flights_of session.old.flight session.old.turns.last)) }
+        (flights_of manner.flight session.old.turns.last)) }
     requires took { D.took digest.old (S.state store.old).asked }
-    ensures takes { TakesMore R.state (B.Saves behind.new) tracing
-        (IsFree session.old.flight (public_of engine.old) session.old.batch.items)
-        (λ old new. IsFree session.new.flight (public_of engine.new) session.new.batch.items new)
+    ensures takes { TakesMore R.state (B.Saves behind.new) manner.tracing
+        (IsFree manner.flight (public_of engine.old) session.old.batch.items)
+        (λ old new. IsFree manner.flight (public_of engine.new) session.new.batch.items new)
         session.old.batch.items session.new.batch.items (tail_text session.old.pending) WantsRoom
         session.old.tally session.new.tally (K.written out.old) (K.written out.new)
         (T.written trace.old) (T.written trace.new)
         (faults_of 0 (K.faults out.old) (T.faults trace.old))
         (faults_of 0 (K.faults out.new) (T.faults trace.new))
         (machine_of engine.old (S.state store.old) (B.state behind.old)
-        (flights_of session.old.flight session.old.turns.last))
+        (flights_of manner.flight session.old.turns.last))
         (machine_of engine.new (S.state store.new) (B.state behind.new)
-        (flights_of session.new.flight session.new.turns.last)) result }
+        (flights_of manner.flight session.new.turns.last)) result }
     ensures same { B.name behind.new ≡ B.name behind.old }
     ensures took { UnlessServed result (D.took digest.new (S.state store.new).asked) }
 {
@@ -651,14 +657,14 @@ fn finish<R: Revisions, S: BlockStore, B: Behind<S>, K: Sink, T: Sink, D: Digest
         return Ok(());
     }
     take_text(
-        alloc, tracing, session, engine, store, behind, out, trace, digest,
+        alloc, manner, session, engine, store, behind, out, trace, digest,
     )
 }
 
 // Reads a feed to its end or a stop, and serves the texts that it brings, but for those that wait then.
 fn read_texts<I: Source, R: Revisions, S: BlockStore, B: Behind<S>, K: Sink, T: Sink, D: Digester>(
     alloc: Global,
-    tracing: bool,
+    manner: Manner,
     session: &mut Session,
     feed: &mut Feed,
     input: &mut I,
@@ -674,27 +680,27 @@ fn read_texts<I: Source, R: Revisions, S: BlockStore, B: Behind<S>, K: Sink, T: 
     requires uncounted { session.old.tally ≡ empty_tally }
     requires ready { IsReady R.state (B.Saves behind.old)
         (machine_of engine.old (S.state store.old) (B.state behind.old)
-        (flights_of session.old.flight session.old.turns.last)) }
+        (flights_of manner.flight session.old.turns.last)) }
     requires fed_by { IsFedBy feed.old (I.gave input.old) }
     requires took { D.took digest.old (S.state store.old).asked }
-    ensures reads { ReadsTexts R.state tracing feed.old feed.new
+    ensures reads { ReadsTexts R.state manner.tracing feed.old feed.new
         (I.left input.old) (I.left input.new) (I.gave input.new)
         (K.written out.old) (K.written out.new) (T.written trace.old) (T.written trace.new)
         session.new.batch.items session.new.tally
         (machine_of engine.old (S.state store.old) (B.state behind.old)
-        (flights_of session.old.flight session.old.turns.last))
+        (flights_of manner.flight session.old.turns.last))
         (machine_of engine.new (S.state store.new) (B.state behind.new)
-        (flights_of session.new.flight session.new.turns.last))
+        (flights_of manner.flight session.new.turns.last))
         (K.faults out.old) (K.faults out.new) result }
     ensures stands { UnlessServed result (StandsReady R.state (B.Saves behind.new)
         (D.took digest.new (S.state store.new).asked) session.new.batch.items
         (machine_of engine.new (S.state store.new) (B.state behind.new)
-        (flights_of session.new.flight session.new.turns.last))) }
+        (flights_of manner.flight session.new.turns.last))) }
     ensures within { feed.new.taken ≤ feed.new.limit }
     ensures fed_by { IsFedBy feed.new (I.gave input.new) }
-    ensures traced { Traced tracing (S.state store.old).asked (S.state store.new).asked
+    ensures traced { Traced manner.tracing (S.state store.old).asked (S.state store.new).asked
         (T.written trace.old) (T.written trace.new) (IsQuiet (broken_of result)) }
-    ensures cause { StopCause (ServesAlone session.old.flight (public_of engine.old))
+    ensures cause { StopCause (ServesAlone manner.flight (public_of engine.old))
         (faults_of (I.faults input.old) (K.faults out.old) (T.faults trace.old))
         (faults_of (I.faults input.new) (K.faults out.new) (T.faults trace.new))
         (stop_of (broken_of result)) }
@@ -709,12 +715,12 @@ fn read_texts<I: Source, R: Revisions, S: BlockStore, B: Behind<S>, K: Sink, T: 
             Err(Halt::InputLimit) => return Err(Break::Unread(Stop::InputLimit)),
             Ok(None) => {
                 return finish(
-                    alloc, tracing, session, engine, store, behind, out, trace, digest,
+                    alloc, manner, session, engine, store, behind, out, trace, digest,
                 );
             }
             Ok(Some(b)) => {
                 let turned = turn(
-                    alloc, tracing, session, b, engine, store, behind, out, trace, digest,
+                    alloc, manner, session, b, engine, store, behind, out, trace, digest,
                 );
                 if let Err(broken) = turned {
                     return Err(broken);
@@ -765,26 +771,26 @@ pub fn serve<I: Source, R: Revisions, S: BlockStore, B: Behind<S>, K: Sink, T: S
     ensures same { B.name behind.new ≡ B.name behind.old }
     ensures took { OnOk result (D.took digest.new (S.state store.new).asked) }
 {
+    let manner = Manner { tracing, flight };
     let mut here = Session {
         pending: Pending::new(alloc),
         batch: Vec::new(alloc),
         tally: Tally::new(),
-        flight,
         turns: turns_of(flight),
     };
     let read = read_texts(
-        alloc, tracing, &mut here, feed, input, engine, store, behind, out, trace, digest,
+        alloc, manner, &mut here, feed, input, engine, store, behind, out, trace, digest,
     );
     match read {
         Ok(()) => match flush(
-            alloc, tracing, &mut here, engine, store, behind, out, trace, digest,
+            alloc, manner, &mut here, engine, store, behind, out, trace, digest,
         ) {
             Ok(()) => Ok(here.tally),
             Err(halted) => Err(Halted::from(halted)),
         },
         Err(Break::Unread(stop)) => {
             match flush(
-                alloc, tracing, &mut here, engine, store, behind, out, trace, digest,
+                alloc, manner, &mut here, engine, store, behind, out, trace, digest,
             ) {
                 Ok(()) => Err(Halted { stop, quiet: false }),
                 Err(halted) => Err(Halted::from(halted)),

@@ -16,7 +16,7 @@ none (stmt ∷ batch) is = absurd (omega (arith, is))
 pub returns-in_default-clause-takes : goal.returns-in_default-clause-takes
 returns-in_default-clause-takes g c =
     rw (none c.args.session.now.batch.items (rw c.as_slice.ensures.value at c.in_default.ensures.cases))
-    (takes_idle c.args.tracing [] c.args.session.now.tally _ _ _ (machine_of c.args.engine.now (g.S.BlockStore.state c.args.store.now) (g.B.Behind.state c.args.behind.now)) tt c.requires.ready tt (λ h free. refl))
+    (takes_idle c.args.manner.tracing [] c.args.session.now.tally _ _ _ (machine_of c.args.engine.now (g.S.BlockStore.state c.args.store.now) (g.B.Behind.state c.args.behind.now)) tt c.requires.ready tt (λ h free. refl))
 
 pub serve_batch-requires : goal.serve_batch-requires
 serve_batch-requires g c = record {

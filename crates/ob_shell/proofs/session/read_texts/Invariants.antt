@@ -25,7 +25,7 @@ invariant-bytes g l =
       sink : g.K.Sink.faults l.out ≡ g.K.Sink.faults l.initial.out;
       trace : g.T.Sink.faults l.trace ≡ g.T.Sink.faults l.initial.trace;
       traced :
-          TracedAll l.tracing (g.S.BlockStore.state l.initial.store).asked (g.S.BlockStore.state l.store).asked
+          TracedAll l.manner.tracing (g.S.BlockStore.state l.initial.store).asked (g.S.BlockStore.state l.store).asked
           (g.T.Sink.written l.initial.trace) (g.T.Sink.written l.trace);
       took : g.D.Digester.took l.digest (g.S.BlockStore.state l.store).asked;
     }
