@@ -30,6 +30,13 @@ pub mod CalmLemmas
 pub mod FailureLemmas
 pub mod LeafLemmas
 pub mod HowLemmas
+pub mod EndLemmas
+pub mod SeatLemmas
+pub mod SelectLemmas
+pub mod FlownLists
+pub mod FlightSeen
+pub mod FlightMeant
+pub mod FlightWalk
 mod WalkLemmas
 mod WalkSteps
 pub mod BatchSteps
