@@ -1,5 +1,5 @@
 -- What statements mean that fly: each over the tables before, which stay.
-use Rattle.std.specs.Prelude.{if◌then◌else◌, map, ⊤}
+use Rattle.std.specs.Prelude.{drop, if◌then◌else◌, map, ⊤}
 use Rattle.std.specs.List.{All}
 use Rattle.std.proofs.Common.{◌≡◌, ◌⊎◌, ◌+◌, ◌≤◌, ◌++◌, inl, inr, ℕ, Bool, true, false, IsTrue, List, [], ◌∷◌, length, Option, Some, None, Ok, Err, Result, refl, sym, ◌∙◌, ap, subst, arith}
 use Rattle.std.proofs.lemmas.List.Elements.{All-head, All-tail}
@@ -175,33 +175,38 @@ AllMean s (f ∷ fs) [] = ⊥
 AllMean s (f ∷ fs) (one ∷ given) = MeantSo f one (at_seat f.seat s) × AllMean s fs given
 
 -- from a session on these are answered so, and the tables behind are such
-pub record Told (ending : Ending) (seats : List Seat) (s : Session) (spelt : List Spelt) (answers : List Answer) (seen : List Served) (part : List ℕ) (Behind : Tables → Type 0) : Type 0 where
+pub record Told (ending : Ending) (seats : List Seat) (s : Session) (spelt : List Spelt) (answers : List Answer) (seen : List Served) (part : List ℕ) (Behind : Broken → Tables → Type 0) : Type 0 where
   pub broken : Broken
   pub meant : AnswersFrom ending seats s spelt broken answers seen part
-  pub behind : Behind (session_after seats s spelt broken).tables
+  pub behind : Behind broken (session_after seats s spelt broken).tables
 
-pub told_same : (ending : Ending) (s t : Session) → t.tables ≡ s.tables → t.draws ≡ s.draws → (seats : List Seat) (spelt : List Spelt) (answers : List Answer) (seen : List Served) (part : List ℕ) (Behind : Tables → Type 0)
+pub told_same : (ending : Ending) (s t : Session) → t.tables ≡ s.tables → t.draws ≡ s.draws → (seats : List Seat) (spelt : List Spelt) (answers : List Answer) (seen : List Served) (part : List ℕ) (Behind : Broken → Tables → Type 0)
     → Told ending seats s spelt answers seen part Behind → Told ending seats t spelt answers seen part Behind
 told_same ending s t ts ds seats spelt answers seen part Behind told = record {
   broken = told.broken;
   meant = answers_same ending s t ts ds seats spelt told.broken answers seen part told.meant;
-  behind = subst Behind (sym (behind_same ending s t ts ds seats spelt told.broken)) told.behind;
+  behind = subst (Behind told.broken) (sym (behind_same ending s t ts ds seats spelt told.broken)) told.behind;
 }
 
-pub one_told : (ending : Ending) (v : Seat) (s : Session) (stmt : Stmt) (how : How) (one : Answer) (x : Served) (seats : List Seat) (spelt : List Spelt) (answers : List Answer) (seen : List Served) (part : List ℕ) (Behind : Tables → Type 0)
+pub told_as : (ending : Ending) (seats : List Seat) (s : Session) (spelt : List Spelt) (answers : List Answer) (seen : List Served) (part : List ℕ) (Behind Other : Broken → Tables → Type 0) → ((broken : Broken) (ts : Tables) → Behind broken ts → Other broken ts)
+    → Told ending seats s spelt answers seen part Behind → Told ending seats s spelt answers seen part Other
+told_as ending seats s spelt answers seen part Behind Other on told = record { broken = told.broken; meant = told.meant; behind = on told.broken _ told.behind }
+
+pub one_told : (ending : Ending) (v : Seat) (s : Session) (stmt : Stmt) (how : How) (one : Answer) (x : Served) (seats : List Seat) (spelt : List Spelt) (answers : List Answer) (seen : List Served) (part : List ℕ) (Behind Other : Broken → Tables → Type 0)
     → is_full_now (at_seat v s) stmt ≡ false → IsCutOff how (at_seat v s) stmt → AnswersIn how (at_seat v s) stmt one → x.seen ≡ seen_or_cut how (at_seat v s) stmt
-    → Told ending seats (after how (at_seat v s) stmt) spelt answers seen part Behind → Told ending (v ∷ seats) s (Ok stmt ∷ spelt) (one ∷ answers) (x ∷ seen) part Behind
+    → Told ending seats (after how (at_seat v s) stmt) spelt answers seen part Behind → ((broken : Broken) (ts : Tables) → Behind broken ts → Other (how ∷ broken) ts)
+    → Told ending (v ∷ seats) s (Ok stmt ∷ spelt) (one ∷ answers) (x ∷ seen) part Other
 unfolding AnswersFrom session_after
-one_told ending v s stmt how one x seats spelt answers seen part Behind room cuts answer here rest = record {
+one_told ending v s stmt how one x seats spelt answers seen part Behind Other room cuts answer here rest on = record {
   broken = how ∷ rest.broken;
   meant = (room, cuts, answer, here, rest.meant);
-  behind = subst (λ (b : Bool). Behind (if b then at_seat v s else session_after seats (after how (at_seat v s) stmt) spelt rest.broken).tables) (sym room) rest.behind;
+  behind = subst (λ (b : Bool). Other (how ∷ rest.broken) (if b then at_seat v s else session_after seats (after how (at_seat v s) stmt) spelt rest.broken).tables) (sym room) (on rest.broken _ rest.behind);
 }
 
-module _ (ending : Ending) (s : Session) (seats : List Seat) (spelt : List Spelt) (answers : List Answer) (seen : List Served) (part : List ℕ) (Behind : Tables → Type 0)
+module _ (ending : Ending) (s : Session) (seats : List Seat) (spelt : List Spelt) (answers : List Answer) (seen : List Served) (part : List ℕ) (Behind : Broken → Tables → Type 0)
     (rest : (t : Session) → t.tables ≡ s.tables → t.draws ≡ s.draws → Told ending seats t spelt answers seen part Behind) where
   pub whole_meant : (fs : List Flown) (given : List Answer) → AllMean s fs given → (t : Session) → t.tables ≡ s.tables → t.draws ≡ s.draws
-      → Told ending (seats_in fs ++ seats) t (map Ok (stmts_in fs) ++ spelt) (given ++ answers) (served_in_all fs ++ seen) part Behind
+      → Told ending (seats_in fs ++ seats) t (map Ok (stmts_in fs) ++ spelt) (given ++ answers) (served_in_all fs ++ seen) part (λ broken ts. Behind (drop (length fs) broken) ts)
   whole_meant [] [] all t ts ds = rest t ts ds
   whole_meant [] (one ∷ given) all t ts ds = absurd all
   whole_meant (f ∷ fs) [] all t ts ds = absurd all
@@ -209,8 +214,8 @@ module _ (ending : Ending) (s : Session) (seats : List Seat) (spelt : List Spelt
       let v = f.seat in
       let own : MeantSo f one (at_seat v t) = subst (λ (y : Session). MeantSo f one y) (sym (at_same v s t ts ds)) all.0 in
       let stays = leaves_all own.how (at_seat v t) f.stmt own.own own.listed own.fly in
-      one_told ending v t f.stmt own.how one (served_of f) (seats_in fs ++ seats) (map Ok (stmts_in fs) ++ spelt) (given ++ answers) (served_in_all fs ++ seen) part Behind own.room own.cuts own.answer own.seen
-      (whole_meant fs given all.1 (after own.how (at_seat v t) f.stmt) (stays.tables ∙ ts) (stays.draws ∙ ds))
+      one_told ending v t f.stmt own.how one (served_of f) (seats_in fs ++ seats) (map Ok (stmts_in fs) ++ spelt) (given ++ answers) (served_in_all fs ++ seen) part (λ broken ts. Behind (drop (length fs) broken) ts) (λ broken ts. Behind (drop (length (f ∷ fs)) broken) ts)
+      own.room own.cuts own.answer own.seen (whole_meant fs given all.1 (after own.how (at_seat v t) f.stmt) (stays.tables ∙ ts) (stays.draws ∙ ds)) (λ broken ts behind. behind)
 
 -- ---- their flight was left
 -- one that was not answered stands where it may
