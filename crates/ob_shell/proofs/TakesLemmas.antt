@@ -30,7 +30,10 @@ use Rattle.ob_shell.specs.Lines.{line_answer}
 use Rattle.ob_shell.specs.Running.{IsQuiet, OutFailed, Silenced, StopCause, halted_of, stop_of}
 use Rattle.ob_shell.specs.Serving.{IsNotTaken, ServesStmt, TakesMore, TakesTexts, WantsRoom}
 use Rattle.ob_shell.proofs.TallyLemmas.{tally_after-one}
-use Rattle.ob_shell.specs.Steps.{AnswersText, AreSpelt, Gathered, IsReady, Machine, StopsIn, asked_of, gathered_by, none_gathered, standing}
+use Rattle.ob_reopen.specs.Keepers.{KeeperState}
+use Rattle.ob_shell.specs.Steps.{AnswersText, AreSpelt, Flights, Gathered, IsReady, Machine, StopsIn, asked_of, gathered_by, machine_of, none_gathered, standing}
+use Rattle.ob_store.specs.State.{StoreState}
+use Rattle.ob_tables.specs.declared.engine.Engine.{Engine}
 use Rattle.ob_shell.specs.Tallies.{tally_with}
 use Rattle.ob_shell.specs.Traces.{Traced, TracedAll}
 use Rattle.ob_shell.specs.Waiting.{AreGathered, BreaksIn, IsClosed, IsFree, ServedSo, begins_flight}
@@ -88,6 +91,10 @@ module _ {R S : Type 0} {state : R → RevState} {Saves : Type 0} {on : Bool} {M
   takes_more_then Saves' b2 t2 w2 s2 new m2 (Ok y) next = takes_then first may ys (Ok y) last next
   takes_more_then Saves' b2 t2 w2 s2 new m2 (Err (Served halted)) next = takes_then first may ys (Err halted) last next
   takes_more_then Saves' b2 t2 w2 s2 new m2 (Err (Unread stop)) next = (takes_then first may [] (Ok tt) (λ g h k comes then later. later) next.0, next.1)
+
+-- ---- whichever flights are to come
+pub ready_with : {R : Type 0} {state : R → RevState} {Saves : Type 0} {e : Engine R} {s : StoreState} {k : KeeperState} {f h : Flights} → IsReady state Saves (machine_of e s k f) → IsReady state Saves (machine_of e s k h)
+ready_with ready = record { agrees = ready.agrees; lives = ready.lives; settled = ready.settled; saves = ready.saves }
 
 -- ---- nothing was done
 pub takes_idle : {R T : Type 0} {state : R → RevState} {Saves : Type 0} (on : Bool) {May : Gathered → Type 0} {Then : (old new : Gathered) → Type 0} (batch : List Stmt) (tally : Tally) (w t : Option (List ℕ)) (old : Faults) (m : Machine R) (x : T) → IsReady state Saves m
