@@ -107,7 +107,7 @@ module _ {R E : Type 0} (state : R → RevState) (grew cut : E → E → List Ev
     means = ran.means;
   }
 
-  pub flew_whole : (ran : Called {T = Unit {0}} (Ok tt)) → FlewWhole state words left stmts seens (answers_of ran.ended seens) old s new t
+  unfoldable pub flew_whole : (ran : Called {T = Unit {0}} (Ok tt)) → FlewWhole state words left stmts seens (answers_of ran.ended seens) old s new t
   flew_whole ran = record { ended = ran.ended; ran = ran_aloft (Ok tt) ran; answered = refl }
 
   pub named_whole : {N : Type 0} (name : E → N) → (ran : Called {T = Unit {0}} (Ok tt)) → Names grew cut closed parted name → name out_new ≡ name out_old

@@ -1,5 +1,5 @@
 -- SELECTs that waited, once they flew.
-use Rattle.std.specs.Prelude.{◌*◌, ◌/◌, is_some, max, min, not, slice_get}
+use Rattle.std.specs.Prelude.{◌*◌, ◌/◌, OnErr, OnOk, Result, is_some, max, min, not, slice_get}
 use Rattle.std.specs.List.{All}
 use Rattle.std.proofs.Common.{◌≡◌, ◌⊎◌, ◌<◌, ◌≤◌, ◌+◌, inl, inr, ℕ, Bool, true, false, List, [], ◌∷◌, ◌++◌, length, Option, None, Some, Ok, Err, refl, sym, ap, ◌∙◌, subst, arith, append-nil}
 use Rattle.std.proofs.lemmas.List.Elements.{All-head, All-weaker}
@@ -33,7 +33,7 @@ use Rattle.ob_shell.proofs.TookLemmas.{took_whole}
 use Rattle.ob_shell.specs.Aloft.{CutsFlight, RanTogether}
 use Rattle.ob_shell.specs.Flying.{CountsFlight, RestsFlight, RunsFlight, flights_of}
 use Rattle.ob_shell.specs.Running.{IsQuiet, OutFailed, halted_of}
-use Rattle.ob_shell.specs.Serving.{TakesTexts}
+use Rattle.ob_shell.specs.Serving.{ServesBatch, TakesTexts}
 use Rattle.ob_shell.specs.Steps.{AreSpelt, Gathered, IsApartFrom, IsReady, Machine, MayFly, PartlyAt, machine_of, no_flights, standing}
 use Rattle.ob_shell.specs.Traces.{Traced, TracedAll}
 use Rattle.ob_shell.specs.Waiting.{AreBatched, AreFlown, BreaksIn, ComesFree, IsApart, IsClosed, ServedSo}
@@ -248,6 +248,11 @@ module _ {R : Type 0} (state : R → RevState) (Saves : Type 0) (on : Bool) (set
     cause = runs.cause;
     quiet = runs.quiet;
   }
+
+  pub flight_served : (result : Result Tally TextHalted) → RunsFlight state (drawn last0) (drawn last1) stmts tally w0 w1 old new e0 s0 e1 s1 result → OnOk result (TracedAll on s0.asked s1.asked t0 t1) → OnErr result (Traced on s0.asked s1.asked t0 t1 (IsQuiet (halted_of result)))
+      → ServesBatch state Saves on stmts tally w0 w1 t0 t1 old new m0 m1 result
+  flight_served (Ok counted) runs traced stop = flight_taken counted runs traced
+  flight_served (Err halted) runs traced stop = flight_broken halted runs stop
 
 -- ---- one of them alone
 -- it is no INSERT

@@ -1,5 +1,5 @@
 //! Statements that wait to be served together.
-ghost use Rattle.std.specs.Prelude.{◌≡◌, ◌≢◌, ◌≤◌, ◌∷◌, [], drop, is_some, length, take, Option, IsErr, OnErr, OnOk};
+ghost use Rattle.std.specs.Prelude.{◌≡◌, ◌≢◌, ◌≤◌, ◌+◌, ◌*◌, ◌∷◌, [], drop, is_some, length, take, Option, IsErr, OnErr, OnOk};
 ghost use Rattle.std.specs.Io.KnownBytes.{Appends};
 ghost use Rattle.ob_headline.specs.Tracing.{traced};
 ghost use Rattle.ob_headline.specs.Words.{faults_of, printed};
@@ -18,11 +18,11 @@ ghost use Rattle.ob_sql.specs.Skeleton.{skeleton};
 ghost use Rattle.ob_tables.specs.Agreeing.{count_of, public_of};
 ghost use Rattle.ob_tables.specs.Batch.{AreBatch};
 
-use crate::flying::{may_fly, most_flown, serve_flight};
+use crate::flying::{begins_flight, may_fly, most_flown, serve_flight};
 use crate::session::{Answered, Manner, SINK_FAILED, Session, TextHalted, answer_traced, tally_with};
 use crate::trace::{let_go_from, trace_from};
 use ob_base::{Failed, Public};
-use ob_exec::{Behind, Engine, Outcome, RunStop, batch_most, run_batch};
+use ob_exec::{Behind, Engine, Outcome, RunStop, batch_most, begins_batch, run_batch};
 use ob_gen::{Digester, Tally};
 use ob_headline::FlightSettings;
 use ob_io::Sink;
@@ -74,6 +74,21 @@ pub(crate) fn gather_most(flight: Option<FlightSettings>, public: &Public, stmt:
         Stmt::Insert { .. } => batch_most(public),
         _ => most_flown(flight, public),
     }
+}
+
+/// Whether a statement before which none waits is to wait for others: it begins a batch or a flight.
+pub(crate) fn begins<R: Revisions, S: BlockStore>(
+    flight: Option<FlightSettings>,
+    engine: &Engine<R>,
+    store: &S,
+    stmt: &Stmt,
+) -> bool
+    requires pack { 1 ≤ (public_of engine.now).pack }
+    requires buffer { 3 * (public_of engine.now).pack + 1 ≤ (public_of engine.now).buffer }
+    ensures { result ≡ Waiting.begins flight (public_of engine.now)
+        (count_of engine.now (S.state store.now)) stmt.now }
+{
+    begins_batch(engine, store, stmt) || begins_flight(flight, engine.public(), stmt)
 }
 
 // Writes the line of each answer, of which none waits afterwards.
