@@ -25,11 +25,10 @@ use Rattle.ob_script.proofs.FlightLemmas.{next_after}
 use Rattle.ob_script.specs.FlightLaws.{SelectsFromOne}
 use Rattle.ob_script.specs.Flights.{drawn, turns_of}
 use Rattle.ob_seal.specs.KeySet.{KeySet, pair_of}
-use Rattle.ob_shell.proofs.FlushLemmas.{traced_to_none}
 use Rattle.ob_shell.proofs.GatherLemmas.{no_insert}
 use Rattle.ob_shell.proofs.StepLemmas.{PartlyAt-rests, Steps-none, printed-nil, steps_together}
 use Rattle.ob_shell.proofs.TakesLemmas.{place_other, place_past, same_fly}
-use Rattle.ob_shell.proofs.TookLemmas.{took_whole}
+use Rattle.ob_shell.proofs.TookLemmas.{took_whole, traced_to_none}
 use Rattle.ob_shell.specs.Aloft.{CutsFlight, RanTogether}
 use Rattle.ob_shell.specs.Flying.{CountsFlight, RestsFlight, RunsFlight, flights_of}
 use Rattle.ob_shell.specs.Running.{IsQuiet, OutFailed, halted_of}

@@ -21,9 +21,9 @@ use Rattle.ob_headline.specs.declared.flight.FlightSettings.{FlightSettings}
 use Rattle.ob_mean.specs.Refusals.{is_index}
 use Rattle.ob_print.proofs.CutLemmas.{Outputs-by}
 use Rattle.ob_print.specs.Cuts.{Outputs}
-use Rattle.ob_shell.proofs.FlushLemmas.{traced_to_none}
 use Rattle.ob_shell.proofs.ServeLemmas.{misspelt}
 use Rattle.ob_shell.proofs.StepLemmas.{PartlyAt-more, Steps-none, counts_one, one_step, printed-nil}
+use Rattle.ob_shell.proofs.TookLemmas.{traced_to_none}
 use Rattle.ob_shell.proofs.TraceLemmas.{traced_cut, traced_none, traced_then, traced_whole}
 use Rattle.ob_shell.proofs.WaitLemmas.{break_then, follow_more, none_held, so_idle, so_then}
 use Rattle.ob_shell.specs.Lines.{line_answer}
