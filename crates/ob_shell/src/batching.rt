@@ -351,8 +351,8 @@ pub(crate) fn flush<R: Revisions, S: BlockStore, B: Behind<S>, K: Sink, T: Sink,
     ensures idle { OnErr result (session.old.batch.items ≢ []) }
     ensures takes { TakesTexts R.state (B.Saves behind.new) manner.tracing
         (ComesFree manner.flight (public_of engine.old) session.old.batch.items)
-        (IsClosed manner.flight (public_of engine.old) (public_of engine.new) session.old.batch.items)
-        session.old.batch.items session.new.batch.items []
+        (IsClosed manner.flight (public_of engine.old) (public_of engine.new)
+        session.old.batch.items) session.old.batch.items session.new.batch.items []
         session.old.tally session.new.tally (K.written out.old) (K.written out.new)
         (T.written trace.old) (T.written trace.new)
         (faults_of 0 (K.faults out.old) (T.faults trace.old))

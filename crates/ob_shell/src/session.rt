@@ -306,8 +306,8 @@ fn gather<R: Revisions, S: BlockStore, B: Behind<S>, K: Sink, T: Sink, D: Digest
     digest: &mut D,
 ) -> Result<(), Break>
     requires spells { Spells session.old.pending (Ok stmt) }
-    requires goes { GoesAlong manner.flight (public_of engine.old) (count_of engine.old (S.state store.old))
-        session.old.batch.items stmt }
+    requires goes { GoesAlong manner.flight (public_of engine.old)
+        (count_of engine.old (S.state store.old)) session.old.batch.items stmt }
     requires ready { IsReady R.state (B.Saves behind.old)
         (machine_of engine.old (S.state store.old) (B.state behind.old)
         (flights_of manner.flight session.old.turns.last)) }
@@ -418,8 +418,8 @@ fn take_stmt<R: Revisions, S: BlockStore, B: Behind<S>, K: Sink, T: Sink, D: Dig
     digest: &mut D,
 ) -> Result<(), Break>
     requires spells { Spells session.old.pending (Ok stmt) }
-    requires waits { AreGathered manner.flight (public_of engine.old) (count_of engine.old (S.state store.old))
-        session.old.batch.items }
+    requires waits { AreGathered manner.flight (public_of engine.old)
+        (count_of engine.old (S.state store.old)) session.old.batch.items }
     requires ready { IsReady R.state (B.Saves behind.old)
         (machine_of engine.old (S.state store.old) (B.state behind.old)
         (flights_of manner.flight session.old.turns.last)) }
@@ -469,8 +469,8 @@ fn take_misspelt<R: Revisions, S: BlockStore, B: Behind<S>, K: Sink, T: Sink, D:
     digest: &mut D,
 ) -> Result<(), TextHalted>
     requires spells { Spells session.old.pending (Err at) }
-    requires waits { AreGathered manner.flight (public_of engine.old) (count_of engine.old (S.state store.old))
-        session.old.batch.items }
+    requires waits { AreGathered manner.flight (public_of engine.old)
+        (count_of engine.old (S.state store.old)) session.old.batch.items }
     requires ready { IsReady R.state (B.Saves behind.old)
         (machine_of engine.old (S.state store.old) (B.state behind.old)
         (flights_of manner.flight session.old.turns.last)) }
@@ -522,8 +522,8 @@ fn take_text<R: Revisions, S: BlockStore, B: Behind<S>, K: Sink, T: Sink, D: Dig
     digest: &mut D,
 ) -> Result<(), Break>
     requires short { length session.old.pending ≤ text_max }
-    requires waits { AreGathered manner.flight (public_of engine.old) (count_of engine.old (S.state store.old))
-        session.old.batch.items }
+    requires waits { AreGathered manner.flight (public_of engine.old)
+        (count_of engine.old (S.state store.old)) session.old.batch.items }
     requires ready { IsReady R.state (B.Saves behind.old)
         (machine_of engine.old (S.state store.old) (B.state behind.old)
         (flights_of manner.flight session.old.turns.last)) }
@@ -577,8 +577,8 @@ fn turn<R: Revisions, S: BlockStore, B: Behind<S>, K: Sink, T: Sink, D: Digester
     digest: &mut D,
 ) -> Result<(), Break>
     requires short { length session.old.pending < text_max }
-    requires waits { AreGathered manner.flight (public_of engine.old) (count_of engine.old (S.state store.old))
-        session.old.batch.items }
+    requires waits { AreGathered manner.flight (public_of engine.old)
+        (count_of engine.old (S.state store.old)) session.old.batch.items }
     requires ready { IsReady R.state (B.Saves behind.old)
         (machine_of engine.old (S.state store.old) (B.state behind.old)
         (flights_of manner.flight session.old.turns.last)) }
@@ -632,8 +632,8 @@ fn finish<R: Revisions, S: BlockStore, B: Behind<S>, K: Sink, T: Sink, D: Digest
     digest: &mut D,
 ) -> Result<(), Break>
     requires short { length session.old.pending ≤ text_max }
-    requires waits { AreGathered manner.flight (public_of engine.old) (count_of engine.old (S.state store.old))
-        session.old.batch.items }
+    requires waits { AreGathered manner.flight (public_of engine.old)
+        (count_of engine.old (S.state store.old)) session.old.batch.items }
     requires ready { IsReady R.state (B.Saves behind.old)
         (machine_of engine.old (S.state store.old) (B.state behind.old)
         (flights_of manner.flight session.old.turns.last)) }
