@@ -1,13 +1,14 @@
 -- What is promised of a run of which no statement flies, in terms of statements that are each served alone.
-use Rattle.std.specs.Prelude.{max}
-use Rattle.std.proofs.Common.{◌≡◌, ◌+◌, ◌≤◌, ◌++◌, ℕ, Bool, List, [], length, Option, None, refl, sym, ◌∙◌, ap, subst, arith}
+use Rattle.std.proofs.Common.{◌≡◌, ◌+◌, ◌≤◌, ◌++◌, ℕ, Bool, List, length, None, ◌∙◌, ap, subst, arith}
 use Rattle.ob_base.specs.declared.access.Access.{Access}
+use Rattle.ob_base.specs.declared.config.Public.{Public}
+use Rattle.ob_base.specs.declared.seen.Seen.{Seen}
 use Rattle.ob_headline.proofs.BaseLemmas.{from_each}
 use Rattle.ob_headline.proofs.ServedAlone.{AnswersAlone, AreOf, SeenAlone, as_alone, entered_alone, seen_alone, seen_of, traced_alone}
 use Rattle.ob_headline.specs.Accesses.{Accesses, AreSeen, StopsWithin}
 use Rattle.ob_headline.specs.Bases.{Base, FromEach, drawing, session_at}
 use Rattle.ob_headline.specs.Failures.{FailsBeside}
-use Rattle.ob_headline.specs.Flights.{FliesNone, most_of, seats_of, trace_of, words_of}
+use Rattle.ob_headline.specs.Flights.{FliesNone, seats_of, trace_of, words_of}
 use Rattle.ob_headline.specs.FullStash.{ReadsFullStash}
 use Rattle.ob_headline.specs.Headline.{Headline}
 use Rattle.ob_headline.specs.Meaning.{AnswersFrom}
@@ -16,11 +17,11 @@ use Rattle.ob_headline.specs.Story.{Story}
 use Rattle.ob_headline.specs.Words.{Outside}
 use Rattle.ob_headline.specs.declared.ending.Ending.{Ending}
 use Rattle.ob_headline.specs.declared.ending.Report.{Report}
-use Rattle.ob_mean.specs.Replay.{Broken, Session}
-use Rattle.ob_mean.specs.Verdict.{Tables}
+use Rattle.ob_mean.specs.Replay.{Broken}
 use Rattle.ob_script.specs.Flights.{Entry, all_alone}
 use Rattle.ob_script.specs.Trace.{Served, trace}
 use Rattle.ob_seal.specs.KeySet.{KeySet}
+use Rattle.ob_sql.specs.declared.stmt.Stmt.{Stmt}
 use Rattle.ob_store.specs.State.{StoreState}
 
 -- what is seen of its statements, and what they asked
@@ -38,10 +39,13 @@ module _ (base : Base) (one : FliesNone base) (keys : KeySet) (ending : Ending) 
   entries : story.entries ≡ all_alone all
   entries = entered_alone base story one accesses.entered
 
+  abbrev Leaves : Public → Stmt → Seen → Type 0
+  Leaves = StopsWithin ending (FailsBeside story.seen old.faults new.faults) (ReadsFullStash keys base.start new)
+
   pub accesses_alone : RanAlone base keys ending story old new
   accesses_alone = record {
-    lawful = seen_alone _ (words_of base) 0 base.public base.count None story.spelt story.answers all
-        (subst (λ (es : List Entry). AreSeen _ (seats_of base es) None story.spelt story.answers all) entries accesses.lawful);
+    lawful = seen_alone Leaves (words_of base) 0 base.public base.count None story.spelt story.answers all
+        (subst (λ (es : List Entry). AreSeen Leaves (seats_of base es) None story.spelt story.answers all) entries accesses.lawful);
     asked = accesses.asked ∙ ap (λ (l : List Access). base.before ++ l) (traced_alone base story one accesses.entered);
     traced = traced_alone base story one accesses.entered;
     entries = entries;
@@ -49,7 +53,7 @@ module _ (base : Base) (one : FliesNone base) (keys : KeySet) (ending : Ending) 
   }
 
   pub are_of : AreOf story.spelt all
-  are_of = seen_of _ base.public base.count None story.spelt story.answers all accesses_alone.lawful
+  are_of = seen_of Leaves base.public base.count None story.spelt story.answers all accesses_alone.lawful
 
   pub meant_alone : FromEach base (λ s. (broken : Broken) × AnswersFrom ending (seats_of base story.entries) (drawing keys s) story.spelt broken story.answers all story.part)
       → FromEach base (λ s. (broken : Broken) × AnswersAlone ending (drawing keys s) story.spelt broken story.answers all story.part)
@@ -59,7 +63,7 @@ module _ (base : Base) (one : FliesNone base) (keys : KeySet) (ending : Ending) 
       (λ tables meant. (
         meant.0,
         as_alone (words_of base) 0 ending (drawing keys (session_at base tables)) story.spelt meant.0 story.answers all story.part are_of
-        (subst (λ (es : List Entry). AnswersFrom ending (seats_of base es) (drawing keys (session_at base tables)) story.spelt meant.0 story.answers all story.part) entries meant.1),
+            (subst (λ (es : List Entry). AnswersFrom ending (seats_of base es) (drawing keys (session_at base tables)) story.spelt meant.0 story.answers all story.part) entries meant.1),
       ))
 
 -- the same of a headline, and of a run

@@ -78,8 +78,8 @@ pub kept_shown : {settings : Option Config} {flight : Option FlightSettings} {Ta
     (ran : RunKept settings flight Takes tracing old new k0 k1 ending answers report) → ShowsKept ran
 kept_shown (inl run) = tt
 kept_shown (inr (inl run)) = tt
-kept_shown {tracing = tracing} {old = old} {new = new} {k1 = k1} {ending = ending} {report = report} (inr (inr run)) = λ tells.
+kept_shown {flight = flight} {tracing = tracing} {old = old} {new = new} {k1 = k1} {ending = ending} {report = report} (inr (inr run)) = λ tells.
     let begun = begun_from run.began.mark run.config (keys_of run.secret) run.base old.store run.opened run.began.begins in
     shows_all (PassesBoth run.base.public.pack) (keys_of run.secret) run.base.start run.opened new.store begun.fresh
-    (sealed_behind run.session.ending run.base run.session.taken run.secret tracing run.session.story _ run.served new run.run report run.in_use k1 ending run.keyed run.behind
+    (sealed_behind run.session.ending (flying flight run.base) run.session.taken run.secret tracing run.session.story _ run.served new run.run report run.in_use k1 ending run.keyed run.behind
     run.session.sealing.sealed tells)

@@ -1,7 +1,7 @@
 -- Texts that take effect in a session do so in one that is alike, and are answered alike.
 use Rattle.std.specs.Prelude.{◌↔◌, ◌==◌, if◌then◌else◌}
 use Rattle.std.specs.Option.{option_map_or, option_or}
-use Rattle.std.proofs.Common.{◌≡◌, ◌<◌, ◌+◌, ◌^◌, ◌++◌, ℕ, zero, suc, Bool, true, false, IsTrue, List, [], ◌∷◌, length, map, take, Option, Some, None, Ok, Err, refl, sym, ◌∙◌, ap, subst, arith, length-append}
+use Rattle.std.proofs.Common.{◌≡◌, ◌<◌, ◌+◌, ◌^◌, ◌++◌, ℕ, suc, Bool, true, false, IsTrue, List, [], ◌∷◌, length, map, take, Option, Some, None, Ok, Err, refl, sym, ◌∙◌, ap, subst, arith, length-append}
 use Rattle.ob_base.specs.Refusals.{is_store_fault}
 use Rattle.ob_base.specs.Stored.{Stored, headings, stored_at}
 use Rattle.ob_base.specs.Indexes.{by_shape}

@@ -30,7 +30,6 @@ use Rattle.ob_headline.specs.Reruns.{ArePlain, AsksByKinds, IsPlain, Turn, gathe
 use Rattle.ob_headline.specs.Settings.{IsTaken, IsTakenSaved, MeddleParses}
 use Rattle.ob_headline.specs.Words.{Answer, Begins, Outside}
 use Rattle.ob_headline.proofs.ServedAlone.{SeenAlone}
-use Rattle.ob_headline.specs.Flights.{FliesNone}
 use Rattle.ob_headline.proofs.AloneRuns.{few_spelt, headline_alone}
 use Rattle.ob_headline.specs.declared.ending.Report.{Report}
 use Rattle.ob_mean.specs.Batches.{Gathering, goes_into, is_cut, is_joined}

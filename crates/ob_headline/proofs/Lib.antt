@@ -10,6 +10,13 @@ pub mod ServedAlone
 pub mod AloneRuns
 pub mod TakenLemmas
 pub mod FlightWrites
+pub mod SameAlone
+pub mod OneByOneLemmas
+pub mod FlightFront
+pub mod FlightSeats
+pub mod UntilLemmas
+pub mod FlightLeft
+mod FlownExamples
 pub mod PromptLemmas
 pub mod BaseLemmas
 pub mod PieceLemmas

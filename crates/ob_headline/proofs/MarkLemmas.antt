@@ -9,7 +9,7 @@ use Rattle.ob_base.specs.declared.mark.Mark.{Mark}
 use Rattle.ob_base.specs.declared.mark.Mark.TheVariants.{InUse}
 use Rattle.ob_reopen.specs.Closed.{IsClosedAs, StaysInUse, is_used_up}
 use Rattle.ob_headline.proofs.StopLemmas.{closing_stops}
-use Rattle.ob_headline.specs.Bases.{Base}
+use Rattle.ob_headline.specs.Bases.{Base, flying}
 use Rattle.ob_headline.specs.Flights.{public_after}
 use Rattle.ob_headline.specs.Keeping.{EndsWith, NotBegun, Writes, closing_behind}
 use Rattle.ob_headline.specs.KeptHeadline.{EndsBehind, SessionKept, Unbegun, Unkeyed}
@@ -99,8 +99,8 @@ pub held_after : {settings : Option Config} {flight : Option FlightSettings} {Ta
     (held : Mark) → k0.held ≡ Some held → HeldAfter run held
 held_after (inl run) held is = ap (λ (k : KeeperState). k.held) run.kept ∙ is
 held_after (inr (inl run)) held is = kept_held run.config (keys_of run.secret) _ _ _ _ _ _ _ held is run.begun
-held_after {tracing = tracing} {old = old} {new = new} {k1 = k1} {ending = ending} {report = report} (inr (inr run)) held is =
-    behind_held run.session.ending run.base (keys_of run.secret) tracing run.session.story _ run.served new run.run report run.in_use k1 ending
+held_after {flight = flight} {tracing = tracing} {old = old} {new = new} {k1 = k1} {ending = ending} {report = report} (inr (inr run)) held is =
+    behind_held run.session.ending (flying flight run.base) (keys_of run.secret) tracing run.session.story _ run.served new run.run report run.in_use k1 ending
     (run.began.in_use.told held (run.began.gives.stays ∙ is)) run.behind
 
 pub marks_held : (words : List Text) (old new : Outside) (k0 k1 : KeeperState) (report : Report) (run : KeptRun words old new k0 k1 report) (held : Mark) → k0.held ≡ Some held → HeldAfter run.ran held

@@ -159,11 +159,11 @@ module _ (one : SomeRun) (input : List ℕ) (flies : FliesNone one.base) (free :
   Done s = Completes one.run.ending
 
   pub runs_plainly : FromEach one.base (λ s. RunsPlainly one input (s_of s))
-  runs_plainly = go one.base.opened (one.run.status.completes free.takes input free.left free.limits free.source free.sinks) 
+  runs_plainly = go one.base.opened (one.run.status.completes free.takes input free.left free.limits free.source free.sinks)
       (meant_alone one.base flies (keys_by one) one.run.ending one.run.story one.old.store one.new.store one.run.accesses (one.run.answers.meant undeceived)) where
-    at : (s : Session) → (s.public ≡ one.base.public) → (s.asked ≡ one.base.count) → Done s → Meant s → RunsPlainly one input (s_of s)
-    at s public asked done all = let end = ends one.run.ending refl done in plainly (s_of s) end.0 public asked end.1 all.0 all.1
+        at : (s : Session) → (s.public ≡ one.base.public) → (s.asked ≡ one.base.count) → Done s → Meant s → RunsPlainly one input (s_of s)
+        at s public asked done all = let end = ends one.run.ending refl done in plainly (s_of s) end.0 public asked end.1 all.0 all.1
 
-    go : (o : Option Opened) → HoldsFrom o one.base Done → HoldsFrom o one.base Meant → HoldsFrom o one.base (λ s. RunsPlainly one input (s_of s))
-    go None done all = at (session_at one.base []) refl refl done all
-    go (Some o) done all = λ tables rested. at (session_at one.base tables) refl refl (done tables rested) (all tables rested)
+        go : (o : Option Opened) → HoldsFrom o one.base Done → HoldsFrom o one.base Meant → HoldsFrom o one.base (λ s. RunsPlainly one input (s_of s))
+        go None done all = at (session_at one.base []) refl refl done all
+        go (Some o) done all = λ tables rested. at (session_at one.base tables) refl refl (done tables rested) (all tables rested)

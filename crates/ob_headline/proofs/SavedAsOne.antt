@@ -244,7 +244,7 @@ leaves_by words secret one saves flies tells honest held is t waits (inl run) ke
     let left = leaves_held (inl run) held is in
     leaves_none words secret held left.mark one.old.store one.new.store one.keeper1.held t waits left.is tells honest (left.rests secret)
 leaves_by words secret one saves flies tells honest held is t waits (inr (inl run)) keyed soon =
-    let left = leaves_held (inr (inl run)) held is in
+    let left = leaves_held {flight = flight_of saved_usage words} (inr (inl run)) held is in
     leaves_none words secret held left.mark one.old.store one.new.store one.keeper1.held t waits left.is tells honest
     (subst (λ (x : List ℕ). Outlasts x held left.mark one.old.store one.new.store) (keyed run.secret refl) left.rests)
 leaves_by words secret one saves flies tells honest held is t waits (inr (inr run)) keyed soon = leaves_session words secret one run saves (keyed run.secret refl) tells honest flies soon held is t waits

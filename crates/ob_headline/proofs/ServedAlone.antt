@@ -1,15 +1,14 @@
 -- Where none of a run's statements fly, what it goes by follows from what is public before the first one, one after the other:
 -- what is asked, seen and answered then is said of statements that are each served alone.
-use Rattle.std.specs.Prelude.{◌↔◌, ◌-◌, take, ⊤, ⊥, if◌then◌else◌}
-use Rattle.std.proofs.Common.{◌≡◌, ◌⊎◌, ◌+◌, ◌<◌, ◌≤◌, ◌++◌, inl, inr, ℕ, zero, suc, IsTrue, Bool, true, false, List, [], ◌∷◌, length, Option, Some, None, Ok, Err, refl, sym, ◌∙◌, ap, subst, arith}
-use Rattle.ob_base.specs.declared.access.Access.{Access}
+use Rattle.std.specs.Prelude.{◌↔◌, ◌-◌, take, if◌then◌else◌}
+use Rattle.std.proofs.Common.{◌≡◌, ◌⊎◌, ◌+◌, ◌++◌, ℕ, zero, suc, IsTrue, Bool, false, List, [], ◌∷◌, length, Option, Some, None, Ok, Err, refl, sym, ◌∙◌, ap, subst, arith}
 use Rattle.ob_base.specs.declared.config.Public.{Public}
 use Rattle.ob_base.specs.declared.refusal.Refusal.TheVariants.{StoreFault}
 use Rattle.ob_base.specs.declared.seen.Seen.{Seen}
 use Rattle.ob_headline.specs.Accesses.{AreSeen, Says}
 use Rattle.ob_headline.specs.Bases.{Base}
 use Rattle.ob_headline.specs.Batches.{Joins, is_failed}
-use Rattle.ob_headline.specs.Flights.{AreEntries, Entered, FliesNone, Seat, most_of, seat_alone, seats, seats_of, served_by, trace_of, words_of}
+use Rattle.ob_headline.specs.Flights.{AreEntries, Entered, FliesNone, Seat, most_of, seats, served_by, trace_of, words_of}
 use Rattle.ob_headline.specs.Meaning.{AnswersFrom, AnswersIn, AnswersLast, BeginsAnswer, StopsAt, session_after}
 use Rattle.ob_headline.specs.Story.{Story}
 use Rattle.ob_headline.specs.Words.{Answer, refused_at}
@@ -19,7 +18,7 @@ use Rattle.ob_mean.specs.Batches.{Gathering, gathering_after}
 use Rattle.ob_mean.specs.Lawful.{Lawful}
 use Rattle.ob_mean.specs.Replay.{Broken, How, IsCutOff, Session, Spelt, after, after_all, head_of, is_full_now, rest_of, seen_or_cut, served}
 use Rattle.ob_script.proofs.FlightLemmas.{trace_alone}
-use Rattle.ob_script.specs.Flights.{Alone, Entry, Together, all_alone, served_in}
+use Rattle.ob_script.specs.Flights.{Alone, Entry, Together, all_alone}
 use Rattle.ob_script.specs.Script.{script}
 use Rattle.ob_script.specs.Trace.{Served, next, trace}
 use Rattle.ob_sql.specs.Skeleton.{skeleton}

@@ -152,29 +152,29 @@ one_alone = refl
 too_many : flight_in (Some (codes "9,0")) ≡ None
 too_many = refl
 
-start_too_great : flight_in (Some (codes "2,18446744073709551616")) ≡ None
-start_too_great = refl
+flight_start_too_great : flight_in (Some (codes "2,18446744073709551616")) ≡ None
+flight_start_too_great = refl
 
 zero_before_most : flight_in (Some (codes "02,0")) ≡ None
 zero_before_most = refl
 
-zero_before_start : flight_in (Some (codes "2,00")) ≡ None
-zero_before_start = refl
+zero_before_flight_start : flight_in (Some (codes "2,00")) ≡ None
+zero_before_flight_start = refl
 
 signed_most : flight_in (Some (codes "+2,0")) ≡ None
 signed_most = refl
 
-no_start : flight_in (Some (codes "2")) ≡ None
-no_start = refl
+no_flight_start : flight_in (Some (codes "2")) ≡ None
+no_flight_start = refl
 
-empty_start : flight_in (Some (codes "2,")) ≡ None
-empty_start = refl
+empty_flight_start : flight_in (Some (codes "2,")) ≡ None
+empty_flight_start = refl
 
 no_most : flight_in (Some (codes ",0")) ≡ None
 no_most = refl
 
-another_number : flight_in (Some (codes "2,0,0")) ≡ None
-another_number = refl
+third_number : flight_in (Some (codes "2,0,0")) ≡ None
+third_number = refl
 
 -- how they fly that these words spell, beside the settings of the same words
 abbrev flying_by : List Text → Option (Option FlightSettings)

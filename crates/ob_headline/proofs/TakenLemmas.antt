@@ -1,5 +1,5 @@
 -- What a sink took of answers of which it took a first part.
-use Rattle.std.proofs.Common.{◌≡◌, ◌≤◌, ◌<◌, ◌⊎◌, ◌++◌, inl, inr, ℕ, Bool, true, false, List, [], ◌∷◌, length, take, drop, Option, refl, sym, ◌∙◌, ap, subst, append-nil, append_assoc, length-append, take-append-drop, arith}
+use Rattle.std.proofs.Common.{◌≡◌, ◌≤◌, ◌<◌, ◌++◌, inl, inr, ℕ, List, [], ◌∷◌, length, take, drop, Option, refl, sym, ◌∙◌, ap, subst, append-nil, append_assoc, length-append, take-append-drop, arith}
 use Rattle.std.proofs.lemmas.Bool.{cases_lt}
 use Rattle.std.proofs.lemmas.List.{take-append-le}
 use Rattle.std.proofs.Math.Seq.{take-append_seam}
@@ -67,15 +67,18 @@ module _ (w0 w1 : Option (List ℕ)) (Lost : Type 0) (all : List Answer) (bytes 
         lost = one ∷ answers;
         parts = goes.parts;
         took = took kept (one ∷ answers) g lost goes;
-        loses = (fails, record {
-          grown = out.grown;
-          appends = out.appends;
-          prefix = record {
-            lost = drop (length g) one.bytes;
-            whole = ap (λ (l : List ℕ). printed kept ++ l) cut ∙ sym (append_assoc (printed kept) g (drop (length g) one.bytes)) ∙ ap (λ (l : List ℕ). l ++ drop (length g) one.bytes) (sym goes.grown);
-          };
-          all = inr fails;
-        });
+        loses = (
+          fails,
+          record {
+            grown = out.grown;
+            appends = out.appends;
+            prefix = record {
+              lost = drop (length g) one.bytes;
+              whole = ap (λ (l : List ℕ). printed kept ++ l) cut ∙ sym (append_assoc (printed kept) g (drop (length g) one.bytes)) ∙ ap (λ (l : List ℕ). l ++ drop (length g) one.bytes) (sym goes.grown);
+            };
+            all = inr fails;
+          },
+        );
       }
 
   go : (kept answers : List Answer) (g lost : List ℕ) → Goes kept answers g lost → TakenSo w0 w1 Lost all bytes
@@ -102,4 +105,5 @@ module _ (w0 w1 : Option (List ℕ)) (Lost : Type 0) (all : List Answer) (bytes 
   ]
 
   pub taken_answers : TakenSo w0 w1 Lost all bytes
+  unfolding printed
   taken_answers = go [] all out.grown out.prefix.lost (record { parts = refl; grown = refl; rest = out.prefix.whole })

@@ -1,5 +1,5 @@
 -- The accesses, over every store: those that what is seen of the statements tells.
-use Rattle.std.specs.Prelude.{ℕ, ◌≡◌, ◌+◌, ◌⊎◌, ◌↔◌, ◌||◌, Bool, true, false, List, [], ◌∷◌, ◌++◌, length, IsTrue, Option, Some, None, Ok, Err, ◌≤◌, take, drop}
+use Rattle.std.specs.Prelude.{ℕ, ⊤, ◌≡◌, ◌+◌, ◌⊎◌, ◌↔◌, ◌||◌, Bool, true, false, List, [], ◌∷◌, ◌++◌, length, IsTrue, Option, Some, None, Ok, Err, ◌≤◌, take, drop}
 use Rattle.ob_base.specs.Events.{Event}
 use Rattle.ob_base.specs.Stored.{headings_of}
 use Rattle.ob_base.specs.declared.access.Access.{Access}
@@ -106,12 +106,14 @@ StandsAs p m n stmt seen AfterCount = ⊥
 StandsAs p m n stmt seen Joined = ⊥
 StandsAs p m n stmt seen (Cut cut) = (cut ≡ n) × (1 ≤ n) × Lawful p m stmt seen
 
--- memory was wanting for it: just before its result is made, if it isn't padded, or where its rows are emitted
+-- memory was wanting for it: just before its result is made, if it isn't padded, where its rows are emitted, or at its last
+-- line, once nothing of it is left to be asked
 abbrev pub WantsAloft : Option Stand → Public → Stmt → Seen → Type 0
 WantsAloft None p stmt seen = ⊥
 WantsAloft (Some stand) p stmt seen =
     AtResult p stmt seen (drop stand.own (whole_script p (skeleton stmt) seen))
-    ⊎ AtEmission p stmt seen (drop stand.own (whole_script p (skeleton stmt) seen))
+    ⊎ (AtEmission p stmt seen (drop stand.own (whole_script p (skeleton stmt) seen))
+    ⊎ (drop stand.own (script p (skeleton stmt) seen) ≡ []))
 
 -- for one of these
 unfoldable pub OneWants : List Seat → List Stmt → List Served → Type 0

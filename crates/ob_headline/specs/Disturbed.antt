@@ -1,5 +1,5 @@
 -- What holds of a run before others disturb its store.
-use Rattle.std.specs.Prelude.{⊤, ⊥, false, ◌≡◌, ◌≤◌, ◌+◌, ℕ, nat_lt, if◌then◌else◌, List, [], ◌∷◌, ◌++◌, length, map, take, Option, None, Ok, Err}
+use Rattle.std.specs.Prelude.{⊤, false, ◌≡◌, ◌≤◌, ◌+◌, ℕ, nat_lt, if◌then◌else◌, List, [], ◌∷◌, ◌++◌, length, map, take, Option, None, Ok, Err}
 use Rattle.ob_base.specs.declared.access.Access.{Access}
 use Rattle.ob_headline.specs.Bases.{Base, drawing, public_with, start}
 use Rattle.ob_headline.specs.Batches.{after_now, gathered_now}

@@ -1,5 +1,5 @@
 -- SELECTs that are served in flight: how many, in whose turns, which ones are gathered for it, and by what each goes.
-use Rattle.std.specs.Prelude.{◌≡◌, ◌≢◌, ◌<◌, ◌≤◌, ◌+◌, ◌-◌, ◌*◌, ◌/◌, ◌⊎◌, ◌&&◌, ℕ, zero, suc, ⊤, ⊥, Bool, true, false, not, nat_le, nat_lt, max, min, if◌then◌else◌, List, [], ◌∷◌, ◌++◌, length, map, take, slice_get, Option, Some, None, Ok, Err}
+use Rattle.std.specs.Prelude.{◌≡◌, ◌<◌, ◌≤◌, ◌+◌, ◌-◌, ◌*◌, ◌/◌, ◌⊎◌, ◌&&◌, ℕ, zero, suc, ⊤, Bool, false, not, nat_le, nat_lt, max, min, if◌then◌else◌, List, [], ◌∷◌, ◌++◌, length, map, take, slice_get, Option, Some, None, Ok, Err}
 use Rattle.std.specs.List.{All}
 use Rattle.std.specs.Option.{option_map, option_map_or}
 use Rattle.ob_base.specs.declared.access.Access.{Access}
@@ -193,11 +193,18 @@ AreGathered most gathered (v ∷ seats) (Ok stmt ∷ spelt) =
     (v.place ≡ place_now most v.public gathered (skeleton stmt))
     × AreGathered most (gathered_then v.public v.place (skeleton stmt)) seats spelt
 
--- the entries of a story are these statements, and are served so
+-- it had ended when its flight was left, if that was
+abbrev pub EndedBy : Option Stand → Seat → Type 0
+EndedBy None v = ⊤
+EndedBy (Some stand) v = v.until ≤ v.asked + stand.all
+
+-- the entries of a story are these statements, and are served so; those that were answered had ended
 pub record Entered (base : Base) (story : Story) : Type 0 where
   pub served : served_by story.entries ≡ story.seen ++ story.last
   pub entries : AreEntries (most_of base) (length story.seen) story.entries
   pub gathered : AreGathered (most_of base) 0 (seats_of base story.entries) story.spelt
+  pub ended : All (λ v. EndedBy v.left v)
+      (take (length story.seen) (seats_of base story.entries))
   pub few_last : length story.last ≤ most_of base
 
 -- the session of the model from which a statement is answered: these tables and these draws, by what its seat says

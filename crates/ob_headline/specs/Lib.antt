@@ -36,4 +36,5 @@ pub mod SavedRuns
 pub mod Pieces
 pub mod Plainly
 pub mod Reruns
+pub mod OneByOne
 pub mod Shown

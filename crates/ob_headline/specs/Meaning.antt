@@ -1,6 +1,5 @@
 -- What the model answers.
-use Rattle.std.specs.Prelude.{ℕ, ◌≡◌, ◌≤◌, ◌⊎◌, ⊤, ⊥, true, false, if◌then◌else◌, Option, Some, List, [], ◌∷◌, ◌++◌, length, None, Ok, Err}
-use Rattle.std.specs.Option.{option_map_or}
+use Rattle.std.specs.Prelude.{ℕ, ◌≡◌, ◌≤◌, ◌+◌, ◌⊎◌, ⊤, true, false, if◌then◌else◌, Option, Some, List, [], ◌∷◌, ◌++◌, length, None, Ok, Err}
 use Rattle.ob_base.specs.Events.{Event}
 use Rattle.ob_base.specs.Stored.{headings, headings_of}
 use Rattle.ob_base.specs.declared.refusal.Refusal.TheVariants.{StoreFault}
@@ -126,8 +125,10 @@ abbrev pub StandsIn : Ending → Stand → Session → Stmt → Seen → Type 0
 StandsIn ending stand s stmt here =
     HasEnded s stmt here ⊎ StandsMeant s stmt stand.own (done_in ending stand) here here.end
 
--- a first part of its header and rows was emitted until then
-pub record EmitsPart (ending : Ending) (s : Session) (stmt : Stmt) (part : List ℕ) : Type 0 where
+-- it hadn't ended before, and a first part of its header and rows was emitted until then
+pub record EmitsPart (ending : Ending) (v : Seat) (stand : Stand) (s : Session) (stmt : Stmt)
+    (part : List ℕ) : Type 0 where
+  pub on : v.asked + stand.all ≤ v.until
   pub events : List Event
   pub begun : Partly (labels_of stmt (headings_of s.public.tables))
       (verdict s.public s.asked s.tables stmt) events
@@ -143,6 +144,10 @@ pub record EmitsAll (ending : Ending) (s : Session) (stmt : Stmt) (here : Seen)
   pub answers : AnswersIn how s stmt answer
   pub printed : PrintsTo ending part answer.bytes
 
+abbrev pub StandsThere : Option Stand → Ending → Session → Stmt → Seen → Type 0
+StandsThere None ending s stmt here = ⊥
+StandsThere (Some stand) ending s stmt here = StandsIn ending stand s stmt here
+
 -- of those behind it in its flight nothing was printed
 unfoldable pub StandBehind : Ending → List Seat → Session → List Spelt → List Served → Type 0
 StandBehind ending seats s [] seen = ⊤
@@ -150,18 +155,18 @@ StandBehind ending seats s (Err at ∷ spelt) seen = ⊥
 StandBehind ending [] s (Ok stmt ∷ spelt) seen = ⊥
 StandBehind ending (v ∷ seats) s (Ok stmt ∷ spelt) [] = ⊥
 StandBehind ending (v ∷ seats) s (Ok stmt ∷ spelt) (x ∷ seen) =
-    option_map_or (λ (stand : Stand). StandsIn ending stand (at_seat v s) stmt x.seen) v.left ⊥
+    StandsThere v.left ending (at_seat v s) stmt x.seen
     × StandBehind ending seats s spelt seen
 
 -- ---- the first that was begun
 -- by its flight, if that was left, or alone
-abbrev pub BeginsAt : Option Stand → Ending → Session → Stmt → Seen → (part : List ℕ)
+abbrev pub BeginsAt : Option Stand → Ending → Seat → Session → Stmt → Seen → (part : List ℕ)
     → (behind : Type 0) → Type 0
-BeginsAt None ending s stmt here part behind =
+BeginsAt None ending v s stmt here part behind =
     StopsAt ending s stmt here part ⊎ AnswersLast ending s stmt here part
-BeginsAt (Some stand) ending s stmt here part behind =
+BeginsAt (Some stand) ending v s stmt here part behind =
     StandsIn ending stand s stmt here
-    × (EmitsPart ending s stmt part ⊎ EmitsAll ending s stmt here part) × behind
+    × (EmitsPart ending v stand s stmt part ⊎ EmitsAll ending s stmt here part) × behind
 
 abbrev pub BeginsAnswer : Ending → List Seat → Session → Spelt → (behind : List Spelt)
     → List Served → (part : List ℕ) → Type 0
@@ -169,7 +174,8 @@ BeginsAnswer ending seats s (Err at) behind seen part = part ≡ (refused_at at)
 BeginsAnswer ending [] s (Ok stmt) behind seen part = ⊥
 BeginsAnswer ending (v ∷ seats) s (Ok stmt) behind [] part = ⊥
 BeginsAnswer ending (v ∷ seats) s (Ok stmt) behind (x ∷ seen) part =
-    BeginsAt v.left ending (at_seat v s) stmt x.seen part (StandBehind ending seats s behind seen)
+    BeginsAt v.left ending v (at_seat v s) stmt x.seen part
+    (StandBehind ending seats s behind seen)
 
 -- ---- all of them
 -- from a session of the model on: these statements, of which none meets a full stash, some are served with an INSERT before

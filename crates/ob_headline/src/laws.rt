@@ -13,6 +13,7 @@ ghost use Rattle.ob_headline.specs.Keeping.{BeginsFrom};
 ghost use Rattle.ob_headline.specs.Leaves.{ReadsDraws};
 ghost use Rattle.ob_headline.specs.KeptMarks.{HeldAfter, KeptRun};
 ghost use Rattle.ob_headline.specs.KeptRuns.{AnswerAsOne, AnyRun, AreChained, GoOn, NumberOn, OneRun};
+ghost use Rattle.ob_headline.specs.OneByOne.{OneByOne};
 ghost use Rattle.ob_headline.specs.Pieces.{BeginsWith};
 ghost use Rattle.ob_headline.specs.Plainly.{IsUnhindered, RunsPlainly};
 ghost use Rattle.ob_headline.specs.Reruns.{Alike, AlikeSoFar, AsksAsShown, AsksByKinds, EndsWell, GoOnFromOne, IsPlain};
@@ -49,9 +50,9 @@ pub fn texts_are_pieces()
 
 /// Of a statement that was not cut off, accesses no index, and is no SELECT of rows or has its result padded, nothing is
 /// seen but whether it was refused before any access: of CREATE, INSERT, UPDATE, DELETE, DROP and SELECT of totals no row
-/// and no literal has a part in it, and of a padded SELECT of rows neither has the number of rows selected. Where INSERTs are
-/// served together, it is seen, too, whether it was served with one before it, which follows from what is gathered before it,
-/// its skeleton and that refusal.
+/// and no literal has a part in it, and of a padded SELECT of rows neither has the number of rows selected. Where INSERTs
+/// are served together, it is seen, too, whether it was served with one before it, which follows from what is gathered
+/// before it, its skeleton and that refusal.
 pub fn shows_its_refusal_alone()
     ensures alone { (p : Public) (m : ℕ) (stmt : Stmt) (here : Seen) → p.batch ≡ None
         → Lawful p m stmt here → IsPlain p stmt → is_cut here.end ≡ false
@@ -61,11 +62,12 @@ pub fn shows_its_refusal_alone()
         → is_cut here.end ≡ false → here ≡ plainly p m g stmt }
 {}
 
-/// However a run ends and whatever the store does, as long as no text was answered that the store failed, its accesses are
-/// a first part of one list, which follows from the settings, the skeletons of the statements, which of these were refused
-/// before any access, and what is seen of those that access an index and of SELECTs of rows whose results aren't padded: by
-/// the words of any program, from no tables or from those of an earlier run. Where INSERTs are served together, it follows,
-/// too, from which statements come right behind a text that is none, and so go into no batch with those before.
+/// However a run ends and whatever the store does, as long as none of its statements flies and no text was answered that
+/// the store failed, its accesses are a first part of one list, which follows from the settings, the skeletons of the
+/// statements, which of these were refused before any access, and what is seen of those that access an index and of SELECTs
+/// of rows whose results aren't padded: by the words of any program, from no tables or from those of an earlier run. Where
+/// INSERTs are served together, it follows, too, from which statements come right behind a text that is none, and so go
+/// into no batch with those before.
 pub fn asks_as_shown()
     ensures { (one : SomeRun) → ServesAlone one → failures_of one ≡ 0 → AsksAsShown one }
 {}
@@ -80,26 +82,34 @@ pub fn one_asks_a_first_part()
         → OneBegins (asked_by a) (asked_by b) }
 {}
 
-/// In any run, over any store and however it ends, the leaves of indexes that are read are those of draws, which are made of
-/// the secret, and no draw is read twice, whatever the statements, their values and their rows.
+/// In any run, over any store and however it ends, the leaves of indexes that are read are those of draws, which are made
+/// of the secret, and no draw is read twice, whatever the statements, their values and their rows.
 pub fn leaves_are_draws()
     ensures { (one : SomeRun)
         → ReadsDraws (draw_of (keys_by one)) (seats_by one) (seen_by one) }
 {}
 
-/// Over a store that tells what it holds, gave what was written and failed at no statement, a run whose words are taken,
-/// whose input keeps to the limits, and whose source and sinks don't fail, is the run of the plain machine, unless it ends
-/// for want of memory: each text of its input is answered as SQL answers it over plain tables, from none or from those that
-/// rested, it printed these answers, asked and traced what they ask by their meaning, and has their status.
+/// A run of which no statement flies, as none does without `--flight`, serves them one by one: one text at most was begun, what
+/// they ask follows from what is public and what is seen of each, one after the other, and without batches each text was
+/// answered before more was read.
+pub fn unflown_runs_go_one_by_one()
+    ensures { (one : SomeRun) → ServesAlone one → OneByOne one }
+{}
+
+/// Over a store that tells what it holds, gave what was written and failed at no statement, a run whose words are taken, of
+/// which no statement flies, whose input keeps to the limits, and whose source and sinks don't fail, is the run of the
+/// plain machine, unless it ends for want of memory: each text of its input is answered as SQL answers it over plain
+/// tables, from none or from those that rested, it printed these answers, asked and traced what they ask by their meaning,
+/// and has their status.
 pub fn unhindered_runs_are_plain()
     ensures { (one : SomeRun) (input : List ℕ) → ServesAlone one → IsUnhindered one input
         → FromEach one.base (λ s. RunsPlainly one input (drawing (keys_by one) s)) }
 {}
 
-/// Two runs that go on from the same, over any stores, that came to their end, and of which no text was answered that the
-/// store failed, ask the same, whatever their literals and their rows: if none of their statements is a SELECT of rows,
-/// none accesses an index, their skeletons are the same, the same ones are refused before any access, and, where INSERTs are
-/// served together, the same ones come right behind a text that is none.
+/// Two runs that go on from the same, over any stores, that came to their end, of which no statement flies, and no text was
+/// answered that the store failed, ask the same, whatever their literals and their rows: if none of their statements is a
+/// SELECT of rows, none accesses an index, their skeletons are the same, the same ones are refused before any access, and,
+/// where INSERTs are served together, the same ones come right behind a text that is none.
 pub fn reruns_ask_the_same()
     ensures { (a b : SomeRun) → ServesAlone a → ServesAlone b → GoOnFromOne a b
         → EndsWell a.report.status (failures_of a) → EndsWell b.report.status (failures_of b)
@@ -137,10 +147,10 @@ pub fn marks_are_held()
         (held : Mark) → keeper0.held ≡ Some held → HeldAfter run.ran held }
 {}
 
-/// Runs with one secret and the same words, `--keep` among them, that came to their end, the first over a fresh mark and
-/// each later one over the mark and the store that the one before it left, where that tells, gave what was written and
-/// failed at no statement: together they answer as one run does over all their texts, in which the same INSERTs are served
-/// together. Only that so many accesses were asked that a statement is refused for it may come at another place.
+/// Runs with one secret and the same words, `--keep` among them and `--flight` not, that came to their end, the first over
+/// a fresh mark and each later one over the mark and the store that the one before it left, where that tells, gave what was
+/// written and failed at no statement: together they answer as one run does over all their texts, in which the same INSERTs
+/// are served together. Only that so many accesses were asked that a statement is refused for it may come at another place.
 pub fn runs_answer_as_one()
     ensures { (words : List Text) → is_kept words ≡ true → flight_of kept_usage words ≡ None
         → (secret : List ℕ) (kept : ℕ → Option KeptRegion) (runs : List (OneRun words))
@@ -154,10 +164,10 @@ pub fn numbers_go_on()
     ensures { (runs : List AnyRun) → AreChained (Some Fresh) runs → NumberOn 0 runs }
 {}
 
-/// Whatever a store answers and however a run ends, where no text was answered that the store failed, and each statement
-/// accesses no index, and is no SELECT of rows or has its result padded, it asks a first part of what follows from the
-/// skeletons of its statements, and from which are refused before any access, alone: from no tables or from those of an
-/// earlier run, by the words of any program, with `--meddle` among them or without.
+/// Whatever a store answers and however a run ends, where no statement flies, no text was answered that the store failed,
+/// and each statement accesses no index, and is no SELECT of rows or has its result padded, it asks a first part of what
+/// follows from the skeletons of its statements, and from which are refused before any access, alone: from no tables or
+/// from those of an earlier run, by the words of any program, with `--meddle` among them or without.
 pub fn asks_by_kinds()
     ensures taken { (base : Base) (keys : List ℕ → KeySet) (app : App) (words : List Text)
         (tracing : Bool) (old new : Outside) (report : Report)
@@ -170,9 +180,9 @@ pub fn asks_by_kinds()
         (run : Headline base keys (IsTakenSaved words) tracing old new report) → AsksByKinds run }
 {}
 
-/// Each statement of a run that accesses no index writes to the regions that it makes, and to no other, and one that
-/// accesses an index to regions of an index, whatever the store does and however the run ends: behind a statement nothing is
-/// written to a region that was made by then and is no index's.
+/// Each statement of a run of which none flies, and that accesses no index, writes to the regions that it makes, and to no
+/// other, and one that accesses an index to regions of an index, whatever the store does and however the run ends: behind a
+/// statement nothing is written to a region that was made by then and is no index's.
 pub fn statements_write_their_own()
     ensures own { (one : SomeRun) → ServesAlone one → WriteOwn one.base.public (seen_by one) }
     ensures behind { (one : SomeRun) → ServesAlone one → (k i region place : ℕ)
@@ -184,8 +194,8 @@ pub fn statements_write_their_own()
 /// Over a store that tells what it holds, however a run ends, each block that lies in a live region that the run made is
 /// sealed for its place, under a number that is that of a write to it, and of no other write, of this run or of an earlier
 /// one. So it is at the end; behind any of the accesses, if the region is live to the end, where the place isn't written
-/// again; and so, behind each statement, of all blocks of the regions that were made by then, are no index's, and are live
-/// to the end.
+/// again; and so, behind each statement, where none flies, of all blocks of the regions that were made by then, are no
+/// index's, and are live to the end.
 pub fn blocks_are_sealed_alone()
     ensures ends { (one : SomeRun) → IsBegun one.base → ShowsSealed one }
     ensures between { (one : SomeRun) → IsBegun one.base → IsTrue one.old.store.tells
@@ -231,12 +241,12 @@ pub fn saved_marks_are_held()
         (held : Mark) → keeper0.held ≡ Some held → LeavesHeld run.ran held }
 {}
 
-/// Runs with the same words, `--save` among them, and of one secret, each ended in any way, the first over a fresh mark
-/// and each later one over the mark and the regions that the one before it left, where the store tells and gave what was
-/// written: they answer as one run does over the texts that took effect, which are those that were answered otherwise
-/// than that the store had failed, and for each run maybe one more, with INSERTs behind it that are served together with it,
-/// and what rests then is what that run leaves. Only that so many accesses were asked that a statement is refused for it may
-/// come at another place.
+/// Runs with the same words, `--save` among them and `--flight` not, and of one secret, each ended in any way, the first
+/// over a fresh mark and each later one over the mark and the regions that the one before it left, where the store tells
+/// and gave what was written: they answer as one run does over the texts that took effect, which are those that were
+/// answered otherwise than that the store had failed, and for each run maybe one more, with INSERTs behind it that are
+/// served together with it, and what rests then is what that run leaves. Only that so many accesses were asked that a
+/// statement is refused for it may come at another place.
 pub fn saved_runs_answer_as_one()
     ensures { (words : List Text) → is_saved words ≡ true → flight_of saved_usage words ≡ None
         → (secret : List ℕ) (kept : ℕ → Option KeptRegion) (runs : List (OneSaved words))

@@ -14,6 +14,7 @@ pub use laws::{
     one_asks_a_first_part, padded_reruns_ask_the_same, reruns_ask_the_same, reruns_show_the_same,
     runs_answer_as_one, runs_begin_behind_earlier_ones, saved_marks_are_held,
     saved_numbers_are_apart, saved_runs_answer_as_one, shows_its_refusal_alone,
-    statements_write_their_own, texts_are_pieces, unhindered_runs_are_plain,
+    statements_write_their_own, texts_are_pieces, unflown_runs_go_one_by_one,
+    unhindered_runs_are_plain,
 };
 pub use seed::Seed;

@@ -88,7 +88,7 @@ module _ {R E : Type 0} (state : R → RevState) (grew cut : E → E → List Ev
     drawn = ran.drawn;
     room = ran.room;
     opened = ran.opened;
-    kept = ran.kept;
+    untouched = ran.untouched;
     goes_on = on_ok_of _ _ result ran.goes_on;
   }
 
@@ -100,13 +100,14 @@ module _ {R E : Type 0} (state : R → RevState) (grew cut : E → E → List Ev
     all = ran.all;
     each = ran.each;
     emits = ran.emits;
+    turn = ran.turn;
     cause = ran.cause;
     failures = ran.failures;
     seals = ran.seals;
     means = ran.means;
   }
 
-  pub flew_whole : (ran : Called {T = Unit {0}} (Ok tt)) → FlewWhole state words left stmts seens (answers_of ran.ended seens) old s new t
+  unfoldable pub flew_whole : (ran : Called {T = Unit {0}} (Ok tt)) → FlewWhole state words left stmts seens (answers_of ran.ended seens) old s new t
   flew_whole ran = record { ended = ran.ended; ran = ran_aloft (Ok tt) ran; answered = refl }
 
   pub named_whole : {N : Type 0} (name : E → N) → (ran : Called {T = Unit {0}} (Ok tt)) → Names grew cut closed parted name → name out_new ≡ name out_old
@@ -146,7 +147,7 @@ module _ {R E : Type 0} (state : R → RevState) (grew cut : E → E → List Ev
   pub record SentUntil (written : E → Option (List ℕ)) (waiting : E → List ℕ) (stop : RunStop) (ran : Called {T = Unit {0}} (Err stop)) : Type 0 where
     pub part : List ℕ
     pub emits : EmitsUntil state stmts ran.stopped.stmt ran.stopped.seen (own (length ran.ended)) part old s new t
-    pub memory : stop ≡ Runs.NoMemory → WantsTogether (public_of old) words stmts seens (length ran.ended) ran.stopped.stmt ran.stopped.seen part s t
+    pub memory : stop ≡ Runs.NoMemory → WantsTogether (public_of old) words stmts seens (length ran.ended) ran.stopped.stmt ran.stopped.seen part ran.ended s t
     pub sent : Sends (written out_old) (written out_new) (waiting out_old) (waiting out_new) ⊥ (closed_text ran.ended ++ part)
         ⊎ (MayCut stop × Sends (written out_old) (written out_new) (waiting out_old) (waiting out_new) (Unit {0}) (closed_text ran.ended ++ part))
 
@@ -165,7 +166,7 @@ module _ {R E : Type 0} (state : R → RevState) (grew cut : E → E → List Ev
       at = ran.stopped
 
       abbrev Wants : (part : List ℕ) → Type 0
-      Wants part = stop ≡ Runs.NoMemory → WantsTogether (public_of old) words stmts seens (length ran.ended) at.stmt at.seen part s t
+      Wants part = stop ≡ Runs.NoMemory → WantsTogether (public_of old) words stmts seens (length ran.ended) at.stmt at.seen part ran.ended s t
 
       took_events : grew at.between out_new at.events → Wants (events_text at.events) → SentUntil written waiting stop ran
       took_events grown wants = record {

@@ -1,7 +1,7 @@
 -- SELECTs that waited, once they flew.
-use Rattle.std.specs.Prelude.{◌*◌, ◌/◌, max, min, not, slice_get}
+use Rattle.std.specs.Prelude.{◌*◌, ◌/◌, OnErr, OnOk, Result, is_some, max, min, not, slice_get}
 use Rattle.std.specs.List.{All}
-use Rattle.std.proofs.Common.{◌≡◌, ◌⊎◌, ◌≤◌, ◌+◌, inl, inr, ℕ, Bool, true, false, List, [], ◌∷◌, ◌++◌, length, Option, None, Some, Ok, Err, refl, sym, ap, ◌∙◌, subst, arith, append-nil}
+use Rattle.std.proofs.Common.{◌≡◌, ◌⊎◌, ◌<◌, ◌≤◌, ◌+◌, inl, inr, ℕ, Bool, true, false, List, [], ◌∷◌, ◌++◌, length, Option, None, Some, Ok, Err, refl, sym, ap, ◌∙◌, subst, arith, append-nil}
 use Rattle.std.proofs.lemmas.List.Elements.{All-head, All-weaker}
 use Rattle.std.specs.Io.KnownBytes.{Appends}
 use Rattle.std.proofs.KnownBytes.{Appends-nil}
@@ -15,6 +15,8 @@ use Rattle.ob_gen.specs.declared.tally.Tally.{Tally}
 use Rattle.ob_headline.specs.Flights.{may_fly, most_flown}
 use Rattle.ob_headline.specs.Words.{Faults, Took, printed}
 use Rattle.ob_headline.specs.declared.flight.FlightSettings.{FlightSettings}
+use Rattle.ob_mean.proofs.BatchLemmas.{begins}
+use Rattle.ob_mean.specs.Batches.{begins_batch, inserts_into}
 use Rattle.ob_mean.specs.Replay.{has_index, is_access}
 use Rattle.ob_print.proofs.CutLemmas.{Outputs-whole}
 use Rattle.ob_print.specs.Cuts.{Outputs}
@@ -23,22 +25,23 @@ use Rattle.ob_script.proofs.FlightLemmas.{next_after}
 use Rattle.ob_script.specs.FlightLaws.{SelectsFromOne}
 use Rattle.ob_script.specs.Flights.{drawn, turns_of}
 use Rattle.ob_seal.specs.KeySet.{KeySet, pair_of}
-use Rattle.ob_shell.proofs.FlushLemmas.{traced_to_none}
+use Rattle.ob_shell.proofs.GatherLemmas.{no_insert}
 use Rattle.ob_shell.proofs.StepLemmas.{PartlyAt-rests, Steps-none, printed-nil, steps_together}
 use Rattle.ob_shell.proofs.TakesLemmas.{place_other, place_past, same_fly}
-use Rattle.ob_shell.proofs.TookLemmas.{took_whole}
+use Rattle.ob_shell.proofs.TookLemmas.{took_whole, traced_to_none}
 use Rattle.ob_shell.specs.Aloft.{CutsFlight, RanTogether}
 use Rattle.ob_shell.specs.Flying.{CountsFlight, RestsFlight, RunsFlight, flights_of}
 use Rattle.ob_shell.specs.Running.{IsQuiet, OutFailed, halted_of}
-use Rattle.ob_shell.specs.Serving.{TakesTexts}
+use Rattle.ob_shell.specs.Serving.{ServesBatch, TakesTexts}
 use Rattle.ob_shell.specs.Steps.{AreSpelt, Gathered, IsApartFrom, IsReady, Machine, MayFly, PartlyAt, machine_of, no_flights, standing}
 use Rattle.ob_shell.specs.Traces.{Traced, TracedAll}
-use Rattle.ob_shell.specs.Waiting.{AreFlown, BreaksIn, ComesFree, IsApart, IsClosed, ServedSo}
+use Rattle.ob_shell.specs.Waiting.{AreBatched, AreFlown, BreaksIn, ComesFree, IsApart, IsClosed, ServedSo}
 use Rattle.ob_shell.specs.declared.session.TextHalted.{TextHalted}
 use Rattle.ob_sql.specs.Skeleton.{skeleton}
 use Rattle.ob_sql.specs.declared.stmt.Stmt.{Stmt}
 use Rattle.ob_store.specs.State.{StoreState}
 use Rattle.ob_tables.specs.Agreeing.{count_of, engine_keys, opened_from, public_of}
+use Rattle.ob_tables.specs.Batch.{AreBatch}
 use Rattle.ob_tables.specs.declared.engine.Engine.{Engine}
 use Rattle.ob_tables.specs.declared.stop.RunStop.{RunStop}
 use Rattle.ob_vault.specs.State.{RevState}
@@ -244,3 +247,37 @@ module _ {R : Type 0} (state : R → RevState) (Saves : Type 0) (on : Bool) (set
     cause = runs.cause;
     quiet = runs.quiet;
   }
+
+  pub flight_served : (result : Result Tally TextHalted) → RunsFlight state (drawn last0) (drawn last1) stmts tally w0 w1 old new e0 s0 e1 s1 result → OnOk result (TracedAll on s0.asked s1.asked t0 t1) → OnErr result (Traced on s0.asked s1.asked t0 t1 (IsQuiet (halted_of result)))
+      → ServesBatch state Saves on stmts tally w0 w1 t0 t1 old new m0 m1 result
+  flight_served (Ok counted) runs traced stop = flight_taken counted runs traced
+  flight_served (Err halted) runs traced stop = flight_broken halted runs stop
+
+-- ---- one of them alone
+-- it is no INSERT
+pub single_begins : (p : Public) (m : ℕ) (stmt : Stmt) → may_fly p (skeleton stmt) ≡ true → begins_batch p m stmt ≡ false
+single_begins p m stmt flies = go (begins_batch p m stmt) refl
+  where
+    go : (b : Bool) → begins_batch p m stmt ≡ b → b ≡ false
+    go false is = refl
+    go true is = absurd (let some = (begins p m stmt is).inserts in let none = no_insert p (skeleton stmt) flies in cc (some, ap is_some none))
+
+-- the first may fly
+pub first_may : (p : Public) (stmts : List Stmt) (stmt : Stmt) → All (λ (s : Stmt). may_fly p (skeleton s) ≡ true) stmts → slice_get stmts 0 ≡ Some stmt → may_fly p (skeleton stmt) ≡ true
+first_may p [] stmt fly is = absurd (cc is)
+first_may p (first ∷ rest) stmt fly is = subst (λ (s : Stmt). may_fly p (skeleton s) ≡ true) (cc is) (All-head (λ (s : Stmt). may_fly p (skeleton s) ≡ true) first rest fly)
+
+pub only_one : (stmts : List Stmt) (stmt : Stmt) → length stmts < 2 → slice_get stmts 0 ≡ Some stmt → stmts ≡ stmt ∷ []
+only_one [] stmt few is = absurd (cc is)
+only_one (first ∷ []) stmt few is = ap (λ (s : Stmt). s ∷ []) (cc is)
+only_one (first ∷ (more ∷ rest)) stmt few is = absurd (omega (arith, few))
+
+-- ---- by the first of them
+pub batch_of : (settings : Option FlightSettings) (p : Public) (m : ℕ) (first : Stmt) (rest : List Stmt) → AreBatched settings p m (first ∷ rest) → is_some (inserts_into (skeleton first)) ≡ true → AreBatch p m first rest
+batch_of settings p m first rest (inl batch) inserts = batch
+batch_of settings p m first rest (inr flown) inserts =
+    absurd (let none = no_insert p (skeleton first) (All-head (λ (s : Stmt). may_fly p (skeleton s) ≡ true) first rest flown.fly) in let not = ap is_some none in cc (inserts, not))
+
+pub flown_of : (settings : Option FlightSettings) (p : Public) (m : ℕ) (first : Stmt) (rest : List Stmt) → AreBatched settings p m (first ∷ rest) → is_some (inserts_into (skeleton first)) ≡ false → AreFlown settings p (first ∷ rest)
+flown_of settings p m first rest (inl batch) not = absurd (let some = (begins p m first batch.begins).inserts in cc (some, not))
+flown_of settings p m first rest (inr flown) not = flown

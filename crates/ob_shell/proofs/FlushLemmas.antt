@@ -18,8 +18,7 @@ use Rattle.ob_print.specs.Rows.{events_text}
 use Rattle.ob_reopen.specs.Keepers.{KeeperState}
 use Rattle.ob_shell.proofs.BatchSteps.{StandsAt, batch_closed, batch_lost, batch_steps, follow_unanswered, stopped_does, unanswered}
 use Rattle.ob_shell.proofs.StepLemmas.{PartlyAt-none, Steps-none, printed-nil}
-use Rattle.ob_shell.proofs.TookLemmas.{took_whole}
-use Rattle.ob_shell.proofs.TraceLemmas.{traced-nil}
+use Rattle.ob_shell.proofs.TookLemmas.{took_whole, traced_to_none}
 use Rattle.ob_shell.proofs.WithLemmas.{events_none, insert_of, insert_prints}
 use Rattle.ob_shell.specs.Lines.{LinesCut, line_answer, line_answers}
 use Rattle.ob_shell.specs.Running.{Silenced, StopCause}
@@ -40,14 +39,6 @@ use Rattle.ob_tables.specs.declared.stop.RunStop.TheVariants as Runs
 use Rattle.ob_vault.specs.State.{RevState}
 use Rattle.ob_verdict.specs.Outcomes.{MayEmit}
 use Rattle.ob_verdict.specs.declared.outcome.Outcome.{Outcome}
-
--- where nothing was asked nothing is traced
-pub traced_to_none : (on : Bool) (a : List Access) (t0 t1 : Option (List ℕ)) (more : List ℕ) → Appends t0 t1 more → TracedTo on a a t0 t1
-traced_to_none on a t0 t1 more appends = record {
-  seen = [];
-  grew = sym (append-nil a);
-  took = record { after = more; appends = subst (λ (l : List ℕ). Appends t0 t1 (l ++ more)) (sym (traced-nil on)) appends };
-}
 
 -- nothing is printed of a statement that emits nothing
 none_printed : (stop : RunStop) → PrintsUntil (session_stop stop) [] (events_text [])

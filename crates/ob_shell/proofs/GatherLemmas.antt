@@ -1,5 +1,5 @@
 -- One more statement that waits, and those that are as many as are served together then.
-use Rattle.std.specs.Prelude.{IsSome, OnOk, bytes_eq, if◌then◌else◌, is_ok, nat_le}
+use Rattle.std.specs.Prelude.{IsSome, OnOk, ◌||◌, bytes_eq, if◌then◌else◌, is_ok, nat_le}
 use Rattle.std.specs.List.{All}
 use Rattle.std.specs.Option.{option_map_or}
 use Rattle.std.specs.Result.{is_err}
@@ -22,7 +22,7 @@ use Rattle.ob_shell.proofs.WaitLemmas.{so_idle}
 use Rattle.ob_shell.specs.Running.{OutFailed}
 use Rattle.ob_shell.specs.Serving.{TakesTexts}
 use Rattle.ob_shell.specs.Steps.{AreSpelt, Gathered, IsApartFrom, IsReady, Machine, Steps, asked_of, at_rest, more_together, one_more, standing}
-use Rattle.ob_shell.specs.Waiting.{AreBatched, AreGathered, AwaitsMore, BreaksIn, ComesFree, GoesAlong, IsApart, IsClosed, IsFree, ServedSo, are_alike, begins_flight, gather_most, goes_along}
+use Rattle.ob_shell.specs.Waiting.{AreBatched, AreGathered, AwaitsMore, BreaksIn, ComesFree, GoesAlong, IsApart, IsClosed, IsFree, ServedSo, are_alike, begins as waits_first, begins_flight, gather_most, goes_along}
 use Rattle.ob_shell.specs.declared.session.TextHalted.{TextHalted}
 use Rattle.ob_sql.specs.Skeleton.{skeleton}
 use Rattle.ob_sql.specs.declared.stmt.Stmt.{Stmt}
@@ -323,3 +323,20 @@ pub idle_public : {R T : Type 0} {state : R → RevState} {Saves : Type 0} {on :
 idle_public {state = state} {m0 = m0} {m1 = m1} takes g comes none =
     let so = takes.done g [] comes (subst (λ (l : List Stmt). AreSpelt [] l) (sym none) tt) in
     same_public state (standing m0 [] g) (standing m1 [] so.gathered) so.served so.answers (none_served so.served so.held so.parts) so.steps
+
+-- ---- one that waits for others
+pub begins_so : (settings : Option FlightSettings) (p : Public) (m : ℕ) (stmt : Stmt) → waits_first settings p m stmt ≡ true → GoesAlong settings p m [] stmt
+begins_so settings p m stmt is = go (begins_batch p m stmt) (begins_flight settings p (skeleton stmt)) refl refl is
+  where
+    go : (a b : Bool) → begins_batch p m stmt ≡ a → begins_flight settings p (skeleton stmt) ≡ b → (a || b) ≡ true → GoesAlong settings p m [] stmt
+    go true b batch flight is = inl batch
+    go false true batch flight is = inr flight
+    go false false batch flight is = absurd (cc is)
+
+pub begins_none : (settings : Option FlightSettings) (p : Public) (m : ℕ) (stmt : Stmt) → waits_first settings p m stmt ≡ false → (begins_batch p m stmt ≡ false) × (begins_flight settings p (skeleton stmt) ≡ false)
+begins_none settings p m stmt is = go (begins_batch p m stmt) (begins_flight settings p (skeleton stmt)) refl refl is
+  where
+    go : (a b : Bool) → begins_batch p m stmt ≡ a → begins_flight settings p (skeleton stmt) ≡ b → (a || b) ≡ false → (begins_batch p m stmt ≡ false) × (begins_flight settings p (skeleton stmt) ≡ false)
+    go true b batch flight is = absurd (cc is)
+    go false true batch flight is = absurd (cc is)
+    go false false batch flight is = (batch, flight)

@@ -40,13 +40,14 @@ module _ {R : Type 0} (state : R → RevState) (words left : ℕ → ℕ) (stmts
         drawn = is.ran.drawn;
         room = is.ran.room;
         opened = is.ran.opened;
-        kept = is.ran.kept;
+        untouched = record { live = is.ran.untouched.live; number = is.ran.untouched.number; turn = is.ran.untouched.turn; kept = is.ran.untouched.kept; last = is.ran.untouched.last; rests = is.ran.untouched.rests };
         goes_on = record { agrees = agrees_left state new t room is.ran.goes_on.agrees; public = is.ran.goes_on.public; lives = is.ran.goes_on.lives };
       };
       rest = is.rest;
       all = is.all;
       each = is.each;
       emits = is.emits;
+      turn = tt;
       cause = λ calm. calm_now (world_of state new t).vault t room (is.cause calm);
       failures = record { least = is.failures.least; none = is.failures.none };
       seals = λ good rows one. seals_now (world_of state new t).vault t room good _ (is.seals good rows one);

@@ -22,6 +22,8 @@ use Rattle.ob_shell.proofs.TookLemmas.{took_whole, traces_all, traces_to}
 use Rattle.ob_shell.proofs.TraceLemmas.{traced_then}
 use Rattle.ob_shell.proofs.WaitLemmas.{answered_but, break_then, ends_end, follow_more, last_idle, none_held, so_idle, so_then, steps_flown, steps_most, tally_end}
 use Rattle.ob_shell.specs.Feeding.{Fed, Fetch}
+use Rattle.ob_shell.specs.Flying.{flights_at, flights_of, start_of}
+use Rattle.ob_headline.specs.declared.flight.FlightSettings.{FlightSettings}
 use Rattle.ob_shell.specs.Running.{EndsBy, SessionRan, SoFar}
 use Rattle.ob_shell.specs.Serving.{HasRead, ended_with}
 use Rattle.ob_headline.specs.Flights.{most_flown}
@@ -181,3 +183,8 @@ ran_unflushed {state = state} {f0 = f0} {gave = gave} {m0 = m0} {m1 = m1} ends r
     ran_broken run read.piece read.ended (read.texts ++ []) read.more read.consumed read.taken read.limit read.at_end (read.parts ∙ ap (λ (l : List (List ℕ)). l ++ read.more) (sym (append-nil read.texts))) (break_then read.so read.traced broke)
     (subst (λ (two : ℕ × ℕ). AnsweredBut two.0 two.1 (texts_in false (before_read gave (f0.unread ++ read.piece))) (read.so.served ++ now.served)) (λ i. (sym same i, sym flown i))
     (answered_but m1.flights.settings (public_of m1.engine) (asked_of m1) _ read.texts read.so.served read.so.held now.served now.more [] _ waits read.so.spelt read.so.parts now.parts read.before))
+
+-- ---- the words that it begins with
+pub ran_from : {R : Type 0} {state : R → RevState} {Lost : Type 0} {on : Bool} {t0 t2 : Option (List ℕ)} {f0 f2 : Fetch} {gave : ℕ} {l0 l2 w0 w2 : Option (List ℕ)} {m2 : Machine R} {stop : Result Tally Stop} (e : Engine R) (s : StoreState) (k : KeeperState) (settings : Option FlightSettings) (last : ℕ) → last ≡ start_of settings
+    → SessionRan state on f0 f2 l0 l2 gave w0 w2 t0 t2 (machine_of e s k (flights_of settings last)) m2 Lost stop → SessionRan state on f0 f2 l0 l2 gave w0 w2 t0 t2 (machine_of e s k (flights_at settings)) m2 Lost stop
+ran_from {state = state} {Lost = Lost} {on = on} {t0 = t0} {t2 = t2} {f0 = f0} {f2 = f2} {gave = gave} {l0 = l0} {l2 = l2} {w0 = w0} {w2 = w2} {m2 = m2} {stop = stop} e s k settings last is ran = subst (λ (n : ℕ). SessionRan state on f0 f2 l0 l2 gave w0 w2 t0 t2 (machine_of e s k (flights_of settings n)) m2 Lost stop) is ran

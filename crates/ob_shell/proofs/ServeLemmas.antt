@@ -1,7 +1,7 @@
 -- What the engine was given and what it left.
 use Rattle.std.specs.Prelude.{IsErr, if◌then◌else◌}
 use Rattle.std.specs.Option.{option_map}
-use Rattle.std.proofs.Common.{ℕ, List, [], ◌∷◌, ◌++◌, ◌≡◌, ◌≤◌, Bool, Option, None, Result, Ok, Err, refl, sym, ◌∙◌, inl, inr, subst, append-nil, arith, true, false}
+use Rattle.std.proofs.Common.{ℕ, List, [], ◌∷◌, ◌++◌, ◌≡◌, ◌≤◌, Bool, Option, None, Result, Ok, Err, refl, sym, ap, ◌∙◌, inl, inr, subst, append-nil, arith, true, false}
 use Rattle.std.specs.Io.KnownBytes.{Appends}
 use Rattle.std.specs.Result.{is_err}
 use Rattle.ob_base.specs.Events.{Event}
@@ -226,7 +226,7 @@ flush_loses stop (Err e) quiet out0 out1 out2 not cause is flushed failed =
 pub select_tables : (p : Public) (outline : Skeleton) (seen : Seen) {q : Public} → may_fly p outline ≡ true → q ≡ next p outline seen → q.tables ≡ p.tables
 select_tables p outline seen flies is = ap (λ (x : Public). x.tables) is ∙ go outline flies seen.end
   where
-    go : (s : Skeleton) → may_fly p s ≡ true → (end : End) → tables_then p s end ≡ p.tables
+    go : (s : Skeleton) → may_fly p s ≡ true → (ended : End) → tables_then p s ended ≡ p.tables
     go (Rows source columns) may Static = refl
     go (Rows source columns) may Whole = refl
     go (Rows source columns) may AfterCount = refl
@@ -237,8 +237,8 @@ select_tables p outline seen flies is = ap (λ (x : Public). x.tables) is ∙ go
     go (Groups table columns key) may AfterCount = refl
     go (Groups table columns key) may Joined = refl
     go (Groups table columns key) may (Cut n) = refl
-    go (CreateSkeleton table columns n shape) may end = absurd (cc may)
-    go (InsertSkeleton table columns) may end = absurd (cc may)
-    go (UpdateSkeleton table columns) may end = absurd (cc may)
-    go (DeleteSkeleton table) may end = absurd (cc may)
-    go (DropSkeleton table) may end = absurd (cc may)
+    go (CreateSkeleton table columns n shape) may ended = absurd (cc may)
+    go (InsertSkeleton table columns) may ended = absurd (cc may)
+    go (UpdateSkeleton table columns) may ended = absurd (cc may)
+    go (DeleteSkeleton table) may ended = absurd (cc may)
+    go (DropSkeleton table) may ended = absurd (cc may)

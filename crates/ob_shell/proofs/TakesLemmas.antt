@@ -1,5 +1,5 @@
 -- Texts that are taken, part by part: some are answered, and some wait.
-use Rattle.std.specs.Prelude.{◌&&◌, if◌then◌else◌, nat_le, nat_lt, not}
+use Rattle.std.specs.Prelude.{◌&&◌, OnErr, OnOk, if◌then◌else◌, nat_le, nat_lt, not}
 use Rattle.std.proofs.Common.{◌≡◌, ◌≤◌, arith, inl, inr, ℕ, Bool, false, true, List, [], ◌∷◌, ◌++◌, Option, None, Result, Ok, Err, refl, sym, ap, ◌∙◌, subst, append_assoc, append-nil}
 use Rattle.std.specs.Io.KnownBytes.{Appends}
 use Rattle.std.proofs.lemmas.Bool.{leb-false, ltb-true}
@@ -21,16 +21,19 @@ use Rattle.ob_headline.specs.declared.flight.FlightSettings.{FlightSettings}
 use Rattle.ob_mean.specs.Refusals.{is_index}
 use Rattle.ob_print.proofs.CutLemmas.{Outputs-by}
 use Rattle.ob_print.specs.Cuts.{Outputs}
-use Rattle.ob_shell.proofs.FlushLemmas.{traced_to_none}
 use Rattle.ob_shell.proofs.ServeLemmas.{misspelt}
 use Rattle.ob_shell.proofs.StepLemmas.{PartlyAt-more, Steps-none, counts_one, one_step, printed-nil}
+use Rattle.ob_shell.proofs.TookLemmas.{traced_to_none}
 use Rattle.ob_shell.proofs.TraceLemmas.{traced_cut, traced_none, traced_then, traced_whole}
 use Rattle.ob_shell.proofs.WaitLemmas.{break_then, follow_more, none_held, so_idle, so_then}
 use Rattle.ob_shell.specs.Lines.{line_answer}
 use Rattle.ob_shell.specs.Running.{IsQuiet, OutFailed, Silenced, StopCause, halted_of, stop_of}
-use Rattle.ob_shell.specs.Serving.{IsNotTaken, ServesStmt, TakesMore, TakesTexts, WantsRoom}
+use Rattle.ob_shell.specs.Serving.{IsNotTaken, ServesStmt, TakesMore, TakesTexts, WantsRoom, counted_by}
 use Rattle.ob_shell.proofs.TallyLemmas.{tally_after-one}
-use Rattle.ob_shell.specs.Steps.{AnswersText, AreSpelt, Gathered, IsReady, Machine, StopsIn, asked_of, gathered_by, none_gathered, standing}
+use Rattle.ob_reopen.specs.Keepers.{KeeperState}
+use Rattle.ob_shell.specs.Steps.{AnswersText, AreSpelt, Flights, Gathered, IsReady, Machine, StopsIn, asked_of, gathered_by, machine_of, none_gathered, standing}
+use Rattle.ob_store.specs.State.{StoreState}
+use Rattle.ob_tables.specs.declared.engine.Engine.{Engine}
 use Rattle.ob_shell.specs.Tallies.{tally_with}
 use Rattle.ob_shell.specs.Traces.{Traced, TracedAll}
 use Rattle.ob_shell.specs.Waiting.{AreGathered, BreaksIn, IsClosed, IsFree, ServedSo, begins_flight}
@@ -88,6 +91,10 @@ module _ {R S : Type 0} {state : R → RevState} {Saves : Type 0} {on : Bool} {M
   takes_more_then Saves' b2 t2 w2 s2 new m2 (Ok y) next = takes_then first may ys (Ok y) last next
   takes_more_then Saves' b2 t2 w2 s2 new m2 (Err (Served halted)) next = takes_then first may ys (Err halted) last next
   takes_more_then Saves' b2 t2 w2 s2 new m2 (Err (Unread stop)) next = (takes_then first may [] (Ok tt) (λ g h k comes then later. later) next.0, next.1)
+
+-- ---- whichever flights are to come
+pub ready_with : {R : Type 0} {state : R → RevState} {Saves : Type 0} {e : Engine R} {s : StoreState} {k : KeeperState} {f h : Flights} → IsReady state Saves (machine_of e s k f) → IsReady state Saves (machine_of e s k h)
+ready_with ready = record { agrees = ready.agrees; lives = ready.lives; settled = ready.settled; saves = ready.saves }
 
 -- ---- nothing was done
 pub takes_idle : {R T : Type 0} {state : R → RevState} {Saves : Type 0} (on : Bool) {May : Gathered → Type 0} {Then : (old new : Gathered) → Type 0} (batch : List Stmt) (tally : Tally) (w t : Option (List ℕ)) (old : Faults) (m : Machine R) (x : T) → IsReady state Saves m
@@ -331,6 +338,12 @@ module _ {R : Type 0} {state : R → RevState} {Saves : Type 0} {on : Bool} {May
     cause = serves.cause;
     quiet = serves.quiet;
   }
+
+  pub single_served : (result : Result Tally TextHalted) → may_fly (public_of m0.engine) (skeleton stmt) ≡ true → ServesStmt state Saves May stmt (AnswersText state w0 w1 tally) w0 w1 old new m0 m1 result → OnOk result (TracedAll on m0.store.asked m1.store.asked s0 s1)
+      → OnErr result (Traced on m0.store.asked m1.store.asked s0 s1 (IsQuiet (halted_of result)))
+      → TakesTexts state Saves on May (IsClosed m1.flights.settings (public_of m0.engine) (public_of m1.engine) (stmt ∷ [])) (stmt ∷ []) [] [] tally (counted_by tally result) w0 w1 s0 s1 old new m0 m1 result
+  single_served (Ok counted) flies serves traced stop = takes_single counted flies serves traced
+  single_served (Err halted) flies serves traced stop = single_halted halted serves stop
 
 -- a text that is no statement
 module _ {R : Type 0} {state : R → RevState} {Saves : Type 0} (on : Bool) {May : Gathered → Type 0} {w0 w1 : Option (List ℕ)} (t : Option (List ℕ)) {old new : Faults} (m : Machine R) (owed : m ≡ standing m [] none_gathered) (text : List ℕ) (at : ℕ) (spells : Spells text (Err at)) (tally : Tally) where

@@ -1,12 +1,12 @@
 -- SELECTs that fly together, and what is printed of them.
-use Rattle.std.specs.Prelude.{ℕ, ◌≡◌, ◌<◌, ◌⊎◌, List, [], ◌∷◌, ◌++◌, drop, length, map, slice_get, Option, Some, Result, Ok, Err, OnOk}
+use Rattle.std.specs.Prelude.{ℕ, ◌≡◌, ◌≤◌, ◌⊎◌, List, [], ◌∷◌, ◌++◌, drop, length, map, slice_get, Option, Some, Result, Ok, Err, IfErr, OnOk}
 use Rattle.std.specs.Io.KnownBytes.{Appends}
 use Rattle.ob_base.specs.Events.{Event}
 use Rattle.ob_base.specs.declared.config.Public.{Public}
 use Rattle.ob_base.specs.declared.seen.Seen.{Seen}
 use Rattle.ob_inflight.specs.Closing.{Closed, RisesBy}
 use Rattle.ob_exec.specs.InFlight.{IsFlown, served_as}
-use Rattle.ob_exec.specs.RanFlight.{BeforeMake, FlightCause, EndsSo, FlightMeans, FliesOn, asked_by, asked_since, carried_out, cut_off, in_flight, stopped_after}
+use Rattle.ob_exec.specs.RanFlight.{BeforeMake, FlightCause, EndsSo, FlightMeans, FliesOn, asked_by, asked_since, carried_out, cut_off, StopsInTurn, in_flight, stopped_after}
 use Rattle.ob_headline.specs.Closing.{closing_line}
 use Rattle.ob_headline.specs.Meaning.{PrintsUntil}
 use Rattle.ob_headline.specs.Words.{Answer, printed}
@@ -29,6 +29,7 @@ use Rattle.ob_tables.specs.Telling.{KeepsSealed, ReadsTrueUntil, answer_labels}
 use Rattle.ob_tables.specs.declared.engine.Engine.{Engine}
 use Rattle.ob_tables.specs.declared.stop.RunStop.{RunStop}
 use Rattle.ob_tables.specs.declared.stop.RunStop.TheVariants.{NoMemory, SinkFault}
+use Rattle.ob_vault.specs.Calls.{Apart}
 use Rattle.ob_vault.specs.State.{RevState}
 use Rattle.ob_verdict.specs.Outcomes.{Emits, Partly}
 use Rattle.ob_verdict.specs.declared.outcome.Outcome.{Outcome}
@@ -69,7 +70,8 @@ pub record RanTogether {R T : Type 0} (state : R → RevState) (words : ℕ → 
   pub drawn : (d : Draws) → AreDraws old d → AreDraws new d
   pub room : IsFree (public_of old) new.room
   pub opened : Opens (drop (length s.asked) t.asked) (high_of old) (high_of new)
-  pub kept : (q : ℕ) → q < (public_of old).next_region → t.kept q ≡ s.kept q
+  pub untouched : Apart (λ q. (public_of old).next_region ≤ q) (world_of state old s)
+      (world_of state new t)
   pub goes_on : OnOk result (FliesOn state (next_flight (public_of old) flown words) new t)
 
 -- it had these statements fly, whatever they were answered: this was seen of each, and the first of them have ended
@@ -88,6 +90,9 @@ pub record RanAloft {R T : Type 0} (state : R → RevState) (words left : ℕ �
   pub emits : (i : ℕ) (stmt : Stmt) (one : Closed) → slice_get stmts i ≡ Some stmt
       → slice_get ended i ≡ Some one
       → Emits stmt (answer_labels stmt (public_of old)) one.outcome one.events
+  -- a stop comes in the turn in which the last of these accesses was asked, or behind it
+  pub turn : IfErr result (λ stop. StopsInTurn (public_of old) (served_as stmts seens) words
+      (asked_since s t) (length ended))
   pub cause : FlightCause result (world_of state old s) (world_of state new t)
   pub failures : RisesBy (cut_off seens) s.faults t.faults
   pub seals : KeepsSealed state old s new t
@@ -117,10 +122,10 @@ pub record EmitsUntil {R : Type 0} (state : R → RevState) (stmts : List Stmt) 
 -- memory is wanting before the first access, where a region is made, just before a result is made that isn't padded, or where
 -- the next one's rows are emitted, or its closing line
 abbrev pub WantsTogether : Public → (words : ℕ → ℕ) → List Stmt → List Seen → (place : ℕ)
-    → Stmt → Seen → (part : List ℕ) → (s t : StoreState) → Type 0
-WantsTogether p words stmts seens place stmt seen part s t =
+    → Stmt → Seen → (part : List ℕ) → List Closed → (s t : StoreState) → Type 0
+WantsTogether p words stmts seens place stmt seen part ended s t =
     AtMake (drop (length s.asked) t.asked)
-    ⊎ (BeforeMake (in_flight stmts p) stmts seens (asked_own p words stmts seens s t)
+    ⊎ (BeforeMake (in_flight stmts p) stmts seens (asked_own p words stmts seens s t) ended
     ⊎ (AtEmission (in_flight stmts p) stmt seen (drop (asked_own p words stmts seens s t place)
     (whole_script (in_flight stmts p) (skeleton stmt) seen))
     ⊎ ((events : List Event) × (outcome : Outcome) × ClosesWithin events part outcome)))
@@ -139,7 +144,7 @@ pub record FlewUntil {R : Type 0} (state : R → RevState) (words left : ℕ →
   pub emits : EmitsUntil state stmts stmt seen
       (asked_own (public_of old) words stmts seens s t (length ended)) part old s new t
   pub memory : stop ≡ NoMemory
-      → WantsTogether (public_of old) words stmts seens (length ended) stmt seen part s t
+      → WantsTogether (public_of old) words stmts seens (length ended) stmt seen part ended s t
   pub printed : PrintsUntil (session_stop stop) bytes (printed (answers_of ended seens) ++ part)
 
 -- they flew to their end, with these answers

@@ -1,5 +1,5 @@
 -- Statements that wait to be served together, and what is served before them.
-use Rattle.std.specs.Prelude.{ℕ, ◌≡◌, ◌<◌, ◌≤◌, ◌+◌, ◌⊎◌, ◌&&◌, ⊤, Bool, true, false, nat_le, List, [], ◌∷◌, ◌++◌, bytes_eq, length, Option, None}
+use Rattle.std.specs.Prelude.{ℕ, ◌≡◌, ◌<◌, ◌≤◌, ◌+◌, ◌⊎◌, ◌&&◌, ◌||◌, ⊤, Bool, true, false, nat_le, List, [], ◌∷◌, ◌++◌, bytes_eq, length, Option, None}
 use Rattle.std.specs.List.{All}
 use Rattle.std.specs.Option.{option_map_or}
 use Rattle.std.specs.Io.KnownBytes.{Appends}
@@ -54,6 +54,10 @@ gather_most settings p outline =
 -- it waits for others to fly with it
 abbrev pub begins_flight : Option FlightSettings → Public → Skeleton → Bool
 begins_flight settings p outline = nat_le 2 (most_flown settings p) && may_fly p outline
+
+-- it waits for others, to be served together with them
+abbrev pub begins : Option FlightSettings → Public → (m : ℕ) → Stmt → Bool
+begins settings p m stmt = begins_batch p m stmt || begins_flight settings p (skeleton stmt)
 
 -- they are a batch to which one more may come
 pub record AwaitsMore (p : Public) (m : ℕ) (first : Stmt) (rest : List Stmt) : Type 0 where

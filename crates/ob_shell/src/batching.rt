@@ -1,12 +1,10 @@
 //! Statements that wait to be served together.
-ghost use Rattle.std.specs.Prelude.{◌≡◌, ◌≢◌, ◌≤◌, ◌∷◌, [], drop, length, max, take, true, Option, IsErr, OnErr, OnOk};
-ghost use Rattle.std.specs.List.{All};
+ghost use Rattle.std.specs.Prelude.{◌≡◌, ◌≢◌, ◌≤◌, ◌+◌, ◌*◌, ◌∷◌, [], drop, is_some, length, take, Option, IsErr, OnErr, OnOk};
 ghost use Rattle.std.specs.Io.KnownBytes.{Appends};
-ghost use Rattle.ob_exec.specs.InFlight.{flight_most};
-ghost use Rattle.ob_headline.specs.Flights;
 ghost use Rattle.ob_headline.specs.Tracing.{traced};
 ghost use Rattle.ob_headline.specs.Words.{faults_of, printed};
 ghost use Rattle.ob_io.specs.Causes.{HasCause};
+ghost use Rattle.ob_mean.specs.Batches.{inserts_into};
 ghost use Rattle.ob_print.specs.Cuts.{Outputs};
 ghost use Rattle.ob_headline.specs.declared.flight.FlightSettings.{FlightSettings};
 ghost use Rattle.ob_shell.specs.Flying.{flights_of};
@@ -20,11 +18,11 @@ ghost use Rattle.ob_sql.specs.Skeleton.{skeleton};
 ghost use Rattle.ob_tables.specs.Agreeing.{count_of, public_of};
 ghost use Rattle.ob_tables.specs.Batch.{AreBatch};
 
-use crate::flying::{may_fly, most_flown, serve_flight};
+use crate::flying::{begins_flight, may_fly, most_flown, serve_flight};
 use crate::session::{Answered, Manner, SINK_FAILED, Session, TextHalted, answer_traced, tally_with};
 use crate::trace::{let_go_from, trace_from};
 use ob_base::{Failed, Public};
-use ob_exec::{Behind, Engine, Outcome, RunStop, batch_most, run_batch};
+use ob_exec::{Behind, Engine, Outcome, RunStop, batch_most, begins_batch, run_batch};
 use ob_gen::{Digester, Tally};
 use ob_headline::FlightSettings;
 use ob_io::Sink;
@@ -34,6 +32,12 @@ use ob_store::BlockStore;
 use ob_turns::{DrawnTurns, closing_line};
 use ob_vault::Revisions;
 use std::alloc::Global;
+
+fn is_insert(stmt: &Stmt) -> bool
+    ensures { result ≡ is_some (inserts_into (skeleton stmt.now)) }
+{
+    matches!(stmt, Stmt::Insert { .. })
+}
 
 // Whether both insert into one table.
 fn are_alike(first: &Stmt, stmt: &Stmt) -> bool
@@ -70,6 +74,21 @@ pub(crate) fn gather_most(flight: Option<FlightSettings>, public: &Public, stmt:
         Stmt::Insert { .. } => batch_most(public),
         _ => most_flown(flight, public),
     }
+}
+
+/// Whether a statement before which none waits is to wait for others: it begins a batch or a flight.
+pub(crate) fn begins<R: Revisions, S: BlockStore>(
+    flight: Option<FlightSettings>,
+    engine: &Engine<R>,
+    store: &S,
+    stmt: &Stmt,
+) -> bool
+    requires pack { 1 ≤ (public_of engine.now).pack }
+    requires buffer { 3 * (public_of engine.now).pack + 1 ≤ (public_of engine.now).buffer }
+    ensures { result ≡ Waiting.begins flight (public_of engine.now)
+        (count_of engine.now (S.state store.now)) stmt.now }
+{
+    begins_batch(engine, store, stmt) || begins_flight(flight, engine.public(), stmt)
 }
 
 // Writes the line of each answer, of which none waits afterwards.
@@ -234,9 +253,9 @@ fn serve_selects<R: Revisions, S: BlockStore, B: Behind<S>, K: Sink, T: Sink, D:
     trace: &mut T,
     digest: &mut D,
 ) -> Result<Tally, TextHalted>
-    requires some { stmts.now ≢ [] }
-    requires fly { All (λ stmt. Flights.may_fly (public_of engine.old) (skeleton stmt) ≡ true) stmts.now }
-    requires few { length stmts.now ≤ max 1 (flight_most (public_of engine.old)) }
+    requires some { 1 ≤ length stmts.now }
+    requires flown { (settings : Option FlightSettings)
+        × AreFlown settings (public_of engine.old) stmts.now }
     requires ready { IsReady R.state (B.Saves behind.old)
         (machine_of engine.old (S.state store.old) (B.state behind.old) no_flights) }
     requires took { D.took digest.old (S.state store.old).asked }
@@ -258,9 +277,54 @@ fn serve_selects<R: Revisions, S: BlockStore, B: Behind<S>, K: Sink, T: Sink, D:
             alloc, tracing, tally, turns, stmts, engine, store, out, trace, digest,
         );
     }
-    let stmt = &stmts[0];
     answer_traced(
-        alloc, tracing, tally, engine, store, behind, stmt, out, trace, digest,
+        alloc, tracing, tally, engine, store, behind, &stmts[0], out, trace, digest,
+    )
+}
+
+// Serves those that wait, a batch of INSERTs or SELECTs. Tells what was counted then.
+fn serve_waiting<R: Revisions, S: BlockStore, B: Behind<S>, K: Sink, T: Sink, D: Digester>(
+    alloc: Global,
+    tracing: bool,
+    tally: Tally,
+    turns: &mut DrawnTurns,
+    stmts: &[Stmt],
+    engine: &mut Engine<R>,
+    store: &mut S,
+    behind: &mut B,
+    out: &mut K,
+    trace: &mut T,
+    digest: &mut D,
+) -> Result<Tally, TextHalted>
+    requires waits { (settings : Option FlightSettings) × AreBatched settings
+        (public_of engine.old) (count_of engine.old (S.state store.old)) stmts.now }
+    requires ready { IsReady R.state (B.Saves behind.old)
+        (machine_of engine.old (S.state store.old) (B.state behind.old) no_flights) }
+    requires took { D.took digest.old (S.state store.old).asked }
+    ensures serves { (settings : Option FlightSettings) → AreBatched settings
+        (public_of engine.old) (count_of engine.old (S.state store.old)) stmts.now
+        → ServesBatch R.state (B.Saves behind.new) tracing stmts.now tally
+        (K.written out.old) (K.written out.new) (T.written trace.old) (T.written trace.new)
+        (faults_of 0 (K.faults out.old) (T.faults trace.old))
+        (faults_of 0 (K.faults out.new) (T.faults trace.new))
+        (machine_of engine.old (S.state store.old) (B.state behind.old)
+        (flights_of settings turns.old.last))
+        (machine_of engine.new (S.state store.new) (B.state behind.new)
+        (flights_of settings turns.new.last)) result }
+    ensures idle { OnErr result (stmts.now ≢ []) }
+    ensures same { B.name behind.new ≡ B.name behind.old }
+    ensures took { OnOk result (D.took digest.new (S.state store.new).asked) }
+{
+    let Some((first, rest)) = stmts.split_first() else {
+        return Ok(tally);
+    };
+    if is_insert(first) {
+        return serve_batch(
+            alloc, tracing, tally, first, rest, engine, store, behind, out, trace, digest,
+        );
+    }
+    serve_selects(
+        alloc, tracing, tally, turns, stmts, engine, store, behind, out, trace, digest,
     )
 }
 
@@ -287,8 +351,8 @@ pub(crate) fn flush<R: Revisions, S: BlockStore, B: Behind<S>, K: Sink, T: Sink,
     ensures idle { OnErr result (session.old.batch.items ≢ []) }
     ensures takes { TakesTexts R.state (B.Saves behind.new) manner.tracing
         (ComesFree manner.flight (public_of engine.old) session.old.batch.items)
-        (IsClosed manner.flight (public_of engine.old) (public_of engine.new) session.old.batch.items)
-        session.old.batch.items session.new.batch.items []
+        (IsClosed manner.flight (public_of engine.old) (public_of engine.new)
+        session.old.batch.items) session.old.batch.items session.new.batch.items []
         session.old.tally session.new.tally (K.written out.old) (K.written out.new)
         (T.written trace.old) (T.written trace.new)
         (faults_of 0 (K.faults out.old) (T.faults trace.old))
@@ -300,38 +364,19 @@ pub(crate) fn flush<R: Revisions, S: BlockStore, B: Behind<S>, K: Sink, T: Sink,
     ensures same { B.name behind.new ≡ B.name behind.old }
     ensures took { OnOk result (D.took digest.new (S.state store.new).asked) }
 {
-    let Some((first, rest)) = session.batch.as_slice().split_first() else {
-        return Ok(());
-    };
-    let served = match first {
-        Stmt::Insert { .. } => serve_batch(
-            alloc,
-            manner.tracing,
-            session.tally,
-            first,
-            rest,
-            engine,
-            store,
-            behind,
-            out,
-            trace,
-            digest,
-        ),
-        _ => serve_selects(
-            alloc,
-            manner.tracing,
-            session.tally,
-            &mut session.turns,
-            session.batch.as_slice(),
-            engine,
-            store,
-            behind,
-            out,
-            trace,
-            digest,
-        ),
-    };
-    match served {
+    match serve_waiting(
+        alloc,
+        manner.tracing,
+        session.tally,
+        &mut session.turns,
+        session.batch.as_slice(),
+        engine,
+        store,
+        behind,
+        out,
+        trace,
+        digest,
+    ) {
         Ok(tally) => {
             session.tally = tally;
             session.batch.clear();

@@ -109,7 +109,7 @@ fn fly_stmts<R: Revisions, S: BlockStore, K: Sink>(
     requires flight { AreFlight (public_of engine.old)
         (count_of engine.old (S.state store.old)) stmts.now }
     requires each { length seens.old ≡ length stmts.now }
-    requires kept { length printer.old.outcomes.items ≡ length stmts.now }
+    requires kept { length printer.old.outcomes.now ≡ length stmts.now }
     requires none { printer.old.printer.out.waiting.items ≡ [] }
     ensures same_sink { printer.new.printer.out.out.ghost_name
         ≡ printer.old.printer.out.out.ghost_name }
@@ -124,7 +124,7 @@ fn fly_stmts<R: Revisions, S: BlockStore, K: Sink>(
 {
     match run_flight(engine, store, stmts, turns, printer, seens) {
         Ok(()) => match printer.printer.out.flush() {
-            Ok(()) => Ok(tally_flown(tally, printer.outcomes.as_slice(), seens)),
+            Ok(()) => Ok(tally_flown(tally, printer.outcomes, seens)),
             Err(Failed) => Err(SINK_FAILED),
         },
         Err(stop) => match stop {
@@ -165,7 +165,7 @@ fn answer_flight<R: Revisions, S: BlockStore, K: Sink>(
             quiet: false,
         });
     };
-    let Ok(outcomes) = Vec::from_elem(alloc, Outcome::Inserted, stmts.len()) else {
+    let Ok(mut outcomes) = Vec::from_elem(alloc, Outcome::Inserted, stmts.len()) else {
         return Err(TextHalted {
             stop: RunStop::NoMemory,
             quiet: false,
@@ -177,7 +177,7 @@ fn answer_flight<R: Revisions, S: BlockStore, K: Sink>(
             out: Pieces::new(out),
             line: &mut line,
         },
-        outcomes,
+        outcomes: outcomes.as_mut_slice(),
     };
     fly_stmts(
         tally,

@@ -350,7 +350,17 @@ pub(crate) fn run_kept<I: Source, O: Sink, T: Sink, D: Digester, S: Lasting, K: 
             ) {
                 Err(ended) => ended,
                 Ok(engine) => serve_run(
-                    alloc, tracing, words.flight, engine, &mut feed, input, out, trace, digest, store, keeper,
+                    alloc,
+                    tracing,
+                    words.flight,
+                    engine,
+                    &mut feed,
+                    input,
+                    out,
+                    trace,
+                    digest,
+                    store,
+                    keeper,
                 ),
             }
         }

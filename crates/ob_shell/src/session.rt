@@ -17,13 +17,13 @@ ghost use Rattle.ob_shell.specs.Waiting.{AreGathered, GoesAlong, IsFree};
 ghost use Rattle.ob_sql.specs.Skeleton.{skeleton};
 ghost use Rattle.ob_tables.specs.Agreeing.{count_of, public_of};
 
-use crate::batching::{flush, gather_most, goes_along};
+use crate::batching::{begins, flush, gather_most, goes_along};
 use crate::feed::{Feed, Halt};
-use crate::flying::{begins_flight, turns_of};
+use crate::flying::turns_of;
 use crate::pending::{Grown, Pending, PushStop};
 use crate::trace::{let_go_from, trace_from};
 use ob_base::{Failed, Plan, Refusal, Stop};
-use ob_exec::{Behind, Engine, Outcome, RunStop, begins_batch, run};
+use ob_exec::{Behind, Engine, Outcome, RunStop, run};
 use ob_gen::{Digester, Tally};
 use ob_headline::FlightSettings;
 use ob_io::{Sink, Source};
@@ -306,8 +306,8 @@ fn gather<R: Revisions, S: BlockStore, B: Behind<S>, K: Sink, T: Sink, D: Digest
     digest: &mut D,
 ) -> Result<(), Break>
     requires spells { Spells session.old.pending (Ok stmt) }
-    requires goes { GoesAlong manner.flight (public_of engine.old) (count_of engine.old (S.state store.old))
-        session.old.batch.items stmt }
+    requires goes { GoesAlong manner.flight (public_of engine.old)
+        (count_of engine.old (S.state store.old)) session.old.batch.items stmt }
     requires ready { IsReady R.state (B.Saves behind.old)
         (machine_of engine.old (S.state store.old) (B.state behind.old)
         (flights_of manner.flight session.old.turns.last)) }
@@ -378,7 +378,7 @@ fn begin<R: Revisions, S: BlockStore, B: Behind<S>, K: Sink, T: Sink, D: Digeste
     ensures same { B.name behind.new ≡ B.name behind.old }
     ensures took { UnlessServed result (D.took digest.new (S.state store.new).asked) }
 {
-    if begins_batch(engine, store, &stmt) || begins_flight(manner.flight, engine.public(), &stmt) {
+    if begins(manner.flight, engine, store, &stmt) {
         return gather(
             alloc, manner, session, stmt, engine, store, behind, out, trace, digest,
         );
@@ -418,8 +418,8 @@ fn take_stmt<R: Revisions, S: BlockStore, B: Behind<S>, K: Sink, T: Sink, D: Dig
     digest: &mut D,
 ) -> Result<(), Break>
     requires spells { Spells session.old.pending (Ok stmt) }
-    requires waits { AreGathered manner.flight (public_of engine.old) (count_of engine.old (S.state store.old))
-        session.old.batch.items }
+    requires waits { AreGathered manner.flight (public_of engine.old)
+        (count_of engine.old (S.state store.old)) session.old.batch.items }
     requires ready { IsReady R.state (B.Saves behind.old)
         (machine_of engine.old (S.state store.old) (B.state behind.old)
         (flights_of manner.flight session.old.turns.last)) }
@@ -469,8 +469,8 @@ fn take_misspelt<R: Revisions, S: BlockStore, B: Behind<S>, K: Sink, T: Sink, D:
     digest: &mut D,
 ) -> Result<(), TextHalted>
     requires spells { Spells session.old.pending (Err at) }
-    requires waits { AreGathered manner.flight (public_of engine.old) (count_of engine.old (S.state store.old))
-        session.old.batch.items }
+    requires waits { AreGathered manner.flight (public_of engine.old)
+        (count_of engine.old (S.state store.old)) session.old.batch.items }
     requires ready { IsReady R.state (B.Saves behind.old)
         (machine_of engine.old (S.state store.old) (B.state behind.old)
         (flights_of manner.flight session.old.turns.last)) }
@@ -522,8 +522,8 @@ fn take_text<R: Revisions, S: BlockStore, B: Behind<S>, K: Sink, T: Sink, D: Dig
     digest: &mut D,
 ) -> Result<(), Break>
     requires short { length session.old.pending ≤ text_max }
-    requires waits { AreGathered manner.flight (public_of engine.old) (count_of engine.old (S.state store.old))
-        session.old.batch.items }
+    requires waits { AreGathered manner.flight (public_of engine.old)
+        (count_of engine.old (S.state store.old)) session.old.batch.items }
     requires ready { IsReady R.state (B.Saves behind.old)
         (machine_of engine.old (S.state store.old) (B.state behind.old)
         (flights_of manner.flight session.old.turns.last)) }
@@ -577,8 +577,8 @@ fn turn<R: Revisions, S: BlockStore, B: Behind<S>, K: Sink, T: Sink, D: Digester
     digest: &mut D,
 ) -> Result<(), Break>
     requires short { length session.old.pending < text_max }
-    requires waits { AreGathered manner.flight (public_of engine.old) (count_of engine.old (S.state store.old))
-        session.old.batch.items }
+    requires waits { AreGathered manner.flight (public_of engine.old)
+        (count_of engine.old (S.state store.old)) session.old.batch.items }
     requires ready { IsReady R.state (B.Saves behind.old)
         (machine_of engine.old (S.state store.old) (B.state behind.old)
         (flights_of manner.flight session.old.turns.last)) }
@@ -632,8 +632,8 @@ fn finish<R: Revisions, S: BlockStore, B: Behind<S>, K: Sink, T: Sink, D: Digest
     digest: &mut D,
 ) -> Result<(), Break>
     requires short { length session.old.pending ≤ text_max }
-    requires waits { AreGathered manner.flight (public_of engine.old) (count_of engine.old (S.state store.old))
-        session.old.batch.items }
+    requires waits { AreGathered manner.flight (public_of engine.old)
+        (count_of engine.old (S.state store.old)) session.old.batch.items }
     requires ready { IsReady R.state (B.Saves behind.old)
         (machine_of engine.old (S.state store.old) (B.state behind.old)
         (flights_of manner.flight session.old.turns.last)) }

@@ -23,14 +23,13 @@ fn keep(outcomes: &mut [Outcome], place: u32, outcome: Outcome)
 
 /// Prints answers one behind the other, each with the line that ends it, and keeps how the statement at each place was
 /// answered, where there is room for it.
-#[derive(Drop)]
 pub struct FlightPrinter<'a, K: Sink> {
     pub printer: Printer<'a, K>,
-    pub outcomes: Vec<Outcome>,
+    pub outcomes: &'a mut [Outcome],
 }
 
 impl<'a, K: Sink> Emit for FlightPrinter<'a, K> {
-    ghost grew = { λ s t events. Printed (K.written s.printer.out.out.now) (K.written t.printer.out.out.now) s.printer.out.waiting.items t.printer.out.waiting.items events × (t.printer.out.out.ghost_name ≡ s.printer.out.out.ghost_name) × (t.outcomes.items ≡ s.outcomes.items) };
+    ghost grew = { λ s t events. Printed (K.written s.printer.out.out.now) (K.written t.printer.out.out.now) s.printer.out.waiting.items t.printer.out.waiting.items events × (t.printer.out.out.ghost_name ≡ s.printer.out.out.ghost_name) × (t.outcomes.now ≡ s.outcomes.now) };
 
     ghost cut = { λ s t events. PrintedCut (K.written s.printer.out.out.now) (K.written t.printer.out.out.now) s.printer.out.waiting.items t.printer.out.waiting.items events × (t.printer.out.out.ghost_name ≡ s.printer.out.out.ghost_name) };
 
@@ -56,13 +55,13 @@ impl<'a, K: Sink> Emit for FlightPrinter<'a, K> {
 
 impl<'a, K: Sink> FlightOut for FlightPrinter<'a, K> {
     // its line came behind what waited for the sink
-    ghost closed = { λ s t place outcome. Sends (K.written s.printer.out.out.now) (K.written t.printer.out.out.now) s.printer.out.waiting.items t.printer.out.waiting.items ⊥ (closing_line outcome) × (t.printer.out.out.ghost_name ≡ s.printer.out.out.ghost_name) × IsKept place outcome s.outcomes.items t.outcomes.items };
+    ghost closed = { λ s t place outcome. Sends (K.written s.printer.out.out.now) (K.written t.printer.out.out.now) s.printer.out.waiting.items t.printer.out.waiting.items ⊥ (closing_line outcome) × (t.printer.out.out.ghost_name ≡ s.printer.out.out.ghost_name) × IsKept place outcome s.outcomes.now t.outcomes.now };
 
     // a first part of it did
     ghost parted = { λ s t place outcome. Sends (K.written s.printer.out.out.now) (K.written t.printer.out.out.now) s.printer.out.waiting.items t.printer.out.waiting.items (Unit {0}) (closing_line outcome) × (t.printer.out.out.ghost_name ≡ s.printer.out.out.ghost_name) };
 
     fn ended(&mut self, place: u32, outcome: &Outcome) -> Result<(), EmitErr> {
-        keep(self.outcomes.as_mut_slice(), place, *outcome);
+        keep(self.outcomes, place, *outcome);
         match self.printer.out.write_all(closing_line(*outcome).as_bytes()) {
             Ok(()) => Ok(()),
             Err(Failed) => Err(EmitErr::Failed),

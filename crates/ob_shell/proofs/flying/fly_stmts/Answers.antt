@@ -9,9 +9,9 @@ use Rattle.ob_shell.proofs.flying.fly_stmts.Goals as goal
 pub returns-in-Ok-flush-clause-runs : goal.returns-in-Ok-flush-clause-runs
 returns-in-Ok-flush-clause-runs g c =
     record {
-      done = counts_whole c.args.tally _ _ (prints_whole (λ e. g.K.Sink.written e.printer.out.out.now) (λ e. e.printer.out.waiting.items) (λ e. e.outcomes.items) c.requires.none c.in-Ok.ensures.ran
+      done = counts_whole c.args.tally _ _ (prints_whole (λ e. g.K.Sink.written e.printer.out.out.now) (λ e. e.printer.out.waiting.items) (λ e. e.outcomes.now) c.requires.none c.in-Ok.ensures.ran
           (record { took = λ a b events p. (p.0, p.2); ends = λ a b place outcome p. (p.0, p.2); halves = λ a b events p. p.0; parts = λ a b place outcome p. p.0 })
-          c.requires.kept c.in-Ok-flush.ensures.cut (λ (h : false ≡ true). absurd (cc))) c.tally_flown.ensures c.as_slice.ensures.value;
+          c.requires.kept c.in-Ok-flush.ensures.cut (λ (h : false ≡ true). absurd (cc))) c.tally_flown.ensures refl;
       stopped = tt;
       cause = search rules;
       quiet = search rules;
@@ -21,7 +21,7 @@ pub returns-in-Err-flush-clause-runs : goal.returns-in-Err-flush-clause-runs
 returns-in-Err-flush-clause-runs g c =
     record {
       done = tt;
-      stopped = inr (prints_behind (λ e. g.K.Sink.written e.printer.out.out.now) (λ e. e.printer.out.waiting.items) (λ e. e.outcomes.items) c.requires.none c.in-Ok.ensures.ran
+      stopped = inr (prints_behind (λ e. g.K.Sink.written e.printer.out.out.now) (λ e. e.printer.out.waiting.items) (λ e. e.outcomes.now) c.requires.none c.in-Ok.ensures.ran
           (record { took = λ a b events p. (p.0, p.2); ends = λ a b place outcome p. (p.0, p.2); halves = λ a b events p. p.0; parts = λ a b place outcome p. p.0 })
           c.flush.ensures.cut (refl, rises_earlier _ _ _ (omega (arith, c.in-Ok.ensures.ran.sink)) c.in-Err-flush.ensures.cause.failed));
       cause = search rules;
@@ -33,7 +33,7 @@ returns-in-SinkFault-clause-runs g c =
     let ran = rw c.in-SinkFault.is at c.in-Err.ensures.ran in
     record {
       done = tt;
-      stopped = inr (prints_lost (λ e. g.K.Sink.written e.printer.out.out.now) (λ e. e.printer.out.waiting.items) (λ e. e.outcomes.items) c.requires.none _ ran
+      stopped = inr (prints_lost (λ e. g.K.Sink.written e.printer.out.out.now) (λ e. e.printer.out.waiting.items) (λ e. e.outcomes.now) c.requires.none _ ran
           (record { took = λ a b events p. (p.0, p.2); ends = λ a b place outcome p. (p.0, p.2); halves = λ a b events p. p.0; parts = λ a b place outcome p. p.0 })
           (refl, ran.sink));
       cause = search rules;
@@ -45,7 +45,7 @@ returns-in_default-clause-runs g c =
     let lost = flush_loses c.in-Err.stop c.flush-in_default.result c.is_err-quiet.result _ _ _ c.in_default.not-SinkFault c.in-Err.ensures.ran.sink c.is_err-quiet.ensures.value c.flush-in_default.ensures.cause in
     record {
       done = tt;
-      stopped = inr (prints_until (λ e. g.K.Sink.written e.printer.out.out.now) (λ e. e.printer.out.waiting.items) (λ e. e.outcomes.items) c.requires.none c.in-Err.stop c.in-Err.ensures.ran
+      stopped = inr (prints_until (λ e. g.K.Sink.written e.printer.out.out.now) (λ e. e.printer.out.waiting.items) (λ e. e.outcomes.now) c.requires.none c.in-Err.stop c.in-Err.ensures.ran
           (record { took = λ a b events p. (p.0, p.2); ends = λ a b place outcome p. (p.0, p.2); halves = λ a b events p. p.0; parts = λ a b place outcome p. p.0 })
           c.in_default.not-SinkFault c.flush-in_default.ensures.cut lost);
       cause = stop_cause Tally c.in-Err.stop _ _ _ c.in-Err.ensures.ran.sink c.flush-in_default.ensures.cause.later;

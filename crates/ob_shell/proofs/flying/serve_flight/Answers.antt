@@ -33,7 +33,7 @@ returns-in-Err-false-clause-runs g c =
     let told = c.in-Err-false.ensures.runs in
     record {
       done = tt;
-      stopped = cuts_unlost refl told.stopped;
+      stopped = cuts_unlost {P = Rises (g.K.Sink.faults c.args.out.now) (g.K.Sink.faults c.answer_flight.new.out)} refl told.stopped;
       cause = traced_cause c.in-Err-false.field-0.stop c.in-Err-false.field-0.stop _ _ _ _ refl told.cause c.trace_from-in-Err-false.ensures.cause.later;
       quiet = search rules;
     }

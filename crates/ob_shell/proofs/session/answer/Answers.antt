@@ -1,4 +1,4 @@
-use Rattle.std.proofs.Common.{refl, inr, ◌∙◌, ◌++◌, arith, rules}
+use Rattle.std.proofs.Common.{refl, inl, inr, ◌∙◌, ◌++◌, arith, rules}
 use Rattle.std.proofs.KnownBytes.{Appends-trans}
 use Rattle.ob_headline.specs.Closing.{closing_line}
 use Rattle.ob_print.proofs.CutLemmas.{Outputs-after, Outputs-fault}

@@ -48,6 +48,8 @@ flush-requires g c =
 
 pub returns-in-Ok-clause-takes : goal.returns-in-Ok-clause-takes
 returns-in-Ok-clause-takes g c =
+    let e = c.args.engine.now in
+    let m = count_of e (g.S.BlockStore.state c.args.store.now) in
     let batch = c.args.session.now.batch.items in
     let more : c.push.new.self.items ≡ batch ++ c.args.stmt ∷ [] = pushed c.push.result c.is_err.result _ c.is_err.ensures.value c.if-is_err.false c.push.ensures.items in
     let most = c.gather_most-most.ensures ∙ ap (λ (p : Public). gather_most c.args.manner.flight p (skeleton c.args.stmt)) c.public.ensures in
@@ -56,6 +58,8 @@ returns-in-Ok-clause-takes g c =
 
 pub returns-in-Err-clause-takes : goal.returns-in-Err-clause-takes
 returns-in-Err-clause-takes g c =
+    let e = c.args.engine.now in
+    let m = count_of e (g.S.BlockStore.state c.args.store.now) in
     let batch = c.args.session.now.batch.items in
     let more : c.push.new.self.items ≡ batch ++ c.args.stmt ∷ [] = pushed c.push.result c.is_err.result _ c.is_err.ensures.value c.if-is_err.false c.push.ensures.items in
     let most = c.gather_most-most.ensures ∙ ap (λ (p : Public). gather_most c.args.manner.flight p (skeleton c.args.stmt)) c.public.ensures in

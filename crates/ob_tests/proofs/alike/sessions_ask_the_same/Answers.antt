@@ -1,4 +1,5 @@
 use Rattle.std.proofs.Common.{refl, inl, inr}
+use Rattle.ob_headline.proofs.BaseLemmas.{unflown}
 use Rattle.ob_headline.specs.Reruns.{shell_run}
 use Rattle.ob_tests.proofs.alike.sessions_ask_the_same.Goals as goal
 
@@ -8,8 +9,8 @@ returns g c read =
     let second = c.shell_top-second.ensures.headline read in (
       first,
       second,
-      λ well well_too plain alike. elim plain [
-        | inl none ↦ c.reruns_ask_the_same.ensures (shell_run first) (shell_run second) (record { public = refl; count = refl; before = refl }) well well_too none alike
-        | inr padded ↦ c.padded_reruns_ask_the_same.ensures (shell_run first) (shell_run second) (record { public = refl; count = refl; before = refl }) well well_too padded alike
+      λ none_fly well well_too plain alike. elim plain [
+        | inl none ↦ c.reruns_ask_the_same.ensures (shell_run first) (shell_run second) (unflown _ _ none_fly) (unflown _ _ none_fly) (record { public = refl; count = refl; before = refl }) well well_too none alike
+        | inr padded ↦ c.padded_reruns_ask_the_same.ensures (shell_run first) (shell_run second) (unflown _ _ none_fly) (unflown _ _ none_fly) (record { public = refl; count = refl; before = refl }) well well_too padded alike
       ],
     )

@@ -1,0 +1,59 @@
+-- How texts are gathered to fly: worked examples.
+use Rattle.std.specs.Prelude.{codes}
+use Rattle.std.proofs.Common.{◌≡◌, [], ◌∷◌, Some, None, Ok, Err, refl}
+use Rattle.ob_base.specs.declared.seen.End.TheVariants.{Static}
+use Rattle.ob_headline.specs.Bases.{start}
+use Rattle.ob_headline.specs.Disturbed.{first_course, meant_entries}
+use Rattle.ob_headline.specs.Flights.{most_in, whole_of}
+use Rattle.ob_mean.proofs.VerdictLemmas.{count_all}
+use Rattle.ob_mean.specs.Verdict.{ended}
+use Rattle.ob_script.specs.Flights.{Alone, Together, drawn}
+use Rattle.ob_script.specs.Trace.{Served}
+use Rattle.ob_sql.specs.Skeleton.{skeleton}
+use Rattle.ob_sql.specs.declared.stmt.Stmt.{Stmt}
+use Rattle.ob_sql.specs.declared.stmt.Stmt.TheVariants.{Drop as DropTable}
+
+-- a SELECT of a table that there isn't, and another statement
+select : Stmt
+select = count_all (codes "a")
+
+drop_it : Stmt
+drop_it = DropTable (codes "a")
+
+-- both are refused before any access
+x : Served
+x = record { skeleton = skeleton select; seen = ended Static }
+
+y : Served
+y = record { skeleton = skeleton drop_it; seen = ended Static }
+
+-- by twos
+by_twos : meant_entries 2 (drawn 0) (first_course (start None)) (Ok select ∷ Ok select ∷ Ok select ∷ Ok select ∷ Ok select ∷ []) ≡ Together (x ∷ x ∷ []) None ∷ Together (x ∷ x ∷ []) None ∷ Alone x ∷ []
+unfolding meant_entries select x
+by_twos = refl
+
+-- a text that is none, another statement and the end are behind what was gathered
+ended_by_others : meant_entries 8 (drawn 0) (first_course (start None)) (Ok select ∷ Ok select ∷ Ok select ∷ Err 3 ∷ Ok select ∷ Ok drop_it ∷ Ok select ∷ Ok select ∷ [])
+    ≡ Together (x ∷ x ∷ x ∷ []) None ∷ Alone x ∷ Alone y ∷ Together (x ∷ x ∷ []) None ∷ []
+unfolding meant_entries select drop_it x y
+ended_by_others = refl
+
+-- none fly without the word
+none_by_ones : meant_entries 1 (drawn 0) (first_course (start None)) (Ok select ∷ Ok select ∷ Ok drop_it ∷ []) ≡ Alone x ∷ Alone x ∷ Alone y ∷ []
+unfolding meant_entries select drop_it x y
+none_by_ones = refl
+
+-- of a flight that was left nothing is whole
+left_whole : whole_of 2 (Alone x ∷ Together (x ∷ x ∷ []) (Some 1) ∷ []) ≡ Alone x ∷ []
+unfolding whole_of
+left_whole = refl
+
+-- no more than have their share of the rows
+eight_of_many : most_in (record { most = 8; start = 0 }) (record (start None).public { buffer = 64; pack = 1 }) ≡ 8
+eight_of_many = refl
+
+two_of_wide : most_in (record { most = 8; start = 0 }) (record (start None).public { buffer = 64; pack = 8 }) ≡ 2
+two_of_wide = refl
+
+one_of_widest : most_in (record { most = 8; start = 0 }) (record (start None).public { buffer = 64; pack = 16 }) ≡ 1
+one_of_widest = refl
