@@ -85,7 +85,7 @@ same_by o old new end n cause ends not =
     let none : is_fault o ≡ false = sym (ap is_cut ends ∙ end_cut o n) ∙ not in rw none at cause.0
 
 -- where it was, one did
-rose_by : (o : Outcome) (old new : World) (end : End) (n : ℕ) → RunCause (Ok o) old new → end ≡ outcome_end o n → IsTrue (is_cut end) → Rises old.store.faults new.store.faults
+pub rose_by : (o : Outcome) (old new : World) (end : End) (n : ℕ) → RunCause (Ok o) old new → end ≡ outcome_end o n → IsTrue (is_cut end) → Rises old.store.faults new.store.faults
 rose_by o old new end n cause ends cut =
     let failed : is_fault o ≡ true = sym (ap is_cut ends ∙ end_cut o n) ∙ cut in rw failed at cause.0
 

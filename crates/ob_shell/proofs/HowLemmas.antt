@@ -53,14 +53,14 @@ after_select p (K.Drop table) fly = absurd (cc fly)
 after_select p (K.Rows source cs) fly = refl
 after_select p (K.Groups table cs key) fly = refl
 
-then_select : (p : Public) (sk : Skeleton) (end : End) → may_fly p sk ≡ true → tables_then p sk end ≡ p.tables
+pub then_select : (p : Public) (sk : Skeleton) (end : End) → may_fly p sk ≡ true → tables_then p sk end ≡ p.tables
 then_select p sk Static fly = refl
 then_select p sk Whole fly = after_select p sk fly
 then_select p sk AfterCount fly = refl
 then_select p sk Joined fly = refl
 then_select p sk (Cut n) fly = refl
 
-may_by : (p q : Public) (sk : Skeleton) → q.tables ≡ p.tables → may_fly q sk ≡ may_fly p sk
+pub may_by : (p q : Public) (sk : Skeleton) → q.tables ≡ p.tables → may_fly q sk ≡ may_fly p sk
 may_by p q (K.Create table cs n shape) same = refl
 may_by p q (K.Insert table cs) same = refl
 may_by p q (K.Update table cs) same = refl
@@ -216,3 +216,9 @@ meets_alone most words g s stmt off = go (is_full_now s stmt) refl
     go false room =
         ap (trace_in words 0 s.public) (met_room most words g s stmt [] Alone (how_alone most words g s stmt [] off) (λ fly. (refl, tt)) room)
         ∙ append-nil (script s.public (skeleton stmt) (seen_now s stmt)) ∙ ap (λ (b : Bool). script s.public (skeleton stmt) (if b then (served_full s stmt).seen else seen_now s stmt)) (sym room)
+
+-- only what is an index tells
+pub starts_as : (most : ℕ) (p q : Public) (n : ℕ) (spelt : List Spelt) → q.tables ≡ p.tables → StartsApart most p n spelt → StartsApart most q n spelt
+starts_as most p q n [] same apart = tt
+starts_as most p q n (Err at ∷ spelt) same apart = tt
+starts_as most p q n (Ok stmt ∷ spelt) same apart = ap (λ (b : Bool). if b && nat_lt n most then n else 0) (may_by p q (skeleton stmt) same) ∙ apart

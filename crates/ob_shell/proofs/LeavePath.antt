@@ -101,14 +101,14 @@ module _ {R : Type 0} (state : R → RevState) where
 
 -- from the first machine to the last these were answered, and the one behind them begun, or the flight
 pub data Along {R : Type 0} (state : R → RevState) (ending : Ending) : Machine R → Machine R → List Spelt → List Answer → Type 0 where
-  over : {m0 m2 : Machine R} → IsOver state m0 m2 → Along state ending m0 m2 [] []
-  ends : {m0 m2 : Machine R} {x : Spelt} → EndsAlong state ending m0 m2 x → Along state ending m0 m2 (x ∷ []) []
-  aloft : {m0 m2 : Machine R} {spelt : List Spelt} {kept : List Answer} → HaveFlown state m0 m2 → Along state ending m0 m2 spelt kept
-  passed : {m0 m1 m2 : Machine R} {at : ℕ} {one : Answer} {spelt : List Spelt} {answers : List Answer} → IsPassed state m0 m1 → Along state ending m1 m2 spelt answers
+  over_along : {m0 m2 : Machine R} → IsOver state m0 m2 → Along state ending m0 m2 [] []
+  ended_along : {m0 m2 : Machine R} {x : Spelt} → EndsAlong state ending m0 m2 x → Along state ending m0 m2 (x ∷ []) []
+  aloft_along : {m0 m2 : Machine R} {spelt : List Spelt} {kept : List Answer} → HaveFlown state m0 m2 → Along state ending m0 m2 spelt kept
+  passed_along : {m0 m1 m2 : Machine R} {at : ℕ} {one : Answer} {spelt : List Spelt} {answers : List Answer} → IsPassed state m0 m1 → Along state ending m1 m2 spelt answers
       → Along state ending m0 m2 (Err at ∷ spelt) (one ∷ answers)
-  answered : {m0 m1 m2 : Machine R} {stmt : Stmt} {one : Answer} {spelt : List Spelt} {answers : List Answer} → IsDone state m0 m1 stmt one.outcome ⊎ IsWith state m0 m1 stmt one.outcome → Along state ending m1 m2 spelt answers
+  answered_along : {m0 m1 m2 : Machine R} {stmt : Stmt} {one : Answer} {spelt : List Spelt} {answers : List Answer} → IsDone state m0 m1 stmt one.outcome ⊎ IsWith state m0 m1 stmt one.outcome → Along state ending m1 m2 spelt answers
       → Along state ending m0 m2 (Ok stmt ∷ spelt) (one ∷ answers)
-  together : {m0 m1 m2 : Machine R} (spelt : List Spelt) {more : List Spelt} (given : List Answer) {answers : List Answer} → HaveLanded state m0 m1 → Along state ending m1 m2 more answers → Along state ending m0 m2 (spelt ++ more) (given ++ answers)
+  together_along : {m0 m1 m2 : Machine R} (spelt : List Spelt) {more : List Spelt} (given : List Answer) {answers : List Answer} → HaveLanded state m0 m1 → Along state ending m1 m2 more answers → Along state ending m0 m2 (spelt ++ more) (given ++ answers)
 
 -- and where the model stands beside them
 pub data Path {R : Type 0} (state : R → RevState) (ending : Ending) : Machine R → Machine R → Draws → Tables → List Spelt → List Answer → Broken → Type 0 where

@@ -124,7 +124,7 @@ module _ {tally : Tally} {tr : TraceSink} {Takes : Type 0} {keys : List ℕ → 
               | inl rose ↦ let none = quiet.faults in absurd (omega (arith, rose, none))
               | inr late ↦ absurd (cc (late.saves, unsaved))
             ];
-        unfailed = none_failed _ story.spelt story.answers story.seen story.last _ _ _ accesses.lawful (let each = spelt.each in let reached = spelt.reached in omega (arith, each, reached))
+        unfailed = none_failed _ story.spelt story.answers story.seen story.last _ _ accesses.lawful (let each = spelt.each in let reached = spelt.reached in omega (arith, each, reached))
             (accesses.each_seen ∙ ap (λ (n : ℕ). length (statements (take n story.spelt))) (sym spelt.each)) refl uncut;
       }
 

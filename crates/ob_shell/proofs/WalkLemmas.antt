@@ -53,11 +53,11 @@ use Rattle.ob_script.specs.Trace.{Served as Entry}
 use Rattle.ob_seal.specs.Draws.{draw_of}
 use Rattle.ob_seal.specs.KeySet.{KeySet}
 use Rattle.ob_shell.proofs.DisturbLemmas.{begins_more, crosses, take_begins}
-use Rattle.ob_shell.proofs.EndLemmas.{alone_joins, end_cut, failed_by, same_by, says, rose_by}
+use Rattle.ob_shell.proofs.EndLemmas.{alone_joins, rose_by, same_by}
 use Rattle.ob_shell.proofs.FailureLemmas.{beside_none, cuts_none, fails_none}
 use Rattle.ob_shell.proofs.FlightMeant.{Told}
 use Rattle.ob_shell.proofs.HowLemmas.{meets_alone, met_trace}
-use Rattle.ob_shell.proofs.LeavePath.{Along, Path, ends, ends_so, over, over_so}
+use Rattle.ob_shell.proofs.LeavePath.{Along, Path, ended_along, ends_so, over_along, over_so}
 use Rattle.ob_shell.proofs.LeafLemmas.{Reads, drawn_leaves, reads_last, reads_none, reads_unasked}
 use Rattle.ob_shell.proofs.ReplayLemmas.{cut_early, cut_within, fault_is, free_holds, holds_free, outcome_cases}
 use Rattle.ob_shell.proofs.StepLemmas.{by_last}
@@ -214,7 +214,7 @@ module _ {R : Type 0} (state : R → RevState) where
   follow_first text texts (one ∷ owed) follow = follow
 
   -- nothing was done
-  walked_none : (ending : Ending) (m0 m2 : Machine R) (more : List (List ℕ)) (part : List ℕ) → IsUndone m0 m2 part → EndsUntampered ending → (ends_within ending ≡ true → ⊥) → Walked ending m0 m0 m2 [] more [] part
+  pub walked_none : (ending : Ending) (m0 m2 : Machine R) (more : List (List ℕ)) (part : List ℕ) → IsUndone m0 m2 part → EndsUntampered ending → (ends_within ending ≡ true → ⊥) → Walked ending m0 m0 m2 [] more [] part
   unfolding SpellFirst AreSeen AnswersFrom any_cut statements seats trace_in whole_of session_after after_entries MeantUntil
   walked_none ending m0 m2 more part rests fine off =
       let same = rests.machine in
@@ -238,7 +238,7 @@ module _ {R : Type 0} (state : R → RevState) where
         keys = ap (λ (m : Machine R). m.engine.vault.keys) same;
         start = ap (λ (m : Machine R). engine_start m.engine) same;
         from_closing = λ unsaved. ap (λ (m : Machine R). opened_from m.engine) same;
-        along = over (record { same = same; free = rests.free });
+        along = over_along (record { same = same; free = rests.free });
         public = λ whole. ap (λ (m : Machine R). public_of m.engine) same;
         save = refl;
         unfailed = λ not. ap (λ (m : Machine R). m.store.faults) same;
@@ -340,7 +340,7 @@ module _ {R : Type 0} (state : R → RevState) where
         bound = (cut.does.means.full tables d drawn reads).bound;
       })
 
-  walked_cut : (m0 m2 : Machine R) (text : List ℕ) (more : List (List ℕ)) (run : RunStop) (part : List ℕ) → Follow (text ∷ more) m2.owed → CutStep state m0 m2 text run part
+  pub walked_cut : (m0 m2 : Machine R) (text : List ℕ) (more : List (List ℕ)) (run : RunStop) (part : List ℕ) → Follow (text ∷ more) m2.owed → CutStep state m0 m2 text run part
       → Walked (Ran (Err (session_stop run))) m0 m0 m2 [] (text ∷ more) [] part
   unfolding SpellFirst AreSeen AnswersFrom any_cut statements seats trace_in whole_of session_after after_entries MeantUntil
   walked_cut m0 m2 text more run part follow cut =
@@ -378,7 +378,7 @@ module _ {R : Type 0} (state : R → RevState) where
         keys = cut.does.ran.keys;
         start = cut.does.ran.start;
         from_closing = λ unsaved. cut.does.ran.from_closing (none_saved (public_of m0.engine) sk unsaved);
-        along = ends (inl (record { run = run; ends = refl; does = cut.does }));
+        along = ended_along (inl (record { run = run; ends = refl; does = cut.does }));
         public = λ whole. absurd whole;
         save = refl;
         unfailed = λ not. absurd (cc (ap is_cut cut.does.ran.ends, or_first (is_cut here.end) false not));
@@ -498,7 +498,7 @@ module _ {R : Type 0} (state : R → RevState) where
         keys = did.does.ran.keys;
         start = did.does.ran.start;
         from_closing = λ unsaved. did.does.ran.from_closing (none_saved (public_of m0.engine) sk unsaved);
-        along = ends (inr (record { ends = ap (λ (r : RunStop). Ran (Err (session_stop r))) fault; outcome = one.outcome; done = inl (record { does = did.does; owes = did.owes }) }));
+        along = ended_along (inr (record { ends = ap (λ (r : RunStop). Ran (Err (session_stop r))) fault; outcome = one.outcome; done = inl (record { does = did.does; owes = did.owes }) }));
         public = λ whole. absurd whole;
         save = refl;
         unfailed = λ not. same_by one.outcome (world m0) (world m2) here.end _ did.does.ran.cause did.does.ran.ends (or_first (is_cut here.end) false not);
@@ -543,7 +543,7 @@ module _ {R : Type 0} (state : R → RevState) where
     keys = ap (λ (m : Machine R). m.engine.vault.keys) same;
     start = ap (λ (m : Machine R). engine_start m.engine) same;
     from_closing = λ unsaved. ap (λ (m : Machine R). opened_from m.engine) same;
-    along = ends (record { same = same; free = bad.free; owed = bad.owed });
+    along = ended_along (record { same = same; free = bad.free; owed = bad.owed });
     public = λ whole. ap (λ (m : Machine R). public_of m.engine) same;
     save = refl;
     unfailed = λ not. ap (λ (m : Machine R). m.store.faults) same;
@@ -600,7 +600,7 @@ module _ {R : Type 0} (state : R → RevState) where
         keys = ap (λ (m : Machine R). m.engine.vault.keys) same;
         start = ap (λ (m : Machine R). engine_start m.engine) same;
         from_closing = λ unsaved. ap (λ (m : Machine R). opened_from m.engine) same;
-        along = ends (inr (record { ends = ap (λ (r : RunStop). Ran (Err (session_stop r))) fault; outcome = one.outcome; done = inr (record { same = same; along = with.along; owed = with.owed }) }));
+        along = ended_along (inr (record { ends = ap (λ (r : RunStop). Ran (Err (session_stop r))) fault; outcome = one.outcome; done = inr (record { same = same; along = with.along; owed = with.owed }) }));
         public = λ whole. absurd whole;
         save = refl;
         unfailed = λ not. still;
@@ -619,7 +619,7 @@ module _ {R : Type 0} (state : R → RevState) where
         early = λ d drawn tells steady tables held sound n before few. early_still n (most_at m0) m0.flights.words m0.gathered.batch _ (session_of m0 d tables) m0.store.asked m2.store.asked (Ok with.stmt ∷ []) _ tt (ap (λ (m : Machine R). m.store.asked) same) few;
       }
 
-  walked_done_so : (m1 m2 : Machine R) (text : List ℕ) (more : List (List ℕ)) (run : RunStop) (part : List ℕ) (done : Finished state m1 m2 text run part) → Follow (text ∷ more) m2.owed → Walked (Ran (Err (session_stop run))) m1 m1 m2 [] (text ∷ more) [] part
+  pub walked_done_so : (m1 m2 : Machine R) (text : List ℕ) (more : List (List ℕ)) (run : RunStop) (part : List ℕ) (done : Finished state m1 m2 text run part) → Follow (text ∷ more) m2.owed → Walked (Ran (Err (session_stop run))) m1 m1 m2 [] (text ∷ more) [] part
   walked_done_so m1 m2 text more run part done follow = elim done.step.done [
     | inl still ↦ elim still.why [
       | inl bad ↦ walked_refused _ m1 m2 text more done.answer part done.whole still.same bad (stop_untampered run (sink_untampered run done.fault)) (sink_ends run done.fault)
@@ -628,17 +628,5 @@ module _ {R : Type 0} (state : R → RevState) where
     | inr did ↦ walked_done m1 m2 text more run done.answer part done.whole done.fault follow did
   ]
 
-  walked_idle : (m1 m2 : Machine R) (more : List (List ℕ)) (run : RunStop) (part : List ℕ) → Idle m1 m2 run part → Walked (Ran (Err (session_stop run))) m1 m1 m2 [] more [] part
+  pub walked_idle : (m1 m2 : Machine R) (more : List (List ℕ)) (run : RunStop) (part : List ℕ) → Idle m1 m2 run part → Walked (Ran (Err (session_stop run))) m1 m1 m2 [] more [] part
   walked_idle m1 m2 more run part idle = walked_none _ m1 m2 more part idle.rests (stop_untampered run (memory_untampered run idle.memory)) (memory_ends run idle.memory)
-
-  walked_part : (m1 m2 : Machine R) (more : List (List ℕ)) (run : RunStop) (part : List ℕ) → Follow more m2.owed → PartlyAt state m1 m2 more run part → Walked (Ran (Err (session_stop run))) m1 m1 m2 [] more [] part
-  walked_part m1 m2 [] run part follow idle = walked_idle m1 m2 [] run part idle
-  walked_part m1 m2 (text ∷ more) run part follow (inl idle) = walked_idle m1 m2 (text ∷ more) run part idle
-  walked_part m1 m2 (text ∷ more) run part follow (inr (inl cut)) = walked_cut m1 m2 text more run part follow cut
-  walked_part m1 m2 (text ∷ more) run part follow (inr (inr done)) = walked_done_so m1 m2 text more run part done follow
-
-  pub walked_last : (m1 m2 : Machine R) (more : List (List ℕ)) (part : List ℕ) (result : Result Bool Stop) → Follow more m2.owed → LastPart state m1 m2 more part result → Walked (Ran result) m1 m1 m2 [] more [] part
-  walked_last m1 m2 more part (Ok flag) follow rests = walked_none (Ran (Ok flag)) m1 m2 more part rests tt (λ ends. cc ends)
-  walked_last m1 m2 more part (Err stop) follow last =
-      by_last state m1 m2 more part (λ (s : Stop). Walked (Ran (Err s)) m1 m1 m2 [] more [] part) stop last (λ run partly. walked_part m1 m2 more run part follow partly)
-      (λ rests. walked_none _ m1 m2 more part rests tt (λ ends. cc ends)) (λ rests. walked_none _ m1 m2 more part rests tt (λ ends. cc ends))
