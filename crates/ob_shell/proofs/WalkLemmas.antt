@@ -131,6 +131,11 @@ module _ {R : Type 0} (state : R → RevState) where
     pub begins : Begins (take n asked2) (asked0 ++ met_trace most words g s spelt)
     pub quiet : length (asked0 ++ met_trace most words g s spelt) ≤ n → length asked2 ≤ n
 
+  abbrev pub EarlyAt : (m0 m2 : Machine R) → List Turn → List Spelt → List Answer → List Entry → Type 0
+  EarlyAt m0 m2 entries spelt answers all =
+      (d : Draws) → AreDraws m0.engine d → IsTrue m0.store.tells → IsSteady m0.store → (tables : Tables) → Holds state m0 d tables → has_failed m0.gathered.batch ≡ false → (n : ℕ) → IsBefore m0.store.disturbed n → length m0.store.asked ≤ n
+      → EarlyFrom n (most_at m0) m0.flights.words m0.gathered.batch (seats_at m0 entries) (session_of m0 d tables) m0.store.asked m2.store.asked spelt answers all
+
   -- of texts of which nothing was asked, and none was answered
   early_still : (n most : ℕ) (words : ℕ → ℕ) (g : Option Gathering) (seats : List Seat) (s : Session) (asked0 asked2 : List Access) (spelt : List Spelt) (seen : List Entry) → MeantUntil n g seats s spelt [] seen → asked2 ≡ asked0 → length asked0 ≤ n
       → EarlyFrom n most words g seats s asked0 asked2 spelt [] seen
@@ -199,8 +204,7 @@ module _ {R : Type 0} (state : R → RevState) where
     pub meant : (d : Draws) → AreDraws m0.engine d → IsTrue m0.store.tells → Calm (world m0) → IsUnfit (world m2) → (tables : Tables) → Holds state m0 d tables
         → Told ending (seats_at m0 entries) (session_of m0 d tables) spelt answers (seen ++ last) part (Behind ending m0 m2 d tables spelt answers)
     pub untampered : (d : Draws) → AreDraws m0.engine d → IsTrue m0.store.tells → (tables : Tables) → Holds state m0 d tables → m2.store.lie ≡ None → EndsUntampered ending
-    pub early : (d : Draws) → AreDraws m0.engine d → IsTrue m0.store.tells → IsSteady m0.store → (tables : Tables) → Holds state m0 d tables → has_failed m0.gathered.batch ≡ false → (n : ℕ) → IsBefore m0.store.disturbed n → length m0.store.asked ≤ n
-        → EarlyFrom n (most_at m0) m0.flights.words m0.gathered.batch (seats_at m0 entries) (session_of m0 d tables) m0.store.asked m2.store.asked spelt answers (seen ++ last)
+    pub early : EarlyAt m0 m2 entries spelt answers (seen ++ last)
     pub along : Along state ending m0 m2 spelt answers
 
   -- ---- behind the texts that were answered
