@@ -35,7 +35,7 @@ Steps-append state m0 m1 m2 ts us xs ys (one_more {m1 = m} {texts = texts} {answ
 Steps-append {R = R} state m0 m1 m2 ts us xs ys (more_together {m1 = m} {flown = flown} {texts = texts} {given = given} {answers = answers} step p) q =
     let rest = Steps-append state m m1 m2 texts us answers ys p q in
     subst (λ (l : List (List ℕ)). Steps state m0 m2 l ((given ++ answers) ++ ys)) (sym (append_assoc flown texts us))
-    (subst (λ (l : List Answer). Steps state m0 m2 (flown ++ texts ++ us) l) (sym (append_assoc given answers ys)) (more_together step rest))
+    (subst (λ (l : List Answer). Steps state m0 m2 (flown ++ (texts ++ us)) l) (sym (append_assoc given answers ys)) (more_together step rest))
 
 -- of one text, and of those that flew together
 pub one_step : {R : Type 0} {state : R → RevState} (m0 m1 : Machine R) (text : List ℕ) (answer : Answer) → Step state m0 m1 text answer → Steps state m0 m1 (text ∷ []) (answer ∷ [])
