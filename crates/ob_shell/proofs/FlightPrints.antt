@@ -59,6 +59,7 @@ module _ {R E : Type 0} {state : R → RevState} {grew cut : E → E → List Ev
 
       pub prints_whole : {F : Type 0} {w : Option (List ℕ)} → length (outcomes out_old) ≡ length stmts → Outputs (written out_new) w F (waiting out_new) → ¬ F
           → PrintsWhole state words left stmts seens (outcomes out_new) (written out_old) w old s new t
+      unfolding flew_whole
       prints_whole {w = w} long flush fine =
           let all = ran.all in
           let kept = closes_kept grew closed written waiting outcomes knows.took knows.ends 0 ran.ended out_old out_new ran.answered (omega (arith, all, long)) in

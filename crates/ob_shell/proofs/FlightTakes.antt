@@ -27,7 +27,7 @@ use Rattle.ob_script.specs.Flights.{drawn, turns_of}
 use Rattle.ob_seal.specs.KeySet.{KeySet, pair_of}
 use Rattle.ob_shell.proofs.GatherLemmas.{no_insert}
 use Rattle.ob_shell.proofs.StepLemmas.{PartlyAt-rests, Steps-none, printed-nil, steps_together}
-use Rattle.ob_shell.proofs.TakesLemmas.{place_other, place_past, same_fly}
+use Rattle.ob_shell.proofs.PlaceLemmas.{place_other, place_past, same_fly}
 use Rattle.ob_shell.proofs.TookLemmas.{took_whole, traced_to_none}
 use Rattle.ob_shell.specs.Aloft.{CutsFlight, RanTogether}
 use Rattle.ob_shell.specs.Flying.{CountsFlight, RestsFlight, RunsFlight, flights_of}

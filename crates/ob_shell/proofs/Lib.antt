@@ -43,6 +43,7 @@ pub mod BatchSteps
 pub mod LineLemmas
 pub mod FlushLemmas
 pub mod GatherLemmas
+pub mod PlaceLemmas
 pub mod TakesLemmas
 pub mod HeadLemmas
 pub mod OpenLemmas

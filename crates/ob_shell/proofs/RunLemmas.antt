@@ -17,7 +17,7 @@ use Rattle.ob_print.specs.Cuts.{Outputs}
 use Rattle.ob_reopen.specs.Keepers.{KeeperState}
 use Rattle.ob_shell.proofs.FeedLemmas.{Fed-none, Fed-then}
 use Rattle.ob_shell.proofs.StepLemmas.{PartlyAt-more, last_stopped}
-use Rattle.ob_shell.proofs.TakesLemmas.{none_free}
+use Rattle.ob_shell.proofs.PlaceLemmas.{none_free}
 use Rattle.ob_shell.proofs.TookLemmas.{took_whole, traces_all, traces_to}
 use Rattle.ob_shell.proofs.TraceLemmas.{traced_then}
 use Rattle.ob_shell.proofs.WaitLemmas.{answered_but, break_then, ends_end, follow_more, last_idle, none_held, so_idle, so_then, steps_flown, steps_most, tally_end}

@@ -23,6 +23,7 @@ fn keep(outcomes: &mut [Outcome], place: u32, outcome: Outcome)
 
 /// Prints answers one behind the other, each with the line that ends it, and keeps how the statement at each place was
 /// answered, where there is room for it.
+#[derive(Drop)]
 pub struct FlightPrinter<'a, K: Sink> {
     pub printer: Printer<'a, K>,
     pub outcomes: &'a mut [Outcome],

@@ -1,5 +1,6 @@
 use Rattle.std.proofs.Common.{List, ◌∙◌, arith, refl, rules, subst, sym, inl, inr}
 use Rattle.std.specs.Io.KnownBytes.{Appends}
+use Rattle.ob_base.specs.Counts.{Rises}
 use Rattle.ob_base.specs.declared.access.Access.{Access}
 use Rattle.ob_headline.specs.Tracing.{traced}
 use Rattle.ob_shell.proofs.CountLemmas.{traced_cause}

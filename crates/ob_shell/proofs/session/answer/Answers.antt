@@ -2,8 +2,11 @@ use Rattle.std.proofs.Common.{refl, inl, inr, ◌∙◌, ◌++◌, arith, rules}
 use Rattle.std.proofs.KnownBytes.{Appends-trans}
 use Rattle.ob_headline.specs.Closing.{closing_line}
 use Rattle.ob_print.proofs.CutLemmas.{Outputs-after, Outputs-fault}
-use Rattle.ob_shell.proofs.CountLemmas.{rises_earlier}
+use Rattle.ob_gen.specs.declared.tally.Tally.{Tally}
+use Rattle.ob_shell.proofs.CountLemmas.{rises_earlier, same_cause}
 use Rattle.ob_shell.proofs.session.answer.Goals as goal
+use Rattle.ob_shell.specs.declared.session.Answered.{Answered}
+use Rattle.ob_tables.specs.Stops.{session_stop}
 
 pub returns-in-Ok-write_all-clause-serves : goal.returns-in-Ok-write_all-clause-serves
 returns-in-Ok-write_all-clause-serves g c = λ flights.
@@ -34,4 +37,17 @@ returns-in-Err-write_all-clause-serves g c = λ flights.
       };
       cause = let told = c.in-Ok.ensures.serves flights in search (told, rules);
       quiet = let told = c.in-Ok.ensures.serves flights in search (told, rules);
+    }
+
+pub returns-in-Err-clause-serves : goal.returns-in-Err-clause-serves
+returns-in-Err-clause-serves g c = λ flights.
+    let told = c.in-Err.ensures.serves flights in
+    record {
+      ready = tt;
+      most = λ settings. tt;
+      tables = λ flies. tt;
+      done = tt;
+      stopped = told.stopped;
+      cause = same_cause _ Answered Tally (session_stop c.in-Err.halted.stop) _ _ told.cause;
+      quiet = told.quiet;
     }

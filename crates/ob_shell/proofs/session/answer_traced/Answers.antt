@@ -1,5 +1,6 @@
 use Rattle.std.proofs.Common.{List, ◌∙◌, arith, refl, rules, subst, sym}
 use Rattle.std.specs.Io.KnownBytes.{Appends}
+use Rattle.ob_base.specs.Counts.{Rises}
 use Rattle.ob_base.specs.declared.access.Access.{Access}
 use Rattle.ob_headline.specs.Tracing.{traced}
 use Rattle.ob_shell.proofs.LetGoLemmas.{answers_from, asked_from, ready_from}
@@ -41,7 +42,7 @@ returns-in-Err-false-clause-serves g c = λ flights.
       most = λ settings. tt;
       tables = λ flies. tt;
       done = tt;
-      stopped = λ h text may spells. stops_unlost refl (told.stopped h text may spells);
+      stopped = λ h text may spells. stops_unlost {P = Rises (g.K.Sink.faults c.args.out.now) (g.K.Sink.faults c.answer.new.out)} refl (told.stopped h text may spells);
       cause = traced_cause c.in-Err-false.field-0.stop c.in-Err-false.field-0.stop _ _ _ _ refl told.cause c.trace_from-in-Err-false.ensures.cause.later;
       quiet = search rules;
     }
