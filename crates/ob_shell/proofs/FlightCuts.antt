@@ -50,7 +50,7 @@ pub none_cut : (xs : List Served) → any_cut xs ≡ false → cut_off xs ≡ 0
 unfolding any_cut cut_off
 none_cut [] not = refl
 none_cut (x ∷ xs) not =
-    let own : (if is_cut x.seen.end then 1 else 0) ≡ 0 = ap (λ (b : Bool). if b then 1 else 0) (or_first (is_cut x.seen.end) (any_cut xs) not) in
+    let own : ◌≡◌ {A = ℕ} (if is_cut x.seen.end then 1 else 0) 0 = ap (λ (b : Bool). if b then 1 else 0) (or_first (is_cut x.seen.end) (any_cut xs) not) in
     let rest = none_cut xs (or_rest (is_cut x.seen.end) (any_cut xs) not) in
     omega (arith, own, rest)
 

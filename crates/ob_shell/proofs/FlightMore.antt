@@ -2,9 +2,12 @@
 use Rattle.std.specs.Prelude.{◌↔◌, drop, map, max, take}
 use Rattle.std.proofs.Common.{◌≡◌, ◌+◌, ◌≤◌, ◌<◌, ◌++◌, ◌^◌, inl, inr, ℕ, suc, Bool, true, false, IsTrue, List, [], ◌∷◌, length, Option, Some, None, Ok, Err, refl, sym, ◌∙◌, ap, subst, arith, append_assoc, length-append}
 use Rattle.std.proofs.lemmas.List.{length-map}
+use Rattle.std.specs.List.{All}
+use Rattle.ob_base.specs.Indexes.{leaf_of_draw}
 use Rattle.ob_base.specs.declared.access.Access.{Access}
 use Rattle.ob_base.specs.declared.config.Public.{Public}
 use Rattle.ob_base.specs.declared.seen.Seen.{Seen}
+use Rattle.ob_exec.proofs.LeavesRead.{Given, KeyAt, Unread}
 use Rattle.ob_exec.specs.InFlight.{served_as}
 use Rattle.ob_headline.specs.Accesses.{AreSeen, LeavesAloft, StopsWithin, any_cut}
 use Rattle.ob_headline.specs.Failures.{FailsBeside, RisesBy, cut_off, failures}
@@ -15,6 +18,7 @@ use Rattle.ob_headline.specs.declared.ending.Ending.{Ending}
 use Rattle.ob_mean.specs.Batches.{Gathering}
 use Rattle.ob_mean.specs.Replay.{Broken, Session, Spelt}
 use Rattle.ob_mean.specs.Verdict.{Draws, Tables}
+use Rattle.ob_oram.specs.declared.index.Index.{Index}
 use Rattle.ob_script.proofs.FlightLemmas.{next_after}
 use Rattle.ob_script.specs.Flights.{Entry as Turn, turns_of}
 use Rattle.ob_script.specs.Trace.{Served as Entry}
@@ -42,6 +46,15 @@ use Rattle.ob_seal.specs.KeySet.{KeySet}
 -- counts of faults
 grows : (a b c n m : ℕ) → RisesBy n a b → RisesBy m b c → RisesBy (n + m) a c
 grows a b c n m first second = omega (arith, first, second)
+
+-- what is known of the keys of indexes is of the same ones
+abbrev given_by : (d : Draws) (xs ys : List Index) → xs ≡ ys → Given d xs → Given d ys
+given_by d xs ys same g = record {
+  number = g.number;
+  leaf = subst (λ (zs : List Index). (k j : ℕ) → (a : KeyAt zs k j) → a.leaf ≡ leaf_of_draw a.index.height (d.draw (g.number k j))) same g.leaf;
+  below = subst (λ (zs : List Index). (k j : ℕ) → KeyAt zs k j → g.number k j < d.drawn) same g.below;
+  apart = subst (λ (zs : List Index). (k j l i : ℕ) → KeyAt zs k j → KeyAt zs l i → g.number k j ≡ g.number l i → (k ≡ l) × (j ≡ i)) same g.apart;
+}
 
 module _ {R : Type 0} (state : R → RevState) (m0 m1 : Machine R) (flown : List (List ℕ)) (given : List Answer) (step : StepTogether state m0 m1 flown given) where
   abbrev here : List Flown
@@ -132,14 +145,19 @@ module _ {R : Type 0} (state : R → RevState) (m0 m1 : Machine R) (flown : List
   none_on (Some lie) m2 is stays none = absurd (cc (stays lie is, none))
 
   -- the indexes are as they were
-  given_on : (d : Draws) → Given d (indexes_of m0.engine) → Given d (indexes_of m1.engine)
-  given_on d g = subst (Given d) (sym step.flew.ran.ran.indexes) g
+  abbrev same_indexes : indexes_of m0.engine ≡ indexes_of m1.engine
+  same_indexes = sym step.flew.ran.ran.indexes
+
+  abbrev given_on : (d : Draws) → Given d (indexes_of m0.engine) → Given d (indexes_of m1.engine)
+  given_on d g = given_by d (indexes_of m0.engine) (indexes_of m1.engine) same_indexes g
 
   reads_on : (d : Draws) (g : Given d (indexes_of m0.engine)) (seats : List Seat) (seen : List Entry) → Reads d (indexes_of m1.engine) (given_on d g) seats seen → Reads d (indexes_of m0.engine) g seats seen
-  reads_on d g seats seen reads = go (indexes_of m1.engine) (sym step.flew.ran.ran.indexes) reads
-    where
-      go : (indexes : List Index) (same : indexes_of m0.engine ≡ indexes) → Reads d indexes (subst (Given d) same g) seats seen → Reads d (indexes_of m0.engine) g seats seen
-      go indexes same = J_back indexes same
+  reads_on d g seats seen reads = record {
+    numbers = reads.numbers;
+    are = reads.are;
+    apart = reads.apart;
+    unread = subst (λ (xs : List Index). All (Unread d xs g.number) reads.numbers) (sym same_indexes) reads.unread;
+  }
 
   pub more_flown : (ending : Ending) (m m2 : Machine R) (texts more : List (List ℕ)) (answers : List Answer) (part : List ℕ) (rest : Walked state ending m1 m m2 texts more answers part)
       → EarlyAt state m0 m2 (at_turn ∷ rest.entries) (spelt_up ++ rest.spelt) (given ++ answers) ((up ++ rest.seen) ++ rest.last)

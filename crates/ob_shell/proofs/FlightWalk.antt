@@ -43,19 +43,19 @@ module _ {R : Type 0} (state : R → RevState) (m0 m1 : Machine R) (texts : List
   abbrev p : Public
   p = public_of m0.engine
 
-  abbrev all_fs : List Flown
+  abbrev pub all_fs : List Flown
   all_fs = fs state m0 m1 step.stmts step.seens step.flew.ended (Ok tt) step.may step.flew.ran None
 
-  abbrev aloft : List Entry
+  abbrev pub aloft : List Entry
   aloft = served_in_all all_fs
 
-  stood : All Stood all_fs
+  pub stood : All Stood all_fs
   stood = all_stood state m0 m1 step.stmts step.seens step.flew.ended (Ok tt) step.may step.flew.ran None
 
-  are_served : aloft ≡ served_as step.stmts step.seens
+  pub are_served : aloft ≡ served_as step.stmts step.seens
   are_served = served_are state m0 m1 step.stmts step.seens step.flew.ended (Ok tt) step.may step.flew.ran None
 
-  are_stmts : stmts_in all_fs ≡ step.stmts
+  pub are_stmts : stmts_in all_fs ≡ step.stmts
   are_stmts = stmts_are state m0 m1 step.stmts step.seens step.flew.ended (Ok tt) step.may step.flew.ran None
 
   pub long_fs : length all_fs ≡ length step.stmts
@@ -64,21 +64,21 @@ module _ {R : Type 0} (state : R → RevState) (m0 m1 : Machine R) (texts : List
   pub long_aloft : length aloft ≡ length step.stmts
   long_aloft = length-map all_fs served_of ∙ long_fs
 
-  answered : AllAnswered all_fs given
+  pub answered : AllAnswered all_fs given
   answered = subst (λ (xs : List Answer). AllAnswered all_fs xs) (sym step.flew.answered)
       (whole_answered _ 0 step.stmts step.seens step.flew.ended step.flew.ran.long step.flew.ran.all)
 
   -- what goes on behind them
-  words_on : m1.flights.words ≡ words_from m0.flights.words (turns_of p aloft)
+  pub words_on : m1.flights.words ≡ words_from m0.flights.words (turns_of p aloft)
   words_on = (λ i k. step.flew.ran.rest k i) ∙ ap (λ (xs : List Entry). words_from m0.flights.words (turns_of p xs)) (sym are_served)
 
-  public_on : public_of m1.engine ≡ next_flight p aloft m0.flights.words
+  pub public_on : public_of m1.engine ≡ next_flight p aloft m0.flights.words
   public_on = step.flew.ran.ran.goes_on.public ∙ ap (λ (xs : List Entry). next_flight p xs m0.flights.words) (sym are_served)
 
-  grew_by : m1.store.asked ≡ m0.store.asked ++ flight_accesses p aloft None m0.flights.words
+  pub grew_by : m1.store.asked ≡ m0.store.asked ++ flight_accesses p aloft None m0.flights.words
   grew_by = step.flew.ran.ran.asked ∙ ap (λ (xs : List Entry). m0.store.asked ++ flight_accesses p xs None m0.flights.words) (sym are_served)
 
-  asked_on : asked_of m1 ≡ asked_of m0 + length (flight_accesses p aloft None m0.flights.words)
+  pub asked_on : asked_of m1 ≡ asked_of m0 + length (flight_accesses p aloft None m0.flights.words)
   asked_on = counts_on m0 m1 (flight_accesses p aloft None m0.flights.words) step.flew.ran.ran.start grew_by
 
   abbrev pub turn_of : Turn
@@ -99,7 +99,7 @@ module _ {R : Type 0} (state : R → RevState) (m0 m1 : Machine R) (texts : List
   pub after_on : (entries : List Turn) → after_entries m1.flights.words 0 (public_of m1.engine) entries ≡ after_entries m0.flights.words 0 p (turn_of ∷ entries)
   after_on entries = sym (after_flown_then m0.flights.words m1.flights.words p (public_of m1.engine) (asked_of m0) (asked_of m1) aloft None words_on public_on asked_on entries)
 
-  most_on : most_at m1 ≡ most_at m0
+  pub most_on : most_at m1 ≡ most_at m0
   most_on = λ i. most_flown (step.may.settings i) (public_on i)
 
   may_all : FlyMay (most_at m0) aloft
