@@ -36,7 +36,15 @@ pub mod SelectLemmas
 pub mod FlownLists
 pub mod FlightSeen
 pub mod FlightMeant
+pub mod FlightFacts
 pub mod FlightWalk
+pub mod FlightCuts
+pub mod FlightMore
+pub mod FlightLast
+pub mod FlightOpen
+pub mod WalkEntries
+pub mod WalkWhole
+pub mod WalkLast
 mod WalkLemmas
 mod WalkSteps
 pub mod BatchSteps
