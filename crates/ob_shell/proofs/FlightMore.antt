@@ -57,16 +57,16 @@ given_by d xs ys same g = record {
 }
 
 module _ {R : Type 0} (state : R → RevState) (m0 m1 : Machine R) (flown : List (List ℕ)) (given : List Answer) (step : StepTogether state m0 m1 flown given) where
-  abbrev here : List Flown
+  abbrev pub here : List Flown
   here = all_fs state m0 m1 flown given step
 
-  abbrev up : List Entry
+  abbrev pub up : List Entry
   up = aloft state m0 m1 flown given step
 
-  abbrev spelt_up : List Spelt
+  abbrev pub spelt_up : List Spelt
   spelt_up = map Ok (stmts_in here)
 
-  abbrev at_turn : Turn
+  abbrev pub at_turn : Turn
   at_turn = turn_of state m0 m1 flown given step
 
   long_spelt : length spelt_up ≡ length here
