@@ -45,6 +45,7 @@ pub mod FlightOpen
 pub mod WalkEntries
 pub mod WalkWhole
 pub mod WalkLast
+pub mod PromptMore
 mod WalkLemmas
 mod WalkSteps
 pub mod BatchSteps

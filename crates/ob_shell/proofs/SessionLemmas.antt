@@ -549,7 +549,7 @@ module _ {R : Type 0} {state : R → RevState} {Lost : Type 0} (base : Base) (co
     texts = texts_so;
     prompt = prompt_more (batch_most base.public) (most_of base) (texts_in false (before_read gave (f0.unread ++ ran.piece))) ran.served final.held
         (subst (λ (p : Public). AnsweredBut (batch_most p) (most_flown base.flight p) (texts_in false (before_read gave (f0.unread ++ ran.piece))) ran.served) on.public ran.prompt)
-        (whole_before ran.ended gave (f0.unread ++ ran.piece) (ran.served ++ final.held) final.rest texts_so);
+        final.rest (whole_before ran.ended gave (f0.unread ++ ran.piece) ((ran.served ++ final.held) ++ final.rest) texts_so);
     carried = carried_by;
     rows = inl (record { first = first; last = last; keeper0 = k0; keeper1 = k1; flights0 = flights_at base.flight; flights1 = left; ran = ran; counts = opened });
     cut = final.cut;
