@@ -514,7 +514,7 @@ module _ {R : Type 0} {state : R → RevState} {Lost : Type 0} (base : Base) (co
       })
 
   -- how the last part was left
-  ends_so : EndsBy f1 ran.ended (f0.unread ++ ran.piece) final.rest final.left result
+  pub ends_so : EndsBy f1 ran.ended (f0.unread ++ ran.piece) final.rest final.left result
   ends_so = elim final.same [
     | inl same ↦
         let rest_is : final.rest ≡ ran.more = ap (λ (l : List (List ℕ)). l ++ final.rest) (sym same.0) ∙ sym final.parts in
@@ -524,7 +524,7 @@ module _ {R : Type 0} {state : R → RevState} {Lost : Type 0} (base : Base) (co
         subst (λ (r : Result Bool Stop). EndsBy f1 ran.ended (f0.unread ++ ran.piece) final.rest final.left r) (sym stopped) (run_ends f1 ran.ended (f0.unread ++ ran.piece) final.rest final.left by.0)
   ]
 
-  counted_so : TallyIs story.answers told
+  pub counted_so : TallyIs story.answers told
   counted_so = go told refl ran.counted
     where
       go : (r : Result Tally Stop) → told ≡ r → TallyIs ran.answers r → TallyIs story.answers r
@@ -534,7 +534,7 @@ module _ {R : Type 0} {state : R → RevState} {Lost : Type 0} (base : Base) (co
       ]
       go (Err stop) is counted = tt
 
-  texts_so : texts_in ran.ended (f0.unread ++ ran.piece) ≡ story.served ++ story.more
+  pub texts_so : texts_in ran.ended (f0.unread ++ ran.piece) ≡ story.served ++ story.more
   texts_so = ran.texts ∙ ap (λ (l : List (List ℕ)). ran.served ++ l) final.parts ∙ sym (append_assoc ran.served final.held final.rest)
 
   unfoldable pub ran_after : RanAfter state tr base keys (Some key) f0 f1 l0 l1 gave w0 w1 s0 s1 high Lost told
