@@ -136,7 +136,7 @@ ran_generated {tally = tally} {gave = gave} seed left ending high trace0 trace1 
 }
 
 -- ---- by the words
-pub summarized : {Takes : Type 0} {settings asked : Option Config} {tracing : Bool} {seed : Seed} {s0 s1 : StoreState} {t0 t1 w0 w1 l : Option (List ℕ)} {gave trace0 trace1 out0 out1 : ℕ} {report : Report} (source : ℕ)
+pub summarized : {Takes : Type 0} {settings asked : Option Config} {flight : Option FlightSettings} {tracing : Bool} {seed : Seed} {s0 s1 : StoreState} {t0 t1 w0 w1 l : Option (List ℕ)} {gave trace0 trace1 out0 out1 : ℕ} {report : Report} (source : ℕ)
     → Takes → settings ≡ asked → s0.asked ≡ [] → RanGenerated seed tracing asked flight t0 t1 s0 s1 trace0 trace1 w0 w1 out0 out1 report
     → Summarized Takes settings flight tracing seed (outside_of l gave w0 t0 s0 (faults_of source out0 trace0)) (outside_of l gave w1 t1 s1 (faults_of source out1 trace1)) report
 unfolding headlined reported_taken
@@ -166,7 +166,7 @@ unfolding headlined unkept
 unread_summarized {Takes = Takes} {settings = settings} {flight = flight} {tracing = tracing} {s = s} {t = t} {w0 = w0} {w1 = w1} {out0 = out0} {out1 = out1} {report = report} source trace seed error blank not status high line =
     let ending = refused_by error in
     let faults : Faults = faults_of 0 0 trace in
-    let shown = words_shown {F = ⊥} {keys = keys_in} empty_tally (sink_of tracing t t) settings error (Some (generated seed.start seed.rows)) 0 None s blank refl in
+    let shown = words_shown {F = ⊥} {keys = keys_in} empty_tally (sink_of tracing t t) settings flight error (Some (generated seed.start seed.rows)) 0 None s blank refl in
     let r = unkept ending 0 faults faults (words_end error not) shown (words_cause _ error faults) in
     let closed : ClosedBy ending false w0 w1 out0 out1 report.status = record { told = status; silent = λ loud. absurd (cc loud); line = λ loud. line } in
     record {

@@ -96,7 +96,7 @@ pub concluded_at : {ending : KeptEnding} {tally : Tally} {asked : List Access} {
 concluded_at rows is c = record { grew = c.grew; silent = c.silent; status = c.status; later = c.later; high = is }
 
 -- ---- the run
-module _ (config : Config) (tracing : Bool) (ended : KeptEnded) (old mid : Outside) (k0 k1 : KeeperState) where
+module _ (config : Config) (flight : Option FlightSettings) (tracing : Bool) (ended : KeptEnded) (old mid : Outside) (k0 k1 : KeeperState) where
   kept_quiet : (SinksRose old.faults mid.faults → Rises old.faults.trace mid.faults.trace) → RanKept config flight tracing ended old mid k0 k1 → IsHushed ended.quiet old.faults.trace mid.faults.trace
   kept_quiet only (inl ran) = record { rose = λ it. absurd (cc (it, ran.loud)); kept = λ it. ran.silent.1 }
   kept_quiet only (inr (inl ran)) = ran.unserved.quiet
@@ -135,8 +135,8 @@ kept_summarized {Takes = Takes} {settings = settings} {flight = flight} {config 
       counted = subst (λ (e : KeptEnding). KeptTally e head.answers ended.tally) (sym told.0) told.1;
       concludes = subst (λ (e : KeptEnding). KeptConcludes e ended.tally s1.asked ended.high w0 w1 (faults_of source out0 trace0) (faults_of source out1 trace1) report) (sym told.0)
           (concluded_at ended.high g.high
-          (kept_concludes ended.tally s1.asked w0 w1 source trace0 trace1 out0 out1 report ended.ending ended.quiet g.concluded (kept_quiet config tracing ended old mid k0 k1 (trace_rose trace0 trace1) g.ran)
-          (kept_calm config tracing ended old mid k0 k1 g.ran)));
+          (kept_concludes ended.tally s1.asked w0 w1 source trace0 trace1 out0 out1 report ended.ending ended.quiet g.concluded (kept_quiet config flight tracing ended old mid k0 k1 (trace_rose trace0 trace1) g.ran)
+          (kept_calm config flight tracing ended old mid k0 k1 g.ran)));
     }
 
 -- ---- the words were not read
@@ -154,7 +154,7 @@ unread_run {Takes = Takes} {settings = settings} {flight = flight} {tracing = tr
     let old : Faults = faults_of source out0 trace in
     let new : Faults = faults_of source out1 trace in
     let shown = subst (λ (n : ℕ). (x : RunShown empty_tally tr (flying flight (fresh settings)) keys_in l l gave w0 w0 s s n ending [] ⊥) × (x.taken ≡ [])) (sym high)
-    (words_shown empty_tally tr settings error l gave w0 s blank refl, words_none ⊥ keys_in empty_tally tr settings error l gave w0 s blank refl) in
+    (words_shown empty_tally tr settings flight error l gave w0 s blank refl, words_none ⊥ keys_in empty_tally tr settings flight error l gave w0 s blank refl) in
     let r : Reported empty_tally tr Takes (flying flight (fresh settings)) keys_in l l gave w0 w1 s s old new report =
     reported_line ending old old new status (words_end error not) shown.0 (λ never. never) (words_cause _ error old) line.cut (λ rises. rises) line.empty line.later refl refl refl in
     record {
@@ -203,14 +203,14 @@ kept_unread_summarized {s = s} {t = t} {w0 = w0} {w1 = w1} {out0 = out0} {out1 =
 -- ---- whether tables are kept
 pub may_keep : (settings : Option Config) (flight : Option FlightSettings) (Takes : Type 0) (tracing : Bool) (old new : Outside) (k0 k1 : KeeperState) (report : Report) (keeps on : Bool) (asked seed : Option Seed) → keeps ≡ on → asked ≡ seed
     → MayKeep on seed settings flight Takes tracing old new k0 k1 report → MayKeep keeps asked settings flight Takes tracing old new k0 k1 report
-may_keep settings Takes tracing old new k0 k1 report keeps on asked seed is same run =
+may_keep settings flight Takes tracing old new k0 k1 report keeps on asked seed is same run =
     subst (λ (b : Bool). MayKeep b asked settings flight Takes tracing old new k0 k1 report) (sym is) (subst (λ (s : Option Seed). MayKeep on s settings flight Takes tracing old new k0 k1 report) (sym same) run)
 
 pub may_keep_unread : {Takes : Type 0} {s : StoreState} {w0 w1 : Option (List ℕ)} {out0 out1 : ℕ} {report : Report} (settings : Option Config) (flight : Option FlightSettings) (tracing : Bool) (t l : Option (List ℕ)) (gave source trace : ℕ) (k : KeeperState)
     (keeps : Bool) (asked : Option Seed) (error : WordsErr)
     → IsFresh s → (error ≡ Words.Usage → ¬ Takes) → report.status ≡ status_of (refused_by error) → report.high ≡ 0 → LineWritten (last_line (refused_by error)) w0 w1 out0 out1
     → MayKeep keeps asked settings flight Takes tracing (outside_of l gave w0 t s (faults_of source out0 trace)) (outside_of l gave w1 t s (faults_of source out1 trace)) k k report
-may_keep_unread {Takes = Takes} {s = s} {out0 = out0} {out1 = out1} {report = report} settings tracing t l gave source trace k false None error blank not status high line = (
+may_keep_unread {Takes = Takes} {s = s} {out0 = out0} {out1 = out1} {report = report} settings flight tracing t l gave source trace k false None error blank not status high line = (
   headlined Takes (flying flight (fresh settings)) tracing _ _ report blank.unasked
       (reported_words empty_tally (sink_of tracing t t) error report (faults_of source out0 trace) (faults_of source out1 trace) blank refl not status high line refl refl) (traced_whole _ (traced_none tracing s.asked t)),
   refl,

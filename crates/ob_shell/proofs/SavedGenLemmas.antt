@@ -42,7 +42,7 @@ whole_cause Alone result refused ending old new is whole cause =
     let same : result ≡ Ok refused = cc (is, whole) in
     (subst (λ (r : Result Bool Stop). StopCause Alone old new r) same cause).trace
 
-module _ (config : Config) (tracing : Bool) (ended : KeptEnded) (old mid : Outside) (k0 k1 : KeeperState) where
+module _ (config : Config) (flight : Option FlightSettings) (tracing : Bool) (ended : KeptEnded) (old mid : Outside) (k0 k1 : KeeperState) where
   saved_quiet : (SinksRose old.faults mid.faults → Rises old.faults.trace mid.faults.trace) → RanSaved config flight tracing ended old mid k0 k1 → IsHushed ended.quiet old.faults.trace mid.faults.trace
   saved_quiet only (inl ran) = record { rose = λ it. absurd (cc (it, ran.loud)); kept = λ it. ran.silent.1 }
   saved_quiet only (inr (inl ran)) = ran.unserved.quiet
@@ -79,8 +79,8 @@ saved_summarized {Takes = Takes} {settings = settings} {flight = flight} {config
       counted = subst (λ (e : KeptEnding). KeptTally e head.answers ended.tally) (sym told.0) told.1;
       concludes = subst (λ (e : KeptEnding). KeptConcludes e ended.tally s1.asked ended.high w0 w1 (faults_of source out0 trace0) (faults_of source out1 trace1) report) (sym told.0)
           (concluded_at ended.high g.high
-          (kept_concludes ended.tally s1.asked w0 w1 source trace0 trace1 out0 out1 report ended.ending ended.quiet g.concluded (saved_quiet config tracing ended old mid k0 k1 (trace_rose trace0 trace1) g.ran)
-          (saved_calm config tracing ended old mid k0 k1 g.ran)));
+          (kept_concludes ended.tally s1.asked w0 w1 source trace0 trace1 out0 out1 report ended.ending ended.quiet g.concluded (saved_quiet config flight tracing ended old mid k0 k1 (trace_rose trace0 trace1) g.ran)
+          (saved_calm config flight tracing ended old mid k0 k1 g.ran)));
     }
 
 -- ---- the words were not read
@@ -112,7 +112,7 @@ saved_unread_summarized {s = s} {t = t} {w0 = w0} {w1 = w1} {out0 = out0} {out1 
 -- ---- whether tables are saved
 pub keeps_or_saves : (settings : Option Config) (flight : Option FlightSettings) (Takes : Type 0) (tracing : Bool) (old new : Outside) (k0 k1 : KeeperState) (report : Report) (saves on : Bool) (keeps kept : Bool) (asked seed : Option Seed) → saves ≡ on → keeps ≡ kept → asked ≡ seed
     → KeepsOrSaves on kept seed settings flight Takes tracing old new k0 k1 report → KeepsOrSaves saves keeps asked settings flight Takes tracing old new k0 k1 report
-keeps_or_saves settings Takes tracing old new k0 k1 report saves on keeps kept asked seed is held same run =
+keeps_or_saves settings flight Takes tracing old new k0 k1 report saves on keeps kept asked seed is held same run =
     subst (λ (b : Bool). KeepsOrSaves b keeps asked settings flight Takes tracing old new k0 k1 report) (sym is)
     (subst (λ (b : Bool). KeepsOrSaves on b asked settings flight Takes tracing old new k0 k1 report) (sym held)
     (subst (λ (s : Option Seed). KeepsOrSaves on kept s settings flight Takes tracing old new k0 k1 report) (sym same) run))
