@@ -113,7 +113,7 @@ first_free : (settings : Option FlightSettings) (p : Public) (stmts : List Stmt)
 first_free settings p [] g free first is = absurd (cc is)
 first_free settings p (one ∷ rest) g free first is = subst (λ (s : Stmt). IsApartFrom settings p g (skeleton s)) (cc is) free
 
-module _ {R : Type 0} (state : R → RevState) (Saves : Type 0) (on : Bool) (settings : Option FlightSettings) (last0 last1 : ℕ) (stmts : List Stmt) (tally : Tally) {w0 w1 t0 t1 : Option (List ℕ)} {old new : Faults} (e0 e1 : Engine R) (s0 s1 : StoreState) (k : KeeperState)
+module _ {R : Type 0} (state : R → RevState) (Saves : Type 0) (on : Bool) (settings : Option FlightSettings) (last0 last1 : ℕ) (stmts : List Stmt) (tally : Tally) (e0 e1 : Engine R) (s0 s1 : StoreState) (k : KeeperState)
     (some : 2 ≤ length stmts) (flown : AreFlown settings (public_of e0) stmts) (ready : IsReady state Saves (machine_of e0 s0 k no_flights)) where
   abbrev m0 : Machine R
   m0 = machine_of e0 s0 k (flights_of settings last0)
@@ -138,120 +138,122 @@ module _ {R : Type 0} (state : R → RevState) (Saves : Type 0) (on : Bool) (set
     agrees = ready.agrees;
   }
 
-  -- they were answered
-  pub flight_taken : (counted : Tally) → RunsFlight state (drawn last0) (drawn last1) stmts tally w0 w1 old new e0 s0 e1 s1 (Ok counted) → TracedAll on s0.asked s1.asked t0 t1
-      → TakesTexts state Saves on (ComesFree settings (public_of e0) stmts) (IsClosed settings (public_of e0) (public_of e1) stmts) stmts [] [] tally counted w0 w1 t0 t1 old new m0 m1 (Ok counted)
-  flight_taken counted runs traced =
-      let flew = runs.done.answered.flew in
-      let ran = flew.ran.ran in
-      let on_public = ran.goes_on.public in
-      record {
-        ready = record {
-          agrees = ran.goes_on.agrees;
-          lives = ran.goes_on.lives;
-          settled = ran.replaced ∙ ready.settled;
-          saves = saves_on e0 e1 ran.keys ran.from_closing (ap (λ (p : Public). p.save) on_public) (ap (λ (p : Public). p.closing) on_public)
-              (let next = ap (λ (p : Public). p.next_region) on_public in
-              let after = next_after (public_of e0) (served_as stmts runs.done.answered.seens) (drawn last0) (turns_of (public_of e0) (served_as stmts runs.done.answered.seens)) in
-              omega (arith, next, after)) ready.saves;
-        };
+  module _ {w0 w1 t0 t1 : Option (List ℕ)} where
+    -- a stop came
+    breaks_at : (stop : RunStop) {Lost Fault : Type 0} (g : Gathered) (held : List (List ℕ)) → ComesFree settings (public_of e0) stmts g → AreSpelt held stmts → CutsFlight state (drawn last0) (drawn last1) stmts stop w0 w1 Lost e0 s0 e1 s1 → Traced on s0.asked s1.asked t0 t1 Fault
+        → BreaksIn state on w0 w1 t0 t1 Lost (held ++ []) stop (standing m0 [] g) m1
+    breaks_at stop {Lost} g held comes spelt cuts traced = record {
+      served = [];
+      more = held ++ [];
+      parts = refl;
+      answers = [];
+      middle = standing m0 [] g;
+      steps = Steps-none state (standing m0 [] g);
+      owed = [];
+      gathered = behind;
+      follow = tt;
+      bytes = cuts.bytes;
+      partly = by_held held spelt;
+      cut = subst (λ (l : List ℕ). Outputs w0 w1 Lost (l ++ cuts.bytes)) (sym printed-nil) cuts.cut;
+      whole = subst (λ (l : List ℕ). Took w0 w1 l) (sym printed-nil) (record { after = cuts.cut.grown; appends = cuts.cut.appends });
+      traced = traced_to_none on s0.asked t0 t1 traced.cut.grown traced.cut.appends;
+    }
+      where
+        by_held : (texts : List (List ℕ)) → AreSpelt texts stmts → PartlyAt state (standing m0 [] g) (standing m1 [] behind) (texts ++ []) stop cuts.bytes
+        by_held [] spelt = absurd (none stmts some spelt)
+          where
+            none : (xs : List Stmt) → 2 ≤ length xs → AreSpelt [] xs → ⊥
+            none [] few spelt = omega (arith, few)
+            none (x ∷ xs) few spelt = spelt
+        by_held (text ∷ texts) spelt = elim cuts.flew [
+          | inl flew ↦ inr (inr (inr (inl (record { flown = text ∷ texts; more = []; parts = refl; stmts = stmts; spelt = spelt; may = may g comes; seens = cuts.seens; flew = flew }))))
+          | inr whole ↦ inr (inr (inr (inr (record {
+            flown = text ∷ texts;
+            more = [];
+            parts = refl;
+            answers = whole.1;
+            step = record { stmts = stmts; spelt = spelt; may = may g comes; seens = cuts.seens; flew = whole.3 };
+            whole = whole.2;
+            fault = whole.0;
+          }))))
+        ]
+
+    rests_at : (stop : RunStop) {Lost Fault : Type 0} (g : Gathered) (held : List (List ℕ)) → RestsFlight (drawn last0) (drawn last1) stop w0 w1 e0 s0 e1 s1 → Traced on s0.asked s1.asked t0 t1 Fault → BreaksIn state on w0 w1 t0 t1 Lost (held ++ []) stop (standing m0 [] g) m1
+    rests_at stop {Lost} g held rests traced = record {
+      served = [];
+      more = held ++ [];
+      parts = refl;
+      answers = [];
+      middle = standing m0 [] g;
+      steps = Steps-none state (standing m0 [] g);
+      owed = [];
+      gathered = g;
+      follow = tt;
+      bytes = [];
+      partly = PartlyAt-rests state (standing m0 [] g) (standing m1 [] g) (held ++ []) stop [] (record {
+        rests = record { machine = λ i. standing (machine_of (rests.engine i) (rests.store i) k (record { settings = settings; words = rests.undrawn i })) [] g; free = refl; none = refl };
+        memory = rests.memory;
+      });
+      cut = subst (λ (l : List ℕ). Outputs w0 w1 Lost (l ++ [])) (sym printed-nil) (Outputs-whole w0 w1 Lost [] rests.none);
+      whole = subst (λ (l : List ℕ). Took w0 w1 l) (sym printed-nil) (took_whole rests.none);
+      traced = traced_to_none on s0.asked t0 t1 traced.cut.grown traced.cut.appends;
+    }
+
+    module _ {old new : Faults} where
+      -- they were answered
+      pub flight_taken : (counted : Tally) → RunsFlight state (drawn last0) (drawn last1) stmts tally w0 w1 old new e0 s0 e1 s1 (Ok counted) → TracedAll on s0.asked s1.asked t0 t1
+          → TakesTexts state Saves on (ComesFree settings (public_of e0) stmts) (IsClosed settings (public_of e0) (public_of e1) stmts) stmts [] [] tally counted w0 w1 t0 t1 old new m0 m1 (Ok counted)
+      flight_taken counted runs traced =
+          let flew = runs.done.answered.flew in
+          let ran = flew.ran.ran in
+          let on_public = ran.goes_on.public in
+          record {
+            ready = record {
+              agrees = ran.goes_on.agrees;
+              lives = ran.goes_on.lives;
+              settled = ran.replaced ∙ ready.settled;
+              saves = saves_on e0 e1 ran.keys ran.from_closing (ap (λ (p : Public). p.save) on_public) (ap (λ (p : Public). p.closing) on_public)
+                  (let next = ap (λ (p : Public). p.next_region) on_public in
+                  let after = next_after (public_of e0) (served_as stmts runs.done.answered.seens) (drawn last0) (turns_of (public_of e0) (served_as stmts runs.done.answered.seens)) in
+                  omega (arith, next, after)) ready.saves;
+            };
+            waits = tt;
+            done = λ g held comes spelt. record {
+              served = held;
+              held = [];
+              parts = refl;
+              spelt = tt;
+              gathered = behind;
+              then = flight_closed settings (public_of e0) (public_of e1) stmts g flown.fly some (ap (λ (p : Public). p.tables) on_public) (ap (most_flown settings) on_public);
+              answers = runs.done.answers;
+              steps = steps_together (standing m0 [] g) (standing m1 [] behind) held runs.done.answers (record { stmts = stmts; spelt = spelt; may = may g comes; seens = runs.done.answered.seens; flew = flew });
+              appends = runs.done.answered.appends;
+              counted = runs.done.counted;
+            };
+            stopped = tt;
+            traced = traced;
+            traced_stop = tt;
+            cause = runs.cause;
+            quiet = runs.quiet;
+          }
+
+      pub flight_broken : (halted : TextHalted) → RunsFlight state (drawn last0) (drawn last1) stmts tally w0 w1 old new e0 s0 e1 s1 (Err halted) → Traced on s0.asked s1.asked t0 t1 (IsQuiet (halted_of {T = Tally} (Err halted)))
+          → TakesTexts {T = Tally} state Saves on (ComesFree settings (public_of e0) stmts) (IsClosed settings (public_of e0) (public_of e1) stmts) stmts [] [] tally tally w0 w1 t0 t1 old new m0 m1 (Err halted)
+      flight_broken halted runs traced = record {
+        ready = tt;
         waits = tt;
-        done = λ g held comes spelt. record {
-          served = held;
-          held = [];
-          parts = refl;
-          spelt = tt;
-          gathered = behind;
-          then = flight_closed settings (public_of e0) (public_of e1) stmts g flown.fly some (ap (λ (p : Public). p.tables) on_public) (ap (most_flown settings) on_public);
-          answers = runs.done.answers;
-          steps = steps_together (standing m0 [] g) (standing m1 [] behind) held runs.done.answers (record { stmts = stmts; spelt = spelt; may = may g comes; seens = runs.done.answered.seens; flew = flew });
-          appends = runs.done.answered.appends;
-          counted = runs.done.counted;
-        };
-        stopped = tt;
-        traced = traced;
-        traced_stop = tt;
+        done = tt;
+        stopped = λ g held comes spelt. elim runs.stopped [ inl rests ↦ rests_at halted.stop g held rests traced | inr cuts ↦ breaks_at halted.stop g held comes spelt cuts traced ];
+        traced = tt;
+        traced_stop = traced;
         cause = runs.cause;
         quiet = runs.quiet;
       }
 
-  -- or a stop came
-  breaks_at : (stop : RunStop) {Lost Fault : Type 0} (g : Gathered) (held : List (List ℕ)) → ComesFree settings (public_of e0) stmts g → AreSpelt held stmts → CutsFlight state (drawn last0) (drawn last1) stmts stop w0 w1 Lost e0 s0 e1 s1 → Traced on s0.asked s1.asked t0 t1 Fault
-      → BreaksIn state on w0 w1 t0 t1 Lost (held ++ []) stop (standing m0 [] g) m1
-  breaks_at stop {Lost} g held comes spelt cuts traced = record {
-    served = [];
-    more = held ++ [];
-    parts = refl;
-    answers = [];
-    middle = standing m0 [] g;
-    steps = Steps-none state (standing m0 [] g);
-    owed = [];
-    gathered = behind;
-    follow = tt;
-    bytes = cuts.bytes;
-    partly = by_held held spelt;
-    cut = subst (λ (l : List ℕ). Outputs w0 w1 Lost (l ++ cuts.bytes)) (sym printed-nil) cuts.cut;
-    whole = subst (λ (l : List ℕ). Took w0 w1 l) (sym printed-nil) (record { after = cuts.cut.grown; appends = cuts.cut.appends });
-    traced = traced_to_none on s0.asked t0 t1 traced.cut.grown traced.cut.appends;
-  }
-    where
-      by_held : (texts : List (List ℕ)) → AreSpelt texts stmts → PartlyAt state (standing m0 [] g) (standing m1 [] behind) (texts ++ []) stop cuts.bytes
-      by_held [] spelt = absurd (none stmts some spelt)
-        where
-          none : (xs : List Stmt) → 2 ≤ length xs → AreSpelt [] xs → ⊥
-          none [] few spelt = omega (arith, few)
-          none (x ∷ xs) few spelt = spelt
-      by_held (text ∷ texts) spelt = elim cuts.flew [
-        | inl flew ↦ inr (inr (inr (inl (record { flown = text ∷ texts; more = []; parts = refl; stmts = stmts; spelt = spelt; may = may g comes; seens = cuts.seens; flew = flew }))))
-        | inr whole ↦ inr (inr (inr (inr (record {
-          flown = text ∷ texts;
-          more = [];
-          parts = refl;
-          answers = whole.1;
-          step = record { stmts = stmts; spelt = spelt; may = may g comes; seens = cuts.seens; flew = whole.3 };
-          whole = whole.2;
-          fault = whole.0;
-        }))))
-      ]
-
-  rests_at : (stop : RunStop) {Lost Fault : Type 0} (g : Gathered) (held : List (List ℕ)) → RestsFlight (drawn last0) (drawn last1) stop w0 w1 e0 s0 e1 s1 → Traced on s0.asked s1.asked t0 t1 Fault → BreaksIn state on w0 w1 t0 t1 Lost (held ++ []) stop (standing m0 [] g) m1
-  rests_at stop {Lost} g held rests traced = record {
-    served = [];
-    more = held ++ [];
-    parts = refl;
-    answers = [];
-    middle = standing m0 [] g;
-    steps = Steps-none state (standing m0 [] g);
-    owed = [];
-    gathered = g;
-    follow = tt;
-    bytes = [];
-    partly = PartlyAt-rests state (standing m0 [] g) (standing m1 [] g) (held ++ []) stop [] (record {
-      rests = record { machine = λ i. standing (machine_of (rests.engine i) (rests.store i) k (record { settings = settings; words = rests.undrawn i })) [] g; free = refl; none = refl };
-      memory = rests.memory;
-    });
-    cut = subst (λ (l : List ℕ). Outputs w0 w1 Lost (l ++ [])) (sym printed-nil) (Outputs-whole w0 w1 Lost [] rests.none);
-    whole = subst (λ (l : List ℕ). Took w0 w1 l) (sym printed-nil) (took_whole rests.none);
-    traced = traced_to_none on s0.asked t0 t1 traced.cut.grown traced.cut.appends;
-  }
-
-  pub flight_broken : (halted : TextHalted) → RunsFlight state (drawn last0) (drawn last1) stmts tally w0 w1 old new e0 s0 e1 s1 (Err halted) → Traced on s0.asked s1.asked t0 t1 (IsQuiet (halted_of {T = Tally} (Err halted)))
-      → TakesTexts {T = Tally} state Saves on (ComesFree settings (public_of e0) stmts) (IsClosed settings (public_of e0) (public_of e1) stmts) stmts [] [] tally tally w0 w1 t0 t1 old new m0 m1 (Err halted)
-  flight_broken halted runs traced = record {
-    ready = tt;
-    waits = tt;
-    done = tt;
-    stopped = λ g held comes spelt. elim runs.stopped [ inl rests ↦ rests_at halted.stop g held rests traced | inr cuts ↦ breaks_at halted.stop g held comes spelt cuts traced ];
-    traced = tt;
-    traced_stop = traced;
-    cause = runs.cause;
-    quiet = runs.quiet;
-  }
-
-  pub flight_served : (result : Result Tally TextHalted) → RunsFlight state (drawn last0) (drawn last1) stmts tally w0 w1 old new e0 s0 e1 s1 result → OnOk result (TracedAll on s0.asked s1.asked t0 t1) → OnErr result (Traced on s0.asked s1.asked t0 t1 (IsQuiet (halted_of result)))
-      → ServesBatch state Saves on stmts tally w0 w1 t0 t1 old new m0 m1 result
-  flight_served (Ok counted) runs traced stop = flight_taken counted runs traced
-  flight_served (Err halted) runs traced stop = flight_broken halted runs stop
+      pub flight_served : (result : Result Tally TextHalted) → RunsFlight state (drawn last0) (drawn last1) stmts tally w0 w1 old new e0 s0 e1 s1 result → OnOk result (TracedAll on s0.asked s1.asked t0 t1) → OnErr result (Traced on s0.asked s1.asked t0 t1 (IsQuiet (halted_of result)))
+          → ServesBatch state Saves on stmts tally w0 w1 t0 t1 old new m0 m1 result
+      flight_served (Ok counted) runs traced stop = flight_taken counted runs traced
+      flight_served (Err halted) runs traced stop = flight_broken halted runs stop
 
 -- ---- one of them alone
 -- it is no INSERT

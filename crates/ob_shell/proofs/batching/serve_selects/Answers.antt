@@ -16,26 +16,26 @@ serve_flight-requires g c =
     record {
       agrees = c.requires.ready.agrees;
       lives = c.requires.ready.lives;
-      flight = are_flight p (count_of c.args.engine.now (g.S.BlockStore.state c.args.store.now)) stmts flown.fly (omega (arith, c.if-len.true, c.len.ensures)) (flown_few c.requires.flown.0 p (length stmts) flown.few);
+      flight = are_flight p (count_of c.args.engine.now (g.S.BlockStore.state c.args.store.now)) stmts flown.fly (omega (arith, c.if-stmts-ge2.true)) (flown_few c.requires.flown.0 p (length stmts) flown.few);
       took = c.requires.took;
     }
 
-pub returns-then-len-clause-serves : goal.returns-then-len-clause-serves
-returns-then-len-clause-serves g c = λ settings flown.
+pub returns-then-stmts-ge2-clause-serves : goal.returns-then-stmts-ge2-clause-serves
+returns-then-stmts-ge2-clause-serves g c = λ settings flown.
     flight_served g.R.Revisions.state (g.B.Behind.Saves c.args.behind.now) c.args.tracing settings c.args.turns.now.last c.serve_flight.new.turns.last c.args.stmts.now c.args.tally c.args.engine.now c.serve_flight.new.engine (g.S.BlockStore.state c.args.store.now) (g.S.BlockStore.state c.serve_flight.new.store) (g.B.Behind.state c.args.behind.now)
-    (omega (arith, c.if-len.true, c.len.ensures)) flown c.requires.ready c.serve_flight.result c.serve_flight.ensures.runs c.serve_flight.ensures.traced c.serve_flight.ensures.traced_stop
+    (omega (arith, c.if-stmts-ge2.true)) flown c.requires.ready c.serve_flight.result c.serve_flight.ensures.runs c.serve_flight.ensures.traced c.serve_flight.ensures.traced_stop
 
 pub answer_traced-requires : goal.answer_traced-requires
 answer_traced-requires g c = record {
-  alone = single_begins (public_of c.args.engine.now) (count_of c.args.engine.now (g.S.BlockStore.state c.args.store.now)) c.index-stmts.result (first_may (public_of c.args.engine.now) c.args.stmts.now c.index-stmts.result c.requires.flown.1.fly c.index-stmts.is);
+  alone = single_begins (public_of c.args.engine.now) (count_of c.args.engine.now (g.S.BlockStore.state c.args.store.now)) c.index-stmts-0.result (first_may (public_of c.args.engine.now) c.args.stmts.now c.index-stmts-0.result c.requires.flown.1.fly c.index-stmts-0.is);
   ready = c.requires.ready;
   took = c.requires.took;
 }
 
 pub returns-clause-serves : goal.returns-clause-serves
 returns-clause-serves g c = λ settings flown.
-    let one = c.index-stmts.result in
-    let may = first_may (public_of c.args.engine.now) c.args.stmts.now one flown.fly c.index-stmts.is in
+    let one = c.index-stmts-0.result in
+    let may = first_may (public_of c.args.engine.now) c.args.stmts.now one flown.fly c.index-stmts-0.is in
     let there = g.S.BlockStore.state c.args.store.now in
-    rw (only_one c.args.stmts.now one (omega (arith, c.if-len.false, c.len.ensures)) c.index-stmts.is)
+    rw (only_one c.args.stmts.now one (omega (arith, c.if-stmts-ge2.false)) c.index-stmts-0.is)
     (single_served {m0 = machine_of c.args.engine.now there (g.B.Behind.state c.args.behind.now) (flights_of settings c.args.turns.now.last)} one c.args.tally c.answer_traced.result may (c.answer_traced.ensures.serves (flights_of settings c.args.turns.now.last)) c.answer_traced.ensures.traced c.answer_traced.ensures.traced_stop)

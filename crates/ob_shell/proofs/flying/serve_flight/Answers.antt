@@ -1,6 +1,5 @@
-use Rattle.std.proofs.Common.{List, ◌∙◌, arith, refl, rules, subst, sym, inl, inr}
+use Rattle.std.proofs.Common.{List, ◌≡◌, ◌∙◌, arith, refl, true, rules, subst, sym, inl, inr}
 use Rattle.std.specs.Io.KnownBytes.{Appends}
-use Rattle.ob_base.specs.Counts.{Rises}
 use Rattle.ob_base.specs.declared.access.Access.{Access}
 use Rattle.ob_headline.specs.Tracing.{traced}
 use Rattle.ob_shell.proofs.CountLemmas.{traced_cause}
@@ -29,12 +28,24 @@ returns-in-Err-clause-runs g c =
 pub returns-in-Err-true-clause-traced_stop : goal.returns-in-Err-true-clause-traced_stop
 returns-in-Err-true-clause-traced_stop g c = lost_trace c.in-Err-true.ensures.asked refl
 
+-- a sink of the answers had failed
+pub returns-in-Err-true-clause-runs : goal.returns-in-Err-true-clause-runs
+returns-in-Err-true-clause-runs g c =
+    let told = c.in-Err-true.ensures.runs in
+    let lost : c.in-Err-true.field-0.quiet ≡ true = search rules in
+    record {
+      done = tt;
+      stopped = rw lost at told.stopped;
+      cause = traced_cause c.in-Err-true.field-0.stop c.in-Err-true.field-0.stop _ _ _ _ refl told.cause (omega arith);
+      quiet = search (told, rules);
+    }
+
 pub returns-in-Err-false-clause-runs : goal.returns-in-Err-false-clause-runs
 returns-in-Err-false-clause-runs g c =
     let told = c.in-Err-false.ensures.runs in
     record {
       done = tt;
-      stopped = cuts_unlost {P = Rises (g.K.Sink.faults c.args.out.now) (g.K.Sink.faults c.answer_flight.new.out)} refl told.stopped;
+      stopped = cuts_unlost {quiet = c.in-Err-false.field-0.quiet} (search rules) told.stopped;
       cause = traced_cause c.in-Err-false.field-0.stop c.in-Err-false.field-0.stop _ _ _ _ refl told.cause c.trace_from-in-Err-false.ensures.cause.later;
       quiet = search rules;
     }

@@ -1,6 +1,5 @@
-use Rattle.std.proofs.Common.{List, ◌∙◌, arith, refl, rules, subst, sym}
+use Rattle.std.proofs.Common.{List, ◌≡◌, ◌∙◌, arith, refl, true, rules, subst, sym}
 use Rattle.std.specs.Io.KnownBytes.{Appends}
-use Rattle.ob_base.specs.Counts.{Rises}
 use Rattle.ob_base.specs.declared.access.Access.{Access}
 use Rattle.ob_headline.specs.Tracing.{traced}
 use Rattle.ob_shell.proofs.LetGoLemmas.{answers_from, asked_from, ready_from}
@@ -34,6 +33,20 @@ returns-in-Err-clause-serves g c = λ flights.
 pub returns-in-Err-true-clause-traced_stop : goal.returns-in-Err-true-clause-traced_stop
 returns-in-Err-true-clause-traced_stop g c = lost_trace c.in-Err-true.ensures.asked refl
 
+pub returns-in-Err-true-clause-serves : goal.returns-in-Err-true-clause-serves
+returns-in-Err-true-clause-serves g c = λ flights.
+    let told = c.in-Err-true.ensures.serves flights in
+    let lost : c.in-Err-true.field-0.quiet ≡ true = search rules in
+    record {
+      ready = tt;
+      most = λ settings. tt;
+      tables = λ flies. tt;
+      done = tt;
+      stopped = rw lost at told.stopped;
+      cause = traced_cause c.in-Err-true.field-0.stop c.in-Err-true.field-0.stop _ _ _ _ refl told.cause (omega arith);
+      quiet = search (told, rules);
+    }
+
 pub returns-in-Err-false-clause-serves : goal.returns-in-Err-false-clause-serves
 returns-in-Err-false-clause-serves g c = λ flights.
     let told = c.in-Err-false.ensures.serves flights in
@@ -42,9 +55,9 @@ returns-in-Err-false-clause-serves g c = λ flights.
       most = λ settings. tt;
       tables = λ flies. tt;
       done = tt;
-      stopped = λ h text may spells. stops_unlost {P = Rises (g.K.Sink.faults c.args.out.now) (g.K.Sink.faults c.answer.new.out)} refl (told.stopped h text may spells);
+      stopped = λ h text may spells. stops_unlost {quiet = c.in-Err-false.field-0.quiet} (search rules) (told.stopped h text may spells);
       cause = traced_cause c.in-Err-false.field-0.stop c.in-Err-false.field-0.stop _ _ _ _ refl told.cause c.trace_from-in-Err-false.ensures.cause.later;
-      quiet = search rules;
+      quiet = search (told, rules);
     }
 
 pub returns-in-Ok-trace_from-clause-serves : goal.returns-in-Ok-trace_from-clause-serves
