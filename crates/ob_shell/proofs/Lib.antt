@@ -39,6 +39,8 @@ pub mod FlightMeant
 pub mod FlightFacts
 pub mod FlightWalk
 pub mod FlightCuts
+pub mod FlightEnd
+pub mod FlightStop
 pub mod FlightMore
 pub mod FlightLast
 pub mod FlightOpen
