@@ -39,4 +39,4 @@ pub flies_last : {R : Type 0} (state : R → RevState) (m1 m2 : Machine R) (more
     → (run : RunStop) → CutTogether state m1 m2 more run part ⊎ FinishedTogether state m1 m2 more run part → LastWalk state (Ran (Err (session_stop run))) m1 m2 more part w0 w1 Lost first
 flies_last state m1 m2 more part w0 w1 Lost first out whole run (inl cut) = cut_last state m1 m2 more part w0 w1 Lost first out whole run cut
 flies_last state m1 m2 more part w0 w1 Lost first out whole run (inr done) =
-    finished_last state m1 m2 more part w0 w1 Lost first run done out whole (λ kept short. early_left state m1 m2 _ _ _ _ _ _ kept short)
+    finished_last state m1 m2 more part w0 w1 Lost first run done out whole (λ kept short. early_left state m1 m2 done.step.stmts done.step.seens done.step.flew.ended (Ok tt) done.step.may done.step.flew.ran kept short)
