@@ -36,7 +36,7 @@ use Rattle.ob_script.specs.Trace.{next}
 use Rattle.ob_shell.proofs.FewLemmas.{insert_few}
 use Rattle.ob_shell.proofs.ReplayLemmas.{counts_on}
 use Rattle.ob_shell.proofs.LeaveSteps.{whole_own}
-use Rattle.ob_shell.proofs.WalkLemmas.{end_apart, end_cut}
+use Rattle.ob_shell.proofs.EndLemmas.{end_apart, end_cut}
 use Rattle.ob_shell.proofs.WithLemmas.{events_none, insert_headings, insert_of, insert_prints}
 use Rattle.ob_shell.specs.Lines.{line_answer, line_answers}
 use Rattle.ob_shell.proofs.GatherLemmas.{not_flying}

@@ -34,13 +34,13 @@ sink_counts : (run : RunStop) (old new : KeeperState) → run ≡ SinkFault → 
 sink_counts run old new is same = subst (λ (r : RunStop). CountsKeeper (Ran (Err (session_stop r))) old new) (sym is) same
 
 -- nor does a stop of a flight, which no keeper stops
-flight_counts : {a b : World} (run : RunStop) (old new : KeeperState) → FlightCause {T = Unit {0}} (Err run) a b → new.faults ≡ old.faults → CountsKeeper (Ran (Err (session_stop run))) old new
-flight_counts (Tampered q x) old new cause same = same
-flight_counts SinkFault old new cause same = same
-flight_counts NoMemory old new cause same = same
-flight_counts StoreFault old new cause same = same
-flight_counts StashFull old new cause same = same
-flight_counts KeeperFault old new cause same = absurd cause
+flight_counts : (a b : World) (run : RunStop) (old new : KeeperState) → FlightCause {T = Unit {0}} (Err run) a b → new.faults ≡ old.faults → CountsKeeper (Ran (Err (session_stop run))) old new
+flight_counts a b (Tampered q x) old new cause same = same
+flight_counts a b SinkFault old new cause same = same
+flight_counts a b NoMemory old new cause same = same
+flight_counts a b StoreFault old new cause same = same
+flight_counts a b StashFull old new cause same = same
+flight_counts a b KeeperFault old new cause same = absurd cause
 
 -- while the count stays, nothing changes of that
 counts_on : (result : Result Bool Stop) (a b c : KeeperState) → b.faults ≡ a.faults → CountsKeeper (Ran result) b c → CountsKeeper (Ran result) a c
@@ -74,7 +74,7 @@ module _ {R : Type 0} (state : R → RevState) where
   part_counts m1 m2 (text ∷ more) run part (inl idle) = memory_counts run m1.keeper m2.keeper idle.memory (unmoved m1 m2 idle.rests.machine)
   part_counts m1 m2 (text ∷ more) run part (inr (inl cut)) = stop_counts run m1.keeper m2.keeper cut.does.counts
   part_counts m1 m2 (text ∷ more) run part (inr (inr (inl done))) = sink_counts run m1.keeper m2.keeper done.fault (step_counts m1 m2 text done.answer done.step)
-  part_counts m1 m2 (text ∷ more) run part (inr (inr (inr (inl cut)))) = flight_counts run m1.keeper m2.keeper cut.flew.ran.cause (ap (λ (k : KeeperState). k.faults) cut.may.keeper)
+  part_counts m1 m2 (text ∷ more) run part (inr (inr (inr (inl cut)))) = flight_counts _ _ run m1.keeper m2.keeper cut.flew.ran.cause (ap (λ (k : KeeperState). k.faults) cut.may.keeper)
   part_counts m1 m2 (text ∷ more) run part (inr (inr (inr (inr done)))) = sink_counts run m1.keeper m2.keeper done.fault (ap (λ (k : KeeperState). k.faults) done.step.may.keeper)
 
   last_counts : (m1 m2 : Machine R) (more : List (List ℕ)) (part : List ℕ) (result : Result Bool Stop) → LastPart state m1 m2 more part result → CountsKeeper (Ran result) m1.keeper m2.keeper

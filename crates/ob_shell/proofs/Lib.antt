@@ -30,6 +30,24 @@ pub mod CalmLemmas
 pub mod FailureLemmas
 pub mod LeafLemmas
 pub mod HowLemmas
+pub mod EndLemmas
+pub mod SeatLemmas
+pub mod SelectLemmas
+pub mod FlownLists
+pub mod FlightSeen
+pub mod FlightMeant
+pub mod FlightFacts
+pub mod FlightWalk
+pub mod FlightCuts
+pub mod FlightEnd
+pub mod FlightStop
+pub mod FlightMore
+pub mod FlightLast
+pub mod FlightOpen
+pub mod WalkEntries
+pub mod WalkWhole
+pub mod WalkLast
+pub mod PromptMore
 mod WalkLemmas
 mod WalkSteps
 pub mod BatchSteps

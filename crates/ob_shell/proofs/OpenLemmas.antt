@@ -39,19 +39,19 @@ module _ {R : Type 0} (state : R → RevState) where
   ]
 
   -- of a flight, of which the accesses are those that are counted
-  flight_opens : (m0 m1 : Machine R) {part : List Access} → m1.store.asked ≡ m0.store.asked ++ part → Opens (drop (length m0.store.asked) m1.store.asked) m0.engine.room.high m1.engine.room.high → Used m0 → Used m1
-  flight_opens m0 m1 {part} asked opened used =
+  flight_opens : (m0 m1 : Machine R) (part : List Access) → m1.store.asked ≡ m0.store.asked ++ part → Opens (drop (length m0.store.asked) m1.store.asked) m0.engine.room.high m1.engine.room.high → Used m0 → Used m1
+  flight_opens m0 m1 part asked opened used =
       after _ _ _ _ _ asked (subst (λ (l : List Access). Opens l m0.engine.room.high m1.engine.room.high) (ap (drop (length m0.store.asked)) asked ∙ drop_front m0.store.asked part) opened) used
 
   steps_open : (m0 m2 : Machine R) (texts : List (List ℕ)) (answers : List Answer) → Steps state m0 m2 texts answers → Used m0 → Used m2
   steps_open m0 m2 texts answers at_rest used = used
   steps_open m0 m2 texts answers (one_more {m1 = m1} {text = text} {one = one} {texts = more} {answers = given} step rest) used = steps_open m1 m2 more given rest (step_opens m0 m1 text one step used)
-  steps_open m0 m2 texts answers (more_together {m1 = m1} {texts = more} {answers = given} step rest) used = steps_open m1 m2 more given rest (flight_opens m0 m1 step.flew.ran.ran.asked step.flew.ran.ran.opened used)
+  steps_open m0 m2 texts answers (more_together {m1 = m1} {texts = more} {answers = given} step rest) used = steps_open m1 m2 more given rest (flight_opens m0 m1 _ step.flew.ran.ran.asked step.flew.ran.ran.opened used)
 
   last_opens : (m1 m2 : Machine R) (more : List (List ℕ)) (part : List ℕ) (result : Result Bool Stop) → LastPart state m1 m2 more part result → Used m1 → Used m2
   last_opens m1 m2 more part result last used =
       last_by state m1 m2 more part (Used m2) result last (λ is. same m1 m2 is used) (λ text run cut. after _ _ _ _ _ cut.does.ran.asked cut.does.ran.opened used) (λ text answer step. step_opens m1 m2 text answer step used)
-      (λ texts run cut. flight_opens m1 m2 cut.flew.ran.ran.asked cut.flew.ran.ran.opened used) (λ texts answers step. flight_opens m1 m2 step.flew.ran.ran.asked step.flew.ran.ran.opened used)
+      (λ texts run cut. flight_opens m1 m2 _ cut.flew.ran.ran.asked cut.flew.ran.ran.opened used) (λ texts answers step. flight_opens m1 m2 _ step.flew.ran.ran.asked step.flew.ran.ran.opened used)
 
   -- of the texts that were served, and what was done after them
   pub session_opens : (m0 m1 m2 : Machine R) (texts more : List (List ℕ)) (answers : List Answer) (part : List ℕ) (result : Result Bool Stop)

@@ -40,7 +40,7 @@ use Rattle.ob_tables.specs.declared.stop.RunStop.TheVariants as Runs
 use Rattle.ob_vault.specs.State.{RevState}
 
 -- ---- the session
-run_ends : (f : Fetch) (ended : Bool) (bytes : List ℕ) (more : List (List ℕ)) (part : List ℕ) (run : RunStop) → EndsBy f ended bytes more part (Err (session_stop run))
+pub run_ends : (f : Fetch) (ended : Bool) (bytes : List ℕ) (more : List (List ℕ)) (part : List ℕ) (run : RunStop) → EndsBy f ended bytes more part (Err (session_stop run))
 run_ends f ended bytes more part (Runs.Tampered region place) = tt
 run_ends f ended bytes more part Runs.SinkFault = tt
 run_ends f ended bytes more part Runs.NoMemory = tt

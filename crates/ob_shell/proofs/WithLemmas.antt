@@ -12,6 +12,7 @@ use Rattle.ob_base.specs.declared.seen.Seen.{Seen}
 use Rattle.ob_headline.specs.Accesses.{Says}
 use Rattle.ob_headline.specs.Batches.{Joins, is_failed}
 use Rattle.ob_headline.specs.Closing.{closing_line}
+use Rattle.ob_headline.specs.Flights.{may_fly, place_now}
 use Rattle.ob_headline.specs.Meaning.{AnswersIn, AnswersMeant}
 use Rattle.ob_headline.specs.Words.{Answer}
 use Rattle.ob_mean.proofs.BatchLemmas.{GoesIn, after_cut_with, after_refused, after_with, goes_in, settle_refused}
@@ -128,6 +129,13 @@ module _ {R : Type 0} (state : R → RevState) (m0 m1 : Machine R) (text : List 
   with_insert = insert_of stmt inserts
 
   -- ---- by what is public
+  -- it flies with none
+  pub with_apart : (most gathered : ℕ) → place_now most p gathered (skeleton stmt) ≡ 0
+  with_apart most gathered = ap (λ (x : Stmt). place_now most p gathered (skeleton x)) with_insert.is
+
+  pub with_grounded : may_fly p (skeleton stmt) ≡ false
+  with_grounded = ap (λ (x : Stmt). may_fly p (skeleton x)) with_insert.is
+
   pub with_lawful : Lawful p m stmt seen_with
   with_lawful = go (refusal_now p m stmt) refl
     where

@@ -9,7 +9,7 @@ use Rattle.ob_base.specs.declared.mark.Mark.TheVariants.{Fresh, InUse, Closed, B
 use Rattle.ob_base.specs.declared.refusal.Stop.{Stop}
 use Rattle.ob_gen.specs.Generated.{generated}
 use Rattle.ob_gen.specs.declared.tally.Tally.{Tally}
-use Rattle.ob_headline.specs.Bases.{Base}
+use Rattle.ob_headline.specs.Bases.{Base, flying}
 use Rattle.ob_headline.specs.Keeping.{closing_named}
 use Rattle.ob_headline.specs.KeyLine.{first_line, secret_of}
 use Rattle.ob_headline.specs.Prompt.{Prompt}
@@ -26,6 +26,7 @@ use Rattle.ob_print.specs.Cuts.{Outputs}
 use Rattle.ob_reopen.specs.Keepers.{DrawsSalt, GivesMark, KeeperState}
 use Rattle.ob_seal.specs.KeySet.{KeySet}
 use Rattle.ob_seal.specs.Sealed.{keys_salted}
+use Rattle.ob_headline.specs.declared.flight.FlightSettings.{FlightSettings}
 use Rattle.ob_shell.specs.Engaging.{IsHushed, KeptConcludedBy, RanUnkeyed}
 use Rattle.ob_shell.specs.Feeding.{Fetch}
 use Rattle.ob_shell.specs.Leaving.{BeginsToSave}
@@ -168,7 +169,7 @@ pub record RanUnsaved (config : Config) (tracing : Bool) (ended : KeptEnded) (ol
   pub taken : List ℕ
   pub given : Consumes old.left new.left taken
   pub within : length taken ≤ config.max_input
-  pub prompt : Prompt 1 taken [] new.gave
+  pub prompt : Prompt 1 1 taken [] new.gave
   pub secret : List ℕ
   pub keyed : secret_of (first_line taken) ≡ Some secret
   pub unserved : EndsUnsaved config secret tracing ended old.store new.store
@@ -178,8 +179,8 @@ pub record RanUnsaved (config : Config) (tracing : Bool) (ended : KeptEnded) (ol
   pub out : new.faults.out ≡ old.faults.out
 
 -- texts were served, to their end or until a stop came
-pub record RanSession (config : Config) (tracing : Bool) (ended : KeptEnded) (old new : Outside)
-    (keeper0 keeper1 : KeeperState) : Type 0 where
+pub record RanSession (config : Config) (flight : Option FlightSettings) (tracing : Bool)
+    (ended : KeptEnded) (old new : Outside) (keeper0 keeper1 : KeeperState) : Type 0 where
   pub secret : List ℕ
   pub salt : List ℕ
   pub keys : KeySet
@@ -192,35 +193,36 @@ pub record RanSession (config : Config) (tracing : Bool) (ended : KeptEnded) (ol
   pub set : base.settings ≡ Some config
   pub first : opened.asked ≡ base.before
   pub result : Result Bool Stop
-  pub shown : RunShown ended.tally (sink_of tracing traced new.traced) base (λ taken. keys)
-      old.left new.left new.gave old.written new.written opened new.store ended.high
+  pub shown : RunShown ended.tally (sink_of tracing traced new.traced) (flying flight base)
+      (λ taken. keys) old.left new.left new.gave old.written new.written opened new.store ended.high
       (Ran result) [] (OutFailed ended.quiet old.faults.out new.faults.out)
   pub keyed : secret_of (first_line shown.taken) ≡ Some secret
   pub traced_all : Traced tracing opened.asked new.store.asked traced new.traced
       (ended.quiet ≡ true)
-  pub cause : EndingCause (ServesAlone base.flight base.public) (Ran result) old.faults new.faults
+  pub cause : EndingCause (ServesAlone flight base.public) (Ran result) old.faults new.faults
   pub silent : Silenced ended.quiet old.faults new.faults
   pub ending : ended.ending ≡ Plain (Ran result)
   pub keeper : CountsKeeper (Ran result) begun keeper1
   pub leaves : (held : Mark) → keeper0.held ≡ Some held
-      → LeavesSaved secret salt base keys (Ran result) shown.story opened new.store begun keeper1
+      → LeavesSaved secret salt (flying flight base) keys (Ran result) shown.story opened new.store
+      begun keeper1
 
-abbrev pub RanSaved : Config → (tracing : Bool) → KeptEnded → (old new : Outside)
+abbrev pub RanSaved : Config → Option FlightSettings → (tracing : Bool) → KeptEnded → (old new : Outside)
     → (keeper0 keeper1 : KeeperState) → Type 0
-RanSaved config tracing ended old new keeper0 keeper1 =
-    RanUnkeyed config tracing ended old new keeper0 keeper1
+RanSaved config flight tracing ended old new keeper0 keeper1 =
+    RanUnkeyed config flight tracing ended old new keeper0 keeper1
     ⊎ (RanUnsaved config tracing ended old new keeper0 keeper1
-    ⊎ RanSession config tracing ended old new keeper0 keeper1)
+    ⊎ RanSession config flight tracing ended old new keeper0 keeper1)
 
 -- over the text that is generated from this seed, and what was written behind it
-pub record SavedGenerated (config : Config) (tracing : Bool) (seed : Seed)
-    (traced0 traced1 : Option (List ℕ)) (store0 store1 : StoreState) (trace0 trace1 : ℕ)
+pub record SavedGenerated (config : Config) (flight : Option FlightSettings) (tracing : Bool)
+    (seed : Seed) (traced0 traced1 : Option (List ℕ)) (store0 store1 : StoreState) (trace0 trace1 : ℕ)
     (keeper0 keeper1 : KeeperState) (written0 written1 : Option (List ℕ)) (out0 out1 : ℕ)
     (report : Report) : Type 0 where
   pub ended : KeptEnded
   pub left : List ℕ
   pub gave : ℕ
-  pub ran : RanSaved config tracing ended
+  pub ran : RanSaved config flight tracing ended
       (outside_of (Some (generated seed.start seed.rows)) 0 None traced0 store0
       (faults_of 0 0 trace0))
       (outside_of (Some left) gave None traced1 store1 (faults_of 0 0 trace1)) keeper0 keeper1
