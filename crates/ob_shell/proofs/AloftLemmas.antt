@@ -147,7 +147,7 @@ module _ {R E : Type 0} (state : R → RevState) (grew cut : E → E → List Ev
   pub record SentUntil (written : E → Option (List ℕ)) (waiting : E → List ℕ) (stop : RunStop) (ran : Called {T = Unit {0}} (Err stop)) : Type 0 where
     pub part : List ℕ
     pub emits : EmitsUntil state stmts ran.stopped.stmt ran.stopped.seen (own (length ran.ended)) part old s new t
-    pub memory : stop ≡ Runs.NoMemory → WantsTogether (public_of old) words stmts seens (length ran.ended) ran.stopped.stmt ran.stopped.seen part ran.ended s t
+    pub memory : stop ≡ Runs.NoMemory → WantsTogether (public_of old) words stmts seens (length ran.ended) ran.stopped.stmt ran.stopped.seen (λ events outcome. EndsSo state stmts ran.stopped.stmt ran.stopped.seen (own (length ran.ended)) events old s new t outcome) part ran.ended s t
     pub sent : Sends (written out_old) (written out_new) (waiting out_old) (waiting out_new) ⊥ (closed_text ran.ended ++ part)
         ⊎ (MayCut stop × Sends (written out_old) (written out_new) (waiting out_old) (waiting out_new) (Unit {0}) (closed_text ran.ended ++ part))
 
@@ -166,7 +166,7 @@ module _ {R E : Type 0} (state : R → RevState) (grew cut : E → E → List Ev
       at = ran.stopped
 
       abbrev Wants : (part : List ℕ) → Type 0
-      Wants part = stop ≡ Runs.NoMemory → WantsTogether (public_of old) words stmts seens (length ran.ended) at.stmt at.seen part ran.ended s t
+      Wants part = stop ≡ Runs.NoMemory → WantsTogether (public_of old) words stmts seens (length ran.ended) at.stmt at.seen (λ events outcome. EndsSo state stmts at.stmt at.seen (own (length ran.ended)) events old s new t outcome) part ran.ended s t
 
       took_events : grew at.between out_new at.events → Wants (events_text at.events) → SentUntil written waiting stop ran
       took_events grown wants = record {
@@ -190,7 +190,7 @@ module _ {R E : Type 0} (state : R → RevState) (grew cut : E → E → List Ev
           record {
             part = events_text at.events ++ line;
             emits = record { events = at.events; told = at.told; text = inr (short.outcome, short.ends, refl) };
-            memory = λ is. inr (inr (inr (at.events, short.outcome, refl)));
+            memory = λ is. inr (inr (inr (at.events, short.outcome, short.ends, refl)));
             sent = inr (
               may,
               Sends-then (closed_text ran.ended) (events_text at.events ++ line) (sent_ended stop ran)

@@ -41,7 +41,7 @@ use Rattle.ob_shell.proofs.WithLemmas.{events_none, insert_headings, insert_of, 
 use Rattle.ob_shell.specs.Lines.{line_answer, line_answers}
 use Rattle.ob_shell.proofs.GatherLemmas.{not_flying}
 use Rattle.ob_shell.specs.Steps.{AreOwed, AreSpelt, Does, Flights, Follow, Gathered, GoTogether, IsApartFrom, Machine, Owed, Owes, Step, Steps, TakesOwed, at_rest, draws_behind, end_with, gathered_after, machine_of, none_gathered, one_more, standing, statements_of}
-use Rattle.ob_shell.specs.Waiting.{AreSpelt, IsApart}
+use Rattle.ob_shell.specs.Waiting.{IsApart}
 use Rattle.ob_sql.specs.Skeleton.{skeleton}
 use Rattle.ob_sql.specs.declared.stmt.Stmt.{Stmt}
 use Rattle.ob_store.specs.State.{StoreState}
@@ -159,7 +159,7 @@ follow_unanswered text texts stmts spelt = follow_by text texts (unanswered stmt
 place_none : (most : ℕ) (p : Public) (outline : Skeleton) → place_now most p 0 outline ≡ 0
 place_none most p outline = go (may_fly p outline && nat_lt 0 most)
   where
-    go : (b : Bool) → (if b then 0 else 0) ≡ 0
+    go : (b : Bool) → ◌≡◌ {A = ℕ} (if b then 0 else 0) 0
     go true = refl
     go false = refl
 

@@ -50,7 +50,7 @@ use Rattle.ob_script.specs.Sizes.{SeesLeaf, IfFlat, IfTable, IsCounted, IsHeld, 
 use Rattle.ob_shell.proofs.ReplayLemmas.{counts_on}
 use Rattle.ob_shell.specs.Feeding.{Fetch}
 use Rattle.ob_shell.specs.Running.{SessionRan}
-use Rattle.ob_shell.specs.Steps.{Does, Machine, Step, Steps, asked_of}
+use Rattle.ob_shell.specs.Steps.{Does, Machine, Step, Steps, asked_of, at_rest, more_together, one_more}
 use Rattle.ob_sql.specs.Skeleton.{skeleton}
 use Rattle.ob_sql.specs.declared.stmt.SelectRows.{SelectRows}
 use Rattle.ob_sql.specs.declared.stmt.Stmt.{Stmt}

@@ -1,7 +1,7 @@
 -- SELECTs that waited, once they flew.
 use Rattle.std.specs.Prelude.{◌*◌, ◌/◌, OnErr, OnOk, Result, is_some, max, min, not, slice_get}
 use Rattle.std.specs.List.{All}
-use Rattle.std.proofs.Common.{◌≡◌, ◌⊎◌, ◌<◌, ◌≤◌, ◌+◌, inl, inr, ℕ, Bool, true, false, List, [], ◌∷◌, ◌++◌, length, Option, None, Some, Ok, Err, refl, sym, ap, ◌∙◌, subst, arith, append-nil}
+use Rattle.std.proofs.Common.{get_or, ◌≡◌, ◌⊎◌, ◌<◌, ◌≤◌, ◌+◌, inl, inr, ℕ, Bool, true, false, List, [], ◌∷◌, ◌++◌, length, Option, None, Some, Ok, Err, refl, sym, ap, ◌∙◌, subst, arith, append-nil}
 use Rattle.std.proofs.lemmas.List.Elements.{All-head, All-weaker}
 use Rattle.std.specs.Io.KnownBytes.{Appends}
 use Rattle.std.proofs.KnownBytes.{Appends-nil}
@@ -273,6 +273,10 @@ pub only_one : (stmts : List Stmt) (stmt : Stmt) → length stmts < 2 → slice_
 only_one [] stmt few is = absurd (cc is)
 only_one (first ∷ []) stmt few is = ap (λ (s : Stmt). s ∷ []) (cc is)
 only_one (first ∷ (more ∷ rest)) stmt few is = absurd (omega (arith, few))
+
+pub first_at : (stmts : List Stmt) (one : Stmt) → 1 ≤ length stmts → one ≡ get_or stmts 0 one → slice_get stmts 0 ≡ Some one
+first_at [] one some is = absurd (omega (arith, some))
+first_at (first ∷ rest) one some is = ap Some (sym is)
 
 -- ---- by the first of them
 pub batch_of : (settings : Option FlightSettings) (p : Public) (m : ℕ) (first : Stmt) (rest : List Stmt) → AreBatched settings p m (first ∷ rest) → is_some (inserts_into (skeleton first)) ≡ true → AreBatch p m first rest

@@ -120,15 +120,17 @@ pub record EmitsUntil {R : Type 0} (state : R → RevState) (stmts : List Stmt) 
       × ClosesWithin events part outcome)
 
 -- memory is wanting before the first access, where a region is made, just before a result is made that isn't padded, or where
--- the next one's rows are emitted, or its closing line
+-- the next one's rows are emitted, or, where it ended so, its closing line
 abbrev pub WantsTogether : Public → (words : ℕ → ℕ) → List Stmt → List Seen → (place : ℕ)
-    → Stmt → Seen → (part : List ℕ) → List Closed → (s t : StoreState) → Type 0
-WantsTogether p words stmts seens place stmt seen part ended s t =
+    → Stmt → Seen → (Ends : List Event → Outcome → Type 0) → (part : List ℕ) → List Closed
+    → (s t : StoreState) → Type 0
+WantsTogether p words stmts seens place stmt seen Ends part ended s t =
     AtMake (drop (length s.asked) t.asked)
     ⊎ (BeforeMake (in_flight stmts p) stmts seens (asked_own p words stmts seens s t) ended
     ⊎ (AtEmission (in_flight stmts p) stmt seen (drop (asked_own p words stmts seens s t place)
     (whole_script (in_flight stmts p) (skeleton stmt) seen))
-    ⊎ ((events : List Event) × (outcome : Outcome) × ClosesWithin events part outcome)))
+    ⊎ ((events : List Event) × (outcome : Outcome) × Ends events outcome
+    × ClosesWithin events part outcome)))
 
 -- they flew until then: the answers of those that have ended were printed, and a first part of the next one
 pub record FlewUntil {R : Type 0} (state : R → RevState) (words left : ℕ → ℕ)
@@ -144,7 +146,10 @@ pub record FlewUntil {R : Type 0} (state : R → RevState) (words left : ℕ →
   pub emits : EmitsUntil state stmts stmt seen
       (asked_own (public_of old) words stmts seens s t (length ended)) part old s new t
   pub memory : stop ≡ NoMemory
-      → WantsTogether (public_of old) words stmts seens (length ended) stmt seen part ended s t
+      → WantsTogether (public_of old) words stmts seens (length ended) stmt seen
+      (λ events outcome. EndsSo state stmts stmt seen
+      (asked_own (public_of old) words stmts seens s t (length ended)) events old s new t outcome)
+      part ended s t
   pub printed : PrintsUntil (session_stop stop) bytes (printed (answers_of ended seens) ++ part)
 
 -- they flew to their end, with these answers

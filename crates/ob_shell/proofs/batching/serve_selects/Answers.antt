@@ -1,5 +1,5 @@
 use Rattle.std.proofs.Common.{◌≡◌, List, [], ◌∷◌, ◌∙◌, arith, length, refl, subst, sym}
-use Rattle.ob_shell.proofs.FlightTakes.{are_flight, first_may, flight_served, flown_few, only_one, single_begins}
+use Rattle.ob_shell.proofs.FlightTakes.{are_flight, first_at, first_may, flight_served, flown_few, only_one, single_begins}
 use Rattle.ob_shell.proofs.TakesLemmas.{single_served}
 use Rattle.ob_shell.proofs.batching.serve_selects.Goals as goal
 use Rattle.ob_shell.specs.Flying.{flights_of}
@@ -27,7 +27,7 @@ returns-then-stmts-ge2-clause-serves g c = λ settings flown.
 
 pub answer_traced-requires : goal.answer_traced-requires
 answer_traced-requires g c = record {
-  alone = single_begins (public_of c.args.engine.now) (count_of c.args.engine.now (g.S.BlockStore.state c.args.store.now)) c.index-stmts-0.result (first_may (public_of c.args.engine.now) c.args.stmts.now c.index-stmts-0.result c.requires.flown.1.fly c.index-stmts-0.is);
+  alone = single_begins (public_of c.args.engine.now) (count_of c.args.engine.now (g.S.BlockStore.state c.args.store.now)) c.index-stmts-0.result (first_may (public_of c.args.engine.now) c.args.stmts.now c.index-stmts-0.result c.requires.flown.1.fly (first_at c.args.stmts.now c.index-stmts-0.result c.requires.some c.index-stmts-0.is));
   ready = c.requires.ready;
   took = c.requires.took;
 }
@@ -35,7 +35,7 @@ answer_traced-requires g c = record {
 pub returns-clause-serves : goal.returns-clause-serves
 returns-clause-serves g c = λ settings flown.
     let one = c.index-stmts-0.result in
-    let may = first_may (public_of c.args.engine.now) c.args.stmts.now one flown.fly c.index-stmts-0.is in
+    let may = first_may (public_of c.args.engine.now) c.args.stmts.now one flown.fly (first_at c.args.stmts.now one c.requires.some c.index-stmts-0.is) in
     let there = g.S.BlockStore.state c.args.store.now in
-    rw (only_one c.args.stmts.now one (omega (arith, c.if-stmts-ge2.false)) c.index-stmts-0.is)
+    rw (only_one c.args.stmts.now one (omega (arith, c.if-stmts-ge2.false)) (first_at c.args.stmts.now one c.requires.some c.index-stmts-0.is))
     (single_served {m0 = machine_of c.args.engine.now there (g.B.Behind.state c.args.behind.now) (flights_of settings c.args.turns.now.last)} one c.args.tally c.answer_traced.result may (c.answer_traced.ensures.serves (flights_of settings c.args.turns.now.last)) c.answer_traced.ensures.traced c.answer_traced.ensures.traced_stop)
