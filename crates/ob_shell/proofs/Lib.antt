@@ -41,6 +41,9 @@ pub mod FlightWalk
 pub mod FlightCuts
 pub mod FlightEnd
 pub mod FlightStop
+pub mod FlightCut
+pub mod FlightSteady
+pub mod FlightEnding
 pub mod FlightMore
 pub mod FlightLast
 pub mod FlightOpen
