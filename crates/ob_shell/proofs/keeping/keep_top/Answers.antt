@@ -41,7 +41,7 @@ returns-in-None-generated-clause-ran g c =
     let words = map string_bytes c.args.words.now in
     let read = c.in-Ok.ensures in
     may_keep _ _ _ _ _ _ _ _ _ _ _ _ None (sym read.keep ∙ c.if-words.false) (asked_is kept_usage words read.generated c.in-None-generated.is)
-    (headlined _ _ _ _ _ _ c.requires.fresh (reported_taken (c.in-Ok.words.common.config, read.ok) read.ok.settings (rw (read.trace, read.flight) at c.serve_over.ensures.reported.1)) (rw (read.trace, read.flight) at c.serve_over.ensures.traced), refl)
+    (headlined _ _ _ _ _ _ c.requires.fresh (reported_taken (c.in-Ok.words.common.config, read.ok) read.ok.settings (rw (read.trace, read.flight) at c.serve_over.ensures.reported.1)) (rw read.trace at c.serve_over.ensures.traced), refl)
 
 pub returns-in-Some-generated-clause-ran : goal.returns-in-Some-generated-clause-ran
 returns-in-Some-generated-clause-ran g c =

@@ -59,7 +59,7 @@ returns-in-None-generated-2-clause-ran g c =
     let words = map string_bytes c.args.words.now in
     let read = c.in-Ok.ensures in
     keeps_or_saves _ _ _ _ _ _ _ _ _ _ _ _ _ _ None (sym read.save ∙ c.if-words.false) (sym read.keep ∙ c.if-words-2.false) (asked_is saved_usage words read.generated c.in-None-generated-2.is)
-    (headlined _ _ _ _ _ _ c.requires.fresh (reported_taken (c.in-Ok.words.common.config, read.ok) read.ok.settings (rw (read.trace, read.flight) at c.serve_over.ensures.reported.1)) (rw (read.trace, read.flight) at c.serve_over.ensures.traced), refl)
+    (headlined _ _ _ _ _ _ c.requires.fresh (reported_taken (c.in-Ok.words.common.config, read.ok) read.ok.settings (rw (read.trace, read.flight) at c.serve_over.ensures.reported.1)) (rw read.trace at c.serve_over.ensures.traced), refl)
 
 pub returns-in-Some-generated-2-clause-ran : goal.returns-in-Some-generated-2-clause-ran
 returns-in-Some-generated-2-clause-ran g c =

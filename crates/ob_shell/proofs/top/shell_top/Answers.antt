@@ -36,7 +36,7 @@ pub returns-in-None-clause-headline : goal.returns-in-None-clause-headline
 returns-in-None-clause-headline g c none =
     headlined _ _ _ _ _ _ c.requires.fresh
     (reported_taken (c.in-Ok.words.config, c.in-Ok.ensures.ok) c.in-Ok.ensures.ok.settings (rw (c.in-Ok.ensures.trace, c.in-Ok.ensures.flight) at c.serve_over.ensures.reported.1))
-    (rw (c.in-Ok.ensures.trace, c.in-Ok.ensures.flight) at c.serve_over.ensures.traced)
+    (rw c.in-Ok.ensures.trace at c.serve_over.ensures.traced)
 
 pub returns-in-Some-clause-summary : goal.returns-in-Some-clause-summary
 returns-in-Some-clause-summary g c seed asked =
