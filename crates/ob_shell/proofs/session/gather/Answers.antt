@@ -22,8 +22,8 @@ returns-then-is_err-clause-takes g c =
       refl,
     )
 
-pub returns-then-len-clause-takes : goal.returns-then-len-clause-takes
-returns-then-len-clause-takes g c =
+pub returns-then-len-most-clause-takes : goal.returns-then-len-most-clause-takes
+returns-then-len-most-clause-takes g c =
     let e = c.args.engine.now in
     let m = count_of e (g.S.BlockStore.state c.args.store.now) in
     let batch = c.args.session.now.batch.items in
@@ -32,7 +32,7 @@ returns-then-len-clause-takes g c =
     let size = ap length more in
     rw more
     (takes_gathered batch c.args.stmt c.args.session.now.pending c.requires.spells c.args.session.now.tally _ _ _ (machine_of e (g.S.BlockStore.state c.args.store.now) (g.B.Behind.state c.args.behind.now) (flights_of c.args.manner.flight c.args.session.now.turns.last)) tt c.requires.ready
-    (gathered_more c.args.manner.flight (public_of e) m batch c.args.stmt c.requires.goes (omega (arith, c.if-len.true, c.len.ensures, most, size, c.push.new.self.ok.0))))
+    (gathered_more c.args.manner.flight (public_of e) m batch c.args.stmt c.requires.goes (omega (arith, c.if-len-most.true, c.len.ensures, most, size, c.push.new.self.ok.0))))
 
 pub flush-requires : goal.flush-requires
 flush-requires g c =
@@ -54,7 +54,7 @@ returns-in-Ok-clause-takes g c =
     let more : c.push.new.self.items ≡ batch ++ c.args.stmt ∷ [] = pushed c.push.result c.is_err.result _ c.is_err.ensures.value c.if-is_err.false c.push.ensures.items in
     let most = c.gather_most-most.ensures ∙ ap (λ (p : Public). gather_most c.args.manner.flight p (skeleton c.args.stmt)) c.public.ensures in
     let size = ap length more in
-    takes_full batch c.args.stmt c.args.session.now.pending c.requires.spells (full_by c.args.manner.flight (public_of e) m batch c.args.stmt c.requires.goes (omega (arith, c.if-len.false, c.len.ensures, most, size, c.push.new.self.ok.0))) (Ok tt) c.in-Ok.ensures.none (rw more at c.in-Ok.ensures.takes)
+    takes_full batch c.args.stmt c.args.session.now.pending c.requires.spells (full_by c.args.manner.flight (public_of e) m batch c.args.stmt c.requires.goes (omega (arith, c.if-len-most.false, c.len.ensures, most, size, c.push.new.self.ok.0))) (Ok tt) c.in-Ok.ensures.none (rw more at c.in-Ok.ensures.takes)
 
 pub returns-in-Err-clause-takes : goal.returns-in-Err-clause-takes
 returns-in-Err-clause-takes g c =
@@ -64,4 +64,4 @@ returns-in-Err-clause-takes g c =
     let more : c.push.new.self.items ≡ batch ++ c.args.stmt ∷ [] = pushed c.push.result c.is_err.result _ c.is_err.ensures.value c.if-is_err.false c.push.ensures.items in
     let most = c.gather_most-most.ensures ∙ ap (λ (p : Public). gather_most c.args.manner.flight p (skeleton c.args.stmt)) c.public.ensures in
     let size = ap length more in
-    takes_full batch c.args.stmt c.args.session.now.pending c.requires.spells (full_by c.args.manner.flight (public_of e) m batch c.args.stmt c.requires.goes (omega (arith, c.if-len.false, c.len.ensures, most, size, c.push.new.self.ok.0))) (Err c.in-Err.halted) tt (rw more at c.in-Err.ensures.takes)
+    takes_full batch c.args.stmt c.args.session.now.pending c.requires.spells (full_by c.args.manner.flight (public_of e) m batch c.args.stmt c.requires.goes (omega (arith, c.if-len-most.false, c.len.ensures, most, size, c.push.new.self.ok.0))) (Err c.in-Err.halted) tt (rw more at c.in-Err.ensures.takes)
