@@ -11,6 +11,7 @@ use Rattle.ob_base.specs.declared.seen.End.{End}
 use Rattle.ob_base.specs.declared.seen.End.TheVariants.{Joined, Cut}
 use Rattle.ob_base.specs.declared.seen.Seen.{Seen}
 use Rattle.ob_headline.specs.Accesses.{AreSeen}
+use Rattle.ob_headline.specs.Flights.{Seat}
 use Rattle.ob_headline.specs.Batches.{is_failed}
 use Rattle.ob_headline.specs.Failures.{FailsBeside, RisesBy, cut_off, failures, outcome_failures, refusal_failures}
 use Rattle.ob_headline.specs.Statements.{statements}
@@ -141,19 +142,20 @@ none_cut true n is = absurd (omega (arith, is))
 none_cut false n is = (refl, omega (arith, is))
 
 -- of statements that were answered, before some that weren't
-pub none_failed : (Leaves : Public → Stmt → Seen → Type 0) (spelt : List Spelt) (answers : List Answer) (seen last : List Served) (p : Public) (m : ℕ) (g : Option Gathering)
-    → AreSeen Leaves p m g spelt answers (seen ++ last) → length answers ≤ length spelt → length seen ≡ length (statements (take (length answers) spelt)) → has_failed g ≡ false → cut_off seen ≡ 0 → failures answers ≡ 0
+pub none_failed : (Leaves : Public → Stmt → Seen → Type 0) (spelt : List Spelt) (answers : List Answer) (seen last : List Served) (seats : List Seat) (g : Option Gathering)
+    → AreSeen Leaves seats g spelt answers (seen ++ last) → length answers ≤ length spelt → length seen ≡ length (statements (take (length answers) spelt)) → has_failed g ≡ false → cut_off seen ≡ 0 → failures answers ≡ 0
 unfolding AreSeen cut_off failures statements
-none_failed Leaves spelt [] seen last p m g are reached each sound uncut = refl
-none_failed Leaves [] (one ∷ answers) seen last p m g are reached each sound uncut = absurd (omega (arith, reached))
-none_failed Leaves (Err at ∷ spelt) (one ∷ answers) seen last p m g are reached each sound uncut =
+none_failed Leaves spelt [] seen last seats g are reached each sound uncut = refl
+none_failed Leaves [] (one ∷ answers) seen last seats g are reached each sound uncut = absurd (omega (arith, reached))
+none_failed Leaves (Err at ∷ spelt) (one ∷ answers) seen last seats g are reached each sound uncut =
     let own : outcome_failures one.outcome ≡ 0 = ap (λ (a : Answer). outcome_failures a.outcome) are.0 in
-    let rest = none_failed Leaves spelt answers seen last p m None are.1 (omega (arith, reached)) each refl uncut in
+    let rest = none_failed Leaves spelt answers seen last seats None are.1 (omega (arith, reached)) each refl uncut in
     omega (arith, own, rest)
-none_failed Leaves (Ok stmt ∷ spelt) (one ∷ answers) [] last p m g are reached each sound uncut = absurd (omega (arith, each))
-none_failed Leaves (Ok stmt ∷ spelt) (one ∷ answers) (x ∷ seen) last p m g are reached each sound uncut =
+none_failed Leaves (Ok stmt ∷ spelt) (one ∷ answers) [] last seats g are reached each sound uncut = absurd (omega (arith, each))
+none_failed Leaves (Ok stmt ∷ spelt) (one ∷ answers) (x ∷ seen) last [] g are reached each sound uncut = absurd are
+none_failed Leaves (Ok stmt ∷ spelt) (one ∷ answers) (x ∷ seen) last (v ∷ seats) g are reached each sound uncut =
     let parts = none_cut (is_cut x.seen.end) (cut_off seen) uncut in
     let fine : is_failed g x.seen.end ≡ false = not_failed g x.seen.end sound parts.0 in
     let own : outcome_failures one.outcome ≡ 0 = not_failure one.outcome (λ is. absurd (cc (are.2.1.1 is, fine))) in
-    let rest = none_failed Leaves spelt answers seen last _ _ _ are.3 (omega (arith, reached)) (omega (arith, each)) (gathers_sound p m g stmt x.seen.end sound parts.0) parts.1 in
+    let rest = none_failed Leaves spelt answers seen last seats _ are.3 (omega (arith, reached)) (omega (arith, each)) (gathers_sound v.public v.asked g stmt x.seen.end sound parts.0) parts.1 in
     omega (arith, own, rest)

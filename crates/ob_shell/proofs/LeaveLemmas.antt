@@ -215,7 +215,7 @@ module _ {R : Type 0} (state : R → RevState) (ending : Ending) (m2 : Machine R
       -- one that was carried out with the one before it, and whose line was lost
       with_left : (m0 : Machine R) (d : Draws) (tables : Tables) (stmt : Stmt) (outcome : Outcome) (broken : Broken) → Saves state salt base keys m0 → Resting state secret salt base keys of m0 (tables_behind m0 d tables) → ending ≡ Ran (Err Stops.SinkFault)
           → IsWith state m0 m2 stmt outcome → Left (Ok stmt ∷ []) [] (λ o. left_by o (session_of m0 d tables) (Ok stmt ∷ []) [] broken)
-      with_left m0 d tables stmt outcome broken old rests ends with = by_failed (has_failed m0.gathered) with.owed
+      with_left m0 d tables stmt outcome broken old rests ends with = by_failed (has_failed m0.gathered.batch) with.owed
         where
           there : RestsAlike secret rests.mark m2.store.kept (tables_behind m0 d tables)
           there = subst (λ (m : Machine R). RestsAlike secret rests.mark m.store.kept (tables_behind m0 d tables)) (sym with.same) (rests_now secret rests.mark (tables_behind m0 d tables) (public_of m0.engine) m0.store.kept rests.on)

@@ -6,7 +6,6 @@ use Rattle.ob_headline.specs.Story.{Story}
 use Rattle.ob_headline.specs.Words.{Answer}
 use Rattle.ob_headline.specs.declared.ending.Ending.{Ending}
 use Rattle.ob_seal.specs.KeySet.{KeySet}
-use Rattle.ob_shell.proofs.LeaveLemmas.{leaves_saved}
 use Rattle.ob_shell.proofs.WalkLemmas.{Walked}
 use Rattle.ob_shell.specs.Leaving.{BeginsToSave}
 use Rattle.ob_shell.specs.Steps.{Machine}
@@ -27,6 +26,7 @@ module _ {R : Type 0} (state : R → RevState) (ending : Ending) (m0 m1 m2 : Mac
     part = part;
     seen = walk.seen;
     last = walk.last;
+    entries = walk.entries;
   }
 
   no_lie_first : (o : Option Lie) → m0.store.lie ≡ o → m2.store.lie ≡ None → m0.store.lie ≡ None
@@ -36,8 +36,4 @@ module _ {R : Type 0} (state : R → RevState) (ending : Ending) (m0 m1 m2 : Mac
   pub session_leaves : (secret salt : List ℕ) (base : Base) (keys : KeySet) → BeginsToSave state secret salt base keys m0
       → LeavesSaved secret salt base keys ending walked_story m0.store m2.store m0.keeper m2.keeper
   session_leaves secret salt base keys begins =
-      leaves_saved state secret salt base keys m0 m2 begins ending walked_story walk.along walk.each walk.begun walk.follow
-      (λ tells none tables held.
-      let from = walk.meant (first_draws keys) begins.drawn tells (calm_none (world_of state m0.engine m0.store) (no_lie_first m0.store.lie refl none))
-      (record { unfit = λ lie is fits. absurd (cc (is, none)) }) tables held in
-      (from.0, from.1, from.3))
+      ?

@@ -30,12 +30,34 @@ pub mod CalmLemmas
 pub mod FailureLemmas
 pub mod LeafLemmas
 pub mod HowLemmas
+pub mod EndLemmas
+pub mod SeatLemmas
+pub mod SelectLemmas
+pub mod FlownLists
+pub mod FlightSeen
+pub mod FlightMeant
+pub mod FlightFacts
+pub mod FlightWalk
+pub mod FlightCuts
+pub mod FlightEnd
+pub mod FlightStop
+pub mod FlightCut
+pub mod FlightSteady
+pub mod FlightEnding
+pub mod FlightMore
+pub mod FlightLast
+pub mod FlightOpen
+pub mod WalkEntries
+pub mod WalkWhole
+pub mod WalkLast
+pub mod PromptMore
 mod WalkLemmas
 mod WalkSteps
 pub mod BatchSteps
 pub mod LineLemmas
 pub mod FlushLemmas
 pub mod GatherLemmas
+pub mod PlaceLemmas
 pub mod TakesLemmas
 pub mod HeadLemmas
 pub mod OpenLemmas
@@ -43,6 +65,10 @@ pub mod CloseLemmas
 pub mod FirstPartLemmas
 pub mod LaterLemmas
 pub mod LetGoLemmas
+pub mod LetGoFlights
+pub mod AloftLemmas
+pub mod FlightPrints
+pub mod FlightTakes
 pub mod DisturbLemmas
 pub mod MeddleLemmas
 pub mod LeavePath

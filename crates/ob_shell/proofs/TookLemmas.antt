@@ -7,7 +7,7 @@ use Rattle.ob_base.specs.declared.access.Access.{Access}
 use Rattle.ob_headline.specs.Tracing.{traced}
 use Rattle.ob_headline.specs.Words.{Took}
 use Rattle.ob_print.specs.Cuts.{Outputs}
-use Rattle.ob_shell.proofs.TraceLemmas.{traced-append}
+use Rattle.ob_shell.proofs.TraceLemmas.{traced-append, traced-nil}
 use Rattle.ob_shell.specs.Traces.{Traced, TracedAll, TracedTo, Traces}
 
 -- ---- what a sink took
@@ -71,3 +71,11 @@ traces_more all cut = record { whole = λ asked is. took_more cut.cut.grown ((tr
 
 traces_same : {on : Bool} {t0 t1 : Option (List ℕ)} {a0 a1 a2 : List Access} → a2 ≡ a1 → Traces on t0 t1 a0 a1 → Traces on t0 t1 a0 a2
 traces_same same traces = record { whole = λ asked is. traces.whole asked (sym same ∙ is) }
+
+-- where nothing was asked nothing is traced
+pub traced_to_none : (on : Bool) (a : List Access) (t0 t1 : Option (List ℕ)) (more : List ℕ) → Appends t0 t1 more → TracedTo on a a t0 t1
+traced_to_none on a t0 t1 more appends = record {
+  seen = [];
+  grew = sym (append-nil a);
+  took = record { after = more; appends = subst (λ (l : List ℕ). Appends t0 t1 (l ++ more)) (sym (traced-nil on)) appends };
+}

@@ -14,8 +14,12 @@ use Rattle.ob_gen.specs.declared.tally.Tally.{Tally}
 use Rattle.ob_headline.proofs.FlatLemmas.{start_flat}
 use Rattle.ob_headline.proofs.PromptLemmas.{all_answered, prompt_all, prompt_from, prompt_line, waits_behind}
 use Rattle.ob_headline.proofs.TextLemmas.{rest_of-nil, texts_of-nil}
-use Rattle.ob_headline.specs.Bases.{Base, fresh, start}
-use Rattle.ob_headline.specs.Disturbed.{MeantUntil}
+use Rattle.std.specs.List.{All}
+use Rattle.std.proofs.lemmas.List.Elements.{All-nil}
+use Rattle.ob_headline.specs.Bases.{Base, flying, fresh, start}
+use Rattle.ob_headline.specs.Disturbed.{MeantUntil, meant_entries}
+use Rattle.ob_headline.specs.Flights.{AreEntries, AreGathered, EndedBy, Seat, most_of, seats, served_by, whole_of as entries_whole}
+use Rattle.ob_headline.specs.declared.flight.FlightSettings.{FlightSettings}
 use Rattle.ob_headline.specs.Endings.{last_line}
 use Rattle.ob_headline.specs.Failures.{cut_off, failures}
 use Rattle.ob_headline.specs.KeyLine.{has_lf, first_line, after_line, secret_of}
@@ -33,7 +37,7 @@ use Rattle.ob_mean.proofs.BatchLemmas.{most_some}
 use Rattle.ob_mean.specs.Batches.{batch_most}
 use Rattle.ob_print.proofs.CutLemmas.{Outputs-whole, Outputs-after, Outputs-fault, Outputs-more}
 use Rattle.ob_print.specs.Cuts.{Outputs}
-use Rattle.ob_script.specs.Trace.{trace}
+use Rattle.ob_script.specs.Flights.{trace_in}
 use Rattle.ob_shell.proofs.CountLemmas.{rises_earlier, rises_later}
 use Rattle.ob_shell.proofs.DisturbLemmas.{take_begins}
 use Rattle.ob_shell.proofs.KeyLemmas.{after_line-none, has_lf-nil}
@@ -99,17 +103,18 @@ unfaulted_ends (RanEnding (Err StoreFault)) fine ends = fine
 unfaulted_ends (RanEnding (Err StashFull)) fine ends = fine
 unfaulted_ends (RanEnding (Err KeeperFault)) fine ends = fine
 
-pub unstarted : {keys : KeySet} (tr : TraceSink) (settings : Option Config) (secret : Option (List ℕ)) (s : StoreState) (more : List (List ℕ)) (ending : Ending) → IsFresh s → tr.new ≡ tr.old → EndsUntampered ending → EndsUnfaulted ending
-    → Carried tr (fresh settings) keys secret s s 0 (unserved more) ending
-unfolding SpellFirst AreSeen AnswersFrom MeantUntil failures cut_off any_cut statements
-unstarted tr settings secret s more ending blank untraced untampered unfaulted = record {
+pub unstarted : {keys : KeySet} (tr : TraceSink) (settings : Option Config) (flight : Option FlightSettings) (secret : Option (List ℕ)) (s : StoreState) (more : List (List ℕ)) (ending : Ending) → IsFresh s → tr.new ≡ tr.old → EndsUntampered ending → EndsUnfaulted ending
+    → Carried tr (flying flight (fresh settings)) keys secret s s 0 (unserved more) ending
+unfolding SpellFirst AreSeen AnswersFrom MeantUntil failures cut_off any_cut statements served_by AreEntries AreGathered seats trace_in entries_whole meant_entries
+unstarted tr settings flight secret s more ending blank untraced untampered unfaulted = record {
   statements = record { spells = tt; reached = omega arith; begun = omega arith; keyed = inr refl; each = refl };
   accesses = record {
     flat = start_flat settings;
-    one_last = omega arith;
+    entered = record { served = refl; entries = tt; gathered = tt; ended = All-nil (λ (v : Seat). EndedBy v.left v); few_last = omega arith };
     begun = λ ends. absurd (unfaulted_ends ending unfaulted ends);
     each_seen = refl;
     lawful = refl;
+    aloft = tt;
     drawn = record { numbers = []; are = refl; apart = λ i j x before within. absurd (omega (arith, within)) };
     asked = blank.unasked;
     failed = λ alone. omega arith;
@@ -151,28 +156,28 @@ no_bytes {F} w = rw printed-nil (Outputs-whole w w F [] (Appends-nil w))
 pub piece_is : {f0 f1 : Fetch} {l0 l1 : Option (List ℕ)} {xs : List ℕ} (fed : Fed f0 f1 l0 l1 xs) → f0.unread ≡ [] → fed.piece ≡ xs ++ f1.unread
 piece_is {f1 = f1} {xs = xs} fed none = subst (λ (u : List ℕ). u ++ fed.piece ≡ xs ++ f1.unread) none fed.joined
 
-module _ (tally : Tally) (tr : TraceSink) (untraced : tr.new ≡ tr.old) (settings : Option Config) (f0 f1 : Fetch) (none : f0.unread ≡ [])
+module _ (tally : Tally) (tr : TraceSink) (untraced : tr.new ≡ tr.old) (settings : Option Config) (flight : Option FlightSettings) (f0 f1 : Fetch) (none : f0.unread ≡ [])
     (start : f0.taken ≡ 0) (top : f0.limit ≡ limit_of settings) (below : f1.taken ≤ f1.limit) {gave : ℕ} (by : IsFedBy f1 gave) where
   pub piece_within : {l0 l1 : Option (List ℕ)} {xs : List ℕ} (fed : Fed f0 f1 l0 l1 xs) → length fed.piece ≤ limit_of settings
   piece_within fed = omega (arith, fed.taken, fed.limit)
 
   -- no text was whole before the last read
-  pub piece_prompt : {l0 l1 : Option (List ℕ)} {xs : List ℕ} (most : ℕ) → 1 ≤ most → (fed : Fed f0 f1 l0 l1 xs) → length (after_line (xs ++ f1.unread)) ≤ length f1.unread
-      → Prompt most fed.piece [] gave
-  piece_prompt {xs = xs} most some fed ahead =
+  pub piece_prompt : {l0 l1 : Option (List ℕ)} {xs : List ℕ} (most flown : ℕ) → 1 ≤ most → (fed : Fed f0 f1 l0 l1 xs) → length (after_line (xs ++ f1.unread)) ≤ length f1.unread
+      → Prompt most flown fed.piece [] gave
+  piece_prompt {xs = xs} most flown some fed ahead =
       let late = by.late in
       let few = by.few in
       let same = ap (λ (l : List ℕ). length (after_line l)) (piece_is fed none) in
-      prompt_from most fed.piece [] gave (omega (arith, few, fed.taken))
-      (all_answered most _ [] some (prompt_line gave fed.piece [] (omega (arith, late, same, ahead))))
+      prompt_from most flown fed.piece [] gave (omega (arith, few, fed.taken))
+      (all_answered most flown _ [] some (prompt_line gave fed.piece [] (omega (arith, late, same, ahead))))
 
   -- where a run begins afresh
   pub fresh_prompt : {l0 l1 : Option (List ℕ)} {xs : List ℕ} (fed : Fed f0 f1 l0 l1 xs) → length (after_line (xs ++ f1.unread)) ≤ length f1.unread
-      → Prompt (batch_most (fresh settings).public) fed.piece [] gave
-  fresh_prompt = piece_prompt (batch_most (fresh settings).public) (most_some (fresh settings).public)
+      → Prompt (batch_most (flying flight (fresh settings)).public) (most_of (flying flight (fresh settings))) fed.piece [] gave
+  fresh_prompt = piece_prompt (batch_most (flying flight (fresh settings)).public) (most_of (flying flight (fresh settings))) (most_some (flying flight (fresh settings)).public)
 
   unfoldable pub shown_source_fault : {F : Type 0} {keys : List ℕ → KeySet} {l0 l1 : Option (List ℕ)} (w : Option (List ℕ)) (s : StoreState) → IsFresh s
-      → KeyRead f0 f1 l0 l1 (Err Halt.SourceFault) → RunShown tally tr (fresh settings) keys l0 l1 gave w w s s 0 (RanEnding (Err SourceFault)) [] F
+      → KeyRead f0 f1 l0 l1 (Err Halt.SourceFault) → RunShown tally tr (flying flight (fresh settings)) keys l0 l1 gave w w s s 0 (RanEnding (Err SourceFault)) [] F
   shown_source_fault w s fresh read =
       let e = piece_is read.fed none in
       let ends = rw (← e) at read.ends in
@@ -188,7 +193,7 @@ module _ (tally : Tally) (tr : TraceSink) (untraced : tr.new ≡ tr.old) (settin
           texts = rw after (texts_of-nil []);
         };
         prompt = fresh_prompt read.fed read.ahead;
-        carried = unstarted tr settings _ s [] _ fresh untraced tt tt;
+        carried = unstarted tr settings flight _ s [] _ fresh untraced tt tt;
         grew = no_bytes w;
         whole = took_none w;
         flag = tt;
@@ -197,7 +202,7 @@ module _ (tally : Tally) (tr : TraceSink) (untraced : tr.new ≡ tr.old) (settin
       }
 
   unfoldable pub shown_bad_key : {F : Type 0} {keys : List ℕ → KeySet} {l0 l1 : Option (List ℕ)} (w : Option (List ℕ)) (s : StoreState) → IsFresh s
-      → KeyRead f0 f1 l0 l1 (Ok Bad) → RunShown tally tr (fresh settings) keys l0 l1 gave w w s s 0 BadKey [] F
+      → KeyRead f0 f1 l0 l1 (Ok Bad) → RunShown tally tr (flying flight (fresh settings)) keys l0 l1 gave w w s s 0 BadKey [] F
   shown_bad_key w s fresh read =
       let e = piece_is read.fed none in
       let ends = rw (← e) at read.ends in
@@ -212,7 +217,7 @@ module _ (tally : Tally) (tr : TraceSink) (untraced : tr.new ≡ tr.old) (settin
           texts = refl;
         };
         prompt = fresh_prompt read.fed read.ahead;
-        carried = unstarted tr settings _ s _ _ fresh untraced tt tt;
+        carried = unstarted tr settings flight _ s _ _ fresh untraced tt tt;
         grew = no_bytes w;
         whole = took_none w;
         flag = tt;
@@ -221,7 +226,7 @@ module _ (tally : Tally) (tr : TraceSink) (untraced : tr.new ≡ tr.old) (settin
       }
 
   pub shown_last : tally ≡ tally_of [] → {F : Type 0} {keys : List ℕ → KeySet} {l0 l1 : Option (List ℕ)} (key : List ℕ) (w : Option (List ℕ)) (s : StoreState) → IsFresh s
-      → KeyRead f0 f1 l0 l1 (Ok (Last key)) → RunShown tally tr (fresh settings) keys l0 l1 gave w w s s 0 (RanEnding (Ok false)) [] F
+      → KeyRead f0 f1 l0 l1 (Ok (Last key)) → RunShown tally tr (flying flight (fresh settings)) keys l0 l1 gave w w s s 0 (RanEnding (Ok false)) [] F
   shown_last blank key w s fresh read =
       let e = piece_is read.fed none in
       let ends = rw (← e) at read.ends in
@@ -236,7 +241,7 @@ module _ (tally : Tally) (tr : TraceSink) (untraced : tr.new ≡ tr.old) (settin
           texts = rw (ends.1, texts_of-nil, rest_of-nil);
         };
         prompt = fresh_prompt read.fed read.ahead;
-        carried = unstarted tr settings _ s [] _ fresh untraced tt tt;
+        carried = unstarted tr settings flight _ s [] _ fresh untraced tt tt;
         grew = no_bytes w;
         whole = took_none w;
         flag = sym any_refused-nil;
@@ -253,10 +258,10 @@ module _ (tally : Tally) (tr : TraceSink) (untraced : tr.new ≡ tr.old) (settin
 -- ---- the session after the first line
 
 -- memory was wanting for the engine
-pub ran_nothing : {R : Type 0} {state : R → RevState} {Lost : Type 0} {keys : KeySet} (tr : TraceSink) (settings : Option Config) (secret : Option (List ℕ)) (f : Fetch)
+pub ran_nothing : {R : Type 0} {state : R → RevState} {Lost : Type 0} {keys : KeySet} (tr : TraceSink) (settings : Option Config) (flight : Option FlightSettings) (secret : Option (List ℕ)) (f : Fetch)
     (l : Option (List ℕ)) (gave : ℕ) (w : Option (List ℕ)) (s : StoreState) → IsFresh s → tr.new ≡ tr.old → length f.unread ≤ gave
-    → RanAfter state tr (fresh settings) keys secret f f l l gave w w s s 0 Lost (Err NoMemory)
-ran_nothing {Lost = Lost} tr settings secret f l gave w s blank untraced late = record {
+    → RanAfter state tr (flying flight (fresh settings)) keys secret f f l l gave w w s s 0 Lost (Err NoMemory)
+ran_nothing {Lost = Lost} tr settings flight secret f l gave w s blank untraced late = record {
   piece = [];
   consumed = Consumes-nil l;
   taken = omega arith;
@@ -265,10 +270,10 @@ ran_nothing {Lost = Lost} tr settings secret f l gave w s blank untraced late = 
   at_end = λ (h : false ≡ true). absurd (cc);
   story = unserved (texts_in false (f.unread ++ []));
   texts = refl;
-  prompt = all_answered (batch_most (fresh settings).public) _ [] (most_some (fresh settings).public)
+  prompt = all_answered (batch_most (flying flight (fresh settings)).public) (most_of (flying flight (fresh settings))) _ [] (most_some (flying flight (fresh settings)).public)
       (subst (λ (xs : List (List ℕ)). Begins (texts_in false (before_read gave (f.unread ++ []))) xs) (texts_of-nil [])
       (prompt_all (f.unread ++ []) [] f.unread gave (append-nil f.unread) late));
-  carried = unstarted tr settings secret s _ _ blank untraced tt tt;
+  carried = unstarted tr settings flight secret s _ _ blank untraced tt tt;
   rows = inr (refl, refl);
   cut = rw printed-nil (Outputs-whole w w Lost [] (Appends-nil w));
   whole = took_none w;
@@ -349,8 +354,8 @@ shown_by {Lost = Lost} {tally = tally} base {f1 = f1} {f2 = f2} {gave = gave} {l
         at_end = ran.at_end;
         texts = ap (texts_in ran.ended) after ∙ ran.texts;
       };
-      prompt = prompt_from (batch_most base.public) (read.fed.piece ++ ran.piece) ran.story.served gave (let few = by.few in omega (arith, few, count))
-          (waits_behind (batch_most base.public) gave _ _ ran.story.served after ran.prompt);
+      prompt = prompt_from (batch_most base.public) (most_of base) (read.fed.piece ++ ran.piece) ran.story.served gave (let few = by.few in omega (arith, few, count))
+          (waits_behind (batch_most base.public) (most_of base) gave _ _ ran.story.served after ran.prompt);
       carried = carried;
       grew = subst (λ (l : List ℕ). Outputs w0 w2 Lost l) (sym (append-nil (printed ran.story.answers ++ ran.story.part))) ran.cut;
       whole = ran.whole;
@@ -377,9 +382,9 @@ shown_ran keys {tr = tr} base {s0 = s0} {s2 = s2} {high = high} key result none 
 -- ---- before the input is read
 
 -- nothing was read
-unfoldable pub shown_unread : {F : Type 0} {keys : List ℕ → KeySet} (tally : Tally) (tr : TraceSink) (settings : Option Config) (l : Option (List ℕ)) (gave : ℕ) (w : Option (List ℕ)) (s : StoreState) (ending : Ending) → IsFresh s → tr.new ≡ tr.old → EndsUntampered ending → EndsUnfaulted ending → EndingFlag ending [] → EndingTally ending [] tally
-    → EndingSays ending (limit_of settings) [] l false (texts_of [] (after_line [])) [] → RunShown tally tr (fresh settings) keys l l gave w w s s 0 ending [] F
-shown_unread tally tr settings l gave w s ending blank untraced untampered unfaulted flag counted says = record {
+unfoldable pub shown_unread : {F : Type 0} {keys : List ℕ → KeySet} (tally : Tally) (tr : TraceSink) (settings : Option Config) (flight : Option FlightSettings) (l : Option (List ℕ)) (gave : ℕ) (w : Option (List ℕ)) (s : StoreState) (ending : Ending) → IsFresh s → tr.new ≡ tr.old → EndsUntampered ending → EndsUnfaulted ending → EndingFlag ending [] → EndingTally ending [] tally
+    → EndingSays ending (limit_of settings) [] l false (texts_of [] (after_line [])) [] → RunShown tally tr (flying flight (fresh settings)) keys l l gave w w s s 0 ending [] F
+shown_unread tally tr settings flight l gave w s ending blank untraced untampered unfaulted flag counted says = record {
   taken = [];
   ended = false;
   story = unserved (texts_of [] (after_line []));
@@ -389,10 +394,10 @@ shown_unread tally tr settings l gave w s ending blank untraced untampered unfau
     at_end = λ (h : false ≡ true). absurd (cc);
     texts = refl;
   };
-  prompt = prompt_from (batch_most (fresh settings).public) [] [] gave (omega arith)
-      (all_answered (batch_most (fresh settings).public) _ [] (most_some (fresh settings).public)
+  prompt = prompt_from (batch_most (flying flight (fresh settings)).public) (most_of (flying flight (fresh settings))) [] [] gave (omega arith)
+      (all_answered (batch_most (flying flight (fresh settings)).public) (most_of (flying flight (fresh settings))) _ [] (most_some (flying flight (fresh settings)).public)
       (prompt_line gave [] [] (rw (after_line-none [] has_lf-nil) (omega arith))));
-  carried = unstarted tr settings _ s _ _ blank untraced untampered unfaulted;
+  carried = unstarted tr settings flight _ s _ _ blank untraced untampered unfaulted;
   grew = no_bytes w;
   whole = took_none w;
   flag = flag;

@@ -84,7 +84,7 @@ pub(crate) fn serve_generated<O: Sink, T: Sink, S: BlockStore>(
 ) -> Report
     requires within { AreWithin words.config }
     requires fresh { (S.state store.old).asked ≡ [] }
-    ensures { RanGenerated seed words.trace (Some words.config)
+    ensures { RanGenerated seed words.trace (Some words.config) words.flight
         (T.written trace.old) (T.written trace.new) (S.state store.old) (S.state store.new)
         (T.faults trace.old) (T.faults trace.new)
         (O.written out.old) (O.written out.new) (O.faults out.old) (O.faults out.new) result }
