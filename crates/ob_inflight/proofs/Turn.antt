@@ -15,7 +15,7 @@ use Rattle.ob_vault.proofs.WorldSteps.{lasts_none}
 use Rattle.ob_vault.specs.Rows.{SameSizes}
 use Rattle.ob_flat.specs.Flats.{Accepts}
 use Rattle.ob_verdict.specs.declared.outcome.Outcome.{Outcome}
-use Rattle.ob_inflight.specs.Aloft.{AllFit, AllMay, AreBoarded, AreFlying, IsAloft, IsBegun, LeavesRest, most_of, setting_off}
+use Rattle.ob_inflight.specs.Aloft.{AllFit, AllMay, AreBoarded, AreFlying, IsAloft, IsBegun, KeepsOn, LeavesRest, most_of, setting_off}
 use Rattle.ob_inflight.specs.Closing.{Closed, ClosesAll, RisesBy, events_at}
 use Rattle.ob_inflight.specs.Flown.{HasFlown, StopsFlight, StopsInClosing, StopsInFinish}
 use Rattle.ob_inflight.specs.Kinds.{Kind, Moment, Taker, moment, share_at}
@@ -30,8 +30,8 @@ use Rattle.ob_inflight.proofs.Ending.{ends_acts, ends_flying, rest_ends, same_to
 use Rattle.ob_inflight.proofs.Lists.{get_some, length-set_at, total_few}
 use Rattle.ob_script.proofs.FlightEnds.{total_none, total_set, total_part}
 use Rattle.ob_inflight.proofs.Picks.{IsGoing, picked_going, going_some}
-use Rattle.ob_inflight.proofs.Standing.{course_next, failed_next, events_here, events_there, fit_next, rest_step, stand_step, step_next}
-use Rattle.ob_inflight.proofs.Stopping.{began_next, begun_next}
+use Rattle.ob_inflight.proofs.Standing.{course_next, events_here, events_there, fit_next, keeps_next, rest_step, stand_step, step_next}
+use Rattle.ob_inflight.proofs.Stopping.{began_next, begun_next, keeps_same}
 use Rattle.ob_inflight.proofs.Turning.{Laws, asks_none, asks_some, log_on, outcome_open, turn_on, turned_next, turned_none}
 
 -- ---- who was picked
@@ -181,7 +181,9 @@ module _ {F E : Type 0} (k : Kind F) (t : Taker E) (laws : Laws k) (words : ℕ 
               ∙ ap (λ (l : List Access). accesses_in turned.aloft.turned.log ++ l) (asks_some steps.access))
               (λ lie none is. reads_calm v lie is (step_calm steps.access (k.progress f).region last.world v (k.progress g).failed went (calm_none last.world none)))
               (λ lie was. lasts.later.lie lie was)
-              (failed_next k last now i f g did.at did.flyers (λ is. absurd (cc (is, steps.unfailed)))) turned.begun;
+              turned.ended
+              (subst (λ (l : List Closed). KeepsOn k turned.ended l last now) (append-nil turned.ended)
+              (keeps_next k turned.ended [] last now i f g did.at did.flyers (stand.outcome i f did.at ∙ outcome_open turned.ended i picked.after) (λ is. absurd (cc (is, steps.unfailed))) steps.may)) turned.begun;
         }
       where
         quiet_off : {more : List Event} {P : Type 0} → ((k.progress did.before).prints ≡ false → (more ≡ []) × P) → (i ≡ e → ⊥) → more ≡ []
@@ -260,10 +262,10 @@ module _ {F E : Type 0} (k : Kind F) (t : Taker E) (laws : Laws k) (words : ℕ 
           faults = stops_faults err last.world v stops.never stops.cut.cause;
           seals = λ good accepts. seals_join good start.world last.world v turned.aloft.rest.lasts.later (turned.aloft.rest.seals good accepts)
               (stops.seals good (λ columns region. subst (λ (n : ℕ). Accepts good n columns region) (sym (ap (λ (q : Public). q.pack) (stand.public i f did.at))) (accepts columns region)));
-          begun = begun_next k words n turned.public share turned.ended turned.current start last turned.aloft now stops.cut.began.done stops.cut.began.rest stops.cut.began.asked log
+          begun = begun_next k words n turned.public share turned.ended turned.current start last turned.aloft (moment last.flyers last.kept v) stops.cut.began.done stops.cut.began.rest stops.cut.began.asked log
               (λ lie none is. reads_cut err (stops.access ∷ []) (own_or_next (k.progress f).region last.world.vault.next) last.world v lie none is stops.cut)
               (λ lie was. lasts.later.lie lie was)
-              (failed_next k last now i f did.after did.at did.flyers (λ is. (stops.stays.served, stops.stays.failed ∙ is))) turned.begun;
+              turned.ended (keeps_same k turned.ended last (moment last.flyers last.kept v) refl) turned.begun;
         }
 
 -- ---- an end
@@ -285,10 +287,9 @@ module _ {F E : Type 0} (k : Kind F) (t : Taker E) (laws : Laws k) (words : ℕ 
   asked_none : last.world.store.asked ≡ last.world.store.asked ++ []
   asked_none = sym (append-nil last.world.store.asked)
 
-  begun_over : (g : F) → gs ≡ slice_set last.flyers i g → ((k.progress f).failed ≡ true → ((k.progress g).served ≡ (k.progress f).served) × ((k.progress g).failed ≡ true))
-      → IsBegun k words turned.public share start (moment gs last.kept last.world)
-  begun_over g flyers kept = begun_next k words n turned.public share turned.ended turned.current start last turned.aloft (moment gs last.kept last.world) [] [] asked_none log_none
-      (λ lie none is. absurd (cc (none, is))) (λ lie was. was) (failed_next k last (moment gs last.kept last.world) i f g at flyers kept) turned.begun
+  begun_over : (hs : List F) (ended : List Closed) → KeepsOn k turned.ended ended last (moment hs last.kept last.world) → IsBegun k words turned.public share ended start (moment hs last.kept last.world)
+  begun_over hs ended keeps = begun_next k words n turned.public share turned.ended turned.current start last turned.aloft (moment hs last.kept last.world) [] [] asked_none log_none
+      (λ lie none is. absurd (cc (none, is))) (λ lie was. was) ended keeps turned.begun
 
   module _ (own : List (List ℕ)) (is_own : own ≡ share_at share i last.kept) (g : F) (flyers : gs ≡ slice_set last.flyers i g) (needs : (q : ℕ) → k.Needs g q → k.Needs f q) (may : (x : Served) → k.May g x → k.May f x) where
     pub end_turns : (starts : (s : E) → t.grew s s []) → EndsWhole k t i own f g out_old out_new → HasTurned k t words (n + 1) share (count + 1) rows start (moment gs last.kept last.world) out_start out_new
@@ -326,16 +327,17 @@ module _ {F E : Type 0} (k : Kind F) (t : Taker E) (laws : Laws k) (words : ℕ 
             now = starts out_new;
           };
           over = λ all. refl;
-          begun = begun_over g flyers (λ is. (ap (λ (q : Progress). q.served) whole.answered, ap (λ (q : Progress). q.failed) whole.answered ∙ is));
+          begun = begun_over gs (turned.ended ++ closed ∷ [])
+              (keeps_next k turned.ended (closed ∷ []) last now i f g at flyers (stand.outcome i f at ∙ outcome_open turned.ended i (omega (arith, first)))
+              (λ is. (ap (λ (q : Progress). q.served) whole.answered, ap (λ (q : Progress). q.failed) whole.answered ∙ is)) may);
         }
 
     -- it gave up
     stops_ending : (err : OpErr)
         → (StopsInFinish k t err turned.ended turned.current i None last (moment gs last.kept last.world) turned.emitted.between out_new
         ⊎ StopsInClosing k t share err turned.ended i None last (moment gs last.kept last.world) turned.emitted.between out_new)
-        → ((k.progress f).failed ≡ true → ((k.progress g).served ≡ (k.progress f).served) × ((k.progress g).failed ≡ true))
         → StopsFlight k t words share err start (moment gs last.kept last.world) out_start out_new
-    stops_ending err by kept = record {
+    stops_ending err by = record {
       public = turned.public;
       turn = n;
       ended = turned.ended;
@@ -352,7 +354,7 @@ module _ {F E : Type 0} (k : Kind F) (t : Taker E) (laws : Laws k) (words : ℕ 
       lasts = turned.aloft.rest.lasts;
       faults = refl;
       seals = turned.aloft.rest.seals;
-      begun = begun_over g flyers kept;
+      begun = begun_over last.flyers turned.ended (keeps_same k turned.ended last (moment last.flyers last.kept last.world) refl);
     }
 
     pub end_stops : (err : OpErr) → EndsInFinish k t own err f g out_old out_new ⊎ EndsInClosing k t i own err f g out_old out_new
@@ -376,7 +378,7 @@ module _ {F E : Type 0} (k : Kind F) (t : Taker E) (laws : Laws k) (words : ℕ 
             part = part.part;
             ends = part.leads refl turned.emitted.between turned.current turned.emitted.now;
             halts = part.halts;
-          })) (λ is. (ap (λ (q : Progress). q.served) finish.same, ap (λ (q : Progress). q.failed) finish.same ∙ is))
+          }))
       | inr closing ↦
           let holds = subst (λ (l : List (List ℕ)). k.Holds f l turned.current last.world) (sym is_own) holds_first in
           let finished = closing.finishes turned.current last.world holds in
@@ -398,7 +400,7 @@ module _ {F E : Type 0} (k : Kind F) (t : Taker E) (laws : Laws k) (words : ℕ 
             took = closing.between;
             grew = finished.leads turned.emitted.between turned.current turned.emitted.now;
             parted = closing.parted;
-          })) (λ is. (ap (λ (q : Progress). q.served) closing.answered, ap (λ (q : Progress). q.failed) closing.answered ∙ is))
+          }))
     ]
 
 -- ---- whatever the turns before were

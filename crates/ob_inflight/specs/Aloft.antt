@@ -141,31 +141,39 @@ pub record IsAloft {F : Type 0} (k : Kind F) (words : ℕ → ℕ) (n : ℕ) (p 
   pub rest : LeavesRest k p start now
   pub course : KeepCourse k start now
 
--- those that the store failed are seen as they were
-pub record KeepFailed {F : Type 0} (k : Kind F) (last now : Moment F) : Type 0 where
+-- what was so at a moment is so later: those that had ended are the first of those that have, and as they were; those that
+-- the store had failed are seen as they were; and whatever may still turn out to be served might then
+pub record KeepsOn {F : Type 0} (k : Kind F) (ended_last ended : List Closed) (last now : Moment F)
+    : Type 0 where
   pub size : length now.flyers ≡ length last.flyers
-  pub each : (i : ℕ) (f g : F) → slice_get last.flyers i ≡ Some f → slice_get now.flyers i ≡ Some g
+  pub more : List Closed
+  pub first : ended ≡ ended_last ++ more
+  pub same : (i : ℕ) (f g : F) → slice_get last.flyers i ≡ Some f → slice_get now.flyers i ≡ Some g
+      → is_some (k.progress f).outcome ≡ true → k.progress g ≡ k.progress f
+  pub failed : (i : ℕ) (f g : F) → slice_get last.flyers i ≡ Some f
+      → slice_get now.flyers i ≡ Some g
       → (k.progress f).failed ≡ true → ((k.progress g).served ≡ (k.progress f).served)
       × ((k.progress g).failed ≡ true)
+  pub may : (xs : List Served) → AllMay k.May now.flyers xs → AllMay k.May last.flyers xs
 
 -- ---- the first block that was read and is not what was written
 -- just before the access that read it they stood as they should, and whatever they turn out to be served, that access is
--- among those of a turn more
+-- among those of a turn more; what was so then is so still
 pub record BeginsIn {F : Type 0} (k : Kind F) (words : ℕ → ℕ) (p : Public) (share : ℕ) (lie : Lie)
-    (start now : Moment F) : Type 0 where
+    (ended_now : List Closed) (start now : Moment F) : Type 0 where
   pub turn : ℕ
   pub last : Moment F
   pub ended : List Closed
   pub current : List Event
   pub aloft : IsAloft k words turn p share ended current start last
   pub none : last.world.store.lie ≡ None
-  pub failed : KeepFailed k last now
+  pub keeps : KeepsOn k ended ended_now last now
   pub reads : (xs : List Served) → AllMay k.May last.flyers xs
       → ReadsIn lie (start.world.store.asked
       ++ accesses_in (turns words (turn + 1) (setting_off p start.world.vault.next xs)).log)
 
 abbrev pub IsBegun : {F : Type 0} → Kind F → (words : ℕ → ℕ) → Public → (share : ℕ)
-    → (start now : Moment F) → Type 0
-IsBegun k words p share start now =
+    → (ended_now : List Closed) → (start now : Moment F) → Type 0
+IsBegun k words p share ended_now start now =
     start.world.store.lie ≡ None → (lie : Lie) → now.world.store.lie ≡ Some lie
-    → BeginsIn k words p share lie start now
+    → BeginsIn k words p share lie ended_now start now

@@ -140,7 +140,7 @@ pub record HasTurned {F E : Type 0} (k : Kind F) (t : Taker E) (words : ℕ → 
   pub within : length ended ≤ length now.flyers
   pub emitted : Emitted t.grew t.closed ended current out_old out_new
   pub over : length ended ≡ length now.flyers → out_new ≡ emitted.between
-  pub begun : IsBegun k words public share start now
+  pub begun : IsBegun k words public share ended start now
 
 -- what a turn adds to that, whatever the turns before were
 abbrev pub TakesTurn : {F E : Type 0} → Kind F → Taker E → (word share count : ℕ)
