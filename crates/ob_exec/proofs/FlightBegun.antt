@@ -9,6 +9,7 @@ use Rattle.ob_base.specs.declared.seen.End.{End}
 use Rattle.ob_base.specs.declared.seen.End.TheVariants.{Static, Whole, AfterCount, Joined, Cut}
 use Rattle.ob_base.specs.declared.seen.Seen.{Seen}
 use Rattle.ob_inflight.specs.Aloft.{AllMay, BeginsIn}
+use Rattle.ob_inflight.specs.Closing.{Closed}
 use Rattle.ob_inflight.specs.Kinds.{Kind, Moment}
 use Rattle.ob_mean.specs.Replay.{cut_at}
 use Rattle.ob_mean.specs.Verdict.{Draws, Tables, seen as seen_by}
@@ -46,7 +47,7 @@ meant_whole d p m tables stmt (Cut n) shown is = inl is
 
 module _ {F : Type 0} (k : Kind F) (m : ℕ) (stage : IsStage k m) (steady_of : (p : Public) (flown : List Served) → AllMayFly flown → AreSteady p flown)
     (p : Public) (stmts : List Stmt) (words : ℕ → ℕ) (share : ℕ) (start now : Moment F) (boards : Boards k m p stmts start)
-    (q : Public) (lie : Lie) (b : BeginsIn k words q share lie start now)
+    (q : Public) (lie : Lie) (ended_now : List Closed) (b : BeginsIn k words q share lie ended_now start now)
     (indexes : List Index) (tables : Tables) (d : Draws) (held : HoldNow p indexes tables b.last.world) where
   -- what each shows by its meaning, or did until the store failed it
   abbrev shows : F → Seen
@@ -116,7 +117,7 @@ module _ {F : Type 0} (k : Kind F) (m : ℕ) (stage : IsStage k m) (steady_of : 
         let one = they_serve k m stage steady_of p stmts words share start boards b.turn q b.ended b.current b.last b.aloft i f.0 stmt f.1 there in
         subst (λ (x : Seen). MeantUntil d (in_flight stmts p) m tables stmt seen.end x) f.2
         (subst (λ (x : Seen). MeantUntil d (in_flight stmts p) m tables stmt x.end (shows f.0)) g.2
-        (meant_by (k.progress f.0).failed f.0 g.0 stmt refl one.is one.public (λ failed. (b.failed.each i f.0 g.0 f.1 g.1 failed).0)
+        (meant_by (k.progress f.0).failed f.0 g.0 stmt refl one.is one.public (λ failed. (b.keeps.failed i f.0 g.0 f.1 g.1 failed).0)
         (stage.cut f.0 _ _ _ (they_hold k m stage steady_of p stmts words share start boards b.turn q b.ended b.current b.last b.aloft i f.0 f.1))));
     reads = subst (λ (l : List Access). ReadsIn lie (l ++ merge p (served_as stmts (map (λ (f : F). shown_of (k.progress f).failed d m tables (k.progress f)) b.last.flyers)) words)) is
         (subst (λ (flown : List Served). ReadsIn lie (start.world.store.asked ++ merge p flown words)) same reads);

@@ -216,6 +216,15 @@ pub record StopsInTurn (p : Public) (flown : List Served) (words : ℕ → ℕ) 
       → f.ended ≡ nat_lt i count
 
 -- ---- what is meant
+-- the one at a place had ended within the first k accesses
+pub record EndedWithin (p : Public) (flown : List Served) (words : ℕ → ℕ) (k i : ℕ)
+    : Type 0 where
+  pub turn : ℕ
+  pub one : Flying
+  pub at : slice_get (turns words turn (boarding p flown)).flying i ≡ Some one
+  pub ended : one.ended ≡ true
+  pub within : length (turns words turn (boarding p flown)).log ≤ k
+
 -- a changed block is one that the words merge of these statements' accesses by their meaning, of those that the store cut
 -- off maybe of what they asked until then
 pub record BeginsMeant (p : Public) (m : ℕ) (d : Draws) (tables : Tables) (stmts : List Stmt)
@@ -250,6 +259,15 @@ pub record FlightMeans {R T : Type 0} (state : R → RevState) (words : ℕ → 
   pub begun : (tables : Tables) (d : Draws) → ReadsTrue state old s s tables → (lie : Lie)
       → t.lie ≡ Some lie
       → BeginsMeant (public_of old) (count_of old s) d tables stmts seens words s.asked lie
+  -- and what had ended before it is answered and seen as it is meant, whatever is read then
+  pub earlier : (tables : Tables) (d : Draws) → ReadsTrue state old s s tables → (lie : Lie)
+      → t.lie ≡ Some lie → (i k : ℕ) (stmt : Stmt) (seen : Seen) (one : Closed)
+      → slice_get stmts i ≡ Some stmt → slice_get seens i ≡ Some seen
+      → slice_get ended i ≡ Some one → length s.asked + k ≤ length lie.before
+      → EndedWithin (public_of old) (served_as stmts seens) words k i
+      → EndsMeant d (in_flight stmts (public_of old)) (count_of old s) (asked i) tables stmt seen
+      one.outcome × Emitted stmt (in_flight stmts (public_of old)) (count_of old s) tables
+      one.outcome one.events
 
 -- ---- the whole of it
 -- how many accesses of its own the one at a place asked
