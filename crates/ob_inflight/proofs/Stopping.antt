@@ -1,6 +1,7 @@
 -- What is left by an act that gave up, and when the first changed block was read.
-use Rattle.std.proofs.Common.{◌≡◌, ℕ, ◌+◌, List, [], ◌++◌, Some, None, Option, length, refl, sym, ◌∙◌, ap, subst, arith, append_assoc}
+use Rattle.std.proofs.Common.{◌≡◌, ◌<◌, ◌≤◌, inl, inr, ℕ, ◌+◌, List, [], ◌++◌, Some, None, Option, length, refl, sym, ◌∙◌, ap, subst, arith, append_assoc}
 use Rattle.std.specs.Prelude.{is_some, slice_get}
+use Rattle.std.proofs.lemmas.Bool.{cases_lt}
 use Rattle.std.proofs.lemmas.List.{append-nil}
 use Rattle.std.proofs.lemmas.Option.{same_Some, slice_get_within}
 use Rattle.ob_base.specs.Events.{Event}
@@ -8,11 +9,12 @@ use Rattle.ob_base.specs.declared.access.Access.{Access}
 use Rattle.ob_base.specs.declared.config.Public.{Public}
 use Rattle.ob_script.specs.Flights.{accesses_in, turns}
 use Rattle.ob_script.specs.Trace.{Served}
-use Rattle.ob_store.specs.Runs.{Began}
+use Rattle.ob_store.proofs.Steps.{later_refl, later_trans}
+use Rattle.ob_store.specs.Runs.{Began, Later}
 use Rattle.ob_store.specs.State.{Lie}
 use Rattle.ob_vault.specs.State.{World}
 use Rattle.ob_vault.specs.Tied.{ReadsIn}
-use Rattle.ob_inflight.specs.Aloft.{AllMay, BeginsIn, IsAloft, IsBegun, KeepsOn, setting_off}
+use Rattle.ob_inflight.specs.Aloft.{AllMay, BeginsIn, HasStood, HaveStood, IsAloft, IsBegun, KeepsOn, setting_off}
 use Rattle.ob_inflight.specs.Closing.{Closed}
 use Rattle.ob_inflight.specs.Kinds.{Kind, Moment}
 use Rattle.ob_inflight.specs.Progress.{Progress}
@@ -55,16 +57,39 @@ keeps_still {F} k first second third a b c before after = record {
     between : (i : ℕ) (h : F) → slice_get c.flyers i ≡ Some h → (g : F) × (slice_get b.flyers i ≡ Some g)
     between i h at = get_some b.flyers i (let n = slice_get_within c.flyers i h at in let m = after.size in omega (arith, n, m))
 
-begins_still : {F : Type 0} (k : Kind F) (words : ℕ → ℕ) (p : Public) (share : ℕ) (lie : Lie) (ended_last ended_now : List Closed) (start last now : Moment F) → KeepsOn k ended_last ended_now last now
-    → BeginsIn k words p share lie ended_last start last → BeginsIn k words p share lie ended_now start now
-begins_still k words p share lie ended_last ended_now start last now keeps was = record {
-  turn = was.turn;
+stood_still : {F : Type 0} (k : Kind F) (words : ℕ → ℕ) (p : Public) (share n : ℕ) (ended_last ended_now : List Closed) (start last now : Moment F) → KeepsOn k ended_last ended_now last now
+    → Later last.world.store now.world.store → HasStood k words p share n ended_last start last → HasStood k words p share n ended_now start now
+stood_still k words p share n ended_last ended_now start last now keeps later was = record {
   last = was.last;
   ended = was.ended;
   current = was.current;
   aloft = was.aloft;
-  none = was.none;
   keeps = keeps_still k was.ended ended_last ended_now was.last last now was.keeps keeps;
+  later = later_trans was.last.world.store last.world.store now.world.store was.later later;
+}
+
+pub past_still : {F : Type 0} (k : Kind F) (words : ℕ → ℕ) (p : Public) (share turn : ℕ) (ended_last ended_now : List Closed) (start last now : Moment F) → KeepsOn k ended_last ended_now last now
+    → Later last.world.store now.world.store → HaveStood k words p share turn ended_last start last → HaveStood k words p share turn ended_now start now
+past_still k words p share turn ended_last ended_now start last now keeps later past n le = stood_still k words p share n ended_last ended_now start last now keeps later (past n le)
+
+-- they stand so now
+pub past_now : {F : Type 0} (k : Kind F) (words : ℕ → ℕ) (p : Public) (share turn : ℕ) (ended : List Closed) (current : List Event) (start now : Moment F) → IsAloft k words turn p share ended current start now
+    → ((n : ℕ) → n < turn → HasStood k words p share n ended start now) → HaveStood k words p share turn ended start now
+past_now k words p share turn ended current start now aloft before n le = elim (cases_lt n turn) [
+  | inl less ↦ before n less
+  | inr at ↦
+      let same : turn ≡ n = omega (arith, le, at) in
+      subst (λ (m : ℕ). HasStood k words p share m ended start now) same
+      (record { last = now; ended = ended; current = current; aloft = aloft; keeps = keeps_same k ended now now refl; later = later_refl now.world.store })
+]
+
+begins_still : {F : Type 0} (k : Kind F) (words : ℕ → ℕ) (p : Public) (share : ℕ) (lie : Lie) (ended_last ended_now : List Closed) (start last now : Moment F) → KeepsOn k ended_last ended_now last now
+    → Later last.world.store now.world.store → BeginsIn k words p share lie ended_last start last → BeginsIn k words p share lie ended_now start now
+unfolding stood_still
+begins_still k words p share lie ended_last ended_now start last now keeps later was = record {
+  turn = was.turn;
+  stood = stood_still k words p share was.turn ended_last ended_now start last now keeps later was.stood;
+  none = was.none;
   reads = was.reads;
 }
 
@@ -90,20 +115,16 @@ module _ {F : Type 0} (k : Kind F) (words : ℕ → ℕ) (n : ℕ) (p : Public) 
 
     -- a lie that came in that was read in it
     pub begun_next : ((lie : Lie) → last.world.store.lie ≡ None → v.store.lie ≡ Some lie → ReadsIn lie v.store.asked)
-        → ((lie : Lie) → last.world.store.lie ≡ Some lie → v.store.lie ≡ Some lie)
+        → Later last.world.store v.store
         → (ended_now : List Closed) → KeepsOn k ended ended_now last now → IsBegun k words p share ended start last → IsBegun k words p share ended_now start now
-    begun_next reads stays ended_now keeps before none lie is = go last.world.store.lie refl
+    begun_next reads later ended_now keeps before none lie is = go last.world.store.lie refl
       where
         go : (o : Option Lie) → last.world.store.lie ≡ o → BeginsIn k words p share lie ended_now start now
-        go (Some other) was = let same : other ≡ lie = cc (stays other was, is) in begins_still k words p share lie ended ended_now start last now keeps (before none lie (was ∙ ap Some same))
+        go (Some other) was = let same : other ≡ lie = cc (later.lie other was, is) in begins_still k words p share lie ended ended_now start last now keeps later (before none lie (was ∙ ap Some same))
         go None was = record {
           turn = n;
-          last = last;
-          ended = ended;
-          current = current;
-          aloft = aloft;
+          stood = record { last = last; ended = ended; current = current; aloft = aloft; keeps = keeps; later = later };
           none = was;
-          keeps = keeps;
           reads = λ xs all.
               let log : start.world.store.asked ++ accesses_in (turns words (n + 1) (setting_off p start.world.vault.next xs)).log ≡ v.store.asked ++ rest =
               ap (λ (l : List Access). start.world.store.asked ++ l) (next xs all ∙ sym (append_assoc (accesses_in aloft.turned.log) done rest))

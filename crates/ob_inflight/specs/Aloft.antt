@@ -9,6 +9,7 @@ use Rattle.ob_script.specs.FlightLaws.{one_if, total}
 use Rattle.ob_inflight.specs.Progress.{KeepsCourse, SealsBlocks, flying_of, numbered}
 use Rattle.ob_script.specs.Flights.{Flight, Flying, accesses_in, boarded, turns}
 use Rattle.ob_script.specs.Trace.{Served}
+use Rattle.ob_store.specs.Runs.{Later}
 use Rattle.ob_store.specs.State.{Lie}
 use Rattle.ob_vault.specs.Calls.{Lasts}
 use Rattle.ob_vault.specs.Numbers.{spent}
@@ -156,19 +157,30 @@ pub record KeepsOn {F : Type 0} (k : Kind F) (ended_last ended : List Closed) (l
       × ((k.progress g).failed ≡ true)
   pub may : (xs : List Served) → AllMay k.May now.flyers xs → AllMay k.May last.flyers xs
 
--- ---- the first block that was read and is not what was written
--- just before the access that read it they stood as they should, and whatever they turn out to be served, that access is
--- among those of a turn more; what was so then is so still
-pub record BeginsIn {F : Type 0} (k : Kind F) (words : ℕ → ℕ) (p : Public) (share : ℕ) (lie : Lie)
+-- behind so many turns they stood as they should, and what was so then is so still
+pub record HasStood {F : Type 0} (k : Kind F) (words : ℕ → ℕ) (p : Public) (share turn : ℕ)
     (ended_now : List Closed) (start now : Moment F) : Type 0 where
-  pub turn : ℕ
   pub last : Moment F
   pub ended : List Closed
   pub current : List Event
   pub aloft : IsAloft k words turn p share ended current start last
-  pub none : last.world.store.lie ≡ None
   pub keeps : KeepsOn k ended ended_now last now
-  pub reads : (xs : List Served) → AllMay k.May last.flyers xs
+  pub later : Later last.world.store now.world.store
+
+-- and so behind each of the turns by now
+abbrev pub HaveStood : {F : Type 0} → Kind F → (words : ℕ → ℕ) → Public → (share turn : ℕ)
+    → (ended_now : List Closed) → (start now : Moment F) → Type 0
+HaveStood k words p share turn ended_now start now =
+    (n : ℕ) → n ≤ turn → HasStood k words p share n ended_now start now
+
+-- ---- the first block that was read and is not what was written
+-- it was read in the turn behind these: whatever they turn out to be served, its read is among the accesses by that
+pub record BeginsIn {F : Type 0} (k : Kind F) (words : ℕ → ℕ) (p : Public) (share : ℕ) (lie : Lie)
+    (ended_now : List Closed) (start now : Moment F) : Type 0 where
+  pub turn : ℕ
+  pub stood : HasStood k words p share turn ended_now start now
+  pub none : stood.last.world.store.lie ≡ None
+  pub reads : (xs : List Served) → AllMay k.May stood.last.flyers xs
       → ReadsIn lie (start.world.store.asked
       ++ accesses_in (turns words (turn + 1) (setting_off p start.world.vault.next xs)).log)
 
