@@ -1,5 +1,5 @@
 -- What is left by an act that gave up, and when the first changed block was read.
-use Rattle.std.proofs.Common.{◌≡◌, ◌<◌, ◌≤◌, inl, inr, ℕ, ◌+◌, List, [], ◌++◌, Some, None, Option, length, refl, sym, ◌∙◌, ap, subst, arith, append_assoc}
+use Rattle.std.proofs.Common.{◌≡◌, ◌<◌, inl, inr, ℕ, ◌+◌, List, [], ◌++◌, Some, None, Option, length, refl, sym, ◌∙◌, ap, subst, arith, append_assoc}
 use Rattle.std.specs.Prelude.{is_some, slice_get}
 use Rattle.std.proofs.lemmas.Bool.{cases_lt}
 use Rattle.std.proofs.lemmas.List.{append-nil}
@@ -90,6 +90,7 @@ begins_still k words p share lie ended_last ended_now start last now keeps later
   turn = was.turn;
   stood = stood_still k words p share was.turn ended_last ended_now start last now keeps later was.stood;
   none = was.none;
+  past = was.past;
   reads = was.reads;
 }
 
@@ -116,8 +117,8 @@ module _ {F : Type 0} (k : Kind F) (words : ℕ → ℕ) (n : ℕ) (p : Public) 
     -- a lie that came in that was read in it
     pub begun_next : ((lie : Lie) → last.world.store.lie ≡ None → v.store.lie ≡ Some lie → ReadsIn lie v.store.asked)
         → Later last.world.store v.store
-        → (ended_now : List Closed) → KeepsOn k ended ended_now last now → IsBegun k words p share ended start last → IsBegun k words p share ended_now start now
-    begun_next reads later ended_now keeps before none lie is = go last.world.store.lie refl
+        → (ended_now : List Closed) → KeepsOn k ended ended_now last now → HaveStood k words p share n ended start last → IsBegun k words p share ended start last → IsBegun k words p share ended_now start now
+    begun_next reads later ended_now keeps past before none lie is = go last.world.store.lie refl
       where
         go : (o : Option Lie) → last.world.store.lie ≡ o → BeginsIn k words p share lie ended_now start now
         go (Some other) was = let same : other ≡ lie = cc (later.lie other was, is) in begins_still k words p share lie ended ended_now start last now keeps later (before none lie (was ∙ ap Some same))
@@ -125,6 +126,7 @@ module _ {F : Type 0} (k : Kind F) (words : ℕ → ℕ) (n : ℕ) (p : Public) 
           turn = n;
           stood = record { last = last; ended = ended; current = current; aloft = aloft; keeps = keeps; later = later };
           none = was;
+          past = past;
           reads = λ xs all.
               let log : start.world.store.asked ++ accesses_in (turns words (n + 1) (setting_off p start.world.vault.next xs)).log ≡ v.store.asked ++ rest =
               ap (λ (l : List Access). start.world.store.asked ++ l) (next xs all ∙ sym (append_assoc (accesses_in aloft.turned.log) done rest))

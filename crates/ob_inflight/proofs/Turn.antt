@@ -239,7 +239,7 @@ module _ {F E : Type 0} (k : Kind F) (t : Taker E) (laws : Laws k) (words : ℕ 
               (λ xs all. log_on k laws words n turned.public share turned.ended turned.current start last stand turned.aloft.turned i f did.at place (Some steps.access) next xs all
               ∙ ap (λ (l : List Access). accesses_in turned.aloft.turned.log ++ l) (asks_some steps.access))
               (λ lie none is. reads_calm v lie is (step_calm steps.access (k.progress f).region last.world v (k.progress g).failed went (calm_none last.world none)))
-              step_later turned.ended step_keeps turned.begun;
+              step_later turned.ended step_keeps turned.past turned.begun;
         }
 
   -- it gave up
@@ -290,7 +290,7 @@ module _ {F E : Type 0} (k : Kind F) (t : Taker E) (laws : Laws k) (words : ℕ 
               (stops.seals good (λ columns region. subst (λ (n : ℕ). Accepts good n columns region) (sym (ap (λ (q : Public). q.pack) (stand.public i f did.at))) (accepts columns region)));
           begun = begun_next k words n turned.public share turned.ended turned.current start last turned.aloft (moment last.flyers last.kept v) stops.cut.began.done stops.cut.began.rest stops.cut.began.asked log
               (λ lie none is. reads_cut err (stops.access ∷ []) (own_or_next (k.progress f).region last.world.vault.next) last.world v lie none is stops.cut)
-              lasts.later turned.ended (keeps_same k turned.ended last (moment last.flyers last.kept v) refl) turned.begun;
+              lasts.later turned.ended (keeps_same k turned.ended last (moment last.flyers last.kept v) refl) turned.past turned.begun;
           past = past_still k words turned.public share n turned.ended turned.ended start last (moment last.flyers last.kept v)
               (keeps_same k turned.ended last (moment last.flyers last.kept v) refl) lasts.later turned.past;
         }
@@ -316,7 +316,7 @@ module _ {F E : Type 0} (k : Kind F) (t : Taker E) (laws : Laws k) (words : ℕ 
 
   begun_over : (hs : List F) (ended : List Closed) → KeepsOn k turned.ended ended last (moment hs last.kept last.world) → IsBegun k words turned.public share ended start (moment hs last.kept last.world)
   begun_over hs ended keeps = begun_next k words n turned.public share turned.ended turned.current start last turned.aloft (moment hs last.kept last.world) [] [] asked_none log_none
-      (λ lie none is. absurd (cc (none, is))) (later_refl last.world.store) ended keeps turned.begun
+      (λ lie none is. absurd (cc (none, is))) (later_refl last.world.store) ended keeps turned.past turned.begun
 
   module _ (own : List (List ℕ)) (is_own : own ≡ share_at share i last.kept) (g : F) (flyers : gs ≡ slice_set last.flyers i g) (needs : (q : ℕ) → k.Needs g q → k.Needs f q) (may : (x : Served) → k.May g x → k.May f x) where
     end_more : (whole : EndsWhole k t i own f g out_old out_new) → More t.grew true (k.Holds g own) turned.current last.world out_old whole.between

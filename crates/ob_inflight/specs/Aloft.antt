@@ -174,12 +174,13 @@ HaveStood k words p share turn ended_now start now =
     (n : ℕ) → n ≤ turn → HasStood k words p share n ended_now start now
 
 -- ---- the first block that was read and is not what was written
--- it was read in the turn behind these: whatever they turn out to be served, its read is among the accesses by that
+-- it was read in the turn behind these: whatever they turn out to be served, its read is among the accesses by then
 pub record BeginsIn {F : Type 0} (k : Kind F) (words : ℕ → ℕ) (p : Public) (share : ℕ) (lie : Lie)
     (ended_now : List Closed) (start now : Moment F) : Type 0 where
   pub turn : ℕ
   pub stood : HasStood k words p share turn ended_now start now
   pub none : stood.last.world.store.lie ≡ None
+  pub past : HaveStood k words p share turn stood.ended start stood.last
   pub reads : (xs : List Served) → AllMay k.May stood.last.flyers xs
       → ReadsIn lie (start.world.store.asked
       ++ accesses_in (turns words (turn + 1) (setting_off p start.world.vault.next xs)).log)
