@@ -45,14 +45,14 @@ use Rattle.ob_vault.specs.declared.vault.Vault.{Vault}
 use Rattle.ob_verdict.specs.Outcomes.{Emits, Partly}
 use Rattle.ob_verdict.specs.declared.outcome.Outcome.{Outcome}
 use Rattle.ob_exec.specs.InFlight.{EndsAs, EndsMeant, IsFlown, IsMeant, served_as}
-use Rattle.ob_exec.specs.RanFlight.{AtEmitter, BeforeMake, EndedWithin, EndsSo, FlightCause, FlightMeans, RanFlight, RanInTurns, StopsClosing, StopsFlight, asked_by, asked_since, cut_off, halt_of, in_flight}
+use Rattle.ob_exec.specs.RanFlight.{AtEmitter, BeforeMake, EndedWithin, EndsSo, FlightCause, FlightMeans, MeantThen, RanFlight, RanInTurns, StopsClosing, StopsFlight, asked_by, asked_since, cut_off, halt_of, in_flight}
 use Rattle.ob_exec.proofs.FlightBegun.{begins_meant}
-use Rattle.ob_exec.proofs.FlightEarlier.{emitted_then, meant_then}
+use Rattle.ob_exec.proofs.FlightEarlier.{meant_then}
 use Rattle.ob_exec.proofs.FlightEnd.{rises_from}
 use Rattle.ob_exec.specs.Boarding.{engine_behind}
 use Rattle.ob_exec.proofs.FlightFrames.{apart_behind, calm_start, draws_behind, hold_now, lasts_all, opens_behind, sealed_behind}
 use Rattle.ob_exec.proofs.FlightLists.{cuts_same, events_next, get_mapped, get_other, get_within, map_get, outcome_next, past_ended}
-use Rattle.ob_exec.proofs.FlightRuns.{Boards, ServesOne, all_now, emits_now, emitted_now, may_now, partly_now, public_is, served_now, set_kept}
+use Rattle.ob_exec.proofs.FlightRuns.{Boards, ServesOne, all_now, emits_now, emitted_now, may_now, partly_now, public_is, served_now, set_kept, turned_now}
 use Rattle.ob_exec.proofs.FlightStage.{AsksMake, HoldNow, IsSet, IsStage, LacksHere, closed_of, more_asked, whole_of}
 use Rattle.ob_exec.proofs.FlightStopped.{calm_none, cause_behind, cause_quiet, drop_asked, each_at, emitter_never, ends_closing, ends_finishing, ends_make, ends_printing, ends_quiet, hold, hold_by, hold_last, long, meant_at, memory_is, none_ended, not_tampered, prints_or, serve, sink_by, statement}
 use Rattle.ob_exec.proofs.FlightStops.{asked_first, asked_last, asked_of, asked_place, same_seen, stops_turn}
@@ -476,19 +476,15 @@ module _ {R E F : Type 0} (state : R → RevState) (grew cut : E → E → List 
     begun = λ tables d reads lie is.
         let b = st.begun (rests.lie ∙ reads.nolie) lie is in
         begins_meant k m stage steady_of old.public stmts words share start behind boards st.public lie st.ended b old.indexes.items tables d
-        (hold_now state old s s1 agrees rests b.last.world b.aloft.rest.lasts tables reads.tells reads.held b.none) s.asked rests.asked;
-    earlier = λ tables d reads lie is i n stmt seen one there shown_there has few within.
-        let b = st.begun (rests.lie ∙ reads.nolie) lie is in
+        (hold_now state old s s1 agrees rests b.stood.last.world b.stood.aloft.rest.lasts tables reads.tells reads.held b.none) s.asked rests.asked;
+    earlier = λ i n stmt seen one there shown_there has within.
         let f = get_mapped (λ (f : F). (k.progress f).served.seen) st.last.flyers i seen shown_there in
-        let held = hold_now state old s s1 agrees rests b.last.world b.aloft.rest.lasts tables reads.tells reads.held b.none in
         let all = may_now k m stage steady_of old.public stmts words share start boards st.turn st.public st.ended st.current st.last st.aloft in
-        let before : length start.world.store.asked + n ≤ length lie.before = subst (λ (l : List Access). length l + n ≤ length lie.before) (sym rests.asked) few in
-        let there_within : EndedWithin old.public (map (λ (f : F). (k.progress f).served) st.last.flyers) words n i = subst (λ (xs : List Served). EndedWithin old.public xs words n i) (sym by_last) within in (
-          subst (λ (x : ℕ). EndsMeant d p m x tables stmt seen one.outcome) (sym (asked_ended i f.0 one f.1 has))
-              (subst (λ (x : Seen). EndsMeant d p m (k.progress f.0).asked tables stmt x one.outcome) f.2
-              (meant_then k m stage steady_of old.public stmts words share start behind boards st.public lie st.ended b all i n before there_within old.indexes.items tables d held f.0 stmt one f.1 there has)),
-          emitted_then k m stage steady_of old.public stmts words share start behind boards st.public lie st.ended b all i n before there_within old.indexes.items tables d held f.0 stmt one f.1 there has,
-        );
+        let there_within : EndedWithin old.public (map (λ (f : F). (k.progress f).served) st.last.flyers) words n i = subst (λ (xs : List Served). EndedWithin old.public xs words n i) (sym by_last) within in
+        subst (λ (x : ℕ). MeantThen state stmts x n stmt seen one old s t) (sym (asked_ended i f.0 one f.1 has))
+        (subst (λ (x : Seen). MeantThen state stmts (k.progress f.0).asked n stmt x one old s t) f.2
+        (meant_then state k old s s1 agrees rests stage steady_of stmts words share flyers shares boards st.public st.turn st.ended behind st.past st.begun all i n there_within f.0 stmt one f.1 there has
+        (turned_now k m stage steady_of old.public stmts words share start boards st.turn st.public st.ended st.current st.last st.aloft) (st.aloft.stand.outcome i f.0 f.1)));
   }
 
   pub flight_halted : (T : Type 0) → SinkCause {T = T} (Err e) (faults out_old) (faults out_new) → old.room.high ≤ room.high → 1 ≤ room.high

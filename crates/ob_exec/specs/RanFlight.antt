@@ -1,5 +1,5 @@
 -- What several SELECTs do that ask in turns, whatever they are answered.
-use Rattle.std.specs.Prelude.{◌≡◌, ◌⊎◌, ◌+◌, ◌-◌, ◌≤◌, ◌++◌, ℕ, true, false, List, Option, None, Some, Result, Ok, Err, IfErr, OnOk, MatchResult, drop, length, nat_lt, slice_get}
+use Rattle.std.specs.Prelude.{◌≡◌, ◌⊎◌, ◌+◌, ◌-◌, ◌≤◌, ◌++◌, ℕ, true, false, IsTrue, List, Option, None, Some, Result, Ok, Err, IfErr, OnOk, MatchResult, drop, length, nat_lt, slice_get}
 use Rattle.ob_base.specs.Events.{Event}
 use Rattle.ob_base.specs.declared.access.Access.{Access}
 use Rattle.ob_base.specs.declared.config.Public.{Public}
@@ -27,7 +27,7 @@ use Rattle.ob_vault.specs.Tied.{Calm, EndsAt, ReadsIn}
 use Rattle.ob_verdict.specs.Outcomes.{Emits, Partly}
 use Rattle.ob_verdict.specs.declared.outcome.Outcome.{Outcome}
 use Rattle.ob_tables.specs.Agreeing.{Agrees, AreDraws, count_of, engine_keys, engine_start, has_ended, high_of, indexes_of, opened_from, public_of, replaced_of, seen_of, world_of}
-use Rattle.ob_tables.specs.Running.{SinkStops}
+use Rattle.ob_tables.specs.Running.{SinkStops, is_fault}
 use Rattle.ob_tables.specs.Serving.{StopsEmission}
 use Rattle.ob_tables.specs.Telling.{Emitted, IsNotTampered, KeepsSealed, ReadsTrue, ReadsTrueUntil, Represents, answer_labels, is_refused}
 use Rattle.ob_tables.specs.declared.engine.Engine.{Engine}
@@ -225,6 +225,23 @@ pub record EndedWithin (p : Public) (flown : List Served) (words : ℕ → ℕ) 
   pub ended : one.ended ≡ true
   pub within : length (turns words turn (boarding p flown)).log ≤ k
 
+-- one that had ended by then was what it is once these k accesses were asked, in such a state of the store: a fault of it was
+-- one of the store's, and where no changed block was read by then it is answered and seen as it is meant, whatever is read
+-- later; so it is where the first one that was read comes behind these
+pub record MeantThen {R : Type 0} (state : R → RevState) (stmts : List Stmt) (n k : ℕ)
+    (stmt : Stmt) (seen : Seen) (one : Closed) (old : Engine R) (s t : StoreState) : Type 0 where
+  pub mid : StoreState
+  pub later : Later s mid
+  pub few : length mid.asked ≤ length s.asked + k
+  pub lie : (lie : Lie) → mid.lie ≡ Some lie → t.lie ≡ Some lie
+  pub unread : s.lie ≡ None → (lie : Lie) → t.lie ≡ Some lie
+      → length s.asked + k ≤ length lie.before → mid.lie ≡ None
+  pub fails : IsTrue (is_fault one.outcome) → RisesBy 1 s.faults mid.faults
+  pub told : (tables : Tables) (d : Draws) → ReadsTrue state old s mid tables
+      → EndsMeant d (in_flight stmts (public_of old)) (count_of old s) n tables stmt seen one.outcome
+      × Emitted stmt (in_flight stmts (public_of old)) (count_of old s) tables one.outcome
+      one.events
+
 -- a changed block is one that the words merge of these statements' accesses by their meaning, of those that the store cut
 -- off maybe of what they asked until then
 pub record BeginsMeant (p : Public) (m : ℕ) (d : Draws) (tables : Tables) (stmts : List Stmt)
@@ -259,15 +276,11 @@ pub record FlightMeans {R T : Type 0} (state : R → RevState) (words : ℕ → 
   pub begun : (tables : Tables) (d : Draws) → ReadsTrue state old s s tables → (lie : Lie)
       → t.lie ≡ Some lie
       → BeginsMeant (public_of old) (count_of old s) d tables stmts seens words s.asked lie
-  -- and what had ended before it is answered and seen as it is meant, whatever is read then
-  pub earlier : (tables : Tables) (d : Draws) → ReadsTrue state old s s tables → (lie : Lie)
-      → t.lie ≡ Some lie → (i k : ℕ) (stmt : Stmt) (seen : Seen) (one : Closed)
-      → slice_get stmts i ≡ Some stmt → slice_get seens i ≡ Some seen
-      → slice_get ended i ≡ Some one → length s.asked + k ≤ length lie.before
+  -- what had ended within some first accesses is meant, whatever is read later
+  pub earlier : (i k : ℕ) (stmt : Stmt) (seen : Seen) (one : Closed)
+      → slice_get stmts i ≡ Some stmt → slice_get seens i ≡ Some seen → slice_get ended i ≡ Some one
       → EndedWithin (public_of old) (served_as stmts seens) words k i
-      → EndsMeant d (in_flight stmts (public_of old)) (count_of old s) (asked i) tables stmt seen
-      one.outcome × Emitted stmt (in_flight stmts (public_of old)) (count_of old s) tables
-      one.outcome one.events
+      → MeantThen state stmts (asked i) k stmt seen one old s t
 
 -- ---- the whole of it
 -- how many accesses of its own the one at a place asked

@@ -37,7 +37,7 @@ keeps_same {F} k ended last now flyers = record {
     it : (i : ℕ) (f g : F) → slice_get last.flyers i ≡ Some f → slice_get now.flyers i ≡ Some g → g ≡ f
     it i f g get_f get_g = same_Some g f (sym get_g ∙ ap (λ (l : List F). slice_get l i) flyers ∙ get_f)
 
-keeps_still : {F : Type 0} (k : Kind F) (first second third : List Closed) (a b c : Moment F) → KeepsOn k first second a b → KeepsOn k second third b c → KeepsOn k first third a c
+pub keeps_still : {F : Type 0} (k : Kind F) (first second third : List Closed) (a b c : Moment F) → KeepsOn k first second a b → KeepsOn k second third b c → KeepsOn k first third a c
 keeps_still {F} k first second third a b c before after = record {
   size = after.size ∙ before.size;
   more = before.more ++ after.more;
