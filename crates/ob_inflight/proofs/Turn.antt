@@ -170,17 +170,17 @@ module _ {F E : Type 0} (k : Kind F) (t : Taker E) (laws : Laws k) (words : ℕ 
         let went = steps.went in
         let v = now.world in
         let asked = step_asked steps.access (k.progress f).region last.world v (k.progress g).failed went in
-          record {
-            stand = stand_step k laws turned.public share turned.ended turned.current later last now stand i f g did.at did.flyers did.kept did.others steps did.rest count_kept
-                (λ j off. others_same more.more (quiet_off more.quiet) j off) (holds_now more.more (quiet_off more.quiet) more.holds);
-            turned = turned_next k laws words n turned.public share turned.ended turned.current start last stand turned.aloft.turned i f did.at place (Some steps.access) next g now did.flyers steps.may
-                (λ x. λ j. record { served = x; asked = sym steps.asked j; region = sym steps.region.now j; ended = is_some (sym steps.outcome j) })
-                (step_next k laws turned.public share turned.ended turned.current later last now stand i f g did.at did.flyers did.kept did.others steps)
-                (asked ∙ ap (λ (l : List Access). last.world.store.asked ++ l) (sym (asks_some steps.access)))
-                (let o = ap (λ (o : Option Outcome). one_if (is_some o)) steps.outcome in omega (arith, steps.asked, o));
-            rest = rest_step k laws turned.public share turned.ended turned.current later last now stand i f g did.at did.flyers did.kept did.others steps start turned.aloft.rest;
-            course = course_next k start last now i f g did.at did.flyers steps.course turned.aloft.course;
-          }
+        record {
+          stand = stand_step k laws turned.public share turned.ended turned.current later last now stand i f g did.at did.flyers did.kept did.others steps did.rest count_kept
+              (λ j off. others_same more.more (quiet_off more.quiet) j off) (holds_now more.more (quiet_off more.quiet) more.holds);
+          turned = turned_next k laws words n turned.public share turned.ended turned.current start last stand turned.aloft.turned i f did.at place (Some steps.access) next g now did.flyers steps.may
+              (λ x. λ j. record { served = x; asked = sym steps.asked j; region = sym steps.region.now j; ended = is_some (sym steps.outcome j) })
+              (step_next k laws turned.public share turned.ended turned.current later last now stand i f g did.at did.flyers did.kept did.others steps)
+              (asked ∙ ap (λ (l : List Access). last.world.store.asked ++ l) (sym (asks_some steps.access)))
+              (let o = ap (λ (o : Option Outcome). one_if (is_some o)) steps.outcome in omega (arith, steps.asked, o));
+          rest = rest_step k laws turned.public share turned.ended turned.current later last now stand i f g did.at did.flyers did.kept did.others steps start turned.aloft.rest;
+          course = course_next k start last now i f g did.at did.flyers steps.course turned.aloft.course;
+        }
       where
         quiet_off : {more : List Event} {P : Type 0} → ((k.progress did.before).prints ≡ false → (more ≡ []) × P) → (i ≡ e → ⊥) → more ≡ []
         quiet_off {more} quiet off = go (k.progress did.before).prints refl
@@ -336,16 +336,16 @@ module _ {F E : Type 0} (k : Kind F) (t : Taker E) (laws : Laws k) (words : ℕ 
         let now : Moment F = moment gs last.kept last.world in
         let same : KeepsCourse (k.progress f) (k.progress g) = record { stmt = ap (λ (q : Progress). q.stmt) whole.answered; flat = ap (λ (q : Progress). q.flat) whole.answered; refusal = ap (λ (q : Progress). q.refusal) whole.answered; public = ap (λ (q : Progress). q.public) whole.answered } in
         record {
-            stand = stand_ends k turned.public share turned.ended turned.current finished.more last now stand i f g at flyers refl refl first whole.outcome whole.answered needs
-                (subst (λ (l : List (List ℕ)). k.Holds g l (turned.current ++ finished.more) last.world) is_own finished.holds);
-            turned = turned_next k laws words n turned.public share turned.ended turned.current start last stand turned.aloft.turned i f at place None (λ x may. (laws.acts f x last.world.vault.next may).over over) g now flyers may
-                (ends_flying k turned.public share turned.ended turned.current finished.more last now stand i f g at flyers refl refl first whole.outcome whole.answered needs)
-                (omega arith)
-                (asked_none ∙ ap (λ (l : List Access). last.world.store.asked ++ l) (sym asks_none))
-                (ends_acts k turned.public share turned.ended turned.current finished.more last now stand i f g at flyers refl refl first whole.outcome whole.answered needs);
-            rest = rest_ends k turned.public share turned.ended turned.current finished.more last now stand i f g at flyers refl refl first whole.outcome whole.answered needs start turned.aloft.rest;
-            course = course_next k start last now i f g at flyers same turned.aloft.course;
-          }
+          stand = stand_ends k turned.public share turned.ended turned.current finished.more last now stand i f g at flyers refl refl first whole.outcome whole.answered needs
+              (subst (λ (l : List (List ℕ)). k.Holds g l (turned.current ++ finished.more) last.world) is_own finished.holds);
+          turned = turned_next k laws words n turned.public share turned.ended turned.current start last stand turned.aloft.turned i f at place None (λ x may. (laws.acts f x last.world.vault.next may).over over) g now flyers may
+              (ends_flying k turned.public share turned.ended turned.current finished.more last now stand i f g at flyers refl refl first whole.outcome whole.answered needs)
+              (omega arith)
+              (asked_none ∙ ap (λ (l : List Access). last.world.store.asked ++ l) (sym asks_none))
+              (ends_acts k turned.public share turned.ended turned.current finished.more last now stand i f g at flyers refl refl first whole.outcome whole.answered needs);
+          rest = rest_ends k turned.public share turned.ended turned.current finished.more last now stand i f g at flyers refl refl first whole.outcome whole.answered needs start turned.aloft.rest;
+          course = course_next k start last now i f g at flyers same turned.aloft.course;
+        }
 
     pub end_turns : (starts : (s : E) → t.grew s s []) → EndsWhole k t i own f g out_old out_new → HasTurned k t words (n + 1) share (count + 1) rows start (moment gs last.kept last.world) out_start out_new
     end_turns starts whole =
