@@ -14,7 +14,7 @@ use Rattle.ob_store.specs.Runs.{Began, Later}
 use Rattle.ob_store.specs.State.{Lie}
 use Rattle.ob_vault.specs.State.{World}
 use Rattle.ob_vault.specs.Tied.{ReadsIn}
-use Rattle.ob_inflight.specs.Aloft.{AllMay, BeginsIn, HasStood, HaveStood, IsAloft, IsBegun, KeepsOn, setting_off}
+use Rattle.ob_inflight.specs.Aloft.{AllMay, BeginsIn, HasGoneOn, HasStood, HaveGoneOn, HaveStood, IsAloft, IsBegun, KeepsOn, setting_off}
 use Rattle.ob_inflight.specs.Closing.{Closed}
 use Rattle.ob_inflight.specs.Kinds.{Kind, Moment}
 use Rattle.ob_inflight.specs.Progress.{Progress}
@@ -81,6 +81,22 @@ past_now k words p share turn ended current start now aloft before n le = elim (
       let same : turn ≡ n = omega (arith, le, at) in
       subst (λ (m : ℕ). HasStood k words p share m ended start now) same
       (record { last = now; ended = ended; current = current; aloft = aloft; keeps = keeps_same k ended now now refl; later = later_refl now.world.store })
+]
+
+-- one turn more was taken, from one where they stood so
+pub went_on : {F : Type 0} (k : Kind F) (words : ℕ → ℕ) (p : Public) (share n : ℕ) (ended ended_now : List Closed) (current : List Event) (start last now : Moment F) → IsAloft k words n p share ended current start last
+    → (keeps : KeepsOn k ended ended_now last now) → Later last.world.store now.world.store
+    → (log : List (ℕ × Access)) → ((xs : List Served) → AllMay k.May last.flyers xs → (turns words (n + 1) (setting_off p start.world.vault.next xs)).log ≡ log)
+    → HaveGoneOn k words p share n ended start last → HaveGoneOn k words p share (n + 1) ended_now start now
+unfolding stood_still
+went_on k words p share n ended ended_now current start last now aloft keeps later log next went m le = elim (cases_lt m n) [
+  | inl less ↦
+      let was = went m less in
+      record { stood = stood_still k words p share m ended ended_now start last now keeps later was.stood; log = was.log; next = was.next }
+  | inr at ↦
+      let same : n ≡ m = omega (arith, le, at) in
+      subst (λ (j : ℕ). HasGoneOn k words p share j ended_now start now) same
+      (record { stood = record { last = last; ended = ended; current = current; aloft = aloft; keeps = keeps; later = later }; log = log; next = next })
 ]
 
 begins_still : {F : Type 0} (k : Kind F) (words : ℕ → ℕ) (p : Public) (share : ℕ) (lie : Lie) (ended_last ended_now : List Closed) (start last now : Moment F) → KeepsOn k ended_last ended_now last now

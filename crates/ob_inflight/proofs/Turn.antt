@@ -8,7 +8,7 @@ use Rattle.ob_base.specs.Events.{Event}
 use Rattle.ob_base.specs.declared.access.Access.{Access}
 use Rattle.ob_base.specs.declared.config.Public.{Public}
 use Rattle.ob_flat.specs.declared.fault.OpErr.{OpErr}
-use Rattle.ob_script.specs.Flights.{Flight, accesses_in, place_by, prints, turns}
+use Rattle.ob_script.specs.Flights.{Flight, accesses_in, entry_of, place_by, prints, turns}
 use Rattle.ob_script.specs.Trace.{Served}
 use Rattle.ob_store.proofs.Steps.{later_refl}
 use Rattle.ob_store.specs.Runs.{Later}
@@ -34,7 +34,7 @@ use Rattle.ob_inflight.proofs.Lists.{get_some, length-set_at, total_few}
 use Rattle.ob_script.proofs.FlightEnds.{total_none, total_set, total_part}
 use Rattle.ob_inflight.proofs.Picks.{IsGoing, picked_going, going_some}
 use Rattle.ob_inflight.proofs.Standing.{course_next, events_here, events_there, fit_next, keeps_next, rest_step, stand_step, step_next}
-use Rattle.ob_inflight.proofs.Stopping.{began_next, begun_next, keeps_same, past_now, past_still}
+use Rattle.ob_inflight.proofs.Stopping.{began_next, begun_next, keeps_same, past_now, past_still, went_on}
 use Rattle.ob_inflight.proofs.Turning.{Laws, asks_none, asks_some, log_on, outcome_open, turn_on, turned_next, turned_none}
 
 -- ---- who was picked
@@ -235,6 +235,8 @@ module _ {F E : Type 0} (k : Kind F) (t : Taker E) (laws : Laws k) (words : ℕ 
           over = λ all. absurd (omega (arith, all, long, picked.after, picked.within));
           past = past_now k words turned.public share (n + 1) turned.ended (turned.current ++ step_more.more) start now step_aloft
               (λ m less. past_still k words turned.public share n turned.ended turned.ended start last now step_keeps step_later turned.past m (omega (arith, less)));
+          went = went_on k words turned.public share n turned.ended turned.ended turned.current start last now turned.aloft step_keeps step_later (turned.aloft.turned.log ++ entry_of i (Some steps.access))
+              (λ xs all. ap (λ (s : Flight). s.log) (turn_on k laws words n turned.public share turned.ended turned.current start last stand turned.aloft.turned i f did.at place (Some steps.access) next xs all)) turned.went;
           begun = begun_next k words n turned.public share turned.ended turned.current start last turned.aloft now (steps.access ∷ []) [] asked
               (λ xs all. log_on k laws words n turned.public share turned.ended turned.current start last stand turned.aloft.turned i f did.at place (Some steps.access) next xs all
               ∙ ap (λ (l : List Access). accesses_in turned.aloft.turned.log ++ l) (asks_some steps.access))
@@ -293,6 +295,9 @@ module _ {F E : Type 0} (k : Kind F) (t : Taker E) (laws : Laws k) (words : ℕ 
               lasts.later turned.ended (keeps_same k turned.ended last (moment last.flyers last.kept v) refl) turned.past turned.begun;
           past = past_still k words turned.public share n turned.ended turned.ended start last (moment last.flyers last.kept v)
               (keeps_same k turned.ended last (moment last.flyers last.kept v) refl) lasts.later turned.past;
+          went = went_on k words turned.public share n turned.ended turned.ended turned.current start last (moment last.flyers last.kept v) turned.aloft
+              (keeps_same k turned.ended last (moment last.flyers last.kept v) refl) lasts.later (turned.aloft.turned.log ++ entry_of i (Some stops.access))
+              (λ xs all. ap (λ (s : Flight). s.log) (turn_on k laws words n turned.public share turned.ended turned.current start last stand turned.aloft.turned i f did.at place (Some stops.access) next xs all)) turned.went;
         }
 
 -- ---- an end
@@ -310,6 +315,9 @@ module _ {F E : Type 0} (k : Kind F) (t : Taker E) (laws : Laws k) (words : ℕ 
   log_none : (xs : List Served) → AllMay k.May last.flyers xs → accesses_in (turns words (n + 1) (setting_off turned.public start.world.vault.next xs)).log ≡ accesses_in turned.aloft.turned.log ++ ([] ++ [])
   log_none xs all = log_on k laws words n turned.public share turned.ended turned.current start last turned.aloft.stand turned.aloft.turned i f at place None (λ x may. (laws.acts f x last.world.vault.next may).over over) xs all
       ∙ ap (λ (l : List Access). accesses_in turned.aloft.turned.log ++ l) asks_none
+
+  log_end : (xs : List Served) → AllMay k.May last.flyers xs → (turns words (n + 1) (setting_off turned.public start.world.vault.next xs)).log ≡ turned.aloft.turned.log ++ entry_of i None
+  log_end xs all = ap (λ (s : Flight). s.log) (turn_on k laws words n turned.public share turned.ended turned.current start last turned.aloft.stand turned.aloft.turned i f at place None (λ x may. (laws.acts f x last.world.vault.next may).over over) xs all)
 
   asked_none : last.world.store.asked ≡ last.world.store.asked ++ []
   asked_none = sym (append-nil last.world.store.asked)
@@ -371,6 +379,8 @@ module _ {F E : Type 0} (k : Kind F) (t : Taker E) (laws : Laws k) (words : ℕ 
           over = λ all. refl;
           past = past_now k words turned.public share (n + 1) (turned.ended ++ closed_so whole ∷ []) [] start now (end_aloft whole)
               (λ m less. past_still k words turned.public share n turned.ended (turned.ended ++ closed_so whole ∷ []) start last now (end_keeps whole) (later_refl last.world.store) turned.past m (omega (arith, less)));
+          went = went_on k words turned.public share n turned.ended (turned.ended ++ closed_so whole ∷ []) turned.current start last now turned.aloft (end_keeps whole) (later_refl last.world.store)
+              (turned.aloft.turned.log ++ entry_of i None) log_end turned.went;
           begun = begun_over gs (turned.ended ++ closed_so whole ∷ []) (end_keeps whole);
         }
 
@@ -397,6 +407,8 @@ module _ {F E : Type 0} (k : Kind F) (t : Taker E) (laws : Laws k) (words : ℕ 
       faults = refl;
       seals = turned.aloft.rest.seals;
       past = turned.past;
+      went = went_on k words turned.public share n turned.ended turned.ended turned.current start last (moment last.flyers last.kept last.world) turned.aloft
+          (keeps_same k turned.ended last (moment last.flyers last.kept last.world) refl) (later_refl last.world.store) (turned.aloft.turned.log ++ entry_of i None) log_end turned.went;
       begun = begun_over last.flyers turned.ended (keeps_same k turned.ended last (moment last.flyers last.kept last.world) refl);
     }
 
@@ -542,6 +554,7 @@ turned_first {F} {E} k t starts words share rows start out boarded = record {
   emitted = record { between = out; took = refl; now = starts out };
   over = λ all. refl;
   past = past_now k words boarded.public share 0 [] [] start start (aloft_first k words share rows start boarded) (λ m less. absurd (omega (arith, less)));
+  went = λ m less. absurd (omega (arith, less));
   begun = λ none lie is. absurd (cc (none, is));
 }
 
@@ -572,6 +585,7 @@ has_flown {F} {E} k t words left n share count rows start now out_old out_new tu
       took = subst (λ (s : E). ClosesAll t.grew t.closed 0 turned.ended out_old s) (sym (turned.over all)) turned.emitted.took;
       rest = rest;
       past = turned.past;
+      went = turned.went;
       begun = turned.begun;
     }
   where

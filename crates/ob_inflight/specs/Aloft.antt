@@ -173,6 +173,19 @@ abbrev pub HaveStood : {F : Type 0} → Kind F → (words : ℕ → ℕ) → Pub
 HaveStood k words p share turn ended_now start now =
     (n : ℕ) → n ≤ turn → HasStood k words p share n ended_now start now
 
+-- one turn more was taken there, or begun: its act is one, whatever may still turn out to be served then
+pub record HasGoneOn {F : Type 0} (k : Kind F) (words : ℕ → ℕ) (p : Public) (share turn : ℕ)
+    (ended_now : List Closed) (start now : Moment F) : Type 0 where
+  pub stood : HasStood k words p share turn ended_now start now
+  pub log : List (ℕ × Access)
+  pub next : (xs : List Served) → AllMay k.May stood.last.flyers xs
+      → (turns words (turn + 1) (setting_off p start.world.vault.next xs)).log ≡ log
+
+abbrev pub HaveGoneOn : {F : Type 0} → Kind F → (words : ℕ → ℕ) → Public → (share turn : ℕ)
+    → (ended_now : List Closed) → (start now : Moment F) → Type 0
+HaveGoneOn k words p share turn ended_now start now =
+    (n : ℕ) → n < turn → HasGoneOn k words p share n ended_now start now
+
 -- ---- the first block that was read and is not what was written
 -- it was read in the turn behind these: whatever they turn out to be served, its read is among the accesses by then
 pub record BeginsIn {F : Type 0} (k : Kind F) (words : ℕ → ℕ) (p : Public) (share : ℕ) (lie : Lie)

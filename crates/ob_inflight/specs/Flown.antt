@@ -5,7 +5,7 @@ use Rattle.ob_base.specs.declared.access.Access.{Access}
 use Rattle.ob_base.specs.declared.config.Public.{Public}
 use Rattle.ob_base.specs.declared.emit.EmitErr.{EmitErr}
 use Rattle.ob_flat.specs.declared.fault.OpErr.{OpErr}
-use Rattle.ob_inflight.specs.Aloft.{AllMay, HaveStood, IsAloft, IsBegun, setting_off}
+use Rattle.ob_inflight.specs.Aloft.{AllMay, HaveGoneOn, HaveStood, IsAloft, IsBegun, setting_off}
 use Rattle.ob_inflight.specs.Answers.{EndsBy, error_of}
 use Rattle.ob_inflight.specs.Closing.{Closed, ClosesAll, Emitted, events_at}
 use Rattle.ob_inflight.specs.Kinds.{Kind, Moment, Taker, moment, share_at}
@@ -28,6 +28,7 @@ pub record HasFlown {F E : Type 0} (k : Kind F) (t : Taker E) (words left : ℕ 
   pub took : ClosesAll t.grew t.closed 0 ended out_old out_new
   pub rest : (i : ℕ) → left i ≡ words (turn + i)
   pub past : HaveStood k words public share turn ended start now
+  pub went : HaveGoneOn k words public share turn ended start now
   pub begun : IsBegun k words public share ended start now
 
 -- ---- what gave up, behind some turns
@@ -121,5 +122,7 @@ pub record StopsFlight {F E : Type 0} (k : Kind F) (t : Taker E) (words : ℕ �
   pub seals : SealsBlocks public.pack start.world now.world
   -- of the statements as they were before that act, in the world behind it
   pub past : HaveStood k words public share turn ended start
+      (moment last.flyers last.kept now.world)
+  pub went : HaveGoneOn k words public share (turn + 1) ended start
       (moment last.flyers last.kept now.world)
   pub begun : IsBegun k words public share ended start (moment last.flyers last.kept now.world)
