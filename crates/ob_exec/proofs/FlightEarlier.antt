@@ -1,6 +1,6 @@
 -- What had ended within a flight's first accesses is as it is meant, whatever is read later.
 use Rattle.std.proofs.Common.{◌≡◌, ◌≤◌, ◌<◌, ◌+◌, ◌-◌, ◌++◌, inl, inr, ℕ, zero, suc, Bool, true, false, IsTrue, List, [], ◌∷◌, map, length, length-append, Option, Some, None, refl, sym, ◌∙◌, ap, subst, arith}
-use Rattle.std.specs.Prelude.{is_some, option_map, slice_get}
+use Rattle.std.specs.Prelude.{is_some, option_map, slice_get, take}
 use Rattle.std.specs.Option.{option_map_or}
 use Rattle.std.proofs.lemmas.Bool.{cases_lt}
 use Rattle.std.proofs.lemmas.List.{length-map}
@@ -11,16 +11,16 @@ use Rattle.ob_base.specs.declared.access.Access.TheVariants.{Read}
 use Rattle.ob_base.specs.declared.config.Public.{Public}
 use Rattle.ob_base.specs.declared.refusal.Refusal.{Refusal}
 use Rattle.ob_base.specs.declared.refusal.Refusal.TheVariants.{StoreFault}
-use Rattle.ob_inflight.specs.Aloft.{AllMay, BeginsIn, HasStood, HaveStood, IsBegun, flight_in, flying_in, setting_off}
+use Rattle.ob_inflight.specs.Aloft.{AllMay, BeginsIn, HasStood, HaveStood, IsBegun, flight_in, flying_in, setting_off, HasGoneOn, HaveGoneOn}
 use Rattle.ob_inflight.specs.Closing.{Closed, RisesBy, outcome_at}
 use Rattle.ob_inflight.specs.Kinds.{Kind, Moment}
 use Rattle.ob_inflight.specs.Progress.{Progress, flying_of}
 use Rattle.ob_inflight.proofs.Stopping.{keeps_still}
 use Rattle.ob_mean.specs.Batches.{is_cut}
 use Rattle.ob_script.specs.FlightLaws.{AllMayFly, one_if}
-use Rattle.ob_script.specs.Flights.{AreSteady, Flight, Flying, accesses_in, boarding, turns}
+use Rattle.ob_script.specs.Flights.{AreSteady, Flight, Flying, accesses_in, boarding, turns, merge}
 use Rattle.ob_script.specs.Trace.{Served}
-use Rattle.ob_script.proofs.FlightEnds.{total_part}
+use Rattle.ob_script.proofs.FlightEnds.{total_part, first_of_merge}
 use Rattle.ob_script.proofs.FlightLemmas.{grows_turns}
 use Rattle.ob_sql.specs.declared.stmt.Stmt.{Stmt}
 use Rattle.ob_store.proofs.Steps.{later_trans, none_before}
@@ -33,12 +33,17 @@ use Rattle.ob_tables.specs.declared.engine.Engine.{Engine}
 use Rattle.ob_vault.specs.State.{RevState}
 use Rattle.ob_verdict.specs.declared.outcome.Outcome.{Outcome}
 use Rattle.ob_verdict.specs.declared.outcome.Outcome.TheVariants.{Created, Inserted, Changed, Deleted, Dropped, Rows, Refused}
-use Rattle.ob_exec.specs.InFlight.{EndsAs, EndsMeant, IsFlown, IsMeant}
-use Rattle.ob_exec.specs.RanFlight.{EndedWithin, MeantThen, in_flight}
+use Rattle.ob_exec.specs.InFlight.{EndsAs, EndsMeant, IsFlown, IsMeant, served_as}
+use Rattle.ob_exec.specs.RanFlight.{EndedWithin, MeantThen, in_flight, AsksMeant, meant_of}
 use Rattle.ob_exec.proofs.FlightFrames.{hold_now, lasts_all}
 use Rattle.ob_exec.proofs.FlightLists.{flying_get, get_other}
-use Rattle.ob_exec.proofs.FlightRuns.{Boards, as_many, emitted_now, flown_now, meant_now, sets_now, they_hold}
-use Rattle.ob_exec.proofs.FlightStage.{IsStage}
+use Rattle.ob_exec.proofs.FlightRuns.{Boards, as_many, emitted_now, flown_now, meant_now, sets_now, they_hold, they_serve}
+use Rattle.ob_exec.proofs.FlightStage.{IsStage, HoldNow, shown_of}
+use Rattle.ob_base.specs.declared.seen.Seen.{Seen}
+use Rattle.ob_mean.specs.Verdict.{Draws, Tables, seen as seen_by}
+use Rattle.ob_sql.specs.Skeleton.{skeleton}
+use Rattle.ob_tables.specs.Telling.{ReadsTrue}
+use Rattle.ob_exec.proofs.FlightBegun.{all_fly, all_mean, same}
 
 -- ---- what was asked stays
 abbrev has_ended : (i : ℕ) → Flight → Bool
@@ -79,6 +84,27 @@ closed_there : (ended more : List Closed) (i : ℕ) (one : Closed) → is_some (
 closed_there [] more i one is at = absurd (cc is)
 closed_there (c ∷ ended) more zero one is at = at
 closed_there (c ∷ ended) more (suc i) one is at = closed_there ended more i one is at
+
+-- ---- first parts
+take_less : {A : Type 0} (n m : ℕ) (xs : List A) → n ≤ m → take n (take m xs) ≡ take n xs
+take_less zero m xs le = refl
+take_less (suc n) zero xs le = absurd (omega (arith, le))
+take_less (suc n) (suc m) [] le = refl
+take_less (suc n) (suc m) (x ∷ xs) le = ap (λ (l : List _). x ∷ l) (take_less n m xs (omega (arith, le)))
+
+-- where a count goes past k
+crossing : (f : ℕ → ℕ) (k most : ℕ) → f 0 ≤ k → k < f most → (n : ℕ) × (n < most) × (f n ≤ k) × (k < f (suc n))
+crossing f k zero first less = absurd (omega (arith, first, less))
+crossing f k (suc n) first less = elim (cases_lt k (f n)) [
+  | inl before ↦ let one = crossing f k n first before in (one.0, omega (arith, one.1), one.2, one.3)
+  | inr most ↦ (n, omega arith, most, less)
+]
+
+mapped_same : {A B C : Type 0} (v : A → C) (w : B → C) (xs : List A) (ys : List B) → length xs ≡ length ys → ((i : ℕ) (x : A) (y : B) → slice_get xs i ≡ Some x → slice_get ys i ≡ Some y → v x ≡ w y) → map v xs ≡ map w ys
+mapped_same v w [] [] same each = refl
+mapped_same v w [] (y ∷ ys) same each = absurd (cc same)
+mapped_same v w (x ∷ xs) [] same each = absurd (cc same)
+mapped_same v w (x ∷ xs) (y ∷ ys) same each = let one = each 0 x y refl refl in let rest = mapped_same v w xs ys (cc same) (λ i a b at there. each (suc i) a b at there) in λ j. one j ∷ rest j
 
 module _ {R F : Type 0} (state : R → RevState) (k : Kind F) (old : Engine R) (s s1 : StoreState) (agrees : Agrees state old s) (rests : ChangesNothing s s1)
     (stage : IsStage k (count_of old s)) (steady_of : (p : Public) (flown : List Served) → AllMayFly flown → AreSteady p flown)
@@ -252,3 +278,88 @@ module _ {R F : Type 0} (state : R → RevState) (k : Kind F) (old : Engine R) (
           let is : has_ended i (flight_at e.turn) ≡ true = ap (λ (o : Option Flying). option_map_or (λ (x : Flying). x.ended) o false) e.at ∙ e.ended in
           then_so e.turn is e.within (unread_by e.turn few (omega (arith, most)) e.within)
     ]
+
+  -- ---- what was asked by then
+  module _ (steady : AreSteady old.public (map (λ (f : F). (k.progress f).served) now.flyers)) (n few : ℕ) (less : few < length (turns words (n + 1) (boarding old.public (map (λ (f : F). (k.progress f).served) now.flyers))).log)
+      (within : length (turns words n (boarding old.public (map (λ (f : F). (k.progress f).served) now.flyers))).log ≤ few)
+      (w : HasGoneOn k words q share n ended_now (record { flyers = flyers; kept = shares; world = world_of state old s1 }) now) where
+    -- of what may be served, by its log
+    first_by : (flown : List Served) → AreSteady old.public flown → (turns words (n + 1) (boarding old.public flown)).log ≡ w.log → few < length w.log
+        → take (few + 1) (merge old.public flown words) ≡ take (few + 1) (accesses_in w.log)
+    first_by flown steady is some =
+        let long : length (turns words (n + 1) (boarding old.public flown)).log ≡ length w.log = ap length is in
+        sym (take_less (few + 1) (length (turns words (n + 1) (boarding old.public flown)).log) (merge old.public flown words) (omega (arith, long, some)))
+        ∙ ap (take (few + 1)) (sym (first_of_merge old.public flown words steady (n + 1)) ∙ ap accesses_in is)
+
+    log_by_now : (turns words (n + 1) (boarding old.public (map (λ (f : F). (k.progress f).served) now.flyers))).log ≡ w.log
+    log_by_now = ap (λ (r : Flight). (turns words (n + 1) r).log) (sym (sets n w.stood)) ∙ w.next by_now (may_then n w.stood)
+
+    many_now : few < length w.log
+    many_now = let long = ap length log_by_now in omega (arith, long, less)
+
+    module _ (tables : Tables) (d : Draws) (reads : ReadsTrue state old s w.stood.last.world.store tables) (none : w.stood.last.world.store.faults ≡ 0) where
+      held_there : HoldNow old.public old.indexes.items tables w.stood.last.world
+      held_there = hold_now state old s s1 agrees rests w.stood.last.world w.stood.aloft.rest.lasts tables reads.tells reads.held reads.nolie
+
+      unfailed : (i : ℕ) (f : F) → slice_get w.stood.last.flyers i ≡ Some f → (k.progress f).failed ≡ false
+      unfailed i f at = go (k.progress f).failed refl
+        where
+          go : (b : Bool) → (k.progress f).failed ≡ b → (k.progress f).failed ≡ false
+          go false is = is
+          go true is = absurd (
+              let part = total_part (λ (h : F). one_if (k.progress h).failed) w.stood.last.flyers i f at in
+              let mine : one_if (k.progress f).failed ≡ 1 = ap one_if is in
+              let rises = w.stood.aloft.rest.faults.least in
+              omega (arith, part, mine, rises, none))
+
+      abbrev meant : List Served
+      meant = map (λ (f : F). record { skeleton = skeleton (k.progress f).stmt; seen = shown_of (k.progress f).failed d m tables (k.progress f) }) w.stood.last.flyers
+
+      all_there : AllMay k.May w.stood.last.flyers (map (λ (f : F). record { skeleton = skeleton (k.progress f).stmt; seen = shown_of (k.progress f).failed d m tables (k.progress f) }) w.stood.last.flyers)
+      all_there = all_mean k m stage steady_of p stmts words share start now boards q n ended_now w.stood old.indexes.items tables d held_there
+
+      steady_there : AreSteady old.public meant
+      steady_there = steady_of old.public meant (all_fly k m stage steady_of p stmts words share start now boards q n ended_now w.stood old.indexes.items tables d held_there)
+
+      sets_there : setting_off q start.world.vault.next meant ≡ boarding old.public meant
+      sets_there = sets_now k m stage steady_of p stmts words share start boards n q w.stood.ended w.stood.current w.stood.last w.stood.aloft meant
+          (length-map w.stood.last.flyers (λ (f : F). record { skeleton = skeleton (k.progress f).stmt; seen = shown_of (k.progress f).failed d m tables (k.progress f) }) ∙ long n w.stood)
+
+      log_meant : (turns words (n + 1) (boarding old.public meant)).log ≡ w.log
+      log_meant = ap (λ (r : Flight). (turns words (n + 1) r).log) (sym sets_there) ∙ w.next meant all_there
+
+      same_seens : map (λ (f : F). shown_of (k.progress f).failed d m tables (k.progress f)) w.stood.last.flyers ≡ map (λ (stmt : Stmt). seen_by d (in_flight stmts old.public) m tables stmt) stmts
+      same_seens = mapped_same (λ (f : F). shown_of (k.progress f).failed d m tables (k.progress f)) (λ (stmt : Stmt). seen_by d (in_flight stmts old.public) m tables stmt) w.stood.last.flyers stmts (long n w.stood)
+          (λ i f stmt at there.
+          let one = they_serve k m stage steady_of p stmts words share start boards n q w.stood.ended w.stood.current w.stood.last w.stood.aloft i f stmt at there in
+          ap (λ (b : Bool). shown_of b d m tables (k.progress f)) (unfailed i f at) ∙ (λ j. seen_by d (one.public j) m tables (one.is j)))
+
+      meant_are : meant ≡ meant_of d old.public m tables stmts
+      meant_are = same k m stage steady_of p stmts words share start now boards q n ended_now w.stood old.indexes.items tables d held_there ∙ ap (served_as stmts) same_seens
+
+      told_there : take (few + 1) (merge old.public (map (λ (f : F). (k.progress f).served) now.flyers) words) ≡ take (few + 1) (merge old.public (meant_of d old.public m tables stmts) words)
+      told_there =
+          first_by by_now steady log_by_now many_now ∙ sym (first_by meant steady_there log_meant many_now)
+          ∙ ap (λ (xs : List Served). take (few + 1) (merge old.public xs words)) meant_are
+
+    asks_so : (seens : List Seen) → map (λ (f : F). (k.progress f).served) now.flyers ≡ served_as stmts seens → AsksMeant state words stmts seens few old s now.world.store
+    asks_so seens are = record {
+      mid = w.stood.last.world.store;
+      later = (lasts_all state old s s1 agrees rests w.stood.last.world w.stood.aloft.rest.lasts).later;
+      few = let asked = asked_then n w.stood in omega (arith, asked, within);
+      lie = w.stood.later.lie;
+      told = λ tables d reads none.
+          subst (λ (xs : List Served). take (few + 1) (merge old.public xs words) ≡ take (few + 1) (merge old.public (meant_of d old.public m tables stmts) words)) are (told_there tables d reads none);
+    }
+
+  pub asks_meant : (steady : AreSteady old.public (map (λ (f : F). (k.progress f).served) now.flyers)) (most few : ℕ) → HaveGoneOn k words q share most ended_now (record { flyers = flyers; kept = shares; world = world_of state old s1 }) now
+      → few < length (turns words most (boarding old.public (map (λ (f : F). (k.progress f).served) now.flyers))).log
+      → (seens : List Seen) → map (λ (f : F). (k.progress f).served) now.flyers ≡ served_as stmts seens → AsksMeant state words stmts seens few old s now.world.store
+  unfolding turns
+  asks_meant steady most few went less seens are =
+      let c = crossing (λ (n : ℕ). length (turns words n (boarding old.public by_now)).log) few most none_first less in
+      let next : suc c.0 ≡ c.0 + 1 = omega arith in
+      asks_so steady c.0 few (subst (λ (n : ℕ). few < length (turns words n (boarding old.public (map (λ (f : F). (k.progress f).served) now.flyers))).log) next c.3) c.2 (went c.0 c.1) seens are
+    where
+      none_first : length (turns words 0 (boarding old.public by_now)).log ≤ few
+      none_first = omega arith

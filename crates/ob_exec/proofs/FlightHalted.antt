@@ -47,15 +47,15 @@ use Rattle.ob_verdict.specs.declared.outcome.Outcome.{Outcome}
 use Rattle.ob_exec.specs.InFlight.{EndsAs, EndsMeant, IsFlown, IsMeant, served_as}
 use Rattle.ob_exec.specs.RanFlight.{AtEmitter, BeforeMake, EndedWithin, EndsSo, FlightCause, FlightMeans, MeantThen, RanFlight, RanInTurns, StopsClosing, StopsFlight, asked_by, asked_since, cut_off, halt_of, in_flight}
 use Rattle.ob_exec.proofs.FlightBegun.{begins_meant}
-use Rattle.ob_exec.proofs.FlightEarlier.{meant_then}
+use Rattle.ob_exec.proofs.FlightEarlier.{asks_meant, meant_then}
 use Rattle.ob_exec.proofs.FlightEnd.{rises_from}
 use Rattle.ob_exec.specs.Boarding.{engine_behind}
 use Rattle.ob_exec.proofs.FlightFrames.{apart_behind, calm_start, draws_behind, hold_now, lasts_all, opens_behind, sealed_behind}
 use Rattle.ob_exec.proofs.FlightLists.{cuts_same, events_next, get_mapped, get_other, get_within, map_get, outcome_next, past_ended}
-use Rattle.ob_exec.proofs.FlightRuns.{Boards, ServesOne, all_now, emits_now, emitted_now, may_now, partly_now, public_is, served_now, set_kept, turned_now}
+use Rattle.ob_exec.proofs.FlightRuns.{Boards, ServesOne, all_now, emits_now, emitted_now, may_now, partly_now, public_is, served_now, set_kept, steady_now, turned_now}
 use Rattle.ob_exec.proofs.FlightStage.{AsksMake, HoldNow, IsSet, IsStage, LacksHere, closed_of, more_asked, whole_of}
 use Rattle.ob_exec.proofs.FlightStopped.{calm_none, cause_behind, cause_quiet, drop_asked, each_at, emitter_never, ends_closing, ends_finishing, ends_make, ends_printing, ends_quiet, hold, hold_by, hold_last, long, meant_at, memory_is, none_ended, not_tampered, prints_or, serve, sink_by, statement}
-use Rattle.ob_exec.proofs.FlightStops.{asked_first, asked_last, asked_of, asked_place, same_seen, stops_turn}
+use Rattle.ob_exec.proofs.FlightStops.{asked_first, asked_last, asked_most, asked_of, asked_place, same_seen, stops_turn}
 
 module _ {R E F : Type 0} (state : R → RevState) (grew cut : E → E → List Event → Type 0) (closed parted : E → E → ℕ → Outcome → Type 0) (faults : E → ℕ)
     (k : Kind F) (old : Engine R) (s s1 : StoreState) (agrees : Agrees state old s) (rests : ChangesNothing s s1)
@@ -475,8 +475,8 @@ module _ {R E F : Type 0} (state : R → RevState) (grew cut : E → E → List 
     honest = λ tables reads. not_tampered e (honest_by tables reads);
     begun = λ tables d reads lie is.
         let b = st.begun (rests.lie ∙ reads.nolie) lie is in
-        begins_meant k m stage steady_of old.public stmts words share start behind boards st.public lie st.ended b old.indexes.items tables d
-        (hold_now state old s s1 agrees rests b.stood.last.world b.stood.aloft.rest.lasts tables reads.tells reads.held b.none) s.asked rests.asked;
+        begins_meant k m stage steady_of old.public stmts words share start behind boards st.public b.turn st.ended b.stood old.indexes.items tables d
+        (hold_now state old s s1 agrees rests b.stood.last.world b.stood.aloft.rest.lasts tables reads.tells reads.held b.none) lie b.reads s.asked rests.asked;
     earlier = λ i n stmt seen one there shown_there has within.
         let f = get_mapped (λ (f : F). (k.progress f).served.seen) st.last.flyers i seen shown_there in
         let all = may_now k m stage steady_of old.public stmts words share start boards st.turn st.public st.ended st.current st.last st.aloft in
@@ -485,6 +485,11 @@ module _ {R E F : Type 0} (state : R → RevState) (grew cut : E → E → List 
         (subst (λ (x : Seen). MeantThen state stmts (k.progress f.0).asked n stmt x one old s t) f.2
         (meant_then state k old s s1 agrees rests stage steady_of stmts words share flyers shares boards st.public st.turn st.ended behind st.past st.begun all i n there_within f.0 stmt one f.1 there has
         (turned_now k m stage steady_of old.public stmts words share start boards st.turn st.public st.ended st.current st.last st.aloft) (st.aloft.stand.outcome i f.0 f.1)));
+    asks = λ n less.
+        let all = may_now k m stage steady_of old.public stmts words share start boards st.turn st.public st.ended st.current st.last st.aloft in
+        let many = asked_most state grew cut closed parted k old s s1 rests stage steady_of stmts words share e flyers shares now boards out_old out_new st in
+        asks_meant state k old s s1 agrees rests stage steady_of stmts words share flyers shares boards st.public st.turn st.ended behind st.past st.begun all
+        (steady_now k m stage steady_of old.public stmts words share start boards st.turn st.public st.ended st.current st.last st.aloft) (st.turn + 1) n st.went (omega (arith, less, many)) seens by_last;
   }
 
   pub flight_halted : (T : Type 0) → SinkCause {T = T} (Err e) (faults out_old) (faults out_new) → old.room.high ≤ room.high → 1 ≤ room.high
