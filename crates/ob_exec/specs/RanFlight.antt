@@ -238,9 +238,9 @@ pub record MeantThen {R : Type 0} (state : R → RevState) (stmts : List Stmt) (
       → length s.asked + k ≤ length lie.before → mid.lie ≡ None
   pub fails : IsTrue (is_fault one.outcome) → RisesBy 1 s.faults mid.faults
   pub told : (tables : Tables) (d : Draws) → ReadsTrue state old s mid tables
-      → EndsMeant d (in_flight stmts (public_of old)) (count_of old s) n tables stmt seen one.outcome
-      × Emitted stmt (in_flight stmts (public_of old)) (count_of old s) tables one.outcome
-      one.events
+      → EndsMeant d (in_flight stmts (public_of old)) (count_of old s) n tables stmt seen
+      one.outcome × Emitted stmt (in_flight stmts (public_of old)) (count_of old s) tables
+      one.outcome one.events
 
 -- these statements by their meaning
 abbrev pub meant_of : Draws → Public → (m : ℕ) → Tables → List Stmt → List Served
