@@ -18,7 +18,7 @@ use Rattle.ob_inflight.specs.Answers.{EndsBy, error_of}
 use Rattle.ob_inflight.specs.Closing.{Closed, RisesBy, events_at, outcome_at}
 use Rattle.ob_inflight.specs.Flown as Flown
 use Rattle.ob_inflight.specs.Flown.{StopsInClosing, StopsInFinish, StopsInStep}
-use Rattle.ob_inflight.specs.Kinds.{Kind, Moment, share_at, taker_of}
+use Rattle.ob_inflight.specs.Kinds.{Kind, Moment, moment, share_at, taker_of}
 use Rattle.ob_inflight.specs.Progress.{KeepsCourse, Progress}
 use Rattle.ob_mean.specs.Replay.{done_of}
 use Rattle.ob_mean.specs.Verdict.{Tables, verdict}
@@ -45,16 +45,17 @@ use Rattle.ob_vault.specs.declared.vault.Vault.{Vault}
 use Rattle.ob_verdict.specs.Outcomes.{Emits, Partly}
 use Rattle.ob_verdict.specs.declared.outcome.Outcome.{Outcome}
 use Rattle.ob_exec.specs.InFlight.{EndsAs, EndsMeant, IsFlown, IsMeant, served_as}
-use Rattle.ob_exec.specs.RanFlight.{AtEmitter, BeforeMake, BeginsMeant, EndsSo, FlightCause, FlightMeans, RanFlight, RanInTurns, StopsClosing, StopsFlight, asked_by, asked_since, cut_off, halt_of, in_flight}
+use Rattle.ob_exec.specs.RanFlight.{AtEmitter, BeforeMake, EndedWithin, EndsSo, FlightCause, FlightMeans, MeantThen, RanFlight, RanInTurns, StopsClosing, StopsFlight, asked_by, asked_since, cut_off, halt_of, in_flight}
 use Rattle.ob_exec.proofs.FlightBegun.{begins_meant}
+use Rattle.ob_exec.proofs.FlightEarlier.{asks_meant, meant_then}
 use Rattle.ob_exec.proofs.FlightEnd.{rises_from}
 use Rattle.ob_exec.specs.Boarding.{engine_behind}
 use Rattle.ob_exec.proofs.FlightFrames.{apart_behind, calm_start, draws_behind, hold_now, lasts_all, opens_behind, sealed_behind}
-use Rattle.ob_exec.proofs.FlightLists.{cuts_same, events_next, get_other, get_within, map_get, outcome_next, past_ended}
-use Rattle.ob_exec.proofs.FlightRuns.{Boards, ServesOne, all_now, emits_now, emitted_now, partly_now, public_is, set_kept}
+use Rattle.ob_exec.proofs.FlightLists.{cuts_same, events_next, get_mapped, get_other, get_within, map_get, outcome_next, past_ended}
+use Rattle.ob_exec.proofs.FlightRuns.{Boards, ServesOne, all_now, emits_now, emitted_now, may_now, partly_now, public_is, served_now, set_kept, steady_now, turned_now}
 use Rattle.ob_exec.proofs.FlightStage.{AsksMake, HoldNow, IsSet, IsStage, LacksHere, closed_of, more_asked, whole_of}
-use Rattle.ob_exec.proofs.FlightStopped.{calm_none, cause_behind, cause_quiet, drop_asked, each_at, emitter_never, ends_closing, ends_finishing, ends_make, ends_printing, ends_quiet, hold, hold_by, hold_last, long, meant_at, memory_is, not_tampered, prints_or, serve, sink_by, statement}
-use Rattle.ob_exec.proofs.FlightStops.{asked_first, asked_last, asked_place, same_seen, stops_turn}
+use Rattle.ob_exec.proofs.FlightStopped.{calm_none, cause_behind, cause_quiet, drop_asked, each_at, emitter_never, ends_closing, ends_finishing, ends_make, ends_printing, ends_quiet, hold, hold_by, hold_last, long, meant_at, memory_is, none_ended, not_tampered, prints_or, serve, sink_by, statement}
+use Rattle.ob_exec.proofs.FlightStops.{asked_first, asked_last, asked_most, asked_of, asked_place, same_seen, stops_turn}
 
 module _ {R E F : Type 0} (state : R → RevState) (grew cut : E → E → List Event → Type 0) (closed parted : E → E → ℕ → Outcome → Type 0) (faults : E → ℕ)
     (k : Kind F) (old : Engine R) (s s1 : StoreState) (agrees : Agrees state old s) (rests : ChangesNothing s s1)
@@ -446,6 +447,23 @@ module _ {R E F : Type 0} (state : R → RevState) (grew cut : E → E → List 
     goes_on = refl;
   }
 
+  -- as they were before the act that gave up, in the world behind it
+  abbrev behind : Moment F
+  behind = moment st.last.flyers st.last.kept (at state v t)
+
+  by_last : map (λ (f : F). (k.progress f).served) st.last.flyers ≡ served_as stmts (map (λ (f : F). (k.progress f).served.seen) st.last.flyers)
+  by_last = served_now k m stage steady_of old.public stmts words share start boards st.turn st.public st.ended st.current st.last st.aloft
+
+  -- one that has ended asked nothing since
+  asked_ended : (i : ℕ) (f : F) (one : Closed) → slice_get st.last.flyers i ≡ Some f → slice_get st.ended i ≡ Some one → asked i ≡ (k.progress f).asked
+  asked_ended i f one at has = elim (asked_of state grew cut closed parted k old s s1 rests stage steady_of stmts words share e flyers shares now boards out_old out_new st i f at) [
+    | inl same ↦ same.asked
+    | inr more ↦
+        let going : (k.progress f).outcome ≡ None = ap (λ (g : F). (k.progress g).outcome) more.same ∙ more.one.step.going in
+        let none = none_ended state grew cut closed parted faults k old s s1 agrees rests stage steady_of stmts words left share e flyers fs shares kept v room t free boards out_old out_new st i f at going in
+        absurd (cc (none, has))
+  ]
+
   means_until : (T : Type 0) → FlightMeans {T = T} state words stmts seens asked
       (λ i. asked_by old.public words stmts seens (done_of (is_refused (halt_of e)) (asked_since s t)) i) st.ended (Err (halt_of e)) old s new t
   means_until T = record {
@@ -457,10 +475,21 @@ module _ {R E F : Type 0} (state : R → RevState) (grew cut : E → E → List 
     honest = λ tables reads. not_tampered e (honest_by tables reads);
     begun = λ tables d reads lie is.
         let b = st.begun (rests.lie ∙ reads.nolie) lie is in
-        subst (λ (xs : List Seen). BeginsMeant old.public m d tables stmts xs words s.asked lie)
-        (same_seen state grew cut closed parted k old s s1 rests stage steady_of stmts words share e flyers shares now boards out_old out_new st)
-        (begins_meant k m stage steady_of old.public stmts words share start now boards st.public lie b old.indexes.items tables d
-        (hold_now state old s s1 agrees rests b.last.world b.aloft.rest.lasts tables reads.tells reads.held b.none) s.asked rests.asked);
+        begins_meant k m stage steady_of old.public stmts words share start behind boards st.public b.turn st.ended b.stood old.indexes.items tables d
+        (hold_now state old s s1 agrees rests b.stood.last.world b.stood.aloft.rest.lasts tables reads.tells reads.held b.none) lie b.reads s.asked rests.asked;
+    earlier = λ i n stmt seen one there shown_there has within.
+        let f = get_mapped (λ (f : F). (k.progress f).served.seen) st.last.flyers i seen shown_there in
+        let all = may_now k m stage steady_of old.public stmts words share start boards st.turn st.public st.ended st.current st.last st.aloft in
+        let there_within : EndedWithin old.public (map (λ (f : F). (k.progress f).served) st.last.flyers) words n i = subst (λ (xs : List Served). EndedWithin old.public xs words n i) (sym by_last) within in
+        subst (λ (x : ℕ). MeantThen state stmts x n stmt seen one old s t) (sym (asked_ended i f.0 one f.1 has))
+        (subst (λ (x : Seen). MeantThen state stmts (k.progress f.0).asked n stmt x one old s t) f.2
+        (meant_then state k old s s1 agrees rests stage steady_of stmts words share flyers shares boards st.public st.turn st.ended behind st.past st.begun all i n there_within f.0 stmt one f.1 there has
+        (turned_now k m stage steady_of old.public stmts words share start boards st.turn st.public st.ended st.current st.last st.aloft) (st.aloft.stand.outcome i f.0 f.1)));
+    asks = λ n less.
+        let all = may_now k m stage steady_of old.public stmts words share start boards st.turn st.public st.ended st.current st.last st.aloft in
+        let many = asked_most state grew cut closed parted k old s s1 rests stage steady_of stmts words share e flyers shares now boards out_old out_new st in
+        asks_meant state k old s s1 agrees rests stage steady_of stmts words share flyers shares boards st.public st.turn st.ended behind st.past st.begun all
+        (steady_now k m stage steady_of old.public stmts words share start boards st.turn st.public st.ended st.current st.last st.aloft) (st.turn + 1) n st.went (omega (arith, less, many)) seens by_last;
   }
 
   pub flight_halted : (T : Type 0) → SinkCause {T = T} (Err e) (faults out_old) (faults out_new) → old.room.high ≤ room.high → 1 ≤ room.high

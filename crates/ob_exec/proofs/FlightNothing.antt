@@ -284,5 +284,7 @@ module _ {R E : Type 0} (state : R → RevState) (grew cut : E → E → List Ev
       held = λ tables reads. tt;
       honest = λ tables reads. refl;
       begun = λ tables d reads lie is. absurd (let none = reads.nolie in let same = rests.lie in cc (none, same, is));
+      earlier = λ i n stmt seen one there shown has within. absurd (cc has);
+      asks = λ n less. absurd (let same = ap length rests.asked in omega (arith, same, less));
     };
   }

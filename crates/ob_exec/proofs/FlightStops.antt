@@ -1,5 +1,5 @@
 -- Whose the accesses are that were asked until a flight was stopped.
-use Rattle.std.proofs.Common.{◌≡◌, ◌⊎◌, ◌<◌, ◌+◌, ◌-◌, ◌++◌, ℕ, Bool, true, false, IsTrue, List, [], ◌∷◌, map, length, Option, Some, refl, sym, ◌∙◌, ap, subst, inl, inr, arith, append_assoc, length-append}
+use Rattle.std.proofs.Common.{◌≡◌, ◌⊎◌, ◌<◌, ◌≤◌, ◌+◌, ◌-◌, ◌++◌, ℕ, Bool, true, false, IsTrue, List, [], ◌∷◌, map, length, Option, Some, refl, sym, ◌∙◌, ap, subst, inl, inr, arith, append_assoc, length-append}
 use Rattle.std.specs.Prelude.{is_some, nat_lt, slice_get, take}
 use Rattle.std.proofs.lemmas.Bool.{cases_eq}
 use Rattle.std.proofs.lemmas.List.{append-nil, length-map, map-append}
@@ -339,6 +339,12 @@ module _ {R E F : Type 0} (state : R → RevState) (grew cut : E → E → List 
   long_next : length (turns words (st.turn + 1) (boarding old.public (map (λ (f : F). (k.progress f).served) st.last.flyers))).log ≡ length st.aloft.turned.log + length (entry_of st.place st.act)
   long_next = ap length log_more ∙ length-append st.aloft.turned.log (entry_of st.place st.act)
 
+  pub asked_most : asked_since s now.world.store ≤ length (turns words (st.turn + 1) (boarding old.public (map (λ (f : F). (k.progress f).served) st.last.flyers))).log
+  asked_most = elim asked_more [
+    | inl none ↦ let n = many_none none in let b = long_next in omega (arith, n, b)
+    | inr one ↦ let n = many_one one in let b = long_next in let act = ap (λ (o : Option Access). length (entry_of st.place o)) one.step.asks in omega (arith, n, b, act)
+  ]
+
   pub stops_turn : StopsInTurn old.public (served_as stmts (map (λ (f : F). (k.progress f).served.seen) st.last.flyers)) words (asked_since s now.world.store) (length st.ended)
   stops_turn =
       subst (λ (flown : List Served). StopsInTurn old.public flown words (asked_since s now.world.store) (length st.ended)) (sym stop_served)
@@ -346,13 +352,13 @@ module _ {R E F : Type 0} (state : R → RevState) (grew cut : E → E → List 
         | inl none ↦ record {
           turn = st.turn;
           least = let n = many_none none in let a = long_now in omega (arith, n, a);
-          most = let n = many_none none in let b = long_next in omega (arith, n, b);
+          most = asked_most;
           ended = ended_last;
         }
         | inr one ↦ record {
           turn = st.turn;
           least = let n = many_one one in let a = long_now in omega (arith, n, a);
-          most = let n = many_one one in let b = long_next in let act = ap (λ (o : Option Access). length (entry_of st.place o)) one.step.asks in omega (arith, n, b, act);
+          most = asked_most;
           ended = ended_last;
         }
       ])

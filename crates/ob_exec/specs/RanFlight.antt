@@ -1,5 +1,5 @@
 -- What several SELECTs do that ask in turns, whatever they are answered.
-use Rattle.std.specs.Prelude.{◌≡◌, ◌⊎◌, ◌+◌, ◌-◌, ◌≤◌, ◌++◌, ℕ, true, false, List, Option, None, Some, Result, Ok, Err, IfErr, OnOk, MatchResult, drop, length, nat_lt, slice_get}
+use Rattle.std.specs.Prelude.{◌≡◌, ◌⊎◌, ◌+◌, ◌-◌, ◌<◌, ◌≤◌, ◌++◌, ℕ, true, false, IsTrue, List, Option, None, Some, Result, Ok, Err, IfErr, OnOk, MatchResult, drop, length, map, nat_lt, slice_get, take}
 use Rattle.ob_base.specs.Events.{Event}
 use Rattle.ob_base.specs.declared.access.Access.{Access}
 use Rattle.ob_base.specs.declared.config.Public.{Public}
@@ -9,7 +9,7 @@ use Rattle.ob_flat.specs.declared.fault.OpErr.TheVariants as OpErrs
 use Rattle.ob_inflight.specs.Closing.{Closed, ClosesAll, RisesBy}
 use Rattle.ob_mean.specs.Batches.{is_cut}
 use Rattle.ob_mean.specs.Replay.{done_of}
-use Rattle.ob_mean.specs.Verdict.{Draws, Tables, verdict}
+use Rattle.ob_mean.specs.Verdict.{Draws, Tables, seen as seen_by, verdict}
 use Rattle.ob_script.specs.FlightLaws.{one_if, total}
 use Rattle.ob_script.specs.Flights.{Flying, boarding, flight_accesses, flight_public, merge, next_flight, turns, turns_of, words_from}
 use Rattle.ob_script.specs.Script.{script, whole_script}
@@ -27,7 +27,7 @@ use Rattle.ob_vault.specs.Tied.{Calm, EndsAt, ReadsIn}
 use Rattle.ob_verdict.specs.Outcomes.{Emits, Partly}
 use Rattle.ob_verdict.specs.declared.outcome.Outcome.{Outcome}
 use Rattle.ob_tables.specs.Agreeing.{Agrees, AreDraws, count_of, engine_keys, engine_start, has_ended, high_of, indexes_of, opened_from, public_of, replaced_of, seen_of, world_of}
-use Rattle.ob_tables.specs.Running.{SinkStops}
+use Rattle.ob_tables.specs.Running.{SinkStops, is_fault}
 use Rattle.ob_tables.specs.Serving.{StopsEmission}
 use Rattle.ob_tables.specs.Telling.{Emitted, IsNotTampered, KeepsSealed, ReadsTrue, ReadsTrueUntil, Represents, answer_labels, is_refused}
 use Rattle.ob_tables.specs.declared.engine.Engine.{Engine}
@@ -216,6 +216,50 @@ pub record StopsInTurn (p : Public) (flown : List Served) (words : ℕ → ℕ) 
       → f.ended ≡ nat_lt i count
 
 -- ---- what is meant
+-- the one at a place had ended within the first k accesses
+pub record EndedWithin (p : Public) (flown : List Served) (words : ℕ → ℕ) (k i : ℕ)
+    : Type 0 where
+  pub turn : ℕ
+  pub one : Flying
+  pub at : slice_get (turns words turn (boarding p flown)).flying i ≡ Some one
+  pub ended : one.ended ≡ true
+  pub within : length (turns words turn (boarding p flown)).log ≤ k
+
+-- one that had ended by then was what it is once these k accesses were asked, in such a state of the store: a fault of it was
+-- one of the store's, and where no changed block was read by then it is answered and seen as it is meant, whatever is read
+-- later; so it is where the first one that was read comes behind these
+pub record MeantThen {R : Type 0} (state : R → RevState) (stmts : List Stmt) (n k : ℕ)
+    (stmt : Stmt) (seen : Seen) (one : Closed) (old : Engine R) (s t : StoreState) : Type 0 where
+  pub mid : StoreState
+  pub later : Later s mid
+  pub few : length mid.asked ≤ length s.asked + k
+  pub lie : (lie : Lie) → mid.lie ≡ Some lie → t.lie ≡ Some lie
+  pub unread : s.lie ≡ None → (lie : Lie) → t.lie ≡ Some lie
+      → length s.asked + k ≤ length lie.before → mid.lie ≡ None
+  pub fails : IsTrue (is_fault one.outcome) → RisesBy 1 s.faults mid.faults
+  pub told : (tables : Tables) (d : Draws) → ReadsTrue state old s mid tables
+      → EndsMeant d (in_flight stmts (public_of old)) (count_of old s) n tables stmt seen
+      one.outcome × Emitted stmt (in_flight stmts (public_of old)) (count_of old s) tables
+      one.outcome one.events
+
+-- these statements by their meaning
+abbrev pub meant_of : Draws → Public → (m : ℕ) → Tables → List Stmt → List Served
+meant_of d p m tables stmts = served_as stmts
+    (map (λ (stmt : Stmt). seen_by d (in_flight stmts p) m tables stmt) stmts)
+
+-- k accesses were asked, and then one more, in such a state of the store: where no changed block was read by then, and no call
+-- had failed, these and that one are the first that the words merge of the meanings, whatever comes later
+pub record AsksMeant {R : Type 0} (state : R → RevState) (words : ℕ → ℕ) (stmts : List Stmt)
+    (seens : List Seen) (k : ℕ) (old : Engine R) (s t : StoreState) : Type 0 where
+  pub mid : StoreState
+  pub later : Later s mid
+  pub few : length mid.asked ≤ length s.asked + k
+  pub lie : (lie : Lie) → mid.lie ≡ Some lie → t.lie ≡ Some lie
+  pub told : (tables : Tables) (d : Draws) → ReadsTrue state old s mid tables → mid.faults ≡ 0
+      → take (k + 1) (merge (public_of old) (served_as stmts seens) words)
+      ≡ take (k + 1) (merge (public_of old)
+      (meant_of d (public_of old) (count_of old s) tables stmts) words)
+
 -- a changed block is one that the words merge of these statements' accesses by their meaning, of those that the store cut
 -- off maybe of what they asked until then
 pub record BeginsMeant (p : Public) (m : ℕ) (d : Draws) (tables : Tables) (stmts : List Stmt)
@@ -250,6 +294,13 @@ pub record FlightMeans {R T : Type 0} (state : R → RevState) (words : ℕ → 
   pub begun : (tables : Tables) (d : Draws) → ReadsTrue state old s s tables → (lie : Lie)
       → t.lie ≡ Some lie
       → BeginsMeant (public_of old) (count_of old s) d tables stmts seens words s.asked lie
+  -- what had ended within some first accesses is meant, whatever is read later
+  pub earlier : (i k : ℕ) (stmt : Stmt) (seen : Seen) (one : Closed)
+      → slice_get stmts i ≡ Some stmt → slice_get seens i ≡ Some seen → slice_get ended i ≡ Some one
+      → EndedWithin (public_of old) (served_as stmts seens) words k i
+      → MeantThen state stmts (asked i) k stmt seen one old s t
+  -- and so is what was asked
+  pub asks : (k : ℕ) → k < asked_since s t → AsksMeant state words stmts seens k old s t
 
 -- ---- the whole of it
 -- how many accesses of its own the one at a place asked
