@@ -46,6 +46,12 @@ pub mod FlightSteady
 pub mod FlightEnding
 pub mod FlightMore
 pub mod FlightLast
+pub mod EndedUntil
+pub mod FlightUntil
+pub mod FlightEarly
+pub mod FlightBefore
+pub mod MeantFirst
+pub mod EarlyFlights
 pub mod FlightOpen
 pub mod WalkEntries
 pub mod WalkWhole
