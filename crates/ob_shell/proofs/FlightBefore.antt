@@ -86,6 +86,7 @@ module _ (p : Public) (flown : List Served) (words : ℕ → ℕ) (steady : AreS
 
   -- the last of them ends when all was asked
   last_ended : (k : ℕ) → ((i : ℕ) → i < length flown → asked_until words i (turns_of p flown) (boarding p flown) ≤ k) → length (merge p flown words) ≤ k
+  unfolding turns
   last_ended k each =
       let log = (flight p flown words).log in
       let all = go (turns_of p flown) refl in
@@ -93,7 +94,6 @@ module _ (p : Public) (flown : List Served) (words : ℕ → ℕ) (steady : AreS
       omega (arith, all, long)
     where
       none_first : length (turns words 0 (boarding p flown)).log ≤ k
-      unfolding turns
       none_first = omega arith
 
       go : (t : ℕ) → turns_of p flown ≡ t → length (turns words t (boarding p flown)).log ≤ k
@@ -178,7 +178,7 @@ module _ {R : Type 0} (state : R → RevState) (m0 m1 : Machine R) (stmts : List
     abbrev meant : List Served
     meant = flown_meant s stmts
 
-    shows : Stmt → Seen
+    abbrev shows : Stmt → Seen
     shows stmt = seen_by d (in_flight stmts p) (asked_of m0) tables stmt
 
     are_meant : meant_of d p (asked_of m0) tables stmts ≡ flown_meant s stmts

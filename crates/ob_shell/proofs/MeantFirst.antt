@@ -1,7 +1,7 @@
 -- What texts mean of which the first fly together.
 use Rattle.std.specs.Prelude.{◌&&◌, if◌then◌else◌, map, nat_lt}
 use Rattle.std.specs.List.{All}
-use Rattle.std.proofs.Common.{◌≡◌, ◌+◌, ◌<◌, ◌≤◌, ◌++◌, ℕ, Bool, true, false, List, [], ◌∷◌, length, Option, None, Some, Ok, Err, refl, sym, ◌∙◌, ap, subst, arith, append-nil, append_assoc, length-append}
+use Rattle.std.proofs.Common.{◌≡◌, ◌+◌, ◌<◌, ◌≤◌, ◌++◌, ℕ, suc, Bool, true, false, List, [], ◌∷◌, length, Option, None, Some, Ok, Err, refl, sym, ◌∙◌, ap, subst, arith, append-nil, append_assoc, length-append}
 use Rattle.std.proofs.lemmas.List.Elements.{All-cons, All-head, All-nil, All-tail}
 use Rattle.ob_base.specs.Stored.{headings, headings_of}
 use Rattle.ob_base.specs.declared.config.Public.{Public}
@@ -150,7 +150,7 @@ module _ (most : ℕ) (words : ℕ → ℕ) (s : Session) (listed : headings s.t
       let long : length w + 0 ≡ length w = omega arith in
       flushed most words (waits None w) spelt (none_with w spelt all some less (subst (λ (n : ℕ). StartsApart most s.public n spelt) long apart))
       ∙ (λ i. meant_together s (same i) ++ meant_entries most words (landed words (waits None (same i))) spelt)
-  with_them w (stmt ∷ stmts) spelt all flies some less few apart = go (nat_lt (length w + 1) most) refl
+  with_them w (stmt ∷ stmts) spelt all flies some less few apart = go (λ more least. with_them (w ++ stmt ∷ []) stmts spelt (all_more w stmt all own) (All-tail Flies stmt stmts flies) more least) (nat_lt (length w + 1) most) refl
     where
       own : Flies stmt
       own = All-head Flies stmt stmts flies
@@ -166,15 +166,17 @@ module _ (most : ℕ) (words : ℕ → ℕ) (s : Session) (listed : headings s.t
       last [] within all_in = refl
       last (x ∷ rest) within all_in = absurd (omega (arith, within, all_in))
 
-      go : (b : Bool) → nat_lt (length w + 1) most ≡ b → meant_entries most words (waits None w) (map Ok (stmt ∷ stmts) ++ spelt) ≡ meant_together s (w ++ (stmt ∷ stmts)) ++ meant_entries most words (landed words (waits None (w ++ (stmt ∷ stmts)))) spelt
-      go true is =
+      go : (1 ≤ length (w ++ stmt ∷ []) → length (w ++ stmt ∷ []) < most → length (w ++ stmt ∷ []) + length stmts ≤ most → StartsApart most s.public (length (w ++ stmt ∷ []) + length stmts) spelt
+          → meant_entries most words (waits None (w ++ stmt ∷ [])) (map Ok stmts ++ spelt) ≡ meant_together s ((w ++ stmt ∷ []) ++ stmts) ++ meant_entries most words (landed words (waits None ((w ++ stmt ∷ []) ++ stmts))) spelt)
+          → (b : Bool) → nat_lt (length w + 1) most ≡ b → meant_entries most words (waits None w) (map Ok (stmt ∷ stmts) ++ spelt) ≡ meant_together s (w ++ (stmt ∷ stmts)) ++ meant_entries most words (landed words (waits None (w ++ (stmt ∷ stmts)))) spelt
+      go deep true is =
           let same : (w ++ stmt ∷ []) ++ stmts ≡ w ++ (stmt ∷ stmts) = append_assoc w (stmt ∷ []) stmts in
           let more : length w + 1 < most = grind (arith, is) in
           let sum : length w + suc (length stmts) ≡ length (w ++ stmt ∷ []) + length stmts = omega (arith, long) in
           next_one None w stmt (map Ok stmts ++ spelt) all own true is
-          ∙ with_them (w ++ stmt ∷ []) stmts spelt (all_more w stmt all own) (All-tail Flies stmt stmts flies) (omega (arith, long)) (omega (arith, long, more)) (omega (arith, long, few)) (subst (λ (n : ℕ). StartsApart most s.public n spelt) sum apart)
+          ∙ deep (omega (arith, long)) (omega (arith, long, more)) (omega (arith, long, few)) (subst (λ (n : ℕ). StartsApart most s.public n spelt) sum apart)
           ∙ (λ i. meant_together s (same i) ++ meant_entries most words (landed words (waits None (same i))) spelt)
-      go false is =
+      go deep false is =
           let over : most ≤ length w + 1 = grind (arith, is) in
           next_one None w stmt (map Ok stmts ++ spelt) all own false is ∙ last stmts (omega (arith, few)) over
 
