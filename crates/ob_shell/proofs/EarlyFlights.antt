@@ -96,22 +96,22 @@ module _ (n : ℕ) (s : Session) where
       let told = means.told answer.how answer.closed few in record { answered = told.answered; shown = told.shown; prints = told.prints })
 
   first_until : (fs : List Flown) (kept : List Answer) → All Stood fs → All (MeansEarly n s) fs → FirstAnswered fs kept → FirstUntil fs kept
-  first_until fs [] stood means all = tt
-  first_until [] (one ∷ kept) stood means all = absurd all
-  first_until (f ∷ fs) (one ∷ kept) stood means all =
-      (own_until f one (All-head Stood f fs stood) (All-head (MeansEarly n s) f fs means) all.0, first_until fs kept (All-tail Stood f fs stood) (All-tail (MeansEarly n s) f fs means) all.1)
+  first_until fs [] stand means all = tt
+  first_until [] (one ∷ kept) stand means all = absurd all
+  first_until (f ∷ fs) (one ∷ kept) stand means all =
+      (own_until f one (All-head Stood f fs stand) (All-head (MeansEarly n s) f fs means) all.0, first_until fs kept (All-tail Stood f fs stand) (All-tail (MeansEarly n s) f fs means) all.1)
 
   -- where more comes behind all of them
   module _ (seats : List Seat) (spelt : List Spelt) (answers : List Answer) (seen : List Entry) where
     whole_until : (fs : List Flown) (given : List Answer) (g : Option Gathering) → (fs ≡ [] → g ≡ None) → All Stood fs → All (MeansEarly n s) fs → AllAnswered fs given
         → (All (λ (v : Seat). v.until ≤ n) (seats_in fs) → (w : Session) → w.tables ≡ s.tables → w.draws ≡ s.draws → MeantUntil n None seats w spelt answers seen)
         → (u : Session) → u.tables ≡ s.tables → u.draws ≡ s.draws → MeantUntil n g (seats_in fs ++ seats) u (map Ok (stmts_in fs) ++ spelt) (given ++ answers) (served_in_all fs ++ seen)
-    whole_until [] [] g none stood means all rest u ts ds = subst (λ (o : Option Gathering). MeantUntil n o seats u spelt answers seen) (sym (none refl)) (rest (All-nil (λ (v : Seat). v.until ≤ n)) u ts ds)
-    whole_until [] (one ∷ given) g none stood means all rest u ts ds = absurd all
-    whole_until (f ∷ fs) [] g none stood means all rest u ts ds = absurd all
-    whole_until (f ∷ fs) (one ∷ given) g none stood means all rest u ts ds =
-        one_until g f.seat f.stmt one (served_of f) (seats_in fs ++ seats) (map Ok (stmts_in fs) ++ spelt) (given ++ answers) (served_in_all fs ++ seen) (own_until f one (All-head Stood f fs stood) (All-head (MeansEarly n s) f fs means) all.0)
-        (λ few w tw dw. whole_until fs given None (λ is. refl) (All-tail Stood f fs stood) (All-tail (MeansEarly n s) f fs means) all.1
+    whole_until [] [] g none stand means all rest u ts ds = subst (λ (o : Option Gathering). MeantUntil n o seats u spelt answers seen) (sym (none refl)) (rest (All-nil (λ (v : Seat). v.until ≤ n)) u ts ds)
+    whole_until [] (one ∷ given) g none stand means all rest u ts ds = absurd all
+    whole_until (f ∷ fs) [] g none stand means all rest u ts ds = absurd all
+    whole_until (f ∷ fs) (one ∷ given) g none stand means all rest u ts ds =
+        one_until g f.seat f.stmt one (served_of f) (seats_in fs ++ seats) (map Ok (stmts_in fs) ++ spelt) (given ++ answers) (served_in_all fs ++ seen) (own_until f one (All-head Stood f fs stand) (All-head (MeansEarly n s) f fs means) all.0)
+        (λ few w tw dw. whole_until fs given None (λ is. refl) (All-tail Stood f fs stand) (All-tail (MeansEarly n s) f fs means) all.1
         (λ more. rest (All-cons (λ (v : Seat). v.until ≤ n) f.seat (seats_in fs) few more)) w tw dw) u ts ds
 
   -- of the first of them
