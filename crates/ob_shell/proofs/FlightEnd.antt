@@ -54,7 +54,8 @@ use Rattle.ob_shell.proofs.FlightMeant.{BeginsSo, LeftMean, Means, StandsSo as F
 use Rattle.ob_shell.proofs.FlightSeen.{cut_more}
 use Rattle.ob_shell.proofs.FlownLists.{each_flown}
 use Rattle.ob_shell.proofs.LeafLemmas.{Reads, reads_none, reads_unasked}
-use Rattle.ob_shell.proofs.LeavePath.{HaveFlown, aloft_along, aloft_so}
+use Rattle.ob_shell.proofs.FlightLeaves.{leaves_kept}
+use Rattle.ob_shell.proofs.LeavePath.{HaveFlown, Path, aloft_along, aloft_so}
 use Rattle.ob_shell.proofs.ReplayLemmas.{free_holds}
 use Rattle.ob_shell.proofs.SelectLemmas.{flown_leaf}
 use Rattle.ob_shell.proofs.WalkLemmas.{Behind, EarlyAt, Walked}
@@ -368,7 +369,11 @@ module _ {R : Type 0} (state : R → RevState) (m0 m1 : Machine R) (stmts : List
               broken = told.0;
               meant = subst (λ (vs : List Seat). AnswersFrom ends_by vs s spelt_here told.0 kept (take n here ++ drop n here) part) (seats_left state m0 m1 stmts seens ended result may ran)
                   (subst (λ (l : List Entry). AnswersFrom ends_by (seats_in fs_here) s spelt_here told.0 kept l part) (sym split) told.1);
-              behind = record { whole = λ whole. absurd whole; path = aloft_so flown_so };
+              behind = record {
+                whole = λ whole. absurd whole;
+                path = subst (λ (vs : List Seat). Path state ends_by m0 m1 d tables vs spelt_here kept told.0) (seats_left state m0 m1 stmts seens ended result may ran)
+                    (aloft_so flown_so (leaves_kept s fs_here kept told.0 told.2));
+              };
             };
         untampered = fine;
         early = early;

@@ -27,7 +27,7 @@ use Rattle.ob_script.specs.Trace.{Served}
 use Rattle.ob_shell.proofs.FlightSeen.{IsAnswerOf, IsIn, Stood, flown_bytes, flown_early, flown_ended, flown_lawful}
 use Rattle.ob_shell.proofs.FlownLists.{Flown, seats_in, served_in_all, served_of, stmts_in}
 use Rattle.ob_shell.proofs.ReplayLemmas.{outcome_cases}
-use Rattle.ob_shell.proofs.SelectLemmas.{IsOwn, leaves_all, room_flown, unkeyed_flown}
+use Rattle.ob_shell.proofs.SelectLemmas.{IsOwn, LeavesAll, leaves_all, room_flown, unkeyed_flown}
 use Rattle.ob_shell.specs.Aloft.{answer_of}
 use Rattle.ob_sql.specs.Skeleton.{skeleton}
 use Rattle.ob_sql.specs.declared.stmt.Stmt.{Stmt}
@@ -203,19 +203,38 @@ one_told ending v s stmt how one x seats spelt answers seen part Behind Other ro
   behind = subst (λ (b : Bool). Other (how ∷ rest.broken) (if b then at_seat v s else session_after seats (after how (at_seat v s) stmt) spelt rest.broken).tables) (sym room) (on rest.broken _ rest.behind);
 }
 
+-- so one was served that leaves tables and draws
+pub record IsStill (how : How) (s : Session) (stmt : Stmt) : Type 0 where
+  pub room : is_full_now s stmt ≡ false
+  pub leaves : LeavesAll how s stmt
+
+-- so those were that were answered
+abbrev pub AreStill : Session → List Flown → List Answer → Broken → Type 0
+AreStill s fs [] broken = ⊤
+AreStill s [] (one ∷ given) broken = ⊥
+AreStill s (f ∷ fs) (one ∷ given) broken = IsStill (head_of broken) (at_seat f.seat s) f.stmt × AreStill s fs given (rest_of broken)
+
+still_at : (s t : Session) → t.tables ≡ s.tables → t.draws ≡ s.draws → (v : Seat) (stmt : Stmt) (how : How) → is_full_now (at_seat v t) stmt ≡ false → LeavesAll how (at_seat v t) stmt → IsStill how (at_seat v s) stmt
+still_at s t ts ds v stmt how room leaves = subst (λ (y : Session). IsStill how y stmt) (at_same v s t ts ds) (record { room = room; leaves = leaves })
+
 module _ (ending : Ending) (s : Session) (seats : List Seat) (spelt : List Spelt) (answers : List Answer) (seen : List Served) (part : List ℕ) (Behind : Broken → Tables → Type 0)
     (rest : (t : Session) → t.tables ≡ s.tables → t.draws ≡ s.draws → Told ending seats t spelt answers seen part Behind) where
+  -- behind these it goes on
+  abbrev BehindAll : List Flown → List Answer → Broken → Tables → Type 0
+  BehindAll fs given broken ts = AreStill s fs given broken × Behind (drop (length fs) broken) ts
+
   pub whole_meant : (fs : List Flown) (given : List Answer) → AllMean s fs given → (t : Session) → t.tables ≡ s.tables → t.draws ≡ s.draws
-      → Told ending (seats_in fs ++ seats) t (map Ok (stmts_in fs) ++ spelt) (given ++ answers) (served_in_all fs ++ seen) part (λ broken ts. Behind (drop (length fs) broken) ts)
-  whole_meant [] [] all t ts ds = rest t ts ds
+      → Told ending (seats_in fs ++ seats) t (map Ok (stmts_in fs) ++ spelt) (given ++ answers) (served_in_all fs ++ seen) part (BehindAll fs given)
+  whole_meant [] [] all t ts ds = told_as ending seats t spelt answers seen part Behind (BehindAll [] []) (λ broken us behind. (tt, behind)) (rest t ts ds)
   whole_meant [] (one ∷ given) all t ts ds = absurd all
   whole_meant (f ∷ fs) [] all t ts ds = absurd all
   whole_meant (f ∷ fs) (one ∷ given) all t ts ds =
       let v = f.seat in
       let own : MeantSo f one (at_seat v t) = subst (λ (y : Session). MeantSo f one y) (sym (at_same v s t ts ds)) all.0 in
       let stays = leaves_all own.how (at_seat v t) f.stmt own.own own.listed own.fly in
-      one_told ending v t f.stmt own.how one (served_of f) (seats_in fs ++ seats) (map Ok (stmts_in fs) ++ spelt) (given ++ answers) (served_in_all fs ++ seen) part (λ broken ts. Behind (drop (length fs) broken) ts) (λ broken ts. Behind (drop (length (f ∷ fs)) broken) ts)
-      own.room own.cuts own.answer own.seen (whole_meant fs given all.1 (after own.how (at_seat v t) f.stmt) (stays.tables ∙ ts) (stays.draws ∙ ds)) (λ broken ts behind. behind)
+      one_told ending v t f.stmt own.how one (served_of f) (seats_in fs ++ seats) (map Ok (stmts_in fs) ++ spelt) (given ++ answers) (served_in_all fs ++ seen) part (BehindAll fs given) (BehindAll (f ∷ fs) (one ∷ given))
+      own.room own.cuts own.answer own.seen (whole_meant fs given all.1 (after own.how (at_seat v t) f.stmt) (stays.tables ∙ ts) (stays.draws ∙ ds))
+      (λ broken us behind. ((still_at s t ts ds v f.stmt own.how own.room stays, behind.0), behind.1))
 
 -- ---- their flight was left
 -- one that was not answered stands where it may
@@ -278,13 +297,13 @@ module _ (ending : Ending) (s : Session) (part : List ℕ) where
       )
 
   pub left_meant : (fs : List Flown) (kept : List Answer) → LeftMean ending s part fs kept → (t : Session) → t.tables ≡ s.tables → t.draws ≡ s.draws
-      → (broken : Broken) × AnswersFrom ending (seats_in fs) t (map Ok (stmts_in fs)) broken kept (served_in_all fs) part
+      → (broken : Broken) × AnswersFrom ending (seats_in fs) t (map Ok (stmts_in fs)) broken kept (served_in_all fs) part × AreStill s fs kept broken
   unfolding AnswersFrom
   left_meant [] kept all t ts ds = absurd all
-  left_meant (f ∷ fs) [] all t ts ds = ([], begins_at f fs t ts ds all.0 all.1)
+  left_meant (f ∷ fs) [] all t ts ds = ([], begins_at f fs t ts ds all.0 all.1, tt)
   left_meant (f ∷ fs) (one ∷ kept) all t ts ds =
       let v = f.seat in
       let own : MeantSo f one (at_seat v t) = subst (λ (y : Session). MeantSo f one y) (sym (at_same v s t ts ds)) all.0 in
       let stays = leaves_all own.how (at_seat v t) f.stmt own.own own.listed own.fly in
       let rest = left_meant fs kept all.1 (after own.how (at_seat v t) f.stmt) (stays.tables ∙ ts) (stays.draws ∙ ds) in
-      (own.how ∷ rest.0, (own.room, own.cuts, own.answer, own.seen, rest.1))
+      (own.how ∷ rest.0, (own.room, own.cuts, own.answer, own.seen, rest.1), (still_at s t ts ds v f.stmt own.how own.room stays, rest.2))
