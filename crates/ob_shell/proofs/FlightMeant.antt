@@ -38,7 +38,7 @@ use Rattle.ob_verdict.specs.Outcomes.{refusal_now}
 use Rattle.ob_verdict.specs.declared.outcome.Outcome.{Outcome}
 
 -- ---- a session of which the tables and the draws are another's
-at_same : (v : Seat) (s t : Session) → t.tables ≡ s.tables → t.draws ≡ s.draws → at_seat v t ≡ at_seat v s
+pub at_same : (v : Seat) (s t : Session) → t.tables ≡ s.tables → t.draws ≡ s.draws → at_seat v t ≡ at_seat v s
 at_same v s t ts ds = λ i. record { public = v.public; tables = ts i; asked = v.asked; draws = ds i }
 
 module _ (ending : Ending) (s t : Session) (ts : t.tables ≡ s.tables) (ds : t.draws ≡ s.draws) where
