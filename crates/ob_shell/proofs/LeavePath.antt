@@ -102,7 +102,6 @@ module _ {R : Type 0} (state : R → RevState) where
   pub record StandsSo (m0 m1 : Machine R) (d : Draws) (tables : Tables) (stmt : Stmt) (one : Answer) (how : How) : Type 0 where
     pub room : is_full_now (session_of m0 d tables) stmt ≡ false
     pub served : ServesSo m0 m1 d tables stmt one how ⊎ JoinsSo m0 m1 d tables stmt how
-    pub stands : after how (session_of m0 d tables) stmt ≡ session_of m1 (after how (session_of m0 d tables) stmt).draws (after how (session_of m0 d tables) stmt).tables
     pub drawn : AreDraws m1.engine (after how (session_of m0 d tables) stmt).draws
     pub holds : Holds state m1 (after how (session_of m0 d tables) stmt).draws (after how (session_of m0 d tables) stmt).tables
 
@@ -113,7 +112,7 @@ module _ {R : Type 0} (state : R → RevState) where
     pub holds : Holds state m1 d tables
 
 -- ---- what a flight leaves of a session's tables and draws
--- of these that were answered in a flight that was left nothing is left
+-- those that were answered in a flight that was left leave the tables
 abbrev pub LeavesKept : (d : Draws) (tables : Tables) → List Seat → List Spelt → List Answer → Broken → Type 0
 LeavesKept d tables seats spelt kept broken = (s : Session) → s.tables ≡ tables → s.draws ≡ d → left_by None seats s spelt kept broken ≡ tables
 

@@ -326,7 +326,6 @@ module _ {R : Type 0} (state : R → RevState) where
             let first : StandsSo state m0 m1 d tables did.stmt one by.how = record {
               room = by.room;
               served = inl (record { done = record { does = did.does; owes = did.owes }; seen = by.seen });
-              stands = stands;
               drawn = draws_after state m0 m1 d tables text one did by.how by.seen drawn;
               holds = by.held;
             } in
@@ -395,11 +394,9 @@ module _ {R : Type 0} (state : R → RevState) where
       let s = session_of m0 d tables in
       let behind = after by.how s with.stmt in
       let draws : behind.draws ≡ d = ap (λ (x : Session). x.draws) by.stands in
-      let here : session_of m0 d behind.tables ≡ session_of m1 behind.draws behind.tables = ap (λ (x : Machine R). session_of x d behind.tables) (sym same) ∙ ap (λ (e : Draws). session_of m1 e behind.tables) (sym draws) in
       answered_so sits (record {
         room = room_with state m0 m1 text one with same d tables held;
         served = inr (record { same = same; draws = draws; still = by.still });
-        stands = by.stands ∙ here;
         drawn = subst (λ (x : Machine R). AreDraws x.engine behind.draws) (sym same) (subst (AreDraws m0.engine) (sym draws) drawn);
         holds = subst (λ (e : Draws). Holds state m1 e behind.tables) (sym draws) by.holds;
       }) (subst (λ (e : Draws). Path state ending m1 m2 e behind.tables seats spelt answers broken) (sym draws) (path_again ending m0 m1 m2 d behind.tables seats spelt answers broken same rest))
