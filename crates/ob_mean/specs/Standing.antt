@@ -1,5 +1,5 @@
 -- What may be seen, and what is meant, of a SELECT that asks in turns with others and has not ended.
-use Rattle.std.specs.Prelude.{◌≡◌, ◌≤◌, ℕ, true, false, ⊥}
+use Rattle.std.specs.Prelude.{◌≡◌, ◌≤◌, ℕ, true, false}
 use Rattle.ob_base.specs.declared.config.Public.{Public}
 use Rattle.ob_base.specs.declared.seen.End.{End}
 use Rattle.ob_base.specs.declared.seen.End.TheVariants.{Static, Whole, AfterCount, Joined, Cut}
