@@ -9,11 +9,11 @@ use Rattle.ob_base.specs.declared.schema.Heading.{Heading}
 use Rattle.ob_base.specs.declared.seen.End.{End}
 use Rattle.ob_base.specs.declared.seen.End.TheVariants.{Static, Whole, AfterCount, Joined, Cut}
 use Rattle.ob_base.specs.declared.seen.Seen.{Seen}
-use Rattle.ob_exec.specs.InFlight.{EndsMeant, IsMeant, StandsMeant as FlownMeant}
+use Rattle.ob_exec.specs.InFlight.{EndsMeant, IsMeant}
 use Rattle.ob_headline.proofs.CutLemmas.{cut_shorter}
 use Rattle.ob_headline.specs.Closing.{closing_line}
 use Rattle.ob_headline.specs.Flights.{Seat, Stand, at_next, at_seat, may_fly}
-use Rattle.ob_headline.specs.Meaning.{AnswersFrom, AnswersIn, BeginsAnswer, BeginsAt, EmitsAll, EmitsPart, HasEnded, StandBehind, StandsIn, StandsMeant, StandsThere, done_in, session_after}
+use Rattle.ob_headline.specs.Meaning.{AnswersFrom, AnswersIn, BeginsAnswer, BeginsAt, EmitsAll, EmitsPart, HasEnded, StandBehind, StandsIn, StandsThere, done_in, session_after}
 use Rattle.ob_headline.specs.Words.{Answer}
 use Rattle.ob_headline.specs.declared.ending.Ending.{Ending}
 use Rattle.ob_inflight.specs.Closing.{Closed}
@@ -36,6 +36,7 @@ use Rattle.ob_tables.specs.Telling.{Emitted}
 use Rattle.ob_tables.specs.declared.stop.RunStop.{RunStop}
 use Rattle.ob_verdict.specs.Outcomes.{refusal_now}
 use Rattle.ob_verdict.specs.declared.outcome.Outcome.{Outcome}
+use Rattle.ob_mean.specs.Standing.{StandsMeant}
 
 -- ---- a session of which the tables and the draws are another's
 pub at_same : (v : Seat) (s t : Session) → t.tables ≡ s.tables → t.draws ≡ s.draws → at_seat v t ≡ at_seat v s
@@ -249,13 +250,6 @@ pub record BeginsSo (ending : Ending) (s : Session) (f : Flown) (part : List ℕ
   pub left : f.seat.left ≡ Some stand
   pub emits : EmitsPart ending f.seat stand (at_seat f.seat s) f.stmt part ⊎ EmitsAll ending (at_seat f.seat s) f.stmt f.seen part
 
-stands_as : (s : Session) (stmt : Stmt) (n done : ℕ) (seen : Seen) (end : End) → FlownMeant s.draws s.public s.asked n done s.tables stmt seen end → StandsMeant s stmt n done seen end
-stands_as s stmt n done seen Static stands = stands
-stands_as s stmt n done seen Whole stands = stands
-stands_as s stmt n done seen AfterCount stands = stands
-stands_as s stmt n done seen Joined stands = stands
-stands_as s stmt n done seen (Cut k) stands = stands
-
 pub stands_so : (ending : Ending) (s : Session) (f : Flown) → Stood f → (left : IsIn f) → f.done ≡ done_in ending left.stand → Means s f → StandsSo ending s f
 stands_so ending s f stood left done means = record { stand = left.stand; left = left.left; stands = by_closed f.closed refl }
   where
@@ -264,10 +258,9 @@ stands_so ending s f stood left done means = record { stand = left.stand; left =
         let own = meant_so s f (answer_of how f.seen) stood (record { how = how; closed = is; is = refl }) means in
         inl (record { how = own.how; cuts = own.cuts; seen = own.seen })
     by_closed None is = inr (
-        let told = subst (λ (o : Option Closed). IsMeant s.draws f.seat.public f.seat.asked f.own f.done s.tables f.stmt f.seen o) is means.told in
-        let here = stands_as (at_seat f.seat s) f.stmt f.own f.done f.seen f.seen.end told in
-        subst (λ (n : ℕ). StandsMeant (at_seat f.seat s) f.stmt left.stand.own n f.seen f.seen.end) done
-        (subst (λ (n : ℕ). StandsMeant (at_seat f.seat s) f.stmt n f.done f.seen f.seen.end) (sym left.own) here))
+        let here = subst (λ (o : Option Closed). IsMeant s.draws f.seat.public f.seat.asked f.own f.done s.tables f.stmt f.seen o) is means.told in
+        let stands : (n done : ℕ) → Type 0 = λ (n done : ℕ). StandsMeant s.draws f.seat.public f.seat.asked n done s.tables f.stmt f.seen f.seen.end in
+        subst (λ (n : ℕ). stands left.stand.own n) done (subst (λ (n : ℕ). stands n f.done) (sym left.own) here))
 
 abbrev pub LeftMean : Ending → Session → (part : List ℕ) → List Flown → List Answer → Type 0
 LeftMean ending s part [] kept = ⊥

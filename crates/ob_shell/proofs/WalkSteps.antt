@@ -28,7 +28,7 @@ use Rattle.ob_script.specs.Trace.{Served as Entry, next}
 use Rattle.ob_seal.specs.KeySet.{KeySet}
 use Rattle.ob_shell.proofs.DisturbLemmas.{before_less, begins_more, crosses, few_or_more}
 use Rattle.ob_shell.proofs.FailureLemmas.{answered, beside_more, cut_rises, cuts_more, fails_more, own_rises, uncut_rises}
-use Rattle.ob_shell.proofs.EndLemmas.{alone_joins, end_cut, failed_by, same_by, says}
+use Rattle.ob_shell.proofs.EndLemmas.{alone_joins, failed_by, same_by, says}
 use Rattle.ob_shell.proofs.FlightMeant.{Told, one_told}
 use Rattle.ob_shell.proofs.HowLemmas.{StartsApart, gathered_by, how_alone, meets_first, met_room, met_trace, starts_as, then_select}
 use Rattle.ob_shell.proofs.LeafLemmas.{Reads, given_after, reads_more, reads_unasked}
@@ -49,6 +49,7 @@ use Rattle.ob_tables.specs.Telling.{Represents}
 use Rattle.ob_vault.specs.State.{RevState, Start}
 use Rattle.ob_vault.specs.Tied.{IsUnfit, TagFits}
 use Rattle.ob_verdict.specs.Outcomes.{by_fault, refusal_now}
+use Rattle.ob_tables.proofs.CutLemmas.{end_cut}
 
 -- ---- the walk
 module _ {R : Type 0} (state : R → RevState) where
