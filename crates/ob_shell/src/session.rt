@@ -69,8 +69,7 @@ pub(crate) const SINK_FAILED: TextHalted = TextHalted {
     quiet: true,
 };
 
-/// Why no further text is served: a stop in one that was served, or one behind those that were, where what comes next is
-/// left unread.
+/// Why no further text is served: a stop in one that was served, or behind those that were, what comes next left unread.
 #[derive(Clone, Copy, Debug, PartialEq, Eq)]
 pub enum Break {
     Served(TextHalted),
