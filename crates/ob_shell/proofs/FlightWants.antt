@@ -132,14 +132,14 @@ module _ {R : Type 0} (state : R → RevState) (m1 m2 : Machine R) (more : List 
   wants_next n few wants = inr (inr (wants_at n e cut.flew.stmt cut.flew.seen few cut.flew.next cut.flew.shown wants))
 
   why_left : run ≡ Runs.NoMemory → (n : ℕ) → n ≤ e → Wants n
-  why_left memory n few = elim cut.flew.memory memory [
+  why_left memory n few = elim (cut.flew.memory memory) [
     | inl make ↦ at_make n make
     | inr (inl before) ↦
         let past = past_none cut.flew.ended before.place before.going in
         inr (inr (wants_at n before.place before.stmt before.seen (omega (arith, past, few)) before.get before.shown (inl before.makes)))
     | inr (inr (inl emits)) ↦ wants_next n few (inr (inl emits))
     | inr (inr (inr closes)) ↦
-        let whole : at.own e ≡ length (script (in_flight cut.stmts p) (skeleton cut.flew.stmt) cut.flew.seen) = closes.2.0.whole in
+        let whole : at.own e ≡ length (script (in_flight cut.stmts p) (skeleton cut.flew.stmt) cut.flew.seen) = closes.2.whole in
         wants_next n few (inr (inr (drop_all (at.own e) (script (in_flight cut.stmts p) (skeleton cut.flew.stmt) cut.flew.seen) (omega (arith, whole)))))
   ]
 
