@@ -6,7 +6,6 @@ use Rattle.std.proofs.lemmas.List.{drop_all, length-drop, length-take-le}
 use Rattle.std.proofs.lemmas.List.Elements.{All-head, All-tail}
 use Rattle.ob_base.specs.declared.access.Access.{Access}
 use Rattle.ob_base.specs.declared.config.Public.{Public}
-use Rattle.ob_base.specs.declared.refusal.Stop.TheVariants as Stops
 use Rattle.ob_base.specs.declared.seen.Seen.{Seen}
 use Rattle.ob_exec.specs.InFlight.{served_as}
 use Rattle.ob_exec.specs.RanFlight.{in_flight}
@@ -16,7 +15,6 @@ use Rattle.ob_headline.specs.Statements.{statements}
 use Rattle.ob_headline.specs.Words.{Answer}
 use Rattle.ob_headline.specs.declared.ending.Ending.{Ending}
 use Rattle.ob_headline.specs.declared.ending.Ending.TheVariants.{Ran}
-use Rattle.ob_inflight.specs.Closing.{Closed}
 use Rattle.ob_script.specs.Flights.{flight_public}
 use Rattle.ob_script.specs.Script.{script, whole_script}
 use Rattle.ob_script.specs.Trace.{Served as Entry}
@@ -63,11 +61,11 @@ left_for_want [] (suc n) total ending asked left off why = tt
 left_for_want (f ∷ fs) zero total ending asked left off why =
     let own = All-head (IsLeftAt total) f fs left in
     subst (λ (o : Option Stand). LeavesFlight o ending asked (OneWants (seats_in (f ∷ fs)) (statements (spelt_in (f ∷ fs))) (served_in_all (f ∷ fs)))) (sym own.left) (
-    off,
-    λ is. elim why [
-      | inl none ↦ inl (own.all ∙ none)
-      | inr rest ↦ inr rest
-    ],
+      off,
+      λ is. elim why [
+        | inl none ↦ inl (own.all ∙ none)
+        | inr rest ↦ inr rest
+      ],
     )
 left_for_want (f ∷ fs) (suc n) total ending asked left off why = left_for_want fs n total ending asked (All-tail (IsLeftAt total) f fs left) off why
 

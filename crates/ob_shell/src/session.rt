@@ -1,4 +1,4 @@
-//! The texts of an input, each served as soon as it has come, or together with INSERTs behind it.
+//! The texts of an input, each served as soon as it has come, or together with some behind it.
 ghost use Rattle.std.specs.Prelude.{◌≡◌, ◌<◌, ◌≤◌, ◌++◌, List, [], ◌∷◌, true, false, Ok, Err, length, OnOk, OnErr};
 ghost use Rattle.ob_base.specs.declared.access.Access.{Access};
 ghost use Rattle.ob_gen.specs.Tally.{empty_tally};
@@ -239,7 +239,7 @@ fn answer<R: Revisions, S: BlockStore, B: Behind<S>, K: Sink>(
 
 // Answers a statement whole, and then traces what it asked, of which the store lets go. After a sink's fault nothing more is
 // written.
-pub(crate) fn answer_traced<R: Revisions, S: BlockStore, B: Behind<S>, K: Sink, T: Sink, D: Digester>(
+pub(crate) fn serve_stmt<R: Revisions, S: BlockStore, B: Behind<S>, K: Sink, T: Sink, D: Digester>(
     alloc: Global,
     tracing: bool,
     tally: Tally,
@@ -382,7 +382,7 @@ fn begin<R: Revisions, S: BlockStore, B: Behind<S>, K: Sink, T: Sink, D: Digeste
             alloc, manner, session, stmt, engine, store, behind, out, trace, digest,
         );
     }
-    let answered = answer_traced(
+    let answered = serve_stmt(
         alloc,
         manner.tracing,
         session.tally,
