@@ -1,18 +1,17 @@
 -- What holds of statements that fly before others disturb the store.
-use Rattle.std.specs.Prelude.{◌&&◌, drop, if◌then◌else◌, map, slice_get, take, ⊤}
+use Rattle.std.specs.Prelude.{◌&&◌, drop, if◌then◌else◌, map, take, ⊤}
 use Rattle.std.specs.List.{All}
-use Rattle.std.proofs.Common.{◌≡◌, ◌⊎◌, ◌+◌, ◌≤◌, ◌<◌, ◌++◌, inl, inr, ℕ, Bool, true, false, IsTrue, List, [], ◌∷◌, length, Option, Some, None, Ok, Err, Result, refl, sym, ◌∙◌, ap, subst, arith, append_assoc, append-nil, length-append, take-append-drop}
+use Rattle.std.proofs.Common.{◌≡◌, ◌+◌, ◌≤◌, ◌++◌, inl, inr, ℕ, Bool, false, IsTrue, List, [], ◌∷◌, length, Option, Some, None, Ok, Err, Result, refl, sym, ◌∙◌, ap, subst, arith, append_assoc, append-nil, length-append, take-append-drop}
 use Rattle.std.proofs.lemmas.List.{take-append-le}
 use Rattle.std.proofs.lemmas.List.Elements.{All-cons, All-head, All-nil, All-tail}
-use Rattle.ob_base.specs.Stored.{headings, headings_of}
 use Rattle.ob_base.specs.declared.access.Access.{Access}
 use Rattle.ob_base.specs.declared.config.Public.{Public}
 use Rattle.ob_base.specs.declared.seen.Seen.{Seen}
 use Rattle.ob_exec.specs.InFlight.{served_as}
-use Rattle.ob_headline.proofs.FlightSeats.{FlownUntil, seats_get, seats_long}
+use Rattle.ob_headline.proofs.FlightSeats.{FlownUntil, seats_get}
 use Rattle.ob_headline.specs.Batches.{after_now, gathered_now}
 use Rattle.ob_headline.specs.Disturbed.{MeantUntil, behind_flown, flown_meant}
-use Rattle.ob_headline.specs.Flights.{Seat, asked_until, at_seat, may_fly, seats_aloft}
+use Rattle.ob_headline.specs.Flights.{Seat, asked_until, at_seat, seats_aloft}
 use Rattle.ob_headline.specs.Meaning.{AnswersMeant}
 use Rattle.ob_headline.specs.Words.{Answer, Begins}
 use Rattle.ob_headline.specs.declared.ending.Ending.{Ending}
@@ -20,7 +19,7 @@ use Rattle.ob_inflight.specs.Closing.{Closed}
 use Rattle.ob_mean.specs.Batches.{Gathering, is_unrefused}
 use Rattle.ob_mean.specs.Replay.{Alone, How, Session, Spelt, With, after, how_now, is_full_now, seen_or_cut}
 use Rattle.ob_mean.specs.Verdict.{Draws, Tables}
-use Rattle.ob_script.specs.Flights.{Entry as Turn, boarding, flight_accesses, merge, next_flight, turns_of, words_from}
+use Rattle.ob_script.specs.Flights.{boarding, flight_accesses, merge, next_flight, turns_of, words_from}
 use Rattle.ob_script.specs.Trace.{Served as Entry}
 use Rattle.ob_shell.proofs.CalmLemmas.{first_calm}
 use Rattle.ob_shell.proofs.DisturbLemmas.{before_less, few_or_more}
@@ -28,6 +27,7 @@ use Rattle.ob_shell.proofs.FlightBefore.{MeansEarly, all_early, all_same, all_un
 use Rattle.ob_shell.proofs.FlightEarly.{flown_until}
 use Rattle.ob_shell.proofs.FlightEnd.{aloft as left_aloft, all_fs as left_fs, are_stmts as left_stmts, in_all, seats_left, spelt_left, stood as left_stood, turn_of as left_turn}
 use Rattle.ob_shell.proofs.FlightFacts.{all_get, seats_are, served_long}
+use Rattle.ob_shell.proofs.FlightMeant.{at_same}
 use Rattle.ob_shell.proofs.FlightMore.{at_turn, spelt_up, up}
 use Rattle.ob_shell.proofs.FlightSeen.{AllAnswered, FirstAnswered, IsAnswerOf, Stood}
 use Rattle.ob_shell.proofs.FlightWalk.{all_fs, answered, are_served, are_stmts, asked_on, grew_by, long_fs, most_on, public_on, seats_on, stood, words_on}
@@ -46,14 +46,10 @@ use Rattle.ob_sql.specs.declared.stmt.Stmt.{Stmt}
 use Rattle.ob_store.specs.Calls.{IsBefore, IsQuiet, IsSteady}
 use Rattle.ob_store.specs.State.{Disturbance}
 use Rattle.ob_tables.specs.Agreeing.{AreDraws, public_of}
-use Rattle.ob_tables.specs.Telling.{ReadsTrueUntil}
 use Rattle.ob_tables.specs.declared.stop.RunStop.{RunStop}
 use Rattle.ob_vault.specs.State.{RevState}
 
 -- ---- what is meant of those that were answered
-seat_same : (v : Seat) (s u : Session) → u.tables ≡ s.tables → u.draws ≡ s.draws → at_seat v u ≡ at_seat v s
-seat_same v s u ts ds = λ i. record { public = v.public; tables = ts i; asked = v.asked; draws = ds i }
-
 -- of a session nothing but its tables and its draws tells
 until_same : (n : ℕ) (s u : Session) → u.tables ≡ s.tables → u.draws ≡ s.draws → (g : Option Gathering) (seats : List Seat) (spelt : List Spelt) (answers : List Answer) (seen : List Entry) → MeantUntil n g seats s spelt answers seen → MeantUntil n g seats u spelt answers seen
 unfolding MeantUntil
@@ -64,7 +60,7 @@ until_same n s u ts ds g seats (Ok stmt ∷ spelt) (one ∷ answers) [] told = a
 until_same n s u ts ds g [] (Ok stmt ∷ spelt) (one ∷ answers) (x ∷ seen) told = absurd told
 until_same n s u ts ds g (v ∷ seats) (Ok stmt ∷ spelt) (one ∷ answers) (x ∷ seen) told =
     subst (λ (w : Session). v.until ≤ n → (is_full_now w stmt ≡ false) × AnswersMeant w stmt one × (x.seen ≡ seen_or_cut (how_now g w stmt) w stmt)
-    × MeantUntil n (gathered_now g w stmt) seats (after_now g w stmt) spelt answers seen) (sym (seat_same v s u ts ds)) told
+    × MeantUntil n (gathered_now g w stmt) seats (after_now g w stmt) spelt answers seen) (sym (at_same v s u ts ds)) told
 
 module _ (n : ℕ) (s : Session) where
   -- one of them, and what is behind it if it had ended by then
@@ -74,7 +70,7 @@ module _ (n : ℕ) (s : Session) where
   unfolding MeantUntil
   one_until g v stmt one x seats spelt answers seen first rest u ts ds =
       let w = at_seat v s in
-      let same : at_seat v u ≡ w = seat_same v s u ts ds in
+      let same : at_seat v u ≡ w = at_same v s u ts ds in
       let how : how_now g w stmt ≡ Alone = ap (λ (b : Bool). if b && is_unrefused w.public w.asked stmt then With else Alone) (flown_apart w.public g (skeleton stmt) first.flies) in
       let none : gathered_now g w stmt ≡ None = flown_gathers w.public w.asked g stmt (seen_or_cut (how_now g w stmt) w stmt).end first.flies in
       subst (λ (y : Session). v.until ≤ n → (is_full_now y stmt ≡ false) × AnswersMeant y stmt one × (x.seen ≡ seen_or_cut (how_now g y stmt) y stmt)
@@ -145,10 +141,10 @@ module _ {R : Type 0} (state : R → RevState) (m0 m1 : Machine R) (stmts : List
         asks = met_flown (most_at m0) m0.flights.words s held.listed words1 s1 m0.gathered.batch stmts spelt may.fly may.some may.few apart refl refl;
       }
 
-  pub left_early : (kept : List Answer) → FirstAnswered (left_fs state m0 m1 stmts seens ended result may ran) kept
+  pub early_left : (kept : List Answer) → FirstAnswered (left_fs state m0 m1 stmts seens ended result may ran) kept
       → EarlyAt state m0 m1 (left_turn state m0 m1 stmts seens ended result may ran ∷ []) (spelt_left state m0 m1 stmts seens ended result may ran) kept
       (take (length kept) (left_aloft state m0 m1 stmts seens ended result may ran) ++ drop (length kept) (left_aloft state m0 m1 stmts seens ended result may ran))
-  left_early kept first d drawn tells steady tables held sound n before few =
+  early_left kept first d drawn tells steady tables held sound n before few =
       let s = session_of m0 d tables in
       let g = m0.gathered.batch in
       let most = most_at m0 in
@@ -324,6 +320,6 @@ module _ {R : Type 0} (state : R → RevState) (m0 m1 : Machine R) (flown : List
             }
       ]
 
-pub whole_early : {R : Type 0} (state : R → RevState) → FliesEarly state
-whole_early state ending m0 m1 m m2 flown texts more given answers part step rest d drawn tells steady tables held sound n before few =
+pub flies_early : {R : Type 0} (state : R → RevState) → FliesEarly state
+flies_early state ending m0 m1 m m2 flown texts more given answers part step rest d drawn tells steady tables held sound n before few =
     early_all state m0 m1 flown given step d drawn tells steady tables held n before ending m m2 texts more answers part rest few

@@ -4,7 +4,7 @@ use Rattle.std.specs.List.{All}
 use Rattle.std.specs.Option.{option_map_or}
 use Rattle.std.proofs.Common.{◌≡◌, ◌+◌, ◌≤◌, ◌<◌, ◌++◌, inl, inr, ℕ, zero, suc, Bool, true, false, IsTrue, List, [], ◌∷◌, length, Option, Some, None, Ok, Err, Result, refl, sym, ◌∙◌, ap, subst, arith, append_assoc, length-append, take-append-drop}
 use Rattle.std.proofs.lemmas.Bool.{cases_lt}
-use Rattle.std.proofs.lemmas.List.{length-map, length-take, take_all}
+use Rattle.std.proofs.lemmas.List.{length-map, length-take, take-take, take_all}
 use Rattle.std.proofs.lemmas.Option.{slice_get_within}
 use Rattle.ob_base.specs.Stored.{headings, headings_of}
 use Rattle.ob_base.specs.declared.access.Access.{Access}
@@ -37,7 +37,7 @@ use Rattle.ob_shell.specs.Steps.{Holds, Machine, MayFly, asked_of, session_of}
 use Rattle.ob_sql.specs.Skeleton.{skeleton}
 use Rattle.ob_sql.specs.declared.stmt.Stmt.{Stmt}
 use Rattle.ob_store.specs.Calls.{IsBefore, IsSteady}
-use Rattle.ob_store.specs.State.{Disturbance, StoreState}
+use Rattle.ob_store.specs.State.{Disturbance}
 use Rattle.ob_tables.specs.Agreeing.{public_of}
 use Rattle.ob_tables.specs.Telling.{Represents, answer_labels}
 use Rattle.ob_tables.specs.declared.stop.RunStop.{RunStop}
@@ -45,12 +45,6 @@ use Rattle.ob_vault.specs.State.{RevState}
 use Rattle.ob_verdict.specs.Outcomes.{outcome_of}
 
 -- ---- first parts of lists
-take_less : {A : Type 0} (n m : ℕ) (xs : List A) → n ≤ m → take n (take m xs) ≡ take n xs
-take_less zero m xs le = refl
-take_less (suc n) zero xs le = absurd (omega (arith, le))
-take_less (suc n) (suc m) [] le = refl
-take_less (suc n) (suc m) (x ∷ xs) le = ap (λ (l : List _). x ∷ l) (take_less n m xs (omega (arith, le)))
-
 take_past : {A : Type 0} (n : ℕ) (xs ys : List A) → length xs ≤ n → take n (xs ++ ys) ≡ xs ++ take (n - length xs) ys
 take_past n [] ys few = let same : n ≡ n - 0 = omega arith in ap (λ (k : ℕ). take k ys) same
 take_past zero (x ∷ xs) ys few = absurd (omega (arith, few))
@@ -218,7 +212,7 @@ module _ {R : Type 0} (state : R → RevState) (m0 m1 : Machine R) (stmts : List
     pub begins_early : length m0.store.asked ≤ n → (behind : List Access) → Begins (take n m1.store.asked) (m0.store.asked ++ (merge p (flown_meant s stmts) words ++ behind))
     begins_early few behind = elim (cases_lt (n - length m0.store.asked) total) [
       | inl past ↦ begins_by (n - length m0.store.asked) (omega (arith, past)) (omega (arith, few))
-          (first_of_both few ∙ ap (λ (l : List Access). m0.store.asked ++ l) (take_less (n - length m0.store.asked) total (merge p flown words) (omega (arith, past)))) behind
+          (first_of_both few ∙ ap (λ (l : List Access). m0.store.asked ++ l) (take-take (n - length m0.store.asked) total (merge p flown words) (omega (arith, past)))) behind
       | inr within ↦
           let all = take total (merge p flown words) in
           let part = length-take total (merge p flown words) in

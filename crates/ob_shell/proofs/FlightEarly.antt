@@ -1,5 +1,5 @@
 -- Statements that fly before the first disturbance: each that had ended by then is answered and seen as it is meant.
-use Rattle.std.proofs.Common.{◌≡◌, ◌≤◌, ℕ, Option, Some, refl, sym, ◌∙◌, ap}
+use Rattle.std.proofs.Common.{◌≡◌, ◌≤◌, ℕ, ◌∙◌, ap}
 use Rattle.ob_base.specs.Stored.{headings, headings_of}
 use Rattle.ob_headline.proofs.FlightSeats.{FlownUntil}
 use Rattle.ob_headline.specs.Flights.{at_seat}

@@ -1,5 +1,5 @@
 -- What had ended within a flight's first accesses, over a store that others change only behind these, is answered and seen as it is meant.
-use Rattle.std.proofs.Common.{◌≡◌, ◌≤◌, ◌+◌, ℕ, Bool, true, false, IsTrue, List, length, Option, refl, sym, ap, subst, arith}
+use Rattle.std.proofs.Common.{◌≡◌, ◌≤◌, ◌+◌, ℕ, Bool, true, false, IsTrue, List, length, Option, refl, sym, subst, arith}
 use Rattle.ob_base.specs.declared.seen.Seen.{Seen}
 use Rattle.ob_exec.specs.InFlight.{EndsMeant}
 use Rattle.ob_exec.specs.RanFlight.{MeantThen, in_flight}

@@ -52,7 +52,9 @@ pub mod FlightEarly
 pub mod FlightBefore
 pub mod MeantFirst
 pub mod EarlyFlights
-pub mod FlightOpen
+pub mod FlightLeaves
+pub mod FlightWants
+pub mod LeftFlights
 pub mod WalkEntries
 pub mod WalkWhole
 pub mod WalkLast

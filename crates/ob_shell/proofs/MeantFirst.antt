@@ -1,50 +1,32 @@
 -- What texts mean of which the first fly together.
 use Rattle.std.specs.Prelude.{◌&&◌, if◌then◌else◌, map, nat_lt}
 use Rattle.std.specs.List.{All}
-use Rattle.std.proofs.Common.{◌≡◌, ◌+◌, ◌<◌, ◌≤◌, ◌++◌, ℕ, suc, Bool, true, false, List, [], ◌∷◌, length, Option, None, Some, Ok, Err, refl, sym, ◌∙◌, ap, subst, arith, append-nil, append_assoc, length-append}
+use Rattle.std.proofs.Common.{◌≡◌, ◌+◌, ◌<◌, ◌≤◌, ◌++◌, ℕ, suc, Bool, true, false, List, [], ◌∷◌, length, Option, None, Ok, Err, refl, sym, ◌∙◌, ap, subst, arith, append-nil, append_assoc, length-append}
 use Rattle.std.proofs.lemmas.List.Elements.{All-cons, All-head, All-nil, All-tail}
 use Rattle.ob_base.specs.Stored.{headings, headings_of}
-use Rattle.ob_base.specs.declared.config.Public.{Public}
-use Rattle.ob_base.specs.declared.schema.Table.{Table}
 use Rattle.ob_base.specs.declared.skeleton.Skeleton.{Skeleton}
 use Rattle.ob_headline.specs.Disturbed.{Course, behind_flown, course_alone, course_now, course_with, entries_now, entries_with, flown_meant, gathering, landed, meant_entries, meant_together, now_alone}
 use Rattle.ob_headline.specs.Flights.{may_fly, place_now}
 use Rattle.ob_mean.specs.Batches.{Gathering}
-use Rattle.ob_mean.specs.Replay.{Alone, Session, Spelt, after, how_now, is_full_now, seen_now, served, served_full}
-use Rattle.ob_script.specs.Flights.{Alone as One, Entry, Together, flight_accesses, merge, next_flight, trace_in, turns_of, words_from}
-use Rattle.ob_script.specs.Trace.{Served}
+use Rattle.ob_mean.specs.Replay.{Alone, Session, Spelt, is_full_now, seen_now, served_full}
+use Rattle.ob_script.specs.Flights.{Alone as One, Entry, Together, merge, trace_in, turns_of, words_from}
 use Rattle.ob_shell.proofs.HowLemmas.{StartsApart, course_of, flushed, may_by, met_trace, then_select}
-use Rattle.ob_shell.proofs.SeatLemmas.{trace_flown_then}
+use Rattle.ob_shell.proofs.SeatLemmas.{plus, trace_flown_then, words_later, words_whole}
 use Rattle.ob_shell.proofs.SelectLemmas.{leaves_all, room_flown}
 use Rattle.ob_sql.specs.Skeleton.{skeleton}
 use Rattle.ob_sql.specs.declared.stmt.Stmt.{Stmt}
 
 -- ---- behind turns that were drawn
-plus : (n t k : ℕ) → (n + t) + k ≡ n + (t + k)
-plus n t k = omega arith
-
-none_more : (k : ℕ) → 0 + k ≡ k
-none_more k = omega arith
-
-words_whole : (words : ℕ → ℕ) → words_from words 0 ≡ words
-words_whole words = λ i k. words (none_more k i)
-
 abbrev later : (u : ℕ) → Course → Course
 later u c = record c { turns = u + c.turns }
 
 module _ (words : ℕ → ℕ) (u : ℕ) where
-  abbrev words1 : ℕ → ℕ
-  words1 = words_from words u
-
-  words_on : (t : ℕ) → words_from words (u + t) ≡ words_from (words_from words u) t
-  words_on t = λ i k. words (plus u t k i)
-
   landed_by : (t : ℕ) (s : Session) (g : Option Gathering) (w : List Stmt) → landed words (record { turns = u + t; session = s; batch = g; waiting = w }) ≡ later u (landed (words_from words u) (record { turns = t; session = s; batch = g; waiting = w }))
   landed_by t s g [] = refl
   landed_by t s g (stmt ∷ []) = refl
   landed_by t s g (stmt ∷ (next ∷ more)) =
       let flown = flown_meant s (stmt ∷ (next ∷ more)) in
-      λ i. record { turns = plus u t (turns_of s.public flown) i; session = behind_flown (words_on t i) s flown; batch = g; waiting = [] }
+      λ i. record { turns = plus u t (turns_of s.public flown) i; session = behind_flown (words_later words u t i) s flown; batch = g; waiting = [] }
 
   landed_later : (c : Course) → landed words (later u c) ≡ later u (landed (words_from words u) c)
   landed_later c = landed_by c.turns c.session c.batch c.waiting

@@ -1,5 +1,5 @@
 -- By what statements go that are served one behind the other, alone or several together.
-use Rattle.std.proofs.Common.{◌≡◌, ◌+◌, ℕ, zero, suc, List, [], ◌∷◌, ◌++◌, length, Option, Some, None, refl, sym, ◌∙◌, ap, arith, append-nil}
+use Rattle.std.proofs.Common.{◌≡◌, ◌+◌, ℕ, List, [], ◌∷◌, ◌++◌, length, Option, refl, sym, ◌∙◌, ap, arith, append-nil}
 use Rattle.ob_base.specs.declared.access.Access.{Access}
 use Rattle.ob_base.specs.declared.config.Public.{Public}
 use Rattle.ob_headline.specs.Flights.{Seat, after_entries, seat_alone, seats, seats_aloft}
@@ -8,16 +8,16 @@ use Rattle.ob_script.specs.Script.{script}
 use Rattle.ob_script.specs.Trace.{Served, next}
 
 -- ---- the words that are left
-plus : (n t k : ℕ) → (n + t) + k ≡ n + (t + k)
+pub plus : (n t k : ℕ) → (n + t) + k ≡ n + (t + k)
 plus n t k = omega arith
 
 none_more : (k : ℕ) → 0 + k ≡ k
 none_more k = omega arith
 
-words_later : (words : ℕ → ℕ) (n t : ℕ) → words_from words (n + t) ≡ words_from (words_from words n) t
+pub words_later : (words : ℕ → ℕ) (n t : ℕ) → words_from words (n + t) ≡ words_from (words_from words n) t
 words_later words n t = λ i k. words (plus n t k i)
 
-words_whole : (words : ℕ → ℕ) → words_from words 0 ≡ words
+pub words_whole : (words : ℕ → ℕ) → words_from words 0 ≡ words
 words_whole words = λ i k. words (none_more k i)
 
 -- ---- behind n of them
