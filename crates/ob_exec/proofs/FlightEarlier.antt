@@ -21,7 +21,7 @@ use Rattle.ob_script.specs.FlightLaws.{AllMayFly, one_if}
 use Rattle.ob_script.specs.Flights.{AreSteady, Flight, Flying, accesses_in, boarding, turns, merge}
 use Rattle.ob_script.specs.Trace.{Served}
 use Rattle.ob_script.proofs.FlightEnds.{total_part, first_of_merge}
-use Rattle.ob_script.proofs.FlightLemmas.{grows_turns}
+use Rattle.ob_script.proofs.FlightLemmas.{grows_turns, logs_grow}
 use Rattle.ob_sql.specs.declared.stmt.Stmt.{Stmt}
 use Rattle.ob_store.proofs.Steps.{later_trans, none_before}
 use Rattle.ob_store.specs.Calls.{ChangesNothing}
@@ -44,34 +44,13 @@ use Rattle.ob_mean.specs.Verdict.{Draws, Tables, seen as seen_by}
 use Rattle.ob_sql.specs.Skeleton.{skeleton}
 use Rattle.ob_tables.specs.Telling.{ReadsTrue}
 use Rattle.ob_exec.proofs.FlightBegun.{all_fly, all_mean, same}
+use Rattle.ob_tables.proofs.CutLemmas.{end_cut}
 
 -- ---- what was asked stays
 abbrev has_ended : (i : ℕ) → Flight → Bool
 has_ended i s = option_map_or (λ (f : Flying). f.ended) (slice_get s.flying i) false
 
-logs_grow : (words : ℕ → ℕ) (s : Flight) (n k : ℕ) → n ≤ k → length (turns words n s).log ≤ length (turns words k s).log
-logs_grow words s n k le =
-    let more : (k - n) + n ≡ k = omega (arith, le) in
-    let grows = grows_turns words s n (k - n) in
-    let long = ap length grows.log ∙ length-append (turns words n s).log grows.rest in
-    let there = ap (λ (j : ℕ). length (turns words j s).log) more in
-    omega (arith, long, there)
-
--- ---- the answer of one that has ended
-refused_cut : (r : Refusal) (n : ℕ) → is_cut (refused_end r n) ≡ is_store_fault r
-refused_cut StoreFault n = refl
-refused_cut r n = refl
-
--- one that the store failed is cut off
-end_cut : (o : Outcome) (n : ℕ) → is_cut (outcome_end o n) ≡ is_fault o
-end_cut (Refused r) n = refused_cut r n
-end_cut Created n = refl
-end_cut Inserted n = refl
-end_cut (Changed k) n = refl
-end_cut (Deleted k) n = refl
-end_cut Dropped n = refl
-end_cut (Rows k) n = refl
-
+-- ---- one that has ended
 module _ {F : Type 0} (k : Kind F) where
   flying_there : (fs : List F) (xs : List Served) (i : ℕ) (f : F) → AllMay k.May fs xs → slice_get fs i ≡ Some f → (x : Served) × (slice_get (flying_in k fs xs) i ≡ Some (flying_of (k.progress f) x))
   unfolding flying_in AllMay

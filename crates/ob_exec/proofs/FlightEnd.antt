@@ -12,7 +12,7 @@ use Rattle.ob_inflight.specs.Kinds.{Kind, Moment, taker_of}
 use Rattle.ob_mean.specs.Verdict.{Draws, Tables}
 use Rattle.ob_room.specs.RoomState.{RoomState}
 use Rattle.ob_script.specs.FlightLaws.{AllMayFly}
-use Rattle.ob_script.specs.Flights.{AreSteady, Flight, accesses_in, merge, next_flight, own, turns_of}
+use Rattle.ob_script.specs.Flights.{AreSteady, Flight, accesses_in, merge, next_flight, own, turns_of, own_asked}
 use Rattle.ob_script.specs.Trace.{Served}
 use Rattle.ob_select.specs.Settings.{IsFree}
 use Rattle.ob_sql.specs.declared.stmt.Stmt.{Stmt}
@@ -28,7 +28,7 @@ use Rattle.ob_vault.specs.State.{RevState}
 use Rattle.ob_vault.specs.declared.region.Region.{Region}
 use Rattle.ob_vault.specs.declared.vault.Vault.{Vault}
 use Rattle.ob_verdict.specs.declared.outcome.Outcome.{Outcome}
-use Rattle.ob_exec.specs.InFlight.{IsFlown, IsMeant, own_asked, served_as}
+use Rattle.ob_exec.specs.InFlight.{IsFlown, IsMeant, served_as}
 use Rattle.ob_exec.specs.RanFlight.{EndedWithin, FlightMeans, MeantThen, RanFlight, RanInTurns, asked_by, asked_since, cut_off, in_flight}
 use Rattle.ob_exec.proofs.FlightBegun.{begins_meant}
 use Rattle.ob_exec.proofs.FlightEarlier.{asks_meant, meant_then}

@@ -46,7 +46,7 @@ use Rattle.ob_vault.specs.Tied.{Calm, IsUnfit}
 use Rattle.ob_vault.specs.declared.vault.Vault.{Vault}
 use Rattle.ob_verdict.specs.Outcomes.{refusal_now}
 use Rattle.ob_verdict.specs.declared.outcome.Outcome.{Outcome}
-use Rattle.ob_exec.specs.InFlight.{IsFlown, IsMeant, StandsAs, StandsMeant}
+use Rattle.ob_exec.specs.InFlight.{IsFlown, IsMeant}
 use Rattle.ob_exec.specs.RanFlight.{FlightCause, StopsClosing, asked_by, asked_since, halt_of, in_flight}
 use Rattle.ob_exec.specs.Boarding.{engine_behind}
 use Rattle.ob_exec.proofs.FlightFrames.{calm_start, hold_now}
@@ -55,6 +55,7 @@ use Rattle.ob_exec.proofs.FlightMore.{asks_within, ends_whole, held_more, meant_
 use Rattle.ob_exec.proofs.FlightRuns.{Boards, ServesOne, as_many, closed_now, flown_now, meant_now, steady_now, they_hold, they_serve}
 use Rattle.ob_exec.proofs.FlightStage.{HoldNow, IsStage, closed_of}
 use Rattle.ob_exec.proofs.FlightStops.{AskedOneMore, asked_of, no_access}
+use Rattle.ob_mean.specs.Standing.{StandsAs, StandsMeant}
 
 -- ---- plain facts
 -- one that may be seen of a statement that is cut off isn't refused before any access

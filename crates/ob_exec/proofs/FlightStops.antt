@@ -18,7 +18,7 @@ use Rattle.ob_inflight.specs.Flown as Flown
 use Rattle.ob_inflight.specs.Kinds.{Kind, Moment, taker_of}
 use Rattle.ob_mean.specs.Replay.{done_of}
 use Rattle.ob_script.specs.FlightLaws.{AllMayFly}
-use Rattle.ob_script.specs.Flights.{AreSteady, Flight, Flying, accesses_in, boarding, entry_of, flight, merge, own, turns}
+use Rattle.ob_script.specs.Flights.{AreSteady, Flight, Flying, accesses_in, boarding, entry_of, flight, merge, own, turns, own_asked}
 use Rattle.ob_script.specs.Trace.{Served}
 use Rattle.ob_script.proofs.FlightEnds.{first_of_merge}
 use Rattle.ob_script.proofs.FlightLemmas.{own_append, own_entry, own_other}
@@ -30,7 +30,7 @@ use Rattle.ob_tables.specs.Telling.{is_refused}
 use Rattle.ob_tables.specs.declared.engine.Engine.{Engine}
 use Rattle.ob_vault.specs.State.{RevState, World}
 use Rattle.ob_verdict.specs.declared.outcome.Outcome.{Outcome}
-use Rattle.ob_exec.specs.InFlight.{own_asked, served_as}
+use Rattle.ob_exec.specs.InFlight.{served_as}
 use Rattle.ob_exec.specs.RanFlight.{StopsInTurn, asked_by, asked_since, halt_of}
 use Rattle.ob_exec.proofs.FlightEnd.{since_long}
 use Rattle.ob_exec.proofs.FlightLists.{flying_back, log_first, map_put}

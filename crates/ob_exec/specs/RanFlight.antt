@@ -11,7 +11,7 @@ use Rattle.ob_mean.specs.Batches.{is_cut}
 use Rattle.ob_mean.specs.Replay.{done_of}
 use Rattle.ob_mean.specs.Verdict.{Draws, Tables, seen as seen_by, verdict}
 use Rattle.ob_script.specs.FlightLaws.{one_if, total}
-use Rattle.ob_script.specs.Flights.{Flying, boarding, flight_accesses, flight_public, merge, next_flight, turns, turns_of, words_from}
+use Rattle.ob_script.specs.Flights.{Flying, boarding, flight_accesses, flight_public, merge, next_flight, turns, turns_of, words_from, own_asked}
 use Rattle.ob_script.specs.Script.{script, whole_script}
 use Rattle.ob_script.specs.Trace.{Served}
 use Rattle.ob_select.specs.Memory.{AtEmission, AtMake, AtResult, HasHalted}
@@ -33,7 +33,7 @@ use Rattle.ob_tables.specs.Telling.{Emitted, IsNotTampered, KeepsSealed, ReadsTr
 use Rattle.ob_tables.specs.declared.engine.Engine.{Engine}
 use Rattle.ob_tables.specs.declared.stop.RunStop.{RunStop}
 use Rattle.ob_tables.specs.declared.stop.RunStop.TheVariants.{KeeperFault, NoMemory, SinkFault, StashFull, StoreFault, Tampered}
-use Rattle.ob_exec.specs.InFlight.{EndsAs, EndsMeant, IsFlown, IsMeant, MeantUntil, own_asked, served_as}
+use Rattle.ob_exec.specs.InFlight.{EndsAs, EndsMeant, IsFlown, IsMeant, MeantUntil, served_as}
 
 -- ---- the flight
 -- so many accesses were asked from the first state to the second

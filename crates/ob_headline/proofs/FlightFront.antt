@@ -8,7 +8,7 @@ use Rattle.ob_base.specs.declared.seen.End.{End}
 use Rattle.ob_base.specs.declared.seen.End.TheVariants.{Static, Whole, AfterCount, Joined, Cut}
 use Rattle.ob_base.specs.declared.seen.Seen.{Seen}
 use Rattle.ob_headline.proofs.SameAlone.{flier_alone}
-use Rattle.ob_headline.specs.Accesses.{AreSeen, IsLeft, Says, StandsAs}
+use Rattle.ob_headline.specs.Accesses.{AreSeen, IsLeft, Says}
 use Rattle.ob_headline.specs.Batches.{Joins, is_failed}
 use Rattle.ob_headline.specs.Flights.{Seat, Stand, at_seat, may_fly}
 use Rattle.ob_headline.specs.Meaning.{AnswersFrom, AnswersIn, BeginsAnswer, BeginsAt, EmitsAll, EmitsPart, StandBehind, StandsIn, StandsThere}
@@ -22,6 +22,7 @@ use Rattle.ob_sql.specs.Skeleton.{skeleton}
 use Rattle.ob_sql.specs.declared.stmt.Stmt.{Stmt}
 use Rattle.ob_verdict.specs.Outcomes.{refusal_now}
 use Rattle.ob_verdict.specs.declared.outcome.Outcome.TheVariants.{Refused}
+use Rattle.ob_mean.specs.Standing.{StandsAs}
 
 -- ---- of each
 -- this is so of each statement that was answered, and of each that wasn't

@@ -16,7 +16,7 @@ use Rattle.ob_base.specs.declared.seen.End.TheVariants.{Static, Whole, AfterCoun
 use Rattle.ob_base.specs.declared.seen.Seen.{Seen}
 use Rattle.ob_headline.proofs.IndexWrites.{next_index}
 use Rattle.ob_headline.proofs.OwnLemmas.{InOrder, in_order, ordered_own}
-use Rattle.ob_headline.specs.Accesses.{Accesses, AreSeen, IsLeft, StandsAs}
+use Rattle.ob_headline.specs.Accesses.{Accesses, AreSeen, IsLeft}
 use Rattle.ob_headline.specs.Bases.{Base}
 use Rattle.ob_headline.specs.Flights.{AreEntries, IsEntry, Seat, after_entries, Stand, most_of, seats, seats_aloft, seats_of, served_by, trace_of, words_of}
 use Rattle.ob_headline.specs.Shown.{OfIndex, WritesOwn, Wrote}
@@ -37,6 +37,7 @@ use Rattle.ob_script.specs.Trace.{Served, next}
 use Rattle.ob_seal.specs.KeySet.{KeySet}
 use Rattle.ob_sql.specs.declared.stmt.Stmt.{Stmt}
 use Rattle.ob_store.specs.State.{StoreState}
+use Rattle.ob_mean.specs.Standing.{StandsAs}
 
 -- no second plan comes behind none
 no_second : (x : Served) → x.seen.then ≡ None → InOrder x.seen.plan x.seen.then

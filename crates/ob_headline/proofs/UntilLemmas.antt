@@ -5,7 +5,7 @@ use Rattle.std.proofs.Common.{◌≡◌, ◌≤◌, ◌<◌, inl, inr, ℕ, zero
 use Rattle.std.proofs.lemmas.Bool.{cases_eq, cases_lt}
 use Rattle.ob_base.specs.declared.access.Access.{Access}
 use Rattle.ob_headline.specs.Flights.{asked_until, has_ended}
-use Rattle.ob_script.proofs.FlightLemmas.{grows_turn}
+use Rattle.ob_script.proofs.FlightLemmas.{grows_turn, logs_grow}
 use Rattle.ob_script.proofs.ListPlaces.{get_set_other, get_set_same}
 use Rattle.ob_script.specs.Flights.{Flight, Flying, acted, gates_of, next_act, picked, place_by, runnable, turn, turns}
 
@@ -15,14 +15,6 @@ log_grows word s =
     let grows = grows_turn word s in
     let long = ap length grows.log ∙ length-append s.log grows.rest in
     omega (arith, long)
-
-pub logs_grow : (words : ℕ → ℕ) (s : Flight) (n k : ℕ) → n ≤ k → length (turns words n s).log ≤ length (turns words k s).log
-unfolding turns
-logs_grow words s n zero le = let none : n ≡ 0 = omega (arith, le) in subst (λ (j : ℕ). length (turns words j s).log ≤ length s.log) (sym none) (omega arith)
-logs_grow words s n (suc k) le = elim (cases_lt n (suc k)) [
-  | inl less ↦ let before = logs_grow words s n k (omega (arith, less)) in let here = log_grows (words k) (turns words k s) in omega (arith, before, here)
-  | inr at ↦ let same : n ≡ suc k = omega (arith, le, at) in subst (λ (j : ℕ). length (turns words j s).log ≤ length (turns words (suc k) s).log) (sym same) (omega arith)
-]
 
 acted_ended : (act : Option Access) (f : Flying) → f.ended ≡ true → (acted act f).ended ≡ true
 acted_ended None f is = refl

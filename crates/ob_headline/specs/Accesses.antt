@@ -39,6 +39,7 @@ use Rattle.ob_headline.specs.Leaves.{ReadsDraws}
 use Rattle.ob_headline.specs.Statements.{statements}
 use Rattle.ob_headline.specs.Story.{Story}
 use Rattle.ob_store.specs.State.{StoreState}
+use Rattle.ob_mean.specs.Standing.{StandsAs}
 
 unfoldable pub any_cut : List Served → Bool
 any_cut [] = false
@@ -97,15 +98,6 @@ StopsWithin ending Failed Full p stmt seen =
     × (ending ≡ Ran (Err StashFull) → Full p stmt seen)
 
 -- ---- a flight that was left
--- one that has not ended: it is refused before any access, is on its way behind n accesses, where what is held of it may be
--- seen of one that is cut off there, or the store has failed it at the last of them
-abbrev pub StandsAs : Public → (m n : ℕ) → Stmt → Seen → End → Type 0
-StandsAs p m n stmt seen Static = Lawful p m stmt seen
-StandsAs p m n stmt seen Whole = Lawful p m stmt (record seen { end = Cut n })
-StandsAs p m n stmt seen AfterCount = ⊥
-StandsAs p m n stmt seen Joined = ⊥
-StandsAs p m n stmt seen (Cut cut) = (cut ≡ n) × (1 ≤ n) × Lawful p m stmt seen
-
 -- memory was wanting for it: just before its result is made, if it isn't padded, where its rows are emitted, or at its last
 -- line, once nothing of it is left to be asked
 abbrev pub WantsAloft : Option Stand → Public → Stmt → Seen → Type 0

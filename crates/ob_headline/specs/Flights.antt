@@ -13,7 +13,7 @@ use Rattle.ob_headline.specs.Story.{Story}
 use Rattle.ob_headline.specs.declared.flight.FlightSettings.{FlightSettings}
 use Rattle.ob_mean.specs.Replay.{Session, Spelt, has_index}
 use Rattle.ob_script.specs.FlightLaws.{SelectsFromOne}
-use Rattle.ob_script.specs.Flights.{Alone, Entry, Flight, Flying, Together, all_alone, boarding, drawn, flight, flight_accesses, flight_public, next_flight, own, served_in, trace_in, turns, turns_of, words_from}
+use Rattle.ob_script.specs.Flights.{Alone, Entry, Flight, Flying, Together, all_alone, boarding, drawn, flight, flight_accesses, flight_public, next_flight, own, served_in, trace_in, turns, turns_of, words_from, own_asked}
 use Rattle.ob_script.specs.Script.{script}
 use Rattle.ob_script.specs.Trace.{Served, next}
 use Rattle.ob_sql.specs.Skeleton.{skeleton}
@@ -133,15 +133,11 @@ seat_alone p m x = record {
   left = None;
 }
 
--- how many of the first k accesses of a flight are those of the statement at a place
-abbrev pub own_within : Public → List Served → (words : ℕ → ℕ) → (k i : ℕ) → ℕ
-own_within p flown words k i = length (own i (take k (flight p flown words).log))
-
 abbrev pub stand_at : Public → List Served → (words : ℕ → ℕ) → (i k : ℕ) → Stand
 stand_at p flown words i k = record {
   all = k;
-  own = own_within p flown words k i;
-  before = own_within p flown words (k - 1) i;
+  own = own_asked p flown words k i;
+  before = own_asked p flown words (k - 1) i;
 }
 
 abbrev pub has_ended : (i : ℕ) → Flight → Bool

@@ -27,6 +27,7 @@ use Rattle.ob_script.specs.Trace.{Served}
 use Rattle.ob_sql.specs.Skeleton.{skeleton}
 use Rattle.ob_sql.specs.declared.stmt.Stmt.{Stmt}
 use Rattle.ob_headline.specs.Words.{Answer, refused_at}
+use Rattle.ob_mean.specs.Standing.{StandsMeant}
 
 -- an answer is its header, its rows in some order and their number, or its one line
 pub record AnswersAs (labels : List (List ℕ)) (stmt : Stmt) (meaning : Meaning)
@@ -105,17 +106,7 @@ pub record AnswersLast (ending : Ending) (s : Session) (stmt : Stmt) (here : See
 abbrev pub done_in : Ending → Stand → ℕ
 done_in ending stand = if is_tampered ending then stand.before else stand.own
 
--- what is seen of it is what its meaning shows until then, or until the store failed it
-abbrev pub StandsMeant : Session → Stmt → (n done : ℕ) → Seen → End → Type 0
-StandsMeant s stmt n done here Static = here ≡ seen_now s stmt
-StandsMeant s stmt n done here Whole =
-    here ≡ record (cut_at false done s.public (skeleton stmt) (seen_now s stmt)) { end = Whole }
-StandsMeant s stmt n done here AfterCount = ⊥
-StandsMeant s stmt n done here Joined = ⊥
-StandsMeant s stmt n done here (Cut cut) =
-    here ≡ cut_at true n s.public (skeleton stmt) (seen_now s stmt)
-
--- or it had ended
+-- it had ended
 pub record HasEnded (s : Session) (stmt : Stmt) (here : Seen) : Type 0 where
   pub how : How
   pub cuts : IsCutOff how s stmt
@@ -123,7 +114,8 @@ pub record HasEnded (s : Session) (stmt : Stmt) (here : Seen) : Type 0 where
 
 abbrev pub StandsIn : Ending → Stand → Session → Stmt → Seen → Type 0
 StandsIn ending stand s stmt here =
-    HasEnded s stmt here ⊎ StandsMeant s stmt stand.own (done_in ending stand) here here.end
+    HasEnded s stmt here
+    ⊎ StandsMeant s.draws s.public s.asked stand.own (done_in ending stand) s.tables stmt here here.end
 
 -- it hadn't ended before, and a first part of its header and rows was emitted until then
 pub record EmitsPart (ending : Ending) (v : Seat) (stand : Stand) (s : Session) (stmt : Stmt)

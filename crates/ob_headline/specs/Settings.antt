@@ -193,21 +193,21 @@ flight_of app words =
     option_and_then (λ (flight : Option FlightSettings). flight) (flight_by app words)
 
 -- no INSERTs are served together where SELECTs fly, and no plan is forced but Small
-abbrev pub may_fly : (flight : Option FlightSettings) → (batch : Option ℕ) → Planner → Bool
-may_fly None batch planner = true
-may_fly (Some flight) (Some most) planner = false
-may_fly (Some flight) None Auto = true
-may_fly (Some flight) None Cheapest = true
-may_fly (Some flight) None (Forced Small) = true
-may_fly (Some flight) None (Forced Large) = false
-may_fly (Some flight) None (Forced Continuous) = false
-may_fly (Some flight) None (Forced Hash) = false
+abbrev pub flight_goes : (flight : Option FlightSettings) → (batch : Option ℕ) → Planner → Bool
+flight_goes None batch planner = true
+flight_goes (Some flight) (Some most) planner = false
+flight_goes (Some flight) None Auto = true
+flight_goes (Some flight) None Cheapest = true
+flight_goes (Some flight) None (Forced Small) = true
+flight_goes (Some flight) None (Forced Large) = false
+flight_goes (Some flight) None (Forced Continuous) = false
+flight_goes (Some flight) None (Forced Hash) = false
 
 -- how they fly beside these settings; none at all where the value has another form, or doesn't go with them
 abbrev pub flight_beside : Config → Option (Option FlightSettings) → Option (Option FlightSettings)
 flight_beside config None = None
 flight_beside config (Some flight) =
-    if may_fly flight config.batch config.planner then Some flight else None
+    if flight_goes flight config.batch config.planner then Some flight else None
 
 -- ---- words that are taken
 -- the command takes these words, where tables may be saved, and they spell these settings, what is generated, and how SELECTs

@@ -36,7 +36,7 @@ use Rattle.ob_script.specs.Trace.{next}
 use Rattle.ob_shell.proofs.FewLemmas.{insert_few}
 use Rattle.ob_shell.proofs.ReplayLemmas.{counts_on}
 use Rattle.ob_shell.proofs.LeaveSteps.{whole_own}
-use Rattle.ob_shell.proofs.EndLemmas.{end_apart, end_cut}
+use Rattle.ob_shell.proofs.EndLemmas.{end_apart}
 use Rattle.ob_shell.proofs.WithLemmas.{events_none, insert_headings, insert_of, insert_prints}
 use Rattle.ob_shell.specs.Lines.{line_answer, line_answers}
 use Rattle.ob_shell.proofs.GatherLemmas.{not_flying}
@@ -61,6 +61,7 @@ use Rattle.ob_verdict.proofs.MovingProof.{moves}
 use Rattle.ob_verdict.specs.Outcomes.{by_fault, refusal_now}
 use Rattle.ob_verdict.specs.declared.outcome.Outcome.{Outcome}
 use Rattle.ob_verdict.specs.declared.outcome.Outcome.TheVariants.{Inserted}
+use Rattle.ob_tables.proofs.CutLemmas.{end_cut}
 
 -- ---- what is owed
 -- each with its outcome, unless the store failed the first

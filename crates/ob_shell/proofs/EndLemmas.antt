@@ -27,20 +27,7 @@ use Rattle.ob_shell.proofs.ReplayLemmas.{fault_is}
 use Rattle.ob_sql.specs.Skeleton.{skeleton}
 use Rattle.ob_sql.specs.declared.stmt.Stmt.{Stmt}
 use Rattle.ob_vault.specs.State.{World}
-
--- ---- a statement is cut off exactly where the store failed it
-refused_cut : (r : Refusal) (n : ℕ) → is_cut (refused_end r n) ≡ is_store_fault r
-refused_cut StoreFault n = refl
-refused_cut r n = refl
-
-pub end_cut : (o : Outcome) (n : ℕ) → is_cut (outcome_end o n) ≡ is_fault o
-end_cut (Refused r) n = refused_cut r n
-end_cut Created n = refl
-end_cut Inserted n = refl
-end_cut (Changed k) n = refl
-end_cut (Deleted k) n = refl
-end_cut Dropped n = refl
-end_cut (Rows k) n = refl
+use Rattle.ob_tables.proofs.CutLemmas.{end_cut}
 
 -- whatever is gathered
 refused_failed : (g : Option Gathering) (r : Refusal) (n : ℕ) → is_failed g (refused_end r n) ≡ is_store_fault r

@@ -13,7 +13,6 @@ use Rattle.ob_headline.specs.Words.{Answer}
 use Rattle.ob_mean.specs.Batches.{is_cut}
 use Rattle.ob_script.specs.FlightLaws.{one_if, total}
 use Rattle.ob_script.specs.Trace.{Served}
-use Rattle.ob_shell.proofs.EndLemmas.{end_cut}
 use Rattle.ob_shell.proofs.FlightSeen.{AllAnswered, Stood, flown_ends}
 use Rattle.ob_shell.proofs.FlownLists.{Flown, served_in_all}
 use Rattle.ob_shell.proofs.WalkLemmas.{or_first, or_rest}
@@ -21,6 +20,7 @@ use Rattle.ob_sql.specs.declared.stmt.Stmt.{Stmt}
 use Rattle.ob_tables.specs.Running.{is_fault}
 use Rattle.ob_verdict.specs.declared.outcome.Outcome.{Outcome}
 use Rattle.ob_verdict.specs.declared.outcome.Outcome.TheVariants.{Created, Inserted, Changed, Deleted, Dropped, Rows, Refused}
+use Rattle.ob_tables.proofs.CutLemmas.{end_cut}
 
 one_of : (b : Bool) → one_if b ≡ (if b then 1 else 0)
 one_of true = refl

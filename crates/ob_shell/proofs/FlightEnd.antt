@@ -21,7 +21,7 @@ use Rattle.ob_mean.specs.Batches.{Gathering}
 use Rattle.ob_mean.specs.Replay.{Broken, Session, Spelt}
 use Rattle.ob_mean.specs.Verdict.{Draws, Tables}
 use Rattle.ob_script.specs.FlightLaws.{SelectsFromOne}
-use Rattle.ob_script.specs.Flights.{Entry as Turn, Together, flight_accesses, merge, trace_in}
+use Rattle.ob_script.specs.Flights.{Entry as Turn, Together, flight_accesses, merge, trace_in, own_asked}
 use Rattle.ob_script.specs.Trace.{Served as Entry}
 use Rattle.ob_shell.proofs.FlightFacts.{all_get, all_in, all_means, all_places, all_stood, fs, seats_are, served_are, spell_flown, spelt_long, stmts_are}
 use Rattle.ob_shell.proofs.FlightSeen.{FirstAnswered, IsIn, PlacesFrom, Stood, gathers_flown, left_seen}
@@ -42,7 +42,7 @@ use Rattle.ob_base.specs.declared.seen.End.{End}
 use Rattle.ob_base.specs.declared.seen.End.TheVariants.{Static, Whole, AfterCount, Joined, Cut}
 use Rattle.ob_exec.specs.RanFlight.{asked_by, carried_out}
 use Rattle.ob_headline.specs.Accesses.{ends_within}
-use Rattle.ob_headline.specs.Flights.{own_within}
+use Rattle.ob_headline.specs.Flights.{own_asked}
 use Rattle.ob_headline.specs.Meaning.{AnswersFrom, done_in}
 use Rattle.ob_headline.specs.Endings.{is_tampered}
 use Rattle.ob_headline.specs.declared.ending.Ending.TheVariants.{Ran}
@@ -54,7 +54,8 @@ use Rattle.ob_shell.proofs.FlightMeant.{BeginsSo, LeftMean, Means, StandsSo as F
 use Rattle.ob_shell.proofs.FlightSeen.{cut_more}
 use Rattle.ob_shell.proofs.FlownLists.{each_flown}
 use Rattle.ob_shell.proofs.LeafLemmas.{Reads, reads_none, reads_unasked}
-use Rattle.ob_shell.proofs.LeavePath.{HaveFlown, aloft_along, aloft_so}
+use Rattle.ob_shell.proofs.FlightLeaves.{leaves_kept}
+use Rattle.ob_shell.proofs.LeavePath.{HaveFlown, Path, aloft_along, aloft_so}
 use Rattle.ob_shell.proofs.ReplayLemmas.{free_holds}
 use Rattle.ob_shell.proofs.SelectLemmas.{flown_leaf}
 use Rattle.ob_shell.proofs.WalkLemmas.{Behind, EarlyAt, Walked}
@@ -63,6 +64,7 @@ use Rattle.ob_shell.specs.Top.{EndsUntampered}
 use Rattle.ob_store.specs.State.{Lie}
 use Rattle.ob_tables.specs.Stops.{session_stop}
 use Rattle.ob_tables.specs.Telling.{ReadsTrueUntil}
+use Rattle.ob_mean.specs.Standing.{StandsAs}
 
 -- as many statements as there are
 pub statements_taken : (stmts : List Stmt) (n : ℕ) → n ≤ length stmts → length (statements (take n (map Ok stmts))) ≡ n
@@ -204,7 +206,7 @@ module _ {R : Type 0} (state : R → RevState) (m0 m1 : Machine R) (stmts : List
 
 -- ---- each of them
 -- it reads no leaf
-leaf_in : (p : Public) (m n : ℕ) (stmt : Stmt) (seen : Seen) (end : End) → may_fly p (skeleton stmt) ≡ true → FlownStands p m n stmt seen end → seen.leaf ≡ None
+leaf_in : (p : Public) (m n : ℕ) (stmt : Stmt) (seen : Seen) (end : End) → may_fly p (skeleton stmt) ≡ true → StandsAs p m n stmt seen end → seen.leaf ≡ None
 leaf_in p m n stmt seen Static fly stands = flown_leaf p m stmt seen fly stands
 leaf_in p m n stmt seen Whole fly stands = flown_leaf p m stmt (record seen { end = Cut n }) fly stands
 leaf_in p m n stmt seen AfterCount fly stands = absurd stands
@@ -237,7 +239,7 @@ record IsDoneIn (ending : Ending) (f : Flown) : Type 0 where
   is_in : IsIn f
   done : f.done ≡ done_in ending is_in.stand
 
-done_by : (b : Bool) (p : Public) (flown : List Entry) (words : ℕ → ℕ) (k i : ℕ) → own_within p flown words (done_of b k) i ≡ (if b then own_within p flown words (k - 1) i else own_within p flown words k i)
+done_by : (b : Bool) (p : Public) (flown : List Entry) (words : ℕ → ℕ) (k i : ℕ) → own_asked p flown words (done_of b k) i ≡ (if b then own_asked p flown words (k - 1) i else own_asked p flown words k i)
 done_by true p flown words k i = refl
 done_by false p flown words k i = refl
 
@@ -368,7 +370,11 @@ module _ {R : Type 0} (state : R → RevState) (m0 m1 : Machine R) (stmts : List
               broken = told.0;
               meant = subst (λ (vs : List Seat). AnswersFrom ends_by vs s spelt_here told.0 kept (take n here ++ drop n here) part) (seats_left state m0 m1 stmts seens ended result may ran)
                   (subst (λ (l : List Entry). AnswersFrom ends_by (seats_in fs_here) s spelt_here told.0 kept l part) (sym split) told.1);
-              behind = record { whole = λ whole. absurd whole; path = aloft_so flown_so };
+              behind = record {
+                whole = λ whole. absurd whole;
+                path = subst (λ (vs : List Seat). Path state ends_by m0 m1 d tables vs spelt_here kept told.0) (seats_left state m0 m1 stmts seens ended result may ran)
+                    (aloft_so flown_so (leaves_kept s fs_here kept told.0 told.2));
+              };
             };
         untampered = fine;
         early = early;

@@ -9,11 +9,11 @@ use Rattle.ob_base.specs.declared.schema.Heading.{Heading}
 use Rattle.ob_base.specs.declared.seen.End.{End}
 use Rattle.ob_base.specs.declared.seen.End.TheVariants.{Static, Whole, AfterCount, Joined, Cut}
 use Rattle.ob_base.specs.declared.seen.Seen.{Seen}
-use Rattle.ob_exec.specs.InFlight.{EndsMeant, IsMeant, StandsMeant as FlownMeant}
+use Rattle.ob_exec.specs.InFlight.{EndsMeant, IsMeant}
 use Rattle.ob_headline.proofs.CutLemmas.{cut_shorter}
 use Rattle.ob_headline.specs.Closing.{closing_line}
 use Rattle.ob_headline.specs.Flights.{Seat, Stand, at_next, at_seat, may_fly}
-use Rattle.ob_headline.specs.Meaning.{AnswersFrom, AnswersIn, BeginsAnswer, BeginsAt, EmitsAll, EmitsPart, HasEnded, StandBehind, StandsIn, StandsMeant, StandsThere, done_in, session_after}
+use Rattle.ob_headline.specs.Meaning.{AnswersFrom, AnswersIn, BeginsAnswer, BeginsAt, EmitsAll, EmitsPart, HasEnded, StandBehind, StandsIn, StandsThere, done_in, session_after}
 use Rattle.ob_headline.specs.Words.{Answer}
 use Rattle.ob_headline.specs.declared.ending.Ending.{Ending}
 use Rattle.ob_inflight.specs.Closing.{Closed}
@@ -27,7 +27,7 @@ use Rattle.ob_script.specs.Trace.{Served}
 use Rattle.ob_shell.proofs.FlightSeen.{IsAnswerOf, IsIn, Stood, flown_bytes, flown_early, flown_ended, flown_lawful}
 use Rattle.ob_shell.proofs.FlownLists.{Flown, seats_in, served_in_all, served_of, stmts_in}
 use Rattle.ob_shell.proofs.ReplayLemmas.{outcome_cases}
-use Rattle.ob_shell.proofs.SelectLemmas.{IsOwn, leaves_all, room_flown, unkeyed_flown}
+use Rattle.ob_shell.proofs.SelectLemmas.{IsOwn, LeavesAll, leaves_all, room_flown, unkeyed_flown}
 use Rattle.ob_shell.specs.Aloft.{answer_of}
 use Rattle.ob_sql.specs.Skeleton.{skeleton}
 use Rattle.ob_sql.specs.declared.stmt.Stmt.{Stmt}
@@ -36,9 +36,10 @@ use Rattle.ob_tables.specs.Telling.{Emitted}
 use Rattle.ob_tables.specs.declared.stop.RunStop.{RunStop}
 use Rattle.ob_verdict.specs.Outcomes.{refusal_now}
 use Rattle.ob_verdict.specs.declared.outcome.Outcome.{Outcome}
+use Rattle.ob_mean.specs.Standing.{StandsMeant}
 
 -- ---- a session of which the tables and the draws are another's
-at_same : (v : Seat) (s t : Session) → t.tables ≡ s.tables → t.draws ≡ s.draws → at_seat v t ≡ at_seat v s
+pub at_same : (v : Seat) (s t : Session) → t.tables ≡ s.tables → t.draws ≡ s.draws → at_seat v t ≡ at_seat v s
 at_same v s t ts ds = λ i. record { public = v.public; tables = ts i; asked = v.asked; draws = ds i }
 
 module _ (ending : Ending) (s t : Session) (ts : t.tables ≡ s.tables) (ds : t.draws ≡ s.draws) where
@@ -203,19 +204,38 @@ one_told ending v s stmt how one x seats spelt answers seen part Behind Other ro
   behind = subst (λ (b : Bool). Other (how ∷ rest.broken) (if b then at_seat v s else session_after seats (after how (at_seat v s) stmt) spelt rest.broken).tables) (sym room) (on rest.broken _ rest.behind);
 }
 
+-- so one was served that leaves tables and draws
+pub record IsStill (how : How) (s : Session) (stmt : Stmt) : Type 0 where
+  pub room : is_full_now s stmt ≡ false
+  pub leaves : LeavesAll how s stmt
+
+-- so those were that were answered
+abbrev pub AreStill : Session → List Flown → List Answer → Broken → Type 0
+AreStill s fs [] broken = ⊤
+AreStill s [] (one ∷ given) broken = ⊥
+AreStill s (f ∷ fs) (one ∷ given) broken = IsStill (head_of broken) (at_seat f.seat s) f.stmt × AreStill s fs given (rest_of broken)
+
+still_at : (s t : Session) → t.tables ≡ s.tables → t.draws ≡ s.draws → (v : Seat) (stmt : Stmt) (how : How) → is_full_now (at_seat v t) stmt ≡ false → LeavesAll how (at_seat v t) stmt → IsStill how (at_seat v s) stmt
+still_at s t ts ds v stmt how room leaves = subst (λ (y : Session). IsStill how y stmt) (at_same v s t ts ds) (record { room = room; leaves = leaves })
+
 module _ (ending : Ending) (s : Session) (seats : List Seat) (spelt : List Spelt) (answers : List Answer) (seen : List Served) (part : List ℕ) (Behind : Broken → Tables → Type 0)
     (rest : (t : Session) → t.tables ≡ s.tables → t.draws ≡ s.draws → Told ending seats t spelt answers seen part Behind) where
+  -- behind these it goes on
+  abbrev BehindAll : List Flown → List Answer → Broken → Tables → Type 0
+  BehindAll fs given broken ts = AreStill s fs given broken × Behind (drop (length fs) broken) ts
+
   pub whole_meant : (fs : List Flown) (given : List Answer) → AllMean s fs given → (t : Session) → t.tables ≡ s.tables → t.draws ≡ s.draws
-      → Told ending (seats_in fs ++ seats) t (map Ok (stmts_in fs) ++ spelt) (given ++ answers) (served_in_all fs ++ seen) part (λ broken ts. Behind (drop (length fs) broken) ts)
-  whole_meant [] [] all t ts ds = rest t ts ds
+      → Told ending (seats_in fs ++ seats) t (map Ok (stmts_in fs) ++ spelt) (given ++ answers) (served_in_all fs ++ seen) part (BehindAll fs given)
+  whole_meant [] [] all t ts ds = told_as ending seats t spelt answers seen part Behind (BehindAll [] []) (λ broken us behind. (tt, behind)) (rest t ts ds)
   whole_meant [] (one ∷ given) all t ts ds = absurd all
   whole_meant (f ∷ fs) [] all t ts ds = absurd all
   whole_meant (f ∷ fs) (one ∷ given) all t ts ds =
       let v = f.seat in
       let own : MeantSo f one (at_seat v t) = subst (λ (y : Session). MeantSo f one y) (sym (at_same v s t ts ds)) all.0 in
       let stays = leaves_all own.how (at_seat v t) f.stmt own.own own.listed own.fly in
-      one_told ending v t f.stmt own.how one (served_of f) (seats_in fs ++ seats) (map Ok (stmts_in fs) ++ spelt) (given ++ answers) (served_in_all fs ++ seen) part (λ broken ts. Behind (drop (length fs) broken) ts) (λ broken ts. Behind (drop (length (f ∷ fs)) broken) ts)
-      own.room own.cuts own.answer own.seen (whole_meant fs given all.1 (after own.how (at_seat v t) f.stmt) (stays.tables ∙ ts) (stays.draws ∙ ds)) (λ broken ts behind. behind)
+      one_told ending v t f.stmt own.how one (served_of f) (seats_in fs ++ seats) (map Ok (stmts_in fs) ++ spelt) (given ++ answers) (served_in_all fs ++ seen) part (BehindAll fs given) (BehindAll (f ∷ fs) (one ∷ given))
+      own.room own.cuts own.answer own.seen (whole_meant fs given all.1 (after own.how (at_seat v t) f.stmt) (stays.tables ∙ ts) (stays.draws ∙ ds))
+      (λ broken us behind. ((still_at s t ts ds v f.stmt own.how own.room stays, behind.0), behind.1))
 
 -- ---- their flight was left
 -- one that was not answered stands where it may
@@ -230,13 +250,6 @@ pub record BeginsSo (ending : Ending) (s : Session) (f : Flown) (part : List ℕ
   pub left : f.seat.left ≡ Some stand
   pub emits : EmitsPart ending f.seat stand (at_seat f.seat s) f.stmt part ⊎ EmitsAll ending (at_seat f.seat s) f.stmt f.seen part
 
-stands_as : (s : Session) (stmt : Stmt) (n done : ℕ) (seen : Seen) (end : End) → FlownMeant s.draws s.public s.asked n done s.tables stmt seen end → StandsMeant s stmt n done seen end
-stands_as s stmt n done seen Static stands = stands
-stands_as s stmt n done seen Whole stands = stands
-stands_as s stmt n done seen AfterCount stands = stands
-stands_as s stmt n done seen Joined stands = stands
-stands_as s stmt n done seen (Cut k) stands = stands
-
 pub stands_so : (ending : Ending) (s : Session) (f : Flown) → Stood f → (left : IsIn f) → f.done ≡ done_in ending left.stand → Means s f → StandsSo ending s f
 stands_so ending s f stood left done means = record { stand = left.stand; left = left.left; stands = by_closed f.closed refl }
   where
@@ -245,10 +258,9 @@ stands_so ending s f stood left done means = record { stand = left.stand; left =
         let own = meant_so s f (answer_of how f.seen) stood (record { how = how; closed = is; is = refl }) means in
         inl (record { how = own.how; cuts = own.cuts; seen = own.seen })
     by_closed None is = inr (
-        let told = subst (λ (o : Option Closed). IsMeant s.draws f.seat.public f.seat.asked f.own f.done s.tables f.stmt f.seen o) is means.told in
-        let here = stands_as (at_seat f.seat s) f.stmt f.own f.done f.seen f.seen.end told in
-        subst (λ (n : ℕ). StandsMeant (at_seat f.seat s) f.stmt left.stand.own n f.seen f.seen.end) done
-        (subst (λ (n : ℕ). StandsMeant (at_seat f.seat s) f.stmt n f.done f.seen f.seen.end) (sym left.own) here))
+        let here = subst (λ (o : Option Closed). IsMeant s.draws f.seat.public f.seat.asked f.own f.done s.tables f.stmt f.seen o) is means.told in
+        let stands : (n done : ℕ) → Type 0 = λ (n done : ℕ). StandsMeant s.draws f.seat.public f.seat.asked n done s.tables f.stmt f.seen f.seen.end in
+        subst (λ (n : ℕ). stands left.stand.own n) done (subst (λ (n : ℕ). stands n f.done) (sym left.own) here))
 
 abbrev pub LeftMean : Ending → Session → (part : List ℕ) → List Flown → List Answer → Type 0
 LeftMean ending s part [] kept = ⊥
@@ -278,13 +290,13 @@ module _ (ending : Ending) (s : Session) (part : List ℕ) where
       )
 
   pub left_meant : (fs : List Flown) (kept : List Answer) → LeftMean ending s part fs kept → (t : Session) → t.tables ≡ s.tables → t.draws ≡ s.draws
-      → (broken : Broken) × AnswersFrom ending (seats_in fs) t (map Ok (stmts_in fs)) broken kept (served_in_all fs) part
+      → (broken : Broken) × AnswersFrom ending (seats_in fs) t (map Ok (stmts_in fs)) broken kept (served_in_all fs) part × AreStill s fs kept broken
   unfolding AnswersFrom
   left_meant [] kept all t ts ds = absurd all
-  left_meant (f ∷ fs) [] all t ts ds = ([], begins_at f fs t ts ds all.0 all.1)
+  left_meant (f ∷ fs) [] all t ts ds = ([], begins_at f fs t ts ds all.0 all.1, tt)
   left_meant (f ∷ fs) (one ∷ kept) all t ts ds =
       let v = f.seat in
       let own : MeantSo f one (at_seat v t) = subst (λ (y : Session). MeantSo f one y) (sym (at_same v s t ts ds)) all.0 in
       let stays = leaves_all own.how (at_seat v t) f.stmt own.own own.listed own.fly in
       let rest = left_meant fs kept all.1 (after own.how (at_seat v t) f.stmt) (stays.tables ∙ ts) (stays.draws ∙ ds) in
-      (own.how ∷ rest.0, (own.room, own.cuts, own.answer, own.seen, rest.1))
+      (own.how ∷ rest.0, (own.room, own.cuts, own.answer, own.seen, rest.1), (still_at s t ts ds v f.stmt own.how own.room stays, rest.2))

@@ -25,7 +25,8 @@ use Rattle.ob_script.specs.Trace.{Served as Entry}
 use Rattle.ob_shell.proofs.CalmLemmas.{first_calm}
 use Rattle.ob_shell.proofs.FlightCuts.{any_first, any_rest, cut_same, failed_same, failures_more, none_cut}
 use Rattle.ob_shell.proofs.FlightFacts.{all_mean, all_means, drop_more, spell_flown, spelt_long, statements_more}
-use Rattle.ob_shell.proofs.FlightMeant.{Told, told_as, told_same, whole_meant}
+use Rattle.ob_shell.proofs.FlightLeaves.{leaves_flown}
+use Rattle.ob_shell.proofs.FlightMeant.{AreStill, Told, told_as, told_same, whole_meant}
 use Rattle.ob_shell.proofs.FlightSeen.{answered_long, cut_more}
 use Rattle.ob_shell.proofs.FlightWalk.{after_on, all_fs, aloft, answered, are_served, are_stmts, flown_drawn, flown_entries, flown_seen, long_aloft, long_fs, public_on, seats_on, stood, trace_on, turn_of}
 use Rattle.ob_shell.proofs.FlownLists.{Flown, seats_in, served_in_all, stmts_in}
@@ -127,7 +128,7 @@ module _ {R : Type 0} (state : R → RevState) (m0 m1 : Machine R) (flown : List
     held_on = holds_free state m1 d tables step.may.owed (step.flew.ran.means.held tables reads)
 
     told_up : (ending : Ending) (seats : List Seat) (spelt : List Spelt) (answers : List Answer) (seen : List Entry) (part : List ℕ) (Inner : Broken → Tables → Type 0) → Told ending seats (session_of m1 d tables) spelt answers seen part Inner
-        → Told ending (seats_in here ++ seats) (session_of m0 d tables) (spelt_up ++ spelt) (given ++ answers) (up ++ seen) part (λ broken ts. Inner (drop (length here) broken) ts)
+        → Told ending (seats_in here ++ seats) (session_of m0 d tables) (spelt_up ++ spelt) (given ++ answers) (up ++ seen) part (λ broken ts. AreStill (session_of m0 d tables) here given broken × Inner (drop (length here) broken) ts)
     told_up ending seats spelt answers seen part Inner rest =
         whole_meant ending (session_of m0 d tables) seats spelt answers seen part Inner (λ t ts ds. told_same ending (session_of m1 d tables) t ts ds seats spelt answers seen part Inner rest) here given
         (all_mean (session_of m0 d tables) here given (stood state m0 m1 flown given step)
@@ -233,16 +234,19 @@ module _ {R : Type 0} (state : R → RevState) (m0 m1 : Machine R) (flown : List
             let unfit1 = unfit_on m2 rest.keys rest.start rest.lie unfit in
             let on = held_on d drawn tables held tells calm unfit1 in
             let from = rest.meant d (step.flew.ran.ran.drawn d drawn) (subst (λ (b : Bool). IsTrue b) (sym step.flew.ran.ran.later.tells) tells) (step.flew.ran.cause calm) unfit tables on in
-            let Inner = Behind state ending m1 m2 d tables rest.spelt answers in
-            let Outer = Behind state ending m0 m2 d tables (spelt_up ++ rest.spelt) (given ++ answers) in
+            let s = session_of m0 d tables in
+            let Inner = Behind state ending m1 m2 d tables (seats_at m1 rest.entries) rest.spelt answers in
+            let Outer : List Seat → Broken → Tables → Type 0 = λ vs. Behind state ending m0 m2 d tables vs (spelt_up ++ rest.spelt) (given ++ answers) in
             let up_told = told_up d drawn tables held tells calm unfit1 ending (seats_at m1 rest.entries) rest.spelt answers all part Inner from in
-            subst (λ (l : List Entry). Told ending (seats_at m0 (at_turn ∷ rest.entries)) (session_of m0 d tables) (spelt_up ++ rest.spelt) (given ++ answers) l part Outer) joined
-            (subst (λ (vs : List Seat). Told ending vs (session_of m0 d tables) (spelt_up ++ rest.spelt) (given ++ answers) (up ++ all) part Outer) there
-            (told_as ending (seats_in here ++ seats_at m1 rest.entries) (session_of m0 d tables) (spelt_up ++ rest.spelt) (given ++ answers) (up ++ all) part (λ broken ts. Inner (drop (length here) broken) ts) Outer
+            subst (λ (l : List Entry). Told ending (seats_at m0 (at_turn ∷ rest.entries)) s (spelt_up ++ rest.spelt) (given ++ answers) l part (Outer (seats_at m0 (at_turn ∷ rest.entries)))) joined
+            (subst (λ (vs : List Seat). Told ending vs s (spelt_up ++ rest.spelt) (given ++ answers) (up ++ all) part (Outer vs)) there
+            (told_as ending (seats_in here ++ seats_at m1 rest.entries) s (spelt_up ++ rest.spelt) (given ++ answers) (up ++ all) part (λ broken ts. AreStill s here given broken × Inner (drop (length here) broken) ts)
+            (Outer (seats_in here ++ seats_at m1 rest.entries))
             (λ broken ts b. record {
-              whole = b.whole;
-              path = together_so (stmts_in here) given (record { landed = landed; drawn = step.flew.ran.ran.drawn d drawn; holds = on }) (omega (arith, long_given, stmts_long))
-                  (subst (λ (n : ℕ). Path state ending m1 m2 d tables rest.spelt answers (drop n broken)) (sym stmts_long) b.path);
+              whole = b.1.whole;
+              path = together_so (seats_in here) (stmts_in here) given (record { landed = landed; drawn = step.flew.ran.ran.drawn d drawn; holds = on }) (omega (arith, long_given, stmts_long))
+                  (leaves_flown s here (seats_at m1 rest.entries) rest.spelt given answers broken long_given b.0)
+                  (subst (λ (n : ℕ). Path state ending m1 m2 d tables (seats_at m1 rest.entries) rest.spelt answers (drop n broken)) (sym stmts_long) b.1.path);
             }) up_told));
         untampered = λ d drawn tells tables held honest.
             let none1 : m1.store.lie ≡ None = none_on m1.store.lie m2 refl rest.lie honest in

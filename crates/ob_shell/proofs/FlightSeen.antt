@@ -9,8 +9,8 @@ use Rattle.ob_base.specs.declared.refusal.Refusal.TheVariants.{StoreFault}
 use Rattle.ob_base.specs.declared.seen.End.{End}
 use Rattle.ob_base.specs.declared.seen.End.TheVariants.{Static, Whole, AfterCount, Joined, Cut}
 use Rattle.ob_base.specs.declared.seen.Seen.{Seen}
-use Rattle.ob_exec.specs.InFlight.{EndsAs, IsFlown, StandsAs as FlownStands}
-use Rattle.ob_headline.specs.Accesses.{AreSeen, IsLeft, StandsAs, any_cut}
+use Rattle.ob_exec.specs.InFlight.{EndsAs, IsFlown}
+use Rattle.ob_headline.specs.Accesses.{AreSeen, IsLeft, any_cut}
 use Rattle.ob_headline.specs.Closing.{closing_line}
 use Rattle.ob_headline.specs.Failures.{cut_off}
 use Rattle.ob_headline.specs.Flights.{AreGathered, EndedBy, Seat, Stand, gathered_then, may_fly, place_now}
@@ -21,7 +21,7 @@ use Rattle.ob_mean.specs.Lawful.{Lawful}
 use Rattle.ob_mean.specs.Replay.{Spelt}
 use Rattle.ob_print.specs.Rows.{events_text}
 use Rattle.ob_script.specs.Trace.{Served}
-use Rattle.ob_shell.proofs.EndLemmas.{alone_joins, end_cut, failed_by, says}
+use Rattle.ob_shell.proofs.EndLemmas.{alone_joins, failed_by, says}
 use Rattle.ob_shell.proofs.FlownLists.{Flown, Places, flown_list, seats_in, served_in_all, served_of, stmts_in}
 use Rattle.ob_shell.proofs.SelectLemmas.{flown_apart, flown_gathers}
 use Rattle.ob_shell.specs.Aloft.{answer_of}
@@ -31,6 +31,8 @@ use Rattle.ob_tables.specs.Running.{RefusedEarly, outcome_end}
 use Rattle.ob_tables.specs.Telling.{answer_labels}
 use Rattle.ob_verdict.specs.Outcomes.{Emits, refusal_now}
 use Rattle.ob_verdict.specs.declared.outcome.Outcome.TheVariants.{Refused}
+use Rattle.ob_tables.proofs.CutLemmas.{end_cut}
+use Rattle.ob_mean.specs.Standing.{StandsAs}
 
 -- ---- one of them
 pub record Stood (f : Flown) : Type 0 where
@@ -130,16 +132,9 @@ whole_seen Leaves seats spelt answers seen rest (f ∷ fs) (one ∷ given) g non
     (whole_seen Leaves seats spelt answers seen rest fs given None (λ is. refl) (All-tail Stood f fs stood) all.1)
 
 -- ---- their flight was left
-stands_as : (p : Public) (m n : ℕ) (stmt : Stmt) (seen : Seen) (end : End) → FlownStands p m n stmt seen end → StandsAs p m n stmt seen end
-stands_as p m n stmt seen Static stands = stands
-stands_as p m n stmt seen Whole stands = stands
-stands_as p m n stmt seen AfterCount stands = stands
-stands_as p m n stmt seen Joined stands = stands
-stands_as p m n stmt seen (Cut k) stands = stands
-
 stands_in : (p : Public) (m n : ℕ) (stmt : Stmt) (seen : Seen) (o : Option Closed) → IsFlown p m n stmt seen o → Lawful p m stmt seen ⊎ StandsAs p m n stmt seen seen.end
 stands_in p m n stmt seen (Some one) flown = inl flown.lawful
-stands_in p m n stmt seen None flown = inr (stands_as p m n stmt seen seen.end flown)
+stands_in p m n stmt seen None flown = inr flown
 
 left_by : (Leaves : Public → Stmt → Seen → Type 0) (f : Flown) (g : Option Gathering) → Stood f → (left : IsIn f) → IsLeft Leaves f.seat.left f.seat g f.stmt f.seen
 left_by Leaves f g stood left =

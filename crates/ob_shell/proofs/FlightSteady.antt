@@ -9,7 +9,7 @@ use Rattle.ob_base.specs.declared.config.Public.{Public}
 use Rattle.ob_base.specs.declared.seen.End.{End}
 use Rattle.ob_base.specs.declared.seen.End.TheVariants.{Static, Whole, AfterCount, Joined, Cut}
 use Rattle.ob_base.specs.declared.seen.Seen.{Seen}
-use Rattle.ob_exec.specs.InFlight.{IsFlown, StandsAs, served_as}
+use Rattle.ob_exec.specs.InFlight.{IsFlown, served_as}
 use Rattle.ob_inflight.specs.Closing.{Closed}
 use Rattle.ob_mean.specs.Lawful.{Holds, Lawful}
 use Rattle.ob_script.proofs.Steady.{all_steady}
@@ -26,6 +26,7 @@ use Rattle.ob_sql.specs.declared.stmt.Stmt.{Stmt}
 use Rattle.ob_tables.specs.Agreeing.{public_of}
 use Rattle.ob_tables.specs.declared.stop.RunStop.{RunStop}
 use Rattle.ob_vault.specs.State.{RevState}
+use Rattle.ob_mean.specs.Standing.{StandsAs}
 
 -- by Small no other plan comes behind
 small_alone : (p : Public) (stmt : Stmt) (seen : Seen) (k : Option ℕ) (plan second : Option Plan) → p.planner ≡ Forced Small → Holds p stmt seen k plan second → second ≡ None

@@ -1,12 +1,14 @@
 -- The machines along the statements that were answered, and the one begun.
-use Rattle.std.specs.Prelude.{◌≡◌, ◌⊎◌, ◌<◌, ◌≤◌, ◌++◌, ℕ, false, drop, length, map, List, [], ◌∷◌, Ok, Err}
+use Rattle.std.specs.Prelude.{◌≡◌, ◌⊎◌, ◌<◌, ◌≤◌, ◌++◌, ⊤, ℕ, false, drop, length, map, List, [], ◌∷◌, Option, None, Ok, Err}
 use Rattle.ob_base.specs.declared.refusal.Stop.TheVariants.{SinkFault}
+use Rattle.ob_headline.specs.Flights.{Seat}
+use Rattle.ob_headline.specs.SavedHeadline.{left_by}
 use Rattle.ob_headline.specs.Words.{Answer}
 use Rattle.ob_headline.specs.declared.ending.Ending.{Ending}
 use Rattle.ob_headline.specs.declared.ending.Ending.TheVariants.{Ran}
-use Rattle.ob_mean.specs.Replay.{Broken, How, Spelt, after, head_of, is_full_now, rest_of, seen_or_cut}
+use Rattle.ob_mean.specs.Replay.{Broken, How, Session, Spelt, after, head_of, is_full_now, rest_of, seen_or_cut}
 use Rattle.ob_mean.specs.Verdict.{Draws, Tables}
-use Rattle.ob_shell.specs.Steps.{Does, GoTogether, Holds, Machine, Owes, StaysAs, TakesOwed, has_failed, session_of, tables_behind}
+use Rattle.ob_shell.specs.Steps.{Does, GoTogether, Holds, Machine, Owes, StaysAs, TakesOwed, asked_of, has_failed, session_of, tables_behind}
 use Rattle.ob_sql.specs.declared.stmt.Stmt.{Stmt}
 use Rattle.ob_store.specs.Runs.{Since}
 use Rattle.ob_tables.specs.Agreeing.{Agrees, AreDraws, engine_keys, engine_start, public_of, seen_of}
@@ -75,6 +77,17 @@ module _ {R : Type 0} (state : R → RevState) where
     pub start : engine_start m1.engine ≡ engine_start m0.engine
 
   -- ---- and where the model stands beside them
+  -- a statement's seat is that of the machine
+  pub record IsSeatOf (m : Machine R) (v : Seat) : Type 0 where
+    pub public : v.public ≡ public_of m.engine
+    pub asked : v.asked ≡ asked_of m
+
+  -- so is the first of these, if the text begun spells a statement
+  abbrev pub BeginsSeats : (m : Machine R) → Spelt → List Seat → Type 0
+  BeginsSeats m (Err at) seats = ⊤
+  BeginsSeats m (Ok stmt) [] = ⊥
+  BeginsSeats m (Ok stmt) (v ∷ seats) = IsSeatOf m v
+
   -- a statement was answered by itself, and seen so
   pub record ServesSo (m0 m1 : Machine R) (d : Draws) (tables : Tables) (stmt : Stmt) (one : Answer) (how : How) : Type 0 where
     pub done : IsDone m0 m1 stmt one.outcome
@@ -89,7 +102,6 @@ module _ {R : Type 0} (state : R → RevState) where
   pub record StandsSo (m0 m1 : Machine R) (d : Draws) (tables : Tables) (stmt : Stmt) (one : Answer) (how : How) : Type 0 where
     pub room : is_full_now (session_of m0 d tables) stmt ≡ false
     pub served : ServesSo m0 m1 d tables stmt one how ⊎ JoinsSo m0 m1 d tables stmt how
-    pub stands : after how (session_of m0 d tables) stmt ≡ session_of m1 (after how (session_of m0 d tables) stmt).draws (after how (session_of m0 d tables) stmt).tables
     pub drawn : AreDraws m1.engine (after how (session_of m0 d tables) stmt).draws
     pub holds : Holds state m1 (after how (session_of m0 d tables) stmt).draws (after how (session_of m0 d tables) stmt).tables
 
@@ -98,6 +110,21 @@ module _ {R : Type 0} (state : R → RevState) where
     pub landed : HaveLanded m0 m1
     pub drawn : AreDraws m1.engine d
     pub holds : Holds state m1 d tables
+
+-- ---- what a flight leaves of a session's tables and draws
+-- those that were answered in a flight that was left leave the tables
+abbrev pub LeavesKept : (d : Draws) (tables : Tables) → List Seat → List Spelt → List Answer → Broken → Type 0
+LeavesKept d tables seats spelt kept broken = (s : Session) → s.tables ≡ tables → s.draws ≡ d → left_by None seats s spelt kept broken ≡ tables
+
+-- behind these that flew, and were all answered, a session goes on from the same tables and draws
+pub record GoesOn (s : Session) (flown seats : List Seat) (stmts : List Stmt) (more : List Spelt) (given answers : List Answer) (broken : Broken) : Type 0 where
+  pub behind : Session
+  pub tables : behind.tables ≡ s.tables
+  pub draws : behind.draws ≡ s.draws
+  pub left : (o : Option (List Stmt)) → left_by o (flown ++ seats) s (map Ok stmts ++ more) (given ++ answers) broken ≡ left_by o seats behind more answers (drop (length stmts) broken)
+
+abbrev pub LeavesFlown : (d : Draws) (tables : Tables) → (flown seats : List Seat) → List Stmt → (more : List Spelt) → (given answers : List Answer) → Broken → Type 0
+LeavesFlown d tables flown seats stmts more given answers broken = (s : Session) → s.tables ≡ tables → s.draws ≡ d → GoesOn s flown seats stmts more given answers broken
 
 -- from the first machine to the last these were answered, and the one behind them begun, or the flight
 pub data Along {R : Type 0} (state : R → RevState) (ending : Ending) : Machine R → Machine R → List Spelt → List Answer → Type 0 where
@@ -110,15 +137,17 @@ pub data Along {R : Type 0} (state : R → RevState) (ending : Ending) : Machine
       → Along state ending m0 m2 (Ok stmt ∷ spelt) (one ∷ answers)
   together_along : {m0 m1 m2 : Machine R} (spelt : List Spelt) {more : List Spelt} (given : List Answer) {answers : List Answer} → HaveLanded state m0 m1 → Along state ending m1 m2 more answers → Along state ending m0 m2 (spelt ++ more) (given ++ answers)
 
--- and where the model stands beside them
-pub data Path {R : Type 0} (state : R → RevState) (ending : Ending) : Machine R → Machine R → Draws → Tables → List Spelt → List Answer → Broken → Type 0 where
-  over_so : {m0 m2 : Machine R} {d : Draws} {tables : Tables} {broken : Broken} → IsOver state m0 m2 → Path state ending m0 m2 d tables [] [] broken
-  ends_so : {m0 m2 : Machine R} {d : Draws} {tables : Tables} {x : Spelt} {broken : Broken} → EndsAlong state ending m0 m2 x → Path state ending m0 m2 d tables (x ∷ []) [] broken
-  aloft_so : {m0 m2 : Machine R} {d : Draws} {tables : Tables} {spelt : List Spelt} {kept : List Answer} {broken : Broken} → HaveFlown state m0 m2 → Path state ending m0 m2 d tables spelt kept broken
-  passed_so : {m0 m1 m2 : Machine R} {d : Draws} {tables : Tables} {at : ℕ} {one : Answer} {spelt : List Spelt} {answers : List Answer} {broken : Broken} → IsPassed state m0 m1
-      → Path state ending m1 m2 d tables spelt answers (rest_of broken) → Path state ending m0 m2 d tables (Err at ∷ spelt) (one ∷ answers) broken
-  answered_so : {m0 m1 m2 : Machine R} {d : Draws} {tables : Tables} {stmt : Stmt} {one : Answer} {spelt : List Spelt} {answers : List Answer} {broken : Broken} → StandsSo state m0 m1 d tables stmt one (head_of broken)
-      → Path state ending m1 m2 (after (head_of broken) (session_of m0 d tables) stmt).draws (after (head_of broken) (session_of m0 d tables) stmt).tables spelt answers (rest_of broken)
-      → Path state ending m0 m2 d tables (Ok stmt ∷ spelt) (one ∷ answers) broken
-  together_so : {m0 m1 m2 : Machine R} {d : Draws} {tables : Tables} (stmts : List Stmt) {more : List Spelt} (given : List Answer) {answers : List Answer} {broken : Broken} → LandsSo state m0 m1 d tables → length given ≡ length stmts
-      → Path state ending m1 m2 d tables more answers (drop (length stmts) broken) → Path state ending m0 m2 d tables (map Ok stmts ++ more) (given ++ answers) broken
+-- and where the model stands beside them, by the seats of the statements
+pub data Path {R : Type 0} (state : R → RevState) (ending : Ending) : Machine R → Machine R → Draws → Tables → List Seat → List Spelt → List Answer → Broken → Type 0 where
+  over_so : {m0 m2 : Machine R} {d : Draws} {tables : Tables} {seats : List Seat} {broken : Broken} → IsOver state m0 m2 → Path state ending m0 m2 d tables seats [] [] broken
+  ends_so : {m0 m2 : Machine R} {d : Draws} {tables : Tables} {seats : List Seat} {x : Spelt} {broken : Broken} → BeginsSeats state m0 x seats → EndsAlong state ending m0 m2 x → Path state ending m0 m2 d tables seats (x ∷ []) [] broken
+  aloft_so : {m0 m2 : Machine R} {d : Draws} {tables : Tables} {seats : List Seat} {spelt : List Spelt} {kept : List Answer} {broken : Broken} → HaveFlown state m0 m2 → LeavesKept d tables seats spelt kept broken
+      → Path state ending m0 m2 d tables seats spelt kept broken
+  passed_so : {m0 m1 m2 : Machine R} {d : Draws} {tables : Tables} {seats : List Seat} {at : ℕ} {one : Answer} {spelt : List Spelt} {answers : List Answer} {broken : Broken} → IsPassed state m0 m1
+      → Path state ending m1 m2 d tables seats spelt answers (rest_of broken) → Path state ending m0 m2 d tables seats (Err at ∷ spelt) (one ∷ answers) broken
+  answered_so : {m0 m1 m2 : Machine R} {d : Draws} {tables : Tables} {v : Seat} {seats : List Seat} {stmt : Stmt} {one : Answer} {spelt : List Spelt} {answers : List Answer} {broken : Broken} → IsSeatOf state m0 v → StandsSo state m0 m1 d tables stmt one (head_of broken)
+      → Path state ending m1 m2 (after (head_of broken) (session_of m0 d tables) stmt).draws (after (head_of broken) (session_of m0 d tables) stmt).tables seats spelt answers (rest_of broken)
+      → Path state ending m0 m2 d tables (v ∷ seats) (Ok stmt ∷ spelt) (one ∷ answers) broken
+  together_so : {m0 m1 m2 : Machine R} {d : Draws} {tables : Tables} (flown : List Seat) {seats : List Seat} (stmts : List Stmt) {more : List Spelt} (given : List Answer) {answers : List Answer} {broken : Broken} → LandsSo state m0 m1 d tables → length given ≡ length stmts
+      → LeavesFlown d tables flown seats stmts more given answers broken
+      → Path state ending m1 m2 d tables seats more answers (drop (length stmts) broken) → Path state ending m0 m2 d tables (flown ++ seats) (map Ok stmts ++ more) (given ++ answers) broken

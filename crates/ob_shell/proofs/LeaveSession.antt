@@ -1,11 +1,13 @@
 -- What a session leaves whose tables are saved, by the walk over its texts.
 use Rattle.std.proofs.Common.{◌≡◌, ℕ, List, Option, None, Some, refl}
 use Rattle.ob_headline.specs.Bases.{Base}
+use Rattle.ob_headline.specs.Flights.{words_of}
 use Rattle.ob_headline.specs.SavedHeadline.{LeavesSaved}
 use Rattle.ob_headline.specs.Story.{Story}
 use Rattle.ob_headline.specs.Words.{Answer}
 use Rattle.ob_headline.specs.declared.ending.Ending.{Ending}
 use Rattle.ob_seal.specs.KeySet.{KeySet}
+use Rattle.ob_shell.proofs.LeaveLemmas.{leaves_saved}
 use Rattle.ob_shell.proofs.WalkLemmas.{Walked}
 use Rattle.ob_shell.specs.Leaving.{BeginsToSave}
 use Rattle.ob_shell.specs.Steps.{Machine}
@@ -33,7 +35,12 @@ module _ {R : Type 0} (state : R → RevState) (ending : Ending) (m0 m1 m2 : Mac
   no_lie_first None is none = is
   no_lie_first (Some lie) is none = let told = walk.lie lie is in absurd (cc (told, none))
 
-  pub session_leaves : (secret salt : List ℕ) (base : Base) (keys : KeySet) → BeginsToSave state secret salt base keys m0
+  -- SELECTs fly by the words of the base
+  pub session_leaves : (secret salt : List ℕ) (base : Base) (keys : KeySet) → BeginsToSave state secret salt base keys m0 → m0.flights.words ≡ words_of base
       → LeavesSaved secret salt base keys ending walked_story m0.store m2.store m0.keeper m2.keeper
-  session_leaves secret salt base keys begins =
-      ?
+  session_leaves secret salt base keys begins words =
+      leaves_saved state secret salt base keys m0 m2 begins words ending walked_story walk.along walk.each walk.follow
+      (λ tells none tables held.
+      let from = walk.meant (first_draws keys) begins.drawn tells (calm_none (world_of state m0.engine m0.store) (no_lie_first m0.store.lie refl none))
+      (record { unfit = λ lie is fits. absurd (cc (is, none)) }) tables held in
+      (from.broken, from.meant, from.behind.path))

@@ -512,6 +512,7 @@ module _ {R : Type 0} {state : R → RevState} {Lost : Type 0} (base : Base) (co
         held = on.held;
         rests = rests;
       })
+      refl
 
   -- how the last part was left
   pub ends_so : EndsBy f1 ran.ended (f0.unread ++ ran.piece) final.rest final.left result

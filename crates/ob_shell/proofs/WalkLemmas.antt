@@ -168,9 +168,9 @@ module _ {R : Type 0} (state : R → RevState) where
       }
 
   -- what is known behind the texts: the tables, where all were answered, and the way there
-  pub record Behind (ending : Ending) (m0 m2 : Machine R) (d : Draws) (tables : Tables) (spelt : List Spelt) (answers : List Answer) (broken : Broken) (after_it : Tables) : Type 0 where
+  pub record Behind (ending : Ending) (m0 m2 : Machine R) (d : Draws) (tables : Tables) (seats : List Seat) (spelt : List Spelt) (answers : List Answer) (broken : Broken) (after_it : Tables) : Type 0 where
     pub whole : EndsWhole ending → Represents state m2.engine m2.store after_it
-    pub path : Path state ending m0 m2 d tables spelt answers broken
+    pub path : Path state ending m0 m2 d tables seats spelt answers broken
 
   -- from the first machine to the second these texts were answered so, and to the third one more was begun, or a flight
   pub record Walked (ending : Ending) (m0 m1 m2 : Machine R) (texts more : List (List ℕ)) (answers : List Answer) (part : List ℕ) : Type 0 where
@@ -202,7 +202,7 @@ module _ {R : Type 0} (state : R → RevState) where
     pub drawn : (d : Draws) → AreDraws m0.engine d → (g : Given d (indexes_of m0.engine)) → Reads d (indexes_of m0.engine) g (seats_at m0 entries) (seen ++ last)
     pub lie : (lie : Lie) → m0.store.lie ≡ Some lie → m2.store.lie ≡ Some lie
     pub meant : (d : Draws) → AreDraws m0.engine d → IsTrue m0.store.tells → Calm (world m0) → IsUnfit (world m2) → (tables : Tables) → Holds state m0 d tables
-        → Told ending (seats_at m0 entries) (session_of m0 d tables) spelt answers (seen ++ last) part (Behind ending m0 m2 d tables spelt answers)
+        → Told ending (seats_at m0 entries) (session_of m0 d tables) spelt answers (seen ++ last) part (Behind ending m0 m2 d tables (seats_at m0 entries) spelt answers)
     pub untampered : (d : Draws) → AreDraws m0.engine d → IsTrue m0.store.tells → (tables : Tables) → Holds state m0 d tables → m2.store.lie ≡ None → EndsUntampered ending
     pub early : EarlyAt m0 m2 entries spelt answers (seen ++ last)
     pub along : Along state ending m0 m2 spelt answers
@@ -394,7 +394,7 @@ module _ {R : Type 0} (state : R → RevState) where
             record {
               broken = [];
               meant = stopped_part m0 m2 tables text run part d drawn cut (record { tells = tells; held = free_holds state m0 d tables cut.does.free held; calm = calm; unfit = unfit });
-              behind = record { whole = λ whole. absurd whole; path = ends_so (inl (record { run = run; ends = refl; does = cut.does })) };
+              behind = record { whole = λ whole. absurd whole; path = ends_so (record { public = refl; asked = refl }) (inl (record { run = run; ends = refl; does = cut.does })) };
             };
         untampered = λ d drawn tells tables held honest. stop_untampered run (cut.does.means.honest tables (record { tells = tells; held = free_holds state m0 d tables cut.does.free held; nolie = honest }));
         early = λ d drawn tells steady tables held sound n before few. early_one m0 m2 tables cut.stmt (Err run) n (most_at m0) m0.flights.words _ _ d drawn cut.does tells steady (free_holds state m0 d tables cut.does.free held) before few;
@@ -515,7 +515,7 @@ module _ {R : Type 0} (state : R → RevState) where
             record {
               broken = [];
               meant = inr (record { fault = ap (λ (r : RunStop). Ran (Err (session_stop r))) fault; room = by.room; how = by.how; cuts = by.cuts; seen = by.seen; answer = one; answers = by.answer; whole = is });
-              behind = record { whole = λ whole. absurd whole; path = ends_so (inr (record { ends = ap (λ (r : RunStop). Ran (Err (session_stop r))) fault; outcome = one.outcome; done = inl (record { does = did.does; owes = did.owes }) })) };
+              behind = record { whole = λ whole. absurd whole; path = ends_so (record { public = refl; asked = refl }) (inr (record { ends = ap (λ (r : RunStop). Ran (Err (session_stop r))) fault; outcome = one.outcome; done = inl (record { does = did.does; owes = did.owes }) })) };
             };
         untampered = λ d drawn tells tables held honest. stop_untampered run (sink_untampered run fault);
         early = λ d drawn tells steady tables held sound n before few. early_one m0 m2 tables did.stmt (Ok one.outcome) n (most_at m0) m0.flights.words _ _ d drawn did.does tells steady (free_holds state m0 d tables did.does.free held) before few;
@@ -560,7 +560,7 @@ module _ {R : Type 0} (state : R → RevState) where
       meant = is ∙ ap (λ (a : Answer). a.bytes) (refused_is m0 m2 text one bad);
       behind = record {
         whole = λ whole. subst (λ (m : Machine R). Represents state m.engine m.store tables) (sym same) (free_holds state m0 d tables bad.free held);
-        path = ends_so (record { same = same; free = bad.free; owed = bad.owed });
+        path = ends_so tt (record { same = same; free = bad.free; owed = bad.owed });
       };
     };
     untampered = λ d drawn tells tables held honest. fine;
@@ -617,7 +617,7 @@ module _ {R : Type 0} (state : R → RevState) where
             record {
               broken = [];
               meant = inr (record { fault = ap (λ (r : RunStop). Ran (Err (session_stop r))) fault; room = room_with state m0 m2 text one with same d tables held; how = by.how; cuts = by.cuts; seen = by.seen; answer = one; answers = by.answer; whole = is });
-              behind = record { whole = λ whole. absurd whole; path = ends_so (inr (record { ends = ap (λ (r : RunStop). Ran (Err (session_stop r))) fault; outcome = one.outcome; done = inr (record { same = same; along = with.along; owed = with.owed }) })) };
+              behind = record { whole = λ whole. absurd whole; path = ends_so (record { public = refl; asked = refl }) (inr (record { ends = ap (λ (r : RunStop). Ran (Err (session_stop r))) fault; outcome = one.outcome; done = inr (record { same = same; along = with.along; owed = with.owed }) })) };
             };
         untampered = λ d drawn tells tables held honest. stop_untampered run (sink_untampered run fault);
         early = λ d drawn tells steady tables held sound n before few. early_still n (most_at m0) m0.flights.words m0.gathered.batch _ (session_of m0 d tables) m0.store.asked m2.store.asked (Ok with.stmt ∷ []) _ tt (ap (λ (m : Machine R). m.store.asked) same) few;

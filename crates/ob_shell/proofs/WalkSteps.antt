@@ -28,11 +28,11 @@ use Rattle.ob_script.specs.Trace.{Served as Entry, next}
 use Rattle.ob_seal.specs.KeySet.{KeySet}
 use Rattle.ob_shell.proofs.DisturbLemmas.{before_less, begins_more, crosses, few_or_more}
 use Rattle.ob_shell.proofs.FailureLemmas.{answered, beside_more, cut_rises, cuts_more, fails_more, own_rises, uncut_rises}
-use Rattle.ob_shell.proofs.EndLemmas.{alone_joins, end_cut, failed_by, same_by, says}
+use Rattle.ob_shell.proofs.EndLemmas.{alone_joins, failed_by, same_by, says}
 use Rattle.ob_shell.proofs.FlightMeant.{Told, one_told}
 use Rattle.ob_shell.proofs.HowLemmas.{StartsApart, gathered_by, how_alone, meets_first, met_room, met_trace, starts_as, then_select}
 use Rattle.ob_shell.proofs.LeafLemmas.{Reads, given_after, reads_more, reads_unasked}
-use Rattle.ob_shell.proofs.LeavePath.{Along, Path, StandsSo, answered_along, answered_so, passed_along, passed_so}
+use Rattle.ob_shell.proofs.LeavePath.{Along, IsSeatOf, Path, StandsSo, answered_along, answered_so, passed_along, passed_so}
 use Rattle.ob_shell.proofs.ReplayLemmas.{counts_on, draws_after, free_holds, holds_free, stands_after}
 use Rattle.ob_shell.proofs.SeatLemmas.{after_alone_then, trace_alone_then}
 use Rattle.ob_shell.proofs.WalkEntries.{alone_entries, most_at, refused_entries, seats_at, seats_more, trace_at, whole_alone}
@@ -49,6 +49,7 @@ use Rattle.ob_tables.specs.Telling.{Represents}
 use Rattle.ob_vault.specs.State.{RevState, Start}
 use Rattle.ob_vault.specs.Tied.{IsUnfit, TagFits}
 use Rattle.ob_verdict.specs.Outcomes.{by_fault, refusal_now}
+use Rattle.ob_tables.proofs.CutLemmas.{end_cut}
 
 -- ---- the walk
 module _ {R : Type 0} (state : R → RevState) where
@@ -58,9 +59,9 @@ module _ {R : Type 0} (state : R → RevState) where
     here_again : Walked state ending m1 m m2 texts more answers part → Walked state ending (standing m0 m1.owed m1.gathered) m m2 texts more answers part
     here_again = subst (λ (x : Machine R). Walked state ending x m m2 texts more answers part) same
 
-  path_again : (ending : Ending) (m0 m1 m2 : Machine R) (d : Draws) (tables : Tables) (spelt : List Spelt) (answers : List Answer) (broken : Broken) → StaysAs m0 m1
-      → Path state ending (standing m0 m1.owed m1.gathered) m2 d tables spelt answers broken → Path state ending m1 m2 d tables spelt answers broken
-  path_again ending m0 m1 m2 d tables spelt answers broken same = subst (λ (x : Machine R). Path state ending x m2 d tables spelt answers broken) (sym same)
+  path_again : (ending : Ending) (m0 m1 m2 : Machine R) (d : Draws) (tables : Tables) (seats : List Seat) (spelt : List Spelt) (answers : List Answer) (broken : Broken) → StaysAs m0 m1
+      → Path state ending (standing m0 m1.owed m1.gathered) m2 d tables seats spelt answers broken → Path state ending m1 m2 d tables seats spelt answers broken
+  path_again ending m0 m1 m2 d tables seats spelt answers broken same = subst (λ (x : Machine R). Path state ending x m2 d tables seats spelt answers broken) (sym same)
 
   pub more_refused : (ending : Ending) (m0 m1 m m2 : Machine R) (text : List ℕ) (texts more : List (List ℕ)) (one : Answer) (answers : List Answer) (part : List ℕ) → StaysAs m0 m1 → Misspelt m0 m1 text one
       → Walked state ending m1 m m2 texts more answers part → Walked state ending m0 m m2 (text ∷ texts) more (one ∷ answers) part
@@ -110,7 +111,7 @@ module _ {R : Type 0} (state : R → RevState) where
             record {
               broken = Alone ∷ from.broken;
               meant = (is, from.meant);
-              behind = record { whole = from.behind.whole; path = passed_so (record { same = same; free = bad.free; owed = bad.owed }) (path_again ending m0 m1 m2 d tables rest.spelt answers from.broken same from.behind.path) };
+              behind = record { whole = from.behind.whole; path = passed_so (record { same = same; free = bad.free; owed = bad.owed }) (path_again ending m0 m1 m2 d tables (seats_at m0 rest.entries) rest.spelt answers from.broken same from.behind.path) };
             };
         untampered = λ d drawn tells tables held honest. rest.untampered d drawn tells tables (on d tables held) honest;
         early = λ d drawn tells steady tables held sound n before few.
@@ -321,19 +322,18 @@ module _ {R : Type 0} (state : R → RevState) where
             let behind_it = after by.how s did.stmt in
             let from = rest.meant behind_it.draws (draws_after state m0 m1 d tables text one did by.how by.seen drawn) (subst (λ (b : Bool). IsTrue b) (sym did.does.ran.later.tells) tells) (did.does.ran.cause.1 calm) unfit behind_it.tables by.held in
             let stands = stands_after state m0 m1 d tables text one did by.how by.seen in
-            let inner = Behind state ending m1 m2 behind_it.draws behind_it.tables rest.spelt answers in
-            let outer = Behind state ending m0 m2 d tables (Ok did.stmt ∷ rest.spelt) (one ∷ answers) in
+            let inner = Behind state ending m1 m2 behind_it.draws behind_it.tables (seats_at m1 rest.entries) rest.spelt answers in
+            let outer : List Seat → Broken → Tables → Type 0 = λ vs. Behind state ending m0 m2 d tables vs (Ok did.stmt ∷ rest.spelt) (one ∷ answers) in
             let first : StandsSo state m0 m1 d tables did.stmt one by.how = record {
               room = by.room;
               served = inl (record { done = record { does = did.does; owes = did.owes }; seen = by.seen });
-              stands = stands;
               drawn = draws_after state m0 m1 d tables text one did by.how by.seen drawn;
               holds = by.held;
             } in
-            subst (λ (vs : List Seat). Told ending vs s (Ok did.stmt ∷ rest.spelt) (one ∷ answers) (x ∷ all) part outer) there
-            (one_told ending (seat_alone p (asked_of m0) x) s did.stmt by.how one x (seats_at m1 rest.entries) rest.spelt answers all part inner outer by.room by.cuts by.answer by.seen
+            subst (λ (vs : List Seat). Told ending vs s (Ok did.stmt ∷ rest.spelt) (one ∷ answers) (x ∷ all) part (outer vs)) there
+            (one_told ending (seat_alone p (asked_of m0) x) s did.stmt by.how one x (seats_at m1 rest.entries) rest.spelt answers all part inner (outer (seat_alone p (asked_of m0) x ∷ seats_at m1 rest.entries)) by.room by.cuts by.answer by.seen
             (subst (λ (y : Session). Told ending (seats_at m1 rest.entries) y rest.spelt answers all part inner) (sym stands) from)
-            (λ broken ts b. record { whole = b.whole; path = answered_so first b.path }));
+            (λ broken ts b. record { whole = b.whole; path = answered_so (record { public = refl; asked = refl }) first b.path }));
         untampered = λ d drawn tells tables held honest.
             let none : m1.store.lie ≡ None = none_before m1.store.lie m1 m2 refl rest.lie honest in
             let by = answered_by state m0 m1 tables text one did d drawn (record { tells = tells; held = free_holds state m0 d tables did.does.free held; nolie = none }) in
@@ -387,22 +387,20 @@ module _ {R : Type 0} (state : R → RevState) where
 
   -- the path over it
   path_with : (ending : Ending) (m0 m1 m2 : Machine R) (text : List ℕ) (one : Answer) (with : ServedWith m0 m1 text one) (same : StaysAs m0 m1) (d : Draws) (tables : Tables) (held : Holds state m0 d tables)
-      (spelt : List Spelt) (answers : List Answer) (broken : Broken) → AreDraws m0.engine d
-      → Path state ending (standing m0 m1.owed m1.gathered) m2 d (after (means_with state m0 m1 text one with same d tables held).how (session_of m0 d tables) with.stmt).tables spelt answers broken
-      → Path state ending m0 m2 d tables (Ok with.stmt ∷ spelt) (one ∷ answers) ((means_with state m0 m1 text one with same d tables held).how ∷ broken)
-  path_with ending m0 m1 m2 text one with same d tables held spelt answers broken drawn rest =
+      (v : Seat) (seats : List Seat) (spelt : List Spelt) (answers : List Answer) (broken : Broken) → AreDraws m0.engine d → IsSeatOf state m0 v
+      → Path state ending (standing m0 m1.owed m1.gathered) m2 d (after (means_with state m0 m1 text one with same d tables held).how (session_of m0 d tables) with.stmt).tables seats spelt answers broken
+      → Path state ending m0 m2 d tables (v ∷ seats) (Ok with.stmt ∷ spelt) (one ∷ answers) ((means_with state m0 m1 text one with same d tables held).how ∷ broken)
+  path_with ending m0 m1 m2 text one with same d tables held v seats spelt answers broken drawn sits rest =
       let by = means_with state m0 m1 text one with same d tables held in
       let s = session_of m0 d tables in
       let behind = after by.how s with.stmt in
       let draws : behind.draws ≡ d = ap (λ (x : Session). x.draws) by.stands in
-      let here : session_of m0 d behind.tables ≡ session_of m1 behind.draws behind.tables = ap (λ (x : Machine R). session_of x d behind.tables) (sym same) ∙ ap (λ (e : Draws). session_of m1 e behind.tables) (sym draws) in
-      answered_so (record {
+      answered_so sits (record {
         room = room_with state m0 m1 text one with same d tables held;
         served = inr (record { same = same; draws = draws; still = by.still });
-        stands = by.stands ∙ here;
         drawn = subst (λ (x : Machine R). AreDraws x.engine behind.draws) (sym same) (subst (AreDraws m0.engine) (sym draws) drawn);
         holds = subst (λ (e : Draws). Holds state m1 e behind.tables) (sym draws) by.holds;
-      }) (subst (λ (e : Draws). Path state ending m1 m2 e behind.tables spelt answers broken) (sym draws) (path_again ending m0 m1 m2 d behind.tables spelt answers broken same rest))
+      }) (subst (λ (e : Draws). Path state ending m1 m2 e behind.tables seats spelt answers broken) (sym draws) (path_again ending m0 m1 m2 d behind.tables seats spelt answers broken same rest))
 
   pub more_with : (ending : Ending) (m0 m1 m m2 : Machine R) (text : List ℕ) (texts more : List (List ℕ)) (one : Answer) (answers : List Answer) (part : List ℕ) → StaysAs m0 m1 → ServedWith m0 m1 text one
       → Walked state ending m1 m m2 texts more answers part → Walked state ending m0 m m2 (text ∷ texts) more (one ∷ answers) part
@@ -464,12 +462,12 @@ module _ {R : Type 0} (state : R → RevState) where
             let by = means_with state m0 m1 text one with same d tables held in
             let behind_it = after by.how s with.stmt in
             let from = rest.meant d drawn tells calm unfit behind_it.tables (on d tables held) in
-            let inner = Behind state ending fresh m2 d behind_it.tables rest.spelt answers in
-            let outer = Behind state ending m0 m2 d tables (Ok with.stmt ∷ rest.spelt) (one ∷ answers) in
-            subst (λ (l : List Seat). Told ending l s (Ok with.stmt ∷ rest.spelt) (one ∷ answers) (x ∷ all) part outer) vs
-            (one_told ending (seat_alone p (asked_of m0) x) s with.stmt by.how one x (seats_at m0 rest.entries) rest.spelt answers all part inner outer (room_with state m0 m1 text one with same d tables held) by.cuts by.answer by.seen
+            let inner = Behind state ending fresh m2 d behind_it.tables (seats_at m0 rest.entries) rest.spelt answers in
+            let outer : List Seat → Broken → Tables → Type 0 = λ l. Behind state ending m0 m2 d tables l (Ok with.stmt ∷ rest.spelt) (one ∷ answers) in
+            subst (λ (l : List Seat). Told ending l s (Ok with.stmt ∷ rest.spelt) (one ∷ answers) (x ∷ all) part (outer l)) vs
+            (one_told ending (seat_alone p (asked_of m0) x) s with.stmt by.how one x (seats_at m0 rest.entries) rest.spelt answers all part inner (outer (seat_alone p (asked_of m0) x ∷ seats_at m0 rest.entries)) (room_with state m0 m1 text one with same d tables held) by.cuts by.answer by.seen
             (subst (λ (y : Session). Told ending (seats_at m0 rest.entries) y rest.spelt answers all part inner) (sym by.stands) from)
-            (λ broken ts b. record { whole = b.whole; path = path_with ending m0 m1 m2 text one with same d tables held rest.spelt answers broken drawn b.path }));
+            (λ broken ts b. record { whole = b.whole; path = path_with ending m0 m1 m2 text one with same d tables held (seat_alone p (asked_of m0) x) (seats_at m0 rest.entries) rest.spelt answers broken drawn (record { public = refl; asked = refl }) b.path }));
         untampered = λ d drawn tells tables held honest. rest.untampered d drawn tells (after (means_with state m0 m1 text one with same d tables held).how (session_of m0 d tables) with.stmt).tables (on d tables held) honest;
         early = λ d drawn tells steady tables held sound n before few.
             let by = means_with state m0 m1 text one with same d tables held in

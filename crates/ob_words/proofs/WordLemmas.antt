@@ -9,7 +9,7 @@ use Rattle.clap.specs.declared.error.Error.{Error}
 use Rattle.clap.specs.declared.error.kind.ErrorKind.TheVariants.{OutOfMemory}
 use Rattle.clap.specs.declared.parser.matches.ArgMatches.{ArgMatches}
 use Rattle.ob_base.specs.declared.config.Config.{Config}
-use Rattle.ob_headline.specs.Settings.{IsTaken, MeddleParses, ParsesAs, flight_beside, flight_by, flight_of, generated_by, may_fly, settings_of}
+use Rattle.ob_headline.specs.Settings.{IsTaken, MeddleParses, ParsesAs, flight_beside, flight_by, flight_of, generated_by, flight_goes, settings_of}
 use Rattle.ob_headline.specs.Usage.{Parses, changes_of, is_traced, meddle_usage, value_of}
 use Rattle.ob_headline.specs.declared.flight.FlightSettings.{FlightSettings}
 use Rattle.ob_headline.specs.declared.seed.Seed.{Seed}
@@ -39,7 +39,7 @@ words_from a b m words e simple h = λ i. words_by (λ name. value_from a b m wo
 -- as the value says, where it goes with them
 pub record Beside (flight : Option FlightSettings) (config : Config) (value : Option (Option FlightSettings)) : Type 0 where
   pub is : value ≡ Some flight
-  pub goes : may_fly flight config.batch config.planner ≡ true
+  pub goes : flight_goes flight config.batch config.planner ≡ true
 
 beside_if : (may : Bool) (flight other : Option FlightSettings) → (if may then Some flight else None) ≡ Some other → (flight ≡ other) × (may ≡ true)
 beside_if false flight other is = absurd (cc is)
@@ -48,8 +48,8 @@ beside_if true flight other is = (cc is, refl)
 pub beside : (config : Config) (value : Option (Option FlightSettings)) (flight : Option FlightSettings) → flight_beside config value ≡ Some flight → Beside flight config value
 beside config None flight is = absurd (cc is)
 beside config (Some other) flight is =
-    let parts = beside_if (may_fly other config.batch config.planner) other flight is in
-    record { is = ap Some parts.0; goes = subst (λ (f : Option FlightSettings). may_fly f config.batch config.planner ≡ true) parts.0 parts.1 }
+    let parts = beside_if (flight_goes other config.batch config.planner) other flight is in
+    record { is = ap Some parts.0; goes = subst (λ (f : Option FlightSettings). flight_goes f config.batch config.planner ≡ true) parts.0 parts.1 }
 
 -- the parts of what values spell
 pub record Parts (trace : Bool) (settings : Option Config) (generated : Option (Option Seed)) (flight : Option (Option FlightSettings)) (w : Words) : Type 0 where

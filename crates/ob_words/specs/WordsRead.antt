@@ -3,7 +3,7 @@ use Rattle.std.specs.Prelude.{⊤, ◌≡◌, ◌≤◌, ◌<◌, ◌^◌, Bool,
 use Rattle.clap.specs.Words.{Text}
 use Rattle.ob_base.specs.declared.config.Config.{Config}
 use Rattle.ob_tables.specs.Engines.{IsConfig}
-use Rattle.ob_headline.specs.Settings.{flight_beside, flight_in, may_fly, settings_by, seed_in}
+use Rattle.ob_headline.specs.Settings.{flight_beside, flight_in, flight_goes, settings_by, seed_in}
 use Rattle.ob_headline.specs.Usage.{is_set}
 use Rattle.ob_headline.specs.declared.flight.FlightSettings.{FlightSettings}
 use Rattle.ob_headline.specs.declared.seed.Seed.{Seed}
@@ -46,7 +46,7 @@ pub record FliesWithin (flight : FlightSettings) (config : Config) : Type 0 wher
   pub few : flight.most ≤ 8
   pub start : flight.start < 2 ^ 64
   pub alone : config.batch ≡ None
-  pub goes : may_fly (Some flight) config.batch config.planner ≡ true
+  pub goes : flight_goes (Some flight) config.batch config.planner ≡ true
 
 -- so it is where any fly
 abbrev pub AreFlown : Option FlightSettings → Config → Type 0

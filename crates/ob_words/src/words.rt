@@ -8,7 +8,7 @@ ghost use Rattle.ob_base.specs.Plans.{MayPad};
 ghost use Rattle.ob_headline.specs.Settings.{ParsesAs, IsTaken, ParsesChanges, MeddleParses};
 ghost use Rattle.ob_headline.specs.Settings.{IsTakenSaved, ParsesSaved, saved_settings_by};
 ghost use Rattle.ob_headline.specs.Settings.{at_least, batch_in, may_pad, number_in, pad_in, planner_in};
-ghost use Rattle.ob_headline.specs.Settings.{flight_in, flight_of, flight_spelt, may_fly};
+ghost use Rattle.ob_headline.specs.Settings.{flight_in, flight_of, flight_spelt, flight_goes};
 ghost use Rattle.ob_headline.specs.Settings.{generated_by, seed_in, seed_of};
 ghost use Rattle.ob_headline.specs.Settings.{may_mark, settings_by, settings_in};
 ghost use Rattle.ob_headline.specs.Usage.{common, usage, meddle_usage, flag, valued, is_set, is_traced, changes_in};
@@ -315,8 +315,8 @@ fn flight_in(value: Option<&str>) -> Option<Option<FlightSettings>>
 }
 
 // Whether SELECTs may fly so, where INSERTs are served together or aren't and plans are chosen so.
-fn may_fly(flight: Option<FlightSettings>, batch: Option<u32>, planner: Planner) -> bool
-    ensures value { result ≡ may_fly flight batch planner }
+fn flight_goes(flight: Option<FlightSettings>, batch: Option<u32>, planner: Planner) -> bool
+    ensures value { result ≡ flight_goes flight batch planner }
     ensures alone { result ≡ true → IfSome flight (λ f. batch ≡ None) }
 {
     match (flight, batch) {
@@ -412,7 +412,7 @@ fn words_beside(matches: &ArgMatches, config: Config) -> Option<Words>
 {
     let generated = seed_in(matches.get_str("gen"))?;
     let flight = flight_in(matches.get_str("flight"))?;
-    if !may_fly(flight, config.batch, config.planner) {
+    if !flight_goes(flight, config.batch, config.planner) {
         return None;
     }
     Some(Words {
