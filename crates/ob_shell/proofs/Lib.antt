@@ -46,8 +46,8 @@ pub mod FlightSteady
 pub mod FlightEnding
 pub mod FlightMore
 pub mod FlightLast
-pub mod FlightWants
 pub mod FlightLeaves
+pub mod FlightWants
 pub mod FlightOpen
 pub mod WalkEntries
 pub mod WalkWhole
