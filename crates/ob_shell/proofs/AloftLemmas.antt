@@ -1,19 +1,17 @@
 -- What statements in flight did, and what was printed of them.
 use Rattle.std.specs.Prelude.{MatchResult, OnOk, slice_get}
-use Rattle.std.proofs.Common.{◌≡◌, ◌⊎◌, ◌+◌, ◌<◌, ◌≤◌, ℕ, zero, suc, List, [], ◌∷◌, ◌++◌, length, map, Option, Some, None, Result, Ok, Err, inl, inr, refl, sym, ap, ◌∙◌, subst, arith, append_assoc, append-nil}
-use Rattle.ob_base.specs.Counts.{Rises}
+use Rattle.std.proofs.Common.{◌≡◌, ◌⊎◌, ◌+◌, ◌<◌, ◌≤◌, ℕ, zero, suc, List, [], ◌∷◌, ◌++◌, length, Option, Some, Result, Ok, Err, inl, inr, refl, ap, ◌∙◌, arith}
 use Rattle.ob_base.specs.Events.{Event}
-use Rattle.ob_base.specs.declared.config.Public.{Public}
 use Rattle.ob_base.specs.declared.seen.Seen.{Seen}
 use Rattle.ob_exec.specs.InFlight.{served_as}
-use Rattle.ob_exec.specs.RanFlight.{EndsSo, FliesOn, IsParted, RanFlight, RanInTurns, StopsFlight, asked_by, asked_since}
+use Rattle.ob_exec.specs.RanFlight.{EndsSo, IsParted, RanFlight, RanInTurns, StopsFlight, asked_by, asked_since}
 use Rattle.ob_headline.specs.Closing.{closing_line}
-use Rattle.ob_headline.specs.Words.{Answer, printed}
+use Rattle.ob_headline.specs.Words.{printed}
 use Rattle.ob_inflight.specs.Closing.{Closed, ClosesAll}
 use Rattle.ob_print.proofs.SentLemmas.{Sends-then}
 use Rattle.ob_print.specs.Rows.{events_text}
 use Rattle.ob_print.specs.Sent.{Sends}
-use Rattle.ob_shell.specs.Aloft.{EmitsUntil, FlewUntil, FlewWhole, RanAloft, RanTogether, WantsTogether, answers_of}
+use Rattle.ob_shell.specs.Aloft.{EmitsUntil, FlewWhole, RanAloft, RanTogether, WantsTogether, answers_of}
 use Rattle.ob_shell.specs.Tallies.{tally_after, tally_seen, tally_with}
 use Rattle.ob_gen.specs.declared.tally.Tally.{Tally}
 use Rattle.ob_sql.specs.declared.stmt.Stmt.{Stmt}
@@ -23,7 +21,7 @@ use Rattle.ob_tables.specs.Agreeing.{public_of}
 use Rattle.ob_tables.specs.declared.engine.Engine.{Engine}
 use Rattle.ob_tables.specs.declared.stop.RunStop.{RunStop}
 use Rattle.ob_tables.specs.declared.stop.RunStop.TheVariants as Runs
-use Rattle.ob_turns.proofs.Closings.{closes_kept, closes_sent}
+use Rattle.ob_turns.proofs.Closings.{closes_sent}
 use Rattle.ob_turns.specs.Kept.{IsKept, closed_text, outcomes_of}
 use Rattle.ob_vault.specs.State.{RevState}
 use Rattle.ob_verdict.specs.declared.outcome.Outcome.{Outcome}

@@ -415,8 +415,10 @@ module _ {R : Type 0} (state : R → RevState) (m0 : Machine R) (n : ℕ) (some 
     where
       a : ℕ
       a = length (script fp (skeleton stmt) seen)
+
       b : ℕ
       b = accesses_for fp (served_as stmts seens)
+
       go : (a ≡ 0) ⊎ ((asked_of m0 < 2 ^ 63) × (a ≤ 2 ^ 49)) → (b ≡ 0) ⊎ ((asked_of m0 < 2 ^ 63) × (b ≤ 2 ^ 49 * length stmts)) → (a + b ≡ 0) ⊎ ((asked_of m0 < 2 ^ 63) × (a + b ≤ 2 ^ 49 * suc (length stmts)))
       go (inl none) (inl rest) = inl (omega (arith, none, rest))
       go (inl none) (inr rest) = inr (rest.0, let most = rest.1 in omega (arith, none, most))

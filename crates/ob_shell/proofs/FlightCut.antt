@@ -159,7 +159,7 @@ pub carried_by : (run : RunStop) (k : ℕ) → done_of (is_refused run) k ≡ do
 carried_by run k = ap (λ (b : Bool). done_of b k) (tampered_as run)
 
 -- ---- which had ended
-past_none : {A : Type 0} (xs : List A) (i : ℕ) → slice_get xs i ≡ None → length xs ≤ i
+pub past_none : {A : Type 0} (xs : List A) (i : ℕ) → slice_get xs i ≡ None → length xs ≤ i
 past_none [] i is = omega arith
 past_none (x ∷ xs) zero is = absurd (cc is)
 past_none (x ∷ xs) (suc i) is = let rest = past_none xs i is in omega (arith, rest)
@@ -188,7 +188,7 @@ flown_get at i zero (x ∷ stmts) (y ∷ seens) (one ∷ ended) stmt seen get sh
 flown_get at i (suc k) (x ∷ stmts) (y ∷ seens) [] stmt seen get shown = let z : (i + 1) + k ≡ i + suc k = omega arith in flown_get at (i + 1) k stmts seens [] stmt seen get shown ∙ (λ j. Some (flown_at at (z j) stmt seen None))
 flown_get at i (suc k) (x ∷ stmts) (y ∷ seens) (one ∷ ended) stmt seen get shown = let z : (i + 1) + k ≡ i + suc k = omega arith in flown_get at (i + 1) k stmts seens ended stmt seen get shown ∙ (λ j. Some (flown_at at (z j) stmt seen (slice_get ended k)))
 
-get_less : {A : Type 0} (xs : List A) (k : ℕ) (x : A) → slice_get xs k ≡ Some x → k < length xs
+pub get_less : {A : Type 0} (xs : List A) (k : ℕ) (x : A) → slice_get xs k ≡ Some x → k < length xs
 get_less [] k x is = absurd (cc is)
 get_less (y ∷ xs) zero x is = omega arith
 get_less (y ∷ xs) (suc k) x is = let rest = get_less xs k x is in omega (arith, rest)

@@ -1,14 +1,14 @@
 -- What is known of each statement of a flight, from what the engine did.
-use Rattle.std.specs.Prelude.{drop, map, slice_get, take, ⊤}
+use Rattle.std.specs.Prelude.{drop, map, slice_get, take}
 use Rattle.std.specs.List.{All}
-use Rattle.std.proofs.Common.{◌≡◌, ◌⊎◌, ◌+◌, ◌≤◌, ◌<◌, ◌++◌, inl, inr, ℕ, zero, suc, Bool, true, false, IsTrue, List, [], ◌∷◌, length, Option, Some, None, Ok, Err, Result, refl, sym, ◌∙◌, ap, subst, arith, append_assoc, length-append}
-use Rattle.std.proofs.lemmas.List.Elements.{All-cons, All-head, All-nil, All-tail}
+use Rattle.std.proofs.Common.{◌≡◌, ◌+◌, ◌≤◌, ◌++◌, ℕ, zero, suc, true, List, [], ◌∷◌, length, Option, Some, None, Ok, Result, refl, sym, ◌∙◌, ap, subst, arith}
+use Rattle.std.proofs.lemmas.List.Elements.{All-head, All-tail}
 use Rattle.ob_base.specs.Stored.{headings, headings_of}
 use Rattle.ob_base.specs.declared.config.Public.{Public}
 use Rattle.ob_base.specs.declared.seen.Seen.{Seen}
 use Rattle.ob_exec.specs.InFlight.{IsFlown, IsMeant, served_as}
-use Rattle.ob_exec.specs.RanFlight.{asked_by, asked_since, carried_out, in_flight}
-use Rattle.ob_headline.specs.Flights.{Seat, Stand, may_fly, seat_aloft, seats_aloft, stand_at}
+use Rattle.ob_exec.specs.RanFlight.{asked_by, asked_since, carried_out}
+use Rattle.ob_headline.specs.Flights.{may_fly, seat_aloft, seats_aloft, stand_at}
 use Rattle.ob_headline.specs.Statements.{SpellFirst, statements}
 use Rattle.ob_headline.specs.Words.{Answer}
 use Rattle.ob_inflight.specs.Closing.{Closed}
@@ -16,20 +16,18 @@ use Rattle.ob_mean.specs.Replay.{Session, Spelt}
 use Rattle.ob_mean.specs.Verdict.{Draws, Tables}
 use Rattle.ob_script.specs.Flights.{flight_public}
 use Rattle.ob_script.specs.Trace.{Served}
-use Rattle.ob_shell.proofs.FlightMeant.{AllMean, MeantSo, Means, meant_so}
-use Rattle.ob_shell.proofs.FlightSeen.{AllAnswered, FirstAnswered, IsAnswerOf, IsIn, PlacesFrom, Stood, flown_places}
+use Rattle.ob_shell.proofs.FlightMeant.{AllMean, Means, meant_so}
+use Rattle.ob_shell.proofs.FlightSeen.{AllAnswered, FirstAnswered, IsIn, PlacesFrom, Stood, flown_places}
 use Rattle.ob_shell.proofs.FlownLists.{Flown, Places, each_flown, flown_at, flown_list, flown_seats, flown_served, flown_stmts, seats_in, served_in_all, stmts_in}
 use Rattle.ob_shell.proofs.HowLemmas.{may_by}
-use Rattle.ob_shell.proofs.ReplayLemmas.{free_holds}
 use Rattle.ob_shell.specs.Aloft.{RanAloft, answer_of, answers_of, asked_own}
-use Rattle.ob_shell.specs.Steps.{AreSpelt, Holds, Machine, MayFly, asked_of, session_of}
+use Rattle.ob_shell.specs.Steps.{AreSpelt, Machine, MayFly, asked_of, session_of}
 use Rattle.ob_sql.specs.Skeleton.{skeleton}
 use Rattle.ob_sql.specs.declared.stmt.Stmt.{Stmt}
-use Rattle.ob_tables.specs.Agreeing.{count_of, public_of}
-use Rattle.ob_tables.specs.Telling.{Emitted, ReadsTrueUntil, answer_labels}
+use Rattle.ob_tables.specs.Agreeing.{public_of}
+use Rattle.ob_tables.specs.Telling.{Emitted, ReadsTrueUntil}
 use Rattle.ob_tables.specs.declared.stop.RunStop.{RunStop}
 use Rattle.ob_vault.specs.State.{RevState}
-use Rattle.ob_verdict.specs.Outcomes.{Emits}
 
 -- ---- lists
 pub served_long : (stmts : List Stmt) (seens : List Seen) → length seens ≡ length stmts → length (served_as stmts seens) ≡ length stmts

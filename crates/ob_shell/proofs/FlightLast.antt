@@ -1,5 +1,5 @@
 -- The last part of a walk.
-use Rattle.std.proofs.Common.{◌≡◌, ◌⊎◌, ◌++◌, ℕ, Bool, List, [], Option, Err, Ok}
+use Rattle.std.proofs.Common.{◌≡◌, ◌⊎◌, ◌++◌, ℕ, List, [], Option, Err}
 use Rattle.ob_headline.specs.Words.{Answer, Took, printed}
 use Rattle.ob_headline.specs.declared.ending.Ending.{Ending}
 use Rattle.ob_print.specs.Cuts.{Outputs}

@@ -1,9 +1,7 @@
 -- What is open of flights.
 use Rattle.std.specs.Prelude.{drop, take}
-use Rattle.std.proofs.Common.{◌≡◌, ◌⊎◌, ◌≤◌, ◌++◌, inl, inr, ℕ, List, [], ◌∷◌, length, Option, Ok, Err, Result, arith}
+use Rattle.std.proofs.Common.{◌⊎◌, ◌≤◌, ◌++◌, inl, inr, ℕ, List, [], ◌∷◌, length, Option, Ok, Err, Result, arith}
 use Rattle.ob_base.specs.declared.seen.Seen.{Seen}
-use Rattle.ob_headline.specs.Accesses.{LeavesAloft}
-use Rattle.ob_headline.specs.Statements.{statements}
 use Rattle.ob_headline.specs.Words.{Answer, Took, printed}
 use Rattle.ob_headline.specs.declared.ending.Ending.TheVariants.{Ran}
 use Rattle.ob_inflight.specs.Closing.{Closed}
@@ -11,7 +9,7 @@ use Rattle.ob_print.specs.Cuts.{Outputs}
 use Rattle.ob_shell.proofs.FlightEnd.{aloft, spelt_left, turn_of}
 use Rattle.ob_shell.proofs.FlightEnding.{flies_cut, flies_finished}
 use Rattle.ob_shell.proofs.FlightLast.{LastWalk}
-use Rattle.ob_shell.proofs.WalkEntries.{seats_at}
+use Rattle.ob_shell.proofs.FlightWants.{wants_left}
 use Rattle.ob_shell.proofs.WalkLemmas.{EarlyAt}
 use Rattle.ob_shell.proofs.WalkWhole.{FliesEarly}
 use Rattle.ob_shell.specs.Aloft.{RanAloft}
@@ -19,7 +17,6 @@ use Rattle.ob_shell.specs.Steps.{CutTogether, FinishedTogether, Machine, MayFly}
 use Rattle.ob_sql.specs.declared.stmt.Stmt.{Stmt}
 use Rattle.ob_tables.specs.Stops.{session_stop}
 use Rattle.ob_tables.specs.declared.stop.RunStop.{RunStop}
-use Rattle.ob_tables.specs.declared.stop.RunStop.TheVariants as Runs
 use Rattle.ob_vault.specs.State.{RevState}
 
 -- before the first disturbance
@@ -32,14 +29,6 @@ pub early_left : {R : Type 0} (state : R → RevState) (m0 m1 : Machine R) (stmt
     → EarlyAt state m0 m1 (turn_of state m0 m1 stmts seens ended result may ran ∷ []) (spelt_left state m0 m1 stmts seens ended result may ran) kept
     (take (length kept) (aloft state m0 m1 stmts seens ended result may ran) ++ drop (length kept) (aloft state m0 m1 stmts seens ended result may ran))
 early_left state m0 m1 stmts seens ended result may ran kept short = ?
-
--- where memory was wanting in a flight
-pub wants_left : {R : Type 0} (state : R → RevState) (m1 m2 : Machine R) (more : List (List ℕ)) (part : List ℕ) (run : RunStop) (cut : CutTogether state m1 m2 more run part) → run ≡ Runs.NoMemory → (kept : List Answer) → length kept ≤ length cut.flew.ended
-    → LeavesAloft (Ran (Err (session_stop run))) m2.store.asked
-    (drop (length (take (length kept) (aloft state m1 m2 cut.stmts cut.seens cut.flew.ended (Err run) cut.may cut.flew.ran))) (seats_at m1 (turn_of state m1 m2 cut.stmts cut.seens cut.flew.ended (Err run) cut.may cut.flew.ran ∷ [])))
-    (statements (drop (length (take (length kept) cut.flown)) (spelt_left state m1 m2 cut.stmts cut.seens cut.flew.ended (Err run) cut.may cut.flew.ran)))
-    (drop (length kept) (aloft state m1 m2 cut.stmts cut.seens cut.flew.ended (Err run) cut.may cut.flew.ran))
-wants_left state m1 m2 more part run cut memory kept few = ?
 
 -- where a flight was left
 pub flies_last : {R : Type 0} (state : R → RevState) (m1 m2 : Machine R) (more : List (List ℕ)) (part : List ℕ) (w0 w1 : Option (List ℕ)) (Lost : Type 0) (first : List Answer) → Outputs w0 w1 Lost (printed first ++ part) → Took w0 w1 (printed first)

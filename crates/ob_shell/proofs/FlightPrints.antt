@@ -1,8 +1,6 @@
 -- What a sink took of the answers of statements in flight.
-use Rattle.std.specs.Prelude.{IsErr, OnOk}
-use Rattle.std.proofs.Common.{◌≡◌, ◌⊎◌, ◌+◌, ℕ, Bool, List, [], ◌++◌, length, Option, Ok, Err, Result, inl, inr, refl, sym, ap, ◌∙◌, subst, arith, append-nil, true, false}
+use Rattle.std.proofs.Common.{◌≡◌, ◌⊎◌, ◌+◌, ℕ, Bool, List, [], ◌++◌, length, Option, Ok, Err, inl, inr, refl, sym, ap, ◌∙◌, subst, arith, append-nil, true, false}
 use Rattle.std.proofs.Math.Seq.{take_all}
-use Rattle.std.specs.Io.KnownBytes.{Appends}
 use Rattle.ob_base.specs.Events.{Event}
 use Rattle.ob_base.specs.declared.seen.Seen.{Seen}
 use Rattle.ob_exec.specs.RanFlight.{RanFlight}
@@ -10,12 +8,12 @@ use Rattle.ob_headline.specs.Closing.{closing_line}
 use Rattle.ob_headline.specs.Meaning.{PrintsUntil}
 use Rattle.ob_headline.specs.Words.{printed}
 use Rattle.ob_print.proofs.CutLemmas.{Outputs-by, Outputs-fault, Outputs-whole}
-use Rattle.ob_print.proofs.SentLemmas.{Sends-by, Sends-cut, flushed, flushed_cut, flushed_whole}
+use Rattle.ob_print.proofs.SentLemmas.{Sends-cut, flushed, flushed_cut, flushed_whole}
 use Rattle.ob_print.specs.Cuts.{Outputs}
 use Rattle.ob_print.specs.Rows.{events_text}
 use Rattle.ob_print.specs.Sent.{Sends}
-use Rattle.ob_shell.proofs.AloftLemmas.{MayCut, SentUntil, counted_ended, few_ended, few_until, flew_whole, printed_ended, ran_aloft, sent_until}
-use Rattle.ob_shell.specs.Aloft.{AnswersFlight, CutsFlight, FlewUntil, FlewWhole, answers_of}
+use Rattle.ob_shell.proofs.AloftLemmas.{SentUntil, counted_ended, few_ended, few_until, flew_whole, printed_ended, ran_aloft, sent_until}
+use Rattle.ob_shell.specs.Aloft.{CutsFlight, FlewUntil, answers_of}
 use Rattle.ob_gen.specs.declared.tally.Tally.{Tally}
 use Rattle.ob_shell.specs.Flying.{CountsFlight, PrintsWhole, RestsFlight}
 use Rattle.ob_shell.specs.Tallies.{tally_after, tally_seen}
@@ -26,7 +24,7 @@ use Rattle.ob_tables.specs.declared.engine.Engine.{Engine}
 use Rattle.ob_tables.specs.declared.stop.RunStop.{RunStop}
 use Rattle.ob_tables.specs.declared.stop.RunStop.TheVariants as Runs
 use Rattle.ob_turns.proofs.Closings.{closes_kept, closes_sent}
-use Rattle.ob_turns.specs.Kept.{IsKept, closed_text, outcomes_of}
+use Rattle.ob_turns.specs.Kept.{IsKept, closed_text}
 use Rattle.ob_vault.specs.State.{RevState}
 use Rattle.ob_verdict.specs.declared.outcome.Outcome.{Outcome}
 

@@ -118,7 +118,7 @@ module _ (f : Flown) (one : Answer) (stood : Stood f) (answer : IsAnswerOf f one
   )
 
 -- ---- all of them were answered
-abbrev spelt_in : List Flown → List Spelt
+abbrev pub spelt_in : List Flown → List Spelt
 spelt_in fs = map Ok (stmts_in fs)
 
 pub whole_seen : (Leaves : Public → Stmt → Seen → Type 0) (seats : List Seat) (spelt : List Spelt) (answers : List Answer) (seen : List Served) → AreSeen Leaves seats None spelt answers seen

@@ -1,10 +1,8 @@
 -- SELECTs that waited, once they flew.
 use Rattle.std.specs.Prelude.{◌*◌, ◌/◌, OnErr, OnOk, Result, is_some, max, min, not, slice_get}
 use Rattle.std.specs.List.{All}
-use Rattle.std.proofs.Common.{get_or, ◌≡◌, ◌⊎◌, ◌<◌, ◌≤◌, ◌+◌, inl, inr, ℕ, Bool, true, false, List, [], ◌∷◌, ◌++◌, length, Option, None, Some, Ok, Err, refl, sym, ap, ◌∙◌, subst, arith, append-nil}
+use Rattle.std.proofs.Common.{get_or, ◌≡◌, ◌<◌, ◌≤◌, ◌+◌, inl, inr, ℕ, Bool, true, false, List, [], ◌∷◌, ◌++◌, length, Option, None, Some, Ok, Err, refl, sym, ap, ◌∙◌, subst, arith}
 use Rattle.std.proofs.lemmas.List.Elements.{All-head, All-weaker}
-use Rattle.std.specs.Io.KnownBytes.{Appends}
-use Rattle.std.proofs.KnownBytes.{Appends-nil}
 use Rattle.ob_base.specs.declared.config.Public.{Public}
 use Rattle.ob_base.specs.declared.skeleton.Skeleton.{Skeleton}
 use Rattle.ob_base.specs.declared.skeleton.Skeleton.TheVariants.{Create as CreateSkeleton, Delete as DeleteSkeleton, Drop as DropSkeleton, Groups, Insert as InsertSkeleton, Rows, Update as UpdateSkeleton}
@@ -13,7 +11,7 @@ use Rattle.ob_exec.specs.InFlight.{AreFlight, Flies, served_as}
 use Rattle.ob_exec.specs.Saving.{MaySave}
 use Rattle.ob_gen.specs.declared.tally.Tally.{Tally}
 use Rattle.ob_headline.specs.Flights.{may_fly, most_flown}
-use Rattle.ob_headline.specs.Words.{Faults, Took, printed}
+use Rattle.ob_headline.specs.Words.{Faults, Took}
 use Rattle.ob_headline.specs.declared.flight.FlightSettings.{FlightSettings}
 use Rattle.ob_mean.proofs.BatchLemmas.{begins}
 use Rattle.ob_mean.specs.Batches.{begins_batch, inserts_into}
@@ -29,18 +27,18 @@ use Rattle.ob_shell.proofs.GatherLemmas.{no_insert}
 use Rattle.ob_shell.proofs.StepLemmas.{PartlyAt-rests, Steps-none, printed-nil, steps_together}
 use Rattle.ob_shell.proofs.PlaceLemmas.{place_other, place_past, same_fly}
 use Rattle.ob_shell.proofs.TookLemmas.{took_whole, traced_to_none}
-use Rattle.ob_shell.specs.Aloft.{CutsFlight, RanTogether}
-use Rattle.ob_shell.specs.Flying.{CountsFlight, RestsFlight, RunsFlight, flights_of}
-use Rattle.ob_shell.specs.Running.{IsQuiet, OutFailed, halted_of}
+use Rattle.ob_shell.specs.Aloft.{CutsFlight}
+use Rattle.ob_shell.specs.Flying.{RestsFlight, RunsFlight, flights_of}
+use Rattle.ob_shell.specs.Running.{IsQuiet, halted_of}
 use Rattle.ob_shell.specs.Serving.{ServesBatch, TakesTexts}
 use Rattle.ob_shell.specs.Steps.{AreSpelt, Gathered, IsApartFrom, IsReady, Machine, MayFly, PartlyAt, machine_of, no_flights, standing}
 use Rattle.ob_shell.specs.Traces.{Traced, TracedAll}
-use Rattle.ob_shell.specs.Waiting.{AreBatched, AreFlown, BreaksIn, ComesFree, IsApart, IsClosed, ServedSo}
+use Rattle.ob_shell.specs.Waiting.{AreBatched, AreFlown, BreaksIn, ComesFree, IsClosed}
 use Rattle.ob_shell.specs.declared.session.TextHalted.{TextHalted}
 use Rattle.ob_sql.specs.Skeleton.{skeleton}
 use Rattle.ob_sql.specs.declared.stmt.Stmt.{Stmt}
 use Rattle.ob_store.specs.State.{StoreState}
-use Rattle.ob_tables.specs.Agreeing.{count_of, engine_keys, opened_from, public_of}
+use Rattle.ob_tables.specs.Agreeing.{engine_keys, opened_from, public_of}
 use Rattle.ob_tables.specs.Batch.{AreBatch}
 use Rattle.ob_tables.specs.declared.engine.Engine.{Engine}
 use Rattle.ob_tables.specs.declared.stop.RunStop.{RunStop}

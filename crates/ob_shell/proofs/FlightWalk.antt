@@ -1,7 +1,7 @@
 -- A walk over texts that were answered together, and then over the others.
-use Rattle.std.specs.Prelude.{◌&&◌, OnOk, drop, if◌then◌else◌, map, max, nat_lt, slice_get, take, ⊤}
+use Rattle.std.specs.Prelude.{◌&&◌, if◌then◌else◌, map, nat_lt, slice_get, take}
 use Rattle.std.specs.List.{All}
-use Rattle.std.proofs.Common.{◌≡◌, ◌⊎◌, ◌+◌, ◌≤◌, ◌<◌, ◌++◌, ◌||◌, inl, inr, ℕ, zero, suc, Bool, true, false, IsTrue, List, [], ◌∷◌, length, Option, Some, None, Ok, Err, Result, refl, sym, ◌∙◌, ap, subst, arith, append_assoc, length-append}
+use Rattle.std.proofs.Common.{◌≡◌, ◌+◌, ◌≤◌, ◌++◌, ℕ, true, List, [], ◌∷◌, length, Option, None, Ok, refl, sym, ◌∙◌, ap, subst, arith, append_assoc, length-append}
 use Rattle.std.proofs.lemmas.List.{length-map}
 use Rattle.std.proofs.lemmas.List.Elements.{All-cons, All-head, All-nil, All-tail}
 use Rattle.ob_base.specs.declared.access.Access.{Access}
@@ -9,33 +9,28 @@ use Rattle.ob_base.specs.declared.config.Public.{Public}
 use Rattle.ob_base.specs.declared.seen.Seen.{Seen}
 use Rattle.ob_exec.proofs.LeavesRead.{Given}
 use Rattle.ob_exec.specs.InFlight.{served_as}
-use Rattle.ob_exec.specs.RanFlight.{cut_off as cut_among}
-use Rattle.ob_headline.specs.Accesses.{AreSeen, LeavesAloft, StopsWithin, any_cut}
-use Rattle.ob_headline.specs.Failures.{FailsBeside, RisesBy, cut_off, failures}
-use Rattle.ob_headline.specs.Flights.{AreEntries, AreGathered, EndedBy, MayFly as FlyMay, Seat, after_entries, may_fly, most_flown, place_now, seats_aloft, served_by, whole_of}
-use Rattle.ob_headline.specs.Statements.{SpellFirst, statements}
-use Rattle.ob_headline.specs.Words.{Answer, Begins}
-use Rattle.ob_headline.specs.declared.ending.Ending.{Ending}
-use Rattle.ob_mean.specs.Batches.{Gathering, is_cut}
-use Rattle.ob_mean.specs.Replay.{Broken, Session, Spelt}
-use Rattle.ob_mean.specs.Verdict.{Draws, Tables}
-use Rattle.ob_script.specs.FlightLaws.{SelectsFromOne, one_if, total}
-use Rattle.ob_script.specs.Flights.{Entry as Turn, Together, flight_accesses, merge, next_flight, turns_of, words_from}
+use Rattle.ob_headline.specs.Accesses.{AreSeen}
+use Rattle.ob_headline.specs.Flights.{AreEntries, AreGathered, EndedBy, MayFly as FlyMay, Seat, after_entries, may_fly, most_flown, place_now, seats_aloft, served_by}
+use Rattle.ob_headline.specs.Words.{Answer}
+use Rattle.ob_mean.specs.Batches.{Gathering}
+use Rattle.ob_mean.specs.Replay.{Spelt}
+use Rattle.ob_mean.specs.Verdict.{Draws}
+use Rattle.ob_script.specs.FlightLaws.{SelectsFromOne}
+use Rattle.ob_script.specs.Flights.{Entry as Turn, Together, flight_accesses, next_flight, turns_of, words_from}
 use Rattle.ob_script.specs.Trace.{Served as Entry}
-use Rattle.ob_shell.proofs.FlightFacts.{all_get, all_mean, all_means, all_places, all_stood, all_unleft, drop_more, fs, flown, seats_are, served_are, spell_flown, spelt_long, statements_more, stmts_are, whole_answered}
-use Rattle.ob_shell.proofs.FlightMeant.{Told, told_as, told_same, whole_meant}
-use Rattle.ob_shell.proofs.FlightSeen.{AllAnswered, PlacesFrom, Stood, answered_long, cut_more, flown_lawful, gathers_flown, whole_ended, whole_seen}
+use Rattle.ob_shell.proofs.FlightFacts.{all_get, all_places, all_stood, all_unleft, fs, seats_are, served_are, stmts_are, whole_answered}
+use Rattle.ob_shell.proofs.FlightSeen.{AllAnswered, PlacesFrom, Stood, flown_lawful, gathers_flown, whole_ended, whole_seen}
 use Rattle.ob_shell.proofs.FlownLists.{Flown, seats_in, served_in_all, served_of, stmts_in}
 use Rattle.ob_shell.proofs.LeafLemmas.{Reads, reads_unasked}
 use Rattle.ob_shell.proofs.SeatLemmas.{after_flown_then, seats_flown_then, trace_flown_then}
 use Rattle.ob_shell.proofs.SelectLemmas.{flown_leaf, flown_selects}
-use Rattle.ob_shell.proofs.WalkEntries.{EntriesSo, flown_are, most_at, seats_at, trace_at, whole_flown}
+use Rattle.ob_shell.proofs.WalkEntries.{EntriesSo, flown_are, most_at, seats_at, trace_at}
 use Rattle.ob_shell.proofs.HowLemmas.{StartsApart}
 use Rattle.ob_shell.proofs.ReplayLemmas.{counts_on}
-use Rattle.ob_shell.specs.Steps.{Gathered, Machine, MayFly, StepTogether, asked_of}
+use Rattle.ob_shell.specs.Steps.{Gathered, Machine, StepTogether, asked_of}
 use Rattle.ob_sql.specs.Skeleton.{skeleton}
 use Rattle.ob_sql.specs.declared.stmt.Stmt.{Stmt}
-use Rattle.ob_tables.specs.Agreeing.{AreDraws, engine_start, indexes_of, public_of}
+use Rattle.ob_tables.specs.Agreeing.{indexes_of, public_of}
 use Rattle.ob_vault.specs.State.{RevState}
 
 -- ---- how they are served

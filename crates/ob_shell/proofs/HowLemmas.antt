@@ -1,6 +1,6 @@
 -- How the first of some statements is served where no call fails, and what is asked of them then.
 use Rattle.std.specs.Prelude.{◌&&◌, if◌then◌else◌, nat_lt, ⊤}
-use Rattle.std.proofs.Common.{◌≡◌, ◌+◌, ◌<◌, ◌≤◌, inl, inr, ℕ, Bool, true, false, List, [], ◌∷◌, ◌++◌, length, Option, None, Some, Ok, Err, refl, sym, ◌∙◌, ap, subst, arith, append-nil, append_assoc}
+use Rattle.std.proofs.Common.{◌≡◌, ◌+◌, ◌<◌, ℕ, Bool, true, false, List, [], ◌∷◌, ◌++◌, length, Option, None, Ok, Err, refl, sym, ◌∙◌, ap, subst, arith, append-nil, append_assoc}
 use Rattle.ob_base.specs.declared.access.Access.{Access}
 use Rattle.ob_base.specs.declared.config.Public.{Public}
 use Rattle.ob_base.specs.declared.seen.End.{End}
@@ -17,7 +17,6 @@ use Rattle.ob_mean.specs.Replay.{Alone, How, Session, Spelt, With, after, how_no
 use Rattle.ob_script.specs.Flights.{Alone as One, Entry, trace_in}
 use Rattle.ob_script.specs.Script.{script}
 use Rattle.ob_script.specs.Tables.{tables_after, tables_then}
-use Rattle.ob_script.specs.Trace.{Served}
 use Rattle.ob_shell.proofs.SelectLemmas.{flown_gathers}
 use Rattle.ob_sql.specs.Skeleton.{skeleton}
 use Rattle.ob_sql.specs.declared.stmt.Stmt.{Stmt}

@@ -1,5 +1,5 @@
 -- What lasts of a store while texts are served.
-use Rattle.std.proofs.Common.{◌≡◌, ℕ, Bool, List, [], ◌∷◌, Result, inl, inr, sym, subst}
+use Rattle.std.proofs.Common.{◌≡◌, ℕ, Bool, List, Result, inl, inr, sym, subst}
 use Rattle.ob_base.specs.declared.refusal.Stop.{Stop}
 use Rattle.ob_headline.specs.Words.{Answer}
 use Rattle.ob_shell.proofs.StepLemmas.{last_by}

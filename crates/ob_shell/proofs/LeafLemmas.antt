@@ -7,7 +7,6 @@ use Rattle.std.proofs.lemmas.List.Elements.{All-cons, All-nil, All-weaker}
 use Rattle.std.proofs.lemmas.List.Kept.{AllPairs-cons}
 use Rattle.std.proofs.lemmas.Option.{slice_get-get_or}
 use Rattle.ob_base.specs.Indexes.{leaf_of_draw}
-use Rattle.ob_base.specs.declared.config.Public.{Public}
 use Rattle.ob_exec.proofs.LeavesRead.{Given, KeyAt, Onwards, ReadsUnread, Unread, behind, none_given, reads_unread}
 use Rattle.ob_tables.specs.Agreeing.{AreDraws, indexes_of, public_of, seen_of}
 use Rattle.ob_tables.specs.Engines.{AreTables}

@@ -1,6 +1,6 @@
 -- A store whose list lets go of what was traced: nothing else that is known of it, of an engine over it and of a text that was
 -- answered has changed.
-use Rattle.std.proofs.Common.{◌≡◌, inl, inr, ◌<◌, ℕ, Bool, true, false, List, [], ◌∷◌, length, Option, Ok, refl, ap, subst, sym, arith}
+use Rattle.std.proofs.Common.{◌≡◌, inl, inr, ◌<◌, ℕ, Bool, true, false, List, [], ◌∷◌, length, Option, Ok, ap, subst, sym, arith}
 use Rattle.ob_base.specs.declared.schema.Shape.{Shape}
 use Rattle.ob_base.specs.declared.schema.Shape.TheVariants.{Flat as FlatShape, Indexed}
 use Rattle.ob_base.specs.declared.schema.Table.{Table}

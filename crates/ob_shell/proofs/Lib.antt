@@ -47,6 +47,7 @@ pub mod FlightEnding
 pub mod FlightMore
 pub mod FlightLast
 pub mod FlightLeaves
+pub mod FlightWants
 pub mod FlightOpen
 pub mod WalkEntries
 pub mod WalkWhole

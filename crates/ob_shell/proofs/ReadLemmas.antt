@@ -20,7 +20,6 @@ use Rattle.ob_shell.proofs.WaitLemmas.{answered_but, break_then, so_then, steps_
 use Rattle.ob_shell.specs.Feeding.{Fed, Fetch}
 use Rattle.ob_shell.specs.Running.{IsQuiet, OutFailed, Silenced, SoFar, StopCause, is_quiet, stop_of}
 use Rattle.ob_shell.specs.Serving.{EndsReading, HasRead, IsNotTaken, ReadsTexts, StandsReady, TakesMore, UnlessServed, WantsRoom, broken_of}
-use Rattle.ob_headline.specs.Flights.{most_flown}
 use Rattle.ob_shell.specs.Steps.{AreSpelt, Gathered, Machine, asked_of, standing}
 use Rattle.ob_shell.specs.Traces.{Traced, TracedAll}
 use Rattle.ob_shell.specs.Waiting.{AreGathered, BreaksIn, ComesFree, IsFree, ServedSo}

@@ -6,7 +6,6 @@ use Rattle.ob_base.specs.declared.config.Config.{Config}
 use Rattle.ob_base.specs.declared.refusal.Stop.{Stop}
 use Rattle.ob_gen.specs.Generated.{generated}
 use Rattle.ob_gen.specs.Tally.{empty_tally}
-use Rattle.ob_headline.specs.Bases.{flying}
 use Rattle.ob_headline.proofs.StopLemmas.{unbegun_stops}
 use Rattle.ob_headline.specs.Endings.{last_line, status_of}
 use Rattle.ob_headline.specs.Keeping.{kept_line, kept_status}

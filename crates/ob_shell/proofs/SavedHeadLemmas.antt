@@ -1,9 +1,8 @@
 -- The headline of a run whose tables are saved, by what was done until its last line.
-use Rattle.std.proofs.Common.{◌≡◌, ℕ, Bool, true, false, List, [], Option, Some, Result, Ok, Err, inl, inr, refl, sym, ◌∙◌, ap, subst, arith}
+use Rattle.std.proofs.Common.{◌≡◌, ℕ, Bool, true, false, List, [], Option, Some, inl, inr, refl, sym, ◌∙◌, ap, subst, arith}
 use Rattle.ob_headline.specs.declared.flight.FlightSettings.{FlightSettings}
 use Rattle.ob_base.specs.declared.config.Config.{Config}
 use Rattle.ob_base.specs.declared.mark.Mark.{Mark}
-use Rattle.ob_base.specs.declared.refusal.Stop.{Stop}
 use Rattle.ob_headline.specs.Bases.{flying}
 use Rattle.ob_headline.proofs.StopLemmas.{unbegun_stops}
 use Rattle.ob_headline.specs.Endings.{status_of}

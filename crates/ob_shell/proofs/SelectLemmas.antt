@@ -1,7 +1,7 @@
 -- A SELECT that may fly: nothing is gathered with it, and it leaves tables and draws as they are.
 use Rattle.std.specs.Prelude.{if◌then◌else◌, ◌&&◌, is_some, nat_le, nat_lt, not, bytes_eq}
 use Rattle.std.specs.Option.{is_none, option_map, option_map_or}
-use Rattle.std.proofs.Common.{◌≡◌, ◌+◌, ℕ, Bool, true, false, List, Option, Some, None, refl, sym, ◌∙◌, ap, subst, arith}
+use Rattle.std.proofs.Common.{◌≡◌, ◌+◌, ℕ, Bool, true, false, List, Option, Some, None, refl, sym, ◌∙◌, ap, arith}
 use Rattle.ob_base.specs.Stored.{headings, headings_of}
 use Rattle.ob_base.specs.declared.config.Public.{Public}
 use Rattle.ob_base.specs.declared.refusal.Refusal.{Refusal}
@@ -12,7 +12,7 @@ use Rattle.ob_base.specs.declared.skeleton.Skeleton.{Skeleton}
 use Rattle.ob_base.specs.declared.skeleton.Skeleton.TheVariants as K
 use Rattle.ob_base.specs.declared.skeleton.Source.TheVariants.{Table as OneTable, Join}
 use Rattle.ob_headline.specs.Flights.{may_fly}
-use Rattle.ob_mean.specs.Batches.{Gathering, and_one, batch_most, begins_batch, begun_by, gathering_after, goes_into, inserts_flat, inserts_into, is_unrefused, joins_in, leaves_room}
+use Rattle.ob_mean.specs.Batches.{Gathering, and_one, batch_most, begins_batch, begun_by, gathering_after, goes_into, inserts_flat, inserts_into, is_unrefused, leaves_room}
 use Rattle.ob_mean.specs.Lawful.{HoldsLeaf, Lawful}
 use Rattle.ob_mean.specs.Refusals.{early_refusal, is_index, limits_of}
 use Rattle.ob_mean.specs.Replay.{Alone, CutAfter, CutWith, How, With, Session, after, drawn_by, draws_taken, has_index, is_access, is_full_now, seen_or_cut, settle_or_cut}

@@ -10,10 +10,8 @@ use Rattle.ob_gen.specs.declared.tally.Tally.{Tally}
 use Rattle.ob_headline.specs.Words.{Answer, printed}
 use Rattle.ob_print.proofs.CutLemmas.{Outputs-by, Outputs-whole}
 use Rattle.ob_shell.proofs.StopLemmas.{by_stop, stopped_as}
-use Rattle.ob_shell.proofs.TallyLemmas.{tally_after-one}
 use Rattle.ob_shell.specs.Running.{LastPart}
 use Rattle.ob_shell.specs.Steps.{AnswersText, CutStep, CutTogether, Machine, Step, StepTogether, Steps, Idle, IsUndone, PartlyAt, StopsIn, at_rest, more_together, one_more}
-use Rattle.ob_shell.specs.Tallies.{tally_with}
 use Rattle.ob_vault.specs.State.{RevState}
 
 pub printed-append : (xs ys : List Answer) → printed (xs ++ ys) ≡ printed xs ++ printed ys

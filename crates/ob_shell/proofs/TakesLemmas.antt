@@ -1,6 +1,6 @@
 -- Texts that are taken, part by part: some are answered, and some wait.
 use Rattle.std.specs.Prelude.{OnErr, OnOk}
-use Rattle.std.proofs.Common.{◌≡◌, ◌≤◌, arith, inl, inr, ℕ, Bool, false, true, List, [], ◌∷◌, ◌++◌, Option, None, Result, Ok, Err, refl, sym, ap, ◌∙◌, subst, append_assoc, append-nil}
+use Rattle.std.proofs.Common.{◌≡◌, inl, inr, ℕ, Bool, false, true, List, [], ◌∷◌, ◌++◌, Option, None, Result, Ok, Err, refl, sym, ap, ◌∙◌, subst, append_assoc, append-nil}
 use Rattle.std.specs.Io.KnownBytes.{Appends}
 use Rattle.ob_base.specs.declared.refusal.Refusal.TheVariants.{Syntax}
 use Rattle.ob_base.specs.declared.refusal.Stop.{Stop}
@@ -23,7 +23,7 @@ use Rattle.ob_shell.specs.Running.{IsQuiet, OutFailed, Silenced, StopCause, halt
 use Rattle.ob_shell.specs.Serving.{IsNotTaken, ServesStmt, TakesMore, TakesTexts, WantsRoom, counted_by}
 use Rattle.ob_shell.proofs.TallyLemmas.{tally_after-one}
 use Rattle.ob_reopen.specs.Keepers.{KeeperState}
-use Rattle.ob_shell.specs.Steps.{AnswersText, AreSpelt, Flights, Gathered, IsReady, Machine, StopsIn, asked_of, gathered_by, machine_of, none_gathered, standing}
+use Rattle.ob_shell.specs.Steps.{AnswersText, AreSpelt, Flights, Gathered, IsReady, Machine, StopsIn, asked_of, machine_of, none_gathered, standing}
 use Rattle.ob_store.specs.State.{StoreState}
 use Rattle.ob_tables.specs.declared.engine.Engine.{Engine}
 use Rattle.ob_shell.specs.Tallies.{tally_with}

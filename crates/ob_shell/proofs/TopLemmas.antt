@@ -14,7 +14,6 @@ use Rattle.ob_gen.specs.declared.tally.Tally.{Tally}
 use Rattle.ob_headline.proofs.FlatLemmas.{start_flat}
 use Rattle.ob_headline.proofs.PromptLemmas.{all_answered, prompt_all, prompt_from, prompt_line, waits_behind}
 use Rattle.ob_headline.proofs.TextLemmas.{rest_of-nil, texts_of-nil}
-use Rattle.std.specs.List.{All}
 use Rattle.std.proofs.lemmas.List.Elements.{All-nil}
 use Rattle.ob_headline.specs.Bases.{Base, flying, fresh, start}
 use Rattle.ob_headline.specs.Disturbed.{MeantUntil, meant_entries}

@@ -1,21 +1,20 @@
 -- How the statements of some texts are served from a machine on, each alone, or several together.
-use Rattle.std.specs.Prelude.{◌-◌, if◌then◌else◌, map, max, min, nat_le, take, ⊤}
+use Rattle.std.specs.Prelude.{◌-◌, if◌then◌else◌, nat_le, take}
 use Rattle.std.specs.List.{All}
-use Rattle.std.specs.Option.{option_map_or}
-use Rattle.std.proofs.Common.{◌≡◌, ◌⊎◌, ◌+◌, ◌≤◌, ◌<◌, ◌++◌, inl, inr, ℕ, zero, suc, Bool, true, false, List, [], ◌∷◌, length, Option, Some, None, Ok, Err, refl, sym, ◌∙◌, ap, subst, arith, append_assoc}
+use Rattle.std.proofs.Common.{◌≡◌, ◌+◌, ◌≤◌, ◌<◌, ◌++◌, inl, inr, ℕ, suc, Bool, true, false, List, [], ◌∷◌, length, Option, Some, None, Ok, Err, refl, sym, ◌∙◌, ap, subst, arith}
 use Rattle.std.proofs.lemmas.List.Elements.{All-cons, All-nil}
 use Rattle.ob_base.specs.declared.access.Access.{Access}
 use Rattle.ob_base.specs.declared.config.Public.{Public}
 use Rattle.ob_base.specs.declared.seen.Seen.{Seen}
-use Rattle.ob_headline.specs.Flights.{AreEntries, AreGathered, EndedBy, IsEntry, MayFly as FlyMay, Seat, gathered_then, most_flown, place_now, seat_alone, seats, served_by, whole_of}
+use Rattle.ob_headline.specs.Flights.{AreEntries, AreGathered, EndedBy, MayFly as FlyMay, Seat, gathered_then, most_flown, place_now, seat_alone, seats, served_by, whole_of}
 use Rattle.ob_headline.specs.declared.flight.FlightSettings.{FlightSettings}
 use Rattle.ob_mean.specs.Replay.{Spelt}
-use Rattle.ob_script.specs.Flights.{Alone, Entry, Together, served_in, trace_in}
+use Rattle.ob_script.specs.Flights.{Alone, Entry, Together, trace_in}
 use Rattle.ob_script.specs.Script.{script}
 use Rattle.ob_script.specs.Trace.{Served, next}
 use Rattle.ob_shell.proofs.HowLemmas.{StartsApart}
 use Rattle.ob_shell.proofs.SeatLemmas.{seats_alone_then}
-use Rattle.ob_shell.specs.Steps.{Flights, Gathered, Machine, asked_of}
+use Rattle.ob_shell.specs.Steps.{Flights, Machine, asked_of}
 use Rattle.ob_sql.specs.Skeleton.{skeleton}
 use Rattle.ob_sql.specs.declared.stmt.Stmt.{Stmt}
 use Rattle.ob_tables.specs.Agreeing.{public_of}
@@ -163,8 +162,8 @@ module _ {R : Type 0} where
           served = ap (λ (l : List Served). x ∷ l) rest.served;
           are = alone_are (most_at m) (length seen) x entries (subst (λ (k : ℕ). AreEntries k (length seen) entries) most_alone rest.are);
           gathers = subst (λ (vs : List Seat). AreGathered (most_at m) m.gathered.flown vs (Ok stmt ∷ spelt)) there (
-          sym apart,
-          subst (λ (k : ℕ). AreGathered (most_at m) k (seats_at m1 entries) spelt) gathered (subst (λ (k : ℕ). AreGathered k m1.gathered.flown (seats_at m1 entries) spelt) most_alone rest.gathers),
+            sym apart,
+            subst (λ (k : ℕ). AreGathered (most_at m) k (seats_at m1 entries) spelt) gathered (subst (λ (k : ℕ). AreGathered k m1.gathered.flown (seats_at m1 entries) spelt) most_alone rest.gathers),
           );
           ended = subst (λ (vs : List Seat). All (λ (v : Seat). EndedBy v.left v) (take (suc (length seen)) vs)) there
               (All-cons (λ (v : Seat). EndedBy v.left v) (seat_alone (public_of m.engine) (asked_of m) x) (take (length seen) (seats_at m1 entries)) tt rest.ended);

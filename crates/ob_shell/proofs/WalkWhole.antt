@@ -1,10 +1,7 @@
 -- A walk over all texts that were answered, one by one, or several together, and the last part behind them.
-use Rattle.std.specs.Prelude.{map, max}
-use Rattle.std.proofs.Common.{◌≡◌, ◌⊎◌, ◌+◌, ◌≤◌, ◌<◌, ◌++◌, inl, inr, ℕ, Bool, true, false, List, [], ◌∷◌, length, Option, Some, None, Ok, Err, Result, refl, sym, ◌∙◌, ap, subst, arith, append_assoc, append-nil}
-use Rattle.ob_base.specs.declared.refusal.Stop.{Stop}
+use Rattle.std.proofs.Common.{◌++◌, inl, inr, ℕ, List, ◌∷◌, sym, subst, append_assoc}
 use Rattle.ob_headline.specs.Words.{Answer}
 use Rattle.ob_headline.specs.declared.ending.Ending.{Ending}
-use Rattle.ob_headline.specs.declared.ending.Ending.TheVariants.{Ran}
 use Rattle.ob_shell.proofs.FlightMore.{at_turn, more_flown, spelt_up, up}
 use Rattle.ob_shell.proofs.WalkLemmas.{EarlyAt, Walked}
 use Rattle.ob_shell.proofs.WalkSteps.{more_refused, more_served, more_with}

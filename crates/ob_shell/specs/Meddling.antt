@@ -1,5 +1,5 @@
 -- What a run over a store that others change promises, by its words.
-use Rattle.std.specs.Prelude.{ℕ, ◌≡◌, ◌≢◌, ◌≤◌, ◌++◌, true, List, Option, length, IsTrue, None}
+use Rattle.std.specs.Prelude.{ℕ, ◌≡◌, ◌≢◌, ◌≤◌, true, List, Option, length, IsTrue, None}
 use Rattle.std.specs.List.{list_all}
 use Rattle.clap.specs.Words.{Text}
 use Rattle.ob_base.specs.declared.config.Config.{Config}

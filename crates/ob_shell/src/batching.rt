@@ -19,7 +19,7 @@ ghost use Rattle.ob_tables.specs.Agreeing.{count_of, public_of};
 ghost use Rattle.ob_tables.specs.Batch.{AreBatch};
 
 use crate::flying::{begins_flight, may_fly, most_flown, serve_flight};
-use crate::session::{Answered, Manner, SINK_FAILED, Session, TextHalted, answer_traced, tally_with};
+use crate::session::{Answered, Manner, SINK_FAILED, Session, TextHalted, serve_stmt, tally_with};
 use crate::trace::{let_go_from, trace_from};
 use ob_base::{Failed, Public};
 use ob_exec::{Behind, Engine, Outcome, RunStop, batch_most, begins_batch, run_batch};
@@ -277,7 +277,7 @@ fn serve_selects<R: Revisions, S: BlockStore, B: Behind<S>, K: Sink, T: Sink, D:
             alloc, tracing, tally, turns, stmts, engine, store, out, trace, digest,
         );
     }
-    answer_traced(
+    serve_stmt(
         alloc, tracing, tally, engine, store, behind, &stmts[0], out, trace, digest,
     )
 }

@@ -12,6 +12,7 @@ ghost use Rattle.ob_shell.specs.Traces.{Traced, TracedAll};
 ghost use Rattle.ob_shell.specs.Waiting;
 ghost use Rattle.ob_sql.specs.Skeleton.{skeleton};
 ghost use Rattle.ob_tables.specs.Agreeing.{Agrees, count_of, has_ended, public_of};
+
 use crate::session::{Answered, SINK_FAILED, TextHalted, tally_with};
 use crate::trace::{let_go_from, trace_from};
 use ob_base::{End, Failed, Public, Seen, Source};

@@ -1,7 +1,6 @@
 //! Runs over the text that is generated in place of the input.
 ghost use Rattle.std.specs.Prelude.{◌≡◌, Bool, Ok, [], Some};
 ghost use Rattle.ob_gen.specs.SummaryText.{summary_of, summary_text};
-ghost use Rattle.ob_headline.specs.Endings;
 ghost use Rattle.ob_shell.specs.Generating.{RanGenerated, ConcludedBy, SummedUp};
 ghost use Rattle.ob_words.specs.WordsRead.{AreWithin};
 

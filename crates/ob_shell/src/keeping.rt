@@ -218,7 +218,8 @@ fn close_run<R: Revisions, T: Sink, D: Digester, S: BlockStore, K: Keeper>(
     store: &mut S,
     keeper: &mut K,
 ) -> KeptEnded
-    requires ready { IsReady R.state ⊥ (machine_of engine (S.state store.old) told_nothing no_flights) }
+    requires ready { IsReady R.state ⊥
+        (machine_of engine (S.state store.old) told_nothing no_flights) }
     requires few { count_of engine (S.state store.old) < 2 ^ 63 + 2 ^ 59 }
     requires flat { AreFlat (headings_of (public_of engine).tables) }
     requires high { high ≡ high_of engine }
@@ -258,7 +259,8 @@ fn serve_run<R: Revisions, I: Source, O: Sink, T: Sink, D: Digester, S: BlockSto
     store: &mut S,
     keeper: &mut K,
 ) -> KeptEnded
-    requires ready { IsReady R.state ⊥ (machine_of engine (S.state store.old) told_nothing no_flights) }
+    requires ready { IsReady R.state ⊥
+        (machine_of engine (S.state store.old) told_nothing no_flights) }
     requires few { count_of engine (S.state store.old) < 2 ^ 63 + 2 ^ 59 }
     requires kept { (public_of engine).keep ≡ true }
     requires taken { feed.old.taken ≤ feed.old.limit }

@@ -1,4 +1,4 @@
-//! The texts of an input, each served as soon as it has come, or together with INSERTs behind it.
+//! The texts of an input, each served as soon as it has come, or together with some behind it.
 ghost use Rattle.std.specs.Prelude.{◌≡◌, ◌<◌, ◌≤◌, ◌++◌, List, [], ◌∷◌, true, false, Ok, Err, length, OnOk, OnErr};
 ghost use Rattle.ob_base.specs.declared.access.Access.{Access};
 ghost use Rattle.ob_gen.specs.Tally.{empty_tally};
@@ -69,8 +69,7 @@ pub(crate) const SINK_FAILED: TextHalted = TextHalted {
     quiet: true,
 };
 
-/// Why no further text is served: a stop in one that was served, or one behind those that were, where what comes next is
-/// left unread.
+/// Why no further text is served: a stop in one that was served, or behind those that were, what comes next left unread.
 #[derive(Clone, Copy, Debug, PartialEq, Eq)]
 pub enum Break {
     Served(TextHalted),
@@ -240,7 +239,7 @@ fn answer<R: Revisions, S: BlockStore, B: Behind<S>, K: Sink>(
 
 // Answers a statement whole, and then traces what it asked, of which the store lets go. After a sink's fault nothing more is
 // written.
-pub(crate) fn answer_traced<R: Revisions, S: BlockStore, B: Behind<S>, K: Sink, T: Sink, D: Digester>(
+pub(crate) fn serve_stmt<R: Revisions, S: BlockStore, B: Behind<S>, K: Sink, T: Sink, D: Digester>(
     alloc: Global,
     tracing: bool,
     tally: Tally,
@@ -383,7 +382,7 @@ fn begin<R: Revisions, S: BlockStore, B: Behind<S>, K: Sink, T: Sink, D: Digeste
             alloc, manner, session, stmt, engine, store, behind, out, trace, digest,
         );
     }
-    let answered = answer_traced(
+    let answered = serve_stmt(
         alloc,
         manner.tracing,
         session.tally,

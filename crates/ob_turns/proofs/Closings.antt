@@ -42,8 +42,7 @@ module _ {E : Type 0} (grew : E → E → List Event → Type 0) (closed : E →
       let long : length (outcomes all.0) ≡ length (outcomes a) = kept.size ∙ ap length still in
       let rest = closes_kept (place + 1) more all.0 b all.2 (omega (arith, room, long)) in
       let next : place + 1 ≡ suc place = omega arith in
-      let count : place + length (one ∷ more) ≡ (place + 1) + length more = omega arith in
-      (
+      let count : place + length (one ∷ more) ≡ (place + 1) + length more = omega arith in (
         rest.0 ∙ long,
         ap (λ (n : ℕ). take n (outcomes b)) count ∙ rest.1 ∙ ap (λ (n : ℕ). take n (outcomes all.0) ++ outcomes_of more) next ∙ ap (λ (l : List Outcome). l ++ outcomes_of more) put
             ∙ append_assoc (take place (outcomes a)) (one.outcome ∷ []) (outcomes_of more),

@@ -63,7 +63,11 @@ impl<'a, K: Sink> FlightOut for FlightPrinter<'a, K> {
 
     fn ended(&mut self, place: u32, outcome: &Outcome) -> Result<(), EmitErr> {
         keep(self.outcomes, place, *outcome);
-        match self.printer.out.write_all(closing_line(*outcome).as_bytes()) {
+        match self
+            .printer
+            .out
+            .write_all(closing_line(*outcome).as_bytes())
+        {
             Ok(()) => Ok(()),
             Err(Failed) => Err(EmitErr::Failed),
         }

@@ -25,8 +25,8 @@ returns-then-stmts-ge2-clause-serves g c = λ settings flown.
     flight_served g.R.Revisions.state (g.B.Behind.Saves c.args.behind.now) c.args.tracing settings c.args.turns.now.last c.serve_flight.new.turns.last c.args.stmts.now c.args.tally c.args.engine.now c.serve_flight.new.engine (g.S.BlockStore.state c.args.store.now) (g.S.BlockStore.state c.serve_flight.new.store) (g.B.Behind.state c.args.behind.now)
     (omega (arith, c.if-stmts-ge2.true)) flown c.requires.ready c.serve_flight.result c.serve_flight.ensures.runs c.serve_flight.ensures.traced c.serve_flight.ensures.traced_stop
 
-pub answer_traced-requires : goal.answer_traced-requires
-answer_traced-requires g c = record {
+pub serve_stmt-requires : goal.serve_stmt-requires
+serve_stmt-requires g c = record {
   alone = single_begins (public_of c.args.engine.now) (count_of c.args.engine.now (g.S.BlockStore.state c.args.store.now)) c.index-stmts-0.result (first_may (public_of c.args.engine.now) c.args.stmts.now c.index-stmts-0.result c.requires.flown.1.fly (first_at c.args.stmts.now c.index-stmts-0.result c.requires.some c.index-stmts-0.is));
   ready = c.requires.ready;
   took = c.requires.took;
@@ -38,4 +38,4 @@ returns-clause-serves g c = λ settings flown.
     let may = first_may (public_of c.args.engine.now) c.args.stmts.now one flown.fly (first_at c.args.stmts.now one c.requires.some c.index-stmts-0.is) in
     let there = g.S.BlockStore.state c.args.store.now in
     rw (only_one c.args.stmts.now one (omega (arith, c.if-stmts-ge2.false)) (first_at c.args.stmts.now one c.requires.some c.index-stmts-0.is))
-    (single_served {m0 = machine_of c.args.engine.now there (g.B.Behind.state c.args.behind.now) (flights_of settings c.args.turns.now.last)} one c.args.tally c.answer_traced.result may (c.answer_traced.ensures.serves (flights_of settings c.args.turns.now.last)) c.answer_traced.ensures.traced c.answer_traced.ensures.traced_stop)
+    (single_served {m0 = machine_of c.args.engine.now there (g.B.Behind.state c.args.behind.now) (flights_of settings c.args.turns.now.last)} one c.args.tally c.serve_stmt.result may (c.serve_stmt.ensures.serves (flights_of settings c.args.turns.now.last)) c.serve_stmt.ensures.traced c.serve_stmt.ensures.traced_stop)

@@ -25,8 +25,8 @@ gather-requires g c =
 pub returns-then-begins-clause-takes : goal.returns-then-begins-clause-takes
 returns-then-begins-clause-takes g c = rw c.requires.none at c.gather.ensures.takes
 
-pub answer_traced-answered-requires : goal.answer_traced-answered-requires
-answer_traced-answered-requires g c =
+pub serve_stmt-answered-requires : goal.serve_stmt-answered-requires
+serve_stmt-answered-requires g c =
     let p = public_of c.args.engine.now in
     let m = count_of c.args.engine.now (g.S.BlockStore.state c.args.store.now) in
     record {

@@ -9,7 +9,7 @@ use Rattle.ob_shell.proofs.TraceLemmas.{lost_trace, since, until}
 use Rattle.ob_tables.specs.declared.stop.RunStop.TheVariants.{SinkFault}
 use Rattle.ob_shell.proofs.CountLemmas.{traced_cause}
 use Rattle.ob_shell.proofs.StepLemmas.{stops_after}
-use Rattle.ob_shell.proofs.session.answer_traced.Goals as goal
+use Rattle.ob_shell.proofs.session.serve_stmt.Goals as goal
 
 pub trace_from-requires-clause-listed : goal.trace_from-requires-clause-listed
 trace_from-requires-clause-listed g c = omega (arith, c.in-Ok.ensures.listed, g.met.S.BlockStore.within_asked c.args.store.now, c.count-mark.ensures)

@@ -1,0 +1,161 @@
+-- A flight that was left for want of memory.
+use Rattle.std.specs.Prelude.{drop, slice_get, take}
+use Rattle.std.specs.List.{All}
+use Rattle.std.proofs.Common.{◌≡◌, ◌⊎◌, ◌+◌, ◌≤◌, inl, inr, ℕ, zero, suc, false, IsTrue, List, [], ◌∷◌, length, Option, Some, Err, refl, sym, ◌∙◌, ap, subst, arith, take-append-drop}
+use Rattle.std.proofs.lemmas.List.{drop_all, length-drop, length-take-le}
+use Rattle.std.proofs.lemmas.List.Elements.{All-head, All-tail}
+use Rattle.ob_base.specs.declared.access.Access.{Access}
+use Rattle.ob_base.specs.declared.config.Public.{Public}
+use Rattle.ob_base.specs.declared.seen.Seen.{Seen}
+use Rattle.ob_exec.specs.InFlight.{served_as}
+use Rattle.ob_exec.specs.RanFlight.{in_flight}
+use Rattle.ob_headline.specs.Accesses.{LeavesAloft, LeavesFlight, OneWants, WantsAloft, ends_within}
+use Rattle.ob_headline.specs.Flights.{Seat, Stand, stand_at}
+use Rattle.ob_headline.specs.Statements.{statements}
+use Rattle.ob_headline.specs.Words.{Answer}
+use Rattle.ob_headline.specs.declared.ending.Ending.{Ending}
+use Rattle.ob_headline.specs.declared.ending.Ending.TheVariants.{Ran}
+use Rattle.ob_script.specs.Flights.{flight_public}
+use Rattle.ob_script.specs.Script.{script, whole_script}
+use Rattle.ob_script.specs.Trace.{Served as Entry}
+use Rattle.ob_select.proofs.SelectRuns.{ends-more}
+use Rattle.ob_select.specs.Memory.{AtEmission, AtMake, AtResult, ends_with_make}
+use Rattle.ob_shell.proofs.FlightCut.{flown_get, get_less, past_none}
+use Rattle.ob_shell.proofs.FlightEnd.{all_fs, aloft, in_all, long_aloft, seats_left, spelt_left, turn_of}
+use Rattle.ob_shell.proofs.FlightFacts.{places, served_long, spelt_long}
+use Rattle.ob_shell.proofs.FlightSeen.{spelt_in}
+use Rattle.ob_shell.proofs.FlownLists.{Flown, Places, each_flown, flown_at, seats_in, served_in_all}
+use Rattle.ob_shell.proofs.WalkEntries.{seats_at}
+use Rattle.ob_shell.specs.Aloft.{RanAloft}
+use Rattle.ob_shell.specs.Steps.{CutTogether, Machine}
+use Rattle.ob_sql.specs.Skeleton.{skeleton}
+use Rattle.ob_sql.specs.declared.stmt.Stmt.{Stmt}
+use Rattle.ob_tables.specs.Agreeing.{public_of}
+use Rattle.ob_tables.specs.Stops.{session_stop}
+use Rattle.ob_tables.specs.declared.stop.RunStop.{RunStop}
+use Rattle.ob_tables.specs.declared.stop.RunStop.TheVariants as Runs
+use Rattle.ob_vault.specs.State.{RevState}
+
+-- ---- for which of them
+-- memory was wanting for the one at a place, behind those that were answered
+one_wants : (fs : List Flown) (n i : ℕ) (f : Flown) → n ≤ i → slice_get fs i ≡ Some f → WantsAloft f.seat.left f.seat.public f.stmt f.seen
+    → OneWants (drop n (seats_in fs)) (statements (drop n (spelt_in fs))) (drop n (served_in_all fs))
+unfolding OneWants statements
+one_wants [] n i f from is wants = absurd (cc is)
+one_wants (x ∷ fs) zero zero f from is wants = let same : f ≡ x = cc is in inl (subst (λ (y : Flown). WantsAloft y.seat.left y.seat.public y.stmt y.seen) same wants)
+one_wants (x ∷ fs) zero (suc i) f from is wants = inr (one_wants fs zero i f (omega arith) is wants)
+one_wants (x ∷ fs) (suc n) zero f from is wants = absurd (omega (arith, from))
+one_wants (x ∷ fs) (suc n) (suc i) f from is wants = one_wants fs n i f (omega (arith, from)) is wants
+
+-- so many accesses were asked when its flight was left
+record IsLeftAt (total : ℕ) (f : Flown) : Type 0 where
+  stand : Stand
+  left : f.seat.left ≡ Some stand
+  all : stand.all ≡ total
+
+left_for_want : (fs : List Flown) (n total : ℕ) (ending : Ending) (asked : List Access) → All (IsLeftAt total) fs → ends_within ending ≡ false
+    → (total ≡ 0) ⊎ (IsTrue (ends_with_make asked) ⊎ OneWants (drop n (seats_in fs)) (statements (drop n (spelt_in fs))) (drop n (served_in_all fs)))
+    → LeavesAloft ending asked (drop n (seats_in fs)) (statements (drop n (spelt_in fs))) (drop n (served_in_all fs))
+left_for_want [] zero total ending asked left off why = tt
+left_for_want [] (suc n) total ending asked left off why = tt
+left_for_want (f ∷ fs) zero total ending asked left off why =
+    let own = All-head (IsLeftAt total) f fs left in
+    subst (λ (o : Option Stand). LeavesFlight o ending asked (OneWants (seats_in (f ∷ fs)) (statements (spelt_in (f ∷ fs))) (served_in_all (f ∷ fs)))) (sym own.left) (
+      off,
+      λ is. elim why [
+        | inl none ↦ inl (own.all ∙ none)
+        | inr rest ↦ inr rest
+      ],
+    )
+left_for_want (f ∷ fs) (suc n) total ending asked left off why = left_for_want fs n total ending asked (All-tail (IsLeftAt total) f fs left) off why
+
+-- ---- for one of them
+-- just before its result is made, where its rows are emitted, or at its last line, behind so many accesses of its own
+abbrev WantsBehind : Public → (own : ℕ) → Stmt → Seen → Type 0
+WantsBehind p own stmt seen =
+    AtResult p stmt seen (drop own (whole_script p (skeleton stmt) seen))
+    ⊎ (AtEmission p stmt seen (drop own (whole_script p (skeleton stmt) seen))
+    ⊎ (drop own (script p (skeleton stmt) seen) ≡ []))
+
+module _ {R : Type 0} (state : R → RevState) (m1 m2 : Machine R) (more : List (List ℕ)) (part : List ℕ) (run : RunStop) (cut : CutTogether state m1 m2 more run part) where
+  abbrev ran : RanAloft {T = Unit {0}} state m1.flights.words m2.flights.words cut.stmts cut.seens cut.flew.ended (Err run) m1.engine m1.store m2.engine m2.store
+  ran = cut.flew.ran
+
+  abbrev fs_cut : List Flown
+  fs_cut = all_fs state m1 m2 cut.stmts cut.seens cut.flew.ended (Err run) cut.may ran
+
+  abbrev total : ℕ
+  total = in_all state m1 m2 cut.stmts cut.seens cut.flew.ended (Err run) cut.may ran
+
+  abbrev here : List Entry
+  here = aloft state m1 m2 cut.stmts cut.seens cut.flew.ended (Err run) cut.may ran
+
+  abbrev p : Public
+  p = public_of m1.engine
+
+  abbrev e : ℕ
+  e = length cut.flew.ended
+
+  abbrev at : Places
+  at = places state m1 m2 cut.stmts cut.seens cut.flew.ended (Err run) cut.may ran (Some total)
+
+  abbrev OneOf : (n : ℕ) → Type 0
+  OneOf n = OneWants (drop n (seats_in fs_cut)) (statements (drop n (spelt_in fs_cut))) (drop n (served_in_all fs_cut))
+
+  wants_at : (n i : ℕ) (stmt : Stmt) (seen : Seen) → n ≤ i → slice_get cut.stmts i ≡ Some stmt → slice_get cut.seens i ≡ Some seen → WantsBehind (in_flight cut.stmts p) (at.own i) stmt seen → OneOf n
+  wants_at n i stmt seen from get shown wants =
+      let z : 0 + i ≡ i = omega arith in
+      let found : slice_get fs_cut i ≡ Some (flown_at at i stmt seen (slice_get cut.flew.ended i)) =
+      flown_get at 0 i cut.stmts cut.seens cut.flew.ended stmt seen get shown ∙ (λ j. Some (flown_at at (z j) stmt seen (slice_get cut.flew.ended i))) in
+      one_wants fs_cut n i (flown_at at i stmt seen (slice_get cut.flew.ended i)) from found
+      (subst (λ (k : ℕ). WantsBehind (flight_public k p) (at.own i) stmt seen) (sym (served_long cut.stmts cut.seens ran.long)) wants)
+
+  all_left : All (IsLeftAt total) fs_cut
+  all_left = each_flown at (IsLeftAt total) 0 cut.stmts cut.seens cut.flew.ended (λ k stmt seen get shown. record { stand = stand_at p (served_as cut.stmts cut.seens) m1.flights.words (0 + k) total; left = refl; all = refl })
+
+  -- ---- why it was left
+  abbrev Wants : (n : ℕ) → Type 0
+  Wants n = (total ≡ 0) ⊎ (IsTrue (ends_with_make m2.store.asked) ⊎ OneOf n)
+
+  at_make : (n : ℕ) → AtMake (drop (length m1.store.asked) m2.store.asked) → Wants n
+  at_make n (inl none) =
+      let gone = length-drop (length m1.store.asked) m2.store.asked in
+      let long = ap length none in
+      inl (omega (arith, gone, long))
+  at_make n (inr make) =
+      inr (inl (subst (λ (l : List Access). IsTrue (ends_with_make l)) (take-append-drop (length m1.store.asked) m2.store.asked)
+      (ends-more (take (length m1.store.asked) m2.store.asked) (drop (length m1.store.asked) m2.store.asked) make)))
+
+  wants_next : (n : ℕ) → n ≤ e → WantsBehind (in_flight cut.stmts p) (at.own e) cut.flew.stmt cut.flew.seen → Wants n
+  wants_next n few wants = inr (inr (wants_at n e cut.flew.stmt cut.flew.seen few cut.flew.next cut.flew.shown wants))
+
+  why_left : run ≡ Runs.NoMemory → (n : ℕ) → n ≤ e → Wants n
+  why_left memory n few = elim (cut.flew.memory memory) [
+    | inl make ↦ at_make n make
+    | inr (inl before) ↦
+        let past = past_none cut.flew.ended before.place before.going in
+        inr (inr (wants_at n before.place before.stmt before.seen (omega (arith, past, few)) before.get before.shown (inl before.makes)))
+    | inr (inr (inl emits)) ↦ wants_next n few (inr (inl emits))
+    | inr (inr (inr closes)) ↦
+        let whole : at.own e ≡ length (script (in_flight cut.stmts p) (skeleton cut.flew.stmt) cut.flew.seen) = closes.2.whole in
+        wants_next n few (inr (inr (drop_all (at.own e) (script (in_flight cut.stmts p) (skeleton cut.flew.stmt) cut.flew.seen) (omega (arith, whole)))))
+  ]
+
+  pub wants_left : run ≡ Runs.NoMemory → (kept : List Answer) → length kept ≤ e
+      → LeavesAloft (Ran (Err (session_stop run))) m2.store.asked
+      (drop (length (take (length kept) here)) (seats_at m1 (turn_of state m1 m2 cut.stmts cut.seens cut.flew.ended (Err run) cut.may ran ∷ [])))
+      (statements (drop (length (take (length kept) cut.flown)) (spelt_left state m1 m2 cut.stmts cut.seens cut.flew.ended (Err run) cut.may ran)))
+      (drop (length kept) here)
+  wants_left memory kept few =
+      let n = length kept in
+      let under = get_less cut.stmts e cut.flew.stmt cut.flew.next in
+      let long_here = long_aloft state m1 m2 cut.stmts cut.seens cut.flew.ended (Err run) cut.may ran in
+      let long_texts = spelt_long cut.flown cut.stmts cut.spelt in
+      let of_here : length (take n here) ≡ n = length-take-le n here (omega (arith, few, under, long_here)) in
+      let of_texts : length (take n cut.flown) ≡ n = length-take-le n cut.flown (omega (arith, few, under, long_texts)) in
+      let off : ends_within (Ran (Err (session_stop run))) ≡ false = ap (λ (r : RunStop). ends_within (Ran (Err (session_stop r)))) memory in
+      let left = left_for_want fs_cut n total (Ran (Err (session_stop run))) m2.store.asked all_left off (why_left memory n few) in
+      let seats = seats_left state m1 m2 cut.stmts cut.seens cut.flew.ended (Err run) cut.may ran in
+      subst (λ (vs : List Seat). LeavesAloft (Ran (Err (session_stop run))) m2.store.asked (drop (length (take n here)) vs) (statements (drop (length (take n cut.flown)) (spelt_in fs_cut))) (drop n here)) seats
+      (subst (λ (k : ℕ). LeavesAloft (Ran (Err (session_stop run))) m2.store.asked (drop k (seats_in fs_cut)) (statements (drop (length (take n cut.flown)) (spelt_in fs_cut))) (drop n here)) (sym of_here)
+      (subst (λ (k : ℕ). LeavesAloft (Ran (Err (session_stop run))) m2.store.asked (drop n (seats_in fs_cut)) (statements (drop k (spelt_in fs_cut))) (drop n here)) (sym of_texts) left))
