@@ -37,12 +37,11 @@ use Rattle.ob_sql.specs.declared.stmt.Stmt.{Stmt}
 use Rattle.ob_tables.specs.Agreeing.{AreDraws, engine_start, indexes_of, public_of}
 use Rattle.ob_tables.specs.declared.stop.RunStop.{RunStop}
 use Rattle.ob_vault.specs.State.{RevState}
-use Rattle.ob_exec.specs.InFlight.{IsFlown, StandsAs as FlownStands}
+use Rattle.ob_exec.specs.InFlight.{IsFlown}
 use Rattle.ob_base.specs.declared.seen.End.{End}
 use Rattle.ob_base.specs.declared.seen.End.TheVariants.{Static, Whole, AfterCount, Joined, Cut}
 use Rattle.ob_exec.specs.RanFlight.{asked_by, carried_out}
 use Rattle.ob_headline.specs.Accesses.{ends_within}
-use Rattle.ob_headline.specs.Flights.{own_asked}
 use Rattle.ob_headline.specs.Meaning.{AnswersFrom, done_in}
 use Rattle.ob_headline.specs.Endings.{is_tampered}
 use Rattle.ob_headline.specs.declared.ending.Ending.TheVariants.{Ran}

@@ -11,7 +11,7 @@ use Rattle.ob_base.specs.declared.refusal.Stop.TheVariants as Stops
 use Rattle.ob_exec.specs.InFlight.{served_as}
 use Rattle.ob_headline.proofs.FlightLeft.{ended_left}
 use Rattle.ob_headline.proofs.TakenLemmas.{LosesSo, taken_answers}
-use Rattle.ob_headline.proofs.UntilLemmas.{logs_grow, until_ended}
+use Rattle.ob_headline.proofs.UntilLemmas.{until_ended}
 use Rattle.ob_headline.specs.Accesses.{LeavesAloft, LeavesFlight, OneWants, ends_within}
 use Rattle.ob_headline.specs.Flights.{EndedBy, Seat, Stand, asked_until, has_ended, seats_aloft}
 use Rattle.ob_headline.specs.Endings.{is_tampered}
@@ -22,6 +22,7 @@ use Rattle.ob_headline.specs.declared.ending.Ending.TheVariants.{Ran}
 use Rattle.ob_inflight.specs.Closing.{Closed}
 use Rattle.ob_mean.specs.Replay.{Session, done_of}
 use Rattle.ob_print.specs.Cuts.{Outputs}
+use Rattle.ob_script.proofs.FlightLemmas.{logs_grow}
 use Rattle.ob_script.specs.Flights.{Flight, boarding, merge, turns, turns_of}
 use Rattle.ob_script.specs.Trace.{Served as Entry}
 use Rattle.ob_shell.proofs.FlightEnd.{all_fs, aloft, are_served, in_all, left_walked, long_fs, spelt_left, turn_of}
