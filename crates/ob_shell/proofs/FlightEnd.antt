@@ -339,8 +339,8 @@ module _ {R : Type 0} (state : R → RevState) (m0 m1 : Machine R) (stmts : List
         entered = left_entries state m0 m1 stmts seens ended result may ran n short had;
         in_access = λ ends. absurd (off ends);
         each_seen = kept_long state m0 m1 stmts seens ended result may ran n short had ∙ sym (
-        ap (λ (k : ℕ). length (statements (take k spelt_here))) taken_texts
-        ∙ statements_taken (stmts_in fs_here) n (let same = ap length (are_stmts state m0 m1 stmts seens ended result may ran) in omega (arith, short, same)));
+            ap (λ (k : ℕ). length (statements (take k spelt_here))) taken_texts
+            ∙ statements_taken (stmts_in fs_here) n (let same = ap length (are_stmts state m0 m1 stmts seens ended result may ran) in omega (arith, short, same)));
         lawful = λ most old fails d drawn g. seen_left state m0 m1 stmts seens ended result may ran n short had _ m0.gathered.batch kept first;
         aloft = wants;
         passed = passed_left state m0 m1 stmts seens ended result may ran n short had;

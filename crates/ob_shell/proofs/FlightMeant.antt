@@ -284,9 +284,9 @@ module _ (ending : Ending) (s : Session) (part : List ℕ) where
       let own = stands_at f t ts ds (All-head (StandsSo ending s) f fs all) in
       let here = sym (at_same f.seat s t ts ds) in
       subst (λ (o : Option Stand). BeginsAt o ending f.seat (at_seat f.seat t) f.stmt f.seen part (StandBehind ending (seats_in fs) t (map Ok (stmts_in fs)) (served_in_all fs))) (sym begins.left) (
-      subst (λ (o : Option Stand). StandsThere o ending (at_seat f.seat t) f.stmt f.seen) begins.left own,
-      subst (λ (y : Session). EmitsPart ending f.seat begins.stand y f.stmt part ⊎ EmitsAll ending y f.stmt f.seen part) here begins.emits,
-      stand_behind fs t ts ds (All-tail (StandsSo ending s) f fs all),
+        subst (λ (o : Option Stand). StandsThere o ending (at_seat f.seat t) f.stmt f.seen) begins.left own,
+        subst (λ (y : Session). EmitsPart ending f.seat begins.stand y f.stmt part ⊎ EmitsAll ending y f.stmt f.seen part) here begins.emits,
+        stand_behind fs t ts ds (All-tail (StandsSo ending s) f fs all),
       )
 
   pub left_meant : (fs : List Flown) (kept : List Answer) → LeftMean ending s part fs kept → (t : Session) → t.tables ≡ s.tables → t.draws ≡ s.draws

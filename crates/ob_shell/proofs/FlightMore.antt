@@ -173,8 +173,8 @@ module _ {R : Type 0} (state : R → RevState) (m0 m1 : Machine R) (flown : List
       let joined : up ++ all ≡ (up ++ rest.seen) ++ rest.last = sym (append_assoc up rest.seen rest.last) in
       let there = seats_on state m0 m1 flown given step rest.entries in
       let spells_up : (xs : List Spelt) → SpellFirst (texts ++ more) xs → SpellFirst ((flown ++ texts) ++ more) (spelt_up ++ xs) = λ xs ok.
-          subst (λ (l : List (List ℕ)). SpellFirst l (spelt_up ++ xs)) (sym (append_assoc flown texts more))
-          (subst (λ (l : List Stmt). SpellFirst (flown ++ (texts ++ more)) (map Ok l ++ xs)) (sym (are_stmts state m0 m1 flown given step)) (spell_flown flown (texts ++ more) step.stmts xs step.spelt ok)) in
+      subst (λ (l : List (List ℕ)). SpellFirst l (spelt_up ++ xs)) (sym (append_assoc flown texts more))
+      (subst (λ (l : List Stmt). SpellFirst (flown ++ (texts ++ more)) (map Ok l ++ xs)) (sym (are_stmts state m0 m1 flown given step)) (spell_flown flown (texts ++ more) step.stmts xs step.spelt ok)) in
       let stmts_long : length (stmts_in here) ≡ length here = length-map here (λ (f : Flown). f.stmt) in
       record {
         spelt = spelt_up ++ rest.spelt;

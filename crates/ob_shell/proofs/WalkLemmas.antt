@@ -366,15 +366,18 @@ module _ {R : Type 0} (state : R → RevState) where
         each_seen = refl;
         lawful = λ most old fails d drawn g. (
           refl,
-          (cut.does.lawful, (
+          (
+            cut.does.lawful,
             (
-              (λ is. wants m0 m2 cut.stmt run cut.does is),
-              (λ is off. inl (cut.does.emits (ap (λ (r : RunStop). Err r) (only_sink run (cc is))))),
-              (λ ends. stops_where run (public_of m0.engine) sk cut.does.ran.stops),
-              (λ is. full_stash m0 m2 cut.stmt run cut.does d drawn g (only_stash run (cc is))),
+              (
+                (λ is. wants m0 m2 cut.stmt run cut.does is),
+                (λ is off. inl (cut.does.emits (ap (λ (r : RunStop). Err r) (only_sink run (cc is))))),
+                (λ ends. stops_where run (public_of m0.engine) sk cut.does.ran.stops),
+                (λ is. full_stash m0 m2 cut.stmt run cut.does d drawn g (only_stash run (cc is))),
+              ),
+              alone_joins (public_of m0.engine) (asked_of m0) m0.gathered.batch cut.stmt here (Err run) _ cut.does.alone.batch cut.does.ran.ends,
             ),
-            alone_joins (public_of m0.engine) (asked_of m0) m0.gathered.batch cut.stmt here (Err run) _ cut.does.alone.batch cut.does.ran.ends,
-          )),
+          ),
           refl,
         );
         passed = sym (append-nil m0.store.asked);
@@ -486,15 +489,18 @@ module _ {R : Type 0} (state : R → RevState) where
         each_seen = refl;
         lawful = λ most old fails d drawn g. (
           refl,
-          (did.does.lawful, (
+          (
+            did.does.lawful,
             (
-              (λ is. absurd (not_memory run fault is)),
-              (λ is off. inr (fails (beside_none _ _ (rose_by one.outcome (world m0) (world m2) here.end _ did.does.ran.cause did.does.ran.ends off)))),
-              (λ ends. absurd (sink_ends run fault ends)),
-              (λ is. absurd (not_full run fault is)),
+              (
+                (λ is. absurd (not_memory run fault is)),
+                (λ is off. inr (fails (beside_none _ _ (rose_by one.outcome (world m0) (world m2) here.end _ did.does.ran.cause did.does.ran.ends off)))),
+                (λ ends. absurd (sink_ends run fault ends)),
+                (λ is. absurd (not_full run fault is)),
+              ),
+              alone_joins (public_of m0.engine) (asked_of m0) m0.gathered.batch did.stmt here (Ok one.outcome) _ did.does.alone.batch did.does.ran.ends,
             ),
-            alone_joins (public_of m0.engine) (asked_of m0) m0.gathered.batch did.stmt here (Ok one.outcome) _ did.does.alone.batch did.does.ran.ends,
-          )),
+          ),
           refl,
         );
         passed = sym (append-nil m0.store.asked);
@@ -593,10 +599,13 @@ module _ {R : Type 0} (state : R → RevState) where
         each_seen = refl;
         lawful = λ most old fails d drawn g. (
           refl,
-          (with_lawful state m0 m2 text one with, (
-            ((λ is. absurd (not_memory run fault is)), (λ is cut. absurd (cc (cut, off))), (λ ends. absurd (sink_ends run fault ends)), (λ is. absurd (not_full run fault is))),
-            with_joins state m0 m2 text one with,
-          )),
+          (
+            with_lawful state m0 m2 text one with,
+            (
+              ((λ is. absurd (not_memory run fault is)), (λ is cut. absurd (cc (cut, off))), (λ ends. absurd (sink_ends run fault ends)), (λ is. absurd (not_full run fault is))),
+              with_joins state m0 m2 text one with,
+            ),
+          ),
           refl,
         );
         passed = sym (append-nil m0.store.asked);
