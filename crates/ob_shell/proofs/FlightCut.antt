@@ -335,7 +335,7 @@ module _ {R : Type 0} (state : R → RevState) (m1 m2 : Machine R) (more : List 
 
   pub cut_last : Outputs w0 w1 Lost (printed first ++ bytes) → Took w0 w1 (printed first)
       → ((kept : List Answer) → length kept ≤ e → LeavesAloft (Ran (Err (session_stop run))) m2.store.asked (drop (length (take (length kept) here)) (seats_at m1 entries_cut)) (statements (drop (length (take (length kept) done.flown)) spelt_cut)) (drop (length kept) here))
-      → ((kept : List Answer) → length kept ≤ e → EarlyAt state m1 m2 entries_cut spelt_cut kept (take (length kept) here ++ drop (length kept) here))
+      → ((kept : List Answer) → FirstAnswered fs_cut kept → EarlyAt state m1 m2 entries_cut spelt_cut kept (take (length kept) here ++ drop (length kept) here))
       → LastWalk state (Ran (Err (session_stop run))) m1 m2 more bytes w0 w1 Lost first
   cut_last out whole wants early =
       let on = sink_so w0 w1 Lost run first (answers_of done.flew.ended done.seens) bytes done.flew.part out whole done.flew.printed in
@@ -343,6 +343,7 @@ module _ {R : Type 0} (state : R → RevState) (m1 m2 : Machine R) (more : List 
       let sum = ap length on.parts ∙ length-append on.kept on.lost in
       let few = answers_few done.flew.ended done.seens (let all = ran.long in omega (arith, all, less_e)) in
       let under : n ≤ e = omega (arith, sum, few) in
+      let each = first_answered at 0 done.stmts done.seens done.flew.ended on.kept on.lost ran.long (omega (arith, less_e)) on.parts in
       record {
         held = take n done.flown;
         rest = drop n done.flown ++ done.more;
@@ -350,11 +351,11 @@ module _ {R : Type 0} (state : R → RevState) (m1 m2 : Machine R) (more : List 
         kept = on.kept;
         left = on.left;
         walk = left_walked state m1 m2 done.stmts done.seens done.flew.ended (Err run) done.may ran run done.flown done.more done.spelt (carried_by run total) (never_within run _ _ ran.cause)
-            on.kept (first_answered at 0 done.stmts done.seens done.flew.ended on.kept on.lost ran.long (omega (arith, less_e)) on.parts) (omega (arith, under, less_e)) (had n under) on.left
+            on.kept each (omega (arith, under, less_e)) (had n under) on.left
             (λ d drawn tables reads f is stood inn means. begins_cut on.kept on.lost on.parts on.left on.prints d tables reads f is stood inn means)
             (wants on.kept under)
             (λ d drawn tells tables held honest. stop_untampered run (ran.means.honest tables (record { tells = tells; held = free_holds state m1 d tables done.may.free held; nolie = honest })))
-            (early on.kept under);
+            (early on.kept each);
         cut = on.cut;
         whole = on.took;
         same = inr (run, refl);

@@ -249,7 +249,7 @@ module _ {R : Type 0} (state : R → RevState) (m1 m2 : Machine R) (more : List 
   long_answers = ap length done.step.flew.answered ∙ answers_long done.step.stmts done.step.flew.ended done.step.seens ran.long ran.all
 
   pub finished_last : Outputs w0 w1 Lost (printed first ++ part) → Took w0 w1 (printed first)
-      → ((kept : List Answer) → length kept < length done.step.stmts
+      → ((kept : List Answer) → FirstAnswered fs_done kept
       → EarlyAt state m1 m2 (turn_of state m1 m2 done.step.stmts done.step.seens done.step.flew.ended (Ok tt) done.step.may ran ∷ []) (spelt_left state m1 m2 done.step.stmts done.step.seens done.step.flew.ended (Ok tt) done.step.may ran) kept
       (take (length kept) (aloft state m1 m2 done.step.stmts done.step.seens done.step.flew.ended (Ok tt) done.step.may ran) ++ drop (length kept) (aloft state m1 m2 done.step.stmts done.step.seens done.step.flew.ended (Ok tt) done.step.may ran)))
       → LastWalk state (Ran (Err (session_stop run))) m1 m2 more part w0 w1 Lost first
@@ -276,7 +276,7 @@ module _ {R : Type 0} (state : R → RevState) (m1 m2 : Machine R) (more : List 
             (λ d drawn tables reads f is stood at means. begins_answered run _ f end.one stood at (nth_answered fs_done end.kept end.one end.lost f each is) means)
             (leaves_otherwise _ _ _ _ _ (ends (λ (e : Ending). ends_within e ≡ false) refl) (λ is. cc (is, ap (λ (r : RunStop). Ran (Err (session_stop r))) done.fault)))
             (λ d drawn tells tables held honest. stop_untampered run (ap is_refused done.fault))
-            (early end.kept short);
+            (early end.kept (answered end.kept (end.one ∷ end.lost) end.parts));
         cut = end.cut;
         whole = end.took;
         same = inr (run, refl);

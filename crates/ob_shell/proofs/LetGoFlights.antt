@@ -57,6 +57,12 @@ module _ {R : Type 0} (state : R → RevState) (words left : ℕ → ℕ) (stmts
         held = λ tables reads. represents_left state new t room tables (is.means.held tables (reads_back tables reads));
         honest = λ tables reads. tt;
         begun = is.means.begun;
+        earlier = λ i k stmt seen one get shown closed within.
+            let then_so = is.means.earlier i k stmt seen one get shown closed within in
+            record { mid = then_so.mid; later = then_so.later; few = then_so.few; lie = then_so.lie; unread = then_so.unread; fails = then_so.fails; told = then_so.told };
+        asks = λ k less.
+            let then_so = is.means.asks k less in
+            record { mid = then_so.mid; later = then_so.later; few = then_so.few; lie = then_so.lie; told = then_so.told };
       };
     }
 

@@ -5,7 +5,7 @@ use Rattle.ob_headline.specs.Words.{Answer, Took, printed}
 use Rattle.ob_headline.specs.declared.ending.Ending.{Ending}
 use Rattle.ob_headline.specs.declared.ending.Ending.TheVariants.{Ran}
 use Rattle.ob_print.specs.Cuts.{Outputs}
-use Rattle.ob_shell.proofs.FlightOpen.{flies_last}
+use Rattle.ob_shell.proofs.LeftFlights.{flies_last}
 use Rattle.ob_shell.proofs.FlightLast.{LastWalk}
 use Rattle.ob_shell.proofs.RunLemmas.{run_ends}
 use Rattle.ob_shell.proofs.StepLemmas.{by_last}
