@@ -18,9 +18,8 @@ use Rattle.ob_headline.specs.Meaning.{AnswersFrom, AnswersIn, AnswersMeant, sess
 use Rattle.ob_headline.specs.Statements.{SpellFirst, statements}
 use Rattle.ob_headline.specs.Words.{Answer, Begins}
 use Rattle.ob_headline.specs.declared.ending.Ending.{Ending}
-use Rattle.ob_mean.proofs.ReplayLemmas.{after_room}
 use Rattle.ob_mean.specs.Batches.{Gathering, and_one, begins_batch, begun_by, gathering_after, goes_into, inserts_into, is_cut}
-use Rattle.ob_mean.specs.Replay.{Alone, Broken, How, Session, Spelt, after, after_all, draws_taken, how_now, seen_now, seen_or_cut}
+use Rattle.ob_mean.specs.Replay.{Alone, Broken, How, Session, Spelt, after, draws_taken, how_now, seen_now, seen_or_cut}
 use Rattle.ob_mean.specs.Verdict.{Draws, Tables}
 use Rattle.ob_script.specs.Script.{script}
 use Rattle.ob_script.specs.Flights.{Alone as AloneTurn, Entry as Turn, trace_in}
