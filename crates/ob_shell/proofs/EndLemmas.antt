@@ -1,6 +1,6 @@
 -- How the answer of a statement ends it, and what it says of it.
 use Rattle.std.specs.Prelude.{◌↔◌, ◌&&◌}
-use Rattle.std.proofs.Common.{◌≡◌, ◌+◌, ◌-◌, ◌≤◌, ◌<◌, ℕ, IsTrue, Bool, Ok, Err, Result, List, [], ◌∷◌, ◌++◌, Option, Some, None, refl, sym, ◌∙◌, ap, subst, ◌||◌, true, false}
+use Rattle.std.proofs.Common.{◌≡◌, ℕ, IsTrue, Bool, Ok, Err, Result, List, [], ◌++◌, Option, Some, None, refl, sym, ◌∙◌, ap, subst, true, false}
 use Rattle.ob_base.specs.Counts.{Rises}
 use Rattle.ob_base.specs.Events.{Event}
 use Rattle.ob_base.specs.Refusals.{is_store_fault}
@@ -16,7 +16,6 @@ use Rattle.ob_tables.specs.Telling.{answer_labels}
 use Rattle.ob_verdict.specs.declared.outcome.Outcome.{Outcome}
 use Rattle.ob_verdict.specs.declared.outcome.Outcome.TheVariants.{Created, Inserted, Changed, Deleted, Dropped, Rows, Refused}
 use Rattle.ob_tables.specs.declared.stop.RunStop.{RunStop}
-use Rattle.ob_tables.specs.declared.stop.RunStop.TheVariants as Runs
 use Rattle.ob_headline.specs.Closing.{closing_line}
 use Rattle.ob_headline.specs.Batches.{Joins, is_failed}
 use Rattle.ob_headline.specs.Words.{Answer}

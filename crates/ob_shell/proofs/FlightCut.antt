@@ -1,13 +1,12 @@
 -- Where a stop came within a flight.
-use Rattle.std.specs.Prelude.{drop, if◌then◌else◌, map, nat_lt, slice_get, take, ⊤}
+use Rattle.std.specs.Prelude.{drop, nat_lt, slice_get, take}
 use Rattle.std.specs.List.{All}
 use Rattle.std.specs.Option.{option_map_or}
-use Rattle.std.proofs.Common.{◌≡◌, ◌⊎◌, ◌+◌, ◌-◌, ◌≤◌, ◌<◌, ◌++◌, inl, inr, ℕ, zero, suc, Bool, true, false, List, [], ◌∷◌, length, Option, Some, None, Ok, Err, Result, refl, sym, ◌∙◌, ap, subst, arith, append_assoc, append-nil, length-append, take-append-drop}
-use Rattle.std.proofs.lemmas.List.{append_cancel_left, length-map}
-use Rattle.ob_base.specs.Events.{Event}
+use Rattle.std.proofs.Common.{◌≡◌, ◌+◌, ◌≤◌, ◌<◌, ◌++◌, inl, inr, ℕ, zero, suc, Bool, true, false, List, [], ◌∷◌, length, Option, Some, None, Err, refl, sym, ◌∙◌, ap, subst, arith, append_assoc, append-nil, length-append, take-append-drop}
+use Rattle.std.proofs.lemmas.List.{append_cancel_left}
 use Rattle.ob_base.specs.declared.config.Public.{Public}
 use Rattle.ob_base.specs.declared.seen.Seen.{Seen}
-use Rattle.ob_exec.specs.InFlight.{IsFlown, IsMeant, served_as}
+use Rattle.ob_exec.specs.InFlight.{served_as}
 use Rattle.ob_exec.specs.RanFlight.{FlightCause, StopsInTurn}
 use Rattle.ob_headline.proofs.FlightLeft.{ended_left}
 use Rattle.ob_headline.proofs.TakenLemmas.{LosesSo}
@@ -18,32 +17,27 @@ use Rattle.ob_headline.specs.Flights.{EndedBy, Seat, asked_until, has_ended}
 use Rattle.ob_headline.specs.Meaning.{PrintsUntil}
 use Rattle.ob_headline.specs.Statements.{statements}
 use Rattle.ob_headline.specs.Words.{Answer, Took, printed}
-use Rattle.ob_headline.specs.declared.ending.Ending.{Ending}
 use Rattle.ob_headline.specs.declared.ending.Ending.TheVariants.{Ran}
 use Rattle.ob_inflight.specs.Closing.{Closed}
 use Rattle.ob_mean.specs.Replay.{Session, done_of}
 use Rattle.ob_mean.specs.Verdict.{Draws, Tables}
 use Rattle.ob_print.specs.Cuts.{IsCutOf, Outputs}
-use Rattle.ob_print.specs.Rows.{events_text}
 use Rattle.ob_script.proofs.FlightEnds.{all_ended, flying_long}
-use Rattle.ob_script.specs.FlightLaws.{AllEnded}
 use Rattle.ob_script.specs.Flights.{AreSteady, Flight, Flying, boarding, turns, turns_of}
 use Rattle.ob_script.specs.Trace.{Served as Entry}
-use Rattle.ob_shell.proofs.FlightEnd.{all_fs, aloft, in_all, left_walked, long_fs, spelt_left, turn_of}
+use Rattle.ob_shell.proofs.FlightEnd.{all_fs, aloft, in_all, left_walked, spelt_left, turn_of}
 use Rattle.ob_shell.proofs.FlightFacts.{first_answered, places, seats_are}
 use Rattle.ob_shell.proofs.FlightLast.{LastWalk}
 use Rattle.ob_shell.proofs.FlightMeant.{BeginsSo, Means, meant_so}
-use Rattle.ob_shell.proofs.FlightSeen.{FirstAnswered, IsAnswerOf, IsIn, Stood}
-use Rattle.ob_shell.proofs.FlightStop.{TakenOn, nth_answered, prints_whole, taken_on}
+use Rattle.ob_shell.proofs.FlightSeen.{FirstAnswered, IsIn, Stood}
+use Rattle.ob_shell.proofs.FlightStop.{nth_answered, prints_whole, taken_on}
 use Rattle.ob_shell.proofs.FlownLists.{Flown, Places, flown_at, flown_list, seats_in}
 use Rattle.ob_shell.proofs.StopLemmas.{tampered_as}
 use Rattle.ob_shell.proofs.WalkLemmas.{EarlyAt}
-use Rattle.ob_shell.specs.Aloft.{EmitsUntil, RanAloft, answer_of, answers_of}
-use Rattle.ob_shell.specs.Steps.{CutTogether, Holds, Machine, MayFly, asked_of}
-use Rattle.ob_shell.specs.Top.{EndsUntampered}
+use Rattle.ob_shell.specs.Aloft.{RanAloft, answer_of, answers_of}
+use Rattle.ob_shell.specs.Steps.{CutTogether, Machine, asked_of}
 use Rattle.ob_sql.specs.declared.stmt.Stmt.{Stmt}
-use Rattle.ob_store.specs.State.{Lie}
-use Rattle.ob_tables.specs.Agreeing.{AreDraws, public_of, world_of}
+use Rattle.ob_tables.specs.Agreeing.{public_of}
 use Rattle.ob_tables.specs.Stops.{session_stop}
 use Rattle.ob_tables.specs.Telling.{ReadsTrueUntil, is_refused}
 use Rattle.ob_tables.specs.declared.stop.RunStop.{RunStop}
@@ -335,7 +329,7 @@ module _ {R : Type 0} (state : R → RevState) (m1 m2 : Machine R) (more : List 
 
   pub cut_last : Outputs w0 w1 Lost (printed first ++ bytes) → Took w0 w1 (printed first)
       → ((kept : List Answer) → length kept ≤ e → LeavesAloft (Ran (Err (session_stop run))) m2.store.asked (drop (length (take (length kept) here)) (seats_at m1 entries_cut)) (statements (drop (length (take (length kept) done.flown)) spelt_cut)) (drop (length kept) here))
-      → ((kept : List Answer) → length kept ≤ e → EarlyAt state m1 m2 entries_cut spelt_cut kept (take (length kept) here ++ drop (length kept) here))
+      → ((kept : List Answer) → FirstAnswered fs_cut kept → EarlyAt state m1 m2 entries_cut spelt_cut kept (take (length kept) here ++ drop (length kept) here))
       → LastWalk state (Ran (Err (session_stop run))) m1 m2 more bytes w0 w1 Lost first
   cut_last out whole wants early =
       let on = sink_so w0 w1 Lost run first (answers_of done.flew.ended done.seens) bytes done.flew.part out whole done.flew.printed in
@@ -343,6 +337,7 @@ module _ {R : Type 0} (state : R → RevState) (m1 m2 : Machine R) (more : List 
       let sum = ap length on.parts ∙ length-append on.kept on.lost in
       let few = answers_few done.flew.ended done.seens (let all = ran.long in omega (arith, all, less_e)) in
       let under : n ≤ e = omega (arith, sum, few) in
+      let each = first_answered at 0 done.stmts done.seens done.flew.ended on.kept on.lost ran.long (omega (arith, less_e)) on.parts in
       record {
         held = take n done.flown;
         rest = drop n done.flown ++ done.more;
@@ -350,11 +345,11 @@ module _ {R : Type 0} (state : R → RevState) (m1 m2 : Machine R) (more : List 
         kept = on.kept;
         left = on.left;
         walk = left_walked state m1 m2 done.stmts done.seens done.flew.ended (Err run) done.may ran run done.flown done.more done.spelt (carried_by run total) (never_within run _ _ ran.cause)
-            on.kept (first_answered at 0 done.stmts done.seens done.flew.ended on.kept on.lost ran.long (omega (arith, less_e)) on.parts) (omega (arith, under, less_e)) (had n under) on.left
+            on.kept each (omega (arith, under, less_e)) (had n under) on.left
             (λ d drawn tables reads f is stood inn means. begins_cut on.kept on.lost on.parts on.left on.prints d tables reads f is stood inn means)
             (wants on.kept under)
             (λ d drawn tells tables held honest. stop_untampered run (ran.means.honest tables (record { tells = tells; held = free_holds state m1 d tables done.may.free held; nolie = honest })))
-            (early on.kept under);
+            (early on.kept each);
         cut = on.cut;
         whole = on.took;
         same = inr (run, refl);

@@ -1,7 +1,7 @@
 -- A flight that was left, as the last of what was served.
-use Rattle.std.specs.Prelude.{◌&&◌, OnOk, drop, if◌then◌else◌, map, max, min, nat_lt, slice_get, take, ⊤}
+use Rattle.std.specs.Prelude.{◌&&◌, drop, if◌then◌else◌, map, nat_lt, slice_get, take}
 use Rattle.std.specs.List.{All}
-use Rattle.std.proofs.Common.{◌≡◌, ◌⊎◌, ◌+◌, ◌-◌, ◌≤◌, ◌<◌, ◌++◌, ◌^◌, inl, inr, ℕ, zero, suc, Bool, true, false, IsTrue, List, [], ◌∷◌, length, Option, Some, None, Ok, Err, Result, refl, sym, ◌∙◌, ap, subst, arith, append_assoc, append-nil, length-append, take-append-drop}
+use Rattle.std.proofs.Common.{◌≡◌, ◌+◌, ◌-◌, ◌≤◌, ◌<◌, ◌++◌, ℕ, zero, suc, Bool, true, false, IsTrue, List, [], ◌∷◌, length, Option, Some, None, Ok, Err, Result, refl, sym, ◌∙◌, ap, subst, arith, append_assoc, append-nil, length-append, take-append-drop}
 use Rattle.std.proofs.lemmas.List.{length-drop, length-map, length-take, take_all}
 use Rattle.std.proofs.lemmas.List.Elements.{All-cons, All-head, All-nil, All-tail}
 use Rattle.ob_base.specs.declared.access.Access.{Access}
@@ -10,15 +10,15 @@ use Rattle.ob_base.specs.declared.seen.Seen.{Seen}
 use Rattle.ob_exec.proofs.LeavesRead.{Given}
 use Rattle.ob_exec.specs.InFlight.{served_as}
 use Rattle.ob_exec.specs.RanFlight.{asked_since, stopped_after}
-use Rattle.ob_headline.specs.Accesses.{AreSeen, LeavesAloft, StopsWithin, any_cut}
-use Rattle.ob_headline.specs.Failures.{FailsBeside, RisesBy, cut_off, failures}
-use Rattle.ob_headline.specs.Flights.{AreEntries, AreGathered, EndedBy, MayFly as FlyMay, Seat, may_fly, most_flown, place_now, seats_aloft, served_by, whole_of}
+use Rattle.ob_headline.specs.Accesses.{AreSeen, LeavesAloft, any_cut}
+use Rattle.ob_headline.specs.Failures.{cut_off, failures}
+use Rattle.ob_headline.specs.Flights.{AreEntries, AreGathered, EndedBy, MayFly as FlyMay, Seat, may_fly, place_now, seats_aloft, served_by, whole_of}
 use Rattle.ob_headline.specs.Statements.{SpellFirst, statements}
 use Rattle.ob_headline.specs.Words.{Answer}
 use Rattle.ob_headline.specs.declared.ending.Ending.{Ending}
 use Rattle.ob_inflight.specs.Closing.{Closed}
 use Rattle.ob_mean.specs.Batches.{Gathering}
-use Rattle.ob_mean.specs.Replay.{Broken, Session, Spelt}
+use Rattle.ob_mean.specs.Replay.{Session, Spelt}
 use Rattle.ob_mean.specs.Verdict.{Draws, Tables}
 use Rattle.ob_script.specs.FlightLaws.{SelectsFromOne}
 use Rattle.ob_script.specs.Flights.{Entry as Turn, Together, flight_accesses, merge, trace_in, own_asked}
@@ -34,23 +34,22 @@ use Rattle.ob_shell.specs.Aloft.{RanAloft}
 use Rattle.ob_shell.specs.Steps.{AreSpelt, Machine, MayFly, asked_of}
 use Rattle.ob_sql.specs.Skeleton.{skeleton}
 use Rattle.ob_sql.specs.declared.stmt.Stmt.{Stmt}
-use Rattle.ob_tables.specs.Agreeing.{AreDraws, engine_start, indexes_of, public_of}
+use Rattle.ob_tables.specs.Agreeing.{AreDraws, indexes_of, public_of}
 use Rattle.ob_tables.specs.declared.stop.RunStop.{RunStop}
 use Rattle.ob_vault.specs.State.{RevState}
-use Rattle.ob_exec.specs.InFlight.{IsFlown, StandsAs as FlownStands}
+use Rattle.ob_exec.specs.InFlight.{IsFlown}
 use Rattle.ob_base.specs.declared.seen.End.{End}
 use Rattle.ob_base.specs.declared.seen.End.TheVariants.{Static, Whole, AfterCount, Joined, Cut}
 use Rattle.ob_exec.specs.RanFlight.{asked_by, carried_out}
 use Rattle.ob_headline.specs.Accesses.{ends_within}
-use Rattle.ob_headline.specs.Flights.{own_asked}
 use Rattle.ob_headline.specs.Meaning.{AnswersFrom, done_in}
 use Rattle.ob_headline.specs.Endings.{is_tampered}
 use Rattle.ob_headline.specs.declared.ending.Ending.TheVariants.{Ran}
 use Rattle.ob_mean.specs.Replay.{done_of}
 use Rattle.ob_oram.specs.declared.index.Index.{Index}
-use Rattle.ob_shell.proofs.FlightCuts.{cut_same, failed_same, failures_more, none_cut}
+use Rattle.ob_shell.proofs.FlightCuts.{cut_same, failed_same, none_cut}
 use Rattle.ob_shell.proofs.FlightFacts.{places}
-use Rattle.ob_shell.proofs.FlightMeant.{BeginsSo, LeftMean, Means, StandsSo as FlownStandsSo, Told, left_meant, meant_so, stands_so}
+use Rattle.ob_shell.proofs.FlightMeant.{BeginsSo, LeftMean, Means, StandsSo as FlownStandsSo, left_meant, meant_so, stands_so}
 use Rattle.ob_shell.proofs.FlightSeen.{cut_more}
 use Rattle.ob_shell.proofs.FlownLists.{each_flown}
 use Rattle.ob_shell.proofs.LeafLemmas.{Reads, reads_none, reads_unasked}
@@ -58,10 +57,9 @@ use Rattle.ob_shell.proofs.FlightLeaves.{leaves_kept}
 use Rattle.ob_shell.proofs.LeavePath.{HaveFlown, Path, aloft_along, aloft_so}
 use Rattle.ob_shell.proofs.ReplayLemmas.{free_holds}
 use Rattle.ob_shell.proofs.SelectLemmas.{flown_leaf}
-use Rattle.ob_shell.proofs.WalkLemmas.{Behind, EarlyAt, Walked}
+use Rattle.ob_shell.proofs.WalkLemmas.{EarlyAt, Walked}
 use Rattle.ob_shell.specs.Steps.{Holds, Owed, session_of, statements_of}
 use Rattle.ob_shell.specs.Top.{EndsUntampered}
-use Rattle.ob_store.specs.State.{Lie}
 use Rattle.ob_tables.specs.Stops.{session_stop}
 use Rattle.ob_tables.specs.Telling.{ReadsTrueUntil}
 use Rattle.ob_mean.specs.Standing.{StandsAs}
@@ -340,8 +338,8 @@ module _ {R : Type 0} (state : R → RevState) (m0 m1 : Machine R) (stmts : List
         entered = left_entries state m0 m1 stmts seens ended result may ran n short had;
         in_access = λ ends. absurd (off ends);
         each_seen = kept_long state m0 m1 stmts seens ended result may ran n short had ∙ sym (
-        ap (λ (k : ℕ). length (statements (take k spelt_here))) taken_texts
-        ∙ statements_taken (stmts_in fs_here) n (let same = ap length (are_stmts state m0 m1 stmts seens ended result may ran) in omega (arith, short, same)));
+            ap (λ (k : ℕ). length (statements (take k spelt_here))) taken_texts
+            ∙ statements_taken (stmts_in fs_here) n (let same = ap length (are_stmts state m0 m1 stmts seens ended result may ran) in omega (arith, short, same)));
         lawful = λ most old fails d drawn g. seen_left state m0 m1 stmts seens ended result may ran n short had _ m0.gathered.batch kept first;
         aloft = wants;
         passed = passed_left state m0 m1 stmts seens ended result may ran n short had;

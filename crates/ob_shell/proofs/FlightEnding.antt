@@ -1,6 +1,6 @@
 -- Where a flight was left.
 use Rattle.std.specs.Prelude.{drop, take}
-use Rattle.std.proofs.Common.{◌≡◌, ◌⊎◌, ◌≤◌, ◌<◌, ◌++◌, inl, inr, ℕ, true, List, [], ◌∷◌, length, Option, Ok, Err, refl, ap, arith}
+use Rattle.std.proofs.Common.{◌≡◌, ◌≤◌, ◌++◌, ℕ, true, List, [], ◌∷◌, length, Option, Ok, Err, refl}
 use Rattle.ob_base.specs.declared.access.Access.{Access}
 use Rattle.ob_headline.specs.Accesses.{LeavesAloft, ends_within}
 use Rattle.ob_headline.specs.Flights.{Seat}
@@ -9,9 +9,10 @@ use Rattle.ob_headline.specs.Words.{Answer, Took, printed}
 use Rattle.ob_headline.specs.declared.ending.Ending.TheVariants.{Ran}
 use Rattle.ob_print.specs.Cuts.{Outputs}
 use Rattle.ob_script.specs.Trace.{Served as Entry}
-use Rattle.ob_shell.proofs.FlightCut.{cut_last, entries_cut, never_within, spelt_cut}
-use Rattle.ob_shell.proofs.FlightEnd.{aloft, spelt_left, turn_of}
+use Rattle.ob_shell.proofs.FlightCut.{cut_last, never_within}
+use Rattle.ob_shell.proofs.FlightEnd.{aloft, all_fs, spelt_left, turn_of}
 use Rattle.ob_shell.proofs.FlightLast.{LastWalk}
+use Rattle.ob_shell.proofs.FlightSeen.{FirstAnswered}
 use Rattle.ob_shell.proofs.FlightSteady.{steady_flown}
 use Rattle.ob_shell.proofs.FlightStop.{finished_last, leaves_otherwise}
 use Rattle.ob_shell.proofs.WalkEntries.{seats_at}
@@ -41,7 +42,7 @@ module _ {R : Type 0} (state : R → RevState) (m1 m2 : Machine R) (more : List 
     pub flies_cut : (run ≡ Runs.NoMemory → (kept : List Answer) → length kept ≤ length cut.flew.ended
         → LeavesAloft (Ran (Err (session_stop run))) m2.store.asked (drop (length (take (length kept) here)) (seats_at m1 (turn_of state m1 m2 cut.stmts cut.seens cut.flew.ended (Err run) cut.may cut.flew.ran ∷ [])))
         (statements (drop (length (take (length kept) cut.flown)) (spelt_left state m1 m2 cut.stmts cut.seens cut.flew.ended (Err run) cut.may cut.flew.ran))) (drop (length kept) here))
-        → ((kept : List Answer) → length kept ≤ length cut.flew.ended → EarlyAt state m1 m2 (turn_of state m1 m2 cut.stmts cut.seens cut.flew.ended (Err run) cut.may cut.flew.ran ∷ [])
+        → ((kept : List Answer) → FirstAnswered (all_fs state m1 m2 cut.stmts cut.seens cut.flew.ended (Err run) cut.may cut.flew.ran) kept → EarlyAt state m1 m2 (turn_of state m1 m2 cut.stmts cut.seens cut.flew.ended (Err run) cut.may cut.flew.ran ∷ [])
         (spelt_left state m1 m2 cut.stmts cut.seens cut.flew.ended (Err run) cut.may cut.flew.ran) kept (take (length kept) here ++ drop (length kept) here))
         → LastWalk state (Ran (Err (session_stop run))) m1 m2 more part w0 w1 Lost first
     flies_cut wants early =
@@ -49,7 +50,7 @@ module _ {R : Type 0} (state : R → RevState) (m1 m2 : Machine R) (more : List 
         (λ kept few. unless_memory run _ _ _ _ (never_within run _ _ cut.flew.ran.cause) (λ is. wants is kept few)) early
 
   pub flies_finished : (done : FinishedTogether state m1 m2 more run part)
-      → ((kept : List Answer) → length kept < length done.step.stmts → EarlyAt state m1 m2 (turn_of state m1 m2 done.step.stmts done.step.seens done.step.flew.ended (Ok tt) done.step.may done.step.flew.ran ∷ [])
+      → ((kept : List Answer) → FirstAnswered (all_fs state m1 m2 done.step.stmts done.step.seens done.step.flew.ended (Ok tt) done.step.may done.step.flew.ran) kept → EarlyAt state m1 m2 (turn_of state m1 m2 done.step.stmts done.step.seens done.step.flew.ended (Ok tt) done.step.may done.step.flew.ran ∷ [])
       (spelt_left state m1 m2 done.step.stmts done.step.seens done.step.flew.ended (Ok tt) done.step.may done.step.flew.ran) kept
       (take (length kept) (aloft state m1 m2 done.step.stmts done.step.seens done.step.flew.ended (Ok tt) done.step.may done.step.flew.ran) ++ drop (length kept) (aloft state m1 m2 done.step.stmts done.step.seens done.step.flew.ended (Ok tt) done.step.may done.step.flew.ran)))
       → LastWalk state (Ran (Err (session_stop run))) m1 m2 more part w0 w1 Lost first

@@ -1,27 +1,24 @@
 -- What statements mean that fly: each over the tables before, which stay.
 use Rattle.std.specs.Prelude.{drop, if◌then◌else◌, map, ⊤}
 use Rattle.std.specs.List.{All}
-use Rattle.std.proofs.Common.{◌≡◌, ◌⊎◌, ◌+◌, ◌≤◌, ◌++◌, inl, inr, ℕ, Bool, true, false, IsTrue, List, [], ◌∷◌, length, Option, Some, None, Ok, Err, Result, refl, sym, ◌∙◌, ap, subst, arith}
+use Rattle.std.proofs.Common.{◌≡◌, ◌⊎◌, ◌≤◌, ◌++◌, inl, inr, ℕ, Bool, true, false, List, [], ◌∷◌, length, Option, Some, None, Ok, Err, Result, refl, sym, ◌∙◌, ap, subst, arith}
 use Rattle.std.proofs.lemmas.List.Elements.{All-head, All-tail}
 use Rattle.ob_base.specs.Stored.{headings, headings_of}
 use Rattle.ob_base.specs.declared.refusal.Refusal.{Refusal}
 use Rattle.ob_base.specs.declared.schema.Heading.{Heading}
-use Rattle.ob_base.specs.declared.seen.End.{End}
-use Rattle.ob_base.specs.declared.seen.End.TheVariants.{Static, Whole, AfterCount, Joined, Cut}
+use Rattle.ob_base.specs.declared.seen.End.TheVariants.{Cut}
 use Rattle.ob_base.specs.declared.seen.Seen.{Seen}
 use Rattle.ob_exec.specs.InFlight.{EndsMeant, IsMeant}
 use Rattle.ob_headline.proofs.CutLemmas.{cut_shorter}
-use Rattle.ob_headline.specs.Closing.{closing_line}
 use Rattle.ob_headline.specs.Flights.{Seat, Stand, at_next, at_seat, may_fly}
-use Rattle.ob_headline.specs.Meaning.{AnswersFrom, AnswersIn, BeginsAnswer, BeginsAt, EmitsAll, EmitsPart, HasEnded, StandBehind, StandsIn, StandsThere, done_in, session_after}
+use Rattle.ob_headline.specs.Meaning.{AnswersFrom, AnswersIn, BeginsAnswer, BeginsAt, EmitsAll, EmitsPart, StandBehind, StandsIn, StandsThere, done_in, session_after}
 use Rattle.ob_headline.specs.Words.{Answer}
 use Rattle.ob_headline.specs.declared.ending.Ending.{Ending}
 use Rattle.ob_inflight.specs.Closing.{Closed}
 use Rattle.ob_mean.specs.Lawful.{CutUpTo}
 use Rattle.ob_mean.specs.Refusals.{early_refusal, limits_of}
 use Rattle.ob_mean.specs.Replay.{Alone, Broken, CutAfter, How, IsCutOff, Session, Spelt, after, cut_at, head_of, is_full_now, rest_of, seen_now, seen_or_cut}
-use Rattle.ob_mean.specs.Verdict.{Draws, Tables, is_late}
-use Rattle.ob_print.specs.Rows.{events_text}
+use Rattle.ob_mean.specs.Verdict.{Tables, is_late}
 use Rattle.ob_script.specs.Script.{whole_script}
 use Rattle.ob_script.specs.Trace.{Served}
 use Rattle.ob_shell.proofs.FlightSeen.{IsAnswerOf, IsIn, Stood, flown_bytes, flown_early, flown_ended, flown_lawful}
@@ -31,7 +28,7 @@ use Rattle.ob_shell.proofs.SelectLemmas.{IsOwn, LeavesAll, leaves_all, room_flow
 use Rattle.ob_shell.specs.Aloft.{answer_of}
 use Rattle.ob_sql.specs.Skeleton.{skeleton}
 use Rattle.ob_sql.specs.declared.stmt.Stmt.{Stmt}
-use Rattle.ob_tables.specs.Running.{RefusedEarly, is_fault, outcome_end}
+use Rattle.ob_tables.specs.Running.{RefusedEarly, is_fault}
 use Rattle.ob_tables.specs.Telling.{Emitted}
 use Rattle.ob_tables.specs.declared.stop.RunStop.{RunStop}
 use Rattle.ob_verdict.specs.Outcomes.{refusal_now}
@@ -284,9 +281,9 @@ module _ (ending : Ending) (s : Session) (part : List ℕ) where
       let own = stands_at f t ts ds (All-head (StandsSo ending s) f fs all) in
       let here = sym (at_same f.seat s t ts ds) in
       subst (λ (o : Option Stand). BeginsAt o ending f.seat (at_seat f.seat t) f.stmt f.seen part (StandBehind ending (seats_in fs) t (map Ok (stmts_in fs)) (served_in_all fs))) (sym begins.left) (
-      subst (λ (o : Option Stand). StandsThere o ending (at_seat f.seat t) f.stmt f.seen) begins.left own,
-      subst (λ (y : Session). EmitsPart ending f.seat begins.stand y f.stmt part ⊎ EmitsAll ending y f.stmt f.seen part) here begins.emits,
-      stand_behind fs t ts ds (All-tail (StandsSo ending s) f fs all),
+        subst (λ (o : Option Stand). StandsThere o ending (at_seat f.seat t) f.stmt f.seen) begins.left own,
+        subst (λ (y : Session). EmitsPart ending f.seat begins.stand y f.stmt part ⊎ EmitsAll ending y f.stmt f.seen part) here begins.emits,
+        stand_behind fs t ts ds (All-tail (StandsSo ending s) f fs all),
       )
 
   pub left_meant : (fs : List Flown) (kept : List Answer) → LeftMean ending s part fs kept → (t : Session) → t.tables ≡ s.tables → t.draws ≡ s.draws

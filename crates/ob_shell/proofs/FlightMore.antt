@@ -1,22 +1,19 @@
 -- One step more of a walk: texts that were answered together.
-use Rattle.std.specs.Prelude.{◌↔◌, drop, map, max, take}
-use Rattle.std.proofs.Common.{◌≡◌, ◌+◌, ◌≤◌, ◌<◌, ◌++◌, ◌^◌, inl, inr, ℕ, suc, Bool, true, false, IsTrue, List, [], ◌∷◌, length, Option, Some, None, Ok, Err, refl, sym, ◌∙◌, ap, subst, arith, append_assoc, length-append}
+use Rattle.std.specs.Prelude.{drop, map}
+use Rattle.std.proofs.Common.{◌≡◌, ◌+◌, ◌<◌, ◌++◌, ℕ, Bool, false, IsTrue, List, ◌∷◌, length, Option, Some, None, Ok, refl, sym, ◌∙◌, ap, subst, arith, append_assoc, length-append}
 use Rattle.std.proofs.lemmas.List.{length-map}
 use Rattle.std.specs.List.{All}
 use Rattle.ob_base.specs.Indexes.{leaf_of_draw}
-use Rattle.ob_base.specs.declared.access.Access.{Access}
 use Rattle.ob_base.specs.declared.config.Public.{Public}
-use Rattle.ob_base.specs.declared.seen.Seen.{Seen}
 use Rattle.ob_exec.proofs.LeavesRead.{Given, KeyAt, Unread}
 use Rattle.ob_exec.specs.InFlight.{served_as}
 use Rattle.ob_headline.specs.Accesses.{AreSeen, LeavesAloft, StopsWithin, any_cut}
-use Rattle.ob_headline.specs.Failures.{FailsBeside, RisesBy, cut_off, failures}
+use Rattle.ob_headline.specs.Failures.{RisesBy, cut_off}
 use Rattle.ob_headline.specs.Flights.{Seat, whole_of}
 use Rattle.ob_headline.specs.Statements.{SpellFirst, statements}
 use Rattle.ob_headline.specs.Words.{Answer}
 use Rattle.ob_headline.specs.declared.ending.Ending.{Ending}
-use Rattle.ob_mean.specs.Batches.{Gathering}
-use Rattle.ob_mean.specs.Replay.{Broken, Session, Spelt}
+use Rattle.ob_mean.specs.Replay.{Broken, Spelt}
 use Rattle.ob_mean.specs.Verdict.{Draws, Tables}
 use Rattle.ob_oram.specs.declared.index.Index.{Index}
 use Rattle.ob_script.proofs.FlightLemmas.{next_after}
@@ -29,17 +26,17 @@ use Rattle.ob_shell.proofs.FlightLeaves.{leaves_flown}
 use Rattle.ob_shell.proofs.FlightMeant.{AreStill, Told, told_as, told_same, whole_meant}
 use Rattle.ob_shell.proofs.FlightSeen.{answered_long, cut_more}
 use Rattle.ob_shell.proofs.FlightWalk.{after_on, all_fs, aloft, answered, are_served, are_stmts, flown_drawn, flown_entries, flown_seen, long_aloft, long_fs, public_on, seats_on, stood, trace_on, turn_of}
-use Rattle.ob_shell.proofs.FlownLists.{Flown, seats_in, served_in_all, stmts_in}
+use Rattle.ob_shell.proofs.FlownLists.{Flown, seats_in, stmts_in}
 use Rattle.ob_shell.proofs.LeafLemmas.{Reads}
-use Rattle.ob_shell.proofs.LeavePath.{Along, HaveFlown, HaveLanded, Path, together_along, together_so}
+use Rattle.ob_shell.proofs.LeavePath.{HaveLanded, Path, together_along, together_so}
 use Rattle.ob_shell.proofs.ReplayLemmas.{free_holds, holds_free, no_lie}
 use Rattle.ob_shell.proofs.WalkEntries.{seats_at, trace_at, whole_flown}
 use Rattle.ob_shell.proofs.WalkLemmas.{Behind, EarlyAt, Full, Walked, world}
-use Rattle.ob_shell.specs.Steps.{Holds, Machine, Owed, StepTogether, asked_of, session_of, statements_of}
+use Rattle.ob_shell.specs.Steps.{Holds, Machine, StepTogether, session_of, statements_of}
 use Rattle.ob_sql.specs.declared.stmt.Stmt.{Stmt}
-use Rattle.ob_store.specs.State.{Lie, StoreState}
+use Rattle.ob_store.specs.State.{Lie}
 use Rattle.ob_tables.specs.Agreeing.{AreDraws, engine_start, indexes_of, public_of}
-use Rattle.ob_tables.specs.Telling.{ReadsTrueUntil, Represents}
+use Rattle.ob_tables.specs.Telling.{ReadsTrueUntil}
 use Rattle.ob_vault.specs.State.{RevState, Start}
 use Rattle.ob_vault.specs.Tied.{Calm, IsUnfit, TagFits}
 use Rattle.ob_seal.specs.KeySet.{KeySet}
@@ -173,8 +170,8 @@ module _ {R : Type 0} (state : R → RevState) (m0 m1 : Machine R) (flown : List
       let joined : up ++ all ≡ (up ++ rest.seen) ++ rest.last = sym (append_assoc up rest.seen rest.last) in
       let there = seats_on state m0 m1 flown given step rest.entries in
       let spells_up : (xs : List Spelt) → SpellFirst (texts ++ more) xs → SpellFirst ((flown ++ texts) ++ more) (spelt_up ++ xs) = λ xs ok.
-          subst (λ (l : List (List ℕ)). SpellFirst l (spelt_up ++ xs)) (sym (append_assoc flown texts more))
-          (subst (λ (l : List Stmt). SpellFirst (flown ++ (texts ++ more)) (map Ok l ++ xs)) (sym (are_stmts state m0 m1 flown given step)) (spell_flown flown (texts ++ more) step.stmts xs step.spelt ok)) in
+      subst (λ (l : List (List ℕ)). SpellFirst l (spelt_up ++ xs)) (sym (append_assoc flown texts more))
+      (subst (λ (l : List Stmt). SpellFirst (flown ++ (texts ++ more)) (map Ok l ++ xs)) (sym (are_stmts state m0 m1 flown given step)) (spell_flown flown (texts ++ more) step.stmts xs step.spelt ok)) in
       let stmts_long : length (stmts_in here) ≡ length here = length-map here (λ (f : Flown). f.stmt) in
       record {
         spelt = spelt_up ++ rest.spelt;

@@ -1,22 +1,18 @@
 -- What is seen of statements that fly, and how they are gathered.
-use Rattle.std.specs.Prelude.{◌↔◌, ◌&&◌, if◌then◌else◌, map, nat_lt, take, ⊤}
+use Rattle.std.specs.Prelude.{◌&&◌, if◌then◌else◌, map, nat_lt, take, ⊤}
 use Rattle.std.specs.List.{All}
-use Rattle.std.proofs.Common.{◌≡◌, ◌⊎◌, ◌+◌, ◌≤◌, ◌<◌, ◌++◌, inl, inr, ℕ, zero, suc, Bool, true, false, IsTrue, List, [], ◌∷◌, length, Option, Some, None, Ok, Err, Result, refl, sym, ◌∙◌, ap, subst, arith}
-use Rattle.std.proofs.lemmas.List.Elements.{All-cons, All-head, All-nil, All-tail}
-use Rattle.ob_base.specs.Events.{Event}
+use Rattle.std.proofs.Common.{◌≡◌, ◌⊎◌, ◌+◌, ◌≤◌, ◌<◌, ◌++◌, inl, inr, ℕ, suc, true, List, [], ◌∷◌, length, Option, Some, None, Ok, refl, sym, ◌∙◌, ap, subst, arith}
+use Rattle.std.proofs.lemmas.List.Elements.{All-cons, All-head, All-tail}
 use Rattle.ob_base.specs.declared.config.Public.{Public}
-use Rattle.ob_base.specs.declared.refusal.Refusal.TheVariants.{StoreFault}
-use Rattle.ob_base.specs.declared.seen.End.{End}
-use Rattle.ob_base.specs.declared.seen.End.TheVariants.{Static, Whole, AfterCount, Joined, Cut}
 use Rattle.ob_base.specs.declared.seen.Seen.{Seen}
 use Rattle.ob_exec.specs.InFlight.{EndsAs, IsFlown}
-use Rattle.ob_headline.specs.Accesses.{AreSeen, IsLeft, any_cut}
+use Rattle.ob_headline.specs.Accesses.{AreSeen, IsLeft}
 use Rattle.ob_headline.specs.Closing.{closing_line}
 use Rattle.ob_headline.specs.Failures.{cut_off}
 use Rattle.ob_headline.specs.Flights.{AreGathered, EndedBy, Seat, Stand, gathered_then, may_fly, place_now}
 use Rattle.ob_headline.specs.Words.{Answer}
 use Rattle.ob_inflight.specs.Closing.{Closed}
-use Rattle.ob_mean.specs.Batches.{Gathering, gathering_after, is_cut}
+use Rattle.ob_mean.specs.Batches.{Gathering, is_cut}
 use Rattle.ob_mean.specs.Lawful.{Lawful}
 use Rattle.ob_mean.specs.Replay.{Spelt}
 use Rattle.ob_print.specs.Rows.{events_text}
@@ -30,7 +26,6 @@ use Rattle.ob_sql.specs.declared.stmt.Stmt.{Stmt}
 use Rattle.ob_tables.specs.Running.{RefusedEarly, outcome_end}
 use Rattle.ob_tables.specs.Telling.{answer_labels}
 use Rattle.ob_verdict.specs.Outcomes.{Emits, refusal_now}
-use Rattle.ob_verdict.specs.declared.outcome.Outcome.TheVariants.{Refused}
 use Rattle.ob_tables.proofs.CutLemmas.{end_cut}
 use Rattle.ob_mean.specs.Standing.{StandsAs}
 

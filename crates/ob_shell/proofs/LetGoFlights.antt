@@ -1,13 +1,11 @@
 -- A store whose list lets go of what statements in flight asked: nothing else that is known of them has changed.
-use Rattle.std.proofs.Common.{◌≡◌, inl, inr, ℕ, Bool, List, [], Ok, Option, refl, sym, subst}
+use Rattle.std.proofs.Common.{inl, inr, ℕ, List, Ok, Option, sym, subst}
 use Rattle.ob_base.specs.declared.seen.Seen.{Seen}
-use Rattle.ob_exec.specs.RanFlight.{FliesOn}
 use Rattle.ob_gen.specs.declared.tally.Tally.{Tally}
-use Rattle.ob_headline.specs.Words.{Answer}
 use Rattle.ob_inflight.specs.Closing.{Closed}
 use Rattle.ob_mean.specs.Verdict.{Tables}
 use Rattle.ob_shell.proofs.LetGoLemmas.{agrees_left, calm_now, represents_left, seals_now, since_left}
-use Rattle.ob_shell.specs.Aloft.{AnswersFlight, FlewWhole, RanAloft}
+use Rattle.ob_shell.specs.Aloft.{RanAloft}
 use Rattle.ob_shell.specs.Flying.{CountsFlight}
 use Rattle.ob_shell.specs.Traces.{LetsGoFrom}
 use Rattle.ob_sql.specs.declared.stmt.Stmt.{Stmt}
@@ -57,6 +55,12 @@ module _ {R : Type 0} (state : R → RevState) (words left : ℕ → ℕ) (stmts
         held = λ tables reads. represents_left state new t room tables (is.means.held tables (reads_back tables reads));
         honest = λ tables reads. tt;
         begun = is.means.begun;
+        earlier = λ i k stmt seen one get shown closed within.
+            let then_so = is.means.earlier i k stmt seen one get shown closed within in
+            record { mid = then_so.mid; later = then_so.later; few = then_so.few; lie = then_so.lie; unread = then_so.unread; fails = then_so.fails; told = then_so.told };
+        asks = λ k less.
+            let then_so = is.means.asks k less in
+            record { mid = then_so.mid; later = then_so.later; few = then_so.few; lie = then_so.lie; told = then_so.told };
       };
     }
 

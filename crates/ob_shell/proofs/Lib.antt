@@ -46,9 +46,15 @@ pub mod FlightSteady
 pub mod FlightEnding
 pub mod FlightMore
 pub mod FlightLast
+pub mod EndedUntil
+pub mod FlightUntil
+pub mod FlightEarly
+pub mod FlightBefore
+pub mod MeantFirst
+pub mod EarlyFlights
 pub mod FlightLeaves
 pub mod FlightWants
-pub mod FlightOpen
+pub mod LeftFlights
 pub mod WalkEntries
 pub mod WalkWhole
 pub mod WalkLast

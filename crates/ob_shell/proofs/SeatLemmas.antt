@@ -8,16 +8,16 @@ use Rattle.ob_script.specs.Script.{script}
 use Rattle.ob_script.specs.Trace.{Served, next}
 
 -- ---- the words that are left
-plus : (n t k : ℕ) → (n + t) + k ≡ n + (t + k)
+pub plus : (n t k : ℕ) → (n + t) + k ≡ n + (t + k)
 plus n t k = omega arith
 
 none_more : (k : ℕ) → 0 + k ≡ k
 none_more k = omega arith
 
-words_later : (words : ℕ → ℕ) (n t : ℕ) → words_from words (n + t) ≡ words_from (words_from words n) t
+pub words_later : (words : ℕ → ℕ) (n t : ℕ) → words_from words (n + t) ≡ words_from (words_from words n) t
 words_later words n t = λ i k. words (plus n t k i)
 
-words_whole : (words : ℕ → ℕ) → words_from words 0 ≡ words
+pub words_whole : (words : ℕ → ℕ) → words_from words 0 ≡ words
 words_whole words = λ i k. words (none_more k i)
 
 -- ---- behind n of them

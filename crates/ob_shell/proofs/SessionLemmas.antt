@@ -73,7 +73,7 @@ use Rattle.ob_shell.proofs.TallyLemmas.{tally_after-nil}
 use Rattle.ob_shell.proofs.TopLemmas.{nothing_over, took_none}
 use Rattle.ob_shell.proofs.TraceLemmas.{traced_none}
 use Rattle.ob_shell.proofs.FlightLast.{LastWalk}
-use Rattle.ob_shell.proofs.FlightOpen.{flies_early}
+use Rattle.ob_shell.proofs.EarlyFlights.{flies_early}
 use Rattle.ob_shell.proofs.HowLemmas.{course_of, met_trace}
 use Rattle.ob_shell.proofs.PromptMore.{prompt_more, whole_before}
 use Rattle.ob_shell.proofs.RunLemmas.{run_ends}

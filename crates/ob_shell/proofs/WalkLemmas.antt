@@ -1,17 +1,11 @@
 -- A walk over the texts that were answered, and the one begun, as far as the first.
-use Rattle.std.specs.Prelude.{◌↔◌, ◌&&◌, drop, map, max}
+use Rattle.std.specs.Prelude.{◌&&◌, drop, map, max}
 use Rattle.std.proofs.Common.{◌≡◌, inl, inr, ◌+◌, ◌-◌, ◌≤◌, ◌<◌, ℕ, IsTrue, Bool, Ok, Err, Result, List, [], ◌∷◌, ◌++◌, length, take, Option, Some, None, refl, sym, ◌∙◌, ap, subst, append-nil, arith, ◌||◌, true, false}
 use Rattle.std.proofs.lemmas.List.{append_cancel_left}
-use Rattle.ob_base.specs.Counts.{Rises}
 use Rattle.ob_base.specs.Events.{Event}
-use Rattle.ob_base.specs.Refusals.{is_store_fault}
 use Rattle.ob_base.specs.declared.access.Access.{Access}
 use Rattle.ob_base.specs.declared.config.Public.{Public}
-use Rattle.ob_base.specs.declared.refusal.Refusal.{Refusal}
-use Rattle.ob_base.specs.declared.refusal.Refusal.TheVariants.{StoreFault}
-use Rattle.ob_base.specs.declared.refusal.Stop.{Stop}
 use Rattle.ob_base.specs.declared.refusal.Stop.TheVariants.{NoMemory, StashFull}
-use Rattle.ob_base.specs.declared.seen.End.{End}
 use Rattle.ob_base.specs.declared.seen.Seen.{Seen}
 use Rattle.ob_base.specs.declared.skeleton.Skeleton.{Skeleton}
 use Rattle.ob_tables.proofs.EmitLemmas.{unfit_none}
@@ -19,31 +13,28 @@ use Rattle.ob_exec.proofs.LeavesRead.{Given}
 use Rattle.ob_exec.specs.Ran.{StopsWhere}
 use Rattle.ob_tables.specs.Agreeing.{AreDraws, engine_start, indexes_of, opened_from, public_of, seen_of, world_of}
 use Rattle.ob_select.specs.Memory.{AtMake, starts_with_make}
-use Rattle.ob_tables.specs.Refusals.{refused_end}
-use Rattle.ob_tables.specs.Running.{RefusedEarly, RunCause, is_fault, outcome_end, result_end}
-use Rattle.ob_verdict.specs.Outcomes.{by_fault, Emits}
+use Rattle.ob_tables.specs.Running.{RunCause, is_fault}
+use Rattle.ob_verdict.specs.Outcomes.{by_fault}
 use Rattle.ob_tables.specs.Stops.{session_stop}
-use Rattle.ob_tables.specs.Telling.{IsNotTampered, Meant, ReadsTrue, ReadsTrueUntil, Represents, answer_labels, is_refused}
+use Rattle.ob_tables.specs.Telling.{IsNotTampered, Meant, ReadsTrue, ReadsTrueUntil, Represents, is_refused}
 use Rattle.ob_verdict.specs.declared.outcome.Outcome.{Outcome}
-use Rattle.ob_verdict.specs.declared.outcome.Outcome.TheVariants.{Created, Inserted, Changed, Deleted, Dropped, Rows, Refused}
 use Rattle.ob_tables.specs.declared.stop.RunStop.{RunStop}
 use Rattle.ob_tables.specs.declared.stop.RunStop.TheVariants as Runs
 use Rattle.ob_headline.specs.Closing.{closing_line}
 use Rattle.ob_headline.proofs.FullLemmas.{met_script}
-use Rattle.ob_headline.specs.Batches.{Joins, is_failed}
 use Rattle.ob_headline.specs.Failures.{FailsBeside, RisesBy, cut_off, failures}
 use Rattle.ob_headline.specs.Disturbed.{MeantUntil, meant_entries}
 use Rattle.ob_headline.specs.Flights.{Seat, after_entries, seat_alone, seats, whole_of}
 use Rattle.ob_headline.specs.FullStash.{ReadsFullStash}
 use Rattle.ob_headline.specs.Words.{Answer, Begins, refused_at}
 use Rattle.ob_headline.specs.Statements.{SpellFirst, statements}
-use Rattle.ob_headline.specs.Accesses.{AreSeen, LeavesAloft, Says, StopsWithin, WantsMemory, any_cut, ends_within, may_end}
+use Rattle.ob_headline.specs.Accesses.{AreSeen, LeavesAloft, StopsWithin, WantsMemory, any_cut, ends_within, may_end}
 use Rattle.ob_headline.specs.Meaning.{AnswersFrom, AnswersIn, BeginsAnswer, PrintsUntil, session_after}
-use Rattle.ob_mean.specs.Batches.{Gathering, goes_into, is_cut, is_joined, is_unrefused}
+use Rattle.ob_mean.specs.Batches.{Gathering, is_cut}
 use Rattle.ob_headline.specs.declared.ending.Ending.{Ending}
 use Rattle.ob_headline.specs.declared.ending.Ending.TheVariants.{Usage, BadKey, Ran}
 use Rattle.ob_keyed.specs.Serving.{Overfills}
-use Rattle.ob_mean.specs.Replay.{Alone, Broken, CutAfter, How, IsCutOff, Session, Spelt, after, after_all, cut_at, draws_taken, is_access, is_full_now, seen_now, seen_or_cut}
+use Rattle.ob_mean.specs.Replay.{Alone, Broken, CutAfter, How, IsCutOff, Session, Spelt, after, cut_at, draws_taken, is_access, is_full_now, seen_now, seen_or_cut}
 use Rattle.ob_mean.specs.Verdict.{Draws, Tables}
 use Rattle.ob_print.specs.Rows.{events_text}
 use Rattle.ob_script.specs.Saved.{left_by}
@@ -59,13 +50,11 @@ use Rattle.ob_shell.proofs.FlightMeant.{Told}
 use Rattle.ob_shell.proofs.HowLemmas.{meets_alone, met_trace}
 use Rattle.ob_shell.proofs.LeavePath.{Along, Path, ended_along, ends_so, over_along, over_so}
 use Rattle.ob_shell.proofs.LeafLemmas.{Reads, drawn_leaves, reads_last, reads_none, reads_unasked}
-use Rattle.ob_shell.proofs.ReplayLemmas.{cut_early, cut_within, fault_is, free_holds, holds_free, outcome_cases}
-use Rattle.ob_shell.proofs.StepLemmas.{by_last}
+use Rattle.ob_shell.proofs.ReplayLemmas.{cut_early, cut_within, free_holds, holds_free, outcome_cases}
 use Rattle.ob_shell.proofs.StopLemmas.{only_memory, only_sink, only_stash, stop_untampered, tampered_as}
-use Rattle.ob_shell.specs.Running.{LastPart}
 use Rattle.ob_shell.proofs.WalkEntries.{EntriesSo, most_at, no_entries, none_refused, one_entry, seats_at, trace_at}
-use Rattle.ob_shell.proofs.WithLemmas.{means_with, next_with, room_with, script_with, seen_with, uncut_with, with_apart, with_joins, with_lawful}
-use Rattle.ob_shell.specs.Steps.{CutStep, Does, Finished, Follow, Holds, Idle, IsUndone, Machine, Misspelt, Owed, Owes, PartlyAt, ServedStatement, ServedWith, StaysAs, asked_of, draws_behind, has_failed, session_of, settled_by, statements_of}
+use Rattle.ob_shell.proofs.WithLemmas.{means_with, room_with, script_with, seen_with, uncut_with, with_apart, with_joins, with_lawful}
+use Rattle.ob_shell.specs.Steps.{CutStep, Does, Finished, Follow, Holds, Idle, IsUndone, Machine, Misspelt, Owed, Owes, ServedStatement, ServedWith, StaysAs, asked_of, draws_behind, has_failed, session_of, settled_by, statements_of}
 use Rattle.ob_shell.specs.Top.{EndsUntampered}
 use Rattle.ob_sql.specs.Skeleton.{skeleton}
 use Rattle.ob_sql.specs.declared.stmt.Stmt.{Stmt}
@@ -366,15 +355,18 @@ module _ {R : Type 0} (state : R → RevState) where
         each_seen = refl;
         lawful = λ most old fails d drawn g. (
           refl,
-          (cut.does.lawful, (
+          (
+            cut.does.lawful,
             (
-              (λ is. wants m0 m2 cut.stmt run cut.does is),
-              (λ is off. inl (cut.does.emits (ap (λ (r : RunStop). Err r) (only_sink run (cc is))))),
-              (λ ends. stops_where run (public_of m0.engine) sk cut.does.ran.stops),
-              (λ is. full_stash m0 m2 cut.stmt run cut.does d drawn g (only_stash run (cc is))),
+              (
+                (λ is. wants m0 m2 cut.stmt run cut.does is),
+                (λ is off. inl (cut.does.emits (ap (λ (r : RunStop). Err r) (only_sink run (cc is))))),
+                (λ ends. stops_where run (public_of m0.engine) sk cut.does.ran.stops),
+                (λ is. full_stash m0 m2 cut.stmt run cut.does d drawn g (only_stash run (cc is))),
+              ),
+              alone_joins (public_of m0.engine) (asked_of m0) m0.gathered.batch cut.stmt here (Err run) _ cut.does.alone.batch cut.does.ran.ends,
             ),
-            alone_joins (public_of m0.engine) (asked_of m0) m0.gathered.batch cut.stmt here (Err run) _ cut.does.alone.batch cut.does.ran.ends,
-          )),
+          ),
           refl,
         );
         passed = sym (append-nil m0.store.asked);
@@ -486,15 +478,18 @@ module _ {R : Type 0} (state : R → RevState) where
         each_seen = refl;
         lawful = λ most old fails d drawn g. (
           refl,
-          (did.does.lawful, (
+          (
+            did.does.lawful,
             (
-              (λ is. absurd (not_memory run fault is)),
-              (λ is off. inr (fails (beside_none _ _ (rose_by one.outcome (world m0) (world m2) here.end _ did.does.ran.cause did.does.ran.ends off)))),
-              (λ ends. absurd (sink_ends run fault ends)),
-              (λ is. absurd (not_full run fault is)),
+              (
+                (λ is. absurd (not_memory run fault is)),
+                (λ is off. inr (fails (beside_none _ _ (rose_by one.outcome (world m0) (world m2) here.end _ did.does.ran.cause did.does.ran.ends off)))),
+                (λ ends. absurd (sink_ends run fault ends)),
+                (λ is. absurd (not_full run fault is)),
+              ),
+              alone_joins (public_of m0.engine) (asked_of m0) m0.gathered.batch did.stmt here (Ok one.outcome) _ did.does.alone.batch did.does.ran.ends,
             ),
-            alone_joins (public_of m0.engine) (asked_of m0) m0.gathered.batch did.stmt here (Ok one.outcome) _ did.does.alone.batch did.does.ran.ends,
-          )),
+          ),
           refl,
         );
         passed = sym (append-nil m0.store.asked);
@@ -593,10 +588,13 @@ module _ {R : Type 0} (state : R → RevState) where
         each_seen = refl;
         lawful = λ most old fails d drawn g. (
           refl,
-          (with_lawful state m0 m2 text one with, (
-            ((λ is. absurd (not_memory run fault is)), (λ is cut. absurd (cc (cut, off))), (λ ends. absurd (sink_ends run fault ends)), (λ is. absurd (not_full run fault is))),
-            with_joins state m0 m2 text one with,
-          )),
+          (
+            with_lawful state m0 m2 text one with,
+            (
+              ((λ is. absurd (not_memory run fault is)), (λ is cut. absurd (cc (cut, off))), (λ ends. absurd (sink_ends run fault ends)), (λ is. absurd (not_full run fault is))),
+              with_joins state m0 m2 text one with,
+            ),
+          ),
           refl,
         );
         passed = sym (append-nil m0.store.asked);

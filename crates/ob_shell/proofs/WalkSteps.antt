@@ -18,9 +18,8 @@ use Rattle.ob_headline.specs.Meaning.{AnswersFrom, AnswersIn, AnswersMeant, sess
 use Rattle.ob_headline.specs.Statements.{SpellFirst, statements}
 use Rattle.ob_headline.specs.Words.{Answer, Begins}
 use Rattle.ob_headline.specs.declared.ending.Ending.{Ending}
-use Rattle.ob_mean.proofs.ReplayLemmas.{after_room}
 use Rattle.ob_mean.specs.Batches.{Gathering, and_one, begins_batch, begun_by, gathering_after, goes_into, inserts_into, is_cut}
-use Rattle.ob_mean.specs.Replay.{Alone, Broken, How, Session, Spelt, after, after_all, draws_taken, how_now, seen_now, seen_or_cut}
+use Rattle.ob_mean.specs.Replay.{Alone, Broken, How, Session, Spelt, after, draws_taken, how_now, seen_now, seen_or_cut}
 use Rattle.ob_mean.specs.Verdict.{Draws, Tables}
 use Rattle.ob_script.specs.Script.{script}
 use Rattle.ob_script.specs.Flights.{Alone as AloneTurn, Entry as Turn, trace_in}
@@ -168,10 +167,10 @@ module _ {R : Type 0} (state : R → RevState) where
       let g = m0.gathered.batch in
       let alone : how_now g s did.stmt ≡ Alone = how_alone most words g s did.stmt spelt did.does.alone.batch in
       let apart : may_fly p sk ≡ true → StartsApart most (after Alone s did.stmt).public 1 spelt = λ fly.
-          let one_more : m1.gathered.flown ≡ 1 = ap (λ (x : Gathered). x.flown) did.gathered ∙ ap (λ (b : Bool). if b then 0 + 1 else 0) fly in
-          let tables_are : (public_of m1.engine).tables ≡ p.tables = ap (λ (q : Public). q.tables) public_is ∙ then_select p sk (seen_of m1.engine).end fly in
-          starts_as most (public_of m1.engine) (after Alone s did.stmt).public 1 spelt (then_select p sk (seen_now s did.stmt).end fly ∙ sym tables_are)
-          (subst (λ (k : ℕ). StartsApart k (public_of m1.engine) 1 spelt) most_is (subst (λ (k : ℕ). StartsApart (most_at m1) (public_of m1.engine) k spelt) one_more starts)) in
+      let one_more : m1.gathered.flown ≡ 1 = ap (λ (x : Gathered). x.flown) did.gathered ∙ ap (λ (b : Bool). if b then 0 + 1 else 0) fly in
+      let tables_are : (public_of m1.engine).tables ≡ p.tables = ap (λ (q : Public). q.tables) public_is ∙ then_select p sk (seen_of m1.engine).end fly in
+      starts_as most (public_of m1.engine) (after Alone s did.stmt).public 1 spelt (then_select p sk (seen_now s did.stmt).end fly ∙ sym tables_are)
+      (subst (λ (k : ℕ). StartsApart k (public_of m1.engine) 1 spelt) most_is (subst (λ (k : ℕ). StartsApart (most_at m1) (public_of m1.engine) k spelt) one_more starts)) in
       let first = meets_first most words g s did.stmt spelt did.does.alone.batch apart in
       let split : m0.store.asked ++ met_trace most words g s (Ok did.stmt ∷ spelt) ≡ (m0.store.asked ++ met_script s did.stmt) ++ first.tail =
       ap (λ (l : List Access). m0.store.asked ++ l) first.asks ∙ sym (append_assoc m0.store.asked (met_script s did.stmt) first.tail) in
@@ -281,18 +280,18 @@ module _ {R : Type 0} (state : R → RevState) where
         each_seen = ap (λ (n : ℕ). suc n) rest.each_seen;
         lawful = λ most old fails d drawn g.
             subst (λ (vs : List Seat). AreSeen (StopsWithin ending (RisesBy most old m2.store.faults) (Full state m2)) vs m0.gathered.batch (Ok did.stmt ∷ rest.spelt) (one ∷ answers) (x ∷ all)) there (
-            refl,
-            did.does.lawful,
-            (
-              says (refusal_now p (asked_of m0) did.stmt) p did.stmt one here did.events did.does.early did.emits did.printed (ap is_cut did.does.ran.ends ∙ end_cut one.outcome _)
-                  did.planned,
-              failed_by m0.gathered.batch one.outcome here.end _ did.does.ran.ends,
-              did.planned,
-              alone_joins p (asked_of m0) m0.gathered.batch did.stmt here (Ok one.outcome) _ did.does.alone.batch did.does.ran.ends,
-            ),
-            subst (λ (o : Option Gathering). AreSeen (StopsWithin ending (RisesBy most old m2.store.faults) (Full state m2)) (seats_at m1 rest.entries) o rest.spelt answers all) (ap (λ (y : Gathered). y.batch) did.gathered)
-                (rest.lawful most old (λ beside. fails (beside_more x rest.seen m0.store.faults m1.store.faults m2.store.faults rises beside))
-                (behind d (draws_taken p sk here.end)) (did.does.ran.goes_on.drawn d drawn) (given_after state m0 m1 did.stmt (Ok one.outcome) did.does d drawn g did.does.ran.goes_on.lives)),
+              refl,
+              did.does.lawful,
+              (
+                says (refusal_now p (asked_of m0) did.stmt) p did.stmt one here did.events did.does.early did.emits did.printed (ap is_cut did.does.ran.ends ∙ end_cut one.outcome _)
+                    did.planned,
+                failed_by m0.gathered.batch one.outcome here.end _ did.does.ran.ends,
+                did.planned,
+                alone_joins p (asked_of m0) m0.gathered.batch did.stmt here (Ok one.outcome) _ did.does.alone.batch did.does.ran.ends,
+              ),
+              subst (λ (o : Option Gathering). AreSeen (StopsWithin ending (RisesBy most old m2.store.faults) (Full state m2)) (seats_at m1 rest.entries) o rest.spelt answers all) (ap (λ (y : Gathered). y.batch) did.gathered)
+                  (rest.lawful most old (λ beside. fails (beside_more x rest.seen m0.store.faults m1.store.faults m2.store.faults rises beside))
+                  (behind d (draws_taken p sk here.end)) (did.does.ran.goes_on.drawn d drawn) (given_after state m0 m1 did.stmt (Ok one.outcome) did.does d drawn g did.does.ran.goes_on.lives)),
             );
         aloft = subst (λ (vs : List Seat). LeavesAloft ending m2.store.asked (drop (suc (length rest.seen)) vs) (statements (drop (length texts) rest.spelt)) rest.last) there rest.aloft;
         passed = asked_more m0 m1 text one did m.store.asked (whole_of (length rest.seen) rest.entries) rest.passed ∙ ap (λ (es : List Turn). m0.store.asked ++ trace_at m0 es) (sym (whole_alone (length rest.seen) x rest.entries));
@@ -419,7 +418,7 @@ module _ {R : Type 0} (state : R → RevState) where
       let count : asked_of m0 ≡ asked_of m0 + length (script p sk here) = let long = ap length none in omega (arith, long) in
       let vs : seat_alone p (asked_of m0) x ∷ seats_at m0 rest.entries ≡ seats_at m0 (AloneTurn x ∷ rest.entries) = sym (seats_more m0 fresh with.stmt here refl (sym still) count rest.entries) in
       let traces : (entries : List Turn) → trace_at m0 entries ≡ trace_at m0 (AloneTurn x ∷ entries) = λ entries.
-          sym (trace_alone_then m0.flights.words m0.flights.words p p (asked_of m0) (asked_of m0) x refl (sym still) count entries ∙ ap (λ (l : List Access). l ++ trace_at m0 entries) none) in
+      sym (trace_alone_then m0.flights.words m0.flights.words p p (asked_of m0) (asked_of m0) x refl (sym still) count entries ∙ ap (λ (l : List Access). l ++ trace_at m0 entries) none) in
       let on : (d : Draws) (tables : Tables) → (held : Holds state m0 d tables) → Holds state (standing m0 m1.owed m1.gathered) d (after (means_with state m0 m1 text one with same d tables held).how (session_of m0 d tables) with.stmt).tables =
       λ d tables held. subst (λ (y : Machine R). Holds state y d (after (means_with state m0 m1 text one with same d tables held).how (session_of m0 d tables) with.stmt).tables) same (means_with state m0 m1 text one with same d tables held).holds in
       record {
@@ -437,11 +436,11 @@ module _ {R : Type 0} (state : R → RevState) where
         each_seen = ap (λ (n : ℕ). suc n) rest.each_seen;
         lawful = λ most old fails d drawn g.
             subst (λ (l : List Seat). AreSeen (StopsWithin ending (RisesBy most old m2.store.faults) (Full state m2)) l m0.gathered.batch (Ok with.stmt ∷ rest.spelt) (one ∷ answers) (x ∷ all)) vs (
-            refl,
-            with_lawful state m0 m1 text one with,
-            (with_says state m0 m1 text one with, with_failed state m0 m1 text one with, with_plan state m0 m1 text one with, with_joins state m0 m1 text one with),
-            subst (λ (o : Option Gathering). AreSeen (StopsWithin ending (RisesBy most old m2.store.faults) (Full state m2)) (seats_at m0 rest.entries) o rest.spelt answers all) (ap (λ (y : Gathered). y.batch) with.gathered)
-                (rest.lawful most old (λ beside. fails (beside_more x rest.seen m0.store.faults m0.store.faults m2.store.faults (uncut_rises (is_cut here.end) m0.store.faults m0.store.faults off refl) beside)) d drawn g),
+              refl,
+              with_lawful state m0 m1 text one with,
+              (with_says state m0 m1 text one with, with_failed state m0 m1 text one with, with_plan state m0 m1 text one with, with_joins state m0 m1 text one with),
+              subst (λ (o : Option Gathering). AreSeen (StopsWithin ending (RisesBy most old m2.store.faults) (Full state m2)) (seats_at m0 rest.entries) o rest.spelt answers all) (ap (λ (y : Gathered). y.batch) with.gathered)
+                  (rest.lawful most old (λ beside. fails (beside_more x rest.seen m0.store.faults m0.store.faults m2.store.faults (uncut_rises (is_cut here.end) m0.store.faults m0.store.faults off refl) beside)) d drawn g),
             );
         aloft = subst (λ (l : List Seat). LeavesAloft ending m2.store.asked (drop (suc (length rest.seen)) l) (statements (drop (length texts) rest.spelt)) rest.last) vs rest.aloft;
         passed = rest.passed ∙ ap (λ (l : List Access). m0.store.asked ++ l) (traces (whole_of (length rest.seen) rest.entries)) ∙ ap (λ (es : List Turn). m0.store.asked ++ trace_at m0 es) (sym (whole_alone (length rest.seen) x rest.entries));
