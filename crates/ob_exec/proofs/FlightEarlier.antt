@@ -1,16 +1,13 @@
 -- What had ended within a flight's first accesses is as it is meant, whatever is read later.
-use Rattle.std.proofs.Common.{◌≡◌, ◌≤◌, ◌<◌, ◌+◌, ◌-◌, ◌++◌, inl, inr, ℕ, zero, suc, Bool, true, false, IsTrue, List, [], ◌∷◌, map, length, length-append, Option, Some, None, refl, sym, ◌∙◌, ap, subst, arith}
+use Rattle.std.proofs.Common.{◌≡◌, ◌≤◌, ◌<◌, ◌+◌, ◌++◌, inl, inr, ℕ, zero, suc, Bool, true, false, IsTrue, List, [], ◌∷◌, map, length, length-append, Option, Some, None, refl, sym, ◌∙◌, ap, subst, arith}
 use Rattle.std.specs.Prelude.{is_some, option_map, slice_get, take}
 use Rattle.std.specs.Option.{option_map_or}
 use Rattle.std.proofs.lemmas.Bool.{cases_lt}
 use Rattle.std.proofs.lemmas.List.{length-map}
 use Rattle.std.proofs.lemmas.Option.{same_Some}
-use Rattle.ob_base.specs.Refusals.{is_store_fault}
 use Rattle.ob_base.specs.declared.access.Access.{Access}
 use Rattle.ob_base.specs.declared.access.Access.TheVariants.{Read}
 use Rattle.ob_base.specs.declared.config.Public.{Public}
-use Rattle.ob_base.specs.declared.refusal.Refusal.{Refusal}
-use Rattle.ob_base.specs.declared.refusal.Refusal.TheVariants.{StoreFault}
 use Rattle.ob_inflight.specs.Aloft.{AllMay, BeginsIn, HasStood, HaveStood, IsBegun, flight_in, flying_in, setting_off, HasGoneOn, HaveGoneOn}
 use Rattle.ob_inflight.specs.Closing.{Closed, RisesBy, outcome_at}
 use Rattle.ob_inflight.specs.Kinds.{Kind, Moment}
@@ -21,18 +18,15 @@ use Rattle.ob_script.specs.FlightLaws.{AllMayFly, one_if}
 use Rattle.ob_script.specs.Flights.{AreSteady, Flight, Flying, accesses_in, boarding, turns, merge}
 use Rattle.ob_script.specs.Trace.{Served}
 use Rattle.ob_script.proofs.FlightEnds.{total_part, first_of_merge}
-use Rattle.ob_script.proofs.FlightLemmas.{grows_turns, logs_grow}
+use Rattle.ob_script.proofs.FlightLemmas.{logs_grow}
 use Rattle.ob_sql.specs.declared.stmt.Stmt.{Stmt}
 use Rattle.ob_store.proofs.Steps.{later_trans, none_before}
 use Rattle.ob_store.specs.Calls.{ChangesNothing}
 use Rattle.ob_store.specs.State.{Lie, StoreState}
 use Rattle.ob_tables.specs.Agreeing.{Agrees, count_of, world_of}
-use Rattle.ob_tables.specs.Refusals.{refused_end}
-use Rattle.ob_tables.specs.Running.{is_fault, outcome_end}
+use Rattle.ob_tables.specs.Running.{is_fault}
 use Rattle.ob_tables.specs.declared.engine.Engine.{Engine}
 use Rattle.ob_vault.specs.State.{RevState}
-use Rattle.ob_verdict.specs.declared.outcome.Outcome.{Outcome}
-use Rattle.ob_verdict.specs.declared.outcome.Outcome.TheVariants.{Created, Inserted, Changed, Deleted, Dropped, Rows, Refused}
 use Rattle.ob_exec.specs.InFlight.{EndsAs, EndsMeant, IsFlown, IsMeant, served_as}
 use Rattle.ob_exec.specs.RanFlight.{EndedWithin, MeantThen, in_flight, AsksMeant, meant_of}
 use Rattle.ob_exec.proofs.FlightFrames.{hold_now, lasts_all}

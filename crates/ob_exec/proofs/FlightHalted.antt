@@ -45,7 +45,7 @@ use Rattle.ob_vault.specs.declared.vault.Vault.{Vault}
 use Rattle.ob_verdict.specs.Outcomes.{Emits, Partly}
 use Rattle.ob_verdict.specs.declared.outcome.Outcome.{Outcome}
 use Rattle.ob_exec.specs.InFlight.{EndsAs, EndsMeant, IsFlown, IsMeant, served_as}
-use Rattle.ob_exec.specs.RanFlight.{AtEmitter, BeforeMake, EndedWithin, EndsSo, FlightCause, FlightMeans, MeantThen, RanFlight, RanInTurns, StopsClosing, StopsFlight, asked_by, asked_since, cut_off, halt_of, in_flight}
+use Rattle.ob_exec.specs.RanFlight.{AtEmitter, BeforeMake, EndedWithin, EndsSo, FlightCause, FlightMeans, MeantThen, RanFlight, RanInTurns, StopsClosing, StopsFlight, asked_by, asked_next, asked_since, cut_off, halt_of, in_flight}
 use Rattle.ob_exec.proofs.FlightBegun.{begins_meant}
 use Rattle.ob_exec.proofs.FlightEarlier.{asks_meant, meant_then}
 use Rattle.ob_exec.proofs.FlightEnd.{rises_from}
@@ -55,7 +55,7 @@ use Rattle.ob_exec.proofs.FlightLists.{cuts_same, events_next, get_mapped, get_o
 use Rattle.ob_exec.proofs.FlightRuns.{Boards, ServesOne, all_now, emits_now, emitted_now, may_now, partly_now, public_is, served_now, set_kept, steady_now, turned_now}
 use Rattle.ob_exec.proofs.FlightStage.{AsksMake, HoldNow, IsSet, IsStage, LacksHere, closed_of, more_asked, whole_of}
 use Rattle.ob_exec.proofs.FlightStopped.{calm_none, cause_behind, cause_quiet, drop_asked, each_at, emitter_never, ends_closing, ends_finishing, ends_make, ends_printing, ends_quiet, hold, hold_by, hold_last, long, meant_at, memory_is, none_ended, not_tampered, prints_or, serve, sink_by, statement}
-use Rattle.ob_exec.proofs.FlightStops.{asked_first, asked_last, asked_most, asked_of, asked_place, same_seen, stops_turn}
+use Rattle.ob_exec.proofs.FlightStops.{asked_first, asked_last, asked_most, asked_of, asked_place, next_one_asks, same_seen, stops_turn}
 
 module _ {R E F : Type 0} (state : R → RevState) (grew cut : E → E → List Event → Type 0) (closed parted : E → E → ℕ → Outcome → Type 0) (faults : E → ℕ)
     (k : Kind F) (old : Engine R) (s s1 : StoreState) (agrees : Agrees state old s) (rests : ChangesNothing s s1)
@@ -82,6 +82,9 @@ module _ {R E F : Type 0} (state : R → RevState) (grew cut : E → E → List 
 
   abbrev asked : ℕ → ℕ
   asked i = asked_by old.public words stmts seens (asked_since s t) i
+
+  abbrev asks : Option (ℕ × Access)
+  asks = asked_next old.public words stmts seens (asked_since s t)
 
   abbrev new : Engine R
   new = engine_behind old v room true
@@ -118,7 +121,7 @@ module _ {R E F : Type 0} (state : R → RevState) (grew cut : E → E → List 
   -- at a make, or before a result's, or the emitter's
   abbrev Wanted : (place : ℕ) (stmt : Stmt) (seen : Seen) (events : List Event) → (between : E) → Type 0
   Wanted place stmt seen events between =
-      AtMake (drop (length s.asked) t.asked) ⊎ BeforeMake p stmts seens asked st.ended ⊎ AtEmitter grew cut parted (So stmt seen events) p stmt seen place (asked place) events between out_new
+      AtMake (drop (length s.asked) t.asked) ⊎ BeforeMake p stmts seens asked asks st.ended ⊎ AtEmitter grew cut parted (So stmt seen events) p stmt seen place (asked place) events between out_new
 
   since_asked : (a : Access) → t.asked ≡ st.last.world.store.asked ++ a ∷ [] → drop (length s.asked) t.asked ≡ accesses_in st.aloft.turned.log ++ a ∷ []
   since_asked a is =
@@ -137,13 +140,23 @@ module _ {R E F : Type 0} (state : R → RevState) (grew cut : E → E → List 
       none_mapped None is = refl
       none_mapped (Some one) is = absurd (cc is)
 
-  before_make : (f : F) (stmt : Stmt) → slice_get st.last.flyers st.place ≡ Some f → slice_get stmts st.place ≡ Some stmt → (k.progress f).outcome ≡ None → t.asked ≡ st.last.world.store.asked
-      → AtResult (k.progress f).public (k.progress f).stmt (shown f) (drop (k.progress f).asked (whole_of (k.progress f))) → BeforeMake p stmts seens asked st.ended
-  before_make f stmt at there going same result =
+  -- where it is yet to ask, its turn is an access
+  abbrev Turn : F → Type 0
+  Turn f = (k.progress f).over ≡ false → (a : Access) × (st.act ≡ Some a)
+
+  next_asked : (a : Access) → st.act ≡ Some a → t.asked ≡ st.last.world.store.asked → asks ≡ Some (st.place, a)
+  next_asked = next_one_asks state grew cut closed parted k old s s1 rests stage steady_of stmts words share e flyers shares now boards out_old out_new st
+
+  before_make : (f : F) (stmt : Stmt) → slice_get st.last.flyers st.place ≡ Some f → slice_get stmts st.place ≡ Some stmt → (k.progress f).outcome ≡ None
+      → (a : Access) × (st.act ≡ Some a) → t.asked ≡ st.last.world.store.asked
+      → AtResult (k.progress f).public (k.progress f).stmt (shown f) (drop (k.progress f).asked (whole_of (k.progress f))) → BeforeMake p stmts seens asked asks st.ended
+  before_make f stmt at there going turn same result =
       let one = serve_at st.place f stmt at there in
       let n : (k.progress f).asked ≡ asked st.place = let a = place_asked f at in let b = ap length same in omega (arith, a, b) in
       record {
         place = st.place;
+        access = turn.0;
+        turn = next_asked turn.0 turn.1 same;
         stmt = stmt;
         seen = shown f;
         get = there;
@@ -156,10 +169,10 @@ module _ {R E F : Type 0} (state : R → RevState) (grew cut : E → E → List 
 
   -- the one that gave up prints, and it is the emitter's
   wanted : (f : F) (stmt : Stmt) (events : List Event) (between : E) → slice_get st.last.flyers st.place ≡ Some f → slice_get stmts st.place ≡ Some stmt → (k.progress f).outcome ≡ None
-      → HasHalted cut between out_new → LacksHere (k.progress f) st.last.world (at state v t) → Wanted st.place stmt (shown f) events between
-  wanted f stmt events between at there going halts (inl make) = inl (at_make make)
-  wanted f stmt events between at there going halts (inr (inl (same, result))) = inr (inl (before_make f stmt at there going same result))
-  wanted f stmt events between here there going halts (inr (inr (prints, emission))) =
+      → Turn f → HasHalted cut between out_new → LacksHere (k.progress f) st.last.world (at state v t) → Wanted st.place stmt (shown f) events between
+  wanted f stmt events between at there going turn halts (inl make) = inl (at_make make)
+  wanted f stmt events between at there going turn halts (inr (inl (lacks, same, result))) = inr (inl (before_make f stmt at there going (turn lacks) same result))
+  wanted f stmt events between here there going turn halts (inr (inr (prints, emission))) =
       let one = serve_at st.place f stmt here there in
       let n : (k.progress f).asked + more_asked st.last.world (at state v t) ≡ asked st.place = sym (place_asked f here) in
       inr (inr (inl (
@@ -171,10 +184,10 @@ module _ {R E F : Type 0} (state : R → RevState) (grew cut : E → E → List 
 
   -- it doesn't print
   wanted_quiet : (f : F) (stmt other : Stmt) (seen : Seen) (place : ℕ) (events : List Event) (between : E) → slice_get st.last.flyers st.place ≡ Some f → slice_get stmts st.place ≡ Some stmt
-      → (k.progress f).outcome ≡ None → (k.progress f).prints ≡ false → LacksHere (k.progress f) st.last.world (at state v t) → Wanted place other seen events between
-  wanted_quiet f stmt other seen place events between at there going quiet (inl make) = inl (at_make make)
-  wanted_quiet f stmt other seen place events between at there going quiet (inr (inl (same, result))) = inr (inl (before_make f stmt at there going same result))
-  wanted_quiet f stmt other seen place events between at there going quiet (inr (inr (prints, emission))) = absurd (cc (quiet, prints))
+      → (k.progress f).outcome ≡ None → (k.progress f).prints ≡ false → Turn f → LacksHere (k.progress f) st.last.world (at state v t) → Wanted place other seen events between
+  wanted_quiet f stmt other seen place events between at there going quiet turn (inl make) = inl (at_make make)
+  wanted_quiet f stmt other seen place events between at there going quiet turn (inr (inl (lacks, same, result))) = inr (inl (before_make f stmt at there going (turn lacks) same result))
+  wanted_quiet f stmt other seen place events between at there going quiet turn (inr (inr (prints, emission))) = absurd (cc (quiet, prints))
 
   -- ---- what was emitted
   -- the first that has not ended
@@ -197,7 +210,7 @@ module _ {R E F : Type 0} (state : R → RevState) (grew cut : E → E → List 
       (stage.halted f _ _ part e st.last.world (at state v t) (hold_at st.place f here) halts one.set old.indexes.items tables (held_by f stmt tables st.last.world one (held tables reads)) reads.unfit)))
 
   abbrev Halted : Type 0
-  Halted = StopsFlight state grew cut closed parted stmts seens asked st.ended (halt_of e) old s new t out_old out_new
+  Halted = StopsFlight state grew cut closed parted stmts seens asked asks st.ended (halt_of e) old s new t out_old out_new
 
   -- a step that prints
   halts_printing : (step : StopsInStep k (taker_of grew cut closed parted) e st.ended st.current st.place st.act st.last now st.emitted.between st.out_last out_new)
@@ -220,7 +233,7 @@ module _ {R E F : Type 0} (state : R → RevState) (grew cut : E → E → List 
         memory = λ none.
             let wants = memory_is e none in
             subst (λ (n : ℕ). Wanted n there.0 (shown f) (st.current ++ step.part) st.emitted.between) first
-            (wanted f there.0 (st.current ++ step.part) st.emitted.between step.at there.1 step.going
+            (wanted f there.0 (st.current ++ step.part) st.emitted.between step.at there.1 step.going (λ lacks. (step.stops.access, step.asks))
             (record { events = st.current ++ step.part; ends = subst (λ (x : OpErr). EndsBy grew cut x st.emitted.between out_new (st.current ++ step.part)) wants ends })
             (stage.memory f _ _ step.part st.last.world (at state v t) (hold_at st.place f step.at)
             (subst (λ (x : OpErr). k.Halts f (events_at st.ended st.current st.place) step.part x st.last.world (at state v t)) wants step.halts)
@@ -252,7 +265,7 @@ module _ {R E F : Type 0} (state : R → RevState) (grew cut : E → E → List 
             (partly_now k m stage steady_of old.public stmts words share start boards st.turn st.public st.ended st.current st.last st.aloft old.indexes.items tables (held tables reads) (length st.ended) g.0 other.0 g.1 other.1);
         memory = λ none.
             let wants = memory_is e none in
-            wanted_quiet f there.0 other.0 (shown g.0) (length st.ended) st.current st.emitted.between step.at there.1 step.going quiet
+            wanted_quiet f there.0 other.0 (shown g.0) (length st.ended) st.current st.emitted.between step.at there.1 step.going quiet (λ lacks. (step.stops.access, step.asks))
             (stage.memory f _ _ step.part st.last.world (at state v t) (hold_at st.place f step.at)
             (subst (λ (x : OpErr). k.Halts f (events_at st.ended st.current st.place) step.part x st.last.world (at state v t)) wants step.halts)
             (serve_at st.place f there.0 step.at there.1).set step.going);
@@ -280,7 +293,8 @@ module _ {R E F : Type 0} (state : R → RevState) (grew cut : E → E → List 
         memory = λ none.
             let wants = memory_is e none in
             subst (λ (n : ℕ). Wanted n there.0 (shown f) (st.current ++ fin.part) st.emitted.between) fin.first
-            (wanted f there.0 (st.current ++ fin.part) st.emitted.between fin.at there.1 (st.aloft.stand.outcome st.place f fin.at ∙ ap (outcome_at st.ended) fin.first ∙ outcome_next st.ended) (record { events = st.current ++ fin.part; ends = fin.ends })
+            (wanted f there.0 (st.current ++ fin.part) st.emitted.between fin.at there.1 (st.aloft.stand.outcome st.place f fin.at ∙ ap (outcome_at st.ended) fin.first ∙ outcome_next st.ended)
+            (λ lacks. let over = fin.over in absurd (cc (over, lacks))) (record { events = st.current ++ fin.part; ends = fin.ends })
             (stage.memory f _ _ fin.part st.last.world (at state v t) (hold_at st.place f fin.at)
             (subst (λ (x : OpErr). k.Halts f (events_at st.ended st.current st.place) fin.part x st.last.world (at state v t)) wants halts)
             (serve_at st.place f there.0 fin.at there.1).set

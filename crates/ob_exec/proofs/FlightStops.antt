@@ -22,6 +22,7 @@ use Rattle.ob_script.specs.Flights.{AreSteady, Flight, Flying, accesses_in, boar
 use Rattle.ob_script.specs.Trace.{Served}
 use Rattle.ob_script.proofs.FlightEnds.{first_of_merge}
 use Rattle.ob_script.proofs.FlightLemmas.{own_append, own_entry, own_other}
+use Rattle.ob_script.proofs.ListPlaces.{get_take}
 use Rattle.ob_sql.specs.declared.stmt.Stmt.{Stmt}
 use Rattle.ob_store.specs.Calls.{ChangesNothing}
 use Rattle.ob_store.specs.State.{StoreState}
@@ -31,7 +32,7 @@ use Rattle.ob_tables.specs.declared.engine.Engine.{Engine}
 use Rattle.ob_vault.specs.State.{RevState, World}
 use Rattle.ob_verdict.specs.declared.outcome.Outcome.{Outcome}
 use Rattle.ob_exec.specs.InFlight.{served_as}
-use Rattle.ob_exec.specs.RanFlight.{StopsInTurn, asked_by, asked_since, halt_of}
+use Rattle.ob_exec.specs.RanFlight.{StopsInTurn, asked_by, asked_next, asked_since, halt_of}
 use Rattle.ob_exec.proofs.FlightEnd.{since_long}
 use Rattle.ob_exec.proofs.FlightLists.{flying_back, log_first, map_put}
 use Rattle.ob_exec.proofs.FlightRuns.{Boards, as_many, first_now, may_now, merged_now, own_now, served_now, sets_now, steady_now, turned_now}
@@ -46,6 +47,11 @@ own_same : (i j : ℕ) (log : List (ℕ × Access)) (a : Access) → i ≡ j →
 own_same i j log a same =
     ap (λ (x : ℕ). length (own i (log ++ (x, a) ∷ []))) (sym same)
     ∙ ap length (own_append i log ((i, a) ∷ []) ∙ ap (λ (l : List Access). own i log ++ l) (own_entry i a)) ∙ length-append (own i log) (a ∷ [])
+
+-- the last of some
+get_last : {A : Type 0} (xs : List A) (x : A) → slice_get (xs ++ x ∷ []) (length xs) ≡ Some x
+get_last [] x = refl
+get_last (y ∷ ys) x = get_last ys x
 
 -- a part of one access is nothing, or that one
 none_or_one : (done rest : List Access) (a : Access) → done ++ rest ≡ a ∷ [] → (done ≡ []) ⊎ (done ≡ a ∷ [])
@@ -178,6 +184,17 @@ module _ {R E F : Type 0} (state : R → RevState) (grew cut : E → E → List 
       let here : (turns words (st.turn + 1) (boarding old.public by_last)).log ≡ log ++ (st.place, a) ∷ [] = log_more ∙ ap (λ (o : Option Access). log ++ entry_of st.place o) is in
       let n : length (turns words (st.turn + 1) (boarding old.public by_last)).log ≡ length log + 1 = ap length here ∙ length-append log ((st.place, a) ∷ []) in
       ap (λ (x : ℕ). take x (flight old.public by_last words).log) (sym n) ∙ sym (log_first old.public by_last words steady (st.turn + 1)) ∙ here
+
+  -- whose it is, and which
+  pub next_one_asks : (a : Access) → st.act ≡ Some a → now.world.store.asked ≡ st.last.world.store.asked
+      → asked_next old.public words stmts (map (λ (f : F). (k.progress f).served.seen) st.last.flyers) (asked_since s now.world.store) ≡ Some (st.place, a)
+  next_one_asks a is same =
+      let n : asked_since s now.world.store ≡ length log = since_long s t (accesses_in log) (same ∙ asked_last) ∙ log_long in
+      ap (λ (flown : List Served). slice_get (flight old.public flown words).log (asked_since s now.world.store)) stop_served
+      ∙ ap (slice_get (flight old.public by_last words).log) n
+      ∙ sym (get_take (flight old.public by_last words).log (length log + 1) (length log) (omega arith))
+      ∙ ap (λ (l : List (ℕ × Access)). slice_get l (length log)) (take_one a is)
+      ∙ get_last log (st.place, a)
 
   merged_one : (a : Access) → st.act ≡ Some a → accesses_in log ++ a ∷ [] ≡ take (length log + 1) (merge old.public by_last words)
   merged_one a is =

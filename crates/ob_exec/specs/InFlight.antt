@@ -1,10 +1,10 @@
 -- SELECTs without a join that ask in turns: which may, and what is known of each of them.
-use Rattle.std.specs.Prelude.{◌≡◌, ◌⊎◌, ◌≤◌, ◌*◌, ◌+◌, ◌/◌, ℕ, Bool, true, false, IsTrue, min, List, [], ◌∷◌, length, take, Option, None, Some, Ok}
+use Rattle.std.specs.Prelude.{◌≡◌, ◌⊎◌, ◌≤◌, ◌*◌, ◌+◌, ◌/◌, ℕ, Bool, true, false, IsTrue, min, List, [], ◌∷◌, length, Option, None, Some, Ok}
 use Rattle.std.specs.List.{All}
 use Rattle.ob_base.specs.declared.config.Public.{Public}
 use Rattle.ob_base.specs.declared.refusal.Refusal.{Refusal}
 use Rattle.ob_base.specs.declared.seen.End.{End}
-use Rattle.ob_base.specs.declared.seen.End.TheVariants.{Static, Whole, AfterCount, Joined, Cut}
+use Rattle.ob_base.specs.declared.seen.End.TheVariants.{Cut}
 use Rattle.ob_base.specs.declared.seen.Seen.{Seen}
 use Rattle.ob_base.specs.Stored.{headings_of}
 use Rattle.ob_inflight.specs.Closing.{Closed}

@@ -11,7 +11,7 @@ use Rattle.ob_mean.specs.Batches.{is_cut}
 use Rattle.ob_mean.specs.Replay.{done_of}
 use Rattle.ob_mean.specs.Verdict.{Draws, Tables, seen as seen_by, verdict}
 use Rattle.ob_script.specs.FlightLaws.{one_if, total}
-use Rattle.ob_script.specs.Flights.{Flying, boarding, flight_accesses, flight_public, merge, next_flight, turns, turns_of, words_from, own_asked}
+use Rattle.ob_script.specs.Flights.{Flying, boarding, flight, flight_accesses, flight_public, merge, next_flight, turns, turns_of, words_from, own_asked}
 use Rattle.ob_script.specs.Script.{script, whole_script}
 use Rattle.ob_script.specs.Trace.{Served}
 use Rattle.ob_select.specs.Memory.{AtEmission, AtMake, AtResult, HasHalted}
@@ -154,10 +154,12 @@ StopsClosing grew cut parted Ends stop place events out_old out_new =
 
 -- ---- want of memory
 -- just before a result that isn't padded is made for one of the statements that hasn't ended, behind so many accesses of its
--- own
+-- own; it is its turn, and no other's: the access that the flight asks next is its own
 pub record BeforeMake (p : Public) (stmts : List Stmt) (seens : List Seen) (asked : ℕ → ℕ)
-    (ended : List Closed) : Type 0 where
+    (asks : Option (ℕ × Access)) (ended : List Closed) : Type 0 where
   pub place : ℕ
+  pub access : Access
+  pub turn : asks ≡ Some (place, access)
   pub stmt : Stmt
   pub seen : Seen
   pub get : slice_get stmts place ≡ Some stmt
@@ -179,9 +181,9 @@ AtEmitter grew cut parted Ends p stmt seen place n events out_old out_new =
 -- these answers were taken whole, and of the next one what was emitted by then
 pub record StopsFlight {R E : Type 0} (state : R → RevState)
     (grew cut : E → E → List Event → Type 0) (closed parted : E → E → ℕ → Outcome → Type 0)
-    (stmts : List Stmt) (seens : List Seen) (asked : ℕ → ℕ) (ended : List Closed) (stop : RunStop)
-    (old : Engine R) (s : StoreState) (new : Engine R) (t : StoreState) (out_old out_new : E)
-    : Type 0 where
+    (stmts : List Stmt) (seens : List Seen) (asked : ℕ → ℕ) (asks : Option (ℕ × Access))
+    (ended : List Closed) (stop : RunStop) (old : Engine R) (s : StoreState) (new : Engine R)
+    (t : StoreState) (out_old out_new : E) : Type 0 where
   pub between : E
   pub took : ClosesAll grew closed 0 ended out_old between
   pub stmt : Stmt
@@ -196,9 +198,9 @@ pub record StopsFlight {R E : Type 0} (state : R → RevState)
       → Partly (answer_labels stmt (public_of old))
       (verdict (in_flight stmts (public_of old)) (count_of old s) tables stmt) events
   -- want of memory tells nothing of rows: it comes before the first access, at a make, just before that of a result that
-  -- isn't padded, or from the emitter
+  -- isn't padded, in its turn, or from the emitter
   pub memory : stop ≡ NoMemory → AtMake (drop (length s.asked) t.asked)
-      ⊎ BeforeMake (in_flight stmts (public_of old)) stmts seens asked ended
+      ⊎ BeforeMake (in_flight stmts (public_of old)) stmts seens asked asks ended
       ⊎ AtEmitter grew cut parted
       (EndsSo state stmts stmt seen (asked (length ended)) events old s new t)
       (in_flight stmts (public_of old)) stmt seen (length ended) (asked (length ended)) events
@@ -307,6 +309,11 @@ pub record FlightMeans {R T : Type 0} (state : R → RevState) (words : ℕ → 
 abbrev pub asked_by : Public → (words : ℕ → ℕ) → List Stmt → List Seen → (k : ℕ) → (i : ℕ) → ℕ
 asked_by p words stmts seens k i = own_asked p (served_as stmts seens) words k i
 
+-- what comes behind k accesses of all: whose turn it is, and what that one asks
+abbrev pub asked_next : Public → (words : ℕ → ℕ) → List Stmt → List Seen → (k : ℕ)
+    → Option (ℕ × Access)
+asked_next p words stmts seens k = slice_get (flight p (served_as stmts seens) words).log k
+
 -- these statements were carried out, of which these things were seen
 pub record RanFlight {R E T : Type 0} (state : R → RevState)
     (grew cut : E → E → List Event → Type 0) (closed parted : E → E → ℕ → Outcome → Type 0)
@@ -332,7 +339,8 @@ pub record RanFlight {R E T : Type 0} (state : R → RevState)
       → Emits stmt (answer_labels stmt (public_of old)) one.outcome one.events
   pub answered : OnOk result (ClosesAll grew closed 0 ended out_old out_new)
   pub stopped : IfErr result (λ stop. StopsFlight state grew cut closed parted stmts seens
-      (asked_by (public_of old) words stmts seens (asked_since s t)) ended stop
+      (asked_by (public_of old) words stmts seens (asked_since s t))
+      (asked_next (public_of old) words stmts seens (asked_since s t)) ended stop
       old s new t out_old out_new)
   pub turn : IfErr result (λ stop. StopsInTurn (public_of old) (served_as stmts seens) words
       (asked_since s t) (length ended))

@@ -1,13 +1,12 @@
 -- Where a stop came within a flight.
-use Rattle.std.specs.Prelude.{drop, if◌then◌else◌, map, nat_lt, slice_get, take, ⊤}
+use Rattle.std.specs.Prelude.{drop, nat_lt, slice_get, take}
 use Rattle.std.specs.List.{All}
 use Rattle.std.specs.Option.{option_map_or}
-use Rattle.std.proofs.Common.{◌≡◌, ◌⊎◌, ◌+◌, ◌-◌, ◌≤◌, ◌<◌, ◌++◌, inl, inr, ℕ, zero, suc, Bool, true, false, List, [], ◌∷◌, length, Option, Some, None, Ok, Err, Result, refl, sym, ◌∙◌, ap, subst, arith, append_assoc, append-nil, length-append, take-append-drop}
-use Rattle.std.proofs.lemmas.List.{append_cancel_left, length-map}
-use Rattle.ob_base.specs.Events.{Event}
+use Rattle.std.proofs.Common.{◌≡◌, ◌+◌, ◌≤◌, ◌<◌, ◌++◌, inl, inr, ℕ, zero, suc, Bool, true, false, List, [], ◌∷◌, length, Option, Some, None, Err, refl, sym, ◌∙◌, ap, subst, arith, append_assoc, append-nil, length-append, take-append-drop}
+use Rattle.std.proofs.lemmas.List.{append_cancel_left}
 use Rattle.ob_base.specs.declared.config.Public.{Public}
 use Rattle.ob_base.specs.declared.seen.Seen.{Seen}
-use Rattle.ob_exec.specs.InFlight.{IsFlown, IsMeant, served_as}
+use Rattle.ob_exec.specs.InFlight.{served_as}
 use Rattle.ob_exec.specs.RanFlight.{FlightCause, StopsInTurn}
 use Rattle.ob_headline.proofs.FlightLeft.{ended_left}
 use Rattle.ob_headline.proofs.TakenLemmas.{LosesSo}
@@ -18,32 +17,27 @@ use Rattle.ob_headline.specs.Flights.{EndedBy, Seat, asked_until, has_ended}
 use Rattle.ob_headline.specs.Meaning.{PrintsUntil}
 use Rattle.ob_headline.specs.Statements.{statements}
 use Rattle.ob_headline.specs.Words.{Answer, Took, printed}
-use Rattle.ob_headline.specs.declared.ending.Ending.{Ending}
 use Rattle.ob_headline.specs.declared.ending.Ending.TheVariants.{Ran}
 use Rattle.ob_inflight.specs.Closing.{Closed}
 use Rattle.ob_mean.specs.Replay.{Session, done_of}
 use Rattle.ob_mean.specs.Verdict.{Draws, Tables}
 use Rattle.ob_print.specs.Cuts.{IsCutOf, Outputs}
-use Rattle.ob_print.specs.Rows.{events_text}
 use Rattle.ob_script.proofs.FlightEnds.{all_ended, flying_long}
-use Rattle.ob_script.specs.FlightLaws.{AllEnded}
 use Rattle.ob_script.specs.Flights.{AreSteady, Flight, Flying, boarding, turns, turns_of}
 use Rattle.ob_script.specs.Trace.{Served as Entry}
-use Rattle.ob_shell.proofs.FlightEnd.{all_fs, aloft, in_all, left_walked, long_fs, spelt_left, turn_of}
+use Rattle.ob_shell.proofs.FlightEnd.{all_fs, aloft, in_all, left_walked, spelt_left, turn_of}
 use Rattle.ob_shell.proofs.FlightFacts.{first_answered, places, seats_are}
 use Rattle.ob_shell.proofs.FlightLast.{LastWalk}
 use Rattle.ob_shell.proofs.FlightMeant.{BeginsSo, Means, meant_so}
-use Rattle.ob_shell.proofs.FlightSeen.{FirstAnswered, IsAnswerOf, IsIn, Stood}
-use Rattle.ob_shell.proofs.FlightStop.{TakenOn, nth_answered, prints_whole, taken_on}
+use Rattle.ob_shell.proofs.FlightSeen.{FirstAnswered, IsIn, Stood}
+use Rattle.ob_shell.proofs.FlightStop.{nth_answered, prints_whole, taken_on}
 use Rattle.ob_shell.proofs.FlownLists.{Flown, Places, flown_at, flown_list, seats_in}
 use Rattle.ob_shell.proofs.StopLemmas.{tampered_as}
 use Rattle.ob_shell.proofs.WalkLemmas.{EarlyAt}
-use Rattle.ob_shell.specs.Aloft.{EmitsUntil, RanAloft, answer_of, answers_of}
-use Rattle.ob_shell.specs.Steps.{CutTogether, Holds, Machine, MayFly, asked_of}
-use Rattle.ob_shell.specs.Top.{EndsUntampered}
+use Rattle.ob_shell.specs.Aloft.{RanAloft, answer_of, answers_of}
+use Rattle.ob_shell.specs.Steps.{CutTogether, Machine, asked_of}
 use Rattle.ob_sql.specs.declared.stmt.Stmt.{Stmt}
-use Rattle.ob_store.specs.State.{Lie}
-use Rattle.ob_tables.specs.Agreeing.{AreDraws, public_of, world_of}
+use Rattle.ob_tables.specs.Agreeing.{public_of}
 use Rattle.ob_tables.specs.Stops.{session_stop}
 use Rattle.ob_tables.specs.Telling.{ReadsTrueUntil, is_refused}
 use Rattle.ob_tables.specs.declared.stop.RunStop.{RunStop}

@@ -1,6 +1,6 @@
 -- Where a flight was left.
 use Rattle.std.specs.Prelude.{drop, take}
-use Rattle.std.proofs.Common.{◌≡◌, ◌⊎◌, ◌≤◌, ◌<◌, ◌++◌, inl, inr, ℕ, true, List, [], ◌∷◌, length, Option, Ok, Err, refl, ap, arith}
+use Rattle.std.proofs.Common.{◌≡◌, ◌≤◌, ◌++◌, ℕ, true, List, [], ◌∷◌, length, Option, Ok, Err, refl}
 use Rattle.ob_base.specs.declared.access.Access.{Access}
 use Rattle.ob_headline.specs.Accesses.{LeavesAloft, ends_within}
 use Rattle.ob_headline.specs.Flights.{Seat}
@@ -9,7 +9,7 @@ use Rattle.ob_headline.specs.Words.{Answer, Took, printed}
 use Rattle.ob_headline.specs.declared.ending.Ending.TheVariants.{Ran}
 use Rattle.ob_print.specs.Cuts.{Outputs}
 use Rattle.ob_script.specs.Trace.{Served as Entry}
-use Rattle.ob_shell.proofs.FlightCut.{cut_last, entries_cut, never_within, spelt_cut}
+use Rattle.ob_shell.proofs.FlightCut.{cut_last, never_within}
 use Rattle.ob_shell.proofs.FlightEnd.{aloft, all_fs, spelt_left, turn_of}
 use Rattle.ob_shell.proofs.FlightLast.{LastWalk}
 use Rattle.ob_shell.proofs.FlightSeen.{FirstAnswered}

@@ -1,19 +1,17 @@
 -- Where a sink failed within the answers of a flight, or behind them.
-use Rattle.std.specs.Prelude.{drop, if◌then◌else◌, map, slice_get, take, ⊤}
+use Rattle.std.specs.Prelude.{drop, if◌then◌else◌, slice_get, take}
 use Rattle.std.specs.List.{All}
 use Rattle.std.specs.Io.KnownBytes.{Appends}
-use Rattle.std.proofs.Common.{◌≡◌, ◌⊎◌, ◌+◌, ◌-◌, ◌≤◌, ◌<◌, ◌++◌, inl, inr, ℕ, zero, suc, Bool, true, false, List, [], ◌∷◌, length, Option, Some, None, Ok, Err, Result, refl, sym, ◌∙◌, ap, subst, arith, append_assoc, append-nil, length-append, take-append-drop}
+use Rattle.std.proofs.Common.{◌≡◌, ◌+◌, ◌≤◌, ◌<◌, ◌++◌, inl, inr, ℕ, zero, suc, Bool, true, false, List, [], ◌∷◌, length, Option, Some, None, Ok, Err, refl, sym, ◌∙◌, ap, subst, arith, append_assoc, append-nil, length-append, take-append-drop}
 use Rattle.std.proofs.lemmas.List.{append_cancel_left, length-map}
-use Rattle.std.proofs.lemmas.List.Elements.{All-cons, All-head, All-nil, All-tail}
 use Rattle.ob_base.specs.declared.access.Access.{Access}
 use Rattle.ob_base.specs.declared.seen.Seen.{Seen}
 use Rattle.ob_base.specs.declared.refusal.Stop.TheVariants as Stops
 use Rattle.ob_exec.specs.InFlight.{served_as}
 use Rattle.ob_headline.proofs.FlightLeft.{ended_left}
 use Rattle.ob_headline.proofs.TakenLemmas.{LosesSo, taken_answers}
-use Rattle.ob_headline.proofs.UntilLemmas.{until_ended}
 use Rattle.ob_headline.specs.Accesses.{LeavesAloft, LeavesFlight, OneWants, ends_within}
-use Rattle.ob_headline.specs.Flights.{EndedBy, Seat, Stand, asked_until, has_ended, seats_aloft}
+use Rattle.ob_headline.specs.Flights.{EndedBy, Seat, Stand, asked_until, has_ended}
 use Rattle.ob_headline.specs.Endings.{is_tampered}
 use Rattle.ob_headline.specs.Meaning.{PrintsUntil}
 use Rattle.ob_headline.specs.Words.{Answer, Took, printed}
@@ -25,7 +23,7 @@ use Rattle.ob_print.specs.Cuts.{Outputs}
 use Rattle.ob_script.proofs.FlightLemmas.{logs_grow}
 use Rattle.ob_script.specs.Flights.{Flight, boarding, merge, turns, turns_of}
 use Rattle.ob_script.specs.Trace.{Served as Entry}
-use Rattle.ob_shell.proofs.FlightEnd.{all_fs, aloft, are_served, in_all, left_walked, long_fs, spelt_left, turn_of}
+use Rattle.ob_shell.proofs.FlightEnd.{all_fs, aloft, in_all, left_walked, spelt_left, turn_of}
 use Rattle.ob_shell.proofs.FlightFacts.{first_answered, places, seats_are}
 use Rattle.ob_shell.proofs.FlightLast.{LastWalk}
 use Rattle.ob_shell.proofs.FlightMeant.{BeginsSo, Means, meant_so}
@@ -34,7 +32,7 @@ use Rattle.ob_shell.proofs.FlownLists.{Flown, seats_in}
 use Rattle.ob_shell.proofs.StopLemmas.{stop_untampered}
 use Rattle.ob_shell.proofs.WalkLemmas.{EarlyAt}
 use Rattle.ob_shell.specs.Aloft.{RanAloft, answers_of}
-use Rattle.ob_shell.specs.Steps.{FinishedTogether, Machine, MayFly, StepTogether, asked_of}
+use Rattle.ob_shell.specs.Steps.{FinishedTogether, Machine, asked_of}
 use Rattle.ob_sql.specs.declared.stmt.Stmt.{Stmt}
 use Rattle.ob_tables.specs.Agreeing.{public_of}
 use Rattle.ob_tables.specs.Stops.{session_stop}

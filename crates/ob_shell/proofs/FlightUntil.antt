@@ -47,5 +47,9 @@ module _ {R : Type 0} (state : R → RevState) (stmts : List Stmt) (asked k : �
       by false is =
           let whole = subst (λ (b : Bool). by_fault b (here ≡ cut_at true asked (in_flight stmts (public_of old)) (skeleton stmt) (seen_by d (in_flight stmts (public_of old)) (count_of old s) tables stmt))
           ((one.outcome ≡ outcome_of stmt (verdict (in_flight stmts (public_of old)) (count_of old s) tables stmt)) × (here ≡ seen_by d (in_flight stmts (public_of old)) (count_of old s) tables stmt))) is told.0 in
-          record { answered = whole.0; shown = whole.1; prints = subst (λ (b : Bool). by_fault b (Unfinished (answer_labels stmt (in_flight stmts (public_of old))) (verdict (in_flight stmts (public_of old)) (count_of old s) tables stmt) one.events)
-          (Prints (answer_labels stmt (in_flight stmts (public_of old))) (verdict (in_flight stmts (public_of old)) (count_of old s) tables stmt) one.events)) is told.1 }
+          record {
+            answered = whole.0;
+            shown = whole.1;
+            prints = subst (λ (b : Bool). by_fault b (Unfinished (answer_labels stmt (in_flight stmts (public_of old))) (verdict (in_flight stmts (public_of old)) (count_of old s) tables stmt) one.events)
+                (Prints (answer_labels stmt (in_flight stmts (public_of old))) (verdict (in_flight stmts (public_of old)) (count_of old s) tables stmt) one.events)) is told.1;
+          }

@@ -1,13 +1,11 @@
 -- A store whose list lets go of what statements in flight asked: nothing else that is known of them has changed.
-use Rattle.std.proofs.Common.{◌≡◌, inl, inr, ℕ, Bool, List, [], Ok, Option, refl, sym, subst}
+use Rattle.std.proofs.Common.{inl, inr, ℕ, List, Ok, Option, sym, subst}
 use Rattle.ob_base.specs.declared.seen.Seen.{Seen}
-use Rattle.ob_exec.specs.RanFlight.{FliesOn}
 use Rattle.ob_gen.specs.declared.tally.Tally.{Tally}
-use Rattle.ob_headline.specs.Words.{Answer}
 use Rattle.ob_inflight.specs.Closing.{Closed}
 use Rattle.ob_mean.specs.Verdict.{Tables}
 use Rattle.ob_shell.proofs.LetGoLemmas.{agrees_left, calm_now, represents_left, seals_now, since_left}
-use Rattle.ob_shell.specs.Aloft.{AnswersFlight, FlewWhole, RanAloft}
+use Rattle.ob_shell.specs.Aloft.{RanAloft}
 use Rattle.ob_shell.specs.Flying.{CountsFlight}
 use Rattle.ob_shell.specs.Traces.{LetsGoFrom}
 use Rattle.ob_sql.specs.declared.stmt.Stmt.{Stmt}

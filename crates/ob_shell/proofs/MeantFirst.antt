@@ -65,9 +65,6 @@ module _ (words : ℕ → ℕ) (u : ℕ) where
 room_for : (n most : ℕ) → n < most → nat_lt n most ≡ true
 room_for n most less = grind arith
 
-no_room : (n most : ℕ) → most ≤ n → nat_lt n most ≡ false
-no_room n most less = grind arith
-
 module _ (most : ℕ) (words : ℕ → ℕ) (s : Session) (listed : headings s.tables ≡ headings_of s.public.tables) where
   abbrev waits : Option Gathering → List Stmt → Course
   waits g w = record { turns = 0; session = s; batch = g; waiting = w }

@@ -1,5 +1,5 @@
 -- What was done behind the texts that were answered one by one, or several together: the last part of a walk.
-use Rattle.std.proofs.Common.{◌≡◌, ◌⊎◌, ◌++◌, inl, inr, ℕ, Bool, true, false, List, [], ◌∷◌, Option, Ok, Err, Result, refl, sym, ◌∙◌, ap, subst, append-nil}
+use Rattle.std.proofs.Common.{◌≡◌, ◌⊎◌, ◌++◌, inl, inr, ℕ, Bool, List, [], ◌∷◌, Option, Ok, Err, Result, refl, sym, subst, append-nil}
 use Rattle.ob_base.specs.declared.refusal.Stop.{Stop}
 use Rattle.ob_headline.specs.Words.{Answer, Took, printed}
 use Rattle.ob_headline.specs.declared.ending.Ending.{Ending}
@@ -7,13 +7,10 @@ use Rattle.ob_headline.specs.declared.ending.Ending.TheVariants.{Ran}
 use Rattle.ob_print.specs.Cuts.{Outputs}
 use Rattle.ob_shell.proofs.LeftFlights.{flies_last}
 use Rattle.ob_shell.proofs.FlightLast.{LastWalk}
-use Rattle.ob_shell.proofs.RunLemmas.{run_ends}
 use Rattle.ob_shell.proofs.StepLemmas.{by_last}
 use Rattle.ob_shell.proofs.WalkLemmas.{Walked, walked_cut, walked_done_so, walked_idle, walked_none}
-use Rattle.ob_shell.specs.Feeding.{Fetch}
-use Rattle.ob_shell.specs.Running.{EndsBy, LastPart}
+use Rattle.ob_shell.specs.Running.{LastPart}
 use Rattle.ob_shell.specs.Steps.{CutTogether, FinishedTogether, Follow, Machine, PartlyAt}
-use Rattle.ob_shell.specs.Tallies.{TallyIs}
 use Rattle.ob_tables.specs.Stops.{session_stop}
 use Rattle.ob_tables.specs.declared.stop.RunStop.{RunStop}
 use Rattle.ob_vault.specs.State.{RevState}
