@@ -1,5 +1,5 @@
 -- The engine behind a flight: its tables are as they were.
-use Rattle.std.proofs.Common.{◌≡◌, ◌≤◌, ◌-◌, ℕ, Bool, List, None, refl, sym, ◌∙◌, ap, subst, arith}
+use Rattle.std.proofs.Common.{◌≡◌, ◌≤◌, ℕ, Bool, List, None, refl, sym, ◌∙◌, ap, subst, arith}
 use Rattle.ob_base.specs.declared.access.Access.{Access}
 use Rattle.ob_mean.specs.Verdict.{Draws, Tables}
 use Rattle.ob_room.specs.RoomState.{RoomState}

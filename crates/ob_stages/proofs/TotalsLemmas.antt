@@ -1,7 +1,7 @@
 -- A SELECT of totals: what its pass did is what it means.
 use Rattle.std.proofs.Common.{◌≡◌, ◌≤◌, ◌<◌, ℕ, Bool, true, false, if◌then◌else◌, List, [], ◌∷◌, ◌++◌, length, map, Option, Some, None, refl, sym, ◌∙◌, ap, subst, arith, append_assoc}
-use Rattle.std.specs.Prelude.{IfSome, IsTrue, filter_map, not, ◌==◌, nat_lt}
-use Rattle.std.specs.List.{All, list_all, list_any, flat_map}
+use Rattle.std.specs.Prelude.{IfSome, filter_map, not, ◌==◌, nat_lt}
+use Rattle.std.specs.List.{All, list_any, flat_map}
 use Rattle.std.proofs.lemmas.Bool.Decides.{nat_tests}
 use Rattle.std.proofs.lemmas.List.{append-nil, length-map}
 use Rattle.std.proofs.lemmas.List.Elements.{All-head, All-tail}
@@ -39,7 +39,7 @@ use Rattle.ob_verdict.specs.Accepted.{IsPlace, agg_places}
 use Rattle.ob_verdict.proofs.AcceptedProof.{totals_places_fit}
 use Rattle.ob_verdict.specs.declared.outcome.Outcome.{Outcome}
 use Rattle.ob_verdict.specs.declared.outcome.Outcome.TheVariants.{Rows, Refused}
-use Rattle.ob_verdict.specs.Outcomes.{outcome_of, is_row, IsAnswer, Partly}
+use Rattle.ob_verdict.specs.Outcomes.{outcome_of, IsAnswer, Partly}
 use Rattle.ob_stages.specs.Totalling.{TotalsFit, agg_at, labels_at, totalled, totalled_answer}
 use Rattle.ob_verdict.proofs.RowEvents.{are_rows}
 
