@@ -1,7 +1,7 @@
 -- Statements that fly, before others: what is seen of them and how they are answered, from what is so of each.
 use Rattle.std.specs.Prelude.{◌&&◌, ◌↔◌, if◌then◌else◌, map, slice_get, ⊤}
 use Rattle.std.specs.Option.{option_map}
-use Rattle.std.proofs.Common.{◌≡◌, ◌⊎◌, ◌+◌, ◌++◌, ℕ, suc, Bool, true, false, IsTrue, List, [], ◌∷◌, length, Option, Some, None, Ok, Err, refl, sym, ◌∙◌, ap, subst, arith}
+use Rattle.std.proofs.Common.{◌≡◌, ◌⊎◌, ◌++◌, ℕ, suc, Bool, true, false, IsTrue, List, [], ◌∷◌, length, Option, Some, None, Ok, Err, refl, sym, ◌∙◌, ap, subst, arith}
 use Rattle.ob_base.specs.declared.config.Public.{Public}
 use Rattle.ob_base.specs.declared.refusal.Refusal.TheVariants.{StoreFault}
 use Rattle.ob_base.specs.declared.seen.End.{End}
