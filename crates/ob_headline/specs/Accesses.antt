@@ -98,12 +98,13 @@ StopsWithin ending Failed Full p stmt seen =
     × (ending ≡ Ran (Err StashFull) → Full p stmt seen)
 
 -- ---- a flight that was left
--- memory was wanting for it: just before its result is made, if it isn't padded, where its rows are emitted, or at its last
--- line, once nothing of it is left to be asked
+-- memory was wanting for it: in its turn, just before its result is made, if it isn't padded; where its rows are emitted; or
+-- at its last line, once nothing of it is left to be asked
 abbrev pub WantsAloft : Option Stand → Public → Stmt → Seen → Type 0
 WantsAloft None p stmt seen = ⊥
 WantsAloft (Some stand) p stmt seen =
-    AtResult p stmt seen (drop stand.own (whole_script p (skeleton stmt) seen))
+    (IsTrue stand.turn
+    × AtResult p stmt seen (drop stand.own (whole_script p (skeleton stmt) seen)))
     ⊎ (AtEmission p stmt seen (drop stand.own (whole_script p (skeleton stmt) seen))
     ⊎ (drop stand.own (script p (skeleton stmt) seen) ≡ []))
 

@@ -1,5 +1,5 @@
 -- SELECTs that are served in flight: how many, in whose turns, which ones are gathered for it, and by what each goes.
-use Rattle.std.specs.Prelude.{◌≡◌, ◌<◌, ◌≤◌, ◌+◌, ◌-◌, ◌*◌, ◌/◌, ◌⊎◌, ◌&&◌, ℕ, zero, suc, ⊤, Bool, false, not, nat_le, nat_lt, max, min, if◌then◌else◌, List, [], ◌∷◌, ◌++◌, length, map, take, slice_get, Option, Some, None, Ok, Err}
+use Rattle.std.specs.Prelude.{◌≡◌, ◌<◌, ◌≤◌, ◌+◌, ◌-◌, ◌*◌, ◌/◌, ◌⊎◌, ◌&&◌, ◌==◌, ℕ, zero, suc, ⊤, Bool, false, not, nat_le, nat_lt, max, min, if◌then◌else◌, List, [], ◌∷◌, ◌++◌, length, map, take, slice_get, Option, Some, None, Ok, Err}
 use Rattle.std.specs.List.{All}
 use Rattle.std.specs.Option.{option_map, option_map_or}
 use Rattle.ob_base.specs.declared.access.Access.{Access}
@@ -109,11 +109,12 @@ public_after base entries = after_entries (words_of base) 0 base.public entries
 
 -- ---- by what each statement goes
 -- where a flight was left: how many accesses it had asked by then, how many of these were the statement's own, and how many
--- were its own before the last of all
+-- were its own before the last of all; and whether it was its turn, as it is where the next access would have been its own
 pub record Stand : Type 0 where
   pub all : ℕ
   pub own : ℕ
   pub before : ℕ
+  pub turn : Bool
 
 -- what is public, and how many accesses were asked before it; how many were asked when it had ended; how many fly before it
 -- in its flight; and where that was left, if it was
@@ -138,6 +139,8 @@ stand_at p flown words i k = record {
   all = k;
   own = own_asked p flown words k i;
   before = own_asked p flown words (k - 1) i;
+  turn = option_map_or (λ (e : ℕ × Access). e.0 == i) (slice_get (flight p flown words).log k)
+      false;
 }
 
 abbrev pub has_ended : (i : ℕ) → Flight → Bool

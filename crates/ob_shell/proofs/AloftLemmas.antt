@@ -4,7 +4,7 @@ use Rattle.std.proofs.Common.{◌≡◌, ◌⊎◌, ◌+◌, ◌<◌, ◌≤◌,
 use Rattle.ob_base.specs.Events.{Event}
 use Rattle.ob_base.specs.declared.seen.Seen.{Seen}
 use Rattle.ob_exec.specs.InFlight.{served_as}
-use Rattle.ob_exec.specs.RanFlight.{EndsSo, IsParted, RanFlight, RanInTurns, StopsFlight, asked_by, asked_since}
+use Rattle.ob_exec.specs.RanFlight.{EndsSo, IsParted, RanFlight, RanInTurns, StopsFlight, asked_by, asked_next, asked_since}
 use Rattle.ob_headline.specs.Closing.{closing_line}
 use Rattle.ob_headline.specs.Words.{printed}
 use Rattle.ob_inflight.specs.Closing.{Closed, ClosesAll}
@@ -160,7 +160,7 @@ module _ {R E : Type 0} (state : R → RevState) (grew cut : E → E → List Ev
 
     -- some events of the next one, or its closing line, for want of memory or not
     module _ (stop : RunStop) (ran : Called {T = Unit {0}} (Err stop)) where
-      abbrev at : StopsFlight state grew cut closed parted stmts seens (asked_by (public_of old) words stmts seens (asked_since s t)) ran.ended stop old s new t out_old out_new
+      abbrev at : StopsFlight state grew cut closed parted stmts seens (asked_by (public_of old) words stmts seens (asked_since s t)) (asked_next (public_of old) words stmts seens (asked_since s t)) ran.ended stop old s new t out_old out_new
       at = ran.stopped
 
       abbrev Wants : (part : List ℕ) → Type 0

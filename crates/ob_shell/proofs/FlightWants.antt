@@ -1,14 +1,16 @@
 -- A flight that was left for want of memory.
-use Rattle.std.specs.Prelude.{drop, slice_get, take}
+use Rattle.std.specs.Prelude.{◌==◌, drop, slice_get, take}
 use Rattle.std.specs.List.{All}
-use Rattle.std.proofs.Common.{◌≡◌, ◌⊎◌, ◌+◌, ◌≤◌, inl, inr, ℕ, zero, suc, false, IsTrue, List, [], ◌∷◌, length, Option, Some, Err, refl, sym, ◌∙◌, ap, subst, arith, take-append-drop}
+use Rattle.std.specs.Option.{option_map_or}
+use Rattle.std.proofs.Common.{◌≡◌, ◌⊎◌, ◌+◌, ◌≤◌, inl, inr, ℕ, zero, suc, Bool, false, IsTrue, List, [], ◌∷◌, length, Option, Some, Err, refl, sym, ◌∙◌, ap, subst, arith, take-append-drop}
+use Rattle.std.proofs.lemmas.Bool.{eq-eqb}
 use Rattle.std.proofs.lemmas.List.{drop_all, length-drop, length-take-le}
 use Rattle.std.proofs.lemmas.List.Elements.{All-head, All-tail}
 use Rattle.ob_base.specs.declared.access.Access.{Access}
 use Rattle.ob_base.specs.declared.config.Public.{Public}
 use Rattle.ob_base.specs.declared.seen.Seen.{Seen}
 use Rattle.ob_exec.specs.InFlight.{served_as}
-use Rattle.ob_exec.specs.RanFlight.{in_flight}
+use Rattle.ob_exec.specs.RanFlight.{asked_next, in_flight}
 use Rattle.ob_headline.specs.Accesses.{LeavesAloft, LeavesFlight, OneWants, WantsAloft, ends_within}
 use Rattle.ob_headline.specs.Flights.{Seat, Stand, stand_at}
 use Rattle.ob_headline.specs.Statements.{statements}
@@ -70,10 +72,11 @@ left_for_want (f ∷ fs) zero total ending asked left off why =
 left_for_want (f ∷ fs) (suc n) total ending asked left off why = left_for_want fs n total ending asked (All-tail (IsLeftAt total) f fs left) off why
 
 -- ---- for one of them
--- just before its result is made, where its rows are emitted, or at its last line, behind so many accesses of its own
-abbrev WantsBehind : Public → (own : ℕ) → Stmt → Seen → Type 0
-WantsBehind p own stmt seen =
-    AtResult p stmt seen (drop own (whole_script p (skeleton stmt) seen))
+-- in its turn, just before its result is made, where its rows are emitted, or at its last line, behind so many accesses of
+-- its own
+abbrev WantsBehind : Public → (turn : Bool) → (own : ℕ) → Stmt → Seen → Type 0
+WantsBehind p turn own stmt seen =
+    (IsTrue turn × AtResult p stmt seen (drop own (whole_script p (skeleton stmt) seen)))
     ⊎ (AtEmission p stmt seen (drop own (whole_script p (skeleton stmt) seen))
     ⊎ (drop own (script p (skeleton stmt) seen) ≡ []))
 
@@ -99,16 +102,20 @@ module _ {R : Type 0} (state : R → RevState) (m1 m2 : Machine R) (more : List 
   abbrev at : Places
   at = places state m1 m2 cut.stmts cut.seens cut.flew.ended (Err run) cut.may ran (Some total)
 
+  -- whether it was the turn of the one at a place
+  abbrev turn_at : ℕ → Bool
+  turn_at i = (stand_at p (served_as cut.stmts cut.seens) m1.flights.words i total).turn
+
   abbrev OneOf : (n : ℕ) → Type 0
   OneOf n = OneWants (drop n (seats_in fs_cut)) (statements (drop n (spelt_in fs_cut))) (drop n (served_in_all fs_cut))
 
-  wants_at : (n i : ℕ) (stmt : Stmt) (seen : Seen) → n ≤ i → slice_get cut.stmts i ≡ Some stmt → slice_get cut.seens i ≡ Some seen → WantsBehind (in_flight cut.stmts p) (at.own i) stmt seen → OneOf n
+  wants_at : (n i : ℕ) (stmt : Stmt) (seen : Seen) → n ≤ i → slice_get cut.stmts i ≡ Some stmt → slice_get cut.seens i ≡ Some seen → WantsBehind (in_flight cut.stmts p) (turn_at i) (at.own i) stmt seen → OneOf n
   wants_at n i stmt seen from get shown wants =
       let z : 0 + i ≡ i = omega arith in
       let found : slice_get fs_cut i ≡ Some (flown_at at i stmt seen (slice_get cut.flew.ended i)) =
       flown_get at 0 i cut.stmts cut.seens cut.flew.ended stmt seen get shown ∙ (λ j. Some (flown_at at (z j) stmt seen (slice_get cut.flew.ended i))) in
       one_wants fs_cut n i (flown_at at i stmt seen (slice_get cut.flew.ended i)) from found
-      (subst (λ (k : ℕ). WantsBehind (flight_public k p) (at.own i) stmt seen) (sym (served_long cut.stmts cut.seens ran.long)) wants)
+      (subst (λ (k : ℕ). WantsBehind (flight_public k p) (turn_at i) (at.own i) stmt seen) (sym (served_long cut.stmts cut.seens ran.long)) wants)
 
   all_left : All (IsLeftAt total) fs_cut
   all_left = each_flown at (IsLeftAt total) 0 cut.stmts cut.seens cut.flew.ended (λ k stmt seen get shown. record { stand = stand_at p (served_as cut.stmts cut.seens) m1.flights.words (0 + k) total; left = refl; all = refl })
@@ -126,15 +133,18 @@ module _ {R : Type 0} (state : R → RevState) (m1 m2 : Machine R) (more : List 
       inr (inl (subst (λ (l : List Access). IsTrue (ends_with_make l)) (take-append-drop (length m1.store.asked) m2.store.asked)
       (ends-more (take (length m1.store.asked) m2.store.asked) (drop (length m1.store.asked) m2.store.asked) make)))
 
-  wants_next : (n : ℕ) → n ≤ e → WantsBehind (in_flight cut.stmts p) (at.own e) cut.flew.stmt cut.flew.seen → Wants n
+  wants_next : (n : ℕ) → n ≤ e → WantsBehind (in_flight cut.stmts p) (turn_at e) (at.own e) cut.flew.stmt cut.flew.seen → Wants n
   wants_next n few wants = inr (inr (wants_at n e cut.flew.stmt cut.flew.seen few cut.flew.next cut.flew.shown wants))
+
+  in_turn : (i : ℕ) (a : Access) → asked_next p m1.flights.words cut.stmts cut.seens total ≡ Some (i, a) → IsTrue (turn_at i)
+  in_turn i a is = subst (λ (o : Option (ℕ × Access)). IsTrue (option_map_or (λ (e : ℕ × Access). e.0 == i) o false)) (sym is) (eq-eqb i i refl)
 
   why_left : run ≡ Runs.NoMemory → (n : ℕ) → n ≤ e → Wants n
   why_left memory n few = elim (cut.flew.memory memory) [
     | inl make ↦ at_make n make
     | inr (inl before) ↦
         let past = past_none cut.flew.ended before.place before.going in
-        inr (inr (wants_at n before.place before.stmt before.seen (omega (arith, past, few)) before.get before.shown (inl before.makes)))
+        inr (inr (wants_at n before.place before.stmt before.seen (omega (arith, past, few)) before.get before.shown (inl (in_turn before.place before.access before.turn, before.makes))))
     | inr (inr (inl emits)) ↦ wants_next n few (inr (inl emits))
     | inr (inr (inr closes)) ↦
         let whole : at.own e ≡ length (script (in_flight cut.stmts p) (skeleton cut.flew.stmt) cut.flew.seen) = closes.2.whole in

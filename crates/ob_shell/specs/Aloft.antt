@@ -6,7 +6,7 @@ use Rattle.ob_base.specs.declared.config.Public.{Public}
 use Rattle.ob_base.specs.declared.seen.Seen.{Seen}
 use Rattle.ob_inflight.specs.Closing.{Closed, RisesBy}
 use Rattle.ob_exec.specs.InFlight.{IsFlown, served_as}
-use Rattle.ob_exec.specs.RanFlight.{BeforeMake, FlightCause, EndsSo, FlightMeans, FliesOn, asked_by, asked_since, carried_out, cut_off, StopsInTurn, in_flight, stopped_after}
+use Rattle.ob_exec.specs.RanFlight.{BeforeMake, FlightCause, EndsSo, FlightMeans, FliesOn, asked_by, asked_next, asked_since, carried_out, cut_off, StopsInTurn, in_flight, stopped_after}
 use Rattle.ob_headline.specs.Closing.{closing_line}
 use Rattle.ob_headline.specs.Meaning.{PrintsUntil}
 use Rattle.ob_headline.specs.Words.{Answer, printed}
@@ -119,14 +119,15 @@ pub record EmitsUntil {R : Type 0} (state : R → RevState) (stmts : List Stmt) 
       × EndsSo state stmts stmt seen n events old s new t outcome
       × ClosesWithin events part outcome)
 
--- memory is wanting before the first access, where a region is made, just before a result is made that isn't padded, or where
--- the next one's rows are emitted, or, where it ended so, its closing line
+-- memory is wanting before the first access, where a region is made, in its turn just before a result is made that isn't
+-- padded, or where the next one's rows are emitted, or, where it ended so, its closing line
 abbrev pub WantsTogether : Public → (words : ℕ → ℕ) → List Stmt → List Seen → (place : ℕ)
     → Stmt → Seen → (Ends : List Event → Outcome → Type 0) → (part : List ℕ) → List Closed
     → (s t : StoreState) → Type 0
 WantsTogether p words stmts seens place stmt seen Ends part ended s t =
     AtMake (drop (length s.asked) t.asked)
-    ⊎ (BeforeMake (in_flight stmts p) stmts seens (asked_own p words stmts seens s t) ended
+    ⊎ (BeforeMake (in_flight stmts p) stmts seens (asked_own p words stmts seens s t)
+    (asked_next p words stmts seens (asked_since s t)) ended
     ⊎ (AtEmission (in_flight stmts p) stmt seen (drop (asked_own p words stmts seens s t place)
     (whole_script (in_flight stmts p) (skeleton stmt) seen))
     ⊎ ((events : List Event) × (outcome : Outcome) × Ends events outcome
