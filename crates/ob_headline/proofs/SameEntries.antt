@@ -33,7 +33,6 @@ use Rattle.ob_script.specs.Flights.{Alone, Entry, Together, drawn, flight_access
 use Rattle.ob_script.specs.Script.{script}
 use Rattle.ob_script.specs.Tables.{tables_after, tables_then}
 use Rattle.ob_script.specs.Trace.{Served, next}
-use Rattle.ob_sql.specs.Skeleton.{skeleton}
 use Rattle.ob_sql.specs.declared.stmt.Stmt.{Stmt}
 
 -- ---- they are these statements

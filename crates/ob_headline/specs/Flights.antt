@@ -13,7 +13,7 @@ use Rattle.ob_headline.specs.Story.{Story}
 use Rattle.ob_headline.specs.declared.flight.FlightSettings.{FlightSettings}
 use Rattle.ob_mean.specs.Replay.{Session, Spelt, has_index}
 use Rattle.ob_script.specs.FlightLaws.{SelectsFromOne}
-use Rattle.ob_script.specs.Flights.{Alone, Entry, Flight, Flying, Together, all_alone, boarding, drawn, flight, flight_accesses, flight_public, next_flight, own, served_in, trace_in, turns, turns_of, words_from, own_asked}
+use Rattle.ob_script.specs.Flights.{Alone, Entry, Flight, Flying, Together, all_alone, boarding, drawn, flight, flight_accesses, flight_public, next_flight, served_in, trace_in, turns, turns_of, words_from, own_asked}
 use Rattle.ob_script.specs.Script.{script}
 use Rattle.ob_script.specs.Trace.{Served, next}
 use Rattle.ob_sql.specs.Skeleton.{skeleton}
