@@ -1,13 +1,16 @@
 -- How texts are gathered to fly: worked examples.
 use Rattle.std.specs.Prelude.{codes}
-use Rattle.std.proofs.Common.{◌≡◌, [], ◌∷◌, Some, None, Ok, Err, refl}
-use Rattle.ob_base.specs.declared.seen.End.TheVariants.{Static}
+use Rattle.std.proofs.Common.{◌≡◌, ℕ, Bool, true, false, List, [], ◌∷◌, Some, None, Ok, Err, refl}
+use Rattle.ob_base.specs.declared.config.Public.{Public}
+use Rattle.ob_base.specs.declared.schema.Shape.TheVariants.{Flat}
+use Rattle.ob_base.specs.declared.schema.Table.{Table}
+use Rattle.ob_base.specs.declared.seen.End.TheVariants.{Static, Whole}
 use Rattle.ob_headline.specs.Bases.{start}
 use Rattle.ob_headline.specs.Disturbed.{first_course, meant_entries}
-use Rattle.ob_headline.specs.Flights.{most_in, whole_of}
+use Rattle.ob_headline.specs.Flights.{most_in, stand_at, whole_of}
 use Rattle.ob_mean.proofs.VerdictLemmas.{count_all}
 use Rattle.ob_mean.specs.Verdict.{ended}
-use Rattle.ob_script.specs.Flights.{Alone, Together, drawn}
+use Rattle.ob_script.specs.Flights.{Alone, Together, drawn, runnable, turn, turns, turns_for}
 use Rattle.ob_script.specs.Trace.{Served}
 use Rattle.ob_sql.specs.Skeleton.{skeleton}
 use Rattle.ob_sql.specs.declared.stmt.Stmt.{Stmt}
@@ -57,3 +60,25 @@ two_of_wide = refl
 
 one_of_widest : most_in (record { most = 8; start = 0 }) (record (start None).public { buffer = 64; pack = 16 }) ≡ 1
 one_of_widest = refl
+
+-- two that read a table of two blocks, in turns: where the flight is left behind one access it is the turn of the other one,
+-- and behind all of them of none
+table : Table
+table = record { heading = record { name = codes "a"; schema = []; capacity = 2; shape = Flat }; region = 0 }
+
+over_one : Public
+over_one = record (start None).public { pack = 1; tables = table ∷ [] }
+
+z : Served
+z = record { skeleton = skeleton select; seen = ended Whole }
+
+turns_at : ℕ → List Bool
+turns_at k = (stand_at over_one (z ∷ z ∷ []) (λ i. i) 0 k).turn ∷ (stand_at over_one (z ∷ z ∷ []) (λ i. i) 1 k).turn ∷ []
+
+turn_of_other : turns_at 1 ≡ false ∷ true ∷ []
+unfolding turns_at turns turn runnable turns_for over_one table z select
+turn_of_other = refl
+
+turn_of_none : turns_at 4 ≡ false ∷ false ∷ []
+unfolding turns_at turns turn runnable turns_for over_one table z select
+turn_of_none = refl
