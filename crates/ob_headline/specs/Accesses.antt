@@ -31,7 +31,7 @@ use Rattle.ob_headline.specs.Words.{Answer, refused_as, refused_at}
 use Rattle.ob_headline.specs.Bases.{Base}
 use Rattle.ob_headline.specs.Batches.{Joins, is_failed}
 use Rattle.ob_headline.specs.Failures.{FailsBeside, RisesBy, cut_off, failures}
-use Rattle.ob_headline.specs.Flights.{Entered, Seat, Stand, seats_of, trace_of}
+use Rattle.ob_headline.specs.Flights.{EndedBy, Entered, OnBy, Seat, Stand, seats_of, trace_of}
 use Rattle.ob_headline.specs.FullStash.{ReadsFullStash}
 use Rattle.ob_headline.specs.Leaves.{ReadsDraws}
 use Rattle.ob_headline.specs.Statements.{statements}
@@ -96,26 +96,39 @@ StopsWithin ending Failed Full p stmt seen =
     × (ending ≡ Ran (Err StashFull) → Full p stmt seen)
 
 -- ---- a flight that was left
--- memory was wanting for it: in its turn, just before its result is made, if it isn't padded; where its rows are emitted; or
--- at its last line, once nothing of it is left to be asked
+-- memory was wanting for it, in its turn, just before its result is made, if it isn't padded
+abbrev pub MakesAloft : Option Stand → Public → Stmt → Seen → Type 0
+MakesAloft None p stmt seen = ⊥
+MakesAloft (Some stand) p stmt seen =
+    IsTrue stand.turn
+    × AtResult p stmt seen (drop stand.own (whole_script p (skeleton stmt) seen))
+
+-- for one of these
+unfoldable pub OneMakes : List Seat → List Stmt → List Served → Type 0
+OneMakes [] stmts seen = ⊥
+OneMakes (v ∷ seats) [] seen = ⊥
+OneMakes (v ∷ seats) (stmt ∷ stmts) [] = ⊥
+OneMakes (v ∷ seats) (stmt ∷ stmts) (x ∷ seen) =
+    MakesAloft v.left v.public stmt x.seen ⊎ OneMakes seats stmts seen
+
+-- memory was wanting for it where its rows are emitted, or at its last line, once nothing of it is left to be asked
 abbrev pub WantsAloft : Option Stand → Public → Stmt → Seen → Type 0
 WantsAloft None p stmt seen = ⊥
 WantsAloft (Some stand) p stmt seen =
-    (IsTrue stand.turn
-    × AtResult p stmt seen (drop stand.own (whole_script p (skeleton stmt) seen)))
-    ⊎ (AtEmission p stmt seen (drop stand.own (whole_script p (skeleton stmt) seen))
-    ⊎ (drop stand.own (script p (skeleton stmt) seen) ≡ []))
+    AtEmission p stmt seen (drop stand.own (whole_script p (skeleton stmt) seen))
+    ⊎ (drop stand.own (script p (skeleton stmt) seen) ≡ [])
 
--- for one of these
-unfoldable pub OneWants : List Seat → List Stmt → List Served → Type 0
-OneWants [] stmts seen = ⊥
-OneWants (v ∷ seats) [] seen = ⊥
-OneWants (v ∷ seats) (stmt ∷ stmts) [] = ⊥
-OneWants (v ∷ seats) (stmt ∷ stmts) (x ∷ seen) =
-    WantsAloft v.left v.public stmt x.seen ⊎ OneWants seats stmts seen
+-- for the first of these that hadn't ended
+unfoldable pub FirstWants : List Seat → List Stmt → List Served → Type 0
+FirstWants [] stmts seen = ⊥
+FirstWants (v ∷ seats) [] seen = ⊥
+FirstWants (v ∷ seats) (stmt ∷ stmts) [] = ⊥
+FirstWants (v ∷ seats) (stmt ∷ stmts) (x ∷ seen) =
+    (OnBy v.left v × WantsAloft v.left v.public stmt x.seen)
+    ⊎ (EndedBy v.left v × FirstWants seats stmts seen)
 
 -- a run doesn't end within one statement of a flight; memory is wanting before its first access, where a region is made,
--- or for one of those that weren't answered
+-- for one of those that weren't answered before its result is made, or for the first that hadn't ended
 abbrev pub LeavesFlight : Option Stand → Ending → (asked : List Access) → (Wants : Type 0) → Type 0
 LeavesFlight None ending asked Wants = ⊤
 LeavesFlight (Some stand) ending asked Wants =
@@ -127,7 +140,8 @@ abbrev pub LeavesAloft : Ending → (asked : List Access) → List Seat → List
     → Type 0
 LeavesAloft ending asked [] stmts seen = ⊤
 LeavesAloft ending asked (v ∷ seats) stmts seen =
-    LeavesFlight v.left ending asked (OneWants (v ∷ seats) stmts seen)
+    LeavesFlight v.left ending asked
+    (OneMakes (v ∷ seats) stmts seen ⊎ FirstWants (v ∷ seats) stmts seen)
 
 -- ---- all statements
 -- one that was begun was left by its flight, in which it may have ended, or alone

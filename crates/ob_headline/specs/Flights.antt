@@ -197,6 +197,11 @@ abbrev pub EndedBy : Option Stand → Seat → Type 0
 EndedBy None v = ⊤
 EndedBy (Some stand) v = v.until ≤ v.asked + stand.all
 
+-- it hadn't ended before its flight was left, if that was
+abbrev pub OnBy : Option Stand → Seat → Type 0
+OnBy None v = ⊤
+OnBy (Some stand) v = v.asked + stand.all ≤ v.until
+
 -- the entries of a story are these statements, and are served so; those that were answered had ended
 pub record Entered (base : Base) (story : Story) : Type 0 where
   pub served : served_by story.entries ≡ story.seen ++ story.last

@@ -249,7 +249,7 @@ module _ {R : Type 0} (state : R → RevState) (m1 m2 : Machine R) (more : List 
   long_flown : length done.stmts ≡ length flown
   long_flown = sym (served_few done.stmts done.seens ran.long)
 
-  had : (j : ℕ) → j ≤ e → All (λ (v : Seat). EndedBy v.left v) (take j (seats_in fs_cut))
+  pub had : (j : ℕ) → j ≤ e → All (λ (v : Seat). EndedBy v.left v) (take j (seats_in fs_cut))
   had j few = subst (λ (vs : List Seat). All (λ (v : Seat). EndedBy v.left v) (take j vs)) (sym (seats_are state m1 m2 done.stmts done.seens done.flew.ended (Err run) done.may ran (Some total)))
       (ended_left m1.flights.words p (asked_of m1) flown total 0 (length flown) j (λ k less.
       ended_by p flown m1.flights.words total e steady (omega (arith, less_e, long_flown)) ran.turn (0 + k) (omega (arith, less, few))))

@@ -2,7 +2,7 @@
 use Rattle.std.specs.Prelude.{drop, if◌then◌else◌, slice_get, take}
 use Rattle.std.specs.List.{All}
 use Rattle.std.specs.Io.KnownBytes.{Appends}
-use Rattle.std.proofs.Common.{◌≡◌, ◌+◌, ◌≤◌, ◌<◌, ◌++◌, inl, inr, ℕ, zero, suc, Bool, true, false, List, [], ◌∷◌, length, Option, Some, None, Ok, Err, refl, sym, ◌∙◌, ap, subst, arith, append_assoc, append-nil, length-append, take-append-drop}
+use Rattle.std.proofs.Common.{◌≡◌, ◌⊎◌, ◌+◌, ◌≤◌, ◌<◌, ◌++◌, inl, inr, ℕ, zero, suc, Bool, true, false, List, [], ◌∷◌, length, Option, Some, None, Ok, Err, refl, sym, ◌∙◌, ap, subst, arith, append_assoc, append-nil, length-append, take-append-drop}
 use Rattle.std.proofs.lemmas.List.{append_cancel_left, length-map}
 use Rattle.ob_base.specs.declared.access.Access.{Access}
 use Rattle.ob_base.specs.declared.seen.Seen.{Seen}
@@ -10,7 +10,7 @@ use Rattle.ob_base.specs.declared.refusal.Stop.TheVariants as Stops
 use Rattle.ob_exec.specs.InFlight.{served_as}
 use Rattle.ob_headline.proofs.FlightLeft.{ended_left}
 use Rattle.ob_headline.proofs.TakenLemmas.{LosesSo, taken_answers}
-use Rattle.ob_headline.specs.Accesses.{LeavesAloft, LeavesFlight, OneWants, ends_within}
+use Rattle.ob_headline.specs.Accesses.{FirstWants, LeavesAloft, LeavesFlight, OneMakes, ends_within}
 use Rattle.ob_headline.specs.Flights.{EndedBy, Seat, Stand, asked_until, has_ended}
 use Rattle.ob_headline.specs.Endings.{is_tampered}
 use Rattle.ob_headline.specs.Meaning.{PrintsUntil}
@@ -165,7 +165,7 @@ leaves_at ending asked Wants (Some stand) off not = (off, λ is. absurd (not is)
 
 pub leaves_otherwise : (ending : Ending) (asked : List Access) (seats : List Seat) (stmts : List Stmt) (seen : List Entry) → ends_within ending ≡ false → (ending ≡ Ran (Err Stops.NoMemory) → ⊥) → LeavesAloft ending asked seats stmts seen
 leaves_otherwise ending asked [] stmts seen off not = tt
-leaves_otherwise ending asked (v ∷ seats) stmts seen off not = leaves_at ending asked (OneWants (v ∷ seats) stmts seen) v.left off not
+leaves_otherwise ending asked (v ∷ seats) stmts seen off not = leaves_at ending asked (OneMakes (v ∷ seats) stmts seen ⊎ FirstWants (v ∷ seats) stmts seen) v.left off not
 
 pub prints_whole : (run : RunStop) (xs : List ℕ) → PrintsUntil (session_stop run) xs xs
 prints_whole (Runs.Tampered region place) xs = refl

@@ -2,7 +2,7 @@
 use Rattle.std.specs.Prelude.{◌==◌, drop, slice_get, take}
 use Rattle.std.specs.List.{All}
 use Rattle.std.specs.Option.{option_map_or}
-use Rattle.std.proofs.Common.{◌≡◌, ◌⊎◌, ◌+◌, ◌≤◌, inl, inr, ℕ, zero, suc, Bool, false, IsTrue, List, [], ◌∷◌, length, Option, Some, Err, refl, sym, ◌∙◌, ap, subst, arith, take-append-drop}
+use Rattle.std.proofs.Common.{◌≡◌, ◌⊎◌, ◌+◌, ◌≤◌, inl, inr, ℕ, zero, suc, Bool, false, IsTrue, List, [], ◌∷◌, length, Option, Some, None, Err, refl, sym, ◌∙◌, ap, subst, arith, take-append-drop}
 use Rattle.std.proofs.lemmas.Bool.{eq-eqb}
 use Rattle.std.proofs.lemmas.List.{drop_all, length-drop, length-take-le}
 use Rattle.std.proofs.lemmas.List.Elements.{All-head, All-tail}
@@ -11,21 +11,22 @@ use Rattle.ob_base.specs.declared.config.Public.{Public}
 use Rattle.ob_base.specs.declared.seen.Seen.{Seen}
 use Rattle.ob_exec.specs.InFlight.{served_as}
 use Rattle.ob_exec.specs.RanFlight.{asked_next, in_flight}
-use Rattle.ob_headline.specs.Accesses.{LeavesAloft, LeavesFlight, OneWants, WantsAloft, ends_within}
-use Rattle.ob_headline.specs.Flights.{Seat, Stand, stand_at}
+use Rattle.ob_headline.specs.Accesses.{FirstWants, LeavesAloft, LeavesFlight, MakesAloft, OneMakes, WantsAloft, ends_within}
+use Rattle.ob_headline.specs.Flights.{EndedBy, OnBy, Seat, Stand, stand_at}
 use Rattle.ob_headline.specs.Statements.{statements}
 use Rattle.ob_headline.specs.Words.{Answer}
 use Rattle.ob_headline.specs.declared.ending.Ending.{Ending}
 use Rattle.ob_headline.specs.declared.ending.Ending.TheVariants.{Ran}
-use Rattle.ob_script.specs.Flights.{flight_public}
+use Rattle.ob_script.specs.Flights.{AreSteady, flight_public}
 use Rattle.ob_script.specs.Script.{script, whole_script}
 use Rattle.ob_script.specs.Trace.{Served as Entry}
 use Rattle.ob_select.proofs.SelectRuns.{ends-more}
 use Rattle.ob_select.specs.Memory.{AtEmission, AtMake, AtResult, ends_with_make}
-use Rattle.ob_shell.proofs.FlightCut.{flown_get, get_less, past_none}
+use Rattle.ob_shell.proofs.FlightCut.{flown_get, get_less, going_on, had, past_none}
 use Rattle.ob_shell.proofs.FlightEnd.{all_fs, aloft, in_all, long_aloft, seats_left, spelt_left, turn_of}
 use Rattle.ob_shell.proofs.FlightFacts.{places, served_long, spelt_long}
 use Rattle.ob_shell.proofs.FlightSeen.{spelt_in}
+use Rattle.ob_shell.proofs.FlightSteady.{steady_flown}
 use Rattle.ob_shell.proofs.FlownLists.{Flown, Places, each_flown, flown_at, seats_in, served_in_all}
 use Rattle.ob_shell.proofs.WalkEntries.{seats_at}
 use Rattle.ob_shell.specs.Aloft.{RanAloft}
@@ -39,15 +40,38 @@ use Rattle.ob_tables.specs.declared.stop.RunStop.TheVariants as Runs
 use Rattle.ob_vault.specs.State.{RevState}
 
 -- ---- for which of them
--- memory was wanting for the one at a place, behind those that were answered
-one_wants : (fs : List Flown) (n i : ℕ) (f : Flown) → n ≤ i → slice_get fs i ≡ Some f → WantsAloft f.seat.left f.seat.public f.stmt f.seen
-    → OneWants (drop n (seats_in fs)) (statements (drop n (spelt_in fs))) (drop n (served_in_all fs))
-unfolding OneWants statements
-one_wants [] n i f from is wants = absurd (cc is)
-one_wants (x ∷ fs) zero zero f from is wants = let same : f ≡ x = cc is in inl (subst (λ (y : Flown). WantsAloft y.seat.left y.seat.public y.stmt y.seen) same wants)
-one_wants (x ∷ fs) zero (suc i) f from is wants = inr (one_wants fs zero i f (omega arith) is wants)
-one_wants (x ∷ fs) (suc n) zero f from is wants = absurd (omega (arith, from))
-one_wants (x ∷ fs) (suc n) (suc i) f from is wants = one_wants fs n i f (omega (arith, from)) is wants
+abbrev HadEnded : Seat → Type 0
+HadEnded v = EndedBy v.left v
+
+-- just before the result of the one at a place is made, behind those that were answered
+one_makes : (fs : List Flown) (n i : ℕ) (f : Flown) → n ≤ i → slice_get fs i ≡ Some f → MakesAloft f.seat.left f.seat.public f.stmt f.seen
+    → OneMakes (drop n (seats_in fs)) (statements (drop n (spelt_in fs))) (drop n (served_in_all fs))
+unfolding OneMakes statements
+one_makes [] n i f from is makes = absurd (cc is)
+one_makes (x ∷ fs) zero zero f from is makes = let same : f ≡ x = cc is in inl (subst (λ (y : Flown). MakesAloft y.seat.left y.seat.public y.stmt y.seen) same makes)
+one_makes (x ∷ fs) zero (suc i) f from is makes = inr (one_makes fs zero i f (omega arith) is makes)
+one_makes (x ∷ fs) (suc n) zero f from is makes = absurd (omega (arith, from))
+one_makes (x ∷ fs) (suc n) (suc i) f from is makes = one_makes fs n i f (omega (arith, from)) is makes
+
+-- it hadn't ended, and memory was wanting for it
+abbrev WantsOn : Flown → Type 0
+WantsOn f = OnBy f.seat.left f.seat × WantsAloft f.seat.left f.seat.public f.stmt f.seen
+
+-- for the one at a place, before which all had ended
+first_wants : (fs : List Flown) (n i : ℕ) (f : Flown) → n ≤ i → slice_get fs i ≡ Some f → All HadEnded (take i (seats_in fs)) → WantsOn f
+    → FirstWants (drop n (seats_in fs)) (statements (drop n (spelt_in fs))) (drop n (served_in_all fs))
+unfolding FirstWants statements
+first_wants [] n i f from is had wants = absurd (cc is)
+first_wants (x ∷ fs) zero zero f from is had wants = let same : f ≡ x = cc is in inl (subst WantsOn same wants)
+first_wants (x ∷ fs) zero (suc i) f from is had wants = inr (All-head HadEnded x.seat (take i (seats_in fs)) had, first_wants fs zero i f (omega arith) is (All-tail HadEnded x.seat (take i (seats_in fs)) had) wants)
+first_wants (x ∷ fs) (suc n) zero f from is had wants = absurd (omega (arith, from))
+first_wants (x ∷ fs) (suc n) (suc i) f from is had wants = first_wants fs n i f (omega (arith, from)) is (All-tail HadEnded x.seat (take i (seats_in fs)) had) wants
+
+-- one or the other, behind the first n of them
+abbrev OneOf : (n : ℕ) → List Flown → Type 0
+OneOf n fs =
+    OneMakes (drop n (seats_in fs)) (statements (drop n (spelt_in fs))) (drop n (served_in_all fs))
+    ⊎ FirstWants (drop n (seats_in fs)) (statements (drop n (spelt_in fs))) (drop n (served_in_all fs))
 
 -- so many accesses were asked when its flight was left
 record IsLeftAt (total : ℕ) (f : Flown) : Type 0 where
@@ -56,13 +80,13 @@ record IsLeftAt (total : ℕ) (f : Flown) : Type 0 where
   all : stand.all ≡ total
 
 left_for_want : (fs : List Flown) (n total : ℕ) (ending : Ending) (asked : List Access) → All (IsLeftAt total) fs → ends_within ending ≡ false
-    → (total ≡ 0) ⊎ (IsTrue (ends_with_make asked) ⊎ OneWants (drop n (seats_in fs)) (statements (drop n (spelt_in fs))) (drop n (served_in_all fs)))
+    → (total ≡ 0) ⊎ (IsTrue (ends_with_make asked) ⊎ OneOf n fs)
     → LeavesAloft ending asked (drop n (seats_in fs)) (statements (drop n (spelt_in fs))) (drop n (served_in_all fs))
 left_for_want [] zero total ending asked left off why = tt
 left_for_want [] (suc n) total ending asked left off why = tt
 left_for_want (f ∷ fs) zero total ending asked left off why =
     let own = All-head (IsLeftAt total) f fs left in
-    subst (λ (o : Option Stand). LeavesFlight o ending asked (OneWants (seats_in (f ∷ fs)) (statements (spelt_in (f ∷ fs))) (served_in_all (f ∷ fs)))) (sym own.left) (
+    subst (λ (o : Option Stand). LeavesFlight o ending asked (OneOf zero (f ∷ fs))) (sym own.left) (
       off,
       λ is. elim why [
         | inl none ↦ inl (own.all ∙ none)
@@ -72,13 +96,16 @@ left_for_want (f ∷ fs) zero total ending asked left off why =
 left_for_want (f ∷ fs) (suc n) total ending asked left off why = left_for_want fs n total ending asked (All-tail (IsLeftAt total) f fs left) off why
 
 -- ---- for one of them
--- in its turn, just before its result is made, where its rows are emitted, or at its last line, behind so many accesses of
--- its own
-abbrev WantsBehind : Public → (turn : Bool) → (own : ℕ) → Stmt → Seen → Type 0
-WantsBehind p turn own stmt seen =
-    (IsTrue turn × AtResult p stmt seen (drop own (whole_script p (skeleton stmt) seen)))
-    ⊎ (AtEmission p stmt seen (drop own (whole_script p (skeleton stmt) seen))
-    ⊎ (drop own (script p (skeleton stmt) seen) ≡ []))
+-- in its turn, just before its result is made, behind so many accesses of its own
+abbrev MakesBehind : Public → (turn : Bool) → (own : ℕ) → Stmt → Seen → Type 0
+MakesBehind p turn own stmt seen =
+    IsTrue turn × AtResult p stmt seen (drop own (whole_script p (skeleton stmt) seen))
+
+-- where its rows are emitted, or at its last line, behind so many
+abbrev EndsBehind : Public → (own : ℕ) → Stmt → Seen → Type 0
+EndsBehind p own stmt seen =
+    AtEmission p stmt seen (drop own (whole_script p (skeleton stmt) seen))
+    ⊎ (drop own (script p (skeleton stmt) seen) ≡ [])
 
 module _ {R : Type 0} (state : R → RevState) (m1 m2 : Machine R) (more : List (List ℕ)) (part : List ℕ) (run : RunStop) (cut : CutTogether state m1 m2 more run part) where
   abbrev ran : RanAloft {T = Unit {0}} state m1.flights.words m2.flights.words cut.stmts cut.seens cut.flew.ended (Err run) m1.engine m1.store m2.engine m2.store
@@ -106,23 +133,43 @@ module _ {R : Type 0} (state : R → RevState) (m1 m2 : Machine R) (more : List 
   abbrev turn_at : ℕ → Bool
   turn_at i = (stand_at p (served_as cut.stmts cut.seens) m1.flights.words i total).turn
 
-  abbrev OneOf : (n : ℕ) → Type 0
-  OneOf n = OneWants (drop n (seats_in fs_cut)) (statements (drop n (spelt_in fs_cut))) (drop n (served_in_all fs_cut))
-
-  wants_at : (n i : ℕ) (stmt : Stmt) (seen : Seen) → n ≤ i → slice_get cut.stmts i ≡ Some stmt → slice_get cut.seens i ≡ Some seen → WantsBehind (in_flight cut.stmts p) (turn_at i) (at.own i) stmt seen → OneOf n
-  wants_at n i stmt seen from get shown wants =
+  found : (i : ℕ) (stmt : Stmt) (seen : Seen) → slice_get cut.stmts i ≡ Some stmt → slice_get cut.seens i ≡ Some seen → slice_get fs_cut i ≡ Some (flown_at at i stmt seen (slice_get cut.flew.ended i))
+  found i stmt seen get shown =
       let z : 0 + i ≡ i = omega arith in
-      let found : slice_get fs_cut i ≡ Some (flown_at at i stmt seen (slice_get cut.flew.ended i)) =
-      flown_get at 0 i cut.stmts cut.seens cut.flew.ended stmt seen get shown ∙ (λ j. Some (flown_at at (z j) stmt seen (slice_get cut.flew.ended i))) in
-      one_wants fs_cut n i (flown_at at i stmt seen (slice_get cut.flew.ended i)) from found
-      (subst (λ (k : ℕ). WantsBehind (flight_public k p) (turn_at i) (at.own i) stmt seen) (sym (served_long cut.stmts cut.seens ran.long)) wants)
+      flown_get at 0 i cut.stmts cut.seens cut.flew.ended stmt seen get shown ∙ (λ j. Some (flown_at at (z j) stmt seen (slice_get cut.flew.ended i)))
+
+  as_long : length cut.stmts ≡ length (served_as cut.stmts cut.seens)
+  as_long = sym (served_long cut.stmts cut.seens ran.long)
+
+  makes_at : (n i : ℕ) (stmt : Stmt) (seen : Seen) → n ≤ i → slice_get cut.stmts i ≡ Some stmt → slice_get cut.seens i ≡ Some seen → MakesBehind (in_flight cut.stmts p) (turn_at i) (at.own i) stmt seen → OneOf n fs_cut
+  makes_at n i stmt seen from get shown makes =
+      inl (one_makes fs_cut n i (flown_at at i stmt seen (slice_get cut.flew.ended i)) from (found i stmt seen get shown)
+      (subst (λ (k : ℕ). MakesBehind (flight_public k p) (turn_at i) (at.own i) stmt seen) as_long makes))
+
+  -- those before the next one had ended, and it hadn't
+  steady : AreSteady p (served_as cut.stmts cut.seens)
+  steady = steady_flown state m1 m2 cut.stmts cut.seens cut.flew.ended (Err run) cut.may ran
+
+  had_before : All HadEnded (take e (seats_in fs_cut))
+  had_before = had state m1 m2 more part None None (Unit {0}) [] run cut steady e (omega arith)
+
+  goes_on : OnBy (at.seat e).left (at.seat e)
+  goes_on =
+      let under = get_less cut.stmts e cut.flew.stmt cut.flew.next in
+      let on = going_on p (served_as cut.stmts cut.seens) m1.flights.words total e steady (omega (arith, under, as_long)) ran.turn in
+      omega (arith, on)
+
+  ends_next : (n : ℕ) → n ≤ e → EndsBehind (in_flight cut.stmts p) (at.own e) cut.flew.stmt cut.flew.seen → OneOf n fs_cut
+  ends_next n from wants =
+      inr (first_wants fs_cut n e (flown_at at e cut.flew.stmt cut.flew.seen (slice_get cut.flew.ended e)) from (found e cut.flew.stmt cut.flew.seen cut.flew.next cut.flew.shown) had_before
+      (goes_on, subst (λ (k : ℕ). EndsBehind (flight_public k p) (at.own e) cut.flew.stmt cut.flew.seen) as_long wants))
 
   all_left : All (IsLeftAt total) fs_cut
   all_left = each_flown at (IsLeftAt total) 0 cut.stmts cut.seens cut.flew.ended (λ k stmt seen get shown. record { stand = stand_at p (served_as cut.stmts cut.seens) m1.flights.words (0 + k) total; left = refl; all = refl })
 
   -- ---- why it was left
   abbrev Wants : (n : ℕ) → Type 0
-  Wants n = (total ≡ 0) ⊎ (IsTrue (ends_with_make m2.store.asked) ⊎ OneOf n)
+  Wants n = (total ≡ 0) ⊎ (IsTrue (ends_with_make m2.store.asked) ⊎ OneOf n fs_cut)
 
   at_make : (n : ℕ) → AtMake (drop (length m1.store.asked) m2.store.asked) → Wants n
   at_make n (inl none) =
@@ -133,9 +180,6 @@ module _ {R : Type 0} (state : R → RevState) (m1 m2 : Machine R) (more : List 
       inr (inl (subst (λ (l : List Access). IsTrue (ends_with_make l)) (take-append-drop (length m1.store.asked) m2.store.asked)
       (ends-more (take (length m1.store.asked) m2.store.asked) (drop (length m1.store.asked) m2.store.asked) make)))
 
-  wants_next : (n : ℕ) → n ≤ e → WantsBehind (in_flight cut.stmts p) (turn_at e) (at.own e) cut.flew.stmt cut.flew.seen → Wants n
-  wants_next n few wants = inr (inr (wants_at n e cut.flew.stmt cut.flew.seen few cut.flew.next cut.flew.shown wants))
-
   in_turn : (i : ℕ) (a : Access) → asked_next p m1.flights.words cut.stmts cut.seens total ≡ Some (i, a) → IsTrue (turn_at i)
   in_turn i a is = subst (λ (o : Option (ℕ × Access)). IsTrue (option_map_or (λ (e : ℕ × Access). e.0 == i) o false)) (sym is) (eq-eqb i i refl)
 
@@ -144,11 +188,11 @@ module _ {R : Type 0} (state : R → RevState) (m1 m2 : Machine R) (more : List 
     | inl make ↦ at_make n make
     | inr (inl before) ↦
         let past = past_none cut.flew.ended before.place before.going in
-        inr (inr (wants_at n before.place before.stmt before.seen (omega (arith, past, few)) before.get before.shown (inl (in_turn before.place before.access before.turn, before.makes))))
-    | inr (inr (inl emits)) ↦ wants_next n few (inr (inl emits))
+        inr (inr (makes_at n before.place before.stmt before.seen (omega (arith, past, few)) before.get before.shown (in_turn before.place before.access before.turn, before.makes)))
+    | inr (inr (inl emits)) ↦ inr (inr (ends_next n few (inl emits)))
     | inr (inr (inr closes)) ↦
         let whole : at.own e ≡ length (script (in_flight cut.stmts p) (skeleton cut.flew.stmt) cut.flew.seen) = closes.2.whole in
-        wants_next n few (inr (inr (drop_all (at.own e) (script (in_flight cut.stmts p) (skeleton cut.flew.stmt) cut.flew.seen) (omega (arith, whole)))))
+        inr (inr (ends_next n few (inr (drop_all (at.own e) (script (in_flight cut.stmts p) (skeleton cut.flew.stmt) cut.flew.seen) (omega (arith, whole))))))
   ]
 
   pub wants_left : run ≡ Runs.NoMemory → (kept : List Answer) → length kept ≤ e
