@@ -12,7 +12,6 @@ pub mod TakenLemmas
 pub mod FlightWrites
 pub mod SameAlone
 pub mod OneByOneLemmas
-pub mod FlightFront
 pub mod FlightSeats
 pub mod UntilLemmas
 pub mod FlightLeft

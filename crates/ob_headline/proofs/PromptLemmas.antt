@@ -114,9 +114,3 @@ pub waits_behind : (most flown gave : ℕ) (taken bytes : List ℕ) (served : Li
     → AnsweredBut most flown (texts_in false (after_line (before_read gave taken))) served
 waits_behind most flown gave taken bytes served is waits =
     subst (λ (xs : List ℕ). AnsweredBut most flown (texts_in false xs) served) (sym (after_line-before_read gave taken ∙ ap (before_read gave) is)) waits
-
--- from the bytes behind the first line to all that were taken
-pub prompt_behind : (gave : ℕ) (taken bytes : List ℕ) (served : List (List ℕ)) → after_line taken ≡ bytes → Begins (texts_in false (before_read gave bytes)) served
-    → Begins (texts_in false (after_line (before_read gave taken))) served
-prompt_behind gave taken bytes served is begins =
-    subst (λ (xs : List ℕ). Begins (texts_in false xs) served) (sym (after_line-before_read gave taken ∙ ap (before_read gave) is)) begins

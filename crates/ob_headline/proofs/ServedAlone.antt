@@ -27,11 +27,6 @@ use Rattle.ob_verdict.specs.Outcomes.{refusal_now}
 use Rattle.ob_verdict.specs.declared.outcome.Outcome.TheVariants.{Refused}
 
 -- ---- entries
-pub served_alone : (xs : List Served) → served_by (all_alone xs) ≡ xs
-unfolding served_by
-served_alone [] = refl
-served_alone (x ∷ xs) = ap (λ (ys : List Served). x ∷ ys) (served_alone xs)
-
 -- none of them is a flight
 pub alone_entries : (most answered : ℕ) (entries : List Entry) → most ≡ 1 → AreEntries most answered entries → entries ≡ all_alone (served_by entries)
 unfolding AreEntries served_by

@@ -1,12 +1,11 @@
--- Whether the tables are kept, and how SELECTs fly, by the words and by the settings that they spell.
-use Rattle.std.specs.Prelude.{IsSome, nat_le, codes, option_and_then, option_map}
+-- Whether the tables are kept, by the words and by the settings that they spell.
+use Rattle.std.specs.Prelude.{nat_le, codes, option_map}
 use Rattle.std.proofs.Common.{◌&&◌, ◌+◌, ◌*◌, ℕ, if◌then◌else◌, sym, ap, subst, refl, Bool, true, false, ◌≡◌, ◌∙◌, List, Option, Some, None}
-use Rattle.clap.specs.Words.{App, Text}
+use Rattle.clap.specs.Words.{Text}
 use Rattle.ob_base.specs.declared.config.Config.{Config}
 use Rattle.ob_base.specs.declared.config.Planner.{Planner}
-use Rattle.ob_headline.specs.Settings.{ParsesAs, ParsesSaved, batch_in, flight_beside, flight_by, flight_of, joined, flight_goes, may_mark, may_pad, number_in, pad_in, planner_in, saved_settings_of, saving, settings_by, settings_in, settings_of}
+use Rattle.ob_headline.specs.Settings.{batch_in, joined, may_mark, may_pad, number_in, pad_in, planner_in, saved_settings_of, saving, settings_by, settings_in, settings_of}
 use Rattle.ob_headline.specs.Usage.{is_kept, is_saved, is_set, kept_usage, saved_usage, value_of}
-use Rattle.ob_headline.specs.declared.flight.FlightSettings.{FlightSettings}
 
 module _ (keep : Bool) (config : Config) where
   fits_keep : (fits : Bool) (c : Config) → c.keep ≡ keep → (if fits then Some c else None) ≡ Some config → config.keep ≡ keep
@@ -71,25 +70,3 @@ unsaved_settings words config off is =
     let keep = is_set (value (codes "keep")) in
     marked_keep keep config value (may_mark (value (codes "mark")) keep) refl
     (unsaving (is_saved words) (if keep then None else option_map saving (settings_in value)) (settings_by value) config off is)
-
--- ---- SELECTs that fly
-goes_if : (may : Bool) (flight : Option FlightSettings) → IsSome (if may then Some flight else None) → may ≡ true
-goes_if false flight some = absurd (cc some)
-goes_if true flight some = refl
-
-goes_beside : (config : Config) (value : Option (Option FlightSettings)) → IsSome (flight_beside config value)
-    → flight_goes (option_and_then (λ (flight : Option FlightSettings). flight) value) config.batch config.planner ≡ true
-goes_beside config None some = absurd (cc some)
-goes_beside config (Some flight) some = goes_if (flight_goes flight config.batch config.planner) flight some
-
--- they may beside the settings of words that are taken
-pub flown_settings : (app : App) (words : List Text) (config : Config) → ParsesAs app words config → flight_goes (flight_of app words) config.batch config.planner ≡ true
-flown_settings app words config parses = goes_beside config (flight_by app words) parses.flies
-
-pub flown_saved : (words : List Text) (config : Config) → ParsesSaved words config → flight_goes (flight_of saved_usage words) config.batch config.planner ≡ true
-flown_saved words config parses = goes_beside config (flight_by saved_usage words) parses.flies
-
--- so no INSERTs are served together then
-pub flown_alone : (flight : FlightSettings) (batch : Option ℕ) (planner : Planner) → flight_goes (Some flight) batch planner ≡ true → batch ≡ None
-flown_alone flight None planner may = refl
-flown_alone flight (Some most) planner may = absurd (cc may)

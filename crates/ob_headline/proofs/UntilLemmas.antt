@@ -1,21 +1,15 @@
 -- How many accesses a flight had asked when one of its statements had ended.
 use Rattle.std.specs.Prelude.{if◌then◌else◌, slice_get, slice_set}
 use Rattle.std.specs.Option.{option_map_or}
-use Rattle.std.proofs.Common.{◌≡◌, ◌≤◌, ◌<◌, inl, inr, ℕ, zero, suc, Bool, true, false, length, length-append, Option, Some, None, refl, sym, ◌∙◌, ap, subst, arith}
+use Rattle.std.proofs.Common.{◌≡◌, ◌≤◌, ◌<◌, inl, inr, ℕ, zero, suc, Bool, true, false, length, Option, Some, None, refl, sym, ◌∙◌, ap, subst, arith}
 use Rattle.std.proofs.lemmas.Bool.{cases_eq, cases_lt}
 use Rattle.ob_base.specs.declared.access.Access.{Access}
 use Rattle.ob_headline.specs.Flights.{asked_until, has_ended}
-use Rattle.ob_script.proofs.FlightLemmas.{grows_turn, logs_grow}
+use Rattle.ob_script.proofs.FlightLemmas.{logs_grow}
 use Rattle.ob_script.proofs.ListPlaces.{get_set_other, get_set_same}
 use Rattle.ob_script.specs.Flights.{Flight, Flying, acted, gates_of, next_act, picked, place_by, runnable, turn, turns}
 
--- ---- what was asked, and who has ended, stays
-log_grows : (word : ℕ) (s : Flight) → length s.log ≤ length (turn word s).log
-log_grows word s =
-    let grows = grows_turn word s in
-    let long = ap length grows.log ∙ length-append s.log grows.rest in
-    omega (arith, long)
-
+-- ---- who has ended stays so
 acted_ended : (act : Option Access) (f : Flying) → f.ended ≡ true → (acted act f).ended ≡ true
 acted_ended None f is = refl
 acted_ended (Some access) f is = is
@@ -48,7 +42,7 @@ all_stay words i s n (suc k) le is = elim (cases_lt n (suc k)) [
 
 -- ---- when one had ended
 module _ (words : ℕ → ℕ) (i : ℕ) (s : Flight) where
-  by_then : (k : ℕ) (ended : Bool) → has_ended i (turns words k s) ≡ ended → asked_until words i (suc k) s ≡ (if ended then asked_until words i k s else length (turns words (suc k) s).log)
+  pub by_then : (k : ℕ) (ended : Bool) → has_ended i (turns words k s) ≡ ended → asked_until words i (suc k) s ≡ (if ended then asked_until words i k s else length (turns words (suc k) s).log)
   unfolding asked_until
   by_then k ended is = ap (λ (b : Bool). if b then asked_until words i k s else length (turns words (suc k) s).log) is
 

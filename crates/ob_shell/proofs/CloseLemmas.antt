@@ -112,17 +112,3 @@ reported_taken {tally = tally} {tr = tr} {Takes = Takes} {keys = keys} {flight =
           subst (λ (o : Option Config). FromEach (flying flight (fresh o)) (λ s. IsCompleted (IsHonest s0 s1) (StoreFails (flying flight (fresh o)) s0 s1) ((fresh o).public.save ≡ true) r.ending)) (sym is)
           (r.completes tt input e (subst (λ (o : Option Config). KeepsLimits (limit_of o) input) is keeps) source sinks);
     }
-
--- the same of a base that the words say nothing of
-pub reported_takes : {tally : Tally} {tr : TraceSink} {Takes : Type 0} {base : Base} {keys : List ℕ → KeySet} {gave : ℕ} {l0 l1 w0 w1 : Option (List ℕ)} {s0 s1 : StoreState} {old new : Faults} {report : Report}
-    → Takes → Reported tally tr ⊤ base keys l0 l1 gave w0 w1 s0 s1 old new report → Reported tally tr Takes base keys l0 l1 gave w0 w1 s0 s1 old new report
-reported_takes t r = record {
-  ending = r.ending;
-  status = r.status;
-  takes = words_taken r.ending r.takes t;
-  shown = r.shown;
-  through = r.through;
-  silent = r.silent;
-  cause = r.cause;
-  completes = λ taken input e keeps. r.completes tt input e keeps;
-}

@@ -1,14 +1,14 @@
 -- What holds of statements that fly before others disturb the store.
 use Rattle.std.specs.Prelude.{◌&&◌, drop, if◌then◌else◌, map, take, ⊤}
 use Rattle.std.specs.List.{All}
-use Rattle.std.proofs.Common.{◌≡◌, ◌+◌, ◌≤◌, ◌++◌, inl, inr, ℕ, Bool, false, IsTrue, List, [], ◌∷◌, length, Option, Some, None, Ok, Err, Result, refl, sym, ◌∙◌, ap, subst, arith, append_assoc, append-nil, length-append, take-append-drop}
+use Rattle.std.proofs.Common.{◌≡◌, ◌+◌, ◌≤◌, ◌++◌, inl, inr, ℕ, Bool, false, IsTrue, List, [], ◌∷◌, length, Option, Some, None, Ok, Result, refl, sym, ◌∙◌, ap, subst, arith, append_assoc, append-nil, length-append, take-append-drop}
 use Rattle.std.proofs.lemmas.List.{take-append-le}
 use Rattle.std.proofs.lemmas.List.Elements.{All-cons, All-head, All-nil, All-tail}
 use Rattle.ob_base.specs.declared.access.Access.{Access}
 use Rattle.ob_base.specs.declared.config.Public.{Public}
 use Rattle.ob_base.specs.declared.seen.Seen.{Seen}
 use Rattle.ob_exec.specs.InFlight.{served_as}
-use Rattle.ob_headline.proofs.FlightSeats.{FlownUntil, seats_get}
+use Rattle.ob_headline.proofs.FlightSeats.{FlownUntil, seats_get, until_by}
 use Rattle.ob_headline.specs.Batches.{after_now, gathered_now}
 use Rattle.ob_headline.specs.Disturbed.{MeantUntil, behind_flown, flown_meant}
 use Rattle.ob_headline.specs.Flights.{Seat, asked_until, at_seat, seats_aloft}
@@ -50,18 +50,6 @@ use Rattle.ob_tables.specs.declared.stop.RunStop.{RunStop}
 use Rattle.ob_vault.specs.State.{RevState}
 
 -- ---- what is meant of those that were answered
--- of a session nothing but its tables and its draws tells
-until_same : (n : ℕ) (s u : Session) → u.tables ≡ s.tables → u.draws ≡ s.draws → (g : Option Gathering) (seats : List Seat) (spelt : List Spelt) (answers : List Answer) (seen : List Entry) → MeantUntil n g seats s spelt answers seen → MeantUntil n g seats u spelt answers seen
-unfolding MeantUntil
-until_same n s u ts ds g seats [] answers seen told = tt
-until_same n s u ts ds g seats (x ∷ spelt) [] seen told = tt
-until_same n s u ts ds g seats (Err at ∷ spelt) (one ∷ answers) seen told = (told.0, until_same n s u ts ds None seats spelt answers seen told.1)
-until_same n s u ts ds g seats (Ok stmt ∷ spelt) (one ∷ answers) [] told = absurd told
-until_same n s u ts ds g [] (Ok stmt ∷ spelt) (one ∷ answers) (x ∷ seen) told = absurd told
-until_same n s u ts ds g (v ∷ seats) (Ok stmt ∷ spelt) (one ∷ answers) (x ∷ seen) told =
-    subst (λ (w : Session). v.until ≤ n → (is_full_now w stmt ≡ false) × AnswersMeant w stmt one × (x.seen ≡ seen_or_cut (how_now g w stmt) w stmt)
-    × MeantUntil n (gathered_now g w stmt) seats (after_now g w stmt) spelt answers seen) (sym (at_same v s u ts ds)) told
-
 module _ (n : ℕ) (s : Session) where
   -- one of them, and what is behind it if it had ended by then
   one_until : (g : Option Gathering) (v : Seat) (stmt : Stmt) (one : Answer) (x : Entry) (seats : List Seat) (spelt : List Spelt) (answers : List Answer) (seen : List Entry) → FlownUntil n s v stmt one x
@@ -270,7 +258,7 @@ module _ {R : Type 0} (state : R → RevState) (m0 m1 : Machine R) (flown : List
           (subst (λ (l : List Entry). MeantUntil n g (seats_in fs_up ++ seats_at m1 rest.entries) s0 spelt_all (given ++ answers) l) (sym (append_assoc aloft_up rest.seen rest.last))
           (whole_until n s0 (seats_at m1 rest.entries) rest.spelt answers all_behind fs_up given g (λ is. absurd (let none = ap length is in let some = step.may.some in let long = long_fs state m0 m1 flown given step in omega (arith, none, some, long)))
           (stood state m0 m1 flown given step) means (answered state m0 m1 flown given step)
-          (λ all w ts ds. until_same n s1 w ts ds None (seats_at m1 rest.entries) rest.spelt answers all_behind
+          (λ all w ts ds. until_by n s1 w (sym ts) (sym ds) None (seats_at m1 rest.entries) rest.spelt answers all_behind
           (subst (λ (o : Option Gathering). MeantUntil n o (seats_at m1 rest.entries) s1 rest.spelt answers all_behind) batch_on (there (asked_by_then n all)).meant)) s0 refl refl))
 
       abbrev met_all : List Access

@@ -1,9 +1,10 @@
 -- One that had ended when its flight had asked so many accesses had ended within them.
-use Rattle.std.specs.Prelude.{if◌then◌else◌, slice_get}
+use Rattle.std.specs.Prelude.{slice_get}
 use Rattle.std.specs.Option.{option_map_or}
-use Rattle.std.proofs.Common.{◌≡◌, ◌≤◌, ℕ, zero, suc, Bool, true, false, List, length, Option, Some, None, refl, ap, arith}
+use Rattle.std.proofs.Common.{◌≡◌, ◌≤◌, ℕ, zero, suc, Bool, true, false, List, length, Option, Some, None, refl, arith}
 use Rattle.ob_base.specs.declared.config.Public.{Public}
 use Rattle.ob_exec.specs.RanFlight.{EndedWithin}
+use Rattle.ob_headline.proofs.UntilLemmas.{by_then}
 use Rattle.ob_headline.specs.Flights.{asked_until, has_ended}
 use Rattle.ob_script.specs.Flights.{Flying, boarding, turns}
 use Rattle.ob_script.specs.Trace.{Served}
@@ -18,11 +19,6 @@ module _ (p : Public) (flown : List Served) (words : ℕ → ℕ) (i n : ℕ) wh
       let one = get_ended (slice_get (turns words turn (boarding p flown)).flying i) is in
       record { turn = turn; one = one.0; at = one.1; ended = one.2; within = few }
 
-  asked_then : (k : ℕ) (ended : Bool) → has_ended i (turns words k (boarding p flown)) ≡ ended
-      → asked_until words i (suc k) (boarding p flown) ≡ (if ended then asked_until words i k (boarding p flown) else length (turns words (suc k) (boarding p flown)).log)
-  unfolding asked_until
-  asked_then k ended is = ap (λ (b : Bool). if b then asked_until words i k (boarding p flown) else length (turns words (suc k) (boarding p flown)).log) is
-
   pub ended_until : (total : ℕ) → has_ended i (turns words total (boarding p flown)) ≡ true → asked_until words i total (boarding p flown) ≤ n → EndedWithin p flown words n i
   unfolding asked_until turns
   ended_until zero is few = ended_at 0 is few
@@ -30,5 +26,5 @@ module _ (p : Public) (flown : List Served) (words : ℕ → ℕ) (i n : ℕ) wh
     where
       by : (has_ended i (turns words k (boarding p flown)) ≡ true → asked_until words i k (boarding p flown) ≤ n → EndedWithin p flown words n i)
           → (ended : Bool) → has_ended i (turns words k (boarding p flown)) ≡ ended → EndedWithin p flown words n i
-      by deep true at = deep at (let here = asked_then k true at in omega (arith, here, few))
-      by deep false at = ended_at (suc k) is (let here = asked_then k false at in omega (arith, here, few))
+      by deep true at = deep at (let here = by_then words i (boarding p flown) k true at in omega (arith, here, few))
+      by deep false at = ended_at (suc k) is (let here = by_then words i (boarding p flown) k false at in omega (arith, here, few))

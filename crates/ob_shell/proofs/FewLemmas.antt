@@ -385,9 +385,6 @@ module _ {R : Type 0} (state : R → RevState) (m0 : Machine R) (n : ℕ) (some 
   abbrev fp : Public
   fp = flight_public n (public_of m0.engine)
 
-  AsksFew : ℕ → (most : ℕ) → Type 0
-  AsksFew count most = (count ≡ 0) ⊎ ((asked_of m0 < 2 ^ 63) × (count ≤ most))
-
   one_few : (stmt : Stmt) (seen : Seen) (outcome : Outcome) (own : ℕ) → EndsAs fp (asked_of m0) own stmt seen outcome → (length (script fp (skeleton stmt) seen) ≡ 0) ⊎ ((asked_of m0 < 2 ^ 63) × (length (script fp (skeleton stmt) seen) ≤ 2 ^ 49))
   one_few stmt seen outcome own ends = go (refusal_now fp (asked_of m0) stmt) refl
     where

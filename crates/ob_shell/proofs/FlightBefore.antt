@@ -169,9 +169,6 @@ module _ {R : Type 0} (state : R → RevState) (m0 m1 : Machine R) (stmts : List
     stands : Represents state m0.engine m0.store tables
     stands = free_holds state m0 d tables may.free held
 
-    abbrev meant : List Served
-    meant = flown_meant s stmts
-
     abbrev shows : Stmt → Seen
     shows stmt = seen_by d (in_flight stmts p) (asked_of m0) tables stmt
 

@@ -41,10 +41,6 @@ use Rattle.ob_vault.specs.State.{RevState, Start}
 use Rattle.ob_vault.specs.Tied.{Calm, IsUnfit, TagFits}
 use Rattle.ob_seal.specs.KeySet.{KeySet}
 
--- counts of faults
-grows : (a b c n m : ℕ) → RisesBy n a b → RisesBy m b c → RisesBy (n + m) a c
-grows a b c n m first second = omega (arith, first, second)
-
 -- what is known of the keys of indexes is of the same ones
 abbrev given_by : (d : Draws) (xs ys : List Index) → xs ≡ ys → Given d xs → Given d ys
 given_by d xs ys same g = record {

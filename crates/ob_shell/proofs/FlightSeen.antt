@@ -199,13 +199,6 @@ module _ (most : ℕ) (seats : List Seat) (spelt : List Spelt) where
       )
 
 -- ---- each that was answered had ended
-take_more : {A : Type 0} (xs ys : List A) (n : ℕ) → take (length xs + n) (xs ++ ys) ≡ xs ++ take n ys
-take_more [] ys n = let same : 0 + n ≡ n = omega arith in ap (λ (k : ℕ). take k ys) same
-take_more (x ∷ xs) ys n = let same : suc (length xs) + n ≡ suc (length xs + n) = omega arith in ap (λ (k : ℕ). take k (x ∷ (xs ++ ys))) same ∙ ap (λ l. x ∷ l) (take_more xs ys n)
-
-pub EndedSeat : Seat → Type 0
-EndedSeat v = EndedBy v.left v
-
 pub whole_ended : (fs : List Flown) (seats : List Seat) (n : ℕ) → All (λ (f : Flown). f.seat.left ≡ None) fs → All (λ (v : Seat). EndedBy v.left v) (take n seats)
     → All (λ (v : Seat). EndedBy v.left v) (take (length fs + n) (seats_in fs ++ seats))
 whole_ended [] seats n none rest = let same : n ≡ 0 + n = omega arith in subst (λ (k : ℕ). All (λ (v : Seat). EndedBy v.left v) (take k seats)) same rest

@@ -1,5 +1,5 @@
 -- A run whose tables are kept, all but its last line.
-use Rattle.std.proofs.Common.{◌≡◌, ◌≤◌, ℕ, Bool, true, false, List, [], ◌++◌, length, Option, Some, Result, Ok, Err, refl, sym, ◌∙◌, ap, subst, arith}
+use Rattle.std.proofs.Common.{◌≡◌, ◌≤◌, ℕ, Bool, true, false, List, [], ◌++◌, Option, Some, Result, Ok, Err, refl, sym, ◌∙◌, ap, subst, arith}
 use Rattle.ob_base.specs.Counts.{Rises}
 use Rattle.ob_base.specs.declared.config.Config.{Config}
 use Rattle.ob_base.specs.declared.refusal.Stop.{Stop}
@@ -131,12 +131,6 @@ module _ (config : Config) (flight : Option FlightSettings) (tracing : Bool) (f0
     unasked = refl;
     kept = refl;
   }
-
-  -- no input comes to its limit within its first line
-  pub never_limited : {A : Type 0} → 1024 ≤ config.max_input → KeyRead f0 f1 l0 l1 (Err Halt.InputLimit) → f1.taken ≡ f1.limit → A
-  never_limited large read full =
-      let e = ap length (piece_is read.fed none) in
-      absurd (omega (arith, large, e, full, start, top, read.fed.taken, read.fed.limit, read.ends.1))
 
   -- it came, and no statement was served
   pub unbegun : {gave : ℕ} {line : Result FirstLine Halt} (key : List ℕ) (ended : KeptEnded) (w t0 t1 : Option (List ℕ)) (s0 s1 : StoreState) (a o r0 r1 : ℕ) (k0 k1 : KeeperState) → f1.taken ≤ f1.limit → IsFedBy f1 gave

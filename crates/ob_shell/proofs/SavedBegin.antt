@@ -339,14 +339,6 @@ module _ {R : Type 0} (state : R → RevState) (config : Config) (secret salt : 
   engaged (Saved region blocks number pack closed) looks by =
       engaged_opened (Saved region blocks number pack closed) (Some closed) (closing_named region blocks number pack) by.0 looks by.1 (λ keys base reopens. (by.0, reopens)) (λ now tables rests. rests)
 
--- ---- no engine was had
-pub shut_from : (mark : Mark) (config : Config) (secret salt : List ℕ) (ending : KeptEnding) (old looked new : StoreState) → LooksBare mark old looked → EndsShut (begun_mark mark) config secret salt ending looked new → EndsShut mark config secret salt ending old new
-shut_from Fresh config secret salt ending old looked new looks shut = (shut.0, subst (λ (s : StoreState). IsFoundBare old s) (sym shut.1) looks)
-shut_from InUse config secret salt ending old looked new looks shut = absurd looks
-shut_from (Closed region blocks number pack) config secret salt ending old looked new looks shut = subst (λ (s : StoreState). EndsShut (Closed region blocks number pack) config secret salt ending s new) looks shut
-shut_from Begun config secret salt ending old looked new looks shut = (shut.0, shut.1 ∙ looks)
-shut_from (Saved region blocks number pack closed) config secret salt ending old looked new looks shut = subst (λ (s : StoreState). EndsShut (Saved region blocks number pack closed) config secret salt ending s new) looks shut
-
 -- ---- an engine was had, and the keeper failed
 pub looks_still : {R : Type 0} (state : R → RevState) (mark : Mark) (config : Config) (secret salt : List ℕ) (e : Engine R) (old looked mid : StoreState) (failed : Failed) (drawn keeper : KeeperState)
     → LooksBare mark old looked → EngineBy state mark config secret salt e looked mid → HandsBegun mark (Err failed) drawn keeper → LooksBare mark old mid

@@ -8,7 +8,7 @@ use Rattle.ob_tables.specs.declared.stop.RunStop.{RunStop}
 use Rattle.ob_tables.specs.declared.stop.RunStop.TheVariants as Runs
 use Rattle.ob_gen.specs.declared.tally.Tally.{Tally}
 use Rattle.ob_headline.specs.Words.{Answer, printed}
-use Rattle.ob_print.proofs.CutLemmas.{Outputs-by, Outputs-whole}
+use Rattle.ob_print.proofs.CutLemmas.{Outputs-whole}
 use Rattle.ob_shell.proofs.StopLemmas.{by_stop, stopped_as}
 use Rattle.ob_shell.specs.Running.{LastPart}
 use Rattle.ob_shell.specs.Steps.{AnswersText, CutStep, CutTogether, Machine, Step, StepTogether, Steps, Idle, IsUndone, PartlyAt, StopsIn, at_rest, more_together, one_more}
@@ -96,11 +96,6 @@ stops_after stop fault all = record {
   partly = inr (inr (inl (record { answer = all.answer; step = all.step; whole = refl; fault = fault })));
   cut = Outputs-whole _ _ _ _ all.appends;
 }
-
--- what was lost has a cause of its own
-pub stops_by : {R : Type 0} {state : R → RevState} {w0 w1 : Option (List ℕ)} {F G : Type 0} {texts : List (List ℕ)} {stop : RunStop} {m0 m1 : Machine R} → (F → G) → StopsIn state w0 w1 F texts stop m0 m1
-    → StopsIn state w0 w1 G texts stop m0 m1
-stops_by by stops = record { bytes = stops.bytes; partly = stops.partly; cut = Outputs-by by stops.cut }
 
 -- ---- what was done after the last text that was served whole
 module _ {R : Type 0} (state : R → RevState) (m1 m2 : Machine R) (more : List (List ℕ)) (part : List ℕ) where
