@@ -197,6 +197,15 @@ abbrev pub EndedBy : Option Stand → Seat → Type 0
 EndedBy None v = ⊤
 EndedBy (Some stand) v = v.until ≤ v.asked + stand.all
 
+-- the first of these hadn't ended before its flight was left, if that was
+abbrev pub OnBy : Option Stand → Seat → Type 0
+OnBy None v = ⊤
+OnBy (Some stand) v = v.asked + stand.all ≤ v.until
+
+abbrev pub GoesOn : List Seat → Type 0
+GoesOn [] = ⊤
+GoesOn (v ∷ seats) = OnBy v.left v
+
 -- the entries of a story are these statements, and are served so; those that were answered had ended
 pub record Entered (base : Base) (story : Story) : Type 0 where
   pub served : served_by story.entries ≡ story.seen ++ story.last
