@@ -1,13 +1,14 @@
 -- How texts are gathered to fly: worked examples.
 use Rattle.std.specs.Prelude.{codes}
-use Rattle.std.proofs.Common.{◌≡◌, ℕ, Bool, true, false, List, [], ◌∷◌, Some, None, Ok, Err, refl}
+use Rattle.std.proofs.Common.{◌≡◌, inl, inr, ℕ, Bool, true, false, List, [], ◌∷◌, Some, None, Ok, Err, refl, arith}
 use Rattle.ob_base.specs.declared.config.Public.{Public}
 use Rattle.ob_base.specs.declared.schema.Shape.TheVariants.{Flat}
 use Rattle.ob_base.specs.declared.schema.Table.{Table}
 use Rattle.ob_base.specs.declared.seen.End.TheVariants.{Static, Whole}
+use Rattle.ob_headline.specs.Accesses.{FirstWants}
 use Rattle.ob_headline.specs.Bases.{start}
 use Rattle.ob_headline.specs.Disturbed.{first_course, meant_entries}
-use Rattle.ob_headline.specs.Flights.{most_in, stand_at, whole_of}
+use Rattle.ob_headline.specs.Flights.{asked_until, most_in, seats, seats_aloft, stand_at, whole_of}
 use Rattle.ob_mean.proofs.VerdictLemmas.{count_all}
 use Rattle.ob_mean.specs.Verdict.{ended}
 use Rattle.ob_script.specs.Flights.{Alone, Together, drawn, runnable, turn, turns, turns_for}
@@ -82,3 +83,25 @@ turn_of_other = refl
 turn_of_none : turns_at 4 ≡ false ∷ false ∷ []
 unfolding turns_at turns turn runnable turns_for over_one table z select
 turn_of_none = refl
+
+-- two of which one is refused before any access, left behind so many: for that one memory isn't wanting while it waits for the
+-- other's end, nor behind its own; and for the other it may be, where nothing of it is left to be asked
+wants_behind : ℕ → Served → Served → Type 0
+wants_behind k a b = FirstWants (seats (λ i. i) 0 over_one 5 (Together (a ∷ b ∷ []) (Some k) ∷ [])) (select ∷ select ∷ []) (a ∷ b ∷ [])
+
+none_that_waits : wants_behind 1 z x → ⊥
+unfolding wants_behind FirstWants seats seats_aloft asked_until turns turn runnable turns_for over_one table z x select
+none_that_waits (inl (on, inl emits)) = cc emits
+none_that_waits (inl (on, inr closes)) = cc closes
+none_that_waits (inr (had, rest)) = omega (arith, had)
+
+none_that_ended : wants_behind 1 x z → ⊥
+unfolding wants_behind FirstWants seats seats_aloft asked_until turns turn runnable turns_for over_one table z x select
+none_that_ended (inl (on, wants)) = omega (arith, on)
+none_that_ended (inr (had, inl (on, inl emits))) = cc emits
+none_that_ended (inr (had, inl (on, inr closes))) = cc closes
+none_that_ended (inr (had, inr (hads, rest))) = rest
+
+first_that_goes_on : wants_behind 2 x z
+unfolding wants_behind FirstWants seats seats_aloft asked_until turns turn runnable turns_for over_one table z x select
+first_that_goes_on = inr (omega arith, inl (omega arith, inr refl))

@@ -127,8 +127,8 @@ FirstWants (v ∷ seats) (stmt ∷ stmts) (x ∷ seen) =
     (OnBy v.left v × WantsAloft v.left v.public stmt x.seen)
     ⊎ (EndedBy v.left v × FirstWants seats stmts seen)
 
--- a run doesn't end within one statement of a flight; memory is wanting before its first access, where a region is made,
--- for one of those that weren't answered before its result is made, or for the first that hadn't ended
+-- a run doesn't end within one statement of a flight; memory is wanting before its first access, where a region is made, or,
+-- of those that weren't answered, for one before its result, or for the first that hadn't ended
 abbrev pub LeavesFlight : Option Stand → Ending → (asked : List Access) → (Wants : Type 0) → Type 0
 LeavesFlight None ending asked Wants = ⊤
 LeavesFlight (Some stand) ending asked Wants =
