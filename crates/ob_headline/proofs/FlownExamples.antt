@@ -1,5 +1,5 @@
 -- How texts are gathered to fly: worked examples.
-use Rattle.std.specs.Prelude.{codes}
+use Rattle.std.specs.Prelude.{codes, map}
 use Rattle.std.proofs.Common.{◌≡◌, inl, inr, ℕ, Bool, true, false, List, [], ◌∷◌, Some, None, Ok, Err, refl, arith}
 use Rattle.ob_base.specs.declared.config.Public.{Public}
 use Rattle.ob_base.specs.declared.schema.Shape.TheVariants.{Flat}
@@ -8,7 +8,7 @@ use Rattle.ob_base.specs.declared.seen.End.TheVariants.{Static, Whole}
 use Rattle.ob_headline.specs.Accesses.{FirstWants}
 use Rattle.ob_headline.specs.Bases.{start}
 use Rattle.ob_headline.specs.Disturbed.{first_course, meant_entries}
-use Rattle.ob_headline.specs.Flights.{asked_until, most_in, seats, seats_aloft, stand_at, whole_of}
+use Rattle.ob_headline.specs.Flights.{AreGathered, Seat, asked_until, most_in, seats, seats_aloft, stand_at, whole_of}
 use Rattle.ob_mean.proofs.VerdictLemmas.{count_all}
 use Rattle.ob_mean.specs.Verdict.{ended}
 use Rattle.ob_script.specs.Flights.{Alone, Together, drawn, runnable, turn, turns, turns_for}
@@ -105,3 +105,25 @@ none_that_ended (inr (had, inr (hads, rest))) = rest
 first_that_goes_on : wants_behind 2 x z
 unfolding wants_behind FirstWants seats seats_aloft asked_until turns turn runnable turns_for over_one table z x select
 first_that_goes_on = inr (omega arith, inl (omega arith, inr refl))
+
+-- how many accesses were asked when each had ended, five before them and one alone behind them, where all words are this one:
+-- the first asks first and ends, or the second does, and waits with its answer
+untils : ℕ → List ℕ
+untils word = map (λ (v : Seat). v.until) (seats (λ t. word) 0 over_one 5 (Together (z ∷ z ∷ []) None ∷ Alone z ∷ []))
+
+first_ends : untils 0 ≡ 7 ∷ 9 ∷ 11 ∷ []
+unfolding untils seats seats_aloft asked_until turns turn runnable turns_for over_one table z select
+first_ends = refl
+
+second_waits : untils 1 ≡ 9 ∷ 9 ∷ 11 ∷ []
+unfolding untils seats seats_aloft asked_until turns turn runnable turns_for over_one table z select
+second_waits = refl
+
+-- by twos the third of three goes apart, and not the first
+by_rule : AreGathered 2 0 (seats (drawn 0) 0 (start None).public 0 (Together (x ∷ x ∷ []) None ∷ Alone x ∷ [])) (Ok select ∷ Ok select ∷ Ok select ∷ [])
+unfolding AreGathered seats seats_aloft select x
+by_rule = (refl, (refl, (refl, tt)))
+
+against_rule : AreGathered 2 0 (seats (drawn 0) 0 (start None).public 0 (Alone x ∷ Together (x ∷ x ∷ []) None ∷ [])) (Ok select ∷ Ok select ∷ Ok select ∷ []) → ⊥
+unfolding AreGathered seats seats_aloft select x
+against_rule is = cc is.1.0

@@ -202,6 +202,11 @@ abbrev pub OnBy : Option Stand → Seat → Type 0
 OnBy None v = ⊤
 OnBy (Some stand) v = v.asked + stand.all ≤ v.until
 
+-- nor had the first of these
+abbrev pub GoesOn : List Seat → Type 0
+GoesOn [] = ⊤
+GoesOn (v ∷ seats) = OnBy v.left v
+
 -- the entries of a story are these statements, and are served so; those that were answered had ended
 pub record Entered (base : Base) (story : Story) : Type 0 where
   pub served : served_by story.entries ≡ story.seen ++ story.last

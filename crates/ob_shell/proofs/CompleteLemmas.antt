@@ -110,7 +110,7 @@ reported_line {base = base} ending old mid new {w0 = w0} {w1 = w1} status takes 
       ending = ending;
       status = status;
       takes = takes;
-      shown = shown_line cut.grown shown cut.appends (cut_line _ _ (λ e. line_rose (ServesAlone base.flight base.public) ending old mid new cause (rose e) later trace) whole cut);
+      shown = shown_line cut.grown shown cut.appends (cut_line _ _ (λ e. line_rose (ServesAlone base.flight base.public) ending old mid new cause (rose e) later trace) whole cut) (λ lost. absurd (loud lost));
       through = inl (took_more cut.grown (took_of (subst (λ (l : List ℕ). Outputs w0 w1 ⊥ l) (append-nil (printed shown.story.answers ++ shown.story.part)) whole) (λ never. never)) cut.appends);
       silent = λ other. absurd (other (trace ∙ kept));
       cause = causes;
@@ -130,7 +130,7 @@ reported_quiet {base = base} ending old new {w0 = w0} {w1 = w1} {Lost = Lost} st
       ending = ending;
       status = status;
       takes = takes;
-      shown = shown_line [] shown (Appends-nil _) (quiet_line _ _ shown.grew rose);
+      shown = shown_line [] shown (Appends-nil _) (quiet_line _ _ shown.grew rose) (λ lost. rose);
       through = took_or (subst (λ (l : List ℕ). Outputs w0 w1 Lost l) (append-nil (printed shown.story.answers ++ shown.story.part)) shown.grew) lost;
       silent = λ other. Outputs-fault tt (subst (λ (l : List ℕ). Outputs w0 w1 Lost l) (append-nil (printed shown.story.answers ++ shown.story.part)) shown.grew);
       cause = causes;

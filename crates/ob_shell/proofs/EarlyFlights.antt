@@ -237,7 +237,7 @@ module _ {R : Type 0} (state : R → RevState) (m0 m1 : Machine R) (flown : List
           (words_on state m0 m1 flown given step ∙ ap (λ (xs : List Entry). words_from words (turns_of p xs)) same_up)
           (λ i. record { public = public i; tables = tables; asked = asked i; draws = d })
 
-    module _ (ending : Ending) (m m2 : Machine R) (texts more : List (List ℕ)) (answers : List Answer) (part : List ℕ) (rest : Walked state ending m1 m m2 texts more answers part) where
+    module _ {Lost : Type 0} (ending : Ending) (m m2 : Machine R) (texts more : List (List ℕ)) (answers : List Answer) (part : List ℕ) (rest : Walked state Lost ending m1 m m2 texts more answers part) where
       abbrev all_behind : List Entry
       all_behind = rest.seen ++ rest.last
 
@@ -308,6 +308,6 @@ module _ {R : Type 0} (state : R → RevState) (m0 m1 : Machine R) (flown : List
             }
       ]
 
-pub flies_early : {R : Type 0} (state : R → RevState) → FliesEarly state
+pub flies_early : {R : Type 0} {Lost : Type 0} (state : R → RevState) → FliesEarly state Lost
 flies_early state ending m0 m1 m m2 flown texts more given answers part step rest d drawn tells steady tables held sound n before few =
     early_all state m0 m1 flown given step d drawn tells steady tables held n before ending m m2 texts more answers part rest few

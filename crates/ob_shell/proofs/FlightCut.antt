@@ -2,7 +2,7 @@
 use Rattle.std.specs.Prelude.{drop, nat_lt, slice_get, take}
 use Rattle.std.specs.List.{All}
 use Rattle.std.specs.Option.{option_map_or}
-use Rattle.std.proofs.Common.{◌≡◌, ◌+◌, ◌≤◌, ◌<◌, ◌++◌, inl, inr, ℕ, zero, suc, Bool, true, false, List, [], ◌∷◌, length, Option, Some, None, Err, refl, sym, ◌∙◌, ap, subst, arith, append_assoc, append-nil, length-append, take-append-drop}
+use Rattle.std.proofs.Common.{◌≡◌, ◌⊎◌, ◌+◌, ◌≤◌, ◌<◌, ◌++◌, inl, inr, ℕ, zero, suc, Bool, true, false, List, [], ◌∷◌, length, Option, Some, None, Err, refl, sym, ◌∙◌, ap, subst, arith, append_assoc, append-nil, length-append, take-append-drop}
 use Rattle.std.proofs.lemmas.List.{append_cancel_left}
 use Rattle.ob_base.specs.declared.config.Public.{Public}
 use Rattle.ob_base.specs.declared.seen.Seen.{Seen}
@@ -13,7 +13,7 @@ use Rattle.ob_headline.proofs.TakenLemmas.{LosesSo}
 use Rattle.ob_headline.proofs.UntilLemmas.{until_ended, until_not}
 use Rattle.ob_headline.specs.Accesses.{LeavesAloft, ends_within}
 use Rattle.ob_headline.specs.Endings.{is_tampered}
-use Rattle.ob_headline.specs.Flights.{EndedBy, Seat, asked_until, has_ended}
+use Rattle.ob_headline.specs.Flights.{EndedBy, GoesOn, Seat, asked_until, has_ended, seats_aloft}
 use Rattle.ob_headline.specs.Meaning.{PrintsUntil}
 use Rattle.ob_headline.specs.Statements.{statements}
 use Rattle.ob_headline.specs.Words.{Answer, Took, printed}
@@ -25,7 +25,7 @@ use Rattle.ob_print.specs.Cuts.{IsCutOf, Outputs}
 use Rattle.ob_script.proofs.FlightEnds.{all_ended, flying_long}
 use Rattle.ob_script.specs.Flights.{AreSteady, Flight, Flying, boarding, turns, turns_of}
 use Rattle.ob_script.specs.Trace.{Served as Entry}
-use Rattle.ob_shell.proofs.FlightEnd.{all_fs, aloft, in_all, left_walked, spelt_left, turn_of}
+use Rattle.ob_shell.proofs.FlightEnd.{all_fs, aloft, in_all, left_walked, long_aloft, seats_left, spelt_left, taken_long, turn_of}
 use Rattle.ob_shell.proofs.FlightFacts.{first_answered, places, seats_are}
 use Rattle.ob_shell.proofs.FlightLast.{LastWalk}
 use Rattle.ob_shell.proofs.FlightMeant.{BeginsSo, Means, meant_so}
@@ -36,6 +36,7 @@ use Rattle.ob_shell.proofs.StopLemmas.{tampered_as}
 use Rattle.ob_shell.proofs.WalkLemmas.{EarlyAt}
 use Rattle.ob_shell.specs.Aloft.{RanAloft, answer_of, answers_of}
 use Rattle.ob_shell.specs.Steps.{CutTogether, Machine, asked_of}
+use Rattle.ob_shell.specs.Top.{LosesSome}
 use Rattle.ob_sql.specs.declared.stmt.Stmt.{Stmt}
 use Rattle.ob_tables.specs.Agreeing.{public_of}
 use Rattle.ob_tables.specs.Stops.{session_stop}
@@ -70,10 +71,12 @@ pub record SinkSo (w0 w1 : Option (List ℕ)) (Lost : Type 0) (run : RunStop) (f
   pub left : List ℕ
   pub prints : PrintsBehind run lost part left
   pub cut : Outputs w0 w1 Lost (printed (first ++ kept) ++ left)
+  -- none of them was lost, or it was for this cause, or memory was wanting
+  pub why : (lost ≡ []) ⊎ (Lost ⊎ (run ≡ Runs.NoMemory))
 
 sink_on : (w0 w1 : Option (List ℕ)) (Lost : Type 0) (run : RunStop) (first answers : List Answer) (part : List ℕ) (kept lost : List Answer) → answers ≡ kept ++ lost → Took w0 w1 (printed (first ++ kept)) → LosesSo w0 w1 Lost (first ++ kept) lost part → SinkSo w0 w1 Lost run first answers part
-sink_on w0 w1 Lost run first answers part kept [] parts took loses = record { kept = kept; lost = []; parts = parts; took = took; left = part; prints = prints_whole run part; cut = loses }
-sink_on w0 w1 Lost run first answers part kept (one ∷ lost) parts took loses = record { kept = kept; lost = one ∷ lost; parts = parts; took = took; left = one.bytes; prints = prints_whole run one.bytes; cut = loses.1 }
+sink_on w0 w1 Lost run first answers part kept [] parts took loses = record { kept = kept; lost = []; parts = parts; took = took; left = part; prints = prints_whole run part; cut = loses; why = inl refl }
+sink_on w0 w1 Lost run first answers part kept (one ∷ lost) parts took loses = record { kept = kept; lost = one ∷ lost; parts = parts; took = took; left = one.bytes; prints = prints_whole run one.bytes; cut = loses.1; why = inr (inl loses.0) }
 
 -- exactly what it took
 record Exactly (w0 w1 : Option (List ℕ)) (Lost : Type 0) (whole behind : List ℕ) : Type 0 where
@@ -99,10 +102,10 @@ exactly (Some a) (Some b) Lost whole behind took out =
 sink_cut : (w0 w1 : Option (List ℕ)) (Lost : Type 0) (first answers : List Answer) (part : List ℕ) (kept lost : List Answer) → answers ≡ kept ++ lost → Took w0 w1 (printed (first ++ kept)) → LosesSo w0 w1 (Unit {0}) (first ++ kept) lost part → SinkSo w0 w1 Lost Runs.NoMemory first answers part
 sink_cut w0 w1 Lost first answers part kept [] parts took loses =
     let on = exactly w0 w1 Lost (printed (first ++ kept)) part took loses in
-    record { kept = kept; lost = []; parts = parts; took = took; left = on.left; prints = on.is; cut = on.cut }
+    record { kept = kept; lost = []; parts = parts; took = took; left = on.left; prints = on.is; cut = on.cut; why = inl refl }
 sink_cut w0 w1 Lost first answers part kept (one ∷ lost) parts took loses =
     let on = exactly w0 w1 Lost (printed (first ++ kept)) one.bytes took loses.1 in
-    record { kept = kept; lost = one ∷ lost; parts = parts; took = took; left = on.left; prints = on.is; cut = on.cut }
+    record { kept = kept; lost = one ∷ lost; parts = parts; took = took; left = on.left; prints = on.is; cut = on.cut; why = inr (inr refl) }
 
 -- a stop for want of memory comes with a first part of that
 loosely : (w0 w1 : Option (List ℕ)) (Lost : Type 0) (whole bytes text : List ℕ) → IsCutOf bytes text → Outputs w0 w1 Lost (whole ++ bytes) → Outputs w0 w1 (Unit {0}) (whole ++ text)
@@ -171,6 +174,19 @@ module _ (p : Public) (flown : List Entry) (words : ℕ → ℕ) (k count : ℕ)
       let all = until_ended words i (boarding p flown) stops.turn (turns_of p flown) (ended_here i less (slice_get (turns words stops.turn (boarding p flown)).flying i) refl) in
       let least = stops.least in
       omega (arith, all, least)
+
+-- of a flight that was left the first of those from there on hadn't ended
+goes_from : (words : ℕ → ℕ) (p : Public) (m : ℕ) (all : List Entry) (asked i n j : ℕ) → asked ≤ asked_until words (i + j) (turns_of p all) (boarding p all) → GoesOn (drop j (seats_aloft p m all words (Some asked) i n))
+unfolding seats_aloft
+goes_from words p m all asked i zero zero on = tt
+goes_from words p m all asked i zero (suc j) on = tt
+goes_from words p m all asked i (suc n) zero on =
+    let same : i + 0 ≡ i = omega arith in
+    let here : asked ≤ asked_until words i (turns_of p all) (boarding p all) = subst (λ (k : ℕ). asked ≤ asked_until words k (turns_of p all) (boarding p all)) same on in
+    omega (arith, here)
+goes_from words p m all asked i (suc n) (suc j) on =
+    let next : i + suc j ≡ (i + 1) + j = omega arith in
+    goes_from words p m all asked (i + 1) n j (subst (λ (k : ℕ). asked ≤ asked_until words k (turns_of p all) (boarding p all)) next on)
 
 pub flown_get : (at : Places) (i k : ℕ) (stmts : List Stmt) (seens : List Seen) (ended : List Closed) (stmt : Stmt) (seen : Seen) → slice_get stmts k ≡ Some stmt → slice_get seens k ≡ Some seen
     → slice_get (flown_list at i stmts seens ended) k ≡ Some (flown_at at (i + k) stmt seen (slice_get ended k))
@@ -327,6 +343,13 @@ module _ {R : Type 0} (state : R → RevState) (m1 m2 : Machine R) (more : List 
   abbrev pub spelt_cut : List Spelt
   spelt_cut = spelt_left state m1 m2 done.stmts done.seens done.flew.ended (Err run) done.may ran
 
+  goes_cut : (j : ℕ) → j ≡ e → GoesOn (drop j (seats_at m1 entries_cut))
+  goes_cut j is =
+      subst (λ (vs : List Seat). GoesOn (drop j vs)) (sym (seats_are state m1 m2 done.stmts done.seens done.flew.ended (Err run) done.may ran (Some total)) ∙ seats_left state m1 m2 done.stmts done.seens done.flew.ended (Err run) done.may ran)
+      (goes_from m1.flights.words p (asked_of m1) flown total 0 (length flown) j
+      (let same : e ≡ 0 + j = omega (arith, is) in
+      subst (λ (k : ℕ). total ≤ asked_until m1.flights.words k (turns_of p flown) (boarding p flown)) same (going_on p flown m1.flights.words total e steady (omega (arith, less_e, long_flown)) ran.turn)))
+
   pub cut_last : Outputs w0 w1 Lost (printed first ++ bytes) → Took w0 w1 (printed first)
       → ((kept : List Answer) → length kept ≤ e → LeavesAloft (Ran (Err (session_stop run))) m2.store.asked (drop (length (take (length kept) here)) (seats_at m1 entries_cut)) (statements (drop (length (take (length kept) done.flown)) spelt_cut)) (drop (length kept) here))
       → ((kept : List Answer) → FirstAnswered fs_cut kept → EarlyAt state m1 m2 entries_cut spelt_cut kept (take (length kept) here ++ drop (length kept) here))
@@ -338,6 +361,14 @@ module _ {R : Type 0} (state : R → RevState) (m1 m2 : Machine R) (more : List 
       let few = answers_few done.flew.ended done.seens (let all = ran.long in omega (arith, all, less_e)) in
       let under : n ≤ e = omega (arith, sum, few) in
       let each = first_answered at 0 done.stmts done.seens done.flew.ended on.kept on.lost ran.long (omega (arith, less_e)) on.parts in
+      let taken : length (take n here) ≡ n = taken_long n here (let long = long_aloft state m1 m2 done.stmts done.seens done.flew.ended (Err run) done.may ran in omega (arith, long, under, less_e)) in
+      let goes : GoesOn (drop (length (take n here)) (seats_at m1 entries_cut)) ⊎ LosesSome Lost (Ran (Err (session_stop run))) = elim on.why [
+        | inl none ↦ let gone = ap length none in inl (goes_cut (length (take n here)) (omega (arith, taken, sum, few, gone)))
+        | inr why ↦ elim why [
+          | inl lost ↦ inr (inl lost)
+          | inr wants ↦ inr (inr (inr (ap (λ (r : RunStop). Ran (Err (session_stop r))) wants)))
+        ]
+      ] in
       record {
         held = take n done.flown;
         rest = drop n done.flown ++ done.more;
@@ -348,6 +379,7 @@ module _ {R : Type 0} (state : R → RevState) (m1 m2 : Machine R) (more : List 
             on.kept each (omega (arith, under, less_e)) (had n under) on.left
             (λ d drawn tables reads f is stood inn means. begins_cut on.kept on.lost on.parts on.left on.prints d tables reads f is stood inn means)
             (wants on.kept under)
+            goes
             (λ d drawn tells tables held honest. stop_untampered run (ran.means.honest tables (record { tells = tells; held = free_holds state m1 d tables done.may.free held; nolie = honest })))
             (early on.kept each);
         cut = on.cut;

@@ -1,7 +1,7 @@
 -- A flight that was left, as the last of what was served.
 use Rattle.std.specs.Prelude.{◌&&◌, drop, if◌then◌else◌, map, nat_lt, slice_get, take}
 use Rattle.std.specs.List.{All}
-use Rattle.std.proofs.Common.{◌≡◌, ◌+◌, ◌-◌, ◌≤◌, ◌<◌, ◌++◌, ℕ, zero, suc, Bool, true, false, IsTrue, List, [], ◌∷◌, length, Option, Some, None, Ok, Err, Result, refl, sym, ◌∙◌, ap, subst, arith, append_assoc, append-nil, length-append, take-append-drop}
+use Rattle.std.proofs.Common.{◌≡◌, ◌⊎◌, ◌+◌, ◌-◌, ◌≤◌, ◌<◌, ◌++◌, ℕ, zero, suc, Bool, true, false, IsTrue, List, [], ◌∷◌, length, Option, Some, None, Ok, Err, Result, refl, sym, ◌∙◌, ap, subst, arith, append_assoc, append-nil, length-append, take-append-drop}
 use Rattle.std.proofs.lemmas.List.{length-drop, length-map, length-take, take_all}
 use Rattle.std.proofs.lemmas.List.Elements.{All-cons, All-head, All-nil, All-tail}
 use Rattle.ob_base.specs.declared.access.Access.{Access}
@@ -12,7 +12,7 @@ use Rattle.ob_exec.specs.InFlight.{served_as}
 use Rattle.ob_exec.specs.RanFlight.{asked_since, stopped_after}
 use Rattle.ob_headline.specs.Accesses.{AreSeen, LeavesAloft, any_cut}
 use Rattle.ob_headline.specs.Failures.{cut_off, failures}
-use Rattle.ob_headline.specs.Flights.{AreEntries, AreGathered, EndedBy, MayFly as FlyMay, Seat, may_fly, place_now, seats_aloft, served_by, whole_of}
+use Rattle.ob_headline.specs.Flights.{AreEntries, AreGathered, EndedBy, GoesOn, MayFly as FlyMay, Seat, may_fly, place_now, seats_aloft, served_by, whole_of}
 use Rattle.ob_headline.specs.Statements.{SpellFirst, statements}
 use Rattle.ob_headline.specs.Words.{Answer}
 use Rattle.ob_headline.specs.declared.ending.Ending.{Ending}
@@ -71,7 +71,7 @@ statements_taken stmts zero few = refl
 statements_taken [] (suc n) few = absurd (omega (arith, few))
 statements_taken (stmt ∷ stmts) (suc n) few = ap (λ (k : ℕ). suc k) (statements_taken stmts n (omega (arith, few)))
 
-taken_long : {A : Type 0} (n : ℕ) (xs : List A) → n ≤ length xs → length (take n xs) ≡ n
+pub taken_long : {A : Type 0} (n : ℕ) (xs : List A) → n ≤ length xs → length (take n xs) ≡ n
 taken_long n xs few = let long = length-take n xs in omega (arith, long, few)
 
 module _ {R : Type 0} (state : R → RevState) (m0 m1 : Machine R) (stmts : List Stmt) (seens : List Seen) (ended : List Closed) (result : Result (Unit {0}) RunStop) (may : MayFly state m0 m1 stmts)
@@ -297,16 +297,17 @@ module _ {R : Type 0} (state : R → RevState) (m0 m1 : Machine R) (stmts : List
         ∙ done_by (is_tampered ends_by) (public_of m0.engine) (served_as stmts seens) m0.flights.words total (0 + k);
   })
 
-  pub left_walked : (texts more : List (List ℕ)) → AreSpelt texts stmts → carried_out result total ≡ done_of (is_tampered ends_by) total → (ends_within ends_by ≡ true → ⊥)
+  pub left_walked : {Lost : Type 0} (texts more : List (List ℕ)) → AreSpelt texts stmts → carried_out result total ≡ done_of (is_tampered ends_by) total → (ends_within ends_by ≡ true → ⊥)
       → (kept : List Answer) → FirstAnswered fs_here kept → length kept < length stmts → All (λ (v : Seat). EndedBy v.left v) (take (length kept) (seats_in fs_here)) → (part : List ℕ)
       → ((d : Draws) → AreDraws m0.engine d → (tables : Tables) → ReadsTrueUntil state m0.engine m0.store m1.engine m1.store tables → (f : Flown) → slice_get fs_here (length kept) ≡ Some f → Stood f → IsIn f → Means (session_of m0 d tables) f
       → BeginsSo ends_by (session_of m0 d tables) f part)
       → LeavesAloft ends_by m1.store.asked (drop (length (take (length kept) here)) (seats_at m0 entries)) (statements (drop (length (take (length kept) texts)) spelt_here)) (drop (length kept) here)
+      → GoesOn (drop (length (take (length kept) here)) (seats_at m0 entries)) ⊎ Lost
       → ((d : Draws) → AreDraws m0.engine d → IsTrue m0.store.tells → (tables : Tables) → Holds state m0 d tables → m1.store.lie ≡ None → EndsUntampered ends_by)
       → EarlyAt state m0 m1 entries spelt_here kept (take (length kept) here ++ drop (length kept) here)
-      → Walked state ends_by m0 m0 m1 (take (length kept) texts) (drop (length kept) texts ++ more) kept part
+      → Walked state Lost ends_by m0 m0 m1 (take (length kept) texts) (drop (length kept) texts ++ more) kept part
   unfolding SpellFirst
-  left_walked texts more spelt carried off kept first short had part begins wants fine early =
+  left_walked texts more spelt carried off kept first short had part begins wants goes fine early =
       let n = length kept in
       let long_texts : length texts ≡ length stmts = spelt_long texts stmts spelt in
       let long_here : length here ≡ length stmts = long_aloft state m0 m1 stmts seens ended result may ran in
@@ -342,6 +343,7 @@ module _ {R : Type 0} (state : R → RevState) (m0 m1 : Machine R) (stmts : List
             ∙ statements_taken (stmts_in fs_here) n (let same = ap length (are_stmts state m0 m1 stmts seens ended result may ran) in omega (arith, short, same)));
         lawful = λ most old fails d drawn g. seen_left state m0 m1 stmts seens ended result may ran n short had _ m0.gathered.batch kept first;
         aloft = wants;
+        on = goes;
         passed = passed_left state m0 m1 stmts seens ended result may ran n short had;
         asked = asked_left state m0 m1 stmts seens ended result may ran;
         keys = ran.ran.keys;

@@ -6,6 +6,7 @@ use Rattle.ob_print.specs.Cuts.{Outputs}
 use Rattle.ob_headline.specs.declared.ending.Ending.TheVariants.{Ran}
 use Rattle.ob_shell.proofs.WalkLemmas.{Walked}
 use Rattle.ob_shell.specs.Steps.{Machine}
+use Rattle.ob_shell.specs.Top.{LosesSome}
 use Rattle.ob_tables.specs.Stops.{session_stop}
 use Rattle.ob_tables.specs.declared.stop.RunStop.{RunStop}
 use Rattle.ob_vault.specs.State.{RevState}
@@ -18,7 +19,7 @@ pub record LastWalk {R : Type 0} (state : R → RevState) (ending : Ending) (m1 
   pub parts : more ≡ held ++ rest
   pub kept : List Answer
   pub left : List ℕ
-  pub walk : Walked state ending m1 m1 m2 held rest kept left
+  pub walk : Walked state (LosesSome Lost ending) ending m1 m1 m2 held rest kept left
   pub cut : Outputs w0 w1 Lost (printed (first ++ kept) ++ left)
   pub whole : Took w0 w1 (printed (first ++ kept))
   pub same : ((held ≡ []) × (kept ≡ []) × (left ≡ bytes)) ⊎ ((run : RunStop) × (ending ≡ Ran (Err (session_stop run))))

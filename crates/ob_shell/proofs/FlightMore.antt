@@ -1,6 +1,6 @@
 -- One step more of a walk: texts that were answered together.
 use Rattle.std.specs.Prelude.{drop, map}
-use Rattle.std.proofs.Common.{◌≡◌, ◌+◌, ◌<◌, ◌++◌, ℕ, Bool, false, IsTrue, List, ◌∷◌, length, Option, Some, None, Ok, refl, sym, ◌∙◌, ap, subst, arith, append_assoc, length-append}
+use Rattle.std.proofs.Common.{◌≡◌, ◌⊎◌, ◌+◌, ◌<◌, ◌++◌, ℕ, Bool, false, IsTrue, List, ◌∷◌, length, Option, Some, None, Ok, refl, sym, ◌∙◌, ap, subst, arith, append_assoc, length-append}
 use Rattle.std.proofs.lemmas.List.{length-map}
 use Rattle.std.specs.List.{All}
 use Rattle.ob_base.specs.Indexes.{leaf_of_draw}
@@ -9,7 +9,7 @@ use Rattle.ob_exec.proofs.LeavesRead.{Given, KeyAt, Unread}
 use Rattle.ob_exec.specs.InFlight.{served_as}
 use Rattle.ob_headline.specs.Accesses.{AreSeen, LeavesAloft, StopsWithin, any_cut}
 use Rattle.ob_headline.specs.Failures.{RisesBy, cut_off}
-use Rattle.ob_headline.specs.Flights.{Seat, whole_of}
+use Rattle.ob_headline.specs.Flights.{GoesOn, Seat, whole_of}
 use Rattle.ob_headline.specs.Statements.{SpellFirst, statements}
 use Rattle.ob_headline.specs.Words.{Answer}
 use Rattle.ob_headline.specs.declared.ending.Ending.{Ending}
@@ -153,10 +153,10 @@ module _ {R : Type 0} (state : R → RevState) (m0 m1 : Machine R) (flown : List
     unread = subst (λ (xs : List Index). All (Unread d xs g.number) reads.numbers) (sym same_indexes) reads.unread;
   }
 
-  pub more_flown : (ending : Ending) (m m2 : Machine R) (texts more : List (List ℕ)) (answers : List Answer) (part : List ℕ) (rest : Walked state ending m1 m m2 texts more answers part)
+  pub more_flown : {Lost : Type 0} (ending : Ending) (m m2 : Machine R) (texts more : List (List ℕ)) (answers : List Answer) (part : List ℕ) (rest : Walked state Lost ending m1 m m2 texts more answers part)
       → EarlyAt state m0 m2 (at_turn ∷ rest.entries) (spelt_up ++ rest.spelt) (given ++ answers) ((up ++ rest.seen) ++ rest.last)
-      → Walked state ending m0 m m2 (flown ++ texts) more (given ++ answers) part
-  more_flown ending m m2 texts more answers part rest early =
+      → Walked state Lost ending m0 m m2 (flown ++ texts) more (given ++ answers) part
+  more_flown {Lost = Lost} ending m m2 texts more answers part rest early =
       let p = public_of m0.engine in
       let s1 : length (spelt_up ++ rest.spelt) ≡ length here + length rest.spelt = length-append spelt_up rest.spelt ∙ ap (λ (n : ℕ). n + length rest.spelt) long_spelt in
       let t1 : length (flown ++ texts) ≡ length here + length texts = length-append flown texts ∙ ap (λ (n : ℕ). n + length texts) long_texts in
@@ -198,6 +198,9 @@ module _ {R : Type 0} (state : R → RevState) (m0 m1 : Machine R) (flown : List
             subst (λ (vs : List Seat). LeavesAloft ending m2.store.asked (drop (length (up ++ rest.seen)) vs) (statements (drop (length (flown ++ texts)) (spelt_up ++ rest.spelt))) rest.last) there
             (subst (λ (xs : List Spelt). LeavesAloft ending m2.store.asked (drop (length (up ++ rest.seen)) (seats_in here ++ seats_at m1 rest.entries)) (statements xs) rest.last) (sym spelt_behind)
             (subst (λ (vs : List Seat). LeavesAloft ending m2.store.asked vs (statements (drop (length texts) rest.spelt)) rest.last) (sym seats_behind) rest.aloft));
+        on =
+            let seats_behind = drop_more (seats_in here) (seats_at m1 rest.entries) (length rest.seen) (length (up ++ rest.seen)) (omega (arith, u1, length-map here (λ (f : Flown). f.seat))) in
+            subst (λ (vs : List Seat). GoesOn (drop (length (up ++ rest.seen)) vs) ⊎ Lost) there (subst (λ (vs : List Seat). GoesOn vs ⊎ Lost) (sym seats_behind) rest.on);
         passed =
             let same : length (up ++ rest.seen) ≡ length up + length rest.seen = length-append up rest.seen in
             trace_on state m0 m1 flown given step m.store.asked (whole_of (length rest.seen) rest.entries) rest.passed

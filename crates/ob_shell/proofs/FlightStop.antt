@@ -273,6 +273,7 @@ module _ {R : Type 0} (state : R → RevState) (m1 m2 : Machine R) (more : List 
             end.kept (answered end.kept (end.one ∷ end.lost) end.parts) short (had n) end.one.bytes
             (λ d drawn tables reads f is stood at means. begins_answered run _ f end.one stood at (nth_answered fs_done end.kept end.one end.lost f each is) means)
             (leaves_otherwise _ _ _ _ _ (ends (λ (e : Ending). ends_within e ≡ false) refl) (λ is. cc (is, ap (λ (r : RunStop). Ran (Err (session_stop r))) done.fault)))
+            (inr (inr (inl (ap (λ (r : RunStop). Ran (Err (session_stop r))) done.fault))))
             (λ d drawn tells tables held honest. stop_untampered run (ap is_refused done.fault))
             (early end.kept (answered end.kept (end.one ∷ end.lost) end.parts));
         cut = end.cut;

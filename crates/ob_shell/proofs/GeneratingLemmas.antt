@@ -1,6 +1,6 @@
 -- What a run over the generated text promises.
 use Rattle.ob_headline.specs.declared.flight.FlightSettings.{FlightSettings}
-use Rattle.ob_shell.specs.Running.{ServesAlone}
+use Rattle.ob_shell.specs.Running.{OutFailed, ServesAlone}
 use Rattle.std.specs.Prelude.{◌≢◌, ⊤, option_and_then}
 use Rattle.std.proofs.Common.{◌≡◌, ℕ, ◌≤◌, Bool, true, false, List, [], Option, Some, None, Ok, Err, refl, sym, ◌∙◌, ap, subst, inl, inr, arith}
 use Rattle.std.proofs.KnownBytes.{Appends-nil}
@@ -101,25 +101,25 @@ with_source source c = record { grew = c.grew; silent = c.silent; status = c.sta
 
 -- ---- the run, whose answers are kept nowhere
 unfoldable unkept : {Lost : Type 0} {tally : Tally} {tr : TraceSink} {Takes : Type 0} {base : Base} {keys : List ℕ → KeySet} {gave : ℕ} {l0 l1 : Option (List ℕ)} {s0 s1 : StoreState} (ending : Ending) (high : ℕ) (old new : Faults)
-    → EndingWords ending Takes → RunShown tally tr base keys l0 l1 gave None None s0 s1 high ending [] Lost → EndingCause (ServesAlone base.flight base.public) ending old new
+    → EndingWords ending Takes → RunShown tally tr base keys l0 l1 gave None None s0 s1 high ending [] Lost → EndingCause (ServesAlone base.flight base.public) ending old new → (Lost → SinksRose old new)
     → Reported tally tr Takes base keys l0 l1 gave None None s0 s1 old new (record { status = status_of ending; high = high })
-unkept {base = base} ending high old new takes shown cause =
+unkept {base = base} ending high old new takes shown cause rose =
     let causes : StatusCause (ServesAlone base.flight base.public) ending old new = status_cause (ServesAlone base.flight base.public) ending old new new cause (omega arith) refl refl (λ e. refl) in
     record {
       ending = ending;
       status = refl;
       takes = takes;
-      shown = shown_line [] shown tt (Outputs-whole None None (SinksRose old new) _ tt);
+      shown = shown_line [] shown tt (Outputs-whole None None (SinksRose old new) _ tt) rose;
       through = inl (record { after = []; appends = tt });
       silent = λ rose. Outputs-whole None None (Unit {0}) _ tt;
       cause = causes;
       completes = λ t input e k a b. completes old new input shown takes causes t e k a b;
     }
 
-pub ran_generated : {Lost : Type 0} {tally : Tally} {tracing : Bool} {settings : Option Config} {flight : Option FlightSettings} {t0 t1 : Option (List ℕ)} {s0 s1 : StoreState} {gave : ℕ} {w0 w1 : Option (List ℕ)}
+pub ran_generated : {quiet : Bool} {tally : Tally} {tracing : Bool} {settings : Option Config} {flight : Option FlightSettings} {t0 t1 : Option (List ℕ)} {s0 s1 : StoreState} {gave : ℕ} {w0 w1 : Option (List ℕ)}
     (seed : Seed) (left : List ℕ) (ending : Ending) (high trace0 trace1 out0 out1 : ℕ) (report : Report)
     → EndingWords ending ⊤
-    → RunShown tally (sink_of tracing t0 t1) (flying flight (fresh settings)) keys_in (Some (generated seed.start seed.rows)) (Some left) gave None None s0 s1 high ending [] Lost
+    → RunShown tally (sink_of tracing t0 t1) (flying flight (fresh settings)) keys_in (Some (generated seed.start seed.rows)) (Some left) gave None None s0 s1 high ending [] (OutFailed quiet 0 0)
     → EndingCause (ServesAlone flight (fresh settings).public) ending (faults_of 0 0 trace0) (faults_of 0 0 trace1)
     → Traced tracing s0.asked s1.asked t0 t1 (SinksRose (faults_of 0 0 trace0) (faults_of 0 0 trace1))
     → Concludes ending tally s1.asked high w0 w1 (faults_of 0 out0 trace0) (faults_of 0 out1 trace1) report
@@ -130,7 +130,7 @@ ran_generated {tally = tally} {gave = gave} seed left ending high trace0 trace1 
   left = left;
   gave = gave;
   tally = tally;
-  reported = unkept ending high (faults_of 0 0 trace0) (faults_of 0 0 trace1) takes shown cause;
+  reported = unkept ending high (faults_of 0 0 trace0) (faults_of 0 0 trace1) takes shown cause (λ lost. inl lost.1);
   traces = traces;
   concludes = concludes;
 }
@@ -167,7 +167,7 @@ unread_summarized {Takes = Takes} {settings = settings} {flight = flight} {traci
     let ending = refused_by error in
     let faults : Faults = faults_of 0 0 trace in
     let shown = words_shown {F = ⊥} {keys = keys_in} empty_tally (sink_of tracing t t) settings flight error (Some (generated seed.start seed.rows)) 0 None s blank refl in
-    let r = unkept ending 0 faults faults (words_end error not) shown (words_cause _ error faults) in
+    let r = unkept ending 0 faults faults (words_end error not) shown (words_cause _ error faults) (λ never. absurd never) in
     let closed : ClosedBy ending false w0 w1 out0 out1 report.status = record { told = status; silent = λ loud. absurd (cc loud); line = λ loud. line } in
     record {
       unread = record { left = refl; gave = refl; source = refl };

@@ -16,8 +16,8 @@ use Rattle.ob_tables.specs.Agreeing.{first_draws, world_of}
 use Rattle.ob_vault.proofs.WorldSteps.{calm_none}
 use Rattle.ob_vault.specs.State.{RevState}
 
-module _ {R : Type 0} (state : R → RevState) (ending : Ending) (m0 m1 m2 : Machine R) (texts more : List (List ℕ)) (answers : List Answer) (part : List ℕ)
-    (walk : Walked state ending m0 m1 m2 texts more answers part) where
+module _ {R : Type 0} {Lost : Type 0} (state : R → RevState) (ending : Ending) (m0 m1 m2 : Machine R) (texts more : List (List ℕ)) (answers : List Answer) (part : List ℕ)
+    (walk : Walked state Lost ending m0 m1 m2 texts more answers part) where
   -- what became of the texts
   abbrev pub walked_story : Story
   walked_story = record {

@@ -29,7 +29,7 @@ use Rattle.ob_headline.proofs.TextLemmas.{rest_of-nil, texts_of-nil}
 use Rattle.ob_headline.specs.Batches.{AnsweredBut}
 use Rattle.ob_headline.specs.Bases.{Base, FromEach, Opened, drawing, session_at, start}
 use Rattle.ob_headline.specs.Disturbed.{MeantUntil, meant_entries, meant_trace}
-use Rattle.ob_headline.specs.Flights.{AreEntries, AreGathered, EndedBy, Entered, Seat, after_entries, most_flown, most_of, public_after, seats, seats_of, trace_of, whole_of, words_of}
+use Rattle.ob_headline.specs.Flights.{AreEntries, AreGathered, EndedBy, Entered, GoesOn, Seat, after_entries, most_flown, most_of, public_after, seats, seats_of, trace_of, whole_of, words_of}
 use Rattle.ob_headline.specs.FullStash.{ReadsFullStash}
 use Rattle.ob_headline.specs.Failures.{FailsBeside, cut_off}
 use Rattle.ob_headline.specs.Leaves.{AreDrawn}
@@ -88,7 +88,7 @@ use Rattle.ob_shell.specs.Running.{EndsBy, SessionRan, LastPart}
 use Rattle.ob_shell.specs.Standing.{IsUsed, StandsOn}
 use Rattle.ob_shell.specs.Steps.{Flights, Holds, Machine, asked_of, machine_of, none_gathered, session_of, standing}
 use Rattle.ob_shell.specs.Tallies.{TallyIs, flagged, has_refused, tally_of}
-use Rattle.ob_shell.specs.Top.{EndsUntampered, TraceSink, Carried, RanAfter}
+use Rattle.ob_shell.specs.Top.{EndsUntampered, LosesSome, TraceSink, Carried, RanAfter}
 use Rattle.ob_shell.specs.Traces.{Traced}
 use Rattle.ob_store.proofs.Steps.{since_trans}
 use Rattle.ob_store.specs.Runs.{Later, Since}
@@ -215,7 +215,7 @@ module _ {R : Type 0} {state : R → RevState} {Lost : Type 0} (base : Base) (co
   pub final : LastWalk state (RanEnding result) ran.middle m2 ran.more ran.part w0 w1 Lost ran.answers
   final = last_walk state ran.middle m2 ran.more ran.part w0 w1 Lost ran.answers ran.cut ran.whole result ran.follow ran.last
 
-  pub walk : Walked state (RanEnding result) m0 ran.middle m2 (ran.served ++ final.held) final.rest (ran.answers ++ final.kept) final.left
+  pub walk : Walked state (LosesSome Lost (RanEnding result)) (RanEnding result) m0 ran.middle m2 (ran.served ++ final.held) final.rest (ran.answers ++ final.kept) final.left
   walk = walked state (flies_early state) (RanEnding result) ran.middle m2 final.held final.rest final.kept final.left final.walk m0 ran.served ran.answers ran.steps
 
   -- by what the statements go
@@ -514,6 +514,10 @@ module _ {R : Type 0} {state : R → RevState} {Lost : Type 0} (base : Base) (co
       })
       refl
 
+  -- all that had ended were answered
+  pub all_ended : GoesOn (drop (length story.seen) (seats_of base story.entries)) ⊎ LosesSome Lost (RanEnding result)
+  all_ended = subst (λ (vs : List Seat). GoesOn (drop (length walk.seen) vs) ⊎ LosesSome Lost (RanEnding result)) seats_are walk.on
+
   -- how the last part was left
   pub ends_so : EndsBy f1 ran.ended (f0.unread ++ ran.piece) final.rest final.left result
   ends_so = elim final.same [
@@ -555,6 +559,7 @@ module _ {R : Type 0} {state : R → RevState} {Lost : Type 0} (base : Base) (co
     rows = inl (record { first = first; last = last; keeper0 = k0; keeper1 = k1; flights0 = flights_at base.flight; flights1 = left; ran = ran; counts = opened });
     cut = final.cut;
     whole = final.whole;
+    answered = all_ended;
     counted = counted_so;
     ends = ends_so;
   }

@@ -1,6 +1,6 @@
 -- The whole run, from its first line and its session.
-use Rattle.std.specs.Prelude.{IfOk}
-use Rattle.std.proofs.Common.{◌≡◌, ◌≢◌, ℕ, ◌≤◌, ◌==◌, Bool, true, false, List, [], ◌∷◌, ◌++◌, length, take, Option, Some, IsTrue, Ok, Err, Result, refl, sym, ap, ◌∙◌, subst, inl, inr, arith, append-nil, length-append}
+use Rattle.std.specs.Prelude.{IfOk, drop}
+use Rattle.std.proofs.Common.{◌≡◌, ◌≢◌, ◌⊎◌, ℕ, ◌≤◌, ◌==◌, Bool, true, false, List, [], ◌∷◌, ◌++◌, length, take, Option, Some, IsTrue, Ok, Err, Result, refl, sym, ap, ◌∙◌, subst, inl, inr, arith, append-nil, length-append}
 use Rattle.std.proofs.KnownBytes.{Appends-nil, Consumes-trans, Consumes-nil}
 use Rattle.std.specs.Io.KnownBytes.{Appends}
 use Rattle.std.specs.List.{list_any}
@@ -17,7 +17,7 @@ use Rattle.ob_headline.proofs.TextLemmas.{rest_of-nil, texts_of-nil}
 use Rattle.std.proofs.lemmas.List.Elements.{All-nil}
 use Rattle.ob_headline.specs.Bases.{Base, flying, fresh, start}
 use Rattle.ob_headline.specs.Disturbed.{MeantUntil, meant_entries}
-use Rattle.ob_headline.specs.Flights.{AreEntries, AreGathered, EndedBy, Seat, most_of, seats, served_by, whole_of as entries_whole}
+use Rattle.ob_headline.specs.Flights.{AreEntries, AreGathered, EndedBy, GoesOn, Seat, most_of, seats, seats_of, served_by, whole_of as entries_whole}
 use Rattle.ob_headline.specs.declared.flight.FlightSettings.{FlightSettings}
 use Rattle.ob_headline.specs.Endings.{last_line}
 use Rattle.ob_headline.specs.Failures.{cut_off, failures}
@@ -48,7 +48,7 @@ use Rattle.ob_shell.specs.Feeding.{Fetch, Fed, IsFedBy}
 use Rattle.ob_shell.specs.LineRead.{KeyRead}
 use Rattle.ob_shell.specs.Running.{EndsBy}
 use Rattle.ob_shell.specs.Tallies.{flagged, tally_of}
-use Rattle.ob_shell.specs.Top.{EndingTally, EndsUnfaulted, EndsUntampered, IsFresh, TraceSink, RanSays, EndingSays, EndingWords, Carried, RunShown, RanAfter, EndingCause, EndingFlag, StatusCause}
+use Rattle.ob_shell.specs.Top.{EndingTally, EndsUnfaulted, EndsUntampered, IsFresh, LosesSome, TraceSink, RanSays, EndingSays, EndingWords, Carried, RunShown, RanAfter, EndingCause, EndingFlag, StatusCause}
 use Rattle.ob_shell.specs.declared.feed.Halt.{Halt}
 use Rattle.ob_shell.specs.declared.key.FirstLine.{FirstLine}
 use Rattle.ob_shell.specs.declared.key.FirstLine.TheVariants.{Secret, Last, Bad}
@@ -145,6 +145,11 @@ unstarted tr settings flight secret s more ending blank untraced untampered unfa
   saving = λ is. absurd (subst (λ (e : Ending). EndsUnfaulted e) is unfaulted);
 }
 
+-- none were begun
+pub none_began : (settings : Option Config) (flight : Option FlightSettings) → GoesOn (drop 0 (seats_of (flying flight (fresh settings)) []))
+unfolding seats
+none_began settings flight = tt
+
 pub took_none : (w : Option (List ℕ)) → Took w w (printed [])
 took_none w = took_whole (rw printed-nil (Appends-nil w))
 
@@ -195,6 +200,7 @@ module _ (tally : Tally) (tr : TraceSink) (untraced : tr.new ≡ tr.old) (settin
         carried = unstarted tr settings flight _ s [] _ fresh untraced tt tt;
         grew = no_bytes w;
         whole = took_none w;
+        answered = inl (none_began settings flight);
         flag = tt;
         counted = tt;
         says = record { line = inr (ends.0, ends.1); cut = refl; all = record { no_more = refl; no_part = refl }; short = rw after nothing_over };
@@ -219,6 +225,7 @@ module _ (tally : Tally) (tr : TraceSink) (untraced : tr.new ≡ tr.old) (settin
         carried = unstarted tr settings flight _ s _ _ fresh untraced tt tt;
         grew = no_bytes w;
         whole = took_none w;
+        answered = inl (none_began settings flight);
         flag = tt;
         counted = tt;
         says = ends;
@@ -243,6 +250,7 @@ module _ (tally : Tally) (tr : TraceSink) (untraced : tr.new ≡ tr.old) (settin
         carried = unstarted tr settings flight _ s [] _ fresh untraced tt tt;
         grew = no_bytes w;
         whole = took_none w;
+        answered = inl (none_began settings flight);
         flag = sym any_refused-nil;
         counted = blank;
         says = record {
@@ -276,6 +284,7 @@ ran_nothing {Lost = Lost} tr settings flight secret f l gave w s blank untraced 
   rows = inr (refl, refl);
   cut = rw printed-nil (Outputs-whole w w Lost [] (Appends-nil w));
   whole = took_none w;
+  answered = inl (none_began settings flight);
   counted = tt;
   ends = tt;
 }
@@ -358,6 +367,7 @@ shown_by {Lost = Lost} {tally = tally} base {f1 = f1} {f2 = f2} {gave = gave} {l
       carried = carried;
       grew = subst (λ (l : List ℕ). Outputs w0 w2 Lost l) (sym (append-nil (printed ran.story.answers ++ ran.story.part))) ran.cut;
       whole = ran.whole;
+      answered = ran.answered;
       flag = flag_by result ran.story.answers ran.counted;
       counted = tally_by result ran.story.answers tally ran.counted told;
       says =
@@ -399,6 +409,7 @@ shown_unread tally tr settings flight l gave w s ending blank untraced untampere
   carried = unstarted tr settings flight _ s _ _ blank untraced untampered unfaulted;
   grew = no_bytes w;
   whole = took_none w;
+  answered = inl (none_began settings flight);
   flag = flag;
   counted = counted;
   says = says;
@@ -486,10 +497,16 @@ pub quiet_line : {w0 w1 : Option (List ℕ)} {F G : Type 0} (bytes line : List �
 quiet_line {w0 = w0} {w1 = w1} {F = F} bytes line c g =
     Outputs-more line (Outputs-fault g (subst (λ (l : List ℕ). Outputs w0 w1 F l) (append-nil bytes) c)) g
 
+-- the same for another cause
+pub loses_as : {F H Goes : Type 0} {ending : Ending} → (F → H) → Goes ⊎ LosesSome F ending → Goes ⊎ LosesSome H ending
+loses_as by (inl goes) = inl goes
+loses_as by (inr (inl lost)) = inr (inl (by lost))
+loses_as by (inr (inr ends)) = inr (inr ends)
+
 unfoldable pub shown_line : {tally : Tally} {tr : TraceSink} {base : Base} {keys : List ℕ → KeySet} {gave : ℕ} {l0 l1 w0 w1 w2 : Option (List ℕ)} {s0 s1 : StoreState} {high : ℕ} {ending : Ending} {line line' : List ℕ} {F H : Type 0}
-    (more : List ℕ) → (shown : RunShown tally tr base keys l0 l1 gave w0 w1 s0 s1 high ending line F) → Appends w1 w2 more → Outputs w0 w2 H ((printed shown.story.answers ++ shown.story.part) ++ line')
+    (more : List ℕ) → (shown : RunShown tally tr base keys l0 l1 gave w0 w1 s0 s1 high ending line F) → Appends w1 w2 more → Outputs w0 w2 H ((printed shown.story.answers ++ shown.story.part) ++ line') → (F → H)
     → RunShown tally tr base keys l0 l1 gave w0 w2 s0 s1 high ending line' H
-shown_line more shown after cut = record {
+shown_line more shown after cut loses = record {
   taken = shown.taken;
   ended = shown.ended;
   story = shown.story;
@@ -498,6 +515,7 @@ shown_line more shown after cut = record {
   carried = shown.carried;
   grew = cut;
   whole = took_more more shown.whole after;
+  answered = loses_as loses shown.answered;
   flag = shown.flag;
   counted = shown.counted;
   says = shown.says;

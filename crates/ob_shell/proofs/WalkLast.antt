@@ -11,13 +11,14 @@ use Rattle.ob_shell.proofs.StepLemmas.{by_last}
 use Rattle.ob_shell.proofs.WalkLemmas.{Walked, walked_cut, walked_done_so, walked_idle, walked_none}
 use Rattle.ob_shell.specs.Running.{LastPart}
 use Rattle.ob_shell.specs.Steps.{CutTogether, FinishedTogether, Follow, Machine, PartlyAt}
+use Rattle.ob_shell.specs.Top.{LosesSome}
 use Rattle.ob_tables.specs.Stops.{session_stop}
 use Rattle.ob_tables.specs.declared.stop.RunStop.{RunStop}
 use Rattle.ob_vault.specs.State.{RevState}
 
 module _ {R : Type 0} (state : R → RevState) (m1 m2 : Machine R) (more : List (List ℕ)) (part : List ℕ) (w0 w1 : Option (List ℕ)) (Lost : Type 0) (first : List Answer) (cut : Outputs w0 w1 Lost (printed first ++ part)) (whole : Took w0 w1 (printed first)) where
   -- where none of a flight was answered, or there was none
-  by_itself : (ending : Ending) → Walked state ending m1 m1 m2 [] more [] part → LastWalk state ending m1 m2 more part w0 w1 Lost first
+  by_itself : (ending : Ending) → Walked state (LosesSome Lost ending) ending m1 m1 m2 [] more [] part → LastWalk state ending m1 m2 more part w0 w1 Lost first
   by_itself ending walk = record {
     held = [];
     rest = more;
@@ -34,9 +35,9 @@ module _ {R : Type 0} (state : R → RevState) (m1 m2 : Machine R) (more : List 
   partly run follow [] is idle = by_itself _ (walked_idle state m1 m2 more run part idle)
   partly run follow (text ∷ texts) is (inl idle) = by_itself _ (walked_idle state m1 m2 more run part idle)
   partly run follow (text ∷ texts) is (inr (inl stopped)) =
-      by_itself _ (subst (λ (l : List (List ℕ)). Walked state (Ran (Err (session_stop run))) m1 m1 m2 [] l [] part) (sym is) (walked_cut state m1 m2 text texts run part (subst (λ (l : List (List ℕ)). Follow l m2.owed) is follow) stopped))
+      by_itself _ (subst (λ (l : List (List ℕ)). Walked state (LosesSome Lost (Ran (Err (session_stop run)))) (Ran (Err (session_stop run))) m1 m1 m2 [] l [] part) (sym is) (walked_cut state m1 m2 text texts run part (subst (λ (l : List (List ℕ)). Follow l m2.owed) is follow) stopped))
   partly run follow (text ∷ texts) is (inr (inr (inl done))) =
-      by_itself _ (subst (λ (l : List (List ℕ)). Walked state (Ran (Err (session_stop run))) m1 m1 m2 [] l [] part) (sym is) (walked_done_so state m1 m2 text texts run part done (subst (λ (l : List (List ℕ)). Follow l m2.owed) is follow)))
+      by_itself _ (subst (λ (l : List (List ℕ)). Walked state (LosesSome Lost (Ran (Err (session_stop run)))) (Ran (Err (session_stop run))) m1 m1 m2 [] l [] part) (sym is) (walked_done_so state m1 m2 text texts run part done (subst (λ (l : List (List ℕ)). Follow l m2.owed) is follow)))
   partly run follow (text ∷ texts) is (inr (inr (inr flight))) = flies_last state m1 m2 more part w0 w1 Lost first cut whole run (subst (λ (l : List (List ℕ)). CutTogether state m1 m2 l run part ⊎ FinishedTogether state m1 m2 l run part) (sym is) flight)
 
   pub last_walk : (result : Result Bool Stop) → Follow more m2.owed → LastPart state m1 m2 more part result → LastWalk state (Ran result) m1 m2 more part w0 w1 Lost first

@@ -1,6 +1,6 @@
 -- A walk over the texts that were answered, and the one begun, as far as the first.
 use Rattle.std.specs.Prelude.{◌&&◌, drop, map, max}
-use Rattle.std.proofs.Common.{◌≡◌, inl, inr, ◌+◌, ◌-◌, ◌≤◌, ◌<◌, ℕ, IsTrue, Bool, Ok, Err, Result, List, [], ◌∷◌, ◌++◌, length, take, Option, Some, None, refl, sym, ◌∙◌, ap, subst, append-nil, arith, ◌||◌, true, false}
+use Rattle.std.proofs.Common.{◌≡◌, ◌⊎◌, inl, inr, ◌+◌, ◌-◌, ◌≤◌, ◌<◌, ℕ, IsTrue, Bool, Ok, Err, Result, List, [], ◌∷◌, ◌++◌, length, take, Option, Some, None, refl, sym, ◌∙◌, ap, subst, append-nil, arith, ◌||◌, true, false}
 use Rattle.std.proofs.lemmas.List.{append_cancel_left}
 use Rattle.ob_base.specs.Events.{Event}
 use Rattle.ob_base.specs.declared.access.Access.{Access}
@@ -24,7 +24,7 @@ use Rattle.ob_headline.specs.Closing.{closing_line}
 use Rattle.ob_headline.proofs.FullLemmas.{met_script}
 use Rattle.ob_headline.specs.Failures.{FailsBeside, RisesBy, cut_off, failures}
 use Rattle.ob_headline.specs.Disturbed.{MeantUntil, meant_entries}
-use Rattle.ob_headline.specs.Flights.{Seat, after_entries, seat_alone, seats, whole_of}
+use Rattle.ob_headline.specs.Flights.{GoesOn, Seat, after_entries, seat_alone, seats, whole_of}
 use Rattle.ob_headline.specs.FullStash.{ReadsFullStash}
 use Rattle.ob_headline.specs.Words.{Answer, Begins, refused_at}
 use Rattle.ob_headline.specs.Statements.{SpellFirst, statements}
@@ -161,8 +161,9 @@ module _ {R : Type 0} (state : R → RevState) where
     pub whole : EndsWhole ending → Represents state m2.engine m2.store after_it
     pub path : Path state ending m0 m2 d tables seats spelt answers broken
 
-  -- from the first machine to the second these texts were answered so, and to the third one more was begun, or a flight
-  pub record Walked (ending : Ending) (m0 m1 m2 : Machine R) (texts more : List (List ℕ)) (answers : List Answer) (part : List ℕ) : Type 0 where
+  -- from the first machine to the second these texts were answered so, and to the third one more was begun, or a flight, of
+  -- which all that had ended were answered, unless it was for this cause
+  pub record Walked (Lost : Type 0) (ending : Ending) (m0 m1 m2 : Machine R) (texts more : List (List ℕ)) (answers : List Answer) (part : List ℕ) : Type 0 where
     pub spelt : List Spelt
     pub spells : SpellFirst (texts ++ more) spelt
     pub follow : SpellFirst (texts ++ more) (spelt ++ map Ok (statements_of m2.owed))
@@ -178,6 +179,7 @@ module _ {R : Type 0} (state : R → RevState) where
     pub lawful : (most old : ℕ) → (FailsBeside seen m0.store.faults m2.store.faults → RisesBy most old m2.store.faults) → (d : Draws) → AreDraws m0.engine d → Given d (indexes_of m0.engine)
         → AreSeen (StopsWithin ending (RisesBy most old m2.store.faults) (Full m2)) (seats_at m0 entries) m0.gathered.batch spelt answers (seen ++ last)
     pub aloft : LeavesAloft ending m2.store.asked (drop (length seen) (seats_at m0 entries)) (statements (drop (length texts) spelt)) last
+    pub on : GoesOn (drop (length seen) (seats_at m0 entries)) ⊎ Lost
     pub passed : m1.store.asked ≡ m0.store.asked ++ trace_at m0 (whole_of (length seen) entries)
     pub asked : m2.store.asked ≡ m0.store.asked ++ trace_at m0 entries
     pub keys : m2.engine.vault.keys ≡ m0.engine.vault.keys
@@ -207,7 +209,7 @@ module _ {R : Type 0} (state : R → RevState) where
   follow_first text texts (one ∷ owed) follow = follow
 
   -- nothing was done
-  pub walked_none : (ending : Ending) (m0 m2 : Machine R) (more : List (List ℕ)) (part : List ℕ) → IsUndone m0 m2 part → EndsUntampered ending → (ends_within ending ≡ true → ⊥) → Walked ending m0 m0 m2 [] more [] part
+  pub walked_none : {Lost : Type 0} (ending : Ending) (m0 m2 : Machine R) (more : List (List ℕ)) (part : List ℕ) → IsUndone m0 m2 part → EndsUntampered ending → (ends_within ending ≡ true → ⊥) → Walked Lost ending m0 m0 m2 [] more [] part
   unfolding SpellFirst AreSeen AnswersFrom any_cut statements seats trace_in whole_of session_after after_entries MeantUntil
   walked_none ending m0 m2 more part rests fine off =
       let same = rests.machine in
@@ -223,6 +225,7 @@ module _ {R : Type 0} (state : R → RevState) where
         entries = [];
         entered = no_entries m0;
         aloft = tt;
+        on = inl tt;
         in_access = λ ends. absurd (off ends);
         each_seen = refl;
         lawful = λ most old fails d drawn g. refl;
@@ -333,8 +336,8 @@ module _ {R : Type 0} (state : R → RevState) where
         bound = (cut.does.means.full tables d drawn reads).bound;
       })
 
-  pub walked_cut : (m0 m2 : Machine R) (text : List ℕ) (more : List (List ℕ)) (run : RunStop) (part : List ℕ) → Follow (text ∷ more) m2.owed → CutStep state m0 m2 text run part
-      → Walked (Ran (Err (session_stop run))) m0 m0 m2 [] (text ∷ more) [] part
+  pub walked_cut : {Lost : Type 0} (m0 m2 : Machine R) (text : List ℕ) (more : List (List ℕ)) (run : RunStop) (part : List ℕ) → Follow (text ∷ more) m2.owed → CutStep state m0 m2 text run part
+      → Walked Lost (Ran (Err (session_stop run))) m0 m0 m2 [] (text ∷ more) [] part
   unfolding SpellFirst AreSeen AnswersFrom any_cut statements seats trace_in whole_of session_after after_entries MeantUntil
   walked_cut m0 m2 text more run part follow cut =
       let sk = skeleton cut.stmt in
@@ -351,6 +354,7 @@ module _ {R : Type 0} (state : R → RevState) where
         entries = AloneTurn (record { skeleton = sk; seen = here }) ∷ [];
         entered = one_entry m0 cut.stmt here cut.does.alone.flown;
         aloft = tt;
+        on = inl tt;
         in_access = λ ends. refl;
         each_seen = refl;
         lawful = λ most old fails d drawn g. (
@@ -456,8 +460,8 @@ module _ {R : Type 0} (state : R → RevState) where
   not_memory : (run : RunStop) → run ≡ Runs.SinkFault → Ran (Err (session_stop run)) ≡ Ran (Err NoMemory) → ⊥
   not_memory run fault is = cc (ap session_stop fault, is)
 
-  walked_done : (m0 m2 : Machine R) (text : List ℕ) (more : List (List ℕ)) (run : RunStop) (one : Answer) (part : List ℕ) → part ≡ one.bytes → run ≡ Runs.SinkFault → Follow (text ∷ more) m2.owed → ServedStatement state m0 m2 text one
-      → Walked (Ran (Err (session_stop run))) m0 m0 m2 [] (text ∷ more) [] part
+  walked_done : {Lost : Type 0} (m0 m2 : Machine R) (text : List ℕ) (more : List (List ℕ)) (run : RunStop) (one : Answer) (part : List ℕ) → part ≡ one.bytes → run ≡ Runs.SinkFault → Follow (text ∷ more) m2.owed → ServedStatement state m0 m2 text one
+      → Walked Lost (Ran (Err (session_stop run))) m0 m0 m2 [] (text ∷ more) [] part
   unfolding SpellFirst AreSeen AnswersFrom any_cut statements seats trace_in whole_of session_after after_entries MeantUntil
   walked_done m0 m2 text more run one part is fault follow did =
       let sk = skeleton did.stmt in
@@ -474,6 +478,7 @@ module _ {R : Type 0} (state : R → RevState) where
         entries = AloneTurn (record { skeleton = sk; seen = here }) ∷ [];
         entered = one_entry m0 did.stmt here did.does.alone.flown;
         aloft = tt;
+        on = inl tt;
         in_access = λ ends. refl;
         each_seen = refl;
         lawful = λ most old fails d drawn g. (
@@ -519,8 +524,8 @@ module _ {R : Type 0} (state : R → RevState) where
   pub refused_is : (m0 m1 : Machine R) (text : List ℕ) (one : Answer) → (bad : Misspelt m0 m1 text one) → one ≡ refused_at bad.at
   refused_is m0 m1 text one bad = λ i. record { outcome = bad.refused i; bytes = (bad.line ∙ ap closing_line bad.refused) i; plan = bad.unplanned i }
 
-  walked_refused : (ending : Ending) (m0 m2 : Machine R) (text : List ℕ) (more : List (List ℕ)) (one : Answer) (part : List ℕ) → part ≡ one.bytes → StaysAs m0 m2 → Misspelt m0 m2 text one → EndsUntampered ending → (ends_within ending ≡ true → ⊥)
-      → Walked ending m0 m0 m2 [] (text ∷ more) [] part
+  walked_refused : {Lost : Type 0} (ending : Ending) (m0 m2 : Machine R) (text : List ℕ) (more : List (List ℕ)) (one : Answer) (part : List ℕ) → part ≡ one.bytes → StaysAs m0 m2 → Misspelt m0 m2 text one → EndsUntampered ending → (ends_within ending ≡ true → ⊥)
+      → Walked Lost ending m0 m0 m2 [] (text ∷ more) [] part
   unfolding SpellFirst AreSeen AnswersFrom any_cut statements seats trace_in whole_of session_after after_entries MeantUntil
   walked_refused ending m0 m2 text more one part is same bad fine off = record {
     spelt = Err bad.at ∷ [];
@@ -534,6 +539,7 @@ module _ {R : Type 0} (state : R → RevState) where
     entries = [];
     entered = none_refused m0 bad.at;
     aloft = tt;
+    on = inl tt;
     in_access = λ ends. absurd (off ends);
     each_seen = refl;
     lawful = λ most old fails d drawn g. refl;
@@ -563,8 +569,8 @@ module _ {R : Type 0} (state : R → RevState) where
   }
 
   -- one that was carried out with the INSERT before it was answered, and a sink failed
-  walked_with : (m0 m2 : Machine R) (text : List ℕ) (more : List (List ℕ)) (run : RunStop) (one : Answer) (part : List ℕ) → part ≡ one.bytes → run ≡ Runs.SinkFault → Follow (text ∷ more) m2.owed → StaysAs m0 m2 → ServedWith m0 m2 text one
-      → Walked (Ran (Err (session_stop run))) m0 m0 m2 [] (text ∷ more) [] part
+  walked_with : {Lost : Type 0} (m0 m2 : Machine R) (text : List ℕ) (more : List (List ℕ)) (run : RunStop) (one : Answer) (part : List ℕ) → part ≡ one.bytes → run ≡ Runs.SinkFault → Follow (text ∷ more) m2.owed → StaysAs m0 m2 → ServedWith m0 m2 text one
+      → Walked Lost (Ran (Err (session_stop run))) m0 m0 m2 [] (text ∷ more) [] part
   unfolding SpellFirst AreSeen AnswersFrom any_cut statements seats trace_in whole_of session_after after_entries MeantUntil
   walked_with m0 m2 text more run one part is fault follow same with =
       let sk = skeleton with.stmt in
@@ -584,6 +590,7 @@ module _ {R : Type 0} (state : R → RevState) where
         entries = AloneTurn (record { skeleton = sk; seen = here }) ∷ [];
         entered = one_entry m0 with.stmt here (with_apart state m0 m2 text one with (most_at m0) m0.gathered.flown);
         aloft = tt;
+        on = inl tt;
         in_access = λ ends. refl;
         each_seen = refl;
         lawful = λ most old fails d drawn g. (
@@ -621,7 +628,7 @@ module _ {R : Type 0} (state : R → RevState) where
         early = λ d drawn tells steady tables held sound n before few. early_still n (most_at m0) m0.flights.words m0.gathered.batch _ (session_of m0 d tables) m0.store.asked m2.store.asked (Ok with.stmt ∷ []) _ tt (ap (λ (m : Machine R). m.store.asked) same) few;
       }
 
-  pub walked_done_so : (m1 m2 : Machine R) (text : List ℕ) (more : List (List ℕ)) (run : RunStop) (part : List ℕ) (done : Finished state m1 m2 text run part) → Follow (text ∷ more) m2.owed → Walked (Ran (Err (session_stop run))) m1 m1 m2 [] (text ∷ more) [] part
+  pub walked_done_so : {Lost : Type 0} (m1 m2 : Machine R) (text : List ℕ) (more : List (List ℕ)) (run : RunStop) (part : List ℕ) (done : Finished state m1 m2 text run part) → Follow (text ∷ more) m2.owed → Walked Lost (Ran (Err (session_stop run))) m1 m1 m2 [] (text ∷ more) [] part
   walked_done_so m1 m2 text more run part done follow = elim done.step.done [
     | inl still ↦ elim still.why [
       | inl bad ↦ walked_refused _ m1 m2 text more done.answer part done.whole still.same bad (stop_untampered run (sink_untampered run done.fault)) (sink_ends run done.fault)
@@ -630,5 +637,5 @@ module _ {R : Type 0} (state : R → RevState) where
     | inr did ↦ walked_done m1 m2 text more run done.answer part done.whole done.fault follow did
   ]
 
-  pub walked_idle : (m1 m2 : Machine R) (more : List (List ℕ)) (run : RunStop) (part : List ℕ) → Idle m1 m2 run part → Walked (Ran (Err (session_stop run))) m1 m1 m2 [] more [] part
+  pub walked_idle : {Lost : Type 0} (m1 m2 : Machine R) (more : List (List ℕ)) (run : RunStop) (part : List ℕ) → Idle m1 m2 run part → Walked Lost (Ran (Err (session_stop run))) m1 m1 m2 [] more [] part
   walked_idle m1 m2 more run part idle = walked_none _ m1 m2 more part idle.rests (stop_untampered run (memory_untampered run idle.memory)) (memory_ends run idle.memory)

@@ -1,7 +1,7 @@
 -- A walk over the texts that were answered, one by one.
 use Rattle.std.specs.Prelude.{drop, if◌then◌else◌, is_some}
 use Rattle.std.specs.Option.{option_map}
-use Rattle.std.proofs.Common.{suc, ◌≡◌, inl, inr, ◌+◌, ◌≤◌, ℕ, IsTrue, Bool, Ok, Err, List, [], ◌∷◌, ◌++◌, length, take, Option, Some, None, refl, sym, ◌∙◌, ap, subst, append_assoc, arith, true, false, length-append}
+use Rattle.std.proofs.Common.{suc, ◌≡◌, ◌⊎◌, inl, inr, ◌+◌, ◌≤◌, ℕ, IsTrue, Bool, Ok, Err, List, [], ◌∷◌, ◌++◌, length, take, Option, Some, None, refl, sym, ◌∙◌, ap, subst, append_assoc, arith, true, false, length-append}
 use Rattle.std.proofs.lemmas.List.{take-append-le}
 use Rattle.ob_base.specs.Counts.{Rises}
 use Rattle.ob_base.specs.declared.access.Access.{Access}
@@ -13,7 +13,7 @@ use Rattle.ob_headline.proofs.FullLemmas.{met_script}
 use Rattle.ob_headline.specs.Accesses.{AreSeen, LeavesAloft, StopsWithin, any_cut}
 use Rattle.ob_headline.specs.Disturbed.{MeantUntil}
 use Rattle.ob_headline.specs.Failures.{RisesBy}
-use Rattle.ob_headline.specs.Flights.{Seat, after_entries, may_fly, most_flown, seat_alone, whole_of}
+use Rattle.ob_headline.specs.Flights.{GoesOn, Seat, after_entries, may_fly, most_flown, seat_alone, whole_of}
 use Rattle.ob_headline.specs.Meaning.{AnswersFrom, AnswersIn, AnswersMeant, session_after}
 use Rattle.ob_headline.specs.Statements.{SpellFirst, statements}
 use Rattle.ob_headline.specs.Words.{Answer, Begins}
@@ -54,18 +54,18 @@ use Rattle.ob_tables.proofs.CutLemmas.{end_cut}
 module _ {R : Type 0} (state : R → RevState) where
   -- one text more
   -- one of which nothing was asked: the machine stands where it stood
-  module _ (ending : Ending) (m0 m1 m m2 : Machine R) (texts more : List (List ℕ)) (answers : List Answer) (part : List ℕ) (same : StaysAs m0 m1) where
-    here_again : Walked state ending m1 m m2 texts more answers part → Walked state ending (standing m0 m1.owed m1.gathered) m m2 texts more answers part
-    here_again = subst (λ (x : Machine R). Walked state ending x m m2 texts more answers part) same
+  module _ {Lost : Type 0} (ending : Ending) (m0 m1 m m2 : Machine R) (texts more : List (List ℕ)) (answers : List Answer) (part : List ℕ) (same : StaysAs m0 m1) where
+    here_again : Walked state Lost ending m1 m m2 texts more answers part → Walked state Lost ending (standing m0 m1.owed m1.gathered) m m2 texts more answers part
+    here_again = subst (λ (x : Machine R). Walked state Lost ending x m m2 texts more answers part) same
 
   path_again : (ending : Ending) (m0 m1 m2 : Machine R) (d : Draws) (tables : Tables) (seats : List Seat) (spelt : List Spelt) (answers : List Answer) (broken : Broken) → StaysAs m0 m1
       → Path state ending (standing m0 m1.owed m1.gathered) m2 d tables seats spelt answers broken → Path state ending m1 m2 d tables seats spelt answers broken
   path_again ending m0 m1 m2 d tables seats spelt answers broken same = subst (λ (x : Machine R). Path state ending x m2 d tables seats spelt answers broken) (sym same)
 
-  pub more_refused : (ending : Ending) (m0 m1 m m2 : Machine R) (text : List ℕ) (texts more : List (List ℕ)) (one : Answer) (answers : List Answer) (part : List ℕ) → StaysAs m0 m1 → Misspelt m0 m1 text one
-      → Walked state ending m1 m m2 texts more answers part → Walked state ending m0 m m2 (text ∷ texts) more (one ∷ answers) part
+  pub more_refused : {Lost : Type 0} (ending : Ending) (m0 m1 m m2 : Machine R) (text : List ℕ) (texts more : List (List ℕ)) (one : Answer) (answers : List Answer) (part : List ℕ) → StaysAs m0 m1 → Misspelt m0 m1 text one
+      → Walked state Lost ending m1 m m2 texts more answers part → Walked state Lost ending m0 m m2 (text ∷ texts) more (one ∷ answers) part
   unfolding SpellFirst AreSeen AnswersFrom any_cut statements session_after
-  more_refused ending m0 m1 m m2 text texts more one answers part same bad there =
+  more_refused {Lost = Lost} ending m0 m1 m m2 text texts more one answers part same bad there =
       let rest = here_again ending m0 m1 m m2 texts more answers part same there in
       let is = refused_is state m0 m1 text one bad in
       let fresh = standing m0 m1.owed m1.gathered in
@@ -90,6 +90,7 @@ module _ {R : Type 0} (state : R → RevState) where
               (rest.lawful most old fails d drawn g),
         );
         aloft = rest.aloft;
+        on = rest.on;
         passed = rest.passed;
         asked = rest.asked;
         keys = rest.keys;
@@ -253,10 +254,10 @@ module _ {R : Type 0} (state : R → RevState) where
     after_on : (entries : List Turn) → after_entries m1.flights.words 0 (public_of m1.engine) entries ≡ after_entries m0.flights.words 0 p_here (AloneTurn x_here ∷ entries)
     after_on entries = sym (after_alone_then m0.flights.words m1.flights.words p_here (public_of m1.engine) (asked_of m0) (asked_of m1) x_here words_on did.does.ran.goes_on.public asks_on entries)
 
-  pub more_served : (ending : Ending) (m0 m1 m m2 : Machine R) (text : List ℕ) (texts more : List (List ℕ)) (one : Answer) (answers : List Answer) (part : List ℕ) → ServedStatement state m0 m1 text one
-      → Walked state ending m1 m m2 texts more answers part → Walked state ending m0 m m2 (text ∷ texts) more (one ∷ answers) part
+  pub more_served : {Lost : Type 0} (ending : Ending) (m0 m1 m m2 : Machine R) (text : List ℕ) (texts more : List (List ℕ)) (one : Answer) (answers : List Answer) (part : List ℕ) → ServedStatement state m0 m1 text one
+      → Walked state Lost ending m1 m m2 texts more answers part → Walked state Lost ending m0 m m2 (text ∷ texts) more (one ∷ answers) part
   unfolding SpellFirst AreSeen AnswersFrom any_cut statements
-  more_served ending m0 m1 m m2 text texts more one answers part did rest =
+  more_served {Lost = Lost} ending m0 m1 m m2 text texts more one answers part did rest =
       let p = public_of m0.engine in
       let sk = skeleton did.stmt in
       let here = seen_of m1.engine in
@@ -294,6 +295,7 @@ module _ {R : Type 0} (state : R → RevState) where
                   (behind d (draws_taken p sk here.end)) (did.does.ran.goes_on.drawn d drawn) (given_after state m0 m1 did.stmt (Ok one.outcome) did.does d drawn g did.does.ran.goes_on.lives)),
             );
         aloft = subst (λ (vs : List Seat). LeavesAloft ending m2.store.asked (drop (suc (length rest.seen)) vs) (statements (drop (length texts) rest.spelt)) rest.last) there rest.aloft;
+        on = subst (λ (vs : List Seat). GoesOn (drop (suc (length rest.seen)) vs) ⊎ Lost) there rest.on;
         passed = asked_more m0 m1 text one did m.store.asked (whole_of (length rest.seen) rest.entries) rest.passed ∙ ap (λ (es : List Turn). m0.store.asked ++ trace_at m0 es) (sym (whole_alone (length rest.seen) x rest.entries));
         asked = asked_more m0 m1 text one did m2.store.asked rest.entries rest.asked;
         keys = rest.keys ∙ did.does.ran.keys;
@@ -401,10 +403,10 @@ module _ {R : Type 0} (state : R → RevState) where
         holds = subst (λ (e : Draws). Holds state m1 e behind.tables) (sym draws) by.holds;
       }) (subst (λ (e : Draws). Path state ending m1 m2 e behind.tables seats spelt answers broken) (sym draws) (path_again ending m0 m1 m2 d behind.tables seats spelt answers broken same rest))
 
-  pub more_with : (ending : Ending) (m0 m1 m m2 : Machine R) (text : List ℕ) (texts more : List (List ℕ)) (one : Answer) (answers : List Answer) (part : List ℕ) → StaysAs m0 m1 → ServedWith m0 m1 text one
-      → Walked state ending m1 m m2 texts more answers part → Walked state ending m0 m m2 (text ∷ texts) more (one ∷ answers) part
+  pub more_with : {Lost : Type 0} (ending : Ending) (m0 m1 m m2 : Machine R) (text : List ℕ) (texts more : List (List ℕ)) (one : Answer) (answers : List Answer) (part : List ℕ) → StaysAs m0 m1 → ServedWith m0 m1 text one
+      → Walked state Lost ending m1 m m2 texts more answers part → Walked state Lost ending m0 m m2 (text ∷ texts) more (one ∷ answers) part
   unfolding SpellFirst AreSeen AnswersFrom any_cut statements
-  more_with ending m0 m1 m m2 text texts more one answers part same with there =
+  more_with {Lost = Lost} ending m0 m1 m m2 text texts more one answers part same with there =
       let rest = here_again ending m0 m1 m m2 texts more answers part same there in
       let fresh = standing m0 m1.owed m1.gathered in
       let p = public_of m0.engine in
@@ -443,6 +445,7 @@ module _ {R : Type 0} (state : R → RevState) where
                   (rest.lawful most old (λ beside. fails (beside_more x rest.seen m0.store.faults m0.store.faults m2.store.faults (uncut_rises (is_cut here.end) m0.store.faults m0.store.faults off refl) beside)) d drawn g),
             );
         aloft = subst (λ (l : List Seat). LeavesAloft ending m2.store.asked (drop (suc (length rest.seen)) l) (statements (drop (length texts) rest.spelt)) rest.last) vs rest.aloft;
+        on = subst (λ (l : List Seat). GoesOn (drop (suc (length rest.seen)) l) ⊎ Lost) vs rest.on;
         passed = rest.passed ∙ ap (λ (l : List Access). m0.store.asked ++ l) (traces (whole_of (length rest.seen) rest.entries)) ∙ ap (λ (es : List Turn). m0.store.asked ++ trace_at m0 es) (sym (whole_alone (length rest.seen) x rest.entries));
         asked = rest.asked ∙ ap (λ (l : List Access). m0.store.asked ++ l) (traces rest.entries);
         keys = rest.keys;

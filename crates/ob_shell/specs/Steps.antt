@@ -213,7 +213,7 @@ pub record Does {R : Type 0} (state : R → RevState) (m0 m1 : Machine R) (stmt 
   pub early : RefusedEarly (refusal_now (public_of m0.engine) (asked_of m0) stmt) result
       (seen_of m1.engine)
   pub lawful : Lawful (public_of m0.engine) (asked_of m0) stmt (seen_of m1.engine)
-  -- want of memory shows how far it got, and nothing of rows
+  -- want of memory shows how far it got, and no rows but those that are emitted
   pub memory : result ≡ Err NoMemory
       → WantsMemory (public_of m0.engine) stmt (seen_of m1.engine) m0.store m1.store ⊤
   -- a stash is full only where an access read more rows than fit

@@ -1,5 +1,5 @@
 -- What a whole run promises, by its words and the bytes that its source gave.
-use Rattle.std.specs.Prelude.{ℕ, ◌≡◌, ◌≢◌, ◌+◌, ◌⊎◌, Bool, true, false, List, [], ◌++◌, length, Option, Some, None, Result, Ok, Err}
+use Rattle.std.specs.Prelude.{ℕ, ◌≡◌, ◌≢◌, ◌+◌, ◌⊎◌, Bool, true, false, List, [], ◌++◌, drop, length, Option, Some, None, Result, Ok, Err}
 use Rattle.std.specs.Io.KnownBytes.{Consumes, IsAtEnd}
 use Rattle.ob_base.specs.Counts.{Rises}
 use Rattle.ob_base.specs.declared.refusal.Stop.{Stop}
@@ -8,7 +8,7 @@ use Rattle.ob_gen.specs.declared.tally.Tally.{Tally}
 use Rattle.ob_headline.specs.Bases.{Base, FromEach}
 use Rattle.ob_headline.specs.Batches.{AnsweredBut}
 use Rattle.ob_headline.specs.Endings.{last_line, status_of}
-use Rattle.ob_headline.specs.Flights.{most_of, trace_of, whole_of}
+use Rattle.ob_headline.specs.Flights.{GoesOn, most_of, seats_of, trace_of, whole_of}
 use Rattle.ob_headline.specs.KeyLine.{LineTaken, first_line, secret_of}
 use Rattle.ob_headline.specs.Settings.{limit_of}
 use Rattle.ob_headline.specs.Texts.{texts_in}
@@ -65,6 +65,11 @@ pub record TraceSink : Type 0 where
 abbrev pub sink_of : Bool → (old new : Option (List ℕ)) → TraceSink
 sink_of on old new = record { on = on; old = old; new = new }
 
+-- why not all that had ended may be among the answers: for this cause of the sink of the answers, or where the run ended so
+abbrev pub LosesSome : (Lost : Type 0) → Ending → Type 0
+LosesSome Lost ending =
+    Lost ⊎ ((ending ≡ Ran (Err SinkFault)) ⊎ (ending ≡ Ran (Err NoMemory)))
+
 -- what the texts did to the store, whose blocks are under these keys, and what was answered
 pub record Carried (tr : TraceSink) (base : Base) (keys : KeySet)
     (secret : Option (List ℕ)) (store0 store1 : StoreState) (high : ℕ) (story : Story) (ending : Ending) : Type 0 where
@@ -104,6 +109,8 @@ pub record RanAfter {R : Type 0} (state : R → RevState) (tr : TraceSink) (base
       store0 store1 Lost result high ⊎ ((high ≡ 0) × (store1 ≡ store0))
   pub cut : Outputs written0 written1 Lost (printed story.answers ++ story.part)
   pub whole : Took written0 written1 (printed story.answers)
+  pub answered : GoesOn (drop (length story.seen) (seats_of base story.entries))
+      ⊎ LosesSome Lost (Ran (flagged result))
   pub counted : TallyIs story.answers result
   pub ends : EndsBy feed1 ended (feed0.unread ++ piece) story.more story.part (flagged result)
 
@@ -195,6 +202,8 @@ pub record RunShown (tally : Tally) (tr : TraceSink) (base : Base) (keys : List 
   pub grew : Outputs written0 written1 Fault ((printed story.answers ++ story.part) ++ line)
   -- a sink's fault ends the run: all answers were taken whole
   pub whole : Took written0 written1 (printed story.answers)
+  pub answered : GoesOn (drop (length story.seen) (seats_of base story.entries))
+      ⊎ LosesSome Fault ending
   pub flag : EndingFlag ending story.answers
   pub counted : EndingTally ending story.answers tally
   pub says : EndingSays ending (limit_of base.settings) taken left1 ended story.more story.part
