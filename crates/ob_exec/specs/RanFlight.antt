@@ -197,8 +197,8 @@ pub record StopsFlight {R E : Type 0} (state : R → RevState)
   pub told : (tables : Tables) → ReadsTrueUntil state old s new t tables
       → Partly (answer_labels stmt (public_of old))
       (verdict (in_flight stmts (public_of old)) (count_of old s) tables stmt) events
-  -- want of memory tells nothing of rows: it comes before the first access, at a make, just before that of a result that
-  -- isn't padded, in its turn, or from the emitter
+  -- want of memory tells of no rows but those that are emitted: it comes before the first access, at a make, just before
+  -- that of a result that isn't padded, in its turn, or from the emitter
   pub memory : stop ≡ NoMemory → AtMake (drop (length s.asked) t.asked)
       ⊎ BeforeMake (in_flight stmts (public_of old)) stmts seens asked asks ended
       ⊎ AtEmitter grew cut parted
