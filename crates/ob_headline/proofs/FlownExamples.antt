@@ -1,6 +1,6 @@
 -- How texts are gathered to fly: worked examples.
 use Rattle.std.specs.Prelude.{codes, drop, map}
-use Rattle.std.proofs.Common.{◌≡◌, inl, inr, ℕ, Bool, true, false, List, [], ◌∷◌, Some, None, Ok, Err, refl, arith}
+use Rattle.std.proofs.Common.{◌≡◌, inl, inr, ℕ, zero, suc, Bool, true, false, List, [], ◌∷◌, Some, None, Ok, Err, refl, arith}
 use Rattle.ob_base.specs.declared.config.Public.{Public}
 use Rattle.ob_base.specs.declared.schema.Shape.TheVariants.{Flat}
 use Rattle.ob_base.specs.declared.schema.Table.{Table}
@@ -91,20 +91,41 @@ wants_behind k a b = FirstWants (seats (λ i. i) 0 over_one 5 (Together (a ∷ b
 
 none_that_waits : wants_behind 1 z x → ⊥
 unfolding wants_behind FirstWants seats seats_aloft asked_until turns turn runnable turns_for over_one table z x select
-none_that_waits (inl (on, inl emits)) = cc emits
-none_that_waits (inl (on, inr closes)) = cc closes
+none_that_waits (inl (on, inl (turn, emits))) = cc emits
+none_that_waits (inl (on, inr (end, closes))) = cc closes
 none_that_waits (inr (had, rest)) = omega (arith, had)
 
 none_that_ended : wants_behind 1 x z → ⊥
 unfolding wants_behind FirstWants seats seats_aloft asked_until turns turn runnable turns_for over_one table z x select
 none_that_ended (inl (on, wants)) = omega (arith, on)
-none_that_ended (inr (had, inl (on, inl emits))) = cc emits
-none_that_ended (inr (had, inl (on, inr closes))) = cc closes
+none_that_ended (inr (had, inl (on, inl (turn, emits)))) = cc emits
+none_that_ended (inr (had, inl (on, inr (end, closes)))) = cc closes
 none_that_ended (inr (had, inr (hads, rest))) = rest
 
 first_that_goes_on : wants_behind 2 x z
 unfolding wants_behind FirstWants seats seats_aloft asked_until turns turn runnable turns_for over_one table z x select
-first_that_goes_on = inr (omega arith, inl (omega arith, inr refl))
+first_that_goes_on = inr (omega arith, inl (omega arith, inr (refl, refl)))
+
+-- where the first one has read all and waits while the other reads, memory isn't wanting for it in the other's turns, but it may
+-- be once its end comes next
+later : ℕ → ℕ
+later zero = 0
+later (suc zero) = 0
+later (suc (suc t)) = 1
+
+wants_later : ℕ → Type 0
+wants_later k = FirstWants (seats later 0 over_one 5 (Together (z ∷ z ∷ []) (Some k) ∷ [])) (select ∷ select ∷ []) (z ∷ z ∷ [])
+
+none_in_others_turn : wants_later 3 → ⊥
+unfolding wants_later FirstWants seats seats_aloft asked_until turns turn runnable turns_for over_one table z select
+none_in_others_turn (inl (on, inl (inl last, emits))) = omega (arith, last)
+none_in_others_turn (inl (on, inl (inr next, emits))) = cc next
+none_in_others_turn (inl (on, inr (end, closes))) = omega (arith, end)
+none_in_others_turn (inr (had, rest)) = omega (arith, had)
+
+in_its_end : wants_later 4
+unfolding wants_later FirstWants seats seats_aloft asked_until turns turn runnable turns_for over_one table z select
+in_its_end = inl (omega arith, inr (refl, refl))
 
 -- the one that was refused is answered by then, if it stands first, and the other one needn't be
 goes_behind : (j : ℕ) → Type 0

@@ -111,12 +111,18 @@ OneMakes (v ∷ seats) (stmt ∷ stmts) [] = ⊥
 OneMakes (v ∷ seats) (stmt ∷ stmts) (x ∷ seen) =
     MakesAloft v.left v.public stmt x.seen ⊎ OneMakes seats stmts seen
 
--- memory was wanting for it where its rows are emitted, or at its last line, once nothing of it is left to be asked
-abbrev pub WantsAloft : Option Stand → Public → Stmt → Seen → Type 0
-WantsAloft None p stmt seen = ⊥
-WantsAloft (Some stand) p stmt seen =
-    AtEmission p stmt seen (drop stand.own (whole_script p (skeleton stmt) seen))
-    ⊎ (drop stand.own (script p (skeleton stmt) seen) ≡ [])
+-- it was its turn: the last access of all is its own, or the next one would have been
+abbrev pub InTurn : Stand → Type 0
+InTurn stand = (stand.before + 1 ≡ stand.own) ⊎ IsTrue stand.turn
+
+-- memory was wanting for it, in its turn, where its rows are emitted, or in its end, which would have come next
+abbrev pub WantsAloft : Option Stand → Seat → Stmt → Seen → Type 0
+WantsAloft None v stmt seen = ⊥
+WantsAloft (Some stand) v stmt seen =
+    (InTurn stand × AtEmission v.public stmt seen
+    (drop stand.own (whole_script v.public (skeleton stmt) seen)))
+    ⊎ ((v.until ≡ v.asked + stand.all)
+    × (drop stand.own (script v.public (skeleton stmt) seen) ≡ []))
 
 -- for the first of these that hadn't ended
 unfoldable pub FirstWants : List Seat → List Stmt → List Served → Type 0
@@ -124,7 +130,7 @@ FirstWants [] stmts seen = ⊥
 FirstWants (v ∷ seats) [] seen = ⊥
 FirstWants (v ∷ seats) (stmt ∷ stmts) [] = ⊥
 FirstWants (v ∷ seats) (stmt ∷ stmts) (x ∷ seen) =
-    (OnBy v.left v × WantsAloft v.left v.public stmt x.seen)
+    (OnBy v.left v × WantsAloft v.left v stmt x.seen)
     ⊎ (EndedBy v.left v × FirstWants seats stmts seen)
 
 -- a run doesn't end within one statement of a flight; memory is wanting before its first access, where a region is made, or,

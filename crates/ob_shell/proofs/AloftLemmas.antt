@@ -4,7 +4,7 @@ use Rattle.std.proofs.Common.{◌≡◌, ◌⊎◌, ◌+◌, ◌<◌, ◌≤◌,
 use Rattle.ob_base.specs.Events.{Event}
 use Rattle.ob_base.specs.declared.seen.Seen.{Seen}
 use Rattle.ob_exec.specs.InFlight.{served_as}
-use Rattle.ob_exec.specs.RanFlight.{EndsSo, IsParted, RanFlight, RanInTurns, StopsFlight, asked_by, asked_next, asked_since}
+use Rattle.ob_exec.specs.RanFlight.{EndsSo, IsParted, RanFlight, RanInTurns, StopsFlight, asked_by, asked_since}
 use Rattle.ob_headline.specs.Closing.{closing_line}
 use Rattle.ob_headline.specs.Words.{printed}
 use Rattle.ob_inflight.specs.Closing.{Closed, ClosesAll}
@@ -160,7 +160,7 @@ module _ {R E : Type 0} (state : R → RevState) (grew cut : E → E → List Ev
 
     -- some events of the next one, or its closing line, for want of memory or not
     module _ (stop : RunStop) (ran : Called {T = Unit {0}} (Err stop)) where
-      abbrev at : StopsFlight state grew cut closed parted stmts seens (asked_by (public_of old) words stmts seens (asked_since s t)) (asked_next (public_of old) words stmts seens (asked_since s t)) ran.ended stop old s new t out_old out_new
+      abbrev at : StopsFlight state grew cut closed parted words stmts seens ran.ended stop old s new t out_old out_new
       at = ran.stopped
 
       abbrev Wants : (part : List ℕ) → Type 0
@@ -182,13 +182,13 @@ module _ {R E : Type 0} (state : R → RevState) (grew cut : E → E → List Ev
         sent = inr (may, Sends-then (closed_text ran.ended) (events_text at.events) (sent_ended stop ran) (halves at.between out_new at.events short));
       }
 
-      cut_closing : MayCut stop → IsParted grew parted (EndsSo state stmts at.stmt at.seen (own (length ran.ended)) at.events old s new t) (length ran.ended) at.events at.between out_new → SentUntil written waiting stop ran
-      cut_closing may short =
+      cut_closing : MayCut stop → (short : IsParted grew parted (EndsSo state stmts at.stmt at.seen (own (length ran.ended)) at.events old s new t) (length ran.ended) at.events at.between out_new) → Wants (events_text at.events ++ closing_line short.outcome) → SentUntil written waiting stop ran
+      cut_closing may short wants =
           let line = closing_line short.outcome in
           record {
             part = events_text at.events ++ line;
             emits = record { events = at.events; told = at.told; text = inr (short.outcome, short.ends, refl) };
-            memory = λ is. inr (inr (inr (at.events, short.outcome, short.ends, refl)));
+            memory = wants;
             sent = inr (
               may,
               Sends-then (closed_text ran.ended) (events_text at.events ++ line) (sent_ended stop ran)
@@ -207,18 +207,18 @@ module _ {R E : Type 0} (state : R → RevState) (grew cut : E → E → List Ev
     sent_until Runs.KeeperFault ran = absurd ran.cause
     sent_until Runs.SinkFault ran = elim ran.stopped.ends [
       | inl short ↦ cut_events Runs.SinkFault ran (inl refl) short (unwanted Runs.SinkFault ran (λ is. cc is) _)
-      | inr closing ↦ cut_closing Runs.SinkFault ran (inl refl) closing
+      | inr closing ↦ cut_closing Runs.SinkFault ran (inl refl) closing (unwanted Runs.SinkFault ran (λ is. cc is) _)
     ]
     sent_until Runs.NoMemory ran = elim (ran.stopped.memory refl) [
       | inl make ↦ emitted (λ part is. inl make)
       | inr (inl before) ↦ emitted (λ part is. inr (inl before))
-      | inr (inr (inl emission)) ↦ emitted (λ part is. inr (inr (inl emission.0)))
-      | inr (inr (inr closing)) ↦ cut_closing Runs.NoMemory ran (inr refl) closing
+      | inr (inr (inl emission)) ↦ emitted (λ part is. inr (inr (inl (emission.0, emission.1.0))))
+      | inr (inr (inr closing)) ↦ cut_closing Runs.NoMemory ran (inr refl) closing.1 (λ is. inr (inr (inr (closing.0, ran.stopped.events, closing.1.outcome, closing.1.ends, refl))))
     ]
       where
         emitted : ((part : List ℕ) → Wants Runs.NoMemory ran part) → SentUntil written waiting Runs.NoMemory ran
         emitted wants = elim ran.stopped.ends [
           | inl (inl grown) ↦ took_events Runs.NoMemory ran grown (wants _)
           | inl (inr short) ↦ cut_events Runs.NoMemory ran (inr refl) short (wants _)
-          | inr closing ↦ cut_closing Runs.NoMemory ran (inr refl) closing
+          | inr closing ↦ cut_closing Runs.NoMemory ran (inr refl) closing (wants _)
         ]

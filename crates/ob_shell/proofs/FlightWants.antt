@@ -11,14 +11,15 @@ use Rattle.ob_base.specs.declared.config.Public.{Public}
 use Rattle.ob_base.specs.declared.seen.Seen.{Seen}
 use Rattle.ob_exec.proofs.FlightLists.{served_long}
 use Rattle.ob_exec.specs.InFlight.{served_as}
-use Rattle.ob_exec.specs.RanFlight.{asked_next, in_flight}
-use Rattle.ob_headline.specs.Accesses.{FirstWants, LeavesAloft, LeavesFlight, MakesAloft, OneMakes, WantsAloft, ends_within}
+use Rattle.ob_exec.specs.RanFlight.{InEnd, InTurn as InTurnOf, asked_next, in_flight}
+use Rattle.ob_headline.specs.Accesses.{FirstWants, InTurn, LeavesAloft, LeavesFlight, MakesAloft, OneMakes, WantsAloft, ends_within}
 use Rattle.ob_headline.specs.Flights.{EndedBy, OnBy, Seat, Stand, stand_at}
+use Rattle.ob_headline.proofs.UntilLemmas.{until_ended}
 use Rattle.ob_headline.specs.Statements.{statements}
 use Rattle.ob_headline.specs.Words.{Answer}
 use Rattle.ob_headline.specs.declared.ending.Ending.{Ending}
 use Rattle.ob_headline.specs.declared.ending.Ending.TheVariants.{Ran}
-use Rattle.ob_script.specs.Flights.{AreSteady, flight_public}
+use Rattle.ob_script.specs.Flights.{AreSteady, Flying, boarding, flight_public, turns_of}
 use Rattle.ob_script.specs.Script.{script, whole_script}
 use Rattle.ob_script.specs.Trace.{Served as Entry}
 use Rattle.ob_select.proofs.SelectRuns.{ends-more}
@@ -56,7 +57,7 @@ one_makes (x ∷ fs) (suc n) (suc i) f from is makes = one_makes fs n i f (omega
 
 -- it hadn't ended, and memory was wanting for it
 abbrev WantsOn : Flown → Type 0
-WantsOn f = OnBy f.seat.left f.seat × WantsAloft f.seat.left f.seat.public f.stmt f.seen
+WantsOn f = OnBy f.seat.left f.seat × WantsAloft f.seat.left f.seat f.stmt f.seen
 
 -- for the one at a place, before which all had ended
 first_wants : (fs : List Flown) (n i : ℕ) (f : Flown) → n ≤ i → slice_get fs i ≡ Some f → All HadEnded (take i (seats_in fs)) → WantsOn f
@@ -102,11 +103,11 @@ abbrev MakesBehind : Public → (turn : Bool) → (own : ℕ) → Stmt → Seen 
 MakesBehind p turn own stmt seen =
     IsTrue turn × AtResult p stmt seen (drop own (whole_script p (skeleton stmt) seen))
 
--- where its rows are emitted, or at its last line, behind so many
-abbrev EndsBehind : Public → (own : ℕ) → Stmt → Seen → Type 0
-EndsBehind p own stmt seen =
-    AtEmission p stmt seen (drop own (whole_script p (skeleton stmt) seen))
-    ⊎ (drop own (script p (skeleton stmt) seen) ≡ [])
+-- in its turn where its rows are emitted, or in its end, behind so many
+abbrev EndsBehind : Public → Stand → (Ended : Type 0) → Stmt → Seen → Type 0
+EndsBehind p stand Ended stmt seen =
+    (InTurn stand × AtEmission p stmt seen (drop stand.own (whole_script p (skeleton stmt) seen)))
+    ⊎ (Ended × (drop stand.own (script p (skeleton stmt) seen) ≡ []))
 
 module _ {R : Type 0} (state : R → RevState) (m1 m2 : Machine R) (more : List (List ℕ)) (part : List ℕ) (run : RunStop) (cut : CutTogether state m1 m2 more run part) where
   abbrev ran : RanAloft {T = Unit {0}} state m1.flights.words m2.flights.words cut.stmts cut.seens cut.flew.ended (Err run) m1.engine m1.store m2.engine m2.store
@@ -160,10 +161,14 @@ module _ {R : Type 0} (state : R → RevState) (m1 m2 : Machine R) (more : List 
       let on = going_on p (served_as cut.stmts cut.seens) m1.flights.words total e steady (omega (arith, under, as_long)) ran.turn in
       omega (arith, on)
 
-  ends_next : (n : ℕ) → n ≤ e → EndsBehind (in_flight cut.stmts p) (at.own e) cut.flew.stmt cut.flew.seen → OneOf n fs_cut
+  -- where the one at a place was left
+  abbrev stand : ℕ → Stand
+  stand i = stand_at p (served_as cut.stmts cut.seens) m1.flights.words i total
+
+  ends_next : (n : ℕ) → n ≤ e → EndsBehind (in_flight cut.stmts p) (stand e) ((at.seat e).until ≡ (at.seat e).asked + total) cut.flew.stmt cut.flew.seen → OneOf n fs_cut
   ends_next n from wants =
       inr (first_wants fs_cut n e (flown_at at e cut.flew.stmt cut.flew.seen (slice_get cut.flew.ended e)) from (found e cut.flew.stmt cut.flew.seen cut.flew.next cut.flew.shown) had_before
-      (goes_on, subst (λ (k : ℕ). EndsBehind (flight_public k p) (at.own e) cut.flew.stmt cut.flew.seen) as_long wants))
+      (goes_on, subst (λ (k : ℕ). EndsBehind (flight_public k p) (stand e) ((at.seat e).until ≡ (at.seat e).asked + total) cut.flew.stmt cut.flew.seen) as_long wants))
 
   all_left : All (IsLeftAt total) fs_cut
   all_left = each_flown at (IsLeftAt total) 0 cut.stmts cut.seens cut.flew.ended (λ k stmt seen get shown. record { stand = stand_at p (served_as cut.stmts cut.seens) m1.flights.words (0 + k) total; left = refl; all = refl })
@@ -184,16 +189,31 @@ module _ {R : Type 0} (state : R → RevState) (m1 m2 : Machine R) (more : List 
   in_turn : (i : ℕ) (a : Access) → asked_next p m1.flights.words cut.stmts cut.seens total ≡ Some (i, a) → IsTrue (turn_at i)
   in_turn i a is = subst (λ (o : Option (ℕ × Access)). IsTrue (option_map_or (λ (e : ℕ × Access). e.0 == i) o false)) (sym is) (eq-eqb i i refl)
 
+  its_turn : InTurnOf p m1.flights.words cut.stmts cut.seens total e → InTurn (stand e)
+  its_turn (inl last) = inl last
+  its_turn (inr (a, next)) = inr (in_turn e a next)
+
+  -- its end would have come next
+  end_next : InEnd p m1.flights.words cut.stmts cut.seens total e → (at.seat e).until ≡ (at.seat e).asked + total
+  end_next ends =
+      let all = until_ended m1.flights.words e (boarding p (served_as cut.stmts cut.seens)) ends.turn (turns_of p (served_as cut.stmts cut.seens))
+      (ap (λ (o : Option Flying). option_map_or (λ (f : Flying). f.ended) o false) ends.at ∙ ends.ended) in
+      let within = ends.within in
+      let on = goes_on in
+      omega (arith, all, within, on)
+
+  nothing_left : at.own e ≡ length (script (in_flight cut.stmts p) (skeleton cut.flew.stmt) cut.flew.seen) → drop (at.own e) (script (in_flight cut.stmts p) (skeleton cut.flew.stmt) cut.flew.seen) ≡ []
+  nothing_left whole = drop_all (at.own e) (script (in_flight cut.stmts p) (skeleton cut.flew.stmt) cut.flew.seen) (omega (arith, whole))
+
   why_left : run ≡ Runs.NoMemory → (n : ℕ) → n ≤ e → Wants n
   why_left memory n few = elim (cut.flew.memory memory) [
     | inl make ↦ at_make n make
     | inr (inl before) ↦
         let past = past_none cut.flew.ended before.place before.going in
         inr (inr (makes_at n before.place before.stmt before.seen (omega (arith, past, few)) before.get before.shown (in_turn before.place before.access before.turn, before.makes)))
-    | inr (inr (inl emits)) ↦ inr (inr (ends_next n few (inl emits)))
-    | inr (inr (inr closes)) ↦
-        let whole : at.own e ≡ length (script (in_flight cut.stmts p) (skeleton cut.flew.stmt) cut.flew.seen) = closes.2.whole in
-        inr (inr (ends_next n few (inr (drop_all (at.own e) (script (in_flight cut.stmts p) (skeleton cut.flew.stmt) cut.flew.seen) (omega (arith, whole))))))
+    | inr (inr (inl (inl turned, emits))) ↦ inr (inr (ends_next n few (inl (its_turn turned, emits))))
+    | inr (inr (inl (inr (ends, whole), emits))) ↦ inr (inr (ends_next n few (inr (end_next ends, nothing_left whole))))
+    | inr (inr (inr (ends, closes))) ↦ inr (inr (ends_next n few (inr (end_next ends, nothing_left closes.2.whole))))
   ]
 
   pub wants_left : run ≡ Runs.NoMemory → (kept : List Answer) → length kept ≤ e

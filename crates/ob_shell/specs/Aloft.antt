@@ -6,7 +6,7 @@ use Rattle.ob_base.specs.declared.config.Public.{Public}
 use Rattle.ob_base.specs.declared.seen.Seen.{Seen}
 use Rattle.ob_inflight.specs.Closing.{Closed, RisesBy}
 use Rattle.ob_exec.specs.InFlight.{IsFlown, served_as}
-use Rattle.ob_exec.specs.RanFlight.{BeforeMake, FlightCause, EndsSo, FlightMeans, FliesOn, asked_by, asked_next, asked_since, carried_out, cut_off, StopsInTurn, in_flight, stopped_after}
+use Rattle.ob_exec.specs.RanFlight.{BeforeMake, FlightCause, EndsSo, FlightMeans, FliesOn, InEnd, InTurn, asked_by, asked_next, asked_since, carried_out, cut_off, StopsInTurn, in_flight, stopped_after}
 use Rattle.ob_headline.specs.Closing.{closing_line}
 use Rattle.ob_headline.specs.Meaning.{PrintsUntil}
 use Rattle.ob_headline.specs.Words.{Answer, printed}
@@ -14,7 +14,7 @@ use Rattle.ob_mean.specs.Verdict.{Draws, Tables, verdict}
 use Rattle.ob_print.specs.Cuts.{Outputs}
 use Rattle.ob_print.specs.Rows.{events_text}
 use Rattle.ob_script.specs.Flights.{flight_accesses, next_flight, turns_of, words_from}
-use Rattle.ob_script.specs.Script.{whole_script}
+use Rattle.ob_script.specs.Script.{script, whole_script}
 use Rattle.ob_script.specs.Trace.{Served}
 use Rattle.ob_select.specs.Memory.{AtEmission, AtMake}
 use Rattle.ob_select.specs.Opening.{Opens}
@@ -120,7 +120,7 @@ pub record EmitsUntil {R : Type 0} (state : R → RevState) (stmts : List Stmt) 
       × ClosesWithin events part outcome)
 
 -- memory is wanting before the first access, where a region is made, in its turn just before a result is made that isn't
--- padded, or where the next one's rows are emitted, or, where it ended so, its closing line
+-- padded, or, in its turn or its end, where the next one's rows are emitted, or, where it ended so, its closing line
 abbrev pub WantsTogether : Public → (words : ℕ → ℕ) → List Stmt → List Seen → (place : ℕ)
     → Stmt → Seen → (Ends : List Event → Outcome → Type 0) → (part : List ℕ) → List Closed
     → (s t : StoreState) → Type 0
@@ -128,10 +128,15 @@ WantsTogether p words stmts seens place stmt seen Ends part ended s t =
     AtMake (drop (length s.asked) t.asked)
     ⊎ (BeforeMake (in_flight stmts p) stmts seens (asked_own p words stmts seens s t)
     (asked_next p words stmts seens (asked_since s t)) ended
-    ⊎ (AtEmission (in_flight stmts p) stmt seen (drop (asked_own p words stmts seens s t place)
-    (whole_script (in_flight stmts p) (skeleton stmt) seen))
-    ⊎ ((events : List Event) × (outcome : Outcome) × Ends events outcome
-    × ClosesWithin events part outcome)))
+    ⊎ (((InTurn p words stmts seens (asked_since s t) place
+    ⊎ (InEnd p words stmts seens (asked_since s t) place
+    × (asked_own p words stmts seens s t place
+    ≡ length (script (in_flight stmts p) (skeleton stmt) seen))))
+    × AtEmission (in_flight stmts p) stmt seen (drop (asked_own p words stmts seens s t place)
+    (whole_script (in_flight stmts p) (skeleton stmt) seen)))
+    ⊎ (InEnd p words stmts seens (asked_since s t) place
+    × ((events : List Event) × (outcome : Outcome) × Ends events outcome
+    × ClosesWithin events part outcome))))
 
 -- they flew until then: the answers of those that have ended were printed, and a first part of the next one
 pub record FlewUntil {R : Type 0} (state : R → RevState) (words left : ℕ → ℕ)
