@@ -117,14 +117,14 @@ wants_later : ℕ → Type 0
 wants_later k = FirstWants (seats later 0 over_one 5 (Together (z ∷ z ∷ []) (Some k) ∷ [])) (select ∷ select ∷ []) (z ∷ z ∷ [])
 
 none_in_others_turn : wants_later 3 → ⊥
-unfolding wants_later FirstWants seats seats_aloft asked_until turns turn runnable turns_for over_one table z select
+unfolding later wants_later FirstWants seats seats_aloft asked_until turns turn runnable turns_for over_one table z select
 none_in_others_turn (inl (on, inl (inl last, emits))) = omega (arith, last)
 none_in_others_turn (inl (on, inl (inr next, emits))) = cc next
 none_in_others_turn (inl (on, inr (end, closes))) = omega (arith, end)
 none_in_others_turn (inr (had, rest)) = omega (arith, had)
 
 in_its_end : wants_later 4
-unfolding wants_later FirstWants seats seats_aloft asked_until turns turn runnable turns_for over_one table z select
+unfolding later wants_later FirstWants seats seats_aloft asked_until turns turn runnable turns_for over_one table z select
 in_its_end = inl (omega arith, inr (refl, refl))
 
 -- the one that was refused is answered by then, if it stands first, and the other one needn't be
