@@ -4,10 +4,11 @@ use Rattle.std.proofs.Common.{◌≡◌, inl, inr, ℕ, Bool, true, false, List,
 use Rattle.ob_base.specs.declared.config.Public.{Public}
 use Rattle.ob_base.specs.declared.schema.Shape.TheVariants.{Flat}
 use Rattle.ob_base.specs.declared.schema.Table.{Table}
-use Rattle.ob_base.specs.declared.seen.End.TheVariants.{Static, Whole}
-use Rattle.ob_headline.specs.Accesses.{FirstWants}
+use Rattle.ob_base.specs.declared.seen.End.TheVariants.{Static, Whole, Cut}
+use Rattle.ob_headline.specs.Accesses.{FirstWants, cut_aloft}
 use Rattle.ob_headline.specs.Bases.{start}
 use Rattle.ob_headline.specs.Disturbed.{first_course, meant_entries}
+use Rattle.ob_headline.specs.Failures.{cut_off}
 use Rattle.ob_headline.specs.Flights.{AreGathered, Seat, asked_until, most_in, seats, seats_aloft, stand_at, whole_of}
 use Rattle.ob_mean.proofs.VerdictLemmas.{count_all}
 use Rattle.ob_mean.specs.Verdict.{ended}
@@ -127,3 +128,17 @@ by_rule = (refl, (refl, (refl, tt)))
 against_rule : AreGathered 2 0 (seats (drawn 0) 0 (start None).public 0 (Alone x ∷ Together (x ∷ x ∷ []) None ∷ [])) (Ok select ∷ Ok select ∷ Ok select ∷ []) → ⊥
 unfolding AreGathered seats seats_aloft select x
 against_rule is = cc is.1.0
+
+-- ---- which ones failed
+-- the first of two, at its first access
+failed_first : Served
+failed_first = record { skeleton = skeleton select; seen = ended (Cut 1) }
+
+-- it counts where their flight was left; one alone may be seen so behind any stop
+left_failed : cut_aloft (seats (λ i. i) 0 over_one 0 (Together (failed_first ∷ z ∷ []) (Some 2) ∷ [])) (failed_first ∷ z ∷ []) ≡ 1
+unfolding seats seats_aloft asked_until turns turn runnable turns_for over_one table z select failed_first cut_off
+left_failed = refl
+
+alone_failed : cut_aloft (seats (λ i. i) 0 over_one 0 (Alone failed_first ∷ [])) (failed_first ∷ []) ≡ 0
+unfolding seats over_one table select failed_first cut_off
+alone_failed = refl
