@@ -102,7 +102,7 @@ gathered_at most g (w ∷ vs) (o ∷ bs) (z ∷ xs) (suc j) u v x y are a b c d 
     record { apart = rest.apart; at = rest.at; place = rest.place }
 
 -- ---- which may fly hangs on tables alone
-may_by : (p q : Public) (s : Skeleton) → p.tables ≡ q.tables → may_fly p s ≡ may_fly q s
+pub may_by : (p q : Public) (s : Skeleton) → p.tables ≡ q.tables → may_fly p s ≡ may_fly q s
 may_by p q (K.Rows (OneTable table) columns) same = ap (λ (ts : List Table). not (is_index (headings_of ts) table)) same
 may_by p q (K.Groups table columns key) same = ap (λ (ts : List Table). not (is_index (headings_of ts) table)) same
 may_by p q (K.Rows (Join a b on equals) columns) same = refl
@@ -120,7 +120,7 @@ tables_stay p s Joined same = refl
 tables_stay p s (Cut n) same = refl
 
 -- a SELECT leaves them
-selects_stay : (p : Public) (x : Served) → SelectsFromOne x.skeleton → (next p x.skeleton x.seen).tables ≡ p.tables
+pub selects_stay : (p : Public) (x : Served) → SelectsFromOne x.skeleton → (next p x.skeleton x.seen).tables ≡ p.tables
 selects_stay p x selects = go x.skeleton selects
   where
     go : (s : Skeleton) → SelectsFromOne s → tables_then p s x.seen.end ≡ p.tables

@@ -12,7 +12,7 @@ use Rattle.ob_exec.specs.InFlight.{served_as}
 use Rattle.ob_exec.specs.RanFlight.{asked_since, stopped_after}
 use Rattle.ob_headline.specs.Accesses.{AreSeen, LeavesAloft, any_cut}
 use Rattle.ob_headline.specs.Failures.{cut_off, failures}
-use Rattle.ob_headline.specs.Flights.{AreEntries, AreGathered, EndedBy, GoesOn, MayFly as FlyMay, Seat, may_fly, place_now, seats_aloft, served_by, whole_of}
+use Rattle.ob_headline.specs.Flights.{AreEntries, AreGathered, EndedBy, GoesOn, MayFly as FlyMay, Seat, after_entries, may_fly, place_now, seats_aloft, served_by, whole_of}
 use Rattle.ob_headline.specs.Statements.{SpellFirst, statements}
 use Rattle.ob_headline.specs.Words.{Answer}
 use Rattle.ob_headline.specs.declared.ending.Ending.{Ending}
@@ -202,6 +202,12 @@ module _ {R : Type 0} (state : R → RevState) (m0 m1 : Machine R) (stmts : List
         let none : whole_of (length (take n aloft)) (turn_of ∷ []) ≡ [] = whole_left (length (take n aloft)) aloft (Some in_all) (omega (arith, short, long_aloft, kept_long)) in
         sym (append-nil m0.store.asked) ∙ ap (λ (es : List Turn). m0.store.asked ++ trace_at m0 es) (sym none)
 
+    pub stands_left : public_of m0.engine ≡ after_entries m0.flights.words 0 (public_of m0.engine) (whole_of (length (take n aloft)) (turn_of ∷ []))
+    unfolding after_entries
+    stands_left =
+        let none : whole_of (length (take n aloft)) (turn_of ∷ []) ≡ [] = whole_left (length (take n aloft)) aloft (Some in_all) (omega (arith, short, long_aloft, kept_long)) in
+        ap (λ (es : List Turn). after_entries m0.flights.words 0 (public_of m0.engine) es) (sym none)
+
 -- ---- each of them
 -- it reads no leaf
 leaf_in : (p : Public) (m n : ℕ) (stmt : Stmt) (seen : Seen) (end : End) → may_fly p (skeleton stmt) ≡ true → StandsAs p m n stmt seen end → seen.leaf ≡ None
@@ -345,6 +351,7 @@ module _ {R : Type 0} (state : R → RevState) (m0 m1 : Machine R) (stmts : List
         aloft = wants;
         on = goes;
         passed = passed_left state m0 m1 stmts seens ended result may ran n short had;
+        stands = stands_left state m0 m1 stmts seens ended result may ran n short had;
         asked = asked_left state m0 m1 stmts seens ended result may ran;
         keys = ran.ran.keys;
         start = ran.ran.start;
