@@ -1,12 +1,11 @@
 -- Texts are answered before more is read.
 use Rattle.std.proofs.Common.{◌≡◌, inl, inr, ℕ, zero, suc, ◌-◌, ◌≤◌, ◌==◌, Bool, true, false, List, [], ◌∷◌, ◌++◌, length, take, drop, refl, sym, ap, ◌∙◌, subst, arith, append_assoc, append-nil, length-append, take-append-drop}
 use Rattle.std.proofs.lemmas.List.{take-append-le}
-use Rattle.std.specs.Prelude.{◌<◌, min}
+use Rattle.std.specs.Prelude.{◌<◌}
 use Rattle.ob_base.specs.declared.config.Public.{Public}
 use Rattle.ob_headline.proofs.TextLemmas.{texts_of-append, texts_of-nil}
 use Rattle.ob_headline.specs.Batches.{AllInsert, AnsweredBut, Wait}
 use Rattle.ob_headline.specs.KeyLine.{after_line}
-use Rattle.ob_headline.specs.Prompt.{Prompt}
 use Rattle.ob_headline.specs.Statements.{SpellFirst}
 use Rattle.ob_headline.specs.Texts.{rest_of, texts_in, texts_of}
 use Rattle.ob_headline.specs.Words.{Begins, before_read}
@@ -93,16 +92,6 @@ none_may texts served waits = go waits.waiting (elim waits.wait [ inl wait ↦ w
     go : (waiting : List (List ℕ)) → length waiting < 1 → Begins texts (served ++ waiting) → Begins texts served
     go [] few begins = subst (λ (xs : List (List ℕ)). Begins texts xs) (append-nil served) begins
     go (text ∷ waiting) few begins = absurd (omega (arith, few))
-
--- so what is promised follows from what waits
-pub prompt_from : (p : Public) (most flown : ℕ) (taken : List ℕ) (served : List (List ℕ)) (gave : ℕ) → min gave (length taken) ≤ 4096 → AnsweredBut p most flown (texts_in false (after_line (before_read gave taken))) served → Prompt p most flown taken served gave
-prompt_from p most flown taken served gave few waits = record {
-  few = few;
-  prompt = λ one alone. none_may (texts_in false (after_line (before_read gave taken))) served
-      (subst (λ (n : ℕ). AnsweredBut p 1 n (texts_in false (after_line (before_read gave taken))) served) alone
-      (subst (λ (n : ℕ). AnsweredBut p n flown (texts_in false (after_line (before_read gave taken))) served) one waits));
-  waits = waits;
-}
 
 -- what follows the first line came by the last read
 pub prompt_line : (gave : ℕ) (taken : List ℕ) (served : List (List ℕ)) → length (after_line taken) ≤ gave → Begins (texts_in false (after_line (before_read gave taken))) served

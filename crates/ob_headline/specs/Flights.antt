@@ -112,8 +112,9 @@ abbrev pub public_whole : Base → Story → Public
 public_whole base story = public_after base (whole_of (length story.seen) story.entries)
 
 -- ---- by what each statement goes
--- where a flight was left: how many accesses it had asked by then, how many of these were the statement's own, and how many
--- were its own before the last of all; and whether it was its turn, as it is where the next access would have been its own
+-- where a flight was left: how many accesses it had asked by then, how many of these were the statement's own, and how many of
+-- its own came before the last access of the flight; and whether it was its turn, as it is where the next access would have
+-- been its own
 pub record Stand : Type 0 where
   pub all : ℕ
   pub own : ℕ
@@ -218,7 +219,6 @@ pub record Entered (base : Base) (story : Story) : Type 0 where
   pub gathered : AreGathered (most_of base) 0 (seats_of base story.entries) story.spelt
   pub ended : All (λ v. EndedBy v.left v)
       (take (length story.seen) (seats_of base story.entries))
-  pub few_last : length story.last ≤ most_of base
 
 -- the session of the model from which a statement is answered: these tables and these draws, by what its seat says
 abbrev pub at_seat : Seat → Session → Session

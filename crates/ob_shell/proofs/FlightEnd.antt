@@ -173,8 +173,6 @@ module _ {R : Type 0} (state : R → RevState) (m0 m1 : Machine R) (stmts : List
     unfolding served_by
     left_entries =
         let first = first_apart all_fs are_stmts stood (all_places state m0 m1 stmts seens ended result may ran (Some in_all)) (let few = may.few in omega (arith, few, long_fs)) in
-        let gone = length-drop n aloft in
-        let few = may.few in
         record {
           served = append-nil aloft ∙ sym (take-append-drop n aloft);
           are = subst (λ (k : ℕ). AreEntries (most_at m0) k (turn_of ∷ [])) (sym kept_long) (left_are (most_at m0) n in_all aloft may_all (omega (arith, short, long_aloft)));
@@ -184,7 +182,6 @@ module _ {R : Type 0} (state : R → RevState) (m0 m1 : Machine R) (stmts : List
               (subst (λ (xs : List Spelt). AreGathered (most_at m0) m0.gathered.flown (seats_in all_fs ++ []) xs) (append-nil spelt_left) first.0));
           ended = subst (λ (vs : List Seat). All (λ (v : Seat). EndedBy v.left v) (take (length (take n aloft)) vs)) seats_left
               (subst (λ (k : ℕ). All (λ (v : Seat). EndedBy v.left v) (take k (seats_in all_fs))) (sym kept_long) had);
-          few = omega (arith, gone, few, long_aloft);
           starts = first.1;
         }
 

@@ -29,7 +29,7 @@ use Rattle.ob_shell.specs.Serving.{HasRead, ended_with}
 use Rattle.ob_headline.specs.Flights.{most_flown}
 use Rattle.ob_shell.specs.Steps.{AreSpelt, Flights, Gathered, Machine, asked_of, machine_of, none_gathered, standing}
 use Rattle.ob_shell.specs.Traces.{TracedAll}
-use Rattle.ob_shell.specs.Waiting.{AreGathered, BreaksIn, ComesFree, IsFree, ServedSo}
+use Rattle.ob_shell.specs.Waiting.{AreWaiting, BreaksIn, ComesFree, IsFree, ServedSo}
 use Rattle.ob_sql.specs.declared.stmt.Stmt.{Stmt}
 use Rattle.ob_store.specs.State.{StoreState}
 use Rattle.ob_tables.specs.Agreeing.{public_of}
@@ -113,7 +113,7 @@ ran_broken {f2 = f2} run piece ended texts more consumed taken limit at_end part
 
 -- one that a byte ended, or that came before it
 pub ran_turn : {R : Type 0} {state : R → RevState} {Lost : Type 0} {on : Bool} {t0 t1 t2 : Option (List ℕ)} {f0 f1 f2 : Fetch} {gave : ℕ} {l0 l1 l2 w0 w1 w2 : Option (List ℕ)} {p : List ℕ} {batch : List Stmt} {r : Tally} {b : ℕ} {m0 m1 m2 : Machine R} (run : RunStop)
-    → (so : SoFar state f0 f1 l0 l1 w0 w1 p batch r m0 m1) → Fed f1 f2 l1 l2 (b ∷ []) → length f2.unread < gave → AreGathered m1.flights.settings (public_of m1.engine) (asked_of m1) batch → TracedAll on m0.store.asked m1.store.asked t0 t1
+    → (so : SoFar state f0 f1 l0 l1 w0 w1 p batch r m0 m1) → Fed f1 f2 l1 l2 (b ∷ []) → length f2.unread < gave → AreWaiting m1.flights.settings (public_of m1.engine) (asked_of m1) batch → TracedAll on m0.store.asked m1.store.asked t0 t1
     → ((gathered : Gathered) (held : List (List ℕ)) → IsFree m1.flights.settings (public_of m1.engine) batch gathered → AreSpelt held batch
     → BreaksIn state on w1 w2 t1 t2 Lost (held ++ texts_at p b) run (standing m1 [] gathered) m2)
     → SessionRan state on f0 f2 l0 l2 gave w0 w2 t0 t2 m0 m2 Lost (Err (session_stop run))
@@ -173,7 +173,7 @@ ran_flushed {state = state} {Lost = Lost} {on = on} {t0 = t0} {t2 = t2} {f0 = f0
 
 -- or one of them stopped it
 pub ran_unflushed : {R : Type 0} {state : R → RevState} {Lost : Type 0} {on : Bool} {t0 t1 t2 : Option (List ℕ)} {f0 f2 : Fetch} {gave : ℕ} {l0 l2 w0 w1 w2 : Option (List ℕ)} {batch : List Stmt} {r : Tally} {m0 m1 m2 : Machine R} (ends : Result (Unit {0}) Stop) (run : RunStop)
-    → (read : HasRead state on f0 f2 l0 l2 gave w0 w1 t0 t1 batch r m0 m1 ends) → AreGathered m1.flights.settings (public_of m1.engine) (asked_of m1) batch
+    → (read : HasRead state on f0 f2 l0 l2 gave w0 w1 t0 t1 batch r m0 m1 ends) → AreWaiting m1.flights.settings (public_of m1.engine) (asked_of m1) batch
     → ((gathered : Gathered) (held : List (List ℕ)) → ComesFree m1.flights.settings (public_of m1.engine) batch gathered → AreSpelt held batch → BreaksIn state on w1 w2 t1 t2 Lost (held ++ []) run (standing m1 [] gathered) m2)
     → SessionRan state on f0 f2 l0 l2 gave w0 w2 t0 t2 m0 m2 Lost (Err (session_stop run))
 unfolding break_then

@@ -336,7 +336,6 @@ module _ {R : Type 0} {state : R → RevState} {Lost : Type 0} (base : Base) (co
     entries = subst (λ (n : ℕ). AreEntries n (length walk.seen) walk.entries) most_is walk.entered.are;
     gathered = subst (λ (vs : List Seat). AreGathered (most_of base) 0 vs walk.spelt) seats_are (subst (λ (n : ℕ). AreGathered n 0 (seats_at m0 walk.entries) walk.spelt) most_is walk.entered.gathers);
     ended = subst (λ (vs : List Seat). All (λ (v : Seat). EndedBy v.left v) (take (length walk.seen) vs)) seats_are walk.entered.ended;
-    few_last = subst (λ (n : ℕ). length walk.last ≤ n) most_is walk.entered.few;
   }
 
   -- so they are answered by their meaning

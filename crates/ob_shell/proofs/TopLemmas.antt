@@ -13,7 +13,7 @@ use Rattle.ob_base.specs.declared.refusal.Stop.TheVariants.{Tampered, SourceFaul
 use Rattle.ob_select.specs.Opening.{is_of_rows}
 use Rattle.ob_gen.specs.declared.tally.Tally.{Tally}
 use Rattle.ob_headline.proofs.FlatLemmas.{start_flat}
-use Rattle.ob_headline.proofs.PromptLemmas.{all_answered, prompt_all, prompt_from, prompt_line, waits_behind}
+use Rattle.ob_headline.proofs.PromptLemmas.{all_answered, prompt_all, prompt_line, waits_behind}
 use Rattle.ob_headline.proofs.TextLemmas.{rest_of-nil, texts_of-nil}
 use Rattle.std.proofs.lemmas.List.Elements.{All-nil}
 use Rattle.ob_headline.specs.Bases.{Base, flying, fresh, start}
@@ -110,7 +110,7 @@ unstarted tr settings flight secret s more ending blank untraced untampered unfa
   statements = record { spells = tt; reached = omega arith; begun = omega arith; keyed = inr refl; each = refl };
   accesses = record {
     flat = start_flat settings;
-    entered = record { served = refl; entries = tt; gathered = tt; ended = All-nil (λ (v : Seat). EndedBy v.left v); few_last = omega arith };
+    entered = record { served = refl; entries = tt; gathered = tt; ended = All-nil (λ (v : Seat). EndedBy v.left v) };
     begun = λ ends. absurd (unfaulted_ends ending unfaulted ends);
     each_seen = refl;
     lawful = refl;
@@ -173,8 +173,7 @@ module _ (tally : Tally) (tr : TraceSink) (untraced : tr.new ≡ tr.old) (settin
       let late = by.late in
       let few = by.few in
       let same = ap (λ (l : List ℕ). length (after_line l)) (piece_is fed none) in
-      prompt_from p most flown fed.piece [] gave (omega (arith, few, fed.taken))
-      (all_answered p most flown _ [] some (prompt_line gave fed.piece [] (omega (arith, late, same, ahead))))
+      record { few = omega (arith, few, fed.taken); waits = all_answered p most flown _ [] some (prompt_line gave fed.piece [] (omega (arith, late, same, ahead))) }
 
   -- where a run begins afresh
   pub fresh_prompt : {l0 l1 : Option (List ℕ)} {xs : List ℕ} (p : Public) (fed : Fed f0 f1 l0 l1 xs) → length (after_line (xs ++ f1.unread)) ≤ length f1.unread
@@ -363,8 +362,10 @@ shown_by {Lost = Lost} {tally = tally} base {f1 = f1} {f2 = f2} {gave = gave} {l
         at_end = ran.at_end;
         texts = ap (texts_in ran.ended) after ∙ ran.texts;
       };
-      prompt = prompt_from (public_whole base ran.story) (batch_most base.public) (most_of base) (read.fed.piece ++ ran.piece) ran.story.served gave (let few = by.few in omega (arith, few, count))
-          (waits_behind (public_whole base ran.story) (batch_most base.public) (most_of base) gave _ _ ran.story.served after ran.prompt);
+      prompt = record {
+        few = let few = by.few in omega (arith, few, count);
+        waits = waits_behind (public_whole base ran.story) (batch_most base.public) (most_of base) gave _ _ ran.story.served after ran.prompt;
+      };
       carried = carried;
       grew = subst (λ (l : List ℕ). Outputs w0 w2 Lost l) (sym (append-nil (printed ran.story.answers ++ ran.story.part))) ran.cut;
       whole = ran.whole;
@@ -404,9 +405,11 @@ shown_unread tally tr settings flight l gave w s ending blank untraced untampere
     at_end = λ (h : false ≡ true). absurd (cc);
     texts = refl;
   };
-  prompt = prompt_from _ (batch_most (flying flight (fresh settings)).public) (most_of (flying flight (fresh settings))) [] [] gave (omega arith)
-      (all_answered _ (batch_most (flying flight (fresh settings)).public) (most_of (flying flight (fresh settings))) _ [] (most_some (flying flight (fresh settings)).public)
-      (prompt_line gave [] [] (rw (after_line-none [] has_lf-nil) (omega arith))));
+  prompt = record {
+    few = omega arith;
+    waits = all_answered _ (batch_most (flying flight (fresh settings)).public) (most_of (flying flight (fresh settings))) _ [] (most_some (flying flight (fresh settings)).public)
+        (prompt_line gave [] [] (rw (after_line-none [] has_lf-nil) (omega arith)));
+  };
   carried = unstarted tr settings flight _ s _ _ blank untraced untampered unfaulted;
   grew = no_bytes w;
   whole = took_none w;

@@ -34,7 +34,7 @@ use Rattle.ob_script.specs.FlightLaws.{SelectsFromOne}
 use Rattle.ob_shell.specs.Steps.{AreSpelt, Follow, Gathered, Machine, Owed, Step, Steps, at_rest, more_together, one_more, standing, statements_of}
 use Rattle.ob_shell.specs.Tallies.{TallyIs, flagged}
 use Rattle.ob_shell.specs.Traces.{TracedAll}
-use Rattle.ob_shell.specs.Waiting.{AreGathered, AwaitsFlown, AwaitsMore, BreaksIn, ServedSo}
+use Rattle.ob_shell.specs.Waiting.{AreWaiting, AwaitsFlown, AwaitsMore, BreaksIn, ServedSo}
 use Rattle.ob_sql.specs.Skeleton.{skeleton}
 use Rattle.ob_sql.specs.declared.stmt.Stmt.{Stmt}
 use Rattle.ob_tables.specs.Agreeing.{public_of, seen_of}
@@ -293,7 +293,7 @@ waits_alike p q most texts same wait = record {
 abbrev pub LeavesTables : (p q : Public) → List (List ℕ) → List Stmt → Type 0
 LeavesTables p q served batch = (rest : List (List ℕ)) → AreSpelt (served ++ rest) batch → All (λ (stmt : Stmt). SelectsFromOne (skeleton stmt)) batch → q.tables ≡ p.tables
 
-pub waits_gathered : (settings : Option FlightSettings) (p : Public) (m : ℕ) (batch : List Stmt) (front back : List (List ℕ)) → AreGathered settings p m batch → AreSpelt (front ++ back) batch
+pub waits_gathered : (settings : Option FlightSettings) (p : Public) (m : ℕ) (batch : List Stmt) (front back : List (List ℕ)) → AreWaiting settings p m batch → AreSpelt (front ++ back) batch
     → (q : Public) → LeavesTables p q front batch → Wait (batch_most p) back ⊎ WaitToFly q (most_flown settings p) back
 waits_gathered settings p m [] front back gathered spelt q leaves =
     let none = none_held (front ++ back) spelt in
@@ -315,7 +315,7 @@ cut_twice (x ∷ a) b (y ∷ c) e is =
     ]
 
 -- of texts that were whole before the last read all were answered but for some that wait, where some of those that waited were
-pub answered_but : (settings : Option FlightSettings) (p : Public) (m : ℕ) (batch : List Stmt) (texts served held more_served rest ys whole : List (List ℕ)) → AreGathered settings p m batch → AreSpelt held batch → texts ≡ served ++ held → held ++ ys ≡ more_served ++ rest → Begins whole texts
+pub answered_but : (settings : Option FlightSettings) (p : Public) (m : ℕ) (batch : List Stmt) (texts served held more_served rest ys whole : List (List ℕ)) → AreWaiting settings p m batch → AreSpelt held batch → texts ≡ served ++ held → held ++ ys ≡ more_served ++ rest → Begins whole texts
     → (q : Public) → LeavesTables p q more_served batch → AnsweredBut q (batch_most p) (most_flown settings p) whole (served ++ more_served)
 answered_but settings p m batch texts served held more_served rest ys whole gathered spelt first second begins q leaves = elim (cut_twice held ys more_served rest second) [
   | inl longer ↦
