@@ -104,13 +104,6 @@ module _ {R E F : Type 0} (state : R → RevState) (grew cut : E → E → List 
   Stepped = StopsInStep k (taker_of grew cut closed parted) e st.ended st.current st.place st.act st.last now st.emitted.between st.out_last out_new
 
   -- ---- what is seen
-  pub same_served : map (λ (f : F). (k.progress f).served) now.flyers ≡ map (λ (f : F). (k.progress f).served) st.last.flyers
-  same_served = elim st.by [
-    | inl step ↦ ap (map (λ (f : F). (k.progress f).served)) step.flyers ∙ map_put (λ (f : F). (k.progress f).served) last.flyers st.place step.before step.after step.at step.stops.stays.served
-    | inr (inl fin) ↦ ap (map (λ (f : F). (k.progress f).served)) fin.flyers ∙ map_put (λ (f : F). (k.progress f).served) last.flyers st.place fin.before fin.after fin.at (ap (λ (x : _). x.served) fin.same)
-    | inr (inr clo) ↦ ap (map (λ (f : F). (k.progress f).served)) clo.flyers ∙ map_put (λ (f : F). (k.progress f).served) last.flyers st.place clo.before clo.after clo.at (ap (λ (x : _). x.served) clo.answered)
-  ]
-
   pub same_seen : map (λ (f : F). (k.progress f).served.seen) now.flyers ≡ map (λ (f : F). (k.progress f).served.seen) st.last.flyers
   same_seen = elim st.by [
     | inl step ↦ ap (map (λ (f : F). (k.progress f).served.seen)) step.flyers ∙ map_put (λ (f : F). (k.progress f).served.seen) last.flyers st.place step.before step.after step.at (ap (λ (x : Served). x.seen) step.stops.stays.served)

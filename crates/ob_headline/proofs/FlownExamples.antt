@@ -1,5 +1,5 @@
 -- How texts are gathered to fly: worked examples.
-use Rattle.std.specs.Prelude.{codes, map}
+use Rattle.std.specs.Prelude.{codes, drop, map}
 use Rattle.std.proofs.Common.{◌≡◌, inl, inr, ℕ, Bool, true, false, List, [], ◌∷◌, Some, None, Ok, Err, refl, arith}
 use Rattle.ob_base.specs.declared.config.Public.{Public}
 use Rattle.ob_base.specs.declared.schema.Shape.TheVariants.{Flat}
@@ -8,7 +8,7 @@ use Rattle.ob_base.specs.declared.seen.End.TheVariants.{Static, Whole}
 use Rattle.ob_headline.specs.Accesses.{FirstWants}
 use Rattle.ob_headline.specs.Bases.{start}
 use Rattle.ob_headline.specs.Disturbed.{first_course, meant_entries}
-use Rattle.ob_headline.specs.Flights.{AreGathered, Seat, asked_until, most_in, seats, seats_aloft, stand_at, whole_of}
+use Rattle.ob_headline.specs.Flights.{AreGathered, GoesOn, Seat, asked_until, most_in, seats, seats_aloft, stand_at, whole_of}
 use Rattle.ob_mean.proofs.VerdictLemmas.{count_all}
 use Rattle.ob_mean.specs.Verdict.{ended}
 use Rattle.ob_script.specs.Flights.{Alone, Together, drawn, runnable, turn, turns, turns_for}
@@ -105,6 +105,18 @@ none_that_ended (inr (had, inr (hads, rest))) = rest
 first_that_goes_on : wants_behind 2 x z
 unfolding wants_behind FirstWants seats seats_aloft asked_until turns turn runnable turns_for over_one table z x select
 first_that_goes_on = inr (omega arith, inl (omega arith, inr refl))
+
+-- the one that was refused is answered by then, if it stands first, and the other one needn't be
+goes_behind : (j : ℕ) → Type 0
+goes_behind j = GoesOn (drop j (seats (λ i. i) 0 over_one 5 (Together (x ∷ z ∷ []) (Some 1) ∷ [])))
+
+not_left_out : goes_behind 0 → ⊥
+unfolding goes_behind seats seats_aloft asked_until turns turn runnable turns_for over_one table z x select
+not_left_out on = omega (arith, on)
+
+left_for_the_stop : goes_behind 1
+unfolding goes_behind seats seats_aloft asked_until turns turn runnable turns_for over_one table z x select
+left_for_the_stop = omega arith
 
 -- how many accesses were asked when each had ended, five before them and one alone behind them, where all words are this one:
 -- the first asks first and ends, or the second does, and waits with its answer

@@ -1,5 +1,5 @@
 -- The accesses, over every store: those that what is seen of the statements tells.
-use Rattle.std.specs.Prelude.{⊤, ◌≡◌, ◌⊎◌, ◌↔◌, ◌||◌, Bool, true, false, List, [], ◌∷◌, ◌++◌, length, IsTrue, Option, Some, None, Ok, Err, take, drop}
+use Rattle.std.specs.Prelude.{⊤, ℕ, ◌+◌, if◌then◌else◌, is_some, ◌≡◌, ◌⊎◌, ◌↔◌, ◌||◌, Bool, true, false, List, [], ◌∷◌, ◌++◌, length, IsTrue, Option, Some, None, Ok, Err, take, drop}
 use Rattle.ob_base.specs.Events.{Event}
 use Rattle.ob_base.specs.Stored.{headings_of}
 use Rattle.ob_base.specs.declared.access.Access.{Access}
@@ -143,6 +143,11 @@ LeavesAloft ending asked (v ∷ seats) stmts seen =
     LeavesFlight v.left ending asked
     (OneMakes (v ∷ seats) stmts seen ⊎ FirstWants (v ∷ seats) stmts seen)
 
+-- of those begun so many were cut off where they flew; how one alone was left is seen so, too
+abbrev pub cut_aloft : List Seat → List Served → ℕ
+cut_aloft [] last = 0
+cut_aloft (v ∷ seats) last = if is_some v.left then cut_off last else 0
+
 -- ---- all statements
 -- one that was begun was left by its flight, in which it may have ended, or alone
 abbrev pub IsLeft : (Leaves : Public → Stmt → Seen → Type 0) → Option Stand → Seat
@@ -197,5 +202,7 @@ pub record Accesses (base : Base) (keys : KeySet) (ending : Ending) (story : Sto
   pub drawn : ReadsDraws (draw_of keys) (seats_of base story.entries) (story.seen ++ story.last)
   pub asked : new.asked ≡ base.before ++ trace_of base story.entries
   pub failed : base.public.batch ≡ None → RisesBy (failures story.answers) old.faults new.faults
-  pub cut : RisesBy (cut_off story.seen) old.faults new.faults
+  pub cut : RisesBy (cut_off story.seen
+      + cut_aloft (drop (length story.seen) (seats_of base story.entries)) story.last)
+      old.faults new.faults
   pub unfailed : any_cut (story.seen ++ story.last) ≡ false → new.faults ≡ old.faults

@@ -1,6 +1,6 @@
 -- What a run promises once its last line was written.
-use Rattle.std.specs.Prelude.{⊤, ◌≢◌}
-use Rattle.std.proofs.Common.{◌≡◌, ◌⊎◌, ℕ, Bool, true, false, List, [], ◌++◌, Option, Ok, Err, refl, sym, inl, subst, arith}
+use Rattle.std.specs.Prelude.{⊤, ◌≢◌, drop}
+use Rattle.std.proofs.Common.{◌≡◌, ◌⊎◌, ℕ, Bool, true, false, List, [], ◌++◌, length, Option, Ok, Err, refl, sym, inl, subst, arith}
 use Rattle.ob_headline.specs.declared.flight.FlightSettings.{FlightSettings}
 use Rattle.ob_base.specs.Counts.{Rises}
 use Rattle.ob_base.specs.declared.config.Config.{Config}
@@ -8,6 +8,7 @@ use Rattle.ob_base.specs.declared.refusal.Stop.TheVariants.{Tampered, SourceFaul
 use Rattle.ob_gen.specs.declared.tally.Tally.{Tally}
 use Rattle.ob_headline.specs.Bases.{Base, FromEach, flying, fresh}
 use Rattle.ob_headline.specs.Endings.{status_of, last_line}
+use Rattle.ob_headline.specs.Flights.{GoesOn, seats_of}
 use Rattle.ob_headline.specs.Settings.{limit_of}
 use Rattle.ob_headline.specs.Words.{Faults, IsHonest, SinksRose, Took, printed}
 use Rattle.ob_headline.specs.Status.{IsCompleted, KeepsLimits, StoreFails}
@@ -19,7 +20,7 @@ use Rattle.ob_shell.proofs.CompleteLemmas.{reported_line, reported_quiet}
 use Rattle.ob_shell.proofs.TopLemmas.{shown_unread}
 use Rattle.ob_shell.specs.Closed.{Unwritten, LineWritten, refused_by}
 use Rattle.ob_shell.specs.Running.{OutFailed, ServesAlone}
-use Rattle.ob_shell.specs.Top.{EndingCause, EndingWords, IsFresh, Reported, RunShown, TraceSink, StatusCause}
+use Rattle.ob_shell.specs.Top.{EndingCause, EndingWords, IsFresh, LosesSome, Reported, RunShown, TraceSink, StatusCause}
 use Rattle.ob_shell.specs.declared.top.Ended.{Ended}
 use Rattle.ob_words.specs.declared.words.WordsErr.{WordsErr}
 use Rattle.ob_words.specs.declared.words.WordsErr.TheVariants as Words
@@ -98,14 +99,16 @@ unfoldable pub reported_taken : {tally : Tally} {tr : TraceSink} {Takes : Type 0
     → Reported tally tr Takes (flying flight (fresh settings)) keys l0 l1 gave w0 w1 s0 s1 old new report
 reported_taken {tally = tally} {tr = tr} {Takes = Takes} {keys = keys} {flight = flight} {gave = gave} {l0 = l0} {l1 = l1} {w0 = w0} {w1 = w1} {s0 = s0} {s1 = s1} {old = old} {new = new} {report = report} t is r =
     let both = subst
-    (λ (o : Option Config). (x : RunShown tally tr (flying flight (fresh o)) keys l0 l1 gave w0 w1 s0 s1 report.high r.ending (last_line r.ending) (SinksRose old new)) × (new.trace ≢ old.trace → Outputs w0 w1 (Unit {0}) (printed x.story.answers ++ x.story.part)) × (Took w0 w1 (printed x.story.answers ++ x.story.part) ⊎ Rises old.out new.out))
-    (sym is) (r.shown, r.silent, r.through) in
+    (λ (o : Option Config). (x : RunShown tally tr (flying flight (fresh o)) keys l0 l1 gave w0 w1 s0 s1 report.high r.ending (last_line r.ending) (SinksRose old new)) × (new.trace ≢ old.trace → Outputs w0 w1 (Unit {0}) (printed x.story.answers ++ x.story.part)) × (Took w0 w1 (printed x.story.answers ++ x.story.part) ⊎ Rises old.out new.out)
+    × (GoesOn (drop (length x.story.seen) (seats_of (flying flight (fresh o)) x.story.entries)) ⊎ LosesSome (Rises old.out new.out) r.ending))
+    (sym is) (r.shown, r.silent, r.through, r.answered) in
     record {
       ending = r.ending;
       status = r.status;
       takes = words_taken r.ending r.takes t;
       shown = both.0;
       through = both.2;
+      answered = both.3;
       silent = both.1;
       cause = subst (λ (o : Option Config). StatusCause (ServesAlone flight (fresh o).public) r.ending old new) (sym is) r.cause;
       completes = λ taken input e keeps source sinks.

@@ -22,7 +22,7 @@ use Rattle.ob_print.proofs.CutLemmas.{Outputs-by, Outputs-fault}
 use Rattle.ob_print.specs.Cuts.{Outputs}
 use Rattle.ob_shell.proofs.KeyLemmas.{after_line-none, first_line-long, secret_of-long}
 use Rattle.ob_shell.proofs.TookLemmas.{took_more, took_of, took_or}
-use Rattle.ob_shell.proofs.TopLemmas.{first_line-more, after_line-more, shown_line, cut_line, quiet_line, line_rose, status_cause}
+use Rattle.ob_shell.proofs.TopLemmas.{first_line-more, after_line-more, loses_as, shown_line, cut_line, quiet_line, line_rose, status_cause}
 use Rattle.ob_shell.specs.Top.{TraceSink, EndsUntampered, EndingSays, EndingWords, EndingCause, RunShown, StatusCause, Reported}
 use Rattle.ob_store.specs.State.{StoreState}
 use Rattle.ob_seal.specs.KeySet.{KeySet}
@@ -112,6 +112,7 @@ reported_line {base = base} ending old mid new {w0 = w0} {w1 = w1} status takes 
       takes = takes;
       shown = shown_line cut.grown shown cut.appends (cut_line _ _ (λ e. line_rose (ServesAlone base.flight base.public) ending old mid new cause (rose e) later trace) whole cut) (λ lost. absurd (loud lost));
       through = inl (took_more cut.grown (took_of (subst (λ (l : List ℕ). Outputs w0 w1 ⊥ l) (append-nil (printed shown.story.answers ++ shown.story.part)) whole) (λ never. never)) cut.appends);
+      answered = loses_as (λ lost. absurd (loud lost)) shown.answered;
       silent = λ other. absurd (other (trace ∙ kept));
       cause = causes;
       completes = λ t input e k a b. completes old new input shown takes causes t e k a b;
@@ -132,6 +133,7 @@ reported_quiet {base = base} ending old new {w0 = w0} {w1 = w1} {Lost = Lost} st
       takes = takes;
       shown = shown_line [] shown (Appends-nil _) (quiet_line _ _ shown.grew rose) (λ lost. rose);
       through = took_or (subst (λ (l : List ℕ). Outputs w0 w1 Lost l) (append-nil (printed shown.story.answers ++ shown.story.part)) shown.grew) lost;
+      answered = loses_as lost shown.answered;
       silent = λ other. Outputs-fault tt (subst (λ (l : List ℕ). Outputs w0 w1 Lost l) (append-nil (printed shown.story.answers ++ shown.story.part)) shown.grew);
       cause = causes;
       completes = λ t input e k a b. completes old new input shown takes causes t e k a b;

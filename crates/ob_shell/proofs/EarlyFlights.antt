@@ -7,6 +7,7 @@ use Rattle.std.proofs.lemmas.List.Elements.{All-cons, All-head, All-nil, All-tai
 use Rattle.ob_base.specs.declared.access.Access.{Access}
 use Rattle.ob_base.specs.declared.config.Public.{Public}
 use Rattle.ob_base.specs.declared.seen.Seen.{Seen}
+use Rattle.ob_exec.proofs.FlightLists.{served_long}
 use Rattle.ob_exec.specs.InFlight.{served_as}
 use Rattle.ob_headline.proofs.FlightSeats.{FlownUntil, seats_get, until_by}
 use Rattle.ob_headline.specs.Batches.{after_now, gathered_now}
@@ -26,7 +27,7 @@ use Rattle.ob_shell.proofs.DisturbLemmas.{before_less, few_or_more}
 use Rattle.ob_shell.proofs.FlightBefore.{MeansEarly, all_early, all_same, all_until, asks_more, begins_early}
 use Rattle.ob_shell.proofs.FlightEarly.{flown_until}
 use Rattle.ob_shell.proofs.FlightEnd.{aloft as left_aloft, all_fs as left_fs, are_stmts as left_stmts, in_all, seats_left, spelt_left, stood as left_stood, turn_of as left_turn}
-use Rattle.ob_shell.proofs.FlightFacts.{all_get, seats_are, served_long}
+use Rattle.ob_shell.proofs.FlightFacts.{all_get, seats_are}
 use Rattle.ob_shell.proofs.FlightMeant.{at_same}
 use Rattle.ob_shell.proofs.FlightMore.{at_turn, spelt_up, up}
 use Rattle.ob_shell.proofs.FlightSeen.{AllAnswered, FirstAnswered, IsAnswerOf, Stood}

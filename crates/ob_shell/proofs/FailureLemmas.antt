@@ -1,5 +1,5 @@
 -- At least as many calls of the store failed as statements were cut off, and as texts were answered so one by one.
-use Rattle.std.specs.Prelude.{if◌then◌else◌, take}
+use Rattle.std.specs.Prelude.{if◌then◌else◌, is_some, take}
 use Rattle.std.specs.Option.{option_map}
 use Rattle.std.proofs.Common.{◌≡◌, ◌≤◌, ◌+◌, ◌++◌, ℕ, Bool, true, false, List, [], ◌∷◌, length, Option, None, Some, Ok, Err, refl, sym, ap, subst, arith}
 use Rattle.ob_base.specs.Counts.{Rises}
@@ -10,8 +10,8 @@ use Rattle.ob_base.specs.declared.refusal.Refusal.TheVariants.{StoreFault}
 use Rattle.ob_base.specs.declared.seen.End.{End}
 use Rattle.ob_base.specs.declared.seen.End.TheVariants.{Joined, Cut}
 use Rattle.ob_base.specs.declared.seen.Seen.{Seen}
-use Rattle.ob_headline.specs.Accesses.{AreSeen}
-use Rattle.ob_headline.specs.Flights.{Seat}
+use Rattle.ob_headline.specs.Accesses.{AreSeen, cut_aloft}
+use Rattle.ob_headline.specs.Flights.{Seat, Stand}
 use Rattle.ob_headline.specs.Batches.{is_failed}
 use Rattle.ob_headline.specs.Failures.{FailsBeside, RisesBy, cut_off, failures, outcome_failures, refusal_failures}
 use Rattle.ob_headline.specs.Statements.{statements}
@@ -70,13 +70,22 @@ pub beside_more : (x : Served) (seen : List Served) (a b c : ℕ) → RisesBy (i
 unfolding cut_off
 beside_more x seen a b c first rest = let all = grows a b c (if is_cut x.seen.end then 1 else 0) (cut_off seen + 1) first rest in omega (arith, all)
 
-pub cuts_none : (a b : ℕ) → a ≤ b → RisesBy (cut_off []) a b
+pub cuts_none : (a b : ℕ) → a ≤ b → RisesBy (cut_off [] + 0) a b
 unfolding cut_off
 cuts_none a b le = omega (arith, le)
 
-pub cuts_more : (x : Served) (seen : List Served) (a b c : ℕ) → RisesBy (if is_cut x.seen.end then 1 else 0) a b → RisesBy (cut_off seen) b c → RisesBy (cut_off (x ∷ seen)) a c
+pub cuts_more : (x : Served) (seen : List Served) (n a b c : ℕ) → RisesBy (if is_cut x.seen.end then 1 else 0) a b → RisesBy (cut_off seen + n) b c → RisesBy (cut_off (x ∷ seen) + n) a c
 unfolding cut_off
-cuts_more x seen a b c first rest = grows a b c (if is_cut x.seen.end then 1 else 0) (cut_off seen) first rest
+cuts_more x seen n a b c first rest = let all = grows a b c (if is_cut x.seen.end then 1 else 0) (cut_off seen + n) first rest in omega (arith, all)
+
+-- no more than were cut off among those begun
+few_aloft : (o : Option Stand) (n : ℕ) → (if is_some o then n else 0) ≤ n
+few_aloft None n = omega arith
+few_aloft (Some stand) n = omega arith
+
+pub cut_few : (seats : List Seat) (last : List Served) → cut_aloft seats last ≤ cut_off last
+cut_few [] last = omega arith
+cut_few (v ∷ seats) last = few_aloft v.left (cut_off last)
 
 -- ---- of answers
 pub fails_none : (a b : ℕ) → a ≤ b → RisesBy (failures []) a b

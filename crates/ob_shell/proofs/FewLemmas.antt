@@ -26,6 +26,7 @@ use Rattle.ob_base.specs.declared.skeleton.Skeleton.{Skeleton}
 use Rattle.ob_base.specs.declared.skeleton.Skeleton.TheVariants as K
 use Rattle.ob_base.specs.declared.skeleton.Source.{Source}
 use Rattle.ob_base.specs.declared.skeleton.Source.TheVariants.{Table as OneTable, Join}
+use Rattle.ob_exec.proofs.FlightLists.{served_long}
 use Rattle.ob_tables.proofs.TableLemmas.{region_below, tables_flat}
 use Rattle.ob_tables.specs.Agreeing.{Agrees, count_of, public_of, seen_of, world_of}
 use Rattle.ob_tables.specs.Running.{RefusedEarly}
@@ -60,7 +61,6 @@ use Rattle.ob_script.proofs.FlightEnds.{ends_whole}
 use Rattle.ob_script.specs.FlightLaws.{accesses_for}
 use Rattle.ob_script.specs.Flights.{flight_public, merge}
 use Rattle.ob_shell.proofs.AloftLemmas.{within_get}
-use Rattle.ob_shell.proofs.FlightFacts.{served_long}
 use Rattle.ob_shell.proofs.FlightSteady.{steady_flown}
 use Rattle.ob_shell.proofs.ReplayLemmas.{counts_on}
 use Rattle.ob_shell.specs.Feeding.{Fetch}

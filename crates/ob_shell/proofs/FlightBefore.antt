@@ -10,6 +10,7 @@ use Rattle.ob_base.specs.Stored.{headings, headings_of}
 use Rattle.ob_base.specs.declared.access.Access.{Access}
 use Rattle.ob_base.specs.declared.config.Public.{Public}
 use Rattle.ob_base.specs.declared.seen.Seen.{Seen}
+use Rattle.ob_exec.proofs.FlightLists.{served_long}
 use Rattle.ob_exec.specs.InFlight.{served_as}
 use Rattle.ob_exec.specs.RanFlight.{EndedWithin, asked_since, in_flight, meant_of, stopped_after}
 use Rattle.ob_headline.proofs.UntilLemmas.{until_not}
@@ -27,7 +28,7 @@ use Rattle.ob_script.specs.Flights.{AreSteady, Flight, Flying, boarding, flight,
 use Rattle.ob_script.specs.Trace.{Served}
 use Rattle.ob_shell.proofs.DisturbLemmas.{before_less}
 use Rattle.ob_shell.proofs.EndedUntil.{ended_at, ended_until}
-use Rattle.ob_shell.proofs.FlightFacts.{fs, places, served_long}
+use Rattle.ob_shell.proofs.FlightFacts.{fs, places}
 use Rattle.ob_shell.proofs.FlightSteady.{steady_flown}
 use Rattle.ob_shell.proofs.FlightUntil.{AsMeant, as_meant}
 use Rattle.ob_shell.proofs.FlownLists.{Flown, each_flown}

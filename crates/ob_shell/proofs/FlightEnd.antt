@@ -23,6 +23,7 @@ use Rattle.ob_mean.specs.Verdict.{Draws, Tables}
 use Rattle.ob_script.specs.FlightLaws.{SelectsFromOne}
 use Rattle.ob_script.specs.Flights.{Entry as Turn, Together, flight_accesses, merge, trace_in, own_asked}
 use Rattle.ob_script.specs.Trace.{Served as Entry}
+use Rattle.ob_shell.proofs.FailureLemmas.{cut_few}
 use Rattle.ob_shell.proofs.FlightFacts.{all_get, all_in, all_means, all_places, all_stood, fs, seats_are, served_are, spell_flown, spelt_long, stmts_are}
 use Rattle.ob_shell.proofs.FlightSeen.{FirstAnswered, IsIn, PlacesFrom, Stood, gathers_flown, left_seen}
 use Rattle.ob_shell.proofs.FlownLists.{Flown, seats_in, served_in_all, served_of, stmts_in}
@@ -358,7 +359,7 @@ module _ {R : Type 0} (state : R → RevState) (m0 m1 : Machine R) (stmts : List
         unfailed = λ not.
             let none = none_cut here (subst (λ (l : List Entry). any_cut l ≡ false) split not) in
             ran.failures.none (omega (arith, none, among, counted));
-        cuts = omega (arith, least, parts, among, counted);
+        cuts = let most = cut_few (drop (length (take n here)) (seats_at m0 entries)) (drop n here) in omega (arith, least, parts, among, counted, most);
         failed = λ alone. let few = failed_first fs_here kept (stood state m0 m1 stmts seens ended result may ran) first in omega (arith, least, few, among, counted);
         drawn = λ d drawn g.
             subst (λ (vs : List Seat). Reads d (indexes_of m0.engine) g vs (take n here ++ drop n here)) (seats_left state m0 m1 stmts seens ended result may ran)

@@ -6,6 +6,7 @@ use Rattle.std.proofs.lemmas.List.Elements.{All-head, All-tail}
 use Rattle.ob_base.specs.Stored.{headings, headings_of}
 use Rattle.ob_base.specs.declared.config.Public.{Public}
 use Rattle.ob_base.specs.declared.seen.Seen.{Seen}
+use Rattle.ob_exec.proofs.FlightLists.{served_long}
 use Rattle.ob_exec.specs.InFlight.{IsFlown, IsMeant, served_as}
 use Rattle.ob_exec.specs.RanFlight.{asked_by, asked_since, carried_out}
 use Rattle.ob_headline.specs.Flights.{may_fly, seat_aloft, seats_aloft, stand_at}
@@ -30,11 +31,6 @@ use Rattle.ob_tables.specs.declared.stop.RunStop.{RunStop}
 use Rattle.ob_vault.specs.State.{RevState}
 
 -- ---- lists
-pub served_long : (stmts : List Stmt) (seens : List Seen) → length seens ≡ length stmts → length (served_as stmts seens) ≡ length stmts
-served_long [] seens long = refl
-served_long (stmt ∷ stmts) [] long = absurd (omega (arith, long))
-served_long (stmt ∷ stmts) (seen ∷ seens) long = ap (λ (n : ℕ). suc n) (served_long stmts seens (omega (arith, long)))
-
 pub all_get : {A : Type 0} (P : A → Type 0) (xs : List A) → All P xs → (k : ℕ) (x : A) → slice_get xs k ≡ Some x → P x
 all_get P [] all k x is = absurd (cc is)
 all_get P (y ∷ xs) all zero x is = let same : y ≡ x = cc is in subst P same (All-head P y xs all)

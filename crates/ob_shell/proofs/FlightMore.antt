@@ -7,7 +7,7 @@ use Rattle.ob_base.specs.Indexes.{leaf_of_draw}
 use Rattle.ob_base.specs.declared.config.Public.{Public}
 use Rattle.ob_exec.proofs.LeavesRead.{Given, KeyAt, Unread}
 use Rattle.ob_exec.specs.InFlight.{served_as}
-use Rattle.ob_headline.specs.Accesses.{AreSeen, LeavesAloft, StopsWithin, any_cut}
+use Rattle.ob_headline.specs.Accesses.{AreSeen, LeavesAloft, StopsWithin, any_cut, cut_aloft}
 use Rattle.ob_headline.specs.Failures.{RisesBy, cut_off}
 use Rattle.ob_headline.specs.Flights.{GoesOn, Seat, after_entries, whole_of}
 use Rattle.ob_headline.specs.Statements.{SpellFirst, statements}
@@ -220,7 +220,13 @@ module _ {R : Type 0} (state : R → RevState) (m0 m1 : Machine R) (flown : List
         unfailed = λ not.
             let both : any_cut (up ++ all) ≡ false = subst (λ (l : List Entry). any_cut l ≡ false) (sym joined) not in
             rest.unfailed (any_rest up all both) ∙ none_up (any_first up all both);
-        cuts = let first = cuts_up in let sum = cut_more up rest.seen in let second = rest.cuts in omega (arith, first, sum, second);
+        cuts =
+            let first = cuts_up in
+            let sum = cut_more up rest.seen in
+            let second = rest.cuts in
+            let seats_behind = drop_more (seats_in here) (seats_at m1 rest.entries) (length rest.seen) (length (up ++ rest.seen)) (omega (arith, u1, length-map here (λ (f : Flown). f.seat))) in
+            subst (λ (vs : List Seat). RisesBy (cut_off (up ++ rest.seen) + cut_aloft (drop (length (up ++ rest.seen)) vs) rest.last) m0.store.faults m2.store.faults) there
+            (subst (λ (vs : List Seat). RisesBy (cut_off (up ++ rest.seen) + cut_aloft vs rest.last) m0.store.faults m2.store.faults) (sym seats_behind) (omega (arith, first, sum, second)));
         failed = λ alone.
             let first = cuts_up in
             let same = failed_same here given (stood state m0 m1 flown given step) (answered state m0 m1 flown given step) in

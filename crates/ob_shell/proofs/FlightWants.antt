@@ -9,6 +9,7 @@ use Rattle.std.proofs.lemmas.List.Elements.{All-head, All-tail}
 use Rattle.ob_base.specs.declared.access.Access.{Access}
 use Rattle.ob_base.specs.declared.config.Public.{Public}
 use Rattle.ob_base.specs.declared.seen.Seen.{Seen}
+use Rattle.ob_exec.proofs.FlightLists.{served_long}
 use Rattle.ob_exec.specs.InFlight.{served_as}
 use Rattle.ob_exec.specs.RanFlight.{asked_next, in_flight}
 use Rattle.ob_headline.specs.Accesses.{FirstWants, LeavesAloft, LeavesFlight, MakesAloft, OneMakes, WantsAloft, ends_within}
@@ -24,7 +25,7 @@ use Rattle.ob_select.proofs.SelectRuns.{ends-more}
 use Rattle.ob_select.specs.Memory.{AtEmission, AtMake, AtResult, ends_with_make}
 use Rattle.ob_shell.proofs.FlightCut.{flown_get, get_less, going_on, had, past_none}
 use Rattle.ob_shell.proofs.FlightEnd.{all_fs, aloft, in_all, long_aloft, seats_left, spelt_left, turn_of}
-use Rattle.ob_shell.proofs.FlightFacts.{places, served_long, spelt_long}
+use Rattle.ob_shell.proofs.FlightFacts.{places, spelt_long}
 use Rattle.ob_shell.proofs.FlightSeen.{spelt_in}
 use Rattle.ob_shell.proofs.FlightSteady.{steady_flown}
 use Rattle.ob_shell.proofs.FlownLists.{Flown, Places, each_flown, flown_at, seats_in, served_in_all}

@@ -25,7 +25,7 @@ use Rattle.ob_print.specs.Cuts.{Outputs}
 use Rattle.ob_shell.proofs.CloseLemmas.{reported_taken, words_cause, words_end, words_shown}
 use Rattle.ob_shell.proofs.CompleteLemmas.{completes}
 use Rattle.ob_shell.proofs.HeadLemmas.{headlined}
-use Rattle.ob_shell.proofs.TopLemmas.{shown_line, status_cause}
+use Rattle.ob_shell.proofs.TopLemmas.{loses_as, shown_line, status_cause}
 use Rattle.ob_shell.proofs.TraceLemmas.{traced_none, traced_whole}
 use Rattle.ob_shell.specs.Closed.{LineWritten, refused_by}
 use Rattle.ob_shell.specs.Generating.{RanGenerated, ClosedBy, ConcludedBy, Concludes, StatusIs, Summarized, asked_for, conclusion}
@@ -101,7 +101,7 @@ with_source source c = record { grew = c.grew; silent = c.silent; status = c.sta
 
 -- ---- the run, whose answers are kept nowhere
 unfoldable unkept : {Lost : Type 0} {tally : Tally} {tr : TraceSink} {Takes : Type 0} {base : Base} {keys : List ℕ → KeySet} {gave : ℕ} {l0 l1 : Option (List ℕ)} {s0 s1 : StoreState} (ending : Ending) (high : ℕ) (old new : Faults)
-    → EndingWords ending Takes → RunShown tally tr base keys l0 l1 gave None None s0 s1 high ending [] Lost → EndingCause (ServesAlone base.flight base.public) ending old new → (Lost → SinksRose old new)
+    → EndingWords ending Takes → RunShown tally tr base keys l0 l1 gave None None s0 s1 high ending [] Lost → EndingCause (ServesAlone base.flight base.public) ending old new → (Lost → Rises old.out new.out)
     → Reported tally tr Takes base keys l0 l1 gave None None s0 s1 old new (record { status = status_of ending; high = high })
 unkept {base = base} ending high old new takes shown cause rose =
     let causes : StatusCause (ServesAlone base.flight base.public) ending old new = status_cause (ServesAlone base.flight base.public) ending old new new cause (omega arith) refl refl (λ e. refl) in
@@ -109,8 +109,9 @@ unkept {base = base} ending high old new takes shown cause rose =
       ending = ending;
       status = refl;
       takes = takes;
-      shown = shown_line [] shown tt (Outputs-whole None None (SinksRose old new) _ tt) rose;
+      shown = shown_line [] shown tt (Outputs-whole None None (SinksRose old new) _ tt) (λ lost. inl (rose lost));
       through = inl (record { after = []; appends = tt });
+      answered = loses_as rose shown.answered;
       silent = λ rose. Outputs-whole None None (Unit {0}) _ tt;
       cause = causes;
       completes = λ t input e k a b. completes old new input shown takes causes t e k a b;
@@ -130,7 +131,7 @@ ran_generated {tally = tally} {gave = gave} seed left ending high trace0 trace1 
   left = left;
   gave = gave;
   tally = tally;
-  reported = unkept ending high (faults_of 0 0 trace0) (faults_of 0 0 trace1) takes shown cause (λ lost. inl lost.1);
+  reported = unkept ending high (faults_of 0 0 trace0) (faults_of 0 0 trace1) takes shown cause (λ lost. lost.1);
   traces = traces;
   concludes = concludes;
 }

@@ -1,24 +1,20 @@
 -- The headline, by what the run was reported to have done.
 use Rattle.ob_shell.specs.Running.{ServesAlone}
-use Rattle.std.specs.Prelude.{drop}
-use Rattle.std.proofs.Common.{◌≡◌, ◌⊎◌, inl, inr, ℕ, Bool, true, List, ◌++◌, length, Ok, Err, refl, sym, ◌∙◌, ap, subst}
+use Rattle.std.proofs.Common.{◌≡◌, ℕ, Bool, true, List, ◌++◌, Ok, Err, refl, sym, ◌∙◌, ap, subst}
 use Rattle.std.proofs.lemmas.List.{append_cancel_left}
 use Rattle.ob_base.specs.declared.access.Access.{Access}
 use Rattle.ob_base.specs.declared.refusal.Stop.TheVariants.{Tampered, SourceFault, SinkFault, NoMemory, InputLimit, StoreFault, StashFull, KeeperFault}
 use Rattle.ob_gen.specs.declared.tally.Tally.{Tally}
 use Rattle.ob_headline.specs.Bases.{Base, FromEach}
-use Rattle.ob_headline.specs.Flights.{GoesOn, seats_of}
 use Rattle.ob_headline.specs.Headline.{Headline}
 use Rattle.ob_headline.specs.Tracing.{traced}
-use Rattle.ob_headline.specs.Words.{Answer, Faults, IsHonest, Outside, SinksRose}
+use Rattle.ob_headline.specs.Words.{Answer, IsHonest, Outside, SinksRose}
 use Rattle.ob_headline.specs.Status.{Because, EndsAtRead, StoreFails}
 use Rattle.ob_headline.specs.declared.ending.Ending.{Ending}
 use Rattle.ob_headline.specs.declared.ending.Ending.TheVariants.{Usage, BadKey, Ran}
 use Rattle.ob_headline.specs.declared.ending.Report.{Report}
 use Rattle.ob_print.specs.Cuts.{Outputs}
-use Rattle.ob_script.specs.Flights.{Entry}
-use Rattle.ob_script.specs.Trace.{Served}
-use Rattle.ob_shell.specs.Top.{EndingFlag, EndingSays, EndingWords, EndsUntampered, LosesSome, Reported, StatusCause, sink_of}
+use Rattle.ob_shell.specs.Top.{EndingFlag, EndingSays, EndingWords, EndsUntampered, Reported, StatusCause, sink_of}
 use Rattle.ob_shell.specs.Traces.{Traced}
 use Rattle.ob_seal.specs.KeySet.{KeySet}
 
@@ -39,17 +35,6 @@ because base (Ran (Err StoreFault)) Takes max taken ended more answers part old 
 because base (Ran (Err StashFull)) Takes max taken ended more answers part old new takes flag says cause honest read faulted saving = (takes, says, cause)
 because base (Ran (Err KeeperFault)) Takes max taken ended more answers part old new takes flag says cause honest read faulted saving = (takes, says, saving refl, cause)
 
--- where an end is one for a sink's fault, the count of one rose
-sink_rose : (base : Base) (ending : Ending) (old new : Faults) → StatusCause (ServesAlone base.flight base.public) ending old new → ending ≡ Ran (Err SinkFault) → SinksRose old new
-sink_rose base ending old new cause is = (subst (λ (e : Ending). StatusCause (ServesAlone base.flight base.public) e old new) is cause).1
-
-pub shows_ended : (base : Base) (ending : Ending) (seen : List Served) (entries : List Entry) (old new : Faults) → StatusCause (ServesAlone base.flight base.public) ending old new
-    → GoesOn (drop (length seen) (seats_of base entries)) ⊎ LosesSome (SinksRose old new) ending → GoesOn (drop (length seen) (seats_of base entries)) ⊎ (SinksRose old new ⊎ (ending ≡ Ran (Err NoMemory)))
-shows_ended base ending seen entries old new cause (inl goes) = inl goes
-shows_ended base ending seen entries old new cause (inr (inl rose)) = inr (inl rose)
-shows_ended base ending seen entries old new cause (inr (inr (inl fault))) = inr (inl (sink_rose base ending old new cause fault))
-shows_ended base ending seen entries old new cause (inr (inr (inr wanting))) = inr (inr wanting)
-
 unfoldable pub headlined : {tally : Tally} {keys : List ℕ → KeySet} (Takes : Type 0) (base : Base) (tracing : Bool) (old new : Outside) (report : Report) → old.store.asked ≡ base.before
     → Reported tally (sink_of tracing old.traced new.traced) Takes base keys old.left new.left new.gave old.written new.written old.store new.store old.faults new.faults report
     → Traced tracing old.store.asked new.store.asked old.traced new.traced (SinksRose old.faults new.faults)
@@ -69,7 +54,7 @@ headlined Takes base tracing old new report first r traces =
         grew = shown.grew;
         whole = shown.whole;
         through = r.through;
-        answered = shows_ended base r.ending shown.story.seen shown.story.entries old.faults new.faults r.cause shown.answered;
+        answered = r.answered;
         silent = r.silent;
         traced_all = subst (λ (xs : List Access). Outputs old.traced new.traced (SinksRose old.faults new.faults) (traced tracing xs))
             (append_cancel_left base.before traces.seen _ (ap (λ (xs : List Access). xs ++ traces.seen) (sym first) ∙ sym traces.grew ∙ run.accesses.asked)) traces.cut;

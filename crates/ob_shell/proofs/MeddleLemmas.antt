@@ -116,7 +116,7 @@ module _ {tally : Tally} {tr : TraceSink} {Takes : Type 0} {keys : List ℕ → 
       → Undisturbed story.answers s0 s1 report
   undisturbed story secret key ending spelt accesses unsaved tells quiet =
       let honest : IsHonest s0 s1 = record { tells = tells; no_lie = quiet.lie } in
-      let uncut : cut_off story.seen ≡ 0 = none_rose _ s0.faults (subst (λ (n : ℕ). RisesBy (cut_off story.seen) s0.faults n) quiet.faults accesses.cut) in
+      let uncut : cut_off story.seen ≡ 0 = none_rose _ s0.faults (subst (λ (n : ℕ). RisesBy (cut_off story.seen) s0.faults n) quiet.faults (let all = accesses.cut in omega (arith, all))) in
       record {
         honest = honest;
         untampered = honest_status honest;

@@ -31,13 +31,13 @@ use Rattle.ob_headline.specs.Bases.{Base, FromEach, Opened, drawing, session_at,
 use Rattle.ob_headline.specs.Disturbed.{MeantUntil, meant_entries, meant_trace}
 use Rattle.ob_headline.specs.Flights.{AreEntries, AreGathered, EndedBy, Entered, GoesOn, Seat, after_entries, most_flown, most_of, public_after, public_whole, seats, seats_of, trace_of, whole_of, words_of}
 use Rattle.ob_headline.specs.FullStash.{ReadsFullStash}
-use Rattle.ob_headline.specs.Failures.{FailsBeside, cut_off}
+use Rattle.ob_headline.specs.Failures.{FailsBeside, RisesBy, cut_off}
 use Rattle.ob_headline.specs.Leaves.{AreDrawn}
 use Rattle.ob_headline.specs.Keeping.{EndsWith, Writes, closing_behind, last_script, region_opened}
 use Rattle.ob_headline.specs.KeptHeadline.{ClosesTables, PassesBoth}
 use Rattle.ob_headline.specs.Texts.{texts_in}
 use Rattle.ob_headline.specs.Words.{Answer, Begins, IsHonest, before_read, rows_in}
-use Rattle.ob_headline.specs.Accesses.{AreSeen, LeavesAloft, StopsWithin}
+use Rattle.ob_headline.specs.Accesses.{AreSeen, LeavesAloft, StopsWithin, cut_aloft}
 use Rattle.ob_headline.specs.Meaning.{AnswersFrom, session_after}
 use Rattle.ob_headline.specs.Statements.{statements}
 use Rattle.ob_headline.specs.SavedHeadline.{CountsKeeper, LeavesSaved}
@@ -361,7 +361,7 @@ module _ {R : Type 0} {state : R → RevState} {Lost : Type 0} (base : Base) (co
       drawn = record { numbers = reads.numbers; are = subst (λ (vs : List Seat). AreDrawn d0.draw vs all reads.numbers) seats_are reads.are; apart = reads.apart };
       asked = walk.asked ∙ (λ i. on.asked i ++ trace_in (words_of base) 0 (on.public i) walk.entries);
       failed = λ alone. walk.failed (ap (λ (p : Public). p.batch) on.public ∙ alone);
-      cut = walk.cuts;
+      cut = subst (λ (vs : List Seat). RisesBy (cut_off walk.seen + cut_aloft (drop (length walk.seen) vs) walk.last) s0.faults s1.faults) seats_are walk.cuts;
       unfailed = walk.unfailed;
     };
     traced_whole = ran.traced.whole (trace_of base (whole_of (length walk.seen) walk.entries)) (walk.passed ∙ ap (λ (p : Public). s0.asked ++ trace_in (words_of base) 0 p (whole_of (length walk.seen) walk.entries)) on.public);

@@ -28,7 +28,7 @@ use Rattle.ob_headline.specs.Flights.{GoesOn, Seat, after_entries, seat_alone, s
 use Rattle.ob_headline.specs.FullStash.{ReadsFullStash}
 use Rattle.ob_headline.specs.Words.{Answer, Begins, refused_at}
 use Rattle.ob_headline.specs.Statements.{SpellFirst, statements}
-use Rattle.ob_headline.specs.Accesses.{AreSeen, LeavesAloft, StopsWithin, WantsMemory, any_cut, ends_within, may_end}
+use Rattle.ob_headline.specs.Accesses.{AreSeen, LeavesAloft, StopsWithin, cut_aloft, WantsMemory, any_cut, ends_within, may_end}
 use Rattle.ob_headline.specs.Meaning.{AnswersFrom, AnswersIn, BeginsAnswer, PrintsUntil, session_after}
 use Rattle.ob_mean.specs.Batches.{Gathering, is_cut}
 use Rattle.ob_headline.specs.declared.ending.Ending.{Ending}
@@ -189,7 +189,7 @@ module _ {R : Type 0} (state : R → RevState) where
     pub public : EndsWhole ending → public_of m2.engine ≡ after_entries m0.flights.words 0 (public_of m0.engine) entries
     pub save : (public_of m1.engine).save ≡ (public_of m0.engine).save
     pub unfailed : any_cut (seen ++ last) ≡ false → m2.store.faults ≡ m0.store.faults
-    pub cuts : RisesBy (cut_off seen) m0.store.faults m2.store.faults
+    pub cuts : RisesBy (cut_off seen + cut_aloft (drop (length seen) (seats_at m0 entries)) last) m0.store.faults m2.store.faults
     pub failed : (public_of m0.engine).batch ≡ None → RisesBy (failures answers) m0.store.faults m2.store.faults
     pub drawn : (d : Draws) → AreDraws m0.engine d → (g : Given d (indexes_of m0.engine)) → Reads d (indexes_of m0.engine) g (seats_at m0 entries) (seen ++ last)
     pub lie : (lie : Lie) → m0.store.lie ≡ Some lie → m2.store.lie ≡ Some lie

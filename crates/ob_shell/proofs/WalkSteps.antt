@@ -10,9 +10,9 @@ use Rattle.ob_base.specs.declared.seen.End.{End}
 use Rattle.ob_base.specs.declared.seen.Seen.{Seen}
 use Rattle.ob_exec.proofs.LeavesRead.{behind}
 use Rattle.ob_headline.proofs.FullLemmas.{met_script}
-use Rattle.ob_headline.specs.Accesses.{AreSeen, LeavesAloft, StopsWithin, any_cut}
+use Rattle.ob_headline.specs.Accesses.{AreSeen, LeavesAloft, StopsWithin, any_cut, cut_aloft}
 use Rattle.ob_headline.specs.Disturbed.{MeantUntil}
-use Rattle.ob_headline.specs.Failures.{RisesBy}
+use Rattle.ob_headline.specs.Failures.{RisesBy, cut_off}
 use Rattle.ob_headline.specs.Flights.{GoesOn, Seat, after_entries, may_fly, most_flown, seat_alone, whole_of}
 use Rattle.ob_headline.specs.Meaning.{AnswersFrom, AnswersIn, AnswersMeant, session_after}
 use Rattle.ob_headline.specs.Statements.{SpellFirst, statements}
@@ -309,7 +309,8 @@ module _ {R : Type 0} (state : R → RevState) where
         unfailed = λ not.
             rest.unfailed (or_rest (is_cut here.end) (any_cut all) not)
             ∙ same_by one.outcome (world state m0) (world state m1) here.end _ did.does.ran.cause did.does.ran.ends (or_first (is_cut here.end) (any_cut all) not);
-        cuts = cuts_more x rest.seen m0.store.faults m1.store.faults m2.store.faults rises rest.cuts;
+        cuts = subst (λ (vs : List Seat). RisesBy (cut_off (x ∷ rest.seen) + cut_aloft (drop (suc (length rest.seen)) vs) rest.last) m0.store.faults m2.store.faults) there
+            (cuts_more x rest.seen (cut_aloft (drop (length rest.seen) (seats_at m1 rest.entries)) rest.last) m0.store.faults m1.store.faults m2.store.faults rises rest.cuts);
         failed = λ alone.
             fails_more one answers m0.store.faults m1.store.faults m2.store.faults (answered one.outcome m0.store.faults m1.store.faults did.does.ran.cause.0)
             (rest.failed (ap (λ (q : Public). q.batch) did.does.ran.goes_on.public ∙ alone));
@@ -460,7 +461,8 @@ module _ {R : Type 0} (state : R → RevState) where
         public = λ whole. rest.public whole ∙ sym (after_alone_then m0.flights.words m0.flights.words p p (asked_of m0) (asked_of m0) x refl (sym still) count rest.entries);
         save = rest.save;
         unfailed = λ not. rest.unfailed (or_rest (is_cut here.end) (any_cut all) not);
-        cuts = cuts_more x rest.seen m0.store.faults m0.store.faults m2.store.faults (uncut_rises (is_cut here.end) m0.store.faults m0.store.faults off refl) rest.cuts;
+        cuts = subst (λ (l : List Seat). RisesBy (cut_off (x ∷ rest.seen) + cut_aloft (drop (suc (length rest.seen)) l) rest.last) m0.store.faults m2.store.faults) vs
+            (cuts_more x rest.seen (cut_aloft (drop (length rest.seen) (seats_at m0 rest.entries)) rest.last) m0.store.faults m0.store.faults m2.store.faults (uncut_rises (is_cut here.end) m0.store.faults m0.store.faults off refl) rest.cuts);
         failed = λ alone. absurd (let some = batched state m0 m1 text one with in let not = ap is_some alone in cc (some, not));
         drawn = λ d drawn g. subst (λ (l : List Seat). Reads d (indexes_of m0.engine) g l (x ∷ all)) vs (reads_unasked d (indexes_of m0.engine) g (seat_alone p (asked_of m0) x) (seats_at m0 rest.entries) x all refl (rest.drawn d drawn g));
         lie = rest.lie;

@@ -223,6 +223,8 @@ pub record Reported (tally : Tally) (tr : TraceSink) (Takes : Type 0) (base : Ba
   -- so was what was printed of the one that was begun, unless the sink of the answers failed
   pub through : Took written0 written1 (printed shown.story.answers ++ shown.story.part)
       ⊎ Rises old.out new.out
+  pub answered : GoesOn (drop (length shown.story.seen) (seats_of base shown.story.entries))
+      ⊎ LosesSome (Rises old.out new.out) ending
   pub silent : new.trace ≢ old.trace
       → Outputs written0 written1 (Unit {0}) (printed shown.story.answers ++ shown.story.part)
   pub cause : StatusCause (ServesAlone base.flight base.public) ending old new
