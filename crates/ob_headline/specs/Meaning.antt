@@ -126,7 +126,7 @@ pub record EmitsPart (ending : Ending) (v : Seat) (stand : Stand) (s : Session) 
       (verdict s.public s.asked s.tables stmt) events
   pub printed : PrintsTo ending part (events_text events)
 
--- or it was answered, and the output ends within its last line, or what a sink took of it ends before that
+-- or all of its answer was emitted: its line is cut, for want of memory, or a sink took less than all that had ended
 pub record EmitsAll (ending : Ending) (s : Session) (stmt : Stmt) (here : Seen)
     (part : List ℕ) : Type 0 where
   pub how : How

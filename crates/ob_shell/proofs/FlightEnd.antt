@@ -12,7 +12,7 @@ use Rattle.ob_exec.specs.InFlight.{served_as}
 use Rattle.ob_exec.specs.RanFlight.{asked_since, stopped_after}
 use Rattle.ob_headline.specs.Accesses.{AreSeen, LeavesAloft, any_cut}
 use Rattle.ob_headline.specs.Failures.{cut_off, failures}
-use Rattle.ob_headline.specs.Flights.{AreEntries, AreGathered, EndedBy, GoesOn, MayFly as FlyMay, Seat, may_fly, place_now, seats_aloft, served_by, whole_of}
+use Rattle.ob_headline.specs.Flights.{AreEntries, AreGathered, EndedBy, GoesOn, MayFly as FlyMay, Seat, after_entries, may_fly, place_now, seats_aloft, served_by, whole_of}
 use Rattle.ob_headline.specs.Statements.{SpellFirst, statements}
 use Rattle.ob_headline.specs.Words.{Answer}
 use Rattle.ob_headline.specs.declared.ending.Ending.{Ending}
@@ -178,8 +178,6 @@ module _ {R : Type 0} (state : R → RevState) (m0 m1 : Machine R) (stmts : List
     unfolding served_by
     left_entries =
         let first = first_apart all_fs are_stmts stood (all_places state m0 m1 stmts seens ended result may ran (Some in_all)) (let few = may.few in omega (arith, few, long_fs)) in
-        let gone = length-drop n aloft in
-        let few = may.few in
         record {
           served = append-nil aloft ∙ sym (take-append-drop n aloft);
           are = subst (λ (k : ℕ). AreEntries (most_at m0) k (turn_of ∷ [])) (sym kept_long) (left_are (most_at m0) n in_all aloft may_all (omega (arith, short, long_aloft)));
@@ -189,7 +187,6 @@ module _ {R : Type 0} (state : R → RevState) (m0 m1 : Machine R) (stmts : List
               (subst (λ (xs : List Spelt). AreGathered (most_at m0) m0.gathered.flown (seats_in all_fs ++ []) xs) (append-nil spelt_left) first.0));
           ended = subst (λ (vs : List Seat). All (λ (v : Seat). EndedBy v.left v) (take (length (take n aloft)) vs)) seats_left
               (subst (λ (k : ℕ). All (λ (v : Seat). EndedBy v.left v) (take k (seats_in all_fs))) (sym kept_long) had);
-          few = omega (arith, gone, few, long_aloft);
           starts = first.1;
         }
 
@@ -206,6 +203,12 @@ module _ {R : Type 0} (state : R → RevState) (m0 m1 : Machine R) (stmts : List
     passed_left =
         let none : whole_of (length (take n aloft)) (turn_of ∷ []) ≡ [] = whole_left (length (take n aloft)) aloft (Some in_all) (omega (arith, short, long_aloft, kept_long)) in
         sym (append-nil m0.store.asked) ∙ ap (λ (es : List Turn). m0.store.asked ++ trace_at m0 es) (sym none)
+
+    pub stands_left : public_of m0.engine ≡ after_entries m0.flights.words 0 (public_of m0.engine) (whole_of (length (take n aloft)) (turn_of ∷ []))
+    unfolding after_entries
+    stands_left =
+        let none : whole_of (length (take n aloft)) (turn_of ∷ []) ≡ [] = whole_left (length (take n aloft)) aloft (Some in_all) (omega (arith, short, long_aloft, kept_long)) in
+        ap (λ (es : List Turn). after_entries m0.flights.words 0 (public_of m0.engine) es) (sym none)
 
 -- ---- each of them
 -- it reads no leaf
@@ -350,6 +353,7 @@ module _ {R : Type 0} (state : R → RevState) (m0 m1 : Machine R) (stmts : List
         aloft = wants;
         on = goes;
         passed = passed_left state m0 m1 stmts seens ended result may ran n short had;
+        stands = stands_left state m0 m1 stmts seens ended result may ran n short had;
         asked = asked_left state m0 m1 stmts seens ended result may ran;
         keys = ran.ran.keys;
         start = ran.ran.start;
