@@ -1,5 +1,5 @@
 -- What is promised of a run of which no statement flies, in terms of statements that are each served alone.
-use Rattle.std.proofs.Common.{◌≡◌, ◌+◌, ◌≤◌, ◌++◌, ℕ, Bool, List, length, None, ◌∙◌, ap, subst, arith}
+use Rattle.std.proofs.Common.{◌≡◌, inl, inr, ◌+◌, ◌-◌, ◌≤◌, ◌++◌, ℕ, Bool, List, [], ◌∷◌, length, None, ◌∙◌, ap, subst, arith}
 use Rattle.ob_base.specs.declared.access.Access.{Access}
 use Rattle.ob_base.specs.declared.config.Public.{Public}
 use Rattle.ob_base.specs.declared.seen.Seen.{Seen}
@@ -8,7 +8,7 @@ use Rattle.ob_headline.proofs.ServedAlone.{AnswersAlone, AreOf, SeenAlone, as_al
 use Rattle.ob_headline.specs.Accesses.{Accesses, AreSeen, StopsWithin}
 use Rattle.ob_headline.specs.Bases.{Base, FromEach, drawing, session_at}
 use Rattle.ob_headline.specs.Failures.{FailsBeside}
-use Rattle.ob_headline.specs.Flights.{FliesNone, seats_of, trace_of, words_of}
+use Rattle.ob_headline.specs.Flights.{AreEntries, FliesNone, most_of, seats_of, trace_of, words_of}
 use Rattle.ob_headline.specs.FullStash.{ReadsFullStash}
 use Rattle.ob_headline.specs.Headline.{Headline}
 use Rattle.ob_headline.specs.Meaning.{AnswersFrom}
@@ -32,6 +32,16 @@ pub record RanAlone (base : Base) (keys : KeySet) (ending : Ending) (story : Sto
   pub entries : story.entries ≡ all_alone (story.seen ++ story.last)
   pub one_last : length story.last ≤ 1
 
+-- of statements that are each served alone one at most wasn't answered
+few_begun : (most : ℕ) (seen last : List Served) → AreEntries most (length seen) (all_alone (seen ++ last)) → length last ≤ 1
+unfolding AreEntries
+few_begun most [] [] are = omega arith
+few_begun most [] (x ∷ []) are = omega arith
+few_begun most [] (x ∷ y ∷ last) are = absurd (elim are.1 [ inl some ↦ omega (arith, some) | inr none ↦ cc none ])
+few_begun most (x ∷ seen) last are =
+    let less : length (x ∷ seen) - 1 ≡ length seen = omega arith in
+    few_begun most seen last (subst (λ (n : ℕ). AreEntries most n (all_alone (seen ++ last))) less are.2)
+
 module _ (base : Base) (one : FliesNone base) (keys : KeySet) (ending : Ending) (story : Story) (old new : StoreState) (accesses : Accesses base keys ending story old new) where
   abbrev all : List Served
   all = story.seen ++ story.last
@@ -49,7 +59,7 @@ module _ (base : Base) (one : FliesNone base) (keys : KeySet) (ending : Ending) 
     asked = accesses.asked ∙ ap (λ (l : List Access). base.before ++ l) (traced_alone base story one accesses.entered);
     traced = traced_alone base story one accesses.entered;
     entries = entries;
-    one_last = omega (arith, one, accesses.entered.few_last);
+    one_last = few_begun (most_of base) story.seen story.last (subst (AreEntries (most_of base) (length story.seen)) entries accesses.entered.entries);
   }
 
   pub are_of : AreOf story.spelt all

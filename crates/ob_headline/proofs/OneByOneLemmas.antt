@@ -1,17 +1,22 @@
 -- A run of which no statement flies serves them one by one.
 use Rattle.std.specs.Prelude.{◌-◌, max, min}
 use Rattle.std.specs.Option.{option_map_or}
-use Rattle.std.proofs.Common.{◌≡◌, ◌+◌, ◌≤◌, ℕ, List, [], ◌∷◌, length, Option, refl, ◌∙◌, ap, subst, arith}
+use Rattle.std.proofs.Common.{◌≡◌, ◌+◌, ◌≤◌, ℕ, false, List, [], ◌∷◌, length, Option, refl, ◌∙◌, ap, subst, arith}
 use Rattle.ob_base.specs.declared.access.Access.{Access}
 use Rattle.ob_base.specs.declared.config.Public.{Public}
 use Rattle.ob_headline.proofs.AloneRuns.{few_spelt, run_alone}
+use Rattle.ob_headline.proofs.PromptLemmas.{none_may}
 use Rattle.ob_headline.proofs.SameAlone.{same_trace, whole_alone}
 use Rattle.ob_headline.specs.Bases.{session_at}
-use Rattle.ob_headline.specs.Flights.{FliesNone, Seat, seat_alone, seats, seats_alone, seats_of, trace_of, whole_of, words_of}
+use Rattle.ob_headline.specs.Batches.{AnsweredBut}
+use Rattle.ob_headline.specs.Flights.{FliesNone, Seat, most_of, public_whole, seat_alone, seats, seats_alone, seats_of, trace_of, whole_of, words_of}
+use Rattle.ob_headline.specs.KeyLine.{after_line}
 use Rattle.ob_headline.specs.OneByOne.{OneByOne}
 use Rattle.ob_headline.specs.Reruns.{SomeRun, keys_by, seats_by, seen_by}
+use Rattle.ob_headline.specs.Texts.{texts_in}
 use Rattle.ob_headline.specs.Tracing.{traced}
-use Rattle.ob_headline.specs.Words.{SinksRose, Took}
+use Rattle.ob_headline.specs.Words.{Begins, SinksRose, Took, before_read}
+use Rattle.ob_mean.specs.Batches.{batch_most}
 use Rattle.ob_print.specs.Cuts.{Outputs}
 use Rattle.ob_script.proofs.FlightLemmas.{trace_alone}
 use Rattle.ob_script.specs.Flights.{Entry, all_alone, drawn}
@@ -44,6 +49,14 @@ module _ (one : SomeRun) (flies : FliesNone one.base) where
   begun : length one.run.story.spelt ≤ length one.run.story.served + 1
   begun = let few = few_spelt flies one.run in omega (arith, few, one.run.statements.each)
 
+  -- without batches none waits
+  all_prompt : batch_most one.base.public ≡ 1 → Begins (texts_in false (after_line (before_read one.new.gave one.run.taken))) one.run.story.served
+  all_prompt none =
+      let p = public_whole one.base one.run.story in
+      let texts = texts_in false (after_line (before_read one.new.gave one.run.taken)) in
+      none_may texts one.run.story.served
+      (subst (λ (n : ℕ). AnsweredBut p 1 n texts one.run.story.served) flies (subst (λ (n : ℕ). AnsweredBut p n (most_of one.base) texts one.run.story.served) none one.run.prompt.waits))
+
   pub one_by_one : OneByOne one
   one_by_one = record {
     begun = begun;
@@ -53,5 +66,5 @@ module _ (one : SomeRun) (flies : FliesNone one.base) where
     traced_all = subst (λ (l : List Access). Outputs one.old.traced one.new.traced (SinksRose one.old.faults one.new.faults) (traced one.tracing l)) (run_alone one flies).traced one.run.output.traced_all;
     traced_whole = subst (λ (l : List Access). Took one.old.traced one.new.traced (traced one.tracing l)) whole one.run.output.traced_whole;
     meant = same_trace one.base (keys_by one) one.run.story.spelt flies;
-    prompt = λ none. one.run.prompt.prompt (ap (λ (o : Option ℕ). option_map_or (λ m. max 1 (min m (one.base.public.buffer - one.base.public.pack))) o 1) none) flies;
+    prompt = λ none. all_prompt (ap (λ (o : Option ℕ). option_map_or (λ m. max 1 (min m (one.base.public.buffer - one.base.public.pack))) o 1) none);
   }

@@ -20,7 +20,7 @@ use Rattle.ob_headline.proofs.RerunLemmas.{answered_all}
 use Rattle.ob_headline.proofs.ServedAlone.{AreOf}
 use Rattle.ob_headline.specs.Accesses.{AreSeen}
 use Rattle.ob_headline.specs.Flights.{AreEntries, AreGathered, IsEntry, Seat, gathered_then, may_fly, most_flown, most_of, place_now, seat_aloft, seat_alone, seats, seats_aloft, seats_of, served_by}
-use Rattle.ob_headline.specs.Reruns.{GoOnFromOne, ShowTheSame, SomeRun, Turn, asked_by, breaks_in, seen_by, turns}
+use Rattle.ob_headline.specs.Reruns.{GoOnFromOne, ShowTheSame, SomeRun, Stated, asked_by, breaks_in, seen_by, stated}
 use Rattle.ob_headline.specs.Statements.{statements}
 use Rattle.ob_headline.specs.Words.{Answer}
 use Rattle.ob_headline.specs.declared.flight.FlightSettings.{FlightSettings}
@@ -65,8 +65,8 @@ GatheredBy most g [] bs (x ∷ xs) = ⊥
 GatheredBy most g (v ∷ vs) [] (x ∷ xs) = ⊥
 GatheredBy most g (v ∷ vs) (b ∷ bs) (x ∷ xs) = (v.place ≡ place_now most v.public (gap b g) x.skeleton) × GatheredBy most (gathered_then v.public v.place x.skeleton) vs bs xs
 
-by_breaks : (most : ℕ) (apart : Bool) (g : ℕ) (vs : List Seat) (spelt : List Spelt) (xs : List Served) → AreOf spelt xs → AreGathered most (gap apart g) vs spelt → GatheredBy most g vs (map (λ (t : Turn). t.apart) (turns true apart spelt)) xs
-unfolding AreOf AreGathered GatheredBy turns
+by_breaks : (most : ℕ) (apart : Bool) (g : ℕ) (vs : List Seat) (spelt : List Spelt) (xs : List Served) → AreOf spelt xs → AreGathered most (gap apart g) vs spelt → GatheredBy most g vs (map (λ (t : Stated). t.apart) (stated true apart spelt)) xs
+unfolding AreOf AreGathered GatheredBy stated
 by_breaks most apart g vs [] xs of are = subst (λ (l : List Served). GatheredBy most g vs [] l) (sym of) tt
 by_breaks most apart g vs (Err at ∷ spelt) xs of are = by_breaks most true g vs spelt xs of are
 by_breaks most apart g vs (Ok stmt ∷ spelt) [] of are = absurd of
@@ -102,7 +102,7 @@ gathered_at most g (w ∷ vs) (o ∷ bs) (z ∷ xs) (suc j) u v x y are a b c d 
     record { apart = rest.apart; at = rest.at; place = rest.place }
 
 -- ---- which may fly hangs on tables alone
-may_by : (p q : Public) (s : Skeleton) → p.tables ≡ q.tables → may_fly p s ≡ may_fly q s
+pub may_by : (p q : Public) (s : Skeleton) → p.tables ≡ q.tables → may_fly p s ≡ may_fly q s
 may_by p q (K.Rows (OneTable table) columns) same = ap (λ (ts : List Table). not (is_index (headings_of ts) table)) same
 may_by p q (K.Groups table columns key) same = ap (λ (ts : List Table). not (is_index (headings_of ts) table)) same
 may_by p q (K.Rows (Join a b on equals) columns) same = refl
@@ -120,7 +120,7 @@ tables_stay p s Joined same = refl
 tables_stay p s (Cut n) same = refl
 
 -- a SELECT leaves them
-selects_stay : (p : Public) (x : Served) → SelectsFromOne x.skeleton → (next p x.skeleton x.seen).tables ≡ p.tables
+pub selects_stay : (p : Public) (x : Served) → SelectsFromOne x.skeleton → (next p x.skeleton x.seen).tables ≡ p.tables
 selects_stay p x selects = go x.skeleton selects
   where
     go : (s : Skeleton) → SelectsFromOne s → tables_then p s x.seen.end ≡ p.tables

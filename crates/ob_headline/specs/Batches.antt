@@ -57,8 +57,8 @@ pub record Wait (most : ℕ) (texts : List (List ℕ)) : Type 0 where
   pub table : List ℕ
   pub insert : AllInsert table stmts
 
--- all of the texts were answered, but for some behind the last one that was, which wait
-pub record AnsweredBut (most flown : ℕ) (texts served : List (List ℕ)) : Type 0 where
+-- all of the texts were answered, but for some behind the last one that was, which wait, by what is public then
+pub record AnsweredBut (p : Public) (most flown : ℕ) (texts served : List (List ℕ)) : Type 0 where
   pub waiting : List (List ℕ)
-  pub wait : Wait most waiting ⊎ WaitToFly flown waiting
+  pub wait : Wait most waiting ⊎ WaitToFly p flown waiting
   pub answered : Begins texts (served ++ waiting)

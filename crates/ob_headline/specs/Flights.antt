@@ -1,5 +1,5 @@
 -- SELECTs that are served in flight: how many, in whose turns, which ones are gathered for it, and by what each goes.
-use Rattle.std.specs.Prelude.{◌≡◌, ◌<◌, ◌≤◌, ◌+◌, ◌-◌, ◌*◌, ◌/◌, ◌⊎◌, ◌&&◌, ◌==◌, ℕ, zero, suc, ⊤, Bool, false, not, nat_le, nat_lt, max, min, if◌then◌else◌, List, [], ◌∷◌, ◌++◌, length, map, take, slice_get, Option, Some, None, Ok, Err}
+use Rattle.std.specs.Prelude.{◌≡◌, ◌<◌, ◌≤◌, ◌+◌, ◌-◌, ◌*◌, ◌/◌, ◌⊎◌, ◌&&◌, ◌==◌, ℕ, zero, suc, ⊤, Bool, true, false, not, nat_le, nat_lt, max, min, if◌then◌else◌, List, [], ◌∷◌, ◌++◌, length, map, take, slice_get, Option, Some, None, Ok, Err}
 use Rattle.std.specs.List.{All}
 use Rattle.std.specs.Option.{option_map, option_map_or}
 use Rattle.ob_base.specs.declared.access.Access.{Access}
@@ -53,13 +53,13 @@ place_now most p gathered s = if may_fly p s && nat_lt gathered most then gather
 abbrev pub gathered_then : Public → (place : ℕ) → Skeleton → ℕ
 gathered_then p place s = if may_fly p s then place + 1 else 0
 
--- these texts wait to be served in flight: SELECTs without a join, fewer than may fly together
-pub record WaitToFly (most : ℕ) (texts : List (List ℕ)) : Type 0 where
+-- these texts wait to be served in flight: SELECTs that may fly, fewer than may fly together
+pub record WaitToFly (p : Public) (most : ℕ) (texts : List (List ℕ)) : Type 0 where
   pub few : length texts < most
   pub stmts : List Stmt
   pub whole : length stmts ≡ length texts
   pub spell : SpellFirst texts (map Ok stmts)
-  pub select : All (λ stmt. SelectsFromOne (skeleton stmt)) stmts
+  pub select : All (λ stmt. may_fly p (skeleton stmt) ≡ true) stmts
 
 -- ---- how the statements of a run are served
 unfoldable pub served_by : List Entry → List Served
@@ -107,9 +107,14 @@ after_entries words t p (Together flown left ∷ entries) =
 abbrev pub public_after : Base → List Entry → Public
 public_after base entries = after_entries (words_of base) 0 base.public entries
 
+-- and behind those of which all were answered
+abbrev pub public_whole : Base → Story → Public
+public_whole base story = public_after base (whole_of (length story.seen) story.entries)
+
 -- ---- by what each statement goes
--- where a flight was left: how many accesses it had asked by then, how many of these were the statement's own, and how many
--- were its own before the last of all; and whether it was its turn, as it is where the next access would have been its own
+-- where a flight was left: how many accesses it had asked by then, how many of these were the statement's own, and how many of
+-- its own came before the last access of the flight; and whether it was its turn, as it is where the next access would have
+-- been its own
 pub record Stand : Type 0 where
   pub all : ℕ
   pub own : ℕ
@@ -214,7 +219,6 @@ pub record Entered (base : Base) (story : Story) : Type 0 where
   pub gathered : AreGathered (most_of base) 0 (seats_of base story.entries) story.spelt
   pub ended : All (λ v. EndedBy v.left v)
       (take (length story.seen) (seats_of base story.entries))
-  pub few_last : length story.last ≤ most_of base
 
 -- the session of the model from which a statement is answered: these tables and these draws, by what its seat says
 abbrev pub at_seat : Seat → Session → Session

@@ -1,6 +1,7 @@
 -- The headline of a run whose tables are kept: an opening, a session that goes on from it, and a closing.
 use Rattle.std.specs.Prelude.{ℕ, ◌≡◌, ◌≢◌, ◌≤◌, ◌⊎◌, ⊤, Bool, false, List, [], ◌++◌, length, Option, Some, Ok, Err}
 use Rattle.std.specs.Io.KnownBytes.{Consumes}
+use Rattle.ob_base.specs.Publics.{first_public}
 use Rattle.ob_base.specs.declared.config.Config.{Config}
 use Rattle.ob_base.specs.declared.mark.Mark.{Mark}
 use Rattle.ob_base.specs.declared.refusal.Stop.TheVariants.{Tampered, SourceFault, SinkFault, NoMemory, InputLimit, StoreFault, StashFull, KeeperFault}
@@ -71,7 +72,7 @@ pub record Unserved (Why : Config → (secret : List ℕ) → Type 0) (settings 
   pub taken : List ℕ
   pub given : Consumes old.left new.left taken
   pub within : length taken ≤ config.max_input
-  pub prompt : Prompt 1 1 taken [] new.gave
+  pub prompt : Prompt (first_public config) 1 1 taken [] new.gave
   pub secret : List ℕ
   pub keyed : secret_of (first_line taken) ≡ Some secret
   pub begun : Why config secret

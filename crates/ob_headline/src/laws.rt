@@ -77,7 +77,7 @@ pub fn asks_as_shown()
 pub fn one_asks_a_first_part()
     ensures { (a b : SomeRun) → ServesAlone a → ServesAlone b → GoOnFromOne a b
         → failures_of a ≡ 0 → failures_of b ≡ 0
-        → AlikeSoFar a.base.public a.base.count None None (turns_of a) (seen_by a) (turns_of b)
+        → AlikeSoFar a.base.public a.base.count None None (stated_of a) (seen_by a) (stated_of b)
         (seen_by b)
         → OneBegins (asked_by a) (asked_by b) }
 {}
@@ -121,8 +121,8 @@ pub fn unhindered_runs_are_plain()
 pub fn reruns_ask_the_same()
     ensures { (a b : SomeRun) → ServesAlone a → ServesAlone b → GoOnFromOne a b
         → EndsWell a.report.status (failures_of a) → EndsWell b.report.status (failures_of b)
-        → any_counted (turns_of a) ≡ false
-        → Alike a.base.public a.base.count None (turns_of a) (turns_of b)
+        → any_counted (stated_of a) ≡ false
+        → Alike a.base.public a.base.count None (stated_of a) (stated_of b)
         → asked_by a ≡ asked_by b }
 {}
 
@@ -133,7 +133,7 @@ pub fn padded_reruns_ask_the_same()
     ensures { (a b : SomeRun) → ServesAlone a → ServesAlone b → GoOnFromOne a b
         → EndsWell a.report.status (failures_of a) → EndsWell b.report.status (failures_of b)
         → IsSome a.base.public.pad
-        → Alike a.base.public a.base.count None (turns_of a) (turns_of b)
+        → Alike a.base.public a.base.count None (stated_of a) (stated_of b)
         → asked_by a ≡ asked_by b }
 {}
 
@@ -142,7 +142,7 @@ pub fn padded_reruns_ask_the_same()
 pub fn reruns_show_the_same()
     ensures { (a b : SomeRun) → ServesAlone a → ServesAlone b → GoOnFromOne a b
         → EndsWell a.report.status (failures_of a) → EndsWell b.report.status (failures_of b)
-        → ShowAlike a.base.public a.base.count (turns_of a) (seen_by a) (turns_of b) (seen_by b)
+        → ShowAlike a.base.public a.base.count (stated_of a) (seen_by a) (stated_of b) (seen_by b)
         → (seen_by a ≡ seen_by b) × (asked_by a ≡ asked_by b) }
 {}
 

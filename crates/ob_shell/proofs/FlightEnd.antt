@@ -12,7 +12,7 @@ use Rattle.ob_exec.specs.InFlight.{served_as}
 use Rattle.ob_exec.specs.RanFlight.{asked_since, stopped_after}
 use Rattle.ob_headline.specs.Accesses.{AreSeen, LeavesAloft, any_cut}
 use Rattle.ob_headline.specs.Failures.{cut_off, failures}
-use Rattle.ob_headline.specs.Flights.{AreEntries, AreGathered, EndedBy, GoesOn, MayFly as FlyMay, Seat, may_fly, place_now, seats_aloft, served_by, whole_of}
+use Rattle.ob_headline.specs.Flights.{AreEntries, AreGathered, EndedBy, GoesOn, MayFly as FlyMay, Seat, after_entries, may_fly, place_now, seats_aloft, served_by, whole_of}
 use Rattle.ob_headline.specs.Statements.{SpellFirst, statements}
 use Rattle.ob_headline.specs.Words.{Answer}
 use Rattle.ob_headline.specs.declared.ending.Ending.{Ending}
@@ -24,7 +24,7 @@ use Rattle.ob_script.specs.FlightLaws.{SelectsFromOne}
 use Rattle.ob_script.specs.Flights.{Entry as Turn, Together, flight_accesses, merge, trace_in, own_asked}
 use Rattle.ob_script.specs.Trace.{Served as Entry}
 use Rattle.ob_shell.proofs.FailureLemmas.{cut_few}
-use Rattle.ob_shell.proofs.FlightFacts.{all_get, all_in, all_means, all_places, all_stood, fs, seats_are, served_are, spell_flown, spelt_long, stmts_are}
+use Rattle.ob_shell.proofs.FlightFacts.{EachBy, all_get, all_in, all_means, all_places, all_stood, fs, in_at, seats_are, served_are, spell_flown, spelt_long, stmts_are}
 use Rattle.ob_shell.proofs.FlightSeen.{FirstAnswered, IsIn, PlacesFrom, Stood, gathers_flown, left_seen}
 use Rattle.ob_shell.proofs.FlownLists.{Flown, seats_in, served_in_all, served_of, stmts_in}
 use Rattle.ob_shell.proofs.SeatLemmas.{seats_flown_last, trace_flown_last}
@@ -92,8 +92,12 @@ module _ {R : Type 0} (state : R → RevState) (m0 m1 : Machine R) (stmts : List
   pub stood : All Stood all_fs
   stood = all_stood state m0 m1 stmts seens ended result may ran (Some in_all)
 
-  pub are_in : All IsIn all_fs
-  are_in = all_in state m0 m1 stmts seens ended result may ran (Some in_all) refl
+  -- each had ended by then exactly where it has an answer
+  abbrev pub AreBy : Type 0
+  AreBy = EachBy m0.flights.words p (served_as stmts seens) ended in_all (length stmts)
+
+  are_in : AreBy → All IsIn all_fs
+  are_in each = all_in state m0 m1 stmts seens ended result may ran (Some in_all) refl each
 
   pub are_served : aloft ≡ served_as stmts seens
   are_served = served_are state m0 m1 stmts seens ended result may ran (Some in_all)
@@ -174,8 +178,6 @@ module _ {R : Type 0} (state : R → RevState) (m0 m1 : Machine R) (stmts : List
     unfolding served_by
     left_entries =
         let first = first_apart all_fs are_stmts stood (all_places state m0 m1 stmts seens ended result may ran (Some in_all)) (let few = may.few in omega (arith, few, long_fs)) in
-        let gone = length-drop n aloft in
-        let few = may.few in
         record {
           served = append-nil aloft ∙ sym (take-append-drop n aloft);
           are = subst (λ (k : ℕ). AreEntries (most_at m0) k (turn_of ∷ [])) (sym kept_long) (left_are (most_at m0) n in_all aloft may_all (omega (arith, short, long_aloft)));
@@ -185,16 +187,15 @@ module _ {R : Type 0} (state : R → RevState) (m0 m1 : Machine R) (stmts : List
               (subst (λ (xs : List Spelt). AreGathered (most_at m0) m0.gathered.flown (seats_in all_fs ++ []) xs) (append-nil spelt_left) first.0));
           ended = subst (λ (vs : List Seat). All (λ (v : Seat). EndedBy v.left v) (take (length (take n aloft)) vs)) seats_left
               (subst (λ (k : ℕ). All (λ (v : Seat). EndedBy v.left v) (take k (seats_in all_fs))) (sym kept_long) had);
-          few = omega (arith, gone, few, long_aloft);
           starts = first.1;
         }
 
     -- what is seen of them
-    pub seen_left : (Leaves : Public → Stmt → Seen → Type 0) (g : Option Gathering) (kept : List Answer) → FirstAnswered all_fs kept
+    pub seen_left : AreBy → (Leaves : Public → Stmt → Seen → Type 0) (g : Option Gathering) (kept : List Answer) → FirstAnswered all_fs kept
         → AreSeen Leaves (seats_at m0 (turn_of ∷ [])) g spelt_left kept (take n aloft ++ drop n aloft)
-    seen_left Leaves g kept first =
+    seen_left each Leaves g kept first =
         subst (λ (vs : List Seat). AreSeen Leaves vs g spelt_left kept (take n aloft ++ drop n aloft)) seats_left
-        (subst (λ (l : List Entry). AreSeen Leaves (seats_in all_fs) g spelt_left kept l) (sym (take-append-drop n aloft)) (left_seen Leaves all_fs kept g stood are_in first))
+        (subst (λ (l : List Entry). AreSeen Leaves (seats_in all_fs) g spelt_left kept l) (sym (take-append-drop n aloft)) (left_seen Leaves all_fs kept g stood (are_in each) first))
 
     -- nothing was whole before
     pub passed_left : m0.store.asked ≡ m0.store.asked ++ trace_at m0 (whole_of (length (take n aloft)) (turn_of ∷ []))
@@ -202,6 +203,12 @@ module _ {R : Type 0} (state : R → RevState) (m0 m1 : Machine R) (stmts : List
     passed_left =
         let none : whole_of (length (take n aloft)) (turn_of ∷ []) ≡ [] = whole_left (length (take n aloft)) aloft (Some in_all) (omega (arith, short, long_aloft, kept_long)) in
         sym (append-nil m0.store.asked) ∙ ap (λ (es : List Turn). m0.store.asked ++ trace_at m0 es) (sym none)
+
+    pub stands_left : public_of m0.engine ≡ after_entries m0.flights.words 0 (public_of m0.engine) (whole_of (length (take n aloft)) (turn_of ∷ []))
+    unfolding after_entries
+    stands_left =
+        let none : whole_of (length (take n aloft)) (turn_of ∷ []) ≡ [] = whole_left (length (take n aloft)) aloft (Some in_all) (omega (arith, short, long_aloft, kept_long)) in
+        ap (λ (es : List Turn). after_entries m0.flights.words 0 (public_of m0.engine) es) (sym none)
 
 -- ---- each of them
 -- it reads no leaf
@@ -290,16 +297,16 @@ module _ {R : Type 0} (state : R → RevState) (m0 m1 : Machine R) (stmts : List
     kept = λ q below. ran.ran.untouched.rests q (λ above. omega (arith, below, above));
   }
 
-  done_here : carried_out result total ≡ done_of (is_tampered ends_by) total → All (IsDoneIn ends_by) fs_here
-  done_here carried = each_flown (places state m0 m1 stmts seens ended result may ran (Some total)) (IsDoneIn ends_by) 0 stmts seens ended (λ k stmt seen get shown. record {
-    is_in = record { stand = _; left = refl; own = refl };
+  done_here : AreBy state m0 m1 stmts seens ended result may ran → carried_out result total ≡ done_of (is_tampered ends_by) total → All (IsDoneIn ends_by) fs_here
+  done_here each carried = each_flown (places state m0 m1 stmts seens ended result may ran (Some total)) (IsDoneIn ends_by) 0 stmts seens ended (λ k stmt seen get shown. record {
+    is_in = record { stand = _; left = refl; own = refl; by = in_at state m0 m1 stmts seens ended result may ran (Some total) refl each k stmt get };
     done =
         ap (λ (n : ℕ). asked_by (public_of m0.engine) m0.flights.words stmts seens n (0 + k)) carried
         ∙ done_by (is_tampered ends_by) (public_of m0.engine) (served_as stmts seens) m0.flights.words total (0 + k);
   })
 
   pub left_walked : {Lost : Type 0} (texts more : List (List ℕ)) → AreSpelt texts stmts → carried_out result total ≡ done_of (is_tampered ends_by) total → (ends_within ends_by ≡ true → ⊥)
-      → (kept : List Answer) → FirstAnswered fs_here kept → length kept < length stmts → All (λ (v : Seat). EndedBy v.left v) (take (length kept) (seats_in fs_here)) → (part : List ℕ)
+      → (kept : List Answer) → FirstAnswered fs_here kept → length kept < length stmts → All (λ (v : Seat). EndedBy v.left v) (take (length kept) (seats_in fs_here)) → AreBy state m0 m1 stmts seens ended result may ran → (part : List ℕ)
       → ((d : Draws) → AreDraws m0.engine d → (tables : Tables) → ReadsTrueUntil state m0.engine m0.store m1.engine m1.store tables → (f : Flown) → slice_get fs_here (length kept) ≡ Some f → Stood f → IsIn f → Means (session_of m0 d tables) f
       → BeginsSo ends_by (session_of m0 d tables) f part)
       → LeavesAloft ends_by m1.store.asked (drop (length (take (length kept) here)) (seats_at m0 entries)) (statements (drop (length (take (length kept) texts)) spelt_here)) (drop (length kept) here)
@@ -308,7 +315,7 @@ module _ {R : Type 0} (state : R → RevState) (m0 m1 : Machine R) (stmts : List
       → EarlyAt state m0 m1 entries spelt_here kept (take (length kept) here ++ drop (length kept) here)
       → Walked state Lost ends_by m0 m0 m1 (take (length kept) texts) (drop (length kept) texts ++ more) kept part
   unfolding SpellFirst
-  left_walked texts more spelt carried off kept first short had part begins wants goes fine early =
+  left_walked texts more spelt carried off kept first short had each part begins wants goes fine early =
       let n = length kept in
       let long_texts : length texts ≡ length stmts = spelt_long texts stmts spelt in
       let long_here : length here ≡ length stmts = long_aloft state m0 m1 stmts seens ended result may ran in
@@ -342,10 +349,11 @@ module _ {R : Type 0} (state : R → RevState) (m0 m1 : Machine R) (stmts : List
         each_seen = kept_long state m0 m1 stmts seens ended result may ran n short had ∙ sym (
             ap (λ (k : ℕ). length (statements (take k spelt_here))) taken_texts
             ∙ statements_taken (stmts_in fs_here) n (let same = ap length (are_stmts state m0 m1 stmts seens ended result may ran) in omega (arith, short, same)));
-        lawful = λ most old fails d drawn g. seen_left state m0 m1 stmts seens ended result may ran n short had _ m0.gathered.batch kept first;
+        lawful = λ most old fails d drawn g. seen_left state m0 m1 stmts seens ended result may ran n short had each _ m0.gathered.batch kept first;
         aloft = wants;
         on = goes;
         passed = passed_left state m0 m1 stmts seens ended result may ran n short had;
+        stands = stands_left state m0 m1 stmts seens ended result may ran n short had;
         asked = asked_left state m0 m1 stmts seens ended result may ran;
         keys = ran.ran.keys;
         start = ran.ran.start;
@@ -364,7 +372,7 @@ module _ {R : Type 0} (state : R → RevState) (m0 m1 : Machine R) (stmts : List
         meant = λ d drawn tells calm unfit tables held.
             let s = session_of m0 d tables in
             let reads : ReadsTrueUntil state m0.engine m0.store m1.engine m1.store tables = record { tells = tells; held = free_holds state m0 d tables may.free held; calm = calm; unfit = unfit } in
-            let mean = left_mean ends_by s part fs_here kept (stood state m0 m1 stmts seens ended result may ran) (done_here carried) (all_means state m0 m1 stmts seens ended result may ran (Some total) d tables held.listed reads) first
+            let mean = left_mean ends_by s part fs_here kept (stood state m0 m1 stmts seens ended result may ran) (done_here each carried) (all_means state m0 m1 stmts seens ended result may ran (Some total) d tables held.listed reads) first
             (let long = long_fs state m0 m1 stmts seens ended result may ran in omega (arith, short, long)) (begins d drawn tables reads) in
             let told = left_meant ends_by s part fs_here kept mean s refl refl in
             record {

@@ -9,7 +9,7 @@ use Rattle.ob_exec.proofs.LeavesRead.{Given, KeyAt, Unread}
 use Rattle.ob_exec.specs.InFlight.{served_as}
 use Rattle.ob_headline.specs.Accesses.{AreSeen, LeavesAloft, StopsWithin, any_cut, cut_aloft}
 use Rattle.ob_headline.specs.Failures.{RisesBy, cut_off}
-use Rattle.ob_headline.specs.Flights.{GoesOn, Seat, whole_of}
+use Rattle.ob_headline.specs.Flights.{GoesOn, Seat, after_entries, whole_of}
 use Rattle.ob_headline.specs.Statements.{SpellFirst, statements}
 use Rattle.ob_headline.specs.Words.{Answer}
 use Rattle.ob_headline.specs.declared.ending.Ending.{Ending}
@@ -206,6 +206,11 @@ module _ {R : Type 0} (state : R → RevState) (m0 m1 : Machine R) (flown : List
             trace_on state m0 m1 flown given step m.store.asked (whole_of (length rest.seen) rest.entries) rest.passed
             ∙ ap (λ (es : List Turn). m0.store.asked ++ trace_at m0 es) (sym (whole_flown (length rest.seen) up None rest.entries))
             ∙ ap (λ (n : ℕ). m0.store.asked ++ trace_at m0 (whole_of n (at_turn ∷ rest.entries))) (sym same);
+        stands =
+            let same : length (up ++ rest.seen) ≡ length up + length rest.seen = length-append up rest.seen in
+            rest.stands ∙ after_on state m0 m1 flown given step (whole_of (length rest.seen) rest.entries)
+            ∙ ap (λ (es : List Turn). after_entries m0.flights.words 0 p es) (sym (whole_flown (length rest.seen) up None rest.entries))
+            ∙ ap (λ (n : ℕ). after_entries m0.flights.words 0 p (whole_of n (at_turn ∷ rest.entries))) (sym same);
         asked = trace_on state m0 m1 flown given step m2.store.asked rest.entries rest.asked;
         keys = rest.keys ∙ step.flew.ran.ran.keys;
         start = rest.start ∙ step.flew.ran.ran.start;

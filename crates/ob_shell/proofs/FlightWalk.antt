@@ -139,7 +139,6 @@ module _ {R : Type 0} (state : R → RevState) (m0 m1 : Machine R) (texts : List
         ended = subst (λ (vs : List Seat). All (λ (v : Seat). EndedBy v.left v) (take (length (aloft ++ seen)) vs)) (seats_on entries)
             (subst (λ (k : ℕ). All (λ (v : Seat). EndedBy v.left v) (take k (seats_in all_fs ++ seats_at m1 entries))) same
             (whole_ended all_fs (seats_at m1 entries) (length seen) (all_unleft state m0 m1 step.stmts step.seens step.flew.ended (Ok tt) step.may step.flew.ran None refl) rest.ended));
-        few = subst (λ (k : ℕ). length last ≤ k) most_on rest.few;
         starts = first.1;
       }
 

@@ -22,7 +22,7 @@ use Rattle.ob_shell.proofs.WaitLemmas.{so_idle}
 use Rattle.ob_shell.specs.Running.{OutFailed}
 use Rattle.ob_shell.specs.Serving.{TakesTexts}
 use Rattle.ob_shell.specs.Steps.{AreSpelt, Gathered, IsApartFrom, IsReady, Machine, Steps, asked_of, at_rest, more_together, one_more, standing}
-use Rattle.ob_shell.specs.Waiting.{AreBatched, AreGathered, AwaitsMore, BreaksIn, ComesFree, GoesAlong, IsApart, IsClosed, IsFree, ServedSo, are_alike, begins as waits_first, begins_flight, gather_most, goes_along}
+use Rattle.ob_shell.specs.Waiting.{AreBatched, AreWaiting, AwaitsMore, BreaksIn, ComesFree, GoesAlong, IsApart, IsClosed, IsFree, ServedSo, are_alike, begins as waits_first, begins_flight, gather_most, goes_along}
 use Rattle.ob_shell.specs.declared.session.TextHalted.{TextHalted}
 use Rattle.ob_sql.specs.Skeleton.{skeleton}
 use Rattle.ob_sql.specs.declared.stmt.Stmt.{Stmt}
@@ -37,13 +37,13 @@ flown_some None p = omega arith
 flown_some (Some f) p = omega arith
 
 -- those that wait are a batch, or fly
-pub are_batched : (settings : Option FlightSettings) (p : Public) (m : ℕ) (batch : List Stmt) → AreGathered settings p m batch → AreBatched settings p m batch
+pub are_batched : (settings : Option FlightSettings) (p : Public) (m : ℕ) (batch : List Stmt) → AreWaiting settings p m batch → AreBatched settings p m batch
 are_batched settings p m [] waits = tt
 are_batched settings p m (first ∷ rest) (inl more) = inl more.batch
 are_batched settings p m (first ∷ rest) (inr more) = inr (record { fly = more.fly; few = let room = more.room in omega (arith, room) })
 
 -- those to which one comes wait
-pub waits_by : (settings : Option FlightSettings) (p : Public) (m : ℕ) (batch : List Stmt) (stmt : Stmt) → GoesAlong settings p m batch stmt → AreGathered settings p m batch
+pub waits_by : (settings : Option FlightSettings) (p : Public) (m : ℕ) (batch : List Stmt) (stmt : Stmt) → GoesAlong settings p m batch stmt → AreWaiting settings p m batch
 waits_by settings p m [] stmt goes = tt
 waits_by settings p m (first ∷ rest) stmt (inl goes) = inl goes.0
 waits_by settings p m (first ∷ rest) stmt (inr goes) = inr goes.0
@@ -103,7 +103,7 @@ batch_more settings p m (first ∷ rest) stmt (inr goes) = inr (record {
 
 -- and still fewer than are served together
 pub gathered_more : (settings : Option FlightSettings) (p : Public) (m : ℕ) (batch : List Stmt) (stmt : Stmt) → GoesAlong settings p m batch stmt → length (batch ++ stmt ∷ []) < gather_most settings p (skeleton stmt)
-    → AreGathered settings p m (batch ++ stmt ∷ [])
+    → AreWaiting settings p m (batch ++ stmt ∷ [])
 gathered_more settings p m [] stmt (inl goes) few =
     let most = gather_insert settings p (skeleton stmt) (begins p m stmt goes).inserts in inl (record { batch = batch_first p m stmt goes; room = omega (arith, few, most) })
 gathered_more settings p m [] stmt (inr goes) few =
@@ -141,7 +141,7 @@ first_flies : (p : Public) (first : Stmt) (rest : List Stmt) → All (Fly p) (fi
 first_flies p first rest all = All-head (Fly p) first rest all
 
 -- a statement goes along with them
-pub goes_more : (settings : Option FlightSettings) (p : Public) (m : ℕ) (batch : List Stmt) (stmt : Stmt) → AreGathered settings p m batch → goes_along p batch stmt ≡ true → GoesAlong settings p m batch stmt
+pub goes_more : (settings : Option FlightSettings) (p : Public) (m : ℕ) (batch : List Stmt) (stmt : Stmt) → AreWaiting settings p m batch → goes_along p batch stmt ≡ true → GoesAlong settings p m batch stmt
 goes_more settings p m [] stmt waits goes = absurd (cc goes)
 goes_more settings p m (first ∷ rest) stmt (inl waits) goes =
     inl (waits, same_name (inserts_into (skeleton first)) (inserts_into (skeleton stmt)) (sym (along_insert p first stmt rest (begins p m first waits.batch.begins).inserts) ∙ goes))
@@ -166,7 +166,7 @@ none_or : (a b : Option (List ℕ)) → a ≡ None → (b ≡ None) ⊎ (b ≡ a
 none_or a None is = inl refl
 none_or a (Some t) is = inr (λ same. cc (same, is))
 
-pub is_apart : (settings : Option FlightSettings) (p : Public) (m : ℕ) (first : Stmt) (rest : List Stmt) (stmt : Stmt) → AreGathered settings p m (first ∷ rest) → goes_along p (first ∷ rest) stmt ≡ false → IsApart settings p first rest (skeleton stmt)
+pub is_apart : (settings : Option FlightSettings) (p : Public) (m : ℕ) (first : Stmt) (rest : List Stmt) (stmt : Stmt) → AreWaiting settings p m (first ∷ rest) → goes_along p (first ∷ rest) stmt ≡ false → IsApart settings p first rest (skeleton stmt)
 is_apart settings p m first rest stmt (inl waits) apart =
     let some = (begins p m first waits.batch.begins).inserts in
     let name = some_name (inserts_into (skeleton first)) some in
@@ -181,7 +181,7 @@ is_apart settings p m first rest stmt (inr waits) apart =
       flown = inl (sym (along_select p first stmt rest flies) ∙ apart);
     }
 
-pub free_behind : (settings : Option FlightSettings) (p0 p1 : Public) (m : ℕ) (batch : List Stmt) (stmt : Stmt) (g h : Gathered) → AreGathered settings p0 m batch → goes_along p0 batch stmt ≡ false → (batch ≡ [] → p1 ≡ p0) → IsFree settings p0 batch g → IsClosed settings p0 p1 batch g h
+pub free_behind : (settings : Option FlightSettings) (p0 p1 : Public) (m : ℕ) (batch : List Stmt) (stmt : Stmt) (g h : Gathered) → AreWaiting settings p0 m batch → goes_along p0 batch stmt ≡ false → (batch ≡ [] → p1 ≡ p0) → IsFree settings p0 batch g → IsClosed settings p0 p1 batch g h
     → IsFree settings p1 (stmt ∷ []) h
 free_behind settings p0 p1 m [] stmt g h waits apart same free closed =
     subst (λ (x : Gathered). IsApartFrom settings p1 x (skeleton stmt)) (sym closed) (subst (λ (p : Public). IsApartFrom settings p g (skeleton stmt)) (sym (same refl)) (free (skeleton stmt)))
@@ -262,7 +262,7 @@ full_by settings p m (first ∷ rest) stmt (inl goes) most =
 full_by settings p m (first ∷ rest) stmt (inr goes) most = let is = gather_select settings p (skeleton stmt) goes.1 in selects (no_insert p (skeleton first) (first_flies p first rest goes.0.fly)) (omega (arith, most, is))
 
 module _ {R : Type 0} {state : R → RevState} {Saves : Type 0} {on : Bool} (batch : List Stmt) (stmt : Stmt) (text : List ℕ) (spells : Spells text (Ok stmt)) where
-  pub takes_gathered : {T : Type 0} (tally : Tally) (w t : Option (List ℕ)) (old : Faults) (m : Machine R) (x : T) → IsReady state Saves m → AreGathered m.flights.settings (public_of m.engine) (asked_of m) (batch ++ stmt ∷ [])
+  pub takes_gathered : {T : Type 0} (tally : Tally) (w t : Option (List ℕ)) (old : Faults) (m : Machine R) (x : T) → IsReady state Saves m → AreWaiting m.flights.settings (public_of m.engine) (asked_of m) (batch ++ stmt ∷ [])
       → TakesTexts state Saves on (IsFree m.flights.settings (public_of m.engine) (batch ++ stmt ∷ [])) (λ old new. IsFree m.flights.settings (public_of m.engine) (batch ++ stmt ∷ []) new) batch (batch ++ stmt ∷ []) (text ∷ []) tally tally w w t t old old m m (Ok x)
   takes_gathered tally w t old m x ready waits = record {
     ready = ready;

@@ -1,5 +1,6 @@
 -- A run whose tables are kept, all but its last line.
 use Rattle.std.proofs.Common.{◌≡◌, ◌≤◌, ℕ, Bool, true, false, List, [], ◌++◌, Option, Some, Result, Ok, Err, refl, sym, ◌∙◌, ap, subst, arith}
+use Rattle.ob_base.specs.Publics.{first_public}
 use Rattle.ob_base.specs.Counts.{Rises}
 use Rattle.ob_base.specs.declared.config.Config.{Config}
 use Rattle.ob_base.specs.declared.refusal.Stop.{Stop}
@@ -142,7 +143,7 @@ module _ (config : Config) (flight : Option FlightSettings) (tracing : Bool) (f0
         taken = read.fed.piece;
         given = read.fed.consumed;
         within = piece_within empty_tally tr refl (Some config) flight f0 f1 none start top below by read.fed;
-        prompt = piece_prompt empty_tally tr refl (Some config) flight f0 f1 none start top below by 1 1 (omega arith) read.fed read.ahead;
+        prompt = piece_prompt empty_tally tr refl (Some config) flight f0 f1 none start top below by (first_public config) 1 1 (omega arith) read.fed read.ahead;
         secret = key;
         keyed = ap (λ (l : List ℕ). secret_of (first_line l)) (piece_is read.fed none) ∙ is;
         unserved = unserved;

@@ -4,13 +4,13 @@ use Rattle.std.specs.List.{All}
 use Rattle.std.proofs.Common.{◌≡◌, ◌⊎◌, ◌<◌, ◌≤◌, ◌++◌, inl, inr, ℕ, Bool, true, false, List, [], ◌∷◌, length, Ok, refl, sym, ◌∙◌, ap, subst, arith, append_assoc, append-nil, length-append}
 use Rattle.std.proofs.lemmas.List.Elements.{All-tail}
 use Rattle.std.proofs.lemmas.Bool.{cases_lt}
+use Rattle.ob_base.specs.declared.config.Public.{Public}
 use Rattle.ob_headline.proofs.PromptLemmas.{prompt_by}
 use Rattle.ob_headline.specs.Batches.{AllInsert, AnsweredBut, Wait}
-use Rattle.ob_headline.specs.Flights.{WaitToFly}
+use Rattle.ob_headline.specs.Flights.{WaitToFly, may_fly}
 use Rattle.ob_headline.specs.Statements.{SpellFirst}
 use Rattle.ob_headline.specs.Texts.{rest_of, tail_text, texts_in, texts_of}
 use Rattle.ob_headline.specs.Words.{Begins, before_read}
-use Rattle.ob_script.specs.FlightLaws.{SelectsFromOne}
 use Rattle.ob_sql.specs.Skeleton.{skeleton}
 use Rattle.ob_sql.specs.declared.stmt.Stmt.{Stmt}
 
@@ -23,13 +23,13 @@ rest_waits most text texts wait = go wait.stmts wait.whole wait.spell wait.inser
     go [] whole spell insert = absurd (omega (arith, whole))
     go (stmt ∷ stmts) whole spell insert = record { few = let few = wait.few in omega (arith, few); stmts = stmts; whole = omega (arith, whole); spell = spell.1; table = wait.table; insert = insert.1 }
 
-rest_flies : (most : ℕ) (text : List ℕ) (texts : List (List ℕ)) → WaitToFly most (text ∷ texts) → WaitToFly most texts
+rest_flies : (p : Public) (most : ℕ) (text : List ℕ) (texts : List (List ℕ)) → WaitToFly p most (text ∷ texts) → WaitToFly p most texts
 unfolding SpellFirst
-rest_flies most text texts wait = go wait.stmts wait.whole wait.spell wait.select
+rest_flies p most text texts wait = go wait.stmts wait.whole wait.spell wait.select
   where
-    go : (stmts : List Stmt) → length stmts ≡ length (text ∷ texts) → SpellFirst (text ∷ texts) (map Ok stmts) → All (λ (stmt : Stmt). SelectsFromOne (skeleton stmt)) stmts → WaitToFly most texts
+    go : (stmts : List Stmt) → length stmts ≡ length (text ∷ texts) → SpellFirst (text ∷ texts) (map Ok stmts) → All (λ (stmt : Stmt). may_fly p (skeleton stmt) ≡ true) stmts → WaitToFly p most texts
     go [] whole spell select = absurd (omega (arith, whole))
-    go (stmt ∷ stmts) whole spell select = record { few = let few = wait.few in omega (arith, few); stmts = stmts; whole = omega (arith, whole); spell = spell.1; select = All-tail (λ (x : Stmt). SelectsFromOne (skeleton x)) stmt stmts select }
+    go (stmt ∷ stmts) whole spell select = record { few = let few = wait.few in omega (arith, few); stmts = stmts; whole = omega (arith, whole); spell = spell.1; select = All-tail (λ (x : Stmt). may_fly p (skeleton x) ≡ true) stmt stmts select }
 
 -- where these come next among all texts, of which those are the first
 front : {A : Type 0} (texts rest : List A) (first more : List A) → texts ++ rest ≡ first ++ more → length texts ≤ length first → first ≡ texts ++ drop (length texts) first
@@ -41,21 +41,21 @@ front (x ∷ texts) rest (y ∷ first) more is few =
     λ i. sym same i ∷ front texts rest first more behind (omega (arith, few)) i
 
 -- nothing waits
-nothing : (most flown : ℕ) (ws : List (List ℕ)) → Wait most ws ⊎ WaitToFly flown ws → Wait most [] ⊎ WaitToFly flown []
+nothing : (p : Public) (most flown : ℕ) (ws : List (List ℕ)) → Wait most ws ⊎ WaitToFly p flown ws → Wait most [] ⊎ WaitToFly p flown []
 unfolding SpellFirst AllInsert
-nothing most flown ws (inl wait) = inl (record { few = let few = wait.few in omega (arith, few); stmts = []; whole = refl; spell = tt; table = wait.table; insert = tt })
-nothing most flown ws (inr wait) = inr (record { few = let few = wait.few in omega (arith, few); stmts = []; whole = refl; spell = tt; select = λ k d less. absurd (omega (arith, less)) })
+nothing p most flown ws (inl wait) = inl (record { few = let few = wait.few in omega (arith, few); stmts = []; whole = refl; spell = tt; table = wait.table; insert = tt })
+nothing p most flown ws (inr wait) = inr (record { few = let few = wait.few in omega (arith, few); stmts = []; whole = refl; spell = tt; select = λ k d less. absurd (omega (arith, less)) })
 
-rests : (most flown : ℕ) (text : List ℕ) (ws : List (List ℕ)) → Wait most (text ∷ ws) ⊎ WaitToFly flown (text ∷ ws) → Wait most ws ⊎ WaitToFly flown ws
-rests most flown text ws (inl wait) = inl (rest_waits most text ws wait)
-rests most flown text ws (inr wait) = inr (rest_flies flown text ws wait)
+rests : (p : Public) (most flown : ℕ) (text : List ℕ) (ws : List (List ℕ)) → Wait most (text ∷ ws) ⊎ WaitToFly p flown (text ∷ ws) → Wait most ws ⊎ WaitToFly p flown ws
+rests p most flown text ws (inl wait) = inl (rest_waits most text ws wait)
+rests p most flown text ws (inr wait) = inr (rest_flies p flown text ws wait)
 
 cancel : {A : Type 0} (xs ys zs : List A) → xs ++ ys ≡ xs ++ zs → ys ≡ zs
 cancel [] ys zs is = is
 cancel (x ∷ xs) ys zs is = cancel xs ys zs (cc is)
 
 -- one more was answered
-module _ (most flown : ℕ) (texts : List (List ℕ)) where
+module _ (p : Public) (most flown : ℕ) (texts : List (List ℕ)) where
   first_same : (served : List (List ℕ)) (x h : List ℕ) (w more r s : List (List ℕ)) → served ++ (x ∷ w) ≡ texts ++ r → served ++ (h ∷ more) ≡ texts ++ s → length served < length texts → h ≡ x
   first_same served x h w more r s one two less =
       let n = length served in
@@ -69,27 +69,27 @@ module _ (most flown : ℕ) (texts : List (List ℕ)) where
       go [] some left right = absurd (omega (arith, some))
       go (y ∷ d) some left right = let a : x ≡ y = cc left in let b : h ≡ y = cc right in b ∙ sym a
 
-  answered_one : (served : List (List ℕ)) (h : List ℕ) (more : List (List ℕ)) → AnsweredBut most flown texts served → Begins texts (served ++ (h ∷ more)) → AnsweredBut most flown texts (served ++ h ∷ [])
+  answered_one : (served : List (List ℕ)) (h : List ℕ) (more : List (List ℕ)) → AnsweredBut p most flown texts served → Begins texts (served ++ (h ∷ more)) → AnsweredBut p most flown texts (served ++ h ∷ [])
   answered_one served h more waits all = go waits.waiting waits.wait waits.answered.rest waits.answered.joined
     where
-      short : length texts ≤ length served → (ws : List (List ℕ)) → Wait most ws ⊎ WaitToFly flown ws → (r : List (List ℕ)) → served ++ ws ≡ texts ++ r → AnsweredBut most flown texts (served ++ h ∷ [])
+      short : length texts ≤ length served → (ws : List (List ℕ)) → Wait most ws ⊎ WaitToFly p flown ws → (r : List (List ℕ)) → served ++ ws ≡ texts ++ r → AnsweredBut p most flown texts (served ++ h ∷ [])
       short less ws wait r joined =
           let same : served ≡ texts ++ drop (length texts) served = front texts r served ws (sym joined) less in
           record {
             waiting = [];
-            wait = nothing most flown ws wait;
+            wait = nothing p most flown ws wait;
             answered = record {
               rest = drop (length texts) served ++ (h ∷ []);
               joined = append-nil (served ++ h ∷ []) ∙ ap (λ (l : List (List ℕ)). l ++ h ∷ []) same ∙ append_assoc texts (drop (length texts) served) (h ∷ []);
             };
           }
 
-      go : (ws : List (List ℕ)) → Wait most ws ⊎ WaitToFly flown ws → (r : List (List ℕ)) → served ++ ws ≡ texts ++ r → AnsweredBut most flown texts (served ++ h ∷ [])
+      go : (ws : List (List ℕ)) → Wait most ws ⊎ WaitToFly p flown ws → (r : List (List ℕ)) → served ++ ws ≡ texts ++ r → AnsweredBut p most flown texts (served ++ h ∷ [])
       go [] wait r joined = short (omega (arith, ap length joined, length-append served [], length-append texts r)) [] wait r joined
       go (x ∷ w) wait r joined = elim (cases_lt (length served) (length texts)) [
         | inl less ↦ record {
           waiting = w;
-          wait = rests most flown x w wait;
+          wait = rests p most flown x w wait;
           answered = record {
             rest = r;
             joined = append_assoc served (h ∷ []) w ∙ ap (λ (y : List ℕ). served ++ (y ∷ w)) (first_same served x h w more r all.rest joined all.joined less) ∙ joined;
@@ -98,12 +98,12 @@ module _ (most flown : ℕ) (texts : List (List ℕ)) where
         | inr past ↦ short past (x ∷ w) wait r joined
       ]
 
-  pub prompt_more : (served held : List (List ℕ)) → AnsweredBut most flown texts served → (more : List (List ℕ)) → Begins texts ((served ++ held) ++ more) → AnsweredBut most flown texts (served ++ held)
-  prompt_more served [] waits more all = subst (AnsweredBut most flown texts) (sym (append-nil served)) waits
+  pub prompt_more : (served held : List (List ℕ)) → AnsweredBut p most flown texts served → (more : List (List ℕ)) → Begins texts ((served ++ held) ++ more) → AnsweredBut p most flown texts (served ++ held)
+  prompt_more served [] waits more all = subst (AnsweredBut p most flown texts) (sym (append-nil served)) waits
   prompt_more served (h ∷ held) waits more all =
       let one = answered_one served h (held ++ more) waits (subst (Begins texts) (append_assoc served (h ∷ held) more) all) in
       let joined : (served ++ h ∷ []) ++ held ≡ served ++ (h ∷ held) = append_assoc served (h ∷ []) held in
-      subst (AnsweredBut most flown texts) joined (prompt_more (served ++ h ∷ []) held one more (subst (λ (l : List (List ℕ)). Begins texts (l ++ more)) (sym joined) all))
+      subst (AnsweredBut p most flown texts) joined (prompt_more (served ++ h ∷ []) held one more (subst (λ (l : List (List ℕ)). Begins texts (l ++ more)) (sym joined) all))
 
 -- what was whole before the last read comes first of all
 pub whole_before : (ended : Bool) (gave : ℕ) (bytes : List ℕ) (all : List (List ℕ)) → texts_in ended bytes ≡ all → Begins (texts_in false (before_read gave bytes)) all

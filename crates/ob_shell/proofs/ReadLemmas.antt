@@ -16,13 +16,13 @@ use Rattle.ob_shell.proofs.FeedLemmas.{Fed-then}
 use Rattle.ob_shell.proofs.GatherLemmas.{comes_free}
 use Rattle.ob_shell.proofs.RunLemmas.{below_is_not_over, ran_broken, ran_turn}
 use Rattle.ob_shell.proofs.TraceLemmas.{traced_cut, traced_then, traced_whole}
-use Rattle.ob_shell.proofs.WaitLemmas.{answered_but, break_then, so_then, steps_flown, steps_most}
+use Rattle.ob_shell.proofs.WaitLemmas.{answered_but, break_then, so_then, steps_flown, steps_most, steps_tables}
 use Rattle.ob_shell.specs.Feeding.{Fed, Fetch}
 use Rattle.ob_shell.specs.Running.{IsQuiet, OutFailed, Silenced, SoFar, StopCause, is_quiet, stop_of}
 use Rattle.ob_shell.specs.Serving.{EndsReading, HasRead, IsNotTaken, ReadsTexts, StandsReady, TakesMore, UnlessServed, WantsRoom, broken_of}
 use Rattle.ob_shell.specs.Steps.{AreSpelt, Gathered, Machine, asked_of, standing}
 use Rattle.ob_shell.specs.Traces.{Traced, TracedAll}
-use Rattle.ob_shell.specs.Waiting.{AreGathered, BreaksIn, ComesFree, IsFree, ServedSo}
+use Rattle.ob_shell.specs.Waiting.{AreWaiting, BreaksIn, ComesFree, IsFree, ServedSo}
 use Rattle.ob_shell.specs.declared.session.Break.{Break}
 use Rattle.ob_shell.specs.declared.session.Break.TheVariants.{Served, Unread}
 use Rattle.ob_sql.specs.declared.stmt.Stmt.{Stmt}
@@ -139,7 +139,7 @@ module _ {R : Type 0} {state : R → RevState} {on : Bool} {f0 f2 : Fetch} (gave
         }
 
     -- what became of the byte
-    pub turn_reads : (T : Type 0) (old new : ℕ × ℕ) (Saves : Type 0) {k0 : ℕ} (broken : Break) → AreGathered m1.flights.settings (public_of m1.engine) (asked_of m1) batch → old.0 ≡ k0
+    pub turn_reads : (T : Type 0) (old new : ℕ × ℕ) (Saves : Type 0) {k0 : ℕ} (broken : Break) → AreWaiting m1.flights.settings (public_of m1.engine) (asked_of m1) batch → old.0 ≡ k0
         → TakesMore {T = T} state Saves on (IsFree m1.flights.settings (public_of m1.engine) batch) (λ old new. IsFree m2.flights.settings (public_of m2.engine) batch' new) batch batch' (texts_at p b) (IsNotTaken p b) r r' w1 w2 t1 t2 (faults_of 0 old.0 old.1) (faults_of 0 new.0 new.1) m1 m2 (Err broken)
         → ReadsTexts {T = T} state on f0 f2 l0 l2 gave w0 w2 t0 t2 batch' r' m0 m2 k0 new.0 (Err broken)
     turn_reads T old new Saves (Served halted) waits same takes =
@@ -150,7 +150,7 @@ module _ {R : Type 0} {state : R → RevState} {on : Bool} {f0 f2 : Fetch} (gave
   -- ---- the input ended
   module _ {w0 w1 : Option (List ℕ)} (w2 : Option (List ℕ)) {t0 t1 : Option (List ℕ)} (t2 : Option (List ℕ)) {p : List ℕ} {batch : List Stmt} (batch' : List Stmt) {r : Tally} (r' : Tally) {m0 m1 : Machine R} (m2 : Machine R) (so : SoFar state f0 f2 l0 l2 w0 w1 p batch r m0 m1) (none : f2.unread ≡ []) (at_end : IsAtEnd l2) (below : f2.taken < f2.limit) (short : length p < text_max)
       (before : TracedAll on m0.store.asked m1.store.asked t0 t1) where
-    pub finish_reads : {T : Type 0} (old new : ℕ × ℕ) (Saves : Type 0) {k0 : ℕ} (result : Result T Break) → AreGathered m1.flights.settings (public_of m1.engine) (asked_of m1) batch → old.0 ≡ k0
+    pub finish_reads : {T : Type 0} (old new : ℕ × ℕ) (Saves : Type 0) {k0 : ℕ} (result : Result T Break) → AreWaiting m1.flights.settings (public_of m1.engine) (asked_of m1) batch → old.0 ≡ k0
         → TakesMore state Saves on (IsFree m1.flights.settings (public_of m1.engine) batch) (λ old new. IsFree m2.flights.settings (public_of m2.engine) batch' new) batch batch' (tail_text p) WantsRoom r r' w1 w2 t1 t2 (faults_of 0 old.0 old.1) (faults_of 0 new.0 new.1) m1 m2 result
         → ReadsTexts state on f0 f2 l0 l2 gave w0 w2 t0 t2 batch' r' m0 m2 k0 new.0 result
     unfolding break_then
@@ -176,8 +176,9 @@ module _ {R : Type 0} {state : R → RevState} {on : Bool} {f0 f2 : Fetch} (gave
         let most = sym (steps_most state m0 (standing m1 [] so.so.gathered) so.so.served so.so.answers so.so.steps) in
         let flown = sym (steps_flown state m0 (standing m1 [] so.so.gathered) so.so.served so.so.answers so.so.steps) in
         ran_broken halted.stop so.fed.piece true (texts_of [] so.passed ++ tail_text p) [] so.fed.consumed so.fed.taken so.fed.limit (λ _. at_end) (all_parts so none ∙ sym (append-nil (texts_of [] so.passed ++ tail_text p))) (break_then so.so before stopped)
-        (subst (λ (two : ℕ × ℕ). AnsweredBut two.0 two.1 (texts_in false (before_read gave (f0.unread ++ so.fed.piece))) (so.so.served ++ now.served)) (λ i. (sym most i, sym flown i))
-        (answered_but m1.flights.settings (public_of m1.engine) (asked_of m1) batch (texts_of [] so.passed) so.so.served so.so.held now.served now.more (tail_text p) _ waits so.so.spelt so.so.parts now.parts begins))
+        (subst (λ (two : ℕ × ℕ). AnsweredBut (public_of now.middle.engine) two.0 two.1 (texts_in false (before_read gave (f0.unread ++ so.fed.piece))) (so.so.served ++ now.served)) (λ i. (sym most i, sym flown i))
+        (answered_but m1.flights.settings (public_of m1.engine) (asked_of m1) batch (texts_of [] so.passed) so.so.served so.so.held now.served now.more (tail_text p) _ waits so.so.spelt so.so.parts now.parts begins
+        (public_of now.middle.engine) (λ rest spelt all. steps_tables state (standing m1 [] so.so.gathered) now.middle now.served now.answers now.steps rest batch spelt all)))
     finish_reads old new Saves (Err (Unread stop)) waits same takes = record {
       piece = so.fed.piece;
       consumed = so.fed.consumed;

@@ -20,7 +20,7 @@ use Rattle.ob_shell.proofs.StepLemmas.{PartlyAt-more, last_stopped}
 use Rattle.ob_shell.proofs.PlaceLemmas.{none_free}
 use Rattle.ob_shell.proofs.TookLemmas.{took_whole, traces_all, traces_to}
 use Rattle.ob_shell.proofs.TraceLemmas.{traced_then}
-use Rattle.ob_shell.proofs.WaitLemmas.{answered_but, break_then, ends_end, follow_more, last_idle, none_held, so_idle, so_then, steps_flown, steps_most, tally_end}
+use Rattle.ob_shell.proofs.WaitLemmas.{answered_but, break_then, ends_end, follow_more, last_idle, none_held, so_idle, so_then, steps_flown, steps_most, steps_tables, tally_end}
 use Rattle.ob_shell.specs.Feeding.{Fed, Fetch}
 use Rattle.ob_shell.specs.Flying.{flights_at, flights_of, start_of}
 use Rattle.ob_headline.specs.declared.flight.FlightSettings.{FlightSettings}
@@ -29,7 +29,7 @@ use Rattle.ob_shell.specs.Serving.{HasRead, ended_with}
 use Rattle.ob_headline.specs.Flights.{most_flown}
 use Rattle.ob_shell.specs.Steps.{AreSpelt, Flights, Gathered, Machine, asked_of, machine_of, none_gathered, standing}
 use Rattle.ob_shell.specs.Traces.{TracedAll}
-use Rattle.ob_shell.specs.Waiting.{AreGathered, BreaksIn, ComesFree, IsFree, ServedSo}
+use Rattle.ob_shell.specs.Waiting.{AreWaiting, BreaksIn, ComesFree, IsFree, ServedSo}
 use Rattle.ob_sql.specs.declared.stmt.Stmt.{Stmt}
 use Rattle.ob_store.specs.State.{StoreState}
 use Rattle.ob_tables.specs.Agreeing.{public_of}
@@ -83,7 +83,7 @@ so_far_turn {state = state} {w0 = w0} {w2 = w2} {p = p} {batch' = batch'} {r' = 
 -- where all that was whole before the last read is among these texts
 pub ran_broken : {R : Type 0} {state : R → RevState} {Lost : Type 0} {on : Bool} {t0 t2 : Option (List ℕ)} {f0 f2 : Fetch} {gave : ℕ} {l0 l2 w0 w2 : Option (List ℕ)} {m0 m2 : Machine R} (run : RunStop) (piece : List ℕ) (ended : Bool) (texts more : List (List ℕ))
     → Consumes l0 l2 piece → f2.taken ≡ f0.taken + length piece → f2.limit ≡ f0.limit → (ended ≡ true → IsAtEnd l2) → texts_in ended (f0.unread ++ piece) ≡ texts ++ more
-    → (broke : BreaksIn state on w0 w2 t0 t2 Lost texts run m0 m2) → AnsweredBut (batch_most (public_of m0.engine)) (most_flown m0.flights.settings (public_of m0.engine)) (texts_in false (before_read gave (f0.unread ++ piece))) broke.served
+    → (broke : BreaksIn state on w0 w2 t0 t2 Lost texts run m0 m2) → AnsweredBut (public_of broke.middle.engine) (batch_most (public_of m0.engine)) (most_flown m0.flights.settings (public_of m0.engine)) (texts_in false (before_read gave (f0.unread ++ piece))) broke.served
     → SessionRan state on f0 f2 l0 l2 gave w0 w2 t0 t2 m0 m2 Lost (Err (session_stop run))
 ran_broken {f2 = f2} run piece ended texts more consumed taken limit at_end parts broke prompt = record {
   piece = piece;
@@ -95,8 +95,8 @@ ran_broken {f2 = f2} run piece ended texts more consumed taken limit at_end part
   served = broke.served;
   more = broke.more ++ more;
   texts = parts ∙ ap (λ (l : List (List ℕ)). l ++ more) broke.parts ∙ append_assoc broke.served broke.more more;
-  prompt = prompt;
   middle = broke.middle;
+  prompt = prompt;
   answers = broke.answers;
   steps = broke.steps;
   part = broke.bytes;
@@ -113,7 +113,7 @@ ran_broken {f2 = f2} run piece ended texts more consumed taken limit at_end part
 
 -- one that a byte ended, or that came before it
 pub ran_turn : {R : Type 0} {state : R → RevState} {Lost : Type 0} {on : Bool} {t0 t1 t2 : Option (List ℕ)} {f0 f1 f2 : Fetch} {gave : ℕ} {l0 l1 l2 w0 w1 w2 : Option (List ℕ)} {p : List ℕ} {batch : List Stmt} {r : Tally} {b : ℕ} {m0 m1 m2 : Machine R} (run : RunStop)
-    → (so : SoFar state f0 f1 l0 l1 w0 w1 p batch r m0 m1) → Fed f1 f2 l1 l2 (b ∷ []) → length f2.unread < gave → AreGathered m1.flights.settings (public_of m1.engine) (asked_of m1) batch → TracedAll on m0.store.asked m1.store.asked t0 t1
+    → (so : SoFar state f0 f1 l0 l1 w0 w1 p batch r m0 m1) → Fed f1 f2 l1 l2 (b ∷ []) → length f2.unread < gave → AreWaiting m1.flights.settings (public_of m1.engine) (asked_of m1) batch → TracedAll on m0.store.asked m1.store.asked t0 t1
     → ((gathered : Gathered) (held : List (List ℕ)) → IsFree m1.flights.settings (public_of m1.engine) batch gathered → AreSpelt held batch
     → BreaksIn state on w1 w2 t1 t2 Lost (held ++ texts_at p b) run (standing m1 [] gathered) m2)
     → SessionRan state on f0 f2 l0 l2 gave w0 w2 t0 t2 m0 m2 Lost (Err (session_stop run))
@@ -130,8 +130,9 @@ ran_turn {state = state} {f0 = f0} {f2 = f2} {gave = gave} {p = p} {b = b} {m0 =
     (texts_of-append [] so.passed ((b ∷ []) ++ f2.unread)
     ∙ ap (λ (l : List (List ℕ)). texts_of [] so.passed ++ l) (rw (← so.pending_is) (texts_of-cons p b f2.unread)) ∙ sym (append_assoc (texts_of [] so.passed) (texts_at p b) (texts_of (rest_after p b) f2.unread))))
     whole
-    (subst (λ (two : ℕ × ℕ). AnsweredBut two.0 two.1 (texts_in false (before_read gave (f0.unread ++ all.piece))) (so.so.served ++ now.served)) (λ i. (sym same i, sym flown i))
-    (answered_but m1.flights.settings (public_of m1.engine) (asked_of m1) _ (texts_of [] so.passed) so.so.served so.so.held now.served now.more (texts_at p b) _ waits so.so.spelt so.so.parts now.parts begins))
+    (subst (λ (two : ℕ × ℕ). AnsweredBut (public_of now.middle.engine) two.0 two.1 (texts_in false (before_read gave (f0.unread ++ all.piece))) (so.so.served ++ now.served)) (λ i. (sym same i, sym flown i))
+    (answered_but m1.flights.settings (public_of m1.engine) (asked_of m1) _ (texts_of [] so.passed) so.so.served so.so.held now.served now.more (texts_at p b) _ waits so.so.spelt so.so.parts now.parts begins
+    (public_of now.middle.engine) (λ rest spelt all. steps_tables state (standing m1 [] so.so.gathered) now.middle now.served now.answers now.steps rest _ spelt all)))
 
 -- ---- no more is read, and then those that wait are served
 -- once they are
@@ -154,7 +155,7 @@ ran_flushed {state = state} {Lost = Lost} {on = on} {t0 = t0} {t2 = t2} {f0 = f0
       served = now.served;
       more = read.more;
       texts = read.parts ∙ ap (λ (l : List (List ℕ)). l ++ read.more) (sym served);
-      prompt = all_answered (batch_most (public_of m0.engine)) (most_flown m0.flights.settings (public_of m0.engine)) _ now.served (most_some (public_of m0.engine)) (subst (Begins (texts_in false (before_read gave (f0.unread ++ read.piece)))) (sym served) read.before);
+      prompt = all_answered (public_of m2.engine) (batch_most (public_of m0.engine)) (most_flown m0.flights.settings (public_of m0.engine)) _ now.served (most_some (public_of m0.engine)) (subst (Begins (texts_in false (before_read gave (f0.unread ++ read.piece)))) (sym served) read.before);
       middle = standing m2 [] now.gathered;
       answers = now.answers;
       steps = now.steps;
@@ -172,7 +173,7 @@ ran_flushed {state = state} {Lost = Lost} {on = on} {t0 = t0} {t2 = t2} {f0 = f0
 
 -- or one of them stopped it
 pub ran_unflushed : {R : Type 0} {state : R → RevState} {Lost : Type 0} {on : Bool} {t0 t1 t2 : Option (List ℕ)} {f0 f2 : Fetch} {gave : ℕ} {l0 l2 w0 w1 w2 : Option (List ℕ)} {batch : List Stmt} {r : Tally} {m0 m1 m2 : Machine R} (ends : Result (Unit {0}) Stop) (run : RunStop)
-    → (read : HasRead state on f0 f2 l0 l2 gave w0 w1 t0 t1 batch r m0 m1 ends) → AreGathered m1.flights.settings (public_of m1.engine) (asked_of m1) batch
+    → (read : HasRead state on f0 f2 l0 l2 gave w0 w1 t0 t1 batch r m0 m1 ends) → AreWaiting m1.flights.settings (public_of m1.engine) (asked_of m1) batch
     → ((gathered : Gathered) (held : List (List ℕ)) → ComesFree m1.flights.settings (public_of m1.engine) batch gathered → AreSpelt held batch → BreaksIn state on w1 w2 t1 t2 Lost (held ++ []) run (standing m1 [] gathered) m2)
     → SessionRan state on f0 f2 l0 l2 gave w0 w2 t0 t2 m0 m2 Lost (Err (session_stop run))
 unfolding break_then
@@ -181,8 +182,9 @@ ran_unflushed {state = state} {f0 = f0} {gave = gave} {m0 = m0} {m1 = m1} ends r
     let same = sym (steps_most state m0 (standing m1 [] read.so.gathered) read.so.served read.so.answers read.so.steps) in
     let flown = sym (steps_flown state m0 (standing m1 [] read.so.gathered) read.so.served read.so.answers read.so.steps) in
     ran_broken run read.piece read.ended (read.texts ++ []) read.more read.consumed read.taken read.limit read.at_end (read.parts ∙ ap (λ (l : List (List ℕ)). l ++ read.more) (sym (append-nil read.texts))) (break_then read.so read.traced broke)
-    (subst (λ (two : ℕ × ℕ). AnsweredBut two.0 two.1 (texts_in false (before_read gave (f0.unread ++ read.piece))) (read.so.served ++ now.served)) (λ i. (sym same i, sym flown i))
-    (answered_but m1.flights.settings (public_of m1.engine) (asked_of m1) _ read.texts read.so.served read.so.held now.served now.more [] _ waits read.so.spelt read.so.parts now.parts read.before))
+    (subst (λ (two : ℕ × ℕ). AnsweredBut (public_of now.middle.engine) two.0 two.1 (texts_in false (before_read gave (f0.unread ++ read.piece))) (read.so.served ++ now.served)) (λ i. (sym same i, sym flown i))
+    (answered_but m1.flights.settings (public_of m1.engine) (asked_of m1) _ read.texts read.so.served read.so.held now.served now.more [] _ waits read.so.spelt read.so.parts now.parts read.before
+    (public_of now.middle.engine) (λ rest spelt all. steps_tables state (standing m1 [] read.so.gathered) now.middle now.served now.answers now.steps rest _ spelt all)))
 
 -- ---- the words that it begins with
 pub ran_from : {R : Type 0} {state : R → RevState} {Lost : Type 0} {on : Bool} {t0 t2 : Option (List ℕ)} {f0 f2 : Fetch} {gave : ℕ} {l0 l2 w0 w2 : Option (List ℕ)} {m2 : Machine R} {stop : Result Tally Stop} (e : Engine R) (s : StoreState) (k : KeeperState) (settings : Option FlightSettings) (last : ℕ) → last ≡ start_of settings

@@ -1,6 +1,7 @@
 -- A run whose tables are saved, behind its first line.
 use Rattle.std.specs.Prelude.{IfOk}
 use Rattle.std.proofs.Common.{◌≡◌, ◌≤◌, ◌++◌, ℕ, Bool, true, false, List, [], Option, Some, Result, Ok, Err, inr, refl, sym, ◌∙◌, ap, subst, arith, None}
+use Rattle.ob_base.specs.Publics.{first_public}
 use Rattle.ob_base.specs.declared.config.Config.{Config}
 use Rattle.ob_base.specs.declared.config.Public.{Public}
 use Rattle.ob_base.specs.declared.refusal.Stop.{Stop}
@@ -77,7 +78,7 @@ unsaved config tracing f0 f1 none start top l0 l1 g0 key ended w t0 t1 s0 s1 a o
       taken = read.fed.piece;
       given = read.fed.consumed;
       within = piece_within empty_tally tr refl (Some config) None f0 f1 none start top below by read.fed;
-      prompt = piece_prompt empty_tally tr refl (Some config) None f0 f1 none start top below by 1 1 (omega arith) read.fed read.ahead;
+      prompt = piece_prompt empty_tally tr refl (Some config) None f0 f1 none start top below by (first_public config) 1 1 (omega arith) read.fed read.ahead;
       secret = key;
       keyed = ap (λ (l : List ℕ). secret_of (first_line l)) (piece_is read.fed none) ∙ is;
       unserved = unserved;

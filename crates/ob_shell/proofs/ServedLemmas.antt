@@ -19,7 +19,7 @@ use Rattle.ob_shell.specs.Feeding.{Fetch}
 use Rattle.ob_shell.specs.Running.{ServesAlone, Silenced, StopCause}
 use Rattle.ob_shell.specs.Serving.{HasRead}
 use Rattle.ob_shell.specs.Steps.{Machine, asked_of, standing}
-use Rattle.ob_shell.specs.Waiting.{AreGathered}
+use Rattle.ob_shell.specs.Waiting.{AreWaiting}
 use Rattle.ob_sql.specs.declared.stmt.Stmt.{Stmt}
 use Rattle.ob_tables.specs.Agreeing.{public_of}
 use Rattle.ob_tables.specs.Stops.{session_stop}
@@ -61,7 +61,7 @@ waited_quiet true s0 s1 old mid new out trace told = elim told [ inl rose ↦ in
 waited_quiet false s0 s1 old mid new out trace told = (told.0 ∙ out, told.1 ∙ trace)
 
 -- ---- where statements are served alone none waits
-alone_waits : (settings0 settings1 : Option FlightSettings) (p0 p1 : Public) (m : ℕ) (batch : List Stmt) → batch_most p1 ≡ batch_most p0 → most_flown settings1 p1 ≡ most_flown settings0 p0 → ServesAlone settings0 p0 → AreGathered settings1 p1 m batch → batch ≡ []
+alone_waits : (settings0 settings1 : Option FlightSettings) (p0 p1 : Public) (m : ℕ) (batch : List Stmt) → batch_most p1 ≡ batch_most p0 → most_flown settings1 p1 ≡ most_flown settings0 p0 → ServesAlone settings0 p0 → AreWaiting settings1 p1 m batch → batch ≡ []
 alone_waits settings0 settings1 p0 p1 m [] same flown alone waits = refl
 alone_waits settings0 settings1 p0 p1 m (first ∷ rest) same flown alone (inl waits) =
     let most = (begins p1 m first waits.batch.begins).most in
@@ -72,7 +72,7 @@ alone_waits settings0 settings1 p0 p1 m (first ∷ rest) same flown alone (inr w
 
 -- so none of them was stopped
 pub alone_read : {R : Type 0} {state : R → RevState} {on : Bool} {f0 f1 : Fetch} {l0 l1 : Option (List ℕ)} {gave : ℕ} {w0 w1 t0 t1 : Option (List ℕ)} {batch : List Stmt} {r : Tally} {m0 m1 : Machine R} {ends : Result (Unit {0}) Stop}
-    → HasRead state on f0 f1 l0 l1 gave w0 w1 t0 t1 batch r m0 m1 ends → AreGathered m1.flights.settings (public_of m1.engine) (asked_of m1) batch → batch ≢ [] → ServesAlone m0.flights.settings (public_of m0.engine) → ⊥
+    → HasRead state on f0 f1 l0 l1 gave w0 w1 t0 t1 batch r m0 m1 ends → AreWaiting m1.flights.settings (public_of m1.engine) (asked_of m1) batch → batch ≢ [] → ServesAlone m0.flights.settings (public_of m0.engine) → ⊥
 alone_read {state = state} {batch = batch} {m0 = m0} {m1 = m1} read waits some alone =
     some (alone_waits m0.flights.settings m1.flights.settings (public_of m0.engine) (public_of m1.engine) (asked_of m1) batch (steps_most state m0 (standing m1 [] read.so.gathered) read.so.served read.so.answers read.so.steps)
     (steps_flown state m0 (standing m1 [] read.so.gathered) read.so.served read.so.answers read.so.steps) alone waits)

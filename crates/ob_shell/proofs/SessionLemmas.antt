@@ -29,7 +29,7 @@ use Rattle.ob_headline.proofs.TextLemmas.{rest_of-nil, texts_of-nil}
 use Rattle.ob_headline.specs.Batches.{AnsweredBut}
 use Rattle.ob_headline.specs.Bases.{Base, FromEach, Opened, drawing, session_at, start}
 use Rattle.ob_headline.specs.Disturbed.{MeantUntil, meant_entries, meant_trace}
-use Rattle.ob_headline.specs.Flights.{AreEntries, AreGathered, EndedBy, Entered, GoesOn, Seat, after_entries, most_flown, most_of, public_after, seats, seats_of, trace_of, whole_of, words_of}
+use Rattle.ob_headline.specs.Flights.{AreEntries, AreGathered, EndedBy, Entered, GoesOn, Seat, after_entries, most_flown, most_of, public_after, public_whole, seats, seats_of, trace_of, whole_of, words_of}
 use Rattle.ob_headline.specs.FullStash.{ReadsFullStash}
 use Rattle.ob_headline.specs.Failures.{FailsBeside, RisesBy, cut_off}
 use Rattle.ob_headline.specs.Leaves.{AreDrawn}
@@ -336,7 +336,6 @@ module _ {R : Type 0} {state : R → RevState} {Lost : Type 0} (base : Base) (co
     entries = subst (λ (n : ℕ). AreEntries n (length walk.seen) walk.entries) most_is walk.entered.are;
     gathered = subst (λ (vs : List Seat). AreGathered (most_of base) 0 vs walk.spelt) seats_are (subst (λ (n : ℕ). AreGathered n 0 (seats_at m0 walk.entries) walk.spelt) most_is walk.entered.gathers);
     ended = subst (λ (vs : List Seat). All (λ (v : Seat). EndedBy v.left v) (take (length walk.seen) vs)) seats_are walk.entered.ended;
-    few_last = subst (λ (n : ℕ). length walk.last ≤ n) most_is walk.entered.few;
   }
 
   -- so they are answered by their meaning
@@ -518,6 +517,10 @@ module _ {R : Type 0} {state : R → RevState} {Lost : Type 0} (base : Base) (co
   pub all_ended : GoesOn (drop (length story.seen) (seats_of base story.entries)) ⊎ LosesSome Lost (RanEnding result)
   all_ended = subst (λ (vs : List Seat). GoesOn (drop (length walk.seen) vs) ⊎ LosesSome Lost (RanEnding result)) seats_are walk.on
 
+  -- what is public behind those of which all were answered
+  pub stands_at : public_of ran.middle.engine ≡ public_whole base story
+  stands_at = walk.stands ∙ ap (λ (p : Public). after_entries (words_of base) 0 p (whole_of (length walk.seen) walk.entries)) on.public
+
   -- how the last part was left
   pub ends_so : EndsBy f1 ran.ended (f0.unread ++ ran.piece) final.rest final.left result
   ends_so = elim final.same [
@@ -552,8 +555,9 @@ module _ {R : Type 0} {state : R → RevState} {Lost : Type 0} (base : Base) (co
     at_end = ran.at_end;
     story = story;
     texts = texts_so;
-    prompt = prompt_more (batch_most base.public) (most_of base) (texts_in false (before_read gave (f0.unread ++ ran.piece))) ran.served final.held
-        (subst (λ (p : Public). AnsweredBut (batch_most p) (most_flown base.flight p) (texts_in false (before_read gave (f0.unread ++ ran.piece))) ran.served) on.public ran.prompt)
+    prompt = prompt_more (public_whole base story) (batch_most base.public) (most_of base) (texts_in false (before_read gave (f0.unread ++ ran.piece))) ran.served final.held
+        (subst (λ (p : Public). AnsweredBut p (batch_most base.public) (most_of base) (texts_in false (before_read gave (f0.unread ++ ran.piece))) ran.served) stands_at
+        (subst (λ (p : Public). AnsweredBut (public_of ran.middle.engine) (batch_most p) (most_flown base.flight p) (texts_in false (before_read gave (f0.unread ++ ran.piece))) ran.served) on.public ran.prompt))
         final.rest (whole_before ran.ended gave (f0.unread ++ ran.piece) ((ran.served ++ final.held) ++ final.rest) texts_so);
     carried = carried_by;
     rows = inl (record { first = first; last = last; keeper0 = k0; keeper1 = k1; flights0 = flights_at base.flight; flights1 = left; ran = ran; counts = opened });
@@ -577,7 +581,7 @@ ran_last {Lost = Lost} state on f l gave w t e s k flights none at_end below = r
   served = [];
   more = [];
   texts = rw (none, texts_of-nil, rest_of-nil) refl;
-  prompt = all_answered (batch_most (public_of e)) _ _ [] (most_some (public_of e))
+  prompt = all_answered (public_of e) (batch_most (public_of e)) _ _ [] (most_some (public_of e))
       (subst (λ (xs : List (List ℕ)). Begins (texts_in false (before_read gave (f.unread ++ []))) xs) (texts_of-nil [])
       (prompt_all (f.unread ++ []) [] f.unread gave (append-nil f.unread) (let few = ap length none in omega (arith, few))));
   middle = machine_of e s k flights;

@@ -28,7 +28,7 @@ use Rattle.ob_store.specs.State.{StoreState}
 use Rattle.ob_tables.specs.declared.engine.Engine.{Engine}
 use Rattle.ob_shell.specs.Tallies.{tally_with}
 use Rattle.ob_shell.specs.Traces.{Traced, TracedAll}
-use Rattle.ob_shell.specs.Waiting.{AreGathered, BreaksIn, IsClosed, IsFree, ServedSo, begins_flight}
+use Rattle.ob_shell.specs.Waiting.{AreWaiting, BreaksIn, IsClosed, IsFree, ServedSo, begins_flight}
 use Rattle.ob_shell.specs.declared.session.Break.{Break}
 use Rattle.ob_shell.specs.declared.session.Break.TheVariants.{Served, Unread}
 use Rattle.ob_shell.specs.declared.session.TextHalted.{TextHalted}
@@ -90,7 +90,7 @@ ready_with ready = record { agrees = ready.agrees; lives = ready.lives; settled 
 
 -- ---- nothing was done
 pub takes_idle : {R T : Type 0} {state : R → RevState} {Saves : Type 0} (on : Bool) {May : Gathered → Type 0} {Then : (old new : Gathered) → Type 0} (batch : List Stmt) (tally : Tally) (w t : Option (List ℕ)) (old : Faults) (m : Machine R) (x : T) → IsReady state Saves m
-    → AreGathered m.flights.settings (public_of m.engine) (asked_of m) batch → ((g : Gathered) → May g → Then g g) → TakesTexts state Saves on May Then batch batch [] tally tally w w t t old old m m (Ok x)
+    → AreWaiting m.flights.settings (public_of m.engine) (asked_of m) batch → ((g : Gathered) → May g → Then g g) → TakesTexts state Saves on May Then batch batch [] tally tally w w t t old old m m (Ok x)
 takes_idle on {Then = Then} batch tally w t old m x ready waits then = record {
   ready = ready;
   waits = waits;

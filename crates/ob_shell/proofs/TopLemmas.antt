@@ -7,17 +7,18 @@ use Rattle.std.specs.List.{list_any}
 use Rattle.ob_base.specs.Counts.{Rises}
 use Rattle.ob_base.specs.declared.access.Access.{Access}
 use Rattle.ob_base.specs.declared.config.Config.{Config}
+use Rattle.ob_base.specs.declared.config.Public.{Public}
 use Rattle.ob_base.specs.declared.refusal.Stop.{Stop}
 use Rattle.ob_base.specs.declared.refusal.Stop.TheVariants.{Tampered, SourceFault, SinkFault, NoMemory, InputLimit, StoreFault, StashFull, KeeperFault}
 use Rattle.ob_select.specs.Opening.{is_of_rows}
 use Rattle.ob_gen.specs.declared.tally.Tally.{Tally}
 use Rattle.ob_headline.proofs.FlatLemmas.{start_flat}
-use Rattle.ob_headline.proofs.PromptLemmas.{all_answered, prompt_all, prompt_from, prompt_line, waits_behind}
+use Rattle.ob_headline.proofs.PromptLemmas.{all_answered, prompt_all, prompt_line, waits_behind}
 use Rattle.ob_headline.proofs.TextLemmas.{rest_of-nil, texts_of-nil}
 use Rattle.std.proofs.lemmas.List.Elements.{All-nil}
 use Rattle.ob_headline.specs.Bases.{Base, flying, fresh, start}
 use Rattle.ob_headline.specs.Disturbed.{MeantUntil, meant_entries}
-use Rattle.ob_headline.specs.Flights.{AreEntries, AreGathered, EndedBy, GoesOn, Seat, most_of, seats, seats_of, served_by, whole_of as entries_whole}
+use Rattle.ob_headline.specs.Flights.{AreEntries, AreGathered, EndedBy, GoesOn, Seat, most_of, public_whole, seats, seats_of, served_by, whole_of as entries_whole}
 use Rattle.ob_headline.specs.declared.flight.FlightSettings.{FlightSettings}
 use Rattle.ob_headline.specs.Endings.{last_line}
 use Rattle.ob_headline.specs.Failures.{cut_off, failures}
@@ -109,7 +110,7 @@ unstarted tr settings flight secret s more ending blank untraced untampered unfa
   statements = record { spells = tt; reached = omega arith; begun = omega arith; keyed = inr refl; each = refl };
   accesses = record {
     flat = start_flat settings;
-    entered = record { served = refl; entries = tt; gathered = tt; ended = All-nil (λ (v : Seat). EndedBy v.left v); few_last = omega arith };
+    entered = record { served = refl; entries = tt; gathered = tt; ended = All-nil (λ (v : Seat). EndedBy v.left v) };
     begun = λ ends. absurd (unfaulted_ends ending unfaulted ends);
     each_seen = refl;
     lawful = refl;
@@ -166,19 +167,18 @@ module _ (tally : Tally) (tr : TraceSink) (untraced : tr.new ≡ tr.old) (settin
   piece_within fed = omega (arith, fed.taken, fed.limit)
 
   -- no text was whole before the last read
-  pub piece_prompt : {l0 l1 : Option (List ℕ)} {xs : List ℕ} (most flown : ℕ) → 1 ≤ most → (fed : Fed f0 f1 l0 l1 xs) → length (after_line (xs ++ f1.unread)) ≤ length f1.unread
-      → Prompt most flown fed.piece [] gave
-  piece_prompt {xs = xs} most flown some fed ahead =
+  pub piece_prompt : {l0 l1 : Option (List ℕ)} {xs : List ℕ} (p : Public) (most flown : ℕ) → 1 ≤ most → (fed : Fed f0 f1 l0 l1 xs) → length (after_line (xs ++ f1.unread)) ≤ length f1.unread
+      → Prompt p most flown fed.piece [] gave
+  piece_prompt {xs = xs} p most flown some fed ahead =
       let late = by.late in
       let few = by.few in
       let same = ap (λ (l : List ℕ). length (after_line l)) (piece_is fed none) in
-      prompt_from most flown fed.piece [] gave (omega (arith, few, fed.taken))
-      (all_answered most flown _ [] some (prompt_line gave fed.piece [] (omega (arith, late, same, ahead))))
+      record { few = omega (arith, few, fed.taken); waits = all_answered p most flown _ [] some (prompt_line gave fed.piece [] (omega (arith, late, same, ahead))) }
 
   -- where a run begins afresh
-  pub fresh_prompt : {l0 l1 : Option (List ℕ)} {xs : List ℕ} (fed : Fed f0 f1 l0 l1 xs) → length (after_line (xs ++ f1.unread)) ≤ length f1.unread
-      → Prompt (batch_most (flying flight (fresh settings)).public) (most_of (flying flight (fresh settings))) fed.piece [] gave
-  fresh_prompt = piece_prompt (batch_most (flying flight (fresh settings)).public) (most_of (flying flight (fresh settings))) (most_some (flying flight (fresh settings)).public)
+  pub fresh_prompt : {l0 l1 : Option (List ℕ)} {xs : List ℕ} (p : Public) (fed : Fed f0 f1 l0 l1 xs) → length (after_line (xs ++ f1.unread)) ≤ length f1.unread
+      → Prompt p (batch_most (flying flight (fresh settings)).public) (most_of (flying flight (fresh settings))) fed.piece [] gave
+  fresh_prompt p = piece_prompt p (batch_most (flying flight (fresh settings)).public) (most_of (flying flight (fresh settings))) (most_some (flying flight (fresh settings)).public)
 
   unfoldable pub shown_source_fault : {F : Type 0} {keys : List ℕ → KeySet} {l0 l1 : Option (List ℕ)} (w : Option (List ℕ)) (s : StoreState) → IsFresh s
       → KeyRead f0 f1 l0 l1 (Err Halt.SourceFault) → RunShown tally tr (flying flight (fresh settings)) keys l0 l1 gave w w s s 0 (RanEnding (Err SourceFault)) [] F
@@ -196,7 +196,7 @@ module _ (tally : Tally) (tr : TraceSink) (untraced : tr.new ≡ tr.old) (settin
           at_end = λ (h : false ≡ true). absurd (cc);
           texts = rw after (texts_of-nil []);
         };
-        prompt = fresh_prompt read.fed read.ahead;
+        prompt = fresh_prompt _ read.fed read.ahead;
         carried = unstarted tr settings flight _ s [] _ fresh untraced tt tt;
         grew = no_bytes w;
         whole = took_none w;
@@ -221,7 +221,7 @@ module _ (tally : Tally) (tr : TraceSink) (untraced : tr.new ≡ tr.old) (settin
           at_end = λ (h : false ≡ true). absurd (cc);
           texts = refl;
         };
-        prompt = fresh_prompt read.fed read.ahead;
+        prompt = fresh_prompt _ read.fed read.ahead;
         carried = unstarted tr settings flight _ s _ _ fresh untraced tt tt;
         grew = no_bytes w;
         whole = took_none w;
@@ -246,7 +246,7 @@ module _ (tally : Tally) (tr : TraceSink) (untraced : tr.new ≡ tr.old) (settin
           at_end = λ _. ends.2;
           texts = rw (ends.1, texts_of-nil, rest_of-nil);
         };
-        prompt = fresh_prompt read.fed read.ahead;
+        prompt = fresh_prompt _ read.fed read.ahead;
         carried = unstarted tr settings flight _ s [] _ fresh untraced tt tt;
         grew = no_bytes w;
         whole = took_none w;
@@ -277,7 +277,7 @@ ran_nothing {Lost = Lost} tr settings flight secret f l gave w s blank untraced 
   at_end = λ (h : false ≡ true). absurd (cc);
   story = unserved (texts_in false (f.unread ++ []));
   texts = refl;
-  prompt = all_answered (batch_most (flying flight (fresh settings)).public) (most_of (flying flight (fresh settings))) _ [] (most_some (flying flight (fresh settings)).public)
+  prompt = all_answered _ (batch_most (flying flight (fresh settings)).public) (most_of (flying flight (fresh settings))) _ [] (most_some (flying flight (fresh settings)).public)
       (subst (λ (xs : List (List ℕ)). Begins (texts_in false (before_read gave (f.unread ++ []))) xs) (texts_of-nil [])
       (prompt_all (f.unread ++ []) [] f.unread gave (append-nil f.unread) late));
   carried = unstarted tr settings flight secret s _ _ blank untraced tt tt;
@@ -362,8 +362,10 @@ shown_by {Lost = Lost} {tally = tally} base {f1 = f1} {f2 = f2} {gave = gave} {l
         at_end = ran.at_end;
         texts = ap (texts_in ran.ended) after ∙ ran.texts;
       };
-      prompt = prompt_from (batch_most base.public) (most_of base) (read.fed.piece ++ ran.piece) ran.story.served gave (let few = by.few in omega (arith, few, count))
-          (waits_behind (batch_most base.public) (most_of base) gave _ _ ran.story.served after ran.prompt);
+      prompt = record {
+        few = let few = by.few in omega (arith, few, count);
+        waits = waits_behind (public_whole base ran.story) (batch_most base.public) (most_of base) gave _ _ ran.story.served after ran.prompt;
+      };
       carried = carried;
       grew = subst (λ (l : List ℕ). Outputs w0 w2 Lost l) (sym (append-nil (printed ran.story.answers ++ ran.story.part))) ran.cut;
       whole = ran.whole;
@@ -403,9 +405,11 @@ shown_unread tally tr settings flight l gave w s ending blank untraced untampere
     at_end = λ (h : false ≡ true). absurd (cc);
     texts = refl;
   };
-  prompt = prompt_from (batch_most (flying flight (fresh settings)).public) (most_of (flying flight (fresh settings))) [] [] gave (omega arith)
-      (all_answered (batch_most (flying flight (fresh settings)).public) (most_of (flying flight (fresh settings))) _ [] (most_some (flying flight (fresh settings)).public)
-      (prompt_line gave [] [] (rw (after_line-none [] has_lf-nil) (omega arith))));
+  prompt = record {
+    few = omega arith;
+    waits = all_answered _ (batch_most (flying flight (fresh settings)).public) (most_of (flying flight (fresh settings))) _ [] (most_some (flying flight (fresh settings)).public)
+        (prompt_line gave [] [] (rw (after_line-none [] has_lf-nil) (omega arith)));
+  };
   carried = unstarted tr settings flight _ s _ _ blank untraced untampered unfaulted;
   grew = no_bytes w;
   whole = took_none w;

@@ -7,18 +7,21 @@ use Rattle.std.specs.List.{All}
 use Rattle.ob_base.specs.declared.config.Public.{Public}
 use Rattle.ob_base.specs.declared.refusal.Stop.{Stop}
 use Rattle.ob_base.specs.declared.refusal.Stop.TheVariants as Stops
+use Rattle.ob_base.specs.declared.schema.Table.{Table}
 use Rattle.ob_gen.specs.declared.tally.Tally.{Tally}
 use Rattle.ob_headline.proofs.PromptLemmas.{all_answered, none_waits}
+use Rattle.ob_headline.proofs.SameEntries.{may_by, selects_stay}
 use Rattle.ob_base.specs.declared.skeleton.Skeleton.{Skeleton}
 use Rattle.ob_base.specs.declared.skeleton.Skeleton.TheVariants.{Create as CreateSkeleton, Delete as DeleteSkeleton, Drop as DropSkeleton, Groups, Insert as InsertSkeleton, Rows, Update as UpdateSkeleton}
 use Rattle.ob_base.specs.declared.skeleton.Source.TheVariants.{Table as OneTable, Join}
 use Rattle.ob_headline.specs.Batches.{AllInsert, AnsweredBut, Wait}
 use Rattle.ob_headline.specs.Flights.{WaitToFly, may_fly, most_flown}
 use Rattle.ob_headline.specs.declared.flight.FlightSettings.{FlightSettings}
-use Rattle.ob_headline.specs.Statements.{SpellFirst}
+use Rattle.ob_headline.specs.Statements.{SpellFirst, Spells}
 use Rattle.ob_headline.specs.Words.{Answer, Begins, printed}
 use Rattle.ob_mean.proofs.BatchLemmas.{begins, most_some}
 use Rattle.ob_mean.specs.Batches.{batch_most, inserts_into}
+use Rattle.ob_parse.proofs.GoodStatements.{good_statement}
 use Rattle.ob_print.proofs.CutLemmas.{Outputs-after}
 use Rattle.ob_print.specs.Cuts.{Outputs}
 use Rattle.ob_shell.proofs.TookLemmas.{took_after, traced_on}
@@ -31,13 +34,15 @@ use Rattle.ob_script.specs.FlightLaws.{SelectsFromOne}
 use Rattle.ob_shell.specs.Steps.{AreSpelt, Follow, Gathered, Machine, Owed, Step, Steps, at_rest, more_together, one_more, standing, statements_of}
 use Rattle.ob_shell.specs.Tallies.{TallyIs, flagged}
 use Rattle.ob_shell.specs.Traces.{TracedAll}
-use Rattle.ob_shell.specs.Waiting.{AreGathered, AwaitsFlown, AwaitsMore, BreaksIn, ServedSo}
+use Rattle.ob_shell.specs.Waiting.{AreWaiting, AwaitsFlown, AwaitsMore, BreaksIn, ServedSo}
 use Rattle.ob_sql.specs.Skeleton.{skeleton}
 use Rattle.ob_sql.specs.declared.stmt.Stmt.{Stmt}
-use Rattle.ob_tables.specs.Agreeing.{public_of}
+use Rattle.ob_tables.specs.Agreeing.{public_of, seen_of}
 use Rattle.ob_tables.specs.Batch.{InsertAlike}
 use Rattle.ob_tables.specs.declared.stop.RunStop.{RunStop}
 use Rattle.ob_tables.specs.declared.stop.RunStop.TheVariants as Runs
+use Rattle.ob_token.specs.Tokens.{tokens_of}
+use Rattle.ob_token.specs.declared.token.Token.{Token}
 use Rattle.ob_vault.specs.State.{RevState}
 
 -- ---- texts that were served
@@ -151,6 +156,43 @@ module _ {R : Type 0} (state : R → RevState) where
   steps_flown m0 m2 texts answers (more_together {m1 = m1} {texts = more} {answers = given} step rest) =
       steps_flown m1 m2 more given rest ∙ (λ i. most_flown (step.may.settings i) (public_of m1.engine)) ∙ ap (most_flown m0.flights.settings) step.flew.ran.ran.goes_on.public
 
+-- the last of the texts spell the last of the statements
+spelt_last : (P : Stmt → Type 0) (front back : List (List ℕ)) (batch : List Stmt) → AreSpelt (front ++ back) batch → All P batch → (stmts : List Stmt) × AreSpelt back stmts × All P stmts
+spelt_last P [] back batch spelt all = (batch, spelt, all)
+spelt_last P (text ∷ front) back [] spelt all = absurd spelt
+spelt_last P (text ∷ front) back (stmt ∷ batch) spelt all = spelt_last P front back batch spelt.1 (All-tail P stmt batch all)
+
+-- ---- SELECTs of one table leave the tables
+-- a text spells one statement
+one_spelt : (text : List ℕ) (a b : Stmt) → Spells text (Ok a) → Spells text (Ok b) → a ≡ b
+one_spelt text a b first second =
+    let reads = good_statement text in
+    let same = sym (reads.whole a (tokens_of text) first) ∙ reads.whole b (tokens_of text) second in
+    let parts : ◌≡◌ {A = Stmt × List Token} (a, []) (b, []) = cc same in
+    ap (λ (q : Stmt × List Token). q.0) parts
+
+module _ {R : Type 0} (state : R → RevState) where
+  abbrev tables_at : Machine R → List Table
+  tables_at m = (public_of m.engine).tables
+
+  step_tables : (m0 m1 : Machine R) (text : List ℕ) (answer : Answer) (stmt : Stmt) → Spells text (Ok stmt) → SelectsFromOne (skeleton stmt) → Step state m0 m1 text answer → tables_at m1 ≡ tables_at m0
+  step_tables m0 m1 text answer stmt spells selects step = elim step.done [
+    | inl still ↦ ap tables_at still.same
+    | inr did ↦
+        ap (λ (p : Public). p.tables) did.does.ran.goes_on.public
+        ∙ selects_stay (public_of m0.engine) (record { skeleton = skeleton did.stmt; seen = seen_of m1.engine }) (subst (λ (s : Stmt). SelectsFromOne (skeleton s)) (one_spelt text stmt did.stmt spells did.spells) selects)
+  ]
+
+  pub steps_tables : (m0 m2 : Machine R) (texts : List (List ℕ)) (answers : List Answer) → Steps state m0 m2 texts answers → (rest : List (List ℕ)) (stmts : List Stmt) → AreSpelt (texts ++ rest) stmts → All (λ (stmt : Stmt). SelectsFromOne (skeleton stmt)) stmts → tables_at m2 ≡ tables_at m0
+  steps_tables m0 m2 texts answers at_rest rest stmts spelt all = refl
+  steps_tables m0 m2 texts answers (one_more step behind) rest [] spelt all = absurd spelt
+  steps_tables m0 m2 texts answers (one_more {m1 = m1} {text = text} {one = one} {texts = more} {answers = given} step behind) rest (stmt ∷ stmts) spelt all =
+      steps_tables m1 m2 more given behind rest stmts spelt.1 (All-tail (λ (s : Stmt). SelectsFromOne (skeleton s)) stmt stmts all)
+      ∙ step_tables m0 m1 text one stmt spelt.0 (All-head (λ (s : Stmt). SelectsFromOne (skeleton s)) stmt stmts all) step
+  steps_tables m0 m2 texts answers (more_together {m1 = m1} {flown = flown} {texts = more} {answers = given} step behind) rest stmts spelt all =
+      let last = spelt_last (λ (s : Stmt). SelectsFromOne (skeleton s)) flown (more ++ rest) stmts (subst (λ (l : List (List ℕ)). AreSpelt l stmts) (append_assoc flown more rest) spelt) all in
+      steps_tables m1 m2 more given behind rest last.0 last.1 last.2 ∙ ap (λ (p : Public). p.tables) step.flew.ran.ran.goes_on.public
+
 -- ---- what waits
 -- the last of those that wait do too
 pub record WaitsIn (most : ℕ) (table : List ℕ) (texts : List (List ℕ)) : Type 0 where
@@ -223,37 +265,43 @@ selects_one p (UpdateSkeleton table columns) may = absurd (cc may)
 selects_one p (DeleteSkeleton table) may = absurd (cc may)
 selects_one p (DropSkeleton table) may = absurd (cc may)
 
-selects_last : (front back : List (List ℕ)) (batch : List Stmt) → AreSpelt (front ++ back) batch → All (λ (stmt : Stmt). SelectsFromOne (skeleton stmt)) batch
-    → (stmts : List Stmt) × (length stmts ≡ length back) × SpellFirst back (map Ok stmts) × All (λ (stmt : Stmt). SelectsFromOne (skeleton stmt)) stmts
+spelt_first : (texts : List (List ℕ)) (batch : List Stmt) → AreSpelt texts batch → SpellFirst texts (map Ok batch)
 unfolding SpellFirst
-selects_last [] [] [] spelt all = ([], refl, tt, all)
-selects_last [] [] (stmt ∷ batch) spelt all = absurd spelt
-selects_last [] (text ∷ back) [] spelt all = absurd spelt
-selects_last [] (text ∷ back) (stmt ∷ batch) spelt all =
-    let rest = selects_last [] back batch spelt.1 (All-tail (λ (s : Stmt). SelectsFromOne (skeleton s)) stmt batch all) in (
-      stmt ∷ rest.0,
-      (let same = rest.1 in omega (arith, same)),
-      (spelt.0, rest.2),
-      All-cons (λ (s : Stmt). SelectsFromOne (skeleton s)) stmt rest.0 (All-head (λ (s : Stmt). SelectsFromOne (skeleton s)) stmt batch all) rest.3,
-    )
-selects_last (text ∷ front) back [] spelt all = absurd spelt
-selects_last (text ∷ front) back (stmt ∷ batch) spelt all = selects_last front back batch spelt.1 (All-tail (λ (s : Stmt). SelectsFromOne (skeleton s)) stmt batch all)
+spelt_first [] [] spelt = tt
+spelt_first [] (stmt ∷ batch) spelt = absurd spelt
+spelt_first (text ∷ texts) [] spelt = absurd spelt
+spelt_first (text ∷ texts) (stmt ∷ batch) spelt = (spelt.0, spelt_first texts batch spelt.1)
 
-waits_flown : (settings : Option FlightSettings) (p : Public) (batch : List Stmt) (front back : List (List ℕ)) → AwaitsFlown settings p batch → AreSpelt (front ++ back) batch → WaitToFly (most_flown settings p) back
+waits_flown : (settings : Option FlightSettings) (p : Public) (batch : List Stmt) (front back : List (List ℕ)) → AwaitsFlown settings p batch → AreSpelt (front ++ back) batch → WaitToFly p (most_flown settings p) back
 waits_flown settings p batch front back gathered spelt =
-    let all = All-weaker (λ (stmt : Stmt). may_fly p (skeleton stmt) ≡ true) (λ (stmt : Stmt). SelectsFromOne (skeleton stmt)) (λ stmt may. selects_one p (skeleton stmt) may) batch gathered.fly in
-    let waits = selects_last front back batch spelt all in
+    let last = spelt_last (λ (stmt : Stmt). may_fly p (skeleton stmt) ≡ true) front back batch spelt gathered.fly in
     let long = spelt_long (front ++ back) batch spelt in
     let parts = length-append front back in
-    record { few = let room = gathered.room in omega (arith, room, long, parts); stmts = waits.0; whole = waits.1; spell = waits.2; select = waits.3 }
+    record { few = let room = gathered.room in omega (arith, room, long, parts); stmts = last.0; whole = sym (spelt_long back last.0 last.1); spell = spelt_first back last.0 last.1; select = last.2 }
 
-pub waits_gathered : (settings : Option FlightSettings) (p : Public) (m : ℕ) (batch : List Stmt) (front back : List (List ℕ)) → AreGathered settings p m batch → AreSpelt (front ++ back) batch
-    → Wait (batch_most p) back ⊎ WaitToFly (most_flown settings p) back
-waits_gathered settings p m [] front back gathered spelt =
+-- by the tables alone
+waits_alike : (p q : Public) (most : ℕ) (texts : List (List ℕ)) → q.tables ≡ p.tables → WaitToFly p most texts → WaitToFly q most texts
+waits_alike p q most texts same wait = record {
+  few = wait.few;
+  stmts = wait.stmts;
+  whole = wait.whole;
+  spell = wait.spell;
+  select = All-weaker (λ (stmt : Stmt). may_fly p (skeleton stmt) ≡ true) (λ (stmt : Stmt). may_fly q (skeleton stmt) ≡ true) (λ stmt may. may_by q p (skeleton stmt) same ∙ may) wait.stmts wait.select;
+}
+
+-- where all are SELECTs of one table, the tables are the same behind the first of them
+abbrev pub LeavesTables : (p q : Public) → List (List ℕ) → List Stmt → Type 0
+LeavesTables p q served batch = (rest : List (List ℕ)) → AreSpelt (served ++ rest) batch → All (λ (stmt : Stmt). SelectsFromOne (skeleton stmt)) batch → q.tables ≡ p.tables
+
+pub waits_gathered : (settings : Option FlightSettings) (p : Public) (m : ℕ) (batch : List Stmt) (front back : List (List ℕ)) → AreWaiting settings p m batch → AreSpelt (front ++ back) batch
+    → (q : Public) → LeavesTables p q front batch → Wait (batch_most p) back ⊎ WaitToFly q (most_flown settings p) back
+waits_gathered settings p m [] front back gathered spelt q leaves =
     let none = none_held (front ++ back) spelt in
     inl (subst (Wait (batch_most p)) (sym (last_none front back none)) (none_waits (batch_most p) (most_some p)))
-waits_gathered settings p m (first ∷ rest) front back (inl more) spelt = inl (waits_batched p m first rest front back more spelt)
-waits_gathered settings p m (first ∷ rest) front back (inr more) spelt = inr (waits_flown settings p (first ∷ rest) front back more spelt)
+waits_gathered settings p m (first ∷ rest) front back (inl more) spelt q leaves = inl (waits_batched p m first rest front back more spelt)
+waits_gathered settings p m (first ∷ rest) front back (inr more) spelt q leaves =
+    let all = All-weaker (λ (stmt : Stmt). may_fly p (skeleton stmt) ≡ true) (λ (stmt : Stmt). SelectsFromOne (skeleton stmt)) (λ stmt may. selects_one p (skeleton stmt) may) (first ∷ rest) more.fly in
+    inr (waits_alike p q (most_flown settings p) back (leaves back spelt all) (waits_flown settings p (first ∷ rest) front back more spelt))
 
 -- a list that is cut in two ways
 pub cut_twice : {A : Type 0} (a b c e : List A) → a ++ b ≡ c ++ e → ((l : List A) × (c ≡ a ++ l)) ⊎ ((l : List A) × (a ≡ c ++ l))
@@ -267,11 +315,11 @@ cut_twice (x ∷ a) b (y ∷ c) e is =
     ]
 
 -- of texts that were whole before the last read all were answered but for some that wait, where some of those that waited were
-pub answered_but : (settings : Option FlightSettings) (p : Public) (m : ℕ) (batch : List Stmt) (texts served held more_served rest ys whole : List (List ℕ)) → AreGathered settings p m batch → AreSpelt held batch → texts ≡ served ++ held → held ++ ys ≡ more_served ++ rest → Begins whole texts
-    → AnsweredBut (batch_most p) (most_flown settings p) whole (served ++ more_served)
-answered_but settings p m batch texts served held more_served rest ys whole gathered spelt first second begins = elim (cut_twice held ys more_served rest second) [
+pub answered_but : (settings : Option FlightSettings) (p : Public) (m : ℕ) (batch : List Stmt) (texts served held more_served rest ys whole : List (List ℕ)) → AreWaiting settings p m batch → AreSpelt held batch → texts ≡ served ++ held → held ++ ys ≡ more_served ++ rest → Begins whole texts
+    → (q : Public) → LeavesTables p q more_served batch → AnsweredBut q (batch_most p) (most_flown settings p) whole (served ++ more_served)
+answered_but settings p m batch texts served held more_served rest ys whole gathered spelt first second begins q leaves = elim (cut_twice held ys more_served rest second) [
   | inl longer ↦
-      all_answered (batch_most p) (most_flown settings p) whole (served ++ more_served) (most_some p)
+      all_answered q (batch_most p) (most_flown settings p) whole (served ++ more_served) (most_some p)
       (record {
         rest = begins.rest ++ longer.0;
         joined =
@@ -280,7 +328,7 @@ answered_but settings p m batch texts served held more_served rest ys whole gath
       })
   | inr shorter ↦ record {
     waiting = shorter.0;
-    wait = waits_gathered settings p m batch more_served shorter.0 gathered (subst (λ (l : List (List ℕ)). AreSpelt l batch) shorter.1 spelt);
+    wait = waits_gathered settings p m batch more_served shorter.0 gathered (subst (λ (l : List (List ℕ)). AreSpelt l batch) shorter.1 spelt) q leaves;
     answered = subst (λ (l : List (List ℕ)). Begins whole l) (first ∙ ap (λ (l : List (List ℕ)). served ++ l) shorter.1 ∙ sym (append_assoc served more_served shorter.0)) begins;
   }
 ]

@@ -1,13 +1,11 @@
 -- How the statements of some texts are served from a machine on, each alone, or several together.
 use Rattle.std.specs.Prelude.{◌-◌, if◌then◌else◌, nat_le, take}
 use Rattle.std.specs.List.{All}
-use Rattle.std.proofs.Common.{◌≡◌, ◌+◌, ◌≤◌, ◌<◌, ◌++◌, inl, inr, ℕ, suc, Bool, true, false, List, [], ◌∷◌, length, Option, Some, None, Ok, Err, refl, sym, ◌∙◌, ap, subst, arith}
+use Rattle.std.proofs.Common.{◌≡◌, ◌+◌, ◌<◌, ◌++◌, inl, inr, ℕ, suc, Bool, true, false, List, [], ◌∷◌, length, Option, Some, None, Ok, Err, refl, sym, ◌∙◌, ap, subst, arith}
 use Rattle.std.proofs.lemmas.List.Elements.{All-cons, All-nil}
 use Rattle.ob_base.specs.declared.access.Access.{Access}
-use Rattle.ob_base.specs.declared.config.Public.{Public}
 use Rattle.ob_base.specs.declared.seen.Seen.{Seen}
 use Rattle.ob_headline.specs.Flights.{AreEntries, AreGathered, EndedBy, MayFly as FlyMay, Seat, gathered_then, most_flown, place_now, seat_alone, seats, served_by, whole_of}
-use Rattle.ob_headline.specs.declared.flight.FlightSettings.{FlightSettings}
 use Rattle.ob_mean.specs.Replay.{Spelt}
 use Rattle.ob_script.specs.Flights.{Alone, Entry, Together, trace_in}
 use Rattle.ob_script.specs.Script.{script}
@@ -36,13 +34,7 @@ module _ {R : Type 0} where
     pub are : AreEntries (most_at m) (length seen) entries
     pub gathers : AreGathered (most_at m) m.gathered.flown (seats_at m entries) spelt
     pub ended : All (λ (v : Seat). EndedBy v.left v) (take (length seen) (seats_at m entries))
-    pub few : length last ≤ most_at m
     pub starts : StartsApart (most_at m) (public_of m.engine) m.gathered.flown spelt
-
--- one at least may be served
-pub most_one : (settings : Option FlightSettings) (p : Public) → 1 ≤ most_flown settings p
-most_one None p = omega arith
-most_one (Some f) p = omega arith
 
 -- ---- entries
 minus_one : (n : ℕ) → suc n - 1 ≡ n
@@ -95,7 +87,6 @@ module _ {R : Type 0} where
     are = tt;
     gathers = tt;
     ended = All-nil (λ (v : Seat). EndedBy v.left v);
-    few = omega arith;
     starts = tt;
   }
 
@@ -106,7 +97,6 @@ module _ {R : Type 0} where
     are = tt;
     gathers = tt;
     ended = All-nil (λ (v : Seat). EndedBy v.left v);
-    few = omega arith;
     starts = tt;
   }
 
@@ -119,7 +109,6 @@ module _ {R : Type 0} where
     are = (tt, inr refl, tt);
     gathers = (sym apart, tt);
     ended = All-nil (λ (v : Seat). EndedBy v.left v);
-    few = most_one m.flights.settings (public_of m.engine);
     starts = apart;
   }
 
@@ -137,7 +126,6 @@ module _ {R : Type 0} where
             subst (λ (vs : List Seat). AreGathered (most_at m) 0 vs spelt) there
             (subst (λ (k : ℕ). AreGathered k 0 (seats_at m1 entries) spelt) most (subst (λ (k : ℕ). AreGathered (most_at m1) k (seats_at m1 entries) spelt) none rest.gathers));
         ended = subst (λ (vs : List Seat). All (λ (v : Seat). EndedBy v.left v) (take (length seen) vs)) there rest.ended;
-        few = subst (λ (k : ℕ). length last ≤ k) most rest.few;
         starts = tt;
       }
 
@@ -167,6 +155,5 @@ module _ {R : Type 0} where
           );
           ended = subst (λ (vs : List Seat). All (λ (v : Seat). EndedBy v.left v) (take (suc (length seen)) vs)) there
               (All-cons (λ (v : Seat). EndedBy v.left v) (seat_alone (public_of m.engine) (asked_of m) x) (take (length seen) (seats_at m1 entries)) tt rest.ended);
-          few = subst (λ (k : ℕ). length last ≤ k) most_alone rest.few;
           starts = apart;
         }

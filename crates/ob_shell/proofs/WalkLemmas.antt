@@ -181,6 +181,7 @@ module _ {R : Type 0} (state : R → RevState) where
     pub aloft : LeavesAloft ending m2.store.asked (drop (length seen) (seats_at m0 entries)) (statements (drop (length texts) spelt)) last
     pub on : GoesOn (drop (length seen) (seats_at m0 entries)) ⊎ Lost
     pub passed : m1.store.asked ≡ m0.store.asked ++ trace_at m0 (whole_of (length seen) entries)
+    pub stands : public_of m1.engine ≡ after_entries m0.flights.words 0 (public_of m0.engine) (whole_of (length seen) entries)
     pub asked : m2.store.asked ≡ m0.store.asked ++ trace_at m0 entries
     pub keys : m2.engine.vault.keys ≡ m0.engine.vault.keys
     pub start : engine_start m2.engine ≡ engine_start m0.engine
@@ -230,6 +231,7 @@ module _ {R : Type 0} (state : R → RevState) where
         each_seen = refl;
         lawful = λ most old fails d drawn g. refl;
         passed = sym (append-nil m0.store.asked);
+        stands = refl;
         asked = ap (λ (m : Machine R). m.store.asked) same ∙ sym (append-nil m0.store.asked);
         keys = ap (λ (m : Machine R). m.engine.vault.keys) same;
         start = ap (λ (m : Machine R). engine_start m.engine) same;
@@ -374,6 +376,7 @@ module _ {R : Type 0} (state : R → RevState) where
           refl,
         );
         passed = sym (append-nil m0.store.asked);
+        stands = refl;
         asked = cut.does.ran.asked ∙ ap (λ xs. m0.store.asked ++ xs) (sym (append-nil (script (public_of m0.engine) sk here)));
         keys = cut.does.ran.keys;
         start = cut.does.ran.start;
@@ -498,6 +501,7 @@ module _ {R : Type 0} (state : R → RevState) where
           refl,
         );
         passed = sym (append-nil m0.store.asked);
+        stands = refl;
         asked = did.does.ran.asked ∙ ap (λ xs. m0.store.asked ++ xs) (sym (append-nil (script (public_of m0.engine) sk here)));
         keys = did.does.ran.keys;
         start = did.does.ran.start;
@@ -544,6 +548,7 @@ module _ {R : Type 0} (state : R → RevState) where
     each_seen = refl;
     lawful = λ most old fails d drawn g. refl;
     passed = sym (append-nil m0.store.asked);
+    stands = refl;
     asked = ap (λ (m : Machine R). m.store.asked) same ∙ sym (append-nil m0.store.asked);
     keys = ap (λ (m : Machine R). m.engine.vault.keys) same;
     start = ap (λ (m : Machine R). engine_start m.engine) same;
@@ -605,6 +610,7 @@ module _ {R : Type 0} (state : R → RevState) where
           refl,
         );
         passed = sym (append-nil m0.store.asked);
+        stands = refl;
         asked = ap (λ (m : Machine R). m.store.asked) same ∙ sym (append-nil m0.store.asked) ∙ ap (λ (l : List Access). m0.store.asked ++ (l ++ [])) (sym none);
         keys = ap (λ (m : Machine R). m.engine.vault.keys) same;
         start = ap (λ (m : Machine R). engine_start m.engine) same;

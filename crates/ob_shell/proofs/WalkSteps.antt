@@ -92,6 +92,7 @@ module _ {R : Type 0} (state : R → RevState) where
         aloft = rest.aloft;
         on = rest.on;
         passed = rest.passed;
+        stands = rest.stands;
         asked = rest.asked;
         keys = rest.keys;
         start = rest.start;
@@ -297,6 +298,7 @@ module _ {R : Type 0} (state : R → RevState) where
         aloft = subst (λ (vs : List Seat). LeavesAloft ending m2.store.asked (drop (suc (length rest.seen)) vs) (statements (drop (length texts) rest.spelt)) rest.last) there rest.aloft;
         on = subst (λ (vs : List Seat). GoesOn (drop (suc (length rest.seen)) vs) ⊎ Lost) there rest.on;
         passed = asked_more m0 m1 text one did m.store.asked (whole_of (length rest.seen) rest.entries) rest.passed ∙ ap (λ (es : List Turn). m0.store.asked ++ trace_at m0 es) (sym (whole_alone (length rest.seen) x rest.entries));
+        stands = rest.stands ∙ after_on m0 m1 text one did (whole_of (length rest.seen) rest.entries) ∙ ap (λ (es : List Turn). after_entries m0.flights.words 0 p es) (sym (whole_alone (length rest.seen) x rest.entries));
         asked = asked_more m0 m1 text one did m2.store.asked rest.entries rest.asked;
         keys = rest.keys ∙ did.does.ran.keys;
         start = rest.start ∙ did.does.ran.start;
@@ -448,6 +450,9 @@ module _ {R : Type 0} (state : R → RevState) where
         aloft = subst (λ (l : List Seat). LeavesAloft ending m2.store.asked (drop (suc (length rest.seen)) l) (statements (drop (length texts) rest.spelt)) rest.last) vs rest.aloft;
         on = subst (λ (l : List Seat). GoesOn (drop (suc (length rest.seen)) l) ⊎ Lost) vs rest.on;
         passed = rest.passed ∙ ap (λ (l : List Access). m0.store.asked ++ l) (traces (whole_of (length rest.seen) rest.entries)) ∙ ap (λ (es : List Turn). m0.store.asked ++ trace_at m0 es) (sym (whole_alone (length rest.seen) x rest.entries));
+        stands =
+            rest.stands ∙ sym (after_alone_then m0.flights.words m0.flights.words p p (asked_of m0) (asked_of m0) x refl (sym still) count (whole_of (length rest.seen) rest.entries))
+            ∙ ap (λ (es : List Turn). after_entries m0.flights.words 0 p es) (sym (whole_alone (length rest.seen) x rest.entries));
         asked = rest.asked ∙ ap (λ (l : List Access). m0.store.asked ++ l) (traces rest.entries);
         keys = rest.keys;
         start = rest.start;

@@ -169,7 +169,7 @@ pub record RanUnsaved (config : Config) (tracing : Bool) (ended : KeptEnded) (ol
   pub taken : List ℕ
   pub given : Consumes old.left new.left taken
   pub within : length taken ≤ config.max_input
-  pub prompt : Prompt 1 1 taken [] new.gave
+  pub prompt : Prompt (first_public config) 1 1 taken [] new.gave
   pub secret : List ℕ
   pub keyed : secret_of (first_line taken) ≡ Some secret
   pub unserved : EndsUnsaved config secret tracing ended old.store new.store

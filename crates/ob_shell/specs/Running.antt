@@ -154,10 +154,10 @@ pub record SessionRan {R : Type 0} (state : R → RevState) (tracing : Bool) (fe
   pub served : List (List ℕ)
   pub more : List (List ℕ)
   pub texts : texts_in ended (feed0.unread ++ piece) ≡ served ++ more
-  pub prompt : AnsweredBut (batch_most (public_of m0.engine))
+  pub middle : Machine R
+  pub prompt : AnsweredBut (public_of middle.engine) (batch_most (public_of m0.engine))
       (most_flown m0.flights.settings (public_of m0.engine))
       (texts_in false (before_read gave (feed0.unread ++ piece))) served
-  pub middle : Machine R
   pub answers : List Answer
   pub steps : Steps state m0 middle served answers
   pub part : List ℕ

@@ -14,7 +14,7 @@ use Rattle.ob_shell.specs.Feeding.{Fetch}
 use Rattle.ob_shell.specs.Running.{EndsBy, IsQuiet, OutFailed, SessionRan, Silenced, StopCause, halted_of, is_quiet, session_halted, stop_of}
 use Rattle.ob_shell.specs.Steps.{AreSpelt, Gathered, IsReady, Machine, StopsIn, asked_of, gathered_by, standing}
 use Rattle.ob_shell.specs.Traces.{Traced, TracedAll}
-use Rattle.ob_shell.specs.Waiting.{AreGathered, BreaksIn, ComesFree, IsClosed, ServedSo}
+use Rattle.ob_shell.specs.Waiting.{AreWaiting, BreaksIn, ComesFree, IsClosed, ServedSo}
 use Rattle.ob_shell.specs.declared.session.Break.{Break}
 use Rattle.ob_shell.specs.declared.session.Break.TheVariants.{Served, Unread}
 use Rattle.ob_shell.specs.declared.session.Halted.{Halted}
@@ -62,7 +62,7 @@ pub record TakesTexts {R T : Type 0} (state : R → RevState) (Saves : Type 0) (
     (written0 written1 traced0 traced1 : Option (List ℕ)) (old new : Faults)
     (m0 m1 : Machine R) (result : Result T TextHalted) : Type 0 where
   pub ready : OnOk result (IsReady state Saves m1)
-  pub waits : OnOk result (AreGathered m1.flights.settings (public_of m1.engine) (asked_of m1) batch1)
+  pub waits : OnOk result (AreWaiting m1.flights.settings (public_of m1.engine) (asked_of m1) batch1)
   pub done : OnOk result ((gathered : Gathered) (held : List (List ℕ)) → May gathered
       → AreSpelt held batch0 → ServedSo state written0 written1 (held ++ texts) batch1
       (Then gathered) tally0 tally1 (standing m0 [] gathered) m1)
@@ -120,7 +120,7 @@ IsNotTaken pending b _ = ⊥
 pub record StandsReady {R : Type 0} (state : R → RevState) (Saves Took : Type 0)
     (batch : List Stmt) (m : Machine R) : Type 0 where
   pub ready : IsReady state Saves m
-  pub waits : AreGathered m.flights.settings (public_of m.engine) (asked_of m) batch
+  pub waits : AreWaiting m.flights.settings (public_of m.engine) (asked_of m) batch
   pub took : Took
 
 -- ---- until no more is read

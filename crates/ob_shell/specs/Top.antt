@@ -8,7 +8,7 @@ use Rattle.ob_gen.specs.declared.tally.Tally.{Tally}
 use Rattle.ob_headline.specs.Bases.{Base, FromEach}
 use Rattle.ob_headline.specs.Batches.{AnsweredBut}
 use Rattle.ob_headline.specs.Endings.{last_line, status_of}
-use Rattle.ob_headline.specs.Flights.{GoesOn, most_of, seats_of, trace_of, whole_of}
+use Rattle.ob_headline.specs.Flights.{GoesOn, most_of, public_whole, seats_of, trace_of, whole_of}
 use Rattle.ob_headline.specs.KeyLine.{LineTaken, first_line, secret_of}
 use Rattle.ob_headline.specs.Settings.{limit_of}
 use Rattle.ob_headline.specs.Texts.{texts_in}
@@ -101,7 +101,7 @@ pub record RanAfter {R : Type 0} (state : R → RevState) (tr : TraceSink) (base
   pub at_end : ended ≡ true → IsAtEnd left1
   pub story : Story
   pub texts : texts_in ended (feed0.unread ++ piece) ≡ story.served ++ story.more
-  pub prompt : AnsweredBut (batch_most base.public) (most_of base)
+  pub prompt : AnsweredBut (public_whole base story) (batch_most base.public) (most_of base)
       (texts_in false (before_read gave (feed0.unread ++ piece))) story.served
   pub carried : Carried tr base keys secret store0 store1 high story (Ran (flagged result))
   -- the rows that were open are those of the session's engine; where none was started, there are none
@@ -196,7 +196,8 @@ pub record RunShown (tally : Tally) (tr : TraceSink) (base : Base) (keys : List 
   pub ended : Bool
   pub story : Story
   pub bytes : Bytes (limit_of base.settings) taken ended story left0 left1
-  pub prompt : Prompt (batch_most base.public) (most_of base) taken story.served gave
+  pub prompt : Prompt (public_whole base story) (batch_most base.public) (most_of base) taken
+      story.served gave
   pub carried : Carried tr base (keys taken) (secret_of (first_line taken)) store0 store1 high
       story ending
   pub grew : Outputs written0 written1 Fault ((printed story.answers ++ story.part) ++ line)

@@ -70,9 +70,9 @@ pub record AwaitsFlown (settings : Option FlightSettings) (p : Public) (stmts : 
   pub fly : All (λ (stmt : Stmt). may_fly p (skeleton stmt) ≡ true) stmts
   pub room : length stmts < most_flown settings p
 
-abbrev pub AreGathered : Option FlightSettings → Public → (m : ℕ) → List Stmt → Type 0
-AreGathered settings p m [] = ⊤
-AreGathered settings p m (first ∷ rest) =
+abbrev pub AreWaiting : Option FlightSettings → Public → (m : ℕ) → List Stmt → Type 0
+AreWaiting settings p m [] = ⊤
+AreWaiting settings p m (first ∷ rest) =
     AwaitsMore p m first rest ⊎ AwaitsFlown settings p (first ∷ rest)
 
 -- a statement may come to them: it begins a batch or a flight, or goes into that of those that wait

@@ -13,7 +13,7 @@ ghost use Rattle.ob_shell.specs.Serving.{IsNotTaken, ReadsTexts, ServesStmt, Sta
 ghost use Rattle.ob_shell.specs.Steps.{AnswersText, Flights, HasBody, IsApartFrom, IsReady, machine_of, no_flights};
 ghost use Rattle.ob_shell.specs.Tallies;
 ghost use Rattle.ob_shell.specs.Traces.{TracedAll, Traced};
-ghost use Rattle.ob_shell.specs.Waiting.{AreGathered, GoesAlong, IsFree};
+ghost use Rattle.ob_shell.specs.Waiting.{AreWaiting, GoesAlong, IsFree};
 ghost use Rattle.ob_sql.specs.Skeleton.{skeleton};
 ghost use Rattle.ob_tables.specs.Agreeing.{count_of, public_of};
 
@@ -417,7 +417,7 @@ fn take_stmt<R: Revisions, S: BlockStore, B: Behind<S>, K: Sink, T: Sink, D: Dig
     digest: &mut D,
 ) -> Result<(), Break>
     requires spells { Spells session.old.pending (Ok stmt) }
-    requires waits { AreGathered manner.flight (public_of engine.old)
+    requires waits { AreWaiting manner.flight (public_of engine.old)
         (count_of engine.old (S.state store.old)) session.old.batch.items }
     requires ready { IsReady R.state (B.Saves behind.old)
         (machine_of engine.old (S.state store.old) (B.state behind.old)
@@ -468,7 +468,7 @@ fn take_misspelt<R: Revisions, S: BlockStore, B: Behind<S>, K: Sink, T: Sink, D:
     digest: &mut D,
 ) -> Result<(), TextHalted>
     requires spells { Spells session.old.pending (Err at) }
-    requires waits { AreGathered manner.flight (public_of engine.old)
+    requires waits { AreWaiting manner.flight (public_of engine.old)
         (count_of engine.old (S.state store.old)) session.old.batch.items }
     requires ready { IsReady R.state (B.Saves behind.old)
         (machine_of engine.old (S.state store.old) (B.state behind.old)
@@ -521,7 +521,7 @@ fn take_text<R: Revisions, S: BlockStore, B: Behind<S>, K: Sink, T: Sink, D: Dig
     digest: &mut D,
 ) -> Result<(), Break>
     requires short { length session.old.pending ≤ text_max }
-    requires waits { AreGathered manner.flight (public_of engine.old)
+    requires waits { AreWaiting manner.flight (public_of engine.old)
         (count_of engine.old (S.state store.old)) session.old.batch.items }
     requires ready { IsReady R.state (B.Saves behind.old)
         (machine_of engine.old (S.state store.old) (B.state behind.old)
@@ -576,7 +576,7 @@ fn turn<R: Revisions, S: BlockStore, B: Behind<S>, K: Sink, T: Sink, D: Digester
     digest: &mut D,
 ) -> Result<(), Break>
     requires short { length session.old.pending < text_max }
-    requires waits { AreGathered manner.flight (public_of engine.old)
+    requires waits { AreWaiting manner.flight (public_of engine.old)
         (count_of engine.old (S.state store.old)) session.old.batch.items }
     requires ready { IsReady R.state (B.Saves behind.old)
         (machine_of engine.old (S.state store.old) (B.state behind.old)
@@ -631,7 +631,7 @@ fn finish<R: Revisions, S: BlockStore, B: Behind<S>, K: Sink, T: Sink, D: Digest
     digest: &mut D,
 ) -> Result<(), Break>
     requires short { length session.old.pending ≤ text_max }
-    requires waits { AreGathered manner.flight (public_of engine.old)
+    requires waits { AreWaiting manner.flight (public_of engine.old)
         (count_of engine.old (S.state store.old)) session.old.batch.items }
     requires ready { IsReady R.state (B.Saves behind.old)
         (machine_of engine.old (S.state store.old) (B.state behind.old)

@@ -2,7 +2,7 @@
 ghost use Rattle.std.specs.Prelude.{◌≡◌, ◌⊎◌, [], IsSome, None, false, map, string_bytes};
 ghost use Rattle.ob_headline.specs.Bases.{public_with};
 ghost use Rattle.ob_headline.specs.Failures.{failures};
-ghost use Rattle.ob_headline.specs.Reruns.{Alike, EndsWell, ShellRun, any_counted, turns_in};
+ghost use Rattle.ob_headline.specs.Reruns.{Alike, EndsWell, ShellRun, any_counted, stated_in};
 ghost use Rattle.ob_headline.specs.Settings.{flight_of, settings_of};
 ghost use Rattle.ob_headline.specs.Usage.{usage};
 ghost use Rattle.ob_headline.specs.Words.{faults_of, outside_of};
@@ -52,12 +52,12 @@ pub fn sessions_ask_the_same<I: Source, O: Sink, T: Sink, S: BlockStore>(
         × (flight_of usage (map string_bytes words.now) ≡ None
         → EndsWell result.0.status (failures a.story.answers)
         → EndsWell result.1.status (failures b.story.answers)
-        → (any_counted (turns_in (public_with (settings_of usage (map string_bytes words.now)))
+        → (any_counted (stated_in (public_with (settings_of usage (map string_bytes words.now)))
         a.story.spelt) ≡ false)
         ⊎ IsSome (public_with (settings_of usage (map string_bytes words.now))).pad
         → Alike (public_with (settings_of usage (map string_bytes words.now))) 0 None
-        (turns_in (public_with (settings_of usage (map string_bytes words.now))) a.story.spelt)
-        (turns_in (public_with (settings_of usage (map string_bytes words.now))) b.story.spelt)
+        (stated_in (public_with (settings_of usage (map string_bytes words.now))) a.story.spelt)
+        (stated_in (public_with (settings_of usage (map string_bytes words.now))) b.story.spelt)
         → (S.state store.new).asked ≡ (S.state store_too.new).asked) }
 {
     reruns_ask_the_same();

@@ -6,7 +6,7 @@ use Rattle.ob_shell.specs.Feeding.{IsFedBy}
 use Rattle.ob_shell.specs.Running.{SoFar}
 use Rattle.ob_shell.specs.Steps.{machine_of, IsReady}
 use Rattle.ob_shell.specs.Traces.{TracedAll}
-use Rattle.ob_shell.specs.Waiting.{AreGathered}
+use Rattle.ob_shell.specs.Waiting.{AreWaiting}
 use Rattle.ob_tables.specs.Agreeing.{count_of, public_of}
 
 abbrev pub invariant-bytes : goal.invariant-bytes
@@ -19,7 +19,7 @@ invariant-bytes g l =
           (machine_of l.engine (g.S.BlockStore.state l.store) (g.B.Behind.state l.behind) (flights_of l.manner.flight l.session.turns.last));
       short : length l.session.pending < text_max;
       ready : IsReady g.R.Revisions.state (g.B.Behind.Saves l.behind) (machine_of l.engine (g.S.BlockStore.state l.store) (g.B.Behind.state l.behind) (flights_of l.manner.flight l.session.turns.last));
-      waits : AreGathered l.manner.flight (public_of l.engine) (count_of l.engine (g.S.BlockStore.state l.store)) l.session.batch.items;
+      waits : AreWaiting l.manner.flight (public_of l.engine) (count_of l.engine (g.S.BlockStore.state l.store)) l.session.batch.items;
       same : g.B.Behind.name l.behind ≡ g.B.Behind.name l.initial.behind;
       fed_by : IsFedBy l.feed (g.I.Source.gave l.input);
       source : g.I.Source.faults l.input ≡ g.I.Source.faults l.initial.input;
