@@ -111,15 +111,15 @@ OneMakes (v ∷ seats) (stmt ∷ stmts) [] = ⊥
 OneMakes (v ∷ seats) (stmt ∷ stmts) (x ∷ seen) =
     MakesAloft v.left v.public stmt x.seen ⊎ OneMakes seats stmts seen
 
--- it was its turn: the last access of all is its own, or the next one would have been
-abbrev pub InTurn : Stand → Type 0
-InTurn stand = (stand.before + 1 ≡ stand.own) ⊎ IsTrue stand.turn
+-- it has the turn: the last access of all is its own, or the next one would have been
+abbrev pub HasTurn : Stand → Type 0
+HasTurn stand = (stand.before + 1 ≡ stand.own) ⊎ IsTrue stand.turn
 
 -- memory was wanting for it, in its turn, where its rows are emitted, or in its end, which would have come next
 abbrev pub WantsAloft : Option Stand → Seat → Stmt → Seen → Type 0
 WantsAloft None v stmt seen = ⊥
 WantsAloft (Some stand) v stmt seen =
-    (InTurn stand × AtEmission v.public stmt seen
+    (HasTurn stand × AtEmission v.public stmt seen
     (drop stand.own (whole_script v.public (skeleton stmt) seen)))
     ⊎ ((v.until ≡ v.asked + stand.all)
     × (drop stand.own (script v.public (skeleton stmt) seen) ≡ []))

@@ -11,10 +11,10 @@ use Rattle.ob_base.specs.declared.config.Public.{Public}
 use Rattle.ob_base.specs.declared.seen.Seen.{Seen}
 use Rattle.ob_exec.proofs.FlightLists.{served_long}
 use Rattle.ob_exec.specs.InFlight.{served_as}
-use Rattle.ob_exec.specs.RanFlight.{InEnd, InTurn as InTurnOf, asked_next, in_flight}
-use Rattle.ob_headline.specs.Accesses.{FirstWants, InTurn, LeavesAloft, LeavesFlight, MakesAloft, OneMakes, WantsAloft, ends_within}
-use Rattle.ob_headline.specs.Flights.{EndedBy, OnBy, Seat, Stand, stand_at}
+use Rattle.ob_exec.specs.RanFlight.{InEnd, InTurn, asked_next, in_flight}
 use Rattle.ob_headline.proofs.UntilLemmas.{until_ended}
+use Rattle.ob_headline.specs.Accesses.{FirstWants, HasTurn, LeavesAloft, LeavesFlight, MakesAloft, OneMakes, WantsAloft, ends_within}
+use Rattle.ob_headline.specs.Flights.{EndedBy, OnBy, Seat, Stand, stand_at}
 use Rattle.ob_headline.specs.Statements.{statements}
 use Rattle.ob_headline.specs.Words.{Answer}
 use Rattle.ob_headline.specs.declared.ending.Ending.{Ending}
@@ -106,7 +106,7 @@ MakesBehind p turn own stmt seen =
 -- in its turn where its rows are emitted, or in its end, behind so many
 abbrev EndsBehind : Public → Stand → (Ended : Type 0) → Stmt → Seen → Type 0
 EndsBehind p stand Ended stmt seen =
-    (InTurn stand × AtEmission p stmt seen (drop stand.own (whole_script p (skeleton stmt) seen)))
+    (HasTurn stand × AtEmission p stmt seen (drop stand.own (whole_script p (skeleton stmt) seen)))
     ⊎ (Ended × (drop stand.own (script p (skeleton stmt) seen) ≡ []))
 
 module _ {R : Type 0} (state : R → RevState) (m1 m2 : Machine R) (more : List (List ℕ)) (part : List ℕ) (run : RunStop) (cut : CutTogether state m1 m2 more run part) where
@@ -189,7 +189,7 @@ module _ {R : Type 0} (state : R → RevState) (m1 m2 : Machine R) (more : List 
   in_turn : (i : ℕ) (a : Access) → asked_next p m1.flights.words cut.stmts cut.seens total ≡ Some (i, a) → IsTrue (turn_at i)
   in_turn i a is = subst (λ (o : Option (ℕ × Access)). IsTrue (option_map_or (λ (e : ℕ × Access). e.0 == i) o false)) (sym is) (eq-eqb i i refl)
 
-  its_turn : InTurnOf p m1.flights.words cut.stmts cut.seens total e → InTurn (stand e)
+  its_turn : InTurn p m1.flights.words cut.stmts cut.seens total e → HasTurn (stand e)
   its_turn (inl last) = inl last
   its_turn (inr (a, next)) = inr (in_turn e a next)
 
