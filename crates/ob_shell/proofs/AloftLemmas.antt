@@ -212,8 +212,8 @@ module _ {R E : Type 0} (state : R → RevState) (grew cut : E → E → List Ev
     sent_until Runs.NoMemory ran = elim (ran.stopped.memory refl) [
       | inl make ↦ emitted (λ part is. inl make)
       | inr (inl before) ↦ emitted (λ part is. inr (inl before))
-      | inr (inr (inl emission)) ↦ emitted (λ part is. inr (inr (inl (emission.0, emission.1.0))))
-      | inr (inr (inr closing)) ↦ cut_closing Runs.NoMemory ran (inr refl) closing.1 (λ is. inr (inr (inr (closing.0, ran.stopped.events, closing.1.outcome, closing.1.ends, refl))))
+      | inr (inr (inl emission)) ↦ emitted (λ part is. inr (inr (inl (emission.0, emission.1))))
+      | inr (inr (inr closing)) ↦ cut_closing Runs.NoMemory ran (inr refl) closing.1 (λ is. inr (inr (inr (closing.0, (ran.stopped.events, closing.1.outcome, closing.1.ends, refl)))))
     ]
       where
         emitted : ((part : List ℕ) → Wants Runs.NoMemory ran part) → SentUntil written waiting Runs.NoMemory ran
