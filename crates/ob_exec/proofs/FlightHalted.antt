@@ -45,7 +45,7 @@ use Rattle.ob_vault.specs.declared.vault.Vault.{Vault}
 use Rattle.ob_verdict.specs.Outcomes.{Emits, Partly}
 use Rattle.ob_verdict.specs.declared.outcome.Outcome.{Outcome}
 use Rattle.ob_exec.specs.InFlight.{EndsAs, EndsMeant, IsFlown, IsMeant, served_as}
-use Rattle.ob_exec.specs.RanFlight.{AtEmitter, BeforeMake, EndedWithin, EndsSo, FlightCause, FlightMeans, MeantThen, RanFlight, RanInTurns, StopsClosing, StopsFlight, asked_by, asked_next, asked_since, cut_off, halt_of, in_flight}
+use Rattle.ob_exec.specs.RanFlight.{AtEmitter, BeforeMake, EndedWithin, EndsSo, FlightCause, FlightMeans, InEnd, InTurn, MeantThen, RanFlight, RanInTurns, StopsClosing, StopsFlight, asked_by, asked_next, asked_since, cut_off, halt_of, in_flight}
 use Rattle.ob_exec.proofs.FlightBegun.{begins_meant}
 use Rattle.ob_exec.proofs.FlightEarlier.{asks_meant, meant_then}
 use Rattle.ob_exec.proofs.FlightEnd.{rises_from}
@@ -55,7 +55,7 @@ use Rattle.ob_exec.proofs.FlightLists.{cuts_same, events_next, get_mapped, get_o
 use Rattle.ob_exec.proofs.FlightRuns.{Boards, ServesOne, all_now, emits_now, emitted_now, may_now, partly_now, public_is, served_now, set_kept, steady_now, turned_now}
 use Rattle.ob_exec.proofs.FlightStage.{AsksMake, HoldNow, IsSet, IsStage, LacksHere, closed_of, more_asked, whole_of}
 use Rattle.ob_exec.proofs.FlightStopped.{calm_none, cause_behind, cause_quiet, drop_asked, each_at, emitter_never, ends_closing, ends_finishing, ends_make, ends_printing, ends_quiet, hold, hold_by, hold_last, long, meant_at, memory_is, none_ended, not_tampered, prints_or, serve, sink_by, statement}
-use Rattle.ob_exec.proofs.FlightStops.{asked_first, asked_last, asked_most, asked_of, asked_place, next_one_asks, same_seen, stops_turn}
+use Rattle.ob_exec.proofs.FlightStops.{asked_first, asked_last, asked_most, asked_of, asked_place, in_end, in_turn, next_one_asks, same_seen, stops_turn}
 
 module _ {R E F : Type 0} (state : R → RevState) (grew cut : E → E → List Event → Type 0) (closed parted : E → E → ℕ → Outcome → Type 0) (faults : E → ℕ)
     (k : Kind F) (old : Engine R) (s s1 : StoreState) (agrees : Agrees state old s) (rests : ChangesNothing s s1)
@@ -118,10 +118,26 @@ module _ {R E F : Type 0} (state : R → RevState) (grew cut : E → E → List 
   abbrev So : Stmt → Seen → List Event → Outcome → Type 0
   So stmt seen events = EndsSo state stmts stmt seen (asked_by old.public words stmts (map (λ (f : F). (k.progress f).served.seen) st.last.flyers) (asked_since s t) (length st.ended)) events old s (engine_behind old v room true) t
 
+  -- whose turn it is
+  abbrev Turned : ℕ → Type 0
+  Turned place = InTurn old.public words stmts (map (λ (f : F). (k.progress f).served.seen) st.last.flyers) (asked_since s t) place
+
+  abbrev Ended : ℕ → Type 0
+  Ended place = InEnd old.public words stmts (map (λ (f : F). (k.progress f).served.seen) st.last.flyers) (asked_since s t) place
+
+  -- one that has nothing left to ask has asked all
+  whole_at : (f : F) (stmt : Stmt) → slice_get st.last.flyers st.place ≡ Some f → slice_get stmts st.place ≡ Some stmt → (k.progress f).over ≡ true
+      → (k.progress f).asked ≡ length (script p (skeleton stmt) (shown f))
+  whole_at f stmt at there over =
+      let one = serve_at st.place f stmt at there in
+      all_now k m stage steady_of old.public stmts words share start boards st.turn st.public st.ended st.current st.last st.aloft st.place f at 0
+      (stage.over f _ _ _ (hold_at st.place f at) over 0)
+      ∙ ap (λ (sk : Skeleton). length (script p sk (shown f))) (stage.outline f (k.progress f).served (stage.served f _ _ _ (hold_at st.place f at)) ∙ ap skeleton one.is)
+
   -- at a make, or before a result's, or the emitter's
   abbrev Wanted : (place : ℕ) (stmt : Stmt) (seen : Seen) (events : List Event) → (between : E) → Type 0
   Wanted place stmt seen events between =
-      AtMake (drop (length s.asked) t.asked) ⊎ BeforeMake p stmts seens asked asks st.ended ⊎ AtEmitter grew cut parted (So stmt seen events) p stmt seen place (asked place) events between out_new
+      AtMake (drop (length s.asked) t.asked) ⊎ BeforeMake p stmts seens asked asks st.ended ⊎ AtEmitter grew cut parted (So stmt seen events) (Turned place) (Ended place) p stmt seen place (asked place) events between out_new
 
   since_asked : (a : Access) → t.asked ≡ st.last.world.store.asked ++ a ∷ [] → drop (length s.asked) t.asked ≡ accesses_in st.aloft.turned.log ++ a ∷ []
   since_asked a is =
@@ -169,13 +185,14 @@ module _ {R E F : Type 0} (state : R → RevState) (grew cut : E → E → List 
 
   -- the one that gave up prints, and it is the emitter's
   wanted : (f : F) (stmt : Stmt) (events : List Event) (between : E) → slice_get st.last.flyers st.place ≡ Some f → slice_get stmts st.place ≡ Some stmt → (k.progress f).outcome ≡ None
-      → Turn f → HasHalted cut between out_new → LacksHere (k.progress f) st.last.world (at state v t) → Wanted st.place stmt (shown f) events between
-  wanted f stmt events between at there going turn halts (inl make) = inl (at_make make)
-  wanted f stmt events between at there going turn halts (inr (inl (lacks, same, result))) = inr (inl (before_make f stmt at there going (turn lacks) same result))
-  wanted f stmt events between here there going turn halts (inr (inr (prints, emission))) =
+      → Turn f → (Turned st.place ⊎ (Ended st.place × (asked st.place ≡ length (script p (skeleton stmt) (shown f))))) → HasHalted cut between out_new → LacksHere (k.progress f) st.last.world (at state v t) → Wanted st.place stmt (shown f) events between
+  wanted f stmt events between at there going turn its halts (inl make) = inl (at_make make)
+  wanted f stmt events between at there going turn its halts (inr (inl (lacks, same, result))) = inr (inl (before_make f stmt at there going (turn lacks) same result))
+  wanted f stmt events between here there going turn its halts (inr (inr (prints, emission))) =
       let one = serve_at st.place f stmt here there in
       let n : (k.progress f).asked + more_asked st.last.world (at state v t) ≡ asked st.place = sym (place_asked f here) in
       inr (inr (inl (
+        its,
         subst (λ (x : ℕ). AtEmission p stmt (shown f) (drop x (whole_script p (skeleton stmt) (shown f)))) n
             (subst (λ (x : Public). AtEmission x stmt (shown f) (drop ((k.progress f).asked + more_asked st.last.world (at state v t)) (whole_script x (skeleton stmt) (shown f)))) one.public
             (subst (λ (x : Stmt). AtEmission (k.progress f).public x (shown f) (drop ((k.progress f).asked + more_asked st.last.world (at state v t)) (whole_script (k.progress f).public (skeleton x) (shown f)))) one.is emission)),
@@ -210,7 +227,13 @@ module _ {R E F : Type 0} (state : R → RevState) (grew cut : E → E → List 
       (stage.halted f _ _ part e st.last.world (at state v t) (hold_at st.place f here) halts one.set old.indexes.items tables (held_by f stmt tables st.last.world one (held tables reads)) reads.unfit)))
 
   abbrev Halted : Type 0
-  Halted = StopsFlight state grew cut closed parted stmts seens asked asks st.ended (halt_of e) old s new t out_old out_new
+  Halted = StopsFlight state grew cut closed parted words stmts seens st.ended (halt_of e) old s new t out_old out_new
+
+  its_step : StopsInStep k (taker_of grew cut closed parted) e st.ended st.current st.place st.act st.last now st.emitted.between st.out_last out_new → Turned st.place
+  its_step step = in_turn state grew cut closed parted k old s s1 rests stage steady_of stmts words share e flyers shares now boards out_old out_new st step
+
+  its_end : (f : F) → slice_get st.last.flyers st.place ≡ Some f → st.act ≡ None → st.place ≡ length st.ended → Ended st.place
+  its_end f at none first = in_end state grew cut closed parted k old s s1 rests stage steady_of stmts words share e flyers shares now boards out_old out_new st none first f at
 
   -- a step that prints
   halts_printing : (step : StopsInStep k (taker_of grew cut closed parted) e st.ended st.current st.place st.act st.last now st.emitted.between st.out_last out_new)
@@ -233,7 +256,7 @@ module _ {R E F : Type 0} (state : R → RevState) (grew cut : E → E → List 
         memory = λ none.
             let wants = memory_is e none in
             subst (λ (n : ℕ). Wanted n there.0 (shown f) (st.current ++ step.part) st.emitted.between) first
-            (wanted f there.0 (st.current ++ step.part) st.emitted.between step.at there.1 step.going (λ lacks. (step.stops.access, step.asks))
+            (wanted f there.0 (st.current ++ step.part) st.emitted.between step.at there.1 step.going (λ lacks. (step.stops.access, step.asks)) (inl (its_step step))
             (record { events = st.current ++ step.part; ends = subst (λ (x : OpErr). EndsBy grew cut x st.emitted.between out_new (st.current ++ step.part)) wants ends })
             (stage.memory f _ _ step.part st.last.world (at state v t) (hold_at st.place f step.at)
             (subst (λ (x : OpErr). k.Halts f (events_at st.ended st.current st.place) step.part x st.last.world (at state v t)) wants step.halts)
@@ -294,7 +317,10 @@ module _ {R E F : Type 0} (state : R → RevState) (grew cut : E → E → List 
             let wants = memory_is e none in
             subst (λ (n : ℕ). Wanted n there.0 (shown f) (st.current ++ fin.part) st.emitted.between) fin.first
             (wanted f there.0 (st.current ++ fin.part) st.emitted.between fin.at there.1 (st.aloft.stand.outcome st.place f fin.at ∙ ap (outcome_at st.ended) fin.first ∙ outcome_next st.ended)
-            (λ lacks. let over = fin.over in absurd (cc (over, lacks))) (record { events = st.current ++ fin.part; ends = fin.ends })
+            (λ lacks. let over = fin.over in absurd (cc (over, lacks)))
+            (inr (its_end f fin.at fin.none fin.first,
+              (let all = place_asked f fin.at in let same = ap (λ (x : World). length x.store.asked) fin.world in omega (arith, all, same)) ∙ whole_at f there.0 fin.at there.1 fin.over))
+            (record { events = st.current ++ fin.part; ends = fin.ends })
             (stage.memory f _ _ fin.part st.last.world (at state v t) (hold_at st.place f fin.at)
             (subst (λ (x : OpErr). k.Halts f (events_at st.ended st.current st.place) fin.part x st.last.world (at state v t)) wants halts)
             (serve_at st.place f there.0 fin.at there.1).set
@@ -326,10 +352,7 @@ module _ {R E F : Type 0} (state : R → RevState) (grew cut : E → E → List 
             (subst (λ (x : Stmt). EndsAs (k.progress f).public m (k.progress f).asked x (shown f) clo.outcome) one.is
             (subst (λ (x : Progress). IsFlown x.public m x.asked x.stmt x.served.seen (closed_of x.outcome clo.events)) answered (stage.stands clo.after _ _ _ clo.holds set))));
         whole =
-            sym long
-            ∙ all_now k m stage steady_of old.public stmts words share start boards st.turn st.public st.ended st.current st.last st.aloft st.place f clo.at 0
-            (stage.over f _ _ _ (hold_at st.place f clo.at) clo.over 0)
-            ∙ ap (λ (sk : Skeleton). length (script p sk (shown f))) (stage.outline f (k.progress f).served (stage.served f _ _ _ (hold_at st.place f clo.at)) ∙ ap skeleton one.is);
+            sym long ∙ whole_at f stmt clo.at there clo.over;
         emits =
             subst (λ (x : Public). Emits stmt (answer_labels stmt x) clo.outcome clo.events) after.public
             (subst (λ (x : Stmt). Emits x (answer_labels x (k.progress clo.after).public) clo.outcome clo.events) after.is (stage.emits clo.after _ _ _ clo.holds set clo.outcome some));
@@ -377,7 +400,7 @@ module _ {R E F : Type 0} (state : R → RevState) (grew cut : E → E → List 
             subst (λ (x : Public). Partly (answer_labels there.0 x) (verdict x m tables there.0) clo.events) after.public
             (subst (λ (x : Stmt). Partly (answer_labels x (k.progress clo.after).public) (verdict (k.progress clo.after).public m tables x) clo.events) after.is
             (stage.partly clo.after _ _ _ clo.holds after.set old.indexes.items tables (held_by clo.after there.0 tables (at state v t) after here)));
-        memory = λ none. inr (inr (inr (record {
+        memory = λ none. inr (inr (inr (subst (λ (n : ℕ). Ended n) clo.first (its_end f clo.at clo.none clo.first), record {
           outcome = clo.outcome;
           ends = closing_so clo there.0 there.1;
           between = clo.took;

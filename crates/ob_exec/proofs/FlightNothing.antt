@@ -52,7 +52,7 @@ use Rattle.ob_verdict.specs.Outcomes.{refusal_now}
 use Rattle.ob_verdict.specs.declared.outcome.Outcome.{Outcome}
 use Rattle.ob_exec.specs.Boarding.{engine_behind, seen_first, seen_if}
 use Rattle.ob_exec.specs.InFlight.{AreFlight, Flies, IsFlown, IsMeant, served_as}
-use Rattle.ob_exec.specs.RanFlight.{RanFlight, RanInTurns, StopsFlight, asked_by, asked_next, asked_since, cut_off, in_flight}
+use Rattle.ob_exec.specs.RanFlight.{RanFlight, RanInTurns, StopsFlight, asked_by, asked_since, cut_off, in_flight}
 use Rattle.ob_exec.proofs.FlightTurned.{stops_unturned}
 use Rattle.ob_exec.proofs.BoardOne.{early_same, from_one}
 use Rattle.ob_exec.proofs.FlightBoards.{flies_in}
@@ -242,7 +242,7 @@ module _ {R E : Type 0} (state : R → RevState) (grew cut : E → E → List Ev
     goes_on = refl;
   }
 
-  stops_first : StopsFlight state grew cut closed parted stmts seens (asked_by p words stmts seens (asked_since s s1)) (asked_next p words stmts seens (asked_since s s1)) [] Stops.NoMemory old s new s1 out out
+  stops_first : StopsFlight state grew cut closed parted words stmts seens [] Stops.NoMemory old s new s1 out out
   stops_first =
       let first = get_first stmts (let some = flown.some in omega (arith, some)) in
       record {

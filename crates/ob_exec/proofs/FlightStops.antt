@@ -1,7 +1,7 @@
 -- Whose the accesses are that were asked until a flight was stopped.
-use Rattle.std.proofs.Common.{◌≡◌, ◌⊎◌, ◌<◌, ◌≤◌, ◌+◌, ◌-◌, ◌++◌, ℕ, Bool, true, false, IsTrue, List, [], ◌∷◌, map, length, Option, Some, refl, sym, ◌∙◌, ap, subst, inl, inr, arith, append_assoc, length-append}
+use Rattle.std.proofs.Common.{◌≡◌, ◌⊎◌, ◌<◌, ◌≤◌, ◌+◌, ◌-◌, ◌++◌, ℕ, Bool, true, false, IsTrue, List, [], ◌∷◌, map, length, Option, Some, None, refl, sym, ◌∙◌, ap, subst, inl, inr, arith, append_assoc, length-append}
 use Rattle.std.specs.Prelude.{is_some, nat_lt, slice_get, take}
-use Rattle.std.proofs.lemmas.Bool.{cases_eq}
+use Rattle.std.proofs.lemmas.Bool.{cases_eq, cases_lt, false≢true}
 use Rattle.std.proofs.lemmas.List.{append-nil, length-map, map-append}
 use Rattle.ob_base.specs.Events.{Event}
 use Rattle.ob_base.specs.declared.access.Access.{Access}
@@ -16,13 +16,15 @@ use Rattle.ob_inflight.specs.Answers.{error_of}
 use Rattle.ob_inflight.specs.Flown.{StopsInStep}
 use Rattle.ob_inflight.specs.Flown as Flown
 use Rattle.ob_inflight.specs.Kinds.{Kind, Moment, taker_of}
+use Rattle.ob_inflight.specs.Progress.{flying_of}
 use Rattle.ob_mean.specs.Replay.{done_of}
-use Rattle.ob_script.specs.FlightLaws.{AllMayFly}
-use Rattle.ob_script.specs.Flights.{AreSteady, Flight, Flying, accesses_in, boarding, entry_of, flight, merge, own, turns, own_asked}
+use Rattle.ob_script.specs.FlightLaws.{AllMayFly, PicksOne}
+use Rattle.ob_script.specs.Flights.{AreSteady, Flight, Flying, accesses_in, acted, boarding, entry_of, flight, merge, next_act, own, prints, turns, own_asked}
 use Rattle.ob_script.specs.Trace.{Served}
 use Rattle.ob_script.proofs.FlightEnds.{first_of_merge}
 use Rattle.ob_script.proofs.FlightLemmas.{own_append, own_entry, own_other}
-use Rattle.ob_script.proofs.ListPlaces.{get_take}
+use Rattle.ob_script.proofs.FlightTurns.{goes_or_rests, turns_more}
+use Rattle.ob_script.proofs.ListPlaces.{get_set_same, get_take}
 use Rattle.ob_sql.specs.declared.stmt.Stmt.{Stmt}
 use Rattle.ob_store.specs.Calls.{ChangesNothing}
 use Rattle.ob_store.specs.State.{StoreState}
@@ -32,9 +34,9 @@ use Rattle.ob_tables.specs.declared.engine.Engine.{Engine}
 use Rattle.ob_vault.specs.State.{RevState, World}
 use Rattle.ob_verdict.specs.declared.outcome.Outcome.{Outcome}
 use Rattle.ob_exec.specs.InFlight.{served_as}
-use Rattle.ob_exec.specs.RanFlight.{StopsInTurn, asked_by, asked_next, asked_since, halt_of}
+use Rattle.ob_exec.specs.RanFlight.{EndedWithin, InEnd, InTurn, StopsInTurn, asked_by, asked_next, asked_since, halt_of}
 use Rattle.ob_exec.proofs.FlightEnd.{since_long}
-use Rattle.ob_exec.proofs.FlightLists.{flying_back, log_first, map_put}
+use Rattle.ob_exec.proofs.FlightLists.{flying_back, flying_get, log_first, map_put}
 use Rattle.ob_exec.proofs.FlightRuns.{Boards, as_many, first_now, may_now, merged_now, own_now, served_now, sets_now, steady_now, turned_now}
 use Rattle.ob_exec.proofs.FlightTurned.{ended_below}
 use Rattle.ob_exec.proofs.FlightStage.{IsStage, more_asked}
@@ -52,6 +54,17 @@ own_same i j log a same =
 get_last : {A : Type 0} (xs : List A) (x : A) → slice_get (xs ++ x ∷ []) (length xs) ≡ Some x
 get_last [] x = refl
 get_last (y ∷ ys) x = get_last ys x
+
+-- a turn that asks nothing is an end
+no_entry : (i : ℕ) (o : Option Access) → length (entry_of i o) ≡ 0 → o ≡ None
+no_entry i None none = refl
+no_entry i (Some a) none = absurd (omega (arith, none))
+
+below_so : (i n : ℕ) → i < n → nat_lt i n ≡ true
+below_so i n less = grind arith
+
+never_self : (n : ℕ) → nat_lt n n ≡ false
+never_self n = grind arith
 
 -- a part of one access is nothing, or that one
 none_or_one : (done rest : List Access) (a : Access) → done ++ rest ≡ a ∷ [] → (done ≡ []) ⊎ (done ≡ a ∷ [])
@@ -372,3 +385,68 @@ module _ {R E F : Type 0} (state : R → RevState) (grew cut : E → E → List 
           ended = ended_last;
         }
       ])
+
+  -- ---- whose turn it was
+  -- its step gave up: behind its access, or before that
+  pub in_turn : Stepped → InTurn old.public words stmts (map (λ (f : F). (k.progress f).served.seen) st.last.flyers) (asked_since s now.world.store) st.place
+  in_turn step = elim asked_more [
+    | inl none ↦ inr (step.stops.access, next_one_asks step.stops.access step.asks none.asked)
+    | inr one ↦
+        let less : asked_since s now.world.store - 1 ≡ length log = let n = many_one one in omega (arith, n) in
+        let before = ap (λ (n : ℕ). asked_by old.public words stmts (map (λ (f : F). (k.progress f).served.seen) st.last.flyers) n st.place) less ∙ own_of st.place (length log) log take_last in
+        let after = asked_own one st.place ∙ own_same st.place st.place log one.step.stops.access refl in
+        inl (omega (arith, before, after))
+  ]
+
+  abbrev by_then : Flight
+  by_then = turns words st.turn (boarding old.public by_last)
+
+  -- where nothing was asked the first that hadn't ended did
+  module _ (none : st.act ≡ None) (first : st.place ≡ length st.ended) where
+    logs_none : length (turns words (st.turn + 1) (boarding old.public by_last)).log ≡ length log
+    logs_none = let n = long_next in let nothing = ap (λ (o : Option Access). length (entry_of st.place o)) none in omega (arith, n, nothing)
+
+    going_on : (x : Flying) → slice_get by_then.flying st.place ≡ Some x → x.ended ≡ false
+    going_on x at = ended_last st.place x at ∙ ap (λ (n : ℕ). nat_lt n (length st.ended)) first ∙ never_self (length st.ended)
+
+    ends_in : (f : F) → slice_get st.last.flyers st.place ≡ Some f → EndedWithin old.public by_last words (length log) st.place
+    ends_in f at =
+        let x : Flying = flying_of (k.progress f) (k.progress f).served in
+        let there : slice_get by_then.flying st.place ≡ Some x = ap (λ (r : Flight). slice_get r.flying st.place) turned ∙ flying_get k (λ (f : F). (k.progress f).served) st.last.flyers st.place f at in
+        elim (goes_or_rests (words st.turn) by_then) [
+          | inl all ↦ absurd (false≢true (sym (going_on x there) ∙ all.each st.place x there))
+          | inr one ↦ picked_end one x there
+        ]
+      where
+        picked_end : (one : PicksOne (words st.turn) by_then) (x : Flying) → slice_get by_then.flying st.place ≡ Some x → EndedWithin old.public by_last words (length log) st.place
+        picked_end one x there =
+            let g = one.flying in
+            let act = next_act by_then.public g in
+            let after = turns_more words st.turn (boarding old.public by_last) ∙ one.picks.turn in
+            let size = ap (λ (r : Flight). length r.log) after ∙ length-append by_then.log (entry_of one.place act) in
+            let quiet : act ≡ None = no_entry one.place act (let n = logs_none in let m = long_now in omega (arith, n, m, size)) in
+            let printing : prints g.region act ≡ true = ap (prints g.region) quiet in
+            let here : one.place ≡ st.place = elim (cases_lt one.place st.place) [
+              | inl before ↦ absurd (false≢true (sym one.picks.goes_on ∙ ended_last one.place g one.picks.at ∙ below_so one.place (length st.ended) (omega (arith, before, first))))
+              | inr past ↦ elim (cases_lt st.place one.place) [
+                | inl behind ↦ absurd (false≢true (sym (going_on x there) ∙ one.picks.first printing st.place x behind there))
+                | inr same ↦ omega (arith, past, same)
+              ]
+            ] in
+            record {
+              turn = st.turn + 1;
+              one = acted act g;
+              at = subst (λ (i : ℕ). slice_get (turns words (st.turn + 1) (boarding old.public by_last)).flying i ≡ Some (acted act g)) here
+                  (ap (λ (r : Flight). slice_get r.flying one.place) after ∙ get_set_same by_then.flying one.place g (acted act g) one.picks.at);
+              ended = ap (λ (o : Option Access). (acted o g).ended) quiet;
+              within = let n = logs_none in omega (arith, n);
+            }
+
+    pub in_end : (f : F) → slice_get st.last.flyers st.place ≡ Some f
+        → InEnd old.public words stmts (map (λ (f : F). (k.progress f).served.seen) st.last.flyers) (asked_since s now.world.store) st.place
+    in_end f at = elim asked_more [
+      | inl quiet ↦
+          subst (λ (flown : List Served). EndedWithin old.public flown words (asked_since s now.world.store) st.place) (sym stop_served)
+          (subst (λ (n : ℕ). EndedWithin old.public by_last words n st.place) (sym (many_none quiet)) (ends_in f at))
+      | inr one ↦ absurd (let asks = one.step.asks in cc (none, asks))
+    ]

@@ -152,6 +152,35 @@ StopsClosing grew cut parted Ends NoMemory place events out_old out_new =
 StopsClosing grew cut parted Ends stop place events out_old out_new =
     StopsEmission grew cut stop out_old out_new events
 
+-- ---- whose turn it is
+-- how many accesses of its own the one at a place asked
+abbrev pub asked_by : Public → (words : ℕ → ℕ) → List Stmt → List Seen → (k : ℕ) → (i : ℕ) → ℕ
+asked_by p words stmts seens k i = own_asked p (served_as stmts seens) words k i
+
+-- what comes behind k accesses of all: whose turn it is, and what that one asks
+abbrev pub asked_next : Public → (words : ℕ → ℕ) → List Stmt → List Seen → (k : ℕ)
+    → Option (ℕ × Access)
+asked_next p words stmts seens k = slice_get (flight p (served_as stmts seens) words).log k
+
+-- the one at a place had ended within the first k accesses
+pub record EndedWithin (p : Public) (flown : List Served) (words : ℕ → ℕ) (k i : ℕ)
+    : Type 0 where
+  pub turn : ℕ
+  pub one : Flying
+  pub at : slice_get (turns words turn (boarding p flown)).flying i ≡ Some one
+  pub ended : one.ended ≡ true
+  pub within : length (turns words turn (boarding p flown)).log ≤ k
+
+-- it is the turn of the one at a place: the access that was asked last is its own, or the one that would be asked next is
+abbrev pub InTurn : Public → (words : ℕ → ℕ) → List Stmt → List Seen → (k place : ℕ) → Type 0
+InTurn p words stmts seens k place =
+    (asked_by p words stmts seens (k - 1) place + 1 ≡ asked_by p words stmts seens k place)
+    ⊎ ((access : Access) × (asked_next p words stmts seens k ≡ Some (place, access)))
+
+-- or nothing is left of it but its end, which comes next, before any other access
+abbrev pub InEnd : Public → (words : ℕ → ℕ) → List Stmt → List Seen → (k place : ℕ) → Type 0
+InEnd p words stmts seens k place = EndedWithin p (served_as stmts seens) words k place
+
 -- ---- want of memory
 -- just before a result that isn't padded is made for one of the statements that hasn't ended, behind so many accesses of its
 -- own; it is its turn, and no other's: the access that the flight asks next is its own
@@ -167,23 +196,25 @@ pub record BeforeMake (p : Public) (stmts : List Stmt) (seens : List Seen) (aske
   pub going : slice_get ended place ≡ None
   pub makes : AtResult p stmt seen (drop (asked place) (whole_script p (skeleton stmt) seen))
 
--- the emitter's output ends within the events of the one at a place, behind n accesses of its own, or within how it was
--- answered, as it does only where the emitter gave up
+-- in its turn the emitter's output ends within the events of the one at a place, behind n accesses of its own, or within how
+-- it was answered, as it does only where the emitter gave up
 abbrev pub AtEmitter : {E : Type 0} → (grew cut : E → E → List Event → Type 0)
-    → (parted : E → E → ℕ → Outcome → Type 0) → (Ends : Outcome → Type 0) → Public → Stmt → Seen
+    → (parted : E → E → ℕ → Outcome → Type 0) → (Ends : Outcome → Type 0)
+    → (Turned Ended : Type 0) → Public → Stmt → Seen
     → (place n : ℕ) → List Event → (out_old out_new : E) → Type 0
-AtEmitter grew cut parted Ends p stmt seen place n events out_old out_new =
-    (AtEmission p stmt seen (drop n (whole_script p (skeleton stmt) seen))
+AtEmitter grew cut parted Ends Turned Ended p stmt seen place n events out_old out_new =
+    ((Turned ⊎ (Ended × (n ≡ length (script p (skeleton stmt) seen))))
+    × AtEmission p stmt seen (drop n (whole_script p (skeleton stmt) seen))
     × HasHalted cut out_old out_new)
-    ⊎ IsParted grew parted Ends place events out_old out_new
+    ⊎ (Ended × IsParted grew parted Ends place events out_old out_new)
 
 -- ---- a stop
 -- these answers were taken whole, and of the next one what was emitted by then
 pub record StopsFlight {R E : Type 0} (state : R → RevState)
     (grew cut : E → E → List Event → Type 0) (closed parted : E → E → ℕ → Outcome → Type 0)
-    (stmts : List Stmt) (seens : List Seen) (asked : ℕ → ℕ) (asks : Option (ℕ × Access))
-    (ended : List Closed) (stop : RunStop) (old : Engine R) (s : StoreState) (new : Engine R)
-    (t : StoreState) (out_old out_new : E) : Type 0 where
+    (words : ℕ → ℕ) (stmts : List Stmt) (seens : List Seen) (ended : List Closed)
+    (stop : RunStop) (old : Engine R) (s : StoreState) (new : Engine R) (t : StoreState)
+    (out_old out_new : E) : Type 0 where
   pub between : E
   pub took : ClosesAll grew closed 0 ended out_old between
   pub stmt : Stmt
@@ -192,19 +223,28 @@ pub record StopsFlight {R E : Type 0} (state : R → RevState)
   pub shown : slice_get seens (length ended) ≡ Some seen
   pub events : List Event
   pub ends : StopsClosing grew cut parted
-      (EndsSo state stmts stmt seen (asked (length ended)) events old s new t)
+      (EndsSo state stmts stmt seen
+      (asked_by (public_of old) words stmts seens (asked_since s t) (length ended))
+      events old s new t)
       stop (length ended) events between out_new
   pub told : (tables : Tables) → ReadsTrueUntil state old s new t tables
       → Partly (answer_labels stmt (public_of old))
       (verdict (in_flight stmts (public_of old)) (count_of old s) tables stmt) events
-  -- want of memory tells of no rows but those that are emitted: it comes before the first access, at a make, just before
-  -- that of a result that isn't padded, in its turn, or from the emitter
+  -- want of memory tells of no rows but those that are emitted, in their turn: it comes before the first access, at a make, just
+  -- before that of a result that isn't padded, in its turn, or from the emitter
   pub memory : stop ≡ NoMemory → AtMake (drop (length s.asked) t.asked)
-      ⊎ BeforeMake (in_flight stmts (public_of old)) stmts seens asked asks ended
+      ⊎ BeforeMake (in_flight stmts (public_of old)) stmts seens
+      (asked_by (public_of old) words stmts seens (asked_since s t))
+      (asked_next (public_of old) words stmts seens (asked_since s t)) ended
       ⊎ AtEmitter grew cut parted
-      (EndsSo state stmts stmt seen (asked (length ended)) events old s new t)
-      (in_flight stmts (public_of old)) stmt seen (length ended) (asked (length ended)) events
-      between out_new
+      (EndsSo state stmts stmt seen
+      (asked_by (public_of old) words stmts seens (asked_since s t) (length ended))
+      events old s new t)
+      (InTurn (public_of old) words stmts seens (asked_since s t) (length ended))
+      (InEnd (public_of old) words stmts seens (asked_since s t) (length ended))
+      (in_flight stmts (public_of old)) stmt seen (length ended)
+      (asked_by (public_of old) words stmts seens (asked_since s t) (length ended))
+      events between out_new
 
 -- it comes in the turn behind so many: in those the first so many statements have ended and no other, and these accesses were
 -- asked in them, with that of this turn if it asked one
@@ -218,15 +258,6 @@ pub record StopsInTurn (p : Public) (flown : List Served) (words : ℕ → ℕ) 
       → f.ended ≡ nat_lt i count
 
 -- ---- what is meant
--- the one at a place had ended within the first k accesses
-pub record EndedWithin (p : Public) (flown : List Served) (words : ℕ → ℕ) (k i : ℕ)
-    : Type 0 where
-  pub turn : ℕ
-  pub one : Flying
-  pub at : slice_get (turns words turn (boarding p flown)).flying i ≡ Some one
-  pub ended : one.ended ≡ true
-  pub within : length (turns words turn (boarding p flown)).log ≤ k
-
 -- one that had ended by then was what it is once these k accesses were asked, in such a state of the store: a fault of it was
 -- one of the store's, and where no changed block was read by then it is answered and seen as it is meant, whatever is read
 -- later; so it is where the first one that was read comes behind these
@@ -305,15 +336,6 @@ pub record FlightMeans {R T : Type 0} (state : R → RevState) (words : ℕ → 
   pub asks : (k : ℕ) → k < asked_since s t → AsksMeant state words stmts seens k old s t
 
 -- ---- the whole of it
--- how many accesses of its own the one at a place asked
-abbrev pub asked_by : Public → (words : ℕ → ℕ) → List Stmt → List Seen → (k : ℕ) → (i : ℕ) → ℕ
-asked_by p words stmts seens k i = own_asked p (served_as stmts seens) words k i
-
--- what comes behind k accesses of all: whose turn it is, and what that one asks
-abbrev pub asked_next : Public → (words : ℕ → ℕ) → List Stmt → List Seen → (k : ℕ)
-    → Option (ℕ × Access)
-asked_next p words stmts seens k = slice_get (flight p (served_as stmts seens) words).log k
-
 -- these statements were carried out, of which these things were seen
 pub record RanFlight {R E T : Type 0} (state : R → RevState)
     (grew cut : E → E → List Event → Type 0) (closed parted : E → E → ℕ → Outcome → Type 0)
@@ -338,10 +360,8 @@ pub record RanFlight {R E T : Type 0} (state : R → RevState)
       → slice_get ended i ≡ Some one
       → Emits stmt (answer_labels stmt (public_of old)) one.outcome one.events
   pub answered : OnOk result (ClosesAll grew closed 0 ended out_old out_new)
-  pub stopped : IfErr result (λ stop. StopsFlight state grew cut closed parted stmts seens
-      (asked_by (public_of old) words stmts seens (asked_since s t))
-      (asked_next (public_of old) words stmts seens (asked_since s t)) ended stop
-      old s new t out_old out_new)
+  pub stopped : IfErr result (λ stop. StopsFlight state grew cut closed parted words stmts seens
+      ended stop old s new t out_old out_new)
   pub turn : IfErr result (λ stop. StopsInTurn (public_of old) (served_as stmts seens) words
       (asked_since s t) (length ended))
   pub sink : MatchResult result (λ x. faults out_new ≡ faults out_old)

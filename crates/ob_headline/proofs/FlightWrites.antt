@@ -259,8 +259,8 @@ stands_ordered p m n stmt seen (Cut cut) lawful = lawful_ordered p m stmt seen l
 left_ordered : (Leaves : Public → Stmt → Seen → Type 0) (left : Option Stand) (v : Seat) (g : Option Gathering) (stmt : Stmt) (seen : Seen) → IsLeft Leaves left v g stmt seen → IsOrdered v.public seen
 left_ordered Leaves None v g stmt seen is = lawful_ordered v.public v.asked stmt seen is.0
 left_ordered Leaves (Some stand) v g stmt seen is = elim is [
-  | inl lawful ↦ lawful_ordered v.public v.asked stmt seen lawful
-  | inr stands ↦ stands_ordered v.public v.asked stand.own stmt seen seen.end stands
+  | inl ended ↦ lawful_ordered v.public v.asked stmt seen ended.1
+  | inr stands ↦ stands_ordered v.public v.asked stand.own stmt seen seen.end stands.1
 ]
 
 seen_ordered : (Leaves : Public → Stmt → Seen → Type 0) (seats : List Seat) (g : Option Gathering) (spelt : List Spelt) (answers : List Answer) (seen : List Served) → AreSeen Leaves seats g spelt answers seen → AreOrderedBy seats seen

@@ -4,12 +4,16 @@ use Rattle.std.proofs.Common.{◌≡◌, inl, inr, ℕ, Bool, true, false, List,
 use Rattle.ob_base.specs.declared.config.Public.{Public}
 use Rattle.ob_base.specs.declared.schema.Shape.TheVariants.{Flat}
 use Rattle.ob_base.specs.declared.schema.Table.{Table}
-use Rattle.ob_base.specs.declared.seen.End.TheVariants.{Static, Whole}
-use Rattle.ob_headline.specs.Accesses.{FirstWants}
+use Rattle.ob_base.specs.declared.seen.Seen.{Seen}
+use Rattle.ob_base.specs.declared.seen.End.TheVariants.{Static, Whole, Cut}
+use Rattle.ob_headline.specs.Accesses.{FirstWants, IsLeft, cut_aloft}
 use Rattle.ob_headline.specs.Bases.{start}
 use Rattle.ob_headline.specs.Disturbed.{first_course, meant_entries}
-use Rattle.ob_headline.specs.Flights.{AreGathered, GoesOn, Seat, asked_until, most_in, seats, seats_aloft, stand_at, whole_of}
+use Rattle.ob_headline.specs.Failures.{cut_off}
+use Rattle.ob_headline.specs.Flights.{AreGathered, GoesOn, Seat, asked_until, most_in, seat_aloft, seats, seats_aloft, stand_at, whole_of}
 use Rattle.ob_mean.proofs.VerdictLemmas.{count_all}
+use Rattle.ob_mean.specs.Lawful.{Lawful}
+use Rattle.ob_mean.specs.Standing.{StandsAs}
 use Rattle.ob_mean.specs.Verdict.{ended}
 use Rattle.ob_script.specs.Flights.{Alone, Together, drawn, runnable, turn, turns, turns_for}
 use Rattle.ob_script.specs.Trace.{Served}
@@ -139,3 +143,32 @@ by_rule = (refl, (refl, (refl, tt)))
 against_rule : AreGathered 2 0 (seats (drawn 0) 0 (start None).public 0 (Alone x ∷ Together (x ∷ x ∷ []) None ∷ [])) (Ok select ∷ Ok select ∷ Ok select ∷ []) → ⊥
 unfolding AreGathered seats seats_aloft select x
 against_rule is = cc is.1.0
+
+-- left behind three accesses, where the first asks first: it had ended, and isn't seen as one on its way, and the other one
+-- hadn't
+left_at : ℕ → Seat
+left_at i = seat_aloft over_one 5 (z ∷ z ∷ []) (λ t. 0) (Some 3) i
+
+first_had : (Leaves : Public → Stmt → Seen → Type 0) → IsLeft Leaves (left_at 0).left (left_at 0) None select z.seen → Lawful (left_at 0).public 5 select z.seen
+unfolding left_at asked_until turns turn runnable turns_for over_one table z select
+first_had Leaves (inl had) = had.1
+first_had Leaves (inr on) = absurd (omega (arith, on.0))
+
+second_on : (Leaves : Public → Stmt → Seen → Type 0) → IsLeft Leaves (left_at 1).left (left_at 1) None select z.seen → StandsAs (left_at 1).public 5 1 select z.seen Whole
+unfolding left_at asked_until turns turn runnable turns_for over_one table z select
+second_on Leaves (inl had) = absurd (omega (arith, had.0))
+second_on Leaves (inr on) = on.1
+
+-- ---- which ones failed
+-- the first of two, at its first access
+failed_first : Served
+failed_first = record { skeleton = skeleton select; seen = ended (Cut 1) }
+
+-- it counts where their flight was left; one alone may be seen so behind any stop
+left_failed : cut_aloft (seats (λ i. i) 0 over_one 0 (Together (failed_first ∷ z ∷ []) (Some 2) ∷ [])) (failed_first ∷ z ∷ []) ≡ 1
+unfolding seats seats_aloft asked_until turns turn runnable turns_for over_one table z select failed_first cut_off
+left_failed = refl
+
+alone_failed : cut_aloft (seats (λ i. i) 0 over_one 0 (Alone failed_first ∷ [])) (failed_first ∷ []) ≡ 0
+unfolding seats over_one table select failed_first cut_off
+alone_failed = refl

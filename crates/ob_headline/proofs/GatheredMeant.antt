@@ -139,8 +139,8 @@ module _ (most : ℕ) (some : 1 ≤ most) (words : ℕ → ℕ) where
         (together most words c.session c.turns m g c.waiting (y ∷ rest) (Ok stmt ∷ more) fresh fly (omega (arith, few)) (λ n. (
           place_alone most (count_then most g c.waiting) q (skeleton stmt) off,
           (let asked = n + length (script q x.skeleton x.seen) in
-            subst (λ (k : ℕ). AreGathered most k (seats words (After false).turns (After false).session.public asked rest) more) (then_none q 0 (skeleton stmt) off)
-            (follows (After false) 0 (inl refl) (All-nil (Flies (After false).session.public)) (omega (arith, some)) asked)),
+              subst (λ (k : ℕ). AreGathered most k (seats words (After false).turns (After false).session.public asked rest) more) (then_none q 0 (skeleton stmt) off)
+              (follows (After false) 0 (inl refl) (All-nil (Flies (After false).session.public)) (omega (arith, some)) asked)),
         )))
 
     with_then : (less : Bool) → nat_lt (length c.waiting + 1) most ≡ less → may_fly c.session.public (skeleton stmt) ≡ true
@@ -189,8 +189,7 @@ module _ (most : ℕ) (some : 1 ≤ most) (words : ℕ → ℕ) where
   gathers (Ok stmt ∷ spelt) c g fresh fly few m =
       elim (is_full_now (landed words c).session stmt) as (λ (full : Bool).
       AreGathered most g (seats words c.turns c.session.public m (if full then meant_together c.session c.waiting ++ Alone (served_full (landed words c).session stmt) ∷ [] else entries_now most words c stmt ++ meant_entries most words (course_now most words c stmt) spelt))
-      (map Ok c.waiting ++ (if full then [] else Ok stmt ∷ served_texts most words (course_now most words c stmt) spelt)))
-      [
+      (map Ok c.waiting ++ (if full then [] else Ok stmt ∷ served_texts most words (course_now most words c stmt) spelt))) [
         | true ↦ together most words c.session c.turns m g c.waiting (Alone (served_full (landed words c).session stmt) ∷ []) [] fresh fly (omega (arith, few)) (λ n. tt)
         | false ↦ now_then spelt (gathers spelt) c stmt g fresh fly few (may_fly c.session.public (skeleton stmt)) refl m
       ]

@@ -149,14 +149,15 @@ cut_aloft [] last = 0
 cut_aloft (v ∷ seats) last = if is_some v.left then cut_off last else 0
 
 -- ---- all statements
--- one that was begun was left by its flight, in which it may have ended, or alone
+-- one that was begun was left by its flight, in which it had ended, or hadn't, or alone
 abbrev pub IsLeft : (Leaves : Public → Stmt → Seen → Type 0) → Option Stand → Seat
     → Option Gathering → Stmt → Seen → Type 0
 IsLeft Leaves None v g stmt seen =
     Lawful v.public v.asked stmt seen
     × (Leaves v.public stmt seen × Joins v.public v.asked g stmt seen)
 IsLeft Leaves (Some stand) v g stmt seen =
-    Lawful v.public v.asked stmt seen ⊎ StandsAs v.public v.asked stand.own stmt seen seen.end
+    (EndedBy (Some stand) v × Lawful v.public v.asked stmt seen)
+    ⊎ (OnBy (Some stand) v × StandsAs v.public v.asked stand.own stmt seen seen.end)
 
 -- of each statement its skeleton and what is seen of it, which is lawful by what is public before it and how many accesses
 -- were asked, and says that it was served with an INSERT before it exactly where it joins the batch that is gathered; its

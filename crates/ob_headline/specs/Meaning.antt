@@ -10,7 +10,7 @@ use Rattle.ob_verdict.specs.Outcomes.{outcome_of, Partly}
 use Rattle.ob_verdict.specs.declared.outcome.Outcome.TheVariants.{Refused}
 use Rattle.ob_headline.specs.Closing.{closing_line}
 use Rattle.ob_headline.specs.Endings.{is_tampered}
-use Rattle.ob_headline.specs.Flights.{Seat, Stand, at_next, at_seat}
+use Rattle.ob_headline.specs.Flights.{EndedBy, OnBy, Seat, Stand, at_next, at_seat}
 use Rattle.ob_headline.specs.declared.ending.Ending.{Ending}
 use Rattle.ob_headline.specs.declared.ending.Ending.TheVariants.{Ran}
 use Rattle.ob_mean.specs.Prints.{Prints, Unfinished, labels_of}
@@ -104,16 +104,18 @@ pub record AnswersLast (ending : Ending) (s : Session) (stmt : Stmt) (here : See
 abbrev pub done_in : Ending → Stand → ℕ
 done_in ending stand = if is_tampered ending then stand.before else stand.own
 
--- it had ended
+-- it was served
 pub record HasEnded (s : Session) (stmt : Stmt) (here : Seen) : Type 0 where
   pub how : How
   pub cuts : IsCutOff how s stmt
   pub seen : here ≡ seen_or_cut how s stmt
 
-abbrev pub StandsIn : Ending → Stand → Session → Stmt → Seen → Type 0
-StandsIn ending stand s stmt here =
-    HasEnded s stmt here
-    ⊎ StandsMeant s.draws s.public s.asked stand.own (done_in ending stand) s.tables stmt here here.end
+-- so, if it had ended when its flight was left, or it stands there
+abbrev pub StandsIn : Ending → Seat → Stand → Session → Stmt → Seen → Type 0
+StandsIn ending v stand s stmt here =
+    (EndedBy (Some stand) v × HasEnded s stmt here)
+    ⊎ (OnBy (Some stand) v × StandsMeant s.draws s.public s.asked stand.own (done_in ending stand)
+    s.tables stmt here here.end)
 
 -- it hadn't ended before, and a first part of its header and rows was emitted until then
 pub record EmitsPart (ending : Ending) (v : Seat) (stand : Stand) (s : Session) (stmt : Stmt)
@@ -134,9 +136,9 @@ pub record EmitsAll (ending : Ending) (s : Session) (stmt : Stmt) (here : Seen)
   pub answers : AnswersIn how s stmt answer
   pub printed : PrintsTo ending part answer.bytes
 
-abbrev pub StandsThere : Option Stand → Ending → Session → Stmt → Seen → Type 0
-StandsThere None ending s stmt here = ⊥
-StandsThere (Some stand) ending s stmt here = StandsIn ending stand s stmt here
+abbrev pub StandsThere : Option Stand → Ending → Seat → Session → Stmt → Seen → Type 0
+StandsThere None ending v s stmt here = ⊥
+StandsThere (Some stand) ending v s stmt here = StandsIn ending v stand s stmt here
 
 -- of those behind it in its flight nothing was printed
 unfoldable pub StandBehind : Ending → List Seat → Session → List Spelt → List Served → Type 0
@@ -145,7 +147,7 @@ StandBehind ending seats s (Err at ∷ spelt) seen = ⊥
 StandBehind ending [] s (Ok stmt ∷ spelt) seen = ⊥
 StandBehind ending (v ∷ seats) s (Ok stmt ∷ spelt) [] = ⊥
 StandBehind ending (v ∷ seats) s (Ok stmt ∷ spelt) (x ∷ seen) =
-    StandsThere v.left ending (at_seat v s) stmt x.seen
+    StandsThere v.left ending v (at_seat v s) stmt x.seen
     × StandBehind ending seats s spelt seen
 
 -- ---- the first that was begun
@@ -155,7 +157,7 @@ abbrev pub BeginsAt : Option Stand → Ending → Seat → Session → Stmt → 
 BeginsAt None ending v s stmt here part behind =
     StopsAt ending s stmt here part ⊎ AnswersLast ending s stmt here part
 BeginsAt (Some stand) ending v s stmt here part behind =
-    StandsIn ending stand s stmt here
+    StandsIn ending v stand s stmt here
     × (EmitsPart ending v stand s stmt part ⊎ EmitsAll ending s stmt here part) × behind
 
 abbrev pub BeginsAnswer : Ending → List Seat → Session → Spelt → (behind : List Spelt)

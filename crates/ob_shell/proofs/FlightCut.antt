@@ -26,7 +26,7 @@ use Rattle.ob_script.proofs.FlightEnds.{all_ended, flying_long}
 use Rattle.ob_script.specs.Flights.{AreSteady, Flight, Flying, boarding, turns, turns_of}
 use Rattle.ob_script.specs.Trace.{Served as Entry}
 use Rattle.ob_shell.proofs.FlightEnd.{all_fs, aloft, in_all, left_walked, long_aloft, seats_left, spelt_left, taken_long, turn_of}
-use Rattle.ob_shell.proofs.FlightFacts.{first_answered, places, seats_are}
+use Rattle.ob_shell.proofs.FlightFacts.{ByThen, EachBy, first_answered, get_less, past_none, places, seats_are}
 use Rattle.ob_shell.proofs.FlightLast.{LastWalk}
 use Rattle.ob_shell.proofs.FlightMeant.{BeginsSo, Means, meant_so}
 use Rattle.ob_shell.proofs.FlightSeen.{FirstAnswered, IsIn, Stood}
@@ -156,11 +156,6 @@ pub carried_by : (run : RunStop) (k : ℕ) → done_of (is_refused run) k ≡ do
 carried_by run k = ap (λ (b : Bool). done_of b k) (tampered_as run)
 
 -- ---- which had ended
-pub past_none : {A : Type 0} (xs : List A) (i : ℕ) → slice_get xs i ≡ None → length xs ≤ i
-past_none [] i is = omega arith
-past_none (x ∷ xs) zero is = absurd (cc is)
-past_none (x ∷ xs) (suc i) is = let rest = past_none xs i is in omega (arith, rest)
-
 less_so : (i n : ℕ) → i < n → nat_lt i n ≡ true
 less_so i n less = grind arith
 
@@ -198,11 +193,6 @@ flown_get at i zero (x ∷ stmts) (y ∷ seens) (one ∷ ended) stmt seen get sh
 flown_get at i (suc k) (x ∷ stmts) (y ∷ seens) [] stmt seen get shown = let z : (i + 1) + k ≡ i + suc k = omega arith in flown_get at (i + 1) k stmts seens [] stmt seen get shown ∙ (λ j. Some (flown_at at (z j) stmt seen None))
 flown_get at i (suc k) (x ∷ stmts) (y ∷ seens) (one ∷ ended) stmt seen get shown = let z : (i + 1) + k ≡ i + suc k = omega arith in flown_get at (i + 1) k stmts seens ended stmt seen get shown ∙ (λ j. Some (flown_at at (z j) stmt seen (slice_get ended k)))
 
-pub get_less : {A : Type 0} (xs : List A) (k : ℕ) (x : A) → slice_get xs k ≡ Some x → k < length xs
-get_less [] k x is = absurd (cc is)
-get_less (y ∷ xs) zero x is = omega arith
-get_less (y ∷ xs) (suc k) x is = let rest = get_less xs k x is in omega (arith, rest)
-
 served_few : (stmts : List Stmt) (seens : List Seen) → length seens ≡ length stmts → length (served_as stmts seens) ≡ length stmts
 served_few [] seens long = refl
 served_few (stmt ∷ stmts) [] long = absurd (omega (arith, long))
@@ -213,28 +203,31 @@ answers_few [] seens few = refl
 answers_few (one ∷ ended) [] few = absurd (omega (arith, few))
 answers_few (one ∷ ended) (seen ∷ seens) few = ap (λ (n : ℕ). suc n) (answers_few ended seens (omega (arith, few)))
 
-not_less : (n : ℕ) → nat_lt n n ≡ false
-not_less n = grind arith
+not_less : (i n : ℕ) → n ≤ i → nat_lt i n ≡ false
+not_less i n past = grind arith
 
-module _ (p : Public) (flown : List Entry) (words : ℕ → ℕ) (k count : ℕ) (steady : AreSteady p flown) (less : count < length flown) (stops : StopsInTurn p flown words k count) where
+module _ (p : Public) (flown : List Entry) (words : ℕ → ℕ) (k count : ℕ) (steady : AreSteady p flown) (stops : StopsInTurn p flown words k count) (i : ℕ) (past : count ≤ i) (less : i < length flown) where
   abbrev at_turn : Flight
   at_turn = turns words stops.turn (boarding p flown)
 
-  going_by : (o : Option Flying) → slice_get at_turn.flying count ≡ o → k ≤ asked_until words count (turns_of p flown) (boarding p flown)
-  going_by None is = absurd (let past = past_none at_turn.flying count is in let long = flying_long p flown words steady stops.turn in omega (arith, past, long, less))
+  going_by : (o : Option Flying) → slice_get at_turn.flying i ≡ o → k ≤ asked_until words i (turns_of p flown) (boarding p flown)
+  going_by None is = absurd (let over = past_none at_turn.flying i is in let long = flying_long p flown words steady stops.turn in omega (arith, over, long, less))
   going_by (Some f) is = elim (cases_lt stops.turn (turns_of p flown)) [
     | inl before ↦
         let next : stops.turn + 1 ≡ suc stops.turn = omega arith in
         let most : k ≤ length (turns words (suc stops.turn) (boarding p flown)).log = subst (λ (n : ℕ). k ≤ length (turns words n (boarding p flown)).log) next stops.most in
-        let here = until_not words count (boarding p flown) stops.turn (turns_of p flown) before
-        (ap (λ (x : Option Flying). option_map_or (λ (g : Flying). g.ended) x false) is ∙ stops.ended count f is ∙ not_less count) in
+        let here = until_not words i (boarding p flown) stops.turn (turns_of p flown) before
+        (ap (λ (x : Option Flying). option_map_or (λ (g : Flying). g.ended) x false) is ∙ stops.ended i f is ∙ not_less i count past) in
         omega (arith, most, here)
-    | inr past ↦ absurd (cc ((all_ended p flown words steady stops.turn past).each count f is, stops.ended count f is, not_less count))
+    | inr over ↦ absurd (cc ((all_ended p flown words steady stops.turn over).each i f is, stops.ended i f is, not_less i count past))
   ]
 
-  -- the next one had not ended before
-  pub going_on : k ≤ asked_until words count (turns_of p flown) (boarding p flown)
-  going_on = going_by (slice_get at_turn.flying count) refl
+  -- the next one had not ended before, nor had any behind it
+  pub going_past : k ≤ asked_until words i (turns_of p flown) (boarding p flown)
+  going_past = going_by (slice_get at_turn.flying i) refl
+
+pub going_on : (p : Public) (flown : List Entry) (words : ℕ → ℕ) (k count : ℕ) → AreSteady p flown → count < length flown → StopsInTurn p flown words k count → k ≤ asked_until words count (turns_of p flown) (boarding p flown)
+going_on p flown words k count steady less stops = going_past p flown words k count steady stops count (omega arith) less
 
 module _ {R : Type 0} (state : R → RevState) (m1 m2 : Machine R) (more : List (List ℕ)) (bytes : List ℕ) (w0 w1 : Option (List ℕ)) (Lost : Type 0) (first : List Answer) (run : RunStop) (done : CutTogether state m1 m2 more run bytes)
     (steady : AreSteady (public_of m1.engine) (served_as done.stmts done.seens)) where
@@ -269,6 +262,13 @@ module _ {R : Type 0} (state : R → RevState) (m1 m2 : Machine R) (more : List 
   had j few = subst (λ (vs : List Seat). All (λ (v : Seat). EndedBy v.left v) (take j vs)) (sym (seats_are state m1 m2 done.stmts done.seens done.flew.ended (Err run) done.may ran (Some total)))
       (ended_left m1.flights.words p (asked_of m1) flown total 0 (length flown) j (λ k less.
       ended_by p flown m1.flights.words total e steady (omega (arith, less_e, long_flown)) ran.turn (0 + k) (omega (arith, less, few))))
+
+  by_then : (i : ℕ) → i < length flown → (o : Option Closed) → slice_get done.flew.ended i ≡ o → ByThen o (asked_until m1.flights.words i (turns_of p flown) (boarding p flown)) total
+  by_then i less (Some one) is = ended_by p flown m1.flights.words total e steady (omega (arith, less_e, long_flown)) ran.turn i (get_less done.flew.ended i one is)
+  by_then i less None is = going_past p flown m1.flights.words total e steady ran.turn i (past_none done.flew.ended i is) less
+
+  are_by : EachBy m1.flights.words p flown done.flew.ended total (length done.stmts)
+  are_by i less = by_then i (omega (arith, less, long_flown)) (slice_get done.flew.ended i) refl
 
   abbrev next_one : Option Closed → Flown
   next_one closed = flown_at at e done.flew.stmt done.flew.seen closed
@@ -376,7 +376,7 @@ module _ {R : Type 0} (state : R → RevState) (m1 m2 : Machine R) (more : List 
         kept = on.kept;
         left = on.left;
         walk = left_walked state m1 m2 done.stmts done.seens done.flew.ended (Err run) done.may ran run done.flown done.more done.spelt (carried_by run total) (never_within run _ _ ran.cause)
-            on.kept each (omega (arith, under, less_e)) (had n under) on.left
+            on.kept each (omega (arith, under, less_e)) (had n under) are_by on.left
             (λ d drawn tables reads f is stood inn means. begins_cut on.kept on.lost on.parts on.left on.prints d tables reads f is stood inn means)
             (wants on.kept under)
             goes

@@ -24,7 +24,7 @@ use Rattle.ob_script.specs.FlightLaws.{SelectsFromOne}
 use Rattle.ob_script.specs.Flights.{Entry as Turn, Together, flight_accesses, merge, trace_in, own_asked}
 use Rattle.ob_script.specs.Trace.{Served as Entry}
 use Rattle.ob_shell.proofs.FailureLemmas.{cut_few}
-use Rattle.ob_shell.proofs.FlightFacts.{all_get, all_in, all_means, all_places, all_stood, fs, seats_are, served_are, spell_flown, spelt_long, stmts_are}
+use Rattle.ob_shell.proofs.FlightFacts.{EachBy, all_get, all_in, all_means, all_places, all_stood, fs, in_at, seats_are, served_are, spell_flown, spelt_long, stmts_are}
 use Rattle.ob_shell.proofs.FlightSeen.{FirstAnswered, IsIn, PlacesFrom, Stood, gathers_flown, left_seen}
 use Rattle.ob_shell.proofs.FlownLists.{Flown, seats_in, served_in_all, served_of, stmts_in}
 use Rattle.ob_shell.proofs.SeatLemmas.{seats_flown_last, trace_flown_last}
@@ -92,8 +92,12 @@ module _ {R : Type 0} (state : R → RevState) (m0 m1 : Machine R) (stmts : List
   pub stood : All Stood all_fs
   stood = all_stood state m0 m1 stmts seens ended result may ran (Some in_all)
 
-  pub are_in : All IsIn all_fs
-  are_in = all_in state m0 m1 stmts seens ended result may ran (Some in_all) refl
+  -- each had ended by then exactly where it has an answer
+  abbrev pub AreBy : Type 0
+  AreBy = EachBy m0.flights.words p (served_as stmts seens) ended in_all (length stmts)
+
+  are_in : AreBy → All IsIn all_fs
+  are_in each = all_in state m0 m1 stmts seens ended result may ran (Some in_all) refl each
 
   pub are_served : aloft ≡ served_as stmts seens
   are_served = served_are state m0 m1 stmts seens ended result may ran (Some in_all)
@@ -187,11 +191,11 @@ module _ {R : Type 0} (state : R → RevState) (m0 m1 : Machine R) (stmts : List
         }
 
     -- what is seen of them
-    pub seen_left : (Leaves : Public → Stmt → Seen → Type 0) (g : Option Gathering) (kept : List Answer) → FirstAnswered all_fs kept
+    pub seen_left : AreBy → (Leaves : Public → Stmt → Seen → Type 0) (g : Option Gathering) (kept : List Answer) → FirstAnswered all_fs kept
         → AreSeen Leaves (seats_at m0 (turn_of ∷ [])) g spelt_left kept (take n aloft ++ drop n aloft)
-    seen_left Leaves g kept first =
+    seen_left each Leaves g kept first =
         subst (λ (vs : List Seat). AreSeen Leaves vs g spelt_left kept (take n aloft ++ drop n aloft)) seats_left
-        (subst (λ (l : List Entry). AreSeen Leaves (seats_in all_fs) g spelt_left kept l) (sym (take-append-drop n aloft)) (left_seen Leaves all_fs kept g stood are_in first))
+        (subst (λ (l : List Entry). AreSeen Leaves (seats_in all_fs) g spelt_left kept l) (sym (take-append-drop n aloft)) (left_seen Leaves all_fs kept g stood (are_in each) first))
 
     -- nothing was whole before
     pub passed_left : m0.store.asked ≡ m0.store.asked ++ trace_at m0 (whole_of (length (take n aloft)) (turn_of ∷ []))
@@ -293,16 +297,16 @@ module _ {R : Type 0} (state : R → RevState) (m0 m1 : Machine R) (stmts : List
     kept = λ q below. ran.ran.untouched.rests q (λ above. omega (arith, below, above));
   }
 
-  done_here : carried_out result total ≡ done_of (is_tampered ends_by) total → All (IsDoneIn ends_by) fs_here
-  done_here carried = each_flown (places state m0 m1 stmts seens ended result may ran (Some total)) (IsDoneIn ends_by) 0 stmts seens ended (λ k stmt seen get shown. record {
-    is_in = record { stand = _; left = refl; own = refl };
+  done_here : AreBy state m0 m1 stmts seens ended result may ran → carried_out result total ≡ done_of (is_tampered ends_by) total → All (IsDoneIn ends_by) fs_here
+  done_here each carried = each_flown (places state m0 m1 stmts seens ended result may ran (Some total)) (IsDoneIn ends_by) 0 stmts seens ended (λ k stmt seen get shown. record {
+    is_in = record { stand = _; left = refl; own = refl; by = in_at state m0 m1 stmts seens ended result may ran (Some total) refl each k stmt get };
     done =
         ap (λ (n : ℕ). asked_by (public_of m0.engine) m0.flights.words stmts seens n (0 + k)) carried
         ∙ done_by (is_tampered ends_by) (public_of m0.engine) (served_as stmts seens) m0.flights.words total (0 + k);
   })
 
   pub left_walked : {Lost : Type 0} (texts more : List (List ℕ)) → AreSpelt texts stmts → carried_out result total ≡ done_of (is_tampered ends_by) total → (ends_within ends_by ≡ true → ⊥)
-      → (kept : List Answer) → FirstAnswered fs_here kept → length kept < length stmts → All (λ (v : Seat). EndedBy v.left v) (take (length kept) (seats_in fs_here)) → (part : List ℕ)
+      → (kept : List Answer) → FirstAnswered fs_here kept → length kept < length stmts → All (λ (v : Seat). EndedBy v.left v) (take (length kept) (seats_in fs_here)) → AreBy state m0 m1 stmts seens ended result may ran → (part : List ℕ)
       → ((d : Draws) → AreDraws m0.engine d → (tables : Tables) → ReadsTrueUntil state m0.engine m0.store m1.engine m1.store tables → (f : Flown) → slice_get fs_here (length kept) ≡ Some f → Stood f → IsIn f → Means (session_of m0 d tables) f
       → BeginsSo ends_by (session_of m0 d tables) f part)
       → LeavesAloft ends_by m1.store.asked (drop (length (take (length kept) here)) (seats_at m0 entries)) (statements (drop (length (take (length kept) texts)) spelt_here)) (drop (length kept) here)
@@ -311,7 +315,7 @@ module _ {R : Type 0} (state : R → RevState) (m0 m1 : Machine R) (stmts : List
       → EarlyAt state m0 m1 entries spelt_here kept (take (length kept) here ++ drop (length kept) here)
       → Walked state Lost ends_by m0 m0 m1 (take (length kept) texts) (drop (length kept) texts ++ more) kept part
   unfolding SpellFirst
-  left_walked texts more spelt carried off kept first short had part begins wants goes fine early =
+  left_walked texts more spelt carried off kept first short had each part begins wants goes fine early =
       let n = length kept in
       let long_texts : length texts ≡ length stmts = spelt_long texts stmts spelt in
       let long_here : length here ≡ length stmts = long_aloft state m0 m1 stmts seens ended result may ran in
@@ -345,7 +349,7 @@ module _ {R : Type 0} (state : R → RevState) (m0 m1 : Machine R) (stmts : List
         each_seen = kept_long state m0 m1 stmts seens ended result may ran n short had ∙ sym (
             ap (λ (k : ℕ). length (statements (take k spelt_here))) taken_texts
             ∙ statements_taken (stmts_in fs_here) n (let same = ap length (are_stmts state m0 m1 stmts seens ended result may ran) in omega (arith, short, same)));
-        lawful = λ most old fails d drawn g. seen_left state m0 m1 stmts seens ended result may ran n short had _ m0.gathered.batch kept first;
+        lawful = λ most old fails d drawn g. seen_left state m0 m1 stmts seens ended result may ran n short had each _ m0.gathered.batch kept first;
         aloft = wants;
         on = goes;
         passed = passed_left state m0 m1 stmts seens ended result may ran n short had;
@@ -368,7 +372,7 @@ module _ {R : Type 0} (state : R → RevState) (m0 m1 : Machine R) (stmts : List
         meant = λ d drawn tells calm unfit tables held.
             let s = session_of m0 d tables in
             let reads : ReadsTrueUntil state m0.engine m0.store m1.engine m1.store tables = record { tells = tells; held = free_holds state m0 d tables may.free held; calm = calm; unfit = unfit } in
-            let mean = left_mean ends_by s part fs_here kept (stood state m0 m1 stmts seens ended result may ran) (done_here carried) (all_means state m0 m1 stmts seens ended result may ran (Some total) d tables held.listed reads) first
+            let mean = left_mean ends_by s part fs_here kept (stood state m0 m1 stmts seens ended result may ran) (done_here each carried) (all_means state m0 m1 stmts seens ended result may ran (Some total) d tables held.listed reads) first
             (let long = long_fs state m0 m1 stmts seens ended result may ran in omega (arith, short, long)) (begins d drawn tables reads) in
             let told = left_meant ends_by s part fs_here kept mean s refl refl in
             record {

@@ -1,7 +1,7 @@
 -- What is known of each statement of a flight, from what the engine did.
 use Rattle.std.specs.Prelude.{drop, map, slice_get, take}
 use Rattle.std.specs.List.{All}
-use Rattle.std.proofs.Common.{◌≡◌, ◌+◌, ◌≤◌, ◌++◌, ℕ, zero, suc, true, List, [], ◌∷◌, length, Option, Some, None, Ok, Result, refl, sym, ◌∙◌, ap, subst, arith}
+use Rattle.std.proofs.Common.{◌≡◌, ◌+◌, ◌≤◌, ◌<◌, ◌++◌, ℕ, zero, suc, true, List, [], ◌∷◌, length, Option, Some, None, Ok, Result, refl, sym, ◌∙◌, ap, subst, arith}
 use Rattle.std.proofs.lemmas.List.Elements.{All-head, All-tail}
 use Rattle.ob_base.specs.Stored.{headings, headings_of}
 use Rattle.ob_base.specs.declared.config.Public.{Public}
@@ -9,16 +9,16 @@ use Rattle.ob_base.specs.declared.seen.Seen.{Seen}
 use Rattle.ob_exec.proofs.FlightLists.{served_long}
 use Rattle.ob_exec.specs.InFlight.{IsFlown, IsMeant, served_as}
 use Rattle.ob_exec.specs.RanFlight.{asked_by, asked_since, carried_out}
-use Rattle.ob_headline.specs.Flights.{may_fly, seat_aloft, seats_aloft, stand_at}
+use Rattle.ob_headline.specs.Flights.{asked_until, may_fly, seat_aloft, seats_aloft, stand_at}
 use Rattle.ob_headline.specs.Statements.{SpellFirst, statements}
 use Rattle.ob_headline.specs.Words.{Answer}
 use Rattle.ob_inflight.specs.Closing.{Closed}
 use Rattle.ob_mean.specs.Replay.{Session, Spelt}
 use Rattle.ob_mean.specs.Verdict.{Draws, Tables}
-use Rattle.ob_script.specs.Flights.{flight_public}
+use Rattle.ob_script.specs.Flights.{boarding, flight_public, turns_of}
 use Rattle.ob_script.specs.Trace.{Served}
 use Rattle.ob_shell.proofs.FlightMeant.{AllMean, Means, meant_so}
-use Rattle.ob_shell.proofs.FlightSeen.{AllAnswered, FirstAnswered, IsIn, PlacesFrom, Stood, flown_places}
+use Rattle.ob_shell.proofs.FlightSeen.{AllAnswered, FirstAnswered, GoesBy, IsIn, PlacesFrom, Stood, flown_places}
 use Rattle.ob_shell.proofs.FlownLists.{Flown, Places, each_flown, flown_at, flown_list, flown_seats, flown_served, flown_stmts, seats_in, served_in_all, stmts_in}
 use Rattle.ob_shell.proofs.HowLemmas.{may_by}
 use Rattle.ob_shell.specs.Aloft.{RanAloft, answer_of, answers_of, asked_own}
@@ -35,6 +35,16 @@ pub all_get : {A : Type 0} (P : A → Type 0) (xs : List A) → All P xs → (k 
 all_get P [] all k x is = absurd (cc is)
 all_get P (y ∷ xs) all zero x is = let same : y ≡ x = cc is in subst P same (All-head P y xs all)
 all_get P (y ∷ xs) all (suc k) x is = all_get P xs (All-tail P y xs all) k x is
+
+pub past_none : {A : Type 0} (xs : List A) (i : ℕ) → slice_get xs i ≡ None → length xs ≤ i
+past_none [] i is = omega arith
+past_none (x ∷ xs) zero is = absurd (cc is)
+past_none (x ∷ xs) (suc i) is = let rest = past_none xs i is in omega (arith, rest)
+
+pub get_less : {A : Type 0} (xs : List A) (k : ℕ) (x : A) → slice_get xs k ≡ Some x → k < length xs
+get_less [] k x is = absurd (cc is)
+get_less (y ∷ xs) zero x is = omega arith
+get_less (y ∷ xs) (suc k) x is = let rest = get_less xs k x is in omega (arith, rest)
 
 -- ---- their answers
 pub whole_answered : (at : Places) (i : ℕ) (stmts : List Stmt) (seens : List Seen) (ended : List Closed) → length seens ≡ length stmts → length ended ≡ length stmts → AllAnswered (flown_list at i stmts seens ended) (answers_of ended seens)
@@ -93,6 +103,21 @@ drop_more [] ys n k is = let same : k ≡ n = omega (arith, is) in ap (λ (j : �
 drop_more (x ∷ xs) ys n zero is = absurd (omega (arith, is))
 drop_more (x ∷ xs) ys n (suc k) is = drop_more xs ys n k (omega (arith, is))
 
+-- ---- when each had ended
+-- it has exactly where it had when so many accesses were asked
+abbrev pub ByThen : Option Closed → (until asked : ℕ) → Type 0
+ByThen (Some one) until asked = until ≤ asked
+ByThen None until asked = asked ≤ until
+
+-- so each of the first n
+abbrev pub EachBy : (words : ℕ → ℕ) → Public → List Served → List Closed → (asked n : ℕ) → Type 0
+EachBy words p flown ended asked n = (i : ℕ) → i < n → ByThen (slice_get ended i) (asked_until words i (turns_of p flown) (boarding p flown)) asked
+
+goes_by : (words : ℕ → ℕ) (p : Public) (m : ℕ) (flown : List Served) (asked i : ℕ) (o : Option Closed) → ByThen o (asked_until words i (turns_of p flown) (boarding p flown)) asked
+    → GoesBy o (Some (stand_at p flown words i asked)) (seat_aloft p m flown words (Some asked) i)
+goes_by words p m flown asked i (Some one) by = omega (arith, by)
+goes_by words p m flown asked i None by = omega (arith, by)
+
 -- ---- of each
 module _ {R : Type 0} (state : R → RevState) (m0 m1 : Machine R) (stmts : List Stmt) (seens : List Seen) (ended : List Closed) (result : Result (Unit {0}) RunStop) (may : MayFly state m0 m1 stmts)
     (ran : RanAloft state m0.flights.words m1.flights.words stmts seens ended result m0.engine m0.store m1.engine m1.store) (left : Option ℕ) where
@@ -137,11 +162,20 @@ module _ {R : Type 0} (state : R → RevState) (m0 m1 : Machine R) (stmts : List
   pub all_unleft : left ≡ None → All (λ (f : Flown). f.seat.left ≡ None) fs
   all_unleft none = each_flown places (λ (f : Flown). f.seat.left ≡ None) 0 stmts seens ended (λ k stmt seen get shown. ap (λ (o : Option ℕ). (seat_aloft p (asked_of m0) flown words o (0 + k)).left) none)
 
-  pub all_in : left ≡ Some (asked_since m0.store m1.store) → All IsIn fs
-  all_in is = each_flown places IsIn 0 stmts seens ended (λ k stmt seen get shown. record {
+  -- where so many accesses were asked when they were left
+  pub in_at : left ≡ Some (asked_since m0.store m1.store) → EachBy words p flown ended (asked_since m0.store m1.store) (length stmts) → (k : ℕ) (stmt : Stmt) → slice_get stmts k ≡ Some stmt
+      → GoesBy (slice_get ended k) (places.seat (0 + k)).left (places.seat (0 + k))
+  in_at is each k stmt get =
+      subst (λ (o : Option ℕ). GoesBy (slice_get ended k) (seat_aloft p (asked_of m0) flown words o (0 + k)).left (seat_aloft p (asked_of m0) flown words o (0 + k))) (sym is)
+      (subst (λ (n : ℕ). GoesBy (slice_get ended k) (Some (stand_at p flown words n (asked_since m0.store m1.store))) (seat_aloft p (asked_of m0) flown words (Some (asked_since m0.store m1.store)) n)) (sym (zero_more k))
+      (goes_by words p (asked_of m0) flown (asked_since m0.store m1.store) k (slice_get ended k) (each k (get_less stmts k stmt get))))
+
+  pub all_in : left ≡ Some (asked_since m0.store m1.store) → EachBy words p flown ended (asked_since m0.store m1.store) (length stmts) → All IsIn fs
+  all_in is each = each_flown places IsIn 0 stmts seens ended (λ k stmt seen get shown. record {
     stand = stand_at p flown words (0 + k) (asked_since m0.store m1.store);
     left = ap (λ (o : Option ℕ). (seat_aloft p (asked_of m0) flown words o (0 + k)).left) is;
     own = refl;
+    by = in_at is each k stmt get;
   })
 
   pub seats_are : seats_in fs ≡ seats_aloft p (asked_of m0) flown words left 0 (length flown)

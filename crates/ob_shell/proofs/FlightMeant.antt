@@ -21,7 +21,7 @@ use Rattle.ob_mean.specs.Replay.{Alone, Broken, CutAfter, How, IsCutOff, Session
 use Rattle.ob_mean.specs.Verdict.{Tables, is_late}
 use Rattle.ob_script.specs.Script.{whole_script}
 use Rattle.ob_script.specs.Trace.{Served}
-use Rattle.ob_shell.proofs.FlightSeen.{IsAnswerOf, IsIn, Stood, flown_bytes, flown_early, flown_ended, flown_lawful}
+use Rattle.ob_shell.proofs.FlightSeen.{GoesBy, IsAnswerOf, IsIn, Stood, by_stand, flown_bytes, flown_early, flown_ended, flown_lawful}
 use Rattle.ob_shell.proofs.FlownLists.{Flown, seats_in, served_in_all, served_of, stmts_in}
 use Rattle.ob_shell.proofs.ReplayLemmas.{outcome_cases}
 use Rattle.ob_shell.proofs.SelectLemmas.{IsOwn, LeavesAll, leaves_all, room_flown, unkeyed_flown}
@@ -47,7 +47,7 @@ module _ (ending : Ending) (s t : Session) (ts : t.tables ≡ s.tables) (ds : t.
   stand_same [] (Ok stmt ∷ spelt) seen stands = absurd stands
   stand_same (v ∷ seats) (Ok stmt ∷ spelt) [] stands = absurd stands
   stand_same (v ∷ seats) (Ok stmt ∷ spelt) (x ∷ seen) stands =
-      (subst (λ (y : Session). StandsThere v.left ending y stmt x.seen) (sym (at_same v s t ts ds)) stands.0, stand_same seats spelt seen stands.1)
+      (subst (λ (y : Session). StandsThere v.left ending v y stmt x.seen) (sym (at_same v s t ts ds)) stands.0, stand_same seats spelt seen stands.1)
 
   begins_with : (o : Option Stand) (v : Seat) (y : Session) (stmt : Stmt) (here : Seen) (part : List ℕ) (P Q : Type 0) → (P → Q) → BeginsAt o ending v y stmt here part P → BeginsAt o ending v y stmt here part Q
   begins_with None v y stmt here part P Q on begins = begins
@@ -239,7 +239,7 @@ module _ (ending : Ending) (s : Session) (seats : List Seat) (spelt : List Spelt
 pub record StandsSo (ending : Ending) (s : Session) (f : Flown) : Type 0 where
   pub stand : Stand
   pub left : f.seat.left ≡ Some stand
-  pub stands : StandsIn ending stand (at_seat f.seat s) f.stmt f.seen
+  pub stands : StandsIn ending f.seat stand (at_seat f.seat s) f.stmt f.seen
 
 -- and of the first of these this was printed
 pub record BeginsSo (ending : Ending) (s : Session) (f : Flown) (part : List ℕ) : Type 0 where
@@ -250,14 +250,19 @@ pub record BeginsSo (ending : Ending) (s : Session) (f : Flown) (part : List ℕ
 pub stands_so : (ending : Ending) (s : Session) (f : Flown) → Stood f → (left : IsIn f) → f.done ≡ done_in ending left.stand → Means s f → StandsSo ending s f
 stands_so ending s f stood left done means = record { stand = left.stand; left = left.left; stands = by_closed f.closed refl }
   where
-    by_closed : (o : Option Closed) → f.closed ≡ o → StandsIn ending left.stand (at_seat f.seat s) f.stmt f.seen
+    goes : (o : Option Closed) → f.closed ≡ o → GoesBy o (Some left.stand) f.seat
+    goes o is = subst (λ (x : Option Closed). GoesBy x (Some left.stand) f.seat) is (by_stand f left)
+
+    by_closed : (o : Option Closed) → f.closed ≡ o → StandsIn ending f.seat left.stand (at_seat f.seat s) f.stmt f.seen
     by_closed (Some how) is =
         let own = meant_so s f (answer_of how f.seen) stood (record { how = how; closed = is; is = refl }) means in
-        inl (record { how = own.how; cuts = own.cuts; seen = own.seen })
+        inl (goes (Some how) is, record { how = own.how; cuts = own.cuts; seen = own.seen })
     by_closed None is = inr (
-        let here = subst (λ (o : Option Closed). IsMeant s.draws f.seat.public f.seat.asked f.own f.done s.tables f.stmt f.seen o) is means.told in
-        let stands : (n done : ℕ) → Type 0 = λ (n done : ℕ). StandsMeant s.draws f.seat.public f.seat.asked n done s.tables f.stmt f.seen f.seen.end in
-        subst (λ (n : ℕ). stands left.stand.own n) done (subst (λ (n : ℕ). stands n f.done) (sym left.own) here))
+      goes None is,
+      let here = subst (λ (o : Option Closed). IsMeant s.draws f.seat.public f.seat.asked f.own f.done s.tables f.stmt f.seen o) is means.told in
+          let stands : (n done : ℕ) → Type 0 = λ (n done : ℕ). StandsMeant s.draws f.seat.public f.seat.asked n done s.tables f.stmt f.seen f.seen.end in
+          subst (λ (n : ℕ). stands left.stand.own n) done (subst (λ (n : ℕ). stands n f.done) (sym left.own) here),
+    )
 
 abbrev pub LeftMean : Ending → Session → (part : List ℕ) → List Flown → List Answer → Type 0
 LeftMean ending s part [] kept = ⊥
@@ -265,10 +270,10 @@ LeftMean ending s part (f ∷ fs) [] = BeginsSo ending s f part × All (StandsSo
 LeftMean ending s part (f ∷ fs) (one ∷ kept) = MeantSo f one (at_seat f.seat s) × LeftMean ending s part fs kept
 
 module _ (ending : Ending) (s : Session) (part : List ℕ) where
-  stands_at : (f : Flown) (t : Session) → t.tables ≡ s.tables → t.draws ≡ s.draws → StandsSo ending s f → StandsThere f.seat.left ending (at_seat f.seat t) f.stmt f.seen
+  stands_at : (f : Flown) (t : Session) → t.tables ≡ s.tables → t.draws ≡ s.draws → StandsSo ending s f → StandsThere f.seat.left ending f.seat (at_seat f.seat t) f.stmt f.seen
   stands_at f t ts ds so =
-      subst (λ (o : Option Stand). StandsThere o ending (at_seat f.seat t) f.stmt f.seen) (sym so.left)
-      (subst (λ (y : Session). StandsIn ending so.stand y f.stmt f.seen) (sym (at_same f.seat s t ts ds)) so.stands)
+      subst (λ (o : Option Stand). StandsThere o ending f.seat (at_seat f.seat t) f.stmt f.seen) (sym so.left)
+      (subst (λ (y : Session). StandsIn ending f.seat so.stand y f.stmt f.seen) (sym (at_same f.seat s t ts ds)) so.stands)
 
   stand_behind : (fs : List Flown) (t : Session) → t.tables ≡ s.tables → t.draws ≡ s.draws → All (StandsSo ending s) fs → StandBehind ending (seats_in fs) t (map Ok (stmts_in fs)) (served_in_all fs)
   unfolding StandBehind
@@ -281,7 +286,7 @@ module _ (ending : Ending) (s : Session) (part : List ℕ) where
       let own = stands_at f t ts ds (All-head (StandsSo ending s) f fs all) in
       let here = sym (at_same f.seat s t ts ds) in
       subst (λ (o : Option Stand). BeginsAt o ending f.seat (at_seat f.seat t) f.stmt f.seen part (StandBehind ending (seats_in fs) t (map Ok (stmts_in fs)) (served_in_all fs))) (sym begins.left) (
-        subst (λ (o : Option Stand). StandsThere o ending (at_seat f.seat t) f.stmt f.seen) begins.left own,
+        subst (λ (o : Option Stand). StandsThere o ending f.seat (at_seat f.seat t) f.stmt f.seen) begins.left own,
         subst (λ (y : Session). EmitsPart ending f.seat begins.stand y f.stmt part ⊎ EmitsAll ending y f.stmt f.seen part) here begins.emits,
         stand_behind fs t ts ds (All-tail (StandsSo ending s) f fs all),
       )

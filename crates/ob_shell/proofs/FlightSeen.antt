@@ -9,7 +9,7 @@ use Rattle.ob_exec.specs.InFlight.{EndsAs, IsFlown}
 use Rattle.ob_headline.specs.Accesses.{AreSeen, IsLeft}
 use Rattle.ob_headline.specs.Closing.{closing_line}
 use Rattle.ob_headline.specs.Failures.{cut_off}
-use Rattle.ob_headline.specs.Flights.{AreGathered, EndedBy, Seat, Stand, gathered_then, may_fly, place_now}
+use Rattle.ob_headline.specs.Flights.{AreGathered, EndedBy, OnBy, Seat, Stand, gathered_then, may_fly, place_now}
 use Rattle.ob_headline.specs.Words.{Answer}
 use Rattle.ob_inflight.specs.Closing.{Closed}
 use Rattle.ob_mean.specs.Batches.{Gathering, is_cut}
@@ -41,11 +41,20 @@ pub record IsAnswerOf (f : Flown) (one : Answer) : Type 0 where
   pub closed : f.closed ≡ Some how
   pub is : one ≡ answer_of how f.seen
 
+-- it has ended, and had when its flight was left, or else it hadn't
+abbrev pub GoesBy : Option Closed → Option Stand → Seat → Type 0
+GoesBy (Some one) left v = EndedBy left v
+GoesBy None left v = OnBy left v
+
 -- its flight was left
 pub record IsIn (f : Flown) : Type 0 where
   pub stand : Stand
   pub left : f.seat.left ≡ Some stand
   pub own : stand.own ≡ f.own
+  pub by : GoesBy f.closed f.seat.left f.seat
+
+pub by_stand : (f : Flown) (left : IsIn f) → GoesBy f.closed (Some left.stand) f.seat
+by_stand f left = subst (λ (o : Option Stand). GoesBy f.closed o f.seat) left.left left.by
 
 -- each has, or the first of them have
 abbrev pub AllAnswered : List Flown → List Answer → Type 0
@@ -127,15 +136,18 @@ whole_seen Leaves seats spelt answers seen rest (f ∷ fs) (one ∷ given) g non
     (whole_seen Leaves seats spelt answers seen rest fs given None (λ is. refl) (All-tail Stood f fs stood) all.1)
 
 -- ---- their flight was left
-stands_in : (p : Public) (m n : ℕ) (stmt : Stmt) (seen : Seen) (o : Option Closed) → IsFlown p m n stmt seen o → Lawful p m stmt seen ⊎ StandsAs p m n stmt seen seen.end
-stands_in p m n stmt seen (Some one) flown = inl flown.lawful
-stands_in p m n stmt seen None flown = inr flown
+abbrev LeftAt : Stand → Seat → (n : ℕ) → Stmt → Seen → Type 0
+LeftAt stand v n stmt seen =
+    (EndedBy (Some stand) v × Lawful v.public v.asked stmt seen) ⊎ (OnBy (Some stand) v × StandsAs v.public v.asked n stmt seen seen.end)
+
+stands_in : (stand : Stand) (v : Seat) (n : ℕ) (stmt : Stmt) (seen : Seen) (o : Option Closed) → GoesBy o (Some stand) v → IsFlown v.public v.asked n stmt seen o → LeftAt stand v n stmt seen
+stands_in stand v n stmt seen (Some one) by flown = inl (by, flown.lawful)
+stands_in stand v n stmt seen None by flown = inr (by, flown)
 
 left_by : (Leaves : Public → Stmt → Seen → Type 0) (f : Flown) (g : Option Gathering) → Stood f → (left : IsIn f) → IsLeft Leaves f.seat.left f.seat g f.stmt f.seen
 left_by Leaves f g stood left =
     subst (λ (o : Option Stand). IsLeft Leaves o f.seat g f.stmt f.seen) (sym left.left)
-    (subst (λ (n : ℕ). Lawful f.seat.public f.seat.asked f.stmt f.seen ⊎ StandsAs f.seat.public f.seat.asked n f.stmt f.seen f.seen.end) (sym left.own)
-    (stands_in f.seat.public f.seat.asked f.own f.stmt f.seen f.closed stood.flown))
+    (subst (λ (n : ℕ). LeftAt left.stand f.seat n f.stmt f.seen) (sym left.own) (stands_in left.stand f.seat f.own f.stmt f.seen f.closed (by_stand f left) stood.flown))
 
 pub left_seen : (Leaves : Public → Stmt → Seen → Type 0) (fs : List Flown) (kept : List Answer) (g : Option Gathering) → All Stood fs → All IsIn fs → FirstAnswered fs kept
     → AreSeen Leaves (seats_in fs) g (spelt_in fs) kept (served_in_all fs)

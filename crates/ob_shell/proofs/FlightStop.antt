@@ -24,7 +24,7 @@ use Rattle.ob_script.proofs.FlightLemmas.{logs_grow}
 use Rattle.ob_script.specs.Flights.{Flight, boarding, merge, turns, turns_of}
 use Rattle.ob_script.specs.Trace.{Served as Entry}
 use Rattle.ob_shell.proofs.FlightEnd.{all_fs, aloft, in_all, left_walked, spelt_left, turn_of}
-use Rattle.ob_shell.proofs.FlightFacts.{first_answered, places, seats_are}
+use Rattle.ob_shell.proofs.FlightFacts.{ByThen, first_answered, past_none, places, seats_are}
 use Rattle.ob_shell.proofs.FlightLast.{LastWalk}
 use Rattle.ob_shell.proofs.FlightMeant.{BeginsSo, Means, meant_so}
 use Rattle.ob_shell.proofs.FlightSeen.{FirstAnswered, IsAnswerOf, IsIn, Stood}
@@ -223,14 +223,21 @@ module _ {R : Type 0} (state : R → RevState) (m1 m2 : Machine R) (more : List 
       let both = length-append m1.store.asked (merge (public_of m1.engine) flown m1.flights.words) in
       omega (arith, long, both)
 
-  had : (j : ℕ) → All (λ (v : Seat). EndedBy v.left v) (take j (seats_in fs_done))
-  had j = subst (λ (vs : List Seat). All (λ (v : Seat). EndedBy v.left v) (take j vs)) (sym (seats_are state m1 m2 done.step.stmts done.step.seens done.step.flew.ended (Ok tt) done.step.may ran (Some total)))
-      (ended_left m1.flights.words (public_of m1.engine) (asked_of m1) flown total 0 (length flown) j (λ k less.
+  ended_then : (k : ℕ) → asked_until m1.flights.words k (turns_of (public_of m1.engine) flown) (boarding (public_of m1.engine) flown) ≤ total
+  ended_then k =
       let turned = turns m1.flights.words (turns_of (public_of m1.engine) flown) (boarding (public_of m1.engine) flown) in
-      let here = until_most m1.flights.words (0 + k) (turns_of (public_of m1.engine) flown) (boarding (public_of m1.engine) flown) in
+      let here = until_most m1.flights.words k (turns_of (public_of m1.engine) flown) (boarding (public_of m1.engine) flown) in
       let mapped = length-map turned.log (λ (e : ℕ × Access). e.1) in
       let all = most in
-      omega (arith, here, mapped, all)))
+      omega (arith, here, mapped, all)
+
+  by_then : (k : ℕ) → k < length done.step.stmts → (o : Option Closed) → slice_get done.step.flew.ended k ≡ o → ByThen o (asked_until m1.flights.words k (turns_of (public_of m1.engine) flown) (boarding (public_of m1.engine) flown)) total
+  by_then k less (Some one) is = ended_then k
+  by_then k less None is = absurd (let past = past_none done.step.flew.ended k is in let all = ran.all in omega (arith, past, less, all))
+
+  had : (j : ℕ) → All (λ (v : Seat). EndedBy v.left v) (take j (seats_in fs_done))
+  had j = subst (λ (vs : List Seat). All (λ (v : Seat). EndedBy v.left v) (take j vs)) (sym (seats_are state m1 m2 done.step.stmts done.step.seens done.step.flew.ended (Ok tt) done.step.may ran (Some total)))
+      (ended_left m1.flights.words (public_of m1.engine) (asked_of m1) flown total 0 (length flown) j (λ k less. ended_then (0 + k)))
 
   answered : (kept lost : List Answer) → done.answers ≡ kept ++ lost → FirstAnswered fs_done kept
   answered kept lost parts = first_answered (places state m1 m2 done.step.stmts done.step.seens done.step.flew.ended (Ok tt) done.step.may ran (Some total)) 0 done.step.stmts done.step.seens done.step.flew.ended kept lost ran.long
@@ -270,7 +277,7 @@ module _ {R : Type 0} (state : R → RevState) (m1 m2 : Machine R) (more : List 
         walk = left_walked state m1 m2 done.step.stmts done.step.seens done.step.flew.ended (Ok tt) done.step.may ran run done.flown done.more done.step.spelt
             (subst (λ (r : RunStop). total ≡ done_of (is_tampered (Ran (Err (session_stop r)))) total) (sym done.fault) refl)
             (λ within. cc (within, ends (λ (e : Ending). ends_within e ≡ false) refl))
-            end.kept (answered end.kept (end.one ∷ end.lost) end.parts) short (had n) end.one.bytes
+            end.kept (answered end.kept (end.one ∷ end.lost) end.parts) short (had n) (λ k less. by_then k less (slice_get done.step.flew.ended k) refl) end.one.bytes
             (λ d drawn tables reads f is stood at means. begins_answered run _ f end.one stood at (nth_answered fs_done end.kept end.one end.lost f each is) means)
             (leaves_otherwise _ _ _ _ _ (ends (λ (e : Ending). ends_within e ≡ false) refl) (λ is. cc (is, ap (λ (r : RunStop). Ran (Err (session_stop r))) done.fault)))
             (inr (inr (inl (ap (λ (r : RunStop). Ran (Err (session_stop r))) done.fault))))

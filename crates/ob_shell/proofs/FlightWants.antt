@@ -23,9 +23,9 @@ use Rattle.ob_script.specs.Script.{script, whole_script}
 use Rattle.ob_script.specs.Trace.{Served as Entry}
 use Rattle.ob_select.proofs.SelectRuns.{ends-more}
 use Rattle.ob_select.specs.Memory.{AtEmission, AtMake, AtResult, ends_with_make}
-use Rattle.ob_shell.proofs.FlightCut.{flown_get, get_less, going_on, had, past_none}
+use Rattle.ob_shell.proofs.FlightCut.{flown_get, going_on, had}
 use Rattle.ob_shell.proofs.FlightEnd.{all_fs, aloft, in_all, long_aloft, seats_left, spelt_left, turn_of}
-use Rattle.ob_shell.proofs.FlightFacts.{places, spelt_long}
+use Rattle.ob_shell.proofs.FlightFacts.{get_less, past_none, places, spelt_long}
 use Rattle.ob_shell.proofs.FlightSeen.{spelt_in}
 use Rattle.ob_shell.proofs.FlightSteady.{steady_flown}
 use Rattle.ob_shell.proofs.FlownLists.{Flown, Places, each_flown, flown_at, seats_in, served_in_all}
