@@ -318,8 +318,10 @@ module _ {R E F : Type 0} (state : R → RevState) (grew cut : E → E → List 
             subst (λ (n : ℕ). Wanted n there.0 (shown f) (st.current ++ fin.part) st.emitted.between) fin.first
             (wanted f there.0 (st.current ++ fin.part) st.emitted.between fin.at there.1 (st.aloft.stand.outcome st.place f fin.at ∙ ap (outcome_at st.ended) fin.first ∙ outcome_next st.ended)
             (λ lacks. let over = fin.over in absurd (cc (over, lacks)))
-            (inr (its_end f fin.at fin.none fin.first,
-              (let all = place_asked f fin.at in let same = ap (λ (x : World). length x.store.asked) fin.world in omega (arith, all, same)) ∙ whole_at f there.0 fin.at there.1 fin.over))
+            (inr (
+              its_end f fin.at fin.none fin.first,
+              (let all = place_asked f fin.at in let same = ap (λ (x : World). length x.store.asked) fin.world in omega (arith, all, same)) ∙ whole_at f there.0 fin.at there.1 fin.over,
+            ))
             (record { events = st.current ++ fin.part; ends = fin.ends })
             (stage.memory f _ _ fin.part st.last.world (at state v t) (hold_at st.place f fin.at)
             (subst (λ (x : OpErr). k.Halts f (events_at st.ended st.current st.place) fin.part x st.last.world (at state v t)) wants halts)
@@ -400,13 +402,16 @@ module _ {R E F : Type 0} (state : R → RevState) (grew cut : E → E → List 
             subst (λ (x : Public). Partly (answer_labels there.0 x) (verdict x m tables there.0) clo.events) after.public
             (subst (λ (x : Stmt). Partly (answer_labels x (k.progress clo.after).public) (verdict (k.progress clo.after).public m tables x) clo.events) after.is
             (stage.partly clo.after _ _ _ clo.holds after.set old.indexes.items tables (held_by clo.after there.0 tables (at state v t) after here)));
-        memory = λ none. inr (inr (inr (subst (λ (n : ℕ). Ended n) clo.first (its_end f clo.at clo.none clo.first), record {
-          outcome = clo.outcome;
-          ends = closing_so clo there.0 there.1;
-          between = clo.took;
-          took = clo.grew;
-          parts = subst (λ (n : ℕ). parted clo.took out_new n clo.outcome) clo.first clo.parted;
-        })));
+        memory = λ none. inr (inr (inr (
+          subst (λ (n : ℕ). Ended n) clo.first (its_end f clo.at clo.none clo.first),
+          record {
+            outcome = clo.outcome;
+            ends = closing_so clo there.0 there.1;
+            between = clo.took;
+            took = clo.grew;
+            parts = subst (λ (n : ℕ). parted clo.took out_new n clo.outcome) clo.first clo.parted;
+          },
+        )));
       }
 
   halted : Halted
