@@ -11,6 +11,7 @@ pub mod AloneRuns
 pub mod TakenLemmas
 pub mod FlightWrites
 pub mod SameAlone
+pub mod GatheredMeant
 pub mod OneByOneLemmas
 pub mod FlightSeats
 pub mod UntilLemmas

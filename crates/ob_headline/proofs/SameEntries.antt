@@ -112,6 +112,16 @@ may_by p q (K.Update table columns) same = refl
 may_by p q (K.Delete table) same = refl
 may_by p q (K.Drop table) same = refl
 
+pub selects_one : (p : Public) (s : Skeleton) → may_fly p s ≡ true → SelectsFromOne s
+selects_one p (K.Rows (OneTable table) columns) may = tt
+selects_one p (K.Groups table columns key) may = tt
+selects_one p (K.Rows (Join a b on equals) columns) may = absurd (cc may)
+selects_one p (K.Create table columns capacity shape) may = absurd (cc may)
+selects_one p (K.Insert table columns) may = absurd (cc may)
+selects_one p (K.Update table columns) may = absurd (cc may)
+selects_one p (K.Delete table) may = absurd (cc may)
+selects_one p (K.Drop table) may = absurd (cc may)
+
 tables_stay : (p : Public) (s : Skeleton) (end : End) → tables_after p s ≡ p.tables → tables_then p s end ≡ p.tables
 tables_stay p s Static same = refl
 tables_stay p s Whole same = same

@@ -18,7 +18,7 @@ ghost use Rattle.ob_headline.specs.Pieces.{BeginsWith};
 ghost use Rattle.ob_headline.specs.Plainly.{IsUnhindered, RunsPlainly};
 ghost use Rattle.ob_headline.specs.Reruns.{Alike, AlikeSoFar, AsksAsShown, AsksByKinds, EndsWell, GoOnFromOne, IsPlain};
 ghost use Rattle.ob_headline.specs.Reruns.{OneBegins, ServesAlone, ShowAlike, ShowTheSame, SomeRun, any_counted, asked_by, failures_of};
-ghost use Rattle.ob_headline.specs.Reruns.{keys_by, plainly, seats_by, seen_by, turns_of};
+ghost use Rattle.ob_headline.specs.Reruns.{keys_by, plainly, seats_by, seen_by, stated_of};
 ghost use Rattle.ob_headline.specs.SavedRuns.{AnswerInOne, AnySaved, GoOnSaved, HaveOwnSalts, LeavesHeld, OneSaved};
 ghost use Rattle.ob_headline.specs.SavedRuns.{SavedRun, Seals, SealsAlone};
 ghost use Rattle.ob_headline.specs.Saving.{BeginsSaved};

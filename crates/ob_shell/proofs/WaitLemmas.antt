@@ -10,10 +10,7 @@ use Rattle.ob_base.specs.declared.refusal.Stop.TheVariants as Stops
 use Rattle.ob_base.specs.declared.schema.Table.{Table}
 use Rattle.ob_gen.specs.declared.tally.Tally.{Tally}
 use Rattle.ob_headline.proofs.PromptLemmas.{all_answered, none_waits}
-use Rattle.ob_headline.proofs.SameEntries.{may_by, selects_stay}
-use Rattle.ob_base.specs.declared.skeleton.Skeleton.{Skeleton}
-use Rattle.ob_base.specs.declared.skeleton.Skeleton.TheVariants.{Create as CreateSkeleton, Delete as DeleteSkeleton, Drop as DropSkeleton, Groups, Insert as InsertSkeleton, Rows, Update as UpdateSkeleton}
-use Rattle.ob_base.specs.declared.skeleton.Source.TheVariants.{Table as OneTable, Join}
+use Rattle.ob_headline.proofs.SameEntries.{may_by, selects_one, selects_stay}
 use Rattle.ob_headline.specs.Batches.{AllInsert, AnsweredBut, Wait}
 use Rattle.ob_headline.specs.Flights.{WaitToFly, may_fly, most_flown}
 use Rattle.ob_headline.specs.declared.flight.FlightSettings.{FlightSettings}
@@ -255,16 +252,6 @@ waits_batched p m first rest front back gathered spelt =
     }
 
 -- SELECTs that wait
-selects_one : (p : Public) (outline : Skeleton) → may_fly p outline ≡ true → SelectsFromOne outline
-selects_one p (Rows (OneTable table) columns) may = tt
-selects_one p (Rows (Join left right on equals) columns) may = absurd (cc may)
-selects_one p (Groups table columns key) may = tt
-selects_one p (CreateSkeleton table columns n shape) may = absurd (cc may)
-selects_one p (InsertSkeleton table columns) may = absurd (cc may)
-selects_one p (UpdateSkeleton table columns) may = absurd (cc may)
-selects_one p (DeleteSkeleton table) may = absurd (cc may)
-selects_one p (DropSkeleton table) may = absurd (cc may)
-
 spelt_first : (texts : List (List ℕ)) (batch : List Stmt) → AreSpelt texts batch → SpellFirst texts (map Ok batch)
 unfolding SpellFirst
 spelt_first [] [] spelt = tt
