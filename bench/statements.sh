@@ -17,6 +17,8 @@
 # `cheapest` takes at most 1.1 times as long as the best of these. Each way has a run of its own over a copy of tables that are
 # kept in files, and all runs are asked in turn; the ratio is the median of the rounds'. The tables are filled with `--batch`.
 #
+# Counts of the table that ask in turns (`--flight`) take at most 1.15 times as long as the same one by one.
+#
 # usage: bench/statements.sh [both|time|count] [ROUNDS]     (without them: both, in 15 rounds)
 # Needs `rt` (bench/build.sh), python3 and 400 MB, and 500 MB of files; `valgrind` for the second measure. Takes fifteen
 # minutes once the programs are built, and twenty processor minutes more with valgrind.
@@ -294,6 +296,32 @@ if rounds:
                 is_over = ratio > 1.1
                 over_limit += is_over
                 print(f"| {k:,} | {lie} | {pack} | {min(spent):.1f} | {best:.1f}, `{plan}` | {ratio:.2f} | {auto:.1f} | {auto / best:.2f} | {'OVER' if is_over else 'OK'} |", flush=True)
+
+# ---- counts that ask in turns, beside as many that are served one by one: the milliseconds of each round
+def in_turns(pack, number):
+    pairs, counts = [], ["SELECT COUNT(*) FROM t WHERE v < 8;"] * number
+    words = ["--pack", str(pack), "--buffer", "512"]
+    flying, alone = Session(PROGRAM, *words, "--flight", f"{number},1"), Session(PROGRAM, *words)
+    for session in (flying, alone):
+        for text in SETUP:
+            session.serve(text)
+    # (the first round warms up)
+    for _ in range(rounds + 1):
+        pairs.append((flying.serve_all(counts), alone.serve_all(counts)))
+    for session in (flying, alone):
+        session.end()
+    return pairs[1:]
+
+if rounds:
+    print("\nCounts that ask in turns, beside as many one by one, limit 1.15:\n")
+    print("| Counts | rows of a block | in turns, ms | one by one, ms | ratio | |\n|---:|---:|---:|---:|---:|---|")
+    for pack in (1, 16):
+        for number in (2, 4, 8):
+            pairs = in_turns(pack, number)
+            ratio = statistics.median(a / b for a, b in pairs)
+            over_limit += ratio > 1.15
+            flying, alone = (min(side) for side in zip(*pairs))
+            print(f"| {number} | {pack} | {flying:.1f} | {alone:.1f} | {ratio:.2f} | {'OVER' if ratio > 1.15 else 'OK'} |", flush=True)
 
 # ---- from how many keys on an index is the faster one: the milliseconds of a statement, one of these four in turn
 def of_four(capacity, words, tail=""):

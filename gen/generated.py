@@ -242,6 +242,15 @@ class Run:
         else:
             self.refused += 1
 
+    def selects(self, g, n, held):
+        """Its SELECTs of rows and of groups."""
+        for test in (lambda row: row[1] == 3, lambda row: row[0] > n // 4, lambda row: row[1] != 9):
+            selected = [i for i, row in enumerate(held) if test(row)]
+            self.count(self.select(g, n, 17, selected), len(selected))
+        self.scan(g, n)
+        groups = len({v for _, v in held})
+        self.count(groups <= self.chunk, groups)
+
     def serve(self, start, n):
         """The statements of the generated text."""
         g = self.create(n, 17)
@@ -251,12 +260,7 @@ class Run:
             g = self.insert(g, n, 17)
             for _ in held[first : first + self.batch]:
                 self.count(True)
-        for test in (lambda row: row[1] == 3, lambda row: row[0] > n // 4, lambda row: row[1] != 9):
-            selected = [i for i, row in enumerate(held) if test(row)]
-            self.count(self.select(g, n, 17, selected), len(selected))
-        self.scan(g, n)
-        groups = len({v for _, v in held})
-        self.count(groups <= self.chunk, groups)
+        self.selects(g, n, held)
         g = self.move(g, n, 17)
         self.count(True)
         held = [[i, 10 if v == 1 else v] for i, v in held]

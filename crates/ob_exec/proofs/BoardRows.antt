@@ -20,7 +20,7 @@ use Rattle.ob_select.specs.Selecting.{Selection}
 use Rattle.ob_sql.specs.declared.stmt.SelectRows.{SelectRows}
 use Rattle.ob_sql.specs.declared.stmt.Stmt.TheVariants.{SelectRows as RowsStmt}
 use Rattle.ob_stages.specs.RowsHolds.{BoardsRows, FitRows, RowsHold}
-use Rattle.ob_stages.specs.RowsStates.{IsFlown, IsOf, RowsAt, boarded_rows, known_by, progress_of, rows_at, rows_skeleton, selection_by, table_blocks, whole_length}
+use Rattle.ob_stages.specs.RowsStates.{IsFlown, IsOf, RowsAt, boarded_rows, known_by, rows_at, rows_skeleton, selection_by, table_blocks, whole_length}
 use Rattle.ob_stages.specs.declared.flight.Flight.TheVariants.{Rows}
 use Rattle.ob_stages.specs.declared.rows.RowsFlight.{RowsFlight}
 use Rattle.ob_stages.proofs.RowsGoing.{whole_most}

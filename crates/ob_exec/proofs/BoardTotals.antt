@@ -1,8 +1,7 @@
 -- A SELECT of totals before its flight, and a statement that is refused before any access.
-use Rattle.std.proofs.Common.{◌≡◌, ◌≤◌, ◌-◌, ◌^◌, ℕ, Bool, List, [], ◌++◌, Option, Some, None, refl, sym, ◌∙◌, ap, subst, arith, append-nil}
+use Rattle.std.proofs.Common.{◌≡◌, ◌≤◌, ◌-◌, ◌^◌, ℕ, Bool, List, [], ◌++◌, Option, None, refl, sym, ◌∙◌, ap, subst, arith, append-nil}
 use Rattle.std.specs.Option.{option_map_or}
 use Rattle.ob_base.specs.declared.config.Public.{Public}
-use Rattle.ob_base.specs.declared.refusal.Refusal.{Refusal}
 use Rattle.ob_base.specs.declared.schema.Heading.{Heading}
 use Rattle.ob_base.specs.declared.schema.Shape.TheVariants.{Flat as FlatShape}
 use Rattle.ob_base.specs.Limits.{buffered}
@@ -22,18 +21,14 @@ use Rattle.ob_script.specs.Flights.{flight_public}
 use Rattle.ob_script.specs.Parts.{count_part}
 use Rattle.ob_script.specs.Script.{blocks_of as script_blocks, extent_of}
 use Rattle.ob_sql.specs.declared.stmt.SelectTotals.{SelectTotals}
-use Rattle.ob_sql.specs.declared.stmt.Stmt.{Stmt}
 use Rattle.ob_sql.specs.declared.stmt.Stmt.TheVariants.{SelectTotals as TotalsStmt}
-use Rattle.ob_inflight.specs.Progress.{Progress}
 use Rattle.ob_stages.specs.Groups.{FitsGroups, StartsGroups}
 use Rattle.ob_stages.specs.Reading.{FitsTable, MayBoard, StartsReading, reading_progress, reads_left}
-use Rattle.ob_stages.specs.Refusing.{StartsRefused}
 use Rattle.ob_stages.specs.Totalling.{TotalsFit}
 use Rattle.ob_stages.specs.Totals.{StartsTotals}
-use Rattle.ob_stages.specs.declared.flight.Flight.TheVariants.{Refused, Totals, Groups}
+use Rattle.ob_stages.specs.declared.flight.Flight.TheVariants.{Totals, Groups}
 use Rattle.ob_stages.specs.declared.groups.GroupsFlight.{GroupsFlight}
 use Rattle.ob_stages.specs.declared.reading.Reading.{Reading}
-use Rattle.ob_stages.specs.declared.refused.RefusedFlight.{RefusedFlight}
 use Rattle.ob_stages.specs.declared.totals.TotalsFlight.{TotalsFlight}
 use Rattle.ob_stages.proofs.ReadingStarts.{starts_places}
 use Rattle.ob_stages.proofs.TotalsLemmas.{totals_fit}
@@ -152,22 +147,3 @@ module _ (late : Bool) (n : ℕ) (p : Public) (by : MayFlyBy n p) (s : SelectTot
         fits = λ rows kept fit. groups_fit condition f is.starts rows kept fit;
         holds = λ w rows kept ready fit scan. is.holds w rows kept ready (scans condition f.reading is.starts w (scan free)) (groups_fit condition f is.starts rows kept fit);
       }
-
--- ---- one that is refused
-pub refused_aboard : (late : Bool) (n : ℕ) (p : Public) (stmt : Stmt) (why : Refusal) → early_of late p stmt ≡ Some why → (f : RefusedFlight) → StartsRefused p n stmt why f → IsAboard late n p stmt (Refused f)
-refused_aboard late n p stmt why early f is = record {
-  is = ap (λ (x : Progress). x.stmt) is.progress;
-  public = ap (λ (x : Progress). x.public) is.progress;
-  refusal = ap (λ (x : Progress). x.refusal) is.progress ∙ sym early;
-  shown = sym (ap seen_if early);
-  asked = refl;
-  region = refl;
-  failed = refl;
-  outcome = ap (λ (x : Progress). x.outcome) is.progress;
-  left = λ left. absurd (cc left);
-  few = omega arith;
-  most = omega arith;
-  table = λ none. absurd (cc (none, early));
-  fits = λ rows kept fit. tt;
-  holds = λ w rows kept ready fit scan. is.holds;
-}

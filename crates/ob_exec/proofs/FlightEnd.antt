@@ -12,7 +12,7 @@ use Rattle.ob_inflight.specs.Kinds.{Kind, Moment, taker_of}
 use Rattle.ob_mean.specs.Verdict.{Draws, Tables}
 use Rattle.ob_room.specs.RoomState.{RoomState}
 use Rattle.ob_script.specs.FlightLaws.{AllMayFly}
-use Rattle.ob_script.specs.Flights.{AreSteady, accesses_in, merge, next_flight, own, turns_of}
+use Rattle.ob_script.specs.Flights.{AreSteady, Flight, accesses_in, merge, next_flight, own, turns_of, own_asked}
 use Rattle.ob_script.specs.Trace.{Served}
 use Rattle.ob_select.specs.Settings.{IsFree}
 use Rattle.ob_sql.specs.declared.stmt.Stmt.{Stmt}
@@ -28,13 +28,14 @@ use Rattle.ob_vault.specs.State.{RevState}
 use Rattle.ob_vault.specs.declared.region.Region.{Region}
 use Rattle.ob_vault.specs.declared.vault.Vault.{Vault}
 use Rattle.ob_verdict.specs.declared.outcome.Outcome.{Outcome}
-use Rattle.ob_exec.specs.InFlight.{IsFlown, IsMeant, own_asked, served_as}
-use Rattle.ob_exec.specs.RanFlight.{FlightMeans, RanFlight, RanInTurns, asked_by, asked_since, cut_off, in_flight}
+use Rattle.ob_exec.specs.InFlight.{IsFlown, IsMeant, served_as}
+use Rattle.ob_exec.specs.RanFlight.{EndedWithin, FlightMeans, MeantThen, RanFlight, RanInTurns, asked_by, asked_since, cut_off, in_flight}
 use Rattle.ob_exec.proofs.FlightBegun.{begins_meant}
+use Rattle.ob_exec.proofs.FlightEarlier.{asks_meant, meant_then}
 use Rattle.ob_exec.specs.Boarding.{engine_behind}
 use Rattle.ob_exec.proofs.FlightFrames.{agrees_behind, apart_behind, calm_start, draws_behind, held_behind, hold_now, lasts_all, opens_behind, sealed_behind}
 use Rattle.ob_exec.proofs.FlightLists.{cuts_same, get_mapped}
-use Rattle.ob_exec.proofs.FlightRuns.{Boards, all_merged, as_many, emits_now, emitted_now, first_now, flown_now, meant_now, next_now, own_now, served_now, some_ended, they_hold, turns_now}
+use Rattle.ob_exec.proofs.FlightRuns.{Boards, all_merged, as_many, emits_now, emitted_now, first_now, flown_now, may_now, meant_now, next_now, own_now, served_now, some_ended, steady_now, they_hold, turned_now, turns_now}
 use Rattle.ob_exec.proofs.FlightStage.{HoldNow, IsStage}
 
 -- so many accesses more were asked
@@ -173,8 +174,22 @@ module _ {R E F : Type 0} (state : R → RevState) (grew cut : E → E → List 
     honest = λ tables reads. tt;
     begun = λ tables d reads lie is.
         let b = h.begun (rests.lie ∙ reads.nolie) lie is in
-        begins_meant k m stage steady_of old.public stmts words share start now boards h.public lie b old.indexes.items tables d
-        (hold_now state old s s1 agrees rests b.last.world b.aloft.rest.lasts tables reads.tells reads.held b.none) s.asked rests.asked;
+        begins_meant k m stage steady_of old.public stmts words share start now boards h.public b.turn h.ended b.stood old.indexes.items tables d
+        (hold_now state old s s1 agrees rests b.stood.last.world b.stood.aloft.rest.lasts tables reads.tells reads.held b.none) lie b.reads s.asked rests.asked;
+    earlier = λ i n stmt seen one there shown has e.
+        let f = at_place i seen shown in
+        let all = may_now k m stage steady_of old.public stmts words share start boards h.turn h.public h.ended [] now h.aloft in
+        let within : EndedWithin old.public (map (λ (f : F). (k.progress f).served) fs) words n i = subst (λ (xs : List Served). EndedWithin old.public xs words n i) (sym as_flown) e in
+        subst (λ (x : ℕ). MeantThen state stmts x n stmt seen one old s t) (sym (own_all i f.0 f.1))
+        (subst (λ (x : Seen). MeantThen state stmts (k.progress f.0).asked n stmt x one old s t) f.2
+        (meant_then state k old s s1 agrees rests stage steady_of stmts words share flyers shares boards h.public h.turn h.ended now h.past h.begun all i n within f.0 stmt one f.1 there has
+        (turned_now k m stage steady_of old.public stmts words share start boards h.turn h.public h.ended [] now h.aloft) (h.aloft.stand.outcome i f.0 f.1)));
+    asks = λ n less.
+        let all = may_now k m stage steady_of old.public stmts words share start boards h.turn h.public h.ended [] now h.aloft in
+        let turned = ap (λ (r : Flight). length r.log) (turned_now k m stage steady_of old.public stmts words share start boards h.turn h.public h.ended [] now h.aloft) in
+        let many = log_long in
+        asks_meant state k old s s1 agrees rests stage steady_of stmts words share flyers shares boards h.public h.turn h.ended now h.past h.begun all
+        (steady_now k m stage steady_of old.public stmts words share start boards h.turn h.public h.ended [] now h.aloft) h.turn n h.went (omega (arith, less, turned, many)) seens as_flown;
   }
 
   pub flight_ended : {T : Type 0} (x : T) → faults out_new ≡ faults out_old → old.room.high ≤ room.high → 1 ≤ room.high

@@ -1,5 +1,5 @@
 -- The engine behind a flight: its tables are as they were.
-use Rattle.std.proofs.Common.{◌≡◌, ◌≤◌, ◌-◌, ℕ, Bool, List, None, refl, sym, ◌∙◌, ap, subst, arith}
+use Rattle.std.proofs.Common.{◌≡◌, ◌≤◌, ℕ, Bool, List, None, refl, sym, ◌∙◌, ap, subst, arith}
 use Rattle.ob_base.specs.declared.access.Access.{Access}
 use Rattle.ob_mean.specs.Verdict.{Draws, Tables}
 use Rattle.ob_room.specs.RoomState.{RoomState}
@@ -92,9 +92,6 @@ module _ {R : Type 0} (state : R → RevState) (old : Engine R) (s s1 : StoreSta
 
     pub sealed_behind : (ended : Bool) → ((good : ℕ → List ℕ → Bool) → AcceptsRows good old.public.pack → Seals good (world_of state old s1) (at state v t)) → KeepsSealed state old s (engine_behind old v room ended) t
     sealed_behind ended seals good accepts single = seals_join good _ _ _ (later_rests s s1 rests) (seals_rests _ s s1 rests good) (seals good accepts)
-
-    pub free_behind : (ended : Bool) → IsFree old.public (engine_behind old v room ended).room
-    free_behind ended = free
 
     pub opens_behind : (part : List Access) → old.room.high ≤ room.high → 1 ≤ room.high → Opens part old.room.high room.high
     opens_behind part kept some = record { kept = kept; some = λ any. some }

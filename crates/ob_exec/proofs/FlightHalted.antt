@@ -18,7 +18,7 @@ use Rattle.ob_inflight.specs.Answers.{EndsBy, error_of}
 use Rattle.ob_inflight.specs.Closing.{Closed, RisesBy, events_at, outcome_at}
 use Rattle.ob_inflight.specs.Flown as Flown
 use Rattle.ob_inflight.specs.Flown.{StopsInClosing, StopsInFinish, StopsInStep}
-use Rattle.ob_inflight.specs.Kinds.{Kind, Moment, share_at, taker_of}
+use Rattle.ob_inflight.specs.Kinds.{Kind, Moment, moment, share_at, taker_of}
 use Rattle.ob_inflight.specs.Progress.{KeepsCourse, Progress}
 use Rattle.ob_mean.specs.Replay.{done_of}
 use Rattle.ob_mean.specs.Verdict.{Tables, verdict}
@@ -45,16 +45,17 @@ use Rattle.ob_vault.specs.declared.vault.Vault.{Vault}
 use Rattle.ob_verdict.specs.Outcomes.{Emits, Partly}
 use Rattle.ob_verdict.specs.declared.outcome.Outcome.{Outcome}
 use Rattle.ob_exec.specs.InFlight.{EndsAs, EndsMeant, IsFlown, IsMeant, served_as}
-use Rattle.ob_exec.specs.RanFlight.{AtEmitter, BeforeMake, BeginsMeant, EndsSo, FlightCause, FlightMeans, RanFlight, RanInTurns, StopsClosing, StopsFlight, asked_by, asked_since, cut_off, halt_of, in_flight}
+use Rattle.ob_exec.specs.RanFlight.{AtEmitter, BeforeMake, EndedWithin, EndsSo, FlightCause, FlightMeans, InEnd, InTurn, MeantThen, RanFlight, RanInTurns, StopsClosing, StopsFlight, asked_by, asked_next, asked_since, cut_off, halt_of, in_flight}
 use Rattle.ob_exec.proofs.FlightBegun.{begins_meant}
+use Rattle.ob_exec.proofs.FlightEarlier.{asks_meant, meant_then}
 use Rattle.ob_exec.proofs.FlightEnd.{rises_from}
 use Rattle.ob_exec.specs.Boarding.{engine_behind}
 use Rattle.ob_exec.proofs.FlightFrames.{apart_behind, calm_start, draws_behind, hold_now, lasts_all, opens_behind, sealed_behind}
-use Rattle.ob_exec.proofs.FlightLists.{cuts_same, events_next, get_other, get_within, map_get, outcome_next, past_ended}
-use Rattle.ob_exec.proofs.FlightRuns.{Boards, ServesOne, all_now, emits_now, emitted_now, partly_now, public_is, set_kept}
+use Rattle.ob_exec.proofs.FlightLists.{cuts_same, events_next, get_mapped, get_other, get_within, map_get, outcome_next, past_ended}
+use Rattle.ob_exec.proofs.FlightRuns.{Boards, ServesOne, all_now, emits_now, emitted_now, may_now, partly_now, public_is, served_now, set_kept, steady_now, turned_now}
 use Rattle.ob_exec.proofs.FlightStage.{AsksMake, HoldNow, IsSet, IsStage, LacksHere, closed_of, more_asked, whole_of}
-use Rattle.ob_exec.proofs.FlightStopped.{calm_none, cause_behind, cause_quiet, drop_asked, each_at, emitter_never, ends_closing, ends_finishing, ends_make, ends_printing, ends_quiet, hold, hold_by, hold_last, long, meant_at, memory_is, not_tampered, prints_or, serve, sink_by, statement}
-use Rattle.ob_exec.proofs.FlightStops.{asked_first, asked_last, asked_place, same_seen, stops_turn}
+use Rattle.ob_exec.proofs.FlightStopped.{calm_none, cause_behind, cause_quiet, drop_asked, each_at, emitter_never, ends_closing, ends_finishing, ends_make, ends_printing, ends_quiet, hold, hold_by, hold_last, long, meant_at, memory_is, none_ended, not_tampered, prints_or, serve, sink_by, statement}
+use Rattle.ob_exec.proofs.FlightStops.{asked_first, asked_last, asked_most, asked_of, asked_place, in_end, in_turn, next_one_asks, same_seen, stops_turn}
 
 module _ {R E F : Type 0} (state : R → RevState) (grew cut : E → E → List Event → Type 0) (closed parted : E → E → ℕ → Outcome → Type 0) (faults : E → ℕ)
     (k : Kind F) (old : Engine R) (s s1 : StoreState) (agrees : Agrees state old s) (rests : ChangesNothing s s1)
@@ -81,6 +82,9 @@ module _ {R E F : Type 0} (state : R → RevState) (grew cut : E → E → List 
 
   abbrev asked : ℕ → ℕ
   asked i = asked_by old.public words stmts seens (asked_since s t) i
+
+  abbrev asks : Option (ℕ × Access)
+  asks = asked_next old.public words stmts seens (asked_since s t)
 
   abbrev new : Engine R
   new = engine_behind old v room true
@@ -114,10 +118,26 @@ module _ {R E F : Type 0} (state : R → RevState) (grew cut : E → E → List 
   abbrev So : Stmt → Seen → List Event → Outcome → Type 0
   So stmt seen events = EndsSo state stmts stmt seen (asked_by old.public words stmts (map (λ (f : F). (k.progress f).served.seen) st.last.flyers) (asked_since s t) (length st.ended)) events old s (engine_behind old v room true) t
 
+  -- whose turn it is
+  abbrev Turned : ℕ → Type 0
+  Turned place = InTurn old.public words stmts (map (λ (f : F). (k.progress f).served.seen) st.last.flyers) (asked_since s t) place
+
+  abbrev Ended : ℕ → Type 0
+  Ended place = InEnd old.public words stmts (map (λ (f : F). (k.progress f).served.seen) st.last.flyers) (asked_since s t) place
+
+  -- one that has nothing left to ask has asked all
+  whole_at : (f : F) (stmt : Stmt) → slice_get st.last.flyers st.place ≡ Some f → slice_get stmts st.place ≡ Some stmt → (k.progress f).over ≡ true
+      → (k.progress f).asked ≡ length (script p (skeleton stmt) (shown f))
+  whole_at f stmt at there over =
+      let one = serve_at st.place f stmt at there in
+      all_now k m stage steady_of old.public stmts words share start boards st.turn st.public st.ended st.current st.last st.aloft st.place f at 0
+      (stage.over f _ _ _ (hold_at st.place f at) over 0)
+      ∙ ap (λ (sk : Skeleton). length (script p sk (shown f))) (stage.outline f (k.progress f).served (stage.served f _ _ _ (hold_at st.place f at)) ∙ ap skeleton one.is)
+
   -- at a make, or before a result's, or the emitter's
   abbrev Wanted : (place : ℕ) (stmt : Stmt) (seen : Seen) (events : List Event) → (between : E) → Type 0
   Wanted place stmt seen events between =
-      AtMake (drop (length s.asked) t.asked) ⊎ BeforeMake p stmts seens asked st.ended ⊎ AtEmitter grew cut parted (So stmt seen events) p stmt seen place (asked place) events between out_new
+      AtMake (drop (length s.asked) t.asked) ⊎ BeforeMake p stmts seens asked asks st.ended ⊎ AtEmitter grew cut parted (So stmt seen events) (Turned place) (Ended place) p stmt seen place (asked place) events between out_new
 
   since_asked : (a : Access) → t.asked ≡ st.last.world.store.asked ++ a ∷ [] → drop (length s.asked) t.asked ≡ accesses_in st.aloft.turned.log ++ a ∷ []
   since_asked a is =
@@ -136,13 +156,23 @@ module _ {R E F : Type 0} (state : R → RevState) (grew cut : E → E → List 
       none_mapped None is = refl
       none_mapped (Some one) is = absurd (cc is)
 
-  before_make : (f : F) (stmt : Stmt) → slice_get st.last.flyers st.place ≡ Some f → slice_get stmts st.place ≡ Some stmt → (k.progress f).outcome ≡ None → t.asked ≡ st.last.world.store.asked
-      → AtResult (k.progress f).public (k.progress f).stmt (shown f) (drop (k.progress f).asked (whole_of (k.progress f))) → BeforeMake p stmts seens asked st.ended
-  before_make f stmt at there going same result =
+  -- where it is yet to ask, its turn is an access
+  abbrev Turn : F → Type 0
+  Turn f = (k.progress f).over ≡ false → (a : Access) × (st.act ≡ Some a)
+
+  next_asked : (a : Access) → st.act ≡ Some a → t.asked ≡ st.last.world.store.asked → asks ≡ Some (st.place, a)
+  next_asked = next_one_asks state grew cut closed parted k old s s1 rests stage steady_of stmts words share e flyers shares now boards out_old out_new st
+
+  before_make : (f : F) (stmt : Stmt) → slice_get st.last.flyers st.place ≡ Some f → slice_get stmts st.place ≡ Some stmt → (k.progress f).outcome ≡ None
+      → (a : Access) × (st.act ≡ Some a) → t.asked ≡ st.last.world.store.asked
+      → AtResult (k.progress f).public (k.progress f).stmt (shown f) (drop (k.progress f).asked (whole_of (k.progress f))) → BeforeMake p stmts seens asked asks st.ended
+  before_make f stmt at there going turn same result =
       let one = serve_at st.place f stmt at there in
       let n : (k.progress f).asked ≡ asked st.place = let a = place_asked f at in let b = ap length same in omega (arith, a, b) in
       record {
         place = st.place;
+        access = turn.0;
+        turn = next_asked turn.0 turn.1 same;
         stmt = stmt;
         seen = shown f;
         get = there;
@@ -155,13 +185,14 @@ module _ {R E F : Type 0} (state : R → RevState) (grew cut : E → E → List 
 
   -- the one that gave up prints, and it is the emitter's
   wanted : (f : F) (stmt : Stmt) (events : List Event) (between : E) → slice_get st.last.flyers st.place ≡ Some f → slice_get stmts st.place ≡ Some stmt → (k.progress f).outcome ≡ None
-      → HasHalted cut between out_new → LacksHere (k.progress f) st.last.world (at state v t) → Wanted st.place stmt (shown f) events between
-  wanted f stmt events between at there going halts (inl make) = inl (at_make make)
-  wanted f stmt events between at there going halts (inr (inl (same, result))) = inr (inl (before_make f stmt at there going same result))
-  wanted f stmt events between here there going halts (inr (inr (prints, emission))) =
+      → Turn f → (Turned st.place ⊎ (Ended st.place × (asked st.place ≡ length (script p (skeleton stmt) (shown f))))) → HasHalted cut between out_new → LacksHere (k.progress f) st.last.world (at state v t) → Wanted st.place stmt (shown f) events between
+  wanted f stmt events between at there going turn its halts (inl make) = inl (at_make make)
+  wanted f stmt events between at there going turn its halts (inr (inl (lacks, same, result))) = inr (inl (before_make f stmt at there going (turn lacks) same result))
+  wanted f stmt events between here there going turn its halts (inr (inr (prints, emission))) =
       let one = serve_at st.place f stmt here there in
       let n : (k.progress f).asked + more_asked st.last.world (at state v t) ≡ asked st.place = sym (place_asked f here) in
       inr (inr (inl (
+        its,
         subst (λ (x : ℕ). AtEmission p stmt (shown f) (drop x (whole_script p (skeleton stmt) (shown f)))) n
             (subst (λ (x : Public). AtEmission x stmt (shown f) (drop ((k.progress f).asked + more_asked st.last.world (at state v t)) (whole_script x (skeleton stmt) (shown f)))) one.public
             (subst (λ (x : Stmt). AtEmission (k.progress f).public x (shown f) (drop ((k.progress f).asked + more_asked st.last.world (at state v t)) (whole_script (k.progress f).public (skeleton x) (shown f)))) one.is emission)),
@@ -170,10 +201,10 @@ module _ {R E F : Type 0} (state : R → RevState) (grew cut : E → E → List 
 
   -- it doesn't print
   wanted_quiet : (f : F) (stmt other : Stmt) (seen : Seen) (place : ℕ) (events : List Event) (between : E) → slice_get st.last.flyers st.place ≡ Some f → slice_get stmts st.place ≡ Some stmt
-      → (k.progress f).outcome ≡ None → (k.progress f).prints ≡ false → LacksHere (k.progress f) st.last.world (at state v t) → Wanted place other seen events between
-  wanted_quiet f stmt other seen place events between at there going quiet (inl make) = inl (at_make make)
-  wanted_quiet f stmt other seen place events between at there going quiet (inr (inl (same, result))) = inr (inl (before_make f stmt at there going same result))
-  wanted_quiet f stmt other seen place events between at there going quiet (inr (inr (prints, emission))) = absurd (cc (quiet, prints))
+      → (k.progress f).outcome ≡ None → (k.progress f).prints ≡ false → Turn f → LacksHere (k.progress f) st.last.world (at state v t) → Wanted place other seen events between
+  wanted_quiet f stmt other seen place events between at there going quiet turn (inl make) = inl (at_make make)
+  wanted_quiet f stmt other seen place events between at there going quiet turn (inr (inl (lacks, same, result))) = inr (inl (before_make f stmt at there going (turn lacks) same result))
+  wanted_quiet f stmt other seen place events between at there going quiet turn (inr (inr (prints, emission))) = absurd (cc (quiet, prints))
 
   -- ---- what was emitted
   -- the first that has not ended
@@ -196,7 +227,13 @@ module _ {R E F : Type 0} (state : R → RevState) (grew cut : E → E → List 
       (stage.halted f _ _ part e st.last.world (at state v t) (hold_at st.place f here) halts one.set old.indexes.items tables (held_by f stmt tables st.last.world one (held tables reads)) reads.unfit)))
 
   abbrev Halted : Type 0
-  Halted = StopsFlight state grew cut closed parted stmts seens asked st.ended (halt_of e) old s new t out_old out_new
+  Halted = StopsFlight state grew cut closed parted words stmts seens st.ended (halt_of e) old s new t out_old out_new
+
+  its_step : StopsInStep k (taker_of grew cut closed parted) e st.ended st.current st.place st.act st.last now st.emitted.between st.out_last out_new → Turned st.place
+  its_step step = in_turn state grew cut closed parted k old s s1 rests stage steady_of stmts words share e flyers shares now boards out_old out_new st step
+
+  its_end : (f : F) → slice_get st.last.flyers st.place ≡ Some f → st.act ≡ None → st.place ≡ length st.ended → Ended st.place
+  its_end f at none first = in_end state grew cut closed parted k old s s1 rests stage steady_of stmts words share e flyers shares now boards out_old out_new st none first f at
 
   -- a step that prints
   halts_printing : (step : StopsInStep k (taker_of grew cut closed parted) e st.ended st.current st.place st.act st.last now st.emitted.between st.out_last out_new)
@@ -219,7 +256,7 @@ module _ {R E F : Type 0} (state : R → RevState) (grew cut : E → E → List 
         memory = λ none.
             let wants = memory_is e none in
             subst (λ (n : ℕ). Wanted n there.0 (shown f) (st.current ++ step.part) st.emitted.between) first
-            (wanted f there.0 (st.current ++ step.part) st.emitted.between step.at there.1 step.going
+            (wanted f there.0 (st.current ++ step.part) st.emitted.between step.at there.1 step.going (λ lacks. (step.stops.access, step.asks)) (inl (its_step step))
             (record { events = st.current ++ step.part; ends = subst (λ (x : OpErr). EndsBy grew cut x st.emitted.between out_new (st.current ++ step.part)) wants ends })
             (stage.memory f _ _ step.part st.last.world (at state v t) (hold_at st.place f step.at)
             (subst (λ (x : OpErr). k.Halts f (events_at st.ended st.current st.place) step.part x st.last.world (at state v t)) wants step.halts)
@@ -251,7 +288,7 @@ module _ {R E F : Type 0} (state : R → RevState) (grew cut : E → E → List 
             (partly_now k m stage steady_of old.public stmts words share start boards st.turn st.public st.ended st.current st.last st.aloft old.indexes.items tables (held tables reads) (length st.ended) g.0 other.0 g.1 other.1);
         memory = λ none.
             let wants = memory_is e none in
-            wanted_quiet f there.0 other.0 (shown g.0) (length st.ended) st.current st.emitted.between step.at there.1 step.going quiet
+            wanted_quiet f there.0 other.0 (shown g.0) (length st.ended) st.current st.emitted.between step.at there.1 step.going quiet (λ lacks. (step.stops.access, step.asks))
             (stage.memory f _ _ step.part st.last.world (at state v t) (hold_at st.place f step.at)
             (subst (λ (x : OpErr). k.Halts f (events_at st.ended st.current st.place) step.part x st.last.world (at state v t)) wants step.halts)
             (serve_at st.place f there.0 step.at there.1).set step.going);
@@ -279,7 +316,13 @@ module _ {R E F : Type 0} (state : R → RevState) (grew cut : E → E → List 
         memory = λ none.
             let wants = memory_is e none in
             subst (λ (n : ℕ). Wanted n there.0 (shown f) (st.current ++ fin.part) st.emitted.between) fin.first
-            (wanted f there.0 (st.current ++ fin.part) st.emitted.between fin.at there.1 (st.aloft.stand.outcome st.place f fin.at ∙ ap (outcome_at st.ended) fin.first ∙ outcome_next st.ended) (record { events = st.current ++ fin.part; ends = fin.ends })
+            (wanted f there.0 (st.current ++ fin.part) st.emitted.between fin.at there.1 (st.aloft.stand.outcome st.place f fin.at ∙ ap (outcome_at st.ended) fin.first ∙ outcome_next st.ended)
+            (λ lacks. let over = fin.over in absurd (cc (over, lacks)))
+            (inr (
+              its_end f fin.at fin.none fin.first,
+              (let all = place_asked f fin.at in let same = ap (λ (x : World). length x.store.asked) fin.world in omega (arith, all, same)) ∙ whole_at f there.0 fin.at there.1 fin.over,
+            ))
+            (record { events = st.current ++ fin.part; ends = fin.ends })
             (stage.memory f _ _ fin.part st.last.world (at state v t) (hold_at st.place f fin.at)
             (subst (λ (x : OpErr). k.Halts f (events_at st.ended st.current st.place) fin.part x st.last.world (at state v t)) wants halts)
             (serve_at st.place f there.0 fin.at there.1).set
@@ -311,10 +354,7 @@ module _ {R E F : Type 0} (state : R → RevState) (grew cut : E → E → List 
             (subst (λ (x : Stmt). EndsAs (k.progress f).public m (k.progress f).asked x (shown f) clo.outcome) one.is
             (subst (λ (x : Progress). IsFlown x.public m x.asked x.stmt x.served.seen (closed_of x.outcome clo.events)) answered (stage.stands clo.after _ _ _ clo.holds set))));
         whole =
-            sym long
-            ∙ all_now k m stage steady_of old.public stmts words share start boards st.turn st.public st.ended st.current st.last st.aloft st.place f clo.at 0
-            (stage.over f _ _ _ (hold_at st.place f clo.at) clo.over 0)
-            ∙ ap (λ (sk : Skeleton). length (script p sk (shown f))) (stage.outline f (k.progress f).served (stage.served f _ _ _ (hold_at st.place f clo.at)) ∙ ap skeleton one.is);
+            sym long ∙ whole_at f stmt clo.at there clo.over;
         emits =
             subst (λ (x : Public). Emits stmt (answer_labels stmt x) clo.outcome clo.events) after.public
             (subst (λ (x : Stmt). Emits x (answer_labels x (k.progress clo.after).public) clo.outcome clo.events) after.is (stage.emits clo.after _ _ _ clo.holds set clo.outcome some));
@@ -362,13 +402,16 @@ module _ {R E F : Type 0} (state : R → RevState) (grew cut : E → E → List 
             subst (λ (x : Public). Partly (answer_labels there.0 x) (verdict x m tables there.0) clo.events) after.public
             (subst (λ (x : Stmt). Partly (answer_labels x (k.progress clo.after).public) (verdict (k.progress clo.after).public m tables x) clo.events) after.is
             (stage.partly clo.after _ _ _ clo.holds after.set old.indexes.items tables (held_by clo.after there.0 tables (at state v t) after here)));
-        memory = λ none. inr (inr (inr (record {
-          outcome = clo.outcome;
-          ends = closing_so clo there.0 there.1;
-          between = clo.took;
-          took = clo.grew;
-          parts = subst (λ (n : ℕ). parted clo.took out_new n clo.outcome) clo.first clo.parted;
-        })));
+        memory = λ none. inr (inr (inr (
+          subst (λ (n : ℕ). Ended n) clo.first (its_end f clo.at clo.none clo.first),
+          record {
+            outcome = clo.outcome;
+            ends = closing_so clo there.0 there.1;
+            between = clo.took;
+            took = clo.grew;
+            parts = subst (λ (n : ℕ). parted clo.took out_new n clo.outcome) clo.first clo.parted;
+          },
+        )));
       }
 
   halted : Halted
@@ -446,6 +489,23 @@ module _ {R E F : Type 0} (state : R → RevState) (grew cut : E → E → List 
     goes_on = refl;
   }
 
+  -- as they were before the act that gave up, in the world behind it
+  abbrev behind : Moment F
+  behind = moment st.last.flyers st.last.kept (at state v t)
+
+  by_last : map (λ (f : F). (k.progress f).served) st.last.flyers ≡ served_as stmts (map (λ (f : F). (k.progress f).served.seen) st.last.flyers)
+  by_last = served_now k m stage steady_of old.public stmts words share start boards st.turn st.public st.ended st.current st.last st.aloft
+
+  -- one that has ended asked nothing since
+  asked_ended : (i : ℕ) (f : F) (one : Closed) → slice_get st.last.flyers i ≡ Some f → slice_get st.ended i ≡ Some one → asked i ≡ (k.progress f).asked
+  asked_ended i f one at has = elim (asked_of state grew cut closed parted k old s s1 rests stage steady_of stmts words share e flyers shares now boards out_old out_new st i f at) [
+    | inl same ↦ same.asked
+    | inr more ↦
+        let going : (k.progress f).outcome ≡ None = ap (λ (g : F). (k.progress g).outcome) more.same ∙ more.one.step.going in
+        let none = none_ended state grew cut closed parted faults k old s s1 agrees rests stage steady_of stmts words left share e flyers fs shares kept v room t free boards out_old out_new st i f at going in
+        absurd (cc (none, has))
+  ]
+
   means_until : (T : Type 0) → FlightMeans {T = T} state words stmts seens asked
       (λ i. asked_by old.public words stmts seens (done_of (is_refused (halt_of e)) (asked_since s t)) i) st.ended (Err (halt_of e)) old s new t
   means_until T = record {
@@ -457,10 +517,21 @@ module _ {R E F : Type 0} (state : R → RevState) (grew cut : E → E → List 
     honest = λ tables reads. not_tampered e (honest_by tables reads);
     begun = λ tables d reads lie is.
         let b = st.begun (rests.lie ∙ reads.nolie) lie is in
-        subst (λ (xs : List Seen). BeginsMeant old.public m d tables stmts xs words s.asked lie)
-        (same_seen state grew cut closed parted k old s s1 rests stage steady_of stmts words share e flyers shares now boards out_old out_new st)
-        (begins_meant k m stage steady_of old.public stmts words share start now boards st.public lie b old.indexes.items tables d
-        (hold_now state old s s1 agrees rests b.last.world b.aloft.rest.lasts tables reads.tells reads.held b.none) s.asked rests.asked);
+        begins_meant k m stage steady_of old.public stmts words share start behind boards st.public b.turn st.ended b.stood old.indexes.items tables d
+        (hold_now state old s s1 agrees rests b.stood.last.world b.stood.aloft.rest.lasts tables reads.tells reads.held b.none) lie b.reads s.asked rests.asked;
+    earlier = λ i n stmt seen one there shown_there has within.
+        let f = get_mapped (λ (f : F). (k.progress f).served.seen) st.last.flyers i seen shown_there in
+        let all = may_now k m stage steady_of old.public stmts words share start boards st.turn st.public st.ended st.current st.last st.aloft in
+        let there_within : EndedWithin old.public (map (λ (f : F). (k.progress f).served) st.last.flyers) words n i = subst (λ (xs : List Served). EndedWithin old.public xs words n i) (sym by_last) within in
+        subst (λ (x : ℕ). MeantThen state stmts x n stmt seen one old s t) (sym (asked_ended i f.0 one f.1 has))
+        (subst (λ (x : Seen). MeantThen state stmts (k.progress f.0).asked n stmt x one old s t) f.2
+        (meant_then state k old s s1 agrees rests stage steady_of stmts words share flyers shares boards st.public st.turn st.ended behind st.past st.begun all i n there_within f.0 stmt one f.1 there has
+        (turned_now k m stage steady_of old.public stmts words share start boards st.turn st.public st.ended st.current st.last st.aloft) (st.aloft.stand.outcome i f.0 f.1)));
+    asks = λ n less.
+        let all = may_now k m stage steady_of old.public stmts words share start boards st.turn st.public st.ended st.current st.last st.aloft in
+        let many = asked_most state grew cut closed parted k old s s1 rests stage steady_of stmts words share e flyers shares now boards out_old out_new st in
+        asks_meant state k old s s1 agrees rests stage steady_of stmts words share flyers shares boards st.public st.turn st.ended behind st.past st.begun all
+        (steady_now k m stage steady_of old.public stmts words share start boards st.turn st.public st.ended st.current st.last st.aloft) (st.turn + 1) n st.went (omega (arith, less, many)) seens by_last;
   }
 
   pub flight_halted : (T : Type 0) → SinkCause {T = T} (Err e) (faults out_old) (faults out_new) → old.room.high ≤ room.high → 1 ≤ room.high

@@ -75,16 +75,6 @@ served_long [] seens same = refl
 served_long (stmt ∷ stmts) [] same = absurd (cc same)
 served_long (stmt ∷ stmts) (seen ∷ seens) same = ap suc (served_long stmts seens (cc same))
 
-pub served_get : (stmts : List Stmt) (seens : List Seen) (i : ℕ) (stmt : Stmt) (seen : Seen) → slice_get stmts i ≡ Some stmt → slice_get seens i ≡ Some seen
-    → slice_get (served_as stmts seens) i ≡ Some (record { skeleton = skeleton stmt; seen = seen })
-served_get [] seens i stmt seen at shown = absurd (cc at)
-served_get (s ∷ stmts) [] i stmt seen at shown = absurd (cc shown)
-served_get (s ∷ stmts) (x ∷ seens) zero stmt seen at shown =
-    let one : s ≡ stmt = same_Some s stmt at in
-    let two : x ≡ seen = same_Some x seen shown in
-    λ j. Some (record { skeleton = skeleton (one j); seen = two j })
-served_get (s ∷ stmts) (x ∷ seens) (suc i) stmt seen at shown = served_get stmts seens i stmt seen at shown
-
 -- ---- a flight as it begins
 pub sets_off : (p q : Public) (n next : ℕ) (xs : List Served) → q ≡ flight_public n p → length xs ≡ n → next ≡ p.next_region → setting_off q next xs ≡ boarding p xs
 sets_off p q n next xs same long is =

@@ -29,7 +29,7 @@ use Rattle.ob_vault.specs.State.{World}
 use Rattle.ob_verdict.proofs.LawfulProof.{same_script}
 use Rattle.ob_verdict.proofs.SeenProof.{started-unread}
 use Rattle.ob_verdict.specs.Outcomes.{refusal_now}
-use Rattle.ob_exec.specs.InFlight.{StandsAs}
+use Rattle.ob_mean.specs.Standing.{StandsAs}
 
 -- ---- one access more
 module _ (p : Public) (m : ℕ) (stmt : Stmt) (seen : Seen) (a : ℕ) where

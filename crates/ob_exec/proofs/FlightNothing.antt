@@ -242,7 +242,7 @@ module _ {R E : Type 0} (state : R → RevState) (grew cut : E → E → List Ev
     goes_on = refl;
   }
 
-  stops_first : StopsFlight state grew cut closed parted stmts seens (asked_by p words stmts seens (asked_since s s1)) [] Stops.NoMemory old s new s1 out out
+  stops_first : StopsFlight state grew cut closed parted words stmts seens [] Stops.NoMemory old s new s1 out out
   stops_first =
       let first = get_first stmts (let some = flown.some in omega (arith, some)) in
       record {
@@ -284,5 +284,7 @@ module _ {R E : Type 0} (state : R → RevState) (grew cut : E → E → List Ev
       held = λ tables reads. tt;
       honest = λ tables reads. refl;
       begun = λ tables d reads lie is. absurd (let none = reads.nolie in let same = rests.lie in cc (none, same, is));
+      earlier = λ i n stmt seen one there shown has within. absurd (cc has);
+      asks = λ n less. absurd (let same = ap length rests.asked in omega (arith, same, less));
     };
   }

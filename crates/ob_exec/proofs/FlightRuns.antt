@@ -20,7 +20,7 @@ use Rattle.ob_script.specs.Flights.{AreSteady, Flight, accesses_in, asked_at, bo
 use Rattle.ob_script.specs.Script.{script}
 use Rattle.ob_script.specs.Trace.{Served}
 use Rattle.ob_script.proofs.FlightLemmas.{flown_in_order}
-use Rattle.ob_script.proofs.FlightEnds.{acts_are_all, acts_within, ended_is_flight, first_of_merge, own_long}
+use Rattle.ob_script.proofs.FlightEnds.{acts_are_all, ended_is_flight, first_of_merge, own_long}
 use Rattle.ob_emit.specs.Emitting.{labels_of}
 use Rattle.ob_sql.specs.Skeleton.{skeleton}
 use Rattle.ob_sql.specs.declared.stmt.Stmt.TheVariants.{SelectRows as RowsStmt}
@@ -159,10 +159,6 @@ module _ {F : Type 0} (k : Kind F) (m : ℕ) (stage : IsStage k m) (steady_of : 
 
   acts_now : acts_in (turns words n (boarding p (map (λ (f : F). (k.progress f).served) now.flyers))).flying ≡ n
   acts_now = ap (λ (s : Flight). acts_in s.flying) turned_now ∙ acts_same k served now.flyers ∙ aloft.turned.acts
-
-  -- none of the turns was in vain
-  pub turns_within : n ≤ turns_of p (map (λ (f : F). (k.progress f).served) now.flyers)
-  turns_within = acts_within p by_now words steady_now n acts_now
 
   -- each asked so many by itself
   pub own_now : (i : ℕ) (f : F) → slice_get now.flyers i ≡ Some f → length (own i aloft.turned.log) ≡ (k.progress f).asked

@@ -82,11 +82,11 @@ pub record AsksMake (w v : World) : Type 0 where
   pub make : IsTrue (is_make access)
   pub asked : v.store.asked ≡ w.store.asked ++ access ∷ []
 
--- where a statement wants memory: at a make, before that of its result, or where it prints
+-- where a statement wants memory: at a make, before that of its result, where it is yet to ask, or where it prints
 abbrev pub LacksHere : Progress → (w v : World) → Type 0
 LacksHere pr w v =
     AsksMake w v
-    ⊎ ((v.store.asked ≡ w.store.asked)
+    ⊎ ((pr.over ≡ false) × (v.store.asked ≡ w.store.asked)
     × AtResult pr.public pr.stmt pr.served.seen (drop pr.asked (whole_of pr)))
     ⊎ ((pr.prints ≡ true)
     × AtEmission pr.public pr.stmt pr.served.seen (drop (pr.asked + more_asked w v) (whole_of pr)))

@@ -1,6 +1,6 @@
 -- A flight that was stopped.
 use Rattle.std.proofs.Common.{◌≡◌, ◌⊎◌, ◌≤◌, ◌<◌, ◌++◌, ℕ, Bool, true, false, IsTrue, List, [], ◌∷◌, map, length, Option, Some, None, Err, refl, sym, ◌∙◌, ap, subst, inl, inr, arith, length-append}
-use Rattle.std.specs.Prelude.{IfErr, drop, slice_get, take}
+use Rattle.std.specs.Prelude.{drop, slice_get}
 use Rattle.std.proofs.lemmas.List.{length-map}
 use Rattle.ob_base.specs.Events.{Event}
 use Rattle.ob_base.specs.declared.access.Access.{Access}
@@ -17,7 +17,6 @@ use Rattle.ob_flat.specs.Passes.{PassCause, SinkCause}
 use Rattle.ob_inflight.specs.Answers.{EndsBy, error_of}
 use Rattle.ob_inflight.specs.Closing.{Closed, events_at}
 use Rattle.ob_inflight.specs.Flown as Flown
-use Rattle.ob_inflight.specs.Flown.{StopsInClosing, StopsInFinish, StopsInStep}
 use Rattle.ob_inflight.specs.Kinds.{Kind, Moment, share_at, taker_of}
 use Rattle.ob_inflight.specs.Progress.{act_of}
 use Rattle.ob_mean.specs.Lawful.{Lawful}
@@ -46,15 +45,16 @@ use Rattle.ob_vault.specs.Tied.{Calm, IsUnfit}
 use Rattle.ob_vault.specs.declared.vault.Vault.{Vault}
 use Rattle.ob_verdict.specs.Outcomes.{refusal_now}
 use Rattle.ob_verdict.specs.declared.outcome.Outcome.{Outcome}
-use Rattle.ob_exec.specs.InFlight.{IsFlown, IsMeant, StandsAs, StandsMeant}
+use Rattle.ob_exec.specs.InFlight.{IsFlown, IsMeant}
 use Rattle.ob_exec.specs.RanFlight.{FlightCause, StopsClosing, asked_by, asked_since, halt_of, in_flight}
 use Rattle.ob_exec.specs.Boarding.{engine_behind}
 use Rattle.ob_exec.proofs.FlightFrames.{calm_start, hold_now}
-use Rattle.ob_exec.proofs.FlightLists.{cuts_same, events_next, get_mapped, get_other, none_past, past_ended}
+use Rattle.ob_exec.proofs.FlightLists.{get_mapped, get_other}
 use Rattle.ob_exec.proofs.FlightMore.{asks_within, ends_whole, held_more, meant_single, meant_unread, stands_more}
 use Rattle.ob_exec.proofs.FlightRuns.{Boards, ServesOne, as_many, closed_now, flown_now, meant_now, steady_now, they_hold, they_serve}
 use Rattle.ob_exec.proofs.FlightStage.{HoldNow, IsStage, closed_of}
 use Rattle.ob_exec.proofs.FlightStops.{AskedOneMore, asked_of, no_access}
+use Rattle.ob_mean.specs.Standing.{StandsAs, StandsMeant}
 
 -- ---- plain facts
 -- one that may be seen of a statement that is cut off isn't refused before any access

@@ -1,7 +1,7 @@
 -- Whose the accesses are that were asked until a flight was stopped.
-use Rattle.std.proofs.Common.{◌≡◌, ◌⊎◌, ◌<◌, ◌+◌, ◌-◌, ◌++◌, ℕ, Bool, true, false, IsTrue, List, [], ◌∷◌, map, length, Option, Some, refl, sym, ◌∙◌, ap, subst, inl, inr, arith, append_assoc, length-append}
+use Rattle.std.proofs.Common.{◌≡◌, ◌⊎◌, ◌<◌, ◌≤◌, ◌+◌, ◌-◌, ◌++◌, ℕ, Bool, true, false, IsTrue, List, [], ◌∷◌, map, length, Option, Some, None, refl, sym, ◌∙◌, ap, subst, inl, inr, arith, append_assoc, length-append}
 use Rattle.std.specs.Prelude.{is_some, nat_lt, slice_get, take}
-use Rattle.std.proofs.lemmas.Bool.{cases_eq}
+use Rattle.std.proofs.lemmas.Bool.{cases_eq, cases_lt, false≢true}
 use Rattle.std.proofs.lemmas.List.{append-nil, length-map, map-append}
 use Rattle.ob_base.specs.Events.{Event}
 use Rattle.ob_base.specs.declared.access.Access.{Access}
@@ -16,12 +16,15 @@ use Rattle.ob_inflight.specs.Answers.{error_of}
 use Rattle.ob_inflight.specs.Flown.{StopsInStep}
 use Rattle.ob_inflight.specs.Flown as Flown
 use Rattle.ob_inflight.specs.Kinds.{Kind, Moment, taker_of}
+use Rattle.ob_inflight.specs.Progress.{flying_of}
 use Rattle.ob_mean.specs.Replay.{done_of}
-use Rattle.ob_script.specs.FlightLaws.{AllMayFly}
-use Rattle.ob_script.specs.Flights.{AreSteady, Flight, Flying, accesses_in, boarding, entry_of, flight, merge, own, turns}
+use Rattle.ob_script.specs.FlightLaws.{AllMayFly, PicksOne}
+use Rattle.ob_script.specs.Flights.{AreSteady, Flight, Flying, accesses_in, acted, boarding, entry_of, flight, merge, next_act, own, prints, turns, own_asked}
 use Rattle.ob_script.specs.Trace.{Served}
 use Rattle.ob_script.proofs.FlightEnds.{first_of_merge}
 use Rattle.ob_script.proofs.FlightLemmas.{own_append, own_entry, own_other}
+use Rattle.ob_script.proofs.FlightTurns.{goes_or_rests, turns_more}
+use Rattle.ob_script.proofs.ListPlaces.{get_set_same, get_take}
 use Rattle.ob_sql.specs.declared.stmt.Stmt.{Stmt}
 use Rattle.ob_store.specs.Calls.{ChangesNothing}
 use Rattle.ob_store.specs.State.{StoreState}
@@ -30,10 +33,10 @@ use Rattle.ob_tables.specs.Telling.{is_refused}
 use Rattle.ob_tables.specs.declared.engine.Engine.{Engine}
 use Rattle.ob_vault.specs.State.{RevState, World}
 use Rattle.ob_verdict.specs.declared.outcome.Outcome.{Outcome}
-use Rattle.ob_exec.specs.InFlight.{own_asked, served_as}
-use Rattle.ob_exec.specs.RanFlight.{StopsInTurn, asked_by, asked_since, halt_of}
+use Rattle.ob_exec.specs.InFlight.{served_as}
+use Rattle.ob_exec.specs.RanFlight.{EndedWithin, InEnd, InTurn, StopsInTurn, asked_by, asked_next, asked_since, halt_of}
 use Rattle.ob_exec.proofs.FlightEnd.{since_long}
-use Rattle.ob_exec.proofs.FlightLists.{flying_back, log_first, map_put}
+use Rattle.ob_exec.proofs.FlightLists.{flying_back, flying_get, log_first, map_put}
 use Rattle.ob_exec.proofs.FlightRuns.{Boards, as_many, first_now, may_now, merged_now, own_now, served_now, sets_now, steady_now, turned_now}
 use Rattle.ob_exec.proofs.FlightTurned.{ended_below}
 use Rattle.ob_exec.proofs.FlightStage.{IsStage, more_asked}
@@ -46,6 +49,22 @@ own_same : (i j : ℕ) (log : List (ℕ × Access)) (a : Access) → i ≡ j →
 own_same i j log a same =
     ap (λ (x : ℕ). length (own i (log ++ (x, a) ∷ []))) (sym same)
     ∙ ap length (own_append i log ((i, a) ∷ []) ∙ ap (λ (l : List Access). own i log ++ l) (own_entry i a)) ∙ length-append (own i log) (a ∷ [])
+
+-- the last of some
+get_last : {A : Type 0} (xs : List A) (x : A) → slice_get (xs ++ x ∷ []) (length xs) ≡ Some x
+get_last [] x = refl
+get_last (y ∷ ys) x = get_last ys x
+
+-- a turn that asks nothing is an end
+no_entry : (i : ℕ) (o : Option Access) → length (entry_of i o) ≡ 0 → o ≡ None
+no_entry i None none = refl
+no_entry i (Some a) none = absurd (omega (arith, none))
+
+below_so : (i n : ℕ) → i < n → nat_lt i n ≡ true
+below_so i n less = grind arith
+
+never_self : (n : ℕ) → nat_lt n n ≡ false
+never_self n = grind arith
 
 -- a part of one access is nothing, or that one
 none_or_one : (done rest : List Access) (a : Access) → done ++ rest ≡ a ∷ [] → (done ≡ []) ⊎ (done ≡ a ∷ [])
@@ -98,13 +117,6 @@ module _ {R E F : Type 0} (state : R → RevState) (grew cut : E → E → List 
   Stepped = StopsInStep k (taker_of grew cut closed parted) e st.ended st.current st.place st.act st.last now st.emitted.between st.out_last out_new
 
   -- ---- what is seen
-  pub same_served : map (λ (f : F). (k.progress f).served) now.flyers ≡ map (λ (f : F). (k.progress f).served) st.last.flyers
-  same_served = elim st.by [
-    | inl step ↦ ap (map (λ (f : F). (k.progress f).served)) step.flyers ∙ map_put (λ (f : F). (k.progress f).served) last.flyers st.place step.before step.after step.at step.stops.stays.served
-    | inr (inl fin) ↦ ap (map (λ (f : F). (k.progress f).served)) fin.flyers ∙ map_put (λ (f : F). (k.progress f).served) last.flyers st.place fin.before fin.after fin.at (ap (λ (x : _). x.served) fin.same)
-    | inr (inr clo) ↦ ap (map (λ (f : F). (k.progress f).served)) clo.flyers ∙ map_put (λ (f : F). (k.progress f).served) last.flyers st.place clo.before clo.after clo.at (ap (λ (x : _). x.served) clo.answered)
-  ]
-
   pub same_seen : map (λ (f : F). (k.progress f).served.seen) now.flyers ≡ map (λ (f : F). (k.progress f).served.seen) st.last.flyers
   same_seen = elim st.by [
     | inl step ↦ ap (map (λ (f : F). (k.progress f).served.seen)) step.flyers ∙ map_put (λ (f : F). (k.progress f).served.seen) last.flyers st.place step.before step.after step.at (ap (λ (x : Served). x.seen) step.stops.stays.served)
@@ -178,6 +190,17 @@ module _ {R E F : Type 0} (state : R → RevState) (grew cut : E → E → List 
       let here : (turns words (st.turn + 1) (boarding old.public by_last)).log ≡ log ++ (st.place, a) ∷ [] = log_more ∙ ap (λ (o : Option Access). log ++ entry_of st.place o) is in
       let n : length (turns words (st.turn + 1) (boarding old.public by_last)).log ≡ length log + 1 = ap length here ∙ length-append log ((st.place, a) ∷ []) in
       ap (λ (x : ℕ). take x (flight old.public by_last words).log) (sym n) ∙ sym (log_first old.public by_last words steady (st.turn + 1)) ∙ here
+
+  -- whose it is, and which
+  pub next_one_asks : (a : Access) → st.act ≡ Some a → now.world.store.asked ≡ st.last.world.store.asked
+      → asked_next old.public words stmts (map (λ (f : F). (k.progress f).served.seen) st.last.flyers) (asked_since s now.world.store) ≡ Some (st.place, a)
+  next_one_asks a is same =
+      let n : asked_since s now.world.store ≡ length log = since_long s t (accesses_in log) (same ∙ asked_last) ∙ log_long in
+      ap (λ (flown : List Served). slice_get (flight old.public flown words).log (asked_since s now.world.store)) stop_served
+      ∙ ap (slice_get (flight old.public by_last words).log) n
+      ∙ sym (get_take (flight old.public by_last words).log (length log + 1) (length log) (omega arith))
+      ∙ ap (λ (l : List (ℕ × Access)). slice_get l (length log)) (take_one a is)
+      ∙ get_last log (st.place, a)
 
   merged_one : (a : Access) → st.act ≡ Some a → accesses_in log ++ a ∷ [] ≡ take (length log + 1) (merge old.public by_last words)
   merged_one a is =
@@ -339,6 +362,12 @@ module _ {R E F : Type 0} (state : R → RevState) (grew cut : E → E → List 
   long_next : length (turns words (st.turn + 1) (boarding old.public (map (λ (f : F). (k.progress f).served) st.last.flyers))).log ≡ length st.aloft.turned.log + length (entry_of st.place st.act)
   long_next = ap length log_more ∙ length-append st.aloft.turned.log (entry_of st.place st.act)
 
+  pub asked_most : asked_since s now.world.store ≤ length (turns words (st.turn + 1) (boarding old.public (map (λ (f : F). (k.progress f).served) st.last.flyers))).log
+  asked_most = elim asked_more [
+    | inl none ↦ let n = many_none none in let b = long_next in omega (arith, n, b)
+    | inr one ↦ let n = many_one one in let b = long_next in let act = ap (λ (o : Option Access). length (entry_of st.place o)) one.step.asks in omega (arith, n, b, act)
+  ]
+
   pub stops_turn : StopsInTurn old.public (served_as stmts (map (λ (f : F). (k.progress f).served.seen) st.last.flyers)) words (asked_since s now.world.store) (length st.ended)
   stops_turn =
       subst (λ (flown : List Served). StopsInTurn old.public flown words (asked_since s now.world.store) (length st.ended)) (sym stop_served)
@@ -346,13 +375,78 @@ module _ {R E F : Type 0} (state : R → RevState) (grew cut : E → E → List 
         | inl none ↦ record {
           turn = st.turn;
           least = let n = many_none none in let a = long_now in omega (arith, n, a);
-          most = let n = many_none none in let b = long_next in omega (arith, n, b);
+          most = asked_most;
           ended = ended_last;
         }
         | inr one ↦ record {
           turn = st.turn;
           least = let n = many_one one in let a = long_now in omega (arith, n, a);
-          most = let n = many_one one in let b = long_next in let act = ap (λ (o : Option Access). length (entry_of st.place o)) one.step.asks in omega (arith, n, b, act);
+          most = asked_most;
           ended = ended_last;
         }
       ])
+
+  -- ---- whose turn it was
+  -- its step gave up: behind its access, or before that
+  pub in_turn : Stepped → InTurn old.public words stmts (map (λ (f : F). (k.progress f).served.seen) st.last.flyers) (asked_since s now.world.store) st.place
+  in_turn step = elim asked_more [
+    | inl none ↦ inr (step.stops.access, next_one_asks step.stops.access step.asks none.asked)
+    | inr one ↦
+        let less : asked_since s now.world.store - 1 ≡ length log = let n = many_one one in omega (arith, n) in
+        let before = ap (λ (n : ℕ). asked_by old.public words stmts (map (λ (f : F). (k.progress f).served.seen) st.last.flyers) n st.place) less ∙ own_of st.place (length log) log take_last in
+        let after = asked_own one st.place ∙ own_same st.place st.place log one.step.stops.access refl in
+        inl (omega (arith, before, after))
+  ]
+
+  abbrev by_then : Flight
+  by_then = turns words st.turn (boarding old.public by_last)
+
+  -- where nothing was asked the first that hadn't ended did
+  module _ (none : st.act ≡ None) (first : st.place ≡ length st.ended) where
+    logs_none : length (turns words (st.turn + 1) (boarding old.public by_last)).log ≡ length log
+    logs_none = let n = long_next in let nothing = ap (λ (o : Option Access). length (entry_of st.place o)) none in omega (arith, n, nothing)
+
+    going_on : (x : Flying) → slice_get by_then.flying st.place ≡ Some x → x.ended ≡ false
+    going_on x at = ended_last st.place x at ∙ ap (λ (n : ℕ). nat_lt n (length st.ended)) first ∙ never_self (length st.ended)
+
+    ends_in : (f : F) → slice_get st.last.flyers st.place ≡ Some f → EndedWithin old.public by_last words (length log) st.place
+    ends_in f at =
+        let x : Flying = flying_of (k.progress f) (k.progress f).served in
+        let there : slice_get by_then.flying st.place ≡ Some x = ap (λ (r : Flight). slice_get r.flying st.place) turned ∙ flying_get k (λ (f : F). (k.progress f).served) st.last.flyers st.place f at in
+        elim (goes_or_rests (words st.turn) by_then) [
+          | inl all ↦ absurd (false≢true (sym (going_on x there) ∙ all.each st.place x there))
+          | inr one ↦ picked_end one x there
+        ]
+      where
+        picked_end : (one : PicksOne (words st.turn) by_then) (x : Flying) → slice_get by_then.flying st.place ≡ Some x → EndedWithin old.public by_last words (length log) st.place
+        picked_end one x there =
+            let g = one.flying in
+            let act = next_act by_then.public g in
+            let after = turns_more words st.turn (boarding old.public by_last) ∙ one.picks.turn in
+            let size = ap (λ (r : Flight). length r.log) after ∙ length-append by_then.log (entry_of one.place act) in
+            let quiet : act ≡ None = no_entry one.place act (let n = logs_none in let m = long_now in omega (arith, n, m, size)) in
+            let printing : prints g.region act ≡ true = ap (prints g.region) quiet in
+            let here : one.place ≡ st.place = elim (cases_lt one.place st.place) [
+              | inl before ↦ absurd (false≢true (sym one.picks.goes_on ∙ ended_last one.place g one.picks.at ∙ below_so one.place (length st.ended) (omega (arith, before, first))))
+              | inr past ↦ elim (cases_lt st.place one.place) [
+                | inl behind ↦ absurd (false≢true (sym (going_on x there) ∙ one.picks.first printing st.place x behind there))
+                | inr same ↦ omega (arith, past, same)
+              ]
+            ] in
+            record {
+              turn = st.turn + 1;
+              one = acted act g;
+              at = subst (λ (i : ℕ). slice_get (turns words (st.turn + 1) (boarding old.public by_last)).flying i ≡ Some (acted act g)) here
+                  (ap (λ (r : Flight). slice_get r.flying one.place) after ∙ get_set_same by_then.flying one.place g (acted act g) one.picks.at);
+              ended = ap (λ (o : Option Access). (acted o g).ended) quiet;
+              within = let n = logs_none in omega (arith, n);
+            }
+
+    pub in_end : (f : F) → slice_get st.last.flyers st.place ≡ Some f
+        → InEnd old.public words stmts (map (λ (f : F). (k.progress f).served.seen) st.last.flyers) (asked_since s now.world.store) st.place
+    in_end f at = elim asked_more [
+      | inl quiet ↦
+          subst (λ (flown : List Served). EndedWithin old.public flown words (asked_since s now.world.store) st.place) (sym stop_served)
+          (subst (λ (n : ℕ). EndedWithin old.public by_last words n st.place) (sym (many_none quiet)) (ends_in f at))
+      | inr one ↦ absurd (let asks = one.step.asks in cc (none, asks))
+    ]

@@ -36,6 +36,7 @@ pub mod FlightLists
 pub mod FlightRuns
 pub mod FlightFrames
 pub mod FlightBegun
+pub mod FlightEarlier
 pub mod FlightEnd
 pub mod FlightMore
 pub mod FlightTurned

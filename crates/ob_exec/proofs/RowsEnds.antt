@@ -22,7 +22,6 @@ use Rattle.ob_select.specs.declared.selecting.Selected.TheVariants.{Rows, Refuse
 use Rattle.ob_tables.specs.Agreeing.{Agrees, world_of, count_of}
 use Rattle.ob_tables.specs.Running.{is_fault}
 use Rattle.ob_verdict.specs.Outcomes.{refusal_now, by_fault, IsBegunAnswer}
-use Rattle.ob_tables.proofs.EmitLemmas.{are_rows}
 use Rattle.ob_select.specs.Selecting.{answer_events, selection_answer, emitted_unless, places, shown_rows}
 use Rattle.ob_tables.specs.Serving.{Answered, Serves}
 use Rattle.ob_exec.specs.Sources.{EndsRows, IsFew, UsesRoomFor, closing, selected_outcome, selection, slots_of}
@@ -33,6 +32,7 @@ use Rattle.ob_exec.proofs.RowsRun.{rows_after, rows_ran}
 use Rattle.ob_exec.proofs.RowsStops.{IsSource, early, early_none, flat, headed, rows_begun, rows_of, still_held, to_end}
 use Rattle.ob_tables.proofs.RunLemmas.{of_other}
 use Rattle.ob_exec.proofs.RowsReach.{as_rows, as_refused}
+use Rattle.ob_verdict.proofs.RowEvents.{are_rows}
 
 either_way : (labels : List (List ℕ)) (failed : Bool) → by_fault failed (IsBegunAnswer labels []) (◌≡◌ {A = List Event} [] [])
 either_way labels true = record { rows = []; are_rows = refl; is = inl refl }

@@ -45,7 +45,7 @@ use Rattle.ob_select.specs.Selecting.{MayHold, SealsRows, answer_events, selecti
 use Rattle.ob_tables.specs.Serving.{Answered, StopsEmission, Serves, Stopped}
 use Rattle.ob_select.specs.Halting.{EmitsUntil, TakesPart}
 use Rattle.ob_select.specs.Memory.{HasHalted}
-use Rattle.ob_tables.proofs.EmitLemmas.{are_rows, lie_none}
+use Rattle.ob_tables.proofs.EmitLemmas.{lie_none}
 use Rattle.ob_select.proofs.UntilLemmas.{until_failed, until_more}
 use Rattle.ob_exec.specs.Sources.{HaltsRows, HoldsRows, LacksRowMemory, LeavesNone, ReachesRows, ReadsMeant, SourceToEnd, SourceToHalt, UsesRoomFor, closing, rows_script, rows_skeleton, selection, slots_of}
 use Rattle.ob_tables.specs.Telling.{IsNotTampered, ReadsTrue, ReadsTrueUntil, Represents, SeenCut, Told, answer_labels, is_refused, meant_script}
@@ -61,6 +61,7 @@ use Rattle.ob_tables.specs.Engines.{others_of}
 use Rattle.ob_tables.proofs.TableLemmas.{beside_below, region_below}
 use Rattle.ob_tables.proofs.ToldLemmas.{early_held}
 use Rattle.ob_tables.proofs.RunLemmas.{no_access, only_memory}
+use Rattle.ob_verdict.proofs.RowEvents.{are_rows}
 
 pub unfit_none : (w : World) → w.store.lie ≡ None → IsUnfit w
 unfit_none w none = record { unfit = λ lie is. absurd (cc (is, none)) }

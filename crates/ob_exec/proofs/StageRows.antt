@@ -34,7 +34,6 @@ use Rattle.ob_sql.specs.declared.stmt.Stmt.{Stmt}
 use Rattle.ob_sql.specs.declared.stmt.Stmt.TheVariants.{SelectRows as RowsStmt}
 use Rattle.ob_tables.specs.Running.{RefusedEarly}
 use Rattle.ob_tables.specs.Telling.{answer_labels}
-use Rattle.ob_tables.proofs.EmitLemmas.{are_rows}
 use Rattle.ob_vault.specs.State.{World}
 use Rattle.ob_verdict.proofs.LawfulProof.{same_script}
 use Rattle.ob_verdict.specs.Outcomes.{Emits, refusal_now}
@@ -52,6 +51,8 @@ use Rattle.ob_stages.proofs.RowsKnown.{rows_end}
 use Rattle.ob_exec.proofs.RowsOfTable.{capacity_of, count_of_table, schema_of}
 use Rattle.ob_exec.proofs.RowsTable.{stated_is}
 use Rattle.ob_exec.proofs.StageReading.{head_is}
+use Rattle.ob_mean.specs.Standing.{StandsAs}
+use Rattle.ob_verdict.proofs.RowEvents.{are_rows}
 
 -- ---- plain facts
 -- a source of one table
@@ -283,10 +284,10 @@ module _ (g : RowsAt) (m : ℕ) (kept : List (List ℕ)) (events : List Event) (
   stands_by failed (Some o) fails outcome = answer_stands o (answers o outcome)
   stands_by false None fails outcome =
       let end : g.seen.end ≡ Whole = rows_end g is.placed ∙ ap (λ (b : Bool). if b then Cut g.asked else Whole) fails in
-      subst (λ (x : End). F.StandsAs p m g.asked stmt g.seen x) (sym end) (going_lawful g.stage is.placed.at is.at fails outcome)
+      subst (λ (x : End). StandsAs p m g.asked stmt g.seen x) (sym end) (going_lawful g.stage is.placed.at is.at fails outcome)
   stands_by true None fails outcome =
       let cut = cut_off fails outcome in
-      subst (λ (x : End). F.StandsAs p m g.asked stmt g.seen x) (sym (cut_end cut)) (refl, cut.some, cut_lawful cut)
+      subst (λ (x : End). StandsAs p m g.asked stmt g.seen x) (sym (cut_end cut)) (refl, cut.some, cut_lawful cut)
 
   pub rows_stand : F.IsFlown p m g.asked stmt g.seen (closed_of g.outcome events)
   rows_stand = stands_by g.failed g.outcome refl refl

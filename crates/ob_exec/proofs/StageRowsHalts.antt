@@ -16,7 +16,7 @@ use Rattle.ob_vault.specs.State.{World}
 use Rattle.ob_verdict.specs.declared.outcome.Outcome.{Outcome}
 use Rattle.ob_stages.specs.declared.rows.Stage.{Stage}
 use Rattle.ob_stages.specs.declared.rows.Stage.TheVariants as Stages
-use Rattle.ob_stages.specs.RowsStates.{PlacedAt, RowsAt, is_printing, progress_of, seen_taking}
+use Rattle.ob_stages.specs.RowsStates.{PlacedAt, RowsAt, is_over, is_printing, progress_of, seen_taking}
 use Rattle.ob_stages.specs.RowsHolds.{EndedAt, Halts, Holds, HoldsAt, IsToEnd, seen_ended}
 use Rattle.ob_exec.specs.Sources.{rows_skeleton}
 use Rattle.ob_exec.proofs.FlightStage.{IsSet, LacksHere, more_asked}
@@ -80,7 +80,7 @@ module _ (g : RowsAt) (m : ℕ) (kept : List (List ℕ)) (events : List Event) (
 
   pub rows_memory : e ≡ OpErrs.NoMemory → LacksHere (progress_of g) w v
   rows_memory memory = elim (halts.memory memory).place [
-    | inl (make, none, same) ↦ inr (inl (same, (none, counted_make g.stage make is.placed.at none, at_make make)))
+    | inl (make, none, same) ↦ inr (inl (ap is_over make, same, (none, counted_make g.stage make is.placed.at none, at_make make)))
     | inr (inl (make, one)) ↦ inl (record { access = one.0; make = one.1; asked = one.2 })
     | inr (inr (prints, failed)) ↦
         inr (inr (prints, inl (counted_printing g.stage prints is.placed.at is.at failed, left prints failed (g.asked + more_asked w v) (omega arith))))

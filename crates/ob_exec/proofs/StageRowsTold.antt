@@ -53,6 +53,7 @@ use Rattle.ob_stages.proofs.RowsKnown.{rows_end}
 use Rattle.ob_exec.proofs.RowsOfTable.{cut_of_held, held_of_cut, slots_held}
 use Rattle.ob_exec.proofs.RowsSource.{table_same}
 use Rattle.ob_exec.proofs.StageRows.{answered_selected, answers, as_stated, closing_same, cut_end, cut_off, ended_as, one_table, over_or}
+use Rattle.ob_mean.specs.Standing.{StandsMeant}
 
 begun_more : (events all more : List Event) → Begun events all → Begun events (all ++ more)
 begun_more events all more begun = (begun.0 ++ more, sym (append_assoc events begun.0 more) ∙ ap (λ (l : List Event). l ++ more) begun.1)
@@ -284,10 +285,10 @@ module _ (g : RowsAt) (m : ℕ) (kept : List (List ℕ)) (events : List Event) (
   told_by d false None fails outcome =
       let end = whole_end fails in
       let now_way = way_now fails outcome in
-      subst (λ (x : End). F.StandsMeant d p m g.asked g.asked tables stmt g.seen x) (sym end) (on_way d end now_way.0.held now_way.1)
+      subst (λ (x : End). StandsMeant d p m g.asked g.asked tables stmt g.seen x) (sym end) (on_way d end now_way.0.held now_way.1)
   told_by d true None fails outcome =
       let cut = cut_off g m kept events w is set ending condition cols within fails outcome in
-      subst (λ (x : End). F.StandsMeant d p m g.asked g.asked tables stmt g.seen x) (sym (cut_end g m kept events w is set ending condition cols within cut)) (cut_told d cut)
+      subst (λ (x : End). StandsMeant d p m g.asked g.asked tables stmt g.seen x) (sym (cut_end g m kept events w is set ending condition cols within cut)) (cut_told d cut)
 
   pub rows_told : (d : Draws) → F.IsMeant d p m g.asked g.asked tables stmt g.seen (closed_of g.outcome events)
   rows_told d = told_by d g.failed g.outcome refl refl

@@ -1,19 +1,19 @@
 -- SELECTs without a join that ask in turns: which may, and what is known of each of them.
-use Rattle.std.specs.Prelude.{◌≡◌, ◌⊎◌, ◌≤◌, ◌*◌, ◌+◌, ◌/◌, ℕ, Bool, true, false, IsTrue, min, List, [], ◌∷◌, length, take, Option, None, Some, Ok}
+use Rattle.std.specs.Prelude.{◌≡◌, ◌⊎◌, ◌≤◌, ◌*◌, ◌+◌, ◌/◌, ℕ, Bool, true, false, IsTrue, min, List, [], ◌∷◌, length, Option, None, Some, Ok}
 use Rattle.std.specs.List.{All}
 use Rattle.ob_base.specs.declared.config.Public.{Public}
 use Rattle.ob_base.specs.declared.refusal.Refusal.{Refusal}
 use Rattle.ob_base.specs.declared.seen.End.{End}
-use Rattle.ob_base.specs.declared.seen.End.TheVariants.{Static, Whole, AfterCount, Joined, Cut}
+use Rattle.ob_base.specs.declared.seen.End.TheVariants.{Cut}
 use Rattle.ob_base.specs.declared.seen.Seen.{Seen}
 use Rattle.ob_base.specs.Stored.{headings_of}
 use Rattle.ob_inflight.specs.Closing.{Closed}
 use Rattle.ob_mean.specs.Lawful.{Lawful}
 use Rattle.ob_mean.specs.Refusals.{early_refusal, limits_of}
 use Rattle.ob_mean.specs.Replay.{cut_at, is_access}
+use Rattle.ob_mean.specs.Standing.{StandsAs, StandsMeant}
 use Rattle.ob_mean.specs.Verdict.{Draws, Tables, is_late, seen as seen_by, verdict}
 use Rattle.ob_script.specs.FlightLaws.{SelectsFromOne}
-use Rattle.ob_script.specs.Flights.{flight, own}
 use Rattle.ob_script.specs.Trace.{Served}
 use Rattle.ob_sql.specs.Skeleton.{skeleton}
 use Rattle.ob_sql.specs.declared.stmt.Stmt.{Stmt}
@@ -51,10 +51,6 @@ served_as (stmt ∷ stmts) [] = []
 served_as (stmt ∷ stmts) (seen ∷ seens) =
     record { skeleton = skeleton stmt; seen = seen } ∷ served_as stmts seens
 
--- how many of the first k accesses of a flight are those of the statement at a place
-abbrev pub own_asked : Public → List Served → (words : ℕ → ℕ) → (k i : ℕ) → ℕ
-own_asked p flown words k i = length (own i (take k (flight p flown words).log))
-
 -- it has asked n accesses, all that it asks: it is cut off exactly where the store failed it, at one of them
 pub record EndsAs (p : Public) (m n : ℕ) (stmt : Stmt) (seen : Seen) (outcome : Outcome)
     : Type 0 where
@@ -62,15 +58,6 @@ pub record EndsAs (p : Public) (m n : ℕ) (stmt : Stmt) (seen : Seen) (outcome 
   pub lawful : Lawful p m stmt seen
   pub ends : seen.end ≡ outcome_end outcome n
   pub asks : IsTrue (is_fault outcome) → 1 ≤ n
-
--- one that has not ended: it is refused before any access, is on its way behind n accesses, where what is held of it may be
--- seen of one that is cut off there, or the store has failed it at the last of them
-abbrev pub StandsAs : Public → (m n : ℕ) → Stmt → Seen → End → Type 0
-StandsAs p m n stmt seen Static = Lawful p m stmt seen
-StandsAs p m n stmt seen Whole = Lawful p m stmt (record seen { end = Cut n })
-StandsAs p m n stmt seen AfterCount = ⊥
-StandsAs p m n stmt seen Joined = ⊥
-StandsAs p m n stmt seen (Cut cut) = (cut ≡ n) × (1 ≤ n) × Lawful p m stmt seen
 
 abbrev pub IsFlown : Public → (m n : ℕ) → Stmt → Seen → Option Closed → Type 0
 IsFlown p m n stmt seen (Some one) = EndsAs p m n stmt seen one.outcome
@@ -85,16 +72,6 @@ EndsMeant d p m n tables stmt seen outcome =
     (seen ≡ cut_at true n p (skeleton stmt) (seen_by d p m tables stmt))
     ((outcome ≡ outcome_of stmt (verdict p m tables stmt))
     × (seen ≡ seen_by d p m tables stmt))
-
--- of one that has not, of whose n accesses the first `done` were carried out: what is seen is what its meaning shows until then
-abbrev pub StandsMeant : Draws → Public → (m n done : ℕ) → Tables → Stmt → Seen → End → Type 0
-StandsMeant d p m n done tables stmt seen Static = seen ≡ seen_by d p m tables stmt
-StandsMeant d p m n done tables stmt seen Whole =
-    seen ≡ record (cut_at false done p (skeleton stmt) (seen_by d p m tables stmt)) { end = Whole }
-StandsMeant d p m n done tables stmt seen AfterCount = ⊥
-StandsMeant d p m n done tables stmt seen Joined = ⊥
-StandsMeant d p m n done tables stmt seen (Cut cut) =
-    seen ≡ cut_at true n p (skeleton stmt) (seen_by d p m tables stmt)
 
 abbrev pub IsMeant : Draws → Public → (m n done : ℕ) → Tables → Stmt → Seen → Option Closed
     → Type 0

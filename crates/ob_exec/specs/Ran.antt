@@ -206,7 +206,7 @@ pub record CarriedOut {R : Type 0} (state : R → RevState) (stmt : Stmt) (owed 
   pub early : RefusedEarly (refusal_now (public_of old) (count_of old s) stmt) result (seen_of new)
   -- what is seen may be seen
   pub lawful : Lawful (public_of old) (count_of old s) stmt (seen_of new)
-  -- want of memory tells nothing of rows
+  -- want of memory tells of no rows but those that are emitted
   pub memory : result ≡ Err NoMemory → WantsMemory (public_of old) stmt (seen_of new) s t Halts
   -- a stash is full only where an access read more rows than fit
   pub full : result ≡ Err StashFull → (d : Draws) → AreDraws old d → FillsStash (next_draw d)

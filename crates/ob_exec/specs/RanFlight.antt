@@ -1,5 +1,5 @@
 -- What several SELECTs do that ask in turns, whatever they are answered.
-use Rattle.std.specs.Prelude.{◌≡◌, ◌⊎◌, ◌+◌, ◌-◌, ◌≤◌, ◌++◌, ℕ, true, false, List, Option, None, Some, Result, Ok, Err, IfErr, OnOk, MatchResult, drop, length, nat_lt, slice_get}
+use Rattle.std.specs.Prelude.{◌≡◌, ◌⊎◌, ◌+◌, ◌-◌, ◌<◌, ◌≤◌, ◌++◌, ℕ, true, false, IsTrue, List, Option, None, Some, Result, Ok, Err, IfErr, OnOk, MatchResult, drop, length, map, nat_lt, slice_get, take}
 use Rattle.ob_base.specs.Events.{Event}
 use Rattle.ob_base.specs.declared.access.Access.{Access}
 use Rattle.ob_base.specs.declared.config.Public.{Public}
@@ -9,9 +9,9 @@ use Rattle.ob_flat.specs.declared.fault.OpErr.TheVariants as OpErrs
 use Rattle.ob_inflight.specs.Closing.{Closed, ClosesAll, RisesBy}
 use Rattle.ob_mean.specs.Batches.{is_cut}
 use Rattle.ob_mean.specs.Replay.{done_of}
-use Rattle.ob_mean.specs.Verdict.{Draws, Tables, verdict}
+use Rattle.ob_mean.specs.Verdict.{Draws, Tables, seen as seen_by, verdict}
 use Rattle.ob_script.specs.FlightLaws.{one_if, total}
-use Rattle.ob_script.specs.Flights.{Flying, boarding, flight_accesses, flight_public, merge, next_flight, turns, turns_of, words_from}
+use Rattle.ob_script.specs.Flights.{Flying, boarding, flight, flight_accesses, flight_public, merge, next_flight, turns, turns_of, words_from, own_asked}
 use Rattle.ob_script.specs.Script.{script, whole_script}
 use Rattle.ob_script.specs.Trace.{Served}
 use Rattle.ob_select.specs.Memory.{AtEmission, AtMake, AtResult, HasHalted}
@@ -27,13 +27,13 @@ use Rattle.ob_vault.specs.Tied.{Calm, EndsAt, ReadsIn}
 use Rattle.ob_verdict.specs.Outcomes.{Emits, Partly}
 use Rattle.ob_verdict.specs.declared.outcome.Outcome.{Outcome}
 use Rattle.ob_tables.specs.Agreeing.{Agrees, AreDraws, count_of, engine_keys, engine_start, has_ended, high_of, indexes_of, opened_from, public_of, replaced_of, seen_of, world_of}
-use Rattle.ob_tables.specs.Running.{SinkStops}
+use Rattle.ob_tables.specs.Running.{SinkStops, is_fault}
 use Rattle.ob_tables.specs.Serving.{StopsEmission}
 use Rattle.ob_tables.specs.Telling.{Emitted, IsNotTampered, KeepsSealed, ReadsTrue, ReadsTrueUntil, Represents, answer_labels, is_refused}
 use Rattle.ob_tables.specs.declared.engine.Engine.{Engine}
 use Rattle.ob_tables.specs.declared.stop.RunStop.{RunStop}
 use Rattle.ob_tables.specs.declared.stop.RunStop.TheVariants.{KeeperFault, NoMemory, SinkFault, StashFull, StoreFault, Tampered}
-use Rattle.ob_exec.specs.InFlight.{EndsAs, EndsMeant, IsFlown, IsMeant, MeantUntil, own_asked, served_as}
+use Rattle.ob_exec.specs.InFlight.{EndsAs, EndsMeant, IsFlown, IsMeant, MeantUntil, served_as}
 
 -- ---- the flight
 -- so many accesses were asked from the first state to the second
@@ -152,12 +152,43 @@ StopsClosing grew cut parted Ends NoMemory place events out_old out_new =
 StopsClosing grew cut parted Ends stop place events out_old out_new =
     StopsEmission grew cut stop out_old out_new events
 
+-- ---- whose turn it is
+-- how many accesses of its own the one at a place asked
+abbrev pub asked_by : Public → (words : ℕ → ℕ) → List Stmt → List Seen → (k : ℕ) → (i : ℕ) → ℕ
+asked_by p words stmts seens k i = own_asked p (served_as stmts seens) words k i
+
+-- what comes behind k accesses of all: whose turn it is, and what that one asks
+abbrev pub asked_next : Public → (words : ℕ → ℕ) → List Stmt → List Seen → (k : ℕ)
+    → Option (ℕ × Access)
+asked_next p words stmts seens k = slice_get (flight p (served_as stmts seens) words).log k
+
+-- the one at a place had ended within the first k accesses
+pub record EndedWithin (p : Public) (flown : List Served) (words : ℕ → ℕ) (k i : ℕ)
+    : Type 0 where
+  pub turn : ℕ
+  pub one : Flying
+  pub at : slice_get (turns words turn (boarding p flown)).flying i ≡ Some one
+  pub ended : one.ended ≡ true
+  pub within : length (turns words turn (boarding p flown)).log ≤ k
+
+-- it is the turn of the one at a place: the access that was asked last is its own, or the one that would be asked next is
+abbrev pub InTurn : Public → (words : ℕ → ℕ) → List Stmt → List Seen → (k place : ℕ) → Type 0
+InTurn p words stmts seens k place =
+    (asked_by p words stmts seens (k - 1) place + 1 ≡ asked_by p words stmts seens k place)
+    ⊎ ((access : Access) × (asked_next p words stmts seens k ≡ Some (place, access)))
+
+-- or nothing is left of it but its end, which comes next, before any other access
+abbrev pub InEnd : Public → (words : ℕ → ℕ) → List Stmt → List Seen → (k place : ℕ) → Type 0
+InEnd p words stmts seens k place = EndedWithin p (served_as stmts seens) words k place
+
 -- ---- want of memory
 -- just before a result that isn't padded is made for one of the statements that hasn't ended, behind so many accesses of its
--- own
+-- own; it is its turn, and no other's: the access that the flight asks next is its own
 pub record BeforeMake (p : Public) (stmts : List Stmt) (seens : List Seen) (asked : ℕ → ℕ)
-    (ended : List Closed) : Type 0 where
+    (asks : Option (ℕ × Access)) (ended : List Closed) : Type 0 where
   pub place : ℕ
+  pub access : Access
+  pub turn : asks ≡ Some (place, access)
   pub stmt : Stmt
   pub seen : Seen
   pub get : slice_get stmts place ≡ Some stmt
@@ -165,23 +196,25 @@ pub record BeforeMake (p : Public) (stmts : List Stmt) (seens : List Seen) (aske
   pub going : slice_get ended place ≡ None
   pub makes : AtResult p stmt seen (drop (asked place) (whole_script p (skeleton stmt) seen))
 
--- the emitter's output ends within the events of the one at a place, behind n accesses of its own, or within how it was
--- answered, as it does only where the emitter gave up
+-- in its turn the emitter's output ends within the events of the one at a place, behind n accesses of its own, or within how
+-- it was answered, as it does only where the emitter gave up
 abbrev pub AtEmitter : {E : Type 0} → (grew cut : E → E → List Event → Type 0)
-    → (parted : E → E → ℕ → Outcome → Type 0) → (Ends : Outcome → Type 0) → Public → Stmt → Seen
+    → (parted : E → E → ℕ → Outcome → Type 0) → (Ends : Outcome → Type 0)
+    → (Turned Ended : Type 0) → Public → Stmt → Seen
     → (place n : ℕ) → List Event → (out_old out_new : E) → Type 0
-AtEmitter grew cut parted Ends p stmt seen place n events out_old out_new =
-    (AtEmission p stmt seen (drop n (whole_script p (skeleton stmt) seen))
+AtEmitter grew cut parted Ends Turned Ended p stmt seen place n events out_old out_new =
+    ((Turned ⊎ (Ended × (n ≡ length (script p (skeleton stmt) seen))))
+    × AtEmission p stmt seen (drop n (whole_script p (skeleton stmt) seen))
     × HasHalted cut out_old out_new)
-    ⊎ IsParted grew parted Ends place events out_old out_new
+    ⊎ (Ended × IsParted grew parted Ends place events out_old out_new)
 
 -- ---- a stop
 -- these answers were taken whole, and of the next one what was emitted by then
 pub record StopsFlight {R E : Type 0} (state : R → RevState)
     (grew cut : E → E → List Event → Type 0) (closed parted : E → E → ℕ → Outcome → Type 0)
-    (stmts : List Stmt) (seens : List Seen) (asked : ℕ → ℕ) (ended : List Closed) (stop : RunStop)
-    (old : Engine R) (s : StoreState) (new : Engine R) (t : StoreState) (out_old out_new : E)
-    : Type 0 where
+    (words : ℕ → ℕ) (stmts : List Stmt) (seens : List Seen) (ended : List Closed)
+    (stop : RunStop) (old : Engine R) (s : StoreState) (new : Engine R) (t : StoreState)
+    (out_old out_new : E) : Type 0 where
   pub between : E
   pub took : ClosesAll grew closed 0 ended out_old between
   pub stmt : Stmt
@@ -190,19 +223,28 @@ pub record StopsFlight {R E : Type 0} (state : R → RevState)
   pub shown : slice_get seens (length ended) ≡ Some seen
   pub events : List Event
   pub ends : StopsClosing grew cut parted
-      (EndsSo state stmts stmt seen (asked (length ended)) events old s new t)
+      (EndsSo state stmts stmt seen
+      (asked_by (public_of old) words stmts seens (asked_since s t) (length ended))
+      events old s new t)
       stop (length ended) events between out_new
   pub told : (tables : Tables) → ReadsTrueUntil state old s new t tables
       → Partly (answer_labels stmt (public_of old))
       (verdict (in_flight stmts (public_of old)) (count_of old s) tables stmt) events
-  -- want of memory tells nothing of rows: it comes before the first access, at a make, just before that of a result that
-  -- isn't padded, or from the emitter
+  -- want of memory tells of no rows but those that are emitted, in their turn: it comes before the first access, at a make, just
+  -- before that of a result that isn't padded, in its turn, or from the emitter
   pub memory : stop ≡ NoMemory → AtMake (drop (length s.asked) t.asked)
-      ⊎ BeforeMake (in_flight stmts (public_of old)) stmts seens asked ended
+      ⊎ BeforeMake (in_flight stmts (public_of old)) stmts seens
+      (asked_by (public_of old) words stmts seens (asked_since s t))
+      (asked_next (public_of old) words stmts seens (asked_since s t)) ended
       ⊎ AtEmitter grew cut parted
-      (EndsSo state stmts stmt seen (asked (length ended)) events old s new t)
-      (in_flight stmts (public_of old)) stmt seen (length ended) (asked (length ended)) events
-      between out_new
+      (EndsSo state stmts stmt seen
+      (asked_by (public_of old) words stmts seens (asked_since s t) (length ended))
+      events old s new t)
+      (InTurn (public_of old) words stmts seens (asked_since s t) (length ended))
+      (InEnd (public_of old) words stmts seens (asked_since s t) (length ended))
+      (in_flight stmts (public_of old)) stmt seen (length ended)
+      (asked_by (public_of old) words stmts seens (asked_since s t) (length ended))
+      events between out_new
 
 -- it comes in the turn behind so many: in those the first so many statements have ended and no other, and these accesses were
 -- asked in them, with that of this turn if it asked one
@@ -216,6 +258,41 @@ pub record StopsInTurn (p : Public) (flown : List Served) (words : ℕ → ℕ) 
       → f.ended ≡ nat_lt i count
 
 -- ---- what is meant
+-- one that had ended by then was what it is once these k accesses were asked, in such a state of the store: a fault of it was
+-- one of the store's, and where no changed block was read by then it is answered and seen as it is meant, whatever is read
+-- later; so it is where the first one that was read comes behind these
+pub record MeantThen {R : Type 0} (state : R → RevState) (stmts : List Stmt) (n k : ℕ)
+    (stmt : Stmt) (seen : Seen) (one : Closed) (old : Engine R) (s t : StoreState) : Type 0 where
+  pub mid : StoreState
+  pub later : Later s mid
+  pub few : length mid.asked ≤ length s.asked + k
+  pub lie : (lie : Lie) → mid.lie ≡ Some lie → t.lie ≡ Some lie
+  pub unread : s.lie ≡ None → (lie : Lie) → t.lie ≡ Some lie
+      → length s.asked + k ≤ length lie.before → mid.lie ≡ None
+  pub fails : IsTrue (is_fault one.outcome) → RisesBy 1 s.faults mid.faults
+  pub told : (tables : Tables) (d : Draws) → ReadsTrue state old s mid tables
+      → EndsMeant d (in_flight stmts (public_of old)) (count_of old s) n tables stmt seen
+      one.outcome × Emitted stmt (in_flight stmts (public_of old)) (count_of old s) tables
+      one.outcome one.events
+
+-- these statements by their meaning
+abbrev pub meant_of : Draws → Public → (m : ℕ) → Tables → List Stmt → List Served
+meant_of d p m tables stmts = served_as stmts
+    (map (λ (stmt : Stmt). seen_by d (in_flight stmts p) m tables stmt) stmts)
+
+-- k accesses were asked, and then one more, in such a state of the store: where no changed block was read by then, and no call
+-- had failed, these and that one are the first that the words merge of the meanings, whatever comes later
+pub record AsksMeant {R : Type 0} (state : R → RevState) (words : ℕ → ℕ) (stmts : List Stmt)
+    (seens : List Seen) (k : ℕ) (old : Engine R) (s t : StoreState) : Type 0 where
+  pub mid : StoreState
+  pub later : Later s mid
+  pub few : length mid.asked ≤ length s.asked + k
+  pub lie : (lie : Lie) → mid.lie ≡ Some lie → t.lie ≡ Some lie
+  pub told : (tables : Tables) (d : Draws) → ReadsTrue state old s mid tables → mid.faults ≡ 0
+      → take (k + 1) (merge (public_of old) (served_as stmts seens) words)
+      ≡ take (k + 1) (merge (public_of old)
+      (meant_of d (public_of old) (count_of old s) tables stmts) words)
+
 -- a changed block is one that the words merge of these statements' accesses by their meaning, of those that the store cut
 -- off maybe of what they asked until then
 pub record BeginsMeant (p : Public) (m : ℕ) (d : Draws) (tables : Tables) (stmts : List Stmt)
@@ -250,12 +327,15 @@ pub record FlightMeans {R T : Type 0} (state : R → RevState) (words : ℕ → 
   pub begun : (tables : Tables) (d : Draws) → ReadsTrue state old s s tables → (lie : Lie)
       → t.lie ≡ Some lie
       → BeginsMeant (public_of old) (count_of old s) d tables stmts seens words s.asked lie
+  -- what had ended within some first accesses is meant, whatever is read later
+  pub earlier : (i k : ℕ) (stmt : Stmt) (seen : Seen) (one : Closed)
+      → slice_get stmts i ≡ Some stmt → slice_get seens i ≡ Some seen → slice_get ended i ≡ Some one
+      → EndedWithin (public_of old) (served_as stmts seens) words k i
+      → MeantThen state stmts (asked i) k stmt seen one old s t
+  -- and so is what was asked
+  pub asks : (k : ℕ) → k < asked_since s t → AsksMeant state words stmts seens k old s t
 
 -- ---- the whole of it
--- how many accesses of its own the one at a place asked
-abbrev pub asked_by : Public → (words : ℕ → ℕ) → List Stmt → List Seen → (k : ℕ) → (i : ℕ) → ℕ
-asked_by p words stmts seens k i = own_asked p (served_as stmts seens) words k i
-
 -- these statements were carried out, of which these things were seen
 pub record RanFlight {R E T : Type 0} (state : R → RevState)
     (grew cut : E → E → List Event → Type 0) (closed parted : E → E → ℕ → Outcome → Type 0)
@@ -280,9 +360,8 @@ pub record RanFlight {R E T : Type 0} (state : R → RevState)
       → slice_get ended i ≡ Some one
       → Emits stmt (answer_labels stmt (public_of old)) one.outcome one.events
   pub answered : OnOk result (ClosesAll grew closed 0 ended out_old out_new)
-  pub stopped : IfErr result (λ stop. StopsFlight state grew cut closed parted stmts seens
-      (asked_by (public_of old) words stmts seens (asked_since s t)) ended stop
-      old s new t out_old out_new)
+  pub stopped : IfErr result (λ stop. StopsFlight state grew cut closed parted words stmts seens
+      ended stop old s new t out_old out_new)
   pub turn : IfErr result (λ stop. StopsInTurn (public_of old) (served_as stmts seens) words
       (asked_since s t) (length ended))
   pub sink : MatchResult result (λ x. faults out_new ≡ faults out_old)

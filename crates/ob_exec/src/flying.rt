@@ -124,7 +124,8 @@ fn stop_of(error: OpErr) -> RunStop
 ///
 /// Each is answered, and seen, as if the others weren't there, over the tables before, with its part of the rows that may
 /// be open: `seens` has what was seen of each. Answers end in the order of the list, and the emitter has the rows of one
-/// before those of the next. None changes a table, and none is saved.
+/// before those of the next. None changes a table, and none is saved. What had ended before a changed block was read is
+/// answered so, whatever is read then.
 ///
 /// Whatever the store does, its accesses are those that the words merge of what each asks by what is seen of it, or the
 /// first of them where one stops the flight, as in `run`; then the session has ended, and of those that hadn't ended

@@ -74,7 +74,7 @@ fn serve<S: BlockStore, R: Revisions, E: Emit>(
 /// `Tampered` names a block that is not what was written there last, or that no table's rows make;
 /// `SinkFault` says that the emitter failed; and `NoMemory` comes before the first access, where a
 /// region is made, behind a change and before its tables are saved, or from the emitter while rows are
-/// emitted, so that it tells nothing of rows. What was emitted until then is a first part of the
+/// emitted, so that it tells of no other rows. What was emitted until then is a first part of the
 /// answer. `StoreFault` says that the store failed in an access of an index, or while tables were
 /// saved, or that there is no number left to save them under; `KeeperFault` that the keeper failed
 /// then; and `StashFull` that the stash of an index has no room. After each of them the session has

@@ -18,8 +18,9 @@ use Rattle.ob_headline.proofs.BatchLemmas.{IsUncut}
 use Rattle.ob_headline.proofs.InStep.{InStep, joins_step, keeps_step}
 use Rattle.ob_headline.specs.Failures.{failures, outcome_failures}
 use Rattle.ob_headline.specs.Words.{Answer}
-use Rattle.ob_headline.specs.Accesses.{AreSeen}
-use Rattle.ob_headline.specs.Meaning.{AnswersFrom, AnswersAs, AnswersIn, AnswersMeant}
+use Rattle.ob_headline.proofs.ServedAlone.{SeenAlone}
+use Rattle.ob_headline.proofs.ServedAlone.{AnswersAlone}
+use Rattle.ob_headline.specs.Meaning.{AnswersAs, AnswersIn, AnswersMeant}
 use Rattle.ob_headline.specs.declared.ending.Ending.{Ending}
 use Rattle.ob_mean.proofs.FlatLemmas.{created_flat, makes_flat, no_access, seen_is, settle_is}
 use Rattle.ob_mean.proofs.FlatSessions.{after_flat, room_flat}
@@ -300,20 +301,20 @@ uncut CutWith s stmt one none told = let failed = ap outcome_failures told.outco
 pub record GoesOn (s : Session) (spelt : List Spelt) (broken : Broken) (answers : List Answer) (seen : List Served) (t : Session) : Type 0 where
   pub alike : SessionsAlike (after_all s spelt broken) (after_all t spelt (hows_of spelt broken))
   pub along : (more : List Spelt) (later : Broken) → after_all t (spelt ++ more) (hows_of spelt broken ++ later) ≡ after_all (after_all t spelt (hows_of spelt broken)) more later
-  pub on : (f : Ending) (more : List Spelt) (later : Broken) (others : List Answer) (behind : List Served) → AnswersFrom f (after_all t spelt (hows_of spelt broken)) more later others behind []
-      → AnswersFrom f t (spelt ++ more) (hows_of spelt broken ++ later) (answers ++ others) (seen ++ behind) []
+  pub on : (f : Ending) (more : List Spelt) (later : Broken) (others : List Answer) (behind : List Served) → AnswersAlone f (after_all t spelt (hows_of spelt broken)) more later others behind []
+      → AnswersAlone f t (spelt ++ more) (hows_of spelt broken ++ later) (answers ++ others) (seen ++ behind) []
 
 -- these texts, each of which was answered and none by the store's fault, are answered alike, and so are more behind them
 pub answers_on : (Leaves : Public → Stmt → Seen → Type 0) (g : Option Gathering) (e : Ending) (spelt : List Spelt) (s t : Session) (broken : Broken) (answers : List Answer) (seen : List Served) (part : List ℕ)
-    → SessionsAlike s t → length answers ≡ length spelt → failures answers ≡ 0 → AnswersFrom e s spelt broken answers seen part → AreSeen Leaves s.public s.asked g spelt answers seen
+    → SessionsAlike s t → length answers ≡ length spelt → failures answers ≡ 0 → AnswersAlone e s spelt broken answers seen part → SeenAlone Leaves s.public s.asked g spelt answers seen
     → s.asked + length (trace s.public seen) < 2 ^ 63 → (after_all t spelt (hows_of spelt broken)).asked < 2 ^ 63 → GoesOn s spelt broken answers seen t
-unfolding AnswersFrom AreSeen failures
+unfolding AnswersAlone SeenAlone failures
 answers_on Leaves g e [] s t broken answers seen part alike each none told lawful few few_too = record {
   alike = alike;
   along = λ more later. refl;
   on = λ f more later others behind follows.
-      subst (λ (a : List Answer). AnswersFrom f t more later (a ++ others) (seen ++ behind) []) (sym told.0)
-      (subst (λ (x : List Served). AnswersFrom f t more later ([] ++ others) (x ++ behind) []) (sym lawful) follows);
+      subst (λ (a : List Answer). AnswersAlone f t more later (a ++ others) (seen ++ behind) []) (sym told.0)
+      (subst (λ (x : List Served). AnswersAlone f t more later ([] ++ others) (x ++ behind) []) (sym lawful) follows);
 }
 answers_on Leaves g e (x ∷ spelt) s t broken [] seen part alike each none told lawful few few_too = absurd (omega (arith, each))
 answers_on Leaves g e (Err at ∷ spelt) s t broken (one ∷ answers) seen part alike each none told lawful few few_too =
@@ -341,7 +342,7 @@ answers_on Leaves g e (Ok stmt ∷ spelt) s t broken (one ∷ answers) (x ∷ se
     let rest =
     answers_on Leaves (gathering_after s.public s.asked g stmt (seen_or_cut how s stmt).end) e spelt (after how s stmt) (after how t stmt) (rest_of broken) answers seen part
     (behind_alike s t alike soon soon_too stmt how whole told.1) (omega (arith, each)) (omega (arith, none)) told.4
-    (subst (λ (y : Served). AreSeen Leaves (next s.public y.skeleton y.seen) (s.asked + length (script s.public y.skeleton y.seen)) (gathering_after s.public s.asked g stmt y.seen.end) spelt answers seen) entry lawful.3)
+    (subst (λ (y : Served). SeenAlone Leaves (next s.public y.skeleton y.seen) (s.asked + length (script s.public y.skeleton y.seen)) (gathering_after s.public s.asked g stmt y.seen.end) spelt answers seen) entry lawful.3)
     (subst (λ (y : Served). s.asked + length (script s.public y.skeleton y.seen) + length (trace (next s.public y.skeleton y.seen) seen) < 2 ^ 63) entry fewer)
     few_behind in
     record {
@@ -352,7 +353,7 @@ answers_on Leaves g e (Ok stmt ∷ spelt) s t broken (one ∷ answers) (x ∷ se
         cut_alike s t alike soon soon_too stmt how whole told.1,
         told_alike s t alike soon soon_too stmt how one whole told.2,
         told.3 ∙ seen_alike s t alike soon soon_too stmt how whole,
-        rest.on f more later others behind (subst (λ (v : Session). AnswersFrom f v more later others behind []) (there spelt hs) follows),
+        rest.on f more later others behind (subst (λ (v : Session). AnswersAlone f v more later others behind []) (there spelt hs) follows),
       );
     }
 
@@ -373,8 +374,8 @@ alone_by With s stmt none whole cut = let batched = cut.batched in absurd (cc (a
 alone_by CutWith s stmt none whole cut = absurd whole
 
 pub are_alone : (e : Ending) (spelt : List Spelt) (s : Session) (broken : Broken) (answers : List Answer) (seen : List Served) (part : List ℕ) → s.public.batch ≡ None → length answers ≡ length spelt → failures answers ≡ 0
-    → AnswersFrom e s spelt broken answers seen part → AreAlone (hows_of spelt broken)
-unfolding AnswersFrom failures
+    → AnswersAlone e s spelt broken answers seen part → AreAlone (hows_of spelt broken)
+unfolding AnswersAlone failures
 are_alone e [] s broken answers seen part batchless each none told = tt
 are_alone e (x ∷ spelt) s broken [] seen part batchless each none told = absurd (omega (arith, each))
 are_alone e (Err at ∷ spelt) s broken (one ∷ answers) seen part batchless each none told = (refl, are_alone e spelt s (rest_of broken) answers seen part batchless (omega (arith, each)) (omega (arith, none)) told.1)
@@ -400,12 +401,12 @@ after_alone t (Ok stmt ∷ spelt) hows alone =
     ap (λ (how : How). if is_full_now t stmt then t else after_all (after how t stmt) spelt (rest_of hows)) (head_alone hows alone)
     ∙ ap (λ (u : Session). if is_full_now t stmt then t else u) (after_alone (after Alone t stmt) spelt (rest_of hows) (rest_alone hows alone))
 
-pub answers_alone : (f : Ending) (t : Session) (spelt : List Spelt) (hows : Broken) (answers : List Answer) (seen : List Served) (part : List ℕ) → AreAlone hows → AnswersFrom f t spelt hows answers seen part → AnswersFrom f t spelt [] answers seen part
-unfolding AnswersFrom
+pub answers_alone : (f : Ending) (t : Session) (spelt : List Spelt) (hows : Broken) (answers : List Answer) (seen : List Served) (part : List ℕ) → AreAlone hows → AnswersAlone f t spelt hows answers seen part → AnswersAlone f t spelt [] answers seen part
+unfolding AnswersAlone
 answers_alone f t [] hows answers seen part alone told = told
 answers_alone f t (x ∷ spelt) hows [] seen part alone told = told
 answers_alone f t (Err at ∷ spelt) hows (one ∷ answers) seen part alone told = (told.0, answers_alone f t spelt (rest_of hows) answers seen part (rest_alone hows alone) told.1)
 answers_alone f t (Ok stmt ∷ spelt) hows (one ∷ answers) [] part alone told = absurd told
 answers_alone f t (Ok stmt ∷ spelt) hows (one ∷ answers) (x ∷ seen) part alone told =
-    let here = subst (λ (how : How). (is_full_now t stmt ≡ false) × IsCutOff how t stmt × AnswersIn how t stmt one × (x.seen ≡ seen_or_cut how t stmt) × AnswersFrom f (after how t stmt) spelt (rest_of hows) answers seen part) (head_alone hows alone) told in
+    let here = subst (λ (how : How). (is_full_now t stmt ≡ false) × IsCutOff how t stmt × AnswersIn how t stmt one × (x.seen ≡ seen_or_cut how t stmt) × AnswersAlone f (after how t stmt) spelt (rest_of hows) answers seen part) (head_alone hows alone) told in
     (here.0, here.1, here.2, here.3, answers_alone f (after Alone t stmt) spelt (rest_of hows) answers seen part (rest_alone hows alone) here.4)

@@ -20,17 +20,23 @@ use Rattle.ob_headline.proofs.SettingLemmas.{kept_settings}
 use Rattle.ob_headline.proofs.MarkLemmas.{marks_held}
 use Rattle.ob_headline.proofs.RerunLemmas.{answered_all}
 use Rattle.ob_headline.proofs.StopLemmas.{begun_stops, closing_stops}
-use Rattle.ob_headline.specs.Bases.{Base, Opened, drawing, public_with, session_at, start}
+use Rattle.ob_headline.specs.Bases.{Base, Opened, drawing, flying, public_with, session_at, start}
 use Rattle.ob_headline.specs.Endings.{status_of}
 use Rattle.ob_headline.specs.Failures.{failures}
 use Rattle.ob_headline.specs.Keeping.{BeginsFrom, EndsWith, closing_named, kept_status}
 use Rattle.ob_headline.specs.KeptHeadline.{ClosesTables, EndsBehind, EndsUnkeyed, IsClosed, RunKept, SessionKept, begun_at}
 use Rattle.ob_headline.specs.KeptMarks.{HeldAfter, mark_made}
 use Rattle.ob_headline.specs.KeptRuns.{AnswerAsOne, GoOn, OneRun, first_of, all_answers, all_seen, all_spelt, count_in, secret_in, seen_in, spelt_in}
-use Rattle.ob_headline.specs.Settings.{IsTaken, settings_of}
+use Rattle.ob_headline.specs.Settings.{IsTaken, flight_of, settings_of}
 use Rattle.ob_headline.specs.Usage.{is_kept, is_traced, kept_usage}
 use Rattle.ob_headline.specs.Words.{Answer, Outside, any_refused, keys_in}
-use Rattle.ob_headline.specs.Meaning.{AnswersFrom}
+use Rattle.ob_headline.proofs.AloneRuns.{RanAlone, are_of, headline_alone, meant_alone}
+use Rattle.ob_headline.proofs.BaseLemmas.{from_flying, unflown}
+use Rattle.ob_headline.proofs.ServedAlone.{AnswersAlone, AreOf, as_alone, behind_all, from_alone, of_both}
+use Rattle.ob_headline.specs.Flights.{FliesNone, seats_alone, seats_of, trace_of, words_of}
+use Rattle.ob_headline.specs.Meaning.{AnswersFrom, session_after}
+use Rattle.ob_script.specs.Flights.{Entry, drawn}
+use Rattle.ob_base.specs.declared.access.Access.{Access}
 use Rattle.ob_headline.specs.declared.ending.Ending.{Ending}
 use Rattle.ob_headline.specs.declared.ending.Ending.TheVariants.{Usage, BadKey, Ran}
 use Rattle.ob_headline.specs.declared.ending.KeptEnding.{KeptEnding}
@@ -51,6 +57,7 @@ use Rattle.ob_verdict.proofs.PlainSettings.{plain}
 use Rattle.ob_verdict.proofs.AlikeTables.{alike_chained, alike_turned}
 use Rattle.ob_verdict.specs.Alike.{AreAlike}
 use Rattle.ob_headline.specs.Story.{Story}
+use Rattle.ob_headline.specs.declared.flight.FlightSettings.{FlightSettings}
 
 -- ---- a run that came to its end
 -- by its status
@@ -84,9 +91,9 @@ unkeyed_stops (Ran (Ok other)) taken kept refused is ends well = absurd ends
 unkeyed_stops (Ran (Err stop)) taken kept refused is ends well = cc (is, well)
 
 -- a session went on
-has_session : {settings : Option Config} {Takes : Type 0} {tracing : Bool} {old new : Outside} {k0 k1 : KeeperState} {ending : KeptEnding} {answers : List Answer} {report : Report}
-    (ran : RunKept settings Takes tracing old new k0 k1 ending answers report) (refused : Bool) → ending ≡ Plain (Ran (Ok refused))
-    → (run : SessionKept settings Takes tracing old new k0 k1 ending answers report) × (ran ≡ inr (inr run))
+has_session : {settings : Option Config} {flight : Option FlightSettings} {Takes : Type 0} {tracing : Bool} {old new : Outside} {k0 k1 : KeeperState} {ending : KeptEnding} {answers : List Answer} {report : Report}
+    (ran : RunKept settings flight Takes tracing old new k0 k1 ending answers report) (refused : Bool) → ending ≡ Plain (Ran (Ok refused))
+    → (run : SessionKept settings flight Takes tracing old new k0 k1 ending answers report) × (ran ≡ inr (inr run))
 has_session (inl run) refused well = absurd (unkeyed_stops run.headline.ending run.headline.taken _ refused run.is run.ends well)
 has_session (inr (inl run)) refused well = absurd (begun_stops run.config (keys_of run.secret) _ _ _ _ _ _ _ refused run.begun well)
 has_session (inr (inr run)) refused well = (run, refl)
@@ -108,6 +115,20 @@ closed_well (Err error) whole ending f0 f1 k0 k1 refused ends well = absurd (clo
 pub unlied : (old new : Option Lie) → ((lie : Lie) → old ≡ Some lie → new ≡ Some lie) → new ≡ None → old ≡ None
 unlied None new stays none = refl
 unlied (Some lie) new stays none = absurd (cc (stays lie refl, none))
+
+-- ---- what its texts spell are the statements that are seen
+run_is : {settings : Option Config} {flight : Option FlightSettings} {Takes : Type 0} {tracing : Bool} {old new : Outside} {k0 k1 : KeeperState} {ending : KeptEnding} {answers : List Answer} {report : Report}
+    (ran : RunKept settings flight Takes tracing old new k0 k1 ending answers report) → flight ≡ None → AreOf (spelt_in ran) (seen_in ran)
+unfolding AreOf
+run_is (inl run) none = refl
+run_is (inr (inl run)) none = refl
+run_is {flight = flight} (inr (inr run)) none =
+    are_of (flying flight run.base) (unflown flight run.base none) (keys_in run.session.taken) run.session.ending run.session.story run.opened run.served.store run.session.accesses
+
+runs_are : (words : List Text) (flies : flight_of kept_usage words ≡ None) (runs : List (OneRun words)) → AreOf (all_spelt runs) (all_seen runs)
+unfolding AreOf
+runs_are words flies [] = refl
+runs_are words flies (one ∷ runs) = of_both (spelt_in one.run.ran) (all_spelt runs) (seen_in one.run.ran) (all_seen runs) (run_is one.run.ran flies) (runs_are words flies runs)
 
 -- ---- where a run begins
 -- what rests at a mark are these tables, in whichever order
@@ -147,18 +168,31 @@ tells_on (Saved region blocks number pack salt) config keys base old new begins 
 tells_on (Closed region blocks number pack) config keys base old new begins tells = subst (λ (b : Bool). IsTrue b) (sym begins.1.tells) tells
 
 -- ---- one run, and those behind it
-module _ (words : List Text) (secret : List ℕ) (f : Ending) (one : OneRun words) (run : SessionKept (settings_of kept_usage words) (IsTaken kept_usage words) (is_traced kept_usage words) one.old one.new one.keeper0 one.keeper1 one.run.ending one.run.answers one.report)
+module _ (words : List Text) (secret : List ℕ) (f : Ending) (one : OneRun words) (run : SessionKept (settings_of kept_usage words) (flight_of kept_usage words) (IsTaken kept_usage words) (is_traced kept_usage words) one.old one.new one.keeper0 one.keeper1 one.run.ending one.run.answers one.report)
     (came : one.run.ran ≡ inr (inr run)) (refused : Bool) (well : one.run.ending ≡ Plain (Ran (Ok refused))) (kept : is_kept words ≡ true) (keyed : run.secret ≡ secret) (none : failures one.run.answers ≡ 0) (tells : IsTrue one.old.store.tells)
-    (honest : one.new.store.lie ≡ None) (soon : run.base.count + length (trace run.base.public (run.session.story.seen ++ run.session.story.last)) < 2 ^ 63)
+    (honest : one.new.store.lie ≡ None) (flies : flight_of kept_usage words ≡ None) (early : run.base.count + length (trace_of (flying (flight_of kept_usage words) run.base) run.session.story.entries) < 2 ^ 63)
     (held : Option Mark) (same_mark : one.keeper0.held ≡ held) (t : Session) (waits : Waits words secret held one.old.store.kept t) where
   abbrev s0 : StoreState
   s0 = one.old.store
 
-  closed : (other : Bool) × (run.session.ending ≡ Ran (Ok other))
-      × IsClosed run.base (keys_of run.secret) (is_traced kept_usage words) other run.session.story (begun_at one.old run.opened run.traced) run.served one.new run.in_use one.keeper1 one.run.ending
-  closed = comes_to_end run.session.ending run.base _ _ run.session.story _ run.served one.new run.run one.report run.in_use one.keeper1 one.run.ending refused run.behind well
+  -- each statement is served alone
+  abbrev base : Base
+  base = flying (flight_of kept_usage words) run.base
 
-  abbrev tables : ClosesTables run.base (keys_of run.secret) (is_traced kept_usage words) closed.0 run.session.story
+  alone : FliesNone base
+  alone = unflown (flight_of kept_usage words) run.base flies
+
+  ran : RanAlone base (keys_in run.session.taken) run.session.ending run.session.story run.opened run.served.store
+  ran = headline_alone alone run.session
+
+  soon : run.base.count + length (trace run.base.public (run.session.story.seen ++ run.session.story.last)) < 2 ^ 63
+  soon = subst (λ (l : List Access). run.base.count + length l < 2 ^ 63) ran.traced early
+
+  closed : (other : Bool) × (run.session.ending ≡ Ran (Ok other))
+      × IsClosed base (keys_of run.secret) (is_traced kept_usage words) other run.session.story (begun_at one.old run.opened run.traced) run.served one.new run.in_use one.keeper1 one.run.ending
+  closed = comes_to_end run.session.ending base _ _ run.session.story _ run.served one.new run.run one.report run.in_use one.keeper1 one.run.ending refused run.behind well
+
+  abbrev tables : ClosesTables base (keys_of run.secret) (is_traced kept_usage words) closed.0 run.session.story
       run.opened run.served.store one.new.store run.served.traced one.new.traced run.served.faults.trace one.new.faults.trace run.in_use one.keeper1 one.run.ending
   tables = closed.2.tables
 
@@ -193,22 +227,48 @@ module _ (words : List Text) (secret : List ℕ) (f : Ending) (one : OneRun word
   keys_are : keys_in run.session.taken ≡ keys_of secret
   keys_are = ap (λ (o : Option (List ℕ)). option_map_or keys_of o (keys_of [])) run.keyed ∙ ap keys_of keyed
 
+  each : length run.session.story.answers ≡ length run.session.story.spelt
+  each = answered_all run.session (subst (λ (n : ℕ). n ≤ 1) (sym (run.session.status.status ∙ ap status_of closed.1)) (few_status closed.0))
+
+  are : AreOf run.session.story.spelt all
+  are = are_of base alone (keys_in run.session.taken) run.session.ending run.session.story run.opened run.served.store run.session.accesses
+
   -- what it answered, and what rests behind it where a closing could be made
   abbrev Leaves : (used : Bool) → Broken → Type 0
   Leaves used broken = MatchBool used ⊤ (Rests (keys_of run.secret) tables.closing one.new.store.kept (by_name (after_all s run.session.story.spelt broken).tables))
 
-  answered : (used : Bool) → is_used_up tables.closing ≡ used → (broken : Broken) × AnswersFrom (Ran (Ok closed.0)) s run.session.story.spelt broken run.session.story.answers all run.session.story.part × Leaves used broken
+  abbrev Meant : KeySet → Ending → Session → Type 0
+  Meant keys ending u = (broken : Broken) × AnswersAlone ending (drawing keys u) run.session.story.spelt broken run.session.story.answers all run.session.story.part
+
+  abbrev Rested : Session → Type 0
+  Rested u = (broken : Broken) × AnswersFrom (Ran (Ok closed.0)) (seats_of base run.session.story.entries) (drawing (keys_of run.secret) u) run.session.story.spelt broken run.session.story.answers all run.session.story.part
+      × Rests (keys_of run.secret) tables.closing one.new.store.kept (by_name (session_after (seats_of base run.session.story.entries) (drawing (keys_of run.secret) u) run.session.story.spelt broken).tables)
+
+  rested_alone : Rested (session_at run.base begins.tables) → (broken : Broken) × AnswersAlone (Ran (Ok closed.0)) (drawing (keys_of run.secret) (session_at run.base begins.tables)) run.session.story.spelt broken run.session.story.answers all run.session.story.part
+      × Rests (keys_of run.secret) tables.closing one.new.store.kept (by_name (after_all (drawing (keys_of run.secret) (session_at run.base begins.tables)) run.session.story.spelt broken).tables)
+  rested_alone rested =
+      let u : Session = drawing (keys_of run.secret) (session_at run.base begins.tables) in
+      let meant =
+      as_alone (words_of base) 0 (Ran (Ok closed.0)) u run.session.story.spelt rested.0 run.session.story.answers all run.session.story.part are
+      (subst (λ (es : List Entry). AnswersFrom (Ran (Ok closed.0)) (seats_of base es) u run.session.story.spelt rested.0 run.session.story.answers all run.session.story.part) ran.entries rested.1) in
+      let behind : session_after (seats_of base run.session.story.entries) u run.session.story.spelt rested.0 ≡ after_all u run.session.story.spelt rested.0 =
+      ap (λ (es : List Entry). session_after (seats_of base es) u run.session.story.spelt rested.0) ran.entries
+      ∙ behind_all (words_of base) 0 (Ran (Ok closed.0)) u run.session.story.spelt rested.0 run.session.story.answers all run.session.story.part are meant each in
+      (rested.0, meant, subst (λ (v : Session). Rests (keys_of run.secret) tables.closing one.new.store.kept (by_name v.tables)) behind rested.2)
+
+  answered : (used : Bool) → is_used_up tables.closing ≡ used → (broken : Broken) × AnswersAlone (Ran (Ok closed.0)) s run.session.story.spelt broken run.session.story.answers all run.session.story.part × Leaves used broken
   answered true is =
-      let meant = begins.from (λ (u : Session). (broken : Broken) × AnswersFrom run.session.ending (drawing (keys_in run.session.taken) u) run.session.story.spelt broken run.session.story.answers all run.session.story.part) (run.session.answers.meant (record { tells = tells_opened; unfit = λ lie told. absurd (cc (told, honest_served)) })) in
-      let here = subst (λ (k : KeySet). AnswersFrom run.session.ending (drawing k (session_at run.base begins.tables)) run.session.story.spelt meant.0 run.session.story.answers all run.session.story.part) keys_are meant.1 in
-      (meant.0, subst (λ (e : Ending). AnswersFrom e s run.session.story.spelt meant.0 run.session.story.answers all run.session.story.part) closed.1 here, tt)
+      let meant =
+      begins.from (Meant (keys_in run.session.taken) run.session.ending) (from_flying (flight_of kept_usage words) run.base (Meant (keys_in run.session.taken) run.session.ending)
+      (meant_alone base alone (keys_in run.session.taken) run.session.ending run.session.story run.opened run.served.store run.session.accesses
+      (run.session.answers.meant (record { tells = tells_opened; unfit = λ lie told. absurd (cc (told, honest_served)) })))) in
+      let here = subst (λ (k : KeySet). AnswersAlone run.session.ending (drawing k (session_at run.base begins.tables)) run.session.story.spelt meant.0 run.session.story.answers all run.session.story.part) keys_are meant.1 in
+      (meant.0, subst (λ (e : Ending). AnswersAlone e s run.session.story.spelt meant.0 run.session.story.answers all run.session.story.part) closed.1 here, tt)
   answered false is =
       let made = closed_well tables.closes.result _ one.run.ending _ _ run.in_use one.keeper1 refused tables.closes.ends well in
-      let from_it =
-      begins.from (λ (u : Session). (broken : Broken) × AnswersFrom (Ran (Ok closed.0)) (drawing (keys_of run.secret) u) run.session.story.spelt broken run.session.story.answers all run.session.story.part
-      × Rests (keys_of run.secret) tables.closing one.new.store.kept (by_name (after_all (drawing (keys_of run.secret) u) run.session.story.spelt broken).tables)) (tables.rests (record { tells = tells_opened; no_lie = honest }) is made.0 made.1) in (
+      let from_it = rested_alone (begins.from Rested (from_flying (flight_of kept_usage words) run.base Rested (tables.rests (record { tells = tells_opened; no_lie = honest }) is made.0 made.1))) in (
         from_it.0,
-        subst (λ (x : List ℕ). AnswersFrom (Ran (Ok closed.0)) (drawing (keys_of x) (session_at run.base begins.tables)) run.session.story.spelt from_it.0 run.session.story.answers all run.session.story.part) keyed from_it.1,
+        subst (λ (x : List ℕ). AnswersAlone (Ran (Ok closed.0)) (drawing (keys_of x) (session_at run.base begins.tables)) run.session.story.spelt from_it.0 run.session.story.answers all run.session.story.part) keyed from_it.1,
         subst (λ (x : List ℕ). Rests (keys_of run.secret) tables.closing one.new.store.kept (by_name (after_all (drawing (keys_of x) (session_at run.base begins.tables)) run.session.story.spelt from_it.0).tables)) keyed from_it.2,
       )
 
@@ -216,7 +276,7 @@ module _ (words : List Text) (secret : List ℕ) (f : Ending) (one : OneRun word
   held_behind : one.keeper1.held ≡ Some (mark_made tables.closing)
   held_behind =
       let after : HeldAfter one.run.ran waits.mark = marks_held words one.old one.new one.keeper0 one.keeper1 one.report one.run waits.mark (same_mark ∙ waits.is) in
-      let behind = subst (λ (r : RunKept (settings_of kept_usage words) (IsTaken kept_usage words) (is_traced kept_usage words) one.old one.new one.keeper0 one.keeper1 one.run.ending one.run.answers one.report). HeldAfter r waits.mark) came after in
+      let behind = subst (λ (r : RunKept (settings_of kept_usage words) (flight_of kept_usage words) (IsTaken kept_usage words) (is_traced kept_usage words) one.old one.new one.keeper0 one.keeper1 one.run.ending one.run.answers one.report). HeldAfter r waits.mark) came after in
       behind.whole refused well ∙ ap (λ (c : Closing). Some (mark_made c)) (sym tables.is)
 
   waits_made : (used : Bool) (ts : Tables) → is_used_up tables.closing ≡ used → ((used ≡ false) → WaitsAt secret (mark_of tables.closing) one.new.store.kept ts) → WaitsAt secret (mark_made tables.closing) one.new.store.kept ts
@@ -241,14 +301,11 @@ module _ (words : List Text) (secret : List ℕ) (f : Ending) (one : OneRun word
   }
 
   -- how its texts were served
-  told : (broken : Broken) × AnswersFrom (Ran (Ok closed.0)) s run.session.story.spelt broken run.session.story.answers all run.session.story.part × Leaves (is_used_up tables.closing) broken
+  told : (broken : Broken) × AnswersAlone (Ran (Ok closed.0)) s run.session.story.spelt broken run.session.story.answers all run.session.story.part × Leaves (is_used_up tables.closing) broken
   told = answered (is_used_up tables.closing) refl
 
   abbrev hows_here : Broken
   hows_here = hows_of run.session.story.spelt told.0
-
-  each : length run.session.story.answers ≡ length run.session.story.spelt
-  each = answered_all run.session (subst (λ (n : ℕ). n ≤ 1) (sym (run.session.status.status ∙ ap status_of closed.1)) (few_status closed.0))
 
   unfailed : failures run.session.story.answers ≡ 0
   unfailed = subst (λ (a : List Answer). failures a ≡ 0) run.answered none
@@ -260,7 +317,7 @@ module _ (words : List Text) (secret : List ℕ) (f : Ending) (one : OneRun word
   -- it is answered as in one run, and the rest follows from where it waits behind it
   module _ (soon_too : (after_all t run.session.story.spelt hows_here).asked < 2 ^ 63) where
     on : GoesOn s run.session.story.spelt told.0 run.session.story.answers all t
-    on = answers_on _ None (Ran (Ok closed.0)) run.session.story.spelt s t told.0 run.session.story.answers all run.session.story.part begins.alike each unfailed told.1 run.session.accesses.lawful soon soon_too
+    on = answers_on _ None (Ran (Ok closed.0)) run.session.story.spelt s t told.0 run.session.story.answers all run.session.story.part begins.alike each unfailed told.1 ran.lawful soon soon_too
 
     waits_on : Waits words secret one.keeper1.held one.new.store.kept (after_all t run.session.story.spelt hows_here)
     waits_on = waits_behind (is_used_up tables.closing) refl told.0 hows_here told.2 (after_all t run.session.story.spelt hows_here) refl on.alike
@@ -270,7 +327,7 @@ module _ (words : List Text) (secret : List ℕ) (f : Ending) (one : OneRun word
 record InOne (words : List Text) (f : Ending) (runs : List (OneRun words)) (t : Session) : Type 0 where
   hows : Broken
   alone : t.public.batch ≡ None → AreAlone hows
-  answered : (after_all t (all_spelt runs) hows).asked < 2 ^ 63 → AnswersFrom f t (all_spelt runs) hows (all_answers runs) (all_seen runs) []
+  answered : (after_all t (all_spelt runs) hows).asked < 2 ^ 63 → AnswersAlone f t (all_spelt runs) hows (all_answers runs) (all_seen runs) []
 
 -- a run, and those behind it: its texts spell these statements, which were answered and seen so
 record FirstOf (words : List Text) (f : Ending) (t : Session) (spelt : List Spelt) (answers : List Answer) (seen : List Served) (Later : Session → Type 0) : Type 0 where
@@ -292,7 +349,7 @@ module _ (words : List Text) (f : Ending) (runs : List (OneRun words)) (t : Sess
   abbrev Joined : Type 0
   Joined =
       (hows : Broken) × (t.public.batch ≡ None → AreAlone hows)
-      × ((after_all t (spelt ++ all_spelt runs) hows).asked < 2 ^ 63 → AnswersFrom f t (spelt ++ all_spelt runs) hows (answers ++ all_answers runs) (seen ++ all_seen runs) [])
+      × ((after_all t (spelt ++ all_spelt runs) hows).asked < 2 ^ 63 → AnswersAlone f t (spelt ++ all_spelt runs) hows (answers ++ all_answers runs) (seen ++ all_seen runs) [])
 
   go_on : (b : Bool) → nat_lt (after_all t spelt here).asked (2 ^ 63) ≡ b → Joined
   go_on true is =
@@ -314,37 +371,37 @@ module _ (words : List Text) (f : Ending) (runs : List (OneRun words)) (t : Sess
   first_and_more : Joined
   first_and_more = go_on (nat_lt (after_all t spelt here).asked (2 ^ 63)) refl
 
-all_as_one : (words : List Text) (keeps : is_kept words ≡ true) (secret : List ℕ) (f : Ending) (runs : List (OneRun words)) (held : Option Mark) (kept : ℕ → Option KeptRegion) (t : Session) → GoOn secret held kept runs → Waits words secret held kept t → InOne words f runs t
-unfolding AnswersFrom
-all_as_one words keeps secret f [] held kept t goes waits = record { hows = []; alone = λ batchless. tt; answered = λ few. (refl, refl) }
-all_as_one words keeps secret f (one ∷ runs) held kept t goes waits =
+all_as_one : (words : List Text) (keeps : is_kept words ≡ true) (flies : flight_of kept_usage words ≡ None) (secret : List ℕ) (f : Ending) (runs : List (OneRun words)) (held : Option Mark) (kept : ℕ → Option KeptRegion) (t : Session) → GoOn secret held kept runs → Waits words secret held kept t → InOne words f runs t
+unfolding AnswersAlone
+all_as_one words keeps flies secret f [] held kept t goes waits = record { hows = []; alone = λ batchless. tt; answered = λ few. (refl, refl) }
+all_as_one words keeps flies secret f (one ∷ runs) held kept t goes waits =
     let good = goes.2 in
     let ended = well_ended one.run.ending (subst (λ (n : ℕ). n ≤ 1) one.run.status good.well.ended) in
     let found = has_session one.run.ran ended.0 ended.1 in
     let run = found.0 in
-    let keyed : run.secret ≡ secret = cc (subst (λ (r : RunKept (settings_of kept_usage words) (IsTaken kept_usage words) (is_traced kept_usage words) one.old one.new one.keeper0 one.keeper1 one.run.ending one.run.answers one.report). secret_in r ≡ Some secret) found.1 good.keyed) in
-    let soon = subst (λ (r : RunKept (settings_of kept_usage words) (IsTaken kept_usage words) (is_traced kept_usage words) one.old one.new one.keeper0 one.keeper1 one.run.ending one.run.answers one.report). count_in r < 2 ^ 63) found.1 good.early in
+    let keyed : run.secret ≡ secret = cc (subst (λ (r : RunKept (settings_of kept_usage words) (flight_of kept_usage words) (IsTaken kept_usage words) (is_traced kept_usage words) one.old one.new one.keeper0 one.keeper1 one.run.ending one.run.answers one.report). secret_in r ≡ Some secret) found.1 good.keyed) in
+    let soon = subst (λ (r : RunKept (settings_of kept_usage words) (flight_of kept_usage words) (IsTaken kept_usage words) (is_traced kept_usage words) one.old one.new one.keeper0 one.keeper1 one.run.ending one.run.answers one.report). count_in r < 2 ^ 63) found.1 good.early in
     let here = subst (λ (k : ℕ → Option KeptRegion). Waits words secret held k t) (sym (λ i q. goes.1 q i)) waits in
     let first : FirstOf words f t run.session.story.spelt run.session.story.answers (run.session.story.seen ++ run.session.story.last) (λ u. Waits words secret one.keeper1.held one.new.store.kept u) = record {
-      broken = (told words secret f one run found.1 ended.0 ended.1 keeps keyed good.well.none good.tells good.honest soon held goes.0 t here).0;
-      alone = alone_here words secret f one run found.1 ended.0 ended.1 keeps keyed good.well.none good.tells good.honest soon held goes.0 t here;
-      base = s words secret f one run found.1 ended.0 ended.1 keeps keyed good.well.none good.tells good.honest soon held goes.0 t here;
+      broken = (told words secret f one run found.1 ended.0 ended.1 keeps keyed good.well.none good.tells good.honest flies soon held goes.0 t here).0;
+      alone = alone_here words secret f one run found.1 ended.0 ended.1 keeps keyed good.well.none good.tells good.honest flies soon held goes.0 t here;
+      base = s words secret f one run found.1 ended.0 ended.1 keeps keyed good.well.none good.tells good.honest flies soon held goes.0 t here;
       goes = λ few. (
-        on words secret f one run found.1 ended.0 ended.1 keeps keyed good.well.none good.tells good.honest soon held goes.0 t here few,
-        waits_on words secret f one run found.1 ended.0 ended.1 keeps keyed good.well.none good.tells good.honest soon held goes.0 t here few,
+        on words secret f one run found.1 ended.0 ended.1 keeps keyed good.well.none good.tells good.honest flies soon held goes.0 t here few,
+        waits_on words secret f one run found.1 ended.0 ended.1 keeps keyed good.well.none good.tells good.honest flies soon held goes.0 t here few,
       );
     } in
     let joined =
     first_and_more words f runs t run.session.story.spelt run.session.story.answers (run.session.story.seen ++ run.session.story.last) (λ u. Waits words secret one.keeper1.held one.new.store.kept u) first
-    (λ u later. all_as_one words keeps secret f runs one.keeper1.held one.new.store.kept u goes.3 later) in
+    (λ u later. all_as_one words keeps flies secret f runs one.keeper1.held one.new.store.kept u goes.3 later) in
     record {
       hows = joined.0;
       alone = joined.1;
       answered =
-          subst (λ (r : RunKept (settings_of kept_usage words) (IsTaken kept_usage words) (is_traced kept_usage words) one.old one.new one.keeper0 one.keeper1 one.run.ending one.run.answers one.report).
-          (after_all t (spelt_in r ++ all_spelt runs) joined.0).asked < 2 ^ 63 → AnswersFrom f t (spelt_in r ++ all_spelt runs) joined.0 (one.run.answers ++ all_answers runs) (seen_in r ++ all_seen runs) []) (sym found.1)
+          subst (λ (r : RunKept (settings_of kept_usage words) (flight_of kept_usage words) (IsTaken kept_usage words) (is_traced kept_usage words) one.old one.new one.keeper0 one.keeper1 one.run.ending one.run.answers one.report).
+          (after_all t (spelt_in r ++ all_spelt runs) joined.0).asked < 2 ^ 63 → AnswersAlone f t (spelt_in r ++ all_spelt runs) joined.0 (one.run.answers ++ all_answers runs) (seen_in r ++ all_seen runs) []) (sym found.1)
           (subst (λ (a : List Answer). (after_all t (run.session.story.spelt ++ all_spelt runs) joined.0).asked < 2 ^ 63
-          → AnswersFrom f t (run.session.story.spelt ++ all_spelt runs) joined.0 (a ++ all_answers runs) ((run.session.story.seen ++ run.session.story.last) ++ all_seen runs) []) (sym run.answered) joined.2);
+          → AnswersAlone f t (run.session.story.spelt ++ all_spelt runs) joined.0 (a ++ all_answers runs) ((run.session.story.seen ++ run.session.story.last) ++ all_seen runs) []) (sym run.answered) joined.2);
     }
 
 -- no tables are public before the first statement
@@ -352,23 +409,28 @@ pub none_there : (settings : Option Config) → InStep (start settings)
 none_there None = refl
 none_there (Some config) = refl
 
-pub answer_as_one : (words : List Text) (keeps : is_kept words ≡ true) (secret : List ℕ) (kept : ℕ → Option KeptRegion) (runs : List (OneRun words)) → GoOn secret (Some Fresh) kept runs → AnswerAsOne secret runs
-answer_as_one words keeps secret kept runs goes = go (first_of words secret).public.batch refl
+pub answer_as_one : (words : List Text) (keeps : is_kept words ≡ true) (flies : flight_of kept_usage words ≡ None) (secret : List ℕ) (kept : ℕ → Option KeptRegion) (runs : List (OneRun words)) → GoOn secret (Some Fresh) kept runs → AnswerAsOne secret runs
+answer_as_one words keeps flies secret kept runs goes = go (first_of words secret).public.batch refl
   where
     f : Ending
     f = Ran (Ok (any_refused (all_answers runs)))
 
     all : InOne words f runs (first_of words secret)
     all =
-        all_as_one words keeps secret f runs (Some Fresh) kept (first_of words secret) goes
+        all_as_one words keeps flies secret f runs (Some Fresh) kept (first_of words secret) goes
         (record { mark = Fresh; is = refl; settings = refl; flat = tt; step = none_there (settings_of kept_usage words); at = record { count = refl; found = λ name. refl; apart = refl; too = refl } })
 
+    -- as it is said of one run, of which none flies
+    said : (hows : Broken) → AnswersAlone f (first_of words secret) (all_spelt runs) hows (all_answers runs) (all_seen runs) []
+        → AnswersFrom f (seats_alone (first_of words secret) (all_seen runs)) (first_of words secret) (all_spelt runs) hows (all_answers runs) (all_seen runs) []
+    said hows answers = from_alone (drawn 0) 0 f (first_of words secret) (all_spelt runs) hows (all_answers runs) (all_seen runs) [] (runs_are words flies runs) answers
+
     go : (o : Option ℕ) → (first_of words secret).public.batch ≡ o → AnswerAsOne secret runs
-    go (Some most) is = record { hows = all.hows; alone = λ none. absurd (cc (none, is)); answered = all.answered }
+    go (Some most) is = record { hows = all.hows; alone = λ none. absurd (cc (none, is)); answered = λ few. said all.hows (all.answered few) }
     go None is = record {
       hows = [];
       alone = λ none. refl;
       answered = λ few.
-          answers_alone f (first_of words secret) (all_spelt runs) all.hows (all_answers runs) (all_seen runs) [] (all.alone is)
-          (all.answered (subst (λ (u : Session). u.asked < 2 ^ 63) (sym (after_alone (first_of words secret) (all_spelt runs) all.hows (all.alone is))) few));
+          said [] (answers_alone f (first_of words secret) (all_spelt runs) all.hows (all_answers runs) (all_seen runs) [] (all.alone is)
+          (all.answered (subst (λ (u : Session). u.asked < 2 ^ 63) (sym (after_alone (first_of words secret) (all_spelt runs) all.hows (all.alone is))) few)));
     }

@@ -1,8 +1,20 @@
 -- What statements go on from.
-use Rattle.std.proofs.Common.{[], Option, Some, None}
-use Rattle.ob_headline.specs.Bases.{Base, FromEach, HoldsFrom, Opened, session_at}
+use Rattle.std.proofs.Common.{◌≡◌, ap, [], Option, Some, None}
+use Rattle.ob_headline.specs.Bases.{Base, FromEach, HoldsFrom, Opened, flying, session_at}
+use Rattle.ob_headline.specs.Flights.{FliesNone, most_flown}
+use Rattle.ob_headline.specs.declared.flight.FlightSettings.{FlightSettings}
 use Rattle.ob_mean.specs.Replay.{Session}
 use Rattle.ob_mean.specs.Verdict.{Tables}
+
+-- how SELECTs fly changes nothing of it
+pub from_flying : (flight : Option FlightSettings) (base : Base) (P : Session → Type 0) → FromEach (flying flight base) P → FromEach base P
+from_flying flight base P each = go base.opened each where
+  go : (o : Option Opened) → HoldsFrom o (flying flight base) P → HoldsFrom o base P
+  go None holds = holds
+  go (Some o) holds = holds
+
+pub unflown : (flight : Option FlightSettings) (base : Base) → flight ≡ None → FliesNone (flying flight base)
+unflown flight base none = ap (λ (o : Option FlightSettings). most_flown o base.public) none
 
 -- what follows for each session that they may go on from
 pub from_each : (base : Base) (P Q : Session → Type 0) → ((tables : Tables) → P (session_at base tables) → Q (session_at base tables)) → FromEach base P → FromEach base Q

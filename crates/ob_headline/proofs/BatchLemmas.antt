@@ -1,35 +1,26 @@
 -- What is seen of INSERTs that are served together, and what is gathered.
-use Rattle.std.specs.Prelude.{⊤, ◌&&◌, ◌↔◌, ◌≤◌, if◌then◌else◌, is_some, nat_le}
-use Rattle.std.proofs.Common.{◌≡◌, ◌+◌, ◌++◌, ℕ, Bool, true, false, IsTrue, Ok, Err, List, [], ◌∷◌, length, take, Option, Some, None, refl, sym, ◌∙◌, ap, subst, arith}
+use Rattle.std.specs.Prelude.{⊤, ◌&&◌, if◌then◌else◌, is_some, nat_le}
+use Rattle.std.proofs.Common.{◌≡◌, ℕ, Bool, true, false, IsTrue, List, [], ◌∷◌, length, Option, Some, None, refl, sym, ◌∙◌, ap}
 use Rattle.std.specs.Option.{is_none, option_map}
 use Rattle.ob_base.specs.declared.config.Plan.{Plan}
 use Rattle.ob_base.specs.declared.config.Plan.TheVariants.{Small, Large, Continuous, Hash}
 use Rattle.ob_base.specs.declared.config.Public.{Public}
 use Rattle.ob_base.specs.declared.refusal.Refusal.{Refusal}
-use Rattle.ob_base.specs.declared.refusal.Refusal.TheVariants.{StoreFault}
 use Rattle.ob_base.specs.declared.seen.End.{End}
 use Rattle.ob_base.specs.declared.seen.End.TheVariants.{Static, Whole, AfterCount, Joined, Cut}
 use Rattle.ob_base.specs.declared.seen.Seen.{Seen}
-use Rattle.ob_headline.specs.Accesses.{AreSeen}
 use Rattle.ob_headline.specs.Batches.{Joins, is_failed}
-use Rattle.ob_headline.specs.Failures.{cut_off, failures, outcome_failures, refusal_failures}
-use Rattle.ob_headline.specs.Statements.{statements}
-use Rattle.ob_headline.specs.Words.{Answer}
 use Rattle.ob_mean.proofs.BatchLemmas.{none_begin}
 use Rattle.ob_mean.specs.Batches.{Gathering, and_one, batch_most, begun_by, gathering_after, goes_into, inserts_flat, is_cut, is_joined, leaves_room}
 use Rattle.ob_mean.specs.Refusals.{early_refusal, limits_of}
-use Rattle.ob_mean.specs.Replay.{How, Alone, CutAfter, With, CutWith, Session, Spelt, how_now, seen_now, seen_or_cut}
+use Rattle.ob_mean.specs.Replay.{How, Alone, CutAfter, With, CutWith, Session, how_now, seen_now, seen_or_cut}
 use Rattle.ob_mean.specs.Verdict.{Accessed, Draws, Tables, accessed, counted, ended, is_late, plan_for, seen_by, seen_served, seen_started, seen_with, selected_places, source_slots}
 use Rattle.ob_base.specs.Stored.{headings}
 use Rattle.ob_row.specs.Slots.{is_consecutive}
-use Rattle.ob_script.specs.Script.{script}
-use Rattle.ob_script.specs.Trace.{Served as Entry, next}
 use Rattle.ob_sql.specs.Skeleton.{skeleton}
 use Rattle.ob_sql.specs.declared.stmt.Stmt.{Stmt}
 use Rattle.ob_sql.specs.declared.stmt.Stmt.TheVariants.{Create, Insert, Update, Delete, Drop as DropTable, SelectRows as RowsStmt, SelectTotals as TotalsStmt}
 use Rattle.ob_verdict.specs.Outcomes.{refusal_now}
-use Rattle.ob_verdict.specs.declared.outcome.Outcome.{Outcome}
-use Rattle.ob_verdict.specs.declared.outcome.Outcome.TheVariants.{Created, Inserted, Changed, Deleted, Dropped, Rows, Refused}
 
 -- ---- how a statement ends by its meaning
 module _ (P : End → Type 0) (static : P Static) (whole : P Whole) (behind : P AfterCount) (p : Public) where
@@ -113,47 +104,3 @@ gathers_alike p m g a b end sk early =
     let none : is_none (refusal_now p m a) ≡ is_none (refusal_now p m b) = none_alike (refusal_now p m a) (refusal_now p m b) early in
     λ i. if goes_into p g (sk i) then option_map and_one g
     else (if nat_le 2 (batch_most p) && leaves_room m && inserts_flat p (sk i) && none i then begun_by (sk i) end else None)
-
--- ---- how many texts failed, without batches
-failed_alone : (end : End) → is_failed None end ≡ is_cut end
-failed_alone Static = refl
-failed_alone Whole = refl
-failed_alone AfterCount = refl
-failed_alone Joined = refl
-failed_alone (Cut n) = refl
-
-refusal_sound : (r : Refusal) → (Refused r ≡ Refused StoreFault → ⊥) → refusal_failures r ≡ 0
-refusal_sound StoreFault not = absurd (not refl)
-refusal_sound r not = refl
-
-outcome_sound : (o : Outcome) → (o ≡ Refused StoreFault → ⊥) → outcome_failures o ≡ 0
-outcome_sound (Refused r) not = refusal_sound r not
-outcome_sound Created not = refl
-outcome_sound Inserted not = refl
-outcome_sound (Changed n) not = refl
-outcome_sound (Deleted n) not = refl
-outcome_sound Dropped not = refl
-outcome_sound (Rows k) not = refl
-
-failure_of : (cut : Bool) (o : Outcome) → (IsTrue cut ↔ (o ≡ Refused StoreFault)) → outcome_failures o ≡ (if cut then 1 else 0)
-failure_of true o same = ap outcome_failures (same.0 refl)
-failure_of false o same = outcome_sound o (λ is. let cut = same.1 is in cc cut)
-
--- as many as were cut off
-pub failures_cut : (Leaves : Public → Stmt → Seen → Type 0) (spelt : List Spelt) (answers : List Answer) (p : Public) (m : ℕ) (seen last : List Entry) → p.batch ≡ None → AreSeen Leaves p m None spelt answers (seen ++ last)
-    → length answers ≤ length spelt → length seen ≡ length (statements (take (length answers) spelt)) → failures answers ≡ cut_off seen
-unfolding AreSeen failures cut_off statements
-failures_cut Leaves spelt [] p m [] last none lawful few each = refl
-failures_cut Leaves spelt [] p m (x ∷ seen) last none lawful few each = absurd (omega (arith, each))
-failures_cut Leaves [] (one ∷ answers) p m seen last none lawful few each = absurd (omega (arith, few))
-failures_cut Leaves (Err at ∷ spelt) (one ∷ answers) p m seen last none lawful few each =
-    let first : outcome_failures one.outcome ≡ 0 = ap (λ (a : Answer). outcome_failures a.outcome) lawful.0 in
-    let rest = failures_cut Leaves spelt answers p m seen last none lawful.1 (omega (arith, few)) each in
-    omega (arith, first, rest)
-failures_cut Leaves (Ok stmt ∷ spelt) (one ∷ answers) p m [] last none lawful few each = absurd (omega (arith, each))
-failures_cut Leaves (Ok stmt ∷ spelt) (one ∷ answers) p m (x ∷ seen) last none lawful few each =
-    let same : IsTrue (is_cut x.seen.end) ↔ (one.outcome ≡ Refused StoreFault) = subst (λ (b : Bool). IsTrue b ↔ (one.outcome ≡ Refused StoreFault)) (failed_alone x.seen.end) lawful.2.1 in
-    let first = failure_of (is_cut x.seen.end) one.outcome same in
-    let behind = subst (λ (g : Option Gathering). AreSeen Leaves (next p x.skeleton x.seen) (m + length (script p x.skeleton x.seen)) g spelt answers (seen ++ last)) (none_gathered p m stmt x.seen.end none) lawful.3 in
-    let rest = failures_cut Leaves spelt answers (next p x.skeleton x.seen) (m + length (script p x.skeleton x.seen)) seen last none behind (omega (arith, few)) (omega (arith, each)) in
-    omega (arith, first, rest)

@@ -8,7 +8,7 @@ use Rattle.ob_base.specs.declared.mark.Mark.{Mark}
 use Rattle.ob_base.specs.declared.mark.Mark.TheVariants.{Fresh, InUse, Closed, Begun, Saved}
 use Rattle.ob_reopen.specs.Reopened.{number_given}
 use Rattle.ob_headline.proofs.LeftLemmas.{shows_all}
-use Rattle.ob_headline.specs.Bases.{Base, fresh}
+use Rattle.ob_headline.specs.Bases.{Base, flying, fresh}
 use Rattle.ob_headline.specs.Keeping.{BeginsFrom, closing_named}
 use Rattle.ob_headline.specs.KeptHeadline.{EndsBehind, PassesBoth, RunKept}
 use Rattle.ob_headline.specs.KeyLine.{first_line, secret_of}
@@ -27,11 +27,15 @@ use Rattle.ob_seal.specs.KeySet.{KeySet}
 use Rattle.ob_seal.specs.Sealed.{keys_of}
 use Rattle.ob_store.specs.State.{StoreState}
 use Rattle.ob_headline.specs.Story.{Story}
+use Rattle.ob_headline.specs.declared.flight.FlightSettings.{FlightSettings}
 
 -- ---- what a run begins with
 pub begun_fresh : (settings : Option Config) → IsBegun (fresh settings)
 begun_fresh None = record { next = refl; fresh = λ region place own. refl }
 begun_fresh (Some config) = record { next = refl; fresh = λ region place own. refl }
+
+pub begun_flying : (flight : Option FlightSettings) (base : Base) → IsBegun base → IsBegun (flying flight base)
+begun_flying flight base begun = record { next = begun.next; fresh = begun.fresh }
 
 other_region : (q r : ℕ) → r < q → (q == r) ≡ false
 other_region q r less = grind (arith, nat_tests)
@@ -70,12 +74,12 @@ sealed_behind (Ran (Err stop)) base taken secret tracing story begun served new 
     subst (λ (o : Outside). IsSealed (PassesBoth base.public.pack) (keys_of secret) base.start (base.start.region + 1) begun.store o.store) (sym behind.same)
     (subst (λ (k : KeySet). IsSealed (PassesBoth base.public.pack) k base.start (base.start.region + 1) begun.store served.store) keys both)
 
-pub kept_shown : {settings : Option Config} {Takes : Type 0} {tracing : Bool} {old new : Outside} {k0 k1 : KeeperState} {ending : KeptEnding} {answers : List Answer} {report : Report}
-    (ran : RunKept settings Takes tracing old new k0 k1 ending answers report) → ShowsKept ran
+pub kept_shown : {settings : Option Config} {flight : Option FlightSettings} {Takes : Type 0} {tracing : Bool} {old new : Outside} {k0 k1 : KeeperState} {ending : KeptEnding} {answers : List Answer} {report : Report}
+    (ran : RunKept settings flight Takes tracing old new k0 k1 ending answers report) → ShowsKept ran
 kept_shown (inl run) = tt
 kept_shown (inr (inl run)) = tt
-kept_shown {tracing = tracing} {old = old} {new = new} {k1 = k1} {ending = ending} {report = report} (inr (inr run)) = λ tells.
+kept_shown {flight = flight} {tracing = tracing} {old = old} {new = new} {k1 = k1} {ending = ending} {report = report} (inr (inr run)) = λ tells.
     let begun = begun_from run.began.mark run.config (keys_of run.secret) run.base old.store run.opened run.began.begins in
     shows_all (PassesBoth run.base.public.pack) (keys_of run.secret) run.base.start run.opened new.store begun.fresh
-    (sealed_behind run.session.ending run.base run.session.taken run.secret tracing run.session.story _ run.served new run.run report run.in_use k1 ending run.keyed run.behind
+    (sealed_behind run.session.ending (flying flight run.base) run.session.taken run.secret tracing run.session.story _ run.served new run.run report run.in_use k1 ending run.keyed run.behind
     run.session.sealing.sealed tells)

@@ -1,7 +1,7 @@
 -- Texts that take effect in a session do so in one that is alike, and are answered alike.
 use Rattle.std.specs.Prelude.{◌↔◌, ◌==◌, if◌then◌else◌}
 use Rattle.std.specs.Option.{option_map_or, option_or}
-use Rattle.std.proofs.Common.{◌≡◌, ◌<◌, ◌+◌, ◌^◌, ◌++◌, ℕ, zero, suc, Bool, true, false, IsTrue, List, [], ◌∷◌, length, map, take, Option, Some, None, Ok, Err, refl, sym, ◌∙◌, ap, subst, arith, length-append}
+use Rattle.std.proofs.Common.{◌≡◌, ◌<◌, ◌+◌, ◌^◌, ◌++◌, ℕ, suc, Bool, true, false, IsTrue, List, [], ◌∷◌, length, map, take, Option, Some, None, Ok, Err, refl, sym, ◌∙◌, ap, subst, arith, length-append}
 use Rattle.ob_base.specs.Refusals.{is_store_fault}
 use Rattle.ob_base.specs.Stored.{Stored, headings, stored_at}
 use Rattle.ob_base.specs.Indexes.{by_shape}
@@ -16,9 +16,11 @@ use Rattle.ob_base.specs.declared.schema.Shape.TheVariants.{Flat, Indexed}
 use Rattle.ob_base.specs.declared.seen.Seen.{Seen}
 use Rattle.ob_headline.proofs.AlikeSessions.{SessionsAlike, TablesAlike, after_alike, answers_alike, grows, parted_alike, settled_alike}
 use Rattle.ob_headline.proofs.BatchLemmas.{sound_now}
-use Rattle.ob_headline.specs.Accesses.{AreSeen, Says}
+use Rattle.ob_headline.specs.Accesses.{Says}
 use Rattle.ob_headline.specs.Batches.{Joins, is_failed}
-use Rattle.ob_headline.specs.Meaning.{AnswersFrom, AnswersIn, AnswersMeant}
+use Rattle.ob_headline.proofs.ServedAlone.{AnswersAlone, AreOf, SeenAlone, alone_from, behind_alone, head_taken, rest_taken}
+use Rattle.ob_headline.specs.Flights.{Seat, at_seat}
+use Rattle.ob_headline.specs.Meaning.{AnswersIn, AnswersMeant, session_after}
 use Rattle.ob_headline.specs.SavedHeadline.{answered_by, left_by, taken_by}
 use Rattle.ob_headline.specs.SavedRuns.{AnsweredInOne, Effect, effects_of, has_failed, texts_of, unanswered}
 use Rattle.ob_headline.specs.Statements.{statements}
@@ -125,36 +127,51 @@ member_sound s (Insert table columns values) member = at (stored_at table (datab
         let row : Row = new_row t.heading.schema columns values in
         by_late (insert_refusal t row) (ap (λ (u : Option (Stored (List Row))). option_map_or (λ (t : Stored (List Row)). insert_refusal t (new_row t.heading.schema columns values)) u None) is) (room_sound t row)
 
--- ---- the first of some texts
-no_take : {A : Type 0} (n : ℕ) → ◌≡◌ {A = List A} (take n []) []
-no_take zero = refl
-no_take (suc n) = refl
-
-head_taken : (n : ℕ) (bs : Broken) → head_of (take (suc n) bs) ≡ head_of bs
-head_taken n [] = refl
-head_taken n (b ∷ bs) = refl
-
-rest_taken : (n : ℕ) (bs : Broken) → rest_of (take (suc n) bs) ≡ take n (rest_of bs)
-rest_taken n [] = sym (no_take n)
-rest_taken n (b ∷ bs) = refl
-
 -- the tables behind these statements, from a session
 abbrev left_from : Session → List Stmt → Tables
 left_from u stmts = settle_all u.draws u.public u.asked stmts u.tables
 
+taken_more : (more : Option (List Stmt)) (x : Spelt) (spelt : List Spelt) (one : Answer) (answers : List Answer) → taken_by more (x ∷ spelt) (one ∷ answers) ≡ taken_by more spelt answers
+taken_more None x spelt one answers = refl
+taken_more (Some behind) x spelt one answers = refl
+
+-- behind a text that was answered
+module _ (more : Option (List Stmt)) (seats : List Seat) (s : Session) (spelt : List Spelt) (one : Answer) (answers : List Answer) (broken : Broken) where
+  abbrev n : ℕ
+  n = length answers
+
+  pub left_refused : (at : ℕ) → left_by more seats s (Err at ∷ spelt) (one ∷ answers) broken ≡ left_by more seats s spelt answers (rest_of broken)
+  unfolding session_after
+  left_refused at = λ i. left_from (session_after seats s (take n spelt) (rest_taken n broken i)) (taken_more more (Err at) spelt one answers i)
+
+  pub left_served : (v : Seat) (stmt : Stmt) → is_full_now (at_seat v s) stmt ≡ false
+      → left_by more (v ∷ seats) s (Ok stmt ∷ spelt) (one ∷ answers) broken ≡ left_by more seats (after (head_of broken) (at_seat v s) stmt) spelt answers (rest_of broken)
+  unfolding session_after
+  left_served v stmt room =
+      let first : Broken = take (suc n) broken in
+      let behind : answered_by (v ∷ seats) s (Ok stmt ∷ spelt) (one ∷ answers) broken ≡ answered_by seats (after (head_of broken) (at_seat v s) stmt) spelt answers (rest_of broken) =
+      ap (λ (b : Bool). if b then at_seat v s else session_after seats (after (head_of first) (at_seat v s) stmt) (take n spelt) (rest_of first)) room
+      ∙ (λ i. session_after seats (after (head_taken n broken i) (at_seat v s) stmt) (take n spelt) (rest_taken n broken i)) in
+      λ i. left_from (behind i) (taken_more more (Ok stmt) spelt one answers i)
+
+-- the tables that are left where each statement is served alone
+abbrev pub left_alone : (more : Option (List Stmt)) → Session → List Spelt → List Answer → Broken → Tables
+left_alone more s spelt answers broken = left_from (after_all s (take (length answers) spelt) (take (length answers) broken)) (taken_by more spelt answers)
+
+pub left_is : (words : ℕ → ℕ) (t : ℕ) (more : Option (List Stmt)) (ending : Ending) (s : Session) (spelt : List Spelt) (broken : Broken) (answers : List Answer) (seen : List Served) (part : List ℕ) → AreOf spelt seen
+    → AnswersAlone ending s spelt broken answers seen part → left_by more (alone_from words t s seen) s spelt answers broken ≡ left_alone more s spelt answers broken
+left_is words t more ending s spelt broken answers seen part of all = ap (λ (u : Session). left_from u (taken_by more spelt answers)) (behind_alone words t ending s spelt broken answers seen part of all)
+
 module _ (more : Option (List Stmt)) (s : Session) (spelt : List Spelt) (one : Answer) (answers : List Answer) (broken : Broken) where
-  taken_more : (x : Spelt) → taken_by more (x ∷ spelt) (one ∷ answers) ≡ taken_by more spelt answers
-  taken_more x = elim more as (λ o. taken_by o (x ∷ spelt) (one ∷ answers) ≡ taken_by o spelt answers) [ None ↦ refl | Some behind ↦ refl ]
+  alone_refused : (at : ℕ) → left_alone more s (Err at ∷ spelt) (one ∷ answers) broken ≡ left_alone more s spelt answers (rest_of broken)
+  alone_refused at = λ i. left_from (after_all s (take (length answers) spelt) (rest_taken (length answers) broken i)) (taken_more more (Err at) spelt one answers i)
 
-  pub left_refused : (at : ℕ) → left_by more s (Err at ∷ spelt) (one ∷ answers) broken ≡ left_by more s spelt answers (rest_of broken)
-  left_refused at = λ i. left_from (after_all s (take (length answers) spelt) (rest_taken (length answers) broken i)) (taken_more (Err at) i)
-
-  pub left_served : (stmt : Stmt) → is_full_now s stmt ≡ false → left_by more s (Ok stmt ∷ spelt) (one ∷ answers) broken ≡ left_by more (after (head_of broken) s stmt) spelt answers (rest_of broken)
-  left_served stmt room =
-      let behind : answered_by s (Ok stmt ∷ spelt) (one ∷ answers) broken ≡ answered_by (after (head_of broken) s stmt) spelt answers (rest_of broken) =
+  alone_served : (stmt : Stmt) → is_full_now s stmt ≡ false → left_alone more s (Ok stmt ∷ spelt) (one ∷ answers) broken ≡ left_alone more (after (head_of broken) s stmt) spelt answers (rest_of broken)
+  alone_served stmt room =
+      let behind : after_all s (take (suc (length answers)) (Ok stmt ∷ spelt)) (take (suc (length answers)) broken) ≡ after_all (after (head_of broken) s stmt) (take (length answers) spelt) (take (length answers) (rest_of broken)) =
       after_room s stmt (take (length answers) spelt) (take (suc (length answers)) broken) room
       ∙ (λ i. after_all (after (head_taken (length answers) broken i) s stmt) (take (length answers) spelt) (rest_taken (length answers) broken i)) in
-      λ i. left_from (behind i) (taken_more (Ok stmt) i)
+      λ i. left_from (behind i) (taken_more more (Ok stmt) spelt one answers i)
 
 -- ---- a statement that the store cut off, alone or with another, has no effect
 cut_alike : (s t : Session) (stmt : Stmt) (n : ℕ) → SessionsAlike s t → SessionsAlike (after (CutAfter n) s stmt) t
@@ -216,7 +233,7 @@ module _ (s t : Session) (alike : SessionsAlike s t) (soon : s.asked < 2 ^ 63) w
       (took.0, subst (λ (xs : List Spelt). TablesAlike (left_from s stmts) (after_all t xs [])) (sym texts) took.1)
 
   -- the texts that weren't answered
-  one_more : (more : Option (List Stmt)) (spelt : List Spelt) (broken : Broken) → (after_all t (texts_of (effects_of more spelt [])) []).asked < 2 ^ 63 → Took t (left_by more s spelt [] broken) (effects_of more spelt [])
+  one_more : (more : Option (List Stmt)) (spelt : List Spelt) (broken : Broken) → (after_all t (texts_of (effects_of more spelt [])) []).asked < 2 ^ 63 → Took t (left_alone more s spelt [] broken) (effects_of more spelt [])
   unfolding effects_of AnsweredInOne statements
   one_more None spelt broken few = more_alike [] few
   one_more (Some behind) [] broken few = more_alike behind few
@@ -228,7 +245,7 @@ module _ (Leaves : Public → Stmt → Seen → Type 0) (g : Option Gathering) (
     (alike : SessionsAlike s t)
     (lawful : (x.skeleton ≡ skeleton stmt) × Lawful s.public s.asked stmt x.seen
     × (Says (refusal_now s.public s.asked stmt) s.public stmt one × (IsTrue (is_failed g x.seen.end) ↔ (one.outcome ≡ Refused StoreFault)) × (one.plan ≡ x.seen.plan) × Joins s.public s.asked g stmt x.seen)
-    × AreSeen Leaves (next s.public x.skeleton x.seen) (s.asked + length (script s.public x.skeleton x.seen)) (gathering_after s.public s.asked g stmt x.seen.end) spelt answers seen)
+    × SeenAlone Leaves (next s.public x.skeleton x.seen) (s.asked + length (script s.public x.skeleton x.seen)) (gathering_after s.public s.asked g stmt x.seen.end) spelt answers seen)
     (few : s.asked + length (trace s.public (x ∷ seen)) < 2 ^ 63) where
   abbrev behind : List Effect
   behind = effects_of more spelt answers
@@ -238,15 +255,15 @@ module _ (Leaves : Public → Stmt → Seen → Type 0) (g : Option Gathering) (
   all failed = if failed then behind else record { text = Ok stmt; answer = Some one } ∷ behind
 
   abbrev Told : How → Type 0
-  Told how = (is_full_now s stmt ≡ false) × IsCutOff how s stmt × AnswersIn how s stmt one × (x.seen ≡ seen_or_cut how s stmt) × AnswersFrom ending (after how s stmt) spelt (rest_of broken) answers seen part
+  Told how = (is_full_now s stmt ≡ false) × IsCutOff how s stmt × AnswersIn how s stmt one × (x.seen ≡ seen_or_cut how s stmt) × AnswersAlone ending (after how s stmt) spelt (rest_of broken) answers seen part
 
   -- what is gathered behind it
   abbrev gathered : How → Option Gathering
   gathered how = gathering_after s.public s.asked g stmt (seen_or_cut how s stmt).end
 
   abbrev Follows : Type 0
-  Follows = (h : Option Gathering) (u v : Session) → SessionsAlike u v → AnswersFrom ending u spelt (rest_of broken) answers seen part → AreSeen Leaves u.public u.asked h spelt answers seen → u.asked + length (trace u.public seen) < 2 ^ 63
-      → (after_all v (texts_of behind) []).asked < 2 ^ 63 → Took v (left_by more u spelt answers (rest_of broken)) behind
+  Follows = (h : Option Gathering) (u v : Session) → SessionsAlike u v → AnswersAlone ending u spelt (rest_of broken) answers seen part → SeenAlone Leaves u.public u.asked h spelt answers seen → u.asked + length (trace u.public seen) < 2 ^ 63
+      → (after_all v (texts_of behind) []).asked < 2 ^ 63 → Took v (left_alone more u spelt answers (rest_of broken)) behind
 
   -- the accesses behind it
   fewer : s.asked + length (script s.public x.skeleton x.seen) + length (trace (next s.public x.skeleton x.seen) seen) < 2 ^ 63
@@ -255,23 +272,23 @@ module _ (Leaves : Public → Stmt → Seen → Type 0) (g : Option Gathering) (
       let whole : s.asked + length (script s.public x.skeleton x.seen ++ trace (next s.public x.skeleton x.seen) seen) < 2 ^ 63 = few in
       omega (arith, whole, long)
 
-  seen_at : (how : How) → x.seen ≡ seen_or_cut how s stmt → AreSeen Leaves (after how s stmt).public (after how s stmt).asked (gathered how) spelt answers seen
+  seen_at : (how : How) → x.seen ≡ seen_or_cut how s stmt → SeenAlone Leaves (after how s stmt).public (after how s stmt).asked (gathered how) spelt answers seen
   seen_at how is =
       let entry : x ≡ served how s stmt = λ i. record { skeleton = lawful.0 i; seen = is i } in
-      subst (λ (y : Served). AreSeen Leaves (next s.public y.skeleton y.seen) (s.asked + length (script s.public y.skeleton y.seen)) (gathering_after s.public s.asked g stmt y.seen.end) spelt answers seen) entry lawful.3
+      subst (λ (y : Served). SeenAlone Leaves (next s.public y.skeleton y.seen) (s.asked + length (script s.public y.skeleton y.seen)) (gathering_after s.public s.asked g stmt y.seen.end) spelt answers seen) entry lawful.3
 
   few_at : (how : How) → x.seen ≡ seen_or_cut how s stmt → (after how s stmt).asked + length (trace (after how s stmt).public seen) < 2 ^ 63
   few_at how is =
       let entry : x ≡ served how s stmt = λ i. record { skeleton = lawful.0 i; seen = is i } in
       subst (λ (y : Served). s.asked + length (script s.public y.skeleton y.seen) + length (trace (next s.public y.skeleton y.seen) seen) < 2 ^ 63) entry fewer
 
-  left_at : (how : How) → head_of broken ≡ how → left_by more s (Ok stmt ∷ spelt) (one ∷ answers) broken ≡ left_by more (after how s stmt) spelt answers (rest_of broken)
+  left_at : (how : How) → head_of broken ≡ how → left_alone more s (Ok stmt ∷ spelt) (one ∷ answers) broken ≡ left_alone more (after how s stmt) spelt answers (rest_of broken)
   left_at how is =
-      left_served more s spelt one answers broken stmt (room_flat s stmt alike.flat)
-      ∙ ap (λ (h : How). left_by more (after h s stmt) spelt answers (rest_of broken)) is
+      alone_served more s spelt one answers broken stmt (room_flat s stmt alike.flat)
+      ∙ ap (λ (h : How). left_alone more (after h s stmt) spelt answers (rest_of broken)) is
 
   abbrev Done : Type 0
-  Done = Took t (left_by more s (Ok stmt ∷ spelt) (one ∷ answers) broken) (all (has_failed one.outcome))
+  Done = Took t (left_alone more s (Ok stmt ∷ spelt) (one ∷ answers) broken) (all (has_failed one.outcome))
 
   -- it was answered as it is meant
   took_effect : (how : How) → head_of broken ≡ how → has_failed one.outcome ≡ false → AnswersMeant s stmt one → (s.asked < 2 ^ 63 → t.asked < 2 ^ 63 → SessionsAlike (after how s stmt) (after Alone t stmt)) → Told how → Follows
@@ -285,10 +302,10 @@ module _ (Leaves : Public → Stmt → Seen → Type 0) (g : Option Gathering) (
       let soon : s.asked < 2 ^ 63 = omega (arith, few) in
       let soon_too : t.asked < 2 ^ 63 = omega (arith, few_behind, grown) in
       let rest = follows (gathered how) (after how s stmt) (after Alone t stmt) (steps soon soon_too) told.4 (seen_at how told.3) (few_at how told.3) few_behind in
-      subst (λ (b : Bool). Took t (left_by more s (Ok stmt ∷ spelt) (one ∷ answers) broken) (all b)) (sym whole) (
+      subst (λ (b : Bool). Took t (left_alone more s (Ok stmt ∷ spelt) (one ∷ answers) broken) (all b)) (sym whole) (
         ((room_flat t stmt alike.flat_too, answers_alike s t alike soon soon_too stmt one meant), rest.0),
         subst (λ (ts : Tables). TablesAlike ts (after_all t (Ok stmt ∷ texts_of behind) [])) (sym (left_at how is))
-            (subst (λ (v : Session). TablesAlike (left_by more (after how s stmt) spelt answers (rest_of broken)) v) (sym there) rest.1),
+            (subst (λ (v : Session). TablesAlike (left_alone more (after how s stmt) spelt answers (rest_of broken)) v) (sym there) rest.1),
       )
 
   -- the store had failed it
@@ -297,7 +314,7 @@ module _ (Leaves : Public → Stmt → Seen → Type 0) (g : Option Gathering) (
       let failed : has_failed one.outcome ≡ true = ap has_failed outcome in
       let few_behind : (after_all t (texts_of behind) []).asked < 2 ^ 63 = subst (λ (b : Bool). (after_all t (texts_of (all b)) []).asked < 2 ^ 63) failed few_too in
       let rest = follows (gathered how) (after how s stmt) t stays told.4 (seen_at how told.3) (few_at how told.3) few_behind in
-      subst (λ (b : Bool). Took t (left_by more s (Ok stmt ∷ spelt) (one ∷ answers) broken) (all b)) (sym failed) (
+      subst (λ (b : Bool). Took t (left_alone more s (Ok stmt ∷ spelt) (one ∷ answers) broken) (all b)) (sym failed) (
         rest.0,
         subst (λ (ts : Tables). TablesAlike ts (after_all t (texts_of behind) [])) (sym (left_at how is)) rest.1,
       )
@@ -311,9 +328,9 @@ module _ (Leaves : Public → Stmt → Seen → Type 0) (g : Option Gathering) (
   step_on CutWith is told follows few_too = took_none CutWith is told.2.outcome (cut_with_alike s t stmt alike) told follows few_too
 
 pub effects_on : (Leaves : Public → Stmt → Seen → Type 0) (g : Option Gathering) (ending : Ending) (more : Option (List Stmt)) (spelt : List Spelt) (s t : Session) (broken : Broken) (answers : List Answer) (seen : List Served) (part : List ℕ)
-    → SessionsAlike s t → AnswersFrom ending s spelt broken answers seen part → AreSeen Leaves s.public s.asked g spelt answers seen → s.asked + length (trace s.public seen) < 2 ^ 63
-    → (after_all t (texts_of (effects_of more spelt answers)) []).asked < 2 ^ 63 → Took t (left_by more s spelt answers broken) (effects_of more spelt answers)
-unfolding AnswersFrom AreSeen effects_of AnsweredInOne
+    → SessionsAlike s t → AnswersAlone ending s spelt broken answers seen part → SeenAlone Leaves s.public s.asked g spelt answers seen → s.asked + length (trace s.public seen) < 2 ^ 63
+    → (after_all t (texts_of (effects_of more spelt answers)) []).asked < 2 ^ 63 → Took t (left_alone more s spelt answers broken) (effects_of more spelt answers)
+unfolding AnswersAlone SeenAlone effects_of AnsweredInOne
 effects_on Leaves g ending more [] s t broken [] seen part alike told lawful few few_too = one_more s t alike (omega (arith, few)) more [] broken few_too
 effects_on Leaves g ending more [] s t broken (one ∷ answers) seen part alike told lawful few few_too = absurd (cc told.0)
 effects_on Leaves g ending more (x ∷ spelt) s t broken [] seen part alike told lawful few few_too = one_more s t alike (omega (arith, few)) more (x ∷ spelt) broken few_too
@@ -323,8 +340,8 @@ effects_on Leaves g ending more (Err at ∷ spelt) s t broken (one ∷ answers) 
     let here : Effect = record { text = Err at; answer = Some one } in
     let rest = effects_on Leaves None ending more spelt s t (rest_of broken) answers seen part alike told.1 lawful.1 few
     (subst (λ (b : Bool). (after_all t (texts_of (if b then behind else here ∷ behind)) []).asked < 2 ^ 63) whole few_too) in
-    subst (λ (b : Bool). Took t (left_by more s (Err at ∷ spelt) (one ∷ answers) broken) (if b then behind else here ∷ behind)) (sym whole)
-    ((told.0, rest.0), subst (λ (ts : Tables). TablesAlike ts (after_all t (texts_of behind) [])) (sym (left_refused more s spelt one answers broken at)) rest.1)
+    subst (λ (b : Bool). Took t (left_alone more s (Err at ∷ spelt) (one ∷ answers) broken) (if b then behind else here ∷ behind)) (sym whole)
+    ((told.0, rest.0), subst (λ (ts : Tables). TablesAlike ts (after_all t (texts_of behind) [])) (sym (alone_refused more s spelt one answers broken at)) rest.1)
 effects_on Leaves g ending more (Ok stmt ∷ spelt) s t broken (one ∷ answers) [] part alike told lawful few few_too = absurd told
 effects_on Leaves g ending more (Ok stmt ∷ spelt) s t broken (one ∷ answers) (x ∷ seen) part alike told lawful few few_too =
     step_on Leaves g ending more stmt spelt s t broken one answers x seen part alike lawful few (head_of broken) refl told

@@ -1,6 +1,6 @@
 -- What is asked of a statement by its meaning, also where it meets a full stash.
 use Rattle.std.specs.Prelude.{nat_lt, is_some}
-use Rattle.std.proofs.Common.{◌≡◌, ◌+◌, ◌*◌, ◌≤◌, ℕ, zero, suc, Bool, true, false, if◌then◌else◌, List, [], ◌∷◌, ◌++◌, length, take, drop, Option, Some, None, Ok, refl, sym, ◌∙◌, ap, subst, append-nil, append_assoc, arith}
+use Rattle.std.proofs.Common.{◌≡◌, ◌+◌, ◌*◌, ◌≤◌, ℕ, zero, suc, Bool, true, false, if◌then◌else◌, List, [], ◌∷◌, ◌++◌, length, take, drop, Option, Some, None, refl, sym, ◌∙◌, ap, subst, append_assoc, arith}
 use Rattle.std.proofs.lemmas.Bool.Decides.{nat_tests}
 use Rattle.std.proofs.lemmas.List.{length-append, take-append-drop, take-append-le, take_at}
 use Rattle.std.specs.Option.{is_none, option_map, option_map_or}
@@ -18,18 +18,15 @@ use Rattle.ob_base.specs.declared.seen.Seen.{Seen}
 use Rattle.ob_base.specs.declared.skeleton.Skeleton.{Skeleton}
 use Rattle.ob_base.specs.declared.skeleton.Skeleton.TheVariants.{Create as CreateSkeleton, Insert as InsertSkeleton, Update as UpdateSkeleton, Delete as DeleteSkeleton, Drop as DropSkeleton, Rows, Groups}
 use Rattle.ob_base.specs.declared.skeleton.Source.TheVariants.{Table as OneTable, Join}
-use Rattle.ob_headline.specs.Batches.{joins_now}
 use Rattle.ob_headline.specs.Words.{Begins}
 use Rattle.ob_mean.proofs.VerdictLemmas.{access_is, started}
-use Rattle.ob_mean.specs.Batches.{Gathering, gathering_after}
 use Rattle.ob_mean.specs.Lawful.{capacity_at, height_at}
 use Rattle.ob_mean.specs.Refusals.{is_indexed, limits_of}
-use Rattle.ob_mean.specs.Replay.{How, Alone, With, Session, Spelt, after, all_served, cut_at, has_index, held_if, how_now, hows, is_access, is_full_now, reads_of, seen_now, seen_or_cut, served, served_full}
+use Rattle.ob_mean.specs.Replay.{Session, cut_at, has_index, held_if, is_access, is_full_now, reads_of, seen_now, served_full}
 use Rattle.ob_mean.specs.Verdict.{Accessed, accessed_now, gone, is_late, leaf_gone, seen_access}
 use Rattle.ob_script.proofs.Lengths.{length-count_part, length-path_reads}
 use Rattle.ob_script.specs.Parts.{count_part, insert_part, path_read, path_write, rewrite_part}
 use Rattle.ob_script.specs.Script.{behind_change, flat_script, index_part_of, mutation_script, script, shape_script, whole_script, with_table}
-use Rattle.ob_script.specs.Trace.{Served, trace}
 use Rattle.ob_sql.specs.Skeleton.{skeleton}
 use Rattle.ob_sql.specs.declared.stmt.Stmt.{Stmt}
 use Rattle.ob_store.specs.State.{Lie}
@@ -52,49 +49,6 @@ met_room s stmt room = ap (λ (full : Bool). if full then (served_full s stmt).s
 
 pub met_full : (s : Session) (stmt : Stmt) → is_full_now s stmt ≡ true → met s stmt ≡ (served_full s stmt).seen
 met_full s stmt full = ap (λ (b : Bool). if b then (served_full s stmt).seen else seen_now s stmt) full
-
--- what statements ask, of which it is the first, and joins nothing that is gathered
-abbrev pub asked_from : Option Gathering → Session → List Spelt → List Access
-asked_from g s spelt = trace s.public (all_served s spelt (hows g s spelt))
-
-pub record AsksFirst (g : Option Gathering) (s : Session) (stmt : Stmt) (spelt : List Spelt) : Type 0 where
-  pub tail : List Access
-  pub asks : asked_from g s (Ok stmt ∷ spelt) ≡ met_script s stmt ++ tail
-
-module _ (g : Option Gathering) (s : Session) (stmt : Stmt) (alone : joins_now s.public s.asked g stmt ≡ false) where
-  pub how_alone : how_now g s stmt ≡ Alone
-  how_alone = ap (λ (b : Bool). if b then With else Alone) alone
-
-  -- those behind it
-  abbrev behind : How → List Spelt → List Served
-  behind how spelt = all_served (after how s stmt) spelt (hows (gathering_after s.public s.asked g stmt (seen_or_cut how s stmt).end) (after how s stmt) spelt)
-
-  pub asks_first : (spelt : List Spelt) → AsksFirst g s stmt spelt
-  asks_first spelt = record {
-    tail = more (is_full_now s stmt);
-    asks =
-        ap (λ (how : How). trace s.public (if is_full_now s stmt then served_full s stmt ∷ [] else served how s stmt ∷ behind how spelt)) how_alone
-        ∙ is (is_full_now s stmt);
-  }
-    where
-      more : Bool → List Access
-      more true = []
-      more false = trace (after Alone s stmt).public (behind Alone spelt)
-
-      is : (b : Bool) → trace s.public (if b then served_full s stmt ∷ [] else served Alone s stmt ∷ behind Alone spelt)
-          ≡ script s.public (skeleton stmt) (if b then (served_full s stmt).seen else seen_now s stmt) ++ more b
-      is true = refl
-      is false = refl
-
-  pub asks_alone : asked_from g s (Ok stmt ∷ []) ≡ met_script s stmt
-  asks_alone =
-      ap (λ (how : How). trace s.public (if is_full_now s stmt then served_full s stmt ∷ [] else served how s stmt ∷ [])) how_alone
-      ∙ is (is_full_now s stmt)
-    where
-      is : (b : Bool) → trace s.public (if b then served_full s stmt ∷ [] else served Alone s stmt ∷ [])
-          ≡ script s.public (skeleton stmt) (if b then (served_full s stmt).seen else seen_now s stmt)
-      is true = append-nil (script s.public (skeleton stmt) (served_full s stmt).seen)
-      is false = append-nil (script s.public (skeleton stmt) (seen_now s stmt))
 
 -- ---- the accesses of an access of an index
 -- the reads, and the writes behind them

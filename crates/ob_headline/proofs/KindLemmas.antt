@@ -26,10 +26,11 @@ use Rattle.ob_headline.specs.Bases.{Base}
 use Rattle.ob_headline.specs.Batches.{Joins}
 use Rattle.ob_headline.specs.Failures.{failures}
 use Rattle.ob_headline.specs.Headline.{Headline}
-use Rattle.ob_headline.specs.Reruns.{ArePlain, AsksByKinds, IsPlain, Turn, gathered_then, plainly, seen_plainly, shown_plainly, turns, turns_in}
+use Rattle.ob_headline.specs.Reruns.{ArePlain, AsksByKinds, IsPlain, Stated, gathered_behind, plainly, seen_plainly, shown_plainly, stated, stated_in}
 use Rattle.ob_headline.specs.Settings.{IsTaken, IsTakenSaved, MeddleParses}
 use Rattle.ob_headline.specs.Words.{Answer, Begins, Outside}
-use Rattle.ob_headline.specs.Accesses.{AreSeen}
+use Rattle.ob_headline.proofs.ServedAlone.{SeenAlone}
+use Rattle.ob_headline.proofs.AloneRuns.{few_spelt, headline_alone}
 use Rattle.ob_headline.specs.declared.ending.Report.{Report}
 use Rattle.ob_mean.specs.Batches.{Gathering, goes_into, is_cut, is_joined}
 use Rattle.ob_mean.specs.Lawful.{Lawful}
@@ -126,14 +127,14 @@ begins_more one xs ys begins =
     record { rest = begins.rest; joined = ap (λ (l : List Access). one ++ l) begins.joined ∙ sym (append_assoc one xs begins.rest) }
 
 begins_plainly : (Leaves : Public → Stmt → Seen → Type 0) (spelt : List Spelt) (answers : List Answer) (batched apart : Bool) (p : Public) (m : ℕ) (g : Option Gathering) (seen : List Entry) → GathersIf batched p g
-    → AreSeen Leaves p m (gathered_if apart g) spelt answers seen → length spelt ≤ length answers + 1 → failures answers ≡ 0 → ArePlain p m g (turns batched apart spelt)
-    → Begins (trace p seen) (trace p (shown_plainly p m g (turns batched apart spelt)))
-unfolding AreSeen ArePlain failures turns shown_plainly
+    → SeenAlone Leaves p m (gathered_if apart g) spelt answers seen → length spelt ≤ length answers + 1 → failures answers ≡ 0 → ArePlain p m g (stated batched apart spelt)
+    → Begins (trace p seen) (trace p (shown_plainly p m g (stated batched apart spelt)))
+unfolding SeenAlone ArePlain failures stated shown_plainly
 begins_plainly Leaves [] answers batched apart p m g seen gathers lawful few none plain = subst (λ (xs : List Entry). Begins (trace p xs) []) (sym lawful) (begins_all [])
 begins_plainly Leaves (Err at ∷ spelt) [] batched apart p m g seen gathers lawful few none plain =
-    begins_plainly Leaves spelt [] batched batched p m g seen gathers (subst (λ (h : Option Gathering). AreSeen Leaves p m h spelt [] seen) (none_before batched p g gathers) lawful) (omega (arith, few)) none plain
+    begins_plainly Leaves spelt [] batched batched p m g seen gathers (subst (λ (h : Option Gathering). SeenAlone Leaves p m h spelt [] seen) (none_before batched p g gathers) lawful) (omega (arith, few)) none plain
 begins_plainly Leaves (Err at ∷ spelt) (one ∷ answers) batched apart p m g seen gathers lawful few none plain =
-    begins_plainly Leaves spelt answers batched batched p m g seen gathers (subst (λ (h : Option Gathering). AreSeen Leaves p m h spelt answers seen) (none_before batched p g gathers) lawful.1)
+    begins_plainly Leaves spelt answers batched batched p m g seen gathers (subst (λ (h : Option Gathering). SeenAlone Leaves p m h spelt answers seen) (none_before batched p g gathers) lawful.1)
     (omega (arith, few)) (omega (arith, none)) plain
 begins_plainly Leaves (Ok stmt ∷ spelt) [] batched apart p m g [] gathers lawful few none plain = absurd lawful
 begins_plainly Leaves (Ok stmt ∷ spelt) (one ∷ answers) batched apart p m g [] gathers lawful few none plain = absurd lawful
@@ -145,23 +146,23 @@ begins_plainly Leaves (Ok stmt ∷ []) [] batched apart p m g (x ∷ seen) gathe
 begins_plainly Leaves (Ok stmt ∷ (y ∷ spelt)) [] batched apart p m g (x ∷ seen) gathers lawful few none plain = absurd (omega (arith, few))
 begins_plainly Leaves (Ok stmt ∷ spelt) (one ∷ answers) batched apart p m g (x ∷ seen) gathers lawful few none plain =
     let h = gathered_if apart g in
-    let t : Turn = record { stmt = stmt; apart = apart } in
+    let t : Stated = record { stmt = stmt; apart = apart } in
     let uncut = not_cut (is_cut x.seen.end) one.outcome (λ cut. lawful.2.1.0 (cut_fails h x.seen.end cut)) (omega (arith, none)) in
     let here : x.seen ≡ plainly p m h stmt = shows_plainly p m h stmt x.seen lawful.1 lawful.2.3 plain.0 uncut in
     let same : x ≡ record { skeleton = skeleton stmt; seen = plainly p m h stmt } = λ i. record { skeleton = lawful.0 i; seen = here i } in
-    let behind = subst (λ (z : Entry). ArePlain (next p z.skeleton z.seen) (m + length (script p z.skeleton z.seen)) (gathered_then p m g t z.seen.end) (turns batched false spelt)) (sym same) plain.1 in
-    let rest = begins_plainly Leaves spelt answers batched false (next p x.skeleton x.seen) (m + length (script p x.skeleton x.seen)) (gathered_then p m g t x.seen.end) seen
+    let behind = subst (λ (z : Entry). ArePlain (next p z.skeleton z.seen) (m + length (script p z.skeleton z.seen)) (gathered_behind p m g t z.seen.end) (stated batched false spelt)) (sym same) plain.1 in
+    let rest = begins_plainly Leaves spelt answers batched false (next p x.skeleton x.seen) (m + length (script p x.skeleton x.seen)) (gathered_behind p m g t x.seen.end) seen
     (gathers_on batched p m g t x.skeleton x.seen gathers) lawful.3 (omega (arith, few)) (omega (arith, none)) behind in
     subst (λ (z : Entry). Begins (script p x.skeleton x.seen ++ trace (next p x.skeleton x.seen) seen)
-    (script p z.skeleton z.seen ++ trace (next p z.skeleton z.seen) (shown_plainly (next p z.skeleton z.seen) (m + length (script p z.skeleton z.seen)) (gathered_then p m g t z.seen.end) (turns batched false spelt)))) same
+    (script p z.skeleton z.seen ++ trace (next p z.skeleton z.seen) (shown_plainly (next p z.skeleton z.seen) (m + length (script p z.skeleton z.seen)) (gathered_behind p m g t z.seen.end) (stated batched false spelt)))) same
     (begins_more (script p x.skeleton x.seen) _ _ rest)
 
 -- ---- a run, by its headline
 asks : {base : Base} {keys : List ℕ → KeySet} {Takes : Type 0} {tracing : Bool} {old new : Outside} {report : Report} (run : Headline base keys Takes tracing old new report) → AsksByKinds run
-asks {base} {new = new} run none plain =
-    let few : length run.story.spelt ≤ length run.story.answers + 1 = omega (arith, run.statements.begun, run.statements.each) in
-    let begins = begins_plainly _ run.story.spelt run.story.answers (is_some base.public.batch) false base.public base.count None (run.story.seen ++ run.story.last) (gathers_none base.public) run.accesses.lawful few none plain in
-    subst (λ (l : List Access). Begins l (base.before ++ trace base.public (shown_plainly base.public base.count None (turns_in base.public run.story.spelt)))) (sym run.accesses.asked) (begins_more base.before _ _ begins)
+asks {base} {new = new} run alone none plain =
+    let few : length run.story.spelt ≤ length run.story.answers + 1 = few_spelt alone run in
+    let begins = begins_plainly _ run.story.spelt run.story.answers (is_some base.public.batch) false base.public base.count None (run.story.seen ++ run.story.last) (gathers_none base.public) (headline_alone alone run).lawful few none plain in
+    subst (λ (l : List Access). Begins l (base.before ++ trace base.public (shown_plainly base.public base.count None (stated_in base.public run.story.spelt)))) (sym (headline_alone alone run).asked) (begins_more base.before _ _ begins)
 
 pub asks_taken : (base : Base) (keys : List ℕ → KeySet) (app : App) (words : List Text) (tracing : Bool) (old new : Outside) (report : Report) (run : Headline base keys (IsTaken app words) tracing old new report) → AsksByKinds run
 asks_taken base keys app words tracing old new report run = asks run

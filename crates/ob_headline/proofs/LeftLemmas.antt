@@ -10,10 +10,10 @@ use Rattle.ob_base.specs.declared.access.Access.{Access}
 use Rattle.ob_base.specs.declared.access.Access.TheVariants.{Write}
 use Rattle.ob_base.specs.declared.config.Public.{Public}
 use Rattle.ob_headline.proofs.AloneLemmas.{At, alone, no_later, position_of}
-use Rattle.ob_headline.proofs.BetweenLemmas.{written_by}
-use Rattle.ob_headline.proofs.OwnLemmas.{runs_write_own}
+use Rattle.ob_headline.proofs.FlightWrites.{run_ordered, written_by}
+use Rattle.ob_headline.specs.Flights.{words_of}
 use Rattle.ob_headline.specs.Bases.{Base}
-use Rattle.ob_headline.specs.Reruns.{SomeRun, asked_by, keys_by, seen_by}
+use Rattle.ob_headline.specs.Reruns.{SomeRun, asked_by, keys_by}
 use Rattle.ob_headline.specs.Shown.{AreNumberedAlike, AskedTheSame, IsBegun, IsBetween, IsShown, OfIndex, ShowNumbersAlike, Shows, ShowsBehind, ShowsBetween, ShowsSealed, Wrote, asked_behind, number_at, public_behind}
 use Rattle.ob_headline.specs.Sealing.{IsSealed, IsSealedAt, PassesHere}
 use Rattle.ob_script.proofs.Eaches.{get_front}
@@ -77,7 +77,8 @@ shows_sealed one begun tells = shows_all (PassesHere one.base) (keys_by one) one
 -- a write to a region that was made by then, and is no index's, came by then
 pub written_behind : (one : SomeRun) (k i region place : ℕ) → region < (public_behind one k).next_region → (OfIndex (public_behind one k).tables region → ⊥) → Wrote (asked_by one) i region place → i < length (asked_behind one k)
 written_behind one k i region place made off wrote =
-    written_by k one.base.public (seen_by one) (runs_write_own one) one.base.before i region place (ap (λ (l : List Access). slice_get l i) (sym one.run.accesses.asked) ∙ wrote.is) made off
+    let ordered = run_ordered one.base (keys_by one) one.run.ending one.run.story one.old.store one.new.store one.run.accesses in
+    written_by (words_of one.base) k 0 one.base.public one.run.story.entries ordered one.base.before i region place (ap (λ (l : List Access). slice_get l i) (sym one.run.accesses.asked) ∙ wrote.is) made off
 
 module _ (one : SomeRun) (begun : IsBegun one.base) (tells : IsTrue one.old.store.tells) (between : StoreState) (is : IsBetween one between) where
   pub shows_between : ShowsBetween one between

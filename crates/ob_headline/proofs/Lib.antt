@@ -6,6 +6,18 @@ pub mod SettingLemmas
 pub mod AsOne
 pub mod Numbered
 pub mod TextLemmas
+pub mod ServedAlone
+pub mod AloneRuns
+pub mod TakenLemmas
+pub mod FlightWrites
+pub mod SameAlone
+pub mod GatheredMeant
+pub mod OneByOneLemmas
+pub mod FlightSeats
+pub mod UntilLemmas
+pub mod FlightLeft
+pub mod SameEntries
+mod FlownExamples
 pub mod PromptLemmas
 pub mod BaseLemmas
 pub mod PieceLemmas
@@ -21,7 +33,6 @@ pub mod PlainLemmas
 pub mod IndexWrites
 pub mod OwnLemmas
 pub mod AloneLemmas
-pub mod BetweenLemmas
 pub mod LeftLemmas
 pub mod BegunLemmas
 pub mod StopLemmas

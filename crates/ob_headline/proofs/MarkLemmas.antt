@@ -9,7 +9,8 @@ use Rattle.ob_base.specs.declared.mark.Mark.{Mark}
 use Rattle.ob_base.specs.declared.mark.Mark.TheVariants.{InUse}
 use Rattle.ob_reopen.specs.Closed.{IsClosedAs, StaysInUse, is_used_up}
 use Rattle.ob_headline.proofs.StopLemmas.{closing_stops}
-use Rattle.ob_headline.specs.Bases.{Base}
+use Rattle.ob_headline.specs.Bases.{Base, flying}
+use Rattle.ob_headline.specs.Flights.{public_after}
 use Rattle.ob_headline.specs.Keeping.{EndsWith, NotBegun, Writes, closing_behind}
 use Rattle.ob_headline.specs.KeptHeadline.{EndsBehind, SessionKept, Unbegun, Unkeyed}
 use Rattle.ob_headline.specs.KeptMarks.{HeldAfter, HeldBehind, KeptRun, mark_made}
@@ -23,11 +24,11 @@ use Rattle.ob_reopen.specs.Closings.{mark_of}
 use Rattle.ob_reopen.specs.Keepers.{KeeperState, SetsMark}
 use Rattle.ob_reopen.specs.declared.closing.Closing.{Closing}
 use Rattle.ob_reopen.specs.declared.fault.CloseErr.{CloseErr}
-use Rattle.ob_script.specs.Trace.{after_all as all_public}
 use Rattle.ob_seal.specs.KeySet.{KeySet}
 use Rattle.ob_seal.specs.Sealed.{keys_of}
 use Rattle.ob_store.specs.State.{StoreState}
 use Rattle.ob_headline.specs.Story.{Story}
+use Rattle.ob_headline.specs.declared.flight.FlightSettings.{FlightSettings}
 
 -- ---- no statement was served
 kept_held : (config : Config) (keys : KeySet) (ending : KeptEnding) (s t : StoreState) (f0 f1 : ℕ) (k0 k1 : KeeperState) (held : Mark) → k0.held ≡ Some held → NotBegun config keys ending s t f0 f1 k0 k1
@@ -83,7 +84,7 @@ closed_held closing script (Ok mark) refused ending s t f0 f1 k0 k1 used writes 
     }
 
 behind_held : (ended : Ending) (base : Base) (keys : KeySet) (tracing : Bool) (story : Story) (begun served new : Outside) (run report : Report) (k0 k1 : KeeperState) (ending : KeptEnding)
-    → k0.held ≡ Some InUse → EndsBehind ended base keys tracing story begun served new run report k0 k1 ending → HeldBehind ending (closing_behind (all_public base.public story.seen) base.start served.store.asked) k1.held
+    → k0.held ≡ Some InUse → EndsBehind ended base keys tracing story begun served new run report k0 k1 ending → HeldBehind ending (closing_behind (public_after base story.entries) base.start served.store.asked) k1.held
 behind_held Usage base keys tracing story begun served new run report k0 k1 ending used behind = absurd behind
 behind_held BadKey base keys tracing story begun served new run report k0 k1 ending used behind = absurd behind
 behind_held (Ran (Err stop)) base keys tracing story begun served new run report k0 k1 ending used behind =
@@ -93,13 +94,13 @@ behind_held (Ran (Ok refused)) base keys tracing story begun served new run repo
     subst (λ (c : Closing). HeldBehind ending c k1.held) behind.tables.is (closed_held behind.tables.closing _ closes.result refused ending _ _ _ _ k0 k1 used closes.writes closes.ends)
 
 -- ---- the run
-pub held_after : {settings : Option Config} {Takes : Type 0} {tracing : Bool} {old new : Outside} {k0 k1 : KeeperState} {ending : KeptEnding} {answers : List Answer} {report : Report}
-    (run : Unkeyed settings Takes tracing old new k0 k1 ending answers report ⊎ (Unbegun settings Takes tracing old new k0 k1 ending answers report ⊎ SessionKept settings Takes tracing old new k0 k1 ending answers report))
+pub held_after : {settings : Option Config} {flight : Option FlightSettings} {Takes : Type 0} {tracing : Bool} {old new : Outside} {k0 k1 : KeeperState} {ending : KeptEnding} {answers : List Answer} {report : Report}
+    (run : Unkeyed settings flight Takes tracing old new k0 k1 ending answers report ⊎ (Unbegun settings Takes tracing old new k0 k1 ending answers report ⊎ SessionKept settings flight Takes tracing old new k0 k1 ending answers report))
     (held : Mark) → k0.held ≡ Some held → HeldAfter run held
 held_after (inl run) held is = ap (λ (k : KeeperState). k.held) run.kept ∙ is
 held_after (inr (inl run)) held is = kept_held run.config (keys_of run.secret) _ _ _ _ _ _ _ held is run.begun
-held_after {tracing = tracing} {old = old} {new = new} {k1 = k1} {ending = ending} {report = report} (inr (inr run)) held is =
-    behind_held run.session.ending run.base (keys_of run.secret) tracing run.session.story _ run.served new run.run report run.in_use k1 ending
+held_after {flight = flight} {tracing = tracing} {old = old} {new = new} {k1 = k1} {ending = ending} {report = report} (inr (inr run)) held is =
+    behind_held run.session.ending (flying flight run.base) (keys_of run.secret) tracing run.session.story _ run.served new run.run report run.in_use k1 ending
     (run.began.in_use.told held (run.began.gives.stays ∙ is)) run.behind
 
 pub marks_held : (words : List Text) (old new : Outside) (k0 k1 : KeeperState) (report : Report) (run : KeptRun words old new k0 k1 report) (held : Mark) → k0.held ≡ Some held → HeldAfter run.ran held

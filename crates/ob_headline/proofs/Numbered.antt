@@ -10,7 +10,8 @@ use Rattle.ob_base.specs.declared.mark.Mark.{Mark}
 use Rattle.ob_base.specs.declared.mark.Mark.TheVariants.{Fresh, InUse, Closed, Begun, Saved}
 use Rattle.ob_reopen.specs.Closed.{IsClosedAs, StaysInUse, is_used_up}
 use Rattle.ob_headline.proofs.MarkLemmas.{held_after}
-use Rattle.ob_headline.specs.Bases.{Base}
+use Rattle.ob_headline.specs.Bases.{Base, flying}
+use Rattle.ob_headline.specs.Flights.{public_after}
 use Rattle.ob_headline.specs.Keeping.{BeginsFrom, Writes, closing_behind, last_script}
 use Rattle.ob_headline.specs.KeptHeadline.{EndsBehind, RunKept}
 use Rattle.ob_headline.specs.KeptMarks.{mark_made}
@@ -24,11 +25,11 @@ use Rattle.ob_reopen.specs.Closings.{mark_of, write_script}
 use Rattle.ob_reopen.specs.Keepers.{KeeperState}
 use Rattle.ob_reopen.specs.declared.closing.Closing.{Closing}
 use Rattle.ob_reopen.specs.declared.fault.CloseErr.{CloseErr}
-use Rattle.ob_script.specs.Trace.{after_all as all_public}
 use Rattle.ob_seal.specs.KeySet.{KeySet}
 use Rattle.ob_seal.specs.Sealed.{keys_of}
 use Rattle.ob_store.specs.State.{StoreState}
 use Rattle.ob_headline.specs.Story.{Story}
+use Rattle.ob_headline.specs.declared.flight.FlightSettings.{FlightSettings}
 
 -- ---- how many writes a closing takes
 writes_append : (xs ys : List Access) → writes (xs ++ ys) ≡ writes xs + writes ys
@@ -74,7 +75,7 @@ most_written closing region (Err error) s t made =
 
 most_behind : (ended : Ending) (base : Base) (keys : KeySet) (tracing : Bool) (story : Story) (begun served new : Outside) (run report : Report) (k0 k1 : KeeperState)
     (ending : KeptEnding) → EndsBehind ended base keys tracing story begun served new run report k0 k1 ending
-    → writes new.store.asked ≤ writes served.store.asked + (closing_behind (all_public base.public story.seen) base.start served.store.asked).blocks
+    → writes new.store.asked ≤ writes served.store.asked + (closing_behind (public_after base story.entries) base.start served.store.asked).blocks
 most_behind Usage base keys tracing story begun served new run report k0 k1 ending behind = absurd behind
 most_behind BadKey base keys tracing story begun served new run report k0 k1 ending behind = absurd behind
 most_behind (Ran (Err stop)) base keys tracing story begun served new run report k0 k1 ending behind =
@@ -105,20 +106,20 @@ reaches_made closing n few =
     elim (is_used_up closing) as (λ b. Reaches (if b then InUse else mark_of closing) n)
     [ true ↦ tt | false ↦ few ]
 
-one_goes_on : {settings : Option Config} {Takes : Type 0} {tracing : Bool} {old new : Outside} {k0 k1 : KeeperState} {ending : KeptEnding} {answers : List Answer} {report : Report}
-    (ran : RunKept settings Takes tracing old new k0 k1 ending answers report) (mark : Mark) (n : ℕ) → k0.held ≡ Some mark → Reaches mark n
+one_goes_on : {settings : Option Config} {flight : Option FlightSettings} {Takes : Type 0} {tracing : Bool} {old new : Outside} {k0 k1 : KeeperState} {ending : KeptEnding} {answers : List Answer} {report : Report}
+    (ran : RunKept settings flight Takes tracing old new k0 k1 ending answers report) (mark : Mark) (n : ℕ) → k0.held ≡ Some mark → Reaches mark n
     → GoesOnFrom n ran × (left : Mark) × (k1.held ≡ Some left) × Reaches left (numbered_in n ran)
 one_goes_on (inl run) mark n is reaches = (tt, mark, held_after (inl run) mark is, reaches)
-one_goes_on (inr (inl run)) mark n is reaches =
-    elim (held_after (inr (inl run)) mark is) [
+one_goes_on {flight = flight} (inr (inl run)) mark n is reaches =
+    elim (held_after {flight = flight} (inr (inl run)) mark is) [
       | inl same ↦ (tt, mark, same, reaches)
       | inr used ↦ (tt, InUse, used.1, tt)
     ]
-one_goes_on {tracing = tracing} {old = old} {new = new} {k1 = k1} {ending = ending} {report = report} (inr (inr run)) mark n is reaches =
+one_goes_on {flight = flight} {tracing = tracing} {old = old} {new = new} {k1 = k1} {ending = ending} {report = report} (inr (inr run)) mark n is reaches =
     let read : run.began.mark ≡ mark = run.began.gives.told mark is in
     let from = goes_on run.began.mark run.config (keys_of run.secret) run.base old.store run.opened n run.began.begins (subst (λ (m : Mark). Reaches m n) (sym read) reaches) in
-    let most = most_behind run.session.ending run.base (keys_of run.secret) tracing run.session.story _ run.served new run.run report run.in_use k1 ending run.behind in
-    let closing = closing_behind (all_public run.base.public run.session.story.seen) run.base.start run.served.store.asked in
+    let most = most_behind run.session.ending (flying flight run.base) (keys_of run.secret) tracing run.session.story _ run.served new run.run report run.in_use k1 ending run.behind in
+    let closing = closing_behind (public_after (flying flight run.base) run.session.story.entries) run.base.start run.served.store.asked in
     elim (held_after (inr (inr run)) mark is).most [
       | inl used ↦ (from, InUse, used, tt)
       | inr made ↦ (from, mark_made closing, made, reaches_made closing (run.base.start.writes + writes new.store.asked) (omega (arith, most)))

@@ -29,7 +29,9 @@ use Rattle.ob_headline.proofs.IndexWrites.{writes_indexes}
 use Rattle.ob_headline.specs.Reruns.{SomeRun, seen_by}
 use Rattle.ob_headline.specs.Shown.{WriteOwn, WritesOwn, WritesWithin}
 use Rattle.ob_headline.specs.Words.{Answer}
-use Rattle.ob_headline.specs.Accesses.{AreSeen}
+use Rattle.ob_headline.proofs.ServedAlone.{SeenAlone}
+use Rattle.ob_headline.specs.Flights.{FliesNone}
+use Rattle.ob_headline.proofs.AloneRuns.{run_alone}
 use Rattle.ob_mean.specs.Batches.{Gathering, gathering_after}
 use Rattle.ob_mean.specs.Lawful.{Holds, Lawful}
 use Rattle.ob_mean.specs.Refusals.{is_indexed}
@@ -242,7 +244,7 @@ module _ (n g : ℕ) (from : n ≤ g) where
       subst (InTurn n g) (sym (append_assoc part emitted rest)) (plans (emitted ++ rest) (goes_on n (g + 1) emitted rest (emits n (g + 1) g (result_blocks p plan k (extent_of t))) onward) p plan k t)
 
 -- a second plan comes behind a first one alone
-abbrev InOrder : Option Plan → Option Plan → Type 0
+abbrev pub InOrder : Option Plan → Option Plan → Type 0
 InOrder None (Some second) = ⊥
 InOrder None None = ⊤
 InOrder (Some plan) second = ⊤
@@ -388,20 +390,21 @@ module _ (p : Public) (seen : Seen) (order : InOrder seen.plan seen.then) where
   writes_within s turn = record { each = λ i q x wrote. own_at p.next_region p.next_region (script p s seen) i q x turn wrote.is }
 
 -- ---- what is lawful is in order
-in_order : (p : Public) (stmt : Stmt) (seen : Seen) (k : Option ℕ) (plan second : Option Plan) → Holds p stmt seen k plan second → InOrder plan second
+pub in_order : (p : Public) (stmt : Stmt) (seen : Seen) (k : Option ℕ) (plan second : Option Plan) → Holds p stmt seen k plan second → InOrder plan second
 in_order p stmt seen k (Some plan) second holds = tt
 in_order p stmt seen k None None holds = tt
 in_order p stmt seen None None (Some second) holds = absurd holds
 in_order p stmt seen (Some k) None (Some second) holds = absurd holds
 
+pub ordered_own : (p : Public) (x : Entry) → InOrder x.seen.plan x.seen.then → WritesOwn p x
+ordered_own p x order = record { own = λ flat. writes_within p x.seen order x.skeleton (scripts p x.seen order x.skeleton flat); index = writes_indexes p x.skeleton x.seen }
+
 lawful_own : (p : Public) (m : ℕ) (stmt : Stmt) (x : Entry) → Lawful p m stmt x.seen → WritesOwn p x
-lawful_own p m stmt x lawful =
-    let order = in_order p stmt x.seen x.seen.k x.seen.plan x.seen.then lawful.holds in
-    record { own = λ flat. writes_within p x.seen order x.skeleton (scripts p x.seen order x.skeleton flat); index = writes_indexes p x.skeleton x.seen }
+lawful_own p m stmt x lawful = ordered_own p x (in_order p stmt x.seen x.seen.k x.seen.plan x.seen.then lawful.holds)
 
 -- ---- a whole run
-pub write_own : (Leaves : Public → Stmt → Seen → Type 0) (spelt : List Spelt) (answers : List Answer) (p : Public) (m : ℕ) (g : Option Gathering) (seen : List Entry) → AreSeen Leaves p m g spelt answers seen → WriteOwn p seen
-unfolding AreSeen WriteOwn
+pub write_own : (Leaves : Public → Stmt → Seen → Type 0) (spelt : List Spelt) (answers : List Answer) (p : Public) (m : ℕ) (g : Option Gathering) (seen : List Entry) → SeenAlone Leaves p m g spelt answers seen → WriteOwn p seen
+unfolding SeenAlone WriteOwn
 write_own Leaves [] answers p m g seen lawful = subst (λ (xs : List Entry). WriteOwn p xs) (sym lawful) tt
 write_own Leaves (Err at ∷ spelt) [] p m g seen lawful = write_own Leaves spelt [] p m None seen lawful
 write_own Leaves (Err at ∷ spelt) (one ∷ answers) p m g seen lawful = write_own Leaves spelt answers p m None seen lawful.1
@@ -412,5 +415,5 @@ write_own Leaves (Ok stmt ∷ spelt) [] p m g (x ∷ seen) lawful =
 write_own Leaves (Ok stmt ∷ spelt) (one ∷ answers) p m g (x ∷ seen) lawful =
     (lawful_own p m stmt x lawful.1, write_own Leaves spelt answers (next p x.skeleton x.seen) (m + length (script p x.skeleton x.seen)) (gathering_after p m g stmt x.seen.end) seen lawful.3)
 
-pub runs_write_own : (one : SomeRun) → WriteOwn one.base.public (seen_by one)
-runs_write_own one = write_own _ one.run.story.spelt one.run.story.answers one.base.public one.base.count None (seen_by one) one.run.accesses.lawful
+pub runs_write_own : (one : SomeRun) → FliesNone one.base → WriteOwn one.base.public (seen_by one)
+runs_write_own one alone = write_own _ one.run.story.spelt one.run.story.answers one.base.public one.base.count None (seen_by one) (run_alone one alone).lawful

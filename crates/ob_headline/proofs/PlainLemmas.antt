@@ -2,16 +2,20 @@
 use Rattle.std.specs.Prelude.{if◌then◌else◌}
 use Rattle.std.proofs.Common.{◌≡◌, ◌+◌, ◌≤◌, ◌++◌, inl, inr, ℕ, Bool, true, false, Ok, Err, List, [], ◌∷◌, length, Option, Some, None, refl, sym, ◌∙◌, ap, subst, append-nil, arith}
 use Rattle.std.specs.Io.KnownBytes.{Appends, Consumes, IsAtEnd}
+use Rattle.ob_base.specs.declared.access.Access.{Access}
 use Rattle.ob_base.specs.declared.config.Public.{Public}
 use Rattle.ob_base.specs.declared.seen.Seen.{Seen}
 use Rattle.ob_base.specs.declared.refusal.Stop.TheVariants.{Tampered, SourceFault, SinkFault, NoMemory, InputLimit, StoreFault, StashFull, KeeperFault}
+use Rattle.ob_headline.proofs.AloneRuns.{meant_alone, run_alone}
 use Rattle.ob_headline.proofs.BatchLemmas.{IsUncut, how_is}
 use Rattle.ob_headline.proofs.RerunLemmas.{answered_all, failure_is}
-use Rattle.ob_headline.specs.Accesses.{AreSeen, StopsWithin}
+use Rattle.ob_headline.proofs.ServedAlone.{SeenAlone}
+use Rattle.ob_headline.specs.Accesses.{StopsWithin}
 use Rattle.ob_headline.specs.Bases.{FromEach, HoldsFrom, Opened, drawing, session_at}
 use Rattle.ob_headline.specs.Batches.{gathered_now}
 use Rattle.ob_headline.specs.Endings.{last_line, status_of}
 use Rattle.ob_headline.specs.Failures.{FailsBeside, failures, outcome_failures}
+use Rattle.ob_headline.specs.Flights.{FliesNone}
 use Rattle.ob_headline.specs.FullStash.{ReadsFullStash}
 use Rattle.ob_headline.specs.KeyLine.{after_line}
 use Rattle.ob_headline.specs.Plainly.{AnsweredPlainly, IsUnhindered, RunsPlainly}
@@ -20,7 +24,8 @@ use Rattle.ob_headline.specs.Settings.{limit_of}
 use Rattle.ob_headline.specs.Texts.{texts_in}
 use Rattle.ob_headline.specs.Tracing.{traced}
 use Rattle.ob_headline.specs.Words.{Answer, IsHonest, printed}
-use Rattle.ob_headline.specs.Meaning.{AnswersFrom, AnswersIn, AnswersMeant}
+use Rattle.ob_headline.proofs.ServedAlone.{AnswersAlone}
+use Rattle.ob_headline.specs.Meaning.{AnswersIn, AnswersMeant}
 use Rattle.ob_headline.specs.Answers.{IsUndeceived}
 use Rattle.ob_headline.specs.Status.{Because, IsCompleted, StoreFails}
 use Rattle.ob_headline.specs.declared.ending.Ending.{Ending}
@@ -48,9 +53,9 @@ meant_where_uncut s stmt one With answers uncut = answers
 meant_where_uncut s stmt one CutWith answers uncut = absurd uncut
 
 answers_plainly : (Leaves : Public → Stmt → Seen → Type 0) (ending : Ending) (g : Option Gathering) (s : Session) (spelt : List Spelt) (broken : Broken) (answers : List Answer) (seen : List Entry) (part : List ℕ)
-    → AnswersFrom ending s spelt broken answers seen part → AreSeen Leaves s.public s.asked g spelt answers seen → length answers ≡ length spelt → failures answers ≡ 0
+    → AnswersAlone ending s spelt broken answers seen part → SeenAlone Leaves s.public s.asked g spelt answers seen → length answers ≡ length spelt → failures answers ≡ 0
     → AnsweredPlainly g s spelt answers × (seen ≡ all_served s spelt (hows g s spelt))
-unfolding AnswersFrom AnsweredPlainly AreSeen failures
+unfolding AnswersAlone AnsweredPlainly SeenAlone failures
 answers_plainly Leaves ending g s [] broken answers seen part all lawful each none = (all.0, lawful)
 answers_plainly Leaves ending g s (x ∷ spelt) broken [] seen part all lawful each none = absurd (omega (arith, each))
 answers_plainly Leaves ending g s (Err at ∷ spelt) broken (one ∷ more) seen part all lawful each none =
@@ -63,16 +68,16 @@ answers_plainly Leaves ending g s (Ok stmt ∷ spelt) broken (one ∷ more) (x �
     let is : head_of broken ≡ how = how_is g s stmt (head_of broken) x.seen uncut all.3 lawful.2.3 in
     let here : x.seen ≡ seen_or_cut how s stmt = all.3 ∙ ap (λ (h : How). seen_or_cut h s stmt) is in
     let entry : x ≡ served how s stmt = λ i. record { skeleton = lawful.0 i; seen = here i } in
-    let behind = subst (λ (h : How). AnswersFrom ending (after h s stmt) spelt (rest_of broken) more seen part) is all.4 in
-    let later : AreSeen Leaves (after how s stmt).public (after how s stmt).asked (gathered_now g s stmt) spelt more seen =
-    subst (λ (y : Entry). AreSeen Leaves (next s.public y.skeleton y.seen) (s.asked + length (script s.public y.skeleton y.seen)) (gathering_after s.public s.asked g stmt y.seen.end) spelt more seen) entry lawful.3 in
+    let behind = subst (λ (h : How). AnswersAlone ending (after h s stmt) spelt (rest_of broken) more seen part) is all.4 in
+    let later : SeenAlone Leaves (after how s stmt).public (after how s stmt).asked (gathered_now g s stmt) spelt more seen =
+    subst (λ (y : Entry). SeenAlone Leaves (next s.public y.skeleton y.seen) (s.asked + length (script s.public y.skeleton y.seen)) (gathering_after s.public s.asked g stmt y.seen.end) spelt more seen) entry lawful.3 in
     let rest = answers_plainly Leaves ending (gathered_now g s stmt) (after how s stmt) spelt (rest_of broken) more seen part behind later (omega (arith, each)) (omega (arith, none)) in (
       (all.0, meant_where_uncut s stmt one (head_of broken) all.2 uncut, rest.0),
       (λ i. entry i ∷ rest.1 i) ∙ sym (served_room s stmt spelt (hows g s (Ok stmt ∷ spelt)) all.0),
     )
 
 -- ---- it comes to its end
-module _ (one : SomeRun) (input : List ℕ) (free : IsUnhindered one input) where
+module _ (one : SomeRun) (input : List ℕ) (flies : FliesNone one.base) (free : IsUnhindered one input) where
   abbrev Ends : Type 0
   Ends = (refused : Bool) × (one.run.ending ≡ Ran (Ok refused))
 
@@ -116,13 +121,13 @@ module _ (one : SomeRun) (input : List ℕ) (free : IsUnhindered one input) wher
 
   -- what is seen, from a session with what is public there
   abbrev Seen_at : Public → ℕ → Type 0
-  Seen_at p m = AreSeen (StopsWithin one.run.ending (FailsBeside one.run.story.seen one.old.store.faults one.new.store.faults) (ReadsFullStash (keys_by one) one.base.start one.new.store)) p m None one.run.story.spelt one.run.story.answers (seen_by one)
+  Seen_at p m = SeenAlone (StopsWithin one.run.ending (FailsBeside one.run.story.seen one.old.store.faults one.new.store.faults) (ReadsFullStash (keys_by one) one.base.start one.new.store)) p m None one.run.story.spelt one.run.story.answers (seen_by one)
 
   lawful_at : (s : Session) → (s.public ≡ one.base.public) → (s.asked ≡ one.base.count) → Seen_at s.public s.asked
-  lawful_at s public asked = subst (λ (p : Public). Seen_at p s.asked) (sym public) (subst (λ (m : ℕ). Seen_at one.base.public m) (sym asked) one.run.accesses.lawful)
+  lawful_at s public asked = subst (λ (p : Public). Seen_at p s.asked) (sym public) (subst (λ (m : ℕ). Seen_at one.base.public m) (sym asked) (run_alone one flies).lawful)
 
   plainly : (s : Session) (refused : Bool) → (s.public ≡ one.base.public) → (s.asked ≡ one.base.count) → one.run.ending ≡ Ran (Ok refused) → (broken : Broken)
-      → AnswersFrom one.run.ending s one.run.story.spelt broken one.run.story.answers (seen_by one) one.run.story.part → RunsPlainly one input s
+      → AnswersAlone one.run.ending s one.run.story.spelt broken one.run.story.answers (seen_by one) one.run.story.part → RunsPlainly one input s
   plainly s refused public asked is broken all =
       let why : Because one.base (Ran (Ok refused)) (TakesWords one.program one.words) (limit_of one.base.settings) one.run.taken one.run.ended one.run.story.more one.run.story.answers one.run.story.part one.old one.new =
       subst (λ (ending : Ending). Because one.base ending (TakesWords one.program one.words) (limit_of one.base.settings) one.run.taken one.run.ended one.run.story.more one.run.story.answers one.run.story.part one.old one.new) is one.run.status.because in
@@ -137,9 +142,10 @@ module _ (one : SomeRun) (input : List ℕ) (free : IsUnhindered one input) wher
         texts = (λ i. texts_in (sym why.2.whole i) (after_line (sym whole i))) ∙ one.run.bytes.texts ∙ ap (λ (l : List (List ℕ)). one.run.story.served ++ l) why.2.all.no_more ∙ append-nil one.run.story.served;
         answered = meant.0;
         seen = meant.1;
-        asked = one.run.accesses.asked ∙ ap (λ (xs : List Entry). one.base.before ++ trace one.base.public xs) meant.1;
+        asked = (run_alone one flies).asked ∙ ap (λ (xs : List Entry). one.base.before ++ trace one.base.public xs) meant.1;
         printed = subst (λ (l : List ℕ). Appends one.old.written one.new.written l) line (took free.sinks one.run.output.grew);
-        traced = subst (λ (xs : List Entry). Appends one.old.traced one.new.traced (traced one.tracing (trace one.base.public xs))) meant.1 (took free.sinks one.run.output.traced_all);
+        traced = subst (λ (xs : List Entry). Appends one.old.traced one.new.traced (traced one.tracing (trace one.base.public xs))) meant.1
+            (subst (λ (l : List Access). Appends one.old.traced one.new.traced (traced one.tracing l)) (run_alone one flies).traced (took free.sinks one.run.output.traced_all));
         status = says refused is ∙ ap (λ (b : Bool). if b then 1 else 0) why.1;
       }
 
@@ -147,16 +153,17 @@ module _ (one : SomeRun) (input : List ℕ) (free : IsUnhindered one input) wher
   s_of s = drawing (keys_by one) s
 
   abbrev Meant : Session → Type 0
-  Meant s = (broken : Broken) × AnswersFrom one.run.ending (s_of s) one.run.story.spelt broken one.run.story.answers (seen_by one) one.run.story.part
+  Meant s = (broken : Broken) × AnswersAlone one.run.ending (s_of s) one.run.story.spelt broken one.run.story.answers (seen_by one) one.run.story.part
 
   abbrev Done : Session → Type 0
   Done s = Completes one.run.ending
 
   pub runs_plainly : FromEach one.base (λ s. RunsPlainly one input (s_of s))
-  runs_plainly = go one.base.opened (one.run.status.completes free.takes input free.left free.limits free.source free.sinks) (one.run.answers.meant undeceived) where
-    at : (s : Session) → (s.public ≡ one.base.public) → (s.asked ≡ one.base.count) → Done s → Meant s → RunsPlainly one input (s_of s)
-    at s public asked done all = let end = ends one.run.ending refl done in plainly (s_of s) end.0 public asked end.1 all.0 all.1
+  runs_plainly = go one.base.opened (one.run.status.completes free.takes input free.left free.limits free.source free.sinks)
+      (meant_alone one.base flies (keys_by one) one.run.ending one.run.story one.old.store one.new.store one.run.accesses (one.run.answers.meant undeceived)) where
+        at : (s : Session) → (s.public ≡ one.base.public) → (s.asked ≡ one.base.count) → Done s → Meant s → RunsPlainly one input (s_of s)
+        at s public asked done all = let end = ends one.run.ending refl done in plainly (s_of s) end.0 public asked end.1 all.0 all.1
 
-    go : (o : Option Opened) → HoldsFrom o one.base Done → HoldsFrom o one.base Meant → HoldsFrom o one.base (λ s. RunsPlainly one input (s_of s))
-    go None done all = at (session_at one.base []) refl refl done all
-    go (Some o) done all = λ tables rested. at (session_at one.base tables) refl refl (done tables rested) (all tables rested)
+        go : (o : Option Opened) → HoldsFrom o one.base Done → HoldsFrom o one.base Meant → HoldsFrom o one.base (λ s. RunsPlainly one input (s_of s))
+        go None done all = at (session_at one.base []) refl refl done all
+        go (Some o) done all = λ tables rested. at (session_at one.base tables) refl refl (done tables rested) (all tables rested)

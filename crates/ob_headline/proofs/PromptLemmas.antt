@@ -1,11 +1,11 @@
 -- Texts are answered before more is read.
-use Rattle.std.proofs.Common.{◌≡◌, ℕ, zero, suc, ◌-◌, ◌≤◌, ◌==◌, Bool, true, false, List, [], ◌∷◌, ◌++◌, length, take, drop, refl, sym, ap, ◌∙◌, subst, arith, append_assoc, append-nil, length-append, take-append-drop}
+use Rattle.std.proofs.Common.{◌≡◌, inl, inr, ℕ, zero, suc, ◌-◌, ◌≤◌, ◌==◌, Bool, true, false, List, [], ◌∷◌, ◌++◌, length, take, drop, refl, sym, ap, ◌∙◌, subst, arith, append_assoc, append-nil, length-append, take-append-drop}
 use Rattle.std.proofs.lemmas.List.{take-append-le}
-use Rattle.std.specs.Prelude.{◌<◌, min}
+use Rattle.std.specs.Prelude.{◌<◌}
+use Rattle.ob_base.specs.declared.config.Public.{Public}
 use Rattle.ob_headline.proofs.TextLemmas.{texts_of-append, texts_of-nil}
 use Rattle.ob_headline.specs.Batches.{AllInsert, AnsweredBut, Wait}
 use Rattle.ob_headline.specs.KeyLine.{after_line}
-use Rattle.ob_headline.specs.Prompt.{Prompt}
 use Rattle.ob_headline.specs.Statements.{SpellFirst}
 use Rattle.ob_headline.specs.Texts.{rest_of, texts_in, texts_of}
 use Rattle.ob_headline.specs.Words.{Begins, before_read}
@@ -78,28 +78,20 @@ unfolding SpellFirst AllInsert
 none_waits most some = record { few = omega (arith, some); stmts = []; whole = refl; spell = tt; table = []; insert = tt }
 
 -- none does where all were answered
-pub all_answered : (most : ℕ) (texts served : List (List ℕ)) → 1 ≤ most → Begins texts served → AnsweredBut most texts served
-all_answered most texts served some begins = record {
+pub all_answered : (p : Public) (most flown : ℕ) (texts served : List (List ℕ)) → 1 ≤ most → Begins texts served → AnsweredBut p most flown texts served
+all_answered p most flown texts served some begins = record {
   waiting = [];
-  wait = none_waits most some;
+  wait = inl (none_waits most some);
   answered = subst (λ (xs : List (List ℕ)). Begins texts xs) (sym (append-nil served)) begins;
 }
 
--- without batches none may
-pub none_may : (texts served : List (List ℕ)) → AnsweredBut 1 texts served → Begins texts served
-none_may texts served waits = go waits.waiting waits.wait.few waits.answered
+-- without batches and flights none may
+pub none_may : {p : Public} (texts served : List (List ℕ)) → AnsweredBut p 1 1 texts served → Begins texts served
+none_may texts served waits = go waits.waiting (elim waits.wait [ inl wait ↦ wait.few | inr wait ↦ wait.few ]) waits.answered
   where
     go : (waiting : List (List ℕ)) → length waiting < 1 → Begins texts (served ++ waiting) → Begins texts served
     go [] few begins = subst (λ (xs : List (List ℕ)). Begins texts xs) (append-nil served) begins
     go (text ∷ waiting) few begins = absurd (omega (arith, few))
-
--- so what is promised follows from what waits
-pub prompt_from : (most : ℕ) (taken : List ℕ) (served : List (List ℕ)) (gave : ℕ) → min gave (length taken) ≤ 4096 → AnsweredBut most (texts_in false (after_line (before_read gave taken))) served → Prompt most taken served gave
-prompt_from most taken served gave few waits = record {
-  few = few;
-  prompt = λ is. none_may (texts_in false (after_line (before_read gave taken))) served (subst (λ (n : ℕ). AnsweredBut n (texts_in false (after_line (before_read gave taken))) served) is waits);
-  waits = waits;
-}
 
 -- what follows the first line came by the last read
 pub prompt_line : (gave : ℕ) (taken : List ℕ) (served : List (List ℕ)) → length (after_line taken) ≤ gave → Begins (texts_in false (after_line (before_read gave taken))) served
@@ -108,13 +100,7 @@ prompt_line gave taken served late =
     let before : after_line (before_read gave taken) ≡ [] = after_line-before_read gave taken ∙ ap (λ (n : ℕ). take n (after_line taken)) none in
     subst (λ (xs : List (List ℕ)). Begins xs served) (sym (ap (texts_of []) before ∙ texts_of-nil [])) (record { rest = served; joined = refl })
 
-pub waits_behind : (most gave : ℕ) (taken bytes : List ℕ) (served : List (List ℕ)) → after_line taken ≡ bytes → AnsweredBut most (texts_in false (before_read gave bytes)) served
-    → AnsweredBut most (texts_in false (after_line (before_read gave taken))) served
-waits_behind most gave taken bytes served is waits =
-    subst (λ (xs : List ℕ). AnsweredBut most (texts_in false xs) served) (sym (after_line-before_read gave taken ∙ ap (before_read gave) is)) waits
-
--- from the bytes behind the first line to all that were taken
-pub prompt_behind : (gave : ℕ) (taken bytes : List ℕ) (served : List (List ℕ)) → after_line taken ≡ bytes → Begins (texts_in false (before_read gave bytes)) served
-    → Begins (texts_in false (after_line (before_read gave taken))) served
-prompt_behind gave taken bytes served is begins =
-    subst (λ (xs : List ℕ). Begins (texts_in false xs) served) (sym (after_line-before_read gave taken ∙ ap (before_read gave) is)) begins
+pub waits_behind : (p : Public) (most flown gave : ℕ) (taken bytes : List ℕ) (served : List (List ℕ)) → after_line taken ≡ bytes → AnsweredBut p most flown (texts_in false (before_read gave bytes)) served
+    → AnsweredBut p most flown (texts_in false (after_line (before_read gave taken))) served
+waits_behind p most flown gave taken bytes served is waits =
+    subst (λ (xs : List ℕ). AnsweredBut p most flown (texts_in false xs) served) (sym (after_line-before_read gave taken ∙ ap (before_read gave) is)) waits

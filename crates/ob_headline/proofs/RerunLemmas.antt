@@ -23,11 +23,13 @@ use Rattle.ob_headline.specs.Batches.{Joins}
 use Rattle.ob_headline.specs.Endings.{status_of}
 use Rattle.ob_headline.specs.Failures.{failures, outcome_failures}
 use Rattle.ob_headline.specs.Headline.{Headline}
-use Rattle.ob_headline.specs.Reruns.{Alike, EndsWell, GoOnFromOne, IsPlain, ShowAlike, SomeRun, Turn, any_counted, asked_by, failures_of, gathered_at, gathered_then, plainly, plainly_at, seen_by, seen_plainly, shows_more, turns, turns_of}
+use Rattle.ob_headline.specs.Reruns.{Alike, EndsWell, GoOnFromOne, IsPlain, ShowAlike, SomeRun, Stated, any_counted, asked_by, failures_of, gathered_at, gathered_behind, plainly, plainly_at, seen_by, seen_plainly, shows_more, stated, stated_of}
 use Rattle.ob_headline.specs.Settings.{limit_of}
 use Rattle.ob_headline.specs.Words.{Answer, Outside}
 use Rattle.ob_headline.specs.Statements.{SpellFirst}
-use Rattle.ob_headline.specs.Accesses.{AreSeen}
+use Rattle.ob_headline.proofs.ServedAlone.{SeenAlone}
+use Rattle.ob_headline.specs.Flights.{FliesNone}
+use Rattle.ob_headline.proofs.AloneRuns.{run_alone}
 use Rattle.ob_headline.specs.Status.{Because}
 use Rattle.ob_headline.specs.declared.ending.Ending.{Ending}
 use Rattle.ob_headline.specs.declared.ending.Ending.TheVariants.{Usage, BadKey, Ran}
@@ -44,12 +46,12 @@ use Rattle.ob_sql.specs.declared.stmt.Stmt.TheVariants.{Create, Insert, Update, 
 
 -- of each statement its skeleton, and what is seen of it, which is lawful, and joins the batch that is gathered or doesn't;
 -- none is cut off
-unfoldable pub AreUncut : Public → ℕ → Option Gathering → List Turn → List Entry → Type 0
+unfoldable pub AreUncut : Public → ℕ → Option Gathering → List Stated → List Entry → Type 0
 AreUncut p m g [] seen = seen ≡ []
 AreUncut p m g (t ∷ ts) [] = ⊥
 AreUncut p m g (t ∷ ts) (x ∷ seen) =
     (x.skeleton ≡ skeleton t.stmt) × Lawful p m t.stmt x.seen × (is_cut x.seen.end ≡ false) × Joins p m (gathered_at g t) t.stmt x.seen
-    × AreUncut (next p x.skeleton x.seen) (m + length (script p x.skeleton x.seen)) (gathered_then p m g t x.seen.end) ts seen
+    × AreUncut (next p x.skeleton x.seen) (m + length (script p x.skeleton x.seen)) (gathered_behind p m g t x.seen.end) ts seen
 
 -- ---- what is seen of a statement that was not cut off, where it accesses no index, and is no SELECT of rows or results are
 -- padded, follows from its early refusal
@@ -177,14 +179,14 @@ plain_too p a b sk plain =
     (ap (is_access p) (sym sk) ∙ plain.0, elim plain.1 [ inl none ↦ inl (sym (same_counted a b sk) ∙ none) | inr padded ↦ inr padded ])
 
 -- the same ones are apart
-same_gathered : (g : Option Gathering) (a b : Turn) → a.apart ≡ b.apart → gathered_at g a ≡ gathered_at g b
+same_gathered : (g : Option Gathering) (a b : Stated) → a.apart ≡ b.apart → gathered_at g a ≡ gathered_at g b
 same_gathered g a b apart = ap (λ (x : Bool). if x then None else g) apart
 
-module _ (p : Public) (m : ℕ) (g : Option Gathering) (a b : Turn) (sk : skeleton a.stmt ≡ skeleton b.stmt) (early : is_some (refusal_now p m a.stmt) ≡ is_some (refusal_now p m b.stmt)) (apart : a.apart ≡ b.apart) where
+module _ (p : Public) (m : ℕ) (g : Option Gathering) (a b : Stated) (sk : skeleton a.stmt ≡ skeleton b.stmt) (early : is_some (refusal_now p m a.stmt) ≡ is_some (refusal_now p m b.stmt)) (apart : a.apart ≡ b.apart) where
   plainly_alike : plainly_at p m g a ≡ plainly_at p m g b
   plainly_alike = λ i. seen_plainly (early i) (goes_into p (same_gathered g a b apart i) (sk i))
 
-  then_alike : (end : End) → gathered_then p m g a end ≡ gathered_then p m g b end
+  then_alike : (end : End) → gathered_behind p m g a end ≡ gathered_behind p m g b end
   then_alike end =
       gathers_alike p m (gathered_at g a) a.stmt b.stmt end sk early
       ∙ ap (λ (h : Option Gathering). gathering_after p m h b.stmt end) (same_gathered g a b apart)
@@ -197,7 +199,7 @@ module _ (p : Public) (m : ℕ) (g : Option Gathering) (a b : Turn) (sk : skelet
       shows_plainly p m (gathered_at g a) a.stmt x lawful joins plain uncut ∙ plainly_alike
       ∙ sym (shows_plainly p m (gathered_at g b) b.stmt y lawful_too joins_too (plain_too p a.stmt b.stmt sk plain) uncut_too)
 
-same_seen : (p : Public) (m : ℕ) (g : Option Gathering) (ps : List Turn) (xs : List Entry) (qs : List Turn) (ys : List Entry) → AreUncut p m g ps xs → AreUncut p m g qs ys → ShowAlike p m ps xs qs ys → xs ≡ ys
+same_seen : (p : Public) (m : ℕ) (g : Option Gathering) (ps : List Stated) (xs : List Entry) (qs : List Stated) (ys : List Entry) → AreUncut p m g ps xs → AreUncut p m g qs ys → ShowAlike p m ps xs qs ys → xs ≡ ys
 unfolding AreUncut ShowAlike
 same_seen p m g [] xs [] ys a b alike = a ∙ sym b
 same_seen p m g [] xs (b ∷ qs) ys lawful lawful_too alike = absurd alike
@@ -209,8 +211,8 @@ same_seen p m g (a ∷ ps) (x ∷ xs) (b ∷ qs) (y ∷ ys) lawful lawful_too al
     let here : x.seen ≡ y.seen = one_alike p m g a b alike.0 alike.1 alike.2 x.seen y.seen (shows_more p a.stmt) refl lawful.1 lawful_too.1 lawful.2 lawful_too.2 lawful.3 lawful_too.3 alike.3 in
     let one : x ≡ y = λ i. record { skeleton = sk i; seen = here i } in
     let there = subst (λ (h : Option Gathering). AreUncut (next p y.skeleton y.seen) (m + length (script p y.skeleton y.seen)) h qs ys) (sym (then_alike p m g a b alike.0 alike.1 alike.2 y.seen.end)) lawful_too.4 in
-    let rest = same_seen (next p x.skeleton x.seen) (m + length (script p x.skeleton x.seen)) (gathered_then p m g a x.seen.end) ps xs qs ys lawful.4
-    (subst (λ (z : Entry). AreUncut (next p z.skeleton z.seen) (m + length (script p z.skeleton z.seen)) (gathered_then p m g a z.seen.end) qs ys) (sym one) there) alike.4 in
+    let rest = same_seen (next p x.skeleton x.seen) (m + length (script p x.skeleton x.seen)) (gathered_behind p m g a x.seen.end) ps xs qs ys lawful.4
+    (subst (λ (z : Entry). AreUncut (next p z.skeleton z.seen) (m + length (script p z.skeleton z.seen)) (gathered_behind p m g a z.seen.end) qs ys) (sym one) there) alike.4 in
     λ i. one i ∷ rest i
 
 -- ---- of a run by its headline
@@ -238,18 +240,18 @@ none_if : (apart : Bool) (g : Option Gathering) → g ≡ None → gathered_if a
 none_if true g none = refl
 none_if false g none = none
 
-pub gathers_on : (batched : Bool) (p : Public) (m : ℕ) (g : Option Gathering) (t : Turn) (sk : Skeleton) (here : Seen) → GathersIf batched p g → GathersIf batched (next p sk here) (gathered_then p m g t here.end)
+pub gathers_on : (batched : Bool) (p : Public) (m : ℕ) (g : Option Gathering) (t : Stated) (sk : Skeleton) (here : Seen) → GathersIf batched p g → GathersIf batched (next p sk here) (gathered_behind p m g t here.end)
 gathers_on batched p m g t sk here gathers is =
     let none = gathers is in
     (none.0, ap (λ (h : Option Gathering). gathering_after p m h t.stmt here.end) (none_if t.apart g none.1) ∙ none_gathered p m t.stmt here.end none.0)
 
 all_uncut : (Leaves : Public → Stmt → Seen → Type 0) (spelt : List Spelt) (answers : List Answer) (batched apart : Bool) (p : Public) (m : ℕ) (g : Option Gathering) (seen : List Entry) → GathersIf batched p g
-    → AreSeen Leaves p m (gathered_if apart g) spelt answers seen → length answers ≡ length spelt → failures answers ≡ 0 → AreUncut p m g (turns batched apart spelt) seen
-unfolding AreSeen failures turns AreUncut
+    → SeenAlone Leaves p m (gathered_if apart g) spelt answers seen → length answers ≡ length spelt → failures answers ≡ 0 → AreUncut p m g (stated batched apart spelt) seen
+unfolding SeenAlone failures stated AreUncut
 all_uncut Leaves [] answers batched apart p m g seen gathers lawful each none = lawful
 all_uncut Leaves (x ∷ spelt) [] batched apart p m g seen gathers lawful each none = absurd (omega (arith, each))
 all_uncut Leaves (Err at ∷ spelt) (one ∷ answers) batched apart p m g seen gathers lawful each none =
-    all_uncut Leaves spelt answers batched batched p m g seen gathers (subst (λ (h : Option Gathering). AreSeen Leaves p m h spelt answers seen) (none_before batched p g gathers) lawful.1) (omega (arith, each)) (omega (arith, none))
+    all_uncut Leaves spelt answers batched batched p m g seen gathers (subst (λ (h : Option Gathering). SeenAlone Leaves p m h spelt answers seen) (none_before batched p g gathers) lawful.1) (omega (arith, each)) (omega (arith, none))
 all_uncut Leaves (Ok stmt ∷ spelt) (one ∷ answers) batched apart p m g [] gathers lawful each none = absurd lawful
 all_uncut Leaves (Ok stmt ∷ spelt) (one ∷ answers) batched apart p m g (x ∷ seen) gathers lawful each none = (
   lawful.0,
@@ -297,31 +299,31 @@ answered_all {base} {Takes = Takes} {old = old} {new = new} {report = report} a 
     subst (λ (ts : List (List ℕ)). length a.story.spelt ≤ length ts) (ap (λ (ts : List (List ℕ)). a.story.served ++ ts) none ∙ append-nil a.story.served) (spell_few (a.story.served ++ a.story.more) a.story.spelt a.statements.spells) in
     omega (arith, most, a.statements.reached, a.statements.each)
 
-module _ (one : SomeRun) (well : EndsWell one.report.status (failures_of one)) where
-  pub run_uncut : AreUncut one.base.public one.base.count None (turns_of one) (seen_by one)
+module _ (one : SomeRun) (alone : FliesNone one.base) (well : EndsWell one.report.status (failures_of one)) where
+  pub run_uncut : AreUncut one.base.public one.base.count None (stated_of one) (seen_by one)
   run_uncut =
       all_uncut _ one.run.story.spelt one.run.story.answers (is_some one.base.public.batch) false one.base.public one.base.count None (seen_by one) (gathers_none one.base.public)
-      one.run.accesses.lawful (answered_all one.run well.ended) well.none
+      (run_alone one alone).lawful (answered_all one.run well.ended) well.none
 
 -- ---- none is a SELECT of rows, or results are padded
 neither : (a b : Bool) → (a || b) ≡ false → (a ≡ false) × (b ≡ false)
 neither true b is = absurd (cc is)
 neither false b is = (refl, is)
 
-abbrev AreUncounted : Public → List Turn → Type 0
+abbrev AreUncounted : Public → List Stated → Type 0
 AreUncounted p ts = (any_counted ts ≡ false) ⊎ IsSome p.pad
 
-first_uncounted : (p : Public) (a : Turn) (ps : List Turn) → AreUncounted p (a ∷ ps) → (selects_rows a.stmt ≡ false) ⊎ IsSome p.pad
+first_uncounted : (p : Public) (a : Stated) (ps : List Stated) → AreUncounted p (a ∷ ps) → (selects_rows a.stmt ≡ false) ⊎ IsSome p.pad
 unfolding any_counted
 first_uncounted p a ps none = elim none [ inl none ↦ inl (neither (selects_rows a.stmt) (any_counted ps) none).0 | inr padded ↦ inr padded ]
 
 -- after any statement results are still padded
-rest_uncounted : (p : Public) (a : Turn) (ps : List Turn) (x : Entry) → AreUncounted p (a ∷ ps) → AreUncounted (next p x.skeleton x.seen) ps
+rest_uncounted : (p : Public) (a : Stated) (ps : List Stated) (x : Entry) → AreUncounted p (a ∷ ps) → AreUncounted (next p x.skeleton x.seen) ps
 unfolding any_counted
 rest_uncounted p a ps x none = elim none [ inl none ↦ inl (neither (selects_rows a.stmt) (any_counted ps) none).1 | inr padded ↦ inr padded ]
 
 -- lists of statements that are alike show alike
-shows : (p : Public) (m : ℕ) (g : Option Gathering) (ps : List Turn) (xs : List Entry) (qs : List Turn) (ys : List Entry) → AreUncut p m g ps xs → AreUncut p m g qs ys → AreUncounted p ps → Alike p m g ps qs → ShowAlike p m ps xs qs ys
+shows : (p : Public) (m : ℕ) (g : Option Gathering) (ps : List Stated) (xs : List Entry) (qs : List Stated) (ys : List Entry) → AreUncut p m g ps xs → AreUncut p m g qs ys → AreUncounted p ps → Alike p m g ps qs → ShowAlike p m ps xs qs ys
 unfolding AreUncut Alike ShowAlike
 shows p m g [] xs [] ys a b none alike = tt
 shows p m g [] xs (b ∷ qs) ys one two none alike = absurd alike
@@ -336,38 +338,38 @@ shows p m g (a ∷ ps) (x ∷ xs) (b ∷ qs) (y ∷ ys) one two none alike =
     let first : x ≡ record { skeleton = skeleton a.stmt; seen = plainly_at p m g a } = λ i. record { skeleton = one.0 i; seen = here i } in
     let sk : y.skeleton ≡ x.skeleton = two.0 ∙ sym alike.0 ∙ sym one.0 in
     let behind = subst (λ (h : Option Gathering). AreUncut (next p y.skeleton y.seen) (m + length (script p y.skeleton y.seen)) h qs ys) (sym (then_alike p m g a b alike.0 alike.2 alike.3 y.seen.end)) two.4 in
-    let rest : AreUncut (next p x.skeleton x.seen) (m + length (script p x.skeleton x.seen)) (gathered_then p m g a x.seen.end) qs ys =
-    subst (λ (e : Entry). AreUncut (next p e.skeleton e.seen) (m + length (script p e.skeleton e.seen)) (gathered_then p m g a e.seen.end) qs ys) (λ i. record { skeleton = sk i; seen = same i }) behind in (
+    let rest : AreUncut (next p x.skeleton x.seen) (m + length (script p x.skeleton x.seen)) (gathered_behind p m g a x.seen.end) qs ys =
+    subst (λ (e : Entry). AreUncut (next p e.skeleton e.seen) (m + length (script p e.skeleton e.seen)) (gathered_behind p m g a e.seen.end) qs ys) (λ i. record { skeleton = sk i; seen = same i }) behind in (
       alike.0,
       alike.2,
       alike.3,
       (λ more. sym same),
-      shows (next p x.skeleton x.seen) (m + length (script p x.skeleton x.seen)) (gathered_then p m g a x.seen.end) ps xs qs ys one.4 rest (rest_uncounted p a ps x none)
-          (subst (λ (e : Entry). Alike (next p e.skeleton e.seen) (m + length (script p e.skeleton e.seen)) (gathered_then p m g a e.seen.end) ps qs) (sym first) alike.4),
+      shows (next p x.skeleton x.seen) (m + length (script p x.skeleton x.seen)) (gathered_behind p m g a x.seen.end) ps xs qs ys one.4 rest (rest_uncounted p a ps x none)
+          (subst (λ (e : Entry). Alike (next p e.skeleton e.seen) (m + length (script p e.skeleton e.seen)) (gathered_behind p m g a e.seen.end) ps qs) (sym first) alike.4),
     )
 
-module _ (a b : SomeRun) (same : GoOnFromOne a b) (well : EndsWell a.report.status (failures_of a)) (well_too : EndsWell b.report.status (failures_of b)) where
+module _ (a b : SomeRun) (alone : FliesNone a.base) (alone_too : FliesNone b.base) (same : GoOnFromOne a b) (well : EndsWell a.report.status (failures_of a)) (well_too : EndsWell b.report.status (failures_of b)) where
   abbrev p : Public
   p = a.base.public
 
   abbrev m : ℕ
   m = a.base.count
 
-  there : AreUncut p m None (turns_of b) (seen_by b)
+  there : AreUncut p m None (stated_of b) (seen_by b)
   there =
-      subst (λ (r : Public). AreUncut r m None (turns_of b) (seen_by b)) (sym same.public)
-      (subst (λ (n : ℕ). AreUncut b.base.public n None (turns_of b) (seen_by b)) (sym same.count) (run_uncut b well_too))
+      subst (λ (r : Public). AreUncut r m None (stated_of b) (seen_by b)) (sym same.public)
+      (subst (λ (n : ℕ). AreUncut b.base.public n None (stated_of b) (seen_by b)) (sym same.count) (run_uncut b alone_too well_too))
 
-  pub show_the_same : ShowAlike p m (turns_of a) (seen_by a) (turns_of b) (seen_by b) → (seen_by a ≡ seen_by b) × (asked_by a ≡ asked_by b)
+  pub show_the_same : ShowAlike p m (stated_of a) (seen_by a) (stated_of b) (seen_by b) → (seen_by a ≡ seen_by b) × (asked_by a ≡ asked_by b)
   show_the_same alike =
-      let seen = same_seen p m None (turns_of a) (seen_by a) (turns_of b) (seen_by b) (run_uncut a well) there alike in
-      (seen, a.run.accesses.asked ∙ (λ i. same.before i ++ trace (same.public i) (seen i)) ∙ sym b.run.accesses.asked)
+      let seen = same_seen p m None (stated_of a) (seen_by a) (stated_of b) (seen_by b) (run_uncut a alone well) there alike in
+      (seen, (run_alone a alone).asked ∙ (λ i. same.before i ++ trace (same.public i) (seen i)) ∙ sym (run_alone b alone_too).asked)
 
-  asks_alike : AreUncounted p (turns_of a) → Alike p m None (turns_of a) (turns_of b) → asked_by a ≡ asked_by b
-  asks_alike none alike = (show_the_same (shows p m None (turns_of a) (seen_by a) (turns_of b) (seen_by b) (run_uncut a well) there none alike)).1
+  asks_alike : AreUncounted p (stated_of a) → Alike p m None (stated_of a) (stated_of b) → asked_by a ≡ asked_by b
+  asks_alike none alike = (show_the_same (shows p m None (stated_of a) (seen_by a) (stated_of b) (seen_by b) (run_uncut a alone well) there none alike)).1
 
-  pub ask_the_same : any_counted (turns_of a) ≡ false → Alike p m None (turns_of a) (turns_of b) → asked_by a ≡ asked_by b
+  pub ask_the_same : any_counted (stated_of a) ≡ false → Alike p m None (stated_of a) (stated_of b) → asked_by a ≡ asked_by b
   ask_the_same none = asks_alike (inl none)
 
-  pub padded_ask_the_same : IsSome p.pad → Alike p m None (turns_of a) (turns_of b) → asked_by a ≡ asked_by b
+  pub padded_ask_the_same : IsSome p.pad → Alike p m None (stated_of a) (stated_of b) → asked_by a ≡ asked_by b
   padded_ask_the_same padded = asks_alike (inr padded)

@@ -10,16 +10,23 @@ use Rattle.ob_base.specs.declared.mark.Mark.TheVariants.{Fresh, InUse, Closed, B
 use Rattle.ob_headline.proofs.AlikeSessions.{grows, keeps_plain}
 use Rattle.ob_headline.proofs.AsOne.{none_there, unlied}
 use Rattle.ob_headline.proofs.BeginsAlike.{Begins, begins_anew, begins_reopened}
-use Rattle.ob_headline.proofs.EffectLemmas.{effects_on}
+use Rattle.ob_headline.proofs.AloneRuns.{RanAlone, are_of, headline_alone}
+use Rattle.ob_headline.proofs.BaseLemmas.{from_flying, unflown}
+use Rattle.ob_headline.proofs.EffectLemmas.{effects_on, left_alone, left_is}
+use Rattle.ob_headline.proofs.ServedAlone.{AnswersAlone, AreOf, as_alone}
+use Rattle.ob_headline.specs.Flights.{FliesNone, seats_of, trace_of, words_of}
+use Rattle.ob_headline.specs.Meaning.{AnswersFrom}
+use Rattle.ob_base.specs.declared.access.Access.{Access}
+use Rattle.ob_script.specs.Flights.{Entry}
 use Rattle.ob_headline.proofs.InStep.{InStep}
 use Rattle.ob_headline.proofs.SavedMarks.{begun_held, leaves_held}
 use Rattle.ob_headline.proofs.SettingLemmas.{saved_settings}
-use Rattle.ob_headline.specs.Bases.{Base, Opened, drawing, fresh, public_with, session_at, start}
+use Rattle.ob_headline.specs.Bases.{Base, Opened, drawing, flying, fresh, public_with, session_at, start}
 use Rattle.ob_headline.specs.Keeping.{closing_named}
 use Rattle.ob_headline.specs.SavedHeadline.{LeavesMark, MayTake, RestsBehind, RunSaved, SessionSaved, left_by}
 use Rattle.ob_headline.specs.SavedRuns.{AnswerInOne, AnsweredInOne, Effect, GoOnSaved, MayHaveAll, MayHaveMore, OneSaved, Outlasts, TakesEffect, all_effects, effects_of, held_by, kept_by, saved_count, saved_effects, saved_secret, session_behind, texts_of}
 use Rattle.ob_headline.specs.Saving.{BeginsSaved, ReopensSaved, RestsAlike, RestsAt, begun_mark}
-use Rattle.ob_headline.specs.Settings.{IsTakenSaved, saved_settings_of}
+use Rattle.ob_headline.specs.Settings.{IsTakenSaved, flight_of, saved_settings_of}
 use Rattle.ob_headline.specs.Usage.{is_saved, is_traced, saved_usage}
 use Rattle.ob_headline.specs.Words.{Answer}
 use Rattle.ob_mean.proofs.ReplayLemmas.{after_room}
@@ -29,7 +36,7 @@ use Rattle.ob_mean.specs.Replay.{Alone, Session, Spelt, after, after_all, is_ful
 use Rattle.ob_mean.specs.Verdict.{Tables}
 use Rattle.ob_reopen.specs.Saved.{RestsBy}
 use Rattle.ob_reopen.specs.declared.closing.Closing.{Closing}
-use Rattle.ob_script.specs.Trace.{trace}
+use Rattle.ob_script.specs.Trace.{Served, trace}
 use Rattle.ob_seal.specs.KeySet.{KeySet}
 use Rattle.ob_sql.specs.declared.stmt.Stmt.{Stmt}
 use Rattle.ob_store.specs.State.{KeptRegion, StoreState}
@@ -137,9 +144,28 @@ leaves_none words secret held mark old new k1 t waits is tells honest outlasts =
   );
 }
 
-module _ (words : List Text) (secret : List ℕ) (one : OneSaved words) (run : SessionSaved (saved_settings_of words) (IsTakenSaved words) (is_traced saved_usage words) one.old one.new one.keeper0 one.keeper1 one.run.ending one.run.answers one.report) (saves : is_saved words ≡ true)
-    (keyed : run.secret ≡ secret) (tells : IsTrue one.old.store.tells) (honest : one.new.store.lie ≡ None) (soon : run.base.count + length (trace run.base.public (run.session.story.seen ++ run.session.story.last)) < 2 ^ 63)
+module _ (words : List Text) (secret : List ℕ) (one : OneSaved words) (run : SessionSaved (saved_settings_of words) (flight_of saved_usage words) (IsTakenSaved words) (is_traced saved_usage words) one.old one.new one.keeper0 one.keeper1 one.run.ending one.run.answers one.report) (saves : is_saved words ≡ true)
+    (keyed : run.secret ≡ secret) (tells : IsTrue one.old.store.tells) (honest : one.new.store.lie ≡ None) (flies : flight_of saved_usage words ≡ None) (early : run.base.count + length (trace_of (flying (flight_of saved_usage words) run.base) run.session.story.entries) < 2 ^ 63)
     (held : Mark) (same_mark : one.keeper0.held ≡ Some held) (t : Session) (waits : Waits words secret (Some held) one.old.store.kept t) where
+  -- each statement is served alone
+  abbrev base : Base
+  base = flying (flight_of saved_usage words) run.base
+
+  alone : FliesNone base
+  alone = unflown (flight_of saved_usage words) run.base flies
+
+  ran : RanAlone base run.keys run.session.ending run.session.story run.opened one.new.store
+  ran = headline_alone alone run.session
+
+  abbrev all : List Served
+  all = run.session.story.seen ++ run.session.story.last
+
+  are : AreOf run.session.story.spelt all
+  are = are_of base alone run.keys run.session.ending run.session.story run.opened one.new.store run.session.accesses
+
+  soon : run.base.count + length (trace run.base.public all) < 2 ^ 63
+  soon = subst (λ (l : List Access). run.base.count + length l < 2 ^ 63) ran.traced early
+
   honest_opened : run.opened.lie ≡ None
   honest_opened = unlied run.opened.lie one.new.store.lie run.session.answers.later.lie honest
 
@@ -163,15 +189,26 @@ module _ (words : List Text) (secret : List ℕ) (one : OneSaved words) (run : S
   abbrev s : Session
   s = drawing run.keys (session_at run.base begins.tables)
 
-  left : (mark : Mark) × (one.keeper1.held ≡ Some mark) × LeavesMark run.secret run.salt run.base run.keys run.session.ending run.session.story run.opened one.new.store (begun_mark run.began.mark) mark
+  left : (mark : Mark) × (one.keeper1.held ≡ Some mark) × LeavesMark run.secret run.salt base run.keys run.session.ending run.session.story run.opened one.new.store (begun_mark run.began.mark) mark
   left =
       (run.leaves held same_mark).told (begun_mark run.began.mark)
       (begun_held run.config run.secret run.salt run.keys (is_traced saved_usage words) run.base one.old.store run.opened one.old.traced run.traced one.keeper0 run.begun run.began held same_mark)
 
-  behind : RestsBehind (batch_most run.base.public) run.secret run.keys run.session.ending run.session.story left.0 one.new.store.kept (session_at run.base begins.tables)
-  behind =
-      begins.from (λ (u : Session). RestsBehind (batch_most run.base.public) run.secret run.keys run.session.ending run.session.story left.0 one.new.store.kept u)
-      (left.2.rests (record { tells = tells_opened; no_lie = honest }))
+  abbrev Behind : Session → Type 0
+  Behind u = RestsBehind base run.secret run.keys run.session.ending run.session.story left.0 one.new.store.kept u
+
+  behind : Behind (session_at run.base begins.tables)
+  behind = begins.from Behind (from_flying (flight_of saved_usage words) run.base Behind (left.2.rests (record { tells = tells_opened; no_lie = honest })))
+
+  answered : AnswersAlone run.session.ending s run.session.story.spelt behind.broken run.session.story.answers all run.session.story.part
+  answered =
+      as_alone (words_of base) 0 run.session.ending s run.session.story.spelt behind.broken run.session.story.answers all run.session.story.part are
+      (subst (λ (es : List Entry). AnswersFrom run.session.ending (seats_of base es) s run.session.story.spelt behind.broken run.session.story.answers all run.session.story.part) ran.entries behind.answered)
+
+  left_tables : left_by behind.more (seats_of base run.session.story.entries) s run.session.story.spelt run.session.story.answers behind.broken ≡ left_alone behind.more s run.session.story.spelt run.session.story.answers behind.broken
+  left_tables =
+      ap (λ (es : List Entry). left_by behind.more (seats_of base es) s run.session.story.spelt run.session.story.answers behind.broken) ran.entries
+      ∙ left_is (words_of base) 0 behind.more run.session.ending s run.session.story.spelt behind.broken run.session.story.answers all run.session.story.part are answered
 
   leaves_session : Leaves words secret one.keeper1.held one.new.store.kept t (MayTake (batch_most run.base.public) run.session.ending run.session.story) (λ more. effects_of more run.session.story.spelt run.session.story.answers)
   leaves_session = record {
@@ -180,8 +217,8 @@ module _ (words : List Text) (secret : List ℕ) (one : OneSaved words) (run : S
     took = λ few.
         let effects = effects_of behind.more run.session.story.spelt run.session.story.answers in
         let u = after_all t (texts_of effects) [] in
-        let took = effects_on _ None run.session.ending behind.more run.session.story.spelt s t behind.broken run.session.story.answers (run.session.story.seen ++ run.session.story.last) run.session.story.part begins.alike behind.answered
-        run.session.accesses.lawful soon few in (
+        let took = effects_on _ None run.session.ending behind.more run.session.story.spelt s t behind.broken run.session.story.answers all run.session.story.part begins.alike answered
+        ran.lawful soon few in (
           took.0,
           record {
             mark = left.0;
@@ -192,24 +229,25 @@ module _ (words : List Text) (secret : List ℕ) (one : OneSaved words) (run : S
             at = record {
               resting = behind.rests.resting;
               rests = subst (λ (x : List ℕ). RestsAt x left.0 one.new.store.kept behind.rests.resting) keyed behind.rests.rests;
-              alike = alike_chained behind.rests.resting (left_by behind.more s run.session.story.spelt run.session.story.answers behind.broken) u.tables behind.rests.alike took.1.tables;
+              alike = alike_chained behind.rests.resting (left_alone behind.more s run.session.story.spelt run.session.story.answers behind.broken) u.tables
+                  (subst (λ (ts : Tables). AreAlike behind.rests.resting ts) left_tables behind.rests.alike) took.1.tables;
             };
           },
         );
   }
 
 -- whichever it is
-leaves_by : (words : List Text) (secret : List ℕ) (one : OneSaved words) → is_saved words ≡ true → IsTrue one.old.store.tells → one.new.store.lie ≡ None → (held : Mark) → one.keeper0.held ≡ Some held → (t : Session) → Waits words secret (Some held) one.old.store.kept t
-    → (ran : RunSaved (saved_settings_of words) (IsTakenSaved words) (is_traced saved_usage words) one.old one.new one.keeper0 one.keeper1 one.run.ending one.run.answers one.report) → ((other : List ℕ) → saved_secret ran ≡ Some other → other ≡ secret) → saved_count ran < 2 ^ 63
+leaves_by : (words : List Text) (secret : List ℕ) (one : OneSaved words) → is_saved words ≡ true → flight_of saved_usage words ≡ None → IsTrue one.old.store.tells → one.new.store.lie ≡ None → (held : Mark) → one.keeper0.held ≡ Some held → (t : Session) → Waits words secret (Some held) one.old.store.kept t
+    → (ran : RunSaved (saved_settings_of words) (flight_of saved_usage words) (IsTakenSaved words) (is_traced saved_usage words) one.old one.new one.keeper0 one.keeper1 one.run.ending one.run.answers one.report) → ((other : List ℕ) → saved_secret ran ≡ Some other → other ≡ secret) → saved_count ran < 2 ^ 63
     → Leaves words secret one.keeper1.held one.new.store.kept t (MayHaveMore ran) (λ more. saved_effects more ran)
-leaves_by words secret one saves tells honest held is t waits (inl run) keyed soon =
+leaves_by words secret one saves flies tells honest held is t waits (inl run) keyed soon =
     let left = leaves_held (inl run) held is in
     leaves_none words secret held left.mark one.old.store one.new.store one.keeper1.held t waits left.is tells honest (left.rests secret)
-leaves_by words secret one saves tells honest held is t waits (inr (inl run)) keyed soon =
-    let left = leaves_held (inr (inl run)) held is in
+leaves_by words secret one saves flies tells honest held is t waits (inr (inl run)) keyed soon =
+    let left = leaves_held {flight = flight_of saved_usage words} (inr (inl run)) held is in
     leaves_none words secret held left.mark one.old.store one.new.store one.keeper1.held t waits left.is tells honest
     (subst (λ (x : List ℕ). Outlasts x held left.mark one.old.store one.new.store) (keyed run.secret refl) left.rests)
-leaves_by words secret one saves tells honest held is t waits (inr (inr run)) keyed soon = leaves_session words secret one run saves (keyed run.secret refl) tells honest soon held is t waits
+leaves_by words secret one saves flies tells honest held is t waits (inr (inr run)) keyed soon = leaves_session words secret one run saves (keyed run.secret refl) tells honest flies soon held is t waits
 
 -- ---- all of them
 record InOne (words : List Text) (secret : List ℕ) (held : Option Mark) (kept : ℕ → Option KeptRegion) (t : Session) (runs : List (OneSaved words)) : Type 0 where
@@ -262,20 +300,20 @@ module _ (words : List Text) (secret : List ℕ) (one : OneSaved words) (runs : 
   one_and_more : InOne words secret held kept t (one ∷ runs)
   one_and_more = go_on (nat_lt (after_all t (texts_of here) []).asked (2 ^ 63)) refl
 
-all_in_one : (words : List Text) (saves : is_saved words ≡ true) (secret : List ℕ) (runs : List (OneSaved words)) (held : Option Mark) (kept : ℕ → Option KeptRegion) (t : Session) → GoOnSaved secret held kept runs → Waits words secret held kept t → InOne words secret held kept t runs
+all_in_one : (words : List Text) (saves : is_saved words ≡ true) (flies : flight_of saved_usage words ≡ None) (secret : List ℕ) (runs : List (OneSaved words)) (held : Option Mark) (kept : ℕ → Option KeptRegion) (t : Session) → GoOnSaved secret held kept runs → Waits words secret held kept t → InOne words secret held kept t runs
 unfolding AnsweredInOne
-all_in_one words saves secret [] held kept t goes waits = record { more = []; may = tt; took = λ few. (tt, waits) }
-all_in_one words saves secret (one ∷ runs) held kept t goes waits =
+all_in_one words saves flies secret [] held kept t goes waits = record { more = []; may = tt; took = λ few. (tt, waits) }
+all_in_one words saves flies secret (one ∷ runs) held kept t goes waits =
     let good = goes.2 in
     let here = subst (λ (k : ℕ → Option KeptRegion). Waits words secret held k t) (sym (λ i q. goes.1 q i)) waits in
     let at = subst (λ (o : Option Mark). Waits words secret o one.old.store.kept t) waits.is here in
-    let leaves = leaves_by words secret one saves good.tells good.honest waits.mark (goes.0 ∙ waits.is) t at one.run.ran good.keyed good.early in
-    one_and_more words secret one runs held kept t leaves (λ u later. all_in_one words saves secret runs one.keeper1.held one.new.store.kept u goes.3 later)
+    let leaves = leaves_by words secret one saves flies good.tells good.honest waits.mark (goes.0 ∙ waits.is) t at one.run.ran good.keyed good.early in
+    one_and_more words secret one runs held kept t leaves (λ u later. all_in_one words saves flies secret runs one.keeper1.held one.new.store.kept u goes.3 later)
 
-pub answer_in_one : (words : List Text) (saves : is_saved words ≡ true) (secret : List ℕ) (kept : ℕ → Option KeptRegion) (runs : List (OneSaved words)) → GoOnSaved secret (Some Fresh) kept runs → AnswerInOne secret (Some Fresh) kept runs
-answer_in_one words saves secret kept runs goes =
+pub answer_in_one : (words : List Text) (saves : is_saved words ≡ true) (flies : flight_of saved_usage words ≡ None) (secret : List ℕ) (kept : ℕ → Option KeptRegion) (runs : List (OneSaved words)) → GoOnSaved secret (Some Fresh) kept runs → AnswerInOne secret (Some Fresh) kept runs
+answer_in_one words saves flies secret kept runs goes =
     let nothing : AreAlike [] [] = record { count = refl; found = λ name. refl; apart = refl; too = refl } in
-    let all = all_in_one words saves secret runs (Some Fresh) kept (start (saved_settings_of words)) goes (record {
+    let all = all_in_one words saves flies secret runs (Some Fresh) kept (start (saved_settings_of words)) goes (record {
       mark = Fresh;
       is = refl;
       settings = refl;

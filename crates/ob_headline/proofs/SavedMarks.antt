@@ -19,6 +19,7 @@ use Rattle.ob_mean.specs.Verdict.{Tables}
 use Rattle.ob_reopen.specs.Keepers.{GivesMark, KeeperState}
 use Rattle.ob_seal.specs.KeySet.{KeySet}
 use Rattle.ob_store.specs.State.{KeptRegion, StoreState}
+use Rattle.ob_headline.specs.declared.flight.FlightSettings.{FlightSettings}
 
 -- ---- what is kept stays
 abbrev Stays : (old new : StoreState) → Type 0
@@ -151,8 +152,8 @@ begun_held config secret salt keys tracing base old new traced0 traced1 k0 k1 be
     handed began.mark began.drawn k1 held began.hands (began.draws.stays ∙ began.gives.stays ∙ is) (began.gives.told held is)
 
 -- ---- the run
-pub leaves_held : {settings : Option Config} {Takes : Type 0} {tracing : Bool} {old new : Outside} {k0 k1 : KeeperState} {ending : KeptEnding} {answers : List Answer} {report : Report}
-    (ran : RunSaved settings Takes tracing old new k0 k1 ending answers report) (held : Mark) → k0.held ≡ Some held → LeavesHeld ran held
+pub leaves_held : {settings : Option Config} {flight : Option FlightSettings} {Takes : Type 0} {tracing : Bool} {old new : Outside} {k0 k1 : KeeperState} {ending : KeptEnding} {answers : List Answer} {report : Report}
+    (ran : RunSaved settings flight Takes tracing old new k0 k1 ending answers report) (held : Mark) → k0.held ≡ Some held → LeavesHeld ran held
 leaves_held {old = old} {new = new} (inl run) held is = record {
   mark = held;
   is = ap (λ (k : KeeperState). k.held) run.kept ∙ is;

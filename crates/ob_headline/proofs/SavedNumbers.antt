@@ -13,20 +13,23 @@ use Rattle.ob_base.specs.declared.mark.Mark.{Mark}
 use Rattle.ob_base.specs.declared.mark.Mark.TheVariants.{Fresh, InUse, Closed, Begun, Saved}
 use Rattle.ob_base.specs.declared.schema.Table.{Table}
 use Rattle.ob_headline.proofs.AloneLemmas.{alone}
-use Rattle.ob_headline.proofs.BegunLemmas.{begun_fresh, none_given}
-use Rattle.ob_headline.proofs.BetweenLemmas.{from_next}
+use Rattle.ob_headline.proofs.BegunLemmas.{begun_flying, begun_fresh, none_given}
+use Rattle.ob_headline.proofs.FlightWrites.{run_writes}
 use Rattle.ob_headline.proofs.IndexWrites.{Onto, onto_at, onto_both, onto_each}
 use Rattle.ob_headline.proofs.LeftLemmas.{shows_all}
-use Rattle.ob_headline.proofs.OwnLemmas.{write_own}
-use Rattle.ob_headline.specs.Bases.{Base}
+use Rattle.ob_headline.specs.Accesses.{Accesses}
+use Rattle.ob_headline.specs.Bases.{Base, flying}
+use Rattle.ob_headline.specs.Flights.{trace_of}
 use Rattle.ob_headline.specs.Keeping.{closing_named}
 use Rattle.ob_headline.specs.KeptHeadline.{PassesBoth}
 use Rattle.ob_headline.specs.SavedHeadline.{RunSaved, SessionSaved}
 use Rattle.ob_headline.specs.SavedRuns.{AnySaved, HaveOwnSalts, SavedRun, Seals, SealsAlone, WritesAlone, saved_salt}
 use Rattle.ob_headline.specs.Saving.{BeginsSaved, ReopensSaved}
 use Rattle.ob_headline.specs.Sealing.{IsSealed}
-use Rattle.ob_headline.specs.Shown.{IsBegun, OfIndex, WriteOwn, Wrote, number_at}
+use Rattle.ob_headline.specs.Shown.{IsBegun, OfIndex, Wrote, number_at}
+use Rattle.ob_headline.specs.Story.{Story}
 use Rattle.ob_headline.specs.Words.{Answer, Outside}
+use Rattle.ob_headline.specs.declared.ending.Ending.{Ending}
 use Rattle.ob_headline.specs.declared.ending.KeptEnding.{KeptEnding}
 use Rattle.ob_headline.specs.declared.ending.Report.{Report}
 use Rattle.ob_mean.specs.Flats.{AreFlat}
@@ -37,7 +40,6 @@ use Rattle.ob_reopen.specs.Saved.{salted_of, salted_regions}
 use Rattle.ob_reopen.specs.declared.closing.Closing.{Closing}
 use Rattle.ob_reopen.specs.declared.listed.Listed.{Listed}
 use Rattle.ob_script.proofs.Eaches.{get_back, get_front}
-use Rattle.ob_script.specs.Trace.{Served, trace}
 use Rattle.ob_seal.proofs.Salts.{own_pair}
 use Rattle.ob_seal.specs.KeySet.{KeySet, pair_of}
 use Rattle.ob_seal.specs.Sealed.{AreBefore, keys_salted}
@@ -45,6 +47,7 @@ use Rattle.ob_seal.specs.declared.Salted.{Salted}
 use Rattle.ob_seal.specs.declared.pairs.Pair.{Pair}
 use Rattle.ob_store.specs.State.{StoreState}
 use Rattle.ob_vault.specs.State.{Start}
+use Rattle.ob_headline.specs.declared.flight.FlightSettings.{FlightSettings}
 
 -- ---- what a run begins with
 reopened_begun : (closed : Option (List ℕ)) (closing : Closing) (config : Config) (secret salt : List ℕ) (keys : KeySet) (base : Base) (old new : StoreState) → ReopensSaved closed closing config secret salt keys base old new → IsBegun base
@@ -108,28 +111,28 @@ none_indexed (t ∷ ts) q flat of = elim of [
   | inr rest ↦ none_indexed ts q flat.1 rest
 ]
 
-writes_own : (base : Base) (seen : List Served) (asked : List Access) → IsBegun base → Silent base.before → AreFlat (headings_of base.public.tables) → WriteOwn base.public seen → asked ≡ base.before ++ trace base.public seen
-    → (i q x : ℕ) → Wrote asked i q x → base.start.region < q
-writes_own base seen asked begun silent flat own is i q x wrote =
-    let there : slice_get (base.before ++ trace base.public seen) i ≡ Some (Write q x) = ap (λ (l : List Access). slice_get l i) (sym is) ∙ wrote.is in
+writes_own : (base : Base) (keys : KeySet) (ending : Ending) (story : Story) (old new : StoreState) → IsBegun base → Silent base.before → Accesses base keys ending story old new → (i q x : ℕ) → Wrote new.asked i q x → base.start.region < q
+writes_own base keys ending story old new begun silent accesses i q x wrote =
+    let all = trace_of base story.entries in
+    let there : slice_get (base.before ++ all) i ≡ Some (Write q x) = ap (λ (l : List Access). slice_get l i) (sym accesses.asked) ∙ wrote.is in
     elim (cases_lt i (length base.before)) [
-      | inl less ↦ absurd (onto_at (λ r. ⊥) base.before i q x silent (sym (get_front base.before (trace base.public seen) i less) ∙ there))
-      | inr past ↦ elim (from_next base.public seen own (i - length base.before) q x (sym (get_back base.before (trace base.public seen) i past) ∙ there)) [
+      | inl less ↦ absurd (onto_at (λ r. ⊥) base.before i q x silent (sym (get_front base.before all i less) ∙ there))
+      | inr past ↦ elim (run_writes base keys ending story old new accesses (i - length base.before) q x (sym (get_back base.before all i past) ∙ there)) [
         | inl above ↦ let next = begun.next in omega (arith, next, above)
-        | inr of ↦ absurd (none_indexed base.public.tables q flat of)
+        | inr of ↦ absurd (none_indexed base.public.tables q accesses.flat of)
       ]
     ]
 
 -- ---- one run
-module _ {settings : Option Config} {Takes : Type 0} {tracing : Bool} {old new : Outside} {k0 k1 : KeeperState} {ending : KeptEnding} {answers : List Answer} {report : Report} (run : SessionSaved settings Takes tracing old new k0 k1 ending answers report) where
+module _ {settings : Option Config} {flight : Option FlightSettings} {Takes : Type 0} {tracing : Bool} {old new : Outside} {k0 k1 : KeeperState} {ending : KeptEnding} {answers : List Answer} {report : Report} (run : SessionSaved settings flight Takes tracing old new k0 k1 ending answers report) where
   begun : IsBegun run.base
   begun = begun_saved run.began.mark run.config run.secret run.salt run.keys run.base old.store run.opened run.began.begins
 
   pub writes_alone : WritesAlone run
   writes_alone = record {
     own = λ i q x wrote.
-        writes_own run.base (run.session.story.seen ++ run.session.story.last) new.store.asked begun (silent_saved run.began.mark run.config run.secret run.salt run.keys run.base old.store run.opened run.began.begins) run.session.accesses.flat
-        (write_own _ run.session.story.spelt run.session.story.answers run.base.public run.base.count None (run.session.story.seen ++ run.session.story.last) run.session.accesses.lawful) run.session.accesses.asked i q x wrote;
+        writes_own (flying flight run.base) run.keys run.session.ending run.session.story run.opened new.store (begun_flying flight run.base begun)
+        (silent_saved run.began.mark run.config run.secret run.salt run.keys run.base old.store run.opened run.began.begins) run.session.accesses i q x wrote;
     salted = λ q own. own_saved run.began.mark run.config run.secret run.salt run.keys run.base old.store run.opened run.began.begins q own;
     shown = λ tells.
         let both : IsSealed (PassesBoth run.base.public.pack) run.keys run.base.start (run.base.start.region + 1) run.opened new.store = record {
@@ -148,8 +151,8 @@ one_number start asked k l q r x y first second same = elim (cases_lt k l) [
   ]
 ]
 
-seals_once : {settings : Option Config} {Takes : Type 0} {tracing : Bool} {old new : Outside} {k0 k1 : KeeperState} {ending : KeptEnding} {answers : List Answer} {report : Report}
-    (ran : RunSaved settings Takes tracing old new k0 k1 ending answers report) (k l : ℕ) (salt : Option (List ℕ)) (number : ℕ) → Seals ran k salt number → Seals ran l salt number → k ≡ l
+seals_once : {settings : Option Config} {flight : Option FlightSettings} {Takes : Type 0} {tracing : Bool} {old new : Outside} {k0 k1 : KeeperState} {ending : KeptEnding} {answers : List Answer} {report : Report}
+    (ran : RunSaved settings flight Takes tracing old new k0 k1 ending answers report) (k l : ℕ) (salt : Option (List ℕ)) (number : ℕ) → Seals ran k salt number → Seals ran l salt number → k ≡ l
 seals_once (inl run) k l salt number first second = absurd first
 seals_once (inr (inl run)) k l salt number first second = absurd first
 seals_once {new = new} (inr (inr run)) k l salt number first second =
@@ -161,8 +164,8 @@ record HasSalt (own salt : Option (List ℕ)) : Type 0 where
   is : own ≡ Some bytes
   same : salt ≡ Some bytes
 
-seals_salt : {settings : Option Config} {Takes : Type 0} {tracing : Bool} {old new : Outside} {k0 k1 : KeeperState} {ending : KeptEnding} {answers : List Answer} {report : Report}
-    (ran : RunSaved settings Takes tracing old new k0 k1 ending answers report) (k : ℕ) (salt : Option (List ℕ)) (number : ℕ) → Seals ran k salt number → HasSalt (saved_salt ran) salt
+seals_salt : {settings : Option Config} {flight : Option FlightSettings} {Takes : Type 0} {tracing : Bool} {old new : Outside} {k0 k1 : KeeperState} {ending : KeptEnding} {answers : List Answer} {report : Report}
+    (ran : RunSaved settings flight Takes tracing old new k0 k1 ending answers report) (k : ℕ) (salt : Option (List ℕ)) (number : ℕ) → Seals ran k salt number → HasSalt (saved_salt ran) salt
 seals_salt (inl run) k salt number seals = absurd seals
 seals_salt (inr (inl run)) k salt number seals = absurd seals
 seals_salt (inr (inr run)) k salt number seals =
@@ -172,7 +175,7 @@ seals_salt (inr (inr run)) k salt number seals =
 pub seals_alone : (words : List Text) (old new : Outside) (k0 k1 : KeeperState) (report : Report) (run : SavedRun words old new k0 k1 report) → SealsAlone run.ran
 seals_alone words old new k0 k1 report run = go run.ran
   where
-    go : {settings : Option Config} {Takes : Type 0} {tracing : Bool} {a b : Outside} {x y : KeeperState} {ending : KeptEnding} {answers : List Answer} {r : Report} (ran : RunSaved settings Takes tracing a b x y ending answers r) → SealsAlone ran
+    go : {settings : Option Config} {flight : Option FlightSettings} {Takes : Type 0} {tracing : Bool} {a b : Outside} {x y : KeeperState} {ending : KeptEnding} {answers : List Answer} {r : Report} (ran : RunSaved settings flight Takes tracing a b x y ending answers r) → SealsAlone ran
     go (inl unkeyed) = tt
     go (inr (inl unbegun)) = tt
     go (inr (inr session)) = writes_alone session

@@ -1,13 +1,15 @@
 -- Words of the command lines, and the settings that they spell, computed.
-use Rattle.std.specs.Prelude.{true, false, Some, None, codes}
-use Rattle.std.proofs.Common.{◌≡◌, [], ◌∷◌, refl}
+use Rattle.std.specs.Prelude.{true, false, Option, Some, None, codes, option_and_then}
+use Rattle.std.proofs.Common.{◌≡◌, List, [], ◌∷◌, refl}
 use Rattle.clap.proofs.OnLiterals.{clap_on_literals}
-use Rattle.clap.specs.Words.{fault_of}
+use Rattle.clap.specs.Words.{Text, fault_of}
 use Rattle.clap.specs.declared.error.kind.ErrorKind.TheVariants as kind
+use Rattle.ob_base.specs.declared.config.Config.{Config}
 use Rattle.ob_base.specs.declared.config.Plan.TheVariants.{Continuous, Large, Hash}
 use Rattle.ob_base.specs.declared.config.Planner.TheVariants.{Auto, Cheapest, Forced}
-use Rattle.ob_headline.specs.Settings.{batch_in, fitted, generated_by, number_in, pad_in, planner_in, saved_settings_of, seed_in, settings_of}
+use Rattle.ob_headline.specs.Settings.{batch_in, fitted, flight_beside, flight_by, flight_in, flight_of, generated_by, number_in, pad_in, planner_in, saved_settings_of, seed_in, settings_of}
 use Rattle.ob_headline.specs.Usage.{Parses, is_saved, kept_usage, mark_of, meddle_usage, store_of, usage}
+use Rattle.ob_headline.specs.declared.flight.FlightSettings.{FlightSettings}
 
 -- ---- one value
 the_least : number_in 4 65536 64 (Some (codes "4")) ≡ Some 4
@@ -134,6 +136,50 @@ zero_before_rows = refl
 three_numbers : seed_in (Some (codes "0,1,2")) ≡ None
 three_numbers = refl
 
+-- ---- how SELECTs fly
+none_fly : flight_in None ≡ Some None
+none_fly = refl
+
+two_fly : flight_in (Some (codes "2,0")) ≡ Some (Some (record { most = 2; start = 0 }))
+two_fly = refl
+
+most_fly : flight_in (Some (codes "8,18446744073709551615")) ≡ Some (Some (record { most = 8; start = 18446744073709551615 }))
+most_fly = refl
+
+one_alone : flight_in (Some (codes "1,0")) ≡ None
+one_alone = refl
+
+too_many : flight_in (Some (codes "9,0")) ≡ None
+too_many = refl
+
+flight_start_too_great : flight_in (Some (codes "2,18446744073709551616")) ≡ None
+flight_start_too_great = refl
+
+zero_before_most : flight_in (Some (codes "02,0")) ≡ None
+zero_before_most = refl
+
+zero_before_flight_start : flight_in (Some (codes "2,00")) ≡ None
+zero_before_flight_start = refl
+
+signed_most : flight_in (Some (codes "+2,0")) ≡ None
+signed_most = refl
+
+no_flight_start : flight_in (Some (codes "2")) ≡ None
+no_flight_start = refl
+
+empty_flight_start : flight_in (Some (codes "2,")) ≡ None
+empty_flight_start = refl
+
+no_most : flight_in (Some (codes ",0")) ≡ None
+no_most = refl
+
+third_number : flight_in (Some (codes "2,0,0")) ≡ None
+third_number = refl
+
+-- how they fly that these words spell, beside the settings of the same words
+abbrev flying_by : List Text → Option (Option FlightSettings)
+flying_by words = option_and_then (λ (config : Config). flight_beside config (flight_by usage words)) (settings_of usage words)
+
 -- ---- whole command lines
 no_words : settings_of usage [] ≡ Some (record { buffer = 64; depth = 5; pack = 1; planner = Auto; pad = None; stash = 32; keep = false; save = false; batch = None; max_input = 1073741824 })
 unfolding clap_on_literals
@@ -200,6 +246,34 @@ generated = refl
 not_generated : generated_by meddle_usage [] ≡ Some None
 unfolding clap_on_literals
 not_generated = refl
+
+flown : flight_of usage (codes "--flight" ∷ codes "2,0" ∷ []) ≡ Some (record { most = 2; start = 0 })
+unfolding clap_on_literals
+flown = refl
+
+flown_by_small : flying_by (codes "--plan=small" ∷ codes "--flight" ∷ codes "4,9" ∷ []) ≡ Some (Some (record { most = 4; start = 9 }))
+unfolding clap_on_literals
+flown_by_small = refl
+
+flown_padded : flying_by (codes "--pad" ∷ codes "40" ∷ codes "--flight" ∷ codes "4,9" ∷ []) ≡ Some (Some (record { most = 4; start = 9 }))
+unfolding clap_on_literals
+flown_padded = refl
+
+unflown : flying_by (codes "--batch" ∷ codes "16" ∷ codes "--plan=hash" ∷ []) ≡ Some None
+unfolding clap_on_literals
+unflown = refl
+
+no_flight_beside_batches : flying_by (codes "--batch" ∷ codes "16" ∷ codes "--flight" ∷ codes "2,0" ∷ []) ≡ None
+unfolding clap_on_literals
+no_flight_beside_batches = refl
+
+no_flight_by_large : flying_by (codes "--plan=large" ∷ codes "--flight" ∷ codes "2,0" ∷ []) ≡ None
+unfolding clap_on_literals
+no_flight_by_large = refl
+
+no_flight_by_hash : flying_by (codes "--flight" ∷ codes "2,0" ∷ codes "--plan" ∷ codes "hash" ∷ []) ≡ None
+unfolding clap_on_literals
+no_flight_by_hash = refl
 
 -- ---- what the command doesn't take
 help : fault_of usage (codes "--help" ∷ []) ≡ kind.DisplayHelp ∷ []

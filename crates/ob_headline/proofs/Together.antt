@@ -5,7 +5,7 @@ use Rattle.ob_base.specs.Accesses.{makes}
 use Rattle.ob_base.specs.declared.config.Public.{Public}
 use Rattle.ob_base.specs.declared.seen.End.{End}
 use Rattle.ob_base.specs.declared.seen.End.TheVariants.{Static, Whole, Joined}
-use Rattle.ob_headline.specs.Reruns.{shown_plainly, turns, turns_in}
+use Rattle.ob_headline.specs.Reruns.{shown_plainly, stated, stated_in}
 use Rattle.ob_mean.specs.Replay.{Spelt}
 use Rattle.ob_script.specs.Trace.{Served}
 use Rattle.ob_sql.specs.declared.stmt.Stmt.TheVariants.{Insert}
@@ -14,7 +14,7 @@ use Rattle.ob_verdict.proofs.Sessions.{by_four, create_t, insert, int, t}
 abbrev ends_of : Option ℕ → List Spelt → List End
 ends_of batch spelt =
     let p : Public = record by_four { batch = batch } in
-    map (λ (x : Served). x.seen.end) (shown_plainly p 0 None (turns_in p spelt))
+    map (λ (x : Served). x.seen.end) (shown_plainly p 0 None (stated_in p spelt))
 
 -- four of them, a text that is no statement, and three more, of which the second is refused before any access
 abbrev texts : List Spelt
@@ -23,9 +23,9 @@ texts =
     ∷ Ok (Insert t None (int 6 ∷ [])) ∷ insert t 7 70 ∷ []
 
 together : ends_of (Some 3) texts ≡ Whole ∷ Whole ∷ Joined ∷ Joined ∷ Whole ∷ Whole ∷ Static ∷ Joined ∷ []
-unfolding makes shown_plainly turns
+unfolding makes shown_plainly stated
 together = refl
 
 one_by_one : ends_of None texts ≡ Whole ∷ Whole ∷ Whole ∷ Whole ∷ Whole ∷ Whole ∷ Static ∷ Whole ∷ []
-unfolding makes shown_plainly turns
+unfolding makes shown_plainly stated
 one_by_one = refl

@@ -1,5 +1,5 @@
 -- The accesses, over every store: those that what is seen of the statements tells.
-use Rattle.std.specs.Prelude.{ℕ, ◌≡◌, ◌+◌, ◌⊎◌, ◌↔◌, ◌||◌, Bool, true, false, List, [], ◌∷◌, ◌++◌, length, IsTrue, Option, Some, None, Ok, Err, ◌≤◌, take}
+use Rattle.std.specs.Prelude.{⊤, ℕ, ◌+◌, if◌then◌else◌, is_some, ◌≡◌, ◌⊎◌, ◌↔◌, ◌||◌, Bool, true, false, List, [], ◌∷◌, ◌++◌, length, IsTrue, Option, Some, None, Ok, Err, take, drop}
 use Rattle.ob_base.specs.Events.{Event}
 use Rattle.ob_base.specs.Stored.{headings_of}
 use Rattle.ob_base.specs.declared.access.Access.{Access}
@@ -9,7 +9,7 @@ use Rattle.ob_base.specs.declared.refusal.Refusal.TheVariants.{StoreFault}
 use Rattle.ob_base.specs.declared.refusal.Stop.TheVariants.{SinkFault, NoMemory, StashFull, StoreFault as StoreFails, KeeperFault}
 use Rattle.ob_base.specs.declared.seen.Seen.{Seen}
 use Rattle.ob_base.specs.declared.skeleton.Skeleton.{Skeleton}
-use Rattle.ob_select.specs.Memory.{AtMake, AtResult, AtEmission, starts_with_make}
+use Rattle.ob_select.specs.Memory.{AtMake, AtResult, AtEmission, ends_with_make, starts_with_make}
 use Rattle.ob_verdict.specs.Outcomes.{refusal_now, Emits, MayEmit}
 use Rattle.ob_verdict.specs.declared.outcome.Outcome.TheVariants.{Refused}
 use Rattle.ob_headline.specs.Closing.{closing_line}
@@ -22,7 +22,7 @@ use Rattle.ob_mean.specs.Prints.{labels_of}
 use Rattle.ob_mean.specs.Replay.{Spelt, is_access}
 use Rattle.ob_print.specs.Rows.{events_text}
 use Rattle.ob_script.specs.Script.{is_saved, script, whole_script}
-use Rattle.ob_script.specs.Trace.{Served, next, trace}
+use Rattle.ob_script.specs.Trace.{Served}
 use Rattle.ob_seal.specs.Draws.{draw_of}
 use Rattle.ob_seal.specs.KeySet.{KeySet}
 use Rattle.ob_sql.specs.Skeleton.{skeleton}
@@ -31,11 +31,13 @@ use Rattle.ob_headline.specs.Words.{Answer, refused_as, refused_at}
 use Rattle.ob_headline.specs.Bases.{Base}
 use Rattle.ob_headline.specs.Batches.{Joins, is_failed}
 use Rattle.ob_headline.specs.Failures.{FailsBeside, RisesBy, cut_off, failures}
+use Rattle.ob_headline.specs.Flights.{EndedBy, Entered, OnBy, Seat, Stand, seats_of, trace_of}
 use Rattle.ob_headline.specs.FullStash.{ReadsFullStash}
 use Rattle.ob_headline.specs.Leaves.{ReadsDraws}
 use Rattle.ob_headline.specs.Statements.{statements}
 use Rattle.ob_headline.specs.Story.{Story}
 use Rattle.ob_store.specs.State.{StoreState}
+use Rattle.ob_mean.specs.Standing.{StandsAs}
 
 unfoldable pub any_cut : List Served → Bool
 any_cut [] = false
@@ -93,48 +95,121 @@ StopsWithin ending Failed Full p stmt seen =
     × (ends_within ending ≡ true → may_end ending p (skeleton stmt) ≡ true)
     × (ending ≡ Ran (Err StashFull) → Full p stmt seen)
 
--- of each statement its skeleton and what is seen of it, which is lawful by what is public before it and m accesses, and
--- says that it was served with an INSERT before it exactly where it joins the batch that is gathered; its answer is its
--- early refusal, if there is one, says that the store failed exactly where it was cut off, or the batch was that it joined,
--- and has the plan that is seen. The one that was begun has no answer, and was left so.
-unfoldable pub AreSeen : (Leaves : Public → Stmt → Seen → Type 0) → Public → (m : ℕ)
+-- ---- a flight that was left
+-- memory was wanting for it, in its turn, just before its result is made, if it isn't padded
+abbrev pub MakesAloft : Option Stand → Public → Stmt → Seen → Type 0
+MakesAloft None p stmt seen = ⊥
+MakesAloft (Some stand) p stmt seen =
+    IsTrue stand.turn
+    × AtResult p stmt seen (drop stand.own (whole_script p (skeleton stmt) seen))
+
+-- for one of these
+unfoldable pub OneMakes : List Seat → List Stmt → List Served → Type 0
+OneMakes [] stmts seen = ⊥
+OneMakes (v ∷ seats) [] seen = ⊥
+OneMakes (v ∷ seats) (stmt ∷ stmts) [] = ⊥
+OneMakes (v ∷ seats) (stmt ∷ stmts) (x ∷ seen) =
+    MakesAloft v.left v.public stmt x.seen ⊎ OneMakes seats stmts seen
+
+-- it has the turn: the last access of all is its own, or the next one would have been
+abbrev pub HasTurn : Stand → Type 0
+HasTurn stand = (stand.before + 1 ≡ stand.own) ⊎ IsTrue stand.turn
+
+-- memory was wanting for it, in its turn, where its rows are emitted, or in its end, which would have come next
+abbrev pub WantsAloft : Option Stand → Seat → Stmt → Seen → Type 0
+WantsAloft None v stmt seen = ⊥
+WantsAloft (Some stand) v stmt seen =
+    (HasTurn stand × AtEmission v.public stmt seen
+    (drop stand.own (whole_script v.public (skeleton stmt) seen)))
+    ⊎ ((v.until ≡ v.asked + stand.all)
+    × (drop stand.own (script v.public (skeleton stmt) seen) ≡ []))
+
+-- for the first of these that hadn't ended
+unfoldable pub FirstWants : List Seat → List Stmt → List Served → Type 0
+FirstWants [] stmts seen = ⊥
+FirstWants (v ∷ seats) [] seen = ⊥
+FirstWants (v ∷ seats) (stmt ∷ stmts) [] = ⊥
+FirstWants (v ∷ seats) (stmt ∷ stmts) (x ∷ seen) =
+    (OnBy v.left v × WantsAloft v.left v stmt x.seen)
+    ⊎ (EndedBy v.left v × FirstWants seats stmts seen)
+
+-- a run doesn't end within one statement of a flight; memory is wanting before its first access, where a region is made, or,
+-- of those that weren't answered, for one before its result, or for the first that hadn't ended
+abbrev pub LeavesFlight : Option Stand → Ending → (asked : List Access) → (Wants : Type 0) → Type 0
+LeavesFlight None ending asked Wants = ⊤
+LeavesFlight (Some stand) ending asked Wants =
+    (ends_within ending ≡ false) × (ending ≡ Ran (Err NoMemory)
+    → (stand.all ≡ 0) ⊎ (IsTrue (ends_with_make asked) ⊎ Wants))
+
+-- so the flight was left, if there was one, in which these were begun
+abbrev pub LeavesAloft : Ending → (asked : List Access) → List Seat → List Stmt → List Served
+    → Type 0
+LeavesAloft ending asked [] stmts seen = ⊤
+LeavesAloft ending asked (v ∷ seats) stmts seen =
+    LeavesFlight v.left ending asked
+    (OneMakes (v ∷ seats) stmts seen ⊎ FirstWants (v ∷ seats) stmts seen)
+
+-- of those begun so many were cut off where they flew; how one alone was left is seen so, too
+abbrev pub cut_aloft : List Seat → List Served → ℕ
+cut_aloft [] last = 0
+cut_aloft (v ∷ seats) last = if is_some v.left then cut_off last else 0
+
+-- ---- all statements
+-- one that was begun was left by its flight, in which it had ended, or hadn't, or alone
+abbrev pub IsLeft : (Leaves : Public → Stmt → Seen → Type 0) → Option Stand → Seat
+    → Option Gathering → Stmt → Seen → Type 0
+IsLeft Leaves None v g stmt seen =
+    Lawful v.public v.asked stmt seen
+    × (Leaves v.public stmt seen × Joins v.public v.asked g stmt seen)
+IsLeft Leaves (Some stand) v g stmt seen =
+    (EndedBy (Some stand) v × Lawful v.public v.asked stmt seen)
+    ⊎ (OnBy (Some stand) v × StandsAs v.public v.asked stand.own stmt seen seen.end)
+
+-- of each statement its skeleton and what is seen of it, which is lawful by what is public before it and how many accesses
+-- were asked, and says that it was served with an INSERT before it exactly where it joins the batch that is gathered; its
+-- answer is its early refusal, if there is one, says that the store failed exactly where it was cut off, or the batch was
+-- that it joined, and has the plan that is seen. One that was begun has no answer, and was left so.
+unfoldable pub AreSeen : (Leaves : Public → Stmt → Seen → Type 0) → List Seat
     → Option Gathering → List Spelt → List Answer → List Served → Type 0
-AreSeen Leaves p m g [] answers seen = seen ≡ []
-AreSeen Leaves p m g (Err at ∷ spelt) [] seen = AreSeen Leaves p m None spelt [] seen
-AreSeen Leaves p m g (Err at ∷ spelt) (one ∷ answers) seen =
-    (one ≡ refused_at at) × AreSeen Leaves p m None spelt answers seen
-AreSeen Leaves p m g (Ok stmt ∷ spelt) answers [] = ⊥
-AreSeen Leaves p m g (Ok stmt ∷ spelt) [] (x ∷ seen) =
-    (x.skeleton ≡ skeleton stmt) × Lawful p m stmt x.seen
-    × (Leaves p stmt x.seen × Joins p m g stmt x.seen)
-    × AreSeen Leaves (next p x.skeleton x.seen) (m + length (script p x.skeleton x.seen))
-    (gathering_after p m g stmt x.seen.end) spelt [] seen
-AreSeen Leaves p m g (Ok stmt ∷ spelt) (one ∷ answers) (x ∷ seen) =
-    (x.skeleton ≡ skeleton stmt) × Lawful p m stmt x.seen
-    × (Says (refusal_now p m stmt) p stmt one
+AreSeen Leaves seats g [] answers seen = seen ≡ []
+AreSeen Leaves seats g (Err at ∷ spelt) [] seen = AreSeen Leaves seats None spelt [] seen
+AreSeen Leaves seats g (Err at ∷ spelt) (one ∷ answers) seen =
+    (one ≡ refused_at at) × AreSeen Leaves seats None spelt answers seen
+AreSeen Leaves seats g (Ok stmt ∷ spelt) answers [] = ⊥
+AreSeen Leaves [] g (Ok stmt ∷ spelt) answers (x ∷ seen) = ⊥
+AreSeen Leaves (v ∷ seats) g (Ok stmt ∷ spelt) [] (x ∷ seen) =
+    (x.skeleton ≡ skeleton stmt) × IsLeft Leaves v.left v g stmt x.seen
+    × AreSeen Leaves seats (gathering_after v.public v.asked g stmt x.seen.end) spelt [] seen
+AreSeen Leaves (v ∷ seats) g (Ok stmt ∷ spelt) (one ∷ answers) (x ∷ seen) =
+    (x.skeleton ≡ skeleton stmt) × Lawful v.public v.asked stmt x.seen
+    × (Says (refusal_now v.public v.asked stmt) v.public stmt one
     × (IsTrue (is_failed g x.seen.end) ↔ (one.outcome ≡ Refused StoreFault))
-    × (one.plan ≡ x.seen.plan) × Joins p m g stmt x.seen)
-    × AreSeen Leaves (next p x.skeleton x.seen) (m + length (script p x.skeleton x.seen))
-    (gathering_after p m g stmt x.seen.end) spelt answers seen
+    × (one.plan ≡ x.seen.plan) × Joins v.public v.asked g stmt x.seen)
+    × AreSeen Leaves seats (gathering_after v.public v.asked g stmt x.seen.end) spelt answers seen
 
 -- They are those that the statements go on from, if there are any, and the trace of the skeletons and of what is seen of
 -- each: of those that were answered, and of the one begun, if it is a statement, as one is where a run ends in an access of
--- an index, for a full stash only where that read too many rows, or while tables are saved. No table that they go on from is
--- an index.
+-- an index, for a full stash only where that read too many rows, or while tables are saved. Those of a flight are merged, up
+-- to where it was left. No table that they go on from is an index.
 -- The leaves of indexes that are read are those of draws of the keys, none of which is read twice. Calls that discard a region
 -- are counted apart, and change no answer. One failed call may cut off a batch, each text of which is answered so.
 pub record Accesses (base : Base) (keys : KeySet) (ending : Ending) (story : Story)
     (old new : StoreState) : Type 0 where
   pub flat : AreFlat (headings_of base.public.tables)
-  pub one_last : length story.last ≤ 1
+  pub entered : Entered base story
   pub begun : ends_within ending ≡ true → length story.last ≡ 1
   pub each_seen : length story.seen
       ≡ length (statements (take (length story.served) story.spelt))
   pub lawful : AreSeen (StopsWithin ending (FailsBeside story.seen old.faults new.faults)
       (ReadsFullStash keys base.start new))
-      base.public base.count None story.spelt story.answers (story.seen ++ story.last)
-  pub drawn : ReadsDraws (draw_of keys) base.public (story.seen ++ story.last)
-  pub asked : new.asked ≡ base.before ++ trace base.public (story.seen ++ story.last)
+      (seats_of base story.entries) None story.spelt story.answers (story.seen ++ story.last)
+  pub aloft : LeavesAloft ending new.asked
+      (drop (length story.seen) (seats_of base story.entries))
+      (statements (drop (length story.served) story.spelt)) story.last
+  pub drawn : ReadsDraws (draw_of keys) (seats_of base story.entries) (story.seen ++ story.last)
+  pub asked : new.asked ≡ base.before ++ trace_of base story.entries
   pub failed : base.public.batch ≡ None → RisesBy (failures story.answers) old.faults new.faults
-  pub cut : RisesBy (cut_off story.seen) old.faults new.faults
+  pub cut : RisesBy (cut_off story.seen
+      + cut_aloft (drop (length story.seen) (seats_of base story.entries)) story.last)
+      old.faults new.faults
   pub unfailed : any_cut (story.seen ++ story.last) ≡ false → new.faults ≡ old.faults

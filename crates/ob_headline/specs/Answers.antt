@@ -6,6 +6,7 @@ use Rattle.ob_vault.specs.State.{Start}
 use Rattle.ob_vault.specs.Tied.{TagFits}
 use Rattle.ob_headline.specs.Bases.{Base, FromEach, drawing, said_of}
 use Rattle.ob_headline.specs.Disturbed.{Until}
+use Rattle.ob_headline.specs.Flights.{seats_of}
 use Rattle.ob_headline.specs.Meaning.{AnswersFrom}
 use Rattle.ob_headline.specs.Story.{Story}
 use Rattle.ob_headline.specs.declared.ending.Ending.{Ending}
@@ -24,8 +25,8 @@ pub record IsUndeceived (keys : KeySet) (start : Start) (store0 store1 : StoreSt
 pub record Answers (base : Base) (keys : KeySet) (ending : Ending) (story : Story)
     (old new : StoreState) : Type 0 where
   pub meant : IsUndeceived keys base.start old new → FromEach base (λ s. (broken : Broken)
-      × AnswersFrom ending (drawing keys s) story.spelt broken story.answers
-      (story.seen ++ story.last) story.part)
+      × AnswersFrom ending (seats_of base story.entries) (drawing keys s) story.spelt broken
+      story.answers (story.seen ++ story.last) story.part)
   pub later : Since old new
   pub always : IsTrue old.tells → (n : ℕ) → IsBefore (said_of base.opened old) n
-      → Until base.settings keys n story.spelt story.answers (story.seen ++ story.last) new.asked
+      → Until base keys n story new.asked

@@ -5,6 +5,7 @@ use Rattle.ob_base.specs.declared.access.Access.{Access}
 use Rattle.ob_base.specs.declared.config.Config.{Config}
 use Rattle.ob_base.specs.declared.config.Planner.TheVariants.{Auto}
 use Rattle.ob_base.specs.declared.config.Public.{Public}
+use Rattle.ob_headline.specs.declared.flight.FlightSettings.{FlightSettings}
 use Rattle.ob_reopen.specs.Reopened.{opened_public, opened_start, opening_script}
 use Rattle.ob_reopen.specs.Resting.{Rests}
 use Rattle.ob_mean.specs.Replay.{Session, first_session}
@@ -36,6 +37,8 @@ pub record Opened : Type 0 where
 -- what the statements of a run go on from
 pub record Base : Type 0 where
   pub settings : Option Config
+  -- how SELECTs fly, if they do
+  pub flight : Option FlightSettings
   pub public : Public
   -- how many accesses were asked, counted on from where an earlier run's numbers are
   pub count : ℕ
@@ -50,6 +53,7 @@ pub record Base : Type 0 where
 abbrev pub fresh : Option Config → Base
 fresh settings = record {
   settings = settings;
+  flight = None;
   public = public_with settings;
   count = 0;
   start = from_nothing;
@@ -61,12 +65,17 @@ fresh settings = record {
 abbrev pub reopened : Config → Opened → Base
 reopened config o = record {
   settings = Some config;
+  flight = None;
   public = opened_public config o.closing o.listed;
   count = earlier (opened_start o.closing o.listed) + length (opening_script o.closing o.listed);
   start = opened_start o.closing o.listed;
   before = opening_script o.closing o.listed;
   opened = Some o;
 }
+
+-- the same, from which SELECTs fly so, if they do
+abbrev pub flying : Option FlightSettings → Base → Base
+flying flight base = record base { flight = flight }
 
 -- these tables rested in the store, and what was read of them when they were opened is what was written there
 pub record Rested (o : Opened) (tables : Tables) : Type 0 where

@@ -1,10 +1,11 @@
 -- INSERTs that are served together: which ones are, what is then seen where no call fails, and which texts may wait.
-use Rattle.std.specs.Prelude.{ℕ, ⊤, ◌≡◌, ◌<◌, ◌++◌, ◌&&◌, Bool, true, false, List, [], ◌∷◌, map, length, Option, Some, None, Ok}
+use Rattle.std.specs.Prelude.{ℕ, ⊤, ◌≡◌, ◌<◌, ◌⊎◌, ◌++◌, ◌&&◌, Bool, true, false, List, [], ◌∷◌, map, length, Option, Some, None, Ok}
 use Rattle.std.specs.Option.{option_map_or}
 use Rattle.ob_base.specs.declared.config.Public.{Public}
 use Rattle.ob_base.specs.declared.seen.End.{End}
 use Rattle.ob_base.specs.declared.seen.End.TheVariants.{Joined, Cut}
 use Rattle.ob_base.specs.declared.seen.Seen.{Seen}
+use Rattle.ob_headline.specs.Flights.{WaitToFly}
 use Rattle.ob_headline.specs.Statements.{SpellFirst}
 use Rattle.ob_headline.specs.Words.{Begins}
 use Rattle.ob_mean.specs.Batches.{Gathering, gathering_after, goes_into, inserts_into, is_joined, is_unrefused}
@@ -56,8 +57,8 @@ pub record Wait (most : ℕ) (texts : List (List ℕ)) : Type 0 where
   pub table : List ℕ
   pub insert : AllInsert table stmts
 
--- all of the texts were answered, but for some behind the last one that was, which wait
-pub record AnsweredBut (most : ℕ) (texts served : List (List ℕ)) : Type 0 where
+-- all of the texts were answered, but for some behind the last one that was, which wait, by what is public then
+pub record AnsweredBut (p : Public) (most flown : ℕ) (texts served : List (List ℕ)) : Type 0 where
   pub waiting : List (List ℕ)
-  pub wait : Wait most waiting
+  pub wait : Wait most waiting ⊎ WaitToFly p flown waiting
   pub answered : Begins texts (served ++ waiting)

@@ -4,6 +4,7 @@ use Rattle.ob_headline.specs.Accesses.{Accesses}
 use Rattle.ob_headline.specs.Answers.{Answers}
 use Rattle.ob_headline.specs.Bases.{Base}
 use Rattle.ob_headline.specs.Bytes.{Bytes}
+use Rattle.ob_headline.specs.Flights.{most_of, public_whole}
 use Rattle.ob_headline.specs.KeyLine.{first_line, secret_of}
 use Rattle.ob_headline.specs.OpenRows.{OpenRows}
 use Rattle.ob_headline.specs.Output.{Output}
@@ -32,7 +33,8 @@ pub record Headline (base : Base) (keys : List ℕ → KeySet) (Takes : Type 0) 
   -- the source gave these bytes, within the limit: a first line, then texts, of which the first ones were answered
   pub bytes : Bytes (limit_of base.settings) taken ended story old.left new.left
   -- before more is read each text is answered, unless it waits to be served with others
-  pub prompt : Prompt (batch_most base.public) taken story.served new.gave
+  pub prompt : Prompt (public_whole base story) (batch_most base.public) (most_of base) taken
+      story.served new.gave
   -- these texts spell the statements, as the grammar has it
   pub statements : Statements (secret_of (first_line taken)) story
   -- the answers were written, and a last line; and with tracing the accesses; until a sink failed

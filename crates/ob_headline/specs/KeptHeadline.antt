@@ -1,29 +1,31 @@
 -- The headline of a run whose tables are kept: an opening, a session that goes on from it, and a closing.
 use Rattle.std.specs.Prelude.{ℕ, ◌≡◌, ◌≢◌, ◌≤◌, ◌⊎◌, ⊤, Bool, false, List, [], ◌++◌, length, Option, Some, Ok, Err}
 use Rattle.std.specs.Io.KnownBytes.{Consumes}
+use Rattle.ob_base.specs.Publics.{first_public}
 use Rattle.ob_base.specs.declared.config.Config.{Config}
 use Rattle.ob_base.specs.declared.mark.Mark.{Mark}
 use Rattle.ob_base.specs.declared.refusal.Stop.TheVariants.{Tampered, SourceFault, SinkFault, NoMemory, InputLimit, StoreFault, StashFull, KeeperFault}
 use Rattle.ob_reopen.specs.Closed.{is_used_up}
 use Rattle.ob_reopen.specs.Resting.{AcceptsClosings, Rests, by_name}
-use Rattle.ob_headline.specs.Bases.{Base, FromEach, drawing, fresh}
+use Rattle.ob_headline.specs.Bases.{Base, FromEach, drawing, flying, fresh}
 use Rattle.ob_headline.specs.Headline.{Headline}
 use Rattle.ob_headline.specs.Keeping.{BeganKept, Closes, NotBegun, closing_behind, kept_line, kept_status, region_opened}
 use Rattle.ob_headline.specs.KeyLine.{first_line, has_lf, secret_of}
 use Rattle.ob_headline.specs.Tracing.{traced}
 use Rattle.ob_headline.specs.Words.{Answer, IsHonest, Outside, SinksRose, keys_in, outside_of}
-use Rattle.ob_headline.specs.Meaning.{AnswersFrom}
+use Rattle.ob_headline.specs.Flights.{public_after, seats_of}
+use Rattle.ob_headline.specs.Meaning.{AnswersFrom, session_after}
 use Rattle.ob_headline.specs.Sealing.{PassesRows, SealsEach, SealsOwn}
 use Rattle.ob_headline.specs.declared.ending.Ending.{Ending}
 use Rattle.ob_headline.specs.declared.ending.Ending.TheVariants.{Usage, BadKey, Ran}
 use Rattle.ob_headline.specs.declared.ending.KeptEnding.{KeptEnding}
 use Rattle.ob_headline.specs.declared.ending.KeptEnding.TheVariants.{Plain}
 use Rattle.ob_headline.specs.declared.ending.Report.{Report}
-use Rattle.ob_mean.specs.Replay.{Broken, after_all}
+use Rattle.ob_headline.specs.declared.flight.FlightSettings.{FlightSettings}
+use Rattle.ob_mean.specs.Replay.{Broken}
 use Rattle.ob_print.specs.Cuts.{Outputs}
 use Rattle.ob_reopen.specs.Keepers.{KeeperState}
 use Rattle.ob_reopen.specs.declared.closing.Closing.{Closing}
-use Rattle.ob_script.specs.Trace.{after_all as all_public}
 use Rattle.ob_seal.specs.KeySet.{KeySet}
 use Rattle.ob_seal.specs.Sealed.{keys_of}
 use Rattle.ob_store.specs.Runs.{Later}
@@ -48,10 +50,10 @@ EndsUnkeyed (Ran (Err StashFull)) taken = ⊥
 EndsUnkeyed (Ran (Err KeeperFault)) taken = ⊥
 
 -- the run ended as one does whose tables aren't kept, and neither the keeper nor the store was asked for anything
-pub record Unkeyed (settings : Option Config) (Takes : Type 0) (tracing : Bool) (old new : Outside)
-    (keeper0 keeper1 : KeeperState) (ending : KeptEnding) (answers : List Answer) (report : Report)
-    : Type 0 where
-  pub headline : Headline (fresh settings) keys_in Takes tracing old new report
+pub record Unkeyed (settings : Option Config) (flight : Option FlightSettings) (Takes : Type 0)
+    (tracing : Bool) (old new : Outside) (keeper0 keeper1 : KeeperState) (ending : KeptEnding)
+    (answers : List Answer) (report : Report) : Type 0 where
+  pub headline : Headline (flying flight (fresh settings)) keys_in Takes tracing old new report
   pub ends : EndsUnkeyed headline.ending headline.taken
   pub is : ending ≡ Plain headline.ending
   pub unanswered : answers ≡ []
@@ -70,7 +72,7 @@ pub record Unserved (Why : Config → (secret : List ℕ) → Type 0) (settings 
   pub taken : List ℕ
   pub given : Consumes old.left new.left taken
   pub within : length taken ≤ config.max_input
-  pub prompt : Prompt 1 taken [] new.gave
+  pub prompt : Prompt (first_public config) 1 1 taken [] new.gave
   pub secret : List ℕ
   pub keyed : secret_of (first_line taken) ≡ Some secret
   pub begun : Why config secret
@@ -101,7 +103,7 @@ pub record ClosesTables (base : Base) (keys : KeySet) (tracing refused : Bool) (
     (begun served new : StoreState) (traced0 traced1 : Option (List ℕ)) (fault0 fault1 : ℕ)
     (keeper0 keeper1 : KeeperState) (ending : KeptEnding) : Type 0 where
   pub closing : Closing
-  pub is : closing ≡ closing_behind (all_public base.public story.seen) base.start served.asked
+  pub is : closing ≡ closing_behind (public_after base story.entries) base.start served.asked
   pub closes : Closes closing (region_opened base.opened) tracing (Plain (Ran (Ok refused))) ending
       served new traced0 traced1 fault0 fault1 keeper0 keeper1
   pub later : Later served new
@@ -109,9 +111,10 @@ pub record ClosesTables (base : Base) (keys : KeySet) (tracing refused : Bool) (
   -- where the store tells what it holds and gave what was written, the tables rest in it: those that the statements leave
   pub rests : IsHonest begun new → is_used_up closing ≡ false → (mark : Mark)
       → closes.result ≡ Ok mark → FromEach base (λ s. (broken : Broken)
-      × AnswersFrom (Ran (Ok refused)) (drawing keys s) story.spelt broken story.answers
-      (story.seen ++ story.last) story.part
-      × Rests keys closing new.kept (by_name (after_all (drawing keys s) story.spelt broken).tables))
+      × AnswersFrom (Ran (Ok refused)) (seats_of base story.entries) (drawing keys s) story.spelt
+      broken story.answers (story.seen ++ story.last) story.part
+      × Rests keys closing new.kept (by_name (session_after (seats_of base story.entries)
+      (drawing keys s) story.spelt broken).tables))
   -- and no block of a live region lies in clear, of the closing neither
   pub sealed : SealsOwn (PassesBoth base.public.pack) base keys begun new
   pub sealed_before : SealsEach (PassesBoth base.public.pack) base keys begun new
@@ -159,9 +162,9 @@ EndsBehind BadKey base keys tracing story begun served new run report keeper0
 
 -- the keeper held a mark from which the run could begin; it holds that the store is in use; a session went on from the
 -- tables that were opened, if any were, and was closed where it came to its end
-pub record SessionKept (settings : Option Config) (Takes : Type 0) (tracing : Bool)
-    (old new : Outside) (keeper0 keeper1 : KeeperState) (ending : KeptEnding)
-    (answers : List Answer) (report : Report) : Type 0 where
+pub record SessionKept (settings : Option Config) (flight : Option FlightSettings)
+    (Takes : Type 0) (tracing : Bool) (old new : Outside) (keeper0 keeper1 : KeeperState)
+    (ending : KeptEnding) (answers : List Answer) (report : Report) : Type 0 where
   pub takes : Takes
   pub config : Config
   pub set : settings ≡ Some config
@@ -174,25 +177,28 @@ pub record SessionKept (settings : Option Config) (Takes : Type 0) (tracing : Bo
       keeper0 in_use
   pub served : Outside
   pub run : Report
-  pub session : Headline base keys_in Takes tracing (begun_at old opened traced) served run
+  pub session : Headline (flying flight base) keys_in Takes tracing (begun_at old opened traced)
+      served run
   pub keyed : secret_of (first_line session.taken) ≡ Some secret
   pub answered : answers ≡ session.story.answers
   pub high : report.high ≡ run.high
-  pub behind : EndsBehind session.ending base (keys_of secret) tracing session.story
-      (begun_at old opened traced) served new run report in_use keeper1 ending
+  pub behind : EndsBehind session.ending (flying flight base) (keys_of secret) tracing
+      session.story (begun_at old opened traced) served new run report in_use keeper1 ending
 
 -- one of the three
-abbrev pub RunKept : Option Config → (Takes : Type 0) → (tracing : Bool) → (old new : Outside)
-    → (keeper0 keeper1 : KeeperState) → KeptEnding → List Answer → Report → Type 0
-RunKept settings Takes tracing old new keeper0 keeper1 ending answers report =
-    Unkeyed settings Takes tracing old new keeper0 keeper1 ending answers report
+abbrev pub RunKept : Option Config → Option FlightSettings → (Takes : Type 0) → (tracing : Bool)
+    → (old new : Outside) → (keeper0 keeper1 : KeeperState) → KeptEnding → List Answer → Report
+    → Type 0
+RunKept settings flight Takes tracing old new keeper0 keeper1 ending answers report =
+    Unkeyed settings flight Takes tracing old new keeper0 keeper1 ending answers report
     ⊎ (Unbegun settings Takes tracing old new keeper0 keeper1 ending answers report
-    ⊎ SessionKept settings Takes tracing old new keeper0 keeper1 ending answers report)
+    ⊎ SessionKept settings flight Takes tracing old new keeper0 keeper1 ending answers report)
 
--- of words that the program takes, or doesn't, and of the settings that they spell
-pub record KeptHeadline (settings : Option Config) (Takes : Type 0) (tracing : Bool)
-    (old new : Outside) (keeper0 keeper1 : KeeperState) (report : Report) : Type 0 where
+-- of words that the program takes, or doesn't, of the settings that they spell, and of how SELECTs fly then, if they do
+pub record KeptHeadline (settings : Option Config) (flight : Option FlightSettings)
+    (Takes : Type 0) (tracing : Bool) (old new : Outside) (keeper0 keeper1 : KeeperState)
+    (report : Report) : Type 0 where
   pub ending : KeptEnding
   pub status : report.status ≡ kept_status ending
   pub answers : List Answer
-  pub ran : RunKept settings Takes tracing old new keeper0 keeper1 ending answers report
+  pub ran : RunKept settings flight Takes tracing old new keeper0 keeper1 ending answers report

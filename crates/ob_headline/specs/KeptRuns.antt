@@ -5,8 +5,9 @@ use Rattle.clap.specs.Words.{Text}
 use Rattle.ob_base.specs.Accesses.{writes}
 use Rattle.ob_base.specs.declared.config.Config.{Config}
 use Rattle.ob_base.specs.declared.mark.Mark.{Mark}
-use Rattle.ob_headline.specs.Bases.{drawing, start}
+use Rattle.ob_headline.specs.Bases.{drawing, flying, start}
 use Rattle.ob_headline.specs.Failures.{failures}
+use Rattle.ob_headline.specs.Flights.{seats_alone, trace_of}
 use Rattle.ob_headline.specs.KeptHeadline.{RunKept}
 use Rattle.ob_headline.specs.KeptMarks.{KeptRun}
 use Rattle.ob_headline.specs.Reruns.{EndsWell}
@@ -17,9 +18,10 @@ use Rattle.ob_headline.specs.Meaning.{AnswersFrom}
 use Rattle.ob_headline.specs.declared.ending.Ending.TheVariants.{Ran}
 use Rattle.ob_headline.specs.declared.ending.KeptEnding.{KeptEnding}
 use Rattle.ob_headline.specs.declared.ending.Report.{Report}
+use Rattle.ob_headline.specs.declared.flight.FlightSettings.{FlightSettings}
 use Rattle.ob_mean.specs.Replay.{Broken, Session, Spelt, after_all}
 use Rattle.ob_reopen.specs.Keepers.{KeeperState}
-use Rattle.ob_script.specs.Trace.{Served, trace}
+use Rattle.ob_script.specs.Trace.{Served}
 use Rattle.ob_seal.specs.Sealed.{keys_of}
 use Rattle.ob_store.specs.State.{KeptRegion}
 
@@ -34,41 +36,44 @@ pub record OneRun (words : List Text) : Type 0 where
 
 -- ---- what a run is, by how far it came
 -- its secret, where it was taken
-abbrev pub secret_in : {settings : Option Config} {Takes : Type 0} {tracing : Bool}
-    {old new : Outside} {keeper0 keeper1 : KeeperState} {ending : KeptEnding}
-    {answers : List Answer} {report : Report}
-    → RunKept settings Takes tracing old new keeper0 keeper1 ending answers report → Option (List ℕ)
+abbrev pub secret_in : {settings : Option Config} {flight : Option FlightSettings}
+    {Takes : Type 0} {tracing : Bool} {old new : Outside} {keeper0 keeper1 : KeeperState}
+    {ending : KeptEnding} {answers : List Answer} {report : Report}
+    → RunKept settings flight Takes tracing old new keeper0 keeper1 ending answers report
+    → Option (List ℕ)
 secret_in (inl run) = None
 secret_in (inr (inl run)) = Some run.secret
 secret_in (inr (inr run)) = Some run.secret
 
 -- what its texts spell
-abbrev pub spelt_in : {settings : Option Config} {Takes : Type 0} {tracing : Bool}
-    {old new : Outside} {keeper0 keeper1 : KeeperState} {ending : KeptEnding}
-    {answers : List Answer} {report : Report}
-    → RunKept settings Takes tracing old new keeper0 keeper1 ending answers report → List Spelt
+abbrev pub spelt_in : {settings : Option Config} {flight : Option FlightSettings}
+    {Takes : Type 0} {tracing : Bool} {old new : Outside} {keeper0 keeper1 : KeeperState}
+    {ending : KeptEnding} {answers : List Answer} {report : Report}
+    → RunKept settings flight Takes tracing old new keeper0 keeper1 ending answers report
+    → List Spelt
 spelt_in (inl run) = []
 spelt_in (inr (inl run)) = []
 spelt_in (inr (inr run)) = run.session.story.spelt
 
 -- what is seen of its statements
-abbrev pub seen_in : {settings : Option Config} {Takes : Type 0} {tracing : Bool}
-    {old new : Outside} {keeper0 keeper1 : KeeperState} {ending : KeptEnding}
-    {answers : List Answer} {report : Report}
-    → RunKept settings Takes tracing old new keeper0 keeper1 ending answers report → List Served
+abbrev pub seen_in : {settings : Option Config} {flight : Option FlightSettings}
+    {Takes : Type 0} {tracing : Bool} {old new : Outside} {keeper0 keeper1 : KeeperState}
+    {ending : KeptEnding} {answers : List Answer} {report : Report}
+    → RunKept settings flight Takes tracing old new keeper0 keeper1 ending answers report
+    → List Served
 seen_in (inl run) = []
 seen_in (inr (inl run)) = []
 seen_in (inr (inr run)) = run.session.story.seen ++ run.session.story.last
 
 -- how many accesses its statements came to, counted on from where its numbers are
-abbrev pub count_in : {settings : Option Config} {Takes : Type 0} {tracing : Bool}
-    {old new : Outside} {keeper0 keeper1 : KeeperState} {ending : KeptEnding}
-    {answers : List Answer} {report : Report}
-    → RunKept settings Takes tracing old new keeper0 keeper1 ending answers report → ℕ
+abbrev pub count_in : {settings : Option Config} {flight : Option FlightSettings}
+    {Takes : Type 0} {tracing : Bool} {old new : Outside} {keeper0 keeper1 : KeeperState}
+    {ending : KeptEnding} {answers : List Answer} {report : Report}
+    → RunKept settings flight Takes tracing old new keeper0 keeper1 ending answers report → ℕ
 count_in (inl run) = 0
 count_in (inr (inl run)) = 0
-count_in (inr (inr run)) =
-    run.base.count + length (trace run.base.public (run.session.story.seen ++ run.session.story.last))
+count_in {flight = flight} (inr (inr run)) =
+    run.base.count + length (trace_of (flying flight run.base) run.session.story.entries)
 
 -- ---- runs that answer as one
 -- it has this secret and came to its end, the store tells what it holds, gave what was written and failed at no statement,
@@ -112,7 +117,8 @@ pub record AnswerAsOne {words : List Text} (secret : List ℕ) (runs : List (One
   pub hows : Broken
   pub alone : (first_of words secret).public.batch ≡ None → hows ≡ []
   pub answered : (after_all (first_of words secret) (all_spelt runs) hows).asked < 2 ^ 63
-      → AnswersFrom (Ran (Ok (any_refused (all_answers runs)))) (first_of words secret)
+      → AnswersFrom (Ran (Ok (any_refused (all_answers runs))))
+      (seats_alone (first_of words secret) (all_seen runs)) (first_of words secret)
       (all_spelt runs) hows (all_answers runs) (all_seen runs) []
 
 -- ---- numbers over runs
@@ -128,19 +134,19 @@ AreChained held (run ∷ runs) =
     (run.one.keeper0.held ≡ held) × AreChained run.one.keeper1.held runs
 
 -- the numbers that its writes go on from are no less than n
-abbrev pub GoesOnFrom : {settings : Option Config} {Takes : Type 0} {tracing : Bool}
-    {old new : Outside} {keeper0 keeper1 : KeeperState} {ending : KeptEnding}
-    {answers : List Answer} {report : Report} → (n : ℕ)
-    → RunKept settings Takes tracing old new keeper0 keeper1 ending answers report → Type 0
+abbrev pub GoesOnFrom : {settings : Option Config} {flight : Option FlightSettings}
+    {Takes : Type 0} {tracing : Bool} {old new : Outside} {keeper0 keeper1 : KeeperState}
+    {ending : KeptEnding} {answers : List Answer} {report : Report} → (n : ℕ)
+    → RunKept settings flight Takes tracing old new keeper0 keeper1 ending answers report → Type 0
 GoesOnFrom n (inl run) = ⊤
 GoesOnFrom n (inr (inl run)) = ⊤
 GoesOnFrom n (inr (inr run)) = n ≤ run.base.start.writes
 
 -- the greatest number that it wrote under, or n where it wrote nothing
-abbrev pub numbered_in : {settings : Option Config} {Takes : Type 0} {tracing : Bool}
-    {old new : Outside} {keeper0 keeper1 : KeeperState} {ending : KeptEnding}
-    {answers : List Answer} {report : Report} → (n : ℕ)
-    → RunKept settings Takes tracing old new keeper0 keeper1 ending answers report → ℕ
+abbrev pub numbered_in : {settings : Option Config} {flight : Option FlightSettings}
+    {Takes : Type 0} {tracing : Bool} {old new : Outside} {keeper0 keeper1 : KeeperState}
+    {ending : KeptEnding} {answers : List Answer} {report : Report} → (n : ℕ)
+    → RunKept settings flight Takes tracing old new keeper0 keeper1 ending answers report → ℕ
 numbered_in n (inl run) = n
 numbered_in n (inr (inl run)) = n
 numbered_in {new = new} n (inr (inr run)) = run.base.start.writes + writes new.store.asked

@@ -2,9 +2,9 @@
 use Rattle.std.specs.Prelude.{ℕ, ◌≡◌, ◌≢◌, List, [], ◌∷◌, Option, Some, None}
 use Rattle.std.specs.List.{AllPairs}
 use Rattle.ob_base.specs.Indexes.{leaf_of_draw}
-use Rattle.ob_base.specs.declared.config.Public.{Public}
 use Rattle.ob_mean.specs.Lawful.{height_at}
-use Rattle.ob_script.specs.Trace.{Served, next}
+use Rattle.ob_script.specs.Trace.{Served}
+use Rattle.ob_headline.specs.Flights.{Seat}
 
 -- a leaf that was read is that of the draw with the first of these numbers, and the others are those of what is behind it
 abbrev pub IsDrawn : (draw : ℕ → ℕ) → (height : ℕ) → (leaf : Option ℕ) → (numbers : List ℕ)
@@ -15,14 +15,14 @@ IsDrawn draw height (Some leaf) (n ∷ numbers) behind =
     (leaf ≡ leaf_of_draw height (draw n)) × behind numbers
 
 -- of these statements each leaf that was read is that of a draw, by its height: these are the numbers of the draws
-abbrev pub AreDrawn : (draw : ℕ → ℕ) → Public → List Served → (numbers : List ℕ) → Type 0
-AreDrawn draw p [] numbers = numbers ≡ []
-AreDrawn draw p (x ∷ seen) numbers =
-    IsDrawn draw (height_at p x.skeleton) x.seen.leaf numbers
-    (AreDrawn draw (next p x.skeleton x.seen) seen)
+abbrev pub AreDrawn : (draw : ℕ → ℕ) → List Seat → List Served → (numbers : List ℕ) → Type 0
+AreDrawn draw seats [] numbers = numbers ≡ []
+AreDrawn draw [] (x ∷ seen) numbers = ⊥
+AreDrawn draw (v ∷ seats) (x ∷ seen) numbers =
+    IsDrawn draw (height_at v.public x.skeleton) x.seen.leaf numbers (AreDrawn draw seats seen)
 
 -- and no draw is read twice
-pub record ReadsDraws (draw : ℕ → ℕ) (p : Public) (seen : List Served) : Type 0 where
+pub record ReadsDraws (draw : ℕ → ℕ) (seats : List Seat) (seen : List Served) : Type 0 where
   pub numbers : List ℕ
-  pub are : AreDrawn draw p seen numbers
+  pub are : AreDrawn draw seats seen numbers
   pub apart : AllPairs (λ a b. a ≢ b) numbers

@@ -19,6 +19,7 @@ pub mod Closing
 pub mod Disturbed
 pub mod Endings
 pub mod Failures
+pub mod Flights
 pub mod FullStash
 pub mod KeyLine
 pub mod Settings
@@ -35,4 +36,5 @@ pub mod SavedRuns
 pub mod Pieces
 pub mod Plainly
 pub mod Reruns
+pub mod OneByOne
 pub mod Shown

@@ -1,5 +1,5 @@
 -- What the model answers.
-use Rattle.std.specs.Prelude.{ℕ, ◌≡◌, ◌≤◌, ◌⊎◌, true, false, List, [], ◌∷◌, ◌++◌, length, None, Ok, Err}
+use Rattle.std.specs.Prelude.{ℕ, ◌≡◌, ◌≤◌, ◌+◌, ◌⊎◌, ⊤, true, false, if◌then◌else◌, Option, Some, List, [], ◌∷◌, ◌++◌, length, None, Ok, Err}
 use Rattle.ob_base.specs.Events.{Event}
 use Rattle.ob_base.specs.Stored.{headings, headings_of}
 use Rattle.ob_base.specs.declared.refusal.Refusal.TheVariants.{StoreFault}
@@ -10,6 +10,7 @@ use Rattle.ob_verdict.specs.Outcomes.{outcome_of, Partly}
 use Rattle.ob_verdict.specs.declared.outcome.Outcome.TheVariants.{Refused}
 use Rattle.ob_headline.specs.Closing.{closing_line}
 use Rattle.ob_headline.specs.Endings.{is_tampered}
+use Rattle.ob_headline.specs.Flights.{EndedBy, OnBy, Seat, Stand, at_next, at_seat}
 use Rattle.ob_headline.specs.declared.ending.Ending.{Ending}
 use Rattle.ob_headline.specs.declared.ending.Ending.TheVariants.{Ran}
 use Rattle.ob_mean.specs.Prints.{Prints, Unfinished, labels_of}
@@ -24,6 +25,7 @@ use Rattle.ob_script.specs.Trace.{Served}
 use Rattle.ob_sql.specs.Skeleton.{skeleton}
 use Rattle.ob_sql.specs.declared.stmt.Stmt.{Stmt}
 use Rattle.ob_headline.specs.Words.{Answer, refused_at}
+use Rattle.ob_mean.specs.Standing.{StandsMeant}
 
 -- an answer is its header, its rows in some order and their number, or its one line
 pub record AnswersAs (labels : List (List ℕ)) (stmt : Stmt) (meaning : Meaning)
@@ -97,23 +99,101 @@ pub record AnswersLast (ending : Ending) (s : Session) (stmt : Stmt) (here : See
   pub answers : AnswersIn how s stmt answer
   pub whole : part ≡ answer.bytes
 
-abbrev pub BeginsAnswer : Ending → Session → Spelt → List Served → (part : List ℕ) → Type 0
-BeginsAnswer ending s (Err at) seen part = part ≡ (refused_at at).bytes
-BeginsAnswer ending s (Ok stmt) [] part = ⊥
-BeginsAnswer ending s (Ok stmt) (x ∷ seen) part =
-    StopsAt ending s stmt x.seen part ⊎ AnswersLast ending s stmt x.seen part
+-- ---- one that flies
+-- how many of its accesses were carried out when its flight was left
+abbrev pub done_in : Ending → Stand → ℕ
+done_in ending stand = if is_tampered ending then stand.before else stand.own
 
+-- it was served
+pub record HasEnded (s : Session) (stmt : Stmt) (here : Seen) : Type 0 where
+  pub how : How
+  pub cuts : IsCutOff how s stmt
+  pub seen : here ≡ seen_or_cut how s stmt
+
+-- so, if it had ended when its flight was left, or it stands there
+abbrev pub StandsIn : Ending → Seat → Stand → Session → Stmt → Seen → Type 0
+StandsIn ending v stand s stmt here =
+    (EndedBy (Some stand) v × HasEnded s stmt here)
+    ⊎ (OnBy (Some stand) v × StandsMeant s.draws s.public s.asked stand.own (done_in ending stand)
+    s.tables stmt here here.end)
+
+-- it hadn't ended before, and a first part of its header and rows was emitted until then
+pub record EmitsPart (ending : Ending) (v : Seat) (stand : Stand) (s : Session) (stmt : Stmt)
+    (part : List ℕ) : Type 0 where
+  pub on : v.asked + stand.all ≤ v.until
+  pub events : List Event
+  pub begun : Partly (labels_of stmt (headings_of s.public.tables))
+      (verdict s.public s.asked s.tables stmt) events
+  pub printed : PrintsTo ending part (events_text events)
+
+-- or all of its answer was emitted: its line is cut, for want of memory, or a sink took less than all that had ended
+pub record EmitsAll (ending : Ending) (s : Session) (stmt : Stmt) (here : Seen)
+    (part : List ℕ) : Type 0 where
+  pub how : How
+  pub cuts : IsCutOff how s stmt
+  pub seen : here ≡ seen_or_cut how s stmt
+  pub answer : Answer
+  pub answers : AnswersIn how s stmt answer
+  pub printed : PrintsTo ending part answer.bytes
+
+abbrev pub StandsThere : Option Stand → Ending → Seat → Session → Stmt → Seen → Type 0
+StandsThere None ending v s stmt here = ⊥
+StandsThere (Some stand) ending v s stmt here = StandsIn ending v stand s stmt here
+
+-- of those behind it in its flight nothing was printed
+unfoldable pub StandBehind : Ending → List Seat → Session → List Spelt → List Served → Type 0
+StandBehind ending seats s [] seen = ⊤
+StandBehind ending seats s (Err at ∷ spelt) seen = ⊥
+StandBehind ending [] s (Ok stmt ∷ spelt) seen = ⊥
+StandBehind ending (v ∷ seats) s (Ok stmt ∷ spelt) [] = ⊥
+StandBehind ending (v ∷ seats) s (Ok stmt ∷ spelt) (x ∷ seen) =
+    StandsThere v.left ending v (at_seat v s) stmt x.seen
+    × StandBehind ending seats s spelt seen
+
+-- ---- the first that was begun
+-- by its flight, if that was left, or alone
+abbrev pub BeginsAt : Option Stand → Ending → Seat → Session → Stmt → Seen → (part : List ℕ)
+    → (behind : Type 0) → Type 0
+BeginsAt None ending v s stmt here part behind =
+    StopsAt ending s stmt here part ⊎ AnswersLast ending s stmt here part
+BeginsAt (Some stand) ending v s stmt here part behind =
+    StandsIn ending v stand s stmt here
+    × (EmitsPart ending v stand s stmt part ⊎ EmitsAll ending s stmt here part) × behind
+
+abbrev pub BeginsAnswer : Ending → List Seat → Session → Spelt → (behind : List Spelt)
+    → List Served → (part : List ℕ) → Type 0
+BeginsAnswer ending seats s (Err at) behind seen part = part ≡ (refused_at at).bytes
+BeginsAnswer ending [] s (Ok stmt) behind seen part = ⊥
+BeginsAnswer ending (v ∷ seats) s (Ok stmt) behind [] part = ⊥
+BeginsAnswer ending (v ∷ seats) s (Ok stmt) behind (x ∷ seen) part =
+    BeginsAt v.left ending v (at_seat v s) stmt x.seen part
+    (StandBehind ending seats s behind seen)
+
+-- ---- all of them
 -- from a session of the model on: these statements, of which none meets a full stash, some are served with an INSERT before
--- them, and the store cut some off, each at one of its accesses, are answered so, this is seen of each, and what was printed
--- after them is a first part of the next answer
-unfoldable pub AnswersFrom : Ending → Session → List Spelt → Broken → List Answer → List Served
-    → (part : List ℕ) → Type 0
-AnswersFrom ending s [] broken answers seen part = (answers ≡ []) × (part ≡ [])
-AnswersFrom ending s (x ∷ spelt) broken [] seen part = BeginsAnswer ending s x seen part
-AnswersFrom ending s (Err at ∷ spelt) broken (one ∷ more) seen part =
-    (one ≡ refused_at at) × AnswersFrom ending s spelt (rest_of broken) more seen part
-AnswersFrom ending s (Ok stmt ∷ spelt) broken (one ∷ more) [] part = ⊥
-AnswersFrom ending s (Ok stmt ∷ spelt) broken (one ∷ more) (x ∷ seen) part =
-    (is_full_now s stmt ≡ false) × IsCutOff (head_of broken) s stmt
-    × AnswersIn (head_of broken) s stmt one × (x.seen ≡ seen_or_cut (head_of broken) s stmt)
-    × AnswersFrom ending (after (head_of broken) s stmt) spelt (rest_of broken) more seen part
+-- them, some fly, and the store cut some off, each at one of its accesses, are answered so, this is seen of each, and what was
+-- printed after them is a first part of the next answer
+unfoldable pub AnswersFrom : Ending → List Seat → Session → List Spelt → Broken → List Answer
+    → List Served → (part : List ℕ) → Type 0
+AnswersFrom ending seats s [] broken answers seen part = (answers ≡ []) × (part ≡ [])
+AnswersFrom ending seats s (x ∷ spelt) broken [] seen part =
+    BeginsAnswer ending seats s x spelt seen part
+AnswersFrom ending seats s (Err at ∷ spelt) broken (one ∷ more) seen part =
+    (one ≡ refused_at at) × AnswersFrom ending seats s spelt (rest_of broken) more seen part
+AnswersFrom ending seats s (Ok stmt ∷ spelt) broken (one ∷ more) [] part = ⊥
+AnswersFrom ending [] s (Ok stmt ∷ spelt) broken (one ∷ more) (x ∷ seen) part = ⊥
+AnswersFrom ending (v ∷ seats) s (Ok stmt ∷ spelt) broken (one ∷ more) (x ∷ seen) part =
+    (is_full_now (at_seat v s) stmt ≡ false) × IsCutOff (head_of broken) (at_seat v s) stmt
+    × AnswersIn (head_of broken) (at_seat v s) stmt one
+    × (x.seen ≡ seen_or_cut (head_of broken) (at_seat v s) stmt)
+    × AnswersFrom ending seats (after (head_of broken) (at_seat v s) stmt) spelt (rest_of broken)
+    more seen part
+
+-- the session behind these texts: these tables and these draws, by what the next statement goes by
+unfoldable pub session_after : List Seat → Session → List Spelt → Broken → Session
+session_after seats s [] broken = at_next seats s
+session_after seats s (Err at ∷ spelt) broken = session_after seats s spelt (rest_of broken)
+session_after [] s (Ok stmt ∷ spelt) broken = s
+session_after (v ∷ seats) s (Ok stmt ∷ spelt) broken =
+    if is_full_now (at_seat v s) stmt then at_seat v s
+    else session_after seats (after (head_of broken) (at_seat v s) stmt) spelt (rest_of broken)

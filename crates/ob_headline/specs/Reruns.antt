@@ -1,5 +1,5 @@
 -- What runs ask, and when two of them ask the same.
-use Rattle.std.specs.Prelude.{ℕ, ◌≡◌, ◌≤◌, ◌+◌, ◌⊎◌, ◌&&◌, ◌||◌, ⊤, Bool, true, false, not, if◌then◌else◌, List, [], ◌∷◌, ◌++◌, length, IsSome, IsTrue, Option, None, Ok, Err, is_some}
+use Rattle.std.specs.Prelude.{ℕ, ◌≡◌, ◌≤◌, ◌+◌, ◌⊎◌, ◌&&◌, ◌||◌, ⊤, Bool, true, false, not, if◌then◌else◌, List, [], ◌∷◌, ◌++◌, length, map, IsSome, IsTrue, Option, None, Ok, Err, is_some}
 use Rattle.clap.specs.Words.{App, Text}
 use Rattle.ob_base.specs.declared.access.Access.{Access}
 use Rattle.ob_base.specs.declared.config.Public.{Public}
@@ -7,10 +7,11 @@ use Rattle.ob_base.specs.declared.seen.End.{End}
 use Rattle.ob_base.specs.declared.seen.End.TheVariants.{Static, Whole, Joined}
 use Rattle.ob_base.specs.declared.seen.Seen.{Seen}
 use Rattle.ob_verdict.specs.Outcomes.{refusal_now}
-use Rattle.ob_headline.specs.Bases.{Base, fresh}
+use Rattle.ob_headline.specs.Bases.{Base, flying, fresh}
 use Rattle.ob_headline.specs.Failures.{failures}
+use Rattle.ob_headline.specs.Flights.{FliesNone, Seat, seats_of}
 use Rattle.ob_headline.specs.Headline.{Headline}
-use Rattle.ob_headline.specs.Settings.{IsTaken, IsTakenSaved, MeddleParses, settings_of}
+use Rattle.ob_headline.specs.Settings.{IsTaken, IsTakenSaved, MeddleParses, flight_of, settings_of}
 use Rattle.ob_headline.specs.Usage.{is_traced, usage}
 use Rattle.ob_headline.specs.Words.{Begins, Outside, keys_in}
 use Rattle.ob_headline.specs.declared.ending.Report.{Report}
@@ -26,8 +27,8 @@ use Rattle.ob_sql.specs.declared.stmt.Stmt.{Stmt}
 -- what `shell_top` promises of a run that reads its input
 abbrev pub ShellRun : List Text → (old new : Outside) → Report → Type 0
 ShellRun words old new report =
-    Headline (fresh (settings_of usage words)) keys_in (IsTaken usage words)
-    (is_traced usage words) old new report
+    Headline (flying (flight_of usage words) (fresh (settings_of usage words))) keys_in
+    (IsTaken usage words) (is_traced usage words) old new report
 
 -- ---- one run, by the words of any program, from any base and by any keys
 -- a program with these words, the one over whose store others do what the words say, and the one that may save its tables
@@ -57,7 +58,7 @@ pub record SomeRun : Type 0 where
 abbrev pub shell_run : {words : List Text} {old new : Outside} {report : Report}
     → ShellRun words old new report → SomeRun
 shell_run {words} {old} {new} {report} run = record {
-  base = fresh (settings_of usage words);
+  base = flying (flight_of usage words) (fresh (settings_of usage words));
   keys = keys_in;
   program = of_words usage;
   words = words;
@@ -68,27 +69,31 @@ shell_run {words} {old} {new} {report} run = record {
   run = run;
 }
 
--- a statement in its turn; and where INSERTs are served together, whether a text that is none came right before it, so that
+-- a statement as it was stated: where INSERTs are served together, whether a text that is none came right before it, so that
 -- it is served apart from the ones before that
-pub record Turn : Type 0 where
+pub record Stated : Type 0 where
   pub stmt : Stmt
   pub apart : Bool
 
 -- the statements among what texts spell, the first of which comes behind such a text or doesn't
-unfoldable pub turns : (batched apart : Bool) → List Spelt → List Turn
-turns batched apart [] = []
-turns batched apart (Ok stmt ∷ spelt) =
-    record { stmt = stmt; apart = apart } ∷ turns batched false spelt
-turns batched apart (Err at ∷ spelt) = turns batched batched spelt
+unfoldable pub stated : (batched apart : Bool) → List Spelt → List Stated
+stated batched apart [] = []
+stated batched apart (Ok stmt ∷ spelt) =
+    record { stmt = stmt; apart = apart } ∷ stated batched false spelt
+stated batched apart (Err at ∷ spelt) = stated batched batched spelt
 
-abbrev pub turns_in : Public → List Spelt → List Turn
-turns_in p spelt = turns (is_some p.batch) false spelt
+abbrev pub stated_in : Public → List Spelt → List Stated
+stated_in p spelt = stated (is_some p.batch) false spelt
 
-abbrev pub turns_of : SomeRun → List Turn
-turns_of one = turns_in one.base.public one.run.story.spelt
+abbrev pub stated_of : SomeRun → List Stated
+stated_of one = stated_in one.base.public one.run.story.spelt
 
 abbrev pub seen_by : SomeRun → List Served
 seen_by one = one.run.story.seen ++ one.run.story.last
+
+-- by what each of its statements goes
+abbrev pub seats_by : SomeRun → List Seat
+seats_by one = seats_of one.base one.run.story.entries
 
 abbrev pub asked_by : SomeRun → List Access
 asked_by one = one.new.store.asked
@@ -100,11 +105,26 @@ keys_by one = one.keys one.run.taken
 abbrev pub failures_of : SomeRun → ℕ
 failures_of one = failures one.run.story.answers
 
+-- none of its statements flies
+abbrev pub ServesAlone : SomeRun → Type 0
+ServesAlone one = FliesNone one.base
+
 -- two runs go on from the same: what is public, and how much was asked
 pub record GoOnFromOne (a b : SomeRun) : Type 0 where
   pub public : a.base.public ≡ b.base.public
   pub count : a.base.count ≡ b.base.count
   pub before : a.base.before ≡ b.base.before
+
+-- before which of the statements a text came that spells none
+abbrev pub breaks_in : List Spelt → List Bool
+breaks_in spelt = map (λ (t : Stated). t.apart) (stated true false spelt)
+
+-- two runs whose SELECTs fly alike, if they do, and of whose statements the same is seen, of which the same ones come right
+-- behind a text that is none
+pub record ShowTheSame (a b : SomeRun) : Type 0 where
+  pub flight : a.base.flight ≡ b.base.flight
+  pub breaks : breaks_in a.run.story.spelt ≡ breaks_in b.run.story.spelt
+  pub seen : seen_by a ≡ seen_by b
 
 -- a run that came to its end, and of which no text was answered that the store failed
 pub record EndsWell (status : ℕ) (failures : ℕ) : Type 0 where
@@ -123,14 +143,14 @@ abbrev pub plainly : Public → ℕ → Option Gathering → Stmt → Seen
 plainly p m g stmt = seen_plainly (is_some (refusal_now p m stmt)) (goes_into p g (skeleton stmt))
 
 -- what it may go into in its turn, and what is gathered behind it
-abbrev pub gathered_at : Option Gathering → Turn → Option Gathering
+abbrev pub gathered_at : Option Gathering → Stated → Option Gathering
 gathered_at g t = if t.apart then None else g
 
-abbrev pub gathered_then : Public → ℕ → Option Gathering → Turn → End → Option Gathering
-gathered_then p m g t end = gathering_after p m (gathered_at g t) t.stmt end
+abbrev pub gathered_behind : Public → ℕ → Option Gathering → Stated → End → Option Gathering
+gathered_behind p m g t end = gathering_after p m (gathered_at g t) t.stmt end
 
 -- what is seen of it so in its turn
-abbrev pub plainly_at : Public → ℕ → Option Gathering → Turn → Seen
+abbrev pub plainly_at : Public → ℕ → Option Gathering → Stated → Seen
 plainly_at p m g t = plainly p m (gathered_at g t) t.stmt
 
 -- it accesses no index, and it is no SELECT of rows, or results are padded
@@ -144,14 +164,14 @@ abbrev pub shows_more : Public → Stmt → Bool
 shows_more p stmt = is_access p (skeleton stmt) || (selects_rows stmt && not (is_some p.pad))
 
 -- one of them is a SELECT of rows
-unfoldable pub any_counted : List Turn → Bool
+unfoldable pub any_counted : List Stated → Bool
 any_counted [] = false
 any_counted (t ∷ ts) = selects_rows t.stmt || any_counted ts
 
 -- two lists of statements, of each of which is seen whether it was refused before any access and whether it was served with
 -- an INSERT before it, and nothing else: their skeletons are the same, none accesses an index, the same ones are refused so,
 -- and the same ones are apart
-unfoldable pub Alike : Public → ℕ → Option Gathering → List Turn → List Turn → Type 0
+unfoldable pub Alike : Public → ℕ → Option Gathering → List Stated → List Stated → Type 0
 Alike p m g [] [] = ⊤
 Alike p m g [] (b ∷ qs) = ⊥
 Alike p m g (a ∷ ps) [] = ⊥
@@ -161,12 +181,13 @@ Alike p m g (a ∷ ps) (b ∷ qs) =
     × (a.apart ≡ b.apart)
     × Alike (next p (skeleton a.stmt) (plainly_at p m g a))
     (m + length (script p (skeleton a.stmt) (plainly_at p m g a)))
-    (gathered_then p m g a (plainly_at p m g a).end) ps qs
+    (gathered_behind p m g a (plainly_at p m g a).end) ps qs
 
 -- any two lists of statements, and what was seen of each: their skeletons are the same, the same ones are refused before
 -- any access, the same ones are apart, and of each that accesses an index, and of each SELECT of rows that isn't padded,
 -- the same is seen
-unfoldable pub ShowAlike : Public → ℕ → List Turn → List Served → List Turn → List Served → Type 0
+unfoldable pub ShowAlike : Public → ℕ → List Stated → List Served → List Stated → List Served
+    → Type 0
 ShowAlike p m [] xs [] ys = ⊤
 ShowAlike p m [] xs (b ∷ qs) ys = ⊥
 ShowAlike p m (a ∷ ps) xs [] ys = ⊥
@@ -180,45 +201,45 @@ ShowAlike p m (a ∷ ps) (x ∷ xs) (b ∷ qs) (y ∷ ys) =
 
 -- of statements that are not cut off, each of which is no SELECT of rows or has its result padded, what is seen: a
 -- function of their skeletons, of which are refused before any access, and of which are apart
-unfoldable pub shown_plainly : Public → ℕ → Option Gathering → List Turn → List Served
+unfoldable pub shown_plainly : Public → ℕ → Option Gathering → List Stated → List Served
 shown_plainly p m g [] = []
 shown_plainly p m g (t ∷ ts) =
     record { skeleton = skeleton t.stmt; seen = plainly_at p m g t }
     ∷ shown_plainly (next p (skeleton t.stmt) (plainly_at p m g t))
     (m + length (script p (skeleton t.stmt) (plainly_at p m g t)))
-    (gathered_then p m g t (plainly_at p m g t).end) ts
+    (gathered_behind p m g t (plainly_at p m g t).end) ts
 
 -- each of them accesses no index, and is no SELECT of rows or has its result padded
-unfoldable pub ArePlain : Public → ℕ → Option Gathering → List Turn → Type 0
+unfoldable pub ArePlain : Public → ℕ → Option Gathering → List Stated → Type 0
 ArePlain p m g [] = ⊤
 ArePlain p m g (t ∷ ts) =
     IsPlain p t.stmt × ArePlain (next p (skeleton t.stmt) (plainly_at p m g t))
     (m + length (script p (skeleton t.stmt) (plainly_at p m g t)))
-    (gathered_then p m g t (plainly_at p m g t).end) ts
+    (gathered_behind p m g t (plainly_at p m g t).end) ts
 
 -- what is seen of a statement that isn't cut off: where more is seen than its early refusal, and whether it was served with
 -- an INSERT before it, what was seen of it, and else what follows from those
-abbrev pub shown_as : Public → ℕ → Option Gathering → Turn → Seen → Served
+abbrev pub shown_as : Public → ℕ → Option Gathering → Stated → Seen → Served
 shown_as p m g t seen = record {
   skeleton = skeleton t.stmt;
   seen = if shows_more p t.stmt then seen else plainly_at p m g t;
 }
 
 -- what is seen of statements of which none is cut off, but for those
-unfoldable pub shown : Public → ℕ → Option Gathering → List Turn → List Served → List Served
+unfoldable pub shown : Public → ℕ → Option Gathering → List Stated → List Served → List Served
 shown p m g [] xs = []
 shown p m g (t ∷ ts) [] = []
 shown p m g (t ∷ ts) (x ∷ xs) =
     shown_as p m g t x.seen
     ∷ shown (next p (skeleton t.stmt) (shown_as p m g t x.seen).seen)
     (m + length (script p (skeleton t.stmt) (shown_as p m g t x.seen).seen))
-    (gathered_then p m g t (shown_as p m g t x.seen).seen.end) ts xs
+    (gathered_behind p m g t (shown_as p m g t x.seen).seen.end) ts xs
 
 -- as far as both go two lists of statements show the same: their skeletons are the same, the same ones are refused before
 -- any access, the same ones are served with an INSERT before them, and of each that accesses an index, and of each SELECT of
 -- rows that isn't padded, the same is seen
-unfoldable pub AlikeSoFar : Public → ℕ → (g h : Option Gathering) → List Turn → List Served
-    → List Turn → List Served → Type 0
+unfoldable pub AlikeSoFar : Public → ℕ → (g h : Option Gathering) → List Stated → List Served
+    → List Stated → List Served → Type 0
 AlikeSoFar p m g h [] xs qs ys = ⊤
 AlikeSoFar p m g h (a ∷ ps) xs [] ys = ⊤
 AlikeSoFar p m g h (a ∷ ps) [] (b ∷ qs) ys = ⊤
@@ -227,8 +248,8 @@ AlikeSoFar p m g h (a ∷ ps) (x ∷ xs) (b ∷ qs) (y ∷ ys) =
     (shown_as p m g a x.seen ≡ shown_as p m h b y.seen)
     × AlikeSoFar (next p (skeleton a.stmt) (shown_as p m g a x.seen).seen)
     (m + length (script p (skeleton a.stmt) (shown_as p m g a x.seen).seen))
-    (gathered_then p m g a (shown_as p m g a x.seen).seen.end)
-    (gathered_then p m h b (shown_as p m h b y.seen).seen.end) ps xs qs ys
+    (gathered_behind p m g a (shown_as p m g a x.seen).seen.end)
+    (gathered_behind p m h b (shown_as p m h b y.seen).seen.end) ps xs qs ys
 
 -- one of them is a first part of the other
 abbrev pub OneBegins : {A : Type 0} → (xs ys : List A) → Type 0
@@ -239,16 +260,16 @@ OneBegins xs ys = Begins xs ys ⊎ Begins ys xs
 -- index, and of its SELECTs of rows that aren't padded
 abbrev pub AsksAsShown : SomeRun → Type 0
 AsksAsShown one = Begins (asked_by one) (one.base.before ++ trace one.base.public
-    (shown one.base.public one.base.count None (turns_of one) (seen_by one)))
+    (shown one.base.public one.base.count None (stated_of one) (seen_by one)))
 
--- if no text of a run was answered that the store failed, and each of its statements accesses no index, and is no SELECT of
--- rows or has its result padded, what it asks is a first part of one list, however it ends: behind what it begins with, of the
+-- if none of a run's statements flies, no text was answered that the store failed, and each accesses no index, and is no SELECT
+-- of rows or has its result padded, what it asks is a first part of one list, however it ends: behind what it begins with, of the
 -- accesses that follow from the skeletons of its statements, and from which are refused before any access and which are apart
 abbrev pub AsksByKinds : {base : Base} {keys : List ℕ → KeySet} {Takes : Type 0}
     {tracing : Bool} {old new : Outside} {report : Report}
     → Headline base keys Takes tracing old new report → Type 0
 AsksByKinds {base = base} {new = new} run =
-    failures run.story.answers ≡ 0
-    → ArePlain base.public base.count None (turns_in base.public run.story.spelt)
+    FliesNone base → failures run.story.answers ≡ 0
+    → ArePlain base.public base.count None (stated_in base.public run.story.spelt)
     → Begins new.store.asked (base.before ++ trace base.public
-    (shown_plainly base.public base.count None (turns_in base.public run.story.spelt)))
+    (shown_plainly base.public base.count None (stated_in base.public run.story.spelt)))

@@ -5,13 +5,14 @@ use Rattle.ob_base.specs.Counts.{Rises}
 use Rattle.ob_base.specs.declared.config.Config.{Config}
 use Rattle.ob_base.specs.declared.mark.Mark.{Mark}
 use Rattle.ob_base.specs.declared.refusal.Stop.TheVariants.{KeeperFault, SinkFault}
-use Rattle.ob_headline.specs.Bases.{Base, FromEach, drawing}
+use Rattle.ob_headline.specs.Bases.{Base, FromEach, drawing, flying}
 use Rattle.ob_headline.specs.Batches.{AllInsert}
 use Rattle.ob_headline.specs.Headline.{Headline}
 use Rattle.ob_headline.specs.Keeping.{kept_status}
 use Rattle.ob_headline.specs.KeptHeadline.{Unkeyed, Unserved, begun_at}
 use Rattle.ob_headline.specs.KeyLine.{first_line, secret_of}
-use Rattle.ob_headline.specs.Meaning.{AnswersFrom}
+use Rattle.ob_headline.specs.Flights.{Seat, seats_of}
+use Rattle.ob_headline.specs.Meaning.{AnswersFrom, session_after}
 use Rattle.ob_headline.specs.Saving.{BeganSaved, NotBegunSaved, RestsAlike}
 use Rattle.ob_headline.specs.Statements.{SpellFirst, statements}
 use Rattle.ob_headline.specs.Story.{Story}
@@ -21,8 +22,9 @@ use Rattle.ob_headline.specs.declared.ending.Ending.TheVariants.{Ran}
 use Rattle.ob_headline.specs.declared.ending.KeptEnding.{KeptEnding}
 use Rattle.ob_headline.specs.declared.ending.KeptEnding.TheVariants.{Plain}
 use Rattle.ob_headline.specs.declared.ending.Report.{Report}
+use Rattle.ob_headline.specs.declared.flight.FlightSettings.{FlightSettings}
 use Rattle.ob_mean.specs.Batches.{batch_most, settle_all}
-use Rattle.ob_mean.specs.Replay.{Broken, Session, Spelt, after_all}
+use Rattle.ob_mean.specs.Replay.{Broken, Session, Spelt}
 use Rattle.ob_mean.specs.Verdict.{Tables}
 use Rattle.ob_reopen.specs.Closings.{saved_mark}
 use Rattle.ob_reopen.specs.Keepers.{KeeperState}
@@ -43,9 +45,9 @@ UnbegunSaved settings Takes tracing old new keeper0 keeper1 ending answers repor
 
 -- ---- what a session leaves
 -- the session of the model behind the texts that were answered
-abbrev pub answered_by : Session → List Spelt → List Answer → Broken → Session
-answered_by s spelt answers broken =
-    after_all s (take (length answers) spelt) (take (length answers) broken)
+abbrev pub answered_by : List Seat → Session → List Spelt → List Answer → Broken → Session
+answered_by seats s spelt answers broken =
+    session_after seats s (take (length answers) spelt) (take (length answers) broken)
 
 -- the statements behind them that took effect: none, or the next one, and these
 abbrev pub taken_by : (more : Option (List Stmt)) → List Spelt → List Answer → List Stmt
@@ -54,10 +56,10 @@ taken_by (Some behind) spelt answers =
     statements (take 1 (drop (length answers) spelt)) ++ behind
 
 -- the tables behind all of them, of which the store cut off none but answered ones
-abbrev pub left_by : (more : Option (List Stmt)) → Session → List Spelt → List Answer → Broken
-    → Tables
-left_by more s spelt answers broken =
-    let t = answered_by s spelt answers broken in
+abbrev pub left_by : (more : Option (List Stmt)) → List Seat → Session → List Spelt
+    → List Answer → Broken → Tables
+left_by more seats s spelt answers broken =
+    let t = answered_by seats s spelt answers broken in
     settle_all t.draws t.public t.asked (taken_by more spelt answers) t.tables
 
 -- the text begun and these statements are INSERTs into one table
@@ -86,16 +88,16 @@ pub record MayTake (most : ℕ) (ending : Ending) (story : Story) (behind : List
 
 -- the tables behind the texts that were answered, or behind one more and what is served with it, rest for this mark under the
 -- secret
-pub record RestsBehind (most : ℕ) (secret : List ℕ) (keys : KeySet) (ending : Ending)
+pub record RestsBehind (base : Base) (secret : List ℕ) (keys : KeySet) (ending : Ending)
     (story : Story) (mark : Mark) (kept : ℕ → Option KeptRegion) (s : Session) : Type 0 where
   pub broken : Broken
-  pub answered : AnswersFrom ending (drawing keys s) story.spelt broken story.answers
-      (story.seen ++ story.last) story.part
+  pub answered : AnswersFrom ending (seats_of base story.entries) (drawing keys s) story.spelt
+      broken story.answers (story.seen ++ story.last) story.part
   pub more : Option (List Stmt)
   pub unanswered : (behind : List Stmt) → more ≡ Some behind
-      → MayTake most ending story behind
-  pub rests : RestsAlike secret mark kept
-      (left_by more (drawing keys s) story.spelt story.answers broken)
+      → MayTake (batch_most base.public) ending story behind
+  pub rests : RestsAlike secret mark kept (left_by more (seats_of base story.entries)
+      (drawing keys s) story.spelt story.answers broken)
 
 -- the mark of a closing that the run wrote, under its own salt
 pub record SavesAs (salt : List ℕ) (base : Base) (mark : Mark) : Type 0 where
@@ -111,8 +113,7 @@ pub record LeavesMark (secret salt : List ℕ) (base : Base) (keys : KeySet) (en
     (story : Story) (begun new : StoreState) (held mark : Mark) : Type 0 where
   pub which : (mark ≡ held) ⊎ SavesAs salt base mark
   pub rests : IsHonest begun new
-      → FromEach base (λ s. RestsBehind (batch_most base.public) secret keys ending story mark
-      new.kept s)
+      → FromEach base (λ s. RestsBehind base secret keys ending story mark new.kept s)
 
 -- however a session ended, and whichever calls of the store and of the keeper failed, a keeper that tells holds such a mark:
 -- so it is at each moment at which a run may be killed, since that is as if each later call failed
@@ -130,9 +131,9 @@ CountsKeeper _ old new = new.faults ≡ old.faults
 -- ---- a session
 -- the keeper gave a mark from which the run could begin, and a salt; a session went on from the tables that were opened, if
 -- any were, under keys of the secret and of the salts, and nothing comes behind it
-pub record SessionSaved (settings : Option Config) (Takes : Type 0) (tracing : Bool)
-    (old new : Outside) (keeper0 keeper1 : KeeperState) (ending : KeptEnding)
-    (answers : List Answer) (report : Report) : Type 0 where
+pub record SessionSaved (settings : Option Config) (flight : Option FlightSettings)
+    (Takes : Type 0) (tracing : Bool) (old new : Outside) (keeper0 keeper1 : KeeperState)
+    (ending : KeptEnding) (answers : List Answer) (report : Report) : Type 0 where
   pub takes : Takes
   pub config : Config
   pub set : settings ≡ Some config
@@ -145,28 +146,31 @@ pub record SessionSaved (settings : Option Config) (Takes : Type 0) (tracing : B
   pub begun : KeeperState
   pub began : BeganSaved config secret salt keys tracing base old.store opened old.traced traced
       keeper0 begun
-  pub session : Headline base (λ taken. keys) Takes tracing (begun_at old opened traced) new report
+  pub session : Headline (flying flight base) (λ taken. keys) Takes tracing
+      (begun_at old opened traced) new report
   pub keyed : secret_of (first_line session.taken) ≡ Some secret
   pub is : ending ≡ Plain session.ending
   pub answered : answers ≡ session.story.answers
   pub keeper : CountsKeeper session.ending begun keeper1
   -- of a keeper that told what it held from the first on
   pub leaves : (held : Mark) → keeper0.held ≡ Some held
-      → LeavesSaved secret salt base keys session.ending session.story opened new.store
-      begun keeper1
+      → LeavesSaved secret salt (flying flight base) keys session.ending session.story opened
+      new.store begun keeper1
 
 -- one of the three
-abbrev pub RunSaved : Option Config → (Takes : Type 0) → (tracing : Bool) → (old new : Outside)
-    → (keeper0 keeper1 : KeeperState) → KeptEnding → List Answer → Report → Type 0
-RunSaved settings Takes tracing old new keeper0 keeper1 ending answers report =
-    Unkeyed settings Takes tracing old new keeper0 keeper1 ending answers report
+abbrev pub RunSaved : Option Config → Option FlightSettings → (Takes : Type 0) → (tracing : Bool)
+    → (old new : Outside) → (keeper0 keeper1 : KeeperState) → KeptEnding → List Answer → Report
+    → Type 0
+RunSaved settings flight Takes tracing old new keeper0 keeper1 ending answers report =
+    Unkeyed settings flight Takes tracing old new keeper0 keeper1 ending answers report
     ⊎ (UnbegunSaved settings Takes tracing old new keeper0 keeper1 ending answers report
-    ⊎ SessionSaved settings Takes tracing old new keeper0 keeper1 ending answers report)
+    ⊎ SessionSaved settings flight Takes tracing old new keeper0 keeper1 ending answers report)
 
--- of words that the program takes, or doesn't, and of the settings that they spell
-pub record SavedHeadline (settings : Option Config) (Takes : Type 0) (tracing : Bool)
-    (old new : Outside) (keeper0 keeper1 : KeeperState) (report : Report) : Type 0 where
+-- of words that the program takes, or doesn't, of the settings that they spell, and of how SELECTs fly then, if they do
+pub record SavedHeadline (settings : Option Config) (flight : Option FlightSettings)
+    (Takes : Type 0) (tracing : Bool) (old new : Outside) (keeper0 keeper1 : KeeperState)
+    (report : Report) : Type 0 where
   pub ending : KeptEnding
   pub status : report.status ≡ kept_status ending
   pub answers : List Answer
-  pub ran : RunSaved settings Takes tracing old new keeper0 keeper1 ending answers report
+  pub ran : RunSaved settings flight Takes tracing old new keeper0 keeper1 ending answers report

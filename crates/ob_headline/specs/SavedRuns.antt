@@ -6,23 +6,24 @@ use Rattle.ob_base.specs.Refusals.{is_store_fault}
 use Rattle.ob_base.specs.declared.access.Access.{Access}
 use Rattle.ob_base.specs.declared.config.Config.{Config}
 use Rattle.ob_base.specs.declared.mark.Mark.{Mark}
-use Rattle.ob_headline.specs.Bases.{Base, start}
+use Rattle.ob_headline.specs.Bases.{Base, flying, start}
+use Rattle.ob_headline.specs.Flights.{trace_of}
 use Rattle.ob_headline.specs.KeptHeadline.{PassesBoth, begun_at}
 use Rattle.ob_headline.specs.Meaning.{AnswersMeant}
 use Rattle.ob_headline.specs.Reruns.{SomeRun, of_saving}
 use Rattle.ob_headline.specs.SavedHeadline.{MayTake, RunSaved, SavedHeadline, SavesAs, SessionSaved}
 use Rattle.ob_headline.specs.Saving.{RestsAlike, RestsAt, begun_mark}
-use Rattle.ob_headline.specs.Settings.{IsTakenSaved, saved_settings_of}
+use Rattle.ob_headline.specs.Settings.{IsTakenSaved, flight_of, saved_settings_of}
 use Rattle.ob_headline.specs.Shown.{Shows, Wrote, number_at}
 use Rattle.ob_headline.specs.Usage.{is_traced, saved_usage}
 use Rattle.ob_headline.specs.Words.{Answer, Outside, refused_at}
 use Rattle.ob_headline.specs.declared.ending.KeptEnding.{KeptEnding}
 use Rattle.ob_headline.specs.declared.ending.Report.{Report}
+use Rattle.ob_headline.specs.declared.flight.FlightSettings.{FlightSettings}
 use Rattle.ob_mean.specs.Batches.{batch_most}
 use Rattle.ob_mean.specs.Replay.{Alone, Session, Spelt, after, after_all, is_full_now}
 use Rattle.ob_mean.specs.Verdict.{Tables}
 use Rattle.ob_reopen.specs.Keepers.{KeeperState}
-use Rattle.ob_script.specs.Trace.{trace}
 use Rattle.ob_seal.specs.KeySet.{KeySet, pair_of}
 use Rattle.ob_sql.specs.declared.stmt.Stmt.{Stmt}
 use Rattle.ob_store.specs.State.{KeptRegion, StoreState}
@@ -33,8 +34,8 @@ use Rattle.ob_verdict.specs.declared.outcome.Outcome.TheVariants.{Created, Inser
 abbrev pub SavedRun : List Text → (old new : Outside) → (keeper0 keeper1 : KeeperState) → Report
     → Type 0
 SavedRun words old new keeper0 keeper1 report =
-    SavedHeadline (saved_settings_of words) (IsTakenSaved words) (is_traced saved_usage words)
-    old new keeper0 keeper1 report
+    SavedHeadline (saved_settings_of words) (flight_of saved_usage words) (IsTakenSaved words)
+    (is_traced saved_usage words) old new keeper0 keeper1 report
 
 pub record OneSaved (words : List Text) : Type 0 where
   pub old : Outside
@@ -47,10 +48,10 @@ pub record OneSaved (words : List Text) : Type 0 where
 -- a run whose statements were served is one by the words of its program, from its base and by its keys
 abbrev pub saved_session : {words : List Text} {old new : Outside} {keeper0 keeper1 : KeeperState}
     {ending : KeptEnding} {answers : List Answer} {report : Report}
-    → SessionSaved (saved_settings_of words) (IsTakenSaved words) (is_traced saved_usage words)
-    old new keeper0 keeper1 ending answers report → SomeRun
+    → SessionSaved (saved_settings_of words) (flight_of saved_usage words) (IsTakenSaved words)
+    (is_traced saved_usage words) old new keeper0 keeper1 ending answers report → SomeRun
 saved_session {words = words} {old = old} {new = new} {report = report} run = record {
-  base = run.base;
+  base = flying (flight_of saved_usage words) run.base;
   keys = λ taken. run.keys;
   program = of_saving;
   words = words;
@@ -63,24 +64,25 @@ saved_session {words = words} {old = old} {new = new} {report = report} run = re
 
 -- ---- what is left, in whichever way a run ended
 -- the mark that is held then is the one that was held, or `Begun` in place of a fresh one, or one of the run's own
-abbrev pub MayLeave : {settings : Option Config} {Takes : Type 0} {tracing : Bool}
-    {old new : Outside} {keeper0 keeper1 : KeeperState} {ending : KeptEnding}
-    {answers : List Answer} {report : Report}
-    → RunSaved settings Takes tracing old new keeper0 keeper1 ending answers report
+abbrev pub MayLeave : {settings : Option Config} {flight : Option FlightSettings}
+    {Takes : Type 0} {tracing : Bool} {old new : Outside} {keeper0 keeper1 : KeeperState}
+    {ending : KeptEnding} {answers : List Answer} {report : Report}
+    → RunSaved settings flight Takes tracing old new keeper0 keeper1 ending answers report
     → (held mark : Mark) → Type 0
 MayLeave (inl run) held mark = mark ≡ held
 MayLeave (inr (inl run)) held mark = (mark ≡ held) ⊎ (mark ≡ begun_mark held)
-MayLeave (inr (inr run)) held mark = (mark ≡ begun_mark held) ⊎ SavesAs run.salt run.base mark
+MayLeave {flight = flight} (inr (inr run)) held mark =
+    (mark ≡ begun_mark held) ⊎ SavesAs run.salt (flying flight run.base) mark
 
 -- and what rested for it under the secret, if none was served, rests
 pub record Outlasts (secret : List ℕ) (held mark : Mark) (old new : StoreState) : Type 0 where
   pub rests : IsTrue old.tells → new.lie ≡ None → (tables : Tables)
       → RestsAt secret held old.kept tables → RestsAt secret mark new.kept tables
 
-abbrev pub StillRests : {settings : Option Config} {Takes : Type 0} {tracing : Bool}
-    {old new : Outside} {keeper0 keeper1 : KeeperState} {ending : KeptEnding}
-    {answers : List Answer} {report : Report}
-    → RunSaved settings Takes tracing old new keeper0 keeper1 ending answers report
+abbrev pub StillRests : {settings : Option Config} {flight : Option FlightSettings}
+    {Takes : Type 0} {tracing : Bool} {old new : Outside} {keeper0 keeper1 : KeeperState}
+    {ending : KeptEnding} {answers : List Answer} {report : Report}
+    → RunSaved settings flight Takes tracing old new keeper0 keeper1 ending answers report
     → (held mark : Mark) → Type 0
 StillRests {old = old} {new = new} (inl run) held mark = (secret : List ℕ)
     → Outlasts secret held mark old.store new.store
@@ -88,10 +90,10 @@ StillRests {old = old} {new = new} (inr (inl run)) held mark =
     Outlasts run.secret held mark old.store new.store
 StillRests (inr (inr run)) held mark = ⊤
 
-pub record LeavesHeld {settings : Option Config} {Takes : Type 0} {tracing : Bool}
-    {old new : Outside} {keeper0 keeper1 : KeeperState} {ending : KeptEnding}
-    {answers : List Answer} {report : Report}
-    (ran : RunSaved settings Takes tracing old new keeper0 keeper1 ending answers report)
+pub record LeavesHeld {settings : Option Config} {flight : Option FlightSettings}
+    {Takes : Type 0} {tracing : Bool} {old new : Outside} {keeper0 keeper1 : KeeperState}
+    {ending : KeptEnding} {answers : List Answer} {report : Report}
+    (ran : RunSaved settings flight Takes tracing old new keeper0 keeper1 ending answers report)
     (held : Mark) : Type 0 where
   pub mark : Mark
   pub is : keeper1.held ≡ Some mark
@@ -137,40 +139,41 @@ texts_of effects = map (λ (e : Effect). e.text) effects
 
 -- ---- what a run is, by how far it came
 -- its secret, where it was taken
-abbrev pub saved_secret : {settings : Option Config} {Takes : Type 0} {tracing : Bool}
-    {old new : Outside} {keeper0 keeper1 : KeeperState} {ending : KeptEnding}
-    {answers : List Answer} {report : Report}
-    → RunSaved settings Takes tracing old new keeper0 keeper1 ending answers report
+abbrev pub saved_secret : {settings : Option Config} {flight : Option FlightSettings}
+    {Takes : Type 0} {tracing : Bool} {old new : Outside} {keeper0 keeper1 : KeeperState}
+    {ending : KeptEnding} {answers : List Answer} {report : Report}
+    → RunSaved settings flight Takes tracing old new keeper0 keeper1 ending answers report
     → Option (List ℕ)
 saved_secret (inl run) = None
 saved_secret (inr (inl run)) = Some run.secret
 saved_secret (inr (inr run)) = Some run.secret
 
 -- its salt, where its statements were served
-abbrev pub saved_salt : {settings : Option Config} {Takes : Type 0} {tracing : Bool}
-    {old new : Outside} {keeper0 keeper1 : KeeperState} {ending : KeptEnding}
-    {answers : List Answer} {report : Report}
-    → RunSaved settings Takes tracing old new keeper0 keeper1 ending answers report
+abbrev pub saved_salt : {settings : Option Config} {flight : Option FlightSettings}
+    {Takes : Type 0} {tracing : Bool} {old new : Outside} {keeper0 keeper1 : KeeperState}
+    {ending : KeptEnding} {answers : List Answer} {report : Report}
+    → RunSaved settings flight Takes tracing old new keeper0 keeper1 ending answers report
     → Option (List ℕ)
 saved_salt (inl run) = None
 saved_salt (inr (inl run)) = None
 saved_salt (inr (inr run)) = Some run.salt
 
 -- what took effect of its texts
-abbrev pub saved_effects : {settings : Option Config} {Takes : Type 0} {tracing : Bool}
-    {old new : Outside} {keeper0 keeper1 : KeeperState} {ending : KeptEnding}
-    {answers : List Answer} {report : Report} → (more : Option (List Stmt))
-    → RunSaved settings Takes tracing old new keeper0 keeper1 ending answers report → List Effect
+abbrev pub saved_effects : {settings : Option Config} {flight : Option FlightSettings}
+    {Takes : Type 0} {tracing : Bool} {old new : Outside} {keeper0 keeper1 : KeeperState}
+    {ending : KeptEnding} {answers : List Answer} {report : Report} → (more : Option (List Stmt))
+    → RunSaved settings flight Takes tracing old new keeper0 keeper1 ending answers report
+    → List Effect
 saved_effects more (inl run) = []
 saved_effects more (inr (inl run)) = []
 saved_effects more (inr (inr run)) =
     effects_of more run.session.story.spelt run.session.story.answers
 
 -- whether one more may have, which wasn't answered, with these statements behind it
-abbrev pub MayHaveMore : {settings : Option Config} {Takes : Type 0} {tracing : Bool}
-    {old new : Outside} {keeper0 keeper1 : KeeperState} {ending : KeptEnding}
-    {answers : List Answer} {report : Report}
-    → RunSaved settings Takes tracing old new keeper0 keeper1 ending answers report
+abbrev pub MayHaveMore : {settings : Option Config} {flight : Option FlightSettings}
+    {Takes : Type 0} {tracing : Bool} {old new : Outside} {keeper0 keeper1 : KeeperState}
+    {ending : KeptEnding} {answers : List Answer} {report : Report}
+    → RunSaved settings flight Takes tracing old new keeper0 keeper1 ending answers report
     → (behind : List Stmt) → Type 0
 MayHaveMore (inl run) behind = ⊥
 MayHaveMore (inr (inl run)) behind = ⊥
@@ -178,14 +181,14 @@ MayHaveMore (inr (inr run)) behind =
     MayTake (batch_most run.base.public) run.session.ending run.session.story behind
 
 -- how many accesses its statements came to, counted on from where its numbers are
-abbrev pub saved_count : {settings : Option Config} {Takes : Type 0} {tracing : Bool}
-    {old new : Outside} {keeper0 keeper1 : KeeperState} {ending : KeptEnding}
-    {answers : List Answer} {report : Report}
-    → RunSaved settings Takes tracing old new keeper0 keeper1 ending answers report → ℕ
+abbrev pub saved_count : {settings : Option Config} {flight : Option FlightSettings}
+    {Takes : Type 0} {tracing : Bool} {old new : Outside} {keeper0 keeper1 : KeeperState}
+    {ending : KeptEnding} {answers : List Answer} {report : Report}
+    → RunSaved settings flight Takes tracing old new keeper0 keeper1 ending answers report → ℕ
 saved_count (inl run) = 0
 saved_count (inr (inl run)) = 0
-saved_count (inr (inr run)) = run.base.count
-    + length (trace run.base.public (run.session.story.seen ++ run.session.story.last))
+saved_count {flight = flight} (inr (inr run)) = run.base.count
+    + length (trace_of (flying flight run.base) run.session.story.entries)
 
 -- ---- runs that answer as one
 -- its secret is this one, if it took one, the store tells what it holds and gave what was written, and no statement came so
@@ -293,10 +296,10 @@ pub record SealsOne (base : Base) (keys : KeySet) (asked : List Access) (positio
   pub numbered : number ≡ number_at base.start asked position
 
 -- a run writes nothing before its first statement
-abbrev pub Seals : {settings : Option Config} {Takes : Type 0} {tracing : Bool}
-    {old new : Outside} {keeper0 keeper1 : KeeperState} {ending : KeptEnding}
-    {answers : List Answer} {report : Report}
-    → RunSaved settings Takes tracing old new keeper0 keeper1 ending answers report
+abbrev pub Seals : {settings : Option Config} {flight : Option FlightSettings}
+    {Takes : Type 0} {tracing : Bool} {old new : Outside} {keeper0 keeper1 : KeeperState}
+    {ending : KeptEnding} {answers : List Answer} {report : Report}
+    → RunSaved settings flight Takes tracing old new keeper0 keeper1 ending answers report
     → (position : ℕ) → (salt : Option (List ℕ)) → (number : ℕ) → Type 0
 Seals (inl run) position salt number = ⊥
 Seals (inr (inl run)) position salt number = ⊥
@@ -305,10 +308,10 @@ Seals {new = new} (inr (inr run)) position salt number =
 
 -- each write goes to a region that the run made, whose keys are those of its own salt; and over a store that tells each block
 -- that lies in such a region once it ended is sealed by one of them
-pub record WritesAlone {settings : Option Config} {Takes : Type 0} {tracing : Bool}
-    {old new : Outside} {keeper0 keeper1 : KeeperState} {ending : KeptEnding}
-    {answers : List Answer} {report : Report}
-    (run : SessionSaved settings Takes tracing old new keeper0 keeper1 ending answers report)
+pub record WritesAlone {settings : Option Config} {flight : Option FlightSettings}
+    {Takes : Type 0} {tracing : Bool} {old new : Outside} {keeper0 keeper1 : KeeperState}
+    {ending : KeptEnding} {answers : List Answer} {report : Report}
+    (run : SessionSaved settings flight Takes tracing old new keeper0 keeper1 ending answers report)
     : Type 0 where
   pub own : (position region place : ℕ) → Wrote new.store.asked position region place
       → run.base.start.region < region
@@ -317,10 +320,10 @@ pub record WritesAlone {settings : Option Config} {Takes : Type 0} {tracing : Bo
   pub shown : IsTrue run.opened.tells → Shows (PassesBoth run.base.public.pack) run.keys
       run.base.start run.opened new.store
 
-abbrev pub SealsAlone : {settings : Option Config} {Takes : Type 0} {tracing : Bool}
-    {old new : Outside} {keeper0 keeper1 : KeeperState} {ending : KeptEnding}
-    {answers : List Answer} {report : Report}
-    → RunSaved settings Takes tracing old new keeper0 keeper1 ending answers report → Type 0
+abbrev pub SealsAlone : {settings : Option Config} {flight : Option FlightSettings}
+    {Takes : Type 0} {tracing : Bool} {old new : Outside} {keeper0 keeper1 : KeeperState}
+    {ending : KeptEnding} {answers : List Answer} {report : Report}
+    → RunSaved settings flight Takes tracing old new keeper0 keeper1 ending answers report → Type 0
 SealsAlone (inl run) = ⊤
 SealsAlone (inr (inl run)) = ⊤
 SealsAlone (inr (inr run)) = WritesAlone run

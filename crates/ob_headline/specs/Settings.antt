@@ -1,11 +1,12 @@
 -- The settings of a run that the words of its command line spell.
-use Rattle.std.specs.Prelude.{ℕ, ◌≡◌, ◌+◌, ◌*◌, ◌&&◌, nat_le, Bool, true, false, List, Option, Some, None, IsSome, option_map, codes, bytes_eq, if◌then◌else◌}
+use Rattle.std.specs.Prelude.{ℕ, ◌≡◌, ◌+◌, ◌*◌, ◌&&◌, nat_le, Bool, true, false, List, Option, Some, None, IsSome, option_and_then, option_map, codes, bytes_eq, if◌then◌else◌}
 use Rattle.clap.specs.Words.{App, Text}
 use Rattle.ob_base.specs.declared.config.Config.{Config}
 use Rattle.ob_base.specs.declared.config.Plan.TheVariants.{Small, Large, Continuous, Hash}
 use Rattle.ob_base.specs.declared.config.Planner.{Planner}
 use Rattle.ob_base.specs.declared.config.Planner.TheVariants.{Auto, Cheapest, Forced}
 use Rattle.ob_headline.specs.Usage.{Parses, changes_of, is_set, meddle_usage, saved_usage, value_of}
+use Rattle.ob_headline.specs.declared.flight.FlightSettings.{FlightSettings}
 use Rattle.ob_headline.specs.declared.seed.Seed.{Seed}
 use Rattle.ob_meddle.specs.Changes.{comma, front, number, rest, wide}
 use Rattle.ob_meddle.specs.declared.meddle.Meddle.{Meddle}
@@ -161,17 +162,69 @@ seed_in (Some text) = option_map Some (seed_of text)
 abbrev pub generated_by : App → List Text → Option (Option Seed)
 generated_by app words = seed_in (value_of app words (codes "gen"))
 
--- the command takes these words, where tables may be saved, and they spell these settings, and what is generated
+-- ---- SELECTs that fly
+-- at most so many at once, by turns from a start
+abbrev pub flight_from : (most start : Option ℕ) → Option FlightSettings
+flight_from None start = None
+flight_from (Some most) None = None
+flight_from (Some most) (Some start) = Some (record { most = most; start = start })
+
+-- below 2^64
+abbrev pub start_of : Option Text → Option ℕ
+start_of None = None
+start_of (Some text) = wide text
+
+-- `M,X`: at most so many, from 2 to 8, and a start, both in decimal, without a sign and without leading zeros
+abbrev pub flight_spelt : Text → Option FlightSettings
+flight_spelt text =
+    flight_from (at_least 2 (number 8 (front comma text))) (start_of (rest comma text))
+
+-- none fly where no value is given; none at all where it has another form
+abbrev pub flight_in : Option Text → Option (Option FlightSettings)
+flight_in None = Some None
+flight_in (Some text) = option_map Some (flight_spelt text)
+
+abbrev pub flight_by : App → List Text → Option (Option FlightSettings)
+flight_by app words = flight_in (value_of app words (codes "flight"))
+
+-- how they fly that these words spell, if they do
+abbrev pub flight_of : App → List Text → Option FlightSettings
+flight_of app words =
+    option_and_then (λ (flight : Option FlightSettings). flight) (flight_by app words)
+
+-- no INSERTs are served together where SELECTs fly, and no plan is forced but Small
+abbrev pub flight_goes : (flight : Option FlightSettings) → (batch : Option ℕ) → Planner → Bool
+flight_goes None batch planner = true
+flight_goes (Some flight) (Some most) planner = false
+flight_goes (Some flight) None Auto = true
+flight_goes (Some flight) None Cheapest = true
+flight_goes (Some flight) None (Forced Small) = true
+flight_goes (Some flight) None (Forced Large) = false
+flight_goes (Some flight) None (Forced Continuous) = false
+flight_goes (Some flight) None (Forced Hash) = false
+
+-- how they fly beside these settings; none at all where the value has another form, or doesn't go with them
+abbrev pub flight_beside : Config → Option (Option FlightSettings) → Option (Option FlightSettings)
+flight_beside config None = None
+flight_beside config (Some flight) =
+    if flight_goes flight config.batch config.planner then Some flight else None
+
+-- ---- words that are taken
+-- the command takes these words, where tables may be saved, and they spell these settings, what is generated, and how SELECTs
+-- fly beside that
 pub record ParsesSaved (words : List Text) (config : Config) : Type 0 where
   pub parses : Parses saved_usage words
   pub settings : saved_settings_of words ≡ Some config
   pub generated : IsSome (generated_by saved_usage words)
+  pub flies : IsSome (flight_beside config (flight_by saved_usage words))
 
--- the command takes these words, and they spell these settings, and what is generated, if something is
+-- the command takes these words, and they spell these settings, what is generated, if something is, and how SELECTs fly
+-- beside that, if they do
 pub record ParsesAs (app : App) (words : List Text) (config : Config) : Type 0 where
   pub parses : Parses app words
   pub settings : settings_of app words ≡ Some config
   pub generated : IsSome (generated_by app words)
+  pub flies : IsSome (flight_beside config (flight_by app words))
 
 -- the words are those of a program
 abbrev pub IsTaken : App → List Text → Type 0

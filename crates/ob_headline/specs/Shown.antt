@@ -12,16 +12,18 @@ use Rattle.ob_base.specs.declared.config.Public.{Public}
 use Rattle.ob_base.specs.declared.schema.Shape.TheVariants.{Indexed}
 use Rattle.ob_base.specs.declared.schema.Table.{Table}
 use Rattle.ob_headline.specs.Bases.{Base}
+use Rattle.ob_headline.specs.Flights.{public_after, trace_of}
 use Rattle.ob_headline.specs.KeptHeadline.{PassesBoth, RunKept}
-use Rattle.ob_headline.specs.Reruns.{GoOnFromOne, SomeRun, asked_by, keys_by, seen_by}
+use Rattle.ob_headline.specs.Reruns.{GoOnFromOne, SomeRun, asked_by, keys_by}
 use Rattle.ob_headline.specs.Words.{Answer, Begins, Outside}
 use Rattle.ob_headline.specs.Sealing.{PassesHere}
 use Rattle.ob_headline.specs.declared.ending.KeptEnding.{KeptEnding}
 use Rattle.ob_headline.specs.declared.ending.Report.{Report}
+use Rattle.ob_headline.specs.declared.flight.FlightSettings.{FlightSettings}
 use Rattle.ob_mean.specs.Replay.{is_access}
 use Rattle.ob_reopen.specs.Keepers.{KeeperState}
 use Rattle.ob_script.specs.Script.{script}
-use Rattle.ob_script.specs.Trace.{Served, after_all, next, trace}
+use Rattle.ob_script.specs.Trace.{Served, next}
 use Rattle.ob_seal.specs.KeySet.{KeySet}
 use Rattle.ob_seal.specs.Sealed.{keys_of, sealed}
 use Rattle.ob_store.specs.State.{StoreState}
@@ -140,15 +142,15 @@ pub record ShowsBetween (one : SomeRun) (between : StoreState) : Type 0 where
       → LivesOn between one.new.store region → between.last region place ≡ Some block
       → IsLeft one between region place → IsShownIn one between region place block
 
--- the accesses of the first k statements, behind what the run begins with, and what is public behind them
+-- the accesses of the first k entries, which are statements that are served alone, and flights, behind what the run begins
+-- with, and what is public behind them
 abbrev pub asked_behind : SomeRun → (k : ℕ) → List Access
-asked_behind one k = one.base.before ++ trace one.base.public (take k (seen_by one))
+asked_behind one k = one.base.before ++ trace_of one.base (take k one.run.story.entries)
 
 abbrev pub public_behind : SomeRun → (k : ℕ) → Public
-public_behind one k = after_all one.base.public (take k (seen_by one))
+public_behind one k = public_after one.base (take k one.run.story.entries)
 
--- behind the first k statements each one is of a region that was made by then, is no index's and lives on to the end of
--- the run
+-- behind the first k of them each one is of a region that was made by then, is no index's and lives on to the end of the run
 pub record ShowsBehind (one : SomeRun) (k : ℕ) (between : StoreState) : Type 0 where
   pub each : (region place : ℕ) (block : List ℕ) → one.base.start.region < region
       → region < (public_behind one k).next_region
@@ -157,10 +159,10 @@ pub record ShowsBehind (one : SomeRun) (k : ℕ) (between : StoreState) : Type 0
 
 -- ---- a run with `--keep`
 -- once it ended, each block of a live region that its statements or its closing made is shown
-abbrev pub ShowsKept : {settings : Option Config} {Takes : Type 0} {tracing : Bool}
-    {old new : Outside} {keeper0 keeper1 : KeeperState} {ending : KeptEnding}
-    {answers : List Answer} {report : Report}
-    → RunKept settings Takes tracing old new keeper0 keeper1 ending answers report → Type 0
+abbrev pub ShowsKept : {settings : Option Config} {flight : Option FlightSettings}
+    {Takes : Type 0} {tracing : Bool} {old new : Outside} {keeper0 keeper1 : KeeperState}
+    {ending : KeptEnding} {answers : List Answer} {report : Report}
+    → RunKept settings flight Takes tracing old new keeper0 keeper1 ending answers report → Type 0
 ShowsKept (inl run) = ⊤
 ShowsKept (inr (inl run)) = ⊤
 ShowsKept {new = new} (inr (inr run)) = IsTrue run.opened.tells

@@ -1,5 +1,5 @@
 -- The statements that texts spell.
-use Rattle.std.specs.Prelude.{ℕ, ⊤, List, [], ◌∷◌, Result, Ok, Err, ◌≡◌, ◌≤◌, ◌+◌, ◌⊎◌, ◌++◌, length, IsSome, Option}
+use Rattle.std.specs.Prelude.{ℕ, ⊤, List, [], ◌∷◌, Result, Ok, Err, ◌≡◌, ◌≤◌, ◌+◌, ◌⊎◌, ◌++◌, length, max, IsSome, Option}
 use Rattle.ob_mean.specs.Replay.{Spelt}
 use Rattle.ob_parse.specs.Refusal.{RefusedAt}
 use Rattle.ob_parse.specs.Statements.{Statement}
@@ -24,10 +24,11 @@ statements [] = []
 statements (Ok stmt ∷ spelt) = stmt ∷ statements spelt
 statements (Err at ∷ spelt) = statements spelt
 
--- the texts that were answered, and at most one that was begun, spell them; without a secret there are none
+-- the texts that were answered, and at most one that was begun, or as many statements as were, spell them; without a secret
+-- there are none
 pub record Statements (secret : Option (List ℕ)) (story : Story) : Type 0 where
   pub spells : SpellFirst (story.served ++ story.more) story.spelt
   pub reached : length story.served ≤ length story.spelt
-  pub begun : length story.spelt ≤ length story.served + 1
+  pub begun : length story.spelt ≤ length story.served + max 1 (length story.last)
   pub keyed : IsSome secret ⊎ (story.spelt ≡ [])
   pub each : length story.answers ≡ length story.served

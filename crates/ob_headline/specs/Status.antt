@@ -5,6 +5,7 @@ use Rattle.ob_base.specs.declared.access.Access.{Access}
 use Rattle.ob_base.specs.declared.access.Access.TheVariants.{Read}
 use Rattle.ob_base.specs.declared.refusal.Stop.TheVariants.{Tampered, SourceFault, SinkFault, NoMemory, InputLimit, StoreFault, StashFull, KeeperFault}
 use Rattle.ob_headline.specs.Bases.{Base, FromEach}
+use Rattle.ob_headline.specs.Flights.{FliesNone}
 use Rattle.ob_headline.specs.KeyLine.{LineTaken, after_line, first_line, has_lf, line_max, secret_of}
 use Rattle.ob_headline.specs.Texts.{is_over, rest_of as pending_of}
 use Rattle.ob_headline.specs.declared.ending.Ending.{Ending}
@@ -68,11 +69,11 @@ StoreFails base old new = Rises old.faults new.faults ⊎ IsUsedUp base new
 abbrev pub StaysAlone : (Alone : Type 0) → (old new : ℕ) → Type 0
 StaysAlone Alone old new = (Alone → new ≡ old) × ((new ≡ old) ⊎ Rises old new)
 
--- the source didn't fail; where INSERTs may wait to be served together while more is read, it may have, before one of them was
--- stopped
+-- the source didn't fail; where statements may wait to be served together while more is read, it may have, before one of them
+-- was stopped
 abbrev pub SourceStays : Base → (old new : Outside) → Type 0
 SourceStays base old new =
-    StaysAlone (base.public.batch ≡ None) old.faults.source new.faults.source
+    StaysAlone ((base.public.batch ≡ None) × FliesNone base) old.faults.source new.faults.source
 
 -- of the words, the bytes taken, what was served, the store and the counts of faults; a keeper is handed something only where
 -- tables are saved

@@ -22,13 +22,14 @@ nameless a = record a { top = record a.top { no_binary_name = true } }
 abbrev pub common : Text → App
 common name =
     with_rule (with_rule (with_rule (with_rule (with_rule (with_rule (with_rule (with_rule (with_rule
-    (with_rule (new_app name) (flag (codes "trace"))) (valued (codes "buffer")))
+    (with_rule (with_rule (new_app name) (flag (codes "trace"))) (valued (codes "buffer")))
     (valued (codes "depth")))
     (valued (codes "plan")))
     (valued (codes "pack")))
     (valued (codes "pad")))
     (valued (codes "stash")))
     (valued (codes "batch")))
+    (valued (codes "flight")))
     (valued (codes "max-input")))
     (valued (codes "gen"))
 

@@ -1,34 +1,36 @@
 //! What follows of whole runs, and how bytes are cut into texts.
-ghost use Rattle.std.specs.Prelude.{◌≡◌, ◌<◌, Bool, List, [], ℕ, IsSome, IsTrue, None, Option, Some, false, true, length, slice_get};
+ghost use Rattle.std.specs.Prelude.{◌≡◌, ◌<◌, ◌≤◌, Bool, List, [], ℕ, IsSome, IsTrue, None, Option, Some, false, true, length, slice_get};
 ghost use Rattle.clap.specs.Words.{App, Text};
 ghost use Rattle.ob_base.specs.declared.config.Config.{Config};
 ghost use Rattle.ob_base.specs.declared.config.Public.{Public};
 ghost use Rattle.ob_base.specs.declared.mark.Mark.{Mark};
 ghost use Rattle.ob_base.specs.declared.mark.Mark.TheVariants.{Fresh};
 ghost use Rattle.ob_base.specs.declared.seen.Seen.{Seen};
-ghost use Rattle.ob_headline.specs.Bases.{Base, FromEach, drawing, fresh};
+ghost use Rattle.ob_headline.specs.Bases.{Base, FromEach, drawing, flying, fresh};
 ghost use Rattle.ob_headline.specs.Batches.{Joins};
 ghost use Rattle.ob_headline.specs.Headline.{Headline};
 ghost use Rattle.ob_headline.specs.Keeping.{BeginsFrom};
 ghost use Rattle.ob_headline.specs.Leaves.{ReadsDraws};
 ghost use Rattle.ob_headline.specs.KeptMarks.{HeldAfter, KeptRun};
 ghost use Rattle.ob_headline.specs.KeptRuns.{AnswerAsOne, AnyRun, AreChained, GoOn, NumberOn, OneRun};
+ghost use Rattle.ob_headline.specs.OneByOne.{OneByOne};
 ghost use Rattle.ob_headline.specs.Pieces.{BeginsWith};
 ghost use Rattle.ob_headline.specs.Plainly.{IsUnhindered, RunsPlainly};
 ghost use Rattle.ob_headline.specs.Reruns.{Alike, AlikeSoFar, AsksAsShown, AsksByKinds, EndsWell, GoOnFromOne, IsPlain};
-ghost use Rattle.ob_headline.specs.Reruns.{OneBegins, ShowAlike, SomeRun, any_counted, asked_by, failures_of, keys_by, plainly};
-ghost use Rattle.ob_headline.specs.Reruns.{seen_by, turns_of};
+ghost use Rattle.ob_headline.specs.Reruns.{OneBegins, ServesAlone, ShowAlike, ShowTheSame, SomeRun, any_counted, asked_by, failures_of};
+ghost use Rattle.ob_headline.specs.Reruns.{keys_by, plainly, seats_by, seen_by, stated_of};
 ghost use Rattle.ob_headline.specs.SavedRuns.{AnswerInOne, AnySaved, GoOnSaved, HaveOwnSalts, LeavesHeld, OneSaved};
 ghost use Rattle.ob_headline.specs.SavedRuns.{SavedRun, Seals, SealsAlone};
 ghost use Rattle.ob_headline.specs.Saving.{BeginsSaved};
-ghost use Rattle.ob_headline.specs.Settings.{IsTaken, IsTakenSaved, MeddleParses};
+ghost use Rattle.ob_headline.specs.Settings.{IsTaken, IsTakenSaved, MeddleParses, flight_of};
 ghost use Rattle.ob_headline.specs.Shown.{AskedTheSame, IsBegun, IsBetween, OfIndex, ShowNumbersAlike, ShowsBehind};
 ghost use Rattle.ob_headline.specs.Shown.{ShowsBetween, ShowsKept, ShowsSealed, WriteOwn, Wrote, asked_behind};
 ghost use Rattle.ob_headline.specs.Shown.{public_behind};
 ghost use Rattle.ob_headline.specs.Texts.{is_over, rest_of, texts_of};
-ghost use Rattle.ob_headline.specs.Usage.{is_kept, is_saved};
+ghost use Rattle.ob_headline.specs.Usage.{is_kept, is_saved, kept_usage, saved_usage};
 ghost use Rattle.ob_headline.specs.Words.{Outside};
 ghost use Rattle.ob_headline.specs.declared.ending.Report.{Report};
+ghost use Rattle.ob_headline.specs.declared.flight.FlightSettings.{FlightSettings};
 ghost use Rattle.ob_mean.specs.Batches.{Gathering, is_cut};
 ghost use Rattle.ob_mean.specs.Lawful.{Lawful};
 ghost use Rattle.ob_reopen.specs.Keepers.{KeeperState};
@@ -48,9 +50,9 @@ pub fn texts_are_pieces()
 
 /// Of a statement that was not cut off, accesses no index, and is no SELECT of rows or has its result padded, nothing is
 /// seen but whether it was refused before any access: of CREATE, INSERT, UPDATE, DELETE, DROP and SELECT of totals no row
-/// and no literal has a part in it, and of a padded SELECT of rows neither has the number of rows selected. Where INSERTs are
-/// served together, it is seen, too, whether it was served with one before it, which follows from what is gathered before it,
-/// its skeleton and that refusal.
+/// and no literal has a part in it, and of a padded SELECT of rows neither has the number of rows selected. Where INSERTs
+/// are served together, it is seen, too, whether it was served with one before it, which follows from what is gathered
+/// before it, its skeleton and that refusal.
 pub fn shows_its_refusal_alone()
     ensures alone { (p : Public) (m : ℕ) (stmt : Stmt) (here : Seen) → p.batch ≡ None
         → Lawful p m stmt here → IsPlain p stmt → is_cut here.end ≡ false
@@ -60,49 +62,67 @@ pub fn shows_its_refusal_alone()
         → is_cut here.end ≡ false → here ≡ plainly p m g stmt }
 {}
 
-/// However a run ends and whatever the store does, as long as no text was answered that the store failed, its accesses are
-/// a first part of one list, which follows from the settings, the skeletons of the statements, which of these were refused
-/// before any access, and what is seen of those that access an index and of SELECTs of rows whose results aren't padded: by
-/// the words of any program, from no tables or from those of an earlier run. Where INSERTs are served together, it follows,
-/// too, from which statements come right behind a text that is none, and so go into no batch with those before.
+/// However a run ends and whatever the store does, as long as none of its statements flies and no text was answered that
+/// the store failed, its accesses are a first part of one list, which follows from the settings, the skeletons of the
+/// statements, which of these were refused before any access, and what is seen of those that access an index and of SELECTs
+/// of rows whose results aren't padded: by the words of any program, from no tables or from those of an earlier run. Where
+/// INSERTs are served together, it follows, too, from which statements come right behind a text that is none, and so go
+/// into no batch with those before.
 pub fn asks_as_shown()
-    ensures { (one : SomeRun) → failures_of one ≡ 0 → AsksAsShown one }
+    ensures { (one : SomeRun) → ServesAlone one → failures_of one ≡ 0 → AsksAsShown one }
 {}
 
 /// So of two such runs that go on from the same, whose statements show the same as far as both go, one asks a first part of
 /// what the other asks, over any stores, however they end, and whatever their literals and their rows.
 pub fn one_asks_a_first_part()
-    ensures { (a b : SomeRun) → GoOnFromOne a b → failures_of a ≡ 0 → failures_of b ≡ 0
-        → AlikeSoFar a.base.public a.base.count None None (turns_of a) (seen_by a) (turns_of b)
+    ensures { (a b : SomeRun) → ServesAlone a → ServesAlone b → GoOnFromOne a b
+        → failures_of a ≡ 0 → failures_of b ≡ 0
+        → AlikeSoFar a.base.public a.base.count None None (stated_of a) (seen_by a) (stated_of b)
         (seen_by b)
         → OneBegins (asked_by a) (asked_by b) }
 {}
 
-/// In any run, over any store and however it ends, the leaves of indexes that are read are those of draws, which are made of
-/// the secret, and no draw is read twice, whatever the statements, their values and their rows.
+/// In any run, over any store and however it ends, the leaves of indexes that are read are those of draws, which are made
+/// of the secret, and no draw is read twice, whatever the statements, their values and their rows.
 pub fn leaves_are_draws()
     ensures { (one : SomeRun)
-        → ReadsDraws (draw_of (keys_by one)) one.base.public (seen_by one) }
+        → ReadsDraws (draw_of (keys_by one)) (seats_by one) (seen_by one) }
 {}
 
-/// Over a store that tells what it holds, gave what was written and failed at no statement, a run whose words are taken,
-/// whose input keeps to the limits, and whose source and sinks don't fail, is the run of the plain machine, unless it ends
-/// for want of memory: each text of its input is answered as SQL answers it over plain tables, from none or from those that
-/// rested, it printed these answers, asked and traced what they ask by their meaning, and has their status.
+/// Two runs that go on from the same, over any stores, that came to their end, ask the same where the same is seen of their
+/// statements, also where SELECTs fly, alike in both: which ones fly together follows from what is seen and from which come
+/// right behind a text that is none.
+pub fn flown_runs_ask_the_same()
+    ensures { (a b : SomeRun) → GoOnFromOne a b → a.report.status ≤ 1 → b.report.status ≤ 1
+        → ShowTheSame a b → asked_by a ≡ asked_by b }
+{}
+
+/// A run of which no statement flies, as none does without `--flight`, serves them one by one: one text at most was begun, what
+/// they ask follows from what is public and what is seen of each, one after the other, and without batches each text was
+/// answered before more was read.
+pub fn unflown_runs_go_one_by_one()
+    ensures { (one : SomeRun) → ServesAlone one → OneByOne one }
+{}
+
+/// Over a store that tells what it holds, gave what was written and failed at no statement, a run whose words are taken, of
+/// which no statement flies, whose input keeps to the limits, and whose source and sinks don't fail, is the run of the
+/// plain machine, unless it ends for want of memory: each text of its input is answered as SQL answers it over plain
+/// tables, from none or from those that rested, it printed these answers, asked and traced what they ask by their meaning,
+/// and has their status.
 pub fn unhindered_runs_are_plain()
-    ensures { (one : SomeRun) (input : List ℕ) → IsUnhindered one input
+    ensures { (one : SomeRun) (input : List ℕ) → ServesAlone one → IsUnhindered one input
         → FromEach one.base (λ s. RunsPlainly one input (drawing (keys_by one) s)) }
 {}
 
-/// Two runs that go on from the same, over any stores, that came to their end, and of which no text was answered that the
-/// store failed, ask the same, whatever their literals and their rows: if none of their statements is a SELECT of rows,
-/// none accesses an index, their skeletons are the same, the same ones are refused before any access, and, where INSERTs are
-/// served together, the same ones come right behind a text that is none.
+/// Two runs that go on from the same, over any stores, that came to their end, of which no statement flies, and no text was
+/// answered that the store failed, ask the same, whatever their literals and their rows: if none of their statements is a
+/// SELECT of rows, none accesses an index, their skeletons are the same, the same ones are refused before any access, and,
+/// where INSERTs are served together, the same ones come right behind a text that is none.
 pub fn reruns_ask_the_same()
-    ensures { (a b : SomeRun) → GoOnFromOne a b
+    ensures { (a b : SomeRun) → ServesAlone a → ServesAlone b → GoOnFromOne a b
         → EndsWell a.report.status (failures_of a) → EndsWell b.report.status (failures_of b)
-        → any_counted (turns_of a) ≡ false
-        → Alike a.base.public a.base.count None (turns_of a) (turns_of b)
+        → any_counted (stated_of a) ≡ false
+        → Alike a.base.public a.base.count None (stated_of a) (stated_of b)
         → asked_by a ≡ asked_by b }
 {}
 
@@ -110,19 +130,19 @@ pub fn reruns_ask_the_same()
 /// are selected: if none of their statements accesses an index, their skeletons are the same, the same ones are refused
 /// before any access, and, where INSERTs are served together, the same ones come right behind a text that is none.
 pub fn padded_reruns_ask_the_same()
-    ensures { (a b : SomeRun) → GoOnFromOne a b
+    ensures { (a b : SomeRun) → ServesAlone a → ServesAlone b → GoOnFromOne a b
         → EndsWell a.report.status (failures_of a) → EndsWell b.report.status (failures_of b)
         → IsSome a.base.public.pad
-        → Alike a.base.public a.base.count None (turns_of a) (turns_of b)
+        → Alike a.base.public a.base.count None (stated_of a) (stated_of b)
         → asked_by a ≡ asked_by b }
 {}
 
 /// The same over the whole language, where the same is seen of each statement that accesses an index, and of each SELECT of
 /// rows that isn't padded: then of all statements the same is seen, and the runs ask the same.
 pub fn reruns_show_the_same()
-    ensures { (a b : SomeRun) → GoOnFromOne a b
+    ensures { (a b : SomeRun) → ServesAlone a → ServesAlone b → GoOnFromOne a b
         → EndsWell a.report.status (failures_of a) → EndsWell b.report.status (failures_of b)
-        → ShowAlike a.base.public a.base.count (turns_of a) (seen_by a) (turns_of b) (seen_by b)
+        → ShowAlike a.base.public a.base.count (stated_of a) (seen_by a) (stated_of b) (seen_by b)
         → (seen_by a ≡ seen_by b) × (asked_by a ≡ asked_by b) }
 {}
 
@@ -135,12 +155,12 @@ pub fn marks_are_held()
         (held : Mark) → keeper0.held ≡ Some held → HeldAfter run.ran held }
 {}
 
-/// Runs with one secret and the same words, `--keep` among them, that came to their end, the first over a fresh mark and
-/// each later one over the mark and the store that the one before it left, where that tells, gave what was written and
-/// failed at no statement: together they answer as one run does over all their texts, in which the same INSERTs are served
-/// together. Only that so many accesses were asked that a statement is refused for it may come at another place.
+/// Runs with one secret and the same words, `--keep` among them and `--flight` not, that came to their end, the first over
+/// a fresh mark and each later one over the mark and the store that the one before it left, where that tells, gave what was
+/// written and failed at no statement: together they answer as one run does over all their texts, in which the same INSERTs
+/// are served together. Only that so many accesses were asked that a statement is refused for it may come at another place.
 pub fn runs_answer_as_one()
-    ensures { (words : List Text) → is_kept words ≡ true
+    ensures { (words : List Text) → is_kept words ≡ true → flight_of kept_usage words ≡ None
         → (secret : List ℕ) (kept : ℕ → Option KeptRegion) (runs : List (OneRun words))
         → GoOn secret (Some Fresh) kept runs → AnswerAsOne secret runs }
 {}
@@ -152,10 +172,10 @@ pub fn numbers_go_on()
     ensures { (runs : List AnyRun) → AreChained (Some Fresh) runs → NumberOn 0 runs }
 {}
 
-/// Whatever a store answers and however a run ends, where no text was answered that the store failed, and each statement
-/// accesses no index, and is no SELECT of rows or has its result padded, it asks a first part of what follows from the
-/// skeletons of its statements, and from which are refused before any access, alone: from no tables or from those of an
-/// earlier run, by the words of any program, with `--meddle` among them or without.
+/// Whatever a store answers and however a run ends, where no statement flies, no text was answered that the store failed,
+/// and each statement accesses no index, and is no SELECT of rows or has its result padded, it asks a first part of what
+/// follows from the skeletons of its statements, and from which are refused before any access, alone: from no tables or
+/// from those of an earlier run, by the words of any program, with `--meddle` among them or without.
 pub fn asks_by_kinds()
     ensures taken { (base : Base) (keys : List ℕ → KeySet) (app : App) (words : List Text)
         (tracing : Bool) (old new : Outside) (report : Report)
@@ -168,11 +188,12 @@ pub fn asks_by_kinds()
         (run : Headline base keys (IsTakenSaved words) tracing old new report) → AsksByKinds run }
 {}
 
-/// Each statement of a run that accesses no index writes to the regions that it makes, and to no other, and one that
-/// accesses an index to regions of an index, whatever the store does and however the run ends: behind a statement nothing is
-/// written to a region that was made by then and is no index's.
+/// Where none flies, each statement of a run that accesses no index writes to the regions that it makes, and to no other,
+/// and one that accesses an index to regions of an index. In any run, behind a statement, or behind the flight that it was
+/// in, nothing is written to a region that was made by then and is no index's. So it is whatever the store does and however
+/// the run ends.
 pub fn statements_write_their_own()
-    ensures own { (one : SomeRun) → WriteOwn one.base.public (seen_by one) }
+    ensures own { (one : SomeRun) → ServesAlone one → WriteOwn one.base.public (seen_by one) }
     ensures behind { (one : SomeRun) (k i region place : ℕ)
         → region < (public_behind one k).next_region
         → (OfIndex (public_behind one k).tables region → ⊥) → Wrote (asked_by one) i region place
@@ -182,8 +203,8 @@ pub fn statements_write_their_own()
 /// Over a store that tells what it holds, however a run ends, each block that lies in a live region that the run made is
 /// sealed for its place, under a number that is that of a write to it, and of no other write, of this run or of an earlier
 /// one. So it is at the end; behind any of the accesses, if the region is live to the end, where the place isn't written
-/// again; and so, behind each statement, of all blocks of the regions that were made by then, are no index's, and are live
-/// to the end.
+/// again; and so, behind each statement, or behind the flight that it was in, of all blocks of the regions that were made
+/// by then, are no index's, and are live to the end.
 pub fn blocks_are_sealed_alone()
     ensures ends { (one : SomeRun) → IsBegun one.base → ShowsSealed one }
     ensures between { (one : SomeRun) → IsBegun one.base → IsTrue one.old.store.tells
@@ -193,7 +214,8 @@ pub fn blocks_are_sealed_alone()
         → (k : ℕ) → between.asked ≡ asked_behind one k → ShowsBehind one k between }
 {}
 
-/// What the statements of a run go on from is as the laws of blocks ask: no tables, or those of a closing that was opened.
+/// What the statements of a run go on from is as the laws of blocks ask: no tables, or those of a closing that was opened,
+/// and however SELECTs fly.
 pub fn runs_begin_behind_earlier_ones()
     ensures fresh { (settings : Option Config) → IsBegun (fresh settings) }
     ensures kept { (mark : Mark) (config : Config) (keys : KeySet) (base : Base)
@@ -201,6 +223,8 @@ pub fn runs_begin_behind_earlier_ones()
     ensures saved { (mark : Mark) (config : Config) (secret salt : List ℕ) (keys : KeySet)
         (base : Base) (old new : StoreState)
         → BeginsSaved mark config secret salt keys base old new → IsBegun base }
+    ensures flown { (flight : Option FlightSettings) (base : Base) → IsBegun base
+        → IsBegun (flying flight base) }
 {}
 
 /// So it is once a run with `--keep` ended, over a store that tells: of the blocks of its statements and of its closing.
@@ -226,14 +250,14 @@ pub fn saved_marks_are_held()
         (held : Mark) → keeper0.held ≡ Some held → LeavesHeld run.ran held }
 {}
 
-/// Runs with the same words, `--save` among them, and of one secret, each ended in any way, the first over a fresh mark
-/// and each later one over the mark and the regions that the one before it left, where the store tells and gave what was
-/// written: they answer as one run does over the texts that took effect, which are those that were answered otherwise
-/// than that the store had failed, and for each run maybe one more, with INSERTs behind it that are served together with it,
-/// and what rests then is what that run leaves. Only that so many accesses were asked that a statement is refused for it may
-/// come at another place.
+/// Runs with the same words, `--save` among them and `--flight` not, and of one secret, each ended in any way, the first
+/// over a fresh mark and each later one over the mark and the regions that the one before it left, where the store tells
+/// and gave what was written: they answer as one run does over the texts that took effect, which are those that were
+/// answered otherwise than that the store had failed, and for each run maybe one more, with INSERTs behind it that are
+/// served together with it, and what rests then is what that run leaves. Only that so many accesses were asked that a
+/// statement is refused for it may come at another place.
 pub fn saved_runs_answer_as_one()
-    ensures { (words : List Text) → is_saved words ≡ true
+    ensures { (words : List Text) → is_saved words ≡ true → flight_of saved_usage words ≡ None
         → (secret : List ℕ) (kept : ℕ → Option KeptRegion) (runs : List (OneSaved words))
         → GoOnSaved secret (Some Fresh) kept runs → AnswerInOne secret (Some Fresh) kept runs }
 {}

@@ -2,16 +2,19 @@
 #![tactic(auto)]
 
 mod ending;
+mod flight;
 mod laws;
 mod seed;
 
 pub use ending::{Ending, KeptEnding, Report};
+pub use flight::FlightSettings;
 pub use laws::{
     asks_as_shown, asks_by_kinds, blocks_are_numbered_alike, blocks_are_sealed_alone,
-    kept_blocks_are_sealed_alone, leaves_are_draws, marks_are_held, numbers_go_on,
-    one_asks_a_first_part, padded_reruns_ask_the_same, reruns_ask_the_same, reruns_show_the_same,
-    runs_answer_as_one, runs_begin_behind_earlier_ones, saved_marks_are_held,
+    flown_runs_ask_the_same, kept_blocks_are_sealed_alone, leaves_are_draws, marks_are_held,
+    numbers_go_on, one_asks_a_first_part, padded_reruns_ask_the_same, reruns_ask_the_same,
+    reruns_show_the_same, runs_answer_as_one, runs_begin_behind_earlier_ones, saved_marks_are_held,
     saved_numbers_are_apart, saved_runs_answer_as_one, shows_its_refusal_alone,
-    statements_write_their_own, texts_are_pieces, unhindered_runs_are_plain,
+    statements_write_their_own, texts_are_pieces, unflown_runs_go_one_by_one,
+    unhindered_runs_are_plain,
 };
 pub use seed::Seed;

@@ -1,16 +1,17 @@
 -- How all stand behind one turn.
 use Rattle.std.proofs.Common.{◌≡◌, ◌⊎◌, inl, inr, ℕ, zero, suc, ◌+◌, ◌*◌, ◌<◌, ◌≤◌, Bool, true, false, List, [], ◌∷◌, ◌++◌, Some, None, length, refl, sym, ◌∙◌, ap, subst, arith}
-use Rattle.std.specs.Prelude.{slice_get, slice_set}
+use Rattle.std.specs.Prelude.{is_some, slice_get, slice_set}
 use Rattle.std.proofs.lemmas.Bool.{cases_eq, cases_lt}
 use Rattle.std.proofs.lemmas.Option.{same_Some, slice_get_within}
 use Rattle.ob_base.specs.Events.{Event}
 use Rattle.ob_base.specs.declared.config.Public.{Public}
 use Rattle.ob_flat.specs.Flats.{Accepts}
 use Rattle.ob_script.specs.Flights.{made_by}
+use Rattle.ob_script.specs.Trace.{Served}
 use Rattle.ob_vault.proofs.Runs.{lasts_trans, lasts_wider, seals_join}
 use Rattle.ob_vault.specs.Calls.{Lasts}
 use Rattle.ob_vault.specs.Rows.{SameSizes}
-use Rattle.ob_inflight.specs.Aloft.{AllFit, AreFlying, IsMade, KeepCourse, KeepFailed, LeavesRest, booked_by, failed_of, most_of}
+use Rattle.ob_inflight.specs.Aloft.{AllFit, AllMay, AreFlying, IsMade, KeepCourse, KeepsOn, LeavesRest, booked_by, failed_of, most_of}
 use Rattle.ob_inflight.specs.Closing.{Closed, events_at, outcome_at}
 use Rattle.ob_inflight.specs.Kinds.{Kind, Moment, share_at}
 use Rattle.ob_inflight.specs.Leaving.{Leaves, own_or_next}
@@ -20,7 +21,7 @@ use Rattle.ob_inflight.proofs.Acts.{next_made, region_below, region_new, region_
 use Rattle.ob_inflight.proofs.Lists.{length-set_at}
 use Rattle.ob_script.proofs.FlightEnds.{total_set}
 use Rattle.ob_script.proofs.ListPlaces.{get_set_same, get_set_other}
-use Rattle.ob_inflight.proofs.Turning.{Laws}
+use Rattle.ob_inflight.proofs.Turning.{Laws, may_before}
 
 -- ---- events
 pub events_here : (ended : List Closed) (current : List Event) → events_at ended current (length ended) ≡ current
@@ -250,18 +251,30 @@ course_next {F} k start last now i f g at flyers same course = record {
   ];
 }
 
--- what the store failed is seen as it was
-pub failed_next : {F : Type 0} (k : Kind F) (last now : Moment F) (i : ℕ) (f g : F) → slice_get last.flyers i ≡ Some f → now.flyers ≡ slice_set last.flyers i g
-    → ((k.progress f).failed ≡ true → ((k.progress g).served ≡ (k.progress f).served) × ((k.progress g).failed ≡ true)) → KeepFailed k last now
-failed_next {F} k last now i f g at flyers same = record {
+-- ---- what was so is so behind one turn more
+-- of those that had ended none was picked
+pub keeps_next : {F : Type 0} (k : Kind F) (before more : List Closed) (last now : Moment F) (i : ℕ) (f g : F) → slice_get last.flyers i ≡ Some f → now.flyers ≡ slice_set last.flyers i g
+    → (k.progress f).outcome ≡ None → ((k.progress f).failed ≡ true → ((k.progress g).served ≡ (k.progress f).served) × ((k.progress g).failed ≡ true)) → ((x : Served) → k.May g x → k.May f x)
+    → KeepsOn k before (before ++ more) last now
+keeps_next {F} k before more last now i f g at flyers going seen may = record {
   size = ap (λ (l : List F). length l) flyers ∙ length-set_at last.flyers i g;
-  each = λ j a b get_a get_b is. elim (now_at last.flyers i f g at now.flyers flyers j b get_b) [
+  more = more;
+  first = refl;
+  same = λ j a b get_a get_b is. elim (now_at last.flyers i f g at now.flyers flyers j b get_b) [
     | Here here it ↦
         let was : a ≡ f = same_Some _ _ (sym get_a ∙ ap (slice_get last.flyers) here ∙ at) in
-        let kept = same (ap (λ (x : F). (k.progress x).failed) (sym was) ∙ is) in
+        let none : is_some (k.progress a).outcome ≡ false = ap (λ (x : F). is_some (k.progress x).outcome) was ∙ ap is_some going in
+        absurd (cc (is, none))
+    | There off was ↦ let it : a ≡ b = same_Some _ _ (sym get_a ∙ was) in ap (λ (x : F). k.progress x) (sym it)
+  ];
+  failed = λ j a b get_a get_b is. elim (now_at last.flyers i f g at now.flyers flyers j b get_b) [
+    | Here here it ↦
+        let was : a ≡ f = same_Some _ _ (sym get_a ∙ ap (slice_get last.flyers) here ∙ at) in
+        let kept = seen (ap (λ (x : F). (k.progress x).failed) (sym was) ∙ is) in
         (ap (λ (x : F). (k.progress x).served) it ∙ kept.0 ∙ ap (λ (x : F). (k.progress x).served) (sym was), ap (λ (x : F). (k.progress x).failed) it ∙ kept.1)
     | There off was ↦
         let it : a ≡ b = same_Some _ _ (sym get_a ∙ was) in
         (ap (λ (x : F). (k.progress x).served) (sym it), ap (λ (x : F). (k.progress x).failed) (sym it) ∙ is)
   ];
+  may = λ xs all. may_before k last.flyers xs i f g at may (subst (λ (fs : List F). AllMay k.May fs xs) flyers all);
 }

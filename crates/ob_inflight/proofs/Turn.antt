@@ -8,14 +8,17 @@ use Rattle.ob_base.specs.Events.{Event}
 use Rattle.ob_base.specs.declared.access.Access.{Access}
 use Rattle.ob_base.specs.declared.config.Public.{Public}
 use Rattle.ob_flat.specs.declared.fault.OpErr.{OpErr}
-use Rattle.ob_script.specs.Flights.{Flight, accesses_in, place_by, prints, turns}
+use Rattle.ob_script.specs.Flights.{Flight, accesses_in, entry_of, place_by, prints, turns}
 use Rattle.ob_script.specs.Trace.{Served}
+use Rattle.ob_store.proofs.Steps.{later_refl}
+use Rattle.ob_store.specs.Runs.{Later}
 use Rattle.ob_vault.proofs.Runs.{lasts_trans, lasts_wider, seals_join, seals_none}
 use Rattle.ob_vault.proofs.WorldSteps.{lasts_none}
 use Rattle.ob_vault.specs.Rows.{SameSizes}
 use Rattle.ob_flat.specs.Flats.{Accepts}
 use Rattle.ob_verdict.specs.declared.outcome.Outcome.{Outcome}
-use Rattle.ob_inflight.specs.Aloft.{AllFit, AllMay, AreBoarded, AreFlying, IsAloft, IsBegun, LeavesRest, most_of, setting_off}
+use Rattle.ob_inflight.specs.Aloft.{AllFit, AllMay, AreBoarded, AreFlying, IsAloft, IsBegun, KeepsOn, LeavesRest, most_of, setting_off}
+use Rattle.ob_inflight.specs.Answers.{More}
 use Rattle.ob_inflight.specs.Closing.{Closed, ClosesAll, RisesBy, events_at}
 use Rattle.ob_inflight.specs.Flown.{HasFlown, StopsFlight, StopsInClosing, StopsInFinish}
 use Rattle.ob_inflight.specs.Kinds.{Kind, Moment, Taker, moment, share_at}
@@ -30,8 +33,8 @@ use Rattle.ob_inflight.proofs.Ending.{ends_acts, ends_flying, rest_ends, same_to
 use Rattle.ob_inflight.proofs.Lists.{get_some, length-set_at, total_few}
 use Rattle.ob_script.proofs.FlightEnds.{total_none, total_set, total_part}
 use Rattle.ob_inflight.proofs.Picks.{IsGoing, picked_going, going_some}
-use Rattle.ob_inflight.proofs.Standing.{course_next, failed_next, events_here, events_there, fit_next, rest_step, stand_step, step_next}
-use Rattle.ob_inflight.proofs.Stopping.{began_next, begun_next}
+use Rattle.ob_inflight.proofs.Standing.{course_next, events_here, events_there, fit_next, keeps_next, rest_step, stand_step, step_next}
+use Rattle.ob_inflight.proofs.Stopping.{began_next, begun_next, keeps_same, past_now, past_still, went_on}
 use Rattle.ob_inflight.proofs.Turning.{Laws, asks_none, asks_some, log_on, outcome_open, turn_on, turned_next, turned_none}
 
 -- ---- who was picked
@@ -142,46 +145,41 @@ module _ {F E : Type 0} (k : Kind F) (t : Taker E) (laws : Laws k) (words : ℕ 
 
   -- ---- a step
   module _ (count_kept : length now.kept ≡ length last.kept) {T : Type 0} (x : T) (did : StepsAt k t share i (Ok x) rows_new last now out_old out_new) where
-    pub step_turns : HasTurned k t words (n + 1) share count rows_new start now out_start out_new
-    step_turns =
+    -- what it emitted
+    step_more : More t.grew (k.progress did.before).prints (k.Holds did.after (share_at share i now.kept)) (events_at turned.ended turned.current i) now.world out_old out_new
+    step_more = did.tells.ok (events_at turned.ended turned.current i) (turned.aloft.stand.holds i did.before did.at)
+
+    step_keeps : KeepsOn k turned.ended turned.ended last now
+    step_keeps =
+        subst (λ (l : List Closed). KeepsOn k turned.ended l last now) (append-nil turned.ended)
+        (keeps_next k turned.ended [] last now i did.before did.after did.at did.flyers (turned.aloft.stand.outcome i did.before did.at ∙ outcome_open turned.ended i picked.after)
+        (λ is. absurd (let no = did.steps.unfailed in cc (is, no))) did.steps.may)
+
+    step_later : Later last.world.store now.world.store
+    step_later = (step_lasts did.steps.access (k.progress did.before).region last.world now.world (k.progress did.after).failed did.steps.went).later
+
+    step_aloft : IsAloft k words (n + 1) turned.public share turned.ended (turned.current ++ step_more.more) start now
+    step_aloft =
         let f = did.before in
         let g = did.after in
         let steps = did.steps in
         let stand = turned.aloft.stand in
-        let more = did.tells.ok (events_at turned.ended turned.current i) (stand.holds i f did.at) in
+        let more = step_more in
         let later : List Event = turned.current ++ more.more in
         let next = λ (x : Served) (may : k.May f x). steps.next x may in
         let went = steps.went in
         let v = now.world in
-        let lasts = step_lasts steps.access (k.progress f).region last.world v (k.progress g).failed went in
         let asked = step_asked steps.access (k.progress f).region last.world v (k.progress g).failed went in
-        let long = ap (λ (l : List F). length l) did.flyers ∙ length-set_at last.flyers i g in
         record {
-          public = turned.public;
-          ended = turned.ended;
-          current = later;
-          aloft = record {
-            stand = stand_step k laws turned.public share turned.ended turned.current later last now stand i f g did.at did.flyers did.kept did.others steps did.rest count_kept
-                (λ j off. others_same more.more (quiet_off more.quiet) j off) (holds_now more.more (quiet_off more.quiet) more.holds);
-            turned = turned_next k laws words n turned.public share turned.ended turned.current start last stand turned.aloft.turned i f did.at place (Some steps.access) next g now did.flyers steps.may
-                (λ x. λ j. record { served = x; asked = sym steps.asked j; region = sym steps.region.now j; ended = is_some (sym steps.outcome j) })
-                (step_next k laws turned.public share turned.ended turned.current later last now stand i f g did.at did.flyers did.kept did.others steps)
-                (asked ∙ ap (λ (l : List Access). last.world.store.asked ++ l) (sym (asks_some steps.access)))
-                (let o = ap (λ (o : Option Outcome). one_if (is_some o)) steps.outcome in omega (arith, steps.asked, o));
-            rest = rest_step k laws turned.public share turned.ended turned.current later last now stand i f g did.at did.flyers did.kept did.others steps start turned.aloft.rest;
-            course = course_next k start last now i f g did.at did.flyers steps.course turned.aloft.course;
-          };
-          fit = fit_next k laws share rows_old rows_new last now i f g did.at did.flyers same did.kept (λ going. did.fits) turned.fit;
-          counts = turned.counts;
-          within = omega (arith, long, turned.within);
-          emitted = emitted_more t.grew t.closed turned.ended turned.current more.more out_start out_old out_new turned.emitted more.leads;
-          over = λ all. absurd (omega (arith, all, long, picked.after, picked.within));
-          begun = begun_next k words n turned.public share turned.ended turned.current start last turned.aloft now (steps.access ∷ []) [] asked
-              (λ xs all. log_on k laws words n turned.public share turned.ended turned.current start last stand turned.aloft.turned i f did.at place (Some steps.access) next xs all
-              ∙ ap (λ (l : List Access). accesses_in turned.aloft.turned.log ++ l) (asks_some steps.access))
-              (λ lie none is. reads_calm v lie is (step_calm steps.access (k.progress f).region last.world v (k.progress g).failed went (calm_none last.world none)))
-              (λ lie was. lasts.later.lie lie was)
-              (failed_next k last now i f g did.at did.flyers (λ is. absurd (cc (is, steps.unfailed)))) turned.begun;
+          stand = stand_step k laws turned.public share turned.ended turned.current later last now stand i f g did.at did.flyers did.kept did.others steps did.rest count_kept
+              (λ j off. others_same more.more (quiet_off more.quiet) j off) (holds_now more.more (quiet_off more.quiet) more.holds);
+          turned = turned_next k laws words n turned.public share turned.ended turned.current start last stand turned.aloft.turned i f did.at place (Some steps.access) next g now did.flyers steps.may
+              (λ x. λ j. record { served = x; asked = sym steps.asked j; region = sym steps.region.now j; ended = is_some (sym steps.outcome j) })
+              (step_next k laws turned.public share turned.ended turned.current later last now stand i f g did.at did.flyers did.kept did.others steps)
+              (asked ∙ ap (λ (l : List Access). last.world.store.asked ++ l) (sym (asks_some steps.access)))
+              (let o = ap (λ (o : Option Outcome). one_if (is_some o)) steps.outcome in omega (arith, steps.asked, o));
+          rest = rest_step k laws turned.public share turned.ended turned.current later last now stand i f g did.at did.flyers did.kept did.others steps start turned.aloft.rest;
+          course = course_next k start last now i f g did.at did.flyers steps.course turned.aloft.course;
         }
       where
         quiet_off : {more : List Event} {P : Type 0} → ((k.progress did.before).prints ≡ false → (more ≡ []) × P) → (i ≡ e → ⊥) → more ≡ []
@@ -213,6 +211,38 @@ module _ {F E : Type 0} (k : Kind F) (t : Taker E) (laws : Laws k) (words : ℕ 
                   ap (λ (l : List Event). events_at turned.ended turned.current i ++ l) (none away) ∙ append-nil (events_at turned.ended turned.current i)
                   ∙ events_there turned.ended turned.current (turned.current ++ more) i away
             ]
+
+    pub step_turns : HasTurned k t words (n + 1) share count rows_new start now out_start out_new
+    step_turns =
+        let f = did.before in
+        let g = did.after in
+        let steps = did.steps in
+        let stand = turned.aloft.stand in
+        let next = λ (x : Served) (may : k.May f x). steps.next x may in
+        let went = steps.went in
+        let v = now.world in
+        let asked = step_asked steps.access (k.progress f).region last.world v (k.progress g).failed went in
+        let long = ap (λ (l : List F). length l) did.flyers ∙ length-set_at last.flyers i g in
+        record {
+          public = turned.public;
+          ended = turned.ended;
+          current = turned.current ++ step_more.more;
+          aloft = step_aloft;
+          fit = fit_next k laws share rows_old rows_new last now i f g did.at did.flyers same did.kept (λ going. did.fits) turned.fit;
+          counts = turned.counts;
+          within = omega (arith, long, turned.within);
+          emitted = emitted_more t.grew t.closed turned.ended turned.current step_more.more out_start out_old out_new turned.emitted step_more.leads;
+          over = λ all. absurd (omega (arith, all, long, picked.after, picked.within));
+          past = past_now k words turned.public share (n + 1) turned.ended (turned.current ++ step_more.more) start now step_aloft
+              (λ m less. past_still k words turned.public share n turned.ended turned.ended start last now step_keeps step_later turned.past m (omega (arith, less)));
+          went = went_on k words turned.public share n turned.ended turned.ended turned.current start last now turned.aloft step_keeps step_later (turned.aloft.turned.log ++ entry_of i (Some steps.access))
+              (λ xs all. ap (λ (s : Flight). s.log) (turn_on k laws words n turned.public share turned.ended turned.current start last stand turned.aloft.turned i f did.at place (Some steps.access) next xs all)) turned.went;
+          begun = begun_next k words n turned.public share turned.ended turned.current start last turned.aloft now (steps.access ∷ []) [] asked
+              (λ xs all. log_on k laws words n turned.public share turned.ended turned.current start last stand turned.aloft.turned i f did.at place (Some steps.access) next xs all
+              ∙ ap (λ (l : List Access). accesses_in turned.aloft.turned.log ++ l) (asks_some steps.access))
+              (λ lie none is. reads_calm v lie is (step_calm steps.access (k.progress f).region last.world v (k.progress g).failed went (calm_none last.world none)))
+              step_later turned.ended step_keeps turned.past turned.begun;
+        }
 
   -- it gave up
   module _ (err : OpErr) {T : Type 0} (did : StepsAt {T = T} k t share i (Err err) rows_new last now out_old out_new) where
@@ -260,10 +290,14 @@ module _ {F E : Type 0} (k : Kind F) (t : Taker E) (laws : Laws k) (words : ℕ 
           faults = stops_faults err last.world v stops.never stops.cut.cause;
           seals = λ good accepts. seals_join good start.world last.world v turned.aloft.rest.lasts.later (turned.aloft.rest.seals good accepts)
               (stops.seals good (λ columns region. subst (λ (n : ℕ). Accepts good n columns region) (sym (ap (λ (q : Public). q.pack) (stand.public i f did.at))) (accepts columns region)));
-          begun = begun_next k words n turned.public share turned.ended turned.current start last turned.aloft now stops.cut.began.done stops.cut.began.rest stops.cut.began.asked log
+          begun = begun_next k words n turned.public share turned.ended turned.current start last turned.aloft (moment last.flyers last.kept v) stops.cut.began.done stops.cut.began.rest stops.cut.began.asked log
               (λ lie none is. reads_cut err (stops.access ∷ []) (own_or_next (k.progress f).region last.world.vault.next) last.world v lie none is stops.cut)
-              (λ lie was. lasts.later.lie lie was)
-              (failed_next k last now i f did.after did.at did.flyers (λ is. (stops.stays.served, stops.stays.failed ∙ is))) turned.begun;
+              lasts.later turned.ended (keeps_same k turned.ended last (moment last.flyers last.kept v) refl) turned.past turned.begun;
+          past = past_still k words turned.public share n turned.ended turned.ended start last (moment last.flyers last.kept v)
+              (keeps_same k turned.ended last (moment last.flyers last.kept v) refl) lasts.later turned.past;
+          went = went_on k words turned.public share n turned.ended turned.ended turned.current start last (moment last.flyers last.kept v) turned.aloft
+              (keeps_same k turned.ended last (moment last.flyers last.kept v) refl) lasts.later (turned.aloft.turned.log ++ entry_of i (Some stops.access))
+              (λ xs all. ap (λ (s : Flight). s.log) (turn_on k laws words n turned.public share turned.ended turned.current start last stand turned.aloft.turned i f did.at place (Some stops.access) next xs all)) turned.went;
         }
 
 -- ---- an end
@@ -282,39 +316,56 @@ module _ {F E : Type 0} (k : Kind F) (t : Taker E) (laws : Laws k) (words : ℕ 
   log_none xs all = log_on k laws words n turned.public share turned.ended turned.current start last turned.aloft.stand turned.aloft.turned i f at place None (λ x may. (laws.acts f x last.world.vault.next may).over over) xs all
       ∙ ap (λ (l : List Access). accesses_in turned.aloft.turned.log ++ l) asks_none
 
+  log_end : (xs : List Served) → AllMay k.May last.flyers xs → (turns words (n + 1) (setting_off turned.public start.world.vault.next xs)).log ≡ turned.aloft.turned.log ++ entry_of i None
+  log_end xs all = ap (λ (s : Flight). s.log) (turn_on k laws words n turned.public share turned.ended turned.current start last turned.aloft.stand turned.aloft.turned i f at place None (λ x may. (laws.acts f x last.world.vault.next may).over over) xs all)
+
   asked_none : last.world.store.asked ≡ last.world.store.asked ++ []
   asked_none = sym (append-nil last.world.store.asked)
 
-  begun_over : (g : F) → gs ≡ slice_set last.flyers i g → ((k.progress f).failed ≡ true → ((k.progress g).served ≡ (k.progress f).served) × ((k.progress g).failed ≡ true))
-      → IsBegun k words turned.public share start (moment gs last.kept last.world)
-  begun_over g flyers kept = begun_next k words n turned.public share turned.ended turned.current start last turned.aloft (moment gs last.kept last.world) [] [] asked_none log_none
-      (λ lie none is. absurd (cc (none, is))) (λ lie was. was) (failed_next k last (moment gs last.kept last.world) i f g at flyers kept) turned.begun
+  begun_over : (hs : List F) (ended : List Closed) → KeepsOn k turned.ended ended last (moment hs last.kept last.world) → IsBegun k words turned.public share ended start (moment hs last.kept last.world)
+  begun_over hs ended keeps = begun_next k words n turned.public share turned.ended turned.current start last turned.aloft (moment hs last.kept last.world) [] [] asked_none log_none
+      (λ lie none is. absurd (cc (none, is))) (later_refl last.world.store) ended keeps turned.past turned.begun
 
   module _ (own : List (List ℕ)) (is_own : own ≡ share_at share i last.kept) (g : F) (flyers : gs ≡ slice_set last.flyers i g) (needs : (q : ℕ) → k.Needs g q → k.Needs f q) (may : (x : Served) → k.May g x → k.May f x) where
-    pub end_turns : (starts : (s : E) → t.grew s s []) → EndsWhole k t i own f g out_old out_new → HasTurned k t words (n + 1) share (count + 1) rows start (moment gs last.kept last.world) out_start out_new
-    end_turns starts whole =
+    end_more : (whole : EndsWhole k t i own f g out_old out_new) → More t.grew true (k.Holds g own) turned.current last.world out_old whole.between
+    end_more whole = whole.finishes turned.current last.world (subst (λ (l : List (List ℕ)). k.Holds f l turned.current last.world) (sym is_own) holds_first)
+
+    abbrev closed_so : EndsWhole k t i own f g out_old out_new → Closed
+    closed_so whole = record { outcome = whole.outcome; events = turned.current ++ (end_more whole).more }
+
+    end_keeps : (whole : EndsWhole k t i own f g out_old out_new) → KeepsOn k turned.ended (turned.ended ++ closed_so whole ∷ []) last (moment gs last.kept last.world)
+    end_keeps whole = keeps_next k turned.ended (closed_so whole ∷ []) last (moment gs last.kept last.world) i f g at flyers (turned.aloft.stand.outcome i f at ∙ outcome_open turned.ended i (omega (arith, first)))
+        (λ is. (ap (λ (q : Progress). q.served) whole.answered, ap (λ (q : Progress). q.failed) whole.answered ∙ is)) may
+
+    end_aloft : (whole : EndsWhole k t i own f g out_old out_new) → IsAloft k words (n + 1) turned.public share (turned.ended ++ closed_so whole ∷ []) [] start (moment gs last.kept last.world)
+    end_aloft whole =
         let stand = turned.aloft.stand in
-        let finished = whole.finishes turned.current last.world (subst (λ (l : List (List ℕ)). k.Holds f l turned.current last.world) (sym is_own) holds_first) in
-        let closed : Closed = record { outcome = whole.outcome; events = turned.current ++ finished.more } in
+        let finished = end_more whole in
         let now : Moment F = moment gs last.kept last.world in
         let same : KeepsCourse (k.progress f) (k.progress g) = record { stmt = ap (λ (q : Progress). q.stmt) whole.answered; flat = ap (λ (q : Progress). q.flat) whole.answered; refusal = ap (λ (q : Progress). q.refusal) whole.answered; public = ap (λ (q : Progress). q.public) whole.answered } in
+        record {
+          stand = stand_ends k turned.public share turned.ended turned.current finished.more last now stand i f g at flyers refl refl first whole.outcome whole.answered needs
+              (subst (λ (l : List (List ℕ)). k.Holds g l (turned.current ++ finished.more) last.world) is_own finished.holds);
+          turned = turned_next k laws words n turned.public share turned.ended turned.current start last stand turned.aloft.turned i f at place None (λ x may. (laws.acts f x last.world.vault.next may).over over) g now flyers may
+              (ends_flying k turned.public share turned.ended turned.current finished.more last now stand i f g at flyers refl refl first whole.outcome whole.answered needs)
+              (omega arith)
+              (asked_none ∙ ap (λ (l : List Access). last.world.store.asked ++ l) (sym asks_none))
+              (ends_acts k turned.public share turned.ended turned.current finished.more last now stand i f g at flyers refl refl first whole.outcome whole.answered needs);
+          rest = rest_ends k turned.public share turned.ended turned.current finished.more last now stand i f g at flyers refl refl first whole.outcome whole.answered needs start turned.aloft.rest;
+          course = course_next k start last now i f g at flyers same turned.aloft.course;
+        }
+
+    pub end_turns : (starts : (s : E) → t.grew s s []) → EndsWhole k t i own f g out_old out_new → HasTurned k t words (n + 1) share (count + 1) rows start (moment gs last.kept last.world) out_start out_new
+    end_turns starts whole =
+        let finished = end_more whole in
+        let now : Moment F = moment gs last.kept last.world in
         let long = ap (λ (l : List F). length l) flyers ∙ length-set_at last.flyers i g in
-        let one_more = length-append turned.ended (closed ∷ []) in
+        let one_more = length-append turned.ended (closed_so whole ∷ []) in
         record {
           public = turned.public;
-          ended = turned.ended ++ closed ∷ [];
+          ended = turned.ended ++ closed_so whole ∷ [];
           current = [];
-          aloft = record {
-            stand = stand_ends k turned.public share turned.ended turned.current finished.more last now stand i f g at flyers refl refl first whole.outcome whole.answered needs
-                (subst (λ (l : List (List ℕ)). k.Holds g l (turned.current ++ finished.more) last.world) is_own finished.holds);
-            turned = turned_next k laws words n turned.public share turned.ended turned.current start last stand turned.aloft.turned i f at place None (λ x may. (laws.acts f x last.world.vault.next may).over over) g now flyers may
-                (ends_flying k turned.public share turned.ended turned.current finished.more last now stand i f g at flyers refl refl first whole.outcome whole.answered needs)
-                (omega arith)
-                (asked_none ∙ ap (λ (l : List Access). last.world.store.asked ++ l) (sym asks_none))
-                (ends_acts k turned.public share turned.ended turned.current finished.more last now stand i f g at flyers refl refl first whole.outcome whole.answered needs);
-            rest = rest_ends k turned.public share turned.ended turned.current finished.more last now stand i f g at flyers refl refl first whole.outcome whole.answered needs start turned.aloft.rest;
-            course = course_next k start last now i f g at flyers same turned.aloft.course;
-          };
+          aloft = end_aloft whole;
           fit = fit_next k laws share rows rows last now i f g at flyers (record { count = refl; sizes = λ j. refl }) (λ j less off. refl)
               (λ going. absurd (cc (going, ap (λ (q : Progress). q.outcome) whole.answered))) turned.fit;
           counts = omega (arith, turned.counts, one_more);
@@ -326,16 +377,19 @@ module _ {F E : Type 0} (k : Kind F) (t : Taker E) (laws : Laws k) (words : ℕ 
             now = starts out_new;
           };
           over = λ all. refl;
-          begun = begun_over g flyers (λ is. (ap (λ (q : Progress). q.served) whole.answered, ap (λ (q : Progress). q.failed) whole.answered ∙ is));
+          past = past_now k words turned.public share (n + 1) (turned.ended ++ closed_so whole ∷ []) [] start now (end_aloft whole)
+              (λ m less. past_still k words turned.public share n turned.ended (turned.ended ++ closed_so whole ∷ []) start last now (end_keeps whole) (later_refl last.world.store) turned.past m (omega (arith, less)));
+          went = went_on k words turned.public share n turned.ended (turned.ended ++ closed_so whole ∷ []) turned.current start last now turned.aloft (end_keeps whole) (later_refl last.world.store)
+              (turned.aloft.turned.log ++ entry_of i None) log_end turned.went;
+          begun = begun_over gs (turned.ended ++ closed_so whole ∷ []) (end_keeps whole);
         }
 
     -- it gave up
     stops_ending : (err : OpErr)
         → (StopsInFinish k t err turned.ended turned.current i None last (moment gs last.kept last.world) turned.emitted.between out_new
         ⊎ StopsInClosing k t share err turned.ended i None last (moment gs last.kept last.world) turned.emitted.between out_new)
-        → ((k.progress f).failed ≡ true → ((k.progress g).served ≡ (k.progress f).served) × ((k.progress g).failed ≡ true))
         → StopsFlight k t words share err start (moment gs last.kept last.world) out_start out_new
-    stops_ending err by kept = record {
+    stops_ending err by = record {
       public = turned.public;
       turn = n;
       ended = turned.ended;
@@ -352,7 +406,10 @@ module _ {F E : Type 0} (k : Kind F) (t : Taker E) (laws : Laws k) (words : ℕ 
       lasts = turned.aloft.rest.lasts;
       faults = refl;
       seals = turned.aloft.rest.seals;
-      begun = begun_over g flyers kept;
+      past = turned.past;
+      went = went_on k words turned.public share n turned.ended turned.ended turned.current start last (moment last.flyers last.kept last.world) turned.aloft
+          (keeps_same k turned.ended last (moment last.flyers last.kept last.world) refl) (later_refl last.world.store) (turned.aloft.turned.log ++ entry_of i None) log_end turned.went;
+      begun = begun_over last.flyers turned.ended (keeps_same k turned.ended last (moment last.flyers last.kept last.world) refl);
     }
 
     pub end_stops : (err : OpErr) → EndsInFinish k t own err f g out_old out_new ⊎ EndsInClosing k t i own err f g out_old out_new
@@ -376,7 +433,7 @@ module _ {F E : Type 0} (k : Kind F) (t : Taker E) (laws : Laws k) (words : ℕ 
             part = part.part;
             ends = part.leads refl turned.emitted.between turned.current turned.emitted.now;
             halts = part.halts;
-          })) (λ is. (ap (λ (q : Progress). q.served) finish.same, ap (λ (q : Progress). q.failed) finish.same ∙ is))
+          }))
       | inr closing ↦
           let holds = subst (λ (l : List (List ℕ)). k.Holds f l turned.current last.world) (sym is_own) holds_first in
           let finished = closing.finishes turned.current last.world holds in
@@ -398,7 +455,7 @@ module _ {F E : Type 0} (k : Kind F) (t : Taker E) (laws : Laws k) (words : ℕ 
             took = closing.between;
             grew = finished.leads turned.emitted.between turned.current turned.emitted.now;
             parted = closing.parted;
-          })) (λ is. (ap (λ (q : Progress). q.served) closing.answered, ap (λ (q : Progress). q.failed) closing.answered ∙ is))
+          }))
     ]
 
 -- ---- whatever the turns before were
@@ -464,35 +521,40 @@ steps_less {F} k t share count i x rows last now out_old out_new did =
     omega (arith, sum, is, long, did.steps.books.most)
 
 -- before the first turn
+aloft_first : {F : Type 0} (k : Kind F) (words : ℕ → ℕ) (share : ℕ) (rows : List (List ℕ)) (start : Moment F) → (boarded : AreBoarded k share rows start) → IsAloft k words 0 boarded.public share [] [] start start
+aloft_first {F} k words share rows start boarded = record {
+  stand = boarded.stand;
+  turned = turned_none k words boarded.public start boarded.unasked boarded.unmade (λ i f at. boarded.stand.outcome i f at) (total_none (λ (f : F). (k.progress f).asked + one_if (is_some (k.progress f).outcome)) start.flyers
+      (λ i f at. let o : one_if (is_some (k.progress f).outcome) ≡ 0 = ap (λ (o : Option Outcome). one_if (is_some o)) (boarded.stand.outcome i f at) in omega (arith, o, boarded.unasked i f at)));
+  rest = record {
+    lasts = lasts_none (λ q. start.world.vault.next ≤ q) start.world boarded.stand.ready;
+    own = λ i f at q own. absurd (cc (own, boarded.unmade i f at));
+    made = λ q least less. absurd (omega (arith, least, less));
+    faults = subst (λ (n : ℕ). RisesBy n start.world.store.faults start.world.store.faults)
+        (sym (total_none (λ (f : F). one_if (k.progress f).failed) start.flyers (λ i f at. ap one_if (boarded.unfailed i f at)))) (rises_none start.world.store.faults);
+    calm = λ calm. calm;
+    seals = λ good accepts. seals_none good start.world;
+  };
+  course = record {
+    size = refl;
+    each = λ i f g at get. let same : f ≡ g = same_Some _ _ (sym at ∙ get) in subst (λ (h : F). KeepsCourse (k.progress f) (k.progress h)) same (record { stmt = refl; flat = refl; refusal = refl; public = refl });
+  };
+}
+
 pub turned_first : {F E : Type 0} (k : Kind F) (t : Taker E) (starts : (s : E) → t.grew s s []) (words : ℕ → ℕ) (share : ℕ) (rows : List (List ℕ)) (start : Moment F) (out : E)
     → AreBoarded k share rows start → HasTurned k t words 0 share 0 rows start start out out
 turned_first {F} {E} k t starts words share rows start out boarded = record {
   public = boarded.public;
   ended = [];
   current = [];
-  aloft = record {
-    stand = boarded.stand;
-    turned = turned_none k words boarded.public start boarded.unasked boarded.unmade (λ i f at. boarded.stand.outcome i f at) (total_none (λ (f : F). (k.progress f).asked + one_if (is_some (k.progress f).outcome)) start.flyers
-        (λ i f at. let o : one_if (is_some (k.progress f).outcome) ≡ 0 = ap (λ (o : Option Outcome). one_if (is_some o)) (boarded.stand.outcome i f at) in omega (arith, o, boarded.unasked i f at)));
-    rest = record {
-      lasts = lasts_none (λ q. start.world.vault.next ≤ q) start.world boarded.stand.ready;
-      own = λ i f at q own. absurd (cc (own, boarded.unmade i f at));
-      made = λ q least less. absurd (omega (arith, least, less));
-      faults = subst (λ (n : ℕ). RisesBy n start.world.store.faults start.world.store.faults)
-          (sym (total_none (λ (f : F). one_if (k.progress f).failed) start.flyers (λ i f at. ap one_if (boarded.unfailed i f at)))) (rises_none start.world.store.faults);
-      calm = λ calm. calm;
-      seals = λ good accepts. seals_none good start.world;
-    };
-    course = record {
-      size = refl;
-      each = λ i f g at get. let same : f ≡ g = same_Some _ _ (sym at ∙ get) in subst (λ (h : F). KeepsCourse (k.progress f) (k.progress h)) same (record { stmt = refl; flat = refl; refusal = refl; public = refl });
-    };
-  };
+  aloft = aloft_first k words share rows start boarded;
   fit = boarded.fit;
   counts = refl;
   within = omega arith;
   emitted = record { between = out; took = refl; now = starts out };
   over = λ all. refl;
+  past = past_now k words boarded.public share 0 [] [] start start (aloft_first k words share rows start boarded) (λ m less. absurd (omega (arith, less)));
+  went = λ m less. absurd (omega (arith, less));
   begun = λ none lie is. absurd (cc (none, is));
 }
 
@@ -522,6 +584,8 @@ has_flown {F} {E} k t words left n share count rows start now out_old out_new tu
       all = all;
       took = subst (λ (s : E). ClosesAll t.grew t.closed 0 turned.ended out_old s) (sym (turned.over all)) turned.emitted.took;
       rest = rest;
+      past = turned.past;
+      went = turned.went;
       begun = turned.begun;
     }
   where

@@ -52,19 +52,6 @@ module _ {F : Type 0} (k : Kind F) where
   may_before (h ∷ fs) (x ∷ xs) zero f g at earlier all = (subst (λ (y : F). k.May y x) (sym (same_Some _ _ at)) (earlier x all.0), all.1)
   may_before (h ∷ fs) (x ∷ xs) (suc i) f g at earlier all = (all.0, may_before fs xs i f g at earlier all.1)
 
-  pub may_size : (fs : List F) (xs : List Served) → AllMay k.May fs xs → length xs ≡ length fs
-  unfolding AllMay
-  may_size [] [] all = refl
-  may_size [] (x ∷ xs) all = absurd all
-  may_size (f ∷ fs) [] all = absurd all
-  may_size (f ∷ fs) (x ∷ xs) all = ap suc (may_size fs xs all.1)
-
-  flying_size : (fs : List F) (xs : List Served) → AllMay k.May fs xs → length (flying_in k fs xs) ≡ length fs
-  unfolding AllMay flying_in
-  flying_size [] xs all = refl
-  flying_size (f ∷ fs) [] all = absurd all
-  flying_size (f ∷ fs) (x ∷ xs) all = ap suc (flying_size fs xs all.1)
-
   flying_at : (fs : List F) (xs : List Served) (i : ℕ) (f : F) (x : Served) → slice_get fs i ≡ Some f → slice_get xs i ≡ Some x → slice_get (flying_in k fs xs) i ≡ Some (flying_of (k.progress f) x)
   unfolding flying_in
   flying_at [] xs i f x at get = cc

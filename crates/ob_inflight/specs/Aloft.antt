@@ -9,6 +9,7 @@ use Rattle.ob_script.specs.FlightLaws.{one_if, total}
 use Rattle.ob_inflight.specs.Progress.{KeepsCourse, SealsBlocks, flying_of, numbered}
 use Rattle.ob_script.specs.Flights.{Flight, Flying, accesses_in, boarded, turns}
 use Rattle.ob_script.specs.Trace.{Served}
+use Rattle.ob_store.specs.Runs.{Later}
 use Rattle.ob_store.specs.State.{Lie}
 use Rattle.ob_vault.specs.Calls.{Lasts}
 use Rattle.ob_vault.specs.Numbers.{spent}
@@ -141,31 +142,64 @@ pub record IsAloft {F : Type 0} (k : Kind F) (words : ℕ → ℕ) (n : ℕ) (p 
   pub rest : LeavesRest k p start now
   pub course : KeepCourse k start now
 
--- those that the store failed are seen as they were
-pub record KeepFailed {F : Type 0} (k : Kind F) (last now : Moment F) : Type 0 where
+-- what was so at a moment is so later: those that had ended are the first of those that have, and as they were; those that
+-- the store had failed are seen as they were; and whatever may still turn out to be served might then
+pub record KeepsOn {F : Type 0} (k : Kind F) (ended_last ended : List Closed) (last now : Moment F)
+    : Type 0 where
   pub size : length now.flyers ≡ length last.flyers
-  pub each : (i : ℕ) (f g : F) → slice_get last.flyers i ≡ Some f → slice_get now.flyers i ≡ Some g
+  pub more : List Closed
+  pub first : ended ≡ ended_last ++ more
+  pub same : (i : ℕ) (f g : F) → slice_get last.flyers i ≡ Some f → slice_get now.flyers i ≡ Some g
+      → is_some (k.progress f).outcome ≡ true → k.progress g ≡ k.progress f
+  pub failed : (i : ℕ) (f g : F) → slice_get last.flyers i ≡ Some f
+      → slice_get now.flyers i ≡ Some g
       → (k.progress f).failed ≡ true → ((k.progress g).served ≡ (k.progress f).served)
       × ((k.progress g).failed ≡ true)
+  pub may : (xs : List Served) → AllMay k.May now.flyers xs → AllMay k.May last.flyers xs
 
--- ---- the first block that was read and is not what was written
--- just before the access that read it they stood as they should, and whatever they turn out to be served, that access is
--- among those of a turn more
-pub record BeginsIn {F : Type 0} (k : Kind F) (words : ℕ → ℕ) (p : Public) (share : ℕ) (lie : Lie)
-    (start now : Moment F) : Type 0 where
-  pub turn : ℕ
+-- behind so many turns they stood as they should, and what was so then is so still
+pub record HasStood {F : Type 0} (k : Kind F) (words : ℕ → ℕ) (p : Public) (share turn : ℕ)
+    (ended_now : List Closed) (start now : Moment F) : Type 0 where
   pub last : Moment F
   pub ended : List Closed
   pub current : List Event
   pub aloft : IsAloft k words turn p share ended current start last
-  pub none : last.world.store.lie ≡ None
-  pub failed : KeepFailed k last now
-  pub reads : (xs : List Served) → AllMay k.May last.flyers xs
+  pub keeps : KeepsOn k ended ended_now last now
+  pub later : Later last.world.store now.world.store
+
+-- and so behind each of the turns by now
+abbrev pub HaveStood : {F : Type 0} → Kind F → (words : ℕ → ℕ) → Public → (share turn : ℕ)
+    → (ended_now : List Closed) → (start now : Moment F) → Type 0
+HaveStood k words p share turn ended_now start now =
+    (n : ℕ) → n ≤ turn → HasStood k words p share n ended_now start now
+
+-- one turn more was taken there, or begun: its act is one, whatever may still turn out to be served then
+pub record HasGoneOn {F : Type 0} (k : Kind F) (words : ℕ → ℕ) (p : Public) (share turn : ℕ)
+    (ended_now : List Closed) (start now : Moment F) : Type 0 where
+  pub stood : HasStood k words p share turn ended_now start now
+  pub log : List (ℕ × Access)
+  pub next : (xs : List Served) → AllMay k.May stood.last.flyers xs
+      → (turns words (turn + 1) (setting_off p start.world.vault.next xs)).log ≡ log
+
+abbrev pub HaveGoneOn : {F : Type 0} → Kind F → (words : ℕ → ℕ) → Public → (share turn : ℕ)
+    → (ended_now : List Closed) → (start now : Moment F) → Type 0
+HaveGoneOn k words p share turn ended_now start now =
+    (n : ℕ) → n < turn → HasGoneOn k words p share n ended_now start now
+
+-- ---- the first block that was read and is not what was written
+-- it was read in the turn behind these: whatever they turn out to be served, its read is among the accesses by then
+pub record BeginsIn {F : Type 0} (k : Kind F) (words : ℕ → ℕ) (p : Public) (share : ℕ) (lie : Lie)
+    (ended_now : List Closed) (start now : Moment F) : Type 0 where
+  pub turn : ℕ
+  pub stood : HasStood k words p share turn ended_now start now
+  pub none : stood.last.world.store.lie ≡ None
+  pub past : HaveStood k words p share turn stood.ended start stood.last
+  pub reads : (xs : List Served) → AllMay k.May stood.last.flyers xs
       → ReadsIn lie (start.world.store.asked
       ++ accesses_in (turns words (turn + 1) (setting_off p start.world.vault.next xs)).log)
 
 abbrev pub IsBegun : {F : Type 0} → Kind F → (words : ℕ → ℕ) → Public → (share : ℕ)
-    → (start now : Moment F) → Type 0
-IsBegun k words p share start now =
+    → (ended_now : List Closed) → (start now : Moment F) → Type 0
+IsBegun k words p share ended_now start now =
     start.world.store.lie ≡ None → (lie : Lie) → now.world.store.lie ≡ Some lie
-    → BeginsIn k words p share lie start now
+    → BeginsIn k words p share lie ended_now start now

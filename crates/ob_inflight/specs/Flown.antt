@@ -5,10 +5,10 @@ use Rattle.ob_base.specs.declared.access.Access.{Access}
 use Rattle.ob_base.specs.declared.config.Public.{Public}
 use Rattle.ob_base.specs.declared.emit.EmitErr.{EmitErr}
 use Rattle.ob_flat.specs.declared.fault.OpErr.{OpErr}
-use Rattle.ob_inflight.specs.Aloft.{AllMay, IsAloft, IsBegun, setting_off}
+use Rattle.ob_inflight.specs.Aloft.{AllMay, HaveGoneOn, HaveStood, IsAloft, IsBegun, setting_off}
 use Rattle.ob_inflight.specs.Answers.{EndsBy, error_of}
 use Rattle.ob_inflight.specs.Closing.{Closed, ClosesAll, Emitted, events_at}
-use Rattle.ob_inflight.specs.Kinds.{Kind, Moment, Taker, share_at}
+use Rattle.ob_inflight.specs.Kinds.{Kind, Moment, Taker, moment, share_at}
 use Rattle.ob_inflight.specs.Progress.{SealsBlocks, StopsStep}
 use Rattle.ob_script.specs.Flights.{accesses_in, entry_of, turns}
 use Rattle.ob_script.specs.Trace.{Served}
@@ -27,7 +27,9 @@ pub record HasFlown {F E : Type 0} (k : Kind F) (t : Taker E) (words left : ℕ 
   pub all : length ended ≡ length now.flyers
   pub took : ClosesAll t.grew t.closed 0 ended out_old out_new
   pub rest : (i : ℕ) → left i ≡ words (turn + i)
-  pub begun : IsBegun k words public share start now
+  pub past : HaveStood k words public share turn ended start now
+  pub went : HaveGoneOn k words public share turn ended start now
+  pub begun : IsBegun k words public share ended start now
 
 -- ---- what gave up, behind some turns
 -- the step of the statement at a place, which is the first that has not ended if it prints
@@ -118,4 +120,9 @@ pub record StopsFlight {F E : Type 0} (k : Kind F) (t : Taker E) (words : ℕ �
   pub lasts : Lasts (λ q. start.world.vault.next ≤ q) start.world now.world
   pub faults : now.world.store.faults ≡ last.world.store.faults
   pub seals : SealsBlocks public.pack start.world now.world
-  pub begun : IsBegun k words public share start now
+  -- of the statements as they were before that act, in the world behind it
+  pub past : HaveStood k words public share turn ended start
+      (moment last.flyers last.kept now.world)
+  pub went : HaveGoneOn k words public share (turn + 1) ended start
+      (moment last.flyers last.kept now.world)
+  pub begun : IsBegun k words public share ended start (moment last.flyers last.kept now.world)

@@ -4,7 +4,7 @@ use Rattle.ob_base.specs.Events.{Event}
 use Rattle.ob_base.specs.declared.config.Public.{Public}
 use Rattle.ob_base.specs.declared.emit.EmitErr.{EmitErr}
 use Rattle.ob_flat.specs.declared.fault.OpErr.{OpErr}
-use Rattle.ob_inflight.specs.Aloft.{AllFit, AreFlying, IsAloft, IsBegun, booked_by, most_of}
+use Rattle.ob_inflight.specs.Aloft.{AllFit, AreFlying, HaveGoneOn, HaveStood, IsAloft, IsBegun, booked_by, most_of}
 use Rattle.ob_inflight.specs.Answers.{IsHeld, IsHeldSomewhere, More, Part, Tells, error_of}
 use Rattle.ob_inflight.specs.Closing.{Closed, Emitted}
 use Rattle.ob_inflight.specs.Flown.{StopsFlight}
@@ -140,7 +140,9 @@ pub record HasTurned {F E : Type 0} (k : Kind F) (t : Taker E) (words : ℕ → 
   pub within : length ended ≤ length now.flyers
   pub emitted : Emitted t.grew t.closed ended current out_old out_new
   pub over : length ended ≡ length now.flyers → out_new ≡ emitted.between
-  pub begun : IsBegun k words public share start now
+  pub past : HaveStood k words public share n ended start now
+  pub went : HaveGoneOn k words public share n ended start now
+  pub begun : IsBegun k words public share ended start now
 
 -- what a turn adds to that, whatever the turns before were
 abbrev pub TakesTurn : {F E : Type 0} → Kind F → Taker E → (word share count : ℕ)

@@ -101,7 +101,8 @@ fn step_at<S: BlockStore, R: Revisions, F: Flyer, E: FlightOut>(
     place: usize,
     out: &mut E,
 ) -> Result<(), OpErr>
-    requires may { MayStep (kind_of F.progress F.May F.Needs F.Fits F.Holds F.Halts) share place rows.old
+    requires may { MayStep (kind_of F.progress F.May F.Needs F.Fits F.Holds F.Halts)
+        share place rows.old
         (moment flyers.old kept.old (at R.state vault.old (S.state store.old))) }
     requires within { place < length flyers.old }
     ensures rows { SameSizes rows.old rows.new }
@@ -136,7 +137,8 @@ fn end_at<F: Flyer, E: FlightOut>(
     place: usize,
     out: &mut E,
 ) -> Result<(), OpErr>
-    requires may { MayEnd (kind_of F.progress F.May F.Needs F.Fits F.Holds F.Halts) share place flyers.old
+    requires may { MayEnd (kind_of F.progress F.May F.Needs F.Fits F.Holds F.Halts)
+        share place flyers.old
         kept.now }
     requires within { place < length flyers.old }
     ensures ends { EndsAt (kind_of F.progress F.May F.Needs F.Fits F.Holds F.Halts)
@@ -168,7 +170,8 @@ fn fly_turn<S: BlockStore, R: Revisions, F: Flyer, E: FlightOut>(
     word: u64,
     out: &mut E,
 ) -> Result<usize, OpErr>
-    requires { MayTurn (kind_of F.progress F.May F.Needs F.Fits F.Holds F.Halts) share ended rows.old
+    requires { MayTurn (kind_of F.progress F.May F.Needs F.Fits F.Holds F.Halts)
+        share ended rows.old
         (moment flyers.old kept.old (at R.state vault.old (S.state store.old))) }
     ensures rows { SameSizes rows.old rows.new }
     ensures kept { SameSizes kept.old kept.new }
@@ -209,7 +212,8 @@ pub fn fly<S: BlockStore, R: Revisions, F: Flyer, T: Turns, E: FlightOut>(
     turns: &mut T,
     out: &mut E,
 ) -> Result<(), OpErr>
-    requires boarded { AreBoarded (kind_of F.progress F.May F.Needs F.Fits F.Holds F.Halts) share rows.old
+    requires boarded { AreBoarded (kind_of F.progress F.May F.Needs F.Fits F.Holds F.Halts)
+        share rows.old
         (moment flyers.old kept.old (at R.state vault.old (S.state store.old))) }
     ensures rows { SameSizes rows.old rows.new }
     ensures kept { SameSizes kept.old kept.new }

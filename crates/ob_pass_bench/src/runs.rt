@@ -1,5 +1,5 @@
 //! One pass over a table of its own.
-ghost use Rattle.std.specs.Prelude.{◌≤◌};
+ghost use Rattle.std.specs.Prelude.{◌≤◌, ◌+◌, ◌*◌};
 ghost use Rattle.ob_vault.specs.Places.{at};
 ghost use Rattle.ob_vault.specs.Words.{StartsAnew};
 ghost use Rattle.ob_flat.specs.Flats.{IsSized};
@@ -170,23 +170,42 @@ fn run_case<H: Input + Print + AllocGlobal, S: BlockStore, R: Revisions>(
     run_pass(host.alloc(), store, vault, room, &mut flat, case)
 }
 
-/// Runs a case over a store in memory, tells what it gave, and gives the memory of rows and table back once that
-/// was heard; or none where there is no such case, or memory ran out.
-pub(crate) fn run<H: Input + Print + AllocGlobal>(host: &H, case: &Case) -> Option<()> {
+// Runs a case over a store in memory, tells what it gave, and gives the memory of rows and table back once that
+// was heard.
+fn run_alone<H: Input + Print + AllocGlobal>(
+    host: &H,
+    schemas: (&Schema, &Schema),
+    case: &Case,
+) -> Option<()>
+    requires left { AreColumns schemas.0.now }
+    requires right { AreColumns schemas.1.now }
+    requires pack { (1 ≤ case.now.pack) × (case.now.pack ≤ 16) }
+    requires rows { (3 * case.now.pack + 1 ≤ case.now.rows) × (case.now.rows ≤ 65536) }
+    requires slots { case.now.slots ≤ 65536 }
+    requires number { (1 ≤ case.now.k) × (case.now.k ≤ case.now.slots) }
+{
     let alloc = host.alloc();
-    let second = if case.pass == b'G' { SCATTERED } else { FEW };
-    let numbers = schema_of(17, second)?;
-    let schema = schema_of(case.width, second)?;
+    let Ok(mut room) = Room::new(alloc, case.rows, 1024, case.pack) else {
+        return None;
+    };
+    let mut store = MemStore::new(alloc);
+    let mut vault: Vault<BaseRevs> = Vault::new(alloc, Keys::derive(&[5; 32]));
+    match run_case(host, &mut store, &mut vault, &mut room, schemas, case) {
+        Ok(given) => tell(host, given).ok(),
+        Err(_) => None,
+    }
+}
+
+/// Runs a case; or none where there is no such case, or memory ran out.
+pub(crate) fn run<H: Input + Print + AllocGlobal>(host: &H, case: &Case) -> Option<()> {
     if case.pack < 1 || case.pack > 16 || case.rows < 3 * case.pack + 1 || case.rows > 65_536 {
         return None;
     }
     if case.slots > 65_536 || case.k < 1 || case.k > case.slots {
         return None;
     }
-    let mut store = MemStore::new(alloc);
-    let mut vault: Vault<BaseRevs> = Vault::new(alloc, Keys::derive(&[5; 32]));
-    let mut room = Room::new(alloc, case.rows, 1024, case.pack).ok()?;
-    let schemas = (&numbers, &schema);
-    let given = run_case(host, &mut store, &mut vault, &mut room, schemas, case).ok()?;
-    tell(host, given).ok()
+    let second = if case.pass == b'G' { SCATTERED } else { FEW };
+    let numbers = schema_of(17, second)?;
+    let schema = schema_of(case.width, second)?;
+    run_alone(host, (&numbers, &schema), case)
 }

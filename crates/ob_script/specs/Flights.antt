@@ -7,10 +7,10 @@
 -- make: until then a statement's script is taken with the next one. After `turns_of` turns all have ended, and `merge` is
 -- what was asked.
 --
--- `runnable`, `turn`, `turns`, `turns_for`, `trace_in`, `views` and `draw` stay shut in proofs: else a goal would show whole
+-- `runnable`, `turn`, `turns`, `turns_for`, `trace_in` and `draw` stay shut in proofs: else a goal would show whole
 -- scripts. Open them by an `unfolding` line, or take the laws: `turns_by_gates` for one turn, `flights_keep_order` for any
 -- number of them, and `flights_end` for all. What else there is opens by itself.
-use Rattle.std.specs.Prelude.{◌≡◌, ◌≤◌, ◌==◌, ◌||◌, ◌&&◌, ◌+◌, ◌/◌, ◌%◌, ◌*◌, ℕ, zero, suc, Bool, true, false, not, List, [], ◌∷◌, ◌++◌, length, map, filter, take, replicate, Option, Some, None, unwrap_or, slice_get, slice_set, slice_index_or, if◌then◌else◌}
+use Rattle.std.specs.Prelude.{◌≡◌, ◌≤◌, ◌==◌, ◌||◌, ◌&&◌, ◌+◌, ◌/◌, ◌%◌, ◌*◌, ℕ, zero, suc, Bool, true, false, not, List, [], ◌∷◌, ◌++◌, length, map, filter, take, Option, Some, None, unwrap_or, slice_get, slice_set, slice_index_or, if◌then◌else◌}
 use Rattle.ob_base.specs.Accesses.{makes}
 use Rattle.ob_base.specs.declared.access.Access.{Access}
 use Rattle.ob_base.specs.declared.access.Access.TheVariants.{Make, Read, Write, Discard, Open}
@@ -194,6 +194,10 @@ turns_of p flown = turns_for (flight_public (length flown) p) flown
 abbrev pub flight : Public → List Served → (words : ℕ → ℕ) → Flight
 flight p flown words = turns words (turns_of p flown) (boarding p flown)
 
+-- how many of the first k accesses of a flight are those of the statement at a place
+abbrev pub own_asked : Public → List Served → (words : ℕ → ℕ) → (k i : ℕ) → ℕ
+own_asked p flown words k i = length (own i (take k (flight p flown words).log))
+
 abbrev pub accesses_in : List (ℕ × Access) → List Access
 accesses_in log = map (λ (e : ℕ × Access). e.1) log
 
@@ -229,21 +233,6 @@ trace_in words t p (Alone x ∷ xs) = script p x.skeleton x.seen ++ trace_in wor
 trace_in words t p (Together flown stopped ∷ xs) =
     flight_accesses p flown stopped (words_from words t)
     ++ trace_in words (t + turns_of p flown) (next_flight p flown (words_from words t)) xs
-
--- what was public before a statement, as it is served, and how many accesses were asked
-pub record View : Type 0 where
-  pub public : Public
-  pub asked : ℕ
-
--- of each statement of all entries; those of a flight are served as if each were the first of it
-unfoldable pub views : (words : ℕ → ℕ) → (t : ℕ) → Public → (m : ℕ) → List Entry → List View
-views words t p m [] = []
-views words t p m (Alone x ∷ xs) =
-    record { public = p; asked = m } ∷ views words t (next p x.skeleton x.seen) (m + length (script p x.skeleton x.seen)) xs
-views words t p m (Together flown stopped ∷ xs) =
-    replicate (length flown) (record { public = flight_public (length flown) p; asked = m })
-    ++ views words (t + turns_of p flown) (next_flight p flown (words_from words t))
-    (m + length (flight_accesses p flown stopped (words_from words t))) xs
 
 -- the statements of all entries, in order
 abbrev pub served_in : Entry → List Served

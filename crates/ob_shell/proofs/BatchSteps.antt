@@ -22,7 +22,8 @@ use Rattle.ob_headline.specs.Batches.{AllInsert}
 use Rattle.ob_headline.specs.Closing.{closing_line}
 use Rattle.ob_headline.specs.Statements.{SpellFirst, Spells}
 use Rattle.ob_mean.proofs.BatchLemmas.{Begins, Inserts, begins, settle_all_like, soon, verdicts_like}
-use Rattle.ob_mean.specs.Batches.{Gathering, and_one, batch_most, begins_batch, begun_by, gathering_after, goes_into, inserts_into, is_cut, is_joined, settle_all, verdicts}
+use Rattle.ob_headline.specs.Flights.{gathered_then, may_fly, most_flown, place_now}
+use Rattle.ob_mean.specs.Batches.{and_one, batch_most, begins_batch, begun_by, gathering_after, goes_into, inserts_into, is_cut, is_joined, settle_all, verdicts}
 use Rattle.ob_mean.specs.Replay.{draws_taken, is_access}
 use Rattle.ob_mean.specs.Refusals.{early_refusal, is_index, limits_of}
 use Rattle.ob_mean.specs.Settle.{settle}
@@ -35,11 +36,12 @@ use Rattle.ob_script.specs.Trace.{next}
 use Rattle.ob_shell.proofs.FewLemmas.{insert_few}
 use Rattle.ob_shell.proofs.ReplayLemmas.{counts_on}
 use Rattle.ob_shell.proofs.LeaveSteps.{whole_own}
-use Rattle.ob_shell.proofs.WalkLemmas.{end_apart, end_cut}
+use Rattle.ob_shell.proofs.EndLemmas.{end_apart}
 use Rattle.ob_shell.proofs.WithLemmas.{events_none, insert_headings, insert_of, insert_prints}
 use Rattle.ob_shell.specs.Lines.{line_answer, line_answers}
-use Rattle.ob_shell.specs.Steps.{AreOwed, Does, Follow, GoTogether, Machine, Owed, Owes, Step, Steps, TakesOwed, draws_behind, end_with, machine_of, standing, statements_of}
-use Rattle.ob_shell.specs.Waiting.{AreSpelt, IsApart}
+use Rattle.ob_shell.proofs.GatherLemmas.{not_flying}
+use Rattle.ob_shell.specs.Steps.{AreOwed, AreSpelt, Does, Flights, Follow, Gathered, GoTogether, IsApartFrom, Machine, Owed, Owes, Step, Steps, TakesOwed, at_rest, draws_behind, end_with, gathered_after, machine_of, none_gathered, one_more, standing, statements_of}
+use Rattle.ob_shell.specs.Waiting.{IsApart}
 use Rattle.ob_sql.specs.Skeleton.{skeleton}
 use Rattle.ob_sql.specs.declared.stmt.Stmt.{Stmt}
 use Rattle.ob_store.specs.State.{StoreState}
@@ -59,6 +61,7 @@ use Rattle.ob_verdict.proofs.MovingProof.{moves}
 use Rattle.ob_verdict.specs.Outcomes.{by_fault, refusal_now}
 use Rattle.ob_verdict.specs.declared.outcome.Outcome.{Outcome}
 use Rattle.ob_verdict.specs.declared.outcome.Outcome.TheVariants.{Inserted}
+use Rattle.ob_tables.proofs.CutLemmas.{end_cut}
 
 -- ---- what is owed
 -- each with its outcome, unless the store failed the first
@@ -153,13 +156,25 @@ follow_by text texts (one ∷ owed) spell = spell
 pub follow_unanswered : (text : List ℕ) (texts : List (List ℕ)) (stmts : List Stmt) → AreSpelt texts stmts → Follow (text ∷ texts) (unanswered stmts)
 follow_unanswered text texts stmts spelt = follow_by text texts (unanswered stmts) (subst (λ (l : List Stmt). SpellFirst texts (map Ok l)) (sym (unanswered_stmts stmts)) (spelt_first texts stmts spelt))
 
+-- where none is gathered the next one is the first
+place_none : (most : ℕ) (p : Public) (outline : Skeleton) → place_now most p 0 outline ≡ 0
+place_none most p outline = go (may_fly p outline && nat_lt 0 most)
+  where
+    go : (b : Bool) → ◌≡◌ {A = ℕ} (if b then 0 else 0) 0
+    go true = refl
+    go false = refl
+
+-- no SELECT is gathered behind an INSERT
+gathered_none : (p : Public) (outline : Skeleton) → IsSome (inserts_into outline) → gathered_then p 0 outline ≡ 0
+gathered_none p outline some = ap (λ (b : Bool). if b then 0 + 1 else 0) (not_flying p outline some)
+
 -- ---- a batch
-module _ {R : Type 0} (state : R → RevState) (e0 e1 : Engine R) (s0 s1 : StoreState) (k0 k1 : KeeperState) (first : Stmt) (rest : List Stmt) (agrees : Agrees state e0 s0) (batch : AreBatch (public_of e0) (count_of e0 s0) first rest) where
+module _ {R : Type 0} (state : R → RevState) (e0 e1 : Engine R) (s0 s1 : StoreState) (k0 k1 : KeeperState) (flights : Flights) (first : Stmt) (rest : List Stmt) (agrees : Agrees state e0 s0) (batch : AreBatch (public_of e0) (count_of e0 s0) first rest) where
   abbrev m0 : Machine R
-  m0 = machine_of e0 s0 k0
+  m0 = machine_of e0 s0 k0 flights
 
   abbrev m1 : Machine R
-  m1 = machine_of e1 s1 k1
+  m1 = machine_of e1 s1 k1 flights
 
   abbrev p0 : Public
   p0 = public_of e0
@@ -196,9 +211,9 @@ module _ {R : Type 0} (state : R → RevState) (e0 e1 : Engine R) (s0 s1 : Store
   together stmt owed is all few = record { few = few; alike = inr (table, insert_first table stmt (statements_of owed) is all) }
 
   -- ---- the first
-  module _ (g : Option Gathering) (off : goes_into p0 g (skeleton first) ≡ false) where
+  module _ (g : Gathered) (off : IsApartFrom flights.settings p0 g (skeleton first)) where
     -- it was stopped
-    pub stopped_does : (stop : RunStop) (outcomes : List Outcome) → RanBatch state first rest (Err stop) outcomes e0 s0 e1 s1 k0 k1 → Does state (standing m0 [] g) (standing m1 (unanswered rest) None) first (Err stop)
+    pub stopped_does : (stop : RunStop) (outcomes : List Outcome) → RanBatch state first rest (Err stop) outcomes e0 s0 e1 s1 k0 k1 → Does state (standing m0 [] g) (standing m1 (unanswered rest) none_gathered) first (Err stop)
     stopped_does stop outcomes ran =
         let c = ran.carried in
         let same = sym (unanswered_stmts rest) in
@@ -206,6 +221,7 @@ module _ {R : Type 0} (state : R → RevState) (e0 e1 : Engine R) (s0 s1 : Store
         record {
           free = refl;
           alone = off;
+          flights = refl;
           along = together first (unanswered rest) names (subst (AllInsert table) same (insert_all table rest named_all)) (let few = batch.few in omega (arith, few, long));
           agrees = agrees;
           ran = c.ran;
@@ -369,19 +385,21 @@ module _ {R : Type 0} (state : R → RevState) (e0 e1 : Engine R) (s0 s1 : Store
         go Joined is = absurd (let apart = end_apart (Ok outcome) (length s1.asked - length s0.asked) in let joined = ap is_joined (sym c.ran.ends ∙ is) in cc (apart, joined))
         go (Cut n) is = absurd (let off = ap is_cut c.ran.ends ∙ end_cut outcome _ ∙ own in let on = ap is_cut is in cc (off, on))
 
-    module _ (g : Option Gathering) (off : goes_into p0 g (skeleton first) ≡ false) where
+    module _ (g : Gathered) (off : IsApartFrom flights.settings p0 g (skeleton first)) where
       -- what is gathered behind so many of them
-      abbrev pub gathered_at : (count : ℕ) → Option Gathering
-      gathered_at count = Some (record { table = table; count = count; failed = failed })
+      abbrev pub gathered_at : (count : ℕ) → Gathered
+      gathered_at count = record { batch = Some (record { table = table; count = count; failed = failed }); flown = 0 }
 
       abbrev pub behind_first : Machine R
       behind_first = standing m1 owed (gathered_at 1)
 
-      gathers_first : gathered_at 1 ≡ gathering_after p0 a0 g first here.end
+      gathers_first : gathered_at 1 ≡ gathered_after p0 a0 g first here.end
       gathers_first =
           let cut : is_cut here.end ≡ failed = ap is_cut c.ran.ends ∙ end_cut outcome _ in
-          sym ((λ i. if off i then option_map and_one g else if batch.begins i then begun_by (skeleton first) here.end else None)
-          ∙ (λ i. option_map (λ (t : List ℕ). record { table = t; count = 1; failed = cut i }) (names i)))
+          let as_batch : gathering_after p0 a0 g.batch first here.end ≡ Some (record { table = table; count = 1; failed = failed }) =
+          (λ i. if off.batch i then option_map and_one g.batch else if batch.begins i then begun_by (skeleton first) here.end else None)
+          ∙ (λ i. option_map (λ (t : List ℕ). record { table = t; count = 1; failed = cut i }) (names i)) in
+          sym (λ i. record { batch = as_batch i; flown = gathered_none p0 (skeleton first) begun.inserts i })
 
       means_first : Means state first (statements_of owed) (Ok outcome) e0 s0 e1 s1
       means_first = go failed refl
@@ -414,6 +432,7 @@ module _ {R : Type 0} (state : R → RevState) (e0 e1 : Engine R) (s0 s1 : Store
       first_does = record {
         free = refl;
         alone = off;
+        flights = refl;
         along = together first owed names owed_inserts (let few = batch.few in let less = owed_few failed rest outcomes in omega (arith, few, less));
         agrees = agrees;
         ran = c.ran;
@@ -466,7 +485,7 @@ module _ {R : Type 0} (state : R → RevState) (e0 e1 : Engine R) (s0 s1 : Store
 
     -- ---- the others
     -- one of them, behind so many
-    other_step : (g : Option Gathering) (off : goes_into p0 g (skeleton first) ≡ false) (count : ℕ) (stmt : Stmt) (stmts : List Stmt) (one : Outcome) (given : List Outcome) (text : List ℕ) → count < batch_most p0 → inserts_into (skeleton stmt) ≡ Some table
+    other_step : (g : Gathered) (off : IsApartFrom flights.settings p0 g (skeleton first)) (count : ℕ) (stmt : Stmt) (stmts : List Stmt) (one : Outcome) (given : List Outcome) (text : List ℕ) → count < batch_most p0 → inserts_into (skeleton stmt) ≡ Some table
         → AllInsert table (statements_of (owed_of failed stmts given)) → length stmts < batch_most p0 → IsServedWith (refusal_now p1 a1 stmt) failed one → Spells text (Ok stmt)
         → Step state (standing m1 (owed_of failed (stmt ∷ stmts) (one ∷ given)) (gathered_at g off count)) (standing m1 (owed_of failed stmts given) (gathered_at g off (count + 1))) text (line_answer one)
     other_step g off count stmt stmts one given text room is all few served spells =
@@ -482,7 +501,10 @@ module _ {R : Type 0} (state : R → RevState) (e0 e1 : Engine R) (s0 s1 : Store
               unindexed = flat_still stmt is;
               answered = served;
               owed = takes failed;
-              gathered = sym (ap (λ (b : Bool). if b then option_map and_one (gathered_at g off count) else if begins_batch p1 a1 stmt then begun_by (skeleton stmt) (end_with (refusal_now p1 a1 stmt)) else None) joins);
+              gathered = sym (λ i. record {
+                batch = if joins i then option_map and_one (gathered_at g off count).batch else if begins_batch p1 a1 stmt then begun_by (skeleton stmt) (end_with (refusal_now p1 a1 stmt)) else None;
+                flown = gathered_none p1 (skeleton stmt) (subst (λ (o : Option (List ℕ)). IsSome o) (sym is) refl) i;
+              });
               line = refl;
               unplanned = refl;
             });
@@ -515,7 +537,7 @@ module _ {R : Type 0} (state : R → RevState) (e0 e1 : Engine R) (s0 s1 : Store
         go true = tt
         go false = follow_by text texts (owed_of false stmts given) (subst (λ (l : List Stmt). SpellFirst texts (map Ok l)) (sym (owed_stmts p1 a1 stmts given failed served)) (spelt_first texts stmts spelt))
 
-    module _ (g : Option Gathering) (off : goes_into p0 g (skeleton first) ≡ false) where
+    module _ (g : Gathered) (off : IsApartFrom flights.settings p0 g (skeleton first)) where
       abbrev at : (owed : List Owed) (count : ℕ) → Machine R
       at owed count = standing m1 owed (gathered_at g off count)
 
@@ -524,23 +546,20 @@ module _ {R : Type 0} (state : R → RevState) (e0 e1 : Engine R) (s0 s1 : Store
 
       others_steps : (count : ℕ) (stmts : List Stmt) (given : List Outcome) (texts : List (List ℕ)) → count + length stmts ≤ batch_most p0 → 1 ≤ count → Named stmts → AreServedWith p1 a1 failed stmts given → AreSpelt texts stmts
           → Steps state (at (owed_of failed stmts given) count) (at [] (count + length stmts)) texts (line_answers given)
-      unfolding Steps
-      others_steps count [] [] [] room some all served spelt = let same : count + 0 ≡ count = omega arith in ((λ i. at (sym (owed_none failed []) i) (same i)), refl)
+      others_steps count [] [] [] room some all served spelt =
+          let same : count + 0 ≡ count = omega arith in
+          subst (λ (m : Machine R). Steps state (at (owed_of failed [] []) count) m [] []) (λ i. at (owed_none failed [] i) (sym same i)) at_rest
       others_steps count [] (one ∷ given) texts room some all served spelt = absurd served
       others_steps count [] [] (text ∷ texts) room some all served spelt = absurd spelt
       others_steps count (stmt ∷ stmts) [] texts room some all served spelt = absurd served
       others_steps count (stmt ∷ stmts) (one ∷ given) [] room some all served spelt = absurd spelt
       others_steps count (stmt ∷ stmts) (one ∷ given) (text ∷ texts) room some all served spelt =
           let behind = All-tail (λ (s : Stmt). inserts_into (skeleton s) ≡ Some table) stmt stmts all in
-          let same : (count + 1) + length stmts ≡ count + length (stmt ∷ stmts) = omega arith in (
-            at (owed_of failed stmts given) (count + 1),
-            line_answer one,
-            line_answers given,
-            refl,
-            other_step g off count stmt stmts one given text (omega (arith, room)) (All-head (λ (s : Stmt). inserts_into (skeleton s) ≡ Some table) stmt stmts all) (owed_insert stmts given behind served.1) (omega (arith, room, some)) served.0 spelt.0,
-            subst (λ (n : ℕ). Steps state (at (owed_of failed stmts given) (count + 1)) (at [] n) texts (line_answers given)) same
-                (others_steps (count + 1) stmts given texts (omega (arith, room)) (omega arith) behind served.1 spelt.1),
-          )
+          let same : (count + 1) + length stmts ≡ count + length (stmt ∷ stmts) = omega arith in
+          one_more
+          (other_step g off count stmt stmts one given text (omega (arith, room)) (All-head (λ (s : Stmt). inserts_into (skeleton s) ≡ Some table) stmt stmts all) (owed_insert stmts given behind served.1) (omega (arith, room, some)) served.0 spelt.0)
+          (subst (λ (n : ℕ). Steps state (at (owed_of failed stmts given) (count + 1)) (at [] n) texts (line_answers given)) same
+          (others_steps (count + 1) stmts given texts (omega (arith, room)) (omega arith) behind served.1 spelt.1))
 
       -- a line among them was lost; behind the first one all was asked
       pub record LineLost (start : Machine R) (texts : List (List ℕ)) (done : List Outcome) (one : Outcome) : Type 0 where
@@ -558,7 +577,6 @@ module _ {R : Type 0} (state : R → RevState) (e0 e1 : Engine R) (s0 s1 : Store
 
       others_lost : (count : ℕ) (stmts : List Stmt) (given : List Outcome) (texts : List (List ℕ)) (done : List Outcome) (one : Outcome) (back : List Outcome) → given ≡ done ++ one ∷ back → count + length stmts ≤ batch_most p0 → 1 ≤ count → Named stmts
           → AreServedWith p1 a1 failed stmts given → AreSpelt texts stmts → LineLost (at (owed_of failed stmts given) count) texts done one
-      unfolding Steps
       others_lost count [] [] texts [] one back is room some all served spelt = absurd (cc is)
       others_lost count [] [] texts (d ∷ done) one back is room some all served spelt = absurd (cc is)
       others_lost count [] (o ∷ given) texts done one back is room some all served spelt = absurd served
@@ -575,7 +593,7 @@ module _ {R : Type 0} (state : R → RevState) (e0 e1 : Engine R) (s0 s1 : Store
             middle = at (owed_of failed (stmt ∷ stmts) (o ∷ given)) count;
             owed_then = owed_of failed stmts given;
             count = count + 1;
-            steps = (refl, refl);
+            steps = at_rest;
             step = subst (λ (x : Outcome). Step state (at (owed_of failed (stmt ∷ stmts) (o ∷ given)) count) (at (owed_of failed stmts given) (count + 1)) text (line_answer x)) same
                 (other_step g off count stmt stmts o given text (omega (arith, room)) (All-head (λ (s : Stmt). inserts_into (skeleton s) ≡ Some table) stmt stmts all) (owed_insert stmts given behind served.1) (omega (arith, room, some)) served.0 spelt.0);
             follow = follow_behind text texts stmts given served.1 spelt.1;
@@ -595,7 +613,7 @@ module _ {R : Type 0} (state : R → RevState) (e0 e1 : Engine R) (s0 s1 : Store
             middle = there.middle;
             owed_then = there.owed_then;
             count = there.count;
-            steps = (at (owed_of failed stmts given) (count + 1), line_answer d, line_answers done, refl, step, there.steps);
+            steps = one_more step there.steps;
             step = there.step;
             follow = there.follow;
             stands = stands_on done there.stands;
@@ -610,13 +628,11 @@ module _ {R : Type 0} (state : R → RevState) (e0 e1 : Engine R) (s0 s1 : Store
       few_all = let few = batch.few in omega (arith, few)
 
       pub batch_steps : (held : List (List ℕ)) → AreSpelt held (first ∷ rest) → Steps state (standing m0 [] g) (at [] (1 + length rest)) held (line_answers (outcome ∷ outcomes))
-      unfolding Steps
       batch_steps [] spelt = absurd spelt
       batch_steps (text ∷ texts) spelt =
-          (behind_first g off, line_answer outcome, line_answers outcomes, refl, first_step g off text spelt.0, others_steps 1 rest outcomes texts few_all (omega arith) named_all served_all spelt.1)
+          one_more (first_step g off text spelt.0) (others_steps 1 rest outcomes texts few_all (omega arith) named_all served_all spelt.1)
 
       pub batch_lost : (held : List (List ℕ)) (done : List Outcome) (one : Outcome) (back : List Outcome) → outcome ∷ outcomes ≡ done ++ one ∷ back → AreSpelt held (first ∷ rest) → LineLost (standing m0 [] g) held done one
-      unfolding Steps
       batch_lost [] done one back is spelt = absurd spelt
       batch_lost (text ∷ texts) [] one back is spelt =
           let same : outcome ≡ one = cc is in
@@ -628,7 +644,7 @@ module _ {R : Type 0} (state : R → RevState) (e0 e1 : Engine R) (s0 s1 : Store
             middle = standing m0 [] g;
             owed_then = owed;
             count = 1;
-            steps = (refl, refl);
+            steps = at_rest;
             step = subst (λ (x : Outcome). Step state (standing m0 [] g) (behind_first g off) text (line_answer x)) same (first_step g off text spelt.0);
             follow = follow_behind text texts rest outcomes served_all spelt.1;
             stands = refl;
@@ -644,7 +660,7 @@ module _ {R : Type 0} (state : R → RevState) (e0 e1 : Engine R) (s0 s1 : Store
             middle = there.middle;
             owed_then = there.owed_then;
             count = there.count;
-            steps = (behind_first g off, line_answer d, line_answers done, refl, subst (λ (x : Outcome). Step state (standing m0 [] g) (behind_first g off) text (line_answer x)) same (first_step g off text spelt.0), there.steps);
+            steps = one_more (subst (λ (x : Outcome). Step state (standing m0 [] g) (behind_first g off) text (line_answer x)) same (first_step g off text spelt.0)) there.steps;
             step = there.step;
             follow = there.follow;
             stands = stands_on done there.stands;
@@ -655,6 +671,12 @@ module _ {R : Type 0} (state : R → RevState) (e0 e1 : Engine R) (s0 s1 : Store
           stands_on (e ∷ done) is = is
 
       -- nothing else goes into it then
-      pub batch_closed : (outline : Skeleton) → IsApart p1 first rest outline → goes_into p1 (gathered_at g off (1 + length rest)) outline ≡ false
-      batch_closed outline (inl other) = goes_false p1 table (1 + length rest) failed outline (inl (λ same. other (same ∙ sym names)))
-      batch_closed outline (inr full) = goes_false p1 table (1 + length rest) failed outline (inr (omega (arith, full)))
+      pub batch_closed : (outline : Skeleton) → IsApart flights.settings p0 first rest outline → IsApartFrom flights.settings p1 (gathered_at g off (1 + length rest)) outline
+      batch_closed outline apart = record {
+        batch = elim apart.batch [
+          | inl none ↦ goes_false p1 table (1 + length rest) failed outline (inl (λ same. cc (none, same)))
+          | inr (inl other) ↦ goes_false p1 table (1 + length rest) failed outline (inl (λ same. other (same ∙ sym names)))
+          | inr (inr full) ↦ goes_false p1 table (1 + length rest) failed outline (inr (let most = most_is in omega (arith, full, most)))
+        ];
+        flown = place_none (most_flown flights.settings p1) p1 outline;
+      }

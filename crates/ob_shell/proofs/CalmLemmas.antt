@@ -5,6 +5,7 @@ use Rattle.ob_base.specs.declared.refusal.Stop.TheVariants.{Tampered}
 use Rattle.ob_base.specs.declared.config.Public.{Public}
 use Rattle.ob_base.specs.declared.skeleton.Skeleton.{Skeleton}
 use Rattle.ob_exec.specs.Ran.{ServedCause}
+use Rattle.ob_exec.specs.RanFlight.{FlightCause}
 use Rattle.ob_tables.specs.Agreeing.{public_of, world_of}
 use Rattle.ob_tables.specs.Stops.{session_stop}
 use Rattle.ob_tables.specs.declared.engine.Engine.{Engine}
@@ -13,7 +14,7 @@ use Rattle.ob_tables.specs.declared.stop.RunStop.TheVariants as Runs
 use Rattle.ob_headline.specs.Words.{Answer}
 use Rattle.ob_shell.proofs.StepLemmas.{by_last}
 use Rattle.ob_shell.specs.Running.{LastPart}
-use Rattle.ob_shell.specs.Steps.{Machine, PartlyAt, Step, Steps}
+use Rattle.ob_shell.specs.Steps.{Machine, PartlyAt, Step, Steps, at_rest, more_together, one_more}
 use Rattle.ob_sql.specs.Skeleton.{skeleton}
 use Rattle.ob_store.specs.State.{StoreState}
 use Rattle.ob_vault.specs.State.{RevState, World}
@@ -41,6 +42,14 @@ stop_met p outline Runs.StoreFault a b cause calm = cause.1 calm
 stop_met p outline Runs.StashFull a b cause calm = cause.1 calm
 stop_met p outline Runs.KeeperFault a b cause calm = cause.1 calm
 
+flight_met : (run : RunStop) (a b : World) → FlightCause {T = Unit {0}} (Err run) a b → Calm a → MeetsChange (Err (session_stop run)) b
+flight_met (Runs.Tampered region place) a b cause calm = cause.1 calm
+flight_met Runs.SinkFault a b cause calm = cause calm
+flight_met Runs.NoMemory a b cause calm = cause calm
+flight_met Runs.StoreFault a b cause calm = absurd cause
+flight_met Runs.StashFull a b cause calm = absurd cause
+flight_met Runs.KeeperFault a b cause calm = absurd cause
+
 module _ {R : Type 0} (state : R → RevState) where
   abbrev IsCalm : Machine R → Type 0
   IsCalm m = Calm (world_of state m.engine m.store)
@@ -52,9 +61,9 @@ module _ {R : Type 0} (state : R → RevState) where
   ]
 
   pub steps_calm : (m0 m2 : Machine R) (texts : List (List ℕ)) (answers : List Answer) → Steps state m0 m2 texts answers → IsCalm m0 → IsCalm m2
-  unfolding Steps
-  steps_calm m0 m2 [] answers steps calm = subst (λ (m : Machine R). IsCalm m) (sym steps.0) calm
-  steps_calm m0 m2 (text ∷ texts) answers steps calm = steps_calm steps.0 m2 texts steps.2 steps.5 (step_calm m0 steps.0 text steps.1 steps.4 calm)
+  steps_calm m0 m2 texts answers at_rest calm = calm
+  steps_calm m0 m2 texts answers (one_more {m1 = m1} {text = text} {one = one} {texts = more} {answers = given} step rest) calm = steps_calm m1 m2 more given rest (step_calm m0 m1 text one step calm)
+  steps_calm m0 m2 texts answers (more_together {m1 = m1} {texts = more} {answers = given} step rest) calm = steps_calm m1 m2 more given rest (step.flew.ran.cause calm)
 
   rests_met : (m1 m2 : Machine R) → m2 ≡ m1 → IsCalm m1 → IsCalm m2
   rests_met m1 m2 same calm = subst (λ (m : Machine R). IsCalm m) (sym same) calm
@@ -63,7 +72,9 @@ module _ {R : Type 0} (state : R → RevState) where
   part_met m1 m2 [] run part idle calm = met run _ (rests_met m1 m2 idle.rests.machine calm)
   part_met m1 m2 (text ∷ more) run part (inl idle) calm = met run _ (rests_met m1 m2 idle.rests.machine calm)
   part_met m1 m2 (text ∷ more) run part (inr (inl cut)) calm = stop_met (public_of m1.engine) (skeleton cut.stmt) run _ _ cut.does.ran.cause calm
-  part_met m1 m2 (text ∷ more) run part (inr (inr done)) calm = met run _ (step_calm m1 m2 text done.answer done.step calm)
+  part_met m1 m2 (text ∷ more) run part (inr (inr (inl done))) calm = met run _ (step_calm m1 m2 text done.answer done.step calm)
+  part_met m1 m2 (text ∷ more) run part (inr (inr (inr (inl cut)))) calm = flight_met run _ _ cut.flew.ran.cause calm
+  part_met m1 m2 (text ∷ more) run part (inr (inr (inr (inr done)))) calm = met run _ (done.step.flew.ran.cause calm)
 
   pub last_met : (m1 m2 : Machine R) (more : List (List ℕ)) (part : List ℕ) (result : Result Bool Stop) → LastPart state m1 m2 more part result → IsCalm m1
       → MeetsChange result (world_of state m2.engine m2.store)

@@ -1,12 +1,14 @@
 -- What a run promises once its last line was written.
-use Rattle.std.specs.Prelude.{⊤, ◌≢◌}
-use Rattle.std.proofs.Common.{◌≡◌, ◌⊎◌, ℕ, Bool, true, false, List, [], ◌++◌, Option, Ok, Err, refl, sym, inl, subst, arith}
+use Rattle.std.specs.Prelude.{⊤, ◌≢◌, drop}
+use Rattle.std.proofs.Common.{◌≡◌, ◌⊎◌, ℕ, Bool, true, false, List, [], ◌++◌, length, Option, Ok, Err, refl, sym, inl, subst, arith}
+use Rattle.ob_headline.specs.declared.flight.FlightSettings.{FlightSettings}
 use Rattle.ob_base.specs.Counts.{Rises}
 use Rattle.ob_base.specs.declared.config.Config.{Config}
 use Rattle.ob_base.specs.declared.refusal.Stop.TheVariants.{Tampered, SourceFault, SinkFault, NoMemory, InputLimit, StoreFault, StashFull, KeeperFault}
 use Rattle.ob_gen.specs.declared.tally.Tally.{Tally}
-use Rattle.ob_headline.specs.Bases.{Base, FromEach, fresh}
+use Rattle.ob_headline.specs.Bases.{Base, FromEach, flying, fresh}
 use Rattle.ob_headline.specs.Endings.{status_of, last_line}
+use Rattle.ob_headline.specs.Flights.{GoesOn, seats_of}
 use Rattle.ob_headline.specs.Settings.{limit_of}
 use Rattle.ob_headline.specs.Words.{Faults, IsHonest, SinksRose, Took, printed}
 use Rattle.ob_headline.specs.Status.{IsCompleted, KeepsLimits, StoreFails}
@@ -18,7 +20,7 @@ use Rattle.ob_shell.proofs.CompleteLemmas.{reported_line, reported_quiet}
 use Rattle.ob_shell.proofs.TopLemmas.{shown_unread}
 use Rattle.ob_shell.specs.Closed.{Unwritten, LineWritten, refused_by}
 use Rattle.ob_shell.specs.Running.{OutFailed, ServesAlone}
-use Rattle.ob_shell.specs.Top.{EndingCause, EndingWords, IsFresh, Reported, RunShown, TraceSink, StatusCause}
+use Rattle.ob_shell.specs.Top.{EndingCause, EndingWords, IsFresh, LosesSome, Reported, RunShown, TraceSink, StatusCause}
 use Rattle.ob_shell.specs.declared.top.Ended.{Ended}
 use Rattle.ob_words.specs.declared.words.WordsErr.{WordsErr}
 use Rattle.ob_words.specs.declared.words.WordsErr.TheVariants as Words
@@ -29,7 +31,7 @@ module _ {tally : Tally} {tr : TraceSink} {Takes : Type 0} {base : Base} {keys :
   -- the last line was written, or might not be
   pub reported_closed : (ended : Ended) (report : Report) (old mid new : Faults)
       → report.status ≡ status_of ended.ending → report.high ≡ ended.high → EndingWords ended.ending Takes
-      → RunShown tally tr base keys l0 l1 gave w0 w1 s0 s1 ended.high ended.ending [] (OutFailed ended.quiet old.out mid.out) → EndingCause (ServesAlone base.public) ended.ending old mid
+      → RunShown tally tr base keys l0 l1 gave w0 w1 s0 s1 ended.high ended.ending [] (OutFailed ended.quiet old.out mid.out) → EndingCause (ServesAlone base.flight base.public) ended.ending old mid
       → (ended.quiet ≡ true → Unwritten w1 w2 mid.out new.out) → (ended.quiet ≡ false → LineWritten (last_line ended.ending) w1 w2 mid.out new.out)
       → (ended.quiet ≡ true → SinksRose old mid) → (ended.quiet ≡ false → mid.trace ≡ old.trace) → new.trace ≡ mid.trace → new.source ≡ mid.source
       → Reported tally tr Takes base keys l0 l1 gave w0 w2 s0 s1 old new report
@@ -57,25 +59,25 @@ pub words_cause : (Alone : Type 0) (error : WordsErr) (faults : Faults) → Endi
 words_cause Alone Words.Usage faults = record { source = refl; out = refl; trace = refl }
 words_cause Alone Words.NoMemory faults = ((λ alone. refl, inl refl), omega arith, omega arith)
 
-unfoldable pub words_shown : {F : Type 0} {keys : List ℕ → KeySet} (tally : Tally) (tr : TraceSink) (settings : Option Config) (error : WordsErr) (l : Option (List ℕ)) (gave : ℕ) (w : Option (List ℕ)) (s : StoreState) → IsFresh s → tr.new ≡ tr.old
-    → RunShown tally tr (fresh settings) keys l l gave w w s s 0 (refused_by error) [] F
-words_shown tally tr settings Words.Usage l gave w s fresh untraced = shown_unread tally tr settings l gave w s _ fresh untraced tt tt tt tt refl
-words_shown tally tr settings Words.NoMemory l gave w s fresh untraced = shown_unread tally tr settings l gave w s _ fresh untraced tt tt tt tt tt
+unfoldable pub words_shown : {F : Type 0} {keys : List ℕ → KeySet} (tally : Tally) (tr : TraceSink) (settings : Option Config) (flight : Option FlightSettings) (error : WordsErr) (l : Option (List ℕ)) (gave : ℕ) (w : Option (List ℕ)) (s : StoreState) → IsFresh s → tr.new ≡ tr.old
+    → RunShown tally tr (flying flight (fresh settings)) keys l l gave w w s s 0 (refused_by error) [] F
+words_shown tally tr settings flight Words.Usage l gave w s fresh untraced = shown_unread tally tr settings flight l gave w s _ fresh untraced tt tt tt tt refl
+words_shown tally tr settings flight Words.NoMemory l gave w s fresh untraced = shown_unread tally tr settings flight l gave w s _ fresh untraced tt tt tt tt tt
 
 -- of which nothing is taken
-pub words_none : (F : Type 0) (keys : List ℕ → KeySet) (tally : Tally) (tr : TraceSink) (settings : Option Config) (error : WordsErr) (l : Option (List ℕ)) (gave : ℕ) (w : Option (List ℕ)) (s : StoreState) (blank : IsFresh s) (untraced : tr.new ≡ tr.old)
-    → (words_shown {F = F} {keys = keys} tally tr settings error l gave w s blank untraced).taken ≡ []
+pub words_none : (F : Type 0) (keys : List ℕ → KeySet) (tally : Tally) (tr : TraceSink) (settings : Option Config) (flight : Option FlightSettings) (error : WordsErr) (l : Option (List ℕ)) (gave : ℕ) (w : Option (List ℕ)) (s : StoreState) (blank : IsFresh s) (untraced : tr.new ≡ tr.old)
+    → (words_shown {F = F} {keys = keys} tally tr settings flight error l gave w s blank untraced).taken ≡ []
 unfolding words_shown shown_unread
-words_none F keys tally tr settings Words.Usage l gave w s blank untraced = refl
-words_none F keys tally tr settings Words.NoMemory l gave w s blank untraced = refl
+words_none F keys tally tr settings flight Words.Usage l gave w s blank untraced = refl
+words_none F keys tally tr settings flight Words.NoMemory l gave w s blank untraced = refl
 
-pub reported_words : (tally : Tally) (tr : TraceSink) {Takes : Type 0} {keys : List ℕ → KeySet} {settings : Option Config} {gave : ℕ} {l w0 w1 : Option (List ℕ)} {s : StoreState} (error : WordsErr) (report : Report) (old new : Faults) → IsFresh s → tr.new ≡ tr.old
+pub reported_words : (tally : Tally) (tr : TraceSink) {Takes : Type 0} {keys : List ℕ → KeySet} {settings : Option Config} {flight : Option FlightSettings} {gave : ℕ} {l w0 w1 : Option (List ℕ)} {s : StoreState} (error : WordsErr) (report : Report) (old new : Faults) → IsFresh s → tr.new ≡ tr.old
     → (error ≡ Words.Usage → ¬ Takes) → report.status ≡ status_of (refused_by error) → report.high ≡ 0
     → LineWritten (last_line (refused_by error)) w0 w1 old.out new.out → new.trace ≡ old.trace → new.source ≡ old.source
-    → Reported tally tr Takes (fresh settings) keys l l gave w0 w1 s s old new report
-reported_words tally tr {settings = settings} {gave = gave} {l = l} {w0 = w0} {s = s} error report old new fresh untraced not status high line trace source =
+    → Reported tally tr Takes (flying flight (fresh settings)) keys l l gave w0 w1 s s old new report
+reported_words tally tr {settings = settings} {flight = flight} {gave = gave} {l = l} {w0 = w0} {s = s} error report old new fresh untraced not status high line trace source =
     reported_closed (record { ending = refused_by error; quiet = false; high = 0; tally = tally }) report old old new status high (words_end error not)
-    (words_shown tally tr settings error l gave w0 s fresh untraced) (words_cause _ error old) (λ loud. absurd (cc loud)) (λ loud. line) (λ loud. absurd (cc loud)) (λ loud. refl) trace source
+    (words_shown tally tr settings flight error l gave w0 s fresh untraced) (words_cause _ error old) (λ loud. absurd (cc loud)) (λ loud. line) (λ loud. absurd (cc loud)) (λ loud. refl) trace source
 
 -- the words were taken
 pub words_taken : (ending : Ending) {Takes : Type 0} → EndingWords ending ⊤ → Takes → EndingWords ending Takes
@@ -91,37 +93,25 @@ words_taken (Ran (Err StoreFault)) taken t = t
 words_taken (Ran (Err StashFull)) taken t = t
 words_taken (Ran (Err KeeperFault)) taken t = t
 
-unfoldable pub reported_taken : {tally : Tally} {tr : TraceSink} {Takes : Type 0} {keys : List ℕ → KeySet} {settings asked : Option Config} {gave : ℕ}
+unfoldable pub reported_taken : {tally : Tally} {tr : TraceSink} {Takes : Type 0} {keys : List ℕ → KeySet} {settings asked : Option Config} {flight : Option FlightSettings} {gave : ℕ}
     {l0 l1 w0 w1 : Option (List ℕ)} {s0 s1 : StoreState} {old new : Faults} {report : Report}
-    → Takes → settings ≡ asked → Reported tally tr ⊤ (fresh asked) keys l0 l1 gave w0 w1 s0 s1 old new report
-    → Reported tally tr Takes (fresh settings) keys l0 l1 gave w0 w1 s0 s1 old new report
-reported_taken {tally = tally} {tr = tr} {Takes = Takes} {keys = keys} {gave = gave} {l0 = l0} {l1 = l1} {w0 = w0} {w1 = w1} {s0 = s0} {s1 = s1} {old = old} {new = new} {report = report} t is r =
+    → Takes → settings ≡ asked → Reported tally tr ⊤ (flying flight (fresh asked)) keys l0 l1 gave w0 w1 s0 s1 old new report
+    → Reported tally tr Takes (flying flight (fresh settings)) keys l0 l1 gave w0 w1 s0 s1 old new report
+reported_taken {tally = tally} {tr = tr} {Takes = Takes} {keys = keys} {flight = flight} {gave = gave} {l0 = l0} {l1 = l1} {w0 = w0} {w1 = w1} {s0 = s0} {s1 = s1} {old = old} {new = new} {report = report} t is r =
     let both = subst
-    (λ (o : Option Config). (x : RunShown tally tr (fresh o) keys l0 l1 gave w0 w1 s0 s1 report.high r.ending (last_line r.ending) (SinksRose old new)) × (new.trace ≢ old.trace → Outputs w0 w1 (Unit {0}) (printed x.story.answers ++ x.story.part)) × (Took w0 w1 (printed x.story.answers ++ x.story.part) ⊎ Rises old.out new.out))
-    (sym is) (r.shown, r.silent, r.through) in
+    (λ (o : Option Config). (x : RunShown tally tr (flying flight (fresh o)) keys l0 l1 gave w0 w1 s0 s1 report.high r.ending (last_line r.ending) (SinksRose old new)) × (new.trace ≢ old.trace → Outputs w0 w1 (Unit {0}) (printed x.story.answers ++ x.story.part)) × (Took w0 w1 (printed x.story.answers ++ x.story.part) ⊎ Rises old.out new.out)
+    × (GoesOn (drop (length x.story.seen) (seats_of (flying flight (fresh o)) x.story.entries)) ⊎ LosesSome (Rises old.out new.out) r.ending))
+    (sym is) (r.shown, r.silent, r.through, r.answered) in
     record {
       ending = r.ending;
       status = r.status;
       takes = words_taken r.ending r.takes t;
       shown = both.0;
       through = both.2;
+      answered = both.3;
       silent = both.1;
-      cause = subst (λ (o : Option Config). StatusCause (ServesAlone (fresh o).public) r.ending old new) (sym is) r.cause;
+      cause = subst (λ (o : Option Config). StatusCause (ServesAlone flight (fresh o).public) r.ending old new) (sym is) r.cause;
       completes = λ taken input e keeps source sinks.
-          subst (λ (o : Option Config). FromEach (fresh o) (λ s. IsCompleted (IsHonest s0 s1) (StoreFails (fresh o) s0 s1) ((fresh o).public.save ≡ true) r.ending)) (sym is)
+          subst (λ (o : Option Config). FromEach (flying flight (fresh o)) (λ s. IsCompleted (IsHonest s0 s1) (StoreFails (flying flight (fresh o)) s0 s1) ((fresh o).public.save ≡ true) r.ending)) (sym is)
           (r.completes tt input e (subst (λ (o : Option Config). KeepsLimits (limit_of o) input) is keeps) source sinks);
     }
-
--- the same of a base that the words say nothing of
-pub reported_takes : {tally : Tally} {tr : TraceSink} {Takes : Type 0} {base : Base} {keys : List ℕ → KeySet} {gave : ℕ} {l0 l1 w0 w1 : Option (List ℕ)} {s0 s1 : StoreState} {old new : Faults} {report : Report}
-    → Takes → Reported tally tr ⊤ base keys l0 l1 gave w0 w1 s0 s1 old new report → Reported tally tr Takes base keys l0 l1 gave w0 w1 s0 s1 old new report
-reported_takes t r = record {
-  ending = r.ending;
-  status = r.status;
-  takes = words_taken r.ending r.takes t;
-  shown = r.shown;
-  through = r.through;
-  silent = r.silent;
-  cause = r.cause;
-  completes = λ taken input e keeps. r.completes tt input e keeps;
-}

@@ -22,7 +22,7 @@ use Rattle.ob_print.proofs.CutLemmas.{Outputs-by, Outputs-fault}
 use Rattle.ob_print.specs.Cuts.{Outputs}
 use Rattle.ob_shell.proofs.KeyLemmas.{after_line-none, first_line-long, secret_of-long}
 use Rattle.ob_shell.proofs.TookLemmas.{took_more, took_of, took_or}
-use Rattle.ob_shell.proofs.TopLemmas.{first_line-more, after_line-more, shown_line, cut_line, quiet_line, line_rose, status_cause}
+use Rattle.ob_shell.proofs.TopLemmas.{first_line-more, after_line-more, loses_as, shown_line, cut_line, quiet_line, line_rose, status_cause}
 use Rattle.ob_shell.specs.Top.{TraceSink, EndsUntampered, EndingSays, EndingWords, EndingCause, RunShown, StatusCause, Reported}
 use Rattle.ob_store.specs.State.{StoreState}
 use Rattle.ob_seal.specs.KeySet.{KeySet}
@@ -80,7 +80,7 @@ limits_kept Alone (Ran (Err InputLimit)) max taken rest ended more part t words 
     ]
 
 pub completes : {tally : Tally} {tr : TraceSink} {base : Base} {keys : List ℕ → KeySet} {gave : ℕ} {l0 l1 w0 w1 : Option (List ℕ)} {s0 s1 : StoreState} {high : ℕ} {ending : Ending} {line : List ℕ} {F Takes : Type 0} (old new : Faults) (input : List ℕ)
-    → RunShown tally tr base keys l0 l1 gave w0 w1 s0 s1 high ending line F → EndingWords ending Takes → StatusCause (ServesAlone base.public) ending old new
+    → RunShown tally tr base keys l0 l1 gave w0 w1 s0 s1 high ending line F → EndingWords ending Takes → StatusCause (ServesAlone base.flight base.public) ending old new
     → Takes → l0 ≡ Some input → KeepsLimits (limit_of base.settings) input → ¬ Rises old.source new.source → ¬ SinksRose old new
     → FromEach base (λ s. IsCompleted (IsHonest s0 s1) (StoreFails base s0 s1) (base.public.save ≡ true) ending)
 completes {base = base} {l1 = l1} {s0 = s0} {s1 = s1} {ending = ending} old new input shown words cause t e k a c =
@@ -91,27 +91,28 @@ completes {base = base} {l1 = l1} {s0 = s0} {s1 = s1} {ending = ending} old new 
         → IsCompleted (IsHonest s0 s1) (StoreFails base s0 s1) (base.public.save ≡ true) ending
     go None says given calm = absurd given
     go (Some rest) says given calm =
-        limits_kept (ServesAlone base.public) ending (limit_of base.settings) shown.taken rest shown.ended shown.story.more shown.story.part t words (subst (KeepsLimits (limit_of base.settings)) given k) says old new cause a c
+        limits_kept (ServesAlone base.flight base.public) ending (limit_of base.settings) shown.taken rest shown.ended shown.story.more shown.story.part t words (subst (KeepsLimits (limit_of base.settings)) given k) says old new cause a c
         calm shown.carried.faulted shown.carried.saving
 
 -- the last line was written, or cut by a sink's fault
 unfoldable pub reported_line : {tally : Tally} {tr : TraceSink} {Takes : Type 0} {base : Base} {keys : List ℕ → KeySet} {report : Report} (ending : Ending) (old mid new : Faults)
     {gave : ℕ} {l0 l1 w0 w1 w2 : Option (List ℕ)} {s0 s1 : StoreState} {E Lost : Type 0}
     → report.status ≡ status_of ending → EndingWords ending Takes
-    → RunShown tally tr base keys l0 l1 gave w0 w1 s0 s1 report.high ending [] Lost → ¬ Lost → EndingCause (ServesAlone base.public) ending old mid
+    → RunShown tally tr base keys l0 l1 gave w0 w1 s0 s1 report.high ending [] Lost → ¬ Lost → EndingCause (ServesAlone base.flight base.public) ending old mid
     → Outputs w1 w2 E (last_line ending) → (E → Rises mid.out new.out) → (last_line ending ≡ [] → new.out ≡ mid.out)
     → mid.out ≤ new.out → new.trace ≡ mid.trace → new.source ≡ mid.source → mid.trace ≡ old.trace
     → Reported tally tr Takes base keys l0 l1 gave w0 w2 s0 s1 old new report
 unfolding shown_line
 reported_line {base = base} ending old mid new {w0 = w0} {w1 = w1} status takes shown loud cause cut rose none later trace source kept =
-    let causes : StatusCause (ServesAlone base.public) ending old new = status_cause (ServesAlone base.public) ending old mid new cause later trace source none in
+    let causes : StatusCause (ServesAlone base.flight base.public) ending old new = status_cause (ServesAlone base.flight base.public) ending old mid new cause later trace source none in
     let whole : Outputs w0 w1 ⊥ ((printed shown.story.answers ++ shown.story.part) ++ []) = Outputs-by loud shown.grew in
     record {
       ending = ending;
       status = status;
       takes = takes;
-      shown = shown_line cut.grown shown cut.appends (cut_line _ _ (λ e. line_rose (ServesAlone base.public) ending old mid new cause (rose e) later trace) whole cut);
+      shown = shown_line cut.grown shown cut.appends (cut_line _ _ (λ e. line_rose (ServesAlone base.flight base.public) ending old mid new cause (rose e) later trace) whole cut) (λ lost. absurd (loud lost));
       through = inl (took_more cut.grown (took_of (subst (λ (l : List ℕ). Outputs w0 w1 ⊥ l) (append-nil (printed shown.story.answers ++ shown.story.part)) whole) (λ never. never)) cut.appends);
+      answered = loses_as (λ lost. absurd (loud lost)) shown.answered;
       silent = λ other. absurd (other (trace ∙ kept));
       cause = causes;
       completes = λ t input e k a b. completes old new input shown takes causes t e k a b;
@@ -121,17 +122,18 @@ reported_line {base = base} ending old mid new {w0 = w0} {w1 = w1} status takes 
 unfoldable pub reported_quiet : {tally : Tally} {tr : TraceSink} {Takes : Type 0} {base : Base} {keys : List ℕ → KeySet} {report : Report} (ending : Ending) (old new : Faults)
     {gave : ℕ} {l0 l1 w0 w1 : Option (List ℕ)} {s0 s1 : StoreState} {Lost : Type 0}
     → report.status ≡ status_of ending → EndingWords ending Takes
-    → RunShown tally tr base keys l0 l1 gave w0 w1 s0 s1 report.high ending [] Lost → (Lost → Rises old.out new.out) → EndingCause (ServesAlone base.public) ending old new → SinksRose old new
+    → RunShown tally tr base keys l0 l1 gave w0 w1 s0 s1 report.high ending [] Lost → (Lost → Rises old.out new.out) → EndingCause (ServesAlone base.flight base.public) ending old new → SinksRose old new
     → Reported tally tr Takes base keys l0 l1 gave w0 w1 s0 s1 old new report
 unfolding shown_line
 reported_quiet {base = base} ending old new {w0 = w0} {w1 = w1} {Lost = Lost} status takes shown lost cause rose =
-    let causes : StatusCause (ServesAlone base.public) ending old new = status_cause (ServesAlone base.public) ending old new new cause (omega arith) refl refl (λ e. refl) in
+    let causes : StatusCause (ServesAlone base.flight base.public) ending old new = status_cause (ServesAlone base.flight base.public) ending old new new cause (omega arith) refl refl (λ e. refl) in
     record {
       ending = ending;
       status = status;
       takes = takes;
-      shown = shown_line [] shown (Appends-nil _) (quiet_line _ _ shown.grew rose);
+      shown = shown_line [] shown (Appends-nil _) (quiet_line _ _ shown.grew rose) (λ lost. rose);
       through = took_or (subst (λ (l : List ℕ). Outputs w0 w1 Lost l) (append-nil (printed shown.story.answers ++ shown.story.part)) shown.grew) lost;
+      answered = loses_as lost shown.answered;
       silent = λ other. Outputs-fault tt (subst (λ (l : List ℕ). Outputs w0 w1 Lost l) (append-nil (printed shown.story.answers ++ shown.story.part)) shown.grew);
       cause = causes;
       completes = λ t input e k a b. completes old new input shown takes causes t e k a b;

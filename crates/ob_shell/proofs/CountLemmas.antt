@@ -8,7 +8,7 @@ use Rattle.ob_tables.specs.Stops.{session_stop}
 use Rattle.ob_tables.specs.declared.stop.RunStop.{RunStop}
 use Rattle.ob_tables.specs.declared.stop.RunStop.TheVariants as Runs
 use Rattle.ob_headline.specs.Words.{Faults, SinksRose, faults_of}
-use Rattle.ob_shell.specs.Running.{OutFailed, Silenced, StopCause}
+use Rattle.ob_shell.specs.Running.{Silenced, StopCause}
 
 pub rises_later : (a b c : ℕ) → Rises a b → b ≤ c → Rises a c
 rises_later a b c h l = omega arith
@@ -34,10 +34,6 @@ same_cause Alone A B InputLimit old new cause = cause
 same_cause Alone A B StoreFault old new cause = cause
 same_cause Alone A B StashFull old new cause = cause
 same_cause Alone A B KeeperFault old new cause = cause
-
--- what was lost since a count that hadn't risen before
-pub lost_since : {quiet : Bool} {k0 k1 k2 : ℕ} → k1 ≡ k0 → OutFailed quiet k1 k2 → OutFailed quiet k0 k2
-lost_since {k2 = k2} same lost = (lost.0, subst (λ (n : ℕ). Rises n k2) same lost.1)
 
 -- a stop, and what was traced after it
 pub traced_cause : (told stop : RunStop) (out0 out1 trace0 trace1 : ℕ) → told ≡ stop → StopCause {T = Tally} (Unit {0}) (faults_of 0 out0 0) (faults_of 0 out1 0) (Err (session_stop told)) → trace0 ≤ trace1

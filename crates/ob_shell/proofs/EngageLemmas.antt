@@ -44,7 +44,7 @@ use Rattle.ob_shell.proofs.StandLemmas.{none_asked, stands_first}
 use Rattle.ob_shell.proofs.TraceLemmas.{since, until}
 use Rattle.ob_shell.specs.Engaging.{ClosesRun, Engages, IsHushed}
 use Rattle.ob_shell.specs.Standing.{StandsOn}
-use Rattle.ob_shell.specs.Steps.{IsReady, machine_of, told_nothing}
+use Rattle.ob_shell.specs.Steps.{IsReady, machine_of, no_flights, told_nothing}
 use Rattle.ob_shell.specs.Tallies.{has_refused}
 use Rattle.ob_shell.specs.Top.{IsFresh}
 use Rattle.ob_shell.specs.declared.keeping.KeptEnded.{KeptEnded}
@@ -69,7 +69,7 @@ cut_caused r f0 f1 cause cut = record { grown = cut.grown; appends = cut.appends
 
 -- ---- an engine whose tables aren't saved
 pub ready_unsaved : {R : Type 0} (state : R → RevState) (Saves : Type 0) (e : Engine R) (s : StoreState) (k : KeeperState) → Agrees state e s → has_ended e ≡ false → replaced_of e ≡ None → (public_of e).save ≡ false
-    → IsReady state Saves (machine_of e s k)
+    → IsReady state Saves (machine_of e s k no_flights)
 ready_unsaved state Saves e s k agrees lives settled unsaved = record {
   agrees = agrees;
   lives = lives;

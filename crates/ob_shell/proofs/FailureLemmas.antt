@@ -1,5 +1,5 @@
 -- At least as many calls of the store failed as statements were cut off, and as texts were answered so one by one.
-use Rattle.std.specs.Prelude.{if◌then◌else◌, take}
+use Rattle.std.specs.Prelude.{if◌then◌else◌, is_some, take}
 use Rattle.std.specs.Option.{option_map}
 use Rattle.std.proofs.Common.{◌≡◌, ◌≤◌, ◌+◌, ◌++◌, ℕ, Bool, true, false, List, [], ◌∷◌, length, Option, None, Some, Ok, Err, refl, sym, ap, subst, arith}
 use Rattle.ob_base.specs.Counts.{Rises}
@@ -10,7 +10,8 @@ use Rattle.ob_base.specs.declared.refusal.Refusal.TheVariants.{StoreFault}
 use Rattle.ob_base.specs.declared.seen.End.{End}
 use Rattle.ob_base.specs.declared.seen.End.TheVariants.{Joined, Cut}
 use Rattle.ob_base.specs.declared.seen.Seen.{Seen}
-use Rattle.ob_headline.specs.Accesses.{AreSeen}
+use Rattle.ob_headline.specs.Accesses.{AreSeen, cut_aloft}
+use Rattle.ob_headline.specs.Flights.{Seat, Stand}
 use Rattle.ob_headline.specs.Batches.{is_failed}
 use Rattle.ob_headline.specs.Failures.{FailsBeside, RisesBy, cut_off, failures, outcome_failures, refusal_failures}
 use Rattle.ob_headline.specs.Statements.{statements}
@@ -69,13 +70,22 @@ pub beside_more : (x : Served) (seen : List Served) (a b c : ℕ) → RisesBy (i
 unfolding cut_off
 beside_more x seen a b c first rest = let all = grows a b c (if is_cut x.seen.end then 1 else 0) (cut_off seen + 1) first rest in omega (arith, all)
 
-pub cuts_none : (a b : ℕ) → a ≤ b → RisesBy (cut_off []) a b
+pub cuts_none : (a b : ℕ) → a ≤ b → RisesBy (cut_off [] + 0) a b
 unfolding cut_off
 cuts_none a b le = omega (arith, le)
 
-pub cuts_more : (x : Served) (seen : List Served) (a b c : ℕ) → RisesBy (if is_cut x.seen.end then 1 else 0) a b → RisesBy (cut_off seen) b c → RisesBy (cut_off (x ∷ seen)) a c
+pub cuts_more : (x : Served) (seen : List Served) (n a b c : ℕ) → RisesBy (if is_cut x.seen.end then 1 else 0) a b → RisesBy (cut_off seen + n) b c → RisesBy (cut_off (x ∷ seen) + n) a c
 unfolding cut_off
-cuts_more x seen a b c first rest = grows a b c (if is_cut x.seen.end then 1 else 0) (cut_off seen) first rest
+cuts_more x seen n a b c first rest = let all = grows a b c (if is_cut x.seen.end then 1 else 0) (cut_off seen + n) first rest in omega (arith, all)
+
+-- no more than were cut off among those begun
+few_aloft : (o : Option Stand) (n : ℕ) → (if is_some o then n else 0) ≤ n
+few_aloft None n = omega arith
+few_aloft (Some stand) n = omega arith
+
+pub cut_few : (seats : List Seat) (last : List Served) → cut_aloft seats last ≤ cut_off last
+cut_few [] last = omega arith
+cut_few (v ∷ seats) last = few_aloft v.left (cut_off last)
 
 -- ---- of answers
 pub fails_none : (a b : ℕ) → a ≤ b → RisesBy (failures []) a b
@@ -141,19 +151,20 @@ none_cut true n is = absurd (omega (arith, is))
 none_cut false n is = (refl, omega (arith, is))
 
 -- of statements that were answered, before some that weren't
-pub none_failed : (Leaves : Public → Stmt → Seen → Type 0) (spelt : List Spelt) (answers : List Answer) (seen last : List Served) (p : Public) (m : ℕ) (g : Option Gathering)
-    → AreSeen Leaves p m g spelt answers (seen ++ last) → length answers ≤ length spelt → length seen ≡ length (statements (take (length answers) spelt)) → has_failed g ≡ false → cut_off seen ≡ 0 → failures answers ≡ 0
+pub none_failed : (Leaves : Public → Stmt → Seen → Type 0) (spelt : List Spelt) (answers : List Answer) (seen last : List Served) (seats : List Seat) (g : Option Gathering)
+    → AreSeen Leaves seats g spelt answers (seen ++ last) → length answers ≤ length spelt → length seen ≡ length (statements (take (length answers) spelt)) → has_failed g ≡ false → cut_off seen ≡ 0 → failures answers ≡ 0
 unfolding AreSeen cut_off failures statements
-none_failed Leaves spelt [] seen last p m g are reached each sound uncut = refl
-none_failed Leaves [] (one ∷ answers) seen last p m g are reached each sound uncut = absurd (omega (arith, reached))
-none_failed Leaves (Err at ∷ spelt) (one ∷ answers) seen last p m g are reached each sound uncut =
+none_failed Leaves spelt [] seen last seats g are reached each sound uncut = refl
+none_failed Leaves [] (one ∷ answers) seen last seats g are reached each sound uncut = absurd (omega (arith, reached))
+none_failed Leaves (Err at ∷ spelt) (one ∷ answers) seen last seats g are reached each sound uncut =
     let own : outcome_failures one.outcome ≡ 0 = ap (λ (a : Answer). outcome_failures a.outcome) are.0 in
-    let rest = none_failed Leaves spelt answers seen last p m None are.1 (omega (arith, reached)) each refl uncut in
+    let rest = none_failed Leaves spelt answers seen last seats None are.1 (omega (arith, reached)) each refl uncut in
     omega (arith, own, rest)
-none_failed Leaves (Ok stmt ∷ spelt) (one ∷ answers) [] last p m g are reached each sound uncut = absurd (omega (arith, each))
-none_failed Leaves (Ok stmt ∷ spelt) (one ∷ answers) (x ∷ seen) last p m g are reached each sound uncut =
+none_failed Leaves (Ok stmt ∷ spelt) (one ∷ answers) [] last seats g are reached each sound uncut = absurd (omega (arith, each))
+none_failed Leaves (Ok stmt ∷ spelt) (one ∷ answers) (x ∷ seen) last [] g are reached each sound uncut = absurd are
+none_failed Leaves (Ok stmt ∷ spelt) (one ∷ answers) (x ∷ seen) last (v ∷ seats) g are reached each sound uncut =
     let parts = none_cut (is_cut x.seen.end) (cut_off seen) uncut in
     let fine : is_failed g x.seen.end ≡ false = not_failed g x.seen.end sound parts.0 in
     let own : outcome_failures one.outcome ≡ 0 = not_failure one.outcome (λ is. absurd (cc (are.2.1.1 is, fine))) in
-    let rest = none_failed Leaves spelt answers seen last _ _ _ are.3 (omega (arith, reached)) (omega (arith, each)) (gathers_sound p m g stmt x.seen.end sound parts.0) parts.1 in
+    let rest = none_failed Leaves spelt answers seen last seats _ are.3 (omega (arith, reached)) (omega (arith, each)) (gathers_sound v.public v.asked g stmt x.seen.end sound parts.0) parts.1 in
     omega (arith, own, rest)

@@ -1,6 +1,6 @@
 -- Fewer accesses are asked than there are numbers.
 use Rattle.std.specs.Prelude.{All, IfSome, IsSome, bytes_eq, if◌then◌else◌, option_map, slice_get, ⊤}
-use Rattle.std.proofs.Common.{◌≡◌, ◌≤◌, ◌<◌, ◌+◌, ◌^◌, ℕ, suc, Bool, true, false, List, [], ◌∷◌, ◌++◌, length, Option, None, Some, Ok, Result, inl, inr, refl, sym, ◌∙◌, ap, subst, arith, get_or}
+use Rattle.std.proofs.Common.{◌≡◌, ◌⊎◌, ◌≤◌, ◌<◌, ◌+◌, ◌*◌, ◌/◌, ◌^◌, ℕ, zero, suc, Bool, true, false, List, [], ◌∷◌, ◌++◌, length, Option, None, Some, Ok, Result, inl, inr, refl, sym, ◌∙◌, ap, subst, arith, get_or}
 use Rattle.std.proofs.lemmas.Bool.Decides.{nat_tests}
 use Rattle.std.proofs.lemmas.Option.{slice_get-get_or}
 use Rattle.std.specs.Option.{option_map_or}
@@ -26,6 +26,7 @@ use Rattle.ob_base.specs.declared.skeleton.Skeleton.{Skeleton}
 use Rattle.ob_base.specs.declared.skeleton.Skeleton.TheVariants as K
 use Rattle.ob_base.specs.declared.skeleton.Source.{Source}
 use Rattle.ob_base.specs.declared.skeleton.Source.TheVariants.{Table as OneTable, Join}
+use Rattle.ob_exec.proofs.FlightLists.{served_long}
 use Rattle.ob_tables.proofs.TableLemmas.{region_below, tables_flat}
 use Rattle.ob_tables.specs.Agreeing.{Agrees, count_of, public_of, seen_of, world_of}
 use Rattle.ob_tables.specs.Running.{RefusedEarly}
@@ -47,10 +48,24 @@ use Rattle.ob_script.proofs.Few.{script_few}
 use Rattle.ob_script.specs.Parts.{count_part, insert_part, join_part}
 use Rattle.ob_script.specs.Script.{after_count, behind_change, behind_count, blocks_of, extent_of, joined_extent, mutation_script, result_part, rows_width, script, shape_script, until_end, whole_script, with_table}
 use Rattle.ob_script.specs.Sizes.{SeesLeaf, IfFlat, IfTable, IsCounted, IsHeld, IsPublic, IsSourceCounted, IsTable, IsWithin}
+use Rattle.std.proofs.Math.Nat.{div-le_self}
+use Rattle.std.proofs.lemmas.Nat.{div-add-mod', le-div}
+use Rattle.ob_base.specs.Plans.{IsPadded}
+use Rattle.ob_base.specs.declared.config.Planner.{Planner}
+use Rattle.ob_base.specs.declared.config.Planner.TheVariants.{Forced}
+use Rattle.ob_exec.specs.InFlight.{EndsAs, IsFlown, served_as}
+use Rattle.ob_headline.specs.Flights.{most_flown}
+use Rattle.ob_headline.specs.declared.flight.FlightSettings.{FlightSettings}
+use Rattle.ob_inflight.specs.Closing.{Closed}
+use Rattle.ob_script.proofs.FlightEnds.{ends_whole}
+use Rattle.ob_script.specs.FlightLaws.{accesses_for}
+use Rattle.ob_script.specs.Flights.{flight_public, merge}
+use Rattle.ob_shell.proofs.AloftLemmas.{within_get}
+use Rattle.ob_shell.proofs.FlightSteady.{steady_flown}
 use Rattle.ob_shell.proofs.ReplayLemmas.{counts_on}
 use Rattle.ob_shell.specs.Feeding.{Fetch}
 use Rattle.ob_shell.specs.Running.{SessionRan}
-use Rattle.ob_shell.specs.Steps.{Does, Machine, Step, Steps, asked_of}
+use Rattle.ob_shell.specs.Steps.{Does, Machine, Step, StepTogether, Steps, asked_of, at_rest, more_together, one_more}
 use Rattle.ob_sql.specs.Skeleton.{skeleton}
 use Rattle.ob_sql.specs.declared.stmt.SelectRows.{SelectRows}
 use Rattle.ob_sql.specs.declared.stmt.Stmt.{Stmt}
@@ -328,6 +343,112 @@ does_few state m0 m1 stmt result agrees kept does few = go (refusal_now p (asked
         let on = counts_on m0 m1 (script (public_of m0.engine) (skeleton stmt) (seen_of m1.engine)) does.ran.start does.ran.asked in
         omega (arith, on, short, small)
 
+-- ---- several in flight
+product_within : (a b r : ℕ) → a ≤ b → a * r ≤ b * r
+product_within a b r fits = grind arith
+
+-- each has its share of the rows that may be open
+share_some : (n pack buffer : ℕ) → 1 ≤ n → n ≤ buffer / (3 * pack + 1) → 3 * pack + 1 ≤ buffer / n
+share_some n pack buffer some few =
+    let least : 1 ≤ 3 * pack + 1 = omega arith in
+    let times = product_within n (buffer / (3 * pack + 1)) (3 * pack + 1) few in
+    let whole = div-add-mod' buffer (3 * pack + 1) in
+    let turned : (3 * pack + 1) * n ≡ n * (3 * pack + 1) = grind arith in
+    le-div (3 * pack + 1) buffer n some (omega (arith, times, whole, turned))
+
+flown_parts : (settings : Option FlightSettings) (p : Public) (n : ℕ) → 2 ≤ n → n ≤ most_flown settings p → (n ≤ p.buffer / (3 * p.pack + 1)) × (n ≤ 8)
+flown_parts None p n some few = absurd (omega (arith, some, few))
+flown_parts (Some f) p n some few = (omega (arith, some, few), omega (arith, some, few))
+
+-- by what is public in flight
+padded_so : (pad : Option ℕ) (planner : Planner) → IsPadded pad planner → IsPadded pad (Forced Small)
+padded_so None planner padded = tt
+padded_so (Some rows) planner padded = (padded.0, padded.1, tt)
+
+flight_is : (n : ℕ) (p : Public) → IsPublic (stashless p) → 1 ≤ n → n ≤ p.buffer / (3 * p.pack + 1) → IsPublic (stashless (flight_public n p))
+flight_is n p public some few = record {
+  pack_some = public.pack_some;
+  pack_few = public.pack_few;
+  buffer_some = share_some n p.pack p.buffer some few;
+  buffer_few = let most = public.buffer_few in let less = div-le_self p.buffer n in omega (arith, most, less);
+  depth_some = public.depth_some;
+  depth_few = public.depth_few;
+  next = public.next;
+  padded = padded_so p.pad p.planner public.padded;
+  stash = public.stash;
+  tables = public.tables;
+  listed = public.listed;
+}
+
+-- one of them asks few accesses, or none where many were asked before
+module _ {R : Type 0} (state : R → RevState) (m0 : Machine R) (n : ℕ) (some : 1 ≤ n) (parts : n ≤ (public_of m0.engine).buffer / (3 * (public_of m0.engine).pack + 1)) (agrees : Agrees state m0.engine m0.store) (kept : IsKept m0) where
+  abbrev fp : Public
+  fp = flight_public n (public_of m0.engine)
+
+  one_few : (stmt : Stmt) (seen : Seen) (outcome : Outcome) (own : ℕ) → EndsAs fp (asked_of m0) own stmt seen outcome → (length (script fp (skeleton stmt) seen) ≡ 0) ⊎ ((asked_of m0 < 2 ^ 63) × (length (script fp (skeleton stmt) seen) ≤ 2 ^ 49))
+  one_few stmt seen outcome own ends = go (refusal_now fp (asked_of m0) stmt) refl
+    where
+      go : (o : Option Refusal) → refusal_now fp (asked_of m0) stmt ≡ o → (length (script fp (skeleton stmt) seen) ≡ 0) ⊎ ((asked_of m0 < 2 ^ 63) × (length (script fp (skeleton stmt) seen) ≤ 2 ^ 49))
+      go (Some r) is =
+          let early : RefusedEarly (Some r) (Ok outcome) seen = subst (λ (o : Option Refusal). RefusedEarly o (Ok outcome) seen) is ends.early in
+          inl (ap (λ (x : Seen). length (script fp (skeleton stmt) x)) early.1)
+      go None is =
+          let free = allowed (is_late (asked_of m0)) (limits_of fp) (headings_of fp.tables) stmt is in
+          let small = late_or_not (asked_of m0) (is_late (asked_of m0)) refl free.early in
+          let public = flight_is n (public_of m0.engine) (public_is state m0.engine m0.store agrees small) some parts in
+          let flat = tables_flat (agrees.kept kept) agrees.tables in
+          let made = makes_flat (is_late (asked_of m0)) (limits_of fp) (headings_of fp.tables) stmt kept is in
+          let same = script_same fp (skeleton stmt) seen flat made in
+          let short : length (script fp (skeleton stmt) seen) < 2 ^ 49 =
+          subst (λ (l : List Access). length l < 2 ^ 49) same (script_few (stashless fp) (skeleton stmt) seen public (λ started. within_limits fp (is_late (asked_of m0)) stmt seen public flat is ends.lawful.holds)) in
+          inr (small, omega (arith, short))
+
+  all_few : (stmts : List Stmt) (seens : List Seen) → ((i : ℕ) (stmt : Stmt) (seen : Seen) → slice_get stmts i ≡ Some stmt → slice_get seens i ≡ Some seen → (length (script fp (skeleton stmt) seen) ≡ 0) ⊎ ((asked_of m0 < 2 ^ 63) × (length (script fp (skeleton stmt) seen) ≤ 2 ^ 49)))
+      → (accesses_for fp (served_as stmts seens) ≡ 0) ⊎ ((asked_of m0 < 2 ^ 63) × (accesses_for fp (served_as stmts seens) ≤ 2 ^ 49 * length stmts))
+  unfolding accesses_for
+  all_few [] seens each = inl refl
+  all_few (stmt ∷ stmts) [] each = inl refl
+  all_few (stmt ∷ stmts) (seen ∷ seens) each = go (each 0 stmt seen refl refl) (all_few stmts seens (λ i x y get shown. each (suc i) x y get shown))
+    where
+      a : ℕ
+      a = length (script fp (skeleton stmt) seen)
+
+      b : ℕ
+      b = accesses_for fp (served_as stmts seens)
+
+      go : (a ≡ 0) ⊎ ((asked_of m0 < 2 ^ 63) × (a ≤ 2 ^ 49)) → (b ≡ 0) ⊎ ((asked_of m0 < 2 ^ 63) × (b ≤ 2 ^ 49 * length stmts)) → (a + b ≡ 0) ⊎ ((asked_of m0 < 2 ^ 63) × (a + b ≤ 2 ^ 49 * suc (length stmts)))
+      go (inl none) (inl rest) = inl (omega (arith, none, rest))
+      go (inl none) (inr rest) = inr (rest.0, let most = rest.1 in omega (arith, none, most))
+      go (inr one) (inl rest) = inr (one.0, let few = one.1 in omega (arith, few, rest))
+      go (inr one) (inr rest) = inr (one.0, let few = one.1 in let most = rest.1 in omega (arith, few, most))
+
+ended_as : (q : Public) (m n : ℕ) (stmt : Stmt) (seen : Seen) (ended : List Closed) (i : ℕ) → i < length ended → IsFlown q m n stmt seen (slice_get ended i) → (outcome : Outcome) × EndsAs q m n stmt seen outcome
+ended_as q m n stmt seen [] i below flown = absurd (omega (arith, below))
+ended_as q m n stmt seen (one ∷ ended) zero below flown = (one.outcome, flown)
+ended_as q m n stmt seen (one ∷ ended) (suc i) below flown = ended_as q m n stmt seen ended i (omega (arith, below)) flown
+
+pub flight_few : {R : Type 0} (state : R → RevState) (m0 m1 : Machine R) (texts : List (List ℕ)) (answers : List Answer) → StepTogether state m0 m1 texts answers → Agrees state m0.engine m0.store → IsKept m0 → asked_of m0 < 2 ^ 63 + 2 ^ 59 → asked_of m1 < 2 ^ 63 + 2 ^ 59
+flight_few state m0 m1 texts answers step agrees kept few =
+    let p = public_of m0.engine in
+    let flown = served_as step.stmts step.seens in
+    let some = step.may.some in
+    let parts = flown_parts m0.flights.settings p (length step.stmts) some step.may.few in
+    let ran = step.flew.ran in
+    let steady = steady_flown state m0 m1 step.stmts step.seens step.flew.ended (Ok tt) step.may ran in
+    let on = counts_on m0 m1 (merge p flown m0.flights.words) ran.ran.start ran.ran.asked in
+    let size : length flown ≡ length step.stmts = served_long step.stmts step.seens ran.long in
+    let long : length (merge p flown m0.flights.words) ≡ accesses_for (flight_public (length step.stmts) p) flown =
+    (ends_whole p flown m0.flights.words steady).long ∙ ap (λ (k : ℕ). accesses_for (flight_public k p) flown) size in
+    let each = λ (i : ℕ) (stmt : Stmt) (seen : Seen) (get : slice_get step.stmts i ≡ Some stmt) (shown : slice_get step.seens i ≡ Some seen).
+    let below = within_get step.stmts i stmt get in
+    let all = ran.all in
+    let ends = ended_as (flight_public (length step.stmts) p) (asked_of m0) _ stmt seen step.flew.ended i (omega (arith, below, all)) (ran.each i stmt seen get shown) in
+    one_few state m0 (length step.stmts) (omega (arith, some)) parts.0 agrees kept stmt seen ends.0 _ ends.1 in
+    elim (all_few state m0 (length step.stmts) (omega (arith, some)) parts.0 agrees kept step.stmts step.seens each) [
+      | inl none ↦ omega (arith, on, long, none, few)
+      | inr most ↦ let below = most.0 in let within = most.1 in let eight = parts.1 in omega (arith, on, long, below, within, eight)
+    ]
+
 module _ {R : Type 0} (state : R → RevState) where
   step_ready : (m0 m1 : Machine R) (text : List ℕ) (answer : Answer) → Step state m0 m1 text answer → Agrees state m0.engine m0.store → Agrees state m1.engine m1.store
   step_ready m0 m1 text answer step agrees = elim step.done [
@@ -353,11 +474,11 @@ module _ {R : Type 0} (state : R → RevState) where
     pub flat : IsFlat (public_of m.engine)
 
   steps_few : (m0 m2 : Machine R) (texts : List (List ℕ)) (answers : List Answer) → Steps state m0 m2 texts answers → Agrees state m0.engine m0.store → IsKept m0 → asked_of m0 < 2 ^ 63 + 2 ^ 59 → Closable m2
-  unfolding Steps
-  steps_few m0 m2 [] answers steps agrees kept few =
-      subst (λ (m : Machine R). Closable m) (sym steps.0) (record { few = few; flat = tables_flat (agrees.kept kept) agrees.tables })
-  steps_few m0 m2 (text ∷ texts) answers steps agrees kept few =
-      steps_few steps.0 m2 texts steps.2 steps.5 (step_ready m0 steps.0 text steps.1 steps.4 agrees) (step_kept m0 steps.0 text steps.1 steps.4 kept) (step_few m0 steps.0 text steps.1 steps.4 agrees kept few)
+  steps_few m0 m2 texts answers at_rest agrees kept few = record { few = few; flat = tables_flat (agrees.kept kept) agrees.tables }
+  steps_few m0 m2 texts answers (one_more {m1 = m1} {text = text} {one = one} {texts = more} {answers = given} step rest) agrees kept few = steps_few m1 m2 more given rest (step_ready m0 m1 text one step agrees) (step_kept m0 m1 text one step kept) (step_few m0 m1 text one step agrees kept few)
+  steps_few m0 m2 texts answers (more_together {m1 = m1} {texts = more} {answers = given} step rest) agrees kept few =
+      let on = step.flew.ran.ran.goes_on in
+      steps_few m1 m2 more given rest on.agrees (ap (λ (p : Public). p.keep) on.public ∙ kept) (flight_few state m0 m1 _ _ step agrees kept few)
 
 -- so does a session that came to its end
 pub session_few : {R : Type 0} (state : R → RevState) {Lost : Type 0} {on : Bool} {f0 f1 : Fetch} {l0 l1 : Option (List ℕ)} {gave : ℕ} {w0 w1 t0 t1 : Option (List ℕ)} (m0 m2 : Machine R) (tally : Tally)

@@ -1,7 +1,7 @@
 -- What becomes of texts that waited, once they are served together.
 use Rattle.std.specs.Prelude.{IsErr, IsSome}
 use Rattle.std.specs.Result.{is_err}
-use Rattle.std.proofs.Common.{◌≡◌, ◌≤◌, ◌⊎◌, inl, inr, ℕ, Bool, true, List, [], ◌∷◌, ◌++◌, Option, None, Some, Result, Ok, Err, refl, sym, ap, ◌∙◌, subst, arith, append-nil, false}
+use Rattle.std.proofs.Common.{◌≡◌, ◌≤◌, ◌⊎◌, inl, inr, ℕ, Bool, true, List, [], ◌∷◌, ◌++◌, Option, Some, Result, Ok, Err, refl, sym, ap, ◌∙◌, subst, arith, append-nil}
 use Rattle.std.proofs.KnownBytes.{Appends-nil}
 use Rattle.std.specs.Io.KnownBytes.{Appends}
 use Rattle.ob_base.specs.declared.access.Access.{Access}
@@ -11,22 +11,21 @@ use Rattle.ob_headline.specs.Words.{Took, faults_of, printed}
 use Rattle.ob_exec.specs.RanBatch.{RanBatch}
 use Rattle.ob_mean.proofs.BatchLemmas.{begins}
 use Rattle.ob_io.specs.Causes.{HasCause}
-use Rattle.ob_mean.specs.Batches.{Gathering, goes_into, inserts_into}
+use Rattle.ob_mean.specs.Batches.{inserts_into}
 use Rattle.ob_print.proofs.CutLemmas.{Outputs-by, Outputs-whole}
 use Rattle.ob_print.specs.Cuts.{Outputs}
 use Rattle.ob_print.specs.Rows.{events_text}
 use Rattle.ob_reopen.specs.Keepers.{KeeperState}
 use Rattle.ob_shell.proofs.BatchSteps.{StandsAt, batch_closed, batch_lost, batch_steps, follow_unanswered, stopped_does, unanswered}
 use Rattle.ob_shell.proofs.StepLemmas.{PartlyAt-none, Steps-none, printed-nil}
-use Rattle.ob_shell.proofs.TookLemmas.{took_whole}
-use Rattle.ob_shell.proofs.TraceLemmas.{traced-nil}
+use Rattle.ob_shell.proofs.TookLemmas.{took_whole, traced_to_none}
 use Rattle.ob_shell.proofs.WithLemmas.{events_none, insert_of, insert_prints}
 use Rattle.ob_shell.specs.Lines.{LinesCut, line_answer, line_answers}
 use Rattle.ob_shell.specs.Running.{Silenced, StopCause}
-use Rattle.ob_shell.specs.Steps.{Follow, Machine, machine_of, standing}
+use Rattle.ob_shell.specs.Steps.{AreSpelt, Flights, Follow, Gathered, IsApartFrom, Machine, machine_of, none_gathered, standing}
 use Rattle.ob_shell.specs.Tallies.{tally_after}
 use Rattle.ob_shell.specs.Traces.{TracedTo}
-use Rattle.ob_shell.specs.Waiting.{AreSpelt, BreaksIn, IsClosed, ServedSo}
+use Rattle.ob_shell.specs.Waiting.{BreaksIn, IsClosed, ServedSo}
 use Rattle.ob_sql.specs.Skeleton.{skeleton}
 use Rattle.ob_sql.specs.declared.stmt.Stmt.{Stmt}
 use Rattle.ob_sql.specs.declared.stmt.Stmt.TheVariants as S
@@ -41,14 +40,6 @@ use Rattle.ob_vault.specs.State.{RevState}
 use Rattle.ob_verdict.specs.Outcomes.{MayEmit}
 use Rattle.ob_verdict.specs.declared.outcome.Outcome.{Outcome}
 
--- where nothing was asked nothing is traced
-pub traced_to_none : (on : Bool) (a : List Access) (t0 t1 : Option (List ℕ)) (more : List ℕ) → Appends t0 t1 more → TracedTo on a a t0 t1
-traced_to_none on a t0 t1 more appends = record {
-  seen = [];
-  grew = sym (append-nil a);
-  took = record { after = more; appends = subst (λ (l : List ℕ). Appends t0 t1 (l ++ more)) (sym (traced-nil on)) appends };
-}
-
 -- nothing is printed of a statement that emits nothing
 none_printed : (stop : RunStop) → PrintsUntil (session_stop stop) [] (events_text [])
 none_printed Runs.NoMemory = record { lost = []; whole = events_none }
@@ -58,26 +49,26 @@ none_printed Runs.StoreFault = sym events_none
 none_printed Runs.StashFull = sym events_none
 none_printed Runs.KeeperFault = sym events_none
 
-module _ {R : Type 0} (state : R → RevState) (e0 e1 : Engine R) (s0 s1 : StoreState) (k0 k1 : KeeperState) (first : Stmt) (rest : List Stmt) (agrees : Agrees state e0 s0) (batch : AreBatch (public_of e0) (count_of e0 s0) first rest)
-    (on : Bool) (g : Option Gathering) (off : goes_into (public_of e0) g (skeleton first) ≡ false) (held : List (List ℕ)) (spelt : AreSpelt held (first ∷ rest)) where
+module _ {R : Type 0} (state : R → RevState) (e0 e1 : Engine R) (s0 s1 : StoreState) (k0 k1 : KeeperState) (flights : Flights) (first : Stmt) (rest : List Stmt) (agrees : Agrees state e0 s0) (batch : AreBatch (public_of e0) (count_of e0 s0) first rest)
+    (on : Bool) (g : Gathered) (off : IsApartFrom flights.settings (public_of e0) g (skeleton first)) (held : List (List ℕ)) (spelt : AreSpelt held (first ∷ rest)) where
   abbrev start : Machine R
-  start = standing (machine_of e0 s0 k0) [] g
+  start = standing (machine_of e0 s0 k0 flights) [] g
 
   abbrev m1 : Machine R
-  m1 = machine_of e1 s1 k1
+  m1 = machine_of e1 s1 k1 flights
 
   -- each was answered, and every line written
   pub served_batch : {w0 w1 : Option (List ℕ)} (t0 t1 : Tally) (outcome : Outcome) (outcomes : List Outcome) → RanBatch state first rest (Ok outcome) outcomes e0 s0 e1 s1 k0 k1 → Appends w0 w1 (printed (line_answers (outcome ∷ outcomes)))
-      → t1 ≡ tally_after t0 (line_answers (outcome ∷ outcomes)) → ServedSo state w0 w1 (held ++ []) [] (IsClosed (public_of e1) (first ∷ rest) g) t0 t1 start m1
+      → t1 ≡ tally_after t0 (line_answers (outcome ∷ outcomes)) → ServedSo state w0 w1 (held ++ []) [] (IsClosed flights.settings (public_of e0) (public_of e1) (first ∷ rest) g) t0 t1 start m1
   served_batch t0 t1 outcome outcomes ran appends counted = record {
     served = held;
     held = [];
     parts = refl;
     spelt = tt;
-    gathered = Some _;
-    then = batch_closed state e0 e1 s0 s1 k0 k1 first rest agrees batch outcome outcomes ran g off;
+    gathered = record { batch = Some _; flown = 0 };
+    then = batch_closed state e0 e1 s0 s1 k0 k1 flights first rest agrees batch outcome outcomes ran g off;
     answers = line_answers (outcome ∷ outcomes);
-    steps = batch_steps state e0 e1 s0 s1 k0 k1 first rest agrees batch outcome outcomes ran g off held spelt;
+    steps = batch_steps state e0 e1 s0 s1 k0 k1 flights first rest agrees batch outcome outcomes ran g off held spelt;
     appends = appends;
     counted = counted;
   }
@@ -86,7 +77,7 @@ module _ {R : Type 0} (state : R → RevState) (e0 e1 : Engine R) (s0 s1 : Store
   pub lost_batch : {w0 w1 t0 t1 : Option (List ℕ)} {Lost : Type 0} (outcome : Outcome) (outcomes : List Outcome) → RanBatch state first rest (Ok outcome) outcomes e0 s0 e1 s1 k0 k1 → (cut : LinesCut (outcome ∷ outcomes) w0 w1 Lost)
       → {text : List ℕ} {Fault : Type 0} → Outputs t0 t1 Fault text → (cut.done ≡ []) ⊎ TracedTo on s0.asked s1.asked t0 t1 → BreaksIn state on w0 w1 t0 t1 Lost (held ++ []) Runs.SinkFault start m1
   lost_batch {w0 = w0} {w1 = w1} {t0 = t0} {t1 = t1} outcome outcomes ran cut {text = text} traces all =
-      let lost = batch_lost state e0 e1 s0 s1 k0 k1 first rest agrees batch outcome outcomes ran g off held cut.done cut.one cut.rest cut.parts spelt in
+      let lost = batch_lost state e0 e1 s0 s1 k0 k1 flights first rest agrees batch outcome outcomes ran g off held cut.done cut.one cut.rest cut.parts spelt in
       record {
         served = lost.front;
         more = lost.text ∷ lost.behind;
@@ -95,10 +86,10 @@ module _ {R : Type 0} (state : R → RevState) (e0 e1 : Engine R) (s0 s1 : Store
         middle = lost.middle;
         steps = lost.steps;
         owed = lost.owed_then;
-        gathered = Some _;
+        gathered = record { batch = Some _; flown = 0 };
         follow = lost.follow;
         bytes = (line_answer cut.one).bytes;
-        partly = inr (inr (record { answer = line_answer cut.one; step = lost.step; whole = refl; fault = refl }));
+        partly = inr (inr (inl (record { answer = line_answer cut.one; step = lost.step; whole = refl; fault = refl })));
         cut = cut.cut;
         whole = cut.whole;
         traced = traced_at cut.done lost.middle.store.asked lost.stands all;
@@ -124,13 +115,13 @@ module _ {R : Type 0} (state : R → RevState) (e0 e1 : Engine R) (s0 s1 : Store
         middle = start;
         steps = Steps-none state start;
         owed = unanswered rest;
-        gathered = None;
+        gathered = none_gathered;
         follow = subst (λ (l : List (List ℕ)). Follow (text ∷ l) (unanswered rest)) (sym (append-nil texts)) (follow_unanswered text texts rest spelt.1);
         bytes = [];
         partly = inr (inl (record {
           stmt = first;
           spells = spelt.0;
-          does = stopped_does state e0 e1 s0 s1 k0 k1 first rest agrees batch g off stop outcomes ran;
+          does = stopped_does state e0 e1 s0 s1 k0 k1 flights first rest agrees batch g off stop outcomes ran;
           events = [];
           emitted = λ tables reads. record {
             whole = [];
@@ -146,7 +137,7 @@ module _ {R : Type 0} (state : R → RevState) (e0 e1 : Engine R) (s0 s1 : Store
       }
 
 -- memory was wanting before
-pub idle_batch : {R : Type 0} {state : R → RevState} {w t : Option (List ℕ)} {Lost : Type 0} (on : Bool) (texts : List (List ℕ)) (stop : RunStop) (m : Machine R) (g : Option Gathering) → stop ≡ Runs.NoMemory → BreaksIn state on w w t t Lost texts stop (standing m [] g) m
+pub idle_batch : {R : Type 0} {state : R → RevState} {w t : Option (List ℕ)} {Lost : Type 0} (on : Bool) (texts : List (List ℕ)) (stop : RunStop) (m : Machine R) (g : Gathered) → stop ≡ Runs.NoMemory → BreaksIn state on w w t t Lost texts stop (standing m [] g) m
 idle_batch {state = state} {w = w} {t = t} {Lost = Lost} on texts stop m g memory = record {
   served = [];
   more = texts;

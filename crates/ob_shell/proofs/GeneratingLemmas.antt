@@ -1,5 +1,6 @@
 -- What a run over the generated text promises.
-use Rattle.ob_shell.specs.Running.{ServesAlone}
+use Rattle.ob_headline.specs.declared.flight.FlightSettings.{FlightSettings}
+use Rattle.ob_shell.specs.Running.{OutFailed, ServesAlone}
 use Rattle.std.specs.Prelude.{◌≢◌, ⊤, option_and_then}
 use Rattle.std.proofs.Common.{◌≡◌, ℕ, ◌≤◌, Bool, true, false, List, [], Option, Some, None, Ok, Err, refl, sym, ◌∙◌, ap, subst, inl, inr, arith}
 use Rattle.std.proofs.KnownBytes.{Appends-nil}
@@ -11,7 +12,7 @@ use Rattle.ob_base.specs.declared.config.Config.{Config}
 use Rattle.ob_gen.specs.Generated.{generated}
 use Rattle.ob_gen.specs.Tally.{empty_tally}
 use Rattle.ob_gen.specs.declared.tally.Tally.{Tally}
-use Rattle.ob_headline.specs.Bases.{Base, fresh}
+use Rattle.ob_headline.specs.Bases.{Base, flying, fresh}
 use Rattle.ob_headline.specs.Endings.{last_line, status_of}
 use Rattle.ob_headline.specs.Settings.{generated_by}
 use Rattle.ob_headline.specs.Words.{Faults, SinksRose, faults_of, keys_in, outside_of}
@@ -24,7 +25,7 @@ use Rattle.ob_print.specs.Cuts.{Outputs}
 use Rattle.ob_shell.proofs.CloseLemmas.{reported_taken, words_cause, words_end, words_shown}
 use Rattle.ob_shell.proofs.CompleteLemmas.{completes}
 use Rattle.ob_shell.proofs.HeadLemmas.{headlined}
-use Rattle.ob_shell.proofs.TopLemmas.{shown_line, status_cause}
+use Rattle.ob_shell.proofs.TopLemmas.{loses_as, shown_line, status_cause}
 use Rattle.ob_shell.proofs.TraceLemmas.{traced_none, traced_whole}
 use Rattle.ob_shell.specs.Closed.{LineWritten, refused_by}
 use Rattle.ob_shell.specs.Generating.{RanGenerated, ClosedBy, ConcludedBy, Concludes, StatusIs, Summarized, asked_for, conclusion}
@@ -100,53 +101,55 @@ with_source source c = record { grew = c.grew; silent = c.silent; status = c.sta
 
 -- ---- the run, whose answers are kept nowhere
 unfoldable unkept : {Lost : Type 0} {tally : Tally} {tr : TraceSink} {Takes : Type 0} {base : Base} {keys : List ℕ → KeySet} {gave : ℕ} {l0 l1 : Option (List ℕ)} {s0 s1 : StoreState} (ending : Ending) (high : ℕ) (old new : Faults)
-    → EndingWords ending Takes → RunShown tally tr base keys l0 l1 gave None None s0 s1 high ending [] Lost → EndingCause (ServesAlone base.public) ending old new
+    → EndingWords ending Takes → RunShown tally tr base keys l0 l1 gave None None s0 s1 high ending [] Lost → EndingCause (ServesAlone base.flight base.public) ending old new → (Lost → Rises old.out new.out)
     → Reported tally tr Takes base keys l0 l1 gave None None s0 s1 old new (record { status = status_of ending; high = high })
-unkept {base = base} ending high old new takes shown cause =
-    let causes : StatusCause (ServesAlone base.public) ending old new = status_cause (ServesAlone base.public) ending old new new cause (omega arith) refl refl (λ e. refl) in
+unfolding shown_line
+unkept {base = base} ending high old new takes shown cause rose =
+    let causes : StatusCause (ServesAlone base.flight base.public) ending old new = status_cause (ServesAlone base.flight base.public) ending old new new cause (omega arith) refl refl (λ e. refl) in
     record {
       ending = ending;
       status = refl;
       takes = takes;
-      shown = shown_line [] shown tt (Outputs-whole None None (SinksRose old new) _ tt);
+      shown = shown_line [] shown tt (Outputs-whole None None (SinksRose old new) _ tt) (λ lost. inl (rose lost));
       through = inl (record { after = []; appends = tt });
+      answered = loses_as rose shown.answered;
       silent = λ rose. Outputs-whole None None (Unit {0}) _ tt;
       cause = causes;
       completes = λ t input e k a b. completes old new input shown takes causes t e k a b;
     }
 
-pub ran_generated : {Lost : Type 0} {tally : Tally} {tracing : Bool} {settings : Option Config} {t0 t1 : Option (List ℕ)} {s0 s1 : StoreState} {gave : ℕ} {w0 w1 : Option (List ℕ)}
+pub ran_generated : {quiet : Bool} {tally : Tally} {tracing : Bool} {settings : Option Config} {flight : Option FlightSettings} {t0 t1 : Option (List ℕ)} {s0 s1 : StoreState} {gave : ℕ} {w0 w1 : Option (List ℕ)}
     (seed : Seed) (left : List ℕ) (ending : Ending) (high trace0 trace1 out0 out1 : ℕ) (report : Report)
     → EndingWords ending ⊤
-    → RunShown tally (sink_of tracing t0 t1) (fresh settings) keys_in (Some (generated seed.start seed.rows)) (Some left) gave None None s0 s1 high ending [] Lost
-    → EndingCause (ServesAlone (fresh settings).public) ending (faults_of 0 0 trace0) (faults_of 0 0 trace1)
+    → RunShown tally (sink_of tracing t0 t1) (flying flight (fresh settings)) keys_in (Some (generated seed.start seed.rows)) (Some left) gave None None s0 s1 high ending [] (OutFailed quiet 0 0)
+    → EndingCause (ServesAlone flight (fresh settings).public) ending (faults_of 0 0 trace0) (faults_of 0 0 trace1)
     → Traced tracing s0.asked s1.asked t0 t1 (SinksRose (faults_of 0 0 trace0) (faults_of 0 0 trace1))
     → Concludes ending tally s1.asked high w0 w1 (faults_of 0 out0 trace0) (faults_of 0 out1 trace1) report
-    → RanGenerated seed tracing settings t0 t1 s0 s1 trace0 trace1 w0 w1 out0 out1 report
+    → RanGenerated seed tracing settings flight t0 t1 s0 s1 trace0 trace1 w0 w1 out0 out1 report
 unfolding unkept
 ran_generated {tally = tally} {gave = gave} seed left ending high trace0 trace1 out0 out1 report takes shown cause traces concludes = record {
   run = record { status = status_of ending; high = high };
   left = left;
   gave = gave;
   tally = tally;
-  reported = unkept ending high (faults_of 0 0 trace0) (faults_of 0 0 trace1) takes shown cause;
+  reported = unkept ending high (faults_of 0 0 trace0) (faults_of 0 0 trace1) takes shown cause (λ lost. lost.1);
   traces = traces;
   concludes = concludes;
 }
 
 -- ---- by the words
-pub summarized : {Takes : Type 0} {settings asked : Option Config} {tracing : Bool} {seed : Seed} {s0 s1 : StoreState} {t0 t1 w0 w1 l : Option (List ℕ)} {gave trace0 trace1 out0 out1 : ℕ} {report : Report} (source : ℕ)
-    → Takes → settings ≡ asked → s0.asked ≡ [] → RanGenerated seed tracing asked t0 t1 s0 s1 trace0 trace1 w0 w1 out0 out1 report
-    → Summarized Takes settings tracing seed (outside_of l gave w0 t0 s0 (faults_of source out0 trace0)) (outside_of l gave w1 t1 s1 (faults_of source out1 trace1)) report
+pub summarized : {Takes : Type 0} {settings asked : Option Config} {flight : Option FlightSettings} {tracing : Bool} {seed : Seed} {s0 s1 : StoreState} {t0 t1 w0 w1 l : Option (List ℕ)} {gave trace0 trace1 out0 out1 : ℕ} {report : Report} (source : ℕ)
+    → Takes → settings ≡ asked → s0.asked ≡ [] → RanGenerated seed tracing asked flight t0 t1 s0 s1 trace0 trace1 w0 w1 out0 out1 report
+    → Summarized Takes settings flight tracing seed (outside_of l gave w0 t0 s0 (faults_of source out0 trace0)) (outside_of l gave w1 t1 s1 (faults_of source out1 trace1)) report
 unfolding headlined reported_taken
-summarized {Takes = Takes} {settings = settings} {tracing = tracing} source takes is none a =
+summarized {Takes = Takes} {settings = settings} {flight = flight} {tracing = tracing} source takes is none a =
     let r = reported_taken takes is a.reported in
     record {
       unread = record { left = refl; gave = refl; source = refl };
       run = a.run;
       left = a.left;
       gave = a.gave;
-      headline = headlined Takes (fresh settings) tracing _ _ a.run none r a.traces;
+      headline = headlined Takes (flying flight (fresh settings)) tracing _ _ a.run none r a.traces;
       tally = a.tally;
       counted = r.shown.counted;
       concludes = with_source source a.concludes;
@@ -158,22 +161,22 @@ unread_closed : (tally : Tally) (asked : List Access) (error : WordsErr) {w0 w1 
 unread_closed tally asked Words.Usage closed = closed
 unread_closed tally asked Words.NoMemory closed = closed
 
-pub unread_summarized : {Takes : Type 0} {settings : Option Config} {tracing : Bool} {s : StoreState} {t w0 w1 l : Option (List ℕ)} {gave out0 out1 : ℕ} {report : Report} (source trace : ℕ) (seed : Seed) (error : WordsErr)
+pub unread_summarized : {Takes : Type 0} {settings : Option Config} {flight : Option FlightSettings} {tracing : Bool} {s : StoreState} {t w0 w1 l : Option (List ℕ)} {gave out0 out1 : ℕ} {report : Report} (source trace : ℕ) (seed : Seed) (error : WordsErr)
     → IsFresh s → (error ≡ Words.Usage → ¬ Takes) → report.status ≡ status_of (refused_by error) → report.high ≡ 0 → LineWritten (last_line (refused_by error)) w0 w1 out0 out1
-    → Summarized Takes settings tracing seed (outside_of l gave w0 t s (faults_of source out0 trace)) (outside_of l gave w1 t s (faults_of source out1 trace)) report
+    → Summarized Takes settings flight tracing seed (outside_of l gave w0 t s (faults_of source out0 trace)) (outside_of l gave w1 t s (faults_of source out1 trace)) report
 unfolding headlined unkept
-unread_summarized {Takes = Takes} {settings = settings} {tracing = tracing} {s = s} {t = t} {w0 = w0} {w1 = w1} {out0 = out0} {out1 = out1} {report = report} source trace seed error blank not status high line =
+unread_summarized {Takes = Takes} {settings = settings} {flight = flight} {tracing = tracing} {s = s} {t = t} {w0 = w0} {w1 = w1} {out0 = out0} {out1 = out1} {report = report} source trace seed error blank not status high line =
     let ending = refused_by error in
     let faults : Faults = faults_of 0 0 trace in
-    let shown = words_shown {F = ⊥} {keys = keys_in} empty_tally (sink_of tracing t t) settings error (Some (generated seed.start seed.rows)) 0 None s blank refl in
-    let r = unkept ending 0 faults faults (words_end error not) shown (words_cause _ error faults) in
+    let shown = words_shown {F = ⊥} {keys = keys_in} empty_tally (sink_of tracing t t) settings flight error (Some (generated seed.start seed.rows)) 0 None s blank refl in
+    let r = unkept ending 0 faults faults (words_end error not) shown (words_cause _ error faults) (λ never. absurd never) in
     let closed : ClosedBy ending false w0 w1 out0 out1 report.status = record { told = status; silent = λ loud. absurd (cc loud); line = λ loud. line } in
     record {
       unread = record { left = refl; gave = refl; source = refl };
       run = record { status = status_of ending; high = 0 };
       left = generated seed.start seed.rows;
       gave = 0;
-      headline = headlined Takes (fresh settings) tracing _ _ _ blank.unasked r (traced_whole _ (traced_none tracing s.asked t));
+      headline = headlined Takes (flying flight (fresh settings)) tracing _ _ _ blank.unasked r (traced_whole _ (traced_none tracing s.asked t));
       tally = empty_tally;
       counted = r.shown.counted;
       concludes = with_source source (concludes_at 0 high

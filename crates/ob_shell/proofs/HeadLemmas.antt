@@ -20,7 +20,7 @@ use Rattle.ob_seal.specs.KeySet.{KeySet}
 
 -- why it ends so
 pub because : (base : Base) (ending : Ending) (Takes : Type 0) (max : ℕ) (taken : List ℕ) (ended : Bool) (more : List (List ℕ)) (answers : List Answer) (part : List ℕ) (old new : Outside)
-    → EndingWords ending Takes → EndingFlag ending answers → EndingSays ending max taken new.left ended more part → StatusCause (ServesAlone base.public) ending old.faults new.faults
+    → EndingWords ending Takes → EndingFlag ending answers → EndingSays ending max taken new.left ended more part → StatusCause (ServesAlone base.flight base.public) ending old.faults new.faults
     → FromEach base (λ s. IsHonest old.store new.store → EndsUntampered ending) → ((region place : ℕ) → ending ≡ Ran (Err (Tampered region place)) → EndsAtRead region place new.store.asked) → (ending ≡ Ran (Err StoreFault) → StoreFails base old.store new.store) → (ending ≡ Ran (Err KeeperFault) → base.public.save ≡ true)
     → Because base ending Takes max taken ended more answers part old new
 because base Usage Takes max taken ended more answers part old new takes flag says cause honest read faulted saving = (takes, says, cause)
@@ -54,6 +54,7 @@ headlined Takes base tracing old new report first r traces =
         grew = shown.grew;
         whole = shown.whole;
         through = r.through;
+        answered = r.answered;
         silent = r.silent;
         traced_all = subst (λ (xs : List Access). Outputs old.traced new.traced (SinksRose old.faults new.faults) (traced tracing xs))
             (append_cancel_left base.before traces.seen _ (ap (λ (xs : List Access). xs ++ traces.seen) (sym first) ∙ sym traces.grew ∙ run.accesses.asked)) traces.cut;

@@ -2,6 +2,7 @@
 use Rattle.std.specs.Prelude.{◌≢◌}
 use Rattle.std.proofs.Common.{◌≡◌, ◌≤◌, ℕ, Bool, true, false, List, [], Option, Some, None, Ok, Err, inl, inr, refl, sym, subst, arith}
 use Rattle.std.specs.Io.KnownBytes.{Appends}
+use Rattle.ob_headline.specs.declared.flight.FlightSettings.{FlightSettings}
 use Rattle.ob_base.specs.Counts.{Rises}
 use Rattle.ob_base.specs.declared.access.Access.{Access}
 use Rattle.ob_base.specs.declared.config.Config.{Config}
@@ -9,7 +10,7 @@ use Rattle.ob_gen.specs.Generated.{generated}
 use Rattle.ob_gen.specs.Tally.{empty_tally}
 use Rattle.ob_gen.specs.declared.tally.Tally.{Tally}
 use Rattle.ob_headline.proofs.StopLemmas.{begun_stops}
-use Rattle.ob_headline.specs.Bases.{fresh}
+use Rattle.ob_headline.specs.Bases.{flying, fresh}
 use Rattle.ob_headline.specs.Endings.{last_line, status_of}
 use Rattle.ob_headline.specs.Keeping.{kept_line, kept_status}
 use Rattle.ob_headline.specs.KeptHeadline.{EndsUnkeyed, KeptHeadline, Unkeyed}
@@ -95,8 +96,8 @@ pub concluded_at : {ending : KeptEnding} {tally : Tally} {asked : List Access} {
 concluded_at rows is c = record { grew = c.grew; silent = c.silent; status = c.status; later = c.later; high = is }
 
 -- ---- the run
-module _ (config : Config) (tracing : Bool) (ended : KeptEnded) (old mid : Outside) (k0 k1 : KeeperState) where
-  kept_quiet : (SinksRose old.faults mid.faults → Rises old.faults.trace mid.faults.trace) → RanKept config tracing ended old mid k0 k1 → IsHushed ended.quiet old.faults.trace mid.faults.trace
+module _ (config : Config) (flight : Option FlightSettings) (tracing : Bool) (ended : KeptEnded) (old mid : Outside) (k0 k1 : KeeperState) where
+  kept_quiet : (SinksRose old.faults mid.faults → Rises old.faults.trace mid.faults.trace) → RanKept config flight tracing ended old mid k0 k1 → IsHushed ended.quiet old.faults.trace mid.faults.trace
   kept_quiet only (inl ran) = record { rose = λ it. absurd (cc (it, ran.loud)); kept = λ it. ran.silent.1 }
   kept_quiet only (inr (inl ran)) = ran.unserved.quiet
   kept_quiet only (inr (inr (inl ran))) = record {
@@ -105,25 +106,25 @@ module _ (config : Config) (tracing : Bool) (ended : KeptEnded) (old mid : Outsi
   }
   kept_quiet only (inr (inr (inr ran))) = ran.closed.quiet
 
-  kept_calm : RanKept config tracing ended old mid k0 k1 → (refused : Bool) → ended.ending ≡ Plain (Ran (Ok refused)) → mid.faults.trace ≡ old.faults.trace
+  kept_calm : RanKept config flight tracing ended old mid k0 k1 → (refused : Bool) → ended.ending ≡ Plain (Ran (Ok refused)) → mid.faults.trace ≡ old.faults.trace
   kept_calm (inl ran) refused is = ran.silent.1
   kept_calm (inr (inl ran)) refused is = absurd (begun_stops config _ ended.ending _ _ _ _ _ _ refused ran.unserved.begun is)
   kept_calm (inr (inr (inl ran))) refused is = absurd (cc (ran.ending, is))
   kept_calm (inr (inr (inr ran))) refused is = (ends_whole ran.closed.tables.closes.result _ _ _ _ _ _ refused ran.closed.tables.closes.ends is).1
 
-pub kept_summarized : {Takes : Type 0} {settings : Option Config} {config : Config} {tracing : Bool} {seed : Seed} {s0 s1 : StoreState} {t0 t1 w0 w1 l : Option (List ℕ)} {gave trace0 trace1 out0 out1 : ℕ} {k0 k1 : KeeperState}
+pub kept_summarized : {Takes : Type 0} {settings : Option Config} {flight : Option FlightSettings} {config : Config} {tracing : Bool} {seed : Seed} {s0 s1 : StoreState} {t0 t1 w0 w1 l : Option (List ℕ)} {gave trace0 trace1 out0 out1 : ℕ} {k0 k1 : KeeperState}
     {report : Report} (source : ℕ)
-    → Takes → settings ≡ Some config → s0.asked ≡ [] → KeptGenerated config tracing seed t0 t1 s0 s1 trace0 trace1 k0 k1 w0 w1 out0 out1 report
-    → KeptSummarized settings Takes tracing seed (outside_of l gave w0 t0 s0 (faults_of source out0 trace0)) (outside_of l gave w1 t1 s1 (faults_of source out1 trace1)) k0 k1 report
-kept_summarized {Takes = Takes} {settings = settings} {config = config} {tracing = tracing} {seed = seed} {s0 = s0} {s1 = s1} {t0 = t0} {t1 = t1} {w0 = w0} {w1 = w1} {trace0 = trace0} {trace1 = trace1} {out0 = out0} {out1 = out1}
+    → Takes → settings ≡ Some config → s0.asked ≡ [] → KeptGenerated config flight tracing seed t0 t1 s0 s1 trace0 trace1 k0 k1 w0 w1 out0 out1 report
+    → KeptSummarized settings flight Takes tracing seed (outside_of l gave w0 t0 s0 (faults_of source out0 trace0)) (outside_of l gave w1 t1 s1 (faults_of source out1 trace1)) k0 k1 report
+kept_summarized {Takes = Takes} {settings = settings} {flight = flight} {config = config} {tracing = tracing} {seed = seed} {s0 = s0} {s1 = s1} {t0 = t0} {t1 = t1} {w0 = w0} {w1 = w1} {trace0 = trace0} {trace1 = trace1} {out0 = out0} {out1 = out1}
     {k0 = k0} {k1 = k1} {report = report} source takes set none g =
     let ended = g.ended in
     let old = outside_of (Some (generated seed.start seed.rows)) 0 None t0 s0 (faults_of 0 0 trace0) in
     let mid = outside_of (Some g.left) g.gave None t1 s1 (faults_of 0 0 trace1) in
     let run : Report = record { status = kept_status ended.ending; high = ended.high } in
     let line : ended.quiet ≡ false → LineWritten (kept_line ended.ending) None None 0 0 = λ loud. record { cut = Outputs-whole None None (Rises 0 0) (kept_line ended.ending) tt; later = omega arith; empty = λ e. refl } in
-    let head : KeptHeadline settings Takes tracing old mid k0 k1 run = kept_headlined settings config takes set tracing old mid ended k0 k1 None 0 run refl refl (λ hush. record { written = refl; faults = refl }) line none g.ran in
-    let told = kept_told settings config takes set tracing old mid ended k0 k1 None 0 run refl refl (λ hush. record { written = refl; faults = refl }) line none g.ran in
+    let head : KeptHeadline settings flight Takes tracing old mid k0 k1 run = kept_headlined settings flight config takes set tracing old mid ended k0 k1 None 0 run refl refl (λ hush. record { written = refl; faults = refl }) line none g.ran in
+    let told = kept_told settings flight config takes set tracing old mid ended k0 k1 None 0 run refl refl (λ hush. record { written = refl; faults = refl }) line none g.ran in
     record {
       unread = record { left = refl; gave = refl; source = refl };
       run = run;
@@ -134,8 +135,8 @@ kept_summarized {Takes = Takes} {settings = settings} {config = config} {tracing
       counted = subst (λ (e : KeptEnding). KeptTally e head.answers ended.tally) (sym told.0) told.1;
       concludes = subst (λ (e : KeptEnding). KeptConcludes e ended.tally s1.asked ended.high w0 w1 (faults_of source out0 trace0) (faults_of source out1 trace1) report) (sym told.0)
           (concluded_at ended.high g.high
-          (kept_concludes ended.tally s1.asked w0 w1 source trace0 trace1 out0 out1 report ended.ending ended.quiet g.concluded (kept_quiet config tracing ended old mid k0 k1 (trace_rose trace0 trace1) g.ran)
-          (kept_calm config tracing ended old mid k0 k1 g.ran)));
+          (kept_concludes ended.tally s1.asked w0 w1 source trace0 trace1 out0 out1 report ended.ending ended.quiet g.concluded (kept_quiet config flight tracing ended old mid k0 k1 (trace_rose trace0 trace1) g.ran)
+          (kept_calm config flight tracing ended old mid k0 k1 g.ran)));
     }
 
 -- ---- the words were not read
@@ -143,21 +144,21 @@ pub unkeyed_words : (error : WordsErr) (taken : List ℕ) → taken ≡ [] → E
 unkeyed_words Words.Usage taken none = tt
 unkeyed_words Words.NoMemory taken none = none
 
-unfoldable pub unread_run : {Takes : Type 0} {settings : Option Config} {tracing : Bool} {s : StoreState} {t w0 w1 l : Option (List ℕ)} {gave source trace out0 out1 : ℕ} {k : KeeperState} {report : Report} (error : WordsErr)
+unfoldable pub unread_run : {Takes : Type 0} {settings : Option Config} {flight : Option FlightSettings} {tracing : Bool} {s : StoreState} {t w0 w1 l : Option (List ℕ)} {gave source trace out0 out1 : ℕ} {k : KeeperState} {report : Report} (error : WordsErr)
     → IsFresh s → (error ≡ Words.Usage → ¬ Takes) → report.status ≡ status_of (refused_by error) → report.high ≡ 0 → LineWritten (last_line (refused_by error)) w0 w1 out0 out1
-    → Unkeyed settings Takes tracing (outside_of l gave w0 t s (faults_of source out0 trace)) (outside_of l gave w1 t s (faults_of source out1 trace)) k k (Plain (refused_by error)) [] report
+    → Unkeyed settings flight Takes tracing (outside_of l gave w0 t s (faults_of source out0 trace)) (outside_of l gave w1 t s (faults_of source out1 trace)) k k (Plain (refused_by error)) [] report
 unfolding headlined reported_line shown_line
-unread_run {Takes = Takes} {settings = settings} {tracing = tracing} {s = s} {t = t} {w0 = w0} {w1 = w1} {l = l} {gave = gave} {source = source} {trace = trace} {out0 = out0} {out1 = out1} {report = report} error blank not status high line =
+unread_run {Takes = Takes} {settings = settings} {flight = flight} {tracing = tracing} {s = s} {t = t} {w0 = w0} {w1 = w1} {l = l} {gave = gave} {source = source} {trace = trace} {out0 = out0} {out1 = out1} {report = report} error blank not status high line =
     let ending = refused_by error in
     let tr = sink_of tracing t t in
     let old : Faults = faults_of source out0 trace in
     let new : Faults = faults_of source out1 trace in
-    let shown = subst (λ (n : ℕ). (x : RunShown empty_tally tr (fresh settings) keys_in l l gave w0 w0 s s n ending [] ⊥) × (x.taken ≡ [])) (sym high)
-    (words_shown empty_tally tr settings error l gave w0 s blank refl, words_none ⊥ keys_in empty_tally tr settings error l gave w0 s blank refl) in
-    let r : Reported empty_tally tr Takes (fresh settings) keys_in l l gave w0 w1 s s old new report =
+    let shown = subst (λ (n : ℕ). (x : RunShown empty_tally tr (flying flight (fresh settings)) keys_in l l gave w0 w0 s s n ending [] ⊥) × (x.taken ≡ [])) (sym high)
+    (words_shown empty_tally tr settings flight error l gave w0 s blank refl, words_none ⊥ keys_in empty_tally tr settings flight error l gave w0 s blank refl) in
+    let r : Reported empty_tally tr Takes (flying flight (fresh settings)) keys_in l l gave w0 w1 s s old new report =
     reported_line ending old old new status (words_end error not) shown.0 (λ never. never) (words_cause _ error old) line.cut (λ rises. rises) line.empty line.later refl refl refl in
     record {
-      headline = headlined Takes (fresh settings) tracing (outside_of l gave w0 t s old) (outside_of l gave w1 t s new) report blank.unasked r (traced_whole _ (traced_none tracing s.asked t));
+      headline = headlined Takes (flying flight (fresh settings)) tracing (outside_of l gave w0 t s old) (outside_of l gave w1 t s new) report blank.unasked r (traced_whole _ (traced_none tracing s.asked t));
       ends = unkeyed_words error shown.0.taken shown.1;
       is = refl;
       unanswered = refl;
@@ -165,9 +166,9 @@ unread_run {Takes = Takes} {settings = settings} {tracing = tracing} {s = s} {t 
       kept = refl;
     }
 
-unfoldable pub kept_unread : {Takes : Type 0} {settings : Option Config} {tracing : Bool} {s : StoreState} {t w0 w1 l : Option (List ℕ)} {gave source trace out0 out1 : ℕ} {k : KeeperState} {report : Report} (error : WordsErr)
+unfoldable pub kept_unread : {Takes : Type 0} {settings : Option Config} {flight : Option FlightSettings} {tracing : Bool} {s : StoreState} {t w0 w1 l : Option (List ℕ)} {gave source trace out0 out1 : ℕ} {k : KeeperState} {report : Report} (error : WordsErr)
     → IsFresh s → (error ≡ Words.Usage → ¬ Takes) → report.status ≡ status_of (refused_by error) → report.high ≡ 0 → LineWritten (last_line (refused_by error)) w0 w1 out0 out1
-    → KeptHeadline settings Takes tracing (outside_of l gave w0 t s (faults_of source out0 trace)) (outside_of l gave w1 t s (faults_of source out1 trace)) k k report
+    → KeptHeadline settings flight Takes tracing (outside_of l gave w0 t s (faults_of source out0 trace)) (outside_of l gave w1 t s (faults_of source out1 trace)) k k report
 kept_unread error blank not status high line = record { ending = Plain (refused_by error); status = status; answers = []; ran = inl (unread_run error blank not status high line) }
 
 pub words_counted : (error : WordsErr) (tally : Tally) → KeptTally (Plain (refused_by error)) [] tally
@@ -179,9 +180,9 @@ pub words_concluded : (error : WordsErr) (tally : Tally) (asked : List Access) (
 words_concluded Words.Usage tally asked w0 w1 f0 f1 status closed = closed
 words_concluded Words.NoMemory tally asked w0 w1 f0 f1 status closed = closed
 
-pub kept_unread_summarized : {Takes : Type 0} {settings : Option Config} {tracing : Bool} {s : StoreState} {t w0 w1 l : Option (List ℕ)} {gave out0 out1 : ℕ} {k : KeeperState} {report : Report} (source trace : ℕ) (seed : Seed) (error : WordsErr)
+pub kept_unread_summarized : {Takes : Type 0} {settings : Option Config} {flight : Option FlightSettings} {tracing : Bool} {s : StoreState} {t w0 w1 l : Option (List ℕ)} {gave out0 out1 : ℕ} {k : KeeperState} {report : Report} (source trace : ℕ) (seed : Seed) (error : WordsErr)
     → IsFresh s → (error ≡ Words.Usage → ¬ Takes) → report.status ≡ status_of (refused_by error) → report.high ≡ 0 → LineWritten (last_line (refused_by error)) w0 w1 out0 out1
-    → KeptSummarized settings Takes tracing seed (outside_of l gave w0 t s (faults_of source out0 trace)) (outside_of l gave w1 t s (faults_of source out1 trace)) k k report
+    → KeptSummarized settings flight Takes tracing seed (outside_of l gave w0 t s (faults_of source out0 trace)) (outside_of l gave w1 t s (faults_of source out1 trace)) k k report
 unfolding kept_unread
 kept_unread_summarized {s = s} {t = t} {w0 = w0} {w1 = w1} {out0 = out0} {out1 = out1} {report = report} source trace seed error blank not status high line =
     let ending = refused_by error in
@@ -200,20 +201,20 @@ kept_unread_summarized {s = s} {t = t} {w0 = w0} {w1 = w1} {out0 = out0} {out1 =
     }
 
 -- ---- whether tables are kept
-pub may_keep : (settings : Option Config) (Takes : Type 0) (tracing : Bool) (old new : Outside) (k0 k1 : KeeperState) (report : Report) (keeps on : Bool) (asked seed : Option Seed) → keeps ≡ on → asked ≡ seed
-    → MayKeep on seed settings Takes tracing old new k0 k1 report → MayKeep keeps asked settings Takes tracing old new k0 k1 report
-may_keep settings Takes tracing old new k0 k1 report keeps on asked seed is same run =
-    subst (λ (b : Bool). MayKeep b asked settings Takes tracing old new k0 k1 report) (sym is) (subst (λ (s : Option Seed). MayKeep on s settings Takes tracing old new k0 k1 report) (sym same) run)
+pub may_keep : (settings : Option Config) (flight : Option FlightSettings) (Takes : Type 0) (tracing : Bool) (old new : Outside) (k0 k1 : KeeperState) (report : Report) (keeps on : Bool) (asked seed : Option Seed) → keeps ≡ on → asked ≡ seed
+    → MayKeep on seed settings flight Takes tracing old new k0 k1 report → MayKeep keeps asked settings flight Takes tracing old new k0 k1 report
+may_keep settings flight Takes tracing old new k0 k1 report keeps on asked seed is same run =
+    subst (λ (b : Bool). MayKeep b asked settings flight Takes tracing old new k0 k1 report) (sym is) (subst (λ (s : Option Seed). MayKeep on s settings flight Takes tracing old new k0 k1 report) (sym same) run)
 
-pub may_keep_unread : {Takes : Type 0} {s : StoreState} {w0 w1 : Option (List ℕ)} {out0 out1 : ℕ} {report : Report} (settings : Option Config) (tracing : Bool) (t l : Option (List ℕ)) (gave source trace : ℕ) (k : KeeperState)
+pub may_keep_unread : {Takes : Type 0} {s : StoreState} {w0 w1 : Option (List ℕ)} {out0 out1 : ℕ} {report : Report} (settings : Option Config) (flight : Option FlightSettings) (tracing : Bool) (t l : Option (List ℕ)) (gave source trace : ℕ) (k : KeeperState)
     (keeps : Bool) (asked : Option Seed) (error : WordsErr)
     → IsFresh s → (error ≡ Words.Usage → ¬ Takes) → report.status ≡ status_of (refused_by error) → report.high ≡ 0 → LineWritten (last_line (refused_by error)) w0 w1 out0 out1
-    → MayKeep keeps asked settings Takes tracing (outside_of l gave w0 t s (faults_of source out0 trace)) (outside_of l gave w1 t s (faults_of source out1 trace)) k k report
-may_keep_unread {Takes = Takes} {s = s} {out0 = out0} {out1 = out1} {report = report} settings tracing t l gave source trace k false None error blank not status high line = (
-  headlined Takes (fresh settings) tracing _ _ report blank.unasked
+    → MayKeep keeps asked settings flight Takes tracing (outside_of l gave w0 t s (faults_of source out0 trace)) (outside_of l gave w1 t s (faults_of source out1 trace)) k k report
+may_keep_unread {Takes = Takes} {s = s} {out0 = out0} {out1 = out1} {report = report} settings flight tracing t l gave source trace k false None error blank not status high line = (
+  headlined Takes (flying flight (fresh settings)) tracing _ _ report blank.unasked
       (reported_words empty_tally (sink_of tracing t t) error report (faults_of source out0 trace) (faults_of source out1 trace) blank refl not status high line refl refl) (traced_whole _ (traced_none tracing s.asked t)),
   refl,
 )
-may_keep_unread settings tracing t l gave source trace k false (Some seed) error blank not status high line = (unread_summarized source trace seed error blank not status high line, refl)
-may_keep_unread settings tracing t l gave source trace k true None error blank not status high line = kept_unread error blank not status high line
-may_keep_unread settings tracing t l gave source trace k true (Some seed) error blank not status high line = kept_unread_summarized source trace seed error blank not status high line
+may_keep_unread settings flight tracing t l gave source trace k false (Some seed) error blank not status high line = (unread_summarized source trace seed error blank not status high line, refl)
+may_keep_unread settings flight tracing t l gave source trace k true None error blank not status high line = kept_unread error blank not status high line
+may_keep_unread settings flight tracing t l gave source trace k true (Some seed) error blank not status high line = kept_unread_summarized source trace seed error blank not status high line

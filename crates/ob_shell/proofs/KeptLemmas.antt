@@ -1,13 +1,14 @@
 -- The headline of a run whose tables are kept, by what was done until its last line.
 use Rattle.std.proofs.Common.{◌≡◌, ◌≢◌, ℕ, Bool, true, false, List, [], Option, Some, Result, Ok, Err, inl, inr, refl, sym, ◌∙◌, ap, subst, arith}
 use Rattle.std.proofs.KnownBytes.{Appends-nil}
+use Rattle.ob_headline.specs.declared.flight.FlightSettings.{FlightSettings}
 use Rattle.ob_base.specs.Counts.{Rises}
 use Rattle.ob_base.specs.declared.config.Config.{Config}
 use Rattle.ob_base.specs.declared.fault.Failed.{Failed}
 use Rattle.ob_base.specs.declared.mark.Mark.{Mark}
 use Rattle.ob_gen.specs.declared.tally.Tally.{Tally}
 use Rattle.ob_headline.proofs.StopLemmas.{closing_stops, begun_stops}
-use Rattle.ob_headline.specs.Bases.{fresh}
+use Rattle.ob_headline.specs.Bases.{flying, fresh}
 use Rattle.ob_headline.specs.Endings.{status_of}
 use Rattle.ob_headline.specs.Headline.{Headline}
 use Rattle.ob_headline.specs.Keeping.{kept_line, kept_status, EndsWith, handed_end}
@@ -68,7 +69,7 @@ counted_by StoreFault answers tally count = tt
 counted_by LeftOpen answers tally count = tt
 counted_by KeeperFault answers tally count = tt
 
-module _ {Takes : Type 0} (settings : Option Config) (config : Config) (takes : Takes) (set : settings ≡ Some config) (tracing : Bool) (old mid : Outside) (ended : KeptEnded) (k0 k1 : KeeperState)
+module _ {Takes : Type 0} (settings : Option Config) (flight : Option FlightSettings) (config : Config) (takes : Takes) (set : settings ≡ Some config) (tracing : Bool) (old mid : Outside) (ended : KeptEnded) (k0 k1 : KeeperState)
     (w2 : Option (List ℕ)) (out2 : ℕ) (report : Report) (status : report.status ≡ kept_status ended.ending) (high : report.high ≡ ended.high)
     (hushed : ended.quiet ≡ true → Unwritten mid.written w2 mid.faults.out out2) (line : ended.quiet ≡ false → LineWritten (kept_line ended.ending) mid.written w2 mid.faults.out out2) where
   abbrev new : Outside
@@ -86,26 +87,26 @@ module _ {Takes : Type 0} (settings : Option Config) (config : Config) (takes : 
   silent_behind false is before same trace kept other = absurd (other (kept refl))
 
   -- ---- the keeper was not asked
-  pub unkeyed_run : old.store.asked ≡ [] → RanUnkeyed config tracing ended old mid k0 k1 → Unkeyed settings Takes tracing old new k0 k1 ended.ending [] report
+  pub unkeyed_run : old.store.asked ≡ [] → RanUnkeyed config flight tracing ended old mid k0 k1 → Unkeyed settings flight Takes tracing old new k0 k1 ended.ending [] report
   unfolding headlined reported_line shown_line
   unkeyed_run none ran =
       let tr = sink_of tracing old.traced mid.traced in
       let ending = ran.ending in
       let at_high = subst
-      (λ (n : ℕ). (x : RunShown ended.tally tr (fresh (Some config)) keys_in old.left mid.left mid.gave old.written mid.written old.store mid.store n ending [] ⊥) × EndsUnkeyed ending x.taken)
+      (λ (n : ℕ). (x : RunShown ended.tally tr (flying flight (fresh (Some config))) keys_in old.left mid.left mid.gave old.written mid.written old.store mid.store n ending [] ⊥) × EndsUnkeyed ending x.taken)
       (sym high) (ran.shown, ran.ends) in
       let shown = subst
-      (λ (o : Option Config). (x : RunShown ended.tally tr (fresh o) keys_in old.left mid.left mid.gave old.written mid.written old.store mid.store report.high ending [] ⊥) × EndsUnkeyed ending x.taken)
+      (λ (o : Option Config). (x : RunShown ended.tally tr (flying flight (fresh o)) keys_in old.left mid.left mid.gave old.written mid.written old.store mid.store report.high ending [] ⊥) × EndsUnkeyed ending x.taken)
       (sym set) at_high in
       let l = subst (λ (e : KeptEnding). LineWritten (kept_line e) mid.written w2 mid.faults.out out2) ran.is (line ran.loud) in
-      let r : Reported ended.tally tr Takes (fresh settings) keys_in old.left mid.left mid.gave old.written w2 old.store mid.store old.faults new.faults report =
-      reported_line ending old.faults mid.faults new.faults (status ∙ ap kept_status ran.is) (words_taken ending (takes_of ending ran.read tt) takes) shown.0 (λ never. never) (cause_alone (ServesAlone (fresh settings).public) ending old.faults mid.faults ran.cause) l.cut (λ rises. rises) l.empty l.later refl refl
+      let r : Reported ended.tally tr Takes (flying flight (fresh settings)) keys_in old.left mid.left mid.gave old.written w2 old.store mid.store old.faults new.faults report =
+      reported_line ending old.faults mid.faults new.faults (status ∙ ap kept_status ran.is) (words_taken ending (takes_of ending ran.read tt) takes) shown.0 (λ never. never) (cause_alone (ServesAlone flight (fresh settings).public) ending old.faults mid.faults ran.cause) l.cut (λ rises. rises) l.empty l.later refl refl
       ran.silent.1 in
       let traces : Traced tracing old.store.asked mid.store.asked old.traced mid.traced (SinksRose old.faults new.faults) =
       subst (λ (s : StoreState). Traced tracing old.store.asked s.asked old.traced mid.traced (SinksRose old.faults new.faults)) (sym ran.unasked)
       (subst (λ (t : Option (List ℕ)). Traced tracing old.store.asked old.store.asked old.traced t (SinksRose old.faults new.faults)) (sym ran.traced) (traced_whole _ (traced_none tracing old.store.asked old.traced))) in
       record {
-        headline = headlined Takes (fresh settings) tracing old new report none r traces;
+        headline = headlined Takes (flying flight (fresh settings)) tracing old new report none r traces;
         ends = shown.1;
         is = ran.is;
         unanswered = refl;
@@ -113,11 +114,11 @@ module _ {Takes : Type 0} (settings : Option Config) (config : Config) (takes : 
         kept = ran.kept;
       }
 
-  kept_unkeyed : old.store.asked ≡ [] → RanUnkeyed config tracing ended old mid k0 k1 → KeptHeadline settings Takes tracing old new k0 k1 report
+  kept_unkeyed : old.store.asked ≡ [] → RanUnkeyed config flight tracing ended old mid k0 k1 → KeptHeadline settings flight Takes tracing old new k0 k1 report
   kept_unkeyed none ran = record { ending = ended.ending; status = status; answers = []; ran = inl (unkeyed_run none ran) }
 
   -- ---- no statement was served
-  kept_unbegun : RanUnbegun config tracing ended old mid k0 k1 → KeptHeadline settings Takes tracing old new k0 k1 report
+  kept_unbegun : RanUnbegun config tracing ended old mid k0 k1 → KeptHeadline settings flight Takes tracing old new k0 k1 report
   kept_unbegun ran = record {
     ending = ended.ending;
     status = status;
@@ -143,23 +144,23 @@ module _ {Takes : Type 0} (settings : Option Config) (config : Config) (takes : 
   }
 
   -- ---- a stop ended the session
-  record StopTold (ran : RanStopped config tracing ended old mid k0 k1) (w : Option (List ℕ)) (out : ℕ) : Type 0 where
-    r : Reported ended.tally (sink_of tracing ran.begun.traced mid.traced) Takes ran.begun.base keys_in old.left mid.left mid.gave old.written w ran.begun.opened mid.store old.faults (record mid.faults { out = out }) report
+  record StopTold (ran : RanStopped config flight tracing ended old mid k0 k1) (w : Option (List ℕ)) (out : ℕ) : Type 0 where
+    r : Reported ended.tally (sink_of tracing ran.begun.traced mid.traced) Takes (flying flight ran.begun.base) keys_in old.left mid.left mid.gave old.written w ran.begun.opened mid.store old.faults (record mid.faults { out = out }) report
     ending : r.ending ≡ Ran (Err ran.stop)
     keyed : secret_of (first_line r.shown.taken) ≡ Some ran.begun.secret
     rose : ended.quiet ≡ true → SinksRose old.faults (record mid.faults { out = out })
 
-  stop_told : (ran : RanStopped config tracing ended old mid k0 k1) → StopTold ran w2 out2
+  stop_told : (ran : RanStopped config flight tracing ended old mid k0 k1) → StopTold ran w2 out2
   unfolding reported_line reported_quiet shown_line
   stop_told ran = go ended.quiet refl
     where
       ending : Ending
       ending = Ran (Err ran.stop)
 
-      at_high : (x : RunShown ended.tally (sink_of tracing ran.begun.traced mid.traced) ran.begun.base keys_in old.left mid.left mid.gave old.written mid.written ran.begun.opened mid.store report.high (Ran (Err ran.stop)) [] (OutFailed ended.quiet old.faults.out mid.faults.out))
+      at_high : (x : RunShown ended.tally (sink_of tracing ran.begun.traced mid.traced) (flying flight ran.begun.base) keys_in old.left mid.left mid.gave old.written mid.written ran.begun.opened mid.store report.high (Ran (Err ran.stop)) [] (OutFailed ended.quiet old.faults.out mid.faults.out))
           × (secret_of (first_line x.taken) ≡ Some ran.begun.secret)
       at_high = subst
-          (λ (n : ℕ). (x : RunShown ended.tally (sink_of tracing ran.begun.traced mid.traced) ran.begun.base keys_in old.left mid.left mid.gave old.written mid.written ran.begun.opened mid.store n (Ran (Err ran.stop)) [] (OutFailed ended.quiet old.faults.out mid.faults.out))
+          (λ (n : ℕ). (x : RunShown ended.tally (sink_of tracing ran.begun.traced mid.traced) (flying flight ran.begun.base) keys_in old.left mid.left mid.gave old.written mid.written ran.begun.opened mid.store n (Ran (Err ran.stop)) [] (OutFailed ended.quiet old.faults.out mid.faults.out))
           × (secret_of (first_line x.taken) ≡ Some ran.begun.secret)) (sym high) (ran.shown, ran.keyed)
 
       words : EndingWords (Ran (Err ran.stop)) Takes
@@ -188,13 +189,13 @@ module _ {Takes : Type 0} (settings : Option Config) (config : Config) (takes : 
             rose = λ it. absurd (cc (it, is));
           }
 
-  kept_stopped : RanStopped config tracing ended old mid k0 k1 → KeptHeadline settings Takes tracing old new k0 k1 report
+  kept_stopped : RanStopped config flight tracing ended old mid k0 k1 → KeptHeadline settings flight Takes tracing old new k0 k1 report
   unfolding headlined
   kept_stopped ran =
       let told = stop_told ran in
       let begun = begun_at old ran.begun.opened ran.begun.traced in
       let traces : Traced tracing ran.begun.opened.asked mid.store.asked ran.begun.traced mid.traced (SinksRose old.faults new.faults) = traced_by_fault told.rose ran.traced_all in
-      let session : Headline ran.begun.base keys_in Takes tracing begun new report = headlined Takes ran.begun.base tracing begun new report ran.begun.first told.r traces in
+      let session : Headline (flying flight ran.begun.base) keys_in Takes tracing begun new report = headlined Takes (flying flight ran.begun.base) tracing begun new report ran.begun.first told.r traces in
       record {
         ending = ended.ending;
         status = status;
@@ -215,20 +216,20 @@ module _ {Takes : Type 0} (settings : Option Config) (config : Config) (takes : 
           keyed = told.keyed;
           answered = refl;
           high = refl;
-          behind = subst (λ (e : Ending). EndsBehind e ran.begun.base (keys_of ran.begun.secret) tracing session.story begun new new report report ran.begun.in_use k1 ended.ending)
+          behind = subst (λ (e : Ending). EndsBehind e (flying flight ran.begun.base) (keys_of ran.begun.secret) tracing session.story begun new new report report ran.begun.in_use k1 ended.ending)
               (sym told.ending) (record { is = ran.ending; same = refl; reports = refl; kept = ran.kept });
         }));
       }
 
   -- ---- it came to its end
-  kept_whole : RanWhole config tracing ended old mid k0 k1 → KeptHeadline settings Takes tracing old new k0 k1 report
+  kept_whole : RanWhole config flight tracing ended old mid k0 k1 → KeptHeadline settings flight Takes tracing old new k0 k1 report
   unfolding headlined reported_line shown_line
   kept_whole ran =
       let begun = begun_at old ran.begun.opened ran.begun.traced in
       let ending : Ending = Ran (Ok (has_refused ran.tally)) in
       let run : Report = record { status = status_of ending; high = ran.high } in
       let served : Outside = outside_of mid.left mid.gave mid.written ran.traced ran.served old.faults in
-      let r : Reported ran.tally (sink_of tracing ran.begun.traced ran.traced) Takes ran.begun.base keys_in old.left mid.left mid.gave old.written mid.written ran.begun.opened ran.served old.faults old.faults run =
+      let r : Reported ran.tally (sink_of tracing ran.begun.traced ran.traced) Takes (flying flight ran.begun.base) keys_in old.left mid.left mid.gave old.written mid.written ran.begun.opened ran.served old.faults old.faults run =
       reported_line (Ran (Ok (has_refused ran.tally))) old.faults old.faults old.faults {E = ⊥} refl takes ran.shown (λ lost. absurd (cc lost.0)) (record { source = refl; out = refl; trace = refl }) (Outputs-whole mid.written mid.written ⊥ [] (Appends-nil mid.written))
       (λ never. absurd never) (λ empty. refl) (omega arith) refl refl refl in
       record {
@@ -247,7 +248,7 @@ module _ {Takes : Type 0} (settings : Option Config) (config : Config) (takes : 
           began = ran.begun.began;
           served = served;
           run = run;
-          session = headlined Takes ran.begun.base tracing begun served run ran.begun.first r (traced_by_fault (λ never. absurd never) ran.traced_all);
+          session = headlined Takes (flying flight ran.begun.base) tracing begun served run ran.begun.first r (traced_by_fault (λ never. absurd never) ran.traced_all);
           keyed = ran.keyed;
           answered = refl;
           high = high ∙ ran.closed.rows;
@@ -262,14 +263,14 @@ module _ {Takes : Type 0} (settings : Option Config) (config : Config) (takes : 
         }));
       }
 
-  pub kept_headlined : old.store.asked ≡ [] → RanKept config tracing ended old mid k0 k1 → KeptHeadline settings Takes tracing old new k0 k1 report
+  pub kept_headlined : old.store.asked ≡ [] → RanKept config flight tracing ended old mid k0 k1 → KeptHeadline settings flight Takes tracing old new k0 k1 report
   kept_headlined none (inl ran) = kept_unkeyed none ran
   kept_headlined none (inr (inl ran)) = kept_unbegun ran
   kept_headlined none (inr (inr (inl ran))) = kept_stopped ran
   kept_headlined none (inr (inr (inr ran))) = kept_whole ran
 
   -- what was counted of its answers
-  pub kept_told : (none : old.store.asked ≡ []) (ran : RanKept config tracing ended old mid k0 k1) → ((kept_headlined none ran).ending ≡ ended.ending) × KeptTally ended.ending (kept_headlined none ran).answers ended.tally
+  pub kept_told : (none : old.store.asked ≡ []) (ran : RanKept config flight tracing ended old mid k0 k1) → ((kept_headlined none ran).ending ≡ ended.ending) × KeptTally ended.ending (kept_headlined none ran).answers ended.tally
   unfolding kept_headlined kept_unkeyed kept_unbegun kept_stopped kept_whole
   kept_told none (inl ran) = (
     refl,
@@ -279,7 +280,7 @@ module _ {Takes : Type 0} (settings : Option Config) (config : Config) (takes : 
   kept_told none (inr (inr (inl ran))) = (refl, counted_by ended.ending (kept_stopped ran).answers ended.tally (λ refused is. absurd (cc (ran.ending, is))))
   kept_told none (inr (inr (inr ran))) = (refl, counted_by ended.ending ran.shown.story.answers ended.tally (λ refused is. counts_whole ran refused is))
     where
-      counts_whole : (ran : RanWhole config tracing ended old mid k0 k1) (refused : Bool) → ended.ending ≡ Plain (Ran (Ok refused)) → KeptTally ended.ending ran.shown.story.answers ended.tally
+      counts_whole : (ran : RanWhole config flight tracing ended old mid k0 k1) (refused : Bool) → ended.ending ≡ Plain (Ran (Ok refused)) → KeptTally ended.ending ran.shown.story.answers ended.tally
       counts_whole ran refused is =
           let came = ends_whole ran.closed.tables.closes.result _ _ _ _ _ _ refused ran.closed.tables.closes.ends is in
           subst (λ (e : KeptEnding). KeptTally e ran.shown.story.answers ended.tally) (sym came.0) (ran.closed.counted came.0 ∙ ran.shown.counted)

@@ -1,10 +1,10 @@
 -- What lasts of a store while texts are served.
-use Rattle.std.proofs.Common.{◌≡◌, ℕ, Bool, List, [], ◌∷◌, Result, inl, inr, sym, subst}
+use Rattle.std.proofs.Common.{◌≡◌, ℕ, Bool, List, Result, inl, inr, sym, subst}
 use Rattle.ob_base.specs.declared.refusal.Stop.{Stop}
 use Rattle.ob_headline.specs.Words.{Answer}
 use Rattle.ob_shell.proofs.StepLemmas.{last_by}
 use Rattle.ob_shell.specs.Running.{LastPart}
-use Rattle.ob_shell.specs.Steps.{Machine, Step, Steps}
+use Rattle.ob_shell.specs.Steps.{Machine, Step, Steps, at_rest, more_together, one_more}
 use Rattle.ob_store.proofs.Steps.{since_refl, since_trans}
 use Rattle.ob_store.specs.Runs.{Since}
 use Rattle.ob_vault.specs.State.{RevState}
@@ -20,10 +20,9 @@ module _ {R : Type 0} (state : R → RevState) where
   ]
 
   pub steps_later : (m0 m2 : Machine R) (texts : List (List ℕ)) (answers : List Answer) → Steps state m0 m2 texts answers → Since m0.store m2.store
-  unfolding Steps
-  steps_later m0 m2 [] answers steps = same m0 m2 steps.0
-  steps_later m0 m2 (text ∷ texts) answers steps =
-      since_trans _ _ _ (step_later m0 steps.0 text steps.1 steps.4) (steps_later steps.0 m2 texts steps.2 steps.5)
+  steps_later m0 m2 texts answers at_rest = since_refl m0.store
+  steps_later m0 m2 texts answers (one_more {m1 = m1} {text = text} {one = one} {texts = more} {answers = given} step rest) = since_trans _ _ _ (step_later m0 m1 text one step) (steps_later m1 m2 more given rest)
+  steps_later m0 m2 texts answers (more_together {m1 = m1} {texts = more} {answers = given} step rest) = since_trans _ _ _ step.flew.ran.ran.later (steps_later m1 m2 more given rest)
 
   pub last_later : (m1 m2 : Machine R) (more : List (List ℕ)) (part : List ℕ) (result : Result Bool Stop) → LastPart state m1 m2 more part result → Since m1.store m2.store
-  last_later m1 m2 more part result last = last_by state m1 m2 more part (Since m1.store m2.store) result last (same m1 m2) (λ text run cut. cut.does.ran.later) (step_later m1 m2)
+  last_later m1 m2 more part result last = last_by state m1 m2 more part (Since m1.store m2.store) result last (same m1 m2) (λ text run cut. cut.does.ran.later) (step_later m1 m2) (λ texts run cut. cut.flew.ran.ran.later) (λ texts answers step. step.flew.ran.ran.later)

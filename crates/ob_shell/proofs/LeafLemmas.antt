@@ -7,11 +7,11 @@ use Rattle.std.proofs.lemmas.List.Elements.{All-cons, All-nil, All-weaker}
 use Rattle.std.proofs.lemmas.List.Kept.{AllPairs-cons}
 use Rattle.std.proofs.lemmas.Option.{slice_get-get_or}
 use Rattle.ob_base.specs.Indexes.{leaf_of_draw}
-use Rattle.ob_base.specs.declared.config.Public.{Public}
 use Rattle.ob_exec.proofs.LeavesRead.{Given, KeyAt, Onwards, ReadsUnread, Unread, behind, none_given, reads_unread}
 use Rattle.ob_tables.specs.Agreeing.{AreDraws, indexes_of, public_of, seen_of}
 use Rattle.ob_tables.specs.Engines.{AreTables}
 use Rattle.ob_tables.specs.declared.stop.RunStop.{RunStop}
+use Rattle.ob_headline.specs.Flights.{Seat, seat_alone}
 use Rattle.ob_headline.specs.FullStash.{HasDrawnLeaves}
 use Rattle.ob_headline.specs.Leaves.{AreDrawn, IsDrawn}
 use Rattle.ob_mean.specs.Lawful.{height_at}
@@ -19,49 +19,45 @@ use Rattle.ob_mean.specs.Replay.{draws_taken}
 use Rattle.ob_mean.specs.Verdict.{Draws}
 use Rattle.ob_oram.specs.declared.index.Index.{Index}
 use Rattle.ob_oram.specs.Indexes.{leaves_of}
-use Rattle.ob_script.specs.Trace.{Served, next}
-use Rattle.ob_shell.specs.Steps.{Does, Machine}
+use Rattle.ob_script.specs.Trace.{Served}
+use Rattle.ob_shell.specs.Steps.{Does, Machine, asked_of}
 use Rattle.ob_sql.specs.Skeleton.{skeleton}
 use Rattle.ob_sql.specs.declared.stmt.Stmt.{Stmt}
 use Rattle.ob_vault.specs.State.{RevState, World}
 use Rattle.ob_verdict.specs.declared.outcome.Outcome.{Outcome}
 
 -- statements read leaves of draws, none twice, of which none was read before
-pub record Reads (d : Draws) (indexes : List Index) (g : Given d indexes) (p : Public) (seen : List Served) : Type 0 where
+pub record Reads (d : Draws) (indexes : List Index) (g : Given d indexes) (seats : List Seat) (seen : List Served) : Type 0 where
   pub numbers : List ℕ
-  pub are : AreDrawn d.draw p seen numbers
+  pub are : AreDrawn d.draw seats seen numbers
   pub apart : AllPairs (λ a b. a ≢ b) numbers
   pub unread : All (Unread d indexes g.number) numbers
 
 none_apart : AllPairs (λ (a b : ℕ). a ≢ b) []
 none_apart i j x before within = absurd (omega (arith, within))
 
-pub reads_none : (d : Draws) (indexes : List Index) (g : Given d indexes) (p : Public) → Reads d indexes g p []
-reads_none d indexes g p = record { numbers = []; are = refl; apart = none_apart; unread = All-nil (Unread d indexes g.number) }
+pub reads_none : (d : Draws) (indexes : List Index) (g : Given d indexes) (seats : List Seat) → Reads d indexes g seats []
+reads_none d indexes g seats = record { numbers = []; are = refl; apart = none_apart; unread = All-nil (Unread d indexes g.number) }
 
--- one that reads none, behind which the same is public
-pub reads_unasked : (d : Draws) (indexes : List Index) (g : Given d indexes) (p q : Public) (x : Served) (seen : List Served) → x.seen.leaf ≡ None → next p x.skeleton x.seen ≡ q → Reads d indexes g q seen → Reads d indexes g p (x ∷ seen)
-reads_unasked d indexes g p q x seen none same rest = record {
+-- one that reads none
+pub reads_unasked : (d : Draws) (indexes : List Index) (g : Given d indexes) (v : Seat) (seats : List Seat) (x : Served) (seen : List Served) → x.seen.leaf ≡ None → Reads d indexes g seats seen → Reads d indexes g (v ∷ seats) (x ∷ seen)
+reads_unasked d indexes g v seats x seen none rest = record {
   numbers = rest.numbers;
-  are = subst (λ (o : Option ℕ). IsDrawn d.draw (height_at p x.skeleton) o rest.numbers (AreDrawn d.draw (next p x.skeleton x.seen) seen)) (sym none)
-      (subst (λ (r : Public). AreDrawn d.draw r seen rest.numbers) (sym same) rest.are);
+  are = subst (λ (o : Option ℕ). IsDrawn d.draw (height_at v.public x.skeleton) o rest.numbers (AreDrawn d.draw seats seen)) (sym none) rest.are;
   apart = rest.apart;
   unread = rest.unread;
 }
 
 -- ---- one statement
-module _ (d : Draws) (taken : ℕ) (old new : List Index) (g : Given d old) (p : Public) (x : Served) where
+module _ (d : Draws) (taken : ℕ) (old new : List Index) (g : Given d old) (v : Seat) (seats : List Seat) (x : Served) where
   abbrev IsLeaf : Option ℕ → Type 0
-  IsLeaf read = x.seen.leaf ≡ option_map (λ (n : ℕ). leaf_of_draw (height_at p x.skeleton) (d.draw n)) read
-
-  abbrev behind_it : Public
-  behind_it = next p x.skeleton x.seen
+  IsLeaf read = x.seen.leaf ≡ option_map (λ (n : ℕ). leaf_of_draw (height_at v.public x.skeleton) (d.draw n)) read
 
   drawn_at : (read : Option ℕ) (numbers : List ℕ) (seen : List Served) → IsLeaf read
-      → IsDrawn d.draw (height_at p x.skeleton) (option_map (λ (n : ℕ). leaf_of_draw (height_at p x.skeleton) (d.draw n)) read) numbers (AreDrawn d.draw behind_it seen) → AreDrawn d.draw p (x ∷ seen) numbers
-  drawn_at read numbers seen is are = subst (λ (o : Option ℕ). IsDrawn d.draw (height_at p x.skeleton) o numbers (AreDrawn d.draw behind_it seen)) (sym is) are
+      → IsDrawn d.draw (height_at v.public x.skeleton) (option_map (λ (n : ℕ). leaf_of_draw (height_at v.public x.skeleton) (d.draw n)) read) numbers (AreDrawn d.draw seats seen) → AreDrawn d.draw (v ∷ seats) (x ∷ seen) numbers
+  drawn_at read numbers seen is are = subst (λ (o : Option ℕ). IsDrawn d.draw (height_at v.public x.skeleton) o numbers (AreDrawn d.draw seats seen)) (sym is) are
 
-  last_by : (read : Option ℕ) → IsLeaf read → IfSome read (λ n. Unread d old g.number n) → Reads d old g p (x ∷ [])
+  last_by : (read : Option ℕ) → IsLeaf read → IfSome read (λ n. Unread d old g.number n) → Reads d old g (v ∷ seats) (x ∷ [])
   last_by None is fresh = record { numbers = []; are = drawn_at None [] [] is refl; apart = none_apart; unread = All-nil (Unread d old g.number) }
   last_by (Some n) is fresh = record {
     numbers = n ∷ [];
@@ -71,7 +67,7 @@ module _ (d : Draws) (taken : ℕ) (old new : List Index) (g : Given d old) (p :
   }
 
   more_by : (read : Option ℕ) (seen : List Served) → IsLeaf read → IfSome read (λ n. Unread d old g.number n) → (on : Onwards d taken old new g read)
-      → Reads (behind d taken) new on.given behind_it seen → Reads d old g p (x ∷ seen)
+      → Reads (behind d taken) new on.given seats seen → Reads d old g (v ∷ seats) (x ∷ seen)
   more_by None seen is fresh on rest = record {
     numbers = rest.numbers;
     are = drawn_at None rest.numbers seen is rest.are;
@@ -90,6 +86,9 @@ module _ {R : Type 0} (state : R → RevState) (m0 m1 : Machine R) (stmt : Stmt)
   abbrev here : Served
   here = record { skeleton = skeleton stmt; seen = seen_of m1.engine }
 
+  abbrev there : Seat
+  there = seat_alone (public_of m0.engine) (asked_of m0) here
+
   abbrev taken : ℕ
   taken = draws_taken (public_of m0.engine) (skeleton stmt) (seen_of m1.engine).end
 
@@ -97,15 +96,15 @@ module _ {R : Type 0} (state : R → RevState) (m0 m1 : Machine R) (stmt : Stmt)
     reads : ReadsUnread d taken (height_at (public_of m0.engine) (skeleton stmt)) (indexes_of m0.engine) g (seen_of m1.engine).leaf m1.engine.ended (indexes_of m1.engine)
     reads = reads_unread d taken (height_at (public_of m0.engine) (skeleton stmt)) (indexes_of m0.engine) g (seen_of m1.engine).leaf m1.engine.ended (indexes_of m1.engine) (does.ran.leaves d drawn)
 
-    pub reads_last : Reads d (indexes_of m0.engine) g (public_of m0.engine) (here ∷ [])
-    reads_last = last_by d taken (indexes_of m0.engine) (indexes_of m1.engine) g (public_of m0.engine) here reads.read reads.is reads.fresh
+    pub reads_last : Reads d (indexes_of m0.engine) g (there ∷ []) (here ∷ [])
+    reads_last = last_by d taken (indexes_of m0.engine) (indexes_of m1.engine) g there [] here reads.read reads.is reads.fresh
 
-    pub reads_more : (seen : List Served) → m1.engine.ended ≡ false
-        → ((h : Given (behind d taken) (indexes_of m1.engine)) → Reads (behind d taken) (indexes_of m1.engine) h (next (public_of m0.engine) (skeleton stmt) (seen_of m1.engine)) seen)
-        → Reads d (indexes_of m0.engine) g (public_of m0.engine) (here ∷ seen)
-    reads_more seen lives rest =
+    pub reads_more : (seats : List Seat) (seen : List Served) → m1.engine.ended ≡ false
+        → ((h : Given (behind d taken) (indexes_of m1.engine)) → Reads (behind d taken) (indexes_of m1.engine) h seats seen)
+        → Reads d (indexes_of m0.engine) g (there ∷ seats) (here ∷ seen)
+    reads_more seats seen lives rest =
         let on = reads.onwards lives in
-        more_by d taken (indexes_of m0.engine) (indexes_of m1.engine) g (public_of m0.engine) here reads.read seen reads.is reads.fresh on (rest on.given)
+        more_by d taken (indexes_of m0.engine) (indexes_of m1.engine) g there seats here reads.read seen reads.is reads.fresh on (rest on.given)
 
     -- what is known behind it
     pub given_after : m1.engine.ended ≡ false → Given (behind d taken) (indexes_of m1.engine)

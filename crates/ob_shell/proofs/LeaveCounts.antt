@@ -1,20 +1,21 @@
 -- The keeper's count of faults rises exactly where a session ends for that.
-use Rattle.std.proofs.Common.{◌≡◌, inl, inr, ℕ, Bool, List, [], ◌∷◌, Result, Ok, Err, sym, ◌∙◌, ap, subst}
+use Rattle.std.proofs.Common.{◌≡◌, inl, inr, ℕ, Bool, List, [], ◌∷◌, Result, Ok, Err, refl, sym, ◌∙◌, ap, subst}
 use Rattle.ob_base.specs.Counts.{Rises}
 use Rattle.ob_base.specs.declared.refusal.Stop.{Stop}
 use Rattle.ob_base.specs.declared.refusal.Stop.TheVariants as Stops
 use Rattle.ob_exec.specs.Ran.{CountsKeeper as CountsRun}
+use Rattle.ob_exec.specs.RanFlight.{FlightCause}
 use Rattle.ob_headline.specs.SavedHeadline.{CountsKeeper}
 use Rattle.ob_headline.specs.Words.{Answer}
 use Rattle.ob_headline.specs.declared.ending.Ending.TheVariants.{Ran}
 use Rattle.ob_reopen.specs.Keepers.{KeeperState}
 use Rattle.ob_shell.proofs.StepLemmas.{by_last}
 use Rattle.ob_shell.specs.Running.{LastPart}
-use Rattle.ob_shell.specs.Steps.{Machine, PartlyAt, Step, Steps}
+use Rattle.ob_shell.specs.Steps.{Machine, PartlyAt, Step, Steps, at_rest, more_together, one_more}
 use Rattle.ob_tables.specs.Stops.{session_stop}
 use Rattle.ob_tables.specs.declared.stop.RunStop.{RunStop}
 use Rattle.ob_tables.specs.declared.stop.RunStop.TheVariants.{KeeperFault, NoMemory, SinkFault, StashFull, StoreFault, Tampered}
-use Rattle.ob_vault.specs.State.{RevState}
+use Rattle.ob_vault.specs.State.{RevState, World}
 
 -- a stop is that of the session
 stop_counts : (run : RunStop) (old new : KeeperState) → CountsRun (Err run) old new → CountsKeeper (Ran (Err (session_stop run))) old new
@@ -31,6 +32,15 @@ memory_counts run old new is same = subst (λ (r : RunStop). CountsKeeper (Ran (
 
 sink_counts : (run : RunStop) (old new : KeeperState) → run ≡ SinkFault → new.faults ≡ old.faults → CountsKeeper (Ran (Err (session_stop run))) old new
 sink_counts run old new is same = subst (λ (r : RunStop). CountsKeeper (Ran (Err (session_stop r))) old new) (sym is) same
+
+-- nor does a stop of a flight, which no keeper stops
+flight_counts : (a b : World) (run : RunStop) (old new : KeeperState) → FlightCause {T = Unit {0}} (Err run) a b → new.faults ≡ old.faults → CountsKeeper (Ran (Err (session_stop run))) old new
+flight_counts a b (Tampered q x) old new cause same = same
+flight_counts a b SinkFault old new cause same = same
+flight_counts a b NoMemory old new cause same = same
+flight_counts a b StoreFault old new cause same = same
+flight_counts a b StashFull old new cause same = same
+flight_counts a b KeeperFault old new cause same = absurd cause
 
 -- while the count stays, nothing changes of that
 counts_on : (result : Result Bool Stop) (a b c : KeeperState) → b.faults ≡ a.faults → CountsKeeper (Ran result) b c → CountsKeeper (Ran result) a c
@@ -55,15 +65,17 @@ module _ {R : Type 0} (state : R → RevState) where
   ]
 
   pub steps_count : (m0 m2 : Machine R) (texts : List (List ℕ)) (answers : List Answer) → Steps state m0 m2 texts answers → m2.keeper.faults ≡ m0.keeper.faults
-  unfolding Steps
-  steps_count m0 m2 [] answers steps = unmoved m0 m2 steps.0
-  steps_count m0 m2 (text ∷ texts) answers steps = steps_count steps.0 m2 texts steps.2 steps.5 ∙ step_counts m0 steps.0 text steps.1 steps.4
+  steps_count m0 m2 texts answers at_rest = refl
+  steps_count m0 m2 texts answers (one_more {m1 = m1} {text = text} {one = one} {texts = more} {answers = given} step rest) = steps_count m1 m2 more given rest ∙ step_counts m0 m1 text one step
+  steps_count m0 m2 texts answers (more_together {m1 = m1} {texts = more} {answers = given} step rest) = steps_count m1 m2 more given rest ∙ ap (λ (k : KeeperState). k.faults) step.may.keeper
 
   part_counts : (m1 m2 : Machine R) (more : List (List ℕ)) (run : RunStop) (part : List ℕ) → PartlyAt state m1 m2 more run part → CountsKeeper (Ran (Err (session_stop run))) m1.keeper m2.keeper
   part_counts m1 m2 [] run part idle = memory_counts run m1.keeper m2.keeper idle.memory (unmoved m1 m2 idle.rests.machine)
   part_counts m1 m2 (text ∷ more) run part (inl idle) = memory_counts run m1.keeper m2.keeper idle.memory (unmoved m1 m2 idle.rests.machine)
   part_counts m1 m2 (text ∷ more) run part (inr (inl cut)) = stop_counts run m1.keeper m2.keeper cut.does.counts
-  part_counts m1 m2 (text ∷ more) run part (inr (inr done)) = sink_counts run m1.keeper m2.keeper done.fault (step_counts m1 m2 text done.answer done.step)
+  part_counts m1 m2 (text ∷ more) run part (inr (inr (inl done))) = sink_counts run m1.keeper m2.keeper done.fault (step_counts m1 m2 text done.answer done.step)
+  part_counts m1 m2 (text ∷ more) run part (inr (inr (inr (inl cut)))) = flight_counts _ _ run m1.keeper m2.keeper cut.flew.ran.cause (ap (λ (k : KeeperState). k.faults) cut.may.keeper)
+  part_counts m1 m2 (text ∷ more) run part (inr (inr (inr (inr done)))) = sink_counts run m1.keeper m2.keeper done.fault (ap (λ (k : KeeperState). k.faults) done.step.may.keeper)
 
   last_counts : (m1 m2 : Machine R) (more : List (List ℕ)) (part : List ℕ) (result : Result Bool Stop) → LastPart state m1 m2 more part result → CountsKeeper (Ran result) m1.keeper m2.keeper
   last_counts m1 m2 more part (Ok flag) rests = unmoved m1 m2 rests.machine

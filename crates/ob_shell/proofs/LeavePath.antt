@@ -1,15 +1,17 @@
 -- The machines along the statements that were answered, and the one begun.
-use Rattle.std.specs.Prelude.{◌≡◌, ◌⊎◌, false, List, [], ◌∷◌, Ok, Err}
+use Rattle.std.specs.Prelude.{◌≡◌, ◌⊎◌, ◌<◌, ◌≤◌, ◌++◌, ⊤, ℕ, false, drop, length, map, List, [], ◌∷◌, Option, None, Ok, Err}
 use Rattle.ob_base.specs.declared.refusal.Stop.TheVariants.{SinkFault}
+use Rattle.ob_headline.specs.Flights.{Seat}
+use Rattle.ob_headline.specs.SavedHeadline.{left_by}
 use Rattle.ob_headline.specs.Words.{Answer}
 use Rattle.ob_headline.specs.declared.ending.Ending.{Ending}
 use Rattle.ob_headline.specs.declared.ending.Ending.TheVariants.{Ran}
-use Rattle.ob_mean.specs.Replay.{Broken, How, Spelt, after, head_of, is_full_now, rest_of, seen_or_cut}
+use Rattle.ob_mean.specs.Replay.{Broken, How, Session, Spelt, after, head_of, is_full_now, rest_of, seen_or_cut}
 use Rattle.ob_mean.specs.Verdict.{Draws, Tables}
-use Rattle.ob_script.specs.Trace.{Served as Entry}
-use Rattle.ob_shell.specs.Steps.{Does, GoTogether, Holds, Machine, Owes, StaysAs, TakesOwed, has_failed, session_of, tables_behind}
+use Rattle.ob_shell.specs.Steps.{Does, GoTogether, Holds, Machine, Owes, StaysAs, TakesOwed, asked_of, has_failed, session_of, tables_behind}
 use Rattle.ob_sql.specs.declared.stmt.Stmt.{Stmt}
-use Rattle.ob_tables.specs.Agreeing.{AreDraws, public_of, seen_of}
+use Rattle.ob_store.specs.Runs.{Since}
+use Rattle.ob_tables.specs.Agreeing.{Agrees, AreDraws, engine_keys, engine_start, public_of, seen_of}
 use Rattle.ob_tables.specs.Running.{is_fault}
 use Rattle.ob_tables.specs.Stops.{session_stop}
 use Rattle.ob_tables.specs.Telling.{ReadsTrue}
@@ -28,7 +30,7 @@ module _ {R : Type 0} (state : R → RevState) where
   pub record IsWith (m0 m1 : Machine R) (stmt : Stmt) (outcome : Outcome) : Type 0 where
     pub same : StaysAs m0 m1
     pub along : GoTogether (public_of m0.engine) stmt m1.owed
-    pub owed : TakesOwed (has_failed m0.gathered) (record { stmt = stmt; outcome = outcome }) m0.owed m1.owed
+    pub owed : TakesOwed (has_failed m0.gathered.batch) (record { stmt = stmt; outcome = outcome }) m0.owed m1.owed
 
   -- a statement was stopped, and with it the session
   pub record IsStopped (ending : Ending) (m0 m2 : Machine R) (stmt : Stmt) : Type 0 where
@@ -57,22 +59,35 @@ module _ {R : Type 0} (state : R → RevState) where
   EndsAlong ending m0 m2 (Err at) = IsPassed m0 m2
   EndsAlong ending m0 m2 (Ok stmt) = IsStopped ending m0 m2 stmt ⊎ IsLast ending m0 m2 stmt
 
-  -- from the first machine to the second a statement was answered, of which this is seen
-  pub record IsServed (m0 m1 : Machine R) (stmt : Stmt) (one : Answer) (x : Entry) : Type 0 where
-    pub done : IsDone m0 m1 stmt one.outcome
-    pub seen : x.seen ≡ seen_of m1.engine
+  -- several flew: the tables, and what is saved of them, are as they were
+  pub record HaveFlown (m0 m1 : Machine R) : Type 0 where
+    pub free : m0.owed ≡ []
+    pub owed : m1.owed ≡ []
+    pub keeper : m1.keeper ≡ m0.keeper
+    pub later : Since m0.store m1.store
+    pub kept : (q : ℕ) → q < (public_of m0.engine).next_region → m1.store.kept q ≡ m0.store.kept q
 
-  -- from the first machine to the last these were answered, and the one behind them begun
-  abbrev pub Along : Ending → (m0 m2 : Machine R) → List Spelt → List Answer → List Entry → Type 0
-  Along ending m0 m2 [] answers seen = IsOver m0 m2
-  Along ending m0 m2 (x ∷ spelt) [] seen = EndsAlong ending m0 m2 x
-  Along ending m0 m2 (Err at ∷ spelt) (one ∷ answers) seen =
-      (m1 : Machine R) × IsPassed m0 m1 × Along ending m1 m2 spelt answers seen
-  Along ending m0 m2 (Ok stmt ∷ spelt) (one ∷ answers) [] = ⊥
-  Along ending m0 m2 (Ok stmt ∷ spelt) (one ∷ answers) (x ∷ seen) =
-      (m1 : Machine R) × (IsServed m0 m1 stmt one x ⊎ IsWith m0 m1 stmt one.outcome) × Along ending m1 m2 spelt answers seen
+  -- and the session goes on
+  pub record HaveLanded (m0 m1 : Machine R) : Type 0 where
+    pub flown : HaveFlown m0 m1
+    pub agrees : Agrees state m1.engine m1.store
+    pub public : public_of m1.engine ≡ record (public_of m0.engine) { next_region = (public_of m1.engine).next_region }
+    pub more : (public_of m0.engine).next_region ≤ (public_of m1.engine).next_region
+    pub keys : engine_keys m1.engine ≡ engine_keys m0.engine
+    pub start : engine_start m1.engine ≡ engine_start m0.engine
 
   -- ---- and where the model stands beside them
+  -- a statement's seat is that of the machine
+  pub record IsSeatOf (m : Machine R) (v : Seat) : Type 0 where
+    pub public : v.public ≡ public_of m.engine
+    pub asked : v.asked ≡ asked_of m
+
+  -- so is the first of these, if the text begun spells a statement
+  abbrev pub BeginsSeats : (m : Machine R) → Spelt → List Seat → Type 0
+  BeginsSeats m (Err at) seats = ⊤
+  BeginsSeats m (Ok stmt) [] = ⊥
+  BeginsSeats m (Ok stmt) (v ∷ seats) = IsSeatOf m v
+
   -- a statement was answered by itself, and seen so
   pub record ServesSo (m0 m1 : Machine R) (d : Draws) (tables : Tables) (stmt : Stmt) (one : Answer) (how : How) : Type 0 where
     pub done : IsDone m0 m1 stmt one.outcome
@@ -87,15 +102,52 @@ module _ {R : Type 0} (state : R → RevState) where
   pub record StandsSo (m0 m1 : Machine R) (d : Draws) (tables : Tables) (stmt : Stmt) (one : Answer) (how : How) : Type 0 where
     pub room : is_full_now (session_of m0 d tables) stmt ≡ false
     pub served : ServesSo m0 m1 d tables stmt one how ⊎ JoinsSo m0 m1 d tables stmt how
-    pub stands : after how (session_of m0 d tables) stmt ≡ session_of m1 (after how (session_of m0 d tables) stmt).draws (after how (session_of m0 d tables) stmt).tables
     pub drawn : AreDraws m1.engine (after how (session_of m0 d tables) stmt).draws
     pub holds : Holds state m1 (after how (session_of m0 d tables) stmt).draws (after how (session_of m0 d tables) stmt).tables
 
-  abbrev pub Path : Ending → (m0 m2 : Machine R) → Draws → Tables → List Spelt → List Answer → Broken → Type 0
-  Path ending m0 m2 d tables [] answers broken = IsOver m0 m2 × (answers ≡ [])
-  Path ending m0 m2 d tables (x ∷ spelt) [] broken = EndsAlong ending m0 m2 x
-  Path ending m0 m2 d tables (Err at ∷ spelt) (one ∷ answers) broken =
-      (m1 : Machine R) × IsPassed m0 m1 × Path ending m1 m2 d tables spelt answers (rest_of broken)
-  Path ending m0 m2 d tables (Ok stmt ∷ spelt) (one ∷ answers) broken =
-      (m1 : Machine R) × StandsSo m0 m1 d tables stmt one (head_of broken)
-      × Path ending m1 m2 (after (head_of broken) (session_of m0 d tables) stmt).draws (after (head_of broken) (session_of m0 d tables) stmt).tables spelt answers (rest_of broken)
+  -- behind a flight the model stands where it stood, by what is public then
+  pub record LandsSo (m0 m1 : Machine R) (d : Draws) (tables : Tables) : Type 0 where
+    pub landed : HaveLanded m0 m1
+    pub drawn : AreDraws m1.engine d
+    pub holds : Holds state m1 d tables
+
+-- ---- what a flight leaves of a session's tables and draws
+-- those that were answered in a flight that was left leave the tables
+abbrev pub LeavesKept : (d : Draws) (tables : Tables) → List Seat → List Spelt → List Answer → Broken → Type 0
+LeavesKept d tables seats spelt kept broken = (s : Session) → s.tables ≡ tables → s.draws ≡ d → left_by None seats s spelt kept broken ≡ tables
+
+-- behind these that flew, and were all answered, a session goes on from the same tables and draws
+pub record GoesOn (s : Session) (flown seats : List Seat) (stmts : List Stmt) (more : List Spelt) (given answers : List Answer) (broken : Broken) : Type 0 where
+  pub behind : Session
+  pub tables : behind.tables ≡ s.tables
+  pub draws : behind.draws ≡ s.draws
+  pub left : (o : Option (List Stmt)) → left_by o (flown ++ seats) s (map Ok stmts ++ more) (given ++ answers) broken ≡ left_by o seats behind more answers (drop (length stmts) broken)
+
+abbrev pub LeavesFlown : (d : Draws) (tables : Tables) → (flown seats : List Seat) → List Stmt → (more : List Spelt) → (given answers : List Answer) → Broken → Type 0
+LeavesFlown d tables flown seats stmts more given answers broken = (s : Session) → s.tables ≡ tables → s.draws ≡ d → GoesOn s flown seats stmts more given answers broken
+
+-- from the first machine to the last these were answered, and the one behind them begun, or the flight
+pub data Along {R : Type 0} (state : R → RevState) (ending : Ending) : Machine R → Machine R → List Spelt → List Answer → Type 0 where
+  over_along : {m0 m2 : Machine R} → IsOver state m0 m2 → Along state ending m0 m2 [] []
+  ended_along : {m0 m2 : Machine R} {x : Spelt} → EndsAlong state ending m0 m2 x → Along state ending m0 m2 (x ∷ []) []
+  aloft_along : {m0 m2 : Machine R} {spelt : List Spelt} {kept : List Answer} → HaveFlown state m0 m2 → Along state ending m0 m2 spelt kept
+  passed_along : {m0 m1 m2 : Machine R} {at : ℕ} {one : Answer} {spelt : List Spelt} {answers : List Answer} → IsPassed state m0 m1 → Along state ending m1 m2 spelt answers
+      → Along state ending m0 m2 (Err at ∷ spelt) (one ∷ answers)
+  answered_along : {m0 m1 m2 : Machine R} {stmt : Stmt} {one : Answer} {spelt : List Spelt} {answers : List Answer} → IsDone state m0 m1 stmt one.outcome ⊎ IsWith state m0 m1 stmt one.outcome → Along state ending m1 m2 spelt answers
+      → Along state ending m0 m2 (Ok stmt ∷ spelt) (one ∷ answers)
+  together_along : {m0 m1 m2 : Machine R} (spelt : List Spelt) {more : List Spelt} (given : List Answer) {answers : List Answer} → HaveLanded state m0 m1 → Along state ending m1 m2 more answers → Along state ending m0 m2 (spelt ++ more) (given ++ answers)
+
+-- and where the model stands beside them, by the seats of the statements
+pub data Path {R : Type 0} (state : R → RevState) (ending : Ending) : Machine R → Machine R → Draws → Tables → List Seat → List Spelt → List Answer → Broken → Type 0 where
+  over_so : {m0 m2 : Machine R} {d : Draws} {tables : Tables} {seats : List Seat} {broken : Broken} → IsOver state m0 m2 → Path state ending m0 m2 d tables seats [] [] broken
+  ends_so : {m0 m2 : Machine R} {d : Draws} {tables : Tables} {seats : List Seat} {x : Spelt} {broken : Broken} → BeginsSeats state m0 x seats → EndsAlong state ending m0 m2 x → Path state ending m0 m2 d tables seats (x ∷ []) [] broken
+  aloft_so : {m0 m2 : Machine R} {d : Draws} {tables : Tables} {seats : List Seat} {spelt : List Spelt} {kept : List Answer} {broken : Broken} → HaveFlown state m0 m2 → LeavesKept d tables seats spelt kept broken
+      → Path state ending m0 m2 d tables seats spelt kept broken
+  passed_so : {m0 m1 m2 : Machine R} {d : Draws} {tables : Tables} {seats : List Seat} {at : ℕ} {one : Answer} {spelt : List Spelt} {answers : List Answer} {broken : Broken} → IsPassed state m0 m1
+      → Path state ending m1 m2 d tables seats spelt answers (rest_of broken) → Path state ending m0 m2 d tables seats (Err at ∷ spelt) (one ∷ answers) broken
+  answered_so : {m0 m1 m2 : Machine R} {d : Draws} {tables : Tables} {v : Seat} {seats : List Seat} {stmt : Stmt} {one : Answer} {spelt : List Spelt} {answers : List Answer} {broken : Broken} → IsSeatOf state m0 v → StandsSo state m0 m1 d tables stmt one (head_of broken)
+      → Path state ending m1 m2 (after (head_of broken) (session_of m0 d tables) stmt).draws (after (head_of broken) (session_of m0 d tables) stmt).tables seats spelt answers (rest_of broken)
+      → Path state ending m0 m2 d tables (v ∷ seats) (Ok stmt ∷ spelt) (one ∷ answers) broken
+  together_so : {m0 m1 m2 : Machine R} {d : Draws} {tables : Tables} (flown : List Seat) {seats : List Seat} (stmts : List Stmt) {more : List Spelt} (given : List Answer) {answers : List Answer} {broken : Broken} → LandsSo state m0 m1 d tables → length given ≡ length stmts
+      → LeavesFlown d tables flown seats stmts more given answers broken
+      → Path state ending m1 m2 d tables seats more answers (drop (length stmts) broken) → Path state ending m0 m2 d tables (flown ++ seats) (map Ok stmts ++ more) (given ++ answers) broken

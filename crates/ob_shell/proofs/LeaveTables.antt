@@ -30,7 +30,7 @@ use Rattle.ob_seal.specs.Sealed.{AreOfSecret}
 use Rattle.ob_shell.proofs.LeaveSteps.{Saves, own_mark, read_below, rests_now, rests_past, rests_saved, rests_stay, then_same, uncut, unsaved_same, whole_own}
 use Rattle.ob_shell.specs.Leaving.{RestsOn}
 use Rattle.ob_shell.proofs.LeavePath.{IsDone}
-use Rattle.ob_shell.proofs.WalkLemmas.{end_apart}
+use Rattle.ob_shell.proofs.EndLemmas.{end_apart}
 use Rattle.ob_shell.specs.Steps.{Does, Machine, Owed, Owes, asked_of, draws_behind, session_of, statements_of, tables_behind}
 use Rattle.ob_sql.specs.Skeleton.{skeleton}
 use Rattle.ob_sql.specs.declared.stmt.Stmt.{Stmt}

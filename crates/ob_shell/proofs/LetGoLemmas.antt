@@ -1,6 +1,6 @@
 -- A store whose list lets go of what was traced: nothing else that is known of it, of an engine over it and of a text that was
 -- answered has changed.
-use Rattle.std.proofs.Common.{◌≡◌, inl, inr, ◌<◌, ℕ, Bool, true, false, List, [], ◌∷◌, length, Option, Ok, refl, ap, subst, sym, arith}
+use Rattle.std.proofs.Common.{◌≡◌, inl, inr, ◌<◌, ℕ, Bool, true, false, List, [], ◌∷◌, length, Option, Ok, ap, subst, sym, arith}
 use Rattle.ob_base.specs.declared.schema.Shape.{Shape}
 use Rattle.ob_base.specs.declared.schema.Shape.TheVariants.{Flat as FlatShape, Indexed}
 use Rattle.ob_base.specs.declared.schema.Table.{Table}
@@ -18,7 +18,7 @@ use Rattle.ob_path.specs.States.{State}
 use Rattle.ob_row.specs.Rows.{Row}
 use Rattle.ob_row.specs.Slots.{Slots}
 use Rattle.ob_reopen.specs.Keepers.{KeeperState}
-use Rattle.ob_shell.specs.Steps.{AnswersAll, Does, IsReady, Machine, Owes, Step, Steps, statements_of}
+use Rattle.ob_shell.specs.Steps.{AnswersText, Does, IsReady, Machine, Owes, Step, statements_of}
 use Rattle.ob_shell.specs.Traces.{LetsGoFrom}
 use Rattle.ob_sql.specs.Skeleton.{skeleton}
 use Rattle.ob_sql.specs.declared.stmt.Stmt.{Stmt}
@@ -62,7 +62,7 @@ module _ (v : VaultState) (t : StoreState) (room : ℕ) where
     laps = is.laps;
   }
 
-  calm_now : Calm was → Calm now
+  pub calm_now : Calm was → Calm now
   calm_now calm = record { calm = calm.calm; within = calm.within }
 
   sealed_now : (good : ℕ → List ℕ → Bool) (scope : Scope) → AllSealed good scope was → AllSealed good scope now
@@ -72,7 +72,7 @@ module _ (v : VaultState) (t : StoreState) (room : ℕ) where
         record { number = one.number; rows = one.rows; is = one.is; went = one.went; newest = one.newest; fine = one.fine };
   }
 
-  seals_now : (good : ℕ → List ℕ → Bool) (old : World) → Seals good old was → Seals good old now
+  pub seals_now : (good : ℕ → List ℕ → Bool) (old : World) → Seals good old was → Seals good old now
   seals_now good old seals = record { seals = λ scope few tells all. sealed_now good scope (seals.seals scope few tells all) }
 
   -- ---- of tables
@@ -171,7 +171,7 @@ module _ {R : Type 0} (state : R → RevState) (e : Engine R) (t : StoreState) (
     saved = is.saved;
   }
 
-  represents_left : (tables : Tables) → Represents state e t tables → Represents state e left tables
+  pub represents_left : (tables : Tables) → Represents state e t tables → Represents state e left tables
   represents_left tables is = record { held = held_now (world_of state e t).vault t room _ _ _ _ is.held; in_place = is.in_place }
 
 steady_left : (room : ℕ) (t : StoreState) → IsSteady t → IsSteady (without_list room t)
@@ -180,7 +180,7 @@ steady_left room t is = record {
   lied = is.lied;
 }
 
-since_left : (room : ℕ) (s t : StoreState) → Since s t → Since s (without_list room t)
+pub since_left : (room : ℕ) (s t : StoreState) → Since s t → Since s (without_list room t)
 since_left room s t is = record {
   faults = is.faults;
   tells = is.tells;
@@ -296,6 +296,7 @@ module _ {R : Type 0} (state : R → RevState) (m0 m1 : Machine R) (room : ℕ) 
   does_left stmt outcome does = record {
     free = does.free;
     alone = does.alone;
+    flights = does.flights;
     along = does.along;
     agrees = does.agrees;
     ran = ran_left state room stmt (statements_of m1.owed) outcome m0.engine m0.store m1.engine m1.store does.ran;
@@ -334,16 +335,10 @@ module _ {R : Type 0} (state : R → RevState) (m0 m1 : Machine R) (room : ℕ) 
     }
   ]
 
-  steps_left : (text : List ℕ) (answers : List Answer) → length m0.store.asked < length m1.store.asked → Steps state m0 m1 (text ∷ []) answers → Steps state m0 behind (text ∷ []) answers
-  unfolding Steps
-  steps_left text answers asks steps =
-      let only : Step state m0 m1 text steps.1 = subst (λ (m : Machine R). Step state m0 m text steps.1) (sym steps.5.0) steps.4 in
-      (behind, steps.1, steps.2, steps.3, step_left text steps.1 asks only, (refl, steps.5.1))
-
-  pub answers_left : {w0 w1 : Option (List ℕ)} {text : List ℕ} {r0 r1 : Tally} → length m0.store.asked < length m1.store.asked → AnswersAll state w0 w1 (text ∷ []) r0 r1 m0 m1 → AnswersAll state w0 w1 (text ∷ []) r0 r1 m0 behind
+  pub answers_left : {w0 w1 : Option (List ℕ)} {text : List ℕ} {r0 r1 : Tally} → length m0.store.asked < length m1.store.asked → AnswersText state w0 w1 r0 text r1 m0 m1 → AnswersText state w0 w1 r0 text r1 m0 behind
   answers_left {text = text} asks all = record {
-    answers = all.answers;
-    steps = steps_left text all.answers asks all.steps;
+    answer = all.answer;
+    step = step_left text all.answer asks all.step;
     appends = all.appends;
     counted = all.counted;
   }
@@ -361,8 +356,8 @@ module _ {R : Type 0} (state : R → RevState) (m0 m1 : Machine R) (t : StoreSta
   ready_from {Saves} (inl (none, same)) ready = subst (λ (u : StoreState). IsReady state Saves (record m1 { store = u })) (sym same) ready
   ready_from {Saves} (inr (more, room, is)) ready = subst (λ (u : StoreState). IsReady state Saves (record m1 { store = u })) (sym is) (ready_left state m0 m1 room ready)
 
-  pub answers_from : {w0 w1 : Option (List ℕ)} {text : List ℕ} {r0 r1 : Tally} → from ≡ length m0.store.asked → LetsGoFrom from m1.store t → AnswersAll state w0 w1 (text ∷ []) r0 r1 m0 m1
-      → AnswersAll state w0 w1 (text ∷ []) r0 r1 m0 (record m1 { store = t })
-  answers_from {w0} {w1} {text} {r0} {r1} at (inl (none, same)) all = subst (λ (u : StoreState). AnswersAll state w0 w1 (text ∷ []) r0 r1 m0 (record m1 { store = u })) (sym same) all
+  pub answers_from : {w0 w1 : Option (List ℕ)} {text : List ℕ} {r0 r1 : Tally} → from ≡ length m0.store.asked → LetsGoFrom from m1.store t → AnswersText state w0 w1 r0 text r1 m0 m1
+      → AnswersText state w0 w1 r0 text r1 m0 (record m1 { store = t })
+  answers_from {w0} {w1} {text} {r0} {r1} at (inl (none, same)) all = subst (λ (u : StoreState). AnswersText state w0 w1 r0 text r1 m0 (record m1 { store = u })) (sym same) all
   answers_from {w0} {w1} {text} {r0} {r1} at (inr (more, room, is)) all =
-      subst (λ (u : StoreState). AnswersAll state w0 w1 (text ∷ []) r0 r1 m0 (record m1 { store = u })) (sym is) (answers_left state m0 m1 room (omega (arith, at, more)) all)
+      subst (λ (u : StoreState). AnswersText state w0 w1 r0 text r1 m0 (record m1 { store = u })) (sym is) (answers_left state m0 m1 room (omega (arith, at, more)) all)

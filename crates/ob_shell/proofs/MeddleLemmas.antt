@@ -8,12 +8,12 @@ use Rattle.ob_base.specs.declared.access.Access.{Access}
 use Rattle.ob_base.specs.declared.config.Config.{Config}
 use Rattle.ob_base.specs.declared.refusal.Stop.TheVariants.{Tampered, SourceFault, SinkFault, NoMemory, InputLimit, StoreFault, StashFull, KeeperFault}
 use Rattle.ob_gen.specs.declared.tally.Tally.{Tally}
-use Rattle.ob_headline.specs.Bases.{fresh}
+use Rattle.ob_headline.specs.Bases.{flying, fresh}
 use Rattle.ob_headline.specs.Endings.{status_of}
 use Rattle.ob_headline.specs.Accesses.{Accesses}
 use Rattle.ob_headline.specs.Failures.{RisesBy, cut_off}
 use Rattle.ob_headline.specs.Headline.{Headline}
-use Rattle.ob_headline.specs.Settings.{MeddleParses, ParsesChanges, settings_of}
+use Rattle.ob_headline.specs.Settings.{MeddleParses, ParsesChanges, flight_of, settings_of}
 use Rattle.ob_headline.specs.Statements.{Statements, statements}
 use Rattle.ob_headline.specs.Story.{Story}
 use Rattle.ob_headline.specs.Usage.{is_traced, meddle_usage}
@@ -21,6 +21,7 @@ use Rattle.ob_headline.specs.Words.{Faults, IsHonest, Outside, SinksRose, faults
 use Rattle.ob_headline.specs.declared.ending.Ending.{Ending}
 use Rattle.ob_headline.specs.declared.ending.Ending.TheVariants.{Usage, BadKey, Ran}
 use Rattle.ob_headline.specs.declared.ending.Report.{Report}
+use Rattle.ob_headline.specs.declared.flight.FlightSettings.{FlightSettings}
 use Rattle.ob_headline.specs.declared.seed.Seed.{Seed}
 use Rattle.ob_meddle.proofs.DueLemmas.{acted_later, all_later}
 use Rattle.ob_meddle.proofs.ShowLemmas.{list_same, shows}
@@ -36,7 +37,7 @@ use Rattle.ob_shell.proofs.FailureLemmas.{none_failed}
 use Rattle.ob_shell.proofs.GeneratingLemmas.{with_source}
 use Rattle.ob_shell.proofs.HeadLemmas.{headlined}
 use Rattle.ob_shell.specs.Generating.{RanGenerated, MeddleRan, MeddleSummarized}
-use Rattle.ob_shell.specs.Meddling.{Meddled, Undisturbed}
+use Rattle.ob_shell.specs.Meddling.{Meddled, Undisturbed, meddle_base}
 use Rattle.ob_shell.specs.Top.{EndsUntampered, Reported, TraceSink, sink_of}
 use Rattle.ob_shell.specs.Traces.{Traced}
 use Rattle.ob_store.specs.Calls.{IsBefore, IsQuiet, IsSteady}
@@ -106,16 +107,16 @@ no_lie_by list s show none = go s.lie refl where
   go None is = is
   go (Some lie) is = absurd (cc (show.caused lie is, acted_later list (length lie.before + 1) (length s.asked) (omega (arith, show.asked lie is)) none))
 
-module _ {tally : Tally} {tr : TraceSink} {Takes : Type 0} {keys : List ℕ → KeySet} {settings : Option Config} {gave : ℕ} {l0 l1 w0 w1 : Option (List ℕ)} {s0 s1 : StoreState} {old new : Faults} {report : Report}
-    (r : Reported tally tr Takes (fresh settings) keys l0 l1 gave w0 w1 s0 s1 old new report) where
+module _ {tally : Tally} {tr : TraceSink} {Takes : Type 0} {keys : List ℕ → KeySet} {flight : Option FlightSettings} {settings : Option Config} {gave : ℕ} {l0 l1 w0 w1 : Option (List ℕ)} {s0 s1 : StoreState} {old new : Faults} {report : Report}
+    (r : Reported tally tr Takes (flying flight (fresh settings)) keys l0 l1 gave w0 w1 s0 s1 old new report) where
   pub honest_status : IsHonest s0 s1 → report.status ≢ 4
   honest_status honest is = status_not r.ending (r.shown.carried.untampered honest) (sym r.status ∙ is)
 
-  pub undisturbed : (story : Story) (secret : Option (List ℕ)) (key : KeySet) (ending : Ending) → Statements secret story → Accesses (fresh settings) key ending story s0 s1 → (fresh settings).public.save ≡ false → IsTrue s0.tells → IsQuiet s1
+  pub undisturbed : (story : Story) (secret : Option (List ℕ)) (key : KeySet) (ending : Ending) → Statements secret story → Accesses (flying flight (fresh settings)) key ending story s0 s1 → (fresh settings).public.save ≡ false → IsTrue s0.tells → IsQuiet s1
       → Undisturbed story.answers s0 s1 report
   undisturbed story secret key ending spelt accesses unsaved tells quiet =
       let honest : IsHonest s0 s1 = record { tells = tells; no_lie = quiet.lie } in
-      let uncut : cut_off story.seen ≡ 0 = none_rose _ s0.faults (subst (λ (n : ℕ). RisesBy (cut_off story.seen) s0.faults n) quiet.faults accesses.cut) in
+      let uncut : cut_off story.seen ≡ 0 = none_rose _ s0.faults (subst (λ (n : ℕ). RisesBy (cut_off story.seen) s0.faults n) quiet.faults (let all = accesses.cut in omega (arith, all))) in
       record {
         honest = honest;
         untampered = honest_status honest;
@@ -124,20 +125,20 @@ module _ {tally : Tally} {tr : TraceSink} {Takes : Type 0} {keys : List ℕ → 
               | inl rose ↦ let none = quiet.faults in absurd (omega (arith, rose, none))
               | inr late ↦ absurd (cc (late.saves, unsaved))
             ];
-        unfailed = none_failed _ story.spelt story.answers story.seen story.last _ _ _ accesses.lawful (let each = spelt.each in let reached = spelt.reached in omega (arith, each, reached))
+        unfailed = none_failed _ story.spelt story.answers story.seen story.last _ _ accesses.lawful (let each = spelt.each in let reached = spelt.reached in omega (arith, each, reached))
             (accesses.each_seen ∙ ap (λ (n : ℕ). length (statements (take n story.spelt))) (sym spelt.each)) refl uncut;
       }
 
 pub meddled : {tally : Tally} {words : List Text} {gave0 gave : ℕ} {l0 l1 w0 w1 t0 t1 : Option (List ℕ)} {old new : Faults} {report : Report}
     (m0 m1 : MeddledStore) (config : Config) (list : List Meddle) → ParsesChanges words config list → config.save ≡ false → list_of m0 ≡ list → (state_of m0).asked ≡ [] → (state_of m0).disturbed ≡ disturbances list
-    → Reported tally (sink_of (is_traced meddle_usage words) t0 t1) ⊤ (fresh (Some config)) keys_in l0 l1 gave w0 w1 (state_of m0) (state_of m1) old new report
+    → Reported tally (sink_of (is_traced meddle_usage words) t0 t1) ⊤ (flying (flight_of meddle_usage words) (fresh (Some config))) keys_in l0 l1 gave w0 w1 (state_of m0) (state_of m1) old new report
     → Traced (is_traced meddle_usage words) (state_of m0).asked (state_of m1).asked t0 t1 (SinksRose old new)
     → Meddled words (λ start. outside_of l0 gave0 w0 t0 start old) (outside_of l1 gave w1 t1 (state_of m1) new) m1 report
 meddled {tally = tally} {words = words} {gave0 = gave0} {gave = gave} {l0 = l0} {l1 = l1} {w0 = w0} {w1 = w1} {t0 = t0} {t1 = t1} {old = old} {new = new} {report = report} m0 m1 config list parses unsaved same none told served traced =
     let s0 = state_of m0 in
     let s1 = state_of m1 in
     let settings = settings_of meddle_usage words in
-    let r : Reported tally (sink_of (is_traced meddle_usage words) t0 t1) (MeddleParses words) (fresh settings) keys_in l0 l1 gave w0 w1 s0 s1 old new report =
+    let r : Reported tally (sink_of (is_traced meddle_usage words) t0 t1) (MeddleParses words) (meddle_base words) keys_in l0 l1 gave w0 w1 s0 s1 old new report =
     reported_taken (config, list, parses) parses.settings.settings served in
     let later = r.shown.carried.answers.later in
     let here = list_of m1 in
@@ -155,8 +156,8 @@ meddled {tally = tally} {words = words} {gave0 = gave0} {gave = gave} {l0 = l0} 
       quiet = λ before. first.quiet (all_later (list_of m0) (length s0.asked) (subst (λ (o : Option (List Disturbance)). IsBefore o (length s0.asked)) first.disturbed before));
       lied = λ lie is. absurd (cc (is, honest));
     } in
-    let h : Headline (fresh settings) keys_in (MeddleParses words) (is_traced meddle_usage words) (outside_of l0 gave0 w0 t0 s0 old) (outside_of l1 gave w1 t1 s1 new) report =
-    headlined (MeddleParses words) (fresh settings) (is_traced meddle_usage words) (outside_of l0 gave0 w0 t0 s0 old) (outside_of l1 gave w1 t1 s1 new) report none r traced in
+    let h : Headline (meddle_base words) keys_in (MeddleParses words) (is_traced meddle_usage words) (outside_of l0 gave0 w0 t0 s0 old) (outside_of l1 gave w1 t1 s1 new) report =
+    headlined (MeddleParses words) (meddle_base words) (is_traced meddle_usage words) (outside_of l0 gave0 w0 t0 s0 old) (outside_of l1 gave w1 t1 s1 new) report none r traced in
     record {
       config = config;
       words_are = subst (λ (l : List Meddle). ParsesChanges words config l) kept parses;
@@ -195,7 +196,7 @@ meddled {tally = tally} {words = words} {gave0 = gave0} {gave = gave} {l0 = l0} 
 -- the same over the generated text
 pub meddle_summarized : {words : List Text} {seed : Seed} {t0 t1 w0 w1 l : Option (List ℕ)} {gave trace0 trace1 out0 out1 : ℕ} {report : Report} (source : ℕ) (m0 m1 : MeddledStore) (config : Config) (list : List Meddle)
     → ParsesChanges words config list → config.save ≡ false → list_of m0 ≡ list → (state_of m0).asked ≡ [] → (state_of m0).disturbed ≡ disturbances list
-    → RanGenerated seed (is_traced meddle_usage words) (Some config) t0 t1 (state_of m0) (state_of m1) trace0 trace1 w0 w1 out0 out1 report
+    → RanGenerated seed (is_traced meddle_usage words) (Some config) (flight_of meddle_usage words) t0 t1 (state_of m0) (state_of m1) trace0 trace1 w0 w1 out0 out1 report
     → MeddleSummarized words seed (λ start. outside_of l gave w0 t0 start (faults_of source out0 trace0)) (outside_of l gave w1 t1 (state_of m1) (faults_of source out1 trace1)) m1 report
 unfolding meddled headlined reported_taken
 meddle_summarized {words = words} source m0 m1 config list parses unsaved same none told a =

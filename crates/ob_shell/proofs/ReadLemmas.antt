@@ -12,18 +12,17 @@ use Rattle.ob_headline.specs.Batches.{AnsweredBut}
 use Rattle.ob_headline.specs.Texts.{rest_after, rest_of, tail_text, text_max, texts_at, texts_in, texts_of}
 use Rattle.ob_headline.specs.Status.{StaysAlone}
 use Rattle.ob_headline.specs.Words.{Faults, before_read, faults_of}
-use Rattle.ob_mean.specs.Batches.{Gathering}
 use Rattle.ob_shell.proofs.FeedLemmas.{Fed-then}
 use Rattle.ob_shell.proofs.GatherLemmas.{comes_free}
 use Rattle.ob_shell.proofs.RunLemmas.{below_is_not_over, ran_broken, ran_turn}
 use Rattle.ob_shell.proofs.TraceLemmas.{traced_cut, traced_then, traced_whole}
-use Rattle.ob_shell.proofs.WaitLemmas.{answered_but, break_then, so_then, steps_most}
+use Rattle.ob_shell.proofs.WaitLemmas.{answered_but, break_then, so_then, steps_flown, steps_most, steps_tables}
 use Rattle.ob_shell.specs.Feeding.{Fed, Fetch}
 use Rattle.ob_shell.specs.Running.{IsQuiet, OutFailed, Silenced, SoFar, StopCause, is_quiet, stop_of}
 use Rattle.ob_shell.specs.Serving.{EndsReading, HasRead, IsNotTaken, ReadsTexts, StandsReady, TakesMore, UnlessServed, WantsRoom, broken_of}
-use Rattle.ob_shell.specs.Steps.{Machine, asked_of, standing}
+use Rattle.ob_shell.specs.Steps.{AreSpelt, Gathered, Machine, asked_of, standing}
 use Rattle.ob_shell.specs.Traces.{Traced, TracedAll}
-use Rattle.ob_shell.specs.Waiting.{AreGathered, AreSpelt, BreaksIn, ComesFree, IsFree, ServedSo}
+use Rattle.ob_shell.specs.Waiting.{AreWaiting, BreaksIn, ComesFree, IsFree, ServedSo}
 use Rattle.ob_shell.specs.declared.session.Break.{Break}
 use Rattle.ob_shell.specs.declared.session.Break.TheVariants.{Served, Unread}
 use Rattle.ob_sql.specs.declared.stmt.Stmt.{Stmt}
@@ -43,14 +42,14 @@ so_far_end {f0 = f0} {f2 = f2} {l0 = l0} {l2 = l2} so fed = record {
 }
 
 -- what is free comes free
-comes_so : {R : Type 0} {state : R → RevState} {w0 w1 : Option (List ℕ)} {texts : List (List ℕ)} (batch : List Stmt) {r : Tally} {m0 m1 : Machine R} → ServedSo state w0 w1 texts batch (IsFree (public_of m1.engine) batch) empty_tally r m0 m1 → ServedSo state w0 w1 texts batch (ComesFree (public_of m1.engine) batch) empty_tally r m0 m1
+comes_so : {R : Type 0} {state : R → RevState} {w0 w1 : Option (List ℕ)} {texts : List (List ℕ)} (batch : List Stmt) {r : Tally} {m0 m1 : Machine R} → ServedSo state w0 w1 texts batch (IsFree m1.flights.settings (public_of m1.engine) batch) empty_tally r m0 m1 → ServedSo state w0 w1 texts batch (ComesFree m1.flights.settings (public_of m1.engine) batch) empty_tally r m0 m1
 comes_so batch {m1 = m1} so = record {
   served = so.served;
   held = so.held;
   parts = so.parts;
   spelt = so.spelt;
   gathered = so.gathered;
-  then = comes_free (public_of m1.engine) batch so.gathered so.then;
+  then = comes_free m1.flights.settings (public_of m1.engine) batch so.gathered so.then;
   answers = so.answers;
   steps = so.steps;
   appends = so.appends;
@@ -114,7 +113,7 @@ module _ {R : Type 0} {state : R → RevState} {on : Bool} {f0 f2 : Fetch} (gave
   -- ---- a byte wasn't taken
   module _ {f1 : Fetch} {l1 w0 w1 : Option (List ℕ)} (w2 : Option (List ℕ)) {t0 t1 : Option (List ℕ)} (t2 : Option (List ℕ)) {p : List ℕ} {batch : List Stmt} (batch' : List Stmt) {r : Tally} (r' : Tally) {b : ℕ} {m0 m1 : Machine R} (m2 : Machine R) (so : SoFar state f0 f1 l0 l1 w0 w1 p batch r m0 m1) (fed : Fed f1 f2 l1 l2 (b ∷ [])) (late : length f2.unread < gave)
       (before : TracedAll on m0.store.asked m1.store.asked t0 t1) where
-    pub read_untaken : (stop : Stop) → ((g : Option Gathering) (held : List (List ℕ)) → IsFree (public_of m1.engine) batch g → AreSpelt held batch → ServedSo state w1 w2 (held ++ []) batch' (ComesFree (public_of m2.engine) batch') r r' (standing m1 [] g) m2) → TracedAll on m1.store.asked m2.store.asked t1 t2 → IsNotTaken p b stop
+    pub read_untaken : (stop : Stop) → ((g : Gathered) (held : List (List ℕ)) → IsFree m1.flights.settings (public_of m1.engine) batch g → AreSpelt held batch → ServedSo state w1 w2 (held ++ []) batch' (ComesFree m2.flights.settings (public_of m2.engine) batch') r r' (standing m1 [] g) m2) → TracedAll on m1.store.asked m2.store.asked t1 t2 → IsNotTaken p b stop
         → HasRead state on f0 f2 l0 l2 gave w0 w2 t0 t2 batch' r' m0 m2 (Err stop)
     read_untaken stop done traced why =
         let all = Fed-then so.fed fed in
@@ -133,26 +132,26 @@ module _ {R : Type 0} {state : R → RevState} {on : Bool} {f0 f2 : Fetch} (gave
               ∙ texts_of-append [] so.passed (b ∷ f2.unread)
               ∙ ap (λ (l : List (List ℕ)). texts_of [] so.passed ++ l) (rw (← so.pending_is) (texts_of-cons p b f2.unread));
           before = prompt_all (f0.unread ++ all.piece) so.passed (b ∷ f2.unread) gave joined (omega (arith, late));
-          so = subst (λ (ts : List (List ℕ)). ServedSo state w0 w2 ts batch' (ComesFree (public_of m2.engine) batch') empty_tally r' m0 m2) (append-nil (texts_of [] so.passed))
-              (so_then {Later = λ old new. ComesFree (public_of m2.engine) batch' new} so.so done (λ old new then free. free));
+          so = subst (λ (ts : List (List ℕ)). ServedSo state w0 w2 ts batch' (ComesFree m2.flights.settings (public_of m2.engine) batch') empty_tally r' m0 m2) (append-nil (texts_of [] so.passed))
+              (so_then {Later = λ old new. ComesFree m2.flights.settings (public_of m2.engine) batch' new} so.so done (λ old new then free. free));
           traced = traced_then before traced;
           ends = ends_untaken f2 so.passed p b so.pending_is stop (f0.unread ++ all.piece) all.joined why;
         }
 
     -- what became of the byte
-    pub turn_reads : (T : Type 0) (old new : ℕ × ℕ) (Saves : Type 0) {k0 : ℕ} (broken : Break) → AreGathered (public_of m1.engine) (asked_of m1) batch → old.0 ≡ k0
-        → TakesMore {T = T} state Saves on (IsFree (public_of m1.engine) batch) (λ old new. IsFree (public_of m2.engine) batch' new) batch batch' (texts_at p b) (IsNotTaken p b) r r' w1 w2 t1 t2 (faults_of 0 old.0 old.1) (faults_of 0 new.0 new.1) m1 m2 (Err broken)
+    pub turn_reads : (T : Type 0) (old new : ℕ × ℕ) (Saves : Type 0) {k0 : ℕ} (broken : Break) → AreWaiting m1.flights.settings (public_of m1.engine) (asked_of m1) batch → old.0 ≡ k0
+        → TakesMore {T = T} state Saves on (IsFree m1.flights.settings (public_of m1.engine) batch) (λ old new. IsFree m2.flights.settings (public_of m2.engine) batch' new) batch batch' (texts_at p b) (IsNotTaken p b) r r' w1 w2 t1 t2 (faults_of 0 old.0 old.1) (faults_of 0 new.0 new.1) m1 m2 (Err broken)
         → ReadsTexts {T = T} state on f0 f2 l0 l2 gave w0 w2 t0 t2 batch' r' m0 m2 k0 new.0 (Err broken)
     turn_reads T old new Saves (Served halted) waits same takes =
         ran_turn halted.stop so fed late waits before
-        (subst (λ (k : ℕ). (g : Option Gathering) (held : List (List ℕ)) → IsFree (public_of m1.engine) batch g → AreSpelt held batch → BreaksIn state on w1 w2 t1 t2 (OutFailed halted.quiet k new.0) (held ++ texts_at p b) halted.stop (standing m1 [] g) m2) same takes.stopped)
+        (subst (λ (k : ℕ). (g : Gathered) (held : List (List ℕ)) → IsFree m1.flights.settings (public_of m1.engine) batch g → AreSpelt held batch → BreaksIn state on w1 w2 t1 t2 (OutFailed halted.quiet k new.0) (held ++ texts_at p b) halted.stop (standing m1 [] g) m2) same takes.stopped)
     turn_reads T old new Saves (Unread stop) waits same takes = read_untaken stop takes.0.done takes.0.traced takes.1
 
   -- ---- the input ended
   module _ {w0 w1 : Option (List ℕ)} (w2 : Option (List ℕ)) {t0 t1 : Option (List ℕ)} (t2 : Option (List ℕ)) {p : List ℕ} {batch : List Stmt} (batch' : List Stmt) {r : Tally} (r' : Tally) {m0 m1 : Machine R} (m2 : Machine R) (so : SoFar state f0 f2 l0 l2 w0 w1 p batch r m0 m1) (none : f2.unread ≡ []) (at_end : IsAtEnd l2) (below : f2.taken < f2.limit) (short : length p < text_max)
       (before : TracedAll on m0.store.asked m1.store.asked t0 t1) where
-    pub finish_reads : {T : Type 0} (old new : ℕ × ℕ) (Saves : Type 0) {k0 : ℕ} (result : Result T Break) → AreGathered (public_of m1.engine) (asked_of m1) batch → old.0 ≡ k0
-        → TakesMore state Saves on (IsFree (public_of m1.engine) batch) (λ old new. IsFree (public_of m2.engine) batch' new) batch batch' (tail_text p) WantsRoom r r' w1 w2 t1 t2 (faults_of 0 old.0 old.1) (faults_of 0 new.0 new.1) m1 m2 result
+    pub finish_reads : {T : Type 0} (old new : ℕ × ℕ) (Saves : Type 0) {k0 : ℕ} (result : Result T Break) → AreWaiting m1.flights.settings (public_of m1.engine) (asked_of m1) batch → old.0 ≡ k0
+        → TakesMore state Saves on (IsFree m1.flights.settings (public_of m1.engine) batch) (λ old new. IsFree m2.flights.settings (public_of m2.engine) batch' new) batch batch' (tail_text p) WantsRoom r r' w1 w2 t1 t2 (faults_of 0 old.0 old.1) (faults_of 0 new.0 new.1) m1 m2 result
         → ReadsTexts state on f0 f2 l0 l2 gave w0 w2 t0 t2 batch' r' m0 m2 k0 new.0 result
     unfolding break_then
     finish_reads old new Saves (Ok x) waits same takes = record {
@@ -166,18 +165,20 @@ module _ {R : Type 0} {state : R → RevState} {on : Bool} {f0 f2 : Fetch} (gave
       more = [];
       parts = all_parts so none ∙ sym (append-nil (texts_of [] so.passed ++ tail_text p));
       before = prompt_by (f0.unread ++ so.fed.piece) so.passed f2.unread gave (tail_text p) so.fed.joined (rw none (omega arith));
-      so = so_then {Later = λ old new. IsFree (public_of m2.engine) batch' new} so.so takes.done (λ old new then free. comes_free (public_of m2.engine) batch' new free);
+      so = so_then {Later = λ old new. IsFree m2.flights.settings (public_of m2.engine) batch' new} so.so takes.done (λ old new then free. comes_free m2.flights.settings (public_of m2.engine) batch' new free);
       traced = traced_then before takes.traced;
       ends = (refl, refl, refl, rw (all_passed so none, ← so.pending_is) (below_is_not_over p short), below);
     }
     finish_reads old new Saves (Err (Served halted)) waits same takes =
-        let stopped = subst (λ (k : ℕ). (g : Option Gathering) (held : List (List ℕ)) → IsFree (public_of m1.engine) batch g → AreSpelt held batch → BreaksIn state on w1 w2 t1 t2 (OutFailed halted.quiet k new.0) (held ++ tail_text p) halted.stop (standing m1 [] g) m2) same takes.stopped in
+        let stopped = subst (λ (k : ℕ). (g : Gathered) (held : List (List ℕ)) → IsFree m1.flights.settings (public_of m1.engine) batch g → AreSpelt held batch → BreaksIn state on w1 w2 t1 t2 (OutFailed halted.quiet k new.0) (held ++ tail_text p) halted.stop (standing m1 [] g) m2) same takes.stopped in
         let now = stopped so.so.gathered so.so.held so.so.then so.so.spelt in
         let begins = prompt_all (f0.unread ++ so.fed.piece) so.passed f2.unread gave so.fed.joined (rw none (omega arith)) in
         let most = sym (steps_most state m0 (standing m1 [] so.so.gathered) so.so.served so.so.answers so.so.steps) in
+        let flown = sym (steps_flown state m0 (standing m1 [] so.so.gathered) so.so.served so.so.answers so.so.steps) in
         ran_broken halted.stop so.fed.piece true (texts_of [] so.passed ++ tail_text p) [] so.fed.consumed so.fed.taken so.fed.limit (λ _. at_end) (all_parts so none ∙ sym (append-nil (texts_of [] so.passed ++ tail_text p))) (break_then so.so before stopped)
-        (subst (λ (n : ℕ). AnsweredBut n (texts_in false (before_read gave (f0.unread ++ so.fed.piece))) (so.so.served ++ now.served)) (sym most)
-        (answered_but (public_of m1.engine) (asked_of m1) batch (texts_of [] so.passed) so.so.served so.so.held now.served now.more (tail_text p) _ waits so.so.spelt so.so.parts now.parts begins))
+        (subst (λ (two : ℕ × ℕ). AnsweredBut (public_of now.middle.engine) two.0 two.1 (texts_in false (before_read gave (f0.unread ++ so.fed.piece))) (so.so.served ++ now.served)) (λ i. (sym most i, sym flown i))
+        (answered_but m1.flights.settings (public_of m1.engine) (asked_of m1) batch (texts_of [] so.passed) so.so.served so.so.held now.served now.more (tail_text p) _ waits so.so.spelt so.so.parts now.parts begins
+        (public_of now.middle.engine) (λ rest spelt all. steps_tables state (standing m1 [] so.so.gathered) now.middle now.served now.answers now.steps rest batch spelt all)))
     finish_reads old new Saves (Err (Unread stop)) waits same takes = record {
       piece = so.fed.piece;
       consumed = so.fed.consumed;
@@ -189,8 +190,8 @@ module _ {R : Type 0} {state : R → RevState} {on : Bool} {f0 f2 : Fetch} (gave
       more = tail_text p;
       parts = all_parts so none;
       before = prompt_all (f0.unread ++ so.fed.piece) so.passed f2.unread gave so.fed.joined (rw none (omega arith));
-      so = subst (λ (ts : List (List ℕ)). ServedSo state w0 w2 ts batch' (ComesFree (public_of m2.engine) batch') empty_tally r' m0 m2) (append-nil (texts_of [] so.passed))
-          (so_then {Later = λ old new. ComesFree (public_of m2.engine) batch' new} so.so takes.0.done (λ old new then free. free));
+      so = subst (λ (ts : List (List ℕ)). ServedSo state w0 w2 ts batch' (ComesFree m2.flights.settings (public_of m2.engine) batch') empty_tally r' m0 m2) (append-nil (texts_of [] so.passed))
+          (so_then {Later = λ old new. ComesFree m2.flights.settings (public_of m2.engine) batch' new} so.so takes.0.done (λ old new then free. free));
       traced = traced_then before takes.0.traced;
       ends = subst (λ (s : Stop). EndsReading f2 true (f0.unread ++ so.fed.piece) (tail_text p) (Err s)) (sym takes.1) tt;
     }
@@ -216,7 +217,7 @@ quiet_by s0 s1 old new true told = told
 quiet_by s0 s1 old new false told = told
 
 -- ---- what else is known of a part behind which no more is read
-module _ {R T : Type 0} (state : R → RevState) (Saves : Type 0) (on : Bool) (May : Option Gathering → Type 0) (Then : (old new : Option Gathering) → Type 0) (b0 b1 : List Stmt) (texts : List (List ℕ)) (Why : Stop → Type 0) (r0 r1 : Tally) (w0 w1 t1 t2 : Option (List ℕ)) (m1 m2 : Machine R) where
+module _ {R T : Type 0} (state : R → RevState) (Saves : Type 0) (on : Bool) (May : Gathered → Type 0) (Then : (old new : Gathered) → Type 0) (b0 b1 : List Stmt) (texts : List (List ℕ)) (Why : Stop → Type 0) (r0 r1 : Tally) (w0 w1 t1 t2 : Option (List ℕ)) (m1 m2 : Machine R) where
   pub more_traced : (t0 : Option (List ℕ)) (old new : ℕ × ℕ) {a0 : List Access} (result : Result T Break) → TracedAll on a0 m1.store.asked t0 t1 → TakesMore state Saves on May Then b0 b1 texts Why r0 r1 w0 w1 t1 t2 (faults_of 0 old.0 old.1) (faults_of 0 new.0 new.1) m1 m2 result → Traced on a0 m2.store.asked t0 t2 (IsQuiet (broken_of result))
   more_traced t0 old new (Ok x) before takes = traced_whole _ (traced_then before takes.traced)
   more_traced t0 old new (Err (Served halted)) before takes = traced_cut before takes.traced_stop

@@ -1,6 +1,6 @@
 -- What a session has done, byte by byte, and how it ends.
 use Rattle.std.specs.Prelude.{⊤}
-use Rattle.std.proofs.Common.{◌≡◌, ℕ, ◌+◌, ◌<◌, Bool, true, false, List, [], ◌∷◌, ◌++◌, length, Option, None, Err, Result, refl, sym, ap, ◌∙◌, subst, arith, append_assoc, append-nil}
+use Rattle.std.proofs.Common.{◌≡◌, ℕ, ◌+◌, ◌<◌, Bool, true, false, List, [], ◌∷◌, ◌++◌, length, Option, Err, Result, refl, sym, ap, ◌∙◌, subst, arith, append_assoc, append-nil}
 use Rattle.std.specs.Io.KnownBytes.{Appends, Consumes, IsAtEnd}
 use Rattle.ob_base.specs.declared.refusal.Stop.{Stop}
 use Rattle.ob_gen.specs.Tally.{empty_tally}
@@ -11,21 +11,25 @@ use Rattle.ob_headline.specs.Batches.{AnsweredBut}
 use Rattle.ob_headline.specs.Texts.{is_over, rest_after, text_max, texts_at, texts_in, texts_of}
 use Rattle.ob_headline.specs.Words.{Begins, before_read, printed}
 use Rattle.ob_mean.proofs.BatchLemmas.{most_some}
-use Rattle.ob_mean.specs.Batches.{Gathering, batch_most}
+use Rattle.ob_mean.specs.Batches.{batch_most}
 use Rattle.ob_print.proofs.CutLemmas.{Outputs-whole}
 use Rattle.ob_print.specs.Cuts.{Outputs}
 use Rattle.ob_reopen.specs.Keepers.{KeeperState}
 use Rattle.ob_shell.proofs.FeedLemmas.{Fed-none, Fed-then}
 use Rattle.ob_shell.proofs.StepLemmas.{PartlyAt-more, last_stopped}
+use Rattle.ob_shell.proofs.PlaceLemmas.{none_free}
 use Rattle.ob_shell.proofs.TookLemmas.{took_whole, traces_all, traces_to}
 use Rattle.ob_shell.proofs.TraceLemmas.{traced_then}
-use Rattle.ob_shell.proofs.WaitLemmas.{answered_but, break_then, ends_end, follow_more, last_idle, none_held, so_idle, so_then, steps_most, tally_end}
+use Rattle.ob_shell.proofs.WaitLemmas.{answered_but, break_then, ends_end, follow_more, last_idle, none_held, so_idle, so_then, steps_flown, steps_most, steps_tables, tally_end}
 use Rattle.ob_shell.specs.Feeding.{Fed, Fetch}
+use Rattle.ob_shell.specs.Flying.{flights_at, flights_of, start_of}
+use Rattle.ob_headline.specs.declared.flight.FlightSettings.{FlightSettings}
 use Rattle.ob_shell.specs.Running.{EndsBy, SessionRan, SoFar}
 use Rattle.ob_shell.specs.Serving.{HasRead, ended_with}
-use Rattle.ob_shell.specs.Steps.{Machine, asked_of, machine_of, standing}
+use Rattle.ob_headline.specs.Flights.{most_flown}
+use Rattle.ob_shell.specs.Steps.{AreSpelt, Flights, Gathered, Machine, asked_of, machine_of, none_gathered, standing}
 use Rattle.ob_shell.specs.Traces.{TracedAll}
-use Rattle.ob_shell.specs.Waiting.{AreGathered, AreSpelt, BreaksIn, ComesFree, IsFree, ServedSo}
+use Rattle.ob_shell.specs.Waiting.{AreWaiting, BreaksIn, ComesFree, IsFree, ServedSo}
 use Rattle.ob_sql.specs.declared.stmt.Stmt.{Stmt}
 use Rattle.ob_store.specs.State.{StoreState}
 use Rattle.ob_tables.specs.Agreeing.{public_of}
@@ -36,7 +40,7 @@ use Rattle.ob_tables.specs.declared.stop.RunStop.TheVariants as Runs
 use Rattle.ob_vault.specs.State.{RevState}
 
 -- ---- the session
-run_ends : (f : Fetch) (ended : Bool) (bytes : List ℕ) (more : List (List ℕ)) (part : List ℕ) (run : RunStop) → EndsBy f ended bytes more part (Err (session_stop run))
+pub run_ends : (f : Fetch) (ended : Bool) (bytes : List ℕ) (more : List (List ℕ)) (part : List ℕ) (run : RunStop) → EndsBy f ended bytes more part (Err (session_stop run))
 run_ends f ended bytes more part (Runs.Tampered region place) = tt
 run_ends f ended bytes more part Runs.SinkFault = tt
 run_ends f ended bytes more part Runs.NoMemory = tt
@@ -50,20 +54,20 @@ below_is_not_over p h = grind arith
 pub at_limit_is_over : (new rest : List ℕ) → new ≡ rest → length new ≡ text_max → is_over rest ≡ true
 at_limit_is_over new rest e h = rw (← e) (grind arith)
 
-pub so_far_start : {R : Type 0} {state : R → RevState} (f : Fetch) (l w : Option (List ℕ)) (p : List ℕ) (batch : List Stmt) (tally : Tally) (e : Engine R) (s : StoreState) (k : KeeperState) → p ≡ [] → batch ≡ [] → tally ≡ empty_tally
-    → SoFar state f f l l w w p batch tally (machine_of e s k) (machine_of e s k)
-so_far_start {state = state} f l w p batch tally e s k none free fresh = record {
+pub so_far_start : {R : Type 0} {state : R → RevState} (f : Fetch) (l w : Option (List ℕ)) (p : List ℕ) (batch : List Stmt) (tally : Tally) (e : Engine R) (s : StoreState) (k : KeeperState) (flights : Flights) → p ≡ [] → batch ≡ [] → tally ≡ empty_tally
+    → SoFar state f f l l w w p batch tally (machine_of e s k flights) (machine_of e s k flights)
+so_far_start {state = state} f l w p batch tally e s k flights none free fresh = record {
   passed = [];
   fed = Fed-none f l;
   pending_is = none ∙ sym (rest_of-nil []);
-  so = rw (free, fresh, texts_of-nil) (so_idle w [] [] [] (λ old new. IsFree (public_of e) [] new) empty_tally (machine_of e s k) None refl tt (λ outline. refl));
+  so = rw (free, fresh, texts_of-nil) (so_idle w [] [] [] (λ old new. IsFree flights.settings (public_of e) [] new) empty_tally (machine_of e s k flights) none_gathered refl tt (none_free flights.settings (public_of e)));
 }
 
 -- one more byte, and the text that it ended
 pub so_far_turn : {R : Type 0} {state : R → RevState} {f0 f1 f2 : Fetch} {l0 l1 l2 w0 w1 w2 : Option (List ℕ)} {p p' : List ℕ} {batch batch' : List Stmt} {r r' : Tally} {b : ℕ} {m0 m1 m2 : Machine R}
     → SoFar state f0 f1 l0 l1 w0 w1 p batch r m0 m1 → Fed f1 f2 l1 l2 (b ∷ []) → p' ≡ rest_after p b
-    → ((gathered : Option Gathering) (held : List (List ℕ)) → IsFree (public_of m1.engine) batch gathered → AreSpelt held batch
-    → ServedSo state w1 w2 (held ++ texts_at p b) batch' (λ new. IsFree (public_of m2.engine) batch' new) r r' (standing m1 [] gathered) m2) → SoFar state f0 f2 l0 l2 w0 w2 p' batch' r' m0 m2
+    → ((gathered : Gathered) (held : List (List ℕ)) → IsFree m1.flights.settings (public_of m1.engine) batch gathered → AreSpelt held batch
+    → ServedSo state w1 w2 (held ++ texts_at p b) batch' (λ new. IsFree m2.flights.settings (public_of m2.engine) batch' new) r r' (standing m1 [] gathered) m2) → SoFar state f0 f2 l0 l2 w0 w2 p' batch' r' m0 m2
 so_far_turn {state = state} {w0 = w0} {w2 = w2} {p = p} {batch' = batch'} {r' = r'} {b = b} {m0 = m0} {m2 = m2} so fed rest now =
     let all : texts_of [] (so.passed ++ (b ∷ [])) ≡ texts_of [] so.passed ++ texts_at p b =
     texts_of-append [] so.passed (b ∷ []) ∙ ap (λ (l : List (List ℕ)). texts_of [] so.passed ++ l) (rw (← so.pending_is, texts_of-cons, texts_of-nil, append-nil) refl) in
@@ -71,15 +75,15 @@ so_far_turn {state = state} {w0 = w0} {w2 = w2} {p = p} {batch' = batch'} {r' = 
       passed = so.passed ++ (b ∷ []);
       fed = Fed-then so.fed fed;
       pending_is = rest ∙ rw (rest_of-append, ← so.pending_is, rest_of-cons, rest_of-nil);
-      so = subst (λ (ts : List (List ℕ)). ServedSo state w0 w2 ts batch' (IsFree (public_of m2.engine) batch') empty_tally r' m0 m2) (sym all)
-          (so_then {Later = λ old new. IsFree (public_of m2.engine) batch' new} so.so now (λ old new then free. free));
+      so = subst (λ (ts : List (List ℕ)). ServedSo state w0 w2 ts batch' (IsFree m2.flights.settings (public_of m2.engine) batch') empty_tally r' m0 m2) (sym all)
+          (so_then {Later = λ old new. IsFree m2.flights.settings (public_of m2.engine) batch' new} so.so now (λ old new then free. free));
     }
 
 -- ---- a text that was served stopped it
 -- where all that was whole before the last read is among these texts
 pub ran_broken : {R : Type 0} {state : R → RevState} {Lost : Type 0} {on : Bool} {t0 t2 : Option (List ℕ)} {f0 f2 : Fetch} {gave : ℕ} {l0 l2 w0 w2 : Option (List ℕ)} {m0 m2 : Machine R} (run : RunStop) (piece : List ℕ) (ended : Bool) (texts more : List (List ℕ))
     → Consumes l0 l2 piece → f2.taken ≡ f0.taken + length piece → f2.limit ≡ f0.limit → (ended ≡ true → IsAtEnd l2) → texts_in ended (f0.unread ++ piece) ≡ texts ++ more
-    → (broke : BreaksIn state on w0 w2 t0 t2 Lost texts run m0 m2) → AnsweredBut (batch_most (public_of m0.engine)) (texts_in false (before_read gave (f0.unread ++ piece))) broke.served
+    → (broke : BreaksIn state on w0 w2 t0 t2 Lost texts run m0 m2) → AnsweredBut (public_of broke.middle.engine) (batch_most (public_of m0.engine)) (most_flown m0.flights.settings (public_of m0.engine)) (texts_in false (before_read gave (f0.unread ++ piece))) broke.served
     → SessionRan state on f0 f2 l0 l2 gave w0 w2 t0 t2 m0 m2 Lost (Err (session_stop run))
 ran_broken {f2 = f2} run piece ended texts more consumed taken limit at_end parts broke prompt = record {
   piece = piece;
@@ -91,8 +95,8 @@ ran_broken {f2 = f2} run piece ended texts more consumed taken limit at_end part
   served = broke.served;
   more = broke.more ++ more;
   texts = parts ∙ ap (λ (l : List (List ℕ)). l ++ more) broke.parts ∙ append_assoc broke.served broke.more more;
-  prompt = prompt;
   middle = broke.middle;
+  prompt = prompt;
   answers = broke.answers;
   steps = broke.steps;
   part = broke.bytes;
@@ -109,8 +113,8 @@ ran_broken {f2 = f2} run piece ended texts more consumed taken limit at_end part
 
 -- one that a byte ended, or that came before it
 pub ran_turn : {R : Type 0} {state : R → RevState} {Lost : Type 0} {on : Bool} {t0 t1 t2 : Option (List ℕ)} {f0 f1 f2 : Fetch} {gave : ℕ} {l0 l1 l2 w0 w1 w2 : Option (List ℕ)} {p : List ℕ} {batch : List Stmt} {r : Tally} {b : ℕ} {m0 m1 m2 : Machine R} (run : RunStop)
-    → (so : SoFar state f0 f1 l0 l1 w0 w1 p batch r m0 m1) → Fed f1 f2 l1 l2 (b ∷ []) → length f2.unread < gave → AreGathered (public_of m1.engine) (asked_of m1) batch → TracedAll on m0.store.asked m1.store.asked t0 t1
-    → ((gathered : Option Gathering) (held : List (List ℕ)) → IsFree (public_of m1.engine) batch gathered → AreSpelt held batch
+    → (so : SoFar state f0 f1 l0 l1 w0 w1 p batch r m0 m1) → Fed f1 f2 l1 l2 (b ∷ []) → length f2.unread < gave → AreWaiting m1.flights.settings (public_of m1.engine) (asked_of m1) batch → TracedAll on m0.store.asked m1.store.asked t0 t1
+    → ((gathered : Gathered) (held : List (List ℕ)) → IsFree m1.flights.settings (public_of m1.engine) batch gathered → AreSpelt held batch
     → BreaksIn state on w1 w2 t1 t2 Lost (held ++ texts_at p b) run (standing m1 [] gathered) m2)
     → SessionRan state on f0 f2 l0 l2 gave w0 w2 t0 t2 m0 m2 Lost (Err (session_stop run))
 unfolding break_then
@@ -119,19 +123,21 @@ ran_turn {state = state} {f0 = f0} {f2 = f2} {gave = gave} {p = p} {b = b} {m0 =
     let now = broke so.so.gathered so.so.held so.so.then so.so.spelt in
     let whole = break_then so.so before broke in
     let same = sym (steps_most state m0 (standing m1 [] so.so.gathered) so.so.served so.so.answers so.so.steps) in
+    let flown = sym (steps_flown state m0 (standing m1 [] so.so.gathered) so.so.served so.so.answers so.so.steps) in
     let begins = prompt_all (f0.unread ++ all.piece) so.passed (b ∷ f2.unread) gave (all.joined ∙ append_assoc so.passed (b ∷ []) f2.unread) (omega (arith, late)) in
     ran_broken run all.piece false (texts_of [] so.passed ++ texts_at p b) (texts_of (rest_after p b) f2.unread) all.consumed all.taken all.limit (λ (h : false ≡ true). absurd (cc))
     (ap (texts_in false) all.joined ∙ rw append_assoc
     (texts_of-append [] so.passed ((b ∷ []) ++ f2.unread)
     ∙ ap (λ (l : List (List ℕ)). texts_of [] so.passed ++ l) (rw (← so.pending_is) (texts_of-cons p b f2.unread)) ∙ sym (append_assoc (texts_of [] so.passed) (texts_at p b) (texts_of (rest_after p b) f2.unread))))
     whole
-    (subst (λ (most : ℕ). AnsweredBut most (texts_in false (before_read gave (f0.unread ++ all.piece))) (so.so.served ++ now.served)) (sym same)
-    (answered_but (public_of m1.engine) (asked_of m1) _ (texts_of [] so.passed) so.so.served so.so.held now.served now.more (texts_at p b) _ waits so.so.spelt so.so.parts now.parts begins))
+    (subst (λ (two : ℕ × ℕ). AnsweredBut (public_of now.middle.engine) two.0 two.1 (texts_in false (before_read gave (f0.unread ++ all.piece))) (so.so.served ++ now.served)) (λ i. (sym same i, sym flown i))
+    (answered_but m1.flights.settings (public_of m1.engine) (asked_of m1) _ (texts_of [] so.passed) so.so.served so.so.held now.served now.more (texts_at p b) _ waits so.so.spelt so.so.parts now.parts begins
+    (public_of now.middle.engine) (λ rest spelt all. steps_tables state (standing m1 [] so.so.gathered) now.middle now.served now.answers now.steps rest _ spelt all)))
 
 -- ---- no more is read, and then those that wait are served
 -- once they are
 pub ran_flushed : {R : Type 0} {state : R → RevState} {Lost : Type 0} {on : Bool} {t0 t1 t2 : Option (List ℕ)} {f0 f2 : Fetch} {gave : ℕ} {l0 l2 w0 w1 w2 : Option (List ℕ)} {batch : List Stmt} {r r' : Tally} {m0 m1 m2 : Machine R} (ends : Result (Unit {0}) Stop)
-    → (read : HasRead state on f0 f2 l0 l2 gave w0 w1 t0 t1 batch r m0 m1 ends) → {Then : (old new : Option Gathering) → Type 0} → ((gathered : Option Gathering) (held : List (List ℕ)) → ComesFree (public_of m1.engine) batch gathered → AreSpelt held batch
+    → (read : HasRead state on f0 f2 l0 l2 gave w0 w1 t0 t1 batch r m0 m1 ends) → {Then : (old new : Gathered) → Type 0} → ((gathered : Gathered) (held : List (List ℕ)) → ComesFree m1.flights.settings (public_of m1.engine) batch gathered → AreSpelt held batch
     → ServedSo state w1 w2 (held ++ []) [] (Then gathered) r r' (standing m1 [] gathered) m2) → TracedAll on m1.store.asked m2.store.asked t1 t2
     → SessionRan state on f0 f2 l0 l2 gave w0 w2 t0 t2 m0 m2 Lost (ended_with ends r')
 ran_flushed {state = state} {Lost = Lost} {on = on} {t0 = t0} {t2 = t2} {f0 = f0} {f2 = f2} {gave = gave} {w0 = w0} {w2 = w2} {r' = r'} {m0 = m0} {m1 = m1} {m2 = m2} ends read flushed traced =
@@ -149,7 +155,7 @@ ran_flushed {state = state} {Lost = Lost} {on = on} {t0 = t0} {t2 = t2} {f0 = f0
       served = now.served;
       more = read.more;
       texts = read.parts ∙ ap (λ (l : List (List ℕ)). l ++ read.more) (sym served);
-      prompt = all_answered (batch_most (public_of m0.engine)) _ now.served (most_some (public_of m0.engine)) (subst (Begins (texts_in false (before_read gave (f0.unread ++ read.piece)))) (sym served) read.before);
+      prompt = all_answered (public_of m2.engine) (batch_most (public_of m0.engine)) (most_flown m0.flights.settings (public_of m0.engine)) _ now.served (most_some (public_of m0.engine)) (subst (Begins (texts_in false (before_read gave (f0.unread ++ read.piece)))) (sym served) read.before);
       middle = standing m2 [] now.gathered;
       answers = now.answers;
       steps = now.steps;
@@ -167,13 +173,20 @@ ran_flushed {state = state} {Lost = Lost} {on = on} {t0 = t0} {t2 = t2} {f0 = f0
 
 -- or one of them stopped it
 pub ran_unflushed : {R : Type 0} {state : R → RevState} {Lost : Type 0} {on : Bool} {t0 t1 t2 : Option (List ℕ)} {f0 f2 : Fetch} {gave : ℕ} {l0 l2 w0 w1 w2 : Option (List ℕ)} {batch : List Stmt} {r : Tally} {m0 m1 m2 : Machine R} (ends : Result (Unit {0}) Stop) (run : RunStop)
-    → (read : HasRead state on f0 f2 l0 l2 gave w0 w1 t0 t1 batch r m0 m1 ends) → AreGathered (public_of m1.engine) (asked_of m1) batch
-    → ((gathered : Option Gathering) (held : List (List ℕ)) → ComesFree (public_of m1.engine) batch gathered → AreSpelt held batch → BreaksIn state on w1 w2 t1 t2 Lost (held ++ []) run (standing m1 [] gathered) m2)
+    → (read : HasRead state on f0 f2 l0 l2 gave w0 w1 t0 t1 batch r m0 m1 ends) → AreWaiting m1.flights.settings (public_of m1.engine) (asked_of m1) batch
+    → ((gathered : Gathered) (held : List (List ℕ)) → ComesFree m1.flights.settings (public_of m1.engine) batch gathered → AreSpelt held batch → BreaksIn state on w1 w2 t1 t2 Lost (held ++ []) run (standing m1 [] gathered) m2)
     → SessionRan state on f0 f2 l0 l2 gave w0 w2 t0 t2 m0 m2 Lost (Err (session_stop run))
 unfolding break_then
 ran_unflushed {state = state} {f0 = f0} {gave = gave} {m0 = m0} {m1 = m1} ends run read waits broke =
     let now = broke read.so.gathered read.so.held read.so.then read.so.spelt in
     let same = sym (steps_most state m0 (standing m1 [] read.so.gathered) read.so.served read.so.answers read.so.steps) in
+    let flown = sym (steps_flown state m0 (standing m1 [] read.so.gathered) read.so.served read.so.answers read.so.steps) in
     ran_broken run read.piece read.ended (read.texts ++ []) read.more read.consumed read.taken read.limit read.at_end (read.parts ∙ ap (λ (l : List (List ℕ)). l ++ read.more) (sym (append-nil read.texts))) (break_then read.so read.traced broke)
-    (subst (λ (most : ℕ). AnsweredBut most (texts_in false (before_read gave (f0.unread ++ read.piece))) (read.so.served ++ now.served)) (sym same)
-    (answered_but (public_of m1.engine) (asked_of m1) _ read.texts read.so.served read.so.held now.served now.more [] _ waits read.so.spelt read.so.parts now.parts read.before))
+    (subst (λ (two : ℕ × ℕ). AnsweredBut (public_of now.middle.engine) two.0 two.1 (texts_in false (before_read gave (f0.unread ++ read.piece))) (read.so.served ++ now.served)) (λ i. (sym same i, sym flown i))
+    (answered_but m1.flights.settings (public_of m1.engine) (asked_of m1) _ read.texts read.so.served read.so.held now.served now.more [] _ waits read.so.spelt read.so.parts now.parts read.before
+    (public_of now.middle.engine) (λ rest spelt all. steps_tables state (standing m1 [] read.so.gathered) now.middle now.served now.answers now.steps rest _ spelt all)))
+
+-- ---- the words that it begins with
+pub ran_from : {R : Type 0} {state : R → RevState} {Lost : Type 0} {on : Bool} {t0 t2 : Option (List ℕ)} {f0 f2 : Fetch} {gave : ℕ} {l0 l2 w0 w2 : Option (List ℕ)} {m2 : Machine R} {stop : Result Tally Stop} (e : Engine R) (s : StoreState) (k : KeeperState) (settings : Option FlightSettings) (last : ℕ) → last ≡ start_of settings
+    → SessionRan state on f0 f2 l0 l2 gave w0 w2 t0 t2 (machine_of e s k (flights_of settings last)) m2 Lost stop → SessionRan state on f0 f2 l0 l2 gave w0 w2 t0 t2 (machine_of e s k (flights_at settings)) m2 Lost stop
+ran_from {state = state} {Lost = Lost} {on = on} {t0 = t0} {t2 = t2} {f0 = f0} {f2 = f2} {gave = gave} {l0 = l0} {l2 = l2} {w0 = w0} {w2 = w2} {m2 = m2} {stop = stop} e s k settings last is ran = subst (λ (n : ℕ). SessionRan state on f0 f2 l0 l2 gave w0 w2 t0 t2 (machine_of e s k (flights_of settings n)) m2 Lost stop) is ran

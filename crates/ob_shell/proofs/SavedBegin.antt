@@ -37,7 +37,7 @@ use Rattle.ob_shell.proofs.SweepLemmas.{agrees_swept, calm_swept, read_stays, re
 use Rattle.ob_shell.specs.EngagingSaved.{EngagesSaved, EngineBy, IsStarted, pack_of}
 use Rattle.ob_shell.specs.Leaving.{BeginsToSave, IsRead, RestsOn}
 use Rattle.ob_shell.specs.Standing.{StandsOn}
-use Rattle.ob_shell.specs.Steps.{machine_of}
+use Rattle.ob_shell.specs.Steps.{machine_of, no_flights}
 use Rattle.ob_shell.specs.Top.{IsFresh}
 use Rattle.ob_store.specs.Calls.{IsSteady, Sweeps}
 use Rattle.ob_store.specs.State.{KeptRegion, StoreState}
@@ -83,7 +83,7 @@ module _ {R : Type 0} (state : R → RevState) (config : Config) (secret salt : 
     high = let none = started.none_open in omega (arith, none);
   }
 
-  pub begins_started : keeper.held ≡ Some Begun → BeginsToSave state secret salt (fresh (Some config)) own_keys (machine_of e t keeper)
+  pub begins_started : keeper.held ≡ Some Begun → BeginsToSave state secret salt (fresh (Some config)) own_keys (machine_of e t keeper no_flights)
   begins_started begun = record {
     free = refl;
     agrees = started.agrees t blank.unasked;
@@ -269,7 +269,7 @@ module _ {R : Type 0} (state : R → RevState) (config : Config) (secret salt : 
     }
 
     pub begins_opened : (mark : Mark) → ((now : ℕ → Option KeptRegion) (tables : Tables) → RestsBy secret closed closing now tables → RestsAt secret mark now tables) → keeper.held ≡ Some mark
-        → BeginsToSave state secret salt base keys (machine_of e s2 keeper)
+        → BeginsToSave state secret salt base keys (machine_of e s2 keeper no_flights)
     begins_opened mark at held = record {
       free = refl;
       agrees = agrees_swept state e s1 s2 sweeps engine.agrees;
@@ -295,7 +295,7 @@ pub record Engaged {R : Type 0} (state : R → RevState) (mark : Mark) (config :
   pub base : Base
   pub begins : BeginsSaved mark config secret salt keys base old new
   pub engages : EngagesSaved state base config keys e new keeper
-  pub saves : keeper.held ≡ Some (begun_mark mark) → BeginsToSave state secret salt base keys (machine_of e new keeper)
+  pub saves : keeper.held ≡ Some (begun_mark mark) → BeginsToSave state secret salt base keys (machine_of e new keeper no_flights)
 
 module _ {R : Type 0} (state : R → RevState) (config : Config) (secret salt : List ℕ) (saves : config.save ≡ true) (e : Engine R) (old looked mid new : StoreState) (sweeps : Sweeps mid new) (none : old.asked ≡ [])
     (blank : new.asked ≡ [] → IsFresh new) (steady : new.asked ≡ [] → IsSteady new) (keeper : KeeperState) where
@@ -338,14 +338,6 @@ module _ {R : Type 0} (state : R → RevState) (config : Config) (secret salt : 
       }
   engaged (Saved region blocks number pack closed) looks by =
       engaged_opened (Saved region blocks number pack closed) (Some closed) (closing_named region blocks number pack) by.0 looks by.1 (λ keys base reopens. (by.0, reopens)) (λ now tables rests. rests)
-
--- ---- no engine was had
-pub shut_from : (mark : Mark) (config : Config) (secret salt : List ℕ) (ending : KeptEnding) (old looked new : StoreState) → LooksBare mark old looked → EndsShut (begun_mark mark) config secret salt ending looked new → EndsShut mark config secret salt ending old new
-shut_from Fresh config secret salt ending old looked new looks shut = (shut.0, subst (λ (s : StoreState). IsFoundBare old s) (sym shut.1) looks)
-shut_from InUse config secret salt ending old looked new looks shut = absurd looks
-shut_from (Closed region blocks number pack) config secret salt ending old looked new looks shut = subst (λ (s : StoreState). EndsShut (Closed region blocks number pack) config secret salt ending s new) looks shut
-shut_from Begun config secret salt ending old looked new looks shut = (shut.0, shut.1 ∙ looks)
-shut_from (Saved region blocks number pack closed) config secret salt ending old looked new looks shut = subst (λ (s : StoreState). EndsShut (Saved region blocks number pack closed) config secret salt ending s new) looks shut
 
 -- ---- an engine was had, and the keeper failed
 pub looks_still : {R : Type 0} (state : R → RevState) (mark : Mark) (config : Config) (secret salt : List ℕ) (e : Engine R) (old looked mid : StoreState) (failed : Failed) (drawn keeper : KeeperState)

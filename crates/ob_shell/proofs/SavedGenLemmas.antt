@@ -1,5 +1,6 @@
 -- A run whose tables are saved over the generated text, one whose words are not read, and which of them the words ask for.
 use Rattle.std.proofs.Common.{◌≡◌, ℕ, Bool, true, false, List, [], Option, Some, None, Result, Ok, inl, inr, refl, sym, subst, arith}
+use Rattle.ob_headline.specs.declared.flight.FlightSettings.{FlightSettings}
 use Rattle.ob_base.specs.Counts.{Rises}
 use Rattle.ob_base.specs.declared.config.Config.{Config}
 use Rattle.ob_base.specs.declared.refusal.Stop.{Stop}
@@ -40,8 +41,8 @@ whole_cause Alone result refused ending old new is whole cause =
     let same : result ≡ Ok refused = cc (is, whole) in
     (subst (λ (r : Result Bool Stop). StopCause Alone old new r) same cause).trace
 
-module _ (config : Config) (tracing : Bool) (ended : KeptEnded) (old mid : Outside) (k0 k1 : KeeperState) where
-  saved_quiet : (SinksRose old.faults mid.faults → Rises old.faults.trace mid.faults.trace) → RanSaved config tracing ended old mid k0 k1 → IsHushed ended.quiet old.faults.trace mid.faults.trace
+module _ (config : Config) (flight : Option FlightSettings) (tracing : Bool) (ended : KeptEnded) (old mid : Outside) (k0 k1 : KeeperState) where
+  saved_quiet : (SinksRose old.faults mid.faults → Rises old.faults.trace mid.faults.trace) → RanSaved config flight tracing ended old mid k0 k1 → IsHushed ended.quiet old.faults.trace mid.faults.trace
   saved_quiet only (inl ran) = record { rose = λ it. absurd (cc (it, ran.loud)); kept = λ it. ran.silent.1 }
   saved_quiet only (inr (inl ran)) = ran.unserved.quiet
   saved_quiet only (inr (inr ran)) = record {
@@ -49,24 +50,24 @@ module _ (config : Config) (tracing : Bool) (ended : KeptEnded) (old mid : Outsi
     kept = silenced_kept ended.quiet old.faults mid.faults ran.silent;
   }
 
-  saved_calm : RanSaved config tracing ended old mid k0 k1 → (refused : Bool) → ended.ending ≡ Plain (Ran (Ok refused)) → mid.faults.trace ≡ old.faults.trace
+  saved_calm : RanSaved config flight tracing ended old mid k0 k1 → (refused : Bool) → ended.ending ≡ Plain (Ran (Ok refused)) → mid.faults.trace ≡ old.faults.trace
   saved_calm (inl ran) refused is = ran.silent.1
   saved_calm (inr (inl ran)) refused is = absurd (unbegun_stops config ran.secret ended.ending _ _ _ _ _ _ refused ran.unserved.begun is)
   saved_calm (inr (inr ran)) refused is = whole_cause _ ran.result refused ended.ending old.faults mid.faults ran.ending is ran.cause
 
-pub saved_summarized : {Takes : Type 0} {settings : Option Config} {config : Config} {tracing : Bool} {seed : Seed} {s0 s1 : StoreState} {t0 t1 w0 w1 l : Option (List ℕ)} {gave trace0 trace1 out0 out1 : ℕ} {k0 k1 : KeeperState}
+pub saved_summarized : {Takes : Type 0} {settings : Option Config} {flight : Option FlightSettings} {config : Config} {tracing : Bool} {seed : Seed} {s0 s1 : StoreState} {t0 t1 w0 w1 l : Option (List ℕ)} {gave trace0 trace1 out0 out1 : ℕ} {k0 k1 : KeeperState}
     {report : Report} (source : ℕ)
-    → Takes → settings ≡ Some config → s0.asked ≡ [] → SavedGenerated config tracing seed t0 t1 s0 s1 trace0 trace1 k0 k1 w0 w1 out0 out1 report
-    → SavedSummarized settings Takes tracing seed (outside_of l gave w0 t0 s0 (faults_of source out0 trace0)) (outside_of l gave w1 t1 s1 (faults_of source out1 trace1)) k0 k1 report
-saved_summarized {Takes = Takes} {settings = settings} {config = config} {tracing = tracing} {seed = seed} {s0 = s0} {s1 = s1} {t0 = t0} {t1 = t1} {w0 = w0} {w1 = w1} {trace0 = trace0} {trace1 = trace1} {out0 = out0} {out1 = out1}
+    → Takes → settings ≡ Some config → s0.asked ≡ [] → SavedGenerated config flight tracing seed t0 t1 s0 s1 trace0 trace1 k0 k1 w0 w1 out0 out1 report
+    → SavedSummarized settings flight Takes tracing seed (outside_of l gave w0 t0 s0 (faults_of source out0 trace0)) (outside_of l gave w1 t1 s1 (faults_of source out1 trace1)) k0 k1 report
+saved_summarized {Takes = Takes} {settings = settings} {flight = flight} {config = config} {tracing = tracing} {seed = seed} {s0 = s0} {s1 = s1} {t0 = t0} {t1 = t1} {w0 = w0} {w1 = w1} {trace0 = trace0} {trace1 = trace1} {out0 = out0} {out1 = out1}
     {k0 = k0} {k1 = k1} {report = report} source takes set none g =
     let ended = g.ended in
     let old = outside_of (Some (generated seed.start seed.rows)) 0 None t0 s0 (faults_of 0 0 trace0) in
     let mid = outside_of (Some g.left) g.gave None t1 s1 (faults_of 0 0 trace1) in
     let run : Report = record { status = kept_status ended.ending; high = ended.high } in
     let line : ended.quiet ≡ false → LineWritten (kept_line ended.ending) None None 0 0 = λ loud. record { cut = Outputs-whole None None (Rises 0 0) (kept_line ended.ending) tt; later = omega arith; empty = λ e. refl } in
-    let head : SavedHeadline settings Takes tracing old mid k0 k1 run = saved_headlined settings config takes set tracing old mid ended k0 k1 None 0 run refl refl (λ hush. record { written = refl; faults = refl }) line none g.ran in
-    let told = saved_told settings config takes set tracing old mid ended k0 k1 None 0 run refl refl (λ hush. record { written = refl; faults = refl }) line none g.ran in
+    let head : SavedHeadline settings flight Takes tracing old mid k0 k1 run = saved_headlined settings flight config takes set tracing old mid ended k0 k1 None 0 run refl refl (λ hush. record { written = refl; faults = refl }) line none g.ran in
+    let told = saved_told settings flight config takes set tracing old mid ended k0 k1 None 0 run refl refl (λ hush. record { written = refl; faults = refl }) line none g.ran in
     record {
       unread = record { left = refl; gave = refl; source = refl };
       run = run;
@@ -77,19 +78,19 @@ saved_summarized {Takes = Takes} {settings = settings} {config = config} {tracin
       counted = subst (λ (e : KeptEnding). KeptTally e head.answers ended.tally) (sym told.0) told.1;
       concludes = subst (λ (e : KeptEnding). KeptConcludes e ended.tally s1.asked ended.high w0 w1 (faults_of source out0 trace0) (faults_of source out1 trace1) report) (sym told.0)
           (concluded_at ended.high g.high
-          (kept_concludes ended.tally s1.asked w0 w1 source trace0 trace1 out0 out1 report ended.ending ended.quiet g.concluded (saved_quiet config tracing ended old mid k0 k1 (trace_rose trace0 trace1) g.ran)
-          (saved_calm config tracing ended old mid k0 k1 g.ran)));
+          (kept_concludes ended.tally s1.asked w0 w1 source trace0 trace1 out0 out1 report ended.ending ended.quiet g.concluded (saved_quiet config flight tracing ended old mid k0 k1 (trace_rose trace0 trace1) g.ran)
+          (saved_calm config flight tracing ended old mid k0 k1 g.ran)));
     }
 
 -- ---- the words were not read
-unfoldable saved_unread : {Takes : Type 0} {settings : Option Config} {tracing : Bool} {s : StoreState} {t w0 w1 l : Option (List ℕ)} {gave source trace out0 out1 : ℕ} {k : KeeperState} {report : Report} (error : WordsErr)
+unfoldable saved_unread : {Takes : Type 0} {settings : Option Config} {flight : Option FlightSettings} {tracing : Bool} {s : StoreState} {t w0 w1 l : Option (List ℕ)} {gave source trace out0 out1 : ℕ} {k : KeeperState} {report : Report} (error : WordsErr)
     → IsFresh s → (error ≡ Words.Usage → ¬ Takes) → report.status ≡ status_of (refused_by error) → report.high ≡ 0 → LineWritten (last_line (refused_by error)) w0 w1 out0 out1
-    → SavedHeadline settings Takes tracing (outside_of l gave w0 t s (faults_of source out0 trace)) (outside_of l gave w1 t s (faults_of source out1 trace)) k k report
+    → SavedHeadline settings flight Takes tracing (outside_of l gave w0 t s (faults_of source out0 trace)) (outside_of l gave w1 t s (faults_of source out1 trace)) k k report
 saved_unread error blank not status high line = record { ending = Plain (refused_by error); status = status; answers = []; ran = inl (unread_run error blank not status high line) }
 
-saved_unread_summarized : {Takes : Type 0} {settings : Option Config} {tracing : Bool} {s : StoreState} {t w0 w1 l : Option (List ℕ)} {gave out0 out1 : ℕ} {k : KeeperState} {report : Report} (source trace : ℕ) (seed : Seed) (error : WordsErr)
+saved_unread_summarized : {Takes : Type 0} {settings : Option Config} {flight : Option FlightSettings} {tracing : Bool} {s : StoreState} {t w0 w1 l : Option (List ℕ)} {gave out0 out1 : ℕ} {k : KeeperState} {report : Report} (source trace : ℕ) (seed : Seed) (error : WordsErr)
     → IsFresh s → (error ≡ Words.Usage → ¬ Takes) → report.status ≡ status_of (refused_by error) → report.high ≡ 0 → LineWritten (last_line (refused_by error)) w0 w1 out0 out1
-    → SavedSummarized settings Takes tracing seed (outside_of l gave w0 t s (faults_of source out0 trace)) (outside_of l gave w1 t s (faults_of source out1 trace)) k k report
+    → SavedSummarized settings flight Takes tracing seed (outside_of l gave w0 t s (faults_of source out0 trace)) (outside_of l gave w1 t s (faults_of source out1 trace)) k k report
 unfolding saved_unread
 saved_unread_summarized {s = s} {t = t} {w0 = w0} {w1 = w1} {out0 = out0} {out1 = out1} {report = report} source trace seed error blank not status high line =
     let ending = refused_by error in
@@ -108,17 +109,17 @@ saved_unread_summarized {s = s} {t = t} {w0 = w0} {w1 = w1} {out0 = out0} {out1 
     }
 
 -- ---- whether tables are saved
-pub keeps_or_saves : (settings : Option Config) (Takes : Type 0) (tracing : Bool) (old new : Outside) (k0 k1 : KeeperState) (report : Report) (saves on : Bool) (keeps kept : Bool) (asked seed : Option Seed) → saves ≡ on → keeps ≡ kept → asked ≡ seed
-    → KeepsOrSaves on kept seed settings Takes tracing old new k0 k1 report → KeepsOrSaves saves keeps asked settings Takes tracing old new k0 k1 report
-keeps_or_saves settings Takes tracing old new k0 k1 report saves on keeps kept asked seed is held same run =
-    subst (λ (b : Bool). KeepsOrSaves b keeps asked settings Takes tracing old new k0 k1 report) (sym is)
-    (subst (λ (b : Bool). KeepsOrSaves on b asked settings Takes tracing old new k0 k1 report) (sym held)
-    (subst (λ (s : Option Seed). KeepsOrSaves on kept s settings Takes tracing old new k0 k1 report) (sym same) run))
+pub keeps_or_saves : (settings : Option Config) (flight : Option FlightSettings) (Takes : Type 0) (tracing : Bool) (old new : Outside) (k0 k1 : KeeperState) (report : Report) (saves on : Bool) (keeps kept : Bool) (asked seed : Option Seed) → saves ≡ on → keeps ≡ kept → asked ≡ seed
+    → KeepsOrSaves on kept seed settings flight Takes tracing old new k0 k1 report → KeepsOrSaves saves keeps asked settings flight Takes tracing old new k0 k1 report
+keeps_or_saves settings flight Takes tracing old new k0 k1 report saves on keeps kept asked seed is held same run =
+    subst (λ (b : Bool). KeepsOrSaves b keeps asked settings flight Takes tracing old new k0 k1 report) (sym is)
+    (subst (λ (b : Bool). KeepsOrSaves on b asked settings flight Takes tracing old new k0 k1 report) (sym held)
+    (subst (λ (s : Option Seed). KeepsOrSaves on kept s settings flight Takes tracing old new k0 k1 report) (sym same) run))
 
-pub keeps_or_saves_unread : {Takes : Type 0} {s : StoreState} {w0 w1 : Option (List ℕ)} {out0 out1 : ℕ} {report : Report} (settings : Option Config) (tracing : Bool) (t l : Option (List ℕ)) (gave source trace : ℕ) (k : KeeperState)
+pub keeps_or_saves_unread : {Takes : Type 0} {s : StoreState} {w0 w1 : Option (List ℕ)} {out0 out1 : ℕ} {report : Report} (settings : Option Config) (flight : Option FlightSettings) (tracing : Bool) (t l : Option (List ℕ)) (gave source trace : ℕ) (k : KeeperState)
     (saves keeps : Bool) (asked : Option Seed) (error : WordsErr)
     → IsFresh s → (error ≡ Words.Usage → ¬ Takes) → report.status ≡ status_of (refused_by error) → report.high ≡ 0 → LineWritten (last_line (refused_by error)) w0 w1 out0 out1
-    → KeepsOrSaves saves keeps asked settings Takes tracing (outside_of l gave w0 t s (faults_of source out0 trace)) (outside_of l gave w1 t s (faults_of source out1 trace)) k k report
-keeps_or_saves_unread settings tracing t l gave source trace k false keeps asked error blank not status high line = may_keep_unread settings tracing t l gave source trace k keeps asked error blank not status high line
-keeps_or_saves_unread settings tracing t l gave source trace k true keeps None error blank not status high line = saved_unread error blank not status high line
-keeps_or_saves_unread settings tracing t l gave source trace k true keeps (Some seed) error blank not status high line = saved_unread_summarized source trace seed error blank not status high line
+    → KeepsOrSaves saves keeps asked settings flight Takes tracing (outside_of l gave w0 t s (faults_of source out0 trace)) (outside_of l gave w1 t s (faults_of source out1 trace)) k k report
+keeps_or_saves_unread settings flight tracing t l gave source trace k false keeps asked error blank not status high line = may_keep_unread settings flight tracing t l gave source trace k keeps asked error blank not status high line
+keeps_or_saves_unread settings flight tracing t l gave source trace k true keeps None error blank not status high line = saved_unread error blank not status high line
+keeps_or_saves_unread settings flight tracing t l gave source trace k true keeps (Some seed) error blank not status high line = saved_unread_summarized source trace seed error blank not status high line

@@ -1,12 +1,13 @@
 -- A run whose tables are saved, behind its first line.
 use Rattle.std.specs.Prelude.{IfOk}
-use Rattle.std.proofs.Common.{◌≡◌, ◌≤◌, ◌++◌, ℕ, Bool, true, false, List, [], Option, Some, Result, Ok, Err, inr, refl, sym, ◌∙◌, ap, subst, arith}
+use Rattle.std.proofs.Common.{◌≡◌, ◌≤◌, ◌++◌, ℕ, Bool, true, false, List, [], Option, Some, Result, Ok, Err, inr, refl, sym, ◌∙◌, ap, subst, arith, None}
+use Rattle.ob_base.specs.Publics.{first_public}
 use Rattle.ob_base.specs.declared.config.Config.{Config}
 use Rattle.ob_base.specs.declared.config.Public.{Public}
 use Rattle.ob_base.specs.declared.refusal.Stop.{Stop}
 use Rattle.ob_gen.specs.Tally.{empty_tally}
 use Rattle.ob_gen.specs.declared.tally.Tally.{Tally}
-use Rattle.ob_headline.specs.Bases.{Base}
+use Rattle.ob_headline.specs.Bases.{Base, flying}
 use Rattle.ob_headline.specs.KeyLine.{after_line, first_line, secret_of}
 use Rattle.ob_headline.specs.Settings.{limit_of}
 use Rattle.ob_headline.specs.Words.{Faults, faults_of, outside_of}
@@ -20,10 +21,13 @@ use Rattle.ob_shell.proofs.TopLemmas.{after_last, after_secret, piece_is, piece_
 use Rattle.ob_shell.proofs.TraceLemmas.{traced_none, traced_whole}
 use Rattle.ob_shell.specs.EngagingSaved.{EndsUnsaved, EngagesSaved, RanSaved, RanSession, RanUnsaved, ServesSaved, StartsSaved}
 use Rattle.ob_shell.specs.Feeding.{Fetch, IsFedBy}
-use Rattle.ob_shell.specs.Leaving.{BeginsToSave}
+use Rattle.ob_shell.specs.Leaving.{BeginsToSave, RestsOn}
 use Rattle.ob_shell.specs.LineRead.{KeyRead}
 use Rattle.ob_shell.specs.Running.{OutFailed, ServesAlone, SessionRan, Silenced, StopCause}
-use Rattle.ob_shell.specs.Steps.{machine_of}
+use Rattle.ob_headline.specs.declared.flight.FlightSettings.{FlightSettings}
+use Rattle.ob_shell.proofs.StandLemmas.{flying_each, stands_flying}
+use Rattle.ob_shell.specs.Flying.{flights_at}
+use Rattle.ob_shell.specs.Steps.{Flights, machine_of, no_flights}
 use Rattle.ob_shell.specs.Tallies.{flagged}
 use Rattle.ob_shell.specs.Top.{Carried, sink_of}
 use Rattle.ob_shell.specs.Traces.{Traced}
@@ -37,25 +41,25 @@ use Rattle.ob_tables.specs.declared.engine.Engine.{Engine}
 use Rattle.ob_vault.specs.State.{RevState}
 
 -- ---- texts were served
-module _ {R : Type 0} (state : R → RevState) (base : Base) (config : Config) (keys : KeySet) (secret salt : List ℕ) (first last : Engine R) (k0 k1 : KeeperState) (s0 s1 : StoreState) (engages : EngagesSaved state base config keys first s0 k0)
+module _ {R : Type 0} (state : R → RevState) (base : Base) (config : Config) (keys : KeySet) (secret salt : List ℕ) (first last : Engine R) (k0 k1 : KeeperState) (flight : Option FlightSettings) (left : Flights) (s0 s1 : StoreState) (engages : EngagesSaved state base config keys first s0 k0)
     (ended : KeptEnded) (most : ended.high ≤ rows_of last) (is_high : ended.high ≡ high_of last) (tracing : Bool) (t0 t1 : Option (List ℕ)) (f0 f1 : Fetch) (l0 l1 : Option (List ℕ)) (gave : ℕ) (w0 w1 : Option (List ℕ)) where
   unfoldable pub serves_saved : (result : Result Tally Stop) (old new : Faults)
-      → SessionRan state tracing f0 f1 l0 l1 gave w0 w1 t0 t1 (machine_of first s0 k0) (machine_of last s1 k1) (OutFailed ended.quiet old.out new.out) result
-      → Traced tracing s0.asked s1.asked t0 t1 (ended.quiet ≡ true) → StopCause (ServesAlone (public_of first)) old new result → Silenced ended.quiet old new → ended.ending ≡ Plain (Ran (flagged result)) → IfOk result (λ (t : Tally). ended.tally ≡ t)
-      → ServesSaved state base keys secret salt tracing ended f0 f1 l0 l1 gave w0 w1 t0 t1 s0 s1 old new k0 k1 (BeginsToSave state secret salt base keys (machine_of first s0 k0))
+      → SessionRan state tracing f0 f1 l0 l1 gave w0 w1 t0 t1 (machine_of first s0 k0 (flights_at flight)) (machine_of last s1 k1 left) (OutFailed ended.quiet old.out new.out) result
+      → Traced tracing s0.asked s1.asked t0 t1 (ended.quiet ≡ true) → StopCause (ServesAlone flight (public_of first)) old new result → Silenced ended.quiet old new → ended.ending ≡ Plain (Ran (flagged result)) → IfOk result (λ (t : Tally). ended.tally ≡ t)
+      → ServesSaved state (flying flight base) keys secret salt tracing ended f0 f1 l0 l1 gave w0 w1 t0 t1 s0 s1 old new k0 k1 (BeginsToSave state secret salt base keys (machine_of first s0 k0 no_flights))
   unfolding ran_after
   serves_saved result old new ran traced cause silent ending counted = record {
     result = result;
-    ran = ran_after base config keys secret first last ended.high result k0 k1 s0 s1 engages.stands most is_high (sink_of tracing t0 t1) f0 f1 l0 l1 gave w0 w1 ran;
+    ran = ran_after (flying flight base) config keys secret first last ended.high result k0 k1 left s0 s1 (stands_flying flight engages.stands) most is_high (sink_of tracing t0 t1) f0 f1 l0 l1 gave w0 w1 ran;
     traced_all = traced;
-    cause = subst (λ (p : Public). StopCause (ServesAlone p) old new result) engages.stands.public cause;
+    cause = subst (λ (p : Public). StopCause (ServesAlone flight p) old new result) engages.stands.public cause;
     silent = silent;
     ending = ending;
     counted = counted;
-    keeper = keeper_counts base config keys secret first last ended.high result k0 k1 s0 s1 engages.stands most is_high (sink_of tracing t0 t1) f0 f1 l0 l1 gave w0 w1 ran;
+    keeper = keeper_counts (flying flight base) config keys secret first last ended.high result k0 k1 left s0 s1 (stands_flying flight engages.stands) most is_high (sink_of tracing t0 t1) f0 f1 l0 l1 gave w0 w1 ran;
     leaves = λ begins.
-        leaves base config keys secret first last ended.high result k0 k1 s0 s1 engages.stands most is_high (sink_of tracing t0 t1) f0 f1 l0 l1 gave w0 w1 ran secret salt begins.agrees
-        (ap (λ (p : Public). p.save) (sym begins.public) ∙ begins.saves) begins.of begins.salted begins.rests;
+        leaves (flying flight base) config keys secret first last ended.high result k0 k1 left s0 s1 (stands_flying flight engages.stands) most is_high (sink_of tracing t0 t1) f0 f1 l0 l1 gave w0 w1 ran secret salt begins.agrees
+        (ap (λ (p : Public). p.save) (sym begins.public) ∙ begins.saves) begins.of begins.salted (λ mark is. flying_each flight base (λ x. RestsOn secret mark base.public s0.kept x.tables) (begins.rests mark is));
   }
 
 flagged_cause : (Alone : Type 0) (result : Result Tally Stop) (old new : Faults) → StopCause Alone old new result → StopCause Alone old new (flagged result)
@@ -73,8 +77,8 @@ unsaved config tracing f0 f1 none start top l0 l1 g0 key ended w t0 t1 s0 s1 a o
     record {
       taken = read.fed.piece;
       given = read.fed.consumed;
-      within = piece_within empty_tally tr refl (Some config) f0 f1 none start top below by read.fed;
-      prompt = piece_prompt empty_tally tr refl (Some config) f0 f1 none start top below by 1 (omega arith) read.fed read.ahead;
+      within = piece_within empty_tally tr refl (Some config) None f0 f1 none start top below by read.fed;
+      prompt = piece_prompt empty_tally tr refl (Some config) None f0 f1 none start top below by (first_public config) 1 1 (omega arith) read.fed read.ahead;
       secret = key;
       keyed = ap (λ (l : List ℕ). secret_of (first_line l)) (piece_is read.fed none) ∙ is;
       unserved = unserved;
@@ -83,7 +87,7 @@ unsaved config tracing f0 f1 none start top l0 l1 g0 key ended w t0 t1 s0 s1 a o
       out = refl;
     }
 
-module _ {R : Type 0} (state : R → RevState) (config : Config) (key : List ℕ) (tracing : Bool) (f0 f1 : Fetch) (none : f0.unread ≡ []) (start : f0.taken ≡ 0) (top : f0.limit ≡ limit_of (Some config)) (l0 l1 : Option (List ℕ)) (g0 gave : ℕ)
+module _ {R : Type 0} (state : R → RevState) (config : Config) (flight : Option FlightSettings) (key : List ℕ) (tracing : Bool) (f0 f1 : Fetch) (none : f0.unread ≡ []) (start : f0.taken ≡ 0) (top : f0.limit ≡ limit_of (Some config)) (l0 l1 : Option (List ℕ)) (g0 gave : ℕ)
     (e : Engine R) (s0 s1 s2 : StoreState) (t0 t1 t2 w : Option (List ℕ)) (old : Faults) (r1 : ℕ) (k0 k1 k2 : KeeperState) (starts : StartsSaved state config key tracing e s0 s1 t0 t1 old.trace r1 k0 k1) (ended : KeptEnded) where
   top_here : f0.limit ≡ limit_of starts.base.settings
   top_here = top ∙ ap limit_of (sym starts.engages.stands.settings)
@@ -95,9 +99,9 @@ module _ {R : Type 0} (state : R → RevState) (config : Config) (key : List ℕ
   same_faults = λ i. record old { trace = starts.faults i }
 
   ran_session : (f2 : Fetch) (l2 w2 : Option (List ℕ)) (new : Faults) {line : Result FirstLine Halt} (read : KeyRead f0 f1 l0 l1 line) → f2.taken ≤ f2.limit → IsFedBy f2 gave
-      → (serves : ServesSaved state starts.base starts.keys key starts.salt tracing ended f1 f2 l1 l2 gave w w2 t1 t2 s1 s2 begun_faults new k1 k2 (BeginsToSave state key starts.salt starts.base starts.keys (machine_of e s1 k1)))
+      → (serves : ServesSaved state (flying flight starts.base) starts.keys key starts.salt tracing ended f1 f2 l1 l2 gave w w2 t1 t2 s1 s2 begun_faults new k1 k2 (BeginsToSave state key starts.salt starts.base starts.keys (machine_of e s1 k1 no_flights)))
       → after_line (read.fed.piece ++ serves.ran.piece) ≡ f1.unread ++ serves.ran.piece → secret_of (first_line (read.fed.piece ++ serves.ran.piece)) ≡ Some key
-      → RanSession config tracing ended (outside_of l0 g0 w t0 s0 old) (outside_of l2 gave w2 t2 s2 new) k0 k2
+      → RanSession config flight tracing ended (outside_of l0 g0 w t0 s0 old) (outside_of l2 gave w2 t2 s2 new) k0 k2
   unfolding shown_by
   ran_session f2 l2 w2 new read below by serves after keyed = record {
     secret = key;
@@ -111,11 +115,11 @@ module _ {R : Type 0} (state : R → RevState) (config : Config) (key : List ℕ
     set = starts.engages.stands.settings;
     first = starts.engages.stands.asked;
     result = flagged serves.result;
-    shown = shown_by {keys = λ taken. starts.keys} starts.base key serves.result start top_here below by read serves.ran after keyed
-        (subst (λ (x : Option (List ℕ)). Carried (sink_of tracing t1 t2) starts.base starts.keys x s1 s2 ended.high serves.ran.story (Ran (flagged serves.result))) (sym keyed) serves.ran.carried) serves.counted;
+    shown = shown_by {keys = λ taken. starts.keys} (flying flight starts.base) key serves.result start top_here below by read serves.ran after keyed
+        (subst (λ (x : Option (List ℕ)). Carried (sink_of tracing t1 t2) (flying flight starts.base) starts.keys x s1 s2 ended.high serves.ran.story (Ran (flagged serves.result))) (sym keyed) serves.ran.carried) serves.counted;
     keyed = keyed;
     traced_all = serves.traced_all;
-    cause = subst (λ (f : Faults). StopCause (ServesAlone starts.base.public) f new (flagged serves.result)) same_faults (flagged_cause _ serves.result begun_faults new serves.cause);
+    cause = subst (λ (f : Faults). StopCause (ServesAlone flight starts.base.public) f new (flagged serves.result)) same_faults (flagged_cause _ serves.result begun_faults new serves.cause);
     silent = subst (λ (f : Faults). Silenced ended.quiet f new) same_faults serves.silent;
     ending = serves.ending;
     keeper = serves.keeper;
@@ -124,24 +128,24 @@ module _ {R : Type 0} (state : R → RevState) (config : Config) (key : List ℕ
 
   -- what followed it was served
   pub secret_saved : (f2 : Fetch) (l2 w2 : Option (List ℕ)) (new : Faults) → (read : KeyRead f0 f1 l0 l1 (Ok (Secret key))) → f2.taken ≤ f2.limit → IsFedBy f2 gave
-      → ServesSaved state starts.base starts.keys key starts.salt tracing ended f1 f2 l1 l2 gave w w2 t1 t2 s1 s2 begun_faults new k1 k2 (BeginsToSave state key starts.salt starts.base starts.keys (machine_of e s1 k1))
-      → RanSaved config tracing ended (outside_of l0 g0 w t0 s0 old) (outside_of l2 gave w2 t2 s2 new) k0 k2
+      → ServesSaved state (flying flight starts.base) starts.keys key starts.salt tracing ended f1 f2 l1 l2 gave w w2 t1 t2 s1 s2 begun_faults new k1 k2 (BeginsToSave state key starts.salt starts.base starts.keys (machine_of e s1 k1 no_flights))
+      → RanSaved config flight tracing ended (outside_of l0 g0 w t0 s0 old) (outside_of l2 gave w2 t2 s2 new) k0 k2
   secret_saved f2 l2 w2 new read below by serves =
       let behind = after_secret serves.ran.piece none read in
       inr (inr (ran_session f2 l2 w2 new read below by serves behind.0 behind.1))
 
 -- the input had ended
-pub last_saved : {R : Type 0} (state : R → RevState) (config : Config) (key : List ℕ) (tracing : Bool) (f0 f1 : Fetch) (none : f0.unread ≡ []) (start : f0.taken ≡ 0) (top : f0.limit ≡ limit_of (Some config)) (l0 l1 : Option (List ℕ)) (g0 gave : ℕ)
+pub last_saved : {R : Type 0} (state : R → RevState) (config : Config) (flight : Option FlightSettings) (key : List ℕ) (tracing : Bool) (f0 f1 : Fetch) (none : f0.unread ≡ []) (start : f0.taken ≡ 0) (top : f0.limit ≡ limit_of (Some config)) (l0 l1 : Option (List ℕ)) (g0 gave : ℕ)
     (e : Engine R) (s0 s1 : StoreState) (t0 t1 w : Option (List ℕ)) (old : Faults) (r1 : ℕ) (k0 k1 : KeeperState) (starts : StartsSaved state config key tracing e s0 s1 t0 t1 old.trace r1 k0 k1) (ended : KeptEnded)
     → (read : KeyRead f0 f1 l0 l1 (Ok (Last key))) → f1.taken ≤ f1.limit → IsFedBy f1 gave → ended.high ≤ rows_of e → ended.high ≡ high_of e → ended.quiet ≡ false → ended.ending ≡ Plain (Ran (flagged (Ok empty_tally))) → ended.tally ≡ empty_tally
-    → RanSaved config tracing ended (outside_of l0 g0 w t0 s0 old) (outside_of l1 gave w t1 s1 (record old { trace = r1 })) k0 k1
+    → RanSaved config flight tracing ended (outside_of l0 g0 w t0 s0 old) (outside_of l1 gave w t1 s1 (record old { trace = r1 })) k0 k1
 unfolding serves_saved ran_after ran_last
-last_saved state config key tracing f0 f1 none start top l0 l1 g0 gave e s0 s1 t0 t1 w old r1 k0 k1 starts ended read below by most is_high loud ending counted =
+last_saved state config flight key tracing f0 f1 none start top l0 l1 g0 gave e s0 s1 t0 t1 w old r1 k0 k1 starts ended read below by most is_high loud ending counted =
     let ends = read.ends in
     let faults : Faults = record old { trace = r1 } in
-    let ran = ran_last state tracing f1 l1 gave w t1 e s1 k1 ends.4 ends.2 ends.3 in
+    let ran = ran_last state tracing f1 l1 gave w t1 e s1 k1 (flights_at flight) ends.4 ends.2 ends.3 in
     let silent : Silenced ended.quiet faults faults = subst (λ (b : Bool). Silenced b faults faults) (sym loud) (refl, refl) in
-    let serves = serves_saved state starts.base config starts.keys key starts.salt e e k1 k1 s1 s1 starts.engages ended most is_high tracing t1 t1 f1 f1 l1 l1 gave w w
+    let serves = serves_saved state starts.base config starts.keys key starts.salt e e k1 k1 flight (flights_at flight) s1 s1 starts.engages ended most is_high tracing t1 t1 f1 f1 l1 l1 gave w w
     (Ok empty_tally) faults faults ran (traced_whole _ (traced_none tracing s1.asked t1)) (record { source = refl; out = refl; trace = refl }) silent ending counted in
     let behind = after_last serves.ran.piece refl none read in
-    inr (inr (ran_session state config key tracing f0 f1 none start top l0 l1 g0 gave e s0 s1 s1 t0 t1 t1 w old r1 k0 k1 k1 starts ended f1 l1 w faults read below by serves behind.0 behind.1))
+    inr (inr (ran_session state config flight key tracing f0 f1 none start top l0 l1 g0 gave e s0 s1 s1 t0 t1 t1 w old r1 k0 k1 k1 starts ended f1 l1 w faults read below by serves behind.0 behind.1))

@@ -1,11 +1,19 @@
 -- What the engine was given and what it left.
 use Rattle.std.specs.Prelude.{IsErr, if◌then◌else◌}
 use Rattle.std.specs.Option.{option_map}
-use Rattle.std.proofs.Common.{ℕ, List, [], ◌∷◌, ◌++◌, ◌≡◌, ◌≤◌, Bool, Option, None, Result, Ok, Err, refl, sym, ◌∙◌, inl, inr, subst, append-nil, arith, true, false}
+use Rattle.std.proofs.Common.{ℕ, List, [], ◌∷◌, ◌++◌, ◌≡◌, ◌≤◌, Bool, Option, None, Result, Ok, Err, refl, sym, ap, ◌∙◌, inl, inr, subst, append-nil, arith, true, false}
 use Rattle.std.specs.Io.KnownBytes.{Appends}
 use Rattle.std.specs.Result.{is_err}
 use Rattle.ob_base.specs.Events.{Event}
+use Rattle.ob_base.specs.declared.config.Public.{Public}
 use Rattle.ob_base.specs.declared.refusal.Refusal.TheVariants.{Syntax}
+use Rattle.ob_base.specs.declared.seen.End.{End}
+use Rattle.ob_base.specs.declared.seen.End.TheVariants.{AfterCount, Cut, Joined, Static, Whole}
+use Rattle.ob_base.specs.declared.seen.Seen.{Seen}
+use Rattle.ob_base.specs.declared.skeleton.Skeleton.{Skeleton}
+use Rattle.ob_base.specs.declared.skeleton.Skeleton.TheVariants.{Create as CreateSkeleton, Delete as DeleteSkeleton, Drop as DropSkeleton, Groups, Insert as InsertSkeleton, Rows, Update as UpdateSkeleton}
+use Rattle.ob_script.specs.Tables.{tables_then}
+use Rattle.ob_script.specs.Trace.{next}
 use Rattle.ob_tables.specs.Agreeing.{Agrees, AreDraws, public_of, seen_of}
 use Rattle.ob_tables.specs.Running.{SinkStops, is_fault}
 use Rattle.ob_tables.specs.Serving.{StopsEmission}
@@ -26,10 +34,11 @@ use Rattle.ob_print.specs.Rows.{events_text}
 use Rattle.ob_shell.proofs.CountLemmas.{rises_earlier, rises_later}
 use Rattle.ob_shell.specs.Running.{OutFailed, Silenced, StopCause}
 use Rattle.ob_mean.proofs.BatchLemmas.{most_some}
-use Rattle.ob_mean.specs.Batches.{Gathering, and_one, begins_batch, begun_by, goes_into}
+use Rattle.ob_headline.specs.Flights.{gathered_then, may_fly}
+use Rattle.ob_mean.specs.Batches.{and_one, begins_batch, begun_by}
 use Rattle.ob_mean.specs.Verdict.{Draws, Tables}
 use Rattle.ob_shell.specs.Lines.{line_answer}
-use Rattle.ob_shell.specs.Steps.{Does, HasBody, Machine, Owes, ServedStatement, Step, StopsIn, asked_of, standing}
+use Rattle.ob_shell.specs.Steps.{Does, Gathered, HasBody, IsApartFrom, Machine, Owes, ServedStatement, Step, StopsIn, asked_of, gathered_by, none_gathered, standing}
 use Rattle.ob_sql.specs.Skeleton.{skeleton}
 use Rattle.ob_tables.proofs.HeldLemmas.{held_headings}
 use Rattle.ob_tables.specs.Telling.{Kept, Meant, ReadsTrue}
@@ -39,7 +48,7 @@ use Rattle.ob_vault.specs.State.{RevState}
 
 module _ {R E : Type 0} (state : R → RevState) (grew cut : E → E → List Event → Type 0) (faults : E → ℕ)
     (m0 m1 : Machine R) (out_old out_new : E) (stmt : Stmt) (agrees : Agrees state m0.engine m0.store)
-    (apart : begins_batch (public_of m0.engine) (asked_of m0) stmt ≡ false) (g : Option Gathering) (alone : goes_into (public_of m0.engine) g (skeleton stmt) ≡ false) where
+    (apart : begins_batch (public_of m0.engine) (asked_of m0) stmt ≡ false) (same : m1.flights ≡ m0.flights) (g : Gathered) (alone : IsApartFrom m0.flights.settings (public_of m0.engine) g (skeleton stmt)) where
   abbrev pub Called : Result Outcome RunStop → Type 0
   Called result = Ran state grew cut faults stmt result m0.engine m0.store m1.engine m1.store out_old out_new m0.keeper m1.keeper
 
@@ -48,7 +57,7 @@ module _ {R E : Type 0} (state : R → RevState) (grew cut : E → E → List Ev
   start = standing m0 [] g
 
   abbrev pub end : Machine R
-  end = standing m1 [] None
+  end = standing m1 [] (gathered_by (public_of m0.engine) (skeleton stmt))
 
   -- what a call of the engine did
   done : (result : Result Outcome RunStop) → Called result → Does state start end stmt result
@@ -57,6 +66,7 @@ module _ {R E : Type 0} (state : R → RevState) (grew cut : E → E → List Ev
       record {
         free = refl;
         alone = alone;
+        flights = same;
         along = record { few = let some = most_some (public_of m0.engine) in omega (arith, some); alike = inl refl };
         agrees = agrees;
         ran = c.ran;
@@ -99,7 +109,10 @@ module _ {R E : Type 0} (state : R → RevState) (grew cut : E → E → List Ev
           emitted = answer.told;
           printed = refl;
           planned = refl;
-          gathered = λ i. if sym alone i then option_map and_one g else if sym apart i then begun_by (skeleton stmt) (seen_of m1.engine).end else None;
+          gathered = λ i. record {
+            batch = if sym alone.batch i then option_map and_one g.batch else if sym apart i then begun_by (skeleton stmt) (seen_of m1.engine).end else None;
+            flown = gathered_then (public_of m0.engine) 0 (skeleton stmt);
+          };
           owes = owes_none outcome serves;
         }
 
@@ -124,12 +137,12 @@ module _ {R E : Type 0} (state : R → RevState) (grew cut : E → E → List Ev
           let text_of = events_text answer.events in
           record {
             bytes = text_of ++ closing_line outcome;
-            partly = inr (inr (record {
+            partly = inr (inr (inl (record {
               answer = record { outcome = outcome; bytes = text_of ++ closing_line outcome; plan = (seen_of m1.engine).plan };
               step = record { done = inr (served_by text spells outcome serves) };
               whole = refl;
               fault = refl;
-            }));
+            })));
             cut = Outputs-more (closing_line outcome) (Outputs-fault lost (began answer.events answer.took)) lost;
           }
 
@@ -167,7 +180,7 @@ module _ {R E : Type 0} (state : R → RevState) (grew cut : E → E → List Ev
       ]
 
 -- a text that is no statement is answered by its line alone
-pub misspelt : {R : Type 0} (state : R → RevState) (m : Machine R) (g : Option Gathering) (text : List ℕ) (at : ℕ) → Spells text (Err at) → Step state (standing m [] g) (standing m [] None) text (line_answer (Refused (Syntax at)))
+pub misspelt : {R : Type 0} (state : R → RevState) (m : Machine R) (g : Gathered) (text : List ℕ) (at : ℕ) → Spells text (Err at) → Step state (standing m [] g) (standing m [] none_gathered) text (line_answer (Refused (Syntax at)))
 misspelt state m g text at spells = record {
   done = inl (record {
     same = refl;
@@ -208,3 +221,24 @@ pub flush_loses : {T E : Type 0} (stop : RunStop) (r : Result T E) (quiet : Bool
 flush_loses stop (Ok x) quiet out0 out1 out2 not cause is flushed failed = absurd (cc failed)
 flush_loses stop (Err e) quiet out0 out1 out2 not cause is flushed failed =
     let same = stop_keeps stop out0 out1 not cause in (is, rises_earlier out0 out1 out2 (omega (arith, same)) flushed.failed)
+
+-- a SELECT leaves the tables
+pub select_tables : (p : Public) (outline : Skeleton) (seen : Seen) {q : Public} → may_fly p outline ≡ true → q ≡ next p outline seen → q.tables ≡ p.tables
+select_tables p outline seen flies is = ap (λ (x : Public). x.tables) is ∙ go outline flies seen.end
+  where
+    go : (s : Skeleton) → may_fly p s ≡ true → (ended : End) → tables_then p s ended ≡ p.tables
+    go (Rows source columns) may Static = refl
+    go (Rows source columns) may Whole = refl
+    go (Rows source columns) may AfterCount = refl
+    go (Rows source columns) may Joined = refl
+    go (Rows source columns) may (Cut n) = refl
+    go (Groups table columns key) may Static = refl
+    go (Groups table columns key) may Whole = refl
+    go (Groups table columns key) may AfterCount = refl
+    go (Groups table columns key) may Joined = refl
+    go (Groups table columns key) may (Cut n) = refl
+    go (CreateSkeleton table columns n shape) may ended = absurd (cc may)
+    go (InsertSkeleton table columns) may ended = absurd (cc may)
+    go (UpdateSkeleton table columns) may ended = absurd (cc may)
+    go (DeleteSkeleton table) may ended = absurd (cc may)
+    go (DropSkeleton table) may ended = absurd (cc may)

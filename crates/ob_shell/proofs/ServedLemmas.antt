@@ -1,7 +1,7 @@
 -- How a session ends behind its reading, once those that waited were served.
 use Rattle.std.specs.Prelude.{max, min}
 use Rattle.std.specs.Option.{option_map_or}
-use Rattle.std.proofs.Common.{◌≡◌, ◌≢◌, ◌⊎◌, ◌-◌, inl, inr, ℕ, Bool, true, false, List, [], ◌∷◌, Option, Result, Err, refl, sym, ap, ◌∙◌, subst, arith}
+use Rattle.std.proofs.Common.{length, ◌≡◌, ◌≢◌, ◌⊎◌, ◌-◌, ◌+◌, inl, inr, ℕ, Bool, true, false, List, [], ◌∷◌, Option, Result, Err, refl, sym, ap, ◌∙◌, subst, arith}
 use Rattle.ob_base.specs.Counts.{Rises}
 use Rattle.ob_base.specs.declared.config.Public.{Public}
 use Rattle.ob_base.specs.declared.refusal.Stop.{Stop}
@@ -12,12 +12,14 @@ use Rattle.ob_headline.specs.Words.{Faults, faults_of}
 use Rattle.ob_mean.proofs.BatchLemmas.{begins}
 use Rattle.ob_mean.specs.Batches.{batch_most}
 use Rattle.ob_shell.proofs.CountLemmas.{rises_earlier}
-use Rattle.ob_shell.proofs.WaitLemmas.{steps_most}
+use Rattle.ob_headline.specs.Flights.{most_flown}
+use Rattle.ob_headline.specs.declared.flight.FlightSettings.{FlightSettings}
+use Rattle.ob_shell.proofs.WaitLemmas.{steps_flown, steps_most}
 use Rattle.ob_shell.specs.Feeding.{Fetch}
 use Rattle.ob_shell.specs.Running.{ServesAlone, Silenced, StopCause}
 use Rattle.ob_shell.specs.Serving.{HasRead}
 use Rattle.ob_shell.specs.Steps.{Machine, asked_of, standing}
-use Rattle.ob_shell.specs.Waiting.{AreGathered}
+use Rattle.ob_shell.specs.Waiting.{AreWaiting}
 use Rattle.ob_sql.specs.declared.stmt.Stmt.{Stmt}
 use Rattle.ob_tables.specs.Agreeing.{public_of}
 use Rattle.ob_tables.specs.Stops.{session_stop}
@@ -58,16 +60,19 @@ pub waited_quiet : (quiet : Bool) (s0 s1 : ℕ) (old mid new : ℕ × ℕ) → m
 waited_quiet true s0 s1 old mid new out trace told = elim told [ inl rose ↦ inl (rises_earlier old.0 mid.0 new.0 (omega (arith, out)) rose) | inr rose ↦ inr (rises_earlier old.1 mid.1 new.1 (omega (arith, trace)) rose) ]
 waited_quiet false s0 s1 old mid new out trace told = (told.0 ∙ out, told.1 ∙ trace)
 
--- ---- where INSERTs are served alone none waits
-alone_waits : (p0 p1 : Public) (m : ℕ) (batch : List Stmt) → batch_most p1 ≡ batch_most p0 → ServesAlone p0 → AreGathered p1 m batch → batch ≡ []
-alone_waits p0 p1 m [] same alone waits = refl
-alone_waits p0 p1 m (first ∷ rest) same alone waits =
+-- ---- where statements are served alone none waits
+alone_waits : (settings0 settings1 : Option FlightSettings) (p0 p1 : Public) (m : ℕ) (batch : List Stmt) → batch_most p1 ≡ batch_most p0 → most_flown settings1 p1 ≡ most_flown settings0 p0 → ServesAlone settings0 p0 → AreWaiting settings1 p1 m batch → batch ≡ []
+alone_waits settings0 settings1 p0 p1 m [] same flown alone waits = refl
+alone_waits settings0 settings1 p0 p1 m (first ∷ rest) same flown alone (inl waits) =
     let most = (begins p1 m first waits.batch.begins).most in
-    let one : batch_most p0 ≡ 1 = ap (λ (o : Option ℕ). option_map_or (λ (n : ℕ). max 1 (min n (p0.buffer - p0.pack))) o 1) alone in
+    let one : batch_most p0 ≡ 1 = ap (λ (o : Option ℕ). option_map_or (λ (n : ℕ). max 1 (min n (p0.buffer - p0.pack))) o 1) alone.0 in
     absurd (omega (arith, most, one, same))
+alone_waits settings0 settings1 p0 p1 m (first ∷ rest) same flown alone (inr waits) =
+    let room = waits.room in let one = alone.1 in let long : length (first ∷ rest) ≡ length rest + 1 = omega arith in absurd (omega (arith, room, one, flown, long))
 
 -- so none of them was stopped
 pub alone_read : {R : Type 0} {state : R → RevState} {on : Bool} {f0 f1 : Fetch} {l0 l1 : Option (List ℕ)} {gave : ℕ} {w0 w1 t0 t1 : Option (List ℕ)} {batch : List Stmt} {r : Tally} {m0 m1 : Machine R} {ends : Result (Unit {0}) Stop}
-    → HasRead state on f0 f1 l0 l1 gave w0 w1 t0 t1 batch r m0 m1 ends → AreGathered (public_of m1.engine) (asked_of m1) batch → batch ≢ [] → ServesAlone (public_of m0.engine) → ⊥
+    → HasRead state on f0 f1 l0 l1 gave w0 w1 t0 t1 batch r m0 m1 ends → AreWaiting m1.flights.settings (public_of m1.engine) (asked_of m1) batch → batch ≢ [] → ServesAlone m0.flights.settings (public_of m0.engine) → ⊥
 alone_read {state = state} {batch = batch} {m0 = m0} {m1 = m1} read waits some alone =
-    some (alone_waits (public_of m0.engine) (public_of m1.engine) (asked_of m1) batch (steps_most state m0 (standing m1 [] read.so.gathered) read.so.served read.so.answers read.so.steps) alone waits)
+    some (alone_waits m0.flights.settings m1.flights.settings (public_of m0.engine) (public_of m1.engine) (asked_of m1) batch (steps_most state m0 (standing m1 [] read.so.gathered) read.so.served read.so.answers read.so.steps)
+    (steps_flown state m0 (standing m1 [] read.so.gathered) read.so.served read.so.answers read.so.steps) alone waits)

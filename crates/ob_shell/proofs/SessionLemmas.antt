@@ -1,6 +1,7 @@
 -- A session that goes on from a base, and the closing behind it.
-use Rattle.std.specs.Prelude.{IfOk, MatchBool}
-use Rattle.std.proofs.Common.{◌≡◌, ℕ, ◌+◌, ◌≤◌, ◌<◌, ◌^◌, ◌⊎◌, Bool, true, false, List, [], ◌∷◌, ◌++◌, length, take, Option, None, Some, IsTrue, Ok, Err, Result, refl, sym, ap, ◌∙◌, subst, inl, inr, arith, append-nil}
+use Rattle.std.specs.Prelude.{IfOk, MatchBool, drop}
+use Rattle.std.specs.List.{All}
+use Rattle.std.proofs.Common.{◌≡◌, ℕ, ◌+◌, ◌≤◌, ◌<◌, ◌^◌, ◌⊎◌, Bool, true, false, List, [], ◌∷◌, ◌++◌, length, take, Option, None, Some, IsTrue, Ok, Err, Result, refl, sym, ap, ◌∙◌, subst, inl, inr, arith, append-nil, append_assoc}
 use Rattle.std.proofs.KnownBytes.{Appends-nil, Consumes-nil}
 use Rattle.std.proofs.lemmas.Bool.{cases_lt}
 use Rattle.std.specs.Io.KnownBytes.{IsAtEnd}
@@ -17,6 +18,7 @@ use Rattle.ob_tables.specs.Closing.{ClosesEngine, closing_script, next_closing}
 use Rattle.ob_reopen.specs.Closed.{IsClosedAs, StaysInUse, is_used_up}
 use Rattle.ob_reopen.specs.Resting.{AcceptsClosings, Rests, by_name}
 use Rattle.ob_select.specs.Selecting.{AcceptsRows}
+use Rattle.ob_tables.specs.Stops.{session_stop}
 use Rattle.ob_tables.specs.Telling.{Represents}
 use Rattle.ob_tables.specs.declared.engine.Engine.{Engine}
 use Rattle.ob_gen.specs.Tally.{empty_tally}
@@ -24,18 +26,20 @@ use Rattle.ob_gen.specs.declared.tally.Tally.{Tally}
 use Rattle.ob_headline.proofs.BaseLemmas.{from_each}
 use Rattle.ob_headline.proofs.PromptLemmas.{all_answered, prompt_all}
 use Rattle.ob_headline.proofs.TextLemmas.{rest_of-nil, texts_of-nil}
-use Rattle.ob_headline.specs.Batches.{AnsweredBut, meant_seen}
+use Rattle.ob_headline.specs.Batches.{AnsweredBut}
 use Rattle.ob_headline.specs.Bases.{Base, FromEach, Opened, drawing, session_at, start}
-use Rattle.ob_headline.specs.Disturbed.{MeantUntil, meant_trace}
+use Rattle.ob_headline.specs.Disturbed.{MeantUntil, meant_entries, meant_trace}
+use Rattle.ob_headline.specs.Flights.{AreEntries, AreGathered, EndedBy, Entered, GoesOn, Seat, after_entries, most_flown, most_of, public_after, public_whole, seats, seats_of, trace_of, whole_of, words_of}
 use Rattle.ob_headline.specs.FullStash.{ReadsFullStash}
-use Rattle.ob_headline.specs.Failures.{FailsBeside, cut_off}
+use Rattle.ob_headline.specs.Failures.{FailsBeside, RisesBy, cut_off}
 use Rattle.ob_headline.specs.Leaves.{AreDrawn}
 use Rattle.ob_headline.specs.Keeping.{EndsWith, Writes, closing_behind, last_script, region_opened}
 use Rattle.ob_headline.specs.KeptHeadline.{ClosesTables, PassesBoth}
 use Rattle.ob_headline.specs.Texts.{texts_in}
-use Rattle.ob_headline.specs.Words.{Begins, IsHonest, before_read, rows_in}
-use Rattle.ob_headline.specs.Accesses.{AreSeen, StopsWithin}
-use Rattle.ob_headline.specs.Meaning.{AnswersFrom}
+use Rattle.ob_headline.specs.Words.{Answer, Begins, IsHonest, before_read, rows_in}
+use Rattle.ob_headline.specs.Accesses.{AreSeen, LeavesAloft, StopsWithin, cut_aloft}
+use Rattle.ob_headline.specs.Meaning.{AnswersFrom, session_after}
+use Rattle.ob_headline.specs.Statements.{statements}
 use Rattle.ob_headline.specs.SavedHeadline.{CountsKeeper, LeavesSaved}
 use Rattle.ob_headline.specs.Sealing.{IsSealed, IsSealedAt, IsWriteTo, PassesFrom, PassesHere, PassesRows, PassesSaved, PassesWith, SealsOwn}
 use Rattle.ob_headline.specs.Status.{EndsAtRead}
@@ -45,13 +49,14 @@ use Rattle.ob_headline.specs.declared.ending.KeptEnding.{KeptEnding}
 use Rattle.ob_headline.specs.declared.ending.KeptEnding.TheVariants.{Plain}
 use Rattle.ob_mean.proofs.BatchLemmas.{most_some}
 use Rattle.ob_mean.specs.Batches.{batch_most}
-use Rattle.ob_mean.specs.Replay.{Broken, Session, after_all}
+use Rattle.ob_mean.specs.Replay.{Broken, Session}
 use Rattle.ob_mean.specs.Verdict.{Draws, Tables}
 use Rattle.ob_print.proofs.CutLemmas.{Outputs-whole}
 use Rattle.ob_reopen.specs.Keepers.{KeeperState}
 use Rattle.ob_reopen.specs.declared.closing.Closing.{Closing}
 use Rattle.ob_reopen.specs.declared.fault.CloseErr.{CloseErr}
-use Rattle.ob_script.specs.Trace.{Served, after_all as all_public, trace}
+use Rattle.ob_script.specs.Flights.{trace_in}
+use Rattle.ob_script.specs.Trace.{Served}
 use Rattle.ob_seal.specs.KeySet.{KeySet, pair_of}
 use Rattle.ob_seal.specs.Sealed.{AreOfSecret, sealed}
 use Rattle.ob_shell.proofs.CalmLemmas.{MeetsChange, last_met, steps_calm}
@@ -67,15 +72,23 @@ use Rattle.ob_shell.proofs.StepLemmas.{Steps-none, printed-nil}
 use Rattle.ob_shell.proofs.TallyLemmas.{tally_after-nil}
 use Rattle.ob_shell.proofs.TopLemmas.{nothing_over, took_none}
 use Rattle.ob_shell.proofs.TraceLemmas.{traced_none}
-use Rattle.ob_shell.proofs.WalkLemmas.{EndsWhole, Walked, save_stays, walked_last}
-use Rattle.ob_shell.proofs.WalkSteps.{walked}
+use Rattle.ob_shell.proofs.FlightLast.{LastWalk}
+use Rattle.ob_shell.proofs.EarlyFlights.{flies_early}
+use Rattle.ob_shell.proofs.HowLemmas.{course_of, met_trace}
+use Rattle.ob_shell.proofs.PromptMore.{prompt_more, whole_before}
+use Rattle.ob_shell.proofs.RunLemmas.{run_ends}
+use Rattle.ob_shell.proofs.WalkEntries.{most_at, seats_at}
+use Rattle.ob_shell.proofs.WalkLast.{last_walk}
+use Rattle.ob_shell.proofs.WalkLemmas.{EndsWhole, Walked}
+use Rattle.ob_shell.proofs.WalkWhole.{walked}
 use Rattle.ob_shell.specs.Feeding.{Fetch}
 use Rattle.ob_shell.specs.Leaving.{RestsOn}
-use Rattle.ob_shell.specs.Running.{SessionRan, LastPart}
+use Rattle.ob_shell.specs.Flying.{flights_at}
+use Rattle.ob_shell.specs.Running.{EndsBy, SessionRan, LastPart}
 use Rattle.ob_shell.specs.Standing.{IsUsed, StandsOn}
-use Rattle.ob_shell.specs.Steps.{Holds, Machine, asked_of, machine_of, session_of, standing}
-use Rattle.ob_shell.specs.Tallies.{flagged, has_refused}
-use Rattle.ob_shell.specs.Top.{EndsUntampered, TraceSink, Carried, RanAfter}
+use Rattle.ob_shell.specs.Steps.{Flights, Holds, Machine, asked_of, machine_of, none_gathered, session_of, standing}
+use Rattle.ob_shell.specs.Tallies.{TallyIs, flagged, has_refused, tally_of}
+use Rattle.ob_shell.specs.Top.{EndsUntampered, LosesSome, TraceSink, Carried, RanAfter}
 use Rattle.ob_shell.specs.Traces.{Traced}
 use Rattle.ob_store.proofs.Steps.{since_trans}
 use Rattle.ob_store.specs.Runs.{Later, Since}
@@ -129,7 +142,9 @@ last_read : {R : Type 0} (state : R → RevState) (m1 m2 : Machine R) (more : Li
 last_read state m1 m2 [] part region place idle = absurd (cc idle.memory)
 last_read state m1 m2 (text ∷ more) part region place (inl idle) = absurd (cc idle.memory)
 last_read state m1 m2 (text ∷ more) part region place (inr (inl cut)) = record { before = cut.does.ran.cause.1.before; is = cut.does.ran.cause.1.asked }
-last_read state m1 m2 (text ∷ more) part region place (inr (inr done)) = absurd (cc done.fault)
+last_read state m1 m2 (text ∷ more) part region place (inr (inr (inl done))) = absurd (cc done.fault)
+last_read state m1 m2 (text ∷ more) part region place (inr (inr (inr (inl cut)))) = record { before = cut.flew.ran.cause.0.before; is = cut.flew.ran.cause.0.asked }
+last_read state m1 m2 (text ∷ more) part region place (inr (inr (inr (inr done)))) = absurd (cc done.fault)
 
 -- one that ends by the store's fault ends where a call failed, or where no number is left, and tables are to be saved
 pub record RunsLow {R : Type 0} (p : Public) (m : Machine R) : Type 0 where
@@ -149,14 +164,18 @@ last_fault state m1 m2 (text ∷ more) part (inr (inl cut)) = elim cut.does.ran.
   | inl rose ↦ inl rose
   | inr lacks ↦ inr (record { saves = saved_saves (public_of m1.engine) (skeleton cut.stmt) lacks.saved; late = makes_before state m2 lacks.runs_out })
 ]
-last_fault state m1 m2 (text ∷ more) part (inr (inr done)) = absurd (cc done.fault)
+last_fault state m1 m2 (text ∷ more) part (inr (inr (inl done))) = absurd (cc done.fault)
+last_fault state m1 m2 (text ∷ more) part (inr (inr (inr (inl cut)))) = absurd cut.flew.ran.cause
+last_fault state m1 m2 (text ∷ more) part (inr (inr (inr (inr done)))) = absurd (cc done.fault)
 
 -- one that ends by the keeper's fault ends where tables were to be saved
 last_keeper : {R : Type 0} (state : R → RevState) (m1 m2 : Machine R) (more : List (List ℕ)) (part : List ℕ) → LastPart state m1 m2 more part (Err KeeperFault) → (public_of m1.engine).save ≡ true
 last_keeper state m1 m2 [] part idle = absurd (cc idle.memory)
 last_keeper state m1 m2 (text ∷ more) part (inl idle) = absurd (cc idle.memory)
 last_keeper state m1 m2 (text ∷ more) part (inr (inl cut)) = saved_saves (public_of m1.engine) (skeleton cut.stmt) cut.does.ran.stops
-last_keeper state m1 m2 (text ∷ more) part (inr (inr done)) = absurd (cc done.fault)
+last_keeper state m1 m2 (text ∷ more) part (inr (inr (inl done))) = absurd (cc done.fault)
+last_keeper state m1 m2 (text ∷ more) part (inr (inr (inr (inl cut)))) = absurd cut.flew.ran.cause
+last_keeper state m1 m2 (text ∷ more) part (inr (inr (inr (inr done)))) = absurd (cc done.fault)
 
 -- what is said of a closing
 writes_by : {R : Type 0} {state : R → RevState} {e : Engine R} {s t : StoreState} (r : Result Mark CloseErr) → ClosesEngine state r e s t → Writes (next_closing e s) (closing_script e s) r s t
@@ -180,20 +199,31 @@ passes_from base good both = (go base.opened, λ saves. both.1) where
   go (Some o) = both
 
 -- a session over an engine that stands on a base
-module _ {R : Type 0} {state : R → RevState} {Lost : Type 0} (base : Base) (config : Config) (keys : KeySet) (key : List ℕ) (first last : Engine R) (high : ℕ) (told : Result Tally Stop) (k0 k1 : KeeperState) (s0 s1 : StoreState)
+module _ {R : Type 0} {state : R → RevState} {Lost : Type 0} (base : Base) (config : Config) (keys : KeySet) (key : List ℕ) (first last : Engine R) (high : ℕ) (told : Result Tally Stop) (k0 k1 : KeeperState) (left : Flights) (s0 s1 : StoreState)
     (on : StandsOn state base config keys first s0) (most : high ≤ rows_of last) (opened : high ≡ high_of last)
-    (tr : TraceSink) (f0 f1 : Fetch) (l0 l1 : Option (List ℕ)) (gave : ℕ) (w0 w1 : Option (List ℕ)) (ran : SessionRan state tr.on f0 f1 l0 l1 gave w0 w1 tr.old tr.new (machine_of first s0 k0) (machine_of last s1 k1) Lost told) where
+    (tr : TraceSink) (f0 f1 : Fetch) (l0 l1 : Option (List ℕ)) (gave : ℕ) (w0 w1 : Option (List ℕ)) (ran : SessionRan state tr.on f0 f1 l0 l1 gave w0 w1 tr.old tr.new (machine_of first s0 k0 (flights_at base.flight)) (machine_of last s1 k1 left) Lost told) where
   abbrev result : Result Bool Stop
   result = flagged told
 
   abbrev m0 : Machine R
-  m0 = machine_of first s0 k0
+  m0 = machine_of first s0 k0 (flights_at base.flight)
 
   abbrev m2 : Machine R
-  m2 = standing (machine_of last s1 k1) ran.owed ran.gathered
+  m2 = standing (machine_of last s1 k1 left) ran.owed ran.gathered
 
-  pub walk : Walked state (RanEnding result) m0 ran.middle m2 ran.served ran.more ran.answers ran.part
-  walk = walked state (RanEnding result) ran.served m0 ran.middle m2 ran.more ran.answers ran.part ran.steps (walked_last state ran.middle m2 ran.more ran.part result ran.follow ran.last)
+  -- what of a flight was answered that a stop left
+  pub final : LastWalk state (RanEnding result) ran.middle m2 ran.more ran.part w0 w1 Lost ran.answers
+  final = last_walk state ran.middle m2 ran.more ran.part w0 w1 Lost ran.answers ran.cut ran.whole result ran.follow ran.last
+
+  pub walk : Walked state (LosesSome Lost (RanEnding result)) (RanEnding result) m0 ran.middle m2 (ran.served ++ final.held) final.rest (ran.answers ++ final.kept) final.left
+  walk = walked state (flies_early state) (RanEnding result) ran.middle m2 final.held final.rest final.kept final.left final.walk m0 ran.served ran.answers ran.steps
+
+  -- by what the statements go
+  seats_are : seats_at m0 walk.entries ≡ seats_of base walk.entries
+  seats_are = λ i. seats (words_of base) 0 (on.public i) (on.count i) walk.entries
+
+  most_is : most_at m0 ≡ most_of base
+  most_is = λ i. most_flown base.flight (on.public i)
 
   -- the store failed once more than statements were cut off
   abbrev Failed : Type 0
@@ -237,7 +267,7 @@ module _ {R : Type 0} {state : R → RevState} {Lost : Type 0} (base : Base) (co
 
   -- whether tables are saved stays
   save_is : (public_of ran.middle.engine).save ≡ base.public.save
-  save_is = ap (λ (p : Public). p.save) walk.public ∙ save_stays (public_of first) walk.seen ∙ ap (λ (p : Public). p.save) on.public
+  save_is = walk.save ∙ ap (λ (p : Public). p.save) on.public
 
   -- blocks of these regions, until a call fails
   abbrev from_on : ℕ → Scope
@@ -284,54 +314,71 @@ module _ {R : Type 0} {state : R → RevState} {Lost : Type 0} (base : Base) (co
   here tables = λ i. record { public = on.public i; tables = tables; asked = on.count i; draws = d0 }
 
   -- the leaves that are read
-  reads : Reads d0 (indexes_of first) (given_none d0 (indexes_of first) on.unindexed) (public_of first) all
+  reads : Reads d0 (indexes_of first) (given_none d0 (indexes_of first) on.unindexed) (seats_at m0 walk.entries) all
   reads = walk.drawn d0 on.drawn (given_none d0 (indexes_of first) on.unindexed)
 
   -- what became of the texts
   abbrev pub story : Story
   story = record {
-    served = ran.served;
-    more = ran.more;
+    served = ran.served ++ final.held;
+    more = final.rest;
     spelt = walk.spelt;
-    answers = ran.answers;
-    part = ran.part;
+    answers = ran.answers ++ final.kept;
+    part = final.left;
     seen = walk.seen;
     last = walk.last;
+    entries = walk.entries;
   }
+
+  entered_by : Entered base story
+  entered_by = record {
+    served = walk.entered.served;
+    entries = subst (λ (n : ℕ). AreEntries n (length walk.seen) walk.entries) most_is walk.entered.are;
+    gathered = subst (λ (vs : List Seat). AreGathered (most_of base) 0 vs walk.spelt) seats_are (subst (λ (n : ℕ). AreGathered n 0 (seats_at m0 walk.entries) walk.spelt) most_is walk.entered.gathers);
+    ended = subst (λ (vs : List Seat). All (λ (v : Seat). EndedBy v.left v) (take (length walk.seen) vs)) seats_are walk.entered.ended;
+  }
+
+  -- so they are answered by their meaning
+  meant_by : (tables : Tables) (broken : Broken) → AnswersFrom (RanEnding result) (seats_at m0 walk.entries) (session_of m0 d0 tables) walk.spelt broken story.answers all story.part
+      → AnswersFrom (RanEnding result) (seats_of base walk.entries) (drawing keys (session_at base tables)) walk.spelt broken story.answers all story.part
+  meant_by tables broken meant =
+      subst (λ (vs : List Seat). AnswersFrom (RanEnding result) vs (drawing keys (session_at base tables)) walk.spelt broken story.answers all story.part) seats_are
+      (subst (λ (x : Session). AnswersFrom (RanEnding result) (seats_at m0 walk.entries) x walk.spelt broken story.answers all story.part) (here tables) meant)
 
   pub carried_by : Carried tr base keys (Some key) s0 s1 high story (RanEnding result)
   carried_by = record {
     statements = record { spells = walk.spells; reached = walk.reached; begun = walk.begun; keyed = inl refl; each = walk.each };
     accesses = record {
       flat = on.flat;
-      one_last = walk.one_last;
+      entered = entered_by;
       begun = walk.in_access;
       each_seen = walk.each_seen;
-      lawful = subst (λ (s : Session). AreSeen (StopsWithin (RanEnding result) Failed (ReadsFullStash keys base.start s1)) s.public s.asked None walk.spelt ran.answers all) (here [])
-          (subst (λ (k : KeySet). AreSeen (StopsWithin (RanEnding result) Failed (ReadsFullStash k base.start s1)) (public_of first) (asked_of m0) None walk.spelt ran.answers all) keys_are
-          (subst (λ (x : Start). AreSeen (StopsWithin (RanEnding result) Failed (ReadsFullStash last.vault.keys x s1)) (public_of first) (asked_of m0) None walk.spelt ran.answers all) start_is
+      lawful = subst (λ (vs : List Seat). AreSeen (StopsWithin (RanEnding result) Failed (ReadsFullStash keys base.start s1)) vs None walk.spelt story.answers all) seats_are
+          (subst (λ (k : KeySet). AreSeen (StopsWithin (RanEnding result) Failed (ReadsFullStash k base.start s1)) (seats_at m0 walk.entries) None walk.spelt story.answers all) keys_are
+          (subst (λ (x : Start). AreSeen (StopsWithin (RanEnding result) Failed (ReadsFullStash last.vault.keys x s1)) (seats_at m0 walk.entries) None walk.spelt story.answers all) start_is
           (walk.lawful (cut_off walk.seen + 1) s0.faults (λ beside. beside) d0 on.drawn (given_none d0 (indexes_of first) on.unindexed))));
-      drawn = record { numbers = reads.numbers; are = subst (λ (p : Public). AreDrawn d0.draw p all reads.numbers) on.public reads.are; apart = reads.apart };
-      asked = walk.asked ∙ (λ i. on.asked i ++ trace (on.public i) all);
+      aloft = subst (λ (vs : List Seat). LeavesAloft (RanEnding result) s1.asked (drop (length walk.seen) vs) (statements (drop (length story.served) walk.spelt)) walk.last) seats_are walk.aloft;
+      drawn = record { numbers = reads.numbers; are = subst (λ (vs : List Seat). AreDrawn d0.draw vs all reads.numbers) seats_are reads.are; apart = reads.apart };
+      asked = walk.asked ∙ (λ i. on.asked i ++ trace_in (words_of base) 0 (on.public i) walk.entries);
       failed = λ alone. walk.failed (ap (λ (p : Public). p.batch) on.public ∙ alone);
-      cut = walk.cuts;
+      cut = subst (λ (vs : List Seat). RisesBy (cut_off walk.seen + cut_aloft (drop (length walk.seen) vs) walk.last) s0.faults s1.faults) seats_are walk.cuts;
       unfailed = walk.unfailed;
     };
-    traced_whole = ran.traced.whole (trace base.public walk.seen) (walk.passed ∙ ap (λ (p : Public). s0.asked ++ trace p walk.seen) on.public);
+    traced_whole = ran.traced.whole (trace_of base (whole_of (length walk.seen) walk.entries)) (walk.passed ∙ ap (λ (p : Public). s0.asked ++ trace_in (words_of base) 0 p (whole_of (length walk.seen) walk.entries)) on.public);
     answers = record {
-      meant = λ undeceived. from_each base (λ x. Represents state first s0 x.tables) (λ x. (broken : Broken) × AnswersFrom (RanEnding result) (drawing keys x) walk.spelt broken ran.answers all ran.part)
+      meant = λ undeceived. from_each base (λ x. Represents state first s0 x.tables) (λ x. (broken : Broken) × AnswersFrom (RanEnding result) (seats_of base walk.entries) (drawing keys x) walk.spelt broken story.answers all story.part)
           (λ tables held.
           let from = walk.meant d0 on.drawn undeceived.tells on.calm (record { unfit = λ lie is fits. undeceived.unfit lie is (fits_here lie fits) }) tables (holds d0 tables held) in
-          (from.0, subst (λ (s : Session). AnswersFrom (RanEnding result) s walk.spelt from.0 ran.answers all ran.part) (here tables) from.1)) on.held;
+          (from.broken, meant_by tables from.broken from.meant)) on.held;
       later = since_trans _ _ _ (steps_later state m0 ran.middle ran.served ran.answers ran.steps) (last_later state ran.middle m2 ran.more ran.part result ran.last);
       always = λ tells n before.
           let facts = on.early n before in
           let is = facts.0 in
           let from = walk.early d0 on.drawn tells is.steady [] (holds d0 [] is.nothing) refl n facts.1 (omega (arith, ap length is.unasked)) in
-          let joined : s0.asked ++ trace (session_of m0 d0 []).public (meant_seen (session_of m0 d0 []) walk.spelt) ≡ meant_trace base.settings keys walk.spelt =
-          λ i. is.unasked i ++ trace (is.here i).public (meant_seen (is.here i) walk.spelt) in
+          let joined : s0.asked ++ met_trace (most_at m0) (words_of base) None (session_of m0 d0 []) walk.spelt ≡ meant_trace base keys walk.spelt =
+          λ i. is.unasked i ++ trace_in (words_of base) 0 (is.here i).public (meant_entries (most_flown base.flight (on.public i)) (words_of base) (course_of (is.here i) None) walk.spelt) in
           record {
-            meant = subst (λ (s : Session). MeantUntil n None s walk.spelt ran.answers all) is.here from.meant;
+            meant = subst (λ (vs : List Seat). MeantUntil n None vs (drawing keys (start base.settings)) walk.spelt story.answers all) seats_are (subst (λ (s : Session). MeantUntil n None (seats_at m0 walk.entries) s walk.spelt story.answers all) is.here from.meant);
             begins = subst (λ (l : List Access). Begins (take n s1.asked) l) joined from.begins;
             quiet = λ le. from.quiet (subst (λ (l : List Access). length l ≤ n) (sym joined) le);
           };
@@ -372,11 +419,11 @@ module _ {R : Type 0} {state : R → RevState} {Lost : Type 0} (base : Base) (co
   lasting : Since s0 s1
   lasting = since_trans _ _ _ (steps_later state m0 ran.middle ran.served ran.answers ran.steps) (last_later state ran.middle m2 ran.more ran.part result ran.last)
 
-  public_is : (tally : Tally) → told ≡ Ok tally → public_of last ≡ all_public base.public walk.seen
-  public_is tally is = ap (λ (m : Machine R). public_of m.engine) (last_on tally is) ∙ walk.public ∙ ap (λ (p : Public). all_public p walk.seen) on.public
-
   ending_is : (tally : Tally) → told ≡ Ok tally → RanEnding result ≡ RanEnding (Ok (has_refused tally))
   ending_is tally is = ap (λ (r : Result Tally Stop). RanEnding (flagged r)) is
+
+  public_is : (tally : Tally) → told ≡ Ok tally → public_of last ≡ public_after base walk.entries
+  public_is tally is = walk.public (subst (λ (e : Ending). EndsWhole e) (sym (ending_is tally is)) tt) ∙ ap (λ (p : Public). after_entries (words_of base) 0 p walk.entries) on.public
 
   module _ (tally : Tally) (is : told ≡ Ok tally) (unsaved : base.public.save ≡ false) (from : opened_from first ≡ region_opened base.opened) (s2 : StoreState) (r : Result Mark CloseErr) (closes : ClosesEngine state r last s1 s2) where
     abbrev closing : Closing
@@ -386,20 +433,19 @@ module _ {R : Type 0} {state : R → RevState} {Lost : Type 0} (base : Base) (co
     fits_last lie told_it = fits_here lie ((closes.calm (subst (λ (x : Result Bool Stop). MeetsChange x (world_of state last s1)) (ap flagged is) met)).calm lie told_it)
 
     rests_last : (tables : Tables) → IsHonest s0 s2 → is_used_up closing ≡ false → (mark : Mark) → r ≡ Ok mark → Represents state first s0 tables
-        → (broken : Broken) × AnswersFrom (RanEnding (Ok (has_refused tally))) (drawing keys (session_at base tables)) walk.spelt broken ran.answers all ran.part
-        × Rests keys closing s2.kept (by_name (after_all (drawing keys (session_at base tables)) walk.spelt broken).tables)
-    rests_last tables honest left mark closed held =
+        → (broken : Broken) × AnswersFrom (RanEnding (Ok (has_refused tally))) (seats_of base walk.entries) (drawing keys (session_at base tables)) walk.spelt broken story.answers all story.part
+        × Rests keys closing s2.kept (by_name (session_after (seats_of base walk.entries) (drawing keys (session_at base tables)) walk.spelt broken).tables)
+    rests_last tables honest left_over mark closed held =
         let none : s1.lie ≡ None = none_lies s1.lie s1 s2 refl closes.later honest.no_lie in
         let from_it = walk.meant d0 on.drawn honest.tells on.calm (record { unfit = λ lie it. absurd (cc (none, it)) }) tables (holds d0 tables held) in
         let whole = subst (λ (e : Ending). EndsWhole e) (sym (ending_is tally is)) tt in
-        let tables_after = (after_all (session_of m0 d0 tables) walk.spelt from_it.0).tables in
+        let tables_after = (session_after (seats_at m0 walk.entries) (session_of m0 d0 tables) walk.spelt from_it.broken).tables in
         let tells : IsTrue s1.tells = subst (λ (b : Bool). IsTrue b) (sym lasting.tells) honest.tells in
-        let rest = subst (λ (x : Result Mark CloseErr). IfOk x (λ m. Rests (engine_keys last) closing s2.kept (by_name tables_after))) closed (closes.told tells left tables_after (from_it.2 whole)) in (
-          from_it.0,
-          subst (λ (e : Ending). AnswersFrom e (drawing keys (session_at base tables)) walk.spelt from_it.0 ran.answers all ran.part) (ending_is tally is)
-              (subst (λ (x : Session). AnswersFrom (RanEnding result) x walk.spelt from_it.0 ran.answers all ran.part) (here tables) from_it.1),
-          subst (λ (k : KeySet). Rests k closing s2.kept (by_name (after_all (drawing keys (session_at base tables)) walk.spelt from_it.0).tables)) keys_are
-              (subst (λ (x : Session). Rests (engine_keys last) closing s2.kept (by_name (after_all x walk.spelt from_it.0).tables)) (here tables) rest),
+        let rest = subst (λ (x : Result Mark CloseErr). IfOk x (λ m. Rests (engine_keys last) closing s2.kept (by_name tables_after))) closed (closes.told tells left_over tables_after (from_it.behind.whole whole)) in (
+          from_it.broken,
+          subst (λ (e : Ending). AnswersFrom e (seats_of base walk.entries) (drawing keys (session_at base tables)) walk.spelt from_it.broken story.answers all story.part) (ending_is tally is) (meant_by tables from_it.broken from_it.meant),
+          subst (λ (k : KeySet). Rests k closing s2.kept (by_name (session_after (seats_of base walk.entries) (drawing keys (session_at base tables)) walk.spelt from_it.broken).tables)) keys_are
+              (subst (λ (ts : Tables). Rests (engine_keys last) closing s2.kept (by_name ts)) (λ i. (session_after (seats_are i) (here tables i) walk.spelt from_it.broken).tables) rest),
         )
 
     sealed_last : (from : ℕ) → IsTrue s0.tells → ((good : List ℕ → Bool) → PassesBoth base.public.pack good → AllSealed (λ r. good) (from_on from) (world_of state first s0))
@@ -433,8 +479,8 @@ module _ {R : Type 0} {state : R → RevState} {Lost : Type 0} (base : Base) (co
       later = closes.later;
       fits = fits_last;
       rests = λ honest left mark closed. from_each base (λ x. Represents state first s0 x.tables)
-          (λ x. (broken : Broken) × AnswersFrom (RanEnding (Ok (has_refused tally))) (drawing keys x) walk.spelt broken ran.answers all ran.part
-          × Rests keys closing s2.kept (by_name (after_all (drawing keys x) walk.spelt broken).tables))
+          (λ x. (broken : Broken) × AnswersFrom (RanEnding (Ok (has_refused tally))) (seats_of base walk.entries) (drawing keys x) walk.spelt broken story.answers all story.part
+          × Rests keys closing s2.kept (by_name (session_after (seats_of base walk.entries) (drawing keys x) walk.spelt broken).tables))
           (λ tables held. rests_last tables honest left mark closed held) on.held;
       sealed = λ tells. sealed_last (base.start.region + 1) tells (λ good both. own_sealed good);
       sealed_before = λ tells. from_each base AreSealed (λ x. IsSealed (PassesBoth base.public.pack) keys base.start 0 s0 s2)
@@ -450,7 +496,7 @@ module _ {R : Type 0} {state : R → RevState} {Lost : Type 0} (base : Base) (co
   pub leaves : (secret salt : List ℕ) → Agrees state first s0 → base.public.save ≡ true → AreOfSecret secret keys → ((q : ℕ) → base.start.region < q → (pair_of keys q).salt ≡ Some salt)
       → ((mark : Mark) → k0.held ≡ Some mark → FromEach base (λ x. RestsOn secret mark base.public s0.kept x.tables)) → LeavesSaved secret salt base keys (RanEnding result) story s0 s1 k0 k1
   leaves secret salt agrees saves of salted rests =
-      session_leaves state (RanEnding result) m0 ran.middle m2 ran.served ran.more ran.answers ran.part walk secret salt base keys
+      session_leaves state (RanEnding result) m0 ran.middle m2 (ran.served ++ final.held) final.rest (ran.answers ++ final.kept) final.left walk secret salt base keys
       (record {
         free = refl;
         agrees = agrees;
@@ -465,6 +511,39 @@ module _ {R : Type 0} {state : R → RevState} {Lost : Type 0} (base : Base) (co
         held = on.held;
         rests = rests;
       })
+      refl
+
+  -- all that had ended were answered
+  pub all_ended : GoesOn (drop (length story.seen) (seats_of base story.entries)) ⊎ LosesSome Lost (RanEnding result)
+  all_ended = subst (λ (vs : List Seat). GoesOn (drop (length walk.seen) vs) ⊎ LosesSome Lost (RanEnding result)) seats_are walk.on
+
+  -- what is public behind those of which all were answered
+  pub stands_at : public_of ran.middle.engine ≡ public_whole base story
+  stands_at = walk.stands ∙ ap (λ (p : Public). after_entries (words_of base) 0 p (whole_of (length walk.seen) walk.entries)) on.public
+
+  -- how the last part was left
+  pub ends_so : EndsBy f1 ran.ended (f0.unread ++ ran.piece) final.rest final.left result
+  ends_so = elim final.same [
+    | inl same ↦
+        let rest_is : final.rest ≡ ran.more = ap (λ (l : List (List ℕ)). l ++ final.rest) (sym same.0) ∙ sym final.parts in
+        subst (λ (l : List (List ℕ)). EndsBy f1 ran.ended (f0.unread ++ ran.piece) l final.left result) (sym rest_is) (subst (λ (l : List ℕ). EndsBy f1 ran.ended (f0.unread ++ ran.piece) ran.more l result) (sym same.2) ran.ends)
+    | inr by ↦
+        let stopped : result ≡ Err (session_stop by.0) = let is = by.1 in cc is in
+        subst (λ (r : Result Bool Stop). EndsBy f1 ran.ended (f0.unread ++ ran.piece) final.rest final.left r) (sym stopped) (run_ends f1 ran.ended (f0.unread ++ ran.piece) final.rest final.left by.0)
+  ]
+
+  pub counted_so : TallyIs story.answers told
+  counted_so = go told refl ran.counted
+    where
+      go : (r : Result Tally Stop) → told ≡ r → TallyIs ran.answers r → TallyIs story.answers r
+      go (Ok tally) is counted = elim final.same [
+        | inl same ↦ subst (λ (l : List Answer). tally ≡ tally_of l) (sym (ap (λ (l : List Answer). ran.answers ++ l) same.1 ∙ append-nil ran.answers)) counted
+        | inr by ↦ absurd (let stopped = by.1 in let whole = ending_is tally is in cc (stopped, whole))
+      ]
+      go (Err stop) is counted = tt
+
+  pub texts_so : texts_in ran.ended (f0.unread ++ ran.piece) ≡ story.served ++ story.more
+  texts_so = ran.texts ∙ ap (λ (l : List (List ℕ)). ran.served ++ l) final.parts ∙ sym (append_assoc ran.served final.held final.rest)
 
   unfoldable pub ran_after : RanAfter state tr base keys (Some key) f0 f1 l0 l1 gave w0 w1 s0 s1 high Lost told
   ran_after = record {
@@ -475,20 +554,24 @@ module _ {R : Type 0} {state : R → RevState} {Lost : Type 0} (base : Base) (co
     ended = ran.ended;
     at_end = ran.at_end;
     story = story;
-    texts = ran.texts;
-    prompt = subst (λ (p : Public). AnsweredBut (batch_most p) (texts_in false (before_read gave (f0.unread ++ ran.piece))) ran.served) on.public ran.prompt;
+    texts = texts_so;
+    prompt = prompt_more (public_whole base story) (batch_most base.public) (most_of base) (texts_in false (before_read gave (f0.unread ++ ran.piece))) ran.served final.held
+        (subst (λ (p : Public). AnsweredBut p (batch_most base.public) (most_of base) (texts_in false (before_read gave (f0.unread ++ ran.piece))) ran.served) stands_at
+        (subst (λ (p : Public). AnsweredBut (public_of ran.middle.engine) (batch_most p) (most_flown base.flight p) (texts_in false (before_read gave (f0.unread ++ ran.piece))) ran.served) on.public ran.prompt))
+        final.rest (whole_before ran.ended gave (f0.unread ++ ran.piece) ((ran.served ++ final.held) ++ final.rest) texts_so);
     carried = carried_by;
-    rows = inl (record { first = first; last = last; keeper0 = k0; keeper1 = k1; ran = ran; counts = opened });
-    cut = ran.cut;
-    whole = ran.whole;
-    counted = ran.counted;
-    ends = ran.ends;
+    rows = inl (record { first = first; last = last; keeper0 = k0; keeper1 = k1; flights0 = flights_at base.flight; flights1 = left; ran = ran; counts = opened });
+    cut = final.cut;
+    whole = final.whole;
+    answered = all_ended;
+    counted = counted_so;
+    ends = ends_so;
   }
 
 -- nothing is served, since the input has ended
-unfoldable pub ran_last : {R : Type 0} {Lost : Type 0} (state : R → RevState) (on : Bool) (f : Fetch) (l : Option (List ℕ)) (gave : ℕ) (w t : Option (List ℕ)) (e : Engine R) (s : StoreState) (k : KeeperState) → f.unread ≡ [] → IsAtEnd l → f.taken < f.limit
-    → SessionRan state on f f l l gave w w t t (machine_of e s k) (machine_of e s k) Lost (Ok empty_tally)
-ran_last {Lost = Lost} state on f l gave w t e s k none at_end below = record {
+unfoldable pub ran_last : {R : Type 0} {Lost : Type 0} (state : R → RevState) (on : Bool) (f : Fetch) (l : Option (List ℕ)) (gave : ℕ) (w t : Option (List ℕ)) (e : Engine R) (s : StoreState) (k : KeeperState) (flights : Flights) → f.unread ≡ [] → IsAtEnd l → f.taken < f.limit
+    → SessionRan state on f f l l gave w w t t (machine_of e s k flights) (machine_of e s k flights) Lost (Ok empty_tally)
+ran_last {Lost = Lost} state on f l gave w t e s k flights none at_end below = record {
   piece = [];
   consumed = Consumes-nil l;
   taken = omega arith;
@@ -498,15 +581,15 @@ ran_last {Lost = Lost} state on f l gave w t e s k none at_end below = record {
   served = [];
   more = [];
   texts = rw (none, texts_of-nil, rest_of-nil) refl;
-  prompt = all_answered (batch_most (public_of e)) _ [] (most_some (public_of e))
+  prompt = all_answered (public_of e) (batch_most (public_of e)) _ _ [] (most_some (public_of e))
       (subst (λ (xs : List (List ℕ)). Begins (texts_in false (before_read gave (f.unread ++ []))) xs) (texts_of-nil [])
       (prompt_all (f.unread ++ []) [] f.unread gave (append-nil f.unread) (let few = ap length none in omega (arith, few))));
-  middle = machine_of e s k;
+  middle = machine_of e s k flights;
   answers = [];
-  steps = Steps-none state (machine_of e s k);
+  steps = Steps-none state (machine_of e s k flights);
   part = [];
   owed = [];
-  gathered = None;
+  gathered = none_gathered;
   follow = tt;
   last = record { machine = refl; free = refl; none = refl };
   cut = rw printed-nil (Outputs-whole w w Lost [] (Appends-nil w));

@@ -1,5 +1,5 @@
 -- What an engine stands on that was just started.
-use Rattle.std.proofs.Common.{◌≡◌, ℕ, List, [], length, Some, IsTrue, refl, sym, ap, subst, arith}
+use Rattle.std.proofs.Common.{◌≡◌, ℕ, List, [], length, Some, IsTrue, refl, sym, ap, subst, arith, Option, None, Bool, ◌≤◌}
 use Rattle.std.specs.List.{list_any}
 use Rattle.ob_base.specs.Publics.{first_public}
 use Rattle.ob_base.specs.declared.access.Access.{Access}
@@ -10,13 +10,17 @@ use Rattle.ob_select.specs.Opening.{is_of_rows}
 use Rattle.ob_tables.specs.Telling.{AreHeld, Represents}
 use Rattle.ob_tables.specs.Engines.{AreTables, others_of}
 use Rattle.ob_tables.specs.declared.engine.Engine.{Engine}
-use Rattle.ob_headline.specs.Bases.{drawing, fresh, start}
+use Rattle.ob_headline.specs.Bases.{Base, FromEach, HoldsFrom, Opened, drawing, flying, fresh, start}
 use Rattle.ob_seal.specs.KeySet.{KeySet}
 use Rattle.ob_shell.proofs.CalmLemmas.{first_calm}
 use Rattle.ob_shell.proofs.LastingLemmas.{none_sealed}
 use Rattle.ob_shell.proofs.LeafLemmas.{no_indexes}
 use Rattle.ob_shell.specs.Standing.{IsUsed, StandsOn}
-use Rattle.ob_shell.specs.Steps.{machine_of, session_of, told_nothing}
+use Rattle.ob_headline.specs.declared.flight.FlightSettings.{FlightSettings}
+use Rattle.ob_vault.specs.Tied.{AllSealed, Scope, next_fault}
+use Rattle.ob_mean.specs.Replay.{Session}
+use Rattle.ob_headline.specs.Sealing.{PassesFrom}
+use Rattle.ob_shell.specs.Steps.{machine_of, no_flights, session_of, told_nothing}
 use Rattle.ob_shell.specs.Top.{IsFresh}
 use Rattle.ob_store.specs.Calls.{IsSteady}
 use Rattle.ob_store.specs.State.{StoreState}
@@ -32,7 +36,7 @@ pub none_asked : {R : Type 0} (first : Engine R) (s : StoreState) → engine_sta
 none_asked first s from none = omega (arith, ap earlier from, earlier_nothing, ap length none)
 
 session_is : {R : Type 0} (config : Config) (keys : KeySet) (first : Engine R) (s : StoreState) → public_of first ≡ first_public config → engine_start first ≡ from_nothing → s.asked ≡ []
-    → session_of (machine_of first s told_nothing) (first_draws keys) [] ≡ drawing keys (start (Some config))
+    → session_of (machine_of first s told_nothing no_flights) (first_draws keys) [] ≡ drawing keys (start (Some config))
 session_is config keys first s is from none =
     let unasked = none_asked first s from none in λ i. record { public = is i; tables = []; asked = unasked i; draws = first_draws keys }
 
@@ -75,3 +79,37 @@ stands_first state config keys first s agrees is keyed drawn from rows blank ste
         before,
       );
     }
+
+-- what holds of each session that statements may go on from hangs on no flight
+pub flying_each : (flight : Option FlightSettings) (base : Base) (P : Session → Type 0) → FromEach base P → FromEach (flying flight base) P
+flying_each flight base P each = go base.opened each
+  where
+    go : (o : Option Opened) → HoldsFrom o base P → HoldsFrom o (flying flight base) P
+    go None p = p
+    go (Some o) p = p
+
+-- so it does where SELECTs fly
+pub stands_flying : {R : Type 0} {state : R → RevState} {base : Base} {config : Config} {keys : KeySet} {e : Engine R} {s : StoreState} (flight : Option FlightSettings) → StandsOn state base config keys e s → StandsOn state (flying flight base) config keys e s
+stands_flying {state = state} {base = base} {e = e} {s = s} flight on = record {
+  settings = on.settings;
+  public = on.public;
+  flat = on.flat;
+  unindexed = on.unindexed;
+  pack = on.pack;
+  buffer = on.buffer;
+  keep = on.keep;
+  save = on.save;
+  rows = on.rows;
+  count = on.count;
+  start = on.start;
+  asked = on.asked;
+  keyed = on.keyed;
+  drawn = on.drawn;
+  calm = on.calm;
+  used = on.used;
+  held = flying_each flight base (λ x. Represents state e s x.tables) on.held;
+  earlier = on.earlier;
+  sealed = λ tells. flying_each flight base (λ x. (good : List ℕ → Bool) → PassesFrom base good → (scope : Scope) → scope.below ≤ next_fault s → AllSealed (λ r. good) scope (world_of state e s)) (on.sealed tells);
+  passes = on.passes;
+  early = on.early;
+}

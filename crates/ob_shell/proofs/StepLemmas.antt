@@ -8,12 +8,10 @@ use Rattle.ob_tables.specs.declared.stop.RunStop.{RunStop}
 use Rattle.ob_tables.specs.declared.stop.RunStop.TheVariants as Runs
 use Rattle.ob_gen.specs.declared.tally.Tally.{Tally}
 use Rattle.ob_headline.specs.Words.{Answer, printed}
-use Rattle.ob_print.proofs.CutLemmas.{Outputs-by, Outputs-whole}
+use Rattle.ob_print.proofs.CutLemmas.{Outputs-whole}
 use Rattle.ob_shell.proofs.StopLemmas.{by_stop, stopped_as}
-use Rattle.ob_shell.proofs.TallyLemmas.{tally_after-one}
 use Rattle.ob_shell.specs.Running.{LastPart}
-use Rattle.ob_shell.specs.Steps.{CutStep, Machine, Step, Steps, Idle, IsUndone, PartlyAt, AnswersAll, StopsIn}
-use Rattle.ob_shell.specs.Tallies.{tally_with}
+use Rattle.ob_shell.specs.Steps.{AnswersText, CutStep, CutTogether, Machine, Step, StepTogether, Steps, Idle, IsUndone, PartlyAt, StopsIn, at_rest, more_together, one_more}
 use Rattle.ob_vault.specs.State.{RevState}
 
 pub printed-append : (xs ys : List Answer) → printed (xs ++ ys) ≡ printed xs ++ printed ys
@@ -26,40 +24,33 @@ unfolding printed
 printed-nil = refl
 
 pub Steps-none : {R : Type 0} (state : R → RevState) (m : Machine R) → Steps state m m [] []
-unfolding Steps
-Steps-none state m = (refl, refl)
+Steps-none state m = at_rest
 
 pub Steps-append : {R : Type 0} (state : R → RevState) (m0 m1 m2 : Machine R) (ts us : List (List ℕ)) (xs ys : List Answer)
     → Steps state m0 m1 ts xs → Steps state m1 m2 us ys → Steps state m0 m2 (ts ++ us) (xs ++ ys)
-unfolding Steps
-Steps-append {R = R} state m0 m1 m2 [] us xs ys p q =
-    subst (λ (l : List Answer). Steps state m0 m2 us (l ++ ys)) (sym p.1) (subst (λ (m : Machine R). Steps state m m2 us ys) p.0 q)
-Steps-append state m0 m1 m2 (t ∷ ts) us xs ys p q = (
-  p.0,
-  p.1,
-  p.2 ++ ys,
-  ap (λ (l : List Answer). l ++ ys) p.3,
-  p.4,
-  Steps-append state p.0 m1 m2 ts us p.2 ys p.5 q,
-)
+Steps-append state m0 m1 m2 ts us xs ys at_rest q = q
+Steps-append state m0 m1 m2 ts us xs ys (one_more {m1 = m} {texts = texts} {answers = answers} step p) q = one_more step (Steps-append state m m1 m2 texts us answers ys p q)
+Steps-append {R = R} state m0 m1 m2 ts us xs ys (more_together {m1 = m} {flown = flown} {texts = texts} {given = given} {answers = answers} step p) q =
+    let rest = Steps-append state m m1 m2 texts us answers ys p q in
+    subst (λ (l : List (List ℕ)). Steps state m0 m2 l ((given ++ answers) ++ ys)) (sym (append_assoc flown texts us))
+    (subst (λ (l : List Answer). Steps state m0 m2 (flown ++ (texts ++ us)) l) (sym (append_assoc given answers ys)) (more_together step rest))
 
-one_step : {R : Type 0} {state : R → RevState} (m0 m1 : Machine R) (text : List ℕ) (answer : Answer) → Step state m0 m1 text answer → Steps state m0 m1 (text ∷ []) (answer ∷ [])
-unfolding Steps
-one_step m0 m1 text answer step = (m1, answer, [], refl, step, (refl, refl))
+-- of one text, and of those that flew together
+pub one_step : {R : Type 0} {state : R → RevState} (m0 m1 : Machine R) (text : List ℕ) (answer : Answer) → Step state m0 m1 text answer → Steps state m0 m1 (text ∷ []) (answer ∷ [])
+one_step m0 m1 text answer step = one_more step at_rest
+
+pub steps_together : {R : Type 0} {state : R → RevState} (m0 m1 : Machine R) (texts : List (List ℕ)) (answers : List Answer) → StepTogether state m0 m1 texts answers → Steps state m0 m1 texts answers
+steps_together {state = state} m0 m1 texts answers step =
+    subst (λ (l : List (List ℕ)). Steps state m0 m1 l answers) (append-nil texts)
+    (subst (λ (l : List Answer). Steps state m0 m1 (texts ++ []) l) (append-nil answers) (more_together step at_rest))
 
 printed_one : (answer : Answer) → printed (answer ∷ []) ≡ answer.bytes
 unfolding printed
 printed_one answer = append-nil answer.bytes
 
-pub answers_one : {R : Type 0} {state : R → RevState} {w0 w1 : Option (List ℕ)} {m0 m1 : Machine R} (text : List ℕ) (t : Tally) (answer : Answer)
-    → Step state m0 m1 text answer → Appends w0 w1 answer.bytes
-    → AnswersAll state w0 w1 (text ∷ []) t (tally_with t answer.outcome answer.plan) m0 m1
-answers_one text t answer step bytes = record {
-  answers = answer ∷ [];
-  steps = one_step _ _ text answer step;
-  appends = rw (printed_one answer) bytes;
-  counted = sym (tally_after-one t answer);
-}
+-- a text that was answered, among others
+pub counts_one : {R : Type 0} {state : R → RevState} {w0 w1 : Option (List ℕ)} {m0 m1 : Machine R} {text : List ℕ} {t counted : Tally} (all : AnswersText state w0 w1 t text counted m0 m1) → Appends w0 w1 (printed (all.answer ∷ []))
+counts_one all = rw (printed_one all.answer) all.appends
 
 pub PartlyAt-none : {R : Type 0} (state : R → RevState) (m : Machine R) (texts : List (List ℕ)) (stop : RunStop) → m.owed ≡ [] → stop ≡ Runs.NoMemory → PartlyAt state m m texts stop []
 PartlyAt-none state m [] stop free fine = record { rests = record { machine = refl; free = free; none = refl }; memory = fine }
@@ -72,37 +63,39 @@ PartlyAt-rests state m0 m1 (t ∷ ts) stop bytes r = inl r
 pub PartlyAt-more : {R : Type 0} (state : R → RevState) (m0 m1 : Machine R) (texts more : List (List ℕ)) (stop : RunStop) (bytes : List ℕ)
     → PartlyAt state m0 m1 texts stop bytes → PartlyAt state m0 m1 (texts ++ more) stop bytes
 PartlyAt-more state m0 m1 [] more stop bytes p = PartlyAt-rests state m0 m1 more stop bytes p
-PartlyAt-more state m0 m1 (t ∷ ts) more stop bytes p = p
-
--- the only answer of a list
-record OneAnswer {R : Type 0} (state : R → RevState) (m0 m1 : Machine R) (text : List ℕ) (answers : List Answer) : Type 0 where
-  answer : Answer
-  step : Step state m0 m1 text answer
-  bytes : printed answers ≡ answer.bytes
-
-only_answer : {R : Type 0} (state : R → RevState) (m0 m1 : Machine R) (text : List ℕ) (answers : List Answer) → Steps state m0 m1 (text ∷ []) answers → OneAnswer state m0 m1 text answers
-unfolding Steps
-only_answer {R = R} state m0 m1 text answers p = record {
-  answer = p.1;
-  step = subst (λ (m : Machine R). Step state m0 m text p.1) (sym p.5.0) p.4;
-  bytes = ap printed (p.3 ∙ ap (λ (l : List Answer). p.1 ∷ l) p.5.1) ∙ printed_one p.1;
-}
+PartlyAt-more state m0 m1 (t ∷ ts) more stop bytes (inl idle) = inl idle
+PartlyAt-more state m0 m1 (t ∷ ts) more stop bytes (inr (inl short)) = inr (inl short)
+PartlyAt-more state m0 m1 (t ∷ ts) more stop bytes (inr (inr (inl done))) = inr (inr (inl done))
+PartlyAt-more state m0 m1 (t ∷ ts) more stop bytes (inr (inr (inr (inl short)))) =
+    inr (inr (inr (inl (record {
+      flown = short.flown;
+      more = short.more ++ more;
+      parts = ap (λ (l : List (List ℕ)). l ++ more) short.parts ∙ append_assoc short.flown short.more more;
+      stmts = short.stmts;
+      spelt = short.spelt;
+      may = short.may;
+      seens = short.seens;
+      flew = short.flew;
+    }))))
+PartlyAt-more state m0 m1 (t ∷ ts) more stop bytes (inr (inr (inr (inr done)))) =
+    inr (inr (inr (inr (record {
+      flown = done.flown;
+      more = done.more ++ more;
+      parts = ap (λ (l : List (List ℕ)). l ++ more) done.parts ∙ append_assoc done.flown done.more more;
+      answers = done.answers;
+      step = done.step;
+      whole = done.whole;
+      fault = done.fault;
+    }))))
 
 -- the whole answer was taken, and the stop came after it
 pub stops_after : {R : Type 0} {state : R → RevState} {Lost : Type 0} {w0 w1 : Option (List ℕ)} {text : List ℕ} {r0 r1 : Tally} {m0 m1 : Machine R} (stop : RunStop) → stop ≡ Runs.SinkFault
-    → AnswersAll state w0 w1 (text ∷ []) r0 r1 m0 m1 → StopsIn state w0 w1 Lost (text ∷ []) stop m0 m1
-stops_after {state = state} {text = text} {m0 = m0} {m1 = m1} stop fault all =
-    let one = only_answer state m0 m1 text all.answers all.steps in
-    record {
-      bytes = printed all.answers;
-      partly = inr (inr (record { answer = one.answer; step = one.step; whole = one.bytes; fault = fault }));
-      cut = Outputs-whole _ _ _ _ all.appends;
-    }
-
--- what was lost has a cause of its own
-pub stops_by : {R : Type 0} {state : R → RevState} {w0 w1 : Option (List ℕ)} {F G : Type 0} {texts : List (List ℕ)} {stop : RunStop} {m0 m1 : Machine R} → (F → G) → StopsIn state w0 w1 F texts stop m0 m1
-    → StopsIn state w0 w1 G texts stop m0 m1
-stops_by by stops = record { bytes = stops.bytes; partly = stops.partly; cut = Outputs-by by stops.cut }
+    → AnswersText state w0 w1 r0 text r1 m0 m1 → StopsIn state w0 w1 Lost (text ∷ []) stop m0 m1
+stops_after stop fault all = record {
+  bytes = all.answer.bytes;
+  partly = inr (inr (inl (record { answer = all.answer; step = all.step; whole = refl; fault = fault })));
+  cut = Outputs-whole _ _ _ _ all.appends;
+}
 
 -- ---- what was done after the last text that was served whole
 module _ {R : Type 0} (state : R → RevState) (m1 m2 : Machine R) (more : List (List ℕ)) (part : List ℕ) where
@@ -114,14 +107,17 @@ module _ {R : Type 0} (state : R → RevState) (m1 m2 : Machine R) (more : List 
       → (IsUndone m1 m2 part → P SourceFault) → (IsUndone m1 m2 part → P InputLimit) → P stop
   by_last = by_stop (λ run. PartlyAt state m1 m2 more run part) (IsUndone m1 m2 part) (IsUndone m1 m2 part)
 
-  -- what was done to the machine alone: nothing, a part of a text, or a text
+  -- what was done to the machine alone: nothing, a part of a text, or a text; or a part of a flight, or a flight
   pub last_by : (P : Type 0) (result : Result Bool Stop) → LastPart state m1 m2 more part result → (m2 ≡ m1 → P) → ((text : List ℕ) (run : RunStop) → CutStep state m1 m2 text run part → P)
-      → ((text : List ℕ) (answer : Answer) → Step state m1 m2 text answer → P) → P
-  last_by P (Ok refused) rests none cut step = none rests.machine
-  last_by P (Err stop) last none cut step = by_last (λ (s : Stop). P) stop last (go more) (λ rests. none rests.machine) (λ rests. none rests.machine)
+      → ((text : List ℕ) (answer : Answer) → Step state m1 m2 text answer → P) → ((texts : List (List ℕ)) (run : RunStop) → CutTogether state m1 m2 texts run part → P)
+      → ((texts : List (List ℕ)) (answers : List Answer) → StepTogether state m1 m2 texts answers → P) → P
+  last_by P (Ok refused) rests none cut step short flown = none rests.machine
+  last_by P (Err stop) last none cut step short flown = by_last (λ (s : Stop). P) stop last (go more) (λ rests. none rests.machine) (λ rests. none rests.machine)
     where
       go : (texts : List (List ℕ)) (run : RunStop) → PartlyAt state m1 m2 texts run part → P
       go [] run idle = none idle.rests.machine
       go (text ∷ texts) run (inl idle) = none idle.rests.machine
-      go (text ∷ texts) run (inr (inl short)) = cut text run short
-      go (text ∷ texts) run (inr (inr done)) = step text done.answer done.step
+      go (text ∷ texts) run (inr (inl half)) = cut text run half
+      go (text ∷ texts) run (inr (inr (inl done))) = step text done.answer done.step
+      go (text ∷ texts) run (inr (inr (inr (inl half)))) = short (text ∷ texts) run half
+      go (text ∷ texts) run (inr (inr (inr (inr done)))) = flown done.flown done.answers done.step

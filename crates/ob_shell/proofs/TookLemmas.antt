@@ -1,5 +1,5 @@
 -- What sinks took, one part after the other.
-use Rattle.std.proofs.Common.{◌≡◌, ℕ, ◌⊎◌, Bool, List, [], ◌++◌, Option, sym, ap, ◌∙◌, subst, inl, inr, append_assoc, append-nil}
+use Rattle.std.proofs.Common.{ℕ, ◌⊎◌, Bool, List, [], ◌++◌, Option, sym, ap, ◌∙◌, subst, inl, inr, append_assoc, append-nil}
 use Rattle.std.proofs.KnownBytes.{Appends-trans}
 use Rattle.std.proofs.lemmas.List.{append_cancel_left}
 use Rattle.std.specs.Io.KnownBytes.{Appends}
@@ -7,17 +7,13 @@ use Rattle.ob_base.specs.declared.access.Access.{Access}
 use Rattle.ob_headline.specs.Tracing.{traced}
 use Rattle.ob_headline.specs.Words.{Took}
 use Rattle.ob_print.specs.Cuts.{Outputs}
-use Rattle.ob_shell.proofs.TraceLemmas.{traced-append}
-use Rattle.ob_shell.specs.Traces.{Traced, TracedAll, TracedTo, Traces}
+use Rattle.ob_shell.proofs.TraceLemmas.{traced-append, traced-nil}
+use Rattle.ob_shell.specs.Traces.{TracedAll, TracedTo, Traces}
 
 -- ---- what a sink took
 pub took_whole : {w0 w1 : Option (List ℕ)} {bytes : List ℕ} → Appends w0 w1 bytes → Took w0 w1 bytes
 took_whole {w0 = w0} {w1 = w1} {bytes = bytes} a =
     record { after = []; appends = subst (λ (l : List ℕ). Appends w0 w1 l) (sym (append-nil bytes)) a }
-
-took_then : {w0 w2 : Option (List ℕ)} {bytes : List ℕ} (w1 : Option (List ℕ)) (more : List ℕ) → Appends w0 w1 bytes
-    → Appends w1 w2 more → Took w0 w2 bytes
-took_then w1 more a b = record { after = more; appends = Appends-trans _ _ _ _ _ a b }
 
 pub took_more : {w0 w1 w2 : Option (List ℕ)} {bytes : List ℕ} (more : List ℕ) → Took w0 w1 bytes → Appends w1 w2 more
     → Took w0 w2 bytes
@@ -66,8 +62,10 @@ traces_all {on = on} {t0 = t0} {t1 = t1} {a0 = a0} all = record {
   whole = λ asked is. took_whole (subst (λ (l : List Access). Appends t0 t1 (traced on l)) (append_cancel_left a0 all.seen asked (sym all.grew ∙ is)) all.appends);
 }
 
-traces_more : {on : Bool} {t0 t1 t2 : Option (List ℕ)} {a0 a1 a2 : List Access} {F : Type 0} → TracedAll on a0 a1 t0 t1 → Traced on a1 a2 t1 t2 F → Traces on t0 t2 a0 a1
-traces_more all cut = record { whole = λ asked is. took_more cut.cut.grown ((traces_all all).whole asked is) cut.cut.appends }
-
-traces_same : {on : Bool} {t0 t1 : Option (List ℕ)} {a0 a1 a2 : List Access} → a2 ≡ a1 → Traces on t0 t1 a0 a1 → Traces on t0 t1 a0 a2
-traces_same same traces = record { whole = λ asked is. traces.whole asked (sym same ∙ is) }
+-- where nothing was asked nothing is traced
+pub traced_to_none : (on : Bool) (a : List Access) (t0 t1 : Option (List ℕ)) (more : List ℕ) → Appends t0 t1 more → TracedTo on a a t0 t1
+traced_to_none on a t0 t1 more appends = record {
+  seen = [];
+  grew = sym (append-nil a);
+  took = record { after = more; appends = subst (λ (l : List ℕ). Appends t0 t1 (l ++ more)) (sym (traced-nil on)) appends };
+}

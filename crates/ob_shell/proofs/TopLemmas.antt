@@ -1,21 +1,25 @@
 -- The whole run, from its first line and its session.
-use Rattle.std.specs.Prelude.{IfOk}
-use Rattle.std.proofs.Common.{◌≡◌, ◌≢◌, ℕ, ◌≤◌, ◌==◌, Bool, true, false, List, [], ◌∷◌, ◌++◌, length, take, Option, Some, IsTrue, Ok, Err, Result, refl, sym, ap, ◌∙◌, subst, inl, inr, arith, append-nil, length-append}
+use Rattle.std.specs.Prelude.{IfOk, drop}
+use Rattle.std.proofs.Common.{◌≡◌, ◌≢◌, ◌⊎◌, ℕ, ◌≤◌, ◌==◌, Bool, true, false, List, [], ◌∷◌, ◌++◌, length, take, Option, Some, IsTrue, Ok, Err, Result, refl, sym, ap, ◌∙◌, subst, inl, inr, arith, append-nil, length-append}
 use Rattle.std.proofs.KnownBytes.{Appends-nil, Consumes-trans, Consumes-nil}
 use Rattle.std.specs.Io.KnownBytes.{Appends}
 use Rattle.std.specs.List.{list_any}
 use Rattle.ob_base.specs.Counts.{Rises}
 use Rattle.ob_base.specs.declared.access.Access.{Access}
 use Rattle.ob_base.specs.declared.config.Config.{Config}
+use Rattle.ob_base.specs.declared.config.Public.{Public}
 use Rattle.ob_base.specs.declared.refusal.Stop.{Stop}
 use Rattle.ob_base.specs.declared.refusal.Stop.TheVariants.{Tampered, SourceFault, SinkFault, NoMemory, InputLimit, StoreFault, StashFull, KeeperFault}
 use Rattle.ob_select.specs.Opening.{is_of_rows}
 use Rattle.ob_gen.specs.declared.tally.Tally.{Tally}
 use Rattle.ob_headline.proofs.FlatLemmas.{start_flat}
-use Rattle.ob_headline.proofs.PromptLemmas.{all_answered, prompt_all, prompt_from, prompt_line, waits_behind}
+use Rattle.ob_headline.proofs.PromptLemmas.{all_answered, prompt_all, prompt_line, waits_behind}
 use Rattle.ob_headline.proofs.TextLemmas.{rest_of-nil, texts_of-nil}
-use Rattle.ob_headline.specs.Bases.{Base, fresh, start}
-use Rattle.ob_headline.specs.Disturbed.{MeantUntil}
+use Rattle.std.proofs.lemmas.List.Elements.{All-nil}
+use Rattle.ob_headline.specs.Bases.{Base, flying, fresh, start}
+use Rattle.ob_headline.specs.Disturbed.{MeantUntil, meant_entries}
+use Rattle.ob_headline.specs.Flights.{AreEntries, AreGathered, EndedBy, GoesOn, Seat, most_of, public_whole, seats, seats_of, served_by, whole_of as entries_whole}
+use Rattle.ob_headline.specs.declared.flight.FlightSettings.{FlightSettings}
 use Rattle.ob_headline.specs.Endings.{last_line}
 use Rattle.ob_headline.specs.Failures.{cut_off, failures}
 use Rattle.ob_headline.specs.KeyLine.{has_lf, first_line, after_line, secret_of}
@@ -33,7 +37,7 @@ use Rattle.ob_mean.proofs.BatchLemmas.{most_some}
 use Rattle.ob_mean.specs.Batches.{batch_most}
 use Rattle.ob_print.proofs.CutLemmas.{Outputs-whole, Outputs-after, Outputs-fault, Outputs-more}
 use Rattle.ob_print.specs.Cuts.{Outputs}
-use Rattle.ob_script.specs.Trace.{trace}
+use Rattle.ob_script.specs.Flights.{trace_in}
 use Rattle.ob_shell.proofs.CountLemmas.{rises_earlier, rises_later}
 use Rattle.ob_shell.proofs.DisturbLemmas.{take_begins}
 use Rattle.ob_shell.proofs.KeyLemmas.{after_line-none, has_lf-nil}
@@ -45,7 +49,7 @@ use Rattle.ob_shell.specs.Feeding.{Fetch, Fed, IsFedBy}
 use Rattle.ob_shell.specs.LineRead.{KeyRead}
 use Rattle.ob_shell.specs.Running.{EndsBy}
 use Rattle.ob_shell.specs.Tallies.{flagged, tally_of}
-use Rattle.ob_shell.specs.Top.{EndingTally, EndsUnfaulted, EndsUntampered, IsFresh, TraceSink, RanSays, EndingSays, EndingWords, Carried, RunShown, RanAfter, EndingCause, EndingFlag, StatusCause}
+use Rattle.ob_shell.specs.Top.{EndingTally, EndsUnfaulted, EndsUntampered, IsFresh, LosesSome, TraceSink, RanSays, EndingSays, EndingWords, Carried, RunShown, RanAfter, EndingCause, EndingFlag, StatusCause}
 use Rattle.ob_shell.specs.declared.feed.Halt.{Halt}
 use Rattle.ob_shell.specs.declared.key.FirstLine.{FirstLine}
 use Rattle.ob_shell.specs.declared.key.FirstLine.TheVariants.{Secret, Last, Bad}
@@ -99,17 +103,18 @@ unfaulted_ends (RanEnding (Err StoreFault)) fine ends = fine
 unfaulted_ends (RanEnding (Err StashFull)) fine ends = fine
 unfaulted_ends (RanEnding (Err KeeperFault)) fine ends = fine
 
-pub unstarted : {keys : KeySet} (tr : TraceSink) (settings : Option Config) (secret : Option (List ℕ)) (s : StoreState) (more : List (List ℕ)) (ending : Ending) → IsFresh s → tr.new ≡ tr.old → EndsUntampered ending → EndsUnfaulted ending
-    → Carried tr (fresh settings) keys secret s s 0 (unserved more) ending
-unfolding SpellFirst AreSeen AnswersFrom MeantUntil failures cut_off any_cut statements
-unstarted tr settings secret s more ending blank untraced untampered unfaulted = record {
+pub unstarted : {keys : KeySet} (tr : TraceSink) (settings : Option Config) (flight : Option FlightSettings) (secret : Option (List ℕ)) (s : StoreState) (more : List (List ℕ)) (ending : Ending) → IsFresh s → tr.new ≡ tr.old → EndsUntampered ending → EndsUnfaulted ending
+    → Carried tr (flying flight (fresh settings)) keys secret s s 0 (unserved more) ending
+unfolding SpellFirst AreSeen AnswersFrom MeantUntil failures cut_off any_cut statements served_by AreEntries AreGathered seats trace_in entries_whole meant_entries
+unstarted tr settings flight secret s more ending blank untraced untampered unfaulted = record {
   statements = record { spells = tt; reached = omega arith; begun = omega arith; keyed = inr refl; each = refl };
   accesses = record {
     flat = start_flat settings;
-    one_last = omega arith;
+    entered = record { served = refl; entries = tt; gathered = tt; ended = All-nil (λ (v : Seat). EndedBy v.left v) };
     begun = λ ends. absurd (unfaulted_ends ending unfaulted ends);
     each_seen = refl;
     lawful = refl;
+    aloft = tt;
     drawn = record { numbers = []; are = refl; apart = λ i j x before within. absurd (omega (arith, within)) };
     asked = blank.unasked;
     failed = λ alone. omega arith;
@@ -141,6 +146,11 @@ unstarted tr settings secret s more ending blank untraced untampered unfaulted =
   saving = λ is. absurd (subst (λ (e : Ending). EndsUnfaulted e) is unfaulted);
 }
 
+-- none were begun
+pub none_began : (settings : Option Config) (flight : Option FlightSettings) → GoesOn (drop 0 (seats_of (flying flight (fresh settings)) []))
+unfolding seats
+none_began settings flight = tt
+
 pub took_none : (w : Option (List ℕ)) → Took w w (printed [])
 took_none w = took_whole (rw printed-nil (Appends-nil w))
 
@@ -151,28 +161,27 @@ no_bytes {F} w = rw printed-nil (Outputs-whole w w F [] (Appends-nil w))
 pub piece_is : {f0 f1 : Fetch} {l0 l1 : Option (List ℕ)} {xs : List ℕ} (fed : Fed f0 f1 l0 l1 xs) → f0.unread ≡ [] → fed.piece ≡ xs ++ f1.unread
 piece_is {f1 = f1} {xs = xs} fed none = subst (λ (u : List ℕ). u ++ fed.piece ≡ xs ++ f1.unread) none fed.joined
 
-module _ (tally : Tally) (tr : TraceSink) (untraced : tr.new ≡ tr.old) (settings : Option Config) (f0 f1 : Fetch) (none : f0.unread ≡ [])
+module _ (tally : Tally) (tr : TraceSink) (untraced : tr.new ≡ tr.old) (settings : Option Config) (flight : Option FlightSettings) (f0 f1 : Fetch) (none : f0.unread ≡ [])
     (start : f0.taken ≡ 0) (top : f0.limit ≡ limit_of settings) (below : f1.taken ≤ f1.limit) {gave : ℕ} (by : IsFedBy f1 gave) where
   pub piece_within : {l0 l1 : Option (List ℕ)} {xs : List ℕ} (fed : Fed f0 f1 l0 l1 xs) → length fed.piece ≤ limit_of settings
   piece_within fed = omega (arith, fed.taken, fed.limit)
 
   -- no text was whole before the last read
-  pub piece_prompt : {l0 l1 : Option (List ℕ)} {xs : List ℕ} (most : ℕ) → 1 ≤ most → (fed : Fed f0 f1 l0 l1 xs) → length (after_line (xs ++ f1.unread)) ≤ length f1.unread
-      → Prompt most fed.piece [] gave
-  piece_prompt {xs = xs} most some fed ahead =
+  pub piece_prompt : {l0 l1 : Option (List ℕ)} {xs : List ℕ} (p : Public) (most flown : ℕ) → 1 ≤ most → (fed : Fed f0 f1 l0 l1 xs) → length (after_line (xs ++ f1.unread)) ≤ length f1.unread
+      → Prompt p most flown fed.piece [] gave
+  piece_prompt {xs = xs} p most flown some fed ahead =
       let late = by.late in
       let few = by.few in
       let same = ap (λ (l : List ℕ). length (after_line l)) (piece_is fed none) in
-      prompt_from most fed.piece [] gave (omega (arith, few, fed.taken))
-      (all_answered most _ [] some (prompt_line gave fed.piece [] (omega (arith, late, same, ahead))))
+      record { few = omega (arith, few, fed.taken); waits = all_answered p most flown _ [] some (prompt_line gave fed.piece [] (omega (arith, late, same, ahead))) }
 
   -- where a run begins afresh
-  pub fresh_prompt : {l0 l1 : Option (List ℕ)} {xs : List ℕ} (fed : Fed f0 f1 l0 l1 xs) → length (after_line (xs ++ f1.unread)) ≤ length f1.unread
-      → Prompt (batch_most (fresh settings).public) fed.piece [] gave
-  fresh_prompt = piece_prompt (batch_most (fresh settings).public) (most_some (fresh settings).public)
+  pub fresh_prompt : {l0 l1 : Option (List ℕ)} {xs : List ℕ} (p : Public) (fed : Fed f0 f1 l0 l1 xs) → length (after_line (xs ++ f1.unread)) ≤ length f1.unread
+      → Prompt p (batch_most (flying flight (fresh settings)).public) (most_of (flying flight (fresh settings))) fed.piece [] gave
+  fresh_prompt p = piece_prompt p (batch_most (flying flight (fresh settings)).public) (most_of (flying flight (fresh settings))) (most_some (flying flight (fresh settings)).public)
 
   unfoldable pub shown_source_fault : {F : Type 0} {keys : List ℕ → KeySet} {l0 l1 : Option (List ℕ)} (w : Option (List ℕ)) (s : StoreState) → IsFresh s
-      → KeyRead f0 f1 l0 l1 (Err Halt.SourceFault) → RunShown tally tr (fresh settings) keys l0 l1 gave w w s s 0 (RanEnding (Err SourceFault)) [] F
+      → KeyRead f0 f1 l0 l1 (Err Halt.SourceFault) → RunShown tally tr (flying flight (fresh settings)) keys l0 l1 gave w w s s 0 (RanEnding (Err SourceFault)) [] F
   shown_source_fault w s fresh read =
       let e = piece_is read.fed none in
       let ends = rw (← e) at read.ends in
@@ -187,17 +196,18 @@ module _ (tally : Tally) (tr : TraceSink) (untraced : tr.new ≡ tr.old) (settin
           at_end = λ (h : false ≡ true). absurd (cc);
           texts = rw after (texts_of-nil []);
         };
-        prompt = fresh_prompt read.fed read.ahead;
-        carried = unstarted tr settings _ s [] _ fresh untraced tt tt;
+        prompt = fresh_prompt _ read.fed read.ahead;
+        carried = unstarted tr settings flight _ s [] _ fresh untraced tt tt;
         grew = no_bytes w;
         whole = took_none w;
+        answered = inl (none_began settings flight);
         flag = tt;
         counted = tt;
         says = record { line = inr (ends.0, ends.1); cut = refl; all = record { no_more = refl; no_part = refl }; short = rw after nothing_over };
       }
 
   unfoldable pub shown_bad_key : {F : Type 0} {keys : List ℕ → KeySet} {l0 l1 : Option (List ℕ)} (w : Option (List ℕ)) (s : StoreState) → IsFresh s
-      → KeyRead f0 f1 l0 l1 (Ok Bad) → RunShown tally tr (fresh settings) keys l0 l1 gave w w s s 0 BadKey [] F
+      → KeyRead f0 f1 l0 l1 (Ok Bad) → RunShown tally tr (flying flight (fresh settings)) keys l0 l1 gave w w s s 0 BadKey [] F
   shown_bad_key w s fresh read =
       let e = piece_is read.fed none in
       let ends = rw (← e) at read.ends in
@@ -211,17 +221,18 @@ module _ (tally : Tally) (tr : TraceSink) (untraced : tr.new ≡ tr.old) (settin
           at_end = λ (h : false ≡ true). absurd (cc);
           texts = refl;
         };
-        prompt = fresh_prompt read.fed read.ahead;
-        carried = unstarted tr settings _ s _ _ fresh untraced tt tt;
+        prompt = fresh_prompt _ read.fed read.ahead;
+        carried = unstarted tr settings flight _ s _ _ fresh untraced tt tt;
         grew = no_bytes w;
         whole = took_none w;
+        answered = inl (none_began settings flight);
         flag = tt;
         counted = tt;
         says = ends;
       }
 
   pub shown_last : tally ≡ tally_of [] → {F : Type 0} {keys : List ℕ → KeySet} {l0 l1 : Option (List ℕ)} (key : List ℕ) (w : Option (List ℕ)) (s : StoreState) → IsFresh s
-      → KeyRead f0 f1 l0 l1 (Ok (Last key)) → RunShown tally tr (fresh settings) keys l0 l1 gave w w s s 0 (RanEnding (Ok false)) [] F
+      → KeyRead f0 f1 l0 l1 (Ok (Last key)) → RunShown tally tr (flying flight (fresh settings)) keys l0 l1 gave w w s s 0 (RanEnding (Ok false)) [] F
   shown_last blank key w s fresh read =
       let e = piece_is read.fed none in
       let ends = rw (← e) at read.ends in
@@ -235,10 +246,11 @@ module _ (tally : Tally) (tr : TraceSink) (untraced : tr.new ≡ tr.old) (settin
           at_end = λ _. ends.2;
           texts = rw (ends.1, texts_of-nil, rest_of-nil);
         };
-        prompt = fresh_prompt read.fed read.ahead;
-        carried = unstarted tr settings _ s [] _ fresh untraced tt tt;
+        prompt = fresh_prompt _ read.fed read.ahead;
+        carried = unstarted tr settings flight _ s [] _ fresh untraced tt tt;
         grew = no_bytes w;
         whole = took_none w;
+        answered = inl (none_began settings flight);
         flag = sym any_refused-nil;
         counted = blank;
         says = record {
@@ -253,10 +265,10 @@ module _ (tally : Tally) (tr : TraceSink) (untraced : tr.new ≡ tr.old) (settin
 -- ---- the session after the first line
 
 -- memory was wanting for the engine
-pub ran_nothing : {R : Type 0} {state : R → RevState} {Lost : Type 0} {keys : KeySet} (tr : TraceSink) (settings : Option Config) (secret : Option (List ℕ)) (f : Fetch)
+pub ran_nothing : {R : Type 0} {state : R → RevState} {Lost : Type 0} {keys : KeySet} (tr : TraceSink) (settings : Option Config) (flight : Option FlightSettings) (secret : Option (List ℕ)) (f : Fetch)
     (l : Option (List ℕ)) (gave : ℕ) (w : Option (List ℕ)) (s : StoreState) → IsFresh s → tr.new ≡ tr.old → length f.unread ≤ gave
-    → RanAfter state tr (fresh settings) keys secret f f l l gave w w s s 0 Lost (Err NoMemory)
-ran_nothing {Lost = Lost} tr settings secret f l gave w s blank untraced late = record {
+    → RanAfter state tr (flying flight (fresh settings)) keys secret f f l l gave w w s s 0 Lost (Err NoMemory)
+ran_nothing {Lost = Lost} tr settings flight secret f l gave w s blank untraced late = record {
   piece = [];
   consumed = Consumes-nil l;
   taken = omega arith;
@@ -265,13 +277,14 @@ ran_nothing {Lost = Lost} tr settings secret f l gave w s blank untraced late = 
   at_end = λ (h : false ≡ true). absurd (cc);
   story = unserved (texts_in false (f.unread ++ []));
   texts = refl;
-  prompt = all_answered (batch_most (fresh settings).public) _ [] (most_some (fresh settings).public)
+  prompt = all_answered _ (batch_most (flying flight (fresh settings)).public) (most_of (flying flight (fresh settings))) _ [] (most_some (flying flight (fresh settings)).public)
       (subst (λ (xs : List (List ℕ)). Begins (texts_in false (before_read gave (f.unread ++ []))) xs) (texts_of-nil [])
       (prompt_all (f.unread ++ []) [] f.unread gave (append-nil f.unread) late));
-  carried = unstarted tr settings secret s _ _ blank untraced tt tt;
+  carried = unstarted tr settings flight secret s _ _ blank untraced tt tt;
   rows = inr (refl, refl);
   cut = rw printed-nil (Outputs-whole w w Lost [] (Appends-nil w));
   whole = took_none w;
+  answered = inl (none_began settings flight);
   counted = tt;
   ends = tt;
 }
@@ -349,11 +362,14 @@ shown_by {Lost = Lost} {tally = tally} base {f1 = f1} {f2 = f2} {gave = gave} {l
         at_end = ran.at_end;
         texts = ap (texts_in ran.ended) after ∙ ran.texts;
       };
-      prompt = prompt_from (batch_most base.public) (read.fed.piece ++ ran.piece) ran.story.served gave (let few = by.few in omega (arith, few, count))
-          (waits_behind (batch_most base.public) gave _ _ ran.story.served after ran.prompt);
+      prompt = record {
+        few = let few = by.few in omega (arith, few, count);
+        waits = waits_behind (public_whole base ran.story) (batch_most base.public) (most_of base) gave _ _ ran.story.served after ran.prompt;
+      };
       carried = carried;
       grew = subst (λ (l : List ℕ). Outputs w0 w2 Lost l) (sym (append-nil (printed ran.story.answers ++ ran.story.part))) ran.cut;
       whole = ran.whole;
+      answered = ran.answered;
       flag = flag_by result ran.story.answers ran.counted;
       counted = tally_by result ran.story.answers tally ran.counted told;
       says =
@@ -377,9 +393,9 @@ shown_ran keys {tr = tr} base {s0 = s0} {s2 = s2} {high = high} key result none 
 -- ---- before the input is read
 
 -- nothing was read
-unfoldable pub shown_unread : {F : Type 0} {keys : List ℕ → KeySet} (tally : Tally) (tr : TraceSink) (settings : Option Config) (l : Option (List ℕ)) (gave : ℕ) (w : Option (List ℕ)) (s : StoreState) (ending : Ending) → IsFresh s → tr.new ≡ tr.old → EndsUntampered ending → EndsUnfaulted ending → EndingFlag ending [] → EndingTally ending [] tally
-    → EndingSays ending (limit_of settings) [] l false (texts_of [] (after_line [])) [] → RunShown tally tr (fresh settings) keys l l gave w w s s 0 ending [] F
-shown_unread tally tr settings l gave w s ending blank untraced untampered unfaulted flag counted says = record {
+unfoldable pub shown_unread : {F : Type 0} {keys : List ℕ → KeySet} (tally : Tally) (tr : TraceSink) (settings : Option Config) (flight : Option FlightSettings) (l : Option (List ℕ)) (gave : ℕ) (w : Option (List ℕ)) (s : StoreState) (ending : Ending) → IsFresh s → tr.new ≡ tr.old → EndsUntampered ending → EndsUnfaulted ending → EndingFlag ending [] → EndingTally ending [] tally
+    → EndingSays ending (limit_of settings) [] l false (texts_of [] (after_line [])) [] → RunShown tally tr (flying flight (fresh settings)) keys l l gave w w s s 0 ending [] F
+shown_unread tally tr settings flight l gave w s ending blank untraced untampered unfaulted flag counted says = record {
   taken = [];
   ended = false;
   story = unserved (texts_of [] (after_line []));
@@ -389,12 +405,15 @@ shown_unread tally tr settings l gave w s ending blank untraced untampered unfau
     at_end = λ (h : false ≡ true). absurd (cc);
     texts = refl;
   };
-  prompt = prompt_from (batch_most (fresh settings).public) [] [] gave (omega arith)
-      (all_answered (batch_most (fresh settings).public) _ [] (most_some (fresh settings).public)
-      (prompt_line gave [] [] (rw (after_line-none [] has_lf-nil) (omega arith))));
-  carried = unstarted tr settings _ s _ _ blank untraced untampered unfaulted;
+  prompt = record {
+    few = omega arith;
+    waits = all_answered _ (batch_most (flying flight (fresh settings)).public) (most_of (flying flight (fresh settings))) _ [] (most_some (flying flight (fresh settings)).public)
+        (prompt_line gave [] [] (rw (after_line-none [] has_lf-nil) (omega arith)));
+  };
+  carried = unstarted tr settings flight _ s _ _ blank untraced untampered unfaulted;
   grew = no_bytes w;
   whole = took_none w;
+  answered = inl (none_began settings flight);
   flag = flag;
   counted = counted;
   says = says;
@@ -482,10 +501,16 @@ pub quiet_line : {w0 w1 : Option (List ℕ)} {F G : Type 0} (bytes line : List �
 quiet_line {w0 = w0} {w1 = w1} {F = F} bytes line c g =
     Outputs-more line (Outputs-fault g (subst (λ (l : List ℕ). Outputs w0 w1 F l) (append-nil bytes) c)) g
 
+-- the same for another cause
+pub loses_as : {F H Goes : Type 0} {ending : Ending} → (F → H) → Goes ⊎ LosesSome F ending → Goes ⊎ LosesSome H ending
+loses_as by (inl goes) = inl goes
+loses_as by (inr (inl lost)) = inr (inl (by lost))
+loses_as by (inr (inr ends)) = inr (inr ends)
+
 unfoldable pub shown_line : {tally : Tally} {tr : TraceSink} {base : Base} {keys : List ℕ → KeySet} {gave : ℕ} {l0 l1 w0 w1 w2 : Option (List ℕ)} {s0 s1 : StoreState} {high : ℕ} {ending : Ending} {line line' : List ℕ} {F H : Type 0}
-    (more : List ℕ) → (shown : RunShown tally tr base keys l0 l1 gave w0 w1 s0 s1 high ending line F) → Appends w1 w2 more → Outputs w0 w2 H ((printed shown.story.answers ++ shown.story.part) ++ line')
+    (more : List ℕ) → (shown : RunShown tally tr base keys l0 l1 gave w0 w1 s0 s1 high ending line F) → Appends w1 w2 more → Outputs w0 w2 H ((printed shown.story.answers ++ shown.story.part) ++ line') → (F → H)
     → RunShown tally tr base keys l0 l1 gave w0 w2 s0 s1 high ending line' H
-shown_line more shown after cut = record {
+shown_line more shown after cut loses = record {
   taken = shown.taken;
   ended = shown.ended;
   story = shown.story;
@@ -494,6 +519,7 @@ shown_line more shown after cut = record {
   carried = shown.carried;
   grew = cut;
   whole = took_more more shown.whole after;
+  answered = loses_as loses shown.answered;
   flag = shown.flag;
   counted = shown.counted;
   says = shown.says;

@@ -1,19 +1,24 @@
 -- Texts that are served while others wait, one part after the other.
 use Rattle.std.specs.Prelude.{IsSome, map}
-use Rattle.std.proofs.Common.{◌≡◌, ◌⊎◌, inl, inr, ℕ, Bool, List, [], ◌∷◌, ◌++◌, length, Option, None, Some, Result, Ok, Err, refl, sym, ap, ◌∙◌, subst, arith, append_assoc, length-append}
+use Rattle.std.proofs.Common.{◌≡◌, ◌⊎◌, inl, inr, ℕ, Bool, true, List, [], ◌∷◌, ◌++◌, length, Option, None, Some, Result, Ok, Err, refl, sym, ap, ◌∙◌, subst, arith, append_assoc, length-append}
 use Rattle.std.proofs.KnownBytes.{Appends-nil, Appends-trans}
 use Rattle.std.proofs.lemmas.List.Elements.{All-cons, All-head, All-tail, All-weaker}
 use Rattle.std.specs.List.{All}
 use Rattle.ob_base.specs.declared.config.Public.{Public}
 use Rattle.ob_base.specs.declared.refusal.Stop.{Stop}
 use Rattle.ob_base.specs.declared.refusal.Stop.TheVariants as Stops
+use Rattle.ob_base.specs.declared.schema.Table.{Table}
 use Rattle.ob_gen.specs.declared.tally.Tally.{Tally}
 use Rattle.ob_headline.proofs.PromptLemmas.{all_answered, none_waits}
+use Rattle.ob_headline.proofs.SameEntries.{may_by, selects_one, selects_stay}
 use Rattle.ob_headline.specs.Batches.{AllInsert, AnsweredBut, Wait}
-use Rattle.ob_headline.specs.Statements.{SpellFirst}
+use Rattle.ob_headline.specs.Flights.{WaitToFly, may_fly, most_flown}
+use Rattle.ob_headline.specs.declared.flight.FlightSettings.{FlightSettings}
+use Rattle.ob_headline.specs.Statements.{SpellFirst, Spells}
 use Rattle.ob_headline.specs.Words.{Answer, Begins, printed}
 use Rattle.ob_mean.proofs.BatchLemmas.{begins, most_some}
-use Rattle.ob_mean.specs.Batches.{Gathering, batch_most, inserts_into}
+use Rattle.ob_mean.specs.Batches.{batch_most, inserts_into}
+use Rattle.ob_parse.proofs.GoodStatements.{good_statement}
 use Rattle.ob_print.proofs.CutLemmas.{Outputs-after}
 use Rattle.ob_print.specs.Cuts.{Outputs}
 use Rattle.ob_shell.proofs.TookLemmas.{took_after, traced_on}
@@ -22,21 +27,24 @@ use Rattle.ob_shell.proofs.TallyLemmas.{tally_after-nil, tally_more}
 use Rattle.ob_shell.specs.Feeding.{Fetch}
 use Rattle.ob_shell.specs.Running.{EndsBy, LastPart}
 use Rattle.ob_shell.specs.Serving.{EndsReading, ended_with}
-use Rattle.ob_shell.specs.Steps.{Follow, Machine, Owed, Step, Steps, standing, statements_of}
+use Rattle.ob_script.specs.FlightLaws.{SelectsFromOne}
+use Rattle.ob_shell.specs.Steps.{AreSpelt, Follow, Gathered, Machine, Owed, Step, Steps, at_rest, more_together, one_more, standing, statements_of}
 use Rattle.ob_shell.specs.Tallies.{TallyIs, flagged}
 use Rattle.ob_shell.specs.Traces.{TracedAll}
-use Rattle.ob_shell.specs.Waiting.{AreGathered, AreSpelt, BreaksIn, ServedSo}
+use Rattle.ob_shell.specs.Waiting.{AreWaiting, AwaitsFlown, AwaitsMore, BreaksIn, ServedSo}
 use Rattle.ob_sql.specs.Skeleton.{skeleton}
 use Rattle.ob_sql.specs.declared.stmt.Stmt.{Stmt}
-use Rattle.ob_tables.specs.Agreeing.{public_of}
+use Rattle.ob_tables.specs.Agreeing.{public_of, seen_of}
 use Rattle.ob_tables.specs.Batch.{InsertAlike}
 use Rattle.ob_tables.specs.declared.stop.RunStop.{RunStop}
 use Rattle.ob_tables.specs.declared.stop.RunStop.TheVariants as Runs
+use Rattle.ob_token.specs.Tokens.{tokens_of}
+use Rattle.ob_token.specs.declared.token.Token.{Token}
 use Rattle.ob_vault.specs.State.{RevState}
 
 -- ---- texts that were served
 -- none was: those that waited still do
-pub so_idle : {R : Type 0} {state : R → RevState} (w : Option (List ℕ)) (texts held : List (List ℕ)) (batch : List Stmt) (Then : (old new : Option Gathering) → Type 0) (t : Tally) (m : Machine R) (g : Option Gathering)
+pub so_idle : {R : Type 0} {state : R → RevState} (w : Option (List ℕ)) (texts held : List (List ℕ)) (batch : List Stmt) (Then : (old new : Gathered) → Type 0) (t : Tally) (m : Machine R) (g : Gathered)
     → texts ≡ held → AreSpelt held batch → Then g g → ServedSo state w w texts batch (Then g) t t (standing m [] g) m
 so_idle {state = state} w texts held batch Then t m g is spelt then = record {
   served = [];
@@ -56,9 +64,9 @@ pub parts_then : {A : Type 0} (texts served held ys more_served rest : List A) �
 parts_then texts served held ys more_served rest first second =
     ap (λ (l : List _). l ++ ys) first ∙ append_assoc served held ys ∙ ap (λ (l : List _). served ++ l) second ∙ sym (append_assoc served more_served rest)
 
-pub so_then : {R : Type 0} {state : R → RevState} {w0 w1 w2 : Option (List ℕ)} {texts ys : List (List ℕ)} {batch batch' : List Stmt} {Then : Option Gathering → Type 0} {Later : (old new : Option Gathering) → Type 0} {Last : Option Gathering → Type 0} {t0 t1 t2 : Tally}
+pub so_then : {R : Type 0} {state : R → RevState} {w0 w1 w2 : Option (List ℕ)} {texts ys : List (List ℕ)} {batch batch' : List Stmt} {Then : Gathered → Type 0} {Later : (old new : Gathered) → Type 0} {Last : Gathered → Type 0} {t0 t1 t2 : Tally}
     {m0 m1 m2 : Machine R} → ServedSo state w0 w1 texts batch Then t0 t1 m0 m1
-    → ((g : Option Gathering) (held : List (List ℕ)) → Then g → AreSpelt held batch → ServedSo state w1 w2 (held ++ ys) batch' (Later g) t1 t2 (standing m1 [] g) m2) → ((old new : Option Gathering) → Then old → Later old new → Last new)
+    → ((g : Gathered) (held : List (List ℕ)) → Then g → AreSpelt held batch → ServedSo state w1 w2 (held ++ ys) batch' (Later g) t1 t2 (standing m1 [] g) m2) → ((old new : Gathered) → Then old → Later old new → Last new)
     → ServedSo state w0 w2 (texts ++ ys) batch' Last t0 t2 m0 m2
 so_then {state = state} {texts = texts} {ys = ys} {t0 = t0} {t1 = t1} {t2 = t2} {m0 = m0} {m1 = m1} {m2 = m2} so next last =
     let now = next so.gathered so.held so.then so.spelt in
@@ -76,9 +84,9 @@ so_then {state = state} {texts = texts} {ys = ys} {t0 = t0} {t1 = t1} {t2 = t2} 
     }
 
 -- and then a stop came
-unfoldable pub break_then : {R : Type 0} {state : R → RevState} {on : Bool} {w0 w1 w2 s0 s1 s2 : Option (List ℕ)} {Lost : Type 0} {texts ys : List (List ℕ)} {batch : List Stmt} {Then : Option Gathering → Type 0} {t0 t1 : Tally} {stop : RunStop} {m0 m1 m2 : Machine R}
+unfoldable pub break_then : {R : Type 0} {state : R → RevState} {on : Bool} {w0 w1 w2 s0 s1 s2 : Option (List ℕ)} {Lost : Type 0} {texts ys : List (List ℕ)} {batch : List Stmt} {Then : Gathered → Type 0} {t0 t1 : Tally} {stop : RunStop} {m0 m1 m2 : Machine R}
     → ServedSo state w0 w1 texts batch Then t0 t1 m0 m1 → TracedAll on m0.store.asked m1.store.asked s0 s1
-    → ((g : Option Gathering) (held : List (List ℕ)) → Then g → AreSpelt held batch → BreaksIn state on w1 w2 s1 s2 Lost (held ++ ys) stop (standing m1 [] g) m2) → BreaksIn state on w0 w2 s0 s2 Lost (texts ++ ys) stop m0 m2
+    → ((g : Gathered) (held : List (List ℕ)) → Then g → AreSpelt held batch → BreaksIn state on w1 w2 s1 s2 Lost (held ++ ys) stop (standing m1 [] g) m2) → BreaksIn state on w0 w2 s0 s2 Lost (texts ++ ys) stop m0 m2
 break_then {state = state} {w0 = w0} {w2 = w2} {Lost = Lost} {texts = texts} {ys = ys} {m0 = m0} {m1 = m1} so traced next =
     let now = next so.gathered so.held so.then so.spelt in
     record {
@@ -125,9 +133,62 @@ module _ {R : Type 0} (state : R → RevState) where
   ]
 
   pub steps_most : (m0 m2 : Machine R) (texts : List (List ℕ)) (answers : List Answer) → Steps state m0 m2 texts answers → batch_most (public_of m2.engine) ≡ batch_most (public_of m0.engine)
-  unfolding Steps
-  steps_most m0 m2 [] answers steps = ap (λ (m : Machine R). batch_most (public_of m.engine)) steps.0
-  steps_most m0 m2 (text ∷ texts) answers steps = steps_most steps.0 m2 texts steps.2 steps.5 ∙ step_most m0 steps.0 text steps.1 steps.4
+  steps_most m0 m2 texts answers at_rest = refl
+  steps_most m0 m2 texts answers (one_more {m1 = m1} {text = text} {one = one} {texts = more} {answers = given} step rest) = steps_most m1 m2 more given rest ∙ step_most m0 m1 text one step
+  steps_most m0 m2 texts answers (more_together {m1 = m1} {texts = more} {answers = given} step rest) = steps_most m1 m2 more given rest ∙ ap batch_most step.flew.ran.ran.goes_on.public
+
+  -- nor do those that may fly together
+  abbrev pub flown_most : Machine R → ℕ
+  flown_most m = most_flown m.flights.settings (public_of m.engine)
+
+  step_flown : (m0 m1 : Machine R) (text : List ℕ) (answer : Answer) → Step state m0 m1 text answer → flown_most m1 ≡ flown_most m0
+  step_flown m0 m1 text answer step = elim step.done [
+    | inl still ↦ ap flown_most still.same
+    | inr did ↦ (λ i. most_flown (did.does.flights i).settings (public_of m1.engine)) ∙ ap (most_flown m0.flights.settings) did.does.ran.goes_on.public
+  ]
+
+  pub steps_flown : (m0 m2 : Machine R) (texts : List (List ℕ)) (answers : List Answer) → Steps state m0 m2 texts answers → flown_most m2 ≡ flown_most m0
+  steps_flown m0 m2 texts answers at_rest = refl
+  steps_flown m0 m2 texts answers (one_more {m1 = m1} {text = text} {one = one} {texts = more} {answers = given} step rest) = steps_flown m1 m2 more given rest ∙ step_flown m0 m1 text one step
+  steps_flown m0 m2 texts answers (more_together {m1 = m1} {texts = more} {answers = given} step rest) =
+      steps_flown m1 m2 more given rest ∙ (λ i. most_flown (step.may.settings i) (public_of m1.engine)) ∙ ap (most_flown m0.flights.settings) step.flew.ran.ran.goes_on.public
+
+-- the last of the texts spell the last of the statements
+spelt_last : (P : Stmt → Type 0) (front back : List (List ℕ)) (batch : List Stmt) → AreSpelt (front ++ back) batch → All P batch → (stmts : List Stmt) × AreSpelt back stmts × All P stmts
+spelt_last P [] back batch spelt all = (batch, spelt, all)
+spelt_last P (text ∷ front) back [] spelt all = absurd spelt
+spelt_last P (text ∷ front) back (stmt ∷ batch) spelt all = spelt_last P front back batch spelt.1 (All-tail P stmt batch all)
+
+-- ---- SELECTs of one table leave the tables
+-- a text spells one statement
+one_spelt : (text : List ℕ) (a b : Stmt) → Spells text (Ok a) → Spells text (Ok b) → a ≡ b
+one_spelt text a b first second =
+    let reads = good_statement text in
+    let same = sym (reads.whole a (tokens_of text) first) ∙ reads.whole b (tokens_of text) second in
+    let parts : ◌≡◌ {A = Stmt × List Token} (a, []) (b, []) = cc same in
+    ap (λ (q : Stmt × List Token). q.0) parts
+
+module _ {R : Type 0} (state : R → RevState) where
+  abbrev tables_at : Machine R → List Table
+  tables_at m = (public_of m.engine).tables
+
+  step_tables : (m0 m1 : Machine R) (text : List ℕ) (answer : Answer) (stmt : Stmt) → Spells text (Ok stmt) → SelectsFromOne (skeleton stmt) → Step state m0 m1 text answer → tables_at m1 ≡ tables_at m0
+  step_tables m0 m1 text answer stmt spells selects step = elim step.done [
+    | inl still ↦ ap tables_at still.same
+    | inr did ↦
+        ap (λ (p : Public). p.tables) did.does.ran.goes_on.public
+        ∙ selects_stay (public_of m0.engine) (record { skeleton = skeleton did.stmt; seen = seen_of m1.engine }) (subst (λ (s : Stmt). SelectsFromOne (skeleton s)) (one_spelt text stmt did.stmt spells did.spells) selects)
+  ]
+
+  pub steps_tables : (m0 m2 : Machine R) (texts : List (List ℕ)) (answers : List Answer) → Steps state m0 m2 texts answers → (rest : List (List ℕ)) (stmts : List Stmt) → AreSpelt (texts ++ rest) stmts → All (λ (stmt : Stmt). SelectsFromOne (skeleton stmt)) stmts → tables_at m2 ≡ tables_at m0
+  steps_tables m0 m2 texts answers at_rest rest stmts spelt all = refl
+  steps_tables m0 m2 texts answers (one_more step behind) rest [] spelt all = absurd spelt
+  steps_tables m0 m2 texts answers (one_more {m1 = m1} {text = text} {one = one} {texts = more} {answers = given} step behind) rest (stmt ∷ stmts) spelt all =
+      steps_tables m1 m2 more given behind rest stmts spelt.1 (All-tail (λ (s : Stmt). SelectsFromOne (skeleton s)) stmt stmts all)
+      ∙ step_tables m0 m1 text one stmt spelt.0 (All-head (λ (s : Stmt). SelectsFromOne (skeleton s)) stmt stmts all) step
+  steps_tables m0 m2 texts answers (more_together {m1 = m1} {flown = flown} {texts = more} {answers = given} step behind) rest stmts spelt all =
+      let last = spelt_last (λ (s : Stmt). SelectsFromOne (skeleton s)) flown (more ++ rest) stmts (subst (λ (l : List (List ℕ)). AreSpelt l stmts) (append_assoc flown more rest) spelt) all in
+      steps_tables m1 m2 more given behind rest last.0 last.1 last.2 ∙ ap (λ (p : Public). p.tables) step.flew.ran.ran.goes_on.public
 
 -- ---- what waits
 -- the last of those that wait do too
@@ -170,15 +231,13 @@ named None some = absurd (cc some)
 all_alike : (table : List ℕ) (first : Stmt) (rest : List Stmt) → inserts_into (skeleton first) ≡ Some table → InsertAlike first rest → All (λ (stmt : Stmt). inserts_into (skeleton stmt) ≡ Some table) (first ∷ rest)
 all_alike table first rest is alike = All-cons (λ (stmt : Stmt). inserts_into (skeleton stmt) ≡ Some table) first rest is (All-weaker (λ (stmt : Stmt). inserts_into (skeleton stmt) ≡ inserts_into (skeleton first)) (λ (stmt : Stmt). inserts_into (skeleton stmt) ≡ Some table) (λ stmt same. same ∙ is) rest alike)
 
-pub waits_gathered : (p : Public) (m : ℕ) (batch : List Stmt) (front back : List (List ℕ)) → AreGathered p m batch → AreSpelt (front ++ back) batch → Wait (batch_most p) back
-waits_gathered p m [] front back gathered spelt =
-    let none = none_held (front ++ back) spelt in
-    subst (Wait (batch_most p)) (sym (last_none front back none)) (none_waits (batch_most p) (most_some p))
-  where
-    last_none : (xs ys : List (List ℕ)) → xs ++ ys ≡ [] → ys ≡ []
-    last_none [] ys is = is
-    last_none (x ∷ xs) ys is = absurd (cc is)
-waits_gathered p m (first ∷ rest) front back gathered spelt =
+last_none : (xs ys : List (List ℕ)) → xs ++ ys ≡ [] → ys ≡ []
+last_none [] ys is = is
+last_none (x ∷ xs) ys is = absurd (cc is)
+
+-- INSERTs that wait
+waits_batched : (p : Public) (m : ℕ) (first : Stmt) (rest : List Stmt) (front back : List (List ℕ)) → AwaitsMore p m first rest → AreSpelt (front ++ back) (first ∷ rest) → Wait (batch_most p) back
+waits_batched p m first rest front back gathered spelt =
     let name = named (inserts_into (skeleton first)) (begins p m first gathered.batch.begins).inserts in
     let waits = waits_last (batch_most p) name.0 front back (first ∷ rest) spelt (all_alike name.0 first rest name.1 gathered.batch.alike) in
     let long = spelt_long (front ++ back) (first ∷ rest) spelt in
@@ -192,6 +251,45 @@ waits_gathered p m (first ∷ rest) front back gathered spelt =
       insert = waits.insert;
     }
 
+-- SELECTs that wait
+spelt_first : (texts : List (List ℕ)) (batch : List Stmt) → AreSpelt texts batch → SpellFirst texts (map Ok batch)
+unfolding SpellFirst
+spelt_first [] [] spelt = tt
+spelt_first [] (stmt ∷ batch) spelt = absurd spelt
+spelt_first (text ∷ texts) [] spelt = absurd spelt
+spelt_first (text ∷ texts) (stmt ∷ batch) spelt = (spelt.0, spelt_first texts batch spelt.1)
+
+waits_flown : (settings : Option FlightSettings) (p : Public) (batch : List Stmt) (front back : List (List ℕ)) → AwaitsFlown settings p batch → AreSpelt (front ++ back) batch → WaitToFly p (most_flown settings p) back
+waits_flown settings p batch front back gathered spelt =
+    let last = spelt_last (λ (stmt : Stmt). may_fly p (skeleton stmt) ≡ true) front back batch spelt gathered.fly in
+    let long = spelt_long (front ++ back) batch spelt in
+    let parts = length-append front back in
+    record { few = let room = gathered.room in omega (arith, room, long, parts); stmts = last.0; whole = sym (spelt_long back last.0 last.1); spell = spelt_first back last.0 last.1; select = last.2 }
+
+-- by the tables alone
+waits_alike : (p q : Public) (most : ℕ) (texts : List (List ℕ)) → q.tables ≡ p.tables → WaitToFly p most texts → WaitToFly q most texts
+waits_alike p q most texts same wait = record {
+  few = wait.few;
+  stmts = wait.stmts;
+  whole = wait.whole;
+  spell = wait.spell;
+  select = All-weaker (λ (stmt : Stmt). may_fly p (skeleton stmt) ≡ true) (λ (stmt : Stmt). may_fly q (skeleton stmt) ≡ true) (λ stmt may. may_by q p (skeleton stmt) same ∙ may) wait.stmts wait.select;
+}
+
+-- where all are SELECTs of one table, the tables are the same behind the first of them
+abbrev pub LeavesTables : (p q : Public) → List (List ℕ) → List Stmt → Type 0
+LeavesTables p q served batch = (rest : List (List ℕ)) → AreSpelt (served ++ rest) batch → All (λ (stmt : Stmt). SelectsFromOne (skeleton stmt)) batch → q.tables ≡ p.tables
+
+pub waits_gathered : (settings : Option FlightSettings) (p : Public) (m : ℕ) (batch : List Stmt) (front back : List (List ℕ)) → AreWaiting settings p m batch → AreSpelt (front ++ back) batch
+    → (q : Public) → LeavesTables p q front batch → Wait (batch_most p) back ⊎ WaitToFly q (most_flown settings p) back
+waits_gathered settings p m [] front back gathered spelt q leaves =
+    let none = none_held (front ++ back) spelt in
+    inl (subst (Wait (batch_most p)) (sym (last_none front back none)) (none_waits (batch_most p) (most_some p)))
+waits_gathered settings p m (first ∷ rest) front back (inl more) spelt q leaves = inl (waits_batched p m first rest front back more spelt)
+waits_gathered settings p m (first ∷ rest) front back (inr more) spelt q leaves =
+    let all = All-weaker (λ (stmt : Stmt). may_fly p (skeleton stmt) ≡ true) (λ (stmt : Stmt). SelectsFromOne (skeleton stmt)) (λ stmt may. selects_one p (skeleton stmt) may) (first ∷ rest) more.fly in
+    inr (waits_alike p q (most_flown settings p) back (leaves back spelt all) (waits_flown settings p (first ∷ rest) front back more spelt))
+
 -- a list that is cut in two ways
 pub cut_twice : {A : Type 0} (a b c e : List A) → a ++ b ≡ c ++ e → ((l : List A) × (c ≡ a ++ l)) ⊎ ((l : List A) × (a ≡ c ++ l))
 cut_twice [] b c e is = inl (c, refl)
@@ -204,11 +302,11 @@ cut_twice (x ∷ a) b (y ∷ c) e is =
     ]
 
 -- of texts that were whole before the last read all were answered but for some that wait, where some of those that waited were
-pub answered_but : (p : Public) (m : ℕ) (batch : List Stmt) (texts served held more_served rest ys whole : List (List ℕ)) → AreGathered p m batch → AreSpelt held batch → texts ≡ served ++ held → held ++ ys ≡ more_served ++ rest → Begins whole texts
-    → AnsweredBut (batch_most p) whole (served ++ more_served)
-answered_but p m batch texts served held more_served rest ys whole gathered spelt first second begins = elim (cut_twice held ys more_served rest second) [
+pub answered_but : (settings : Option FlightSettings) (p : Public) (m : ℕ) (batch : List Stmt) (texts served held more_served rest ys whole : List (List ℕ)) → AreWaiting settings p m batch → AreSpelt held batch → texts ≡ served ++ held → held ++ ys ≡ more_served ++ rest → Begins whole texts
+    → (q : Public) → LeavesTables p q more_served batch → AnsweredBut q (batch_most p) (most_flown settings p) whole (served ++ more_served)
+answered_but settings p m batch texts served held more_served rest ys whole gathered spelt first second begins q leaves = elim (cut_twice held ys more_served rest second) [
   | inl longer ↦
-      all_answered (batch_most p) whole (served ++ more_served) (most_some p)
+      all_answered q (batch_most p) (most_flown settings p) whole (served ++ more_served) (most_some p)
       (record {
         rest = begins.rest ++ longer.0;
         joined =
@@ -217,7 +315,7 @@ answered_but p m batch texts served held more_served rest ys whole gathered spel
       })
   | inr shorter ↦ record {
     waiting = shorter.0;
-    wait = waits_gathered p m batch more_served shorter.0 gathered (subst (λ (l : List (List ℕ)). AreSpelt l batch) shorter.1 spelt);
+    wait = waits_gathered settings p m batch more_served shorter.0 gathered (subst (λ (l : List (List ℕ)). AreSpelt l batch) shorter.1 spelt) q leaves;
     answered = subst (λ (l : List (List ℕ)). Begins whole l) (first ∙ ap (λ (l : List (List ℕ)). served ++ l) shorter.1 ∙ sym (append_assoc served more_served shorter.0)) begins;
   }
 ]

@@ -1,17 +1,11 @@
 -- A walk over the texts that were answered, and the one begun, as far as the first.
-use Rattle.std.specs.Prelude.{◌↔◌, ◌&&◌, map}
-use Rattle.std.proofs.Common.{◌≡◌, inl, inr, ◌+◌, ◌-◌, ◌≤◌, ◌<◌, ℕ, IsTrue, Bool, Ok, Err, Result, List, [], ◌∷◌, ◌++◌, length, take, Option, Some, None, refl, sym, ◌∙◌, ap, subst, append-nil, arith, ◌||◌, true, false}
+use Rattle.std.specs.Prelude.{◌&&◌, drop, map, max}
+use Rattle.std.proofs.Common.{◌≡◌, ◌⊎◌, inl, inr, ◌+◌, ◌-◌, ◌≤◌, ◌<◌, ℕ, IsTrue, Bool, Ok, Err, Result, List, [], ◌∷◌, ◌++◌, length, take, Option, Some, None, refl, sym, ◌∙◌, ap, subst, append-nil, arith, ◌||◌, true, false}
 use Rattle.std.proofs.lemmas.List.{append_cancel_left}
-use Rattle.ob_base.specs.Counts.{Rises}
 use Rattle.ob_base.specs.Events.{Event}
-use Rattle.ob_base.specs.Refusals.{is_store_fault}
 use Rattle.ob_base.specs.declared.access.Access.{Access}
 use Rattle.ob_base.specs.declared.config.Public.{Public}
-use Rattle.ob_base.specs.declared.refusal.Refusal.{Refusal}
-use Rattle.ob_base.specs.declared.refusal.Refusal.TheVariants.{StoreFault}
-use Rattle.ob_base.specs.declared.refusal.Stop.{Stop}
 use Rattle.ob_base.specs.declared.refusal.Stop.TheVariants.{NoMemory, StashFull}
-use Rattle.ob_base.specs.declared.seen.End.{End}
 use Rattle.ob_base.specs.declared.seen.Seen.{Seen}
 use Rattle.ob_base.specs.declared.skeleton.Skeleton.{Skeleton}
 use Rattle.ob_tables.proofs.EmitLemmas.{unfit_none}
@@ -19,48 +13,48 @@ use Rattle.ob_exec.proofs.LeavesRead.{Given}
 use Rattle.ob_exec.specs.Ran.{StopsWhere}
 use Rattle.ob_tables.specs.Agreeing.{AreDraws, engine_start, indexes_of, opened_from, public_of, seen_of, world_of}
 use Rattle.ob_select.specs.Memory.{AtMake, starts_with_make}
-use Rattle.ob_tables.specs.Refusals.{refused_end}
-use Rattle.ob_tables.specs.Running.{RefusedEarly, RunCause, is_fault, outcome_end, result_end}
-use Rattle.ob_verdict.specs.Outcomes.{by_fault, Emits}
+use Rattle.ob_tables.specs.Running.{RunCause, is_fault}
+use Rattle.ob_verdict.specs.Outcomes.{by_fault}
 use Rattle.ob_tables.specs.Stops.{session_stop}
-use Rattle.ob_tables.specs.Telling.{IsNotTampered, Meant, ReadsTrue, ReadsTrueUntil, Represents, answer_labels, is_refused}
+use Rattle.ob_tables.specs.Telling.{IsNotTampered, Meant, ReadsTrue, ReadsTrueUntil, Represents, is_refused}
 use Rattle.ob_verdict.specs.declared.outcome.Outcome.{Outcome}
-use Rattle.ob_verdict.specs.declared.outcome.Outcome.TheVariants.{Created, Inserted, Changed, Deleted, Dropped, Rows, Refused}
 use Rattle.ob_tables.specs.declared.stop.RunStop.{RunStop}
 use Rattle.ob_tables.specs.declared.stop.RunStop.TheVariants as Runs
 use Rattle.ob_headline.specs.Closing.{closing_line}
 use Rattle.ob_headline.proofs.FullLemmas.{met_script}
-use Rattle.ob_headline.specs.Batches.{Joins, is_failed}
 use Rattle.ob_headline.specs.Failures.{FailsBeside, RisesBy, cut_off, failures}
-use Rattle.ob_headline.specs.Disturbed.{MeantUntil}
+use Rattle.ob_headline.specs.Disturbed.{MeantUntil, meant_entries}
+use Rattle.ob_headline.specs.Flights.{GoesOn, Seat, after_entries, seat_alone, seats, whole_of}
 use Rattle.ob_headline.specs.FullStash.{ReadsFullStash}
 use Rattle.ob_headline.specs.Words.{Answer, Begins, refused_at}
 use Rattle.ob_headline.specs.Statements.{SpellFirst, statements}
-use Rattle.ob_headline.specs.Accesses.{AreSeen, Says, StopsWithin, WantsMemory, any_cut, ends_within, may_end}
-use Rattle.ob_headline.specs.Meaning.{AnswersFrom, AnswersIn, BeginsAnswer, PrintsUntil}
-use Rattle.ob_mean.specs.Batches.{Gathering, goes_into, is_cut, is_joined, is_unrefused}
+use Rattle.ob_headline.specs.Accesses.{AreSeen, LeavesAloft, StopsWithin, cut_aloft, WantsMemory, any_cut, ends_within, may_end}
+use Rattle.ob_headline.specs.Meaning.{AnswersFrom, AnswersIn, BeginsAnswer, PrintsUntil, session_after}
+use Rattle.ob_mean.specs.Batches.{Gathering, is_cut}
 use Rattle.ob_headline.specs.declared.ending.Ending.{Ending}
 use Rattle.ob_headline.specs.declared.ending.Ending.TheVariants.{Usage, BadKey, Ran}
 use Rattle.ob_keyed.specs.Serving.{Overfills}
-use Rattle.ob_mean.specs.Replay.{Alone, Broken, CutAfter, How, IsCutOff, Session, Spelt, after, after_all, cut_at, draws_taken, is_access, is_full_now, seen_now, seen_or_cut}
+use Rattle.ob_mean.specs.Replay.{Alone, Broken, CutAfter, How, IsCutOff, Session, Spelt, after, cut_at, draws_taken, is_access, is_full_now, seen_now, seen_or_cut}
 use Rattle.ob_mean.specs.Verdict.{Draws, Tables}
 use Rattle.ob_print.specs.Rows.{events_text}
 use Rattle.ob_script.specs.Saved.{left_by}
 use Rattle.ob_script.specs.Script.{changes_tables, is_saved, save_part, script, whole_script}
-use Rattle.ob_script.specs.Trace.{Served as Entry, after_all as all_public, next, trace}
+use Rattle.ob_script.specs.Flights.{Alone as AloneTurn, Entry as Turn, trace_in}
+use Rattle.ob_script.specs.Trace.{Served as Entry}
 use Rattle.ob_seal.specs.Draws.{draw_of}
 use Rattle.ob_seal.specs.KeySet.{KeySet}
 use Rattle.ob_shell.proofs.DisturbLemmas.{begins_more, crosses, take_begins}
+use Rattle.ob_shell.proofs.EndLemmas.{alone_joins, rose_by, same_by}
 use Rattle.ob_shell.proofs.FailureLemmas.{beside_none, cuts_none, fails_none}
-use Rattle.ob_shell.proofs.HowLemmas.{meets_alone, met_all}
-use Rattle.ob_shell.proofs.LeavePath.{Along, Path}
+use Rattle.ob_shell.proofs.FlightMeant.{Told}
+use Rattle.ob_shell.proofs.HowLemmas.{meets_alone, met_trace}
+use Rattle.ob_shell.proofs.LeavePath.{Along, Path, ended_along, ends_so, over_along, over_so}
 use Rattle.ob_shell.proofs.LeafLemmas.{Reads, drawn_leaves, reads_last, reads_none, reads_unasked}
-use Rattle.ob_shell.proofs.ReplayLemmas.{cut_early, cut_within, fault_is, free_holds, holds_free, outcome_cases}
-use Rattle.ob_shell.proofs.StepLemmas.{by_last}
+use Rattle.ob_shell.proofs.ReplayLemmas.{cut_early, cut_within, free_holds, holds_free, outcome_cases}
 use Rattle.ob_shell.proofs.StopLemmas.{only_memory, only_sink, only_stash, stop_untampered, tampered_as}
-use Rattle.ob_shell.specs.Running.{LastPart}
-use Rattle.ob_shell.proofs.WithLemmas.{means_with, next_with, room_with, script_with, seen_with, uncut_with, with_joins, with_lawful}
-use Rattle.ob_shell.specs.Steps.{CutStep, Does, Finished, Follow, Holds, Idle, IsUndone, Machine, Misspelt, Owed, Owes, PartlyAt, ServedStatement, ServedWith, StaysAs, asked_of, draws_behind, has_failed, session_of, settled_by, statements_of}
+use Rattle.ob_shell.proofs.WalkEntries.{EntriesSo, most_at, no_entries, none_refused, one_entry, seats_at, trace_at}
+use Rattle.ob_shell.proofs.WithLemmas.{means_with, room_with, script_with, seen_with, uncut_with, with_apart, with_joins, with_lawful}
+use Rattle.ob_shell.specs.Steps.{CutStep, Does, Finished, Follow, Holds, Idle, IsUndone, Machine, Misspelt, Owed, Owes, ServedStatement, ServedWith, StaysAs, asked_of, draws_behind, has_failed, session_of, settled_by, statements_of}
 use Rattle.ob_shell.specs.Top.{EndsUntampered}
 use Rattle.ob_sql.specs.Skeleton.{skeleton}
 use Rattle.ob_sql.specs.declared.stmt.Stmt.{Stmt}
@@ -68,82 +62,6 @@ use Rattle.ob_store.specs.Calls.{IsBefore, IsSteady}
 use Rattle.ob_store.specs.State.{Lie}
 use Rattle.ob_vault.specs.State.{RevState, World}
 use Rattle.ob_vault.specs.Tied.{Calm, IsUnfit}
-
--- ---- a statement is cut off exactly where the store failed it
-refused_cut : (r : Refusal) (n : ℕ) → is_cut (refused_end r n) ≡ is_store_fault r
-refused_cut StoreFault n = refl
-refused_cut r n = refl
-
-pub end_cut : (o : Outcome) (n : ℕ) → is_cut (outcome_end o n) ≡ is_fault o
-end_cut (Refused r) n = refused_cut r n
-end_cut Created n = refl
-end_cut Inserted n = refl
-end_cut (Changed k) n = refl
-end_cut (Deleted k) n = refl
-end_cut Dropped n = refl
-end_cut (Rows k) n = refl
-
--- whatever is gathered
-refused_failed : (g : Option Gathering) (r : Refusal) (n : ℕ) → is_failed g (refused_end r n) ≡ is_store_fault r
-refused_failed g StoreFault n = refl
-refused_failed g r n = refl
-
-end_failed : (g : Option Gathering) (o : Outcome) (n : ℕ) → is_failed g (outcome_end o n) ≡ is_fault o
-end_failed g (Refused r) n = refused_failed g r n
-end_failed g Created n = refl
-end_failed g Inserted n = refl
-end_failed g (Changed k) n = refl
-end_failed g (Deleted k) n = refl
-end_failed g Dropped n = refl
-end_failed g (Rows k) n = refl
-
-pub failed_by : (g : Option Gathering) (o : Outcome) (end : End) (n : ℕ) → end ≡ outcome_end o n → IsTrue (is_failed g end) ↔ (o ≡ Refused StoreFault)
-failed_by g o end n ends =
-    let same : is_failed g end ≡ is_fault o = ap (is_failed g) ends ∙ end_failed g o n in
-    (λ cut. fault_is o (sym same ∙ cut), λ is. same ∙ ap is_fault is)
-
--- one that was served by itself joined none
-refused_apart : (r : Refusal) (n : ℕ) → is_joined (refused_end r n) ≡ false
-refused_apart StoreFault n = refl
-refused_apart r n = refl
-
-pub end_apart : (result : Result Outcome RunStop) (n : ℕ) → is_joined (result_end result n) ≡ false
-end_apart (Ok (Refused r)) n = refused_apart r n
-end_apart (Ok Created) n = refl
-end_apart (Ok Inserted) n = refl
-end_apart (Ok (Changed k)) n = refl
-end_apart (Ok (Deleted k)) n = refl
-end_apart (Ok Dropped) n = refl
-end_apart (Ok (Rows k)) n = refl
-end_apart (Err stop) n = refl
-
-pub alone_joins : (p : Public) (m : ℕ) (g : Option Gathering) (stmt : Stmt) (here : Seen) (result : Result Outcome RunStop) (n : ℕ) → goes_into p g (skeleton stmt) ≡ false → here.end ≡ result_end result n → Joins p m g stmt here
-alone_joins p m g stmt here result n off ends = ap is_joined ends ∙ end_apart result n ∙ ap (λ (b : Bool). b && is_unrefused p m stmt) (sym off)
-
--- where it was not cut off, no call failed
-pub same_by : (o : Outcome) (old new : World) (end : End) (n : ℕ) → RunCause (Ok o) old new → end ≡ outcome_end o n → is_cut end ≡ false → new.store.faults ≡ old.store.faults
-same_by o old new end n cause ends not =
-    let none : is_fault o ≡ false = sym (ap is_cut ends ∙ end_cut o n) ∙ not in rw none at cause.0
-
--- where it was, one did
-rose_by : (o : Outcome) (old new : World) (end : End) (n : ℕ) → RunCause (Ok o) old new → end ≡ outcome_end o n → IsTrue (is_cut end) → Rises old.store.faults new.store.faults
-rose_by o old new end n cause ends cut =
-    let failed : is_fault o ≡ true = sym (ap is_cut ends ∙ end_cut o n) ∙ cut in rw failed at cause.0
-
--- ---- what an answer says of its statement
-pub says : (early : Option Refusal) (p : Public) (stmt : Stmt) (answer : Answer) (here : Seen) (events : List Event) → RefusedEarly early (Ok answer.outcome) here
-    → Emits stmt (answer_labels stmt p) answer.outcome events → answer.bytes ≡ events_text events ++ closing_line answer.outcome → is_cut here.end ≡ is_fault answer.outcome
-    → answer.plan ≡ here.plan → Says early p stmt answer
-unfolding events_text
-says None p stmt answer here events refused emits bytes same planned = record { events = events; emits = emits; bytes = bytes }
-says (Some r) p stmt answer here events refused emits bytes same planned =
-    let is : answer.outcome ≡ Refused r = cc refused.0 in
-    let sound : is_store_fault r ≡ false = ap is_fault (sym is) ∙ sym same ∙ ap (λ (x : Seen). is_cut x.end) refused.1 in
-    let at : by_fault (is_store_fault r) _ (events ≡ []) = subst (λ (o : Outcome). Emits stmt (answer_labels stmt p) o events) is emits in
-    let none : events ≡ [] = rw sound at at in
-    let line : answer.bytes ≡ closing_line (Refused r) = bytes ∙ (λ i. events_text (none i) ++ closing_line (is i)) in
-    let unplanned : answer.plan ≡ None = planned ∙ ap (λ (x : Seen). x.plan) refused.1 in
-    λ i. record { outcome = is i; bytes = line i; plan = unplanned i }
 
 -- ---- a stop that is none by a block
 sink_untampered : (run : RunStop) → run ≡ Runs.SinkFault → IsNotTampered run
@@ -187,11 +105,6 @@ either_last false b is = is
 at_closing : (p : Public) (outline : Skeleton) (rest : List Access) → rest ≡ save_part p outline (left_by p outline) → IsTrue (starts_with_make rest)
 at_closing p outline rest is = subst (λ (l : List Access). IsTrue (starts_with_make l)) (sym is) refl
 
--- what is public says all along whether tables are saved
-pub save_stays : (p : Public) (seen : List Entry) → (all_public p seen).save ≡ p.save
-save_stays p [] = refl
-save_stays p (x ∷ seen) = save_stays (next p x.skeleton x.seen) seen
-
 -- ---- the walk
 module _ {R : Type 0} (state : R → RevState) where
   abbrev pub world : Machine R → World
@@ -202,84 +115,89 @@ module _ {R : Type 0} (state : R → RevState) where
   Full m p stmt seen = ReadsFullStash m.engine.vault.keys (engine_start m.engine) m.store p stmt seen
 
   -- what holds before the first disturbance, which comes behind n accesses
-  pub record EarlyFrom (n : ℕ) (g : Option Gathering) (s : Session) (asked0 asked2 : List Access) (spelt : List Spelt) (answers : List Answer) (seen : List Entry) : Type 0 where
-    pub meant : MeantUntil n g s spelt answers seen
-    pub begins : Begins (take n asked2) (asked0 ++ trace s.public (met_all g s spelt))
-    pub quiet : length (asked0 ++ trace s.public (met_all g s spelt)) ≤ n → length asked2 ≤ n
+  pub record EarlyFrom (n most : ℕ) (words : ℕ → ℕ) (g : Option Gathering) (seats : List Seat) (s : Session) (asked0 asked2 : List Access) (spelt : List Spelt) (answers : List Answer) (seen : List Entry) : Type 0 where
+    pub meant : MeantUntil n g seats s spelt answers seen
+    pub begins : Begins (take n asked2) (asked0 ++ met_trace most words g s spelt)
+    pub quiet : length (asked0 ++ met_trace most words g s spelt) ≤ n → length asked2 ≤ n
 
-  early_none : (n : ℕ) (g : Option Gathering) (s : Session) (asked0 asked2 : List Access) (seen : List Entry) → asked2 ≡ asked0 → length asked0 ≤ n → EarlyFrom n g s asked0 asked2 [] [] seen
-  unfolding MeantUntil
-  early_none n g s asked0 asked2 seen same few = record {
-    meant = tt;
-    begins = subst (λ (l : List Access). Begins (take n l) (asked0 ++ [])) (sym same) (begins_more (take n asked0) asked0 [] (take_begins n asked0));
-    quiet = λ le. omega (arith, few, ap length same);
-  }
+  abbrev pub EarlyAt : (m0 m2 : Machine R) → List Turn → List Spelt → List Answer → List Entry → Type 0
+  EarlyAt m0 m2 entries spelt answers all =
+      (d : Draws) → AreDraws m0.engine d → IsTrue m0.store.tells → IsSteady m0.store → (tables : Tables) → Holds state m0 d tables → has_failed m0.gathered.batch ≡ false → (n : ℕ) → IsBefore m0.store.disturbed n → length m0.store.asked ≤ n
+      → EarlyFrom n (most_at m0) m0.flights.words m0.gathered.batch (seats_at m0 entries) (session_of m0 d tables) m0.store.asked m2.store.asked spelt answers all
 
-  -- a text of which nothing was asked, and which wasn't answered
-  early_still : (n : ℕ) (g : Option Gathering) (s : Session) (asked0 asked2 : List Access) (x : Spelt) (seen : List Entry) → asked2 ≡ asked0 → length asked0 ≤ n → EarlyFrom n g s asked0 asked2 (x ∷ []) [] seen
-  unfolding MeantUntil
-  early_still n g s asked0 asked2 x seen same few = record {
-    meant = tt;
-    begins = subst (λ (l : List Access). Begins (take n l) (asked0 ++ trace s.public (met_all g s (x ∷ [])))) (sym same)
-        (begins_more (take n asked0) asked0 (trace s.public (met_all g s (x ∷ []))) (take_begins n asked0));
+  -- of texts of which nothing was asked, and none was answered
+  early_still : (n most : ℕ) (words : ℕ → ℕ) (g : Option Gathering) (seats : List Seat) (s : Session) (asked0 asked2 : List Access) (spelt : List Spelt) (seen : List Entry) → MeantUntil n g seats s spelt [] seen → asked2 ≡ asked0 → length asked0 ≤ n
+      → EarlyFrom n most words g seats s asked0 asked2 spelt [] seen
+  early_still n most words g seats s asked0 asked2 spelt seen meant same few = record {
+    meant = meant;
+    begins = subst (λ (l : List Access). Begins (take n l) (asked0 ++ met_trace most words g s spelt)) (sym same)
+        (begins_more (take n asked0) asked0 (met_trace most words g s spelt) (take_begins n asked0));
     quiet = λ le. omega (arith, few, ap length same);
   }
 
   -- a text that is no statement
-  pub early_answered : (n : ℕ) (g : Option Gathering) (s : Session) (asked0 asked2 : List Access) (at : ℕ) (spelt : List Spelt) (one : Answer) (answers : List Answer) (seen : List Entry) → one ≡ refused_at at
-      → EarlyFrom n None s asked0 asked2 spelt answers seen → EarlyFrom n g s asked0 asked2 (Err at ∷ spelt) (one ∷ answers) seen
-  unfolding MeantUntil
-  early_answered n g s asked0 asked2 at spelt one answers seen is rest = record { meant = (is, rest.meant); begins = rest.begins; quiet = rest.quiet }
+  pub early_answered : (n most : ℕ) (words : ℕ → ℕ) (g : Option Gathering) (seats : List Seat) (s : Session) (asked0 asked2 : List Access) (at : ℕ) (spelt : List Spelt) (one : Answer) (answers : List Answer) (seen : List Entry) → one ≡ refused_at at
+      → EarlyFrom n most words None seats s asked0 asked2 spelt answers seen → EarlyFrom n most words g seats s asked0 asked2 (Err at ∷ spelt) (one ∷ answers) seen
+  unfolding MeantUntil meant_entries
+  early_answered n most words g seats s asked0 asked2 at spelt one answers seen is rest = record { meant = (is, rest.meant); begins = rest.begins; quiet = rest.quiet }
 
   -- a statement was begun
-  early_one : (m0 m2 : Machine R) (tables : Tables) (stmt : Stmt) (result : Result Outcome RunStop) (n : ℕ) (seen : List Entry) → (d : Draws) → AreDraws m0.engine d → Does state m0 m2 stmt result → IsTrue m0.store.tells → IsSteady m0.store
+  early_one : (m0 m2 : Machine R) (tables : Tables) (stmt : Stmt) (result : Result Outcome RunStop) (n most : ℕ) (words : ℕ → ℕ) (seats : List Seat) (seen : List Entry) → (d : Draws) → AreDraws m0.engine d → Does state m0 m2 stmt result → IsTrue m0.store.tells → IsSteady m0.store
       → Represents state m0.engine m0.store tables → IsBefore m0.store.disturbed n → length m0.store.asked ≤ n
-      → EarlyFrom n m0.gathered (session_of m0 d tables) m0.store.asked m2.store.asked (Ok stmt ∷ []) [] seen
+      → EarlyFrom n most words m0.gathered.batch seats (session_of m0 d tables) m0.store.asked m2.store.asked (Ok stmt ∷ []) [] seen
   unfolding MeantUntil
-  early_one m0 m2 tables stmt result n seen d drawn does tells steady held before few =
+  early_one m0 m2 tables stmt result n most words seats seen d drawn does tells steady held before few =
       let cross = crosses state m0 m2 d drawn tables stmt result does tells steady held n before few in
       let s = session_of m0 d tables in
-      let same : trace s.public (met_all m0.gathered s (Ok stmt ∷ [])) ≡ met_script s stmt = meets_alone m0.gathered s stmt does.alone in
+      let same : met_trace most words m0.gathered.batch s (Ok stmt ∷ []) ≡ met_script s stmt = meets_alone most words m0.gathered.batch s stmt does.alone.batch in
       record {
         meant = tt;
         begins = subst (λ (l : List Access). Begins (take n m2.store.asked) (m0.store.asked ++ l)) (sym same) cross.begins;
         quiet = λ le. cross.within (subst (λ (l : List Access). length (m0.store.asked ++ l) ≤ n) same le);
       }
 
-  -- from the first machine to the second these texts were answered so, and to the third one more was begun
-  pub record Walked (ending : Ending) (m0 m1 m2 : Machine R) (texts more : List (List ℕ)) (answers : List Answer) (part : List ℕ) : Type 0 where
+  -- what is known behind the texts: the tables, where all were answered, and the way there
+  pub record Behind (ending : Ending) (m0 m2 : Machine R) (d : Draws) (tables : Tables) (seats : List Seat) (spelt : List Spelt) (answers : List Answer) (broken : Broken) (after_it : Tables) : Type 0 where
+    pub whole : EndsWhole ending → Represents state m2.engine m2.store after_it
+    pub path : Path state ending m0 m2 d tables seats spelt answers broken
+
+  -- from the first machine to the second these texts were answered so, and to the third one more was begun, or a flight, of
+  -- which all that had ended were answered, unless it was for this cause
+  pub record Walked (Lost : Type 0) (ending : Ending) (m0 m1 m2 : Machine R) (texts more : List (List ℕ)) (answers : List Answer) (part : List ℕ) : Type 0 where
     pub spelt : List Spelt
     pub spells : SpellFirst (texts ++ more) spelt
     pub follow : SpellFirst (texts ++ more) (spelt ++ map Ok (statements_of m2.owed))
     pub reached : length texts ≤ length spelt
-    pub begun : length spelt ≤ length texts + 1
     pub each : length answers ≡ length texts
     pub seen : List Entry
     pub last : List Entry
-    pub one_last : length last ≤ 1
+    pub begun : length spelt ≤ length texts + max 1 (length last)
+    pub entries : List Turn
+    pub entered : EntriesSo m0 entries spelt seen last
     pub in_access : ends_within ending ≡ true → length last ≡ 1
     pub each_seen : length seen ≡ length (statements (take (length texts) spelt))
     pub lawful : (most old : ℕ) → (FailsBeside seen m0.store.faults m2.store.faults → RisesBy most old m2.store.faults) → (d : Draws) → AreDraws m0.engine d → Given d (indexes_of m0.engine)
-        → AreSeen (StopsWithin ending (RisesBy most old m2.store.faults) (Full m2)) (public_of m0.engine) (asked_of m0) m0.gathered spelt answers (seen ++ last)
-    pub passed : m1.store.asked ≡ m0.store.asked ++ trace (public_of m0.engine) seen
-    pub asked : m2.store.asked ≡ m0.store.asked ++ trace (public_of m0.engine) (seen ++ last)
+        → AreSeen (StopsWithin ending (RisesBy most old m2.store.faults) (Full m2)) (seats_at m0 entries) m0.gathered.batch spelt answers (seen ++ last)
+    pub aloft : LeavesAloft ending m2.store.asked (drop (length seen) (seats_at m0 entries)) (statements (drop (length texts) spelt)) last
+    pub on : GoesOn (drop (length seen) (seats_at m0 entries)) ⊎ Lost
+    pub passed : m1.store.asked ≡ m0.store.asked ++ trace_at m0 (whole_of (length seen) entries)
+    pub stands : public_of m1.engine ≡ after_entries m0.flights.words 0 (public_of m0.engine) (whole_of (length seen) entries)
+    pub asked : m2.store.asked ≡ m0.store.asked ++ trace_at m0 entries
     pub keys : m2.engine.vault.keys ≡ m0.engine.vault.keys
     pub start : engine_start m2.engine ≡ engine_start m0.engine
     pub from_closing : (public_of m0.engine).save ≡ false → opened_from m2.engine ≡ opened_from m0.engine
-    pub public : public_of m1.engine ≡ all_public (public_of m0.engine) seen
+    pub public : EndsWhole ending → public_of m2.engine ≡ after_entries m0.flights.words 0 (public_of m0.engine) entries
+    pub save : (public_of m1.engine).save ≡ (public_of m0.engine).save
     pub unfailed : any_cut (seen ++ last) ≡ false → m2.store.faults ≡ m0.store.faults
-    pub cuts : RisesBy (cut_off seen) m0.store.faults m2.store.faults
+    pub cuts : RisesBy (cut_off seen + cut_aloft (drop (length seen) (seats_at m0 entries)) last) m0.store.faults m2.store.faults
     pub failed : (public_of m0.engine).batch ≡ None → RisesBy (failures answers) m0.store.faults m2.store.faults
-    pub drawn : (d : Draws) → AreDraws m0.engine d → (g : Given d (indexes_of m0.engine)) → Reads d (indexes_of m0.engine) g (public_of m0.engine) (seen ++ last)
+    pub drawn : (d : Draws) → AreDraws m0.engine d → (g : Given d (indexes_of m0.engine)) → Reads d (indexes_of m0.engine) g (seats_at m0 entries) (seen ++ last)
     pub lie : (lie : Lie) → m0.store.lie ≡ Some lie → m2.store.lie ≡ Some lie
     pub meant : (d : Draws) → AreDraws m0.engine d → IsTrue m0.store.tells → Calm (world m0) → IsUnfit (world m2) → (tables : Tables) → Holds state m0 d tables
-        → (broken : Broken) × AnswersFrom ending (session_of m0 d tables) spelt broken answers (seen ++ last) part
-        × (EndsWhole ending → Represents state m2.engine m2.store (after_all (session_of m0 d tables) spelt broken).tables)
-        × Path state ending m0 m2 d tables spelt answers broken
+        → Told ending (seats_at m0 entries) (session_of m0 d tables) spelt answers (seen ++ last) part (Behind ending m0 m2 d tables (seats_at m0 entries) spelt answers)
     pub untampered : (d : Draws) → AreDraws m0.engine d → IsTrue m0.store.tells → (tables : Tables) → Holds state m0 d tables → m2.store.lie ≡ None → EndsUntampered ending
-    pub early : (d : Draws) → AreDraws m0.engine d → IsTrue m0.store.tells → IsSteady m0.store → (tables : Tables) → Holds state m0 d tables → has_failed m0.gathered ≡ false → (n : ℕ) → IsBefore m0.store.disturbed n → length m0.store.asked ≤ n
-        → EarlyFrom n m0.gathered (session_of m0 d tables) m0.store.asked m2.store.asked spelt answers (seen ++ last)
-    pub along : Along state ending m0 m2 spelt answers (seen ++ last)
+    pub early : EarlyAt m0 m2 entries spelt answers (seen ++ last)
+    pub along : Along state ending m0 m2 spelt answers
 
   -- ---- behind the texts that were answered
   follow_none : (texts : List (List ℕ)) (owed : List Owed) → owed ≡ [] → SpellFirst texts (map Ok (statements_of owed))
@@ -292,8 +210,8 @@ module _ {R : Type 0} (state : R → RevState) where
   follow_first text texts (one ∷ owed) follow = follow
 
   -- nothing was done
-  walked_none : (ending : Ending) (m0 m2 : Machine R) (more : List (List ℕ)) (part : List ℕ) → IsUndone m0 m2 part → EndsUntampered ending → (ends_within ending ≡ true → ⊥) → Walked ending m0 m0 m2 [] more [] part
-  unfolding SpellFirst AreSeen AnswersFrom any_cut statements
+  pub walked_none : {Lost : Type 0} (ending : Ending) (m0 m2 : Machine R) (more : List (List ℕ)) (part : List ℕ) → IsUndone m0 m2 part → EndsUntampered ending → (ends_within ending ≡ true → ⊥) → Walked Lost ending m0 m0 m2 [] more [] part
+  unfolding SpellFirst AreSeen AnswersFrom any_cut statements seats trace_in whole_of session_after after_entries MeantUntil
   walked_none ending m0 m2 more part rests fine off =
       let same = rests.machine in
       record {
@@ -305,25 +223,37 @@ module _ {R : Type 0} (state : R → RevState) where
         each = refl;
         seen = [];
         last = [];
-        one_last = omega arith;
+        entries = [];
+        entered = no_entries m0;
+        aloft = tt;
+        on = inl tt;
         in_access = λ ends. absurd (off ends);
         each_seen = refl;
         lawful = λ most old fails d drawn g. refl;
         passed = sym (append-nil m0.store.asked);
+        stands = refl;
         asked = ap (λ (m : Machine R). m.store.asked) same ∙ sym (append-nil m0.store.asked);
         keys = ap (λ (m : Machine R). m.engine.vault.keys) same;
         start = ap (λ (m : Machine R). engine_start m.engine) same;
         from_closing = λ unsaved. ap (λ (m : Machine R). opened_from m.engine) same;
-        along = record { same = same; free = rests.free };
-        public = refl;
+        along = over_along (record { same = same; free = rests.free });
+        public = λ whole. ap (λ (m : Machine R). public_of m.engine) same;
+        save = refl;
         unfailed = λ not. ap (λ (m : Machine R). m.store.faults) same;
         cuts = cuts_none _ _ (let still = ap (λ (m : Machine R). m.store.faults) same in omega (arith, still));
         failed = λ alone. fails_none _ _ (let still = ap (λ (m : Machine R). m.store.faults) same in omega (arith, still));
-        drawn = λ d drawn g. reads_none d (indexes_of m0.engine) g (public_of m0.engine);
+        drawn = λ d drawn g. reads_none d (indexes_of m0.engine) g (seats_at m0 []);
         lie = λ lie is. ap (λ (m : Machine R). m.store.lie) same ∙ is;
-        meant = λ d drawn tells calm unfit tables held. ([], (refl, rests.none), (λ whole. subst (λ (m : Machine R). Represents state m.engine m.store tables) (sym same) (free_holds state m0 d tables rests.free held)), (record { same = same; free = rests.free }, refl));
+        meant = λ d drawn tells calm unfit tables held. record {
+          broken = [];
+          meant = (refl, rests.none);
+          behind = record {
+            whole = λ whole. subst (λ (m : Machine R). Represents state m.engine m.store tables) (sym same) (free_holds state m0 d tables rests.free held);
+            path = over_so (record { same = same; free = rests.free });
+          };
+        };
         untampered = λ d drawn tells tables held honest. fine;
-        early = λ d drawn tells steady tables held sound n before few. early_none n m0.gathered (session_of m0 d tables) m0.store.asked m2.store.asked [] (ap (λ (m : Machine R). m.store.asked) same) few;
+        early = λ d drawn tells steady tables held sound n before few. early_still n (most_at m0) m0.flights.words m0.gathered.batch (seats_at m0 []) (session_of m0 d tables) m0.store.asked m2.store.asked [] [] tt (ap (λ (m : Machine R). m.store.asked) same) few;
       }
 
   -- a stop that comes within a statement alone comes where it may
@@ -389,7 +319,7 @@ module _ {R : Type 0} (state : R → RevState) where
 
   stopped_part : (m0 m2 : Machine R) (tables : Tables) (text : List ℕ) (run : RunStop) (part : List ℕ) → (d : Draws) → AreDraws m0.engine d → (cut : CutStep state m0 m2 text run part)
       → ReadsTrueUntil state m0.engine m0.store m2.engine m2.store tables
-      → BeginsAnswer (Ran (Err (session_stop run))) (session_of m0 d tables) (Ok cut.stmt) (record { skeleton = skeleton cut.stmt; seen = seen_of m2.engine } ∷ []) part
+      → BeginsAnswer (Ran (Err (session_stop run))) (seat_alone (public_of m0.engine) (asked_of m0) (record { skeleton = skeleton cut.stmt; seen = seen_of m2.engine }) ∷ []) (session_of m0 d tables) (Ok cut.stmt) [] (record { skeleton = skeleton cut.stmt; seen = seen_of m2.engine } ∷ []) part
   stopped_part m0 m2 tables text run part d drawn cut reads =
       let n = length m2.store.asked - length m0.store.asked in
       let seen_is = cut.does.means.held tables d drawn reads in
@@ -408,9 +338,9 @@ module _ {R : Type 0} (state : R → RevState) where
         bound = (cut.does.means.full tables d drawn reads).bound;
       })
 
-  walked_cut : (m0 m2 : Machine R) (text : List ℕ) (more : List (List ℕ)) (run : RunStop) (part : List ℕ) → Follow (text ∷ more) m2.owed → CutStep state m0 m2 text run part
-      → Walked (Ran (Err (session_stop run))) m0 m0 m2 [] (text ∷ more) [] part
-  unfolding SpellFirst AreSeen AnswersFrom any_cut statements
+  pub walked_cut : {Lost : Type 0} (m0 m2 : Machine R) (text : List ℕ) (more : List (List ℕ)) (run : RunStop) (part : List ℕ) → Follow (text ∷ more) m2.owed → CutStep state m0 m2 text run part
+      → Walked Lost (Ran (Err (session_stop run))) m0 m0 m2 [] (text ∷ more) [] part
+  unfolding SpellFirst AreSeen AnswersFrom any_cut statements seats trace_in whole_of session_after after_entries MeantUntil
   walked_cut m0 m2 text more run part follow cut =
       let sk = skeleton cut.stmt in
       let here = seen_of m2.engine in
@@ -423,39 +353,50 @@ module _ {R : Type 0} (state : R → RevState) where
         each = refl;
         seen = [];
         last = record { skeleton = sk; seen = here } ∷ [];
-        one_last = omega arith;
+        entries = AloneTurn (record { skeleton = sk; seen = here }) ∷ [];
+        entered = one_entry m0 cut.stmt here cut.does.alone.flown;
+        aloft = tt;
+        on = inl tt;
         in_access = λ ends. refl;
         each_seen = refl;
         lawful = λ most old fails d drawn g. (
           refl,
-          cut.does.lawful,
           (
+            cut.does.lawful,
             (
-              (λ is. wants m0 m2 cut.stmt run cut.does is),
-              (λ is off. inl (cut.does.emits (ap (λ (r : RunStop). Err r) (only_sink run (cc is))))),
-              (λ ends. stops_where run (public_of m0.engine) sk cut.does.ran.stops),
-              (λ is. full_stash m0 m2 cut.stmt run cut.does d drawn g (only_stash run (cc is))),
+              (
+                (λ is. wants m0 m2 cut.stmt run cut.does is),
+                (λ is off. inl (cut.does.emits (ap (λ (r : RunStop). Err r) (only_sink run (cc is))))),
+                (λ ends. stops_where run (public_of m0.engine) sk cut.does.ran.stops),
+                (λ is. full_stash m0 m2 cut.stmt run cut.does d drawn g (only_stash run (cc is))),
+              ),
+              alone_joins (public_of m0.engine) (asked_of m0) m0.gathered.batch cut.stmt here (Err run) _ cut.does.alone.batch cut.does.ran.ends,
             ),
-            alone_joins (public_of m0.engine) (asked_of m0) m0.gathered cut.stmt here (Err run) _ cut.does.alone cut.does.ran.ends,
           ),
           refl,
         );
         passed = sym (append-nil m0.store.asked);
+        stands = refl;
         asked = cut.does.ran.asked ∙ ap (λ xs. m0.store.asked ++ xs) (sym (append-nil (script (public_of m0.engine) sk here)));
         keys = cut.does.ran.keys;
         start = cut.does.ran.start;
         from_closing = λ unsaved. cut.does.ran.from_closing (none_saved (public_of m0.engine) sk unsaved);
-        along = inl (record { run = run; ends = refl; does = cut.does });
-        public = refl;
+        along = ended_along (inl (record { run = run; ends = refl; does = cut.does }));
+        public = λ whole. absurd whole;
+        save = refl;
         unfailed = λ not. absurd (cc (ap is_cut cut.does.ran.ends, or_first (is_cut here.end) false not));
         cuts = cuts_none _ _ cut.does.ran.later.faults;
         failed = λ alone. fails_none _ _ cut.does.ran.later.faults;
         drawn = reads_last state m0 m2 cut.stmt (Err run) cut.does;
         lie = cut.does.ran.later.lie;
         meant = λ d drawn tells calm unfit tables held.
-            ([], stopped_part m0 m2 tables text run part d drawn cut (record { tells = tells; held = free_holds state m0 d tables cut.does.free held; calm = calm; unfit = unfit }), (λ whole. absurd whole), inl (record { run = run; ends = refl; does = cut.does }));
+            record {
+              broken = [];
+              meant = stopped_part m0 m2 tables text run part d drawn cut (record { tells = tells; held = free_holds state m0 d tables cut.does.free held; calm = calm; unfit = unfit });
+              behind = record { whole = λ whole. absurd whole; path = ends_so (record { public = refl; asked = refl }) (inl (record { run = run; ends = refl; does = cut.does })) };
+            };
         untampered = λ d drawn tells tables held honest. stop_untampered run (cut.does.means.honest tables (record { tells = tells; held = free_holds state m0 d tables cut.does.free held; nolie = honest }));
-        early = λ d drawn tells steady tables held sound n before few. early_one m0 m2 tables cut.stmt (Err run) n _ d drawn cut.does tells steady (free_holds state m0 d tables cut.does.free held) before few;
+        early = λ d drawn tells steady tables held sound n before few. early_one m0 m2 tables cut.stmt (Err run) n (most_at m0) m0.flights.words _ _ d drawn cut.does tells steady (free_holds state m0 d tables cut.does.free held) before few;
       }
 
   -- how the model answers a statement that was answered
@@ -522,9 +463,9 @@ module _ {R : Type 0} (state : R → RevState) where
   not_memory : (run : RunStop) → run ≡ Runs.SinkFault → Ran (Err (session_stop run)) ≡ Ran (Err NoMemory) → ⊥
   not_memory run fault is = cc (ap session_stop fault, is)
 
-  walked_done : (m0 m2 : Machine R) (text : List ℕ) (more : List (List ℕ)) (run : RunStop) (one : Answer) (part : List ℕ) → part ≡ one.bytes → run ≡ Runs.SinkFault → Follow (text ∷ more) m2.owed → ServedStatement state m0 m2 text one
-      → Walked (Ran (Err (session_stop run))) m0 m0 m2 [] (text ∷ more) [] part
-  unfolding SpellFirst AreSeen AnswersFrom any_cut statements
+  walked_done : {Lost : Type 0} (m0 m2 : Machine R) (text : List ℕ) (more : List (List ℕ)) (run : RunStop) (one : Answer) (part : List ℕ) → part ≡ one.bytes → run ≡ Runs.SinkFault → Follow (text ∷ more) m2.owed → ServedStatement state m0 m2 text one
+      → Walked Lost (Ran (Err (session_stop run))) m0 m0 m2 [] (text ∷ more) [] part
+  unfolding SpellFirst AreSeen AnswersFrom any_cut statements seats trace_in whole_of session_after after_entries MeantUntil
   walked_done m0 m2 text more run one part is fault follow did =
       let sk = skeleton did.stmt in
       let here = seen_of m2.engine in
@@ -537,30 +478,37 @@ module _ {R : Type 0} (state : R → RevState) where
         each = refl;
         seen = [];
         last = record { skeleton = sk; seen = here } ∷ [];
-        one_last = omega arith;
+        entries = AloneTurn (record { skeleton = sk; seen = here }) ∷ [];
+        entered = one_entry m0 did.stmt here did.does.alone.flown;
+        aloft = tt;
+        on = inl tt;
         in_access = λ ends. refl;
         each_seen = refl;
         lawful = λ most old fails d drawn g. (
           refl,
-          did.does.lawful,
           (
+            did.does.lawful,
             (
-              (λ is. absurd (not_memory run fault is)),
-              (λ is off. inr (fails (beside_none _ _ (rose_by one.outcome (world m0) (world m2) here.end _ did.does.ran.cause did.does.ran.ends off)))),
-              (λ ends. absurd (sink_ends run fault ends)),
-              (λ is. absurd (not_full run fault is)),
+              (
+                (λ is. absurd (not_memory run fault is)),
+                (λ is off. inr (fails (beside_none _ _ (rose_by one.outcome (world m0) (world m2) here.end _ did.does.ran.cause did.does.ran.ends off)))),
+                (λ ends. absurd (sink_ends run fault ends)),
+                (λ is. absurd (not_full run fault is)),
+              ),
+              alone_joins (public_of m0.engine) (asked_of m0) m0.gathered.batch did.stmt here (Ok one.outcome) _ did.does.alone.batch did.does.ran.ends,
             ),
-            alone_joins (public_of m0.engine) (asked_of m0) m0.gathered did.stmt here (Ok one.outcome) _ did.does.alone did.does.ran.ends,
           ),
           refl,
         );
         passed = sym (append-nil m0.store.asked);
+        stands = refl;
         asked = did.does.ran.asked ∙ ap (λ xs. m0.store.asked ++ xs) (sym (append-nil (script (public_of m0.engine) sk here)));
         keys = did.does.ran.keys;
         start = did.does.ran.start;
         from_closing = λ unsaved. did.does.ran.from_closing (none_saved (public_of m0.engine) sk unsaved);
-        along = inr (record { ends = ap (λ (r : RunStop). Ran (Err (session_stop r))) fault; outcome = one.outcome; done = inl (record { does = did.does; owes = did.owes }) });
-        public = refl;
+        along = ended_along (inr (record { ends = ap (λ (r : RunStop). Ran (Err (session_stop r))) fault; outcome = one.outcome; done = inl (record { does = did.does; owes = did.owes }) }));
+        public = λ whole. absurd whole;
+        save = refl;
         unfailed = λ not. same_by one.outcome (world m0) (world m2) here.end _ did.does.ran.cause did.does.ran.ends (or_first (is_cut here.end) false not);
         cuts = cuts_none _ _ did.does.ran.later.faults;
         failed = λ alone. fails_none _ _ did.does.ran.later.faults;
@@ -568,17 +516,21 @@ module _ {R : Type 0} (state : R → RevState) where
         lie = did.does.ran.later.lie;
         meant = λ d drawn tells calm unfit tables held.
             let by = answered_by m0 m2 tables text one did d drawn (reads_true m0 m2 tables text one did tells (free_holds state m0 d tables did.does.free held) calm unfit) in
-            ([], inr (record { fault = ap (λ (r : RunStop). Ran (Err (session_stop r))) fault; room = by.room; how = by.how; cuts = by.cuts; seen = by.seen; answer = one; answers = by.answer; whole = is }), (λ whole. absurd whole), inr (record { ends = ap (λ (r : RunStop). Ran (Err (session_stop r))) fault; outcome = one.outcome; done = inl (record { does = did.does; owes = did.owes }) }));
+            record {
+              broken = [];
+              meant = inr (record { fault = ap (λ (r : RunStop). Ran (Err (session_stop r))) fault; room = by.room; how = by.how; cuts = by.cuts; seen = by.seen; answer = one; answers = by.answer; whole = is });
+              behind = record { whole = λ whole. absurd whole; path = ends_so (record { public = refl; asked = refl }) (inr (record { ends = ap (λ (r : RunStop). Ran (Err (session_stop r))) fault; outcome = one.outcome; done = inl (record { does = did.does; owes = did.owes }) })) };
+            };
         untampered = λ d drawn tells tables held honest. stop_untampered run (sink_untampered run fault);
-        early = λ d drawn tells steady tables held sound n before few. early_one m0 m2 tables did.stmt (Ok one.outcome) n _ d drawn did.does tells steady (free_holds state m0 d tables did.does.free held) before few;
+        early = λ d drawn tells steady tables held sound n before few. early_one m0 m2 tables did.stmt (Ok one.outcome) n (most_at m0) m0.flights.words _ _ d drawn did.does tells steady (free_holds state m0 d tables did.does.free held) before few;
       }
 
   pub refused_is : (m0 m1 : Machine R) (text : List ℕ) (one : Answer) → (bad : Misspelt m0 m1 text one) → one ≡ refused_at bad.at
   refused_is m0 m1 text one bad = λ i. record { outcome = bad.refused i; bytes = (bad.line ∙ ap closing_line bad.refused) i; plan = bad.unplanned i }
 
-  walked_refused : (ending : Ending) (m0 m2 : Machine R) (text : List ℕ) (more : List (List ℕ)) (one : Answer) (part : List ℕ) → part ≡ one.bytes → StaysAs m0 m2 → Misspelt m0 m2 text one → EndsUntampered ending → (ends_within ending ≡ true → ⊥)
-      → Walked ending m0 m0 m2 [] (text ∷ more) [] part
-  unfolding SpellFirst AreSeen AnswersFrom any_cut statements
+  walked_refused : {Lost : Type 0} (ending : Ending) (m0 m2 : Machine R) (text : List ℕ) (more : List (List ℕ)) (one : Answer) (part : List ℕ) → part ≡ one.bytes → StaysAs m0 m2 → Misspelt m0 m2 text one → EndsUntampered ending → (ends_within ending ≡ true → ⊥)
+      → Walked Lost ending m0 m0 m2 [] (text ∷ more) [] part
+  unfolding SpellFirst AreSeen AnswersFrom any_cut statements seats trace_in whole_of session_after after_entries MeantUntil
   walked_refused ending m0 m2 text more one part is same bad fine off = record {
     spelt = Err bad.at ∷ [];
     spells = (bad.spells, tt);
@@ -588,36 +540,43 @@ module _ {R : Type 0} (state : R → RevState) where
     each = refl;
     seen = [];
     last = [];
-    one_last = omega arith;
+    entries = [];
+    entered = none_refused m0 bad.at;
+    aloft = tt;
+    on = inl tt;
     in_access = λ ends. absurd (off ends);
     each_seen = refl;
     lawful = λ most old fails d drawn g. refl;
     passed = sym (append-nil m0.store.asked);
+    stands = refl;
     asked = ap (λ (m : Machine R). m.store.asked) same ∙ sym (append-nil m0.store.asked);
     keys = ap (λ (m : Machine R). m.engine.vault.keys) same;
     start = ap (λ (m : Machine R). engine_start m.engine) same;
     from_closing = λ unsaved. ap (λ (m : Machine R). opened_from m.engine) same;
-    along = record { same = same; free = bad.free; owed = bad.owed };
-    public = refl;
+    along = ended_along (record { same = same; free = bad.free; owed = bad.owed });
+    public = λ whole. ap (λ (m : Machine R). public_of m.engine) same;
+    save = refl;
     unfailed = λ not. ap (λ (m : Machine R). m.store.faults) same;
     cuts = cuts_none _ _ (let still = ap (λ (m : Machine R). m.store.faults) same in omega (arith, still));
     failed = λ alone. fails_none _ _ (let still = ap (λ (m : Machine R). m.store.faults) same in omega (arith, still));
-    drawn = λ d drawn g. reads_none d (indexes_of m0.engine) g (public_of m0.engine);
+    drawn = λ d drawn g. reads_none d (indexes_of m0.engine) g (seats_at m0 []);
     lie = λ lie it. ap (λ (m : Machine R). m.store.lie) same ∙ it;
-    meant = λ d drawn tells calm unfit tables held. (
-      [],
-      is ∙ ap (λ (a : Answer). a.bytes) (refused_is m0 m2 text one bad),
-      (λ whole. subst (λ (m : Machine R). Represents state m.engine m.store tables) (sym same) (free_holds state m0 d tables bad.free held)),
-      record { same = same; free = bad.free; owed = bad.owed },
-    );
+    meant = λ d drawn tells calm unfit tables held. record {
+      broken = [];
+      meant = is ∙ ap (λ (a : Answer). a.bytes) (refused_is m0 m2 text one bad);
+      behind = record {
+        whole = λ whole. subst (λ (m : Machine R). Represents state m.engine m.store tables) (sym same) (free_holds state m0 d tables bad.free held);
+        path = ends_so tt (record { same = same; free = bad.free; owed = bad.owed });
+      };
+    };
     untampered = λ d drawn tells tables held honest. fine;
-    early = λ d drawn tells steady tables held sound n before few. early_still n m0.gathered (session_of m0 d tables) m0.store.asked m2.store.asked (Err bad.at) [] (ap (λ (m : Machine R). m.store.asked) same) few;
+    early = λ d drawn tells steady tables held sound n before few. early_still n (most_at m0) m0.flights.words m0.gathered.batch (seats_at m0 []) (session_of m0 d tables) m0.store.asked m2.store.asked (Err bad.at ∷ []) [] tt (ap (λ (m : Machine R). m.store.asked) same) few;
   }
 
   -- one that was carried out with the INSERT before it was answered, and a sink failed
-  walked_with : (m0 m2 : Machine R) (text : List ℕ) (more : List (List ℕ)) (run : RunStop) (one : Answer) (part : List ℕ) → part ≡ one.bytes → run ≡ Runs.SinkFault → Follow (text ∷ more) m2.owed → StaysAs m0 m2 → ServedWith m0 m2 text one
-      → Walked (Ran (Err (session_stop run))) m0 m0 m2 [] (text ∷ more) [] part
-  unfolding SpellFirst AreSeen AnswersFrom any_cut statements
+  walked_with : {Lost : Type 0} (m0 m2 : Machine R) (text : List ℕ) (more : List (List ℕ)) (run : RunStop) (one : Answer) (part : List ℕ) → part ≡ one.bytes → run ≡ Runs.SinkFault → Follow (text ∷ more) m2.owed → StaysAs m0 m2 → ServedWith m0 m2 text one
+      → Walked Lost (Ran (Err (session_stop run))) m0 m0 m2 [] (text ∷ more) [] part
+  unfolding SpellFirst AreSeen AnswersFrom any_cut statements seats trace_in whole_of session_after after_entries MeantUntil
   walked_with m0 m2 text more run one part is fault follow same with =
       let sk = skeleton with.stmt in
       let here = seen_with state m0 m2 text one with in
@@ -633,42 +592,49 @@ module _ {R : Type 0} (state : R → RevState) where
         each = refl;
         seen = [];
         last = record { skeleton = sk; seen = here } ∷ [];
-        one_last = omega arith;
+        entries = AloneTurn (record { skeleton = sk; seen = here }) ∷ [];
+        entered = one_entry m0 with.stmt here (with_apart state m0 m2 text one with (most_at m0) m0.gathered.flown);
+        aloft = tt;
+        on = inl tt;
         in_access = λ ends. refl;
         each_seen = refl;
         lawful = λ most old fails d drawn g. (
           refl,
-          with_lawful state m0 m2 text one with,
           (
-            ((λ is. absurd (not_memory run fault is)), (λ is cut. absurd (cc (cut, off))), (λ ends. absurd (sink_ends run fault ends)), (λ is. absurd (not_full run fault is))),
-            with_joins state m0 m2 text one with,
+            with_lawful state m0 m2 text one with,
+            (
+              ((λ is. absurd (not_memory run fault is)), (λ is cut. absurd (cc (cut, off))), (λ ends. absurd (sink_ends run fault ends)), (λ is. absurd (not_full run fault is))),
+              with_joins state m0 m2 text one with,
+            ),
           ),
           refl,
         );
         passed = sym (append-nil m0.store.asked);
+        stands = refl;
         asked = ap (λ (m : Machine R). m.store.asked) same ∙ sym (append-nil m0.store.asked) ∙ ap (λ (l : List Access). m0.store.asked ++ (l ++ [])) (sym none);
         keys = ap (λ (m : Machine R). m.engine.vault.keys) same;
         start = ap (λ (m : Machine R). engine_start m.engine) same;
         from_closing = λ unsaved. ap (λ (m : Machine R). opened_from m.engine) same;
-        along = inr (record { ends = ap (λ (r : RunStop). Ran (Err (session_stop r))) fault; outcome = one.outcome; done = inr (record { same = same; along = with.along; owed = with.owed }) });
-        public = refl;
+        along = ended_along (inr (record { ends = ap (λ (r : RunStop). Ran (Err (session_stop r))) fault; outcome = one.outcome; done = inr (record { same = same; along = with.along; owed = with.owed }) }));
+        public = λ whole. absurd whole;
+        save = refl;
         unfailed = λ not. still;
         cuts = cuts_none _ _ (omega (arith, still));
         failed = λ alone. fails_none _ _ (omega (arith, still));
-        drawn = λ d drawn g. reads_unasked d (indexes_of m0.engine) g (public_of m0.engine) (public_of m0.engine) (record { skeleton = sk; seen = here }) [] refl (next_with state m0 m2 text one with) (reads_none d (indexes_of m0.engine) g (public_of m0.engine));
+        drawn = λ d drawn g. reads_unasked d (indexes_of m0.engine) g (seat_alone (public_of m0.engine) (asked_of m0) (record { skeleton = sk; seen = here })) [] (record { skeleton = sk; seen = here }) [] refl (reads_none d (indexes_of m0.engine) g []);
         lie = λ lie it. ap (λ (m : Machine R). m.store.lie) same ∙ it;
         meant = λ d drawn tells calm unfit tables held.
-            let by = means_with state m0 m2 text one with same d tables held in (
-              [],
-              inr (record { fault = ap (λ (r : RunStop). Ran (Err (session_stop r))) fault; room = room_with state m0 m2 text one with same d tables held; how = by.how; cuts = by.cuts; seen = by.seen; answer = one; answers = by.answer; whole = is }),
-              (λ whole. absurd whole),
-              inr (record { ends = ap (λ (r : RunStop). Ran (Err (session_stop r))) fault; outcome = one.outcome; done = inr (record { same = same; along = with.along; owed = with.owed }) }),
-            );
+            let by = means_with state m0 m2 text one with same d tables held in
+            record {
+              broken = [];
+              meant = inr (record { fault = ap (λ (r : RunStop). Ran (Err (session_stop r))) fault; room = room_with state m0 m2 text one with same d tables held; how = by.how; cuts = by.cuts; seen = by.seen; answer = one; answers = by.answer; whole = is });
+              behind = record { whole = λ whole. absurd whole; path = ends_so (record { public = refl; asked = refl }) (inr (record { ends = ap (λ (r : RunStop). Ran (Err (session_stop r))) fault; outcome = one.outcome; done = inr (record { same = same; along = with.along; owed = with.owed }) })) };
+            };
         untampered = λ d drawn tells tables held honest. stop_untampered run (sink_untampered run fault);
-        early = λ d drawn tells steady tables held sound n before few. early_still n m0.gathered (session_of m0 d tables) m0.store.asked m2.store.asked (Ok with.stmt) _ (ap (λ (m : Machine R). m.store.asked) same) few;
+        early = λ d drawn tells steady tables held sound n before few. early_still n (most_at m0) m0.flights.words m0.gathered.batch _ (session_of m0 d tables) m0.store.asked m2.store.asked (Ok with.stmt ∷ []) _ tt (ap (λ (m : Machine R). m.store.asked) same) few;
       }
 
-  walked_done_so : (m1 m2 : Machine R) (text : List ℕ) (more : List (List ℕ)) (run : RunStop) (part : List ℕ) (done : Finished state m1 m2 text run part) → Follow (text ∷ more) m2.owed → Walked (Ran (Err (session_stop run))) m1 m1 m2 [] (text ∷ more) [] part
+  pub walked_done_so : {Lost : Type 0} (m1 m2 : Machine R) (text : List ℕ) (more : List (List ℕ)) (run : RunStop) (part : List ℕ) (done : Finished state m1 m2 text run part) → Follow (text ∷ more) m2.owed → Walked Lost (Ran (Err (session_stop run))) m1 m1 m2 [] (text ∷ more) [] part
   walked_done_so m1 m2 text more run part done follow = elim done.step.done [
     | inl still ↦ elim still.why [
       | inl bad ↦ walked_refused _ m1 m2 text more done.answer part done.whole still.same bad (stop_untampered run (sink_untampered run done.fault)) (sink_ends run done.fault)
@@ -677,17 +643,5 @@ module _ {R : Type 0} (state : R → RevState) where
     | inr did ↦ walked_done m1 m2 text more run done.answer part done.whole done.fault follow did
   ]
 
-  walked_idle : (m1 m2 : Machine R) (more : List (List ℕ)) (run : RunStop) (part : List ℕ) → Idle m1 m2 run part → Walked (Ran (Err (session_stop run))) m1 m1 m2 [] more [] part
+  pub walked_idle : {Lost : Type 0} (m1 m2 : Machine R) (more : List (List ℕ)) (run : RunStop) (part : List ℕ) → Idle m1 m2 run part → Walked Lost (Ran (Err (session_stop run))) m1 m1 m2 [] more [] part
   walked_idle m1 m2 more run part idle = walked_none _ m1 m2 more part idle.rests (stop_untampered run (memory_untampered run idle.memory)) (memory_ends run idle.memory)
-
-  walked_part : (m1 m2 : Machine R) (more : List (List ℕ)) (run : RunStop) (part : List ℕ) → Follow more m2.owed → PartlyAt state m1 m2 more run part → Walked (Ran (Err (session_stop run))) m1 m1 m2 [] more [] part
-  walked_part m1 m2 [] run part follow idle = walked_idle m1 m2 [] run part idle
-  walked_part m1 m2 (text ∷ more) run part follow (inl idle) = walked_idle m1 m2 (text ∷ more) run part idle
-  walked_part m1 m2 (text ∷ more) run part follow (inr (inl cut)) = walked_cut m1 m2 text more run part follow cut
-  walked_part m1 m2 (text ∷ more) run part follow (inr (inr done)) = walked_done_so m1 m2 text more run part done follow
-
-  pub walked_last : (m1 m2 : Machine R) (more : List (List ℕ)) (part : List ℕ) (result : Result Bool Stop) → Follow more m2.owed → LastPart state m1 m2 more part result → Walked (Ran result) m1 m1 m2 [] more [] part
-  walked_last m1 m2 more part (Ok flag) follow rests = walked_none (Ran (Ok flag)) m1 m2 more part rests tt (λ ends. cc ends)
-  walked_last m1 m2 more part (Err stop) follow last =
-      by_last state m1 m2 more part (λ (s : Stop). Walked (Ran (Err s)) m1 m1 m2 [] more [] part) stop last (λ run partly. walked_part m1 m2 more run part follow partly)
-      (λ rests. walked_none _ m1 m2 more part rests tt (λ ends. cc ends)) (λ rests. walked_none _ m1 m2 more part rests tt (λ ends. cc ends))

@@ -12,6 +12,7 @@ use Rattle.ob_base.specs.declared.seen.Seen.{Seen}
 use Rattle.ob_headline.specs.Accesses.{Says}
 use Rattle.ob_headline.specs.Batches.{Joins, is_failed}
 use Rattle.ob_headline.specs.Closing.{closing_line}
+use Rattle.ob_headline.specs.Flights.{may_fly, place_now}
 use Rattle.ob_headline.specs.Meaning.{AnswersIn, AnswersMeant}
 use Rattle.ob_headline.specs.Words.{Answer}
 use Rattle.ob_mean.proofs.BatchLemmas.{GoesIn, after_cut_with, after_refused, after_with, goes_in, settle_refused}
@@ -29,7 +30,7 @@ use Rattle.ob_print.specs.Rows.{events_text}
 use Rattle.ob_script.proofs.Unasked.{static_stays, stays_public}
 use Rattle.ob_script.specs.Script.{script}
 use Rattle.ob_script.specs.Trace.{next}
-use Rattle.ob_shell.specs.Steps.{AreOwed, Holds, Machine, Owed, ServedWith, StaysAs, TakesOwed, asked_of, end_with, has_failed, session_of, statements_of, tables_behind}
+use Rattle.ob_shell.specs.Steps.{Gathered, AreOwed, Holds, Machine, Owed, ServedWith, StaysAs, TakesOwed, asked_of, end_with, has_failed, session_of, statements_of, tables_behind}
 use Rattle.ob_sql.specs.Skeleton.{skeleton}
 use Rattle.ob_sql.specs.declared.stmt.Literal.{Literal}
 use Rattle.ob_sql.specs.declared.stmt.Stmt.{Stmt}
@@ -115,8 +116,8 @@ module _ {R : Type 0} (state : R → RevState) (m0 m1 : Machine R) (text : List 
   abbrev pub seen_with : Seen
   seen_with = seen_to (end_with (refusal_now p m stmt))
 
-  goes : GoesIn p m0.gathered (skeleton stmt)
-  goes = goes_in p m0.gathered (skeleton stmt) with.joins
+  goes : GoesIn p m0.gathered.batch (skeleton stmt)
+  goes = goes_in p m0.gathered.batch (skeleton stmt) with.joins
 
   pub inserts : IsSome (inserts_into (skeleton stmt))
   inserts = ap is_some goes.same
@@ -128,6 +129,13 @@ module _ {R : Type 0} (state : R → RevState) (m0 m1 : Machine R) (text : List 
   with_insert = insert_of stmt inserts
 
   -- ---- by what is public
+  -- it flies with none
+  pub with_apart : (most gathered : ℕ) → place_now most p gathered (skeleton stmt) ≡ 0
+  with_apart most gathered = ap (λ (x : Stmt). place_now most p gathered (skeleton x)) with_insert.is
+
+  pub with_grounded : may_fly p (skeleton stmt) ≡ false
+  with_grounded = ap (λ (x : Stmt). may_fly p (skeleton x)) with_insert.is
+
   pub with_lawful : Lawful p m stmt seen_with
   with_lawful = go (refusal_now p m stmt) refl
     where
@@ -145,8 +153,8 @@ module _ {R : Type 0} (state : R → RevState) (m0 m1 : Machine R) (text : List 
   joins_by true (Some r) is = refl
   joins_by false o is = absurd (cc is)
 
-  pub with_joins : Joins p m m0.gathered stmt seen_with
-  with_joins = joins_by (goes_into p m0.gathered (skeleton stmt)) (refusal_now p m stmt) with.joins
+  pub with_joins : Joins p m m0.gathered.batch stmt seen_with
+  with_joins = joins_by (goes_into p m0.gathered.batch (skeleton stmt)) (refusal_now p m stmt) with.joins
 
   own_by : (o : Option Refusal) (failed : Bool) → refusal_now p m stmt ≡ o → IsServedWith o failed one.outcome → HasNoRows one.outcome
   own_by (Some r) failed is answer = subst HasNoRows (sym answer) tt
@@ -154,7 +162,7 @@ module _ {R : Type 0} (state : R → RevState) (m0 m1 : Machine R) (text : List 
   own_by None false is answer = (row_own one.outcome answer).1
 
   silent : HasNoRows one.outcome
-  silent = own_by (refusal_now p m stmt) (has_failed m0.gathered) refl with.answered
+  silent = own_by (refusal_now p m stmt) (has_failed m0.gathered.batch) refl with.answered
 
   printed : one.bytes ≡ events_text [] ++ closing_line one.outcome
   printed = with.line ∙ ap (λ (l : List ℕ). l ++ closing_line one.outcome) (sym events_none)
@@ -162,15 +170,15 @@ module _ {R : Type 0} (state : R → RevState) (m0 m1 : Machine R) (text : List 
   pub with_says : Says (refusal_now p m stmt) p stmt one
   with_says = go (refusal_now p m stmt) with.answered
     where
-      go : (o : Option Refusal) → IsServedWith o (has_failed m0.gathered) one.outcome → Says o p stmt one
+      go : (o : Option Refusal) → IsServedWith o (has_failed m0.gathered.batch) one.outcome → Says o p stmt one
       go None answer = record { events = []; emits = silent_emits stmt _ one.outcome silent; bytes = printed }
       go (Some r) answer = λ i. record { outcome = answer i; bytes = (with.line ∙ ap closing_line answer) i; plan = with.unplanned i }
 
-  pub with_failed : IsTrue (is_failed m0.gathered seen_with.end) ↔ (one.outcome ≡ Refused StoreFault)
-  with_failed = go (refusal_now p m stmt) (has_failed m0.gathered) refl refl with.answered
+  pub with_failed : IsTrue (is_failed m0.gathered.batch seen_with.end) ↔ (one.outcome ≡ Refused StoreFault)
+  with_failed = go (refusal_now p m stmt) (has_failed m0.gathered.batch) refl refl with.answered
     where
-      go : (o : Option Refusal) (failed : Bool) → refusal_now p m stmt ≡ o → has_failed m0.gathered ≡ failed → IsServedWith o failed one.outcome
-          → IsTrue (is_failed m0.gathered (end_with o)) ↔ (one.outcome ≡ Refused StoreFault)
+      go : (o : Option Refusal) (failed : Bool) → refusal_now p m stmt ≡ o → has_failed m0.gathered.batch ≡ failed → IsServedWith o failed one.outcome
+          → IsTrue (is_failed m0.gathered.batch (end_with o)) ↔ (one.outcome ≡ Refused StoreFault)
       go (Some r) failed is has answer = (λ off. absurd (cc off), λ fault. absurd (let own = (early_is p m stmt r is).own in let same = ap is_fault (sym answer ∙ fault) in cc (own, same)))
       go None true is has answer = (λ on. answer, λ fault. has)
       go None false is has answer = (λ on. absurd (cc (on, has)), λ fault. absurd (let own = (row_own one.outcome answer).0 in let same = ap is_fault fault in cc (own, same)))
@@ -201,11 +209,11 @@ module _ {R : Type 0} (state : R → RevState) (m0 m1 : Machine R) (text : List 
       go (Some r) = refl
 
   -- the batch is as it was, with one more
-  pub failed_with : has_failed m1.gathered ≡ has_failed m0.gathered
+  pub failed_with : has_failed m1.gathered.batch ≡ has_failed m0.gathered.batch
   failed_with =
-      ap has_failed with.gathered
-      ∙ ap (λ (b : Bool). has_failed (if b then option_map and_one m0.gathered else if begins_batch p m stmt then begun_by (skeleton stmt) (end_with (refusal_now p m stmt)) else None)) with.joins
-      ∙ go m0.gathered
+      ap (λ (x : Gathered). has_failed x.batch) with.gathered
+      ∙ ap (λ (b : Bool). has_failed (if b then option_map and_one m0.gathered.batch else if begins_batch p m stmt then begun_by (skeleton stmt) (end_with (refusal_now p m stmt)) else None)) with.joins
+      ∙ go m0.gathered.batch
     where
       go : (o : Option Gathering) → has_failed (option_map and_one o) ≡ has_failed o
       go None = refl
@@ -250,7 +258,7 @@ module _ {R : Type 0} (state : R → RevState) (m0 m1 : Machine R) (text : List 
       pub stands : after how s stmt ≡ session_of m0 d (after how s stmt).tables
       pub holds : Holds state m1 d (after how s stmt).tables
       pub still : tables_behind m1 d (after how s stmt).tables ≡ tables_behind m0 d tables
-      pub plain : has_failed m0.gathered ≡ false → how ≡ how_now m0.gathered s stmt
+      pub plain : has_failed m0.gathered.batch ≡ false → how ≡ how_now m0.gathered.batch s stmt
 
     abbrev behind : Tables
     behind = settle d p m tables stmt
@@ -293,7 +301,7 @@ module _ {R : Type 0} (state : R → RevState) (m0 m1 : Machine R) (text : List 
     prints : (labels : List (List ℕ)) → Prints labels (verdict p m tables stmt) [] × Unfinished labels (verdict p m tables stmt) []
     prints = insert_prints p m tables stmt with_insert
 
-    refused_means : (r : Refusal) → refusal_now p m stmt ≡ Some r → (failed : Bool) → has_failed m0.gathered ≡ failed → one.outcome ≡ Refused r → TakesOwed failed (record { stmt = stmt; outcome = one.outcome }) m0.owed m1.owed → MeansWith
+    refused_means : (r : Refusal) → refusal_now p m stmt ≡ Some r → (failed : Bool) → has_failed m0.gathered.batch ≡ failed → one.outcome ≡ Refused r → TakesOwed failed (record { stmt = stmt; outcome = one.outcome }) m0.owed m1.owed → MeansWith
     refused_means r is failed has answer owed =
         let early = early_is_now ∙ is in
         let still : behind ≡ tables = settle_refused d p m tables stmt r early in
@@ -306,7 +314,7 @@ module _ {R : Type 0} (state : R → RevState) (m0 m1 : Machine R) (text : List 
           stands = after_refused s stmt r early ∙ ap (session_of m0 d) (sym still);
           holds = by_failed failed owed still;
           still = still_by failed owed still;
-          plain = λ own. how_by (goes_into p m0.gathered (skeleton stmt)) (refusal_now p m stmt) with.joins (ap is_some is);
+          plain = λ own. how_by (goes_into p m0.gathered.batch (skeleton stmt)) (refusal_now p m stmt) with.joins (ap is_some is);
         }
       where
         by_failed : (failed : Bool) → TakesOwed failed (record { stmt = stmt; outcome = one.outcome }) m0.owed m1.owed → behind ≡ tables → Holds state m1 d behind
@@ -317,7 +325,7 @@ module _ {R : Type 0} (state : R → RevState) (m0 m1 : Machine R) (text : List 
         still_by true none still = ap (tables_behind m1 d) still ∙ stayed_still none
         still_by false is still = took_still is
 
-    joined_means : refusal_now p m stmt ≡ None → has_failed m0.gathered ≡ false → TakesOwed false (record { stmt = stmt; outcome = one.outcome }) m0.owed m1.owed → MeansWith
+    joined_means : refusal_now p m stmt ≡ None → has_failed m0.gathered.batch ≡ false → TakesOwed false (record { stmt = stmt; outcome = one.outcome }) m0.owed m1.owed → MeansWith
     joined_means none own owed = record {
       how = With;
       cuts = member none;
@@ -326,10 +334,10 @@ module _ {R : Type 0} (state : R → RevState) (m0 m1 : Machine R) (text : List 
       stands = after_with s stmt;
       holds = took owed (insert_headings d p m tables stmt with_insert (unkeyed none));
       still = took_still owed;
-      plain = λ own. how_with (goes_into p m0.gathered (skeleton stmt)) (refusal_now p m stmt) with.joins none;
+      plain = λ own. how_with (goes_into p m0.gathered.batch (skeleton stmt)) (refusal_now p m stmt) with.joins none;
     }
 
-    failed_means : refusal_now p m stmt ≡ None → has_failed m0.gathered ≡ true → one.outcome ≡ Refused StoreFault → TakesOwed true (record { stmt = stmt; outcome = one.outcome }) m0.owed m1.owed → MeansWith
+    failed_means : refusal_now p m stmt ≡ None → has_failed m0.gathered.batch ≡ true → one.outcome ≡ Refused StoreFault → TakesOwed true (record { stmt = stmt; outcome = one.outcome }) m0.owed m1.owed → MeansWith
     failed_means none has answer owed = record {
       how = CutWith;
       cuts = member none;
@@ -342,9 +350,9 @@ module _ {R : Type 0} (state : R → RevState) (m0 m1 : Machine R) (text : List 
     }
 
     pub means_with : MeansWith
-    means_with = go (refusal_now p m stmt) (has_failed m0.gathered) refl refl with.answered with.owed
+    means_with = go (refusal_now p m stmt) (has_failed m0.gathered.batch) refl refl with.answered with.owed
       where
-        go : (o : Option Refusal) (failed : Bool) → refusal_now p m stmt ≡ o → has_failed m0.gathered ≡ failed → IsServedWith o failed one.outcome
+        go : (o : Option Refusal) (failed : Bool) → refusal_now p m stmt ≡ o → has_failed m0.gathered.batch ≡ failed → IsServedWith o failed one.outcome
             → TakesOwed failed (record { stmt = stmt; outcome = one.outcome }) m0.owed m1.owed → MeansWith
         go (Some r) failed is has answer owed = refused_means r is failed has answer owed
         go None true is has answer owed = failed_means is has answer owed

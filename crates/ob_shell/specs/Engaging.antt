@@ -2,6 +2,7 @@
 use Rattle.std.specs.Prelude.{ℕ, ◌≡◌, ◌≢◌, ◌≤◌, ◌<◌, ◌+◌, ◌^◌, ◌⊎◌, Bool, true, false, List, [], length, Option, None, Some, Result, Ok, Err, IfErr, IfOk}
 use Rattle.std.specs.Io.KnownBytes.{Consumes}
 use Rattle.ob_base.specs.Counts.{Rises}
+use Rattle.ob_base.specs.Publics.{first_public}
 use Rattle.ob_base.specs.declared.access.Access.{Access}
 use Rattle.ob_base.specs.declared.config.Config.{Config}
 use Rattle.ob_base.specs.declared.fault.Failed.{Failed}
@@ -13,7 +14,7 @@ use Rattle.ob_tables.specs.declared.engine.Engine.{Engine}
 use Rattle.ob_gen.specs.Generated.{generated}
 use Rattle.ob_gen.specs.SummaryText.{summary_of, summary_text}
 use Rattle.ob_gen.specs.declared.tally.Tally.{Tally}
-use Rattle.ob_headline.specs.Bases.{Base, fresh}
+use Rattle.ob_headline.specs.Bases.{Base, flying, fresh}
 use Rattle.ob_headline.specs.Keeping.{BeganKept, BeginsFrom, EndsAtMark, EndsWith, NotBegun, kept_line, kept_status, region_opened}
 use Rattle.ob_headline.specs.KeptHeadline.{ClosesTables, EndsUnkeyed}
 use Rattle.ob_headline.specs.KeyLine.{first_line, secret_of}
@@ -35,7 +36,7 @@ use Rattle.ob_shell.specs.Feeding.{Fetch}
 use Rattle.ob_shell.specs.Generating.{SummedUp}
 use Rattle.ob_shell.specs.Running.{OutFailed, ServesAlone, Silenced, StopCause}
 use Rattle.ob_shell.specs.Standing.{StandsOn}
-use Rattle.ob_shell.specs.Steps.{IsReady, machine_of, told_nothing}
+use Rattle.ob_shell.specs.Steps.{IsReady, machine_of, no_flights, told_nothing}
 use Rattle.ob_shell.specs.Tallies.{has_refused}
 use Rattle.ob_shell.specs.Top.{EndingCause, RanAfter, RunShown, sink_of}
 use Rattle.ob_shell.specs.Traces.{Traced}
@@ -43,13 +44,14 @@ use Rattle.ob_shell.specs.declared.keeping.KeptEnded.{KeptEnded}
 use Rattle.ob_store.specs.State.{StoreState}
 use Rattle.ob_vault.specs.State.{RevState}
 use Rattle.ob_headline.specs.Story.{Story}
+use Rattle.ob_headline.specs.declared.flight.FlightSettings.{FlightSettings}
 use Rattle.ob_headline.specs.Prompt.{Prompt}
 
 -- an engine with which a run may go on from this base that saves nothing
 pub record Engages {R : Type 0} (state : R → RevState) (base : Base) (config : Config)
     (keys : KeySet) (e : Engine R) (s : StoreState) : Type 0 where
   pub stands : StandsOn state base config keys e s
-  pub ready : IsReady state ⊥ (machine_of e s told_nothing)
+  pub ready : IsReady state ⊥ (machine_of e s told_nothing no_flights)
   pub few : count_of e s < 2 ^ 63 + 2 ^ 59
   pub from : opened_from e ≡ region_opened base.opened
   pub high : high_of e ≤ 1
@@ -135,7 +137,7 @@ pub record StopsRun {R : Type 0} (state : R → RevState) (base : Base) (key : L
       feed0 feed1 left0 left1 gave written0 written1 begun new ended.high
       (OutFailed ended.quiet old_faults.out new_faults.out) (Err stop)
   pub traced_all : Traced tracing begun.asked new.asked traced0 traced1 (ended.quiet ≡ true)
-  pub cause : StopCause {T = Bool} (ServesAlone base.public) old_faults new_faults (Err stop)
+  pub cause : StopCause {T = Bool} (ServesAlone base.flight base.public) old_faults new_faults (Err stop)
   pub silent : Silenced ended.quiet old_faults new_faults
   pub ending : ended.ending ≡ Plain (Ran (Err stop))
   pub kept : keeper1 ≡ keeper0
@@ -203,12 +205,13 @@ KeptConcludedBy KeeperFault quiet tally asked w0 w1 f0 f1 status =
 
 -- ---- the whole run, but for its last line
 -- neither the keeper nor the store was asked for anything
-pub record RanUnkeyed (config : Config) (tracing : Bool) (ended : KeptEnded) (old new : Outside)
-    (keeper0 keeper1 : KeeperState) : Type 0 where
+pub record RanUnkeyed (config : Config) (flight : Option FlightSettings) (tracing : Bool)
+    (ended : KeptEnded) (old new : Outside) (keeper0 keeper1 : KeeperState) : Type 0 where
   pub ending : Ending
   pub is : ended.ending ≡ Plain ending
   pub read : ending ≢ Usage
-  pub shown : RunShown ended.tally (sink_of tracing old.traced new.traced) (fresh (Some config))
+  pub shown : RunShown ended.tally (sink_of tracing old.traced new.traced)
+      (flying flight (fresh (Some config)))
       keys_in old.left new.left new.gave old.written new.written old.store new.store ended.high
       ending [] ⊥
   pub ends : EndsUnkeyed ending shown.taken
@@ -226,7 +229,7 @@ pub record RanUnbegun (config : Config) (tracing : Bool) (ended : KeptEnded) (ol
   pub taken : List ℕ
   pub given : Consumes old.left new.left taken
   pub within : length taken ≤ config.max_input
-  pub prompt : Prompt 1 taken [] new.gave
+  pub prompt : Prompt (first_public config) 1 1 taken [] new.gave
   pub secret : List ℕ
   pub keyed : secret_of (first_line taken) ≡ Some secret
   pub unserved : EndsUnserved config secret tracing ended old.store new.store
@@ -249,58 +252,60 @@ pub record RanBegun (config : Config) (tracing : Bool) (old : Outside) (keeper0 
   pub first : opened.asked ≡ base.before
 
 -- texts were served until a stop came
-pub record RanStopped (config : Config) (tracing : Bool) (ended : KeptEnded) (old new : Outside)
-    (keeper0 keeper1 : KeeperState) : Type 0 where
+pub record RanStopped (config : Config) (flight : Option FlightSettings) (tracing : Bool)
+    (ended : KeptEnded) (old new : Outside) (keeper0 keeper1 : KeeperState) : Type 0 where
   pub begun : RanBegun config tracing old keeper0
   pub stop : Stop
-  pub shown : RunShown ended.tally (sink_of tracing begun.traced new.traced) begun.base
+  pub shown : RunShown ended.tally (sink_of tracing begun.traced new.traced)
+      (flying flight begun.base)
       keys_in old.left new.left new.gave old.written new.written begun.opened new.store ended.high
       (Ran (Err stop)) [] (OutFailed ended.quiet old.faults.out new.faults.out)
   pub keyed : secret_of (first_line shown.taken) ≡ Some begun.secret
   pub traced_all : Traced tracing begun.opened.asked new.store.asked begun.traced new.traced
       (ended.quiet ≡ true)
-  pub cause : EndingCause (ServesAlone begun.base.public) (Ran (Err stop))
+  pub cause : EndingCause (ServesAlone flight begun.base.public) (Ran (Err stop))
       old.faults new.faults
   pub silent : Silenced ended.quiet old.faults new.faults
   pub ending : ended.ending ≡ Plain (Ran (Err stop))
   pub kept : keeper1 ≡ begun.in_use
 
 -- they came to their end, and the tables were closed, or why not
-pub record RanWhole (config : Config) (tracing : Bool) (ended : KeptEnded) (old new : Outside)
-    (keeper0 keeper1 : KeeperState) : Type 0 where
+pub record RanWhole (config : Config) (flight : Option FlightSettings) (tracing : Bool)
+    (ended : KeptEnded) (old new : Outside) (keeper0 keeper1 : KeeperState) : Type 0 where
   pub begun : RanBegun config tracing old keeper0
   pub tally : Tally
   pub high : ℕ
   pub served : StoreState
   pub traced : Option (List ℕ)
-  pub shown : RunShown tally (sink_of tracing begun.traced traced) begun.base
+  pub shown : RunShown tally (sink_of tracing begun.traced traced)
+      (flying flight begun.base)
       keys_in old.left new.left new.gave old.written new.written begun.opened served high
       (Ran (Ok (has_refused tally))) [] (OutFailed false old.faults.out new.faults.out)
   pub keyed : secret_of (first_line shown.taken) ≡ Some begun.secret
   pub traced_all : Traced tracing begun.opened.asked served.asked begun.traced traced ⊥
   pub source : new.faults.source ≡ old.faults.source
   pub out : new.faults.out ≡ old.faults.out
-  pub closed : ClosedRun begun.base (keys_of begun.secret) tracing tally shown.story high
+  pub closed : ClosedRun (flying flight begun.base) (keys_of begun.secret) tracing tally shown.story high
       ended begun.opened served new.store traced new.traced old.faults.trace new.faults.trace
       begun.in_use keeper1
 
-abbrev pub RanKept : Config → (tracing : Bool) → KeptEnded → (old new : Outside)
+abbrev pub RanKept : Config → Option FlightSettings → (tracing : Bool) → KeptEnded → (old new : Outside)
     → (keeper0 keeper1 : KeeperState) → Type 0
-RanKept config tracing ended old new keeper0 keeper1 =
-    RanUnkeyed config tracing ended old new keeper0 keeper1
+RanKept config flight tracing ended old new keeper0 keeper1 =
+    RanUnkeyed config flight tracing ended old new keeper0 keeper1
     ⊎ (RanUnbegun config tracing ended old new keeper0 keeper1
-    ⊎ (RanStopped config tracing ended old new keeper0 keeper1
-    ⊎ RanWhole config tracing ended old new keeper0 keeper1))
+    ⊎ (RanStopped config flight tracing ended old new keeper0 keeper1
+    ⊎ RanWhole config flight tracing ended old new keeper0 keeper1))
 
 -- over the text that is generated from this seed, and what was written behind it
-pub record KeptGenerated (config : Config) (tracing : Bool) (seed : Seed)
-    (traced0 traced1 : Option (List ℕ)) (store0 store1 : StoreState) (trace0 trace1 : ℕ)
+pub record KeptGenerated (config : Config) (flight : Option FlightSettings) (tracing : Bool)
+    (seed : Seed) (traced0 traced1 : Option (List ℕ)) (store0 store1 : StoreState) (trace0 trace1 : ℕ)
     (keeper0 keeper1 : KeeperState) (written0 written1 : Option (List ℕ)) (out0 out1 : ℕ)
     (report : Report) : Type 0 where
   pub ended : KeptEnded
   pub left : List ℕ
   pub gave : ℕ
-  pub ran : RanKept config tracing ended
+  pub ran : RanKept config flight tracing ended
       (outside_of (Some (generated seed.start seed.rows)) 0 None traced0 store0
       (faults_of 0 0 trace0))
       (outside_of (Some left) gave None traced1 store1 (faults_of 0 0 trace1)) keeper0 keeper1

@@ -9,7 +9,7 @@ use Rattle.ob_base.specs.declared.mark.Mark.TheVariants.{Fresh, InUse, Closed, B
 use Rattle.ob_base.specs.declared.refusal.Stop.{Stop}
 use Rattle.ob_gen.specs.Generated.{generated}
 use Rattle.ob_gen.specs.declared.tally.Tally.{Tally}
-use Rattle.ob_headline.specs.Bases.{Base}
+use Rattle.ob_headline.specs.Bases.{Base, flying}
 use Rattle.ob_headline.specs.Keeping.{closing_named}
 use Rattle.ob_headline.specs.KeyLine.{first_line, secret_of}
 use Rattle.ob_headline.specs.Prompt.{Prompt}
@@ -26,12 +26,13 @@ use Rattle.ob_print.specs.Cuts.{Outputs}
 use Rattle.ob_reopen.specs.Keepers.{DrawsSalt, GivesMark, KeeperState}
 use Rattle.ob_seal.specs.KeySet.{KeySet}
 use Rattle.ob_seal.specs.Sealed.{keys_salted}
+use Rattle.ob_headline.specs.declared.flight.FlightSettings.{FlightSettings}
 use Rattle.ob_shell.specs.Engaging.{IsHushed, KeptConcludedBy, RanUnkeyed}
 use Rattle.ob_shell.specs.Feeding.{Fetch}
 use Rattle.ob_shell.specs.Leaving.{BeginsToSave}
 use Rattle.ob_shell.specs.Running.{OutFailed, ServesAlone, Silenced, StopCause}
 use Rattle.ob_shell.specs.Standing.{StandsOn}
-use Rattle.ob_shell.specs.Steps.{IsReady, machine_of}
+use Rattle.ob_shell.specs.Steps.{IsReady, machine_of, no_flights}
 use Rattle.ob_shell.specs.Tallies.{flagged}
 use Rattle.ob_shell.specs.Top.{EndingCause, RanAfter, RunShown, sink_of}
 use Rattle.ob_shell.specs.Traces.{Traced}
@@ -85,7 +86,7 @@ EngineBy state (Saved region blocks number pack closed) config secret salt e s t
 pub record EngagesSaved {R : Type 0} (state : R → RevState) (base : Base) (config : Config)
     (keys : KeySet) (e : Engine R) (s : StoreState) (keeper : KeeperState) : Type 0 where
   pub stands : StandsOn state base config keys e s
-  pub ready : IsReady state ⊤ (machine_of e s keeper)
+  pub ready : IsReady state ⊤ (machine_of e s keeper no_flights)
   pub high : high_of e ≤ 1
 
 -- that of the mark that was read, under keys of a salt that was drawn; and where the keeper told the mark that it held, its
@@ -104,7 +105,7 @@ pub record HasSaved {R : Type 0} (state : R → RevState) (config : Config) (sec
   pub begins : BeginsSaved mark config secret salt keys base old new
   pub engages : EngagesSaved state base config keys e new keeper1
   pub saves : (held : Mark) → keeper0.held ≡ Some held
-      → BeginsToSave state secret salt base keys (machine_of e new keeper1)
+      → BeginsToSave state secret salt base keys (machine_of e new keeper1 no_flights)
 
 -- an engine was found, or how the run ended: whatever becomes of the trace
 pub record FindsSaved {R : Type 0} (state : R → RevState) (config : Config) (secret : List ℕ)
@@ -126,7 +127,7 @@ pub record StartsSaved {R : Type 0} (state : R → RevState) (config : Config) (
       keeper0 keeper1
   pub engages : EngagesSaved state base config keys e new keeper1
   pub saves : (held : Mark) → keeper0.held ≡ Some held
-      → BeginsToSave state secret salt base keys (machine_of e new keeper1)
+      → BeginsToSave state secret salt base keys (machine_of e new keeper1 no_flights)
   pub faults : fault1 ≡ fault0
 
 -- it didn't begin
@@ -153,7 +154,7 @@ pub record ServesSaved {R : Type 0} (state : R → RevState) (base : Base) (keys
       feed0 feed1 left0 left1 gave written0 written1 begun new ended.high
       (OutFailed ended.quiet old_faults.out new_faults.out) result
   pub traced_all : Traced tracing begun.asked new.asked traced0 traced1 (ended.quiet ≡ true)
-  pub cause : StopCause (ServesAlone base.public) old_faults new_faults result
+  pub cause : StopCause (ServesAlone base.flight base.public) old_faults new_faults result
   pub silent : Silenced ended.quiet old_faults new_faults
   pub ending : ended.ending ≡ Plain (Ran (flagged result))
   pub counted : IfOk result (λ tally. ended.tally ≡ tally)
@@ -168,7 +169,7 @@ pub record RanUnsaved (config : Config) (tracing : Bool) (ended : KeptEnded) (ol
   pub taken : List ℕ
   pub given : Consumes old.left new.left taken
   pub within : length taken ≤ config.max_input
-  pub prompt : Prompt 1 taken [] new.gave
+  pub prompt : Prompt (first_public config) 1 1 taken [] new.gave
   pub secret : List ℕ
   pub keyed : secret_of (first_line taken) ≡ Some secret
   pub unserved : EndsUnsaved config secret tracing ended old.store new.store
@@ -178,8 +179,8 @@ pub record RanUnsaved (config : Config) (tracing : Bool) (ended : KeptEnded) (ol
   pub out : new.faults.out ≡ old.faults.out
 
 -- texts were served, to their end or until a stop came
-pub record RanSession (config : Config) (tracing : Bool) (ended : KeptEnded) (old new : Outside)
-    (keeper0 keeper1 : KeeperState) : Type 0 where
+pub record RanSession (config : Config) (flight : Option FlightSettings) (tracing : Bool)
+    (ended : KeptEnded) (old new : Outside) (keeper0 keeper1 : KeeperState) : Type 0 where
   pub secret : List ℕ
   pub salt : List ℕ
   pub keys : KeySet
@@ -192,35 +193,36 @@ pub record RanSession (config : Config) (tracing : Bool) (ended : KeptEnded) (ol
   pub set : base.settings ≡ Some config
   pub first : opened.asked ≡ base.before
   pub result : Result Bool Stop
-  pub shown : RunShown ended.tally (sink_of tracing traced new.traced) base (λ taken. keys)
-      old.left new.left new.gave old.written new.written opened new.store ended.high
+  pub shown : RunShown ended.tally (sink_of tracing traced new.traced) (flying flight base)
+      (λ taken. keys) old.left new.left new.gave old.written new.written opened new.store ended.high
       (Ran result) [] (OutFailed ended.quiet old.faults.out new.faults.out)
   pub keyed : secret_of (first_line shown.taken) ≡ Some secret
   pub traced_all : Traced tracing opened.asked new.store.asked traced new.traced
       (ended.quiet ≡ true)
-  pub cause : EndingCause (ServesAlone base.public) (Ran result) old.faults new.faults
+  pub cause : EndingCause (ServesAlone flight base.public) (Ran result) old.faults new.faults
   pub silent : Silenced ended.quiet old.faults new.faults
   pub ending : ended.ending ≡ Plain (Ran result)
   pub keeper : CountsKeeper (Ran result) begun keeper1
   pub leaves : (held : Mark) → keeper0.held ≡ Some held
-      → LeavesSaved secret salt base keys (Ran result) shown.story opened new.store begun keeper1
+      → LeavesSaved secret salt (flying flight base) keys (Ran result) shown.story opened new.store
+      begun keeper1
 
-abbrev pub RanSaved : Config → (tracing : Bool) → KeptEnded → (old new : Outside)
+abbrev pub RanSaved : Config → Option FlightSettings → (tracing : Bool) → KeptEnded → (old new : Outside)
     → (keeper0 keeper1 : KeeperState) → Type 0
-RanSaved config tracing ended old new keeper0 keeper1 =
-    RanUnkeyed config tracing ended old new keeper0 keeper1
+RanSaved config flight tracing ended old new keeper0 keeper1 =
+    RanUnkeyed config flight tracing ended old new keeper0 keeper1
     ⊎ (RanUnsaved config tracing ended old new keeper0 keeper1
-    ⊎ RanSession config tracing ended old new keeper0 keeper1)
+    ⊎ RanSession config flight tracing ended old new keeper0 keeper1)
 
 -- over the text that is generated from this seed, and what was written behind it
-pub record SavedGenerated (config : Config) (tracing : Bool) (seed : Seed)
-    (traced0 traced1 : Option (List ℕ)) (store0 store1 : StoreState) (trace0 trace1 : ℕ)
+pub record SavedGenerated (config : Config) (flight : Option FlightSettings) (tracing : Bool)
+    (seed : Seed) (traced0 traced1 : Option (List ℕ)) (store0 store1 : StoreState) (trace0 trace1 : ℕ)
     (keeper0 keeper1 : KeeperState) (written0 written1 : Option (List ℕ)) (out0 out1 : ℕ)
     (report : Report) : Type 0 where
   pub ended : KeptEnded
   pub left : List ℕ
   pub gave : ℕ
-  pub ran : RanSaved config tracing ended
+  pub ran : RanSaved config flight tracing ended
       (outside_of (Some (generated seed.start seed.rows)) 0 None traced0 store0
       (faults_of 0 0 trace0))
       (outside_of (Some left) gave None traced1 store1 (faults_of 0 0 trace1)) keeper0 keeper1

@@ -9,9 +9,10 @@ use Rattle.ob_base.specs.declared.refusal.Stop.TheVariants.{SinkFault}
 use Rattle.ob_gen.specs.Generated.{generated}
 use Rattle.ob_gen.specs.SummaryText.{summary_of, summary_text}
 use Rattle.ob_gen.specs.declared.tally.Tally.{Tally}
-use Rattle.ob_headline.specs.Bases.{fresh}
+use Rattle.ob_headline.specs.Bases.{flying, fresh}
 use Rattle.ob_headline.specs.Endings.{last_line, status_of}
 use Rattle.ob_headline.specs.Headline.{Headline}
+use Rattle.ob_headline.specs.declared.flight.FlightSettings.{FlightSettings}
 use Rattle.ob_headline.specs.Settings.{generated_by}
 use Rattle.ob_headline.specs.Words.{Faults, Outside, SinksRose, faults_of, keys_in, outside_of}
 use Rattle.ob_headline.specs.declared.ending.Ending.{Ending}
@@ -103,14 +104,14 @@ pub record IsUnread (old new : Outside) : Type 0 where
 -- a program ran over the text that is generated from this seed: of all but the input and the sink of the answers the
 -- headline holds, with this text as input; and what is written is its summary, by what was counted of its answers, or
 -- its last line
-pub record Summarized (Takes : Type 0) (settings : Option Config) (tracing : Bool) (seed : Seed)
-    (old new : Outside) (report : Report) : Type 0 where
+pub record Summarized (Takes : Type 0) (settings : Option Config)
+    (flight : Option FlightSettings) (tracing : Bool) (seed : Seed) (old new : Outside) (report : Report) : Type 0 where
   pub unread : IsUnread old new
   pub run : Report
   pub left : List ℕ
   pub gave : ℕ
-  pub headline : Headline (fresh settings) keys_in Takes tracing (before_text seed old)
-      (after_text left gave new) run
+  pub headline : Headline (flying flight (fresh settings)) keys_in Takes tracing
+      (before_text seed old) (after_text left gave new) run
   pub tally : Tally
   pub counted : EndingTally headline.ending headline.story.answers tally
   pub concludes : Concludes headline.ending tally new.store.asked run.high
@@ -140,14 +141,15 @@ MeddleRan (Some seed) words old new store report =
 -- ---- by the words that were taken
 -- what was done with the text of this seed
 pub record RanGenerated (seed : Seed) (tracing : Bool) (settings : Option Config)
+    (flight : Option FlightSettings)
     (traced0 traced1 : Option (List ℕ)) (store0 store1 : StoreState) (trace0 trace1 : ℕ)
     (written0 written1 : Option (List ℕ)) (out0 out1 : ℕ) (report : Report) : Type 0 where
   pub run : Report
   pub left : List ℕ
   pub gave : ℕ
   pub tally : Tally
-  pub reported : Reported tally (sink_of tracing traced0 traced1) ⊤ (fresh settings) keys_in
-      (Some (generated seed.start seed.rows)) (Some left) gave None None store0 store1
+  pub reported : Reported tally (sink_of tracing traced0 traced1) ⊤
+      (flying flight (fresh settings)) keys_in (Some (generated seed.start seed.rows)) (Some left) gave None None store0 store1
       (faults_of 0 0 trace0) (faults_of 0 0 trace1) run
   pub traces : Traced tracing store0.asked store1.asked traced0 traced1
       (SinksRose (faults_of 0 0 trace0) (faults_of 0 0 trace1))

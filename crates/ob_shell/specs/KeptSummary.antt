@@ -5,8 +5,9 @@ use Rattle.ob_base.specs.Counts.{Rises}
 use Rattle.ob_base.specs.declared.access.Access.{Access}
 use Rattle.ob_base.specs.declared.config.Config.{Config}
 use Rattle.ob_gen.specs.declared.tally.Tally.{Tally}
-use Rattle.ob_headline.specs.Bases.{fresh}
+use Rattle.ob_headline.specs.Bases.{flying, fresh}
 use Rattle.ob_headline.specs.Headline.{Headline}
+use Rattle.ob_headline.specs.declared.flight.FlightSettings.{FlightSettings}
 use Rattle.ob_headline.specs.Keeping.{kept_line, kept_status}
 use Rattle.ob_headline.specs.KeptHeadline.{KeptHeadline}
 use Rattle.ob_headline.specs.Words.{Answer, Faults, Outside, SinksRose, keys_in}
@@ -62,13 +63,13 @@ pub record KeptConcludes (ending : KeptEnding) (tally : Tally) (asked : List Acc
 
 -- a run over the text that is generated from this seed, with it as input and a sink that keeps no answer; and what is
 -- written is its summary, by what was counted of its answers, or its last line
-pub record KeptSummarized (settings : Option Config) (Takes : Type 0) (tracing : Bool) (seed : Seed)
-    (old new : Outside) (keeper0 keeper1 : KeeperState) (report : Report) : Type 0 where
+pub record KeptSummarized (settings : Option Config) (flight : Option FlightSettings)
+    (Takes : Type 0) (tracing : Bool) (seed : Seed) (old new : Outside) (keeper0 keeper1 : KeeperState) (report : Report) : Type 0 where
   pub unread : IsUnread old new
   pub run : Report
   pub left : List ℕ
   pub gave : ℕ
-  pub headline : KeptHeadline settings Takes tracing (before_text seed old)
+  pub headline : KeptHeadline settings flight Takes tracing (before_text seed old)
       (after_text left gave new) keeper0 keeper1 run
   pub tally : Tally
   pub counted : KeptTally headline.ending headline.answers tally
@@ -76,13 +77,13 @@ pub record KeptSummarized (settings : Option Config) (Takes : Type 0) (tracing :
       old.written new.written old.faults new.faults report
 
 -- whether tables are kept, and over which text, if one is generated; where none are kept, the keeper isn't asked
-abbrev pub MayKeep : (keeps : Bool) → Option Seed → (settings : Option Config) → (Takes : Type 0)
-    → (tracing : Bool) → (old new : Outside) → (keeper0 keeper1 : KeeperState) → Report → Type 0
-MayKeep false None settings Takes tracing old new keeper0 keeper1 report =
-    Headline (fresh settings) keys_in Takes tracing old new report × (keeper1 ≡ keeper0)
-MayKeep false (Some seed) settings Takes tracing old new keeper0 keeper1 report =
-    Summarized Takes settings tracing seed old new report × (keeper1 ≡ keeper0)
-MayKeep true None settings Takes tracing old new keeper0 keeper1 report =
-    KeptHeadline settings Takes tracing old new keeper0 keeper1 report
-MayKeep true (Some seed) settings Takes tracing old new keeper0 keeper1 report =
-    KeptSummarized settings Takes tracing seed old new keeper0 keeper1 report
+abbrev pub MayKeep : (keeps : Bool) → Option Seed → (settings : Option Config)
+    → (flight : Option FlightSettings) → (Takes : Type 0) → (tracing : Bool) → (old new : Outside) → (keeper0 keeper1 : KeeperState) → Report → Type 0
+MayKeep false None settings flight Takes tracing old new keeper0 keeper1 report =
+    Headline (flying flight (fresh settings)) keys_in Takes tracing old new report × (keeper1 ≡ keeper0)
+MayKeep false (Some seed) settings flight Takes tracing old new keeper0 keeper1 report =
+    Summarized Takes settings flight tracing seed old new report × (keeper1 ≡ keeper0)
+MayKeep true None settings flight Takes tracing old new keeper0 keeper1 report =
+    KeptHeadline settings flight Takes tracing old new keeper0 keeper1 report
+MayKeep true (Some seed) settings flight Takes tracing old new keeper0 keeper1 report =
+    KeptSummarized settings flight Takes tracing seed old new keeper0 keeper1 report

@@ -1,14 +1,14 @@
 -- What a run over a store that others change promises, by its words.
-use Rattle.std.specs.Prelude.{ℕ, ◌≡◌, ◌≢◌, ◌≤◌, ◌++◌, true, List, Option, length, IsTrue, None}
+use Rattle.std.specs.Prelude.{ℕ, ◌≡◌, ◌≢◌, ◌≤◌, true, List, Option, length, IsTrue, None}
 use Rattle.std.specs.List.{list_all}
 use Rattle.clap.specs.Words.{Text}
 use Rattle.ob_base.specs.declared.config.Config.{Config}
-use Rattle.ob_headline.specs.Bases.{fresh}
+use Rattle.ob_headline.specs.Bases.{Base, flying, fresh}
 use Rattle.ob_headline.specs.Disturbed.{Until, meant_trace}
 use Rattle.ob_headline.specs.Endings.{last_line, status_of}
 use Rattle.ob_headline.specs.Failures.{RisesBy, cut_off, failures}
 use Rattle.ob_headline.specs.Headline.{Headline}
-use Rattle.ob_headline.specs.Settings.{MeddleParses, ParsesChanges, settings_of}
+use Rattle.ob_headline.specs.Settings.{MeddleParses, ParsesChanges, flight_of, settings_of}
 use Rattle.ob_headline.specs.Usage.{is_traced, meddle_usage}
 use Rattle.ob_headline.specs.Words.{Answer, Faults, IsHonest, Outside, keys_in}
 use Rattle.ob_headline.specs.declared.ending.Report.{Report}
@@ -52,6 +52,11 @@ pub record StartsWith (list : List Meddle) (start : StoreState) : Type 0 where
   pub changes : start.disturbed ≡ disturbances list
   pub steady : IsSteady start
 
+-- what such a run goes on from, as its words spell it
+abbrev pub meddle_base : List Text → Base
+meddle_base words =
+    flying (flight_of meddle_usage words) (fresh (settings_of meddle_usage words))
+
 -- the run over the store that is handed back, in which others make the changes that the words spell
 pub record Meddled (words : List Text) (old : StoreState → Outside) (new : Outside)
     (store : MeddledStore) (report : Report) : Type 0 where
@@ -60,16 +65,14 @@ pub record Meddled (words : List Text) (old : StoreState → Outside) (new : Out
   pub start : StoreState
   pub starts : StartsWith (list_of store) start
   pub shows : Shows (list_of store) new.store
-  pub headline : Headline (fresh (settings_of meddle_usage words)) keys_in (MeddleParses words)
+  pub headline : Headline (meddle_base words) keys_in (MeddleParses words)
       (is_traced meddle_usage words) (old start) new report
   -- until the first change all is as it is meant
   pub always : (n : ℕ) → are_later (list_of store) n ≡ true
-      → Until (settings_of meddle_usage words) (keys_in headline.taken) n headline.story.spelt headline.story.answers
-      (headline.story.seen ++ headline.story.last) new.store.asked
+      → Until (meddle_base words) (keys_in headline.taken) n headline.story new.store.asked
   -- so is the whole run, where all changes come behind the accesses that its statements ask by their meaning
   pub undisturbed : (n : ℕ) → are_later (list_of store) n ≡ true
-      → length (meant_trace (settings_of meddle_usage words) (keys_in headline.taken)
-      headline.story.spelt) ≤ n
+      → length (meant_trace (meddle_base words) (keys_in headline.taken) headline.story.spelt) ≤ n
       → Undisturbed headline.story.answers start new.store report
   -- where accesses fail and no block is changed
   pub unchanged : IsTrue (list_all (λ m. is_fail m.act) (list_of store))
@@ -78,7 +81,7 @@ pub record Meddled (words : List Text) (old : StoreState → Outside) (new : Out
   -- that the store failed; and a block was changed where one ends the run
   pub cut : RisesBy (cut_off headline.story.seen) 0
       (failed_among (list_of store) (length new.store.asked))
-  pub failed : (fresh (settings_of meddle_usage words)).public.batch ≡ None
+  pub failed : (meddle_base words).public.batch ≡ None
       → RisesBy (failures headline.story.answers) 0
       (failed_among (list_of store) (length new.store.asked))
   pub tampered : report.status ≡ 4

@@ -5,7 +5,7 @@ use Rattle.ob_base.specs.Counts.{Rises}
 use Rattle.ob_base.specs.declared.config.Public.{Public}
 use Rattle.ob_base.specs.declared.refusal.Stop.{Stop}
 use Rattle.ob_base.specs.declared.refusal.Stop.TheVariants.{Tampered, SourceFault, SinkFault, NoMemory, InputLimit, StoreFault, StashFull, KeeperFault}
-use Rattle.ob_mean.specs.Batches.{Gathering, batch_most}
+use Rattle.ob_mean.specs.Batches.{batch_most}
 use Rattle.ob_tables.specs.Agreeing.{high_of, public_of}
 use Rattle.ob_tables.specs.Stops.{session_stop}
 use Rattle.ob_tables.specs.declared.engine.Engine.{Engine}
@@ -15,12 +15,14 @@ use Rattle.ob_gen.specs.declared.tally.Tally.{Tally}
 use Rattle.ob_headline.specs.Texts.{is_over, rest_of, texts_of, texts_in}
 use Rattle.ob_gen.specs.Tally.{empty_tally}
 use Rattle.ob_headline.specs.Batches.{AnsweredBut}
+use Rattle.ob_headline.specs.Flights.{most_flown}
+use Rattle.ob_headline.specs.declared.flight.FlightSettings.{FlightSettings}
 use Rattle.ob_headline.specs.Status.{StaysAlone}
 use Rattle.ob_headline.specs.Words.{Answer, Faults, NoneRose, SinksRose, Took, any_refused, before_read, printed}
 use Rattle.ob_print.specs.Cuts.{Outputs}
 use Rattle.ob_reopen.specs.Keepers.{KeeperState}
 use Rattle.ob_shell.specs.Feeding.{Fetch, Fed}
-use Rattle.ob_shell.specs.Steps.{Follow, Machine, Owed, Steps, PartlyAt, IsUndone, machine_of, standing}
+use Rattle.ob_shell.specs.Steps.{Flights, Follow, Gathered, Machine, Owed, Steps, PartlyAt, IsUndone, machine_of, standing}
 use Rattle.ob_shell.specs.Tallies.{TallyIs, flagged}
 use Rattle.ob_shell.specs.Traces.{Traces}
 use Rattle.ob_shell.specs.Waiting.{IsFree, ServedSo}
@@ -72,7 +74,7 @@ abbrev pub OutFailed : (quiet : Bool) → (old new : ℕ) → Type 0
 OutFailed quiet old new = (quiet ≡ true) × Rises old new
 
 -- when each stop comes: only where that count rose; those of the sinks may have risen behind a stop by a block, for want of
--- memory, by the store, for a full stash or by the keeper; where INSERTs may wait to be served together while more is read,
+-- memory, by the store, for a full stash or by the keeper; where statements may wait to be served together while more is read,
 -- the source may have failed before one of them was stopped
 abbrev pub StopCause : {T : Type 0} (Alone : Type 0) (old new : Faults) → Result T Stop → Type 0
 StopCause Alone old new (Ok x) = NoneRose old new
@@ -91,9 +93,9 @@ StopCause Alone old new (Err StashFull) = StaysAlone Alone old.source new.source
 StopCause Alone old new (Err KeeperFault) = StaysAlone Alone old.source new.source
     × (old.out ≤ new.out) × (old.trace ≤ new.trace)
 
--- INSERTs aren't served together
-abbrev pub ServesAlone : Public → Type 0
-ServesAlone p = p.batch ≡ None
+-- statements aren't served together
+abbrev pub ServesAlone : Option FlightSettings → Public → Type 0
+ServesAlone settings p = (p.batch ≡ None) × (most_flown settings p ≡ 1)
 
 -- what was done while no stop came: these bytes were passed on, and their texts served, but for those that wait
 pub record SoFar {R : Type 0} (state : R → RevState) (feed0 feed1 : Fetch)
@@ -103,7 +105,7 @@ pub record SoFar {R : Type 0} (state : R → RevState) (feed0 feed1 : Fetch)
   pub fed : Fed feed0 feed1 left0 left1 passed
   pub pending_is : pending ≡ rest_of [] passed
   pub so : ServedSo state written0 written1 (texts_of [] passed) batch
-      (IsFree (public_of m1.engine) batch) empty_tally tally m0 m1
+      (IsFree m1.flights.settings (public_of m1.engine) batch) empty_tally tally m0 m1
 
 -- by how the session ended: how far the texts were served, and where the limits stood
 abbrev pub EndsBy : (feed1 : Fetch) (ended : Bool) (bytes : List ℕ) (more : List (List ℕ))
@@ -152,15 +154,16 @@ pub record SessionRan {R : Type 0} (state : R → RevState) (tracing : Bool) (fe
   pub served : List (List ℕ)
   pub more : List (List ℕ)
   pub texts : texts_in ended (feed0.unread ++ piece) ≡ served ++ more
-  pub prompt : AnsweredBut (batch_most (public_of m0.engine))
-      (texts_in false (before_read gave (feed0.unread ++ piece))) served
   pub middle : Machine R
+  pub prompt : AnsweredBut (public_of middle.engine) (batch_most (public_of m0.engine))
+      (most_flown m0.flights.settings (public_of m0.engine))
+      (texts_in false (before_read gave (feed0.unread ++ piece))) served
   pub answers : List Answer
   pub steps : Steps state m0 middle served answers
   pub part : List ℕ
   -- what was carried out of those that were not answered
   pub owed : List Owed
-  pub gathered : Option Gathering
+  pub gathered : Gathered
   pub follow : Follow more owed
   pub last : LastPart state middle (standing m2 owed gathered) more part (flagged result)
   pub cut : Outputs written0 written1 Lost (printed answers ++ part)
@@ -178,6 +181,9 @@ pub record CountsRows {R : Type 0} (state : R → RevState) (tracing : Bool) (fe
   pub last : Engine R
   pub keeper0 : KeeperState
   pub keeper1 : KeeperState
+  pub flights0 : Flights
+  pub flights1 : Flights
   pub ran : SessionRan state tracing feed0 feed1 left0 left1 gave written0 written1
-      traced0 traced1 (machine_of first store0 keeper0) (machine_of last store1 keeper1) Lost result
+      traced0 traced1 (machine_of first store0 keeper0 flights0)
+      (machine_of last store1 keeper1 flights1) Lost result
   pub counts : high ≡ high_of last

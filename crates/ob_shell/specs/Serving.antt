@@ -7,33 +7,45 @@ use Rattle.ob_gen.specs.Tally.{empty_tally}
 use Rattle.ob_gen.specs.declared.tally.Tally.{Tally}
 use Rattle.ob_headline.specs.Texts.{is_over, rest_after, texts_at, texts_in}
 use Rattle.ob_headline.specs.Words.{Begins, Faults, before_read}
-use Rattle.ob_mean.specs.Batches.{Gathering}
+use Rattle.ob_headline.specs.Flights.{may_fly, most_flown}
+use Rattle.ob_headline.specs.declared.flight.FlightSettings.{FlightSettings}
+use Rattle.ob_headline.specs.Statements.{Spells}
 use Rattle.ob_shell.specs.Feeding.{Fetch}
 use Rattle.ob_shell.specs.Running.{EndsBy, IsQuiet, OutFailed, SessionRan, Silenced, StopCause, halted_of, is_quiet, session_halted, stop_of}
-use Rattle.ob_shell.specs.Steps.{IsReady, Machine, StopsIn, asked_of, standing}
+use Rattle.ob_shell.specs.Steps.{AreSpelt, Gathered, IsReady, Machine, StopsIn, asked_of, gathered_by, standing}
 use Rattle.ob_shell.specs.Traces.{Traced, TracedAll}
-use Rattle.ob_shell.specs.Waiting.{AreGathered, AreSpelt, BreaksIn, ComesFree, IsClosed, ServedSo}
+use Rattle.ob_shell.specs.Waiting.{AreWaiting, BreaksIn, ComesFree, IsClosed, ServedSo}
 use Rattle.ob_shell.specs.declared.session.Break.{Break}
 use Rattle.ob_shell.specs.declared.session.Break.TheVariants.{Served, Unread}
 use Rattle.ob_shell.specs.declared.session.Halted.{Halted}
 use Rattle.ob_shell.specs.declared.session.TextHalted.{TextHalted}
+use Rattle.ob_sql.specs.Skeleton.{skeleton}
 use Rattle.ob_sql.specs.declared.stmt.Stmt.{Stmt}
 use Rattle.ob_tables.specs.Agreeing.{public_of}
 use Rattle.ob_tables.specs.Stops.{session_stop}
 use Rattle.ob_vault.specs.State.{RevState}
 
--- this was done of these texts, where they may come behind what is gathered, and the engine may be given the next one, behind
--- which this saves tables where they are to be saved; or a stop came within the first of them, which has its cause
-pub record ServesTexts {R T : Type 0} (state : R → RevState) (Saves : Type 0)
-    (May : Option Gathering → Type 0) (texts : List (List ℕ))
-    (Done : T → (m0 m1 : Machine R) → Type 0) (written0 written1 : Option (List ℕ))
-    (old new : Faults) (m0 m1 : Machine R) (result : Result T TextHalted) : Type 0 where
+-- this was done of a text that spells this statement, where it may come behind what is gathered, and the engine may be given the
+-- next one, behind which this saves tables where they are to be saved; or a stop came within it, which has its cause
+pub record ServesStmt {R T : Type 0} (state : R → RevState) (Saves : Type 0)
+    (May : Gathered → Type 0) (stmt : Stmt) (Done : List ℕ → T → (m0 m1 : Machine R) → Type 0)
+    (written0 written1 : Option (List ℕ)) (old new : Faults) (m0 m1 : Machine R)
+    (result : Result T TextHalted) : Type 0 where
   pub ready : OnOk result (IsReady state Saves m1)
-  pub done : IfOk result (λ x. (gathered : Option Gathering) → May gathered
-      → Done x (standing m0 [] gathered) m1)
-  pub stopped : IfErr result (λ halted. (gathered : Option Gathering) → May gathered
-      → StopsIn state written0 written1 (OutFailed halted.quiet old.out new.out) texts
-      halted.stop (standing m0 [] gathered) m1)
+  -- as many may fly together behind it as before it, and a SELECT leaves the tables
+  pub most : (settings : Option FlightSettings)
+      → OnOk result (most_flown settings (public_of m1.engine)
+      ≡ most_flown settings (public_of m0.engine))
+  pub tables : may_fly (public_of m0.engine) (skeleton stmt) ≡ true
+      → OnOk result ((public_of m1.engine).tables ≡ (public_of m0.engine).tables)
+  pub done : IfOk result (λ x. (gathered : Gathered) (text : List ℕ) → May gathered
+      → Spells text (Ok stmt) → Done text x (standing m0 [] gathered)
+      (standing m1 [] (gathered_by (public_of m0.engine) (skeleton stmt))))
+  pub stopped : IfErr result (λ halted. (gathered : Gathered) (text : List ℕ) → May gathered
+      → Spells text (Ok stmt)
+      → StopsIn state written0 written1 (OutFailed halted.quiet old.out new.out) (text ∷ [])
+      halted.stop (standing m0 [] gathered)
+      (standing m1 [] (gathered_by (public_of m0.engine) (skeleton stmt))))
   pub cause : StopCause (Unit {0}) old new (stop_of (halted_of result))
   pub quiet : Silenced (is_quiet (halted_of result)) old new
 
@@ -45,16 +57,16 @@ counted_by tally (Err e) = tally
 -- what became of the texts that waited, which these statements spell, and of those behind them, from what is gathered then:
 -- the first were answered, and the others wait; or a stop came
 pub record TakesTexts {R T : Type 0} (state : R → RevState) (Saves : Type 0) (tracing : Bool)
-    (May : Option Gathering → Type 0) (Then : (old new : Option Gathering) → Type 0)
+    (May : Gathered → Type 0) (Then : (old new : Gathered) → Type 0)
     (batch0 batch1 : List Stmt) (texts : List (List ℕ)) (tally0 tally1 : Tally)
     (written0 written1 traced0 traced1 : Option (List ℕ)) (old new : Faults)
     (m0 m1 : Machine R) (result : Result T TextHalted) : Type 0 where
   pub ready : OnOk result (IsReady state Saves m1)
-  pub waits : OnOk result (AreGathered (public_of m1.engine) (asked_of m1) batch1)
-  pub done : OnOk result ((gathered : Option Gathering) (held : List (List ℕ)) → May gathered
+  pub waits : OnOk result (AreWaiting m1.flights.settings (public_of m1.engine) (asked_of m1) batch1)
+  pub done : OnOk result ((gathered : Gathered) (held : List (List ℕ)) → May gathered
       → AreSpelt held batch0 → ServedSo state written0 written1 (held ++ texts) batch1
       (Then gathered) tally0 tally1 (standing m0 [] gathered) m1)
-  pub stopped : IfErr result (λ halted. (gathered : Option Gathering) (held : List (List ℕ))
+  pub stopped : IfErr result (λ halted. (gathered : Gathered) (held : List (List ℕ))
       → May gathered → AreSpelt held batch0
       → BreaksIn state tracing written0 written1 traced0 traced1
       (OutFailed halted.quiet old.out new.out) (held ++ texts) halted.stop
@@ -65,19 +77,19 @@ pub record TakesTexts {R T : Type 0} (state : R → RevState) (Saves : Type 0) (
   pub cause : StopCause (Unit {0}) old new (stop_of (halted_of result))
   pub quiet : Silenced (is_quiet (halted_of result)) old new
 
--- a batch was served: each of its texts was answered, and nothing else goes into it; or a stop came
+-- these were served that waited: each of their texts was answered, and nothing else goes along with them; or a stop came
 abbrev pub ServesBatch : {R : Type 0} (state : R → RevState) (Saves : Type 0) (tracing : Bool)
-    (first : Stmt) (rest : List Stmt) (tally : Tally)
+    (stmts : List Stmt) (tally : Tally)
     (written0 written1 traced0 traced1 : Option (List ℕ)) (old new : Faults)
     (m0 m1 : Machine R) → Result Tally TextHalted → Type 0
-ServesBatch state Saves tracing first rest tally w0 w1 t0 t1 old new m0 m1 result =
-    TakesTexts state Saves tracing (ComesFree (public_of m0.engine) (first ∷ rest))
-    (IsClosed (public_of m1.engine) (first ∷ rest)) (first ∷ rest) [] [] tally
-    (counted_by tally result) w0 w1 t0 t1 old new m0 m1 result
+ServesBatch state Saves tracing stmts tally w0 w1 t0 t1 old new m0 m1 result =
+    TakesTexts state Saves tracing (ComesFree m0.flights.settings (public_of m0.engine) stmts)
+    (IsClosed m1.flights.settings (public_of m0.engine) (public_of m1.engine) stmts) stmts [] []
+    tally (counted_by tally result) w0 w1 t0 t1 old new m0 m1 result
 
 -- the same where a stop may leave what comes next unread, for one of these causes: then no text came behind those that waited
 abbrev pub TakesMore : {R T : Type 0} (state : R → RevState) (Saves : Type 0) (tracing : Bool)
-    (May : Option Gathering → Type 0) (Then : (old new : Option Gathering) → Type 0)
+    (May : Gathered → Type 0) (Then : (old new : Gathered) → Type 0)
     (batch0 batch1 : List Stmt) (texts : List (List ℕ)) (Why : Stop → Type 0)
     (tally0 tally1 : Tally)
     (written0 written1 traced0 traced1 : Option (List ℕ)) (old new : Faults)
@@ -90,7 +102,7 @@ TakesMore {T = T} state Saves tracing May Then batch0 batch1 texts Why tally0 ta
     batch0 batch1 texts tally0 tally1 w0 w1 t0 t1 old new m0 m1 (Err halted)
 TakesMore state Saves tracing May Then batch0 batch1 texts Why tally0 tally1 w0 w1 t0 t1 old new
     m0 m1 (Err (Unread stop)) = TakesTexts {T = Unit {0}} state Saves tracing May
-    (λ old new. ComesFree (public_of m1.engine) batch1 new) batch0 batch1 [] tally0 tally1 w0 w1 t0 t1 old new m0 m1 (Ok tt) × Why stop
+    (λ old new. ComesFree m1.flights.settings (public_of m1.engine) batch1 new) batch0 batch1 [] tally0 tally1 w0 w1 t0 t1 old new m0 m1 (Ok tt) × Why stop
 
 -- memory is wanting for a text
 abbrev pub WantsRoom : Stop → Type 0
@@ -108,7 +120,7 @@ IsNotTaken pending b _ = ⊥
 pub record StandsReady {R : Type 0} (state : R → RevState) (Saves Took : Type 0)
     (batch : List Stmt) (m : Machine R) : Type 0 where
   pub ready : IsReady state Saves m
-  pub waits : AreGathered (public_of m.engine) (asked_of m) batch
+  pub waits : AreWaiting m.flights.settings (public_of m.engine) (asked_of m) batch
   pub took : Took
 
 -- ---- until no more is read
@@ -139,7 +151,7 @@ pub record HasRead {R : Type 0} (state : R → RevState) (tracing : Bool) (feed0
   pub parts : texts_in ended (feed0.unread ++ piece) ≡ texts ++ more
   pub before : Begins (texts_in false (before_read gave (feed0.unread ++ piece))) texts
   pub so : ServedSo state written0 written1 texts batch
-      (ComesFree (public_of m1.engine) batch) empty_tally tally m0 m1
+      (ComesFree m1.flights.settings (public_of m1.engine) batch) empty_tally tally m0 m1
   pub traced : TracedAll tracing m0.store.asked m1.store.asked traced0 traced1
   pub ends : EndsReading feed1 ended (feed0.unread ++ piece) more how
 

@@ -13,7 +13,7 @@ use Rattle.ob_headline.specs.Bases.{Base, FromEach, drawing, said_of, start}
 use Rattle.ob_headline.specs.Sealing.{PassesFrom}
 use Rattle.ob_mean.specs.Flats.{AreFlat}
 use Rattle.ob_seal.specs.KeySet.{KeySet}
-use Rattle.ob_shell.specs.Steps.{machine_of, session_of, told_nothing}
+use Rattle.ob_shell.specs.Steps.{machine_of, no_flights, session_of, told_nothing}
 use Rattle.ob_store.specs.Calls.{IsBefore, IsSteady}
 use Rattle.ob_store.specs.State.{StoreState}
 use Rattle.ob_vault.specs.State.{RevState}
@@ -29,7 +29,7 @@ pub record IsFirst {R : Type 0} (state : R → RevState) (settings : Option Conf
   pub steady : IsSteady s
   pub unasked : s.asked ≡ []
   pub nothing : Represents state e s []
-  pub here : session_of (machine_of e s told_nothing) (first_draws keys) []
+  pub here : session_of (machine_of e s told_nothing no_flights) (first_draws keys) []
       ≡ drawing keys (start settings)
 
 -- an engine and its store are those that a base tells of, with these keys; no table is an index

@@ -1,5 +1,6 @@
 -- What texts do to an engine, its store and the keeper behind it, one after the other, and what is printed of them.
-use Rattle.std.specs.Prelude.{ℕ, Bool, ◌≡◌, ◌⊎◌, ◌+◌, ◌<◌, ⊤, true, false, List, [], ◌∷◌, ◌++◌, length, map, Option, None, Some, Result, Ok, Err}
+use Rattle.std.specs.Prelude.{ℕ, Bool, ◌≡◌, ◌⊎◌, ◌+◌, ◌<◌, ◌≤◌, ⊤, true, false, List, [], ◌∷◌, ◌++◌, length, map, slice_get, Option, None, Some, Result, Ok, Err}
+use Rattle.std.specs.List.{All}
 use Rattle.std.specs.Option.{option_map_or}
 use Rattle.std.specs.Io.KnownBytes.{Appends}
 use Rattle.ob_base.specs.Events.{Event}
@@ -10,6 +11,8 @@ use Rattle.ob_base.specs.declared.refusal.Refusal.{Refusal}
 use Rattle.ob_base.specs.declared.refusal.Refusal.TheVariants.{Syntax}
 use Rattle.ob_base.specs.declared.seen.End.{End}
 use Rattle.ob_base.specs.declared.seen.End.TheVariants.{Static, Whole, Joined}
+use Rattle.ob_base.specs.declared.seen.Seen.{Seen}
+use Rattle.ob_base.specs.declared.skeleton.Skeleton.{Skeleton}
 use Rattle.ob_tables.specs.Agreeing.{Agrees, AreDraws, count_of, has_ended, indexes_of, public_of, replaced_of, seen_of, world_of}
 use Rattle.ob_tables.specs.Indexed.{FillsStash}
 use Rattle.ob_tables.specs.Batch.{IsServedWith}
@@ -29,8 +32,10 @@ use Rattle.ob_gen.specs.declared.tally.Tally.{Tally}
 use Rattle.ob_headline.specs.Closing.{closing_line}
 use Rattle.ob_headline.specs.Words.{Answer, printed}
 use Rattle.ob_headline.specs.Batches.{AllInsert}
+use Rattle.ob_headline.specs.Flights.{gathered_then, may_fly, most_flown, place_now}
 use Rattle.ob_headline.specs.Statements.{SpellFirst, Spells}
 use Rattle.ob_headline.specs.Meaning.{PrintsUntil}
+use Rattle.ob_headline.specs.declared.flight.FlightSettings.{FlightSettings}
 use Rattle.ob_mean.specs.Batches.{Gathering, batch_most, gathering_after, goes_into, settle_all}
 use Rattle.ob_mean.specs.Lawful.{Lawful}
 use Rattle.ob_mean.specs.Replay.{Session, draws_taken, is_access}
@@ -41,7 +46,8 @@ use Rattle.ob_print.specs.Rows.{events_text}
 use Rattle.ob_reopen.specs.Keepers.{KeeperState}
 use Rattle.ob_reopen.specs.Resting.{AcceptsClosings}
 use Rattle.ob_select.specs.Selecting.{AcceptsRows}
-use Rattle.ob_shell.specs.Tallies.{tally_after}
+use Rattle.ob_shell.specs.Aloft.{FlewUntil, FlewWhole}
+use Rattle.ob_shell.specs.Tallies.{tally_with}
 use Rattle.ob_sql.specs.Skeleton.{skeleton}
 use Rattle.ob_sql.specs.declared.stmt.Stmt.{Stmt}
 use Rattle.ob_store.specs.State.{StoreState}
@@ -56,31 +62,76 @@ pub record Owed : Type 0 where
 abbrev pub statements_of : List Owed → List Stmt
 statements_of owed = map (λ (one : Owed). one.stmt) owed
 
--- an engine, what its store has come to, and what the keeper has that its tables are saved with; those that come next and were
--- carried out, and what is gathered
+-- each of these texts spells the statement beside it
+abbrev pub AreSpelt : List (List ℕ) → List Stmt → Type 0
+AreSpelt [] [] = ⊤
+AreSpelt [] (stmt ∷ stmts) = ⊥
+AreSpelt (text ∷ texts) [] = ⊥
+AreSpelt (text ∷ texts) (stmt ∷ stmts) = Spells text (Ok stmt) × AreSpelt texts stmts
+
+-- ---- what is gathered
+-- behind a text: INSERTs into one table, if it was one of these, and how many SELECTs that fly together
+pub record Gathered : Type 0 where
+  pub batch : Option Gathering
+  pub flown : ℕ
+
+abbrev pub none_gathered : Gathered
+none_gathered = record { batch = None; flown = 0 }
+
+-- how SELECTs fly, if they do, and the words of the flights to come
+pub record Flights : Type 0 where
+  pub settings : Option FlightSettings
+  pub words : ℕ → ℕ
+
+-- none fly
+abbrev pub no_flights : Flights
+no_flights = record { settings = None; words = λ i. 0 }
+
+-- one that was served by itself goes into nothing that was gathered before it
+pub record IsApartFrom (settings : Option FlightSettings) (p : Public) (gathered : Gathered)
+    (outline : Skeleton) : Type 0 where
+  pub batch : goes_into p gathered.batch outline ≡ false
+  pub flown : place_now (most_flown settings p) p gathered.flown outline ≡ 0
+
+-- what is gathered behind a statement that was, by itself, and behind one that is no INSERT
+abbrev pub gathered_after : Public → (m : ℕ) → Gathered → Stmt → End → Gathered
+gathered_after p m gathered stmt end = record {
+  batch = gathering_after p m gathered.batch stmt end;
+  flown = gathered_then p 0 (skeleton stmt);
+}
+
+abbrev pub gathered_by : Public → Skeleton → Gathered
+gathered_by p outline = record { batch = None; flown = gathered_then p 0 outline }
+
+-- ---- machines
+-- an engine, what its store has come to, and what the keeper has that its tables are saved with; the flights to come; those
+-- that come next and were carried out, and what is gathered
 pub record Machine (R : Type 0) : Type 0 where
   pub engine : Engine R
   pub store : StoreState
   pub keeper : KeeperState
+  pub flights : Flights
   pub owed : List Owed
-  pub gathered : Option Gathering
+  pub gathered : Gathered
 
 -- nothing else was carried out, and nothing is gathered
-abbrev pub machine_of : {R : Type 0} → Engine R → StoreState → KeeperState → Machine R
-machine_of engine store keeper = record {
+abbrev pub machine_of : {R : Type 0} → Engine R → StoreState → KeeperState → Flights → Machine R
+machine_of engine store keeper flights = record {
   engine = engine;
   store = store;
   keeper = keeper;
+  flights = flights;
   owed = [];
-  gathered = None;
+  gathered = none_gathered;
 }
 
 -- the same one with these carried out, and this gathered
-abbrev pub standing : {R : Type 0} → Machine R → List Owed → Option Gathering → Machine R
+abbrev pub standing : {R : Type 0} → Machine R → List Owed → Gathered → Machine R
 standing m owed gathered = record {
   engine = m.engine;
   store = m.store;
   keeper = m.keeper;
+  flights = m.flights;
   owed = owed;
   gathered = gathered;
 }
@@ -106,7 +157,7 @@ pub record Misspelt {R : Type 0} (m0 m1 : Machine R) (text : List ℕ)
     (answer : Answer) : Type 0 where
   pub free : m0.owed ≡ []
   pub owed : m1.owed ≡ []
-  pub gathered : m1.gathered ≡ None
+  pub gathered : m1.gathered ≡ none_gathered
   pub at : ℕ
   pub spells : Spells text (Err at)
   pub refused : answer.outcome ≡ Refused (Syntax at)
@@ -154,14 +205,15 @@ pub record GoTogether (p : Public) (stmt : Stmt) (owed : List Owed) : Type 0 whe
 pub record Does {R : Type 0} (state : R → RevState) (m0 m1 : Machine R) (stmt : Stmt)
     (result : Result Outcome RunStop) : Type 0 where
   pub free : m0.owed ≡ []
-  pub alone : goes_into (public_of m0.engine) m0.gathered (skeleton stmt) ≡ false
+  pub alone : IsApartFrom m0.flights.settings (public_of m0.engine) m0.gathered (skeleton stmt)
+  pub flights : m1.flights ≡ m0.flights
   pub along : GoTogether (public_of m0.engine) stmt m1.owed
   pub agrees : Agrees state m0.engine m0.store
   pub ran : RanWhole state (skeleton stmt) result m0.engine m0.store m1.engine m1.store
   pub early : RefusedEarly (refusal_now (public_of m0.engine) (asked_of m0) stmt) result
       (seen_of m1.engine)
   pub lawful : Lawful (public_of m0.engine) (asked_of m0) stmt (seen_of m1.engine)
-  -- want of memory shows how far it got, and nothing of rows
+  -- want of memory shows how far it got, and no rows but those that are emitted
   pub memory : result ≡ Err NoMemory
       → WantsMemory (public_of m0.engine) stmt (seen_of m1.engine) m0.store m1.store ⊤
   -- a stash is full only where an access read more rows than fit
@@ -214,7 +266,7 @@ pub record ServedStatement {R : Type 0} (state : R → RevState) (m0 m1 : Machin
       → Emitted stmt (public_of m0.engine) (asked_of m0) tables answer.outcome events
   pub printed : answer.bytes ≡ events_text events ++ closing_line answer.outcome
   pub planned : answer.plan ≡ (seen_of m1.engine).plan
-  pub gathered : m1.gathered ≡ gathering_after (public_of m0.engine) (asked_of m0) m0.gathered
+  pub gathered : m1.gathered ≡ gathered_after (public_of m0.engine) (asked_of m0) m0.gathered
       stmt (seen_of m1.engine).end
   -- where the store didn't fail
   pub owes : (tables : Tables) (d : Draws) → AreDraws m0.engine d
@@ -240,14 +292,14 @@ pub record ServedWith {R : Type 0} (m0 m1 : Machine R) (text : List ℕ) (answer
     : Type 0 where
   pub stmt : Stmt
   pub spells : Spells text (Ok stmt)
-  pub joins : goes_into (public_of m0.engine) m0.gathered (skeleton stmt) ≡ true
+  pub joins : goes_into (public_of m0.engine) m0.gathered.batch (skeleton stmt) ≡ true
   pub along : GoTogether (public_of m0.engine) stmt m1.owed
   pub unindexed : is_access (public_of m0.engine) (skeleton stmt) ≡ false
   pub answered : IsServedWith (refusal_now (public_of m0.engine) (asked_of m0) stmt)
-      (has_failed m0.gathered) answer.outcome
-  pub owed : TakesOwed (has_failed m0.gathered)
+      (has_failed m0.gathered.batch) answer.outcome
+  pub owed : TakesOwed (has_failed m0.gathered.batch)
       (record { stmt = stmt; outcome = answer.outcome }) m0.owed m1.owed
-  pub gathered : m1.gathered ≡ gathering_after (public_of m0.engine) (asked_of m0) m0.gathered
+  pub gathered : m1.gathered ≡ gathered_after (public_of m0.engine) (asked_of m0) m0.gathered
       stmt (end_with (refusal_now (public_of m0.engine) (asked_of m0) stmt))
   pub line : answer.bytes ≡ closing_line answer.outcome
   pub unplanned : answer.plan ≡ None
@@ -288,13 +340,42 @@ pub record CutStep {R : Type 0} (state : R → RevState) (m0 m1 : Machine R) (te
   pub silent : stop ≡ StashFull → events ≡ []
   pub printed : PrintsUntil (session_stop stop) bytes (events_text events)
 
--- these texts were answered, in order
-unfoldable pub Steps : {R : Type 0} → (R → RevState) → Machine R → Machine R → List (List ℕ)
-    → List Answer → Type 0
-Steps state m0 m2 [] answers = (m2 ≡ m0) × (answers ≡ [])
-Steps {R = R} state m0 m2 (text ∷ texts) answers =
-    (m1 : Machine R) × (one : Answer) × (more : List Answer) × (answers ≡ one ∷ more)
-    × Step state m0 m1 text one × Steps state m1 m2 texts more
+-- ---- those that flew together
+-- the engine, which agreed with its store, may have these statements fly, behind which so many are gathered
+pub record MayFly {R : Type 0} (state : R → RevState) (m0 m1 : Machine R) (stmts : List Stmt)
+    : Type 0 where
+  pub free : m0.owed ≡ []
+  pub owed : m1.owed ≡ []
+  pub fly : All (λ (stmt : Stmt). may_fly (public_of m0.engine) (skeleton stmt) ≡ true) stmts
+  pub some : 2 ≤ length stmts
+  pub few : length stmts ≤ most_flown m0.flights.settings (public_of m0.engine)
+  pub begins : (first : Stmt) → slice_get stmts 0 ≡ Some first
+      → IsApartFrom m0.flights.settings (public_of m0.engine) m0.gathered (skeleton first)
+  pub gathered : m1.gathered ≡ record { batch = None; flown = length stmts }
+  pub settings : m1.flights.settings ≡ m0.flights.settings
+  pub keeper : m1.keeper ≡ m0.keeper
+  pub agrees : Agrees state m0.engine m0.store
+
+-- from the first machine to the second these texts were answered together
+pub record StepTogether {R : Type 0} (state : R → RevState) (m0 m1 : Machine R)
+    (texts : List (List ℕ)) (answers : List Answer) : Type 0 where
+  pub stmts : List Stmt
+  pub spelt : AreSpelt texts stmts
+  pub may : MayFly state m0 m1 stmts
+  pub seens : List Seen
+  pub flew : FlewWhole state m0.flights.words m1.flights.words stmts seens answers
+      m0.engine m0.store m1.engine m1.store
+
+-- these texts were answered, in order, each by itself, or several together
+pub data Steps {R : Type 0} (state : R → RevState)
+    : Machine R → Machine R → List (List ℕ) → List Answer → Type 0 where
+  at_rest : {m : Machine R} → Steps state m m [] []
+  one_more : {m0 m1 m2 : Machine R} {text : List ℕ} {one : Answer} {texts : List (List ℕ)}
+      {answers : List Answer} → Step state m0 m1 text one → Steps state m1 m2 texts answers
+      → Steps state m0 m2 (text ∷ texts) (one ∷ answers)
+  more_together : {m0 m1 m2 : Machine R} {flown texts : List (List ℕ)} {given answers : List Answer}
+      → StepTogether state m0 m1 flown given → Steps state m1 m2 texts answers
+      → Steps state m0 m2 (flown ++ texts) (given ++ answers)
 
 -- nothing was done
 pub record IsUndone {R : Type 0} (m0 m1 : Machine R) (bytes : List ℕ) : Type 0 where
@@ -308,6 +389,30 @@ pub record Finished {R : Type 0} (state : R → RevState) (m0 m1 : Machine R) (t
   pub answer : Answer
   pub step : Step state m0 m1 text answer
   pub whole : bytes ≡ answer.bytes
+  pub fault : stop ≡ SinkFault
+
+-- statements that the first of these texts spell flew until a stop
+pub record CutTogether {R : Type 0} (state : R → RevState) (m0 m1 : Machine R)
+    (texts : List (List ℕ)) (stop : RunStop) (bytes : List ℕ) : Type 0 where
+  pub flown : List (List ℕ)
+  pub more : List (List ℕ)
+  pub parts : texts ≡ flown ++ more
+  pub stmts : List Stmt
+  pub spelt : AreSpelt flown stmts
+  pub may : MayFly state m0 m1 stmts
+  pub seens : List Seen
+  pub flew : FlewUntil state m0.flights.words m1.flights.words stmts seens stop bytes
+      m0.engine m0.store m1.engine m1.store
+
+-- they were answered, and a sink failed within their answers or behind them
+pub record FinishedTogether {R : Type 0} (state : R → RevState) (m0 m1 : Machine R)
+    (texts : List (List ℕ)) (stop : RunStop) (bytes : List ℕ) : Type 0 where
+  pub flown : List (List ℕ)
+  pub more : List (List ℕ)
+  pub parts : texts ≡ flown ++ more
+  pub answers : List Answer
+  pub step : StepTogether state m0 m1 flown answers
+  pub whole : bytes ≡ printed answers
   pub fault : stop ≡ SinkFault
 
 -- nothing was done before a stop for want of memory
@@ -327,15 +432,17 @@ abbrev pub PartlyAt : {R : Type 0} → (R → RevState) → Machine R → Machin
 PartlyAt state m0 m1 [] stop bytes = Idle m0 m1 stop bytes
 PartlyAt state m0 m1 (text ∷ texts) stop bytes =
     Idle m0 m1 stop bytes ⊎ (CutStep state m0 m1 text stop bytes
-    ⊎ Finished state m0 m1 text stop bytes)
+    ⊎ (Finished state m0 m1 text stop bytes
+    ⊎ (CutTogether state m0 m1 (text ∷ texts) stop bytes
+    ⊎ FinishedTogether state m0 m1 (text ∷ texts) stop bytes)))
 
--- a sink took the answers of these texts, which were counted
-pub record AnswersAll {R : Type 0} (state : R → RevState) (written0 written1 : Option (List ℕ))
-    (texts : List (List ℕ)) (tally0 tally1 : Tally) (m0 m1 : Machine R) : Type 0 where
-  pub answers : List Answer
-  pub steps : Steps state m0 m1 texts answers
-  pub appends : Appends written0 written1 (printed answers)
-  pub counted : tally1 ≡ tally_after tally0 answers
+-- a sink took the answer of this text, which was counted
+pub record AnswersText {R : Type 0} (state : R → RevState) (written0 written1 : Option (List ℕ))
+    (tally0 : Tally) (text : List ℕ) (tally1 : Tally) (m0 m1 : Machine R) : Type 0 where
+  pub answer : Answer
+  pub step : Step state m0 m1 text answer
+  pub appends : Appends written0 written1 answer.bytes
+  pub counted : tally1 ≡ tally_with tally0 answer.outcome answer.plan
 
 -- a stop came within the first of these texts, or before it, and a sink took what was printed, or for this cause less
 pub record StopsIn {R : Type 0} (state : R → RevState) (written0 written1 : Option (List ℕ))

@@ -2,6 +2,7 @@
 use Rattle.std.specs.Prelude.{ℕ, ◌≡◌, Bool, List, [], ◌∷◌, nat_lt, Option, Result, Ok, Err}
 use Rattle.ob_base.specs.declared.config.Plan.{Plan}
 use Rattle.ob_base.specs.declared.refusal.Stop.{Stop}
+use Rattle.ob_base.specs.declared.seen.Seen.{Seen}
 use Rattle.ob_verdict.specs.declared.outcome.Outcome.{Outcome}
 use Rattle.ob_verdict.specs.declared.outcome.Outcome.TheVariants.{Created, Inserted, Changed, Deleted, Dropped, Rows, Refused}
 use Rattle.ob_gen.specs.Tally.{empty_tally, with_answer, with_plan}
@@ -27,6 +28,13 @@ tally_with t outcome plan = with_plan (with_answer t (is_refused outcome) (rows_
 unfoldable pub tally_after : Tally → List Answer → Tally
 tally_after t [] = t
 tally_after t (answer ∷ answers) = tally_after (tally_with t answer.outcome answer.plan) answers
+
+-- with these, of each of which this was seen
+unfoldable pub tally_seen : Tally → List Outcome → List Seen → Tally
+tally_seen t [] seens = t
+tally_seen t (outcome ∷ outcomes) [] = t
+tally_seen t (outcome ∷ outcomes) (seen ∷ seens) =
+    tally_seen (tally_with t outcome seen.plan) outcomes seens
 
 abbrev pub tally_of : List Answer → Tally
 tally_of answers = tally_after empty_tally answers

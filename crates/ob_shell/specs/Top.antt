@@ -1,5 +1,5 @@
 -- What a whole run promises, by its words and the bytes that its source gave.
-use Rattle.std.specs.Prelude.{ℕ, ◌≡◌, ◌≢◌, ◌+◌, ◌⊎◌, Bool, true, false, List, [], ◌++◌, length, Option, Some, None, Result, Ok, Err}
+use Rattle.std.specs.Prelude.{ℕ, ◌≡◌, ◌≢◌, ◌+◌, ◌⊎◌, Bool, true, false, List, [], ◌++◌, drop, length, Option, Some, None, Result, Ok, Err}
 use Rattle.std.specs.Io.KnownBytes.{Consumes, IsAtEnd}
 use Rattle.ob_base.specs.Counts.{Rises}
 use Rattle.ob_base.specs.declared.refusal.Stop.{Stop}
@@ -8,6 +8,7 @@ use Rattle.ob_gen.specs.declared.tally.Tally.{Tally}
 use Rattle.ob_headline.specs.Bases.{Base, FromEach}
 use Rattle.ob_headline.specs.Batches.{AnsweredBut}
 use Rattle.ob_headline.specs.Endings.{last_line, status_of}
+use Rattle.ob_headline.specs.Flights.{GoesOn, most_of, public_whole, seats_of, trace_of, whole_of}
 use Rattle.ob_headline.specs.KeyLine.{LineTaken, first_line, secret_of}
 use Rattle.ob_headline.specs.Settings.{limit_of}
 use Rattle.ob_headline.specs.Texts.{texts_in}
@@ -19,7 +20,6 @@ use Rattle.ob_headline.specs.declared.ending.Ending.TheVariants.{Usage, BadKey, 
 use Rattle.ob_headline.specs.declared.ending.Report.{Report}
 use Rattle.ob_mean.specs.Batches.{batch_most}
 use Rattle.ob_print.specs.Cuts.{Outputs}
-use Rattle.ob_script.specs.Trace.{trace}
 use Rattle.ob_seal.specs.KeySet.{KeySet}
 use Rattle.ob_shell.specs.Feeding.{Fetch}
 use Rattle.ob_shell.specs.Running.{CountsRows, EndsBy, FlagIs, ServesAlone, StopCause}
@@ -65,12 +65,18 @@ pub record TraceSink : Type 0 where
 abbrev pub sink_of : Bool → (old new : Option (List ℕ)) → TraceSink
 sink_of on old new = record { on = on; old = old; new = new }
 
+-- why not all that had ended may be among the answers: for this cause of the sink of the answers, or where the run ended so
+abbrev pub LosesSome : (Lost : Type 0) → Ending → Type 0
+LosesSome Lost ending =
+    Lost ⊎ ((ending ≡ Ran (Err SinkFault)) ⊎ (ending ≡ Ran (Err NoMemory)))
+
 -- what the texts did to the store, whose blocks are under these keys, and what was answered
 pub record Carried (tr : TraceSink) (base : Base) (keys : KeySet)
     (secret : Option (List ℕ)) (store0 store1 : StoreState) (high : ℕ) (story : Story) (ending : Ending) : Type 0 where
   pub statements : Statements secret story
   pub accesses : Accesses base keys ending story store0 store1
-  pub traced_whole : Took tr.old tr.new (traced tr.on (trace base.public story.seen))
+  pub traced_whole : Took tr.old tr.new (traced tr.on
+      (trace_of base (whole_of (length story.seen) story.entries)))
   pub answers : Answers base keys ending story store0 store1
   pub tampering : Tampering keys base.start ending store0 store1
   pub sealing : Sealing base keys store0 store1
@@ -95,7 +101,7 @@ pub record RanAfter {R : Type 0} (state : R → RevState) (tr : TraceSink) (base
   pub at_end : ended ≡ true → IsAtEnd left1
   pub story : Story
   pub texts : texts_in ended (feed0.unread ++ piece) ≡ story.served ++ story.more
-  pub prompt : AnsweredBut (batch_most base.public)
+  pub prompt : AnsweredBut (public_whole base story) (batch_most base.public) (most_of base)
       (texts_in false (before_read gave (feed0.unread ++ piece))) story.served
   pub carried : Carried tr base keys secret store0 store1 high story (Ran (flagged result))
   -- the rows that were open are those of the session's engine; where none was started, there are none
@@ -103,6 +109,8 @@ pub record RanAfter {R : Type 0} (state : R → RevState) (tr : TraceSink) (base
       store0 store1 Lost result high ⊎ ((high ≡ 0) × (store1 ≡ store0))
   pub cut : Outputs written0 written1 Lost (printed story.answers ++ story.part)
   pub whole : Took written0 written1 (printed story.answers)
+  pub answered : GoesOn (drop (length story.seen) (seats_of base story.entries))
+      ⊎ LosesSome Lost (Ran (flagged result))
   pub counted : TallyIs story.answers result
   pub ends : EndsBy feed1 ended (feed0.unread ++ piece) story.more story.part (flagged result)
 
@@ -188,12 +196,15 @@ pub record RunShown (tally : Tally) (tr : TraceSink) (base : Base) (keys : List 
   pub ended : Bool
   pub story : Story
   pub bytes : Bytes (limit_of base.settings) taken ended story left0 left1
-  pub prompt : Prompt (batch_most base.public) taken story.served gave
+  pub prompt : Prompt (public_whole base story) (batch_most base.public) (most_of base) taken
+      story.served gave
   pub carried : Carried tr base (keys taken) (secret_of (first_line taken)) store0 store1 high
       story ending
   pub grew : Outputs written0 written1 Fault ((printed story.answers ++ story.part) ++ line)
   -- a sink's fault ends the run: all answers were taken whole
   pub whole : Took written0 written1 (printed story.answers)
+  pub answered : GoesOn (drop (length story.seen) (seats_of base story.entries))
+      ⊎ LosesSome Fault ending
   pub flag : EndingFlag ending story.answers
   pub counted : EndingTally ending story.answers tally
   pub says : EndingSays ending (limit_of base.settings) taken left1 ended story.more story.part
@@ -212,9 +223,11 @@ pub record Reported (tally : Tally) (tr : TraceSink) (Takes : Type 0) (base : Ba
   -- so was what was printed of the one that was begun, unless the sink of the answers failed
   pub through : Took written0 written1 (printed shown.story.answers ++ shown.story.part)
       ⊎ Rises old.out new.out
+  pub answered : GoesOn (drop (length shown.story.seen) (seats_of base shown.story.entries))
+      ⊎ LosesSome (Rises old.out new.out) ending
   pub silent : new.trace ≢ old.trace
       → Outputs written0 written1 (Unit {0}) (printed shown.story.answers ++ shown.story.part)
-  pub cause : StatusCause (ServesAlone base.public) ending old new
+  pub cause : StatusCause (ServesAlone base.flight base.public) ending old new
   pub completes : Takes → (input : List ℕ) → left0 ≡ Some input
       → KeepsLimits (limit_of base.settings) input
       → ¬ Rises old.source new.source → ¬ SinksRose old new

@@ -1,34 +1,47 @@
-//! INSERTs that wait to be served together.
-ghost use Rattle.std.specs.Prelude.{◌≡◌, ◌≢◌, ◌≤◌, ◌∷◌, [], drop, length, take, IsErr, OnErr, OnOk};
+//! Statements that wait to be served together.
+ghost use Rattle.std.specs.Prelude.{◌≡◌, ◌≢◌, ◌≤◌, ◌+◌, ◌*◌, ◌∷◌, [], drop, is_some, length, take, Option, IsErr, OnErr, OnOk};
 ghost use Rattle.std.specs.Io.KnownBytes.{Appends};
 ghost use Rattle.ob_headline.specs.Tracing.{traced};
 ghost use Rattle.ob_headline.specs.Words.{faults_of, printed};
 ghost use Rattle.ob_io.specs.Causes.{HasCause};
+ghost use Rattle.ob_mean.specs.Batches.{inserts_into};
 ghost use Rattle.ob_print.specs.Cuts.{Outputs};
+ghost use Rattle.ob_headline.specs.declared.flight.FlightSettings.{FlightSettings};
+ghost use Rattle.ob_shell.specs.Flying.{flights_of};
 ghost use Rattle.ob_shell.specs.Lines.{BatchCut, SinksCause, line_answers};
 ghost use Rattle.ob_shell.specs.Serving.{ServesBatch, TakesTexts};
-ghost use Rattle.ob_shell.specs.Steps.{IsReady, machine_of};
+ghost use Rattle.ob_shell.specs.Steps.{Flights as FlightsToCome, IsReady, machine_of, no_flights};
 ghost use Rattle.ob_shell.specs.Tallies.{tally_after};
-ghost use Rattle.ob_shell.specs.Waiting.{AreBatched, ComesFree, IsClosed, are_alike, goes_along};
+ghost use Rattle.ob_shell.specs.Waiting;
+ghost use Rattle.ob_shell.specs.Waiting.{AreBatched, AreFlown, ComesFree, IsClosed};
 ghost use Rattle.ob_sql.specs.Skeleton.{skeleton};
 ghost use Rattle.ob_tables.specs.Agreeing.{count_of, public_of};
 ghost use Rattle.ob_tables.specs.Batch.{AreBatch};
 
-use crate::session::{Answered, SINK_FAILED, Session, TextHalted, closing_line, tally_with};
+use crate::flying::{begins_flight, may_fly, most_flown, serve_flight};
+use crate::session::{Answered, Manner, SINK_FAILED, Session, TextHalted, serve_stmt, tally_with};
 use crate::trace::{let_go_from, trace_from};
-use ob_base::Failed;
-use ob_exec::{Behind, Engine, Outcome, RunStop, run_batch};
+use ob_base::{Failed, Public};
+use ob_exec::{Behind, Engine, Outcome, RunStop, batch_most, begins_batch, run_batch};
 use ob_gen::{Digester, Tally};
+use ob_headline::FlightSettings;
 use ob_io::Sink;
 use ob_print::{Pieces, write_all};
 use ob_sql::Stmt;
 use ob_store::BlockStore;
+use ob_turns::{DrawnTurns, closing_line};
 use ob_vault::Revisions;
 use std::alloc::Global;
 
+fn is_insert(stmt: &Stmt) -> bool
+    ensures { result ≡ is_some (inserts_into (skeleton stmt.now)) }
+{
+    matches!(stmt, Stmt::Insert { .. })
+}
+
 // Whether both insert into one table.
 fn are_alike(first: &Stmt, stmt: &Stmt) -> bool
-    ensures { result ≡ are_alike (skeleton first.now) (skeleton stmt.now) }
+    ensures { result ≡ Waiting.are_alike (skeleton first.now) (skeleton stmt.now) }
 {
     let Stmt::Insert { table, .. } = first else {
         return false;
@@ -39,14 +52,43 @@ fn are_alike(first: &Stmt, stmt: &Stmt) -> bool
     }
 }
 
-/// Whether a statement goes into the batch of these, of which the first began it, where it may have one more.
-pub(crate) fn goes_along(batch: &[Stmt], stmt: &Stmt) -> bool
-    ensures { result ≡ goes_along batch.now stmt.now }
+/// Whether a statement goes along with these, of which the first was the first that waited, where one more may: an INSERT
+/// into its table, or a SELECT that may be in flight where it is one.
+pub(crate) fn goes_along(public: &Public, batch: &[Stmt], stmt: &Stmt) -> bool
+    ensures { result ≡ Waiting.goes_along public.now batch.now stmt.now }
 {
     match batch.first() {
-        Some(first) => are_alike(first, stmt),
+        Some(first) => match first {
+            Stmt::Insert { .. } => are_alike(first, stmt),
+            _ => may_fly(public, stmt),
+        },
         None => false,
     }
+}
+
+/// As many as are served together, at most, where this one is among them.
+pub(crate) fn gather_most(flight: Option<FlightSettings>, public: &Public, stmt: &Stmt) -> u64
+    ensures { result ≡ Waiting.gather_most flight public.now (skeleton stmt.now) }
+{
+    match stmt {
+        Stmt::Insert { .. } => batch_most(public),
+        _ => most_flown(flight, public),
+    }
+}
+
+/// Whether a statement before which none waits is to wait for others: it begins a batch or a flight.
+pub(crate) fn begins<R: Revisions, S: BlockStore>(
+    flight: Option<FlightSettings>,
+    engine: &Engine<R>,
+    store: &S,
+    stmt: &Stmt,
+) -> bool
+    requires pack { 1 ≤ (public_of engine.now).pack }
+    requires buffer { 3 * (public_of engine.now).pack + 1 ≤ (public_of engine.now).buffer }
+    ensures { result ≡ Waiting.begins flight (public_of engine.now)
+        (count_of engine.now (S.state store.now)) stmt.now }
+{
+    begins_batch(engine, store, stmt) || begins_flight(flight, engine.public(), stmt)
 }
 
 // Writes the line of each answer, of which none waits afterwards.
@@ -150,14 +192,15 @@ fn serve_batch<R: Revisions, S: BlockStore, B: Behind<S>, K: Sink, T: Sink, D: D
     requires batch { AreBatch (public_of engine.old) (count_of engine.old (S.state store.old))
         first.now rest.now }
     requires ready { IsReady R.state (B.Saves behind.old)
-        (machine_of engine.old (S.state store.old) (B.state behind.old)) }
+        (machine_of engine.old (S.state store.old) (B.state behind.old) no_flights) }
     requires took { D.took digest.old (S.state store.old).asked }
-    ensures serves { ServesBatch R.state (B.Saves behind.new) tracing first.now rest.now tally
+    ensures serves { (flights : FlightsToCome) → ServesBatch R.state (B.Saves behind.new) tracing
+        (first.now ∷ rest.now) tally
         (K.written out.old) (K.written out.new) (T.written trace.old) (T.written trace.new)
         (faults_of 0 (K.faults out.old) (T.faults trace.old))
         (faults_of 0 (K.faults out.new) (T.faults trace.new))
-        (machine_of engine.old (S.state store.old) (B.state behind.old))
-        (machine_of engine.new (S.state store.new) (B.state behind.new)) result }
+        (machine_of engine.old (S.state store.old) (B.state behind.old) flights)
+        (machine_of engine.new (S.state store.new) (B.state behind.new) flights) result }
     ensures same { B.name behind.new ≡ B.name behind.old }
     ensures took { OnOk result (D.took digest.new (S.state store.new).asked) }
 {
@@ -196,10 +239,99 @@ fn serve_batch<R: Revisions, S: BlockStore, B: Behind<S>, K: Sink, T: Sink, D: D
     }
 }
 
+// Serves SELECTs: one by itself, or several in flight. Tells what was counted then.
+fn serve_selects<R: Revisions, S: BlockStore, B: Behind<S>, K: Sink, T: Sink, D: Digester>(
+    alloc: Global,
+    tracing: bool,
+    tally: Tally,
+    turns: &mut DrawnTurns,
+    stmts: &[Stmt],
+    engine: &mut Engine<R>,
+    store: &mut S,
+    behind: &mut B,
+    out: &mut K,
+    trace: &mut T,
+    digest: &mut D,
+) -> Result<Tally, TextHalted>
+    requires some { 1 ≤ length stmts.now }
+    requires flown { (settings : Option FlightSettings)
+        × AreFlown settings (public_of engine.old) stmts.now }
+    requires ready { IsReady R.state (B.Saves behind.old)
+        (machine_of engine.old (S.state store.old) (B.state behind.old) no_flights) }
+    requires took { D.took digest.old (S.state store.old).asked }
+    ensures serves { (settings : Option FlightSettings)
+        → AreFlown settings (public_of engine.old) stmts.now
+        → ServesBatch R.state (B.Saves behind.new) tracing stmts.now tally
+        (K.written out.old) (K.written out.new) (T.written trace.old) (T.written trace.new)
+        (faults_of 0 (K.faults out.old) (T.faults trace.old))
+        (faults_of 0 (K.faults out.new) (T.faults trace.new))
+        (machine_of engine.old (S.state store.old) (B.state behind.old)
+        (flights_of settings turns.old.last))
+        (machine_of engine.new (S.state store.new) (B.state behind.new)
+        (flights_of settings turns.new.last)) result }
+    ensures same { B.name behind.new ≡ B.name behind.old }
+    ensures took { OnOk result (D.took digest.new (S.state store.new).asked) }
+{
+    if stmts.len() >= 2 {
+        return serve_flight(
+            alloc, tracing, tally, turns, stmts, engine, store, out, trace, digest,
+        );
+    }
+    serve_stmt(
+        alloc, tracing, tally, engine, store, behind, &stmts[0], out, trace, digest,
+    )
+}
+
+// Serves those that wait, a batch of INSERTs or SELECTs. Tells what was counted then.
+fn serve_waiting<R: Revisions, S: BlockStore, B: Behind<S>, K: Sink, T: Sink, D: Digester>(
+    alloc: Global,
+    tracing: bool,
+    tally: Tally,
+    turns: &mut DrawnTurns,
+    stmts: &[Stmt],
+    engine: &mut Engine<R>,
+    store: &mut S,
+    behind: &mut B,
+    out: &mut K,
+    trace: &mut T,
+    digest: &mut D,
+) -> Result<Tally, TextHalted>
+    requires waits { (settings : Option FlightSettings) × AreBatched settings
+        (public_of engine.old) (count_of engine.old (S.state store.old)) stmts.now }
+    requires ready { IsReady R.state (B.Saves behind.old)
+        (machine_of engine.old (S.state store.old) (B.state behind.old) no_flights) }
+    requires took { D.took digest.old (S.state store.old).asked }
+    ensures serves { (settings : Option FlightSettings) → AreBatched settings
+        (public_of engine.old) (count_of engine.old (S.state store.old)) stmts.now
+        → ServesBatch R.state (B.Saves behind.new) tracing stmts.now tally
+        (K.written out.old) (K.written out.new) (T.written trace.old) (T.written trace.new)
+        (faults_of 0 (K.faults out.old) (T.faults trace.old))
+        (faults_of 0 (K.faults out.new) (T.faults trace.new))
+        (machine_of engine.old (S.state store.old) (B.state behind.old)
+        (flights_of settings turns.old.last))
+        (machine_of engine.new (S.state store.new) (B.state behind.new)
+        (flights_of settings turns.new.last)) result }
+    ensures idle { OnErr result (stmts.now ≢ []) }
+    ensures same { B.name behind.new ≡ B.name behind.old }
+    ensures took { OnOk result (D.took digest.new (S.state store.new).asked) }
+{
+    let Some((first, rest)) = stmts.split_first() else {
+        return Ok(tally);
+    };
+    if is_insert(first) {
+        return serve_batch(
+            alloc, tracing, tally, first, rest, engine, store, behind, out, trace, digest,
+        );
+    }
+    serve_selects(
+        alloc, tracing, tally, turns, stmts, engine, store, behind, out, trace, digest,
+    )
+}
+
 /// Serves those that wait, if there are any.
 pub(crate) fn flush<R: Revisions, S: BlockStore, B: Behind<S>, K: Sink, T: Sink, D: Digester>(
     alloc: Global,
-    tracing: bool,
+    manner: Manner,
     session: &mut Session,
     engine: &mut Engine<R>,
     store: &mut S,
@@ -208,36 +340,36 @@ pub(crate) fn flush<R: Revisions, S: BlockStore, B: Behind<S>, K: Sink, T: Sink,
     trace: &mut T,
     digest: &mut D,
 ) -> Result<(), TextHalted>
-    requires waits { AreBatched (public_of engine.old)
+    requires waits { AreBatched manner.flight (public_of engine.old)
         (count_of engine.old (S.state store.old)) session.old.batch.items }
     requires ready { IsReady R.state (B.Saves behind.old)
-        (machine_of engine.old (S.state store.old) (B.state behind.old)) }
+        (machine_of engine.old (S.state store.old) (B.state behind.old)
+        (flights_of manner.flight session.old.turns.last)) }
     requires took { D.took digest.old (S.state store.old).asked }
     ensures pending { session.new.pending ≡ session.old.pending }
     ensures none { OnOk result (session.new.batch.items ≡ []) }
     ensures idle { OnErr result (session.old.batch.items ≢ []) }
-    ensures takes { TakesTexts R.state (B.Saves behind.new) tracing
-        (ComesFree (public_of engine.old) session.old.batch.items)
-        (IsClosed (public_of engine.new) session.old.batch.items)
-        session.old.batch.items session.new.batch.items []
+    ensures takes { TakesTexts R.state (B.Saves behind.new) manner.tracing
+        (ComesFree manner.flight (public_of engine.old) session.old.batch.items)
+        (IsClosed manner.flight (public_of engine.old) (public_of engine.new)
+        session.old.batch.items) session.old.batch.items session.new.batch.items []
         session.old.tally session.new.tally (K.written out.old) (K.written out.new)
         (T.written trace.old) (T.written trace.new)
         (faults_of 0 (K.faults out.old) (T.faults trace.old))
         (faults_of 0 (K.faults out.new) (T.faults trace.new))
-        (machine_of engine.old (S.state store.old) (B.state behind.old))
-        (machine_of engine.new (S.state store.new) (B.state behind.new)) result }
+        (machine_of engine.old (S.state store.old) (B.state behind.old)
+        (flights_of manner.flight session.old.turns.last))
+        (machine_of engine.new (S.state store.new) (B.state behind.new)
+        (flights_of manner.flight session.new.turns.last)) result }
     ensures same { B.name behind.new ≡ B.name behind.old }
     ensures took { OnOk result (D.took digest.new (S.state store.new).asked) }
 {
-    let Some((first, rest)) = session.batch.as_slice().split_first() else {
-        return Ok(());
-    };
-    match serve_batch(
+    match serve_waiting(
         alloc,
-        tracing,
+        manner.tracing,
         session.tally,
-        first,
-        rest,
+        &mut session.turns,
+        session.batch.as_slice(),
         engine,
         store,
         behind,

@@ -24,7 +24,7 @@ pub struct Feed {
 }
 
 impl Model for Feed {
-    ghost use Rattle.std.specs.Prelude.{ℕ, ◌-◌, ◌≤◌, List, take, drop};
+    ghost use Rattle.std.specs.Prelude.{◌-◌, ◌≤◌, take, drop};
     ghost use Rattle.ob_shell.specs.Feeding.{Fetch};
 
     ghost Value = { Fetch };

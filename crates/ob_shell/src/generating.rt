@@ -1,7 +1,6 @@
 //! Runs over the text that is generated in place of the input.
 ghost use Rattle.std.specs.Prelude.{◌≡◌, Bool, Ok, [], Some};
 ghost use Rattle.ob_gen.specs.SummaryText.{summary_of, summary_text};
-ghost use Rattle.ob_headline.specs.Endings;
 ghost use Rattle.ob_shell.specs.Generating.{RanGenerated, ConcludedBy, SummedUp};
 ghost use Rattle.ob_words.specs.WordsRead.{AreWithin};
 
@@ -84,7 +83,7 @@ pub(crate) fn serve_generated<O: Sink, T: Sink, S: BlockStore>(
 ) -> Report
     requires within { AreWithin words.config }
     requires fresh { (S.state store.old).asked ≡ [] }
-    ensures { RanGenerated seed words.trace (Some words.config)
+    ensures { RanGenerated seed words.trace (Some words.config) words.flight
         (T.written trace.old) (T.written trace.new) (S.state store.old) (S.state store.new)
         (T.faults trace.old) (T.faults trace.new)
         (O.written out.old) (O.written out.new) (O.faults out.old) (O.faults out.new) result }

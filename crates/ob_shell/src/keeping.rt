@@ -4,9 +4,9 @@ ghost use Rattle.ob_base.specs.declared.config.Config.{Config};
 ghost use Rattle.ob_base.specs.Stored.{headings_of};
 ghost use Rattle.ob_tables.specs.Agreeing.{count_of, high_of, public_of};
 ghost use Rattle.ob_gen.specs.Tally.{empty_tally};
-ghost use Rattle.ob_headline.specs.Bases.{Base};
+ghost use Rattle.ob_headline.specs.Bases.{Base, flying};
 ghost use Rattle.ob_headline.specs.Keeping;
-ghost use Rattle.ob_headline.specs.Settings.{IsTaken, settings_of};
+ghost use Rattle.ob_headline.specs.Settings.{IsTaken, flight_of, settings_of};
 ghost use Rattle.ob_headline.specs.Usage.{is_kept, is_traced, kept_usage};
 ghost use Rattle.ob_headline.specs.Words.{faults_of, outside_of};
 ghost use Rattle.ob_mean.specs.Flats.{AreFlat};
@@ -17,7 +17,7 @@ ghost use Rattle.ob_shell.specs.Engaging.{KeptConcludedBy, KeptGenerated, RanKep
 ghost use Rattle.ob_shell.specs.Feeding.{IsFedBy};
 ghost use Rattle.ob_shell.specs.Generating.{asked_for};
 ghost use Rattle.ob_shell.specs.KeptSummary.{MayKeep};
-ghost use Rattle.ob_shell.specs.Steps.{IsReady, machine_of, told_nothing};
+ghost use Rattle.ob_shell.specs.Steps.{IsReady, machine_of, no_flights, told_nothing};
 ghost use Rattle.ob_words.specs.WordsRead.{AreWithin};
 
 use crate::feed::{Feed, Halt};
@@ -29,7 +29,7 @@ use crate::trace::trace_from;
 use ob_base::{Config, Mark, Stop};
 use ob_exec::{CloseErr, Engine, OpenErr, Unsaved};
 use ob_gen::{Digester, Discard, Generated, Tally, TraceDigest, Undigested};
-use ob_headline::{Ending, KeptEnding, Report, Seed};
+use ob_headline::{Ending, FlightSettings, KeptEnding, Report, Seed};
 use ob_io::{Sink, Source};
 use ob_print::{Line, write_all};
 use ob_reopen::Keeper;
@@ -218,7 +218,8 @@ fn close_run<R: Revisions, T: Sink, D: Digester, S: BlockStore, K: Keeper>(
     store: &mut S,
     keeper: &mut K,
 ) -> KeptEnded
-    requires ready { IsReady R.state ⊥ (machine_of engine (S.state store.old) told_nothing) }
+    requires ready { IsReady R.state ⊥
+        (machine_of engine (S.state store.old) told_nothing no_flights) }
     requires few { count_of engine (S.state store.old) < 2 ^ 63 + 2 ^ 59 }
     requires flat { AreFlat (headings_of (public_of engine).tables) }
     requires high { high ≡ high_of engine }
@@ -248,6 +249,7 @@ fn close_run<R: Revisions, T: Sink, D: Digester, S: BlockStore, K: Keeper>(
 fn serve_run<R: Revisions, I: Source, O: Sink, T: Sink, D: Digester, S: BlockStore, K: Keeper>(
     alloc: Global,
     tracing: bool,
+    flight: Option<FlightSettings>,
     engine: Engine<R>,
     feed: &mut Feed,
     input: &mut I,
@@ -257,7 +259,8 @@ fn serve_run<R: Revisions, I: Source, O: Sink, T: Sink, D: Digester, S: BlockSto
     store: &mut S,
     keeper: &mut K,
 ) -> KeptEnded
-    requires ready { IsReady R.state ⊥ (machine_of engine (S.state store.old) told_nothing) }
+    requires ready { IsReady R.state ⊥
+        (machine_of engine (S.state store.old) told_nothing no_flights) }
     requires few { count_of engine (S.state store.old) < 2 ^ 63 + 2 ^ 59 }
     requires kept { (public_of engine).keep ≡ true }
     requires taken { feed.old.taken ≤ feed.old.limit }
@@ -265,7 +268,7 @@ fn serve_run<R: Revisions, I: Source, O: Sink, T: Sink, D: Digester, S: BlockSto
     requires took { D.took digest.old (S.state store.old).asked }
     ensures served { (base : Base) (config : Config) (key : List ℕ)
         → Engages R.state base config (keys_of key) engine (S.state store.old)
-        → ServesRun R.state base key tracing result feed.old feed.new
+        → ServesRun R.state (flying flight base) key tracing result feed.old feed.new
         (I.left input.old) (I.left input.new) (I.gave input.new)
         (O.written out.old) (O.written out.new) (T.written trace.old) (T.written trace.new)
         (S.state store.old) (S.state store.new)
@@ -281,6 +284,7 @@ fn serve_run<R: Revisions, I: Source, O: Sink, T: Sink, D: Digester, S: BlockSto
     match serve(
         alloc,
         tracing,
+        flight,
         feed,
         input,
         &mut engine,
@@ -313,7 +317,7 @@ pub(crate) fn run_kept<I: Source, O: Sink, T: Sink, D: Digester, S: Lasting, K: 
     requires kept { words.config.keep ≡ true }
     requires fresh { (S.state store.old).asked ≡ [] }
     requires took { D.took digest.old (S.state store.old).asked }
-    ensures ran { RanKept words.config words.trace result
+    ensures ran { RanKept words.config words.flight words.trace result
         (outside_of (I.left input.old) (I.gave input.old) (O.written out.old) (T.written trace.old)
         (S.state store.old)
         (faults_of (I.faults input.old) (O.faults out.old) (T.faults trace.old)))
@@ -348,7 +352,17 @@ pub(crate) fn run_kept<I: Source, O: Sink, T: Sink, D: Digester, S: Lasting, K: 
             ) {
                 Err(ended) => ended,
                 Ok(engine) => serve_run(
-                    alloc, tracing, engine, &mut feed, input, out, trace, digest, store, keeper,
+                    alloc,
+                    tracing,
+                    words.flight,
+                    engine,
+                    &mut feed,
+                    input,
+                    out,
+                    trace,
+                    digest,
+                    store,
+                    keeper,
                 ),
             }
         }
@@ -421,7 +435,7 @@ pub(crate) fn keep_generated<O: Sink, T: Sink, S: Lasting, K: Keeper>(
     requires within { AreWithin words.config }
     requires kept { words.config.keep ≡ true }
     requires fresh { (S.state store.old).asked ≡ [] }
-    ensures { KeptGenerated words.config words.trace seed
+    ensures { KeptGenerated words.config words.flight words.trace seed
         (T.written trace.old) (T.written trace.new) (S.state store.old) (S.state store.new)
         (T.faults trace.old) (T.faults trace.new) (K.state keeper.old) (K.state keeper.new)
         (O.written out.old) (O.written out.new) (O.faults out.old) (O.faults out.new) result }
@@ -456,6 +470,7 @@ pub fn keep_top<I: Source, O: Sink, T: Sink, S: Lasting, K: Keeper>(
     ensures ran { MayKeep (is_kept (map string_bytes words.now))
         (asked_for kept_usage (map string_bytes words.now))
         (settings_of kept_usage (map string_bytes words.now))
+        (flight_of kept_usage (map string_bytes words.now))
         (IsTaken kept_usage (map string_bytes words.now))
         (is_traced kept_usage (map string_bytes words.now))
         (outside_of (I.left input.old) (I.gave input.old) (O.written out.old) (T.written trace.old)

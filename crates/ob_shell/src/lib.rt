@@ -3,6 +3,7 @@
 
 mod batching;
 mod feed;
+mod flying;
 mod generating;
 mod keeping;
 mod key;

@@ -1,5 +1,5 @@
 //! The text that is being read.
-ghost use Rattle.std.specs.Prelude.{◌≡◌, ℕ, ◌+◌, ◌<◌, List, [], ◌∷◌, ◌++◌, length, OnOk, OnErr};
+ghost use Rattle.std.specs.Prelude.{◌≡◌, ℕ, ◌<◌, List, [], ◌∷◌, ◌++◌, length, OnOk, OnErr};
 ghost use Rattle.ob_headline.specs.Texts.{text_max, rest_after, texts_at, reading_of, has_words};
 ghost use Rattle.ob_shell.specs.Pushed.{Pushes};
 

@@ -2,9 +2,9 @@
 ghost use Rattle.std.specs.Prelude.{◌≡◌, ◌≢◌, ◌≤◌, ⊤, ℕ, Bool, List, [], IfErr, IfOk, Ok, OnOk, true};
 ghost use Rattle.std.specs.Prelude.{codes, map, string_bytes};
 ghost use Rattle.ob_base.specs.declared.config.Config.{Config};
-ghost use Rattle.ob_headline.specs.Bases.{Base};
+ghost use Rattle.ob_headline.specs.Bases.{Base, flying};
 ghost use Rattle.ob_headline.specs.Saving.{EndsShut, HandsBegun, LooksBare, RefusesMark, begun_mark};
-ghost use Rattle.ob_headline.specs.Settings.{IsTakenSaved, saved_settings_of};
+ghost use Rattle.ob_headline.specs.Settings.{IsTakenSaved, flight_of, saved_settings_of};
 ghost use Rattle.ob_headline.specs.Usage.{is_saved, is_set, is_traced, saved_usage, value_of};
 ghost use Rattle.ob_headline.specs.Words.{faults_of, outside_of};
 ghost use Rattle.ob_reopen.specs.Keepers.{IsMark};
@@ -18,7 +18,7 @@ ghost use Rattle.ob_shell.specs.Generating.{asked_for};
 ghost use Rattle.ob_shell.specs.Leaving.{BeginsToSave};
 ghost use Rattle.ob_shell.specs.SavedSummary.{KeepsOrSaves};
 ghost use Rattle.ob_words.specs.SavedWords.{AreFit};
-ghost use Rattle.ob_shell.specs.Steps.{IsReady, machine_of};
+ghost use Rattle.ob_shell.specs.Steps.{IsReady, machine_of, no_flights};
 
 use crate::feed::{Feed, Halt};
 use crate::generating::serve_generated;
@@ -33,7 +33,7 @@ use crate::trace::trace_from;
 use ob_base::{Config, Failed, Mark, NoMemory, Stop};
 use ob_exec::{Engine, SavedBy};
 use ob_gen::{Digester, Discard, Generated, Tally, TraceDigest, Undigested};
-use ob_headline::{Ending, KeptEnding, Report, Seed};
+use ob_headline::{Ending, FlightSettings, KeptEnding, Report, Seed};
 use ob_io::{Sink, Source};
 use ob_reopen::{Keeper, Salts};
 use ob_seal::Keys;
@@ -218,6 +218,7 @@ fn start_saving<R: Revisions, T: Sink, D: Digester, S: Saving, K: Salts>(
 fn serve_saving<R: Revisions, I: Source, O: Sink, T: Sink, D: Digester, S: Saving, K: Keeper>(
     alloc: Global,
     tracing: bool,
+    flight: Option<FlightSettings>,
     engine: Engine<R>,
     feed: &mut Feed,
     input: &mut I,
@@ -228,13 +229,14 @@ fn serve_saving<R: Revisions, I: Source, O: Sink, T: Sink, D: Digester, S: Savin
     keeper: &mut K,
 ) -> KeptEnded
     requires ready { IsReady R.state ⊤
-        (machine_of engine (S.state store.old) (K.state keeper.old)) }
+        (machine_of engine (S.state store.old) (K.state keeper.old) no_flights) }
     requires taken { feed.old.taken ≤ feed.old.limit }
     requires fed_by { IsFedBy feed.old (I.gave input.old) }
     requires took { D.took digest.old (S.state store.old).asked }
     ensures served { (base : Base) (config : Config) (keys : KeySet) (secret salt : List ℕ)
         → EngagesSaved R.state base config keys engine (S.state store.old) (K.state keeper.old)
-        → ServesSaved R.state base keys secret salt tracing result feed.old feed.new
+        → ServesSaved R.state (flying flight base) keys secret salt tracing result
+        feed.old feed.new
         (I.left input.old) (I.left input.new) (I.gave input.new)
         (O.written out.old) (O.written out.new) (T.written trace.old) (T.written trace.new)
         (S.state store.old) (S.state store.new)
@@ -242,7 +244,7 @@ fn serve_saving<R: Revisions, I: Source, O: Sink, T: Sink, D: Digester, S: Savin
         (faults_of (I.faults input.new) (O.faults out.new) (T.faults trace.new))
         (K.state keeper.old) (K.state keeper.new)
         (BeginsToSave R.state secret salt base keys
-        (machine_of engine (S.state store.old) (K.state keeper.old))) }
+        (machine_of engine (S.state store.old) (K.state keeper.old) no_flights)) }
     ensures within { feed.new.taken ≤ feed.new.limit }
     ensures fed_by { IsFedBy feed.new (I.gave input.new) }
     ensures took { (refused : Bool) → result.ending ≡ KeptEnding.Plain (Ending.Ran (Ok refused))
@@ -253,6 +255,7 @@ fn serve_saving<R: Revisions, I: Source, O: Sink, T: Sink, D: Digester, S: Savin
     let served = serve(
         alloc,
         tracing,
+        flight,
         feed,
         input,
         &mut engine,
@@ -280,7 +283,7 @@ fn run_saved<I: Source, O: Sink, T: Sink, D: Digester, S: Saving, K: Salts>(
     requires saves { words.config.save ≡ true }
     requires fresh { (S.state store.old).asked ≡ [] }
     requires took { D.took digest.old (S.state store.old).asked }
-    ensures ran { RanSaved words.config words.trace result
+    ensures ran { RanSaved words.config words.flight words.trace result
         (outside_of (I.left input.old) (I.gave input.old) (O.written out.old) (T.written trace.old)
         (S.state store.old)
         (faults_of (I.faults input.old) (O.faults out.old) (T.faults trace.old)))
@@ -312,6 +315,7 @@ fn run_saved<I: Source, O: Sink, T: Sink, D: Digester, S: Saving, K: Salts>(
                 Ok(engine) => serve_saving(
                     alloc,
                     words.trace,
+                    words.flight,
                     engine,
                     &mut feed,
                     input,
@@ -340,7 +344,7 @@ fn save_generated<O: Sink, T: Sink, S: Saving, K: Salts>(
     requires fits { AreFit words.config }
     requires saves { words.config.save ≡ true }
     requires fresh { (S.state store.old).asked ≡ [] }
-    ensures { SavedGenerated words.config words.trace seed
+    ensures { SavedGenerated words.config words.flight words.trace seed
         (T.written trace.old) (T.written trace.new) (S.state store.old) (S.state store.new)
         (T.faults trace.old) (T.faults trace.new) (K.state keeper.old) (K.state keeper.new)
         (O.written out.old) (O.written out.new) (O.faults out.old) (O.faults out.new) result }
@@ -377,6 +381,7 @@ pub fn save_top<I: Source, O: Sink, T: Sink, S: Saving, K: Salts>(
         (is_set (value_of saved_usage (map string_bytes words.now) (codes "keep")))
         (asked_for saved_usage (map string_bytes words.now))
         (saved_settings_of (map string_bytes words.now))
+        (flight_of saved_usage (map string_bytes words.now))
         (IsTakenSaved (map string_bytes words.now))
         (is_traced saved_usage (map string_bytes words.now))
         (outside_of (I.left input.old) (I.gave input.old) (O.written out.old) (T.written trace.old)

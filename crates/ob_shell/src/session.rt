@@ -1,34 +1,37 @@
-//! The texts of an input, each served as soon as it has come, or together with INSERTs behind it.
-ghost use Rattle.std.specs.Prelude.{◌≡◌, ◌<◌, ◌≤◌, ◌++◌, List, [], ◌∷◌, true, false, Ok, Err, length, OnOk, OnErr, codes, decimal};
+//! The texts of an input, each served as soon as it has come, or together with some behind it.
+ghost use Rattle.std.specs.Prelude.{◌≡◌, ◌<◌, ◌≤◌, ◌++◌, List, [], ◌∷◌, true, false, Ok, Err, length, OnOk, OnErr};
 ghost use Rattle.ob_base.specs.declared.access.Access.{Access};
 ghost use Rattle.ob_gen.specs.Tally.{empty_tally};
-ghost use Rattle.ob_headline.specs.Closing;
 ghost use Rattle.ob_headline.specs.Texts.{text_max, rest_after, tail_text, texts_at};
 ghost use Rattle.ob_headline.specs.Words.{faults_of};
 ghost use Rattle.ob_headline.specs.Statements.{Spells};
-ghost use Rattle.ob_mean.specs.Batches.{begins_batch, goes_into};
+ghost use Rattle.ob_mean.specs.Batches.{begins_batch};
 ghost use Rattle.ob_shell.specs.Feeding.{IsFedBy};
 ghost use Rattle.ob_shell.specs.Running.{IsQuiet, OutFailed, ServesAlone, SessionRan, Silenced, StopCause, halted_of, is_quiet, stop_of};
-ghost use Rattle.ob_shell.specs.Serving.{IsNotTaken, ReadsTexts, ServesTexts, StandsReady, TakesMore, TakesTexts, UnlessServed, WantsRoom, broken_of};
-ghost use Rattle.ob_shell.specs.Steps.{machine_of, IsReady, HasBody, AnswersAll};
+ghost use Rattle.ob_shell.specs.Flying.{flights_at, flights_of};
+ghost use Rattle.ob_shell.specs.Serving.{IsNotTaken, ReadsTexts, ServesStmt, StandsReady, TakesMore, TakesTexts, UnlessServed, WantsRoom, broken_of};
+ghost use Rattle.ob_shell.specs.Steps.{AnswersText, Flights, HasBody, IsApartFrom, IsReady, machine_of, no_flights};
 ghost use Rattle.ob_shell.specs.Tallies;
 ghost use Rattle.ob_shell.specs.Traces.{TracedAll, Traced};
-ghost use Rattle.ob_shell.specs.Waiting.{AreGathered, GoesAlong, IsFree};
+ghost use Rattle.ob_shell.specs.Waiting.{AreWaiting, GoesAlong, IsFree};
 ghost use Rattle.ob_sql.specs.Skeleton.{skeleton};
 ghost use Rattle.ob_tables.specs.Agreeing.{count_of, public_of};
 
-use crate::batching::{flush, goes_along};
+use crate::batching::{begins, flush, gather_most, goes_along};
 use crate::feed::{Feed, Halt};
+use crate::flying::turns_of;
 use crate::pending::{Grown, Pending, PushStop};
 use crate::trace::{let_go_from, trace_from};
 use ob_base::{Failed, Plan, Refusal, Stop};
-use ob_exec::{Behind, Engine, Outcome, RunStop, batch_most, begins_batch, run};
+use ob_exec::{Behind, Engine, Outcome, RunStop, run};
 use ob_gen::{Digester, Tally};
+use ob_headline::FlightSettings;
 use ob_io::{Sink, Source};
 use ob_parse::{ParseErr, parse};
-use ob_print::{Line, Pieces, Printer, RecordLine, refusal_line, write_all};
+use ob_print::{Pieces, Printer, RecordLine, write_all};
 use ob_sql::Stmt;
 use ob_store::BlockStore;
+use ob_turns::{DrawnTurns, closing_line};
 use ob_vault::Revisions;
 use std::alloc::Global;
 
@@ -66,21 +69,28 @@ pub(crate) const SINK_FAILED: TextHalted = TextHalted {
     quiet: true,
 };
 
-/// Why no further text is served: a stop in one that was served, or one behind those that were, where what comes next is
-/// left unread.
+/// Why no further text is served: a stop in one that was served, or behind those that were, what comes next left unread.
 #[derive(Clone, Copy, Debug, PartialEq, Eq)]
 pub enum Break {
     Served(TextHalted),
     Unread(Stop),
 }
 
-/// What a session knows beside the state of its engine: the text that is read, the INSERTs that wait to be served together,
-/// and what was counted.
+/// How texts are served: whether their accesses are traced, and how SELECTs fly, if they do.
+#[derive(Clone, Copy, Debug, PartialEq, Eq)]
+pub struct Manner {
+    pub tracing: bool,
+    pub flight: Option<FlightSettings>,
+}
+
+/// What a session knows beside the state of its engine: the text that is read, the statements that wait to be served
+/// together, what was counted, and the words of the flights to come.
 #[derive(Drop)]
 pub struct Session {
     pub pending: Pending,
     pub batch: Vec<Stmt>,
     pub tally: Tally,
+    pub turns: DrawnTurns,
 }
 
 /// How a text was answered, and the plan that was seen of it.
@@ -104,57 +114,31 @@ pub(crate) fn tally_with(tally: Tally, answered: Answered) -> Tally
     tally
 }
 
-pub(crate) fn closing_line(outcome: Outcome) -> Line
-    ensures { result ≡ Closing.closing_line outcome }
-{
-    match outcome {
-        Outcome::Created => Line::new(b"= created\n"),
-        Outcome::Inserted => Line::new(b"= inserted\n"),
-        Outcome::Changed(n) => counted_line(n, b"updated\n"),
-        Outcome::Deleted(n) => counted_line(n, b"deleted\n"),
-        Outcome::Dropped => Line::new(b"= dropped\n"),
-        Outcome::Rows(_) => Line::new(b""),
-        Outcome::Refused(refusal) => refusal_line(refusal),
-    }
-}
-
-fn counted_line(n: u64, what: &[u8]) -> Line
-    requires { length what.now ≤ 16 }
-    ensures { result ≡ codes "= " ++ (decimal n ++ (codes " " ++ what.now)) }
-{
-    let mut line = Line::new(b"= ");
-    line.push_number(n, b" ");
-    line.push(what);
-    line
-}
-
 // Runs one statement, whose text this is, and prints its header and rows, of which none waits afterwards. Where the sink
 // fails behind a stop, the stop remains.
 fn run_stmt<R: Revisions, S: BlockStore, B: Behind<S>, K: Sink>(
     engine: &mut Engine<R>,
     store: &mut S,
     behind: &mut B,
-    text: &[u8],
     stmt: &Stmt,
     printer: &mut Printer<'_, K>,
 ) -> Result<Answered, TextHalted>
-    requires spells { Spells text.now (Ok stmt.now) }
     requires alone { begins_batch (public_of engine.old) (count_of engine.old (S.state store.old))
         stmt.now ≡ false }
     requires ready { IsReady R.state (B.Saves behind.old)
-        (machine_of engine.old (S.state store.old) (B.state behind.old)) }
+        (machine_of engine.old (S.state store.old) (B.state behind.old) no_flights) }
     requires none { printer.old.out.waiting.items ≡ [] }
     ensures same_sink { printer.new.out.out.ghost_name ≡ printer.old.out.out.ghost_name }
-    ensures serves { ServesTexts R.state (B.Saves behind.new)
-        (λ gathered. goes_into (public_of engine.old) gathered (skeleton stmt.now) ≡ false)
-        (text.now ∷ [])
-        (λ a. HasBody R.state (K.written printer.old.out.out.now)
-        (K.written printer.new.out.out.now) text.now a.outcome a.plan)
+    ensures serves { (flights : Flights) → ServesStmt R.state (B.Saves behind.new)
+        (λ gathered. IsApartFrom flights.settings (public_of engine.old) gathered
+        (skeleton stmt.now)) stmt.now
+        (λ text a. HasBody R.state (K.written printer.old.out.out.now)
+        (K.written printer.new.out.out.now) text a.outcome a.plan)
         (K.written printer.old.out.out.now) (K.written printer.new.out.out.now)
         (faults_of 0 (K.faults printer.old.out.out.now) 0)
         (faults_of 0 (K.faults printer.new.out.out.now) 0)
-        (machine_of engine.old (S.state store.old) (B.state behind.old))
-        (machine_of engine.new (S.state store.new) (B.state behind.new))
+        (machine_of engine.old (S.state store.old) (B.state behind.old) flights)
+        (machine_of engine.new (S.state store.new) (B.state behind.new) flights)
         result }
     ensures asked { (seen : List Access) × ((S.state store.new).asked
         ≡ (S.state store.old).asked ++ seen) }
@@ -185,24 +169,22 @@ fn run_text<R: Revisions, S: BlockStore, B: Behind<S>, K: Sink>(
     engine: &mut Engine<R>,
     store: &mut S,
     behind: &mut B,
-    text: &[u8],
     stmt: &Stmt,
     out: &mut K,
 ) -> Result<Answered, TextHalted>
-    requires spells { Spells text.now (Ok stmt.now) }
     requires alone { begins_batch (public_of engine.old) (count_of engine.old (S.state store.old))
         stmt.now ≡ false }
     requires ready { IsReady R.state (B.Saves behind.old)
-        (machine_of engine.old (S.state store.old) (B.state behind.old)) }
-    ensures serves { ServesTexts R.state (B.Saves behind.new)
-        (λ gathered. goes_into (public_of engine.old) gathered (skeleton stmt.now) ≡ false)
-        (text.now ∷ [])
-        (λ a. HasBody R.state
-        (K.written out.old) (K.written out.new) text.now a.outcome a.plan)
+        (machine_of engine.old (S.state store.old) (B.state behind.old) no_flights) }
+    ensures serves { (flights : Flights) → ServesStmt R.state (B.Saves behind.new)
+        (λ gathered. IsApartFrom flights.settings (public_of engine.old) gathered
+        (skeleton stmt.now)) stmt.now
+        (λ text a. HasBody R.state (K.written out.old) (K.written out.new) text a.outcome a.plan)
         (K.written out.old) (K.written out.new)
-        (faults_of 0 (K.faults out.old) 0) (faults_of 0 (K.faults out.new) 0)
-        (machine_of engine.old (S.state store.old) (B.state behind.old))
-        (machine_of engine.new (S.state store.new) (B.state behind.new))
+        (faults_of 0 (K.faults out.old) 0)
+        (faults_of 0 (K.faults out.new) 0)
+        (machine_of engine.old (S.state store.old) (B.state behind.old) flights)
+        (machine_of engine.new (S.state store.new) (B.state behind.new) flights)
         result }
     ensures asked { (seen : List Access) × ((S.state store.new).asked
         ≡ (S.state store.old).asked ++ seen) }
@@ -214,7 +196,7 @@ fn run_text<R: Revisions, S: BlockStore, B: Behind<S>, K: Sink>(
         out: Pieces::new(out),
         line: &mut line,
     };
-    run_stmt(engine, store, behind, text, stmt, &mut printer)
+    run_stmt(engine, store, behind, stmt, &mut printer)
 }
 
 // Answers a statement whole, with its closing line, and counts it.
@@ -224,31 +206,29 @@ fn answer<R: Revisions, S: BlockStore, B: Behind<S>, K: Sink>(
     engine: &mut Engine<R>,
     store: &mut S,
     behind: &mut B,
-    text: &[u8],
     stmt: &Stmt,
     out: &mut K,
 ) -> Result<Tally, TextHalted>
-    requires spells { Spells text.now (Ok stmt.now) }
     requires alone { begins_batch (public_of engine.old) (count_of engine.old (S.state store.old))
         stmt.now ≡ false }
     requires ready { IsReady R.state (B.Saves behind.old)
-        (machine_of engine.old (S.state store.old) (B.state behind.old)) }
-    ensures serves { ServesTexts R.state (B.Saves behind.new)
-        (λ gathered. goes_into (public_of engine.old) gathered (skeleton stmt.now) ≡ false)
-        (text.now ∷ [])
-        (λ counted. AnswersAll R.state
-        (K.written out.old) (K.written out.new) (text.now ∷ []) tally counted)
+        (machine_of engine.old (S.state store.old) (B.state behind.old) no_flights) }
+    ensures serves { (flights : Flights) → ServesStmt R.state (B.Saves behind.new)
+        (λ gathered. IsApartFrom flights.settings (public_of engine.old) gathered
+        (skeleton stmt.now)) stmt.now
+        (AnswersText R.state (K.written out.old) (K.written out.new) tally)
         (K.written out.old) (K.written out.new)
-        (faults_of 0 (K.faults out.old) 0) (faults_of 0 (K.faults out.new) 0)
-        (machine_of engine.old (S.state store.old) (B.state behind.old))
-        (machine_of engine.new (S.state store.new) (B.state behind.new))
+        (faults_of 0 (K.faults out.old) 0)
+        (faults_of 0 (K.faults out.new) 0)
+        (machine_of engine.old (S.state store.old) (B.state behind.old) flights)
+        (machine_of engine.new (S.state store.new) (B.state behind.new) flights)
         result }
     ensures asked { (seen : List Access) × ((S.state store.new).asked
         ≡ (S.state store.old).asked ++ seen) }
     ensures listed { (S.state store.new).let_go ≡ (S.state store.old).let_go }
     ensures same { B.name behind.new ≡ B.name behind.old }
 {
-    match run_text(alloc, engine, store, behind, text, stmt, out) {
+    match run_text(alloc, engine, store, behind, stmt, out) {
         Err(halted) => Err(halted),
         Ok(answered) => match write_all(out, closing_line(answered.outcome).as_bytes()) {
             Ok(()) => Ok(tally_with(tally, answered)),
@@ -259,35 +239,32 @@ fn answer<R: Revisions, S: BlockStore, B: Behind<S>, K: Sink>(
 
 // Answers a statement whole, and then traces what it asked, of which the store lets go. After a sink's fault nothing more is
 // written.
-fn answer_traced<R: Revisions, S: BlockStore, B: Behind<S>, K: Sink, T: Sink, D: Digester>(
+pub(crate) fn serve_stmt<R: Revisions, S: BlockStore, B: Behind<S>, K: Sink, T: Sink, D: Digester>(
     alloc: Global,
     tracing: bool,
     tally: Tally,
     engine: &mut Engine<R>,
     store: &mut S,
     behind: &mut B,
-    text: &[u8],
     stmt: &Stmt,
     out: &mut K,
     trace: &mut T,
     digest: &mut D,
 ) -> Result<Tally, TextHalted>
-    requires spells { Spells text.now (Ok stmt.now) }
     requires alone { begins_batch (public_of engine.old) (count_of engine.old (S.state store.old))
         stmt.now ≡ false }
     requires ready { IsReady R.state (B.Saves behind.old)
-        (machine_of engine.old (S.state store.old) (B.state behind.old)) }
+        (machine_of engine.old (S.state store.old) (B.state behind.old) no_flights) }
     requires took { D.took digest.old (S.state store.old).asked }
-    ensures serves { ServesTexts R.state (B.Saves behind.new)
-        (λ gathered. goes_into (public_of engine.old) gathered (skeleton stmt.now) ≡ false)
-        (text.now ∷ [])
-        (λ counted. AnswersAll R.state
-        (K.written out.old) (K.written out.new) (text.now ∷ []) tally counted)
+    ensures serves { (flights : Flights) → ServesStmt R.state (B.Saves behind.new)
+        (λ gathered. IsApartFrom flights.settings (public_of engine.old) gathered
+        (skeleton stmt.now)) stmt.now
+        (AnswersText R.state (K.written out.old) (K.written out.new) tally)
         (K.written out.old) (K.written out.new)
         (faults_of 0 (K.faults out.old) (T.faults trace.old))
         (faults_of 0 (K.faults out.new) (T.faults trace.new))
-        (machine_of engine.old (S.state store.old) (B.state behind.old))
-        (machine_of engine.new (S.state store.new) (B.state behind.new))
+        (machine_of engine.old (S.state store.old) (B.state behind.old) flights)
+        (machine_of engine.new (S.state store.new) (B.state behind.new) flights)
         result }
     ensures traced { OnOk result (TracedAll tracing (S.state store.old).asked
         (S.state store.new).asked (T.written trace.old) (T.written trace.new)) }
@@ -298,7 +275,7 @@ fn answer_traced<R: Revisions, S: BlockStore, B: Behind<S>, K: Sink, T: Sink, D:
     ensures took { OnOk result (D.took digest.new (S.state store.new).asked) }
 {
     let mark = store.count();
-    match answer(alloc, tally, engine, store, behind, text, stmt, out) {
+    match answer(alloc, tally, engine, store, behind, stmt, out) {
         Ok(counted) => match trace_from(tracing, store, mark, trace, digest) {
             Ok(()) => {
                 let_go_from(store, mark);
@@ -314,10 +291,10 @@ fn answer_traced<R: Revisions, S: BlockStore, B: Behind<S>, K: Sink, T: Sink, D:
     }
 }
 
-// Gives one more INSERT to those that wait, and serves them once they are as many as a batch may have.
+// Gives one more statement to those that wait, and serves them once they are as many as are served together.
 fn gather<R: Revisions, S: BlockStore, B: Behind<S>, K: Sink, T: Sink, D: Digester>(
     alloc: Global,
-    tracing: bool,
+    manner: Manner,
     session: &mut Session,
     stmt: Stmt,
     engine: &mut Engine<R>,
@@ -328,33 +305,37 @@ fn gather<R: Revisions, S: BlockStore, B: Behind<S>, K: Sink, T: Sink, D: Digest
     digest: &mut D,
 ) -> Result<(), Break>
     requires spells { Spells session.old.pending (Ok stmt) }
-    requires goes { GoesAlong (public_of engine.old) (count_of engine.old (S.state store.old))
-        session.old.batch.items stmt }
+    requires goes { GoesAlong manner.flight (public_of engine.old)
+        (count_of engine.old (S.state store.old)) session.old.batch.items stmt }
     requires ready { IsReady R.state (B.Saves behind.old)
-        (machine_of engine.old (S.state store.old) (B.state behind.old)) }
+        (machine_of engine.old (S.state store.old) (B.state behind.old)
+        (flights_of manner.flight session.old.turns.last)) }
     requires took { D.took digest.old (S.state store.old).asked }
     ensures pending { session.new.pending ≡ session.old.pending }
-    ensures takes { TakesMore R.state (B.Saves behind.new) tracing
-        (IsFree (public_of engine.old) (session.old.batch.items ++ stmt ∷ []))
-        (λ old new. IsFree (public_of engine.new) session.new.batch.items new)
+    ensures takes { TakesMore R.state (B.Saves behind.new) manner.tracing
+        (IsFree manner.flight (public_of engine.old) (session.old.batch.items ++ stmt ∷ []))
+        (λ old new. IsFree manner.flight (public_of engine.new) session.new.batch.items new)
         session.old.batch.items session.new.batch.items (session.old.pending ∷ []) WantsRoom
         session.old.tally session.new.tally (K.written out.old) (K.written out.new)
         (T.written trace.old) (T.written trace.new)
         (faults_of 0 (K.faults out.old) (T.faults trace.old))
         (faults_of 0 (K.faults out.new) (T.faults trace.new))
-        (machine_of engine.old (S.state store.old) (B.state behind.old))
-        (machine_of engine.new (S.state store.new) (B.state behind.new)) result }
+        (machine_of engine.old (S.state store.old) (B.state behind.old)
+        (flights_of manner.flight session.old.turns.last))
+        (machine_of engine.new (S.state store.new) (B.state behind.new)
+        (flights_of manner.flight session.new.turns.last)) result }
     ensures same { B.name behind.new ≡ B.name behind.old }
     ensures took { UnlessServed result (D.took digest.new (S.state store.new).asked) }
 {
+    let most = gather_most(manner.flight, engine.public(), &stmt);
     if session.batch.push(stmt).is_err() {
         return Err(Break::Unread(Stop::NoMemory));
     }
-    if (session.batch.len() as u64) < batch_most(engine.public()) {
+    if (session.batch.len() as u64) < most {
         return Ok(());
     }
     match flush(
-        alloc, tracing, session, engine, store, behind, out, trace, digest,
+        alloc, manner, session, engine, store, behind, out, trace, digest,
     ) {
         Ok(()) => Ok(()),
         Err(halted) => Err(Break::Served(halted)),
@@ -364,7 +345,7 @@ fn gather<R: Revisions, S: BlockStore, B: Behind<S>, K: Sink, T: Sink, D: Digest
 // Serves a statement before which none waits, or lets it wait for the next ones.
 fn begin<R: Revisions, S: BlockStore, B: Behind<S>, K: Sink, T: Sink, D: Digester>(
     alloc: Global,
-    tracing: bool,
+    manner: Manner,
     session: &mut Session,
     stmt: Stmt,
     engine: &mut Engine<R>,
@@ -377,35 +358,37 @@ fn begin<R: Revisions, S: BlockStore, B: Behind<S>, K: Sink, T: Sink, D: Digeste
     requires spells { Spells session.old.pending (Ok stmt) }
     requires none { session.old.batch.items ≡ [] }
     requires ready { IsReady R.state (B.Saves behind.old)
-        (machine_of engine.old (S.state store.old) (B.state behind.old)) }
+        (machine_of engine.old (S.state store.old) (B.state behind.old)
+        (flights_of manner.flight session.old.turns.last)) }
     requires took { D.took digest.old (S.state store.old).asked }
     ensures pending { session.new.pending ≡ session.old.pending }
-    ensures takes { TakesMore R.state (B.Saves behind.new) tracing
-        (IsFree (public_of engine.old) (stmt ∷ []))
-        (λ old new. IsFree (public_of engine.new) session.new.batch.items new)
+    ensures takes { TakesMore R.state (B.Saves behind.new) manner.tracing
+        (IsFree manner.flight (public_of engine.old) (stmt ∷ []))
+        (λ old new. IsFree manner.flight (public_of engine.new) session.new.batch.items new)
         [] session.new.batch.items (session.old.pending ∷ []) WantsRoom
         session.old.tally session.new.tally (K.written out.old) (K.written out.new)
         (T.written trace.old) (T.written trace.new)
         (faults_of 0 (K.faults out.old) (T.faults trace.old))
         (faults_of 0 (K.faults out.new) (T.faults trace.new))
-        (machine_of engine.old (S.state store.old) (B.state behind.old))
-        (machine_of engine.new (S.state store.new) (B.state behind.new)) result }
+        (machine_of engine.old (S.state store.old) (B.state behind.old)
+        (flights_of manner.flight session.old.turns.last))
+        (machine_of engine.new (S.state store.new) (B.state behind.new)
+        (flights_of manner.flight session.new.turns.last)) result }
     ensures same { B.name behind.new ≡ B.name behind.old }
     ensures took { UnlessServed result (D.took digest.new (S.state store.new).asked) }
 {
-    if begins_batch(engine, store, &stmt) {
+    if begins(manner.flight, engine, store, &stmt) {
         return gather(
-            alloc, tracing, session, stmt, engine, store, behind, out, trace, digest,
+            alloc, manner, session, stmt, engine, store, behind, out, trace, digest,
         );
     }
-    let answered = answer_traced(
+    let answered = serve_stmt(
         alloc,
-        tracing,
+        manner.tracing,
         session.tally,
         engine,
         store,
         behind,
-        session.pending.text(),
         &stmt,
         out,
         trace,
@@ -423,7 +406,7 @@ fn begin<R: Revisions, S: BlockStore, B: Behind<S>, K: Sink, T: Sink, D: Digeste
 // Takes a statement: it goes into the batch of those that wait, or they are served before it.
 fn take_stmt<R: Revisions, S: BlockStore, B: Behind<S>, K: Sink, T: Sink, D: Digester>(
     alloc: Global,
-    tracing: bool,
+    manner: Manner,
     session: &mut Session,
     stmt: Stmt,
     engine: &mut Engine<R>,
@@ -434,35 +417,38 @@ fn take_stmt<R: Revisions, S: BlockStore, B: Behind<S>, K: Sink, T: Sink, D: Dig
     digest: &mut D,
 ) -> Result<(), Break>
     requires spells { Spells session.old.pending (Ok stmt) }
-    requires waits { AreGathered (public_of engine.old) (count_of engine.old (S.state store.old))
-        session.old.batch.items }
+    requires waits { AreWaiting manner.flight (public_of engine.old)
+        (count_of engine.old (S.state store.old)) session.old.batch.items }
     requires ready { IsReady R.state (B.Saves behind.old)
-        (machine_of engine.old (S.state store.old) (B.state behind.old)) }
+        (machine_of engine.old (S.state store.old) (B.state behind.old)
+        (flights_of manner.flight session.old.turns.last)) }
     requires took { D.took digest.old (S.state store.old).asked }
     ensures pending { session.new.pending ≡ session.old.pending }
-    ensures takes { TakesMore R.state (B.Saves behind.new) tracing
-        (IsFree (public_of engine.old) session.old.batch.items)
-        (λ old new. IsFree (public_of engine.new) session.new.batch.items new)
+    ensures takes { TakesMore R.state (B.Saves behind.new) manner.tracing
+        (IsFree manner.flight (public_of engine.old) session.old.batch.items)
+        (λ old new. IsFree manner.flight (public_of engine.new) session.new.batch.items new)
         session.old.batch.items session.new.batch.items (session.old.pending ∷ []) WantsRoom
         session.old.tally session.new.tally (K.written out.old) (K.written out.new)
         (T.written trace.old) (T.written trace.new)
         (faults_of 0 (K.faults out.old) (T.faults trace.old))
         (faults_of 0 (K.faults out.new) (T.faults trace.new))
-        (machine_of engine.old (S.state store.old) (B.state behind.old))
-        (machine_of engine.new (S.state store.new) (B.state behind.new)) result }
+        (machine_of engine.old (S.state store.old) (B.state behind.old)
+        (flights_of manner.flight session.old.turns.last))
+        (machine_of engine.new (S.state store.new) (B.state behind.new)
+        (flights_of manner.flight session.new.turns.last)) result }
     ensures same { B.name behind.new ≡ B.name behind.old }
     ensures took { UnlessServed result (D.took digest.new (S.state store.new).asked) }
 {
-    if goes_along(session.batch.as_slice(), &stmt) {
+    if goes_along(engine.public(), session.batch.as_slice(), &stmt) {
         return gather(
-            alloc, tracing, session, stmt, engine, store, behind, out, trace, digest,
+            alloc, manner, session, stmt, engine, store, behind, out, trace, digest,
         );
     }
     match flush(
-        alloc, tracing, session, engine, store, behind, out, trace, digest,
+        alloc, manner, session, engine, store, behind, out, trace, digest,
     ) {
         Ok(()) => begin(
-            alloc, tracing, session, stmt, engine, store, behind, out, trace, digest,
+            alloc, manner, session, stmt, engine, store, behind, out, trace, digest,
         ),
         Err(halted) => Err(Break::Served(halted)),
     }
@@ -471,7 +457,7 @@ fn take_stmt<R: Revisions, S: BlockStore, B: Behind<S>, K: Sink, T: Sink, D: Dig
 // Answers a text that is no statement, behind those that wait.
 fn take_misspelt<R: Revisions, S: BlockStore, B: Behind<S>, K: Sink, T: Sink, D: Digester>(
     alloc: Global,
-    tracing: bool,
+    manner: Manner,
     session: &mut Session,
     at: u32,
     engine: &mut Engine<R>,
@@ -482,27 +468,30 @@ fn take_misspelt<R: Revisions, S: BlockStore, B: Behind<S>, K: Sink, T: Sink, D:
     digest: &mut D,
 ) -> Result<(), TextHalted>
     requires spells { Spells session.old.pending (Err at) }
-    requires waits { AreGathered (public_of engine.old) (count_of engine.old (S.state store.old))
-        session.old.batch.items }
+    requires waits { AreWaiting manner.flight (public_of engine.old)
+        (count_of engine.old (S.state store.old)) session.old.batch.items }
     requires ready { IsReady R.state (B.Saves behind.old)
-        (machine_of engine.old (S.state store.old) (B.state behind.old)) }
+        (machine_of engine.old (S.state store.old) (B.state behind.old)
+        (flights_of manner.flight session.old.turns.last)) }
     requires took { D.took digest.old (S.state store.old).asked }
     ensures pending { session.new.pending ≡ session.old.pending }
-    ensures takes { TakesTexts R.state (B.Saves behind.new) tracing
-        (IsFree (public_of engine.old) session.old.batch.items)
-        (λ old new. IsFree (public_of engine.new) session.new.batch.items new)
+    ensures takes { TakesTexts R.state (B.Saves behind.new) manner.tracing
+        (IsFree manner.flight (public_of engine.old) session.old.batch.items)
+        (λ old new. IsFree manner.flight (public_of engine.new) session.new.batch.items new)
         session.old.batch.items session.new.batch.items (session.old.pending ∷ [])
         session.old.tally session.new.tally (K.written out.old) (K.written out.new)
         (T.written trace.old) (T.written trace.new)
         (faults_of 0 (K.faults out.old) (T.faults trace.old))
         (faults_of 0 (K.faults out.new) (T.faults trace.new))
-        (machine_of engine.old (S.state store.old) (B.state behind.old))
-        (machine_of engine.new (S.state store.new) (B.state behind.new)) result }
+        (machine_of engine.old (S.state store.old) (B.state behind.old)
+        (flights_of manner.flight session.old.turns.last))
+        (machine_of engine.new (S.state store.new) (B.state behind.new)
+        (flights_of manner.flight session.new.turns.last)) result }
     ensures same { B.name behind.new ≡ B.name behind.old }
     ensures took { OnOk result (D.took digest.new (S.state store.new).asked) }
 {
     if let Err(halted) = flush(
-        alloc, tracing, session, engine, store, behind, out, trace, digest,
+        alloc, manner, session, engine, store, behind, out, trace, digest,
     ) {
         return Err(halted);
     }
@@ -522,7 +511,7 @@ fn take_misspelt<R: Revisions, S: BlockStore, B: Behind<S>, K: Sink, T: Sink, D:
 // Takes a text that is whole, which stays where it was read.
 fn take_text<R: Revisions, S: BlockStore, B: Behind<S>, K: Sink, T: Sink, D: Digester>(
     alloc: Global,
-    tracing: bool,
+    manner: Manner,
     session: &mut Session,
     engine: &mut Engine<R>,
     store: &mut S,
@@ -532,33 +521,36 @@ fn take_text<R: Revisions, S: BlockStore, B: Behind<S>, K: Sink, T: Sink, D: Dig
     digest: &mut D,
 ) -> Result<(), Break>
     requires short { length session.old.pending ≤ text_max }
-    requires waits { AreGathered (public_of engine.old) (count_of engine.old (S.state store.old))
-        session.old.batch.items }
+    requires waits { AreWaiting manner.flight (public_of engine.old)
+        (count_of engine.old (S.state store.old)) session.old.batch.items }
     requires ready { IsReady R.state (B.Saves behind.old)
-        (machine_of engine.old (S.state store.old) (B.state behind.old)) }
+        (machine_of engine.old (S.state store.old) (B.state behind.old)
+        (flights_of manner.flight session.old.turns.last)) }
     requires took { D.took digest.old (S.state store.old).asked }
     ensures pending { session.new.pending ≡ session.old.pending }
-    ensures takes { TakesMore R.state (B.Saves behind.new) tracing
-        (IsFree (public_of engine.old) session.old.batch.items)
-        (λ old new. IsFree (public_of engine.new) session.new.batch.items new)
+    ensures takes { TakesMore R.state (B.Saves behind.new) manner.tracing
+        (IsFree manner.flight (public_of engine.old) session.old.batch.items)
+        (λ old new. IsFree manner.flight (public_of engine.new) session.new.batch.items new)
         session.old.batch.items session.new.batch.items (session.old.pending ∷ []) WantsRoom
         session.old.tally session.new.tally (K.written out.old) (K.written out.new)
         (T.written trace.old) (T.written trace.new)
         (faults_of 0 (K.faults out.old) (T.faults trace.old))
         (faults_of 0 (K.faults out.new) (T.faults trace.new))
-        (machine_of engine.old (S.state store.old) (B.state behind.old))
-        (machine_of engine.new (S.state store.new) (B.state behind.new)) result }
+        (machine_of engine.old (S.state store.old) (B.state behind.old)
+        (flights_of manner.flight session.old.turns.last))
+        (machine_of engine.new (S.state store.new) (B.state behind.new)
+        (flights_of manner.flight session.new.turns.last)) result }
     ensures same { B.name behind.new ≡ B.name behind.old }
     ensures took { UnlessServed result (D.took digest.new (S.state store.new).asked) }
 {
     match parse(alloc, session.pending.text()) {
         Ok(stmt) => take_stmt(
-            alloc, tracing, session, stmt, engine, store, behind, out, trace, digest,
+            alloc, manner, session, stmt, engine, store, behind, out, trace, digest,
         ),
         Err(error) => match error {
             ParseErr::Syntax(at) => {
                 let taken = take_misspelt(
-                    alloc, tracing, session, at, engine, store, behind, out, trace, digest,
+                    alloc, manner, session, at, engine, store, behind, out, trace, digest,
                 );
                 match taken {
                     Ok(()) => Ok(()),
@@ -573,7 +565,7 @@ fn take_text<R: Revisions, S: BlockStore, B: Behind<S>, K: Sink, T: Sink, D: Dig
 // Takes one byte, and the text that it ends.
 fn turn<R: Revisions, S: BlockStore, B: Behind<S>, K: Sink, T: Sink, D: Digester>(
     alloc: Global,
-    tracing: bool,
+    manner: Manner,
     session: &mut Session,
     b: u8,
     engine: &mut Engine<R>,
@@ -584,24 +576,27 @@ fn turn<R: Revisions, S: BlockStore, B: Behind<S>, K: Sink, T: Sink, D: Digester
     digest: &mut D,
 ) -> Result<(), Break>
     requires short { length session.old.pending < text_max }
-    requires waits { AreGathered (public_of engine.old) (count_of engine.old (S.state store.old))
-        session.old.batch.items }
+    requires waits { AreWaiting manner.flight (public_of engine.old)
+        (count_of engine.old (S.state store.old)) session.old.batch.items }
     requires ready { IsReady R.state (B.Saves behind.old)
-        (machine_of engine.old (S.state store.old) (B.state behind.old)) }
+        (machine_of engine.old (S.state store.old) (B.state behind.old)
+        (flights_of manner.flight session.old.turns.last)) }
     requires took { D.took digest.old (S.state store.old).asked }
     ensures pending { OnOk result ((session.new.pending ≡ rest_after session.old.pending b)
         × (length session.new.pending < text_max)) }
-    ensures takes { TakesMore R.state (B.Saves behind.new) tracing
-        (IsFree (public_of engine.old) session.old.batch.items)
-        (λ old new. IsFree (public_of engine.new) session.new.batch.items new)
+    ensures takes { TakesMore R.state (B.Saves behind.new) manner.tracing
+        (IsFree manner.flight (public_of engine.old) session.old.batch.items)
+        (λ old new. IsFree manner.flight (public_of engine.new) session.new.batch.items new)
         session.old.batch.items session.new.batch.items (texts_at session.old.pending b)
         (IsNotTaken session.old.pending b)
         session.old.tally session.new.tally (K.written out.old) (K.written out.new)
         (T.written trace.old) (T.written trace.new)
         (faults_of 0 (K.faults out.old) (T.faults trace.old))
         (faults_of 0 (K.faults out.new) (T.faults trace.new))
-        (machine_of engine.old (S.state store.old) (B.state behind.old))
-        (machine_of engine.new (S.state store.new) (B.state behind.new)) result }
+        (machine_of engine.old (S.state store.old) (B.state behind.old)
+        (flights_of manner.flight session.old.turns.last))
+        (machine_of engine.new (S.state store.new) (B.state behind.new)
+        (flights_of manner.flight session.new.turns.last)) result }
     ensures same { B.name behind.new ≡ B.name behind.old }
     ensures took { UnlessServed result (D.took digest.new (S.state store.new).asked) }
 {
@@ -609,7 +604,7 @@ fn turn<R: Revisions, S: BlockStore, B: Behind<S>, K: Sink, T: Sink, D: Digester
         Ok(Grown::More) => Ok(()),
         Ok(Grown::Whole) => {
             match take_text(
-                alloc, tracing, session, engine, store, behind, out, trace, digest,
+                alloc, manner, session, engine, store, behind, out, trace, digest,
             ) {
                 Ok(()) => {
                     session.pending.clear();
@@ -626,7 +621,7 @@ fn turn<R: Revisions, S: BlockStore, B: Behind<S>, K: Sink, T: Sink, D: Digester
 // Takes what has come of a text with no end, once no more comes.
 fn finish<R: Revisions, S: BlockStore, B: Behind<S>, K: Sink, T: Sink, D: Digester>(
     alloc: Global,
-    tracing: bool,
+    manner: Manner,
     session: &mut Session,
     engine: &mut Engine<R>,
     store: &mut S,
@@ -636,21 +631,24 @@ fn finish<R: Revisions, S: BlockStore, B: Behind<S>, K: Sink, T: Sink, D: Digest
     digest: &mut D,
 ) -> Result<(), Break>
     requires short { length session.old.pending ≤ text_max }
-    requires waits { AreGathered (public_of engine.old) (count_of engine.old (S.state store.old))
-        session.old.batch.items }
+    requires waits { AreWaiting manner.flight (public_of engine.old)
+        (count_of engine.old (S.state store.old)) session.old.batch.items }
     requires ready { IsReady R.state (B.Saves behind.old)
-        (machine_of engine.old (S.state store.old) (B.state behind.old)) }
+        (machine_of engine.old (S.state store.old) (B.state behind.old)
+        (flights_of manner.flight session.old.turns.last)) }
     requires took { D.took digest.old (S.state store.old).asked }
-    ensures takes { TakesMore R.state (B.Saves behind.new) tracing
-        (IsFree (public_of engine.old) session.old.batch.items)
-        (λ old new. IsFree (public_of engine.new) session.new.batch.items new)
+    ensures takes { TakesMore R.state (B.Saves behind.new) manner.tracing
+        (IsFree manner.flight (public_of engine.old) session.old.batch.items)
+        (λ old new. IsFree manner.flight (public_of engine.new) session.new.batch.items new)
         session.old.batch.items session.new.batch.items (tail_text session.old.pending) WantsRoom
         session.old.tally session.new.tally (K.written out.old) (K.written out.new)
         (T.written trace.old) (T.written trace.new)
         (faults_of 0 (K.faults out.old) (T.faults trace.old))
         (faults_of 0 (K.faults out.new) (T.faults trace.new))
-        (machine_of engine.old (S.state store.old) (B.state behind.old))
-        (machine_of engine.new (S.state store.new) (B.state behind.new)) result }
+        (machine_of engine.old (S.state store.old) (B.state behind.old)
+        (flights_of manner.flight session.old.turns.last))
+        (machine_of engine.new (S.state store.new) (B.state behind.new)
+        (flights_of manner.flight session.new.turns.last)) result }
     ensures same { B.name behind.new ≡ B.name behind.old }
     ensures took { UnlessServed result (D.took digest.new (S.state store.new).asked) }
 {
@@ -658,14 +656,14 @@ fn finish<R: Revisions, S: BlockStore, B: Behind<S>, K: Sink, T: Sink, D: Digest
         return Ok(());
     }
     take_text(
-        alloc, tracing, session, engine, store, behind, out, trace, digest,
+        alloc, manner, session, engine, store, behind, out, trace, digest,
     )
 }
 
 // Reads a feed to its end or a stop, and serves the texts that it brings, but for those that wait then.
 fn read_texts<I: Source, R: Revisions, S: BlockStore, B: Behind<S>, K: Sink, T: Sink, D: Digester>(
     alloc: Global,
-    tracing: bool,
+    manner: Manner,
     session: &mut Session,
     feed: &mut Feed,
     input: &mut I,
@@ -680,24 +678,28 @@ fn read_texts<I: Source, R: Revisions, S: BlockStore, B: Behind<S>, K: Sink, T: 
     requires fresh { session.old.pending ≡ [] }
     requires uncounted { session.old.tally ≡ empty_tally }
     requires ready { IsReady R.state (B.Saves behind.old)
-        (machine_of engine.old (S.state store.old) (B.state behind.old)) }
+        (machine_of engine.old (S.state store.old) (B.state behind.old)
+        (flights_of manner.flight session.old.turns.last)) }
     requires fed_by { IsFedBy feed.old (I.gave input.old) }
     requires took { D.took digest.old (S.state store.old).asked }
-    ensures reads { ReadsTexts R.state tracing feed.old feed.new
+    ensures reads { ReadsTexts R.state manner.tracing feed.old feed.new
         (I.left input.old) (I.left input.new) (I.gave input.new)
         (K.written out.old) (K.written out.new) (T.written trace.old) (T.written trace.new)
         session.new.batch.items session.new.tally
-        (machine_of engine.old (S.state store.old) (B.state behind.old))
-        (machine_of engine.new (S.state store.new) (B.state behind.new))
+        (machine_of engine.old (S.state store.old) (B.state behind.old)
+        (flights_of manner.flight session.old.turns.last))
+        (machine_of engine.new (S.state store.new) (B.state behind.new)
+        (flights_of manner.flight session.new.turns.last))
         (K.faults out.old) (K.faults out.new) result }
     ensures stands { UnlessServed result (StandsReady R.state (B.Saves behind.new)
         (D.took digest.new (S.state store.new).asked) session.new.batch.items
-        (machine_of engine.new (S.state store.new) (B.state behind.new))) }
+        (machine_of engine.new (S.state store.new) (B.state behind.new)
+        (flights_of manner.flight session.new.turns.last))) }
     ensures within { feed.new.taken ≤ feed.new.limit }
     ensures fed_by { IsFedBy feed.new (I.gave input.new) }
-    ensures traced { Traced tracing (S.state store.old).asked (S.state store.new).asked
+    ensures traced { Traced manner.tracing (S.state store.old).asked (S.state store.new).asked
         (T.written trace.old) (T.written trace.new) (IsQuiet (broken_of result)) }
-    ensures cause { StopCause (ServesAlone (public_of engine.old))
+    ensures cause { StopCause (ServesAlone manner.flight (public_of engine.old))
         (faults_of (I.faults input.old) (K.faults out.old) (T.faults trace.old))
         (faults_of (I.faults input.new) (K.faults out.new) (T.faults trace.new))
         (stop_of (broken_of result)) }
@@ -712,12 +714,12 @@ fn read_texts<I: Source, R: Revisions, S: BlockStore, B: Behind<S>, K: Sink, T: 
             Err(Halt::InputLimit) => return Err(Break::Unread(Stop::InputLimit)),
             Ok(None) => {
                 return finish(
-                    alloc, tracing, session, engine, store, behind, out, trace, digest,
+                    alloc, manner, session, engine, store, behind, out, trace, digest,
                 );
             }
             Ok(Some(b)) => {
                 let turned = turn(
-                    alloc, tracing, session, b, engine, store, behind, out, trace, digest,
+                    alloc, manner, session, b, engine, store, behind, out, trace, digest,
                 );
                 if let Err(broken) = turned {
                     return Err(broken);
@@ -732,6 +734,7 @@ fn read_texts<I: Source, R: Revisions, S: BlockStore, B: Behind<S>, K: Sink, T: 
 pub fn serve<I: Source, R: Revisions, S: BlockStore, B: Behind<S>, K: Sink, T: Sink, D: Digester>(
     alloc: Global,
     tracing: bool,
+    flight: Option<FlightSettings>,
     feed: &mut Feed,
     input: &mut I,
     engine: &mut Engine<R>,
@@ -742,22 +745,23 @@ pub fn serve<I: Source, R: Revisions, S: BlockStore, B: Behind<S>, K: Sink, T: S
     digest: &mut D,
 ) -> Result<Tally, Halted>
     requires ready { IsReady R.state (B.Saves behind.old)
-        (machine_of engine.old (S.state store.old) (B.state behind.old)) }
+        (machine_of engine.old (S.state store.old) (B.state behind.old) no_flights) }
     requires fed_by { IsFedBy feed.old (I.gave input.old) }
     requires took { D.took digest.old (S.state store.old).asked }
     ensures ready { OnOk result (IsReady R.state (B.Saves behind.new)
-        (machine_of engine.new (S.state store.new) (B.state behind.new))) }
-    ensures ran { SessionRan R.state tracing feed.old feed.new
+        (machine_of engine.new (S.state store.new) (B.state behind.new) no_flights)) }
+    ensures ran { (left : Flights) × SessionRan R.state tracing feed.old feed.new
         (I.left input.old) (I.left input.new) (I.gave input.new)
         (K.written out.old) (K.written out.new) (T.written trace.old) (T.written trace.new)
-        (machine_of engine.old (S.state store.old) (B.state behind.old))
-        (machine_of engine.new (S.state store.new) (B.state behind.new))
+        (machine_of engine.old (S.state store.old) (B.state behind.old)
+        (flights_at flight))
+        (machine_of engine.new (S.state store.new) (B.state behind.new) left)
         (OutFailed (is_quiet result) (K.faults out.old) (K.faults out.new)) (stop_of result) }
     ensures within { feed.new.taken ≤ feed.new.limit }
     ensures fed_by { IsFedBy feed.new (I.gave input.new) }
     ensures traced { Traced tracing (S.state store.old).asked (S.state store.new).asked
         (T.written trace.old) (T.written trace.new) (IsQuiet result) }
-    ensures cause { StopCause (ServesAlone (public_of engine.old))
+    ensures cause { StopCause (ServesAlone flight (public_of engine.old))
         (faults_of (I.faults input.old) (K.faults out.old) (T.faults trace.old))
         (faults_of (I.faults input.new) (K.faults out.new) (T.faults trace.new)) (stop_of result) }
     ensures quiet { Silenced (is_quiet result)
@@ -766,24 +770,26 @@ pub fn serve<I: Source, R: Revisions, S: BlockStore, B: Behind<S>, K: Sink, T: S
     ensures same { B.name behind.new ≡ B.name behind.old }
     ensures took { OnOk result (D.took digest.new (S.state store.new).asked) }
 {
+    let manner = Manner { tracing, flight };
     let mut here = Session {
         pending: Pending::new(alloc),
         batch: Vec::new(alloc),
         tally: Tally::new(),
+        turns: turns_of(flight),
     };
     let read = read_texts(
-        alloc, tracing, &mut here, feed, input, engine, store, behind, out, trace, digest,
+        alloc, manner, &mut here, feed, input, engine, store, behind, out, trace, digest,
     );
     match read {
         Ok(()) => match flush(
-            alloc, tracing, &mut here, engine, store, behind, out, trace, digest,
+            alloc, manner, &mut here, engine, store, behind, out, trace, digest,
         ) {
             Ok(()) => Ok(here.tally),
             Err(halted) => Err(Halted::from(halted)),
         },
         Err(Break::Unread(stop)) => {
             match flush(
-                alloc, tracing, &mut here, engine, store, behind, out, trace, digest,
+                alloc, manner, &mut here, engine, store, behind, out, trace, digest,
             ) {
                 Ok(()) => Err(Halted { stop, quiet: false }),
                 Err(halted) => Err(Halted::from(halted)),

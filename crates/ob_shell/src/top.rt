@@ -3,10 +3,10 @@ ghost use Rattle.std.specs.Prelude.{Bool, IfOk, MatchOption, OnOk, string_bytes}
 ghost use Rattle.std.specs.Prelude.{◌≡◌, ◌≢◌, ◌≤◌, [], map, Ok, Err, Some, None, true, false, ⊤};
 ghost use Rattle.ob_gen.specs.Tally.{empty_tally};
 ghost use Rattle.ob_gen.specs.declared.tally.Tally.{Tally};
-ghost use Rattle.ob_headline.specs.Bases.{fresh};
+ghost use Rattle.ob_headline.specs.Bases.{flying, fresh};
 ghost use Rattle.ob_headline.specs.Endings;
 ghost use Rattle.ob_headline.specs.Headline.{Headline};
-ghost use Rattle.ob_headline.specs.Settings.{IsTaken, settings_of};
+ghost use Rattle.ob_headline.specs.Settings.{IsTaken, flight_of, settings_of};
 ghost use Rattle.ob_headline.specs.Usage.{usage, meddle_usage, is_traced};
 ghost use Rattle.ob_headline.specs.Words.{SinksRose, faults_of, keys_in, outside_of};
 ghost use Rattle.ob_headline.specs.declared.seed.Seed.{Seed};
@@ -135,7 +135,7 @@ fn serve_with<I: Source, O: Sink, T: Sink, D: Digester, S: BlockStore>(
     requires took { D.took digest.old (S.state store.old).asked }
     ensures ran { RanAfter ⟦<BaseRevs as Revisions>⟧.state
         (sink_of words.trace (T.written trace.old) (T.written trace.new))
-        (fresh (Some words.config)) (keys_of key.now) (Some key.now)
+        (flying words.flight (fresh (Some words.config))) (keys_of key.now) (Some key.now)
         feed.old feed.new
         (I.left input.old) (I.left input.new) (I.gave input.new)
         (O.written out.old) (O.written out.new)
@@ -145,7 +145,7 @@ fn serve_with<I: Source, O: Sink, T: Sink, D: Digester, S: BlockStore>(
     ensures fed_by { IsFedBy feed.new (I.gave input.new) }
     ensures traced { Traced words.trace (S.state store.old).asked (S.state store.new).asked
         (T.written trace.old) (T.written trace.new) (IsQuiet result.0) }
-    ensures cause { StopCause (ServesAlone (fresh (Some words.config)).public)
+    ensures cause { StopCause (ServesAlone words.flight (fresh (Some words.config)).public)
         (faults_of (I.faults input.old) (O.faults out.old) (T.faults trace.old))
         (faults_of (I.faults input.new) (O.faults out.new) (T.faults trace.new))
         (stop_of result.0) }
@@ -163,6 +163,7 @@ fn serve_with<I: Source, O: Sink, T: Sink, D: Digester, S: BlockStore>(
             let ran = serve(
                 alloc,
                 words.trace,
+                words.flight,
                 feed,
                 input,
                 &mut engine,
@@ -192,7 +193,7 @@ pub(crate) fn run<I: Source, O: Sink, T: Sink, D: Digester, S: BlockStore>(
     requires took { D.took digest.old (S.state store.old).asked }
     ensures shown { RunShown result.tally
         (sink_of words.trace (T.written trace.old) (T.written trace.new))
-        (fresh (Some words.config)) keys_in
+        (flying words.flight (fresh (Some words.config))) keys_in
         (I.left input.old) (I.left input.new) (I.gave input.new)
         (O.written out.old) (O.written out.new)
         (S.state store.old) (S.state store.new)
@@ -201,7 +202,8 @@ pub(crate) fn run<I: Source, O: Sink, T: Sink, D: Digester, S: BlockStore>(
     ensures words { result.ending ≢ Ending.Usage }
     ensures traced { Traced words.trace (S.state store.old).asked (S.state store.new).asked
         (T.written trace.old) (T.written trace.new) (result.quiet ≡ true) }
-    ensures cause { EndingCause (ServesAlone (fresh (Some words.config)).public) result.ending
+    ensures cause { EndingCause (ServesAlone words.flight (fresh (Some words.config)).public)
+        result.ending
         (faults_of (I.faults input.old) (O.faults out.old) (T.faults trace.old))
         (faults_of (I.faults input.new) (O.faults out.new) (T.faults trace.new)) }
     ensures quiet { Silenced result.quiet
@@ -270,7 +272,7 @@ pub(crate) fn serve_over<I: Source, O: Sink, T: Sink, S: BlockStore>(
     requires fresh { (S.state store.old).asked ≡ [] }
     ensures reported { (tally : Tally) × Reported tally
         (sink_of words.trace (T.written trace.old) (T.written trace.new)) ⊤
-        (fresh (Some words.config)) keys_in
+        (flying words.flight (fresh (Some words.config))) keys_in
         (I.left input.old) (I.left input.new) (I.gave input.new)
         (O.written out.old) (O.written out.new)
         (S.state store.old) (S.state store.new)
@@ -298,7 +300,8 @@ pub fn shell_top<I: Source, O: Sink, T: Sink, S: BlockStore>(
 ) -> Report
     requires fresh { (S.state store.old).asked ≡ [] }
     ensures headline { asked_for usage (map string_bytes words.now) ≡ None
-        → Headline (fresh (settings_of usage (map string_bytes words.now))) keys_in
+        → Headline (flying (flight_of usage (map string_bytes words.now))
+        (fresh (settings_of usage (map string_bytes words.now)))) keys_in
         (IsTaken usage (map string_bytes words.now))
         (is_traced usage (map string_bytes words.now))
         (outside_of (I.left input.old) (I.gave input.old) (O.written out.old) (T.written trace.old)
@@ -310,6 +313,7 @@ pub fn shell_top<I: Source, O: Sink, T: Sink, S: BlockStore>(
     ensures summary { (seed : Seed) → asked_for usage (map string_bytes words.now) ≡ Some seed
         → Summarized (IsTaken usage (map string_bytes words.now))
         (settings_of usage (map string_bytes words.now))
+        (flight_of usage (map string_bytes words.now))
         (is_traced usage (map string_bytes words.now)) seed
         (outside_of (I.left input.old) (I.gave input.old) (O.written out.old) (T.written trace.old)
         (S.state store.old)

@@ -25,4 +25,3 @@ pub mod RowsFinish
 pub mod RefusedEnds
 pub mod RowsKnown
 pub mod RowsLeft
-pub mod RowsBoards

@@ -7,7 +7,6 @@ use Rattle.ob_base.specs.declared.emit.EmitErr.{EmitErr}
 use Rattle.ob_base.specs.declared.emit.EmitErr.TheVariants as EmitErrs
 use Rattle.ob_base.specs.declared.refusal.Refusal.TheVariants.{StoreFault}
 use Rattle.ob_base.specs.Events.{Event, EmitCause, Leads}
-use Rattle.ob_script.specs.Trace.{Served}
 use Rattle.ob_vault.specs.State.{World}
 use Rattle.ob_flat.specs.declared.fault.OpErr.{OpErr}
 use Rattle.ob_flat.specs.declared.fault.OpErr.TheVariants.{Sink, NoMemory}
@@ -17,7 +16,7 @@ use Rattle.ob_verdict.specs.declared.outcome.Outcome.{Outcome}
 use Rattle.ob_verdict.specs.declared.outcome.Outcome.TheVariants.{Refused}
 use Rattle.ob_inflight.specs.Answers.{Finishes, error_of}
 use Rattle.ob_stages.specs.declared.reading.Reading.{Reading}
-use Rattle.ob_stages.specs.Reading.{Answered, AnswersTotals, EndsAs, IsReading, MayRead, is_over, places_of}
+use Rattle.ob_stages.specs.Reading.{Answered, AnswersTotals, EndsAs, IsReading, is_over, places_of}
 use Rattle.ob_stages.proofs.TotalsLemmas.{leads_join}
 
 -- it was answered
@@ -27,14 +26,6 @@ answered_by outcome r = record r { outcome = Some outcome }
 all_of : (failed b : Bool) → failed ≡ false → (failed || b) ≡ true → b ≡ true
 all_of true b off over = absurd (cc off)
 all_of false b off over = over
-
-pub may_still : (outcome : Outcome) (r : Reading) (x : Served) → MayRead (answered_by outcome r) x → MayRead r x
-may_still outcome r x may = record {
-  boarded = record { script = may.boarded.script; blocks = may.boarded.blocks; within = may.boarded.within; rows = may.boarded.rows; meant = may.boarded.meant; items = may.boarded.items };
-  skeleton = may.skeleton;
-  plain = may.plain;
-  ends = may.ends;
-}
 
 module _ (r : Reading) (events : List Event) (w : World) (is : IsReading r events w) (over : is_over r ≡ true) (going : r.outcome ≡ None) where
   pub silent : events ≡ []

@@ -1,21 +1,19 @@
 -- What each step of a SELECT of rows in flight asks of what it calls.
-use Rattle.std.proofs.Common.{◌≡◌, ◌<◌, ◌≤◌, ◌+◌, ◌-◌, ◌*◌, ◌^◌, ◌∷◌, Fits, w32, ℕ, Bool, true, false, List, [], refl, sym, subst, arith}
-use Rattle.std.specs.Prelude.{Some, None, Result, length, take, drop}
+use Rattle.std.proofs.Common.{◌≡◌, ◌<◌, ◌≤◌, ◌+◌, ◌-◌, ◌*◌, ◌^◌, ◌∷◌, Fits, w32, ℕ, List, [], refl, sym, subst, arith}
+use Rattle.std.specs.Prelude.{None, Result, length, take, drop}
 use Rattle.ob_base.specs.Events.{Event}
 use Rattle.ob_base.specs.Limits.{buffered_blocks}
 use Rattle.ob_flat.specs.declared.fault.OpErr.{OpErr}
 use Rattle.ob_flat.specs.declared.flat.Flat.{Flat}
 use Rattle.ob_flat.specs.Flats.{FitsRegion}
-use Rattle.ob_flat.specs.Scans.{MayScan}
-use Rattle.ob_flat.specs.Words.{HasSpare, blocks_of}
+use Rattle.ob_flat.specs.Words.{HasSpare}
 use Rattle.ob_flat.proofs.Tables.{fits_sized}
 use Rattle.ob_inflight.specs.Answers.{IsHeld}
 use Rattle.ob_row.specs.Truth.{is_true}
 use Rattle.ob_select.specs.Selecting.{Selection}
 use Rattle.ob_small.specs.Selection as Smalls
-use Rattle.ob_small.specs.Steps.{CollectsBlock, IsUnordered, MayWrite, WritesBlock}
+use Rattle.ob_small.specs.Steps.{CollectsBlock, WritesBlock}
 use Rattle.ob_small.proofs.Lengths.{pass_inside, product_within}
-use Rattle.ob_small.proofs.Steps.{may_write}
 use Rattle.ob_store.specs.Calls.{ChangesNothing}
 use Rattle.ob_store.specs.State.{StoreState}
 use Rattle.ob_vault.specs.Calls.{Went, none}
@@ -26,29 +24,14 @@ use Rattle.ob_vault.specs.Words.{MayAsk}
 use Rattle.ob_vault.proofs.Runs.{went_spent}
 use Rattle.ob_vault.proofs.WordLemmas.{ready_rests, went_rests}
 use Rattle.ob_stages.specs.declared.rows.Stage.{Stage}
-use Rattle.ob_stages.specs.declared.rows.Stage.TheVariants.{Count, Make, Read, Write, Emit}
+use Rattle.ob_stages.specs.declared.rows.Stage.TheVariants.{Make, Read, Write}
 use Rattle.ob_stages.specs.RowsActs.{kept_some}
-use Rattle.ob_stages.specs.RowsStates.{RowsAt, HasCounted, HasRegion, PlacedAt, emits_before, kept_blocks, part_blocks, passes_pad, reads_before, result_in, rows_skeleton, small, table_blocks, taken, whole_length, writes_before}
-use Rattle.ob_stages.specs.RowsHolds.{Collected, FitRows, FitsBlock, FitsShare, HasFilled, HasRead, HasShown, Holds, HoldsAt, IsCountOf, all_selected}
-use Rattle.ob_stages.specs.RowsSteps.{HasPart, IsHeldIn, ShowsBlock, StepsAt}
+use Rattle.ob_stages.specs.RowsStates.{RowsAt, HasCounted, HasRegion, PlacedAt, kept_blocks, part_blocks, reads_before, result_in, rows_skeleton, small, table_blocks, taken, whole_length, writes_before}
+use Rattle.ob_stages.specs.RowsHolds.{Collected, FitRows, FitsBlock, FitsShare, HasFilled, Holds, HoldsAt, IsCountOf, all_selected}
+use Rattle.ob_stages.specs.RowsSteps.{HasPart, ShowsBlock, StepsAt}
 use Rattle.ob_stages.proofs.RowsGoing.{few_at, results_most}
-use Rattle.ob_stages.proofs.RowsPlaces.{booked_some, counting, counting_some}
+use Rattle.ob_stages.proofs.RowsPlaces.{booked_some}
 use Rattle.ob_stages.proofs.RowsStands.{kept_inside}
-
--- ---- a block that is counted
-module _ (g : RowsAt) (u others : ℕ) (old : World) (steps : StepsAt g (Count u) others old) (is : IsHeldIn g old) where
-  pub count_spare : HasSpare 1 old
-  count_spare = record { ready = steps.ready; spare = omega (arith, steps.spare, counting_some g is.holds.placed u steps.at) }
-
-  module _ (rows : List (List ℕ)) (fit : FitsBlock g.q rows) where
-    pub count_table : MayScan (length rows) g.q.flat old
-    count_table = subst (λ (n : ℕ). MayScan n g.q.flat old) (sym fit.count) is.holds.table
-
-    pub count_within : u < blocks_of (length rows) g.q.flat
-    count_within = subst (λ (n : ℕ). u < blocks_of n g.q.flat) (sym fit.count) (counting g is.holds.placed u steps.at).below
-
-    pub count_few : g.k ≤ u * length rows
-    count_few = subst (λ (n : ℕ). g.k ≤ u * n) (sym fit.count) (counting g is.holds.placed u steps.at).few
 
 -- ---- one that is read in a pass
 module _ (g : RowsAt) (pass u seen others : ℕ) (kept : List (List ℕ)) (old : World) (steps : StepsAt g (Read pass u seen) others old) (is : IsHeld (Holds g kept) old) where
@@ -74,20 +57,6 @@ module _ (g : RowsAt) (pass u seen others : ℕ) (kept : List (List ℕ)) (old :
       let product = product_within (pass * kept_blocks g.q) 16777216 g.q.public.pack read_first in
       omega (arith, product, placed.flown.settings.pack_most)
 
-  module _ (rows : List (List ℕ)) (fit : FitRows g.q rows kept) where
-    pub read_table : MayScan (length rows) g.q.flat old
-    read_table = subst (λ (n : ℕ). MayScan n g.q.flat old) (sym fit.block.count) is.holds.table
-
-    pub read_within : u < blocks_of (length rows) g.q.flat
-    read_within = subst (λ (n : ℕ). u < blocks_of n g.q.flat) (sym fit.block.count) reads_at.2
-
-    pub read_few : seen ≤ u * length rows
-    read_few =
-        let held = is.holds in
-        let at : HoldsAt (Read pass u seen) g kept is.events old = subst (λ (s : Stage). HoldsAt s g kept is.events old) steps.at held.at in
-        let collected : Collected g pass u seen kept old = at.2 in
-        subst (λ (n : ℕ). seen ≤ u * n) (sym fit.block.count) collected.few
-
 -- ---- one that is written
 module _ (g : RowsAt) (pass x own others : ℕ) (kept : List (List ℕ)) (old : World) (steps : StepsAt g (Write pass x) others old) (is : IsHeld (Holds g kept) old) where
   writes_at : HasRegion g (writes_before g.q pass x) × (pass < Smalls.passes (small g.q g.k)) × (x < part_blocks g.q g.k pass)
@@ -106,21 +75,6 @@ module _ (g : RowsAt) (pass x own others : ℕ) (kept : List (List ℕ)) (old : 
     few = omega (arith, steps.few, few_at g is.holds.placed (Write pass x) steps.at refl);
   }
 
-  pub write_below : pass * kept_blocks g.q + x < Smalls.results (small g.q g.k)
-  write_below = omega (arith, writes_at.2)
-
-  pub write_place : pass * kept_blocks g.q + x < 16777216
-  write_place =
-      let placed = is.holds.placed in
-      let counted = writes_at.0.counted in
-      omega (arith, write_below, results_most g.q (rows_skeleton g.select) placed.flown g.k counted.most)
-
-  pub write_to : g.region ≡ Some own → MayWrite g.q.public.pack (result_in g.q g.k own) (pass * kept_blocks g.q + x) old
-  write_to region =
-      let filled = writes_held.3 in
-      let same : filled.own ≡ own = cc (filled.region, region) in
-      may_write g.q.public.pack (result_in g.q g.k own) (pass * kept_blocks g.q + x) old write_below (subst (λ (r : ℕ). IsUnordered g.q.public.pack (result_in g.q g.k r) old) same filled.unordered)
-
   pub write_part_of : FitsShare g.q kept → HasPart g.q.flat.schema g.q.public.pack x kept
   write_part_of fit =
       let placed = is.holds.placed in
@@ -136,39 +90,6 @@ module _ (g : RowsAt) (pass x own others : ℕ) (kept : List (List ℕ)) (old : 
     where
       share_few : (pack buffer : ℕ) → 1 ≤ pack → buffered_blocks pack buffer * pack ≤ buffer
       share_few pack buffer some = grind arith
-
--- ---- one of its result
-module _ (g : RowsAt) (x own others : ℕ) (old : World) (steps : StepsAt g (Emit x) others old) (is : IsHeldIn g old) where
-  emits_at : HasRegion g (emits_before g.q g.k x) × (x < Smalls.results (small g.q g.k))
-  emits_at = let placed = is.holds.placed in subst (λ (s : Stage). PlacedAt s g) steps.at placed.at
-
-  emits_held : IsCountOf g old (all_selected g) × HasShown g x is.events old
-  emits_held = let held = is.holds in subst (λ (s : Stage). HoldsAt s g is.kept is.events old) steps.at held.at
-
-  pub emit_spare : HasSpare 1 old
-  emit_spare = record { ready = steps.ready; spare = omega (arith, steps.spare, booked_some g (Emit x) steps.at refl refl is.holds.placed emits_at) }
-
-  module _ (region : g.region ≡ Some own) where
-    emits_read : HasRead g own x emits_held.1.rows old
-    emits_read =
-        let shown = emits_held.1 in
-        let same : shown.filled.own ≡ own = cc (shown.filled.region, region) in
-        subst (λ (r : ℕ). HasRead g r x shown.rows old) same shown.read
-
-    -- so many rows were emitted before
-    shown_most : (b : Bool) → passes_pad g ≡ b → (g.shown ≤ x * g.q.public.pack) × (g.shown ≤ taken g.q g.k)
-    shown_most true passed = let none = emits_held.1.passed passed in (omega (arith, none), omega (arith, none))
-    shown_most false unpassed = (emits_read.emitted unpassed).most
-
-    module _ (rows : List (List ℕ)) (fit : FitsBlock g.q rows) where
-      pub emit_table : MayScan (length rows) (result_in g.q g.k own) old
-      emit_table = subst (λ (n : ℕ). MayScan n (result_in g.q g.k own) old) (sym fit.count) emits_read.may
-
-      pub emit_within : x < blocks_of (length rows) (result_in g.q g.k own)
-      emit_within = subst (λ (n : ℕ). x < blocks_of n (result_in g.q g.k own)) (sym fit.count) emits_at.1
-
-      pub emit_shown : (g.shown ≤ x * length rows) × (g.shown ≤ taken g.q g.k)
-      emit_shown = subst (λ (n : ℕ). (g.shown ≤ x * n) × (g.shown ≤ taken g.q g.k)) (sym fit.count) (shown_most (passes_pad g) refl)
 
 -- ---- its region
 module _ (g : RowsAt) (others : ℕ) (kept : List (List ℕ)) (v : VaultState) (s t : StoreState) (steps : StepsAt g Make others (record { vault = v; store = s })) (is : IsHeld (Holds g kept) (record { vault = v; store = s }))

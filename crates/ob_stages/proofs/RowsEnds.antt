@@ -199,9 +199,6 @@ module _ (g : RowsAt) (kept : List (List ℕ)) (events : List Event) (old : Worl
   discard_held : IsCountOf g old (all_selected g) × HasShown g (Smalls.results (small g.q g.k)) events old
   discard_held = subst (λ (s : Stage). HoldsAt s g kept events old) same is.at
 
-  abbrev pub discarded : RowsAt
-  discarded = stepped g Over g.region g.k g.shown (g.booked - 1) g.seen
-
   all_shown : (b : Bool) → is_shown b (Smalls.results (small g.q g.k)) ≡ not b
   all_shown true = refl
   all_shown false = less_is (Smalls.results (small g.q g.k)) (results_some g.q (rows_skeleton g.select) is.placed.flown g.k discard_at_.counted.some)

@@ -1,5 +1,5 @@
 -- The end of a SELECT of rows in flight.
-use Rattle.std.proofs.Common.{◌≡◌, ◌⊎◌, inl, inr, ◌≤◌, ◌∷◌, ◌++◌, ℕ, zero, suc, Bool, true, false, not, List, [], refl, sym, ◌∙◌, ap, subst, arith, append_assoc}
+use Rattle.std.proofs.Common.{◌≡◌, ◌⊎◌, inl, inr, ◌≤◌, ◌∷◌, ◌++◌, ℕ, zero, suc, Bool, true, false, not, List, [], refl, sym, ◌∙◌, ap, subst, append_assoc}
 use Rattle.std.specs.Prelude.{Option, Some, None, IsSome, Ok, Err}
 use Rattle.std.proofs.lemmas.List.{append-nil}
 use Rattle.ob_base.specs.declared.config.Plan.TheVariants.{Small}
@@ -11,7 +11,7 @@ use Rattle.ob_base.specs.Events.{Event, Close, EmitCause, Leads}
 use Rattle.ob_flat.specs.declared.fault.OpErr.TheVariants.{Sink, NoMemory}
 use Rattle.ob_flat.specs.Emission.{Takes}
 use Rattle.ob_flat.specs.Flats.{Represents}
-use Rattle.ob_inflight.specs.Answers.{Finishes, HasFewRows, error_of}
+use Rattle.ob_inflight.specs.Answers.{Finishes, error_of}
 use Rattle.ob_mean.specs.Prints.{Begun}
 use Rattle.ob_mean.specs.Verdict.{ended as seen_to}
 use Rattle.ob_row.specs.Slots.{Slots}
@@ -160,15 +160,6 @@ module _ (g : RowsAt) (kept : List (List ℕ)) (over : is_over g.stage ≡ true)
       at = subst (λ (s : Stage). HoldsAt s (record g { outcome = Some (said_of g) }) kept (events ++ to_say_of g) w) (sym stage_is)
           (at_over.0, answered_as g.failed (said_of g) (events ++ to_say_of g) (answers_by g.failed refl));
     }
-
-    -- what is left of it is few
-    said_few : (f b : Bool) → g.failed ≡ f → passes_pad g ≡ b → HasFewRows (said f b g.shown)
-    said_few true b failed passed = tt
-    said_few false true unfailed passed = tt
-    said_few false false unfailed unpassed = omega (arith, (ended false unfailed).few.1, is.placed.flown.size.most)
-
-    pub few_answered : HasFewRows (said_of g)
-    few_answered = said_few g.failed (passes_pad g) refl refl
 
     -- a part of it was emitted
     module _ (part : List Event) (unfailed : g.failed ≡ false) (begun : Begun part (to_say_of g)) where

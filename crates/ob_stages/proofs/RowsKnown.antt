@@ -38,11 +38,6 @@ ended_end None zero = refl
 ended_end None (suc k) = refl
 ended_end (Some pad) k = refl
 
-ended_leaf : (pad : Option ℕ) (k : ℕ) → (seen_ended pad k).leaf ≡ None
-ended_leaf None zero = refl
-ended_leaf None (suc k) = refl
-ended_leaf (Some pad) k = refl
-
 -- one that takes some rows
 taking_is : (pad : Option ℕ) (slots k : ℕ) → 1 ≤ taken_by pad slots k → seen_ended pad k ≡ seen_taking pad k
 taking_is None slots zero some = absurd (omega (arith, some))

@@ -1,15 +1,14 @@
 -- Room for the result of a SELECT of rows in flight, and its region.
-use Rattle.std.proofs.Common.{◌≡◌, ◌≤◌, ◌+◌, ◌-◌, ℕ, refl, ◌∙◌, ap, subst, arith}
-use Rattle.std.specs.Prelude.{Option, Some, None, IsSome, Result, Ok, Err}
+use Rattle.std.proofs.Common.{◌≡◌, ◌≤◌, ◌+◌, ◌-◌, ℕ, subst}
+use Rattle.std.specs.Prelude.{None, Result, Ok, Err}
 use Rattle.ob_flat.specs.declared.fault.OpErr.{OpErr}
 use Rattle.ob_flat.specs.Creates.{MakesTable, table_of}
-use Rattle.ob_store.specs.Calls.{ChangesNothing}
 use Rattle.ob_store.specs.State.{StoreState}
 use Rattle.ob_vault.specs.declared.region.Order.TheVariants.{Any}
 use Rattle.ob_vault.specs.State.{World}
 use Rattle.ob_stages.specs.declared.rows.Stage.{Stage}
 use Rattle.ob_stages.specs.declared.rows.Stage.TheVariants.{Make}
-use Rattle.ob_stages.specs.RowsStates.{RowsAt, HasCounted, IsPlaced, PlacedAt, known_by, result_in, table_blocks, taken, whole_length}
+use Rattle.ob_stages.specs.RowsStates.{RowsAt, HasCounted, IsPlaced, PlacedAt, result_in, table_blocks, taken, whole_length}
 use Rattle.ob_stages.specs.RowsSteps.{TakesRoom}
 
 -- it has counted, and has no region yet
@@ -17,33 +16,6 @@ pub made_from : (g : RowsAt) → IsPlaced g → g.stage ≡ Make → HasCounted 
 made_from g is same = subst (λ (s : Stage). PlacedAt s g) same is.at
 
 -- ---- room for its region and for what follows
-stays : (s : StoreState) → ChangesNothing s s
-stays s = record {
-  spare = omega arith;
-  asked = refl;
-  log = refl;
-  faults = refl;
-  slips = refl;
-  tells = refl;
-  lie = refl;
-  gave = refl;
-  disturbed = refl;
-  keeps = record { live = λ q. refl; last = λ q x. refl; kept = λ q. refl };
-}
-
--- it was taken before, where its size was known
-pub room_known : {E : Type 0} (g : RowsAt) (others : ℕ) (s : StoreState) → IsSome g.q.public.pad → g.booked ≡ known_by g.q.public.pad (table_blocks g.q) (whole_length g.q g.k) - g.asked → others + g.booked ≤ s.spare
-    → TakesRoom {E = E} g others (Ok g.booked) s s
-room_known g others s padded booked spare = record {
-  rests = stays s;
-  spare = (booked ∙ ap (λ (n : ℕ). n - g.asked) (known_all g.q.public.pad (table_blocks g.q) (whole_length g.q g.k) padded), spare);
-  padded = tt;
-}
-  where
-    known_all : (pad : Option ℕ) (c all : ℕ) → IsSome pad → known_by pad c all ≡ all
-    known_all None c all some = absurd (cc some)
-    known_all (Some pad) c all some = refl
-
 -- it is taken, or there is none
 pub room_taken : {E : Type 0} (g : RowsAt) (others n : ℕ) (result : Result ℕ E) (s t : StoreState) → result ≡ Ok n → TakesRoom g others result s t → (n ≡ whole_length g.q g.k - g.asked) × (others + n ≤ t.spare)
 room_taken {E} g others n result s t is takes = let here : TakesRoom {E = E} g others (Ok n) s t = subst (λ (r : Result ℕ E). TakesRoom g others r s t) is takes in here.spare

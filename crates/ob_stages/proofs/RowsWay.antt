@@ -11,7 +11,6 @@ use Rattle.ob_base.specs.declared.skeleton.Skeleton.{Skeleton}
 use Rattle.ob_base.specs.declared.shown.Shown.{Shown}
 use Rattle.ob_base.specs.Events.{Event, row_events}
 use Rattle.ob_emit.proofs.BlocksEmitted.{blocks_rest}
-use Rattle.ob_flat.specs.declared.flat.Flat.{Flat}
 use Rattle.ob_flat.specs.Flats.{Represents}
 use Rattle.ob_flat.specs.Emission.{SlotsToEnd}
 use Rattle.ob_mean.specs.Prints.{Begun}
@@ -83,9 +82,6 @@ held_failed q slots n seen then_ k plan second is =
 -- ---- its stages
 module _ (g : RowsAt) (w : World) where
   -- how many accesses it has asked
-  count_below : (stage : Stage) (u : ℕ) → stage ≡ Count u → PlacedAt stage g → g.asked < table_blocks g.q
-  count_below stage u is at = let here = subst (λ (s : Stage). PlacedAt s g) is at in omega (arith, here.asked, here.below)
-
   pub behind_count : (n : ℕ) → HasCounted g n → table_blocks g.q ≤ n → table_blocks g.q ≤ g.asked
   behind_count n is less = omega (arith, is.asked, less)
 
@@ -139,9 +135,6 @@ module _ (g : RowsAt) (s : Skeleton) (flown : IsFlown g.q s) (w : World) (slots 
       filled_whole (small g.q g.k) (result_in g.q g.k is.filled.own) (Smalls.results (small g.q g.k)) w refl refl is.filled.filled honest slots held
 
   module _ (x : ℕ) (events : List Event) (is : HasShown g x events w) (count : IsCountOf g w (all_selected g)) where
-    result : Flat
-    result = result_in g.q g.k is.filled.own
-
     here : SlotsToEnd g.q.public.pack (result_in g.q g.k is.filled.own) w w
     here = record { slots = Smalls.result_slots (small g.q g.k) slots; is = result_held x events is; nolie = honest.nolie }
 

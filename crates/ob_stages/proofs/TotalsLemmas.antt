@@ -1,7 +1,7 @@
 -- A SELECT of totals: what its pass did is what it means.
 use Rattle.std.proofs.Common.{◌≡◌, ◌≤◌, ◌<◌, ℕ, Bool, true, false, if◌then◌else◌, List, [], ◌∷◌, ◌++◌, length, map, Option, Some, None, refl, sym, ◌∙◌, ap, subst, arith, append_assoc}
-use Rattle.std.specs.Prelude.{IfSome, IsTrue, filter_map, not, ◌==◌, nat_lt}
-use Rattle.std.specs.List.{All, list_all, list_any, flat_map}
+use Rattle.std.specs.Prelude.{IfSome, filter_map, not, ◌==◌, nat_lt}
+use Rattle.std.specs.List.{All, list_any, flat_map}
 use Rattle.std.proofs.lemmas.Bool.Decides.{nat_tests}
 use Rattle.std.proofs.lemmas.List.{append-nil, length-map}
 use Rattle.std.proofs.lemmas.List.Elements.{All-head, All-tail}
@@ -39,8 +39,9 @@ use Rattle.ob_verdict.specs.Accepted.{IsPlace, agg_places}
 use Rattle.ob_verdict.proofs.AcceptedProof.{totals_places_fit}
 use Rattle.ob_verdict.specs.declared.outcome.Outcome.{Outcome}
 use Rattle.ob_verdict.specs.declared.outcome.Outcome.TheVariants.{Rows, Refused}
-use Rattle.ob_verdict.specs.Outcomes.{outcome_of, is_row, IsAnswer, Partly}
+use Rattle.ob_verdict.specs.Outcomes.{outcome_of, IsAnswer, Partly}
 use Rattle.ob_stages.specs.Totalling.{TotalsFit, agg_at, labels_at, totalled, totalled_answer}
+use Rattle.ob_verdict.proofs.RowEvents.{are_rows}
 
 -- ---- the items
 module _ (cs : Columns) where
@@ -225,10 +226,6 @@ partly_rows labels answer rows events is begun =
 pub begun_rows : (labels : List (List ℕ)) (rows : List (List Shown)) (events : List Event) → Begun events (Head labels ∷ row_events rows) → Begun events (all_events labels rows)
 begun_rows labels rows events begun =
     (begun.0 ++ Close (length rows) ∷ [], sym (append_assoc events begun.0 (Close (length rows) ∷ [])) ∙ ap (λ (l : List Event). l ++ Close (length rows) ∷ []) begun.1)
-
-are_rows : (shown : List (List Shown)) → IsTrue (list_all is_row (row_events shown))
-are_rows [] = refl
-are_rows (x ∷ xs) = are_rows xs
 
 pub is_answer : (labels : List (List ℕ)) (rows : List (List Shown)) (k : ℕ) → k ≡ length rows → k ≤ 65536 → IsAnswer labels k (all_events labels rows)
 is_answer labels rows k count few = record {

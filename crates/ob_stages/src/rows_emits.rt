@@ -45,7 +45,8 @@ fn show<S: BlockStore, R: Revisions, E: Emit>(
     out: &mut E,
 ) -> Result<u32, OpErr>
     requires spare { HasSpare 1 (at R.state vault.old (S.state store.old)) }
-    requires table { MayScan (length rows.old) fresh.now (at R.state vault.old (S.state store.old)) }
+    requires table { MayScan (length rows.old) fresh.now
+        (at R.state vault.old (S.state store.old)) }
     requires within { place < blocks_of (length rows.old) fresh.now }
     requires fit { FitBlock fresh.now.schema rows.old }
     requires same { fresh.now.schema ≡ (rows_selection flight.now).flat.schema }
@@ -55,7 +56,8 @@ fn show<S: BlockStore, R: Revisions, E: Emit>(
         × (flight.now.shown ≤ fresh.now.capacity) }
     ensures spent { (S.state store.old).spare ≤ (S.state store.new).spare + 1 }
     ensures rows { SameSizes rows.old rows.new }
-    ensures shows { ShowsBlock E.grew E.cut E.faults (length rows.old) (rows_at flight.now) fresh.now
+    ensures shows { ShowsBlock E.grew E.cut E.faults (length rows.old) (rows_at flight.now)
+        fresh.now
         place result (at R.state vault.old (S.state store.old))
         (at R.state vault.new (S.state store.new)) out.old out.new }
 {

@@ -22,7 +22,8 @@ use ob_vault::{Order, Revisions, Vault};
 
 // Takes a region out of the vault, if there is one.
 fn forget<R: Revisions>(region: Option<u64>, vault: &mut Vault<R>)
-    ensures { (s : StoreState) → ForgetsOwn region (at R.state vault.old s) (at R.state vault.new s) }
+    ensures { (s : StoreState)
+        → ForgetsOwn region (at R.state vault.old s) (at R.state vault.new s) }
 {
     match region {
         None => {}
@@ -146,8 +147,8 @@ impl<'a> RowsFlight<'a> {
         requires fit { FitsBlock (rows_selection self.old) rows.old }
         requires held { IsHeldIn (rows_at self.old) (at R.state vault.old (S.state store.old)) }
         ensures rows { SameSizes rows.old rows.new }
-        ensures quiet { (kept : List (List ℕ)) → QuietStep (rows_at self.old) (rows_at self.new) others
-            kept kept result (at R.state vault.old (S.state store.old))
+        ensures quiet { (kept : List (List ℕ)) → QuietStep (rows_at self.old) (rows_at self.new)
+            others kept kept result (at R.state vault.old (S.state store.old))
             (at R.state vault.new (S.state store.new)) }
     {
         let n = self.k;
@@ -345,8 +346,8 @@ impl<'a> RowsFlight<'a> {
         requires steps { StepsAt (rows_at self.old) Stage.Discard others
             (at R.state vault.old (S.state store.old)) }
         requires held { IsHeldIn (rows_at self.old) (at R.state vault.old (S.state store.old)) }
-        ensures quiet { (kept : List (List ℕ)) → QuietStep (rows_at self.old) (rows_at self.new) others
-            kept kept result (at R.state vault.old (S.state store.old))
+        ensures quiet { (kept : List (List ℕ)) → QuietStep (rows_at self.old) (rows_at self.new)
+            others kept kept result (at R.state vault.old (S.state store.old))
             (at R.state vault.new (S.state store.new)) }
     {
         let Some(region) = self.region else {

@@ -1,8 +1,6 @@
 -- The rows that are selected and emitted, and reads of blocks that were changed.
 use Rattle.std.proofs.Common.{◌≡◌, ℕ, suc, IsTrue, List, [], ◌∷◌, length, Option, Some, None, refl, ap, sym, subst}
-use Rattle.std.specs.List.{list_all}
 use Rattle.ob_base.specs.declared.shown.Shown.{Shown}
-use Rattle.ob_base.specs.Events.{row_events}
 use Rattle.ob_base.specs.Lists.{places_from}
 use Rattle.ob_row.specs.Condition.{All}
 use Rattle.ob_row.specs.Slots.{Slots, rows, is_selected, selected}
@@ -10,7 +8,6 @@ use Rattle.ob_row.specs.Truth.{is_true}
 use Rattle.ob_store.specs.State.{Lie}
 use Rattle.ob_vault.specs.State.{World}
 use Rattle.ob_vault.specs.Tied.{Calm, IsUnfit, TagFits}
-use Rattle.ob_verdict.specs.Outcomes.{is_row}
 use Rattle.ob_vault.specs.Calls.{Lasts}
 
 -- ---- a count
@@ -22,11 +19,6 @@ places_all n (Some row ∷ slots) = ap suc (places_all (suc n) slots)
 
 pub selected_all : (slots : Slots) → length (selected (is_true All) slots) ≡ length (rows slots)
 selected_all slots = places_all 0 slots
-
--- the events of rows
-pub are_rows : (shown : List (List Shown)) → IsTrue (list_all is_row (row_events shown))
-are_rows [] = refl
-are_rows (x ∷ xs) = are_rows xs
 
 -- a block that was changed and doesn't fit was not read
 pub unfit_none : (w : World) → Calm w → IsUnfit w → w.store.lie ≡ None

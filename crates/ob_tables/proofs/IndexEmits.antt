@@ -48,7 +48,6 @@ use Rattle.ob_tables.specs.Indexed.{EmitsGot, IsAccessed, IsDone}
 use Rattle.ob_tables.specs.Running.{HasNoRows}
 use Rattle.ob_tables.specs.Serving.{Answered}
 use Rattle.ob_tables.specs.Telling.{ReadsTrue, answer_labels}
-use Rattle.ob_tables.proofs.EmitLemmas.{are_rows}
 use Rattle.ob_tables.proofs.FoundLemmas.{heading_found}
 use Rattle.ob_tables.proofs.HeldLemmas.{held_headings}
 use Rattle.ob_tables.proofs.IndexMeans.{stood, told_by}
@@ -56,6 +55,7 @@ use Rattle.ob_tables.proofs.IndexRuns.{got_answered, of_x}
 use Rattle.ob_tables.proofs.SourceColumns.{labelled_is}
 use Rattle.ob_tables.proofs.ServeLemmas.{IsBare, bare_prints, silent_emits}
 use Rattle.ob_tables.proofs.ToldLemmas.{told_whole}
+use Rattle.ob_verdict.proofs.RowEvents.{are_rows}
 
 -- one row at most is found
 found_few : (got : Tree.Got Row) → length (found got) < 2 ^ 32

@@ -1,6 +1,7 @@
 pub mod TableLemmas
 pub mod GivenUpLemmas
 pub mod RunLemmas
+pub mod CutLemmas
 pub mod FormerLemmas
 pub mod SavedLemmas
 pub mod SaveLemmas

@@ -83,7 +83,7 @@ pub record Serves {R E : Type 0} (state : R → RevState) (grew cut : E → E �
   pub early : RefusedEarly (refusal_now old.public (count_of old s) stmt) result new.seen
   -- what is seen may be seen
   pub lawful : Lawful old.public (count_of old s) stmt new.seen
-  -- want of memory tells nothing of rows
+  -- want of memory tells of no rows but those that are emitted
   pub memory : result ≡ Err NoMemory → LacksMemory old.public stmt new.seen s t (HasHalted cut out_old out_new)
   -- a stash is full only where an access read more rows than fit
   pub full : result ≡ Err StashFull → (d : Draws) → AreDraws old d → FillsStash (next_draw d)

@@ -2,8 +2,8 @@
 ghost use Rattle.std.specs.Prelude.{◌≡◌, ◌⊎◌, [], IsSome, None, false, map, string_bytes};
 ghost use Rattle.ob_headline.specs.Bases.{public_with};
 ghost use Rattle.ob_headline.specs.Failures.{failures};
-ghost use Rattle.ob_headline.specs.Reruns.{Alike, EndsWell, ShellRun, any_counted, turns_in};
-ghost use Rattle.ob_headline.specs.Settings.{settings_of};
+ghost use Rattle.ob_headline.specs.Reruns.{Alike, EndsWell, ShellRun, any_counted, stated_in};
+ghost use Rattle.ob_headline.specs.Settings.{flight_of, settings_of};
 ghost use Rattle.ob_headline.specs.Usage.{usage};
 ghost use Rattle.ob_headline.specs.Words.{faults_of, outside_of};
 ghost use Rattle.ob_shell.specs.Generating.{asked_for};
@@ -17,7 +17,8 @@ use std::alloc::Global;
 /// Serves two inputs with the same words, each over a store of its own. Where the words have the input read, both came to
 /// their end and no text was answered that a store failed, and the statements that they spell differ in their literals
 /// alone and have the same early refusals, both sessions asked the same of their stores, if none of the statements is a
-/// SELECT of rows or the words have `--pad`; with `--batch`, if texts that spell none come before the same ones, too.
+/// SELECT of rows or the words have `--pad`; with `--batch`, if texts that spell none come before the same ones, too; and
+/// without `--flight`.
 pub fn sessions_ask_the_same<I: Source, O: Sink, T: Sink, S: BlockStore>(
     alloc: Global,
     words: &[String],
@@ -48,14 +49,15 @@ pub fn sessions_ask_the_same<I: Source, O: Sink, T: Sink, S: BlockStore>(
         (T.written trace_too.new) (S.state store_too.new)
         (faults_of (I.faults input_too.new) (O.faults out_too.new) (T.faults trace_too.new)))
         result.1)
-        × (EndsWell result.0.status (failures a.story.answers)
+        × (flight_of usage (map string_bytes words.now) ≡ None
+        → EndsWell result.0.status (failures a.story.answers)
         → EndsWell result.1.status (failures b.story.answers)
-        → (any_counted (turns_in (public_with (settings_of usage (map string_bytes words.now)))
+        → (any_counted (stated_in (public_with (settings_of usage (map string_bytes words.now)))
         a.story.spelt) ≡ false)
         ⊎ IsSome (public_with (settings_of usage (map string_bytes words.now))).pad
         → Alike (public_with (settings_of usage (map string_bytes words.now))) 0 None
-        (turns_in (public_with (settings_of usage (map string_bytes words.now))) a.story.spelt)
-        (turns_in (public_with (settings_of usage (map string_bytes words.now))) b.story.spelt)
+        (stated_in (public_with (settings_of usage (map string_bytes words.now))) a.story.spelt)
+        (stated_in (public_with (settings_of usage (map string_bytes words.now))) b.story.spelt)
         → (S.state store.new).asked ≡ (S.state store_too.new).asked) }
 {
     reruns_ask_the_same();

@@ -1,5 +1,6 @@
 pub mod SlotLemmas
 pub mod ResultLemmas
+pub mod RowEvents
 pub mod JoinLemmas
 pub mod TurnLemmas
 pub mod HashLemmas

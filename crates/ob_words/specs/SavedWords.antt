@@ -2,7 +2,7 @@
 use Rattle.std.specs.Prelude.{◌≡◌, ◌≤◌, Bool, true, false, Option, codes}
 use Rattle.clap.specs.Words.{Text}
 use Rattle.ob_base.specs.declared.config.Config.{Config}
-use Rattle.ob_headline.specs.Settings.{saved_settings_by, seed_in}
+use Rattle.ob_headline.specs.Settings.{flight_in, saved_settings_by, seed_in}
 use Rattle.ob_headline.specs.Usage.{is_set}
 use Rattle.ob_words.specs.WordsRead.{words_with}
 use Rattle.ob_words.specs.declared.words.Words.{Words}
@@ -11,7 +11,7 @@ use Rattle.ob_tables.specs.Engines.{IsConfig}
 -- what these values spell, each under its name
 abbrev pub saved_words_by : (Text → Option Text) → Option Words
 saved_words_by value = words_with (is_set (value (codes "trace"))) (saved_settings_by value)
-    (seed_in (value (codes "gen")))
+    (seed_in (value (codes "gen"))) (flight_in (value (codes "flight")))
 
 -- settings within their limits, whether tables are saved or not
 pub record AreFit (config : Config) : Type 0 where

@@ -1,6 +1,6 @@
 //! The words of the command line.
 ghost use Rattle.std.specs.Prelude.{option_map, string_bytes, true, false};
-ghost use Rattle.std.specs.Prelude.{◌≡◌, ◌≢◌, ◌≤◌, ◌^◌, codes, map, Some, None, Err, IfOk, IfSome};
+ghost use Rattle.std.specs.Prelude.{◌≡◌, ◌≢◌, ◌≤◌, ◌<◌, ◌^◌, codes, map, Some, None, Err, IfOk, IfSome};
 ghost use Rattle.clap.specs.Words.{Text};
 ghost use Rattle.clap.specs.Words.{app_of, first_value, found_of, kind_of, rule_of};
 ghost use Rattle.clap.specs.declared.error.kind.ErrorKind.TheVariants.{OutOfMemory};
@@ -8,6 +8,7 @@ ghost use Rattle.ob_base.specs.Plans.{MayPad};
 ghost use Rattle.ob_headline.specs.Settings.{ParsesAs, IsTaken, ParsesChanges, MeddleParses};
 ghost use Rattle.ob_headline.specs.Settings.{IsTakenSaved, ParsesSaved, saved_settings_by};
 ghost use Rattle.ob_headline.specs.Settings.{at_least, batch_in, may_pad, number_in, pad_in, planner_in};
+ghost use Rattle.ob_headline.specs.Settings.{flight_in, flight_of, flight_spelt, flight_goes};
 ghost use Rattle.ob_headline.specs.Settings.{generated_by, seed_in, seed_of};
 ghost use Rattle.ob_headline.specs.Settings.{may_mark, settings_by, settings_in};
 ghost use Rattle.ob_headline.specs.Usage.{common, usage, meddle_usage, flag, valued, is_set, is_traced, changes_in};
@@ -15,13 +16,13 @@ ghost use Rattle.ob_headline.specs.Usage.{default_store, is_kept, kept_usage, va
 ghost use Rattle.ob_headline.specs.Usage.{is_saved, saved_usage};
 ghost use Rattle.ob_meddle.specs.Changes.{number};
 ghost use Rattle.ob_words.specs.SavedWords.{AreFit, MayBeSaved, saved_words_by};
-ghost use Rattle.ob_words.specs.WordsRead.{AreWithin};
-ghost use Rattle.ob_words.specs.WordsRead.{words_by};
+ghost use Rattle.ob_words.specs.WordsRead.{AreFlown, AreWithin};
+ghost use Rattle.ob_words.specs.WordsRead.{words_beside, words_by};
 
 use clap::error::ErrorKind;
 use clap::{Arg, ArgAction, ArgMatches, Command, Error};
 use ob_base::{Config, NoMemory, Plan, Planner};
-use ob_headline::Seed;
+use ob_headline::{FlightSettings, Seed};
 use ob_meddle::{ChangesErr, Meddle, parse_changes, parted};
 use std::alloc::{AllocError, Global};
 
@@ -34,6 +35,9 @@ const PAD_LIMIT: u32 = 1_048_576;
 /// The INSERTs that are served together, at most.
 const BATCH_LIMIT: u32 = 65_535;
 
+/// The SELECTs that fly together, at most.
+const FLIGHT_LIMIT: u32 = 8;
+
 /// The name of the store, where the words give none.
 const STORE: &str = "oblidb-store";
 
@@ -44,12 +48,13 @@ pub enum WordsErr {
     NoMemory,
 }
 
-/// What the words say: whether the accesses are traced, the settings of the run, and what is generated, if the input
-/// isn't read.
+/// What the words say: whether the accesses are traced, the settings of the run, how SELECTs fly, if they do, and what is
+/// generated, if the input isn't read.
 #[derive(Clone, Copy, Debug, PartialEq, Eq)]
 pub struct Words {
     pub trace: bool,
     pub config: Config,
+    pub flight: Option<FlightSettings>,
     pub generated: Option<Seed>,
 }
 
@@ -105,6 +110,7 @@ fn common<'a>(alloc: Global, name: &'a str) -> Result<Command<'a>, AllocError>
         .arg(valued(alloc, "pad"))?
         .arg(valued(alloc, "stash"))?
         .arg(valued(alloc, "batch"))?
+        .arg(valued(alloc, "flight"))?
         .arg(valued(alloc, "max-input"))?
         .arg(valued(alloc, "gen"))
 }
@@ -277,6 +283,52 @@ fn seed_in(value: Option<&str>) -> Option<Option<Seed>>
     }
 }
 
+// How SELECTs fly by `M,X`.
+fn flight_spelt(text: &[u8]) -> Option<FlightSettings>
+    ensures value { result ≡ flight_spelt text.now }
+    ensures within { IfSome result (λ flight.
+        (2 ≤ flight.most) × (flight.most ≤ 8) × (flight.start < 2 ^ 64)) }
+{
+    let (most, start) = parted(text, b',');
+    match (number(2, FLIGHT_LIMIT, most), start) {
+        (Some(most), Some(start)) => match ob_meddle::number(u64::MAX, start) {
+            Some(start) => Some(FlightSettings { most, start }),
+            None => None,
+        },
+        _ => None,
+    }
+}
+
+// How SELECTs fly, if they do; none at all where the value has another form.
+fn flight_in(value: Option<&str>) -> Option<Option<FlightSettings>>
+    ensures value { result ≡ flight_in (option_map (λ t. t.now) value.entry) }
+    ensures within { IfSome result (λ flight. IfSome flight (λ f.
+        (2 ≤ f.most) × (f.most ≤ 8) × (f.start < 2 ^ 64))) }
+{
+    match value {
+        None => Some(None),
+        Some(text) => match flight_spelt(text.as_bytes()) {
+            Some(flight) => Some(Some(flight)),
+            None => None,
+        },
+    }
+}
+
+// Whether SELECTs may fly so, where INSERTs are served together or aren't and plans are chosen so.
+fn flight_goes(flight: Option<FlightSettings>, batch: Option<u32>, planner: Planner) -> bool
+    ensures value { result ≡ flight_goes flight batch planner }
+    ensures alone { result ≡ true → IfSome flight (λ f. batch ≡ None) }
+{
+    match (flight, batch) {
+        (None, _) => true,
+        (Some(_), Some(_)) => false,
+        (Some(_), None) => match planner {
+            Planner::Auto | Planner::Cheapest | Planner::Forced(Plan::Small) => true,
+            Planner::Forced(Plan::Large | Plan::Continuous | Plan::Hash) => false,
+        },
+    }
+}
+
 // A text of its own.
 fn copied(alloc: Global, text: &str) -> Result<String, NoMemory>
     ensures { IfOk result (λ s. string_bytes s ≡ text.now) }
@@ -352,18 +404,33 @@ fn settings(matches: &ArgMatches) -> Option<Config>
     }
 }
 
+// What the values spell beside these settings.
+fn words_beside(matches: &ArgMatches, config: Config) -> Option<Words>
+    ensures words { result ≡ words_beside config (first_value (found_of matches.now)) }
+    ensures same { IfSome result (λ w. w.config ≡ config) }
+    ensures flies { IfSome result (λ w. AreFlown w.flight w.config) }
+{
+    let generated = seed_in(matches.get_str("gen"))?;
+    let flight = flight_in(matches.get_str("flight"))?;
+    if !flight_goes(flight, config.batch, config.planner) {
+        return None;
+    }
+    Some(Words {
+        trace: is_set(matches.get_str("trace")),
+        config,
+        flight,
+        generated,
+    })
+}
+
 // What the values spell that every program takes.
 fn common_words(matches: &ArgMatches) -> Option<Words>
     ensures words { result ≡ words_by (first_value (found_of matches.now)) }
     ensures within { IfSome result (λ w. AreWithin w.config) }
+    ensures flies { IfSome result (λ w. AreFlown w.flight w.config) }
 {
     let config = settings(matches)?;
-    let generated = seed_in(matches.get_str("gen"))?;
-    Some(Words {
-        trace: is_set(matches.get_str("trace")),
-        config,
-        generated,
-    })
+    words_beside(matches, config)
 }
 
 // The settings that the values spell of a run whose tables may be saved.
@@ -393,14 +460,10 @@ fn common_saved(matches: &ArgMatches) -> Option<Words>
     ensures within { IfSome result (λ w. AreFit w.config) }
     ensures saves { IfSome result (λ w. MayBeSaved
         (is_set (first_value (found_of matches.now) (codes "save"))) w.config) }
+    ensures flies { IfSome result (λ w. AreFlown w.flight w.config) }
 {
     let config = saved_settings(matches)?;
-    let generated = seed_in(matches.get_str("gen"))?;
-    Some(Words {
-        trace: is_set(matches.get_str("trace")),
-        config,
-        generated,
-    })
+    words_beside(matches, config)
 }
 
 // Why a command didn't take the words.
@@ -421,6 +484,9 @@ pub fn read_words(alloc: Global, words: &[String]) -> Result<Words, WordsErr>
     ensures trace { IfOk result (λ w. w.trace ≡ is_traced usage (map string_bytes words.now)) }
     ensures generated { IfOk result (λ w.
         generated_by usage (map string_bytes words.now) ≡ Some w.generated) }
+    ensures flight { IfOk result (λ w.
+        w.flight ≡ flight_of usage (map string_bytes words.now)) }
+    ensures flies { IfOk result (λ w. AreFlown w.flight w.config) }
     ensures within { IfOk result (λ w. AreWithin w.config) }
 {
     let Ok(command) = command(alloc) else {
@@ -446,6 +512,9 @@ pub fn read_kept_words(alloc: Global, words: &[String]) -> Result<KeptWords, Wor
         w.common.trace ≡ is_traced kept_usage (map string_bytes words.now)) }
     ensures generated { IfOk result (λ w.
         generated_by kept_usage (map string_bytes words.now) ≡ Some w.common.generated) }
+    ensures flight { IfOk result (λ w.
+        w.common.flight ≡ flight_of kept_usage (map string_bytes words.now)) }
+    ensures flies { IfOk result (λ w. AreFlown w.common.flight w.common.config) }
     ensures keep { IfOk result (λ w. w.keep ≡ is_kept (map string_bytes words.now)) }
     ensures within { IfOk result (λ w. AreWithin w.common.config) }
 {
@@ -474,6 +543,9 @@ pub fn read_saved_words(alloc: Global, words: &[String]) -> Result<SavedWords, W
         w.common.trace ≡ is_traced saved_usage (map string_bytes words.now)) }
     ensures generated { IfOk result (λ w.
         generated_by saved_usage (map string_bytes words.now) ≡ Some w.common.generated) }
+    ensures flight { IfOk result (λ w.
+        w.common.flight ≡ flight_of saved_usage (map string_bytes words.now)) }
+    ensures flies { IfOk result (λ w. AreFlown w.common.flight w.common.config) }
     ensures keep { IfOk result (λ w.
         w.keep ≡ is_set (value_of saved_usage (map string_bytes words.now) (codes "keep"))) }
     ensures save { IfOk result (λ w. w.save ≡ is_saved (map string_bytes words.now)) }
@@ -506,6 +578,9 @@ pub fn read_meddle_words(alloc: Global, words: &[String]) -> Result<MeddleWords,
         w.common.trace ≡ is_traced meddle_usage (map string_bytes words.now)) }
     ensures generated { IfOk result (λ w.
         generated_by meddle_usage (map string_bytes words.now) ≡ Some w.common.generated) }
+    ensures flight { IfOk result (λ w.
+        w.common.flight ≡ flight_of meddle_usage (map string_bytes words.now)) }
+    ensures flies { IfOk result (λ w. AreFlown w.common.flight w.common.config) }
     ensures within { IfOk result (λ w. AreWithin w.common.config) }
 {
     let Ok(command) = meddle_command(alloc) else {

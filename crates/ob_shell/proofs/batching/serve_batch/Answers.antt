@@ -18,8 +18,8 @@ use Rattle.ob_shell.specs.Steps.{machine_of}
 use Rattle.ob_verdict.specs.declared.outcome.Outcome.{Outcome}
 
 pub returns-in_default-clause-serves : goal.returns-in_default-clause-serves
-returns-in_default-clause-serves g c =
-    let m = machine_of c.args.engine.now (g.S.BlockStore.state c.args.store.now) (g.B.Behind.state c.args.behind.now) in
+returns-in_default-clause-serves g c = λ flights.
+    let m = machine_of c.args.engine.now (g.S.BlockStore.state c.args.store.now) (g.B.Behind.state c.args.behind.now) flights in
     record {
       ready = tt;
       waits = tt;
@@ -39,7 +39,7 @@ pub trace_from-requires-clause-listed : goal.trace_from-requires-clause-listed
 trace_from-requires-clause-listed g c = omega (arith, c.in-Err.ensures.listed, g.met.S.BlockStore.within_asked c.args.store.now, c.count-mark.ensures)
 
 pub returns-in-Ok-write_batch-clause-serves : goal.returns-in-Ok-write_batch-clause-serves
-returns-in-Ok-write_batch-clause-serves g c =
+returns-in-Ok-write_batch-clause-serves g c = λ flights.
     let s0 = g.S.BlockStore.state c.args.store.now in
     let s1 = g.S.BlockStore.state c.run_batch.new.store in
     let s2 = g.S.BlockStore.state c.let_go_from.new.store in
@@ -61,7 +61,7 @@ returns-in-Ok-write_batch-clause-serves g c =
       ready = record { agrees = on.agrees; lives = on.lives; settled = ran.carried.ran.settled; saves = c.in-Ok-run_batch.ensures.saves };
       waits = tt;
       done = λ h held comes spelt.
-          served_batch g.R.Revisions.state c.args.engine.now c.run_batch.new.engine s0 s2 _ _ c.args.first.now c.args.rest.now c.requires.ready.agrees c.requires.batch c.args.tracing h comes held spelt _ _ outcome outcomes ran
+          served_batch g.R.Revisions.state c.args.engine.now c.run_batch.new.engine s0 s2 _ _ flights c.args.first.now c.args.rest.now c.requires.ready.agrees c.requires.batch c.args.tracing h comes held spelt _ _ outcome outcomes ran
           (subst (λ (l : List Outcome). Appends w0 w1 (printed (line_answers (outcome ∷ l)))) written now.ok)
           (counted_all c.args.tally _ _ outcome outcomes _ c.tally_with-counted.ensures tallied c.tally_all.ensures);
       stopped = tt;
@@ -83,7 +83,7 @@ returns-in-Ok-write_batch-clause-took g c =
 
 -- a sink failed
 pub returns-in-Ok-run_batch-clause-serves : goal.returns-in-Ok-run_batch-clause-serves
-returns-in-Ok-run_batch-clause-serves g c =
+returns-in-Ok-run_batch-clause-serves g c = λ flights.
     let s0 = g.S.BlockStore.state c.args.store.now in
     let s1 = g.S.BlockStore.state c.run_batch.new.store in
     let outcome = c.in-Ok-run_batch.outcome in
@@ -102,7 +102,7 @@ returns-in-Ok-run_batch-clause-serves g c =
       waits = tt;
       done = tt;
       stopped = λ h held comes spelt.
-          lost_batch g.R.Revisions.state c.args.engine.now c.run_batch.new.engine s0 s1 _ _ c.args.first.now c.args.rest.now c.requires.ready.agrees c.requires.batch c.args.tracing h comes held spelt outcome outcomes ran
+          lost_batch g.R.Revisions.state c.args.engine.now c.run_batch.new.engine s0 s1 _ _ flights c.args.first.now c.args.rest.now c.requires.ready.agrees c.requires.batch c.args.tracing h comes held spelt outcome outcomes ran
           (lost_with (λ rose. (refl, rose)) cut.lines) cut.traced
           (elim cut.behind [
             | inl none ↦ inl none
@@ -116,7 +116,7 @@ returns-in-Ok-run_batch-clause-serves g c =
 
 -- or the engine was stopped
 pub returns-clause-serves : goal.returns-clause-serves
-returns-clause-serves g c =
+returns-clause-serves g c = λ flights.
     let s0 = g.S.BlockStore.state c.args.store.now in
     let s1 = g.S.BlockStore.state c.run_batch.new.store in
     let ran = c.in-Err.ensures.ran in
@@ -127,7 +127,7 @@ returns-clause-serves g c =
       waits = tt;
       done = tt;
       stopped = λ h held comes spelt.
-          stopped_batch g.R.Revisions.state c.args.engine.now c.run_batch.new.engine s0 s1 _ _ c.args.first.now c.args.rest.now c.requires.ready.agrees c.requires.batch c.args.tracing h comes held spelt c.in-Err.stop _ ran cut;
+          stopped_batch g.R.Revisions.state c.args.engine.now c.run_batch.new.engine s0 s1 _ _ flights c.args.first.now c.args.rest.now c.requires.ready.agrees c.requires.batch c.args.tracing h comes held spelt c.in-Err.stop _ ran cut;
       traced = tt;
       traced_stop = record {
         seen = _;

@@ -8,7 +8,7 @@ returns-in-Err-SourceFault-clause-ran g c =
     let new = c.new-feed.ensures in
     let read = rw c.in-Err-SourceFault.field-0-is at c.in-Err-SourceFault.ensures in
     rw (c.kept_at.ensures, c.stopped.ensures)
-    (inl (unkeyed_fault c.args.words.config c.args.words.trace _ _ new.unread new.taken new.limit _ _ _ _ _ _ _ _ _ _ _ read.within read.fed_by
+    (inl (unkeyed_fault c.args.words.config c.args.words.flight c.args.words.trace _ _ new.unread new.taken new.limit _ _ _ _ _ _ _ _ _ _ _ read.within read.fed_by
     (record {
       unasked = c.requires.fresh;
       honest = g.met.S.BlockStore.starts_honest c.args.store.now c.requires.fresh;
@@ -20,7 +20,7 @@ returns-in-Ok-Bad-clause-ran g c =
     let new = c.new-feed.ensures in
     let read = rw c.in-Ok-Bad.field-0-is at c.in-Ok-Bad.ensures in
     rw (c.kept_at-in-Ok-Bad.ensures, read.cause)
-    (inl (unkeyed_line c.args.words.config c.args.words.trace _ _ new.unread new.taken new.limit _ _ _ _ _ _ _ _ _ _ read.within read.fed_by
+    (inl (unkeyed_line c.args.words.config c.args.words.flight c.args.words.trace _ _ new.unread new.taken new.limit _ _ _ _ _ _ _ _ _ _ read.within read.fed_by
     (record {
       unasked = c.requires.fresh;
       honest = g.met.S.BlockStore.starts_honest c.args.store.now c.requires.fresh;
@@ -41,7 +41,7 @@ returns-in-Ok-clause-ran g c =
     let starts = c.in-Ok.ensures.ok in
     let ended = c.ended_with.ensures in
     rw (read.cause, c.plainly.ensures)
-    (last_saved _ c.args.words.config c.in-Ok-Last.key c.args.words.trace _ _ new.unread new.taken new.limit _ _ _ _ c.in-Ok.engine _ _ _ _ _ _ _ _ _ starts _ read.read read.within read.fed_by
+    (last_saved _ c.args.words.config c.args.words.flight c.in-Ok-Last.key c.args.words.trace _ _ new.unread new.taken new.limit _ _ _ _ c.in-Ok.engine _ _ _ _ _ _ _ _ _ starts _ read.read read.within read.fed_by
     (rw ended.high c.high.ensures.most) (rw ended.high c.high.ensures.value) (rw ended.quiet refl) (rw (ended.ending, c.new.ensures) refl) (ended.tally ∙ c.new.ensures))
 
 pub returns-in-Err-start_saving-clause-ran : goal.returns-in-Err-start_saving-clause-ran
@@ -59,5 +59,5 @@ returns-in-Ok-start_saving-clause-ran g c =
     let starts = c.in-Ok-start_saving.ensures.ok in
     let run = c.serve_saving.ensures in
     let served = rw read.cause at (run.served starts.base c.args.words.config starts.keys c.in-Ok-Secret.key starts.salt starts.engages) in
-    secret_saved _ c.args.words.config c.in-Ok-Secret.key c.args.words.trace _ _ new.unread new.taken new.limit _ _ _ _ c.in-Ok-start_saving.engine _ _ _ _ _ _ _ _ _ _ _ _ starts c.serve_saving.result
+    secret_saved _ c.args.words.config c.args.words.flight c.in-Ok-Secret.key c.args.words.trace _ _ new.unread new.taken new.limit _ _ _ _ c.in-Ok-start_saving.engine _ _ _ _ _ _ _ _ _ _ _ _ starts c.serve_saving.result
     _ _ _ _ read.read run.within run.fed_by served

@@ -17,7 +17,7 @@ returns g c =
       ended = ended;
       left = left;
       gave = gave;
-      ran = subst (λ (s : GeneratedState). RanSaved c.args.words.config c.args.words.trace ended
+      ran = subst (λ (s : GeneratedState). RanSaved c.args.words.config c.args.words.flight c.args.words.trace ended
           (outside_of (Some s.left) s.gave None (g.T.Sink.written c.args.trace.now) (g.S.BlockStore.state c.args.store.now) (faults_of 0 0 trace0))
           (outside_of (Some left) gave None (g.T.Sink.written c.run_saved-ended.new.trace) (g.S.BlockStore.state c.run_saved-ended.new.store) (faults_of 0 0 trace1)) k0 k1) c.new-input.ensures c.run_saved-ended.ensures.ran;
       high = c.conclude_kept.ensures.high;

@@ -1,34 +1,53 @@
-use Rattle.std.proofs.Common.{refl, inr, ◌∙◌, ◌++◌, arith, rules}
+use Rattle.std.proofs.Common.{refl, inl, inr, ◌∙◌, ◌++◌, arith, rules}
 use Rattle.std.proofs.KnownBytes.{Appends-trans}
 use Rattle.ob_headline.specs.Closing.{closing_line}
 use Rattle.ob_print.proofs.CutLemmas.{Outputs-after, Outputs-fault}
-use Rattle.ob_shell.proofs.CountLemmas.{rises_earlier}
-use Rattle.ob_shell.proofs.StepLemmas.{answers_one}
+use Rattle.ob_gen.specs.declared.tally.Tally.{Tally}
+use Rattle.ob_shell.proofs.CountLemmas.{rises_earlier, same_cause}
 use Rattle.ob_shell.proofs.session.answer.Goals as goal
+use Rattle.ob_shell.specs.declared.session.Answered.{Answered}
+use Rattle.ob_tables.specs.Stops.{session_stop}
 
 pub returns-in-Ok-write_all-clause-serves : goal.returns-in-Ok-write_all-clause-serves
-returns-in-Ok-write_all-clause-serves g c =
+returns-in-Ok-write_all-clause-serves g c = λ flights.
     let line = c.as_bytes.ensures ∙ c.closing_line.ensures in
     record {
-      ready = search rules;
-      done = λ h may. let body = c.in-Ok.ensures.serves.done h may in
-          rw c.tally_with.ensures (answers_one c.args.text.now c.args.tally _ body.step (Appends-trans _ _ _ _ _ body.appends (rw line at c.in-Ok-write_all.ensures.ok)));
+      ready = (c.in-Ok.ensures.serves flights).ready;
+      most = (c.in-Ok.ensures.serves flights).most;
+      tables = (c.in-Ok.ensures.serves flights).tables;
+      done = λ h text may spells. let body = (c.in-Ok.ensures.serves flights).done h text may spells in
+          record { answer = _; step = body.step; appends = Appends-trans _ _ _ _ _ body.appends (rw line at c.in-Ok-write_all.ensures.ok); counted = c.tally_with.ensures };
       stopped = tt;
-      cause = search rules;
-      quiet = search rules;
+      cause = let told = c.in-Ok.ensures.serves flights in search (told, rules);
+      quiet = let told = c.in-Ok.ensures.serves flights in search (told, rules);
     }
 
 pub returns-in-Err-write_all-clause-serves : goal.returns-in-Err-write_all-clause-serves
-returns-in-Err-write_all-clause-serves g c =
+returns-in-Err-write_all-clause-serves g c = λ flights.
     let line = c.as_bytes.ensures ∙ c.closing_line.ensures in
     record {
       ready = tt;
+      most = λ settings. tt;
+      tables = λ flies. tt;
       done = tt;
-      stopped = λ h may. let body = c.in-Ok.ensures.serves.done h may in record {
+      stopped = λ h text may spells. let body = (c.in-Ok.ensures.serves flights).done h text may spells in record {
         bytes = body.body ++ closing_line c.in-Ok.answered.outcome;
-        partly = inr (inr (record { answer = record { outcome = c.in-Ok.answered.outcome; bytes = body.body ++ closing_line c.in-Ok.answered.outcome; plan = c.in-Ok.answered.plan }; step = body.step; whole = refl; fault = refl }));
-        cut = Outputs-after _ body.appends (Outputs-fault (refl, rises_earlier _ _ _ (omega (arith, c.in-Ok.ensures.serves.cause.out)) c.in-Err-write_all.ensures.cause.failed) (rw line at c.in-Err-write_all.ensures.cut));
+        partly = inr (inr (inl (record { answer = record { outcome = c.in-Ok.answered.outcome; bytes = body.body ++ closing_line c.in-Ok.answered.outcome; plan = c.in-Ok.answered.plan }; step = body.step; whole = refl; fault = refl })));
+        cut = Outputs-after _ body.appends (Outputs-fault (refl, rises_earlier _ _ _ (omega (arith, (c.in-Ok.ensures.serves flights).cause.out)) c.in-Err-write_all.ensures.cause.failed) (rw line at c.in-Err-write_all.ensures.cut));
       };
-      cause = search rules;
-      quiet = search rules;
+      cause = let told = c.in-Ok.ensures.serves flights in search (told, rules);
+      quiet = let told = c.in-Ok.ensures.serves flights in search (told, rules);
+    }
+
+pub returns-in-Err-clause-serves : goal.returns-in-Err-clause-serves
+returns-in-Err-clause-serves g c = λ flights.
+    let told = c.in-Err.ensures.serves flights in
+    record {
+      ready = tt;
+      most = λ settings. tt;
+      tables = λ flies. tt;
+      done = tt;
+      stopped = told.stopped;
+      cause = same_cause _ Answered Tally (session_stop c.in-Err.halted.stop) _ _ told.cause;
+      quiet = told.quiet;
     }

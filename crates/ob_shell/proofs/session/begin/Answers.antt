@@ -1,38 +1,52 @@
-use Rattle.std.proofs.Common.{List, Ok, refl, subst, sym, ℕ, ◌∙◌}
+use Rattle.std.proofs.Common.{List, Ok, [], ◌∷◌, refl, subst, sym, ◌∙◌}
 use Rattle.ob_gen.specs.declared.tally.Tally.{Tally}
-use Rattle.ob_headline.specs.Statements.{Spells}
 use Rattle.ob_shell.proofs.CountLemmas.{same_cause}
-use Rattle.ob_shell.proofs.TakesLemmas.{takes_halted, takes_one}
+use Rattle.ob_shell.proofs.GatherLemmas.{begins_none, begins_so}
+use Rattle.ob_shell.proofs.TakesLemmas.{ready_with, takes_halted, takes_one}
+use Rattle.ob_shell.proofs.session.begin.Goals as goal
+use Rattle.ob_shell.specs.Flying.{flights_of}
+use Rattle.ob_shell.specs.Steps.{machine_of}
 use Rattle.ob_shell.specs.Waiting.{GoesAlong}
 use Rattle.ob_sql.specs.declared.stmt.Stmt.{Stmt}
 use Rattle.ob_tables.specs.Agreeing.{count_of, public_of}
 use Rattle.ob_tables.specs.Stops.{session_stop}
-use Rattle.ob_shell.proofs.session.begin.Goals as goal
 
 pub gather-requires : goal.gather-requires
-gather-requires g c = record {
-  spells = c.requires.spells;
-  goes = subst (λ (l : List Stmt). GoesAlong (public_of c.args.engine.now) (count_of c.args.engine.now (g.S.BlockStore.state c.args.store.now)) l c.args.stmt) (sym c.requires.none) (sym c.begins_batch.ensures ∙ c.if-begins_batch.true);
-  ready = c.requires.ready;
-  took = c.requires.took;
-}
+gather-requires g c =
+    let p = public_of c.args.engine.now in
+    let m = count_of c.args.engine.now (g.S.BlockStore.state c.args.store.now) in
+    record {
+      spells = c.requires.spells;
+      goes = subst (λ (l : List Stmt). GoesAlong c.args.manner.flight p m l c.args.stmt) (sym c.requires.none) (begins_so c.args.manner.flight p m c.args.stmt (sym c.begins.ensures ∙ c.if-begins.true));
+      ready = c.requires.ready;
+      took = c.requires.took;
+    }
 
-pub returns-then-begins_batch-clause-takes : goal.returns-then-begins_batch-clause-takes
-returns-then-begins_batch-clause-takes g c = rw c.requires.none at c.gather.ensures.takes
+pub returns-then-begins-clause-takes : goal.returns-then-begins-clause-takes
+returns-then-begins-clause-takes g c = rw c.requires.none at c.gather.ensures.takes
 
-pub answer_traced-answered-requires : goal.answer_traced-answered-requires
-answer_traced-answered-requires g c = record {
-  spells = subst (λ (l : List ℕ). Spells l (Ok c.args.stmt)) (sym c.text.ensures) c.requires.spells;
-  alone = sym c.begins_batch.ensures ∙ c.if-begins_batch.false;
-  ready = c.requires.ready;
-  took = c.requires.took;
-}
+pub serve_stmt-answered-requires : goal.serve_stmt-answered-requires
+serve_stmt-answered-requires g c =
+    let p = public_of c.args.engine.now in
+    let m = count_of c.args.engine.now (g.S.BlockStore.state c.args.store.now) in
+    record {
+      alone = (begins_none c.args.manner.flight p m c.args.stmt (sym c.begins.ensures ∙ c.if-begins.false)).0;
+      ready = ready_with c.requires.ready;
+      took = c.requires.took;
+    }
 
 pub returns-in-Ok-clause-takes : goal.returns-in-Ok-clause-takes
 returns-in-Ok-clause-takes g c =
-    rw (c.requires.none, ← c.text.ensures) (takes_one c.text.result.now c.args.session.now.tally tt c.in-Ok.tally refl c.in-Ok.ensures.serves c.in-Ok.ensures.traced)
+    let p = public_of c.args.engine.now in
+    let m = count_of c.args.engine.now (g.S.BlockStore.state c.args.store.now) in
+    let flights = flights_of c.args.manner.flight c.args.session.now.turns.last in
+    let not = (begins_none c.args.manner.flight p m c.args.stmt (sym c.begins.ensures ∙ c.if-begins.false)).1 in
+    rw c.requires.none
+    (takes_one {m0 = machine_of c.args.engine.now (g.S.BlockStore.state c.args.store.now) (g.B.Behind.state c.args.behind.now) flights} c.args.stmt c.args.session.now.tally c.args.session.now.pending c.requires.spells tt c.in-Ok.tally not (c.in-Ok.ensures.serves flights) c.in-Ok.ensures.traced)
 
 pub returns-clause-takes : goal.returns-clause-takes
 returns-clause-takes g c =
-    rw (← c.text.ensures)
-    (takes_halted c.text.result.now c.args.session.now.tally c.in-Err.halted refl (same_cause _ Tally (Unit {0}) (session_stop c.in-Err.halted.stop) _ _ c.in-Err.ensures.serves.cause) c.in-Err.ensures.serves c.in-Err.ensures.traced_stop)
+    let flights = flights_of c.args.manner.flight c.args.session.now.turns.last in
+    let serves = c.in-Err.ensures.serves flights in
+    takes_halted {m0 = machine_of c.args.engine.now (g.S.BlockStore.state c.args.store.now) (g.B.Behind.state c.args.behind.now) flights} c.args.stmt c.args.session.now.tally c.args.session.now.pending c.requires.spells c.in-Err.halted
+    (same_cause _ Tally (Unit {0}) (session_stop c.in-Err.halted.stop) _ _ serves.cause) serves c.in-Err.ensures.traced_stop

@@ -1,6 +1,7 @@
 use Rattle.std.proofs.Common.{◌≡◌, ℕ, Bool, false, true, List, [], ◌∷◌, if◌then◌else◌, ap}
 use Rattle.ob_headline.specs.Texts.{tail_text, has_words, reading_of}
 use Rattle.ob_shell.proofs.TakesLemmas.{takes_idle, takes_of_text}
+use Rattle.ob_shell.specs.Flying.{flights_of}
 use Rattle.ob_shell.specs.Steps.{machine_of}
 use Rattle.ob_shell.proofs.session.finish.Goals as goal
 
@@ -11,7 +12,7 @@ pub returns-then-not-has_words-clause-takes : goal.returns-then-not-has_words-cl
 returns-then-not-has_words-clause-takes g c =
     let none : has_words (reading_of c.args.session.now.pending) ≡ false = cc (c.has_words.ensures, c.if-not-has_words.true) in
     rw (tail_text-by c.args.session.now.pending false none)
-    (takes_idle c.args.tracing c.args.session.now.batch.items c.args.session.now.tally _ _ _ (machine_of c.args.engine.now (g.S.BlockStore.state c.args.store.now) (g.B.Behind.state c.args.behind.now)) tt c.requires.ready c.requires.waits (λ h free. free))
+    (takes_idle c.args.manner.tracing c.args.session.now.batch.items c.args.session.now.tally _ _ _ (machine_of c.args.engine.now (g.S.BlockStore.state c.args.store.now) (g.B.Behind.state c.args.behind.now) (flights_of c.args.manner.flight c.args.session.now.turns.last)) tt c.requires.ready c.requires.waits (λ h free. free))
 
 pub returns-clause-takes : goal.returns-clause-takes
 returns-clause-takes g c =

@@ -1,10 +1,12 @@
 use Rattle.std.proofs.Common.{◌≡◌, Err, List, Ok, [], ◌∷◌, ◌++◌, ◌∙◌, ap, arith, length, refl, subst, sym}
-use Rattle.ob_mean.specs.Batches.{batch_most}
-use Rattle.ob_shell.proofs.GatherLemmas.{batch_more, comes_before, gathered_more, pushed, takes_full, takes_gathered, unpushed, waits_by}
+use Rattle.ob_base.specs.declared.config.Public.{Public}
+use Rattle.ob_shell.proofs.GatherLemmas.{batch_more, comes_before, full_by, gathered_more, pushed, takes_full, takes_gathered, unpushed, waits_by}
 use Rattle.ob_shell.proofs.TakesLemmas.{takes_idle}
 use Rattle.ob_shell.proofs.session.gather.Goals as goal
+use Rattle.ob_shell.specs.Flying.{flights_of}
 use Rattle.ob_shell.specs.Steps.{machine_of}
-use Rattle.ob_shell.specs.Waiting.{AreBatched}
+use Rattle.ob_shell.specs.Waiting.{AreBatched, gather_most}
+use Rattle.ob_sql.specs.Skeleton.{skeleton}
 use Rattle.ob_sql.specs.declared.stmt.Stmt.{Stmt}
 use Rattle.ob_tables.specs.Agreeing.{count_of, public_of}
 
@@ -15,22 +17,22 @@ returns-then-is_err-clause-takes g c =
     let batch = c.args.session.now.batch.items in
     let same : c.push.new.self.items ≡ batch = unpushed c.push.result c.is_err.result _ c.is_err.ensures.value c.if-is_err.true c.push.ensures.items in
     rw same (
-      takes_idle c.args.tracing batch c.args.session.now.tally _ _ _ (machine_of e (g.S.BlockStore.state c.args.store.now) (g.B.Behind.state c.args.behind.now)) tt c.requires.ready (waits_by (public_of e) m batch c.args.stmt c.requires.goes)
-          (λ h free. comes_before (public_of e) batch c.args.stmt h free),
+      takes_idle c.args.manner.tracing batch c.args.session.now.tally _ _ _ (machine_of e (g.S.BlockStore.state c.args.store.now) (g.B.Behind.state c.args.behind.now) (flights_of c.args.manner.flight c.args.session.now.turns.last)) tt c.requires.ready (waits_by c.args.manner.flight (public_of e) m batch c.args.stmt c.requires.goes)
+          (λ h free. comes_before c.args.manner.flight (public_of e) batch c.args.stmt h free),
       refl,
     )
 
-pub returns-then-len-batch_most-clause-takes : goal.returns-then-len-batch_most-clause-takes
-returns-then-len-batch_most-clause-takes g c =
+pub returns-then-len-most-clause-takes : goal.returns-then-len-most-clause-takes
+returns-then-len-most-clause-takes g c =
     let e = c.args.engine.now in
     let m = count_of e (g.S.BlockStore.state c.args.store.now) in
     let batch = c.args.session.now.batch.items in
     let more : c.push.new.self.items ≡ batch ++ c.args.stmt ∷ [] = pushed c.push.result c.is_err.result _ c.is_err.ensures.value c.if-is_err.false c.push.ensures.items in
-    let most = c.batch_most.ensures ∙ ap batch_most c.public.ensures in
+    let most = c.gather_most-most.ensures ∙ ap (λ (p : Public). gather_most c.args.manner.flight p (skeleton c.args.stmt)) c.public.ensures in
     let size = ap length more in
     rw more
-    (takes_gathered batch c.args.stmt c.args.session.now.pending c.requires.spells c.args.session.now.tally _ _ _ (machine_of e (g.S.BlockStore.state c.args.store.now) (g.B.Behind.state c.args.behind.now)) tt c.requires.ready
-    (gathered_more (public_of e) m batch c.args.stmt c.requires.goes (omega (arith, c.if-len-batch_most.true, c.len.ensures, most, size, c.push.new.self.ok.0))))
+    (takes_gathered batch c.args.stmt c.args.session.now.pending c.requires.spells c.args.session.now.tally _ _ _ (machine_of e (g.S.BlockStore.state c.args.store.now) (g.B.Behind.state c.args.behind.now) (flights_of c.args.manner.flight c.args.session.now.turns.last)) tt c.requires.ready
+    (gathered_more c.args.manner.flight (public_of e) m batch c.args.stmt c.requires.goes (omega (arith, c.if-len-most.true, c.len.ensures, most, size, c.push.new.self.ok.0))))
 
 pub flush-requires : goal.flush-requires
 flush-requires g c =
@@ -39,23 +41,27 @@ flush-requires g c =
     let batch = c.args.session.now.batch.items in
     let more : c.push.new.self.items ≡ batch ++ c.args.stmt ∷ [] = pushed c.push.result c.is_err.result _ c.is_err.ensures.value c.if-is_err.false c.push.ensures.items in
     record {
-      waits = subst (λ (l : List Stmt). AreBatched (public_of e) m l) (sym more) (batch_more (public_of e) m batch c.args.stmt c.requires.goes);
+      waits = subst (λ (l : List Stmt). AreBatched c.args.manner.flight (public_of e) m l) (sym more) (batch_more c.args.manner.flight (public_of e) m batch c.args.stmt c.requires.goes);
       ready = c.requires.ready;
       took = c.requires.took;
     }
 
 pub returns-in-Ok-clause-takes : goal.returns-in-Ok-clause-takes
 returns-in-Ok-clause-takes g c =
+    let e = c.args.engine.now in
+    let m = count_of e (g.S.BlockStore.state c.args.store.now) in
     let batch = c.args.session.now.batch.items in
     let more : c.push.new.self.items ≡ batch ++ c.args.stmt ∷ [] = pushed c.push.result c.is_err.result _ c.is_err.ensures.value c.if-is_err.false c.push.ensures.items in
-    let most = c.batch_most.ensures ∙ ap batch_most c.public.ensures in
+    let most = c.gather_most-most.ensures ∙ ap (λ (p : Public). gather_most c.args.manner.flight p (skeleton c.args.stmt)) c.public.ensures in
     let size = ap length more in
-    takes_full batch c.args.stmt c.args.session.now.pending c.requires.spells (omega (arith, c.if-len-batch_most.false, c.len.ensures, most, size, c.push.new.self.ok.0)) (Ok tt) c.in-Ok.ensures.none (rw more at c.in-Ok.ensures.takes)
+    takes_full batch c.args.stmt c.args.session.now.pending c.requires.spells (full_by c.args.manner.flight (public_of e) m batch c.args.stmt c.requires.goes (omega (arith, c.if-len-most.false, c.len.ensures, most, size, c.push.new.self.ok.0))) (Ok tt) c.in-Ok.ensures.none (rw more at c.in-Ok.ensures.takes)
 
 pub returns-in-Err-clause-takes : goal.returns-in-Err-clause-takes
 returns-in-Err-clause-takes g c =
+    let e = c.args.engine.now in
+    let m = count_of e (g.S.BlockStore.state c.args.store.now) in
     let batch = c.args.session.now.batch.items in
     let more : c.push.new.self.items ≡ batch ++ c.args.stmt ∷ [] = pushed c.push.result c.is_err.result _ c.is_err.ensures.value c.if-is_err.false c.push.ensures.items in
-    let most = c.batch_most.ensures ∙ ap batch_most c.public.ensures in
+    let most = c.gather_most-most.ensures ∙ ap (λ (p : Public). gather_most c.args.manner.flight p (skeleton c.args.stmt)) c.public.ensures in
     let size = ap length more in
-    takes_full batch c.args.stmt c.args.session.now.pending c.requires.spells (omega (arith, c.if-len-batch_most.false, c.len.ensures, most, size, c.push.new.self.ok.0)) (Err c.in-Err.halted) tt (rw more at c.in-Err.ensures.takes)
+    takes_full batch c.args.stmt c.args.session.now.pending c.requires.spells (full_by c.args.manner.flight (public_of e) m batch c.args.stmt c.requires.goes (omega (arith, c.if-len-most.false, c.len.ensures, most, size, c.push.new.self.ok.0))) (Err c.in-Err.halted) tt (rw more at c.in-Err.ensures.takes)

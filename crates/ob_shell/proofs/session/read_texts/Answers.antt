@@ -7,7 +7,7 @@ use Rattle.ob_shell.proofs.session.read_texts.Goals as goal
 
 pub bytes-init : goal.bytes-init
 bytes-init g c = record {
-  so_far = so_far_start _ _ _ _ _ _ _ _ _ c.requires.fresh c.requires.none c.requires.uncounted;
+  so_far = so_far_start _ _ _ _ _ _ _ _ _ _ c.requires.fresh c.requires.none c.requires.uncounted;
   short = rw c.requires.fresh (omega arith);
   ready = c.requires.ready;
   waits = rw c.requires.none tt;

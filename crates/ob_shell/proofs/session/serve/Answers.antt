@@ -2,44 +2,46 @@ use Rattle.std.proofs.Common.{◌≡◌, Err, Ok, ap, inl, ◌∙◌}
 use Rattle.ob_gen.specs.declared.tally.Tally.{Tally}
 use Rattle.ob_shell.proofs.CountLemmas.{same_cause}
 use Rattle.ob_shell.proofs.GatherLemmas.{are_batched}
-use Rattle.ob_shell.proofs.RunLemmas.{ran_flushed, ran_unflushed}
+use Rattle.ob_shell.proofs.RunLemmas.{ran_flushed, ran_from, ran_unflushed}
 use Rattle.ob_shell.proofs.ServedLemmas.{alone_read, source_later, stop_stays, waited_quiet, waited_stops}
+use Rattle.ob_shell.proofs.TakesLemmas.{ready_with}
 use Rattle.ob_shell.proofs.TraceLemmas.{traced_cut, traced_then, traced_whole}
 use Rattle.ob_shell.proofs.session.serve.Goals as goal
+use Rattle.ob_shell.specs.Flying.{flights_of}
 use Rattle.ob_shell.specs.declared.session.Break.TheVariants.{Served, Unread}
 use Rattle.ob_tables.specs.Agreeing.{count_of, public_of}
 use Rattle.ob_tables.specs.Stops.{session_stop}
 
 pub read_texts-read-requires : goal.read_texts-read-requires
-read_texts-read-requires g c = record { none = c.new-2.ensures.items; fresh = c.new.ensures; uncounted = c.new-3.ensures; ready = c.requires.ready; fed_by = c.requires.fed_by; took = c.requires.took }
+read_texts-read-requires g c = record { none = c.new-2.ensures.items; fresh = c.new.ensures; uncounted = c.new-3.ensures; ready = ready_with c.requires.ready; fed_by = c.requires.fed_by; took = c.requires.took }
 
 pub flush-requires : goal.flush-requires
 flush-requires g c =
     let e = c.read_texts-read.new.engine in
     let stands = c.in-Ok.ensures.stands in
-    record { waits = are_batched (public_of e) (count_of e (g.S.BlockStore.state c.read_texts-read.new.store)) c.read_texts-read.new.session.batch.items stands.waits; ready = stands.ready; took = stands.took }
+    record { waits = are_batched c.args.flight (public_of e) (count_of e (g.S.BlockStore.state c.read_texts-read.new.store)) c.read_texts-read.new.session.batch.items stands.waits; ready = stands.ready; took = stands.took }
 
 pub flush-requires-in-Err-Unread : goal.flush-requires-in-Err-Unread
 flush-requires-in-Err-Unread g c =
     let unread : c.read_texts-read.result ≡ Err (Unread c.in-Err-Unread.stop) = c.in-Err-Unread.is ∙ ap Err (rw c.in-Err-Unread.is at c.in-Err-Unread.field-0-is) in
     let e = c.read_texts-read.new.engine in
     let stands = rw unread at c.read_texts-read.ensures.stands in
-    record { waits = are_batched (public_of e) (count_of e (g.S.BlockStore.state c.read_texts-read.new.store)) c.read_texts-read.new.session.batch.items stands.waits; ready = stands.ready; took = stands.took }
+    record { waits = are_batched c.args.flight (public_of e) (count_of e (g.S.BlockStore.state c.read_texts-read.new.store)) c.read_texts-read.new.session.batch.items stands.waits; ready = stands.ready; took = stands.took }
 
 pub returns-in-Ok-flush-clause-ran : goal.returns-in-Ok-flush-clause-ran
 returns-in-Ok-flush-clause-ran g c =
     let flushed = rw c.in-Ok-flush.ensures.none at c.in-Ok-flush.ensures.takes in
-    ran_flushed (Ok tt) c.in-Ok.ensures.reads flushed.done flushed.traced
+    (flights_of c.args.flight c.flush.new.session.turns.last, ran_from c.args.engine.now (g.S.BlockStore.state c.args.store.now) (g.B.Behind.state c.args.behind.now) c.args.flight c.turns_of.result.last c.turns_of.ensures (ran_flushed (Ok tt) c.in-Ok.ensures.reads flushed.done flushed.traced))
 
 pub returns-in-Ok-clause-ran : goal.returns-in-Ok-clause-ran
-returns-in-Ok-clause-ran g c = rw c.from.ensures (ran_unflushed (Ok tt) c.in-Err.halted.stop c.in-Ok.ensures.reads c.in-Ok.ensures.stands.waits (rw c.in-Ok.ensures.quiet.0 at c.in-Err.ensures.takes.stopped))
+returns-in-Ok-clause-ran g c = rw c.from.ensures (flights_of c.args.flight c.flush.new.session.turns.last, ran_from c.args.engine.now (g.S.BlockStore.state c.args.store.now) (g.B.Behind.state c.args.behind.now) c.args.flight c.turns_of.result.last c.turns_of.ensures (ran_unflushed (Ok tt) c.in-Err.halted.stop c.in-Ok.ensures.reads c.in-Ok.ensures.stands.waits (rw c.in-Ok.ensures.quiet.0 at c.in-Err.ensures.takes.stopped)))
 
 pub returns-in-Ok-flush-2-clause-ran : goal.returns-in-Ok-flush-2-clause-ran
 returns-in-Ok-flush-2-clause-ran g c =
     let unread : c.read_texts-read.result ≡ Err (Unread c.in-Err-Unread.stop) = c.in-Err-Unread.is ∙ ap Err (rw c.in-Err-Unread.is at c.in-Err-Unread.field-0-is) in
     let reads = rw unread at c.read_texts-read.ensures.reads in
     let flushed = rw c.in-Ok-flush-2.ensures.none at c.in-Ok-flush-2.ensures.takes in
-    ran_flushed (Err c.in-Err-Unread.stop) reads flushed.done flushed.traced
+    (flights_of c.args.flight c.flush-in-Err-Unread.new.session.turns.last, ran_from c.args.engine.now (g.S.BlockStore.state c.args.store.now) (g.B.Behind.state c.args.behind.now) c.args.flight c.turns_of.result.last c.turns_of.ensures (ran_flushed (Err c.in-Err-Unread.stop) reads flushed.done flushed.traced))
 
 pub returns-in-Err-Unread-clause-ran : goal.returns-in-Err-Unread-clause-ran
 returns-in-Err-Unread-clause-ran g c =
@@ -48,13 +50,13 @@ returns-in-Err-Unread-clause-ran g c =
     let stands = rw unread at c.read_texts-read.ensures.stands in
     let quiet = rw unread at c.read_texts-read.ensures.quiet in
     let stopped = rw quiet.0 at c.in-Err-flush.ensures.takes.stopped in
-    rw c.from-in-Err-flush.ensures (ran_unflushed (Err c.in-Err-Unread.stop) c.in-Err-flush.halted.stop reads stands.waits stopped)
+    rw c.from-in-Err-flush.ensures (flights_of c.args.flight c.flush-in-Err-Unread.new.session.turns.last, ran_from c.args.engine.now (g.S.BlockStore.state c.args.store.now) (g.B.Behind.state c.args.behind.now) c.args.flight c.turns_of.result.last c.turns_of.ensures (ran_unflushed (Err c.in-Err-Unread.stop) c.in-Err-flush.halted.stop reads stands.waits stopped))
 
 pub returns-clause-ran : goal.returns-clause-ran
 returns-clause-ran g c =
     let served : c.read_texts-read.result ≡ Err (Served c.in-Err-Served.halted) = c.in-Err-Served.is ∙ ap Err (rw c.in-Err-Served.is at c.in-Err-Served.field-0-is) in
     let reads = rw served at c.read_texts-read.ensures.reads in
-    rw c.from-in-Err-Served.ensures reads
+    rw c.from-in-Err-Served.ensures (flights_of c.args.flight c.read_texts-read.new.session.turns.last, ran_from c.args.engine.now (g.S.BlockStore.state c.args.store.now) (g.B.Behind.state c.args.behind.now) c.args.flight c.turns_of.result.last c.turns_of.ensures reads)
 
 -- ---- what rose, and what may still be written
 pub returns-in-Ok-flush-clause-traced : goal.returns-in-Ok-flush-clause-traced

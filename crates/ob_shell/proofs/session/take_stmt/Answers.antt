@@ -11,24 +11,24 @@ use Rattle.ob_tables.specs.Stops.{session_stop}
 pub gather-requires : goal.gather-requires
 gather-requires g c =
     let e = c.args.engine.now in
-    let goes = sym (c.goes_along.ensures ∙ ap (λ (l : List Stmt). goes_along l c.args.stmt) c.as_slice.ensures.value) ∙ c.if-goes_along.true in
+    let goes = sym (c.goes_along.ensures ∙ (λ i. goes_along (c.public.ensures i) (c.as_slice.ensures.value i) c.args.stmt)) ∙ c.if-goes_along.true in
     record {
       spells = c.requires.spells;
-      goes = goes_more (public_of e) (count_of e (g.S.BlockStore.state c.args.store.now)) c.args.session.now.batch.items c.args.stmt c.requires.waits goes;
+      goes = goes_more c.args.manner.flight (public_of e) (count_of e (g.S.BlockStore.state c.args.store.now)) c.args.session.now.batch.items c.args.stmt c.requires.waits goes;
       ready = c.requires.ready;
       took = c.requires.took;
     }
 
 pub returns-then-goes_along-clause-takes : goal.returns-then-goes_along-clause-takes
 returns-then-goes_along-clause-takes g c =
-    let goes = sym (c.goes_along.ensures ∙ ap (λ (l : List Stmt). goes_along l c.args.stmt) c.as_slice.ensures.value) ∙ c.if-goes_along.true in
-    takes_more_by _ _ _ _ _ _ _ _ _ _ _ _ _ _ _ _ _ _ c.gather.result (λ h free. free_more (public_of c.args.engine.now) c.args.session.now.batch.items c.args.stmt h goes free) c.gather.ensures.takes
+    let goes = sym (c.goes_along.ensures ∙ (λ i. goes_along (c.public.ensures i) (c.as_slice.ensures.value i) c.args.stmt)) ∙ c.if-goes_along.true in
+    takes_more_by _ _ _ _ _ _ _ _ _ _ _ _ _ _ _ _ _ _ c.gather.result (λ h free. free_more c.args.manner.flight (public_of c.args.engine.now) c.args.session.now.batch.items c.args.stmt h goes free) c.gather.ensures.takes
 
 pub flush-requires : goal.flush-requires
 flush-requires g c =
     let e = c.args.engine.now in
     record {
-      waits = are_batched (public_of e) (count_of e (g.S.BlockStore.state c.args.store.now)) c.args.session.now.batch.items c.requires.waits;
+      waits = are_batched c.args.manner.flight (public_of e) (count_of e (g.S.BlockStore.state c.args.store.now)) c.args.session.now.batch.items c.requires.waits;
       ready = c.requires.ready;
       took = c.requires.took;
     }
@@ -37,15 +37,15 @@ pub returns-in-Ok-clause-takes : goal.returns-in-Ok-clause-takes
 returns-in-Ok-clause-takes g c =
     let e = c.args.engine.now in
     let batch = c.args.session.now.batch.items in
-    let apart : goes_along batch c.args.stmt ≡ false = sym (c.goes_along.ensures ∙ ap (λ (l : List Stmt). goes_along l c.args.stmt) c.as_slice.ensures.value) ∙ c.if-goes_along.false in
+    let apart : goes_along (public_of e) batch c.args.stmt ≡ false = sym (c.goes_along.ensures ∙ (λ i. goes_along (c.public.ensures i) (c.as_slice.ensures.value i) c.args.stmt)) ∙ c.if-goes_along.false in
     let bare = rw c.in-Ok.ensures.none at c.in-Ok.ensures.takes in
     let begun = rw c.flush.ensures.pending at c.begin.ensures.takes in
-    let flushed = comes_by (Ok tt) (λ h free. comes_free (public_of e) batch h free) bare in
+    let flushed = comes_by (Ok tt) (λ h free. comes_free c.args.manner.flight (public_of e) batch h free) bare in
     takes_more_then flushed
-    (λ h k free closed. free_behind (public_of e) (public_of c.flush.new.engine) (count_of e (g.S.BlockStore.state c.args.store.now)) batch c.args.stmt h k c.requires.waits apart (λ none. idle_public flushed h free none) free closed)
+    (λ h k free closed. free_behind c.args.manner.flight (public_of e) (public_of c.flush.new.engine) (count_of e (g.S.BlockStore.state c.args.store.now)) batch c.args.stmt h k c.requires.waits apart (λ none. idle_public flushed h free none) free closed)
     (λ h k l free closed then. then) (c.args.session.now.pending ∷ []) _ _ _ _ _ _ _ _ c.begin.result begun
 
 pub returns-in-Err-clause-takes : goal.returns-in-Err-clause-takes
 returns-in-Err-clause-takes g c =
-    takes_broken c.in-Err.halted (c.args.session.now.pending ∷ []) (λ h free. comes_free (public_of c.args.engine.now) c.args.session.now.batch.items h free)
+    takes_broken c.in-Err.halted (c.args.session.now.pending ∷ []) (λ h free. comes_free c.args.manner.flight (public_of c.args.engine.now) c.args.session.now.batch.items h free)
     (same_cause _ (Unit {0}) (Unit {0}) (session_stop c.in-Err.halted.stop) _ _ c.in-Err.ensures.takes.cause) c.in-Err.ensures.takes

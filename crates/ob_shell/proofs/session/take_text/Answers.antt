@@ -5,6 +5,7 @@ use Rattle.ob_parse.specs.declared.parser.ParseErr.{ParseErr}
 use Rattle.ob_token.specs.Tokens.{tokens_of}
 use Rattle.ob_shell.proofs.GatherLemmas.{comes_free}
 use Rattle.ob_shell.proofs.TakesLemmas.{takes_idle}
+use Rattle.ob_shell.specs.Flying.{flights_of}
 use Rattle.ob_shell.specs.Steps.{machine_of}
 use Rattle.ob_tables.specs.Agreeing.{public_of}
 use Rattle.ob_shell.proofs.session.take_text.Goals as goal
@@ -21,8 +22,8 @@ take_misspelt-taken-requires g c = record {
 
 pub returns-in-NoMemory-clause-takes : goal.returns-in-NoMemory-clause-takes
 returns-in-NoMemory-clause-takes g c = (
-  takes_idle c.args.tracing c.args.session.now.batch.items c.args.session.now.tally _ _ _ (machine_of c.args.engine.now (g.S.BlockStore.state c.args.store.now) (g.B.Behind.state c.args.behind.now)) tt c.requires.ready c.requires.waits
-      (λ h free. comes_free (public_of c.args.engine.now) c.args.session.now.batch.items h free),
+  takes_idle c.args.manner.tracing c.args.session.now.batch.items c.args.session.now.tally _ _ _ (machine_of c.args.engine.now (g.S.BlockStore.state c.args.store.now) (g.B.Behind.state c.args.behind.now) (flights_of c.args.manner.flight c.args.session.now.turns.last)) tt c.requires.ready c.requires.waits
+      (λ h free. comes_free c.args.manner.flight (public_of c.args.engine.now) c.args.session.now.batch.items h free),
   refl,
 )
 

@@ -11,7 +11,7 @@ pub returns-in-Err-SourceFault-clause-shown : goal.returns-in-Err-SourceFault-cl
 returns-in-Err-SourceFault-clause-shown g c =
     let new = c.new-feed.ensures in
     let read = rw c.in-Err-SourceFault.field-0-is at c.in-Err-SourceFault.ensures in
-    rw c.ended_at.ensures (shown_source_fault _ _ refl _ _ _ new.unread new.taken new.limit read.within read.fed_by _ _
+    rw c.ended_at.ensures (shown_source_fault _ _ refl _ _ _ _ new.unread new.taken new.limit read.within read.fed_by _ _
     (record {
       unasked = c.requires.fresh;
       honest = g.met.S.BlockStore.starts_honest c.args.store.now c.requires.fresh;
@@ -22,7 +22,7 @@ pub returns-in-Ok-Bad-clause-shown : goal.returns-in-Ok-Bad-clause-shown
 returns-in-Ok-Bad-clause-shown g c =
     let new = c.new-feed.ensures in
     let read = rw c.in-Ok-Bad.field-0-is at c.in-Ok-Bad.ensures in
-    rw c.ended_at-in-Ok-Bad.ensures (shown_bad_key _ _ refl _ _ _ new.unread new.taken new.limit read.within read.fed_by _ _
+    rw c.ended_at-in-Ok-Bad.ensures (shown_bad_key _ _ refl _ _ _ _ new.unread new.taken new.limit read.within read.fed_by _ _
     (record {
       unasked = c.requires.fresh;
       honest = g.met.S.BlockStore.starts_honest c.args.store.now c.requires.fresh;
@@ -39,7 +39,7 @@ pub returns-in-Ok-Last-clause-shown : goal.returns-in-Ok-Last-clause-shown
 returns-in-Ok-Last-clause-shown g c =
     let new = c.new-feed.ensures in
     let read = rw c.in-Ok-Last.field-0-is at c.in-Ok-Last.ensures in
-    rw c.ended_at-in-Ok-Last.ensures (shown_last _ _ refl _ _ _ new.unread new.taken new.limit read.within read.fed_by (sym (tally_after-nil empty_tally)) _ _ _
+    rw c.ended_at-in-Ok-Last.ensures (shown_last _ _ refl _ _ _ _ new.unread new.taken new.limit read.within read.fed_by (sym (tally_after-nil empty_tally)) _ _ _
     (record {
       unasked = c.requires.fresh;
       honest = g.met.S.BlockStore.starts_honest c.args.store.now c.requires.fresh;

@@ -35,13 +35,13 @@ returns-in-Err-clause-summary g c seed asked =
 pub returns-in-None-clause-headline : goal.returns-in-None-clause-headline
 returns-in-None-clause-headline g c none =
     headlined _ _ _ _ _ _ c.requires.fresh
-    (reported_taken (c.in-Ok.words.config, c.in-Ok.ensures.ok) c.in-Ok.ensures.ok.settings (rw c.in-Ok.ensures.trace at c.serve_over.ensures.reported.1))
+    (reported_taken (c.in-Ok.words.config, c.in-Ok.ensures.ok) c.in-Ok.ensures.ok.settings (rw (c.in-Ok.ensures.trace, c.in-Ok.ensures.flight) at c.serve_over.ensures.reported.1))
     (rw c.in-Ok.ensures.trace at c.serve_over.ensures.traced)
 
 pub returns-in-Some-clause-summary : goal.returns-in-Some-clause-summary
 returns-in-Some-clause-summary g c seed asked =
     rw (seed_is usage (map string_bytes c.args.words.now) c.in-Ok.ensures.generated c.in-Some.is asked)
-    (summarized _ (c.in-Ok.words.config, c.in-Ok.ensures.ok) c.in-Ok.ensures.ok.settings c.requires.fresh (rw c.in-Ok.ensures.trace at c.serve_generated.ensures))
+    (summarized _ (c.in-Ok.words.config, c.in-Ok.ensures.ok) c.in-Ok.ensures.ok.settings c.requires.fresh (rw (c.in-Ok.ensures.trace, c.in-Ok.ensures.flight) at c.serve_generated.ensures))
 
 pub returns-in-Err-clause-refused : goal.returns-in-Err-clause-refused
 returns-in-Err-clause-refused g c not = record { unread = refl; unasked = refl }

@@ -30,7 +30,10 @@ returns c =
     let eight : App = with_rule seven (valued (codes "batch")) in
     let eighth : app_of c.in_ok-arg-8.field-0 ≡ eight =
     c.in_ok-arg-8.ensures.shape c.valued-7.ensures.local ∙ ap₂ with_rule seventh c.valued-7.ensures.rule in
-    let nine : App = with_rule eight (valued (codes "max-input")) in
+    let nine : App = with_rule eight (valued (codes "flight")) in
     let ninth : app_of c.in_ok-arg-9.field-0 ≡ nine =
     c.in_ok-arg-9.ensures.shape c.valued-8.ensures.local ∙ ap₂ with_rule eighth c.valued-8.ensures.rule in
-    adds_last c.arg-10.result _ _ _ c.valued-9.ensures.local (ap₂ with_rule ninth c.valued-9.ensures.rule) c.arg-10.ensures
+    let ten : App = with_rule nine (valued (codes "max-input")) in
+    let tenth : app_of c.in_ok-arg-10.field-0 ≡ ten =
+    c.in_ok-arg-10.ensures.shape c.valued-9.ensures.local ∙ ap₂ with_rule ninth c.valued-9.ensures.rule in
+    adds_last c.arg-11.result _ _ _ c.valued-10.ensures.local (ap₂ with_rule tenth c.valued-10.ensures.rule) c.arg-11.ensures

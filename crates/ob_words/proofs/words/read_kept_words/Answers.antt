@@ -23,6 +23,12 @@ returns-in-Some-clause-generated c =
     (spells_words (app_of c.in-Ok.command) kept_usage made.matches (map string_bytes c.args.words.now) c.in-Some.common c.in-Ok.ensures refl refl made.ensures.matches made.ensures.kinds
     (sym c.common_words.ensures.words ∙ c.in-Some.is)).generated
 
+pub returns-in-Some-clause-flight : goal.returns-in-Some-clause-flight
+returns-in-Some-clause-flight c =
+    let made = c.in-Ok-try_get_matches_from in
+    (spells_words (app_of c.in-Ok.command) kept_usage made.matches (map string_bytes c.args.words.now) c.in-Some.common c.in-Ok.ensures refl refl made.ensures.matches made.ensures.kinds
+    (sym c.common_words.ensures.words ∙ c.in-Some.is)).flight
+
 pub returns-clause-usage : goal.returns-clause-usage
 returns-clause-usage c is =
     let words = map string_bytes c.args.words.now in

@@ -28,6 +28,12 @@ returns-in-Ok-changes_in-clause-generated c =
     (spells_words (app_of c.in-Ok.command) meddle_usage made.matches (map string_bytes c.args.words.now) c.in-Some.common c.in-Ok.ensures refl refl made.ensures.matches made.ensures.kinds
     (sym c.common_words.ensures.words ∙ c.in-Some.is)).generated
 
+pub returns-in-Ok-changes_in-clause-flight : goal.returns-in-Ok-changes_in-clause-flight
+returns-in-Ok-changes_in-clause-flight c =
+    let made = c.in-Ok-try_get_matches_from in
+    (spells_words (app_of c.in-Ok.command) meddle_usage made.matches (map string_bytes c.args.words.now) c.in-Some.common c.in-Ok.ensures refl refl made.ensures.matches made.ensures.kinds
+    (sym c.common_words.ensures.words ∙ c.in-Some.is)).flight
+
 pub returns-in_default-common_words-clause-usage : goal.returns-in_default-common_words-clause-usage
 returns-in_default-common_words-clause-usage c is =
     let words = map string_bytes c.args.words.now in

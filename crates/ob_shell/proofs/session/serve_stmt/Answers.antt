@@ -1,4 +1,4 @@
-use Rattle.std.proofs.Common.{List, ◌∙◌, arith, refl, rules, subst, sym}
+use Rattle.std.proofs.Common.{List, ◌≡◌, ◌∙◌, arith, refl, true, rules, subst, sym}
 use Rattle.std.specs.Io.KnownBytes.{Appends}
 use Rattle.ob_base.specs.declared.access.Access.{Access}
 use Rattle.ob_headline.specs.Tracing.{traced}
@@ -9,7 +9,7 @@ use Rattle.ob_shell.proofs.TraceLemmas.{lost_trace, since, until}
 use Rattle.ob_tables.specs.declared.stop.RunStop.TheVariants.{SinkFault}
 use Rattle.ob_shell.proofs.CountLemmas.{traced_cause}
 use Rattle.ob_shell.proofs.StepLemmas.{stops_after}
-use Rattle.ob_shell.proofs.session.answer_traced.Goals as goal
+use Rattle.ob_shell.proofs.session.serve_stmt.Goals as goal
 
 pub trace_from-requires-clause-listed : goal.trace_from-requires-clause-listed
 trace_from-requires-clause-listed g c = omega (arith, c.in-Ok.ensures.listed, g.met.S.BlockStore.within_asked c.args.store.now, c.count-mark.ensures)
@@ -18,11 +18,13 @@ pub trace_from-requires-in-Err-false-clause-listed : goal.trace_from-requires-in
 trace_from-requires-in-Err-false-clause-listed g c = omega (arith, c.in-Err-false.ensures.listed, g.met.S.BlockStore.within_asked c.args.store.now, c.count-mark.ensures)
 
 pub returns-in-Err-clause-serves : goal.returns-in-Err-clause-serves
-returns-in-Err-clause-serves g c =
+returns-in-Err-clause-serves g c = λ flights.
     record {
       ready = tt;
+      most = λ settings. tt;
+      tables = λ flies. tt;
       done = tt;
-      stopped = λ h may. stops_after SinkFault refl (c.in-Ok.ensures.serves.done h may);
+      stopped = λ h text may spells. stops_after SinkFault refl ((c.in-Ok.ensures.serves flights).done h text may spells);
       cause = search rules;
       quiet = search rules;
     }
@@ -31,25 +33,43 @@ returns-in-Err-clause-serves g c =
 pub returns-in-Err-true-clause-traced_stop : goal.returns-in-Err-true-clause-traced_stop
 returns-in-Err-true-clause-traced_stop g c = lost_trace c.in-Err-true.ensures.asked refl
 
-pub returns-in-Err-false-clause-serves : goal.returns-in-Err-false-clause-serves
-returns-in-Err-false-clause-serves g c =
-    let told = c.in-Err-false.ensures.serves in
+pub returns-in-Err-true-clause-serves : goal.returns-in-Err-true-clause-serves
+returns-in-Err-true-clause-serves g c = λ flights.
+    let told = c.in-Err-true.ensures.serves flights in
+    let lost : c.in-Err-true.field-0.quiet ≡ true = search rules in
     record {
       ready = tt;
+      most = λ settings. tt;
+      tables = λ flies. tt;
       done = tt;
-      stopped = λ h may. stops_unlost (search rules) (told.stopped h may);
+      stopped = rw lost at told.stopped;
+      cause = traced_cause c.in-Err-true.field-0.stop c.in-Err-true.field-0.stop _ _ _ _ refl told.cause (omega arith);
+      quiet = search (told, rules);
+    }
+
+pub returns-in-Err-false-clause-serves : goal.returns-in-Err-false-clause-serves
+returns-in-Err-false-clause-serves g c = λ flights.
+    let told = c.in-Err-false.ensures.serves flights in
+    record {
+      ready = tt;
+      most = λ settings. tt;
+      tables = λ flies. tt;
+      done = tt;
+      stopped = λ h text may spells. stops_unlost {quiet = c.in-Err-false.field-0.quiet} (search rules) (told.stopped h text may spells);
       cause = traced_cause c.in-Err-false.field-0.stop c.in-Err-false.field-0.stop _ _ _ _ refl told.cause c.trace_from-in-Err-false.ensures.cause.later;
-      quiet = search rules;
+      quiet = search (told, rules);
     }
 
 pub returns-in-Ok-trace_from-clause-serves : goal.returns-in-Ok-trace_from-clause-serves
-returns-in-Ok-trace_from-clause-serves g c =
-    let serves = c.in-Ok.ensures.serves in
+returns-in-Ok-trace_from-clause-serves g c = λ flights.
+    let serves = c.in-Ok.ensures.serves flights in
     let goes = c.let_go_from.ensures in
-    let m0 = machine_of c.args.engine.now (g.S.BlockStore.state c.args.store.now) (g.B.Behind.state c.args.behind.now) in
+    let m0 = machine_of c.args.engine.now (g.S.BlockStore.state c.args.store.now) (g.B.Behind.state c.args.behind.now) flights in
     record {
       ready = ready_from _ m0 _ _ _ goes serves.ready;
-      done = λ h may. answers_from _ _ _ _ _ c.count-mark.ensures goes (serves.done h may);
+      most = serves.most;
+      tables = serves.tables;
+      done = λ h text may spells. answers_from _ _ _ _ _ c.count-mark.ensures goes (serves.done h text may spells);
       stopped = tt;
       cause = search rules;
       quiet = search rules;

@@ -1,0 +1,27 @@
+-- Which statements of a flight that was left had ended.
+use Rattle.std.specs.Prelude.{◌<◌, ◌≤◌, take}
+use Rattle.std.specs.List.{All}
+use Rattle.std.proofs.Common.{◌≡◌, ◌+◌, ℕ, zero, suc, List, Some, subst, arith}
+use Rattle.std.proofs.lemmas.List.Elements.{All-cons, All-nil}
+use Rattle.ob_base.specs.declared.config.Public.{Public}
+use Rattle.ob_headline.specs.Flights.{EndedBy, Seat, asked_until, seat_aloft, seats_aloft}
+use Rattle.ob_script.specs.Flights.{boarding, turns_of}
+use Rattle.ob_script.specs.Trace.{Served}
+
+abbrev pub HasEndedBy : Seat → Type 0
+HasEndedBy v = EndedBy v.left v
+
+-- each that was answered of a flight that was left
+pub ended_left : (words : ℕ → ℕ) (p : Public) (m : ℕ) (all : List Served) (asked : ℕ) (i n j : ℕ) → ((k : ℕ) → k < j → asked_until words (i + k) (turns_of p all) (boarding p all) ≤ asked)
+    → All HasEndedBy (take j (seats_aloft p m all words (Some asked) i n))
+unfolding seats_aloft
+ended_left words p m all asked i n zero each = All-nil HasEndedBy
+ended_left words p m all asked i zero (suc j) each = All-nil HasEndedBy
+ended_left words p m all asked i (suc n) (suc j) each =
+    let first = each 0 (omega arith) in
+    let same : i + 0 ≡ i = omega arith in
+    let here : asked_until words i (turns_of p all) (boarding p all) ≤ asked = subst (λ (k : ℕ). asked_until words k (turns_of p all) (boarding p all) ≤ asked) same first in
+    All-cons HasEndedBy (seat_aloft p m all words (Some asked) i) (take j (seats_aloft p m all words (Some asked) (i + 1) n)) (omega (arith, here))
+    (ended_left words p m all asked (i + 1) n j (λ k less.
+    let next : i + suc k ≡ (i + 1) + k = omega arith in
+    subst (λ (h : ℕ). asked_until words h (turns_of p all) (boarding p all) ≤ asked) next (each (suc k) (omega (arith, less)))))

@@ -1,0 +1,91 @@
+-- How the answer of a statement ends it, and what it says of it.
+use Rattle.std.specs.Prelude.{◌↔◌, ◌&&◌}
+use Rattle.std.proofs.Common.{◌≡◌, ℕ, IsTrue, Bool, Ok, Err, Result, List, [], ◌++◌, Option, Some, None, refl, sym, ◌∙◌, ap, subst, true, false}
+use Rattle.ob_base.specs.Counts.{Rises}
+use Rattle.ob_base.specs.Events.{Event}
+use Rattle.ob_base.specs.Refusals.{is_store_fault}
+use Rattle.ob_base.specs.declared.config.Public.{Public}
+use Rattle.ob_base.specs.declared.refusal.Refusal.{Refusal}
+use Rattle.ob_base.specs.declared.refusal.Refusal.TheVariants.{StoreFault}
+use Rattle.ob_base.specs.declared.seen.End.{End}
+use Rattle.ob_base.specs.declared.seen.Seen.{Seen}
+use Rattle.ob_tables.specs.Refusals.{refused_end}
+use Rattle.ob_tables.specs.Running.{RefusedEarly, RunCause, is_fault, outcome_end, result_end}
+use Rattle.ob_verdict.specs.Outcomes.{by_fault, Emits}
+use Rattle.ob_tables.specs.Telling.{answer_labels}
+use Rattle.ob_verdict.specs.declared.outcome.Outcome.{Outcome}
+use Rattle.ob_verdict.specs.declared.outcome.Outcome.TheVariants.{Created, Inserted, Changed, Deleted, Dropped, Rows, Refused}
+use Rattle.ob_tables.specs.declared.stop.RunStop.{RunStop}
+use Rattle.ob_headline.specs.Closing.{closing_line}
+use Rattle.ob_headline.specs.Batches.{Joins, is_failed}
+use Rattle.ob_headline.specs.Words.{Answer}
+use Rattle.ob_headline.specs.Accesses.{Says}
+use Rattle.ob_mean.specs.Batches.{Gathering, goes_into, is_cut, is_joined, is_unrefused}
+use Rattle.ob_print.specs.Rows.{events_text}
+use Rattle.ob_shell.proofs.ReplayLemmas.{fault_is}
+use Rattle.ob_sql.specs.Skeleton.{skeleton}
+use Rattle.ob_sql.specs.declared.stmt.Stmt.{Stmt}
+use Rattle.ob_vault.specs.State.{World}
+use Rattle.ob_tables.proofs.CutLemmas.{end_cut}
+
+-- whatever is gathered
+refused_failed : (g : Option Gathering) (r : Refusal) (n : ℕ) → is_failed g (refused_end r n) ≡ is_store_fault r
+refused_failed g StoreFault n = refl
+refused_failed g r n = refl
+
+end_failed : (g : Option Gathering) (o : Outcome) (n : ℕ) → is_failed g (outcome_end o n) ≡ is_fault o
+end_failed g (Refused r) n = refused_failed g r n
+end_failed g Created n = refl
+end_failed g Inserted n = refl
+end_failed g (Changed k) n = refl
+end_failed g (Deleted k) n = refl
+end_failed g Dropped n = refl
+end_failed g (Rows k) n = refl
+
+pub failed_by : (g : Option Gathering) (o : Outcome) (end : End) (n : ℕ) → end ≡ outcome_end o n → IsTrue (is_failed g end) ↔ (o ≡ Refused StoreFault)
+failed_by g o end n ends =
+    let same : is_failed g end ≡ is_fault o = ap (is_failed g) ends ∙ end_failed g o n in
+    (λ cut. fault_is o (sym same ∙ cut), λ is. same ∙ ap is_fault is)
+
+-- one that was served by itself joined none
+refused_apart : (r : Refusal) (n : ℕ) → is_joined (refused_end r n) ≡ false
+refused_apart StoreFault n = refl
+refused_apart r n = refl
+
+pub end_apart : (result : Result Outcome RunStop) (n : ℕ) → is_joined (result_end result n) ≡ false
+end_apart (Ok (Refused r)) n = refused_apart r n
+end_apart (Ok Created) n = refl
+end_apart (Ok Inserted) n = refl
+end_apart (Ok (Changed k)) n = refl
+end_apart (Ok (Deleted k)) n = refl
+end_apart (Ok Dropped) n = refl
+end_apart (Ok (Rows k)) n = refl
+end_apart (Err stop) n = refl
+
+pub alone_joins : (p : Public) (m : ℕ) (g : Option Gathering) (stmt : Stmt) (here : Seen) (result : Result Outcome RunStop) (n : ℕ) → goes_into p g (skeleton stmt) ≡ false → here.end ≡ result_end result n → Joins p m g stmt here
+alone_joins p m g stmt here result n off ends = ap is_joined ends ∙ end_apart result n ∙ ap (λ (b : Bool). b && is_unrefused p m stmt) (sym off)
+
+-- where it was not cut off, no call failed
+pub same_by : (o : Outcome) (old new : World) (end : End) (n : ℕ) → RunCause (Ok o) old new → end ≡ outcome_end o n → is_cut end ≡ false → new.store.faults ≡ old.store.faults
+same_by o old new end n cause ends not =
+    let none : is_fault o ≡ false = sym (ap is_cut ends ∙ end_cut o n) ∙ not in rw none at cause.0
+
+-- where it was, one did
+pub rose_by : (o : Outcome) (old new : World) (end : End) (n : ℕ) → RunCause (Ok o) old new → end ≡ outcome_end o n → IsTrue (is_cut end) → Rises old.store.faults new.store.faults
+rose_by o old new end n cause ends cut =
+    let failed : is_fault o ≡ true = sym (ap is_cut ends ∙ end_cut o n) ∙ cut in rw failed at cause.0
+
+-- ---- what an answer says of its statement
+pub says : (early : Option Refusal) (p : Public) (stmt : Stmt) (answer : Answer) (here : Seen) (events : List Event) → RefusedEarly early (Ok answer.outcome) here
+    → Emits stmt (answer_labels stmt p) answer.outcome events → answer.bytes ≡ events_text events ++ closing_line answer.outcome → is_cut here.end ≡ is_fault answer.outcome
+    → answer.plan ≡ here.plan → Says early p stmt answer
+unfolding events_text
+says None p stmt answer here events refused emits bytes same planned = record { events = events; emits = emits; bytes = bytes }
+says (Some r) p stmt answer here events refused emits bytes same planned =
+    let is : answer.outcome ≡ Refused r = cc refused.0 in
+    let sound : is_store_fault r ≡ false = ap is_fault (sym is) ∙ sym same ∙ ap (λ (x : Seen). is_cut x.end) refused.1 in
+    let at : by_fault (is_store_fault r) _ (events ≡ []) = subst (λ (o : Outcome). Emits stmt (answer_labels stmt p) o events) is emits in
+    let none : events ≡ [] = rw sound at at in
+    let line : answer.bytes ≡ closing_line (Refused r) = bytes ∙ (λ i. events_text (none i) ++ closing_line (is i)) in
+    let unplanned : answer.plan ≡ None = planned ∙ ap (λ (x : Seen). x.plan) refused.1 in
+    λ i. record { outcome = is i; bytes = line i; plan = unplanned i }

@@ -1,0 +1,96 @@
+-- Statements that fly, each with what is known of it, as a list.
+use Rattle.std.specs.Prelude.{map, slice_get}
+use Rattle.std.specs.List.{All}
+use Rattle.std.proofs.Common.{◌≡◌, ◌+◌, ℕ, suc, List, [], ◌∷◌, length, Option, Some, None, refl, ap, subst, arith}
+use Rattle.std.proofs.lemmas.List.Elements.{All-cons, All-nil}
+use Rattle.ob_base.specs.declared.config.Public.{Public}
+use Rattle.ob_base.specs.declared.seen.Seen.{Seen}
+use Rattle.ob_exec.specs.InFlight.{served_as}
+use Rattle.ob_headline.specs.Flights.{Seat, seat_aloft, seats_aloft}
+use Rattle.ob_inflight.specs.Closing.{Closed}
+use Rattle.ob_script.specs.Trace.{Served}
+use Rattle.ob_sql.specs.Skeleton.{skeleton}
+use Rattle.ob_sql.specs.declared.stmt.Stmt.{Stmt}
+
+-- by what it goes, and what is seen of it; how many accesses of its own were asked, and how many of these carried out; and how
+-- it has ended, if it has
+pub record Flown : Type 0 where
+  pub seat : Seat
+  pub stmt : Stmt
+  pub seen : Seen
+  pub own : ℕ
+  pub done : ℕ
+  pub closed : Option Closed
+
+abbrev pub served_of : Flown → Served
+served_of f = record { skeleton = skeleton f.stmt; seen = f.seen }
+
+-- what they go by, by their places
+pub record Places : Type 0 where
+  pub seat : ℕ → Seat
+  pub own : ℕ → ℕ
+  pub done : ℕ → ℕ
+
+abbrev pub flown_at : Places → ℕ → Stmt → Seen → Option Closed → Flown
+flown_at at i stmt seen closed = record { seat = at.seat i; stmt = stmt; seen = seen; own = at.own i; done = at.done i; closed = closed }
+
+unfoldable pub flown_list : Places → (i : ℕ) → List Stmt → List Seen → List Closed → List Flown
+flown_list at i [] seens ended = []
+flown_list at i (stmt ∷ stmts) [] ended = []
+flown_list at i (stmt ∷ stmts) (seen ∷ seens) [] = flown_at at i stmt seen None ∷ flown_list at (i + 1) stmts seens []
+flown_list at i (stmt ∷ stmts) (seen ∷ seens) (one ∷ ended) = flown_at at i stmt seen (Some one) ∷ flown_list at (i + 1) stmts seens ended
+
+abbrev pub seats_in : List Flown → List Seat
+seats_in fs = map (λ (f : Flown). f.seat) fs
+
+abbrev pub stmts_in : List Flown → List Stmt
+stmts_in fs = map (λ (f : Flown). f.stmt) fs
+
+abbrev pub served_in_all : List Flown → List Served
+served_in_all fs = map served_of fs
+
+pub flown_served : (at : Places) (i : ℕ) (stmts : List Stmt) (seens : List Seen) (ended : List Closed) → served_in_all (flown_list at i stmts seens ended) ≡ served_as stmts seens
+unfolding flown_list
+flown_served at i [] seens ended = refl
+flown_served at i (stmt ∷ stmts) [] ended = refl
+flown_served at i (stmt ∷ stmts) (seen ∷ seens) [] = ap (λ (l : List Served). record { skeleton = skeleton stmt; seen = seen } ∷ l) (flown_served at (i + 1) stmts seens [])
+flown_served at i (stmt ∷ stmts) (seen ∷ seens) (one ∷ ended) = ap (λ (l : List Served). record { skeleton = skeleton stmt; seen = seen } ∷ l) (flown_served at (i + 1) stmts seens ended)
+
+pub flown_stmts : (at : Places) (i : ℕ) (stmts : List Stmt) (seens : List Seen) (ended : List Closed) → length seens ≡ length stmts → stmts_in (flown_list at i stmts seens ended) ≡ stmts
+unfolding flown_list
+flown_stmts at i [] seens ended long = refl
+flown_stmts at i (stmt ∷ stmts) [] ended long = absurd (omega (arith, long))
+flown_stmts at i (stmt ∷ stmts) (seen ∷ seens) [] long = ap (λ (l : List Stmt). stmt ∷ l) (flown_stmts at (i + 1) stmts seens [] (omega (arith, long)))
+flown_stmts at i (stmt ∷ stmts) (seen ∷ seens) (one ∷ ended) long = ap (λ (l : List Stmt). stmt ∷ l) (flown_stmts at (i + 1) stmts seens ended (omega (arith, long)))
+
+-- the seats of a flight
+module _ (at : Places) (p : Public) (m : ℕ) (flown : List Served) (words : ℕ → ℕ) (left : Option ℕ) (seat_is : (i : ℕ) → at.seat i ≡ seat_aloft p m flown words left i) where
+  pub flown_seats : (i : ℕ) (stmts : List Stmt) (seens : List Seen) (ended : List Closed) → length seens ≡ length stmts → seats_in (flown_list at i stmts seens ended) ≡ seats_aloft p m flown words left i (length stmts)
+  unfolding flown_list seats_aloft
+  flown_seats i [] seens ended long = refl
+  flown_seats i (stmt ∷ stmts) [] ended long = absurd (omega (arith, long))
+  flown_seats i (stmt ∷ stmts) (seen ∷ seens) [] long = let rest = flown_seats (i + 1) stmts seens [] (omega (arith, long)) in λ j. seat_is i j ∷ rest j
+  flown_seats i (stmt ∷ stmts) (seen ∷ seens) (one ∷ ended) long = let rest = flown_seats (i + 1) stmts seens ended (omega (arith, long)) in λ j. seat_is i j ∷ rest j
+
+-- what holds at each place holds of each
+module _ (at : Places) (P : Flown → Type 0) where
+  first_place : (i : ℕ) → i + 0 ≡ i
+  first_place i = omega arith
+
+  next_place : (i k : ℕ) → i + suc k ≡ (i + 1) + k
+  next_place i k = omega arith
+
+  pub each_flown : (i : ℕ) (stmts : List Stmt) (seens : List Seen) (ended : List Closed)
+      → ((k : ℕ) (stmt : Stmt) (seen : Seen) → slice_get stmts k ≡ Some stmt → slice_get seens k ≡ Some seen → P (flown_at at (i + k) stmt seen (slice_get ended k)))
+      → All P (flown_list at i stmts seens ended)
+  unfolding flown_list
+  each_flown i [] seens ended facts = All-nil P
+  each_flown i (stmt ∷ stmts) [] ended facts = All-nil P
+  each_flown i (stmt ∷ stmts) (seen ∷ seens) [] facts =
+      All-cons P (flown_at at i stmt seen None) (flown_list at (i + 1) stmts seens [])
+      (subst (λ (n : ℕ). P (flown_at at n stmt seen None)) (first_place i) (facts 0 stmt seen refl refl))
+      (each_flown (i + 1) stmts seens [] (λ k s x a b. subst (λ (n : ℕ). P (flown_at at n s x None)) (next_place i k) (facts (suc k) s x a b)))
+  each_flown i (stmt ∷ stmts) (seen ∷ seens) (one ∷ ended) facts =
+      All-cons P (flown_at at i stmt seen (Some one)) (flown_list at (i + 1) stmts seens ended)
+      (subst (λ (n : ℕ). P (flown_at at n stmt seen (Some one))) (first_place i) (facts 0 stmt seen refl refl))
+      (each_flown (i + 1) stmts seens ended (λ k s x a b. subst (λ (n : ℕ). P (flown_at at n s x (slice_get ended k))) (next_place i k) (facts (suc k) s x a b)))
