@@ -159,7 +159,11 @@ impl<'a, R: Files> Keeper for FileKeeper<'a, R> {
     ghost state = { λ k. record { held = None; faults = k.faults } };
 
     fn mark(&mut self) -> Result<Mark, Failed> {
-        let held = self.held();
+        // What is done by a mark is not to outlive it: a run that was killed may have left its name in memory alone.
+        let held = match self.settle_name() {
+            Ok(()) => self.held(),
+            Err(error) => Err(error),
+        };
         if held.is_err() {
             self.faults = self.faults.saturating_add(1);
         }
