@@ -2,8 +2,9 @@
 # Tries the wrong bodies of crates/NAME/must-fail/ and more-edits/, of the crates that are named or else of all: each edit
 # is put into a copy of its crate, and the prover has to refuse it at a clause or a goal. The function that holds the edit
 # is checked alone first, which takes 5 to 25 seconds, and the whole crate where that doesn't refuse it. Prints a line for
-# each, with the first that the prover says of what it refuses, and ends with 1 where one is proved, can't be applied, or
-# is refused only because a proof file names what it took away.
+# each, with the first that the prover says of what it refuses, and ends with 1 where one is proved, or is refused only
+# because a proof file names what it took away. Where one of them can't be applied, each such is named, none is tried, and
+# it ends with 1.
 #
 # usage: tests/edits.sh [NAME..]
 # Needs `rt` and python3. What `rt check` and `rt lib` have kept in this tree isn't proved again; in a clean clone all that
@@ -44,13 +45,8 @@ if named:
 if not tried:
     sys.exit("nothing to try")
 
-# A copy of the crates that are tried and of those that they use, with what was kept of them.
-copied = set(tried).union(*[below(name, set()) for name in tried])
-(work / "crates").mkdir()
-(work / "crates.txt").write_text("".join(f"{name}: {' '.join(uses[name])}\n" for name in uses if name in copied))
-shutil.copy(top / "HANDLES", work)
-for name in copied:
-    shutil.copytree(top / "crates" / name, work / "crates" / name, ignore=shutil.ignore_patterns("must-fail", "more-edits"))
+class Unfit(Exception):
+    pass
 
 # The pairs of texts of an edit, each with the file that it changes.
 def changes(edit):
@@ -63,12 +59,54 @@ def changes(edit):
             old = text
         elif word in ("new", "new:"):
             pairs.append((file, old, text))
+            old = None
+        elif line.strip():
+            raise Unfit(f"'{line}' is no line of an edit")
+    if not pairs or any(file is None or not old for file, old, _ in pairs):
+        raise Unfit("it has no text that it changes")
     return pairs
 
 # The name of the function that a place of a file stands in.
 def function_at(text, place):
     heads = [head for head in re.finditer(r"(?m)^\s*(?:pub(?:\([a-z]+\))? )?(?:const )?fn (\w+)", text) if head.start() <= place]
     return heads[-1][1] if heads else None
+
+# The files that an edit changes in a crate's folder, as it leaves them, and the functions that it changes.
+def edited(folder, edit):
+    texts, functions = {}, set()
+    for file, old, new in changes(edit):
+        if file not in texts:
+            if not (folder / file).is_file():
+                raise Unfit(f"there is no {file}")
+            texts[file] = (folder / file).read_text()
+        text = texts[file]
+        if text.count(old) != 1:
+            raise Unfit(f"'{old}' stands {text.count(old)} times in {file}")
+        if file.endswith(".rt") and (function := function_at(text, text.index(old))):
+            functions.add(function)
+        texts[file] = text.replace(old, new)
+    if all(text == (folder / file).read_text() for file, text in texts.items()):
+        raise Unfit("it changes nothing")
+    return texts, functions
+
+unfit = 0
+for name, edits in tried.items():
+    for edit in edits:
+        try:
+            edited(top / "crates" / name, edit)
+        except Unfit as why:
+            print(f"{name}/{edit.stem}: CAN'T BE APPLIED: {why}", flush=True)
+            unfit += 1
+if unfit:
+    sys.exit(f"{unfit} can't be applied, so none was tried")
+
+# A copy of the crates that are tried and of those that they use, with what was kept of them.
+copied = set(tried).union(*[below(name, set()) for name in tried])
+(work / "crates").mkdir()
+(work / "crates.txt").write_text("".join(f"{name}: {' '.join(uses[name])}\n" for name in uses if name in copied))
+shutil.copy(top / "HANDLES", work)
+for name in copied:
+    shutil.copytree(top / "crates" / name, work / "crates" / name, ignore=shutil.ignore_patterns("must-fail", "more-edits"))
 
 NAMES = re.compile(r"(\./)?proofs/.*(has no field|is not in scope|has no `|was not admitted)")
 # What the prover remarks of a proof whether it refuses anything or not.
@@ -87,16 +125,12 @@ def check(folder, only=None):
     return None, ran.stdout.strip().split("\n")[-1]
 
 def attempt(name, edit):
-    folder, kept, functions = work / "crates" / name, {}, set()
+    folder = work / "crates" / name
+    texts, functions = edited(folder, edit)
+    kept = {file: (folder / file).read_text() for file in texts}
     try:
-        for file, old, new in changes(edit):
-            text = (folder / file).read_text()
-            if text.count(old) != 1:
-                return False, f"'{old}' stands {text.count(old)} times in {file}"
-            kept.setdefault(file, text)
-            if file.endswith(".rt") and (function := function_at(text, text.index(old))):
-                functions.add(function)
-            (folder / file).write_text(text.replace(old, new))
+        for file, text in texts.items():
+            (folder / file).write_text(text)
         for function in sorted(functions):
             refused, why = check(folder, function)
             if refused:
